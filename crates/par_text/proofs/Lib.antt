@@ -1,0 +1,9 @@
+pub mod Marks
+pub mod KindLemmas
+pub mod Lookahead
+pub mod Local
+pub mod Exact
+pub mod Complete
+pub mod Rooms
+pub mod Answers
+pub mod Verdicts

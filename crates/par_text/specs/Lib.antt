@@ -1,0 +1,10 @@
+pub mod Kinds
+pub mod Rule
+pub mod Form
+pub mod Reading
+pub mod Grammar
+pub mod Parsing
+pub mod Text
+pub mod Lexing
+pub mod Counts
+pub mod Judging

@@ -1,0 +1,7 @@
+use crate::func::Funcs;
+
+/// A program.
+#[derive(Drop)]
+pub struct Program {
+    pub funcs: Funcs,
+}
