@@ -1,0 +1,10 @@
+pub mod Task
+pub mod Thread
+pub mod Deque
+pub mod Machine
+pub mod ListChoices
+pub mod Finds
+pub mod Lawful
+pub mod Sound
+pub mod Core
+pub mod Play
