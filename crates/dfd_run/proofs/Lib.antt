@@ -1,0 +1,5 @@
+pub mod Answers
+pub mod Queues
+pub mod Reports
+pub mod Streams
+pub mod Words

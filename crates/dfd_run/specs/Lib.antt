@@ -1,0 +1,14 @@
+pub mod Answer
+pub mod ByteQueue
+pub mod CallPlan
+pub mod Faults
+pub mod Given
+pub mod Kept
+pub mod Options
+pub mod ReadFail
+pub mod Report
+pub mod Sink
+pub mod Source
+pub mod Status
+pub mod Words
+pub mod PcgChoices

@@ -1,0 +1,24 @@
+-- What a source gives.
+use Rattle.std.specs.Prelude.{◌≡◌, ℕ, List, [], ◌++◌, take, drop, Option, Some, None}
+
+-- what a source that tells the bytes still to come gave in between: these bytes, from the front; what it told once
+-- it tells from then on
+abbrev pub Gives : Option (List ℕ) → Option (List ℕ) → List ℕ → Type 0
+Gives None after bytes = Unit {0}
+Gives (Some before) None bytes = ⊥
+Gives (Some before) (Some after) bytes = before ≡ bytes ++ after
+
+-- no byte is to come, where the source tells
+abbrev pub IsSpent : Option (List ℕ) → Type 0
+IsSpent None = Unit {0}
+IsSpent (Some left) = left ≡ []
+
+-- how many bytes of a source are read at most: one more than a program may have
+abbrev pub most_read : ℕ
+most_read = 1048577
+
+-- what is read of a source that tells the bytes still to come: all of them, or the first 1,048,577
+abbrev pub IsRead : Option (List ℕ) → Option (List ℕ) → List ℕ → Type 0
+IsRead None after bytes = Unit {0}
+IsRead (Some before) None bytes = ⊥
+IsRead (Some before) (Some after) bytes = (bytes ≡ take most_read before) × (after ≡ drop most_read before)

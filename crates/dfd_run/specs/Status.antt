@@ -1,0 +1,12 @@
+-- The numbers of the ways in which a call of the program ends.
+use Rattle.std.specs.Prelude.{ℕ}
+use Rattle.dfd_run.specs.declared.status.Status.{Status}
+use Rattle.dfd_run.specs.declared.status.Status.TheVariants.{Done, Usage, ReadFault, WriteFault, Syntax, OutOfMemory}
+
+abbrev pub code_of : Status → ℕ
+code_of Done = 0
+code_of Usage = 1
+code_of ReadFault = 2
+code_of WriteFault = 3
+code_of Syntax = 4
+code_of OutOfMemory = 10

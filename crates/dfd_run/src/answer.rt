@@ -1,0 +1,8 @@
+use crate::status::Status;
+
+/// What a command answers: its status, and the text that it writes.
+#[derive(Drop)]
+pub struct Answer {
+    pub status: Status,
+    pub text: String,
+}

@@ -1,0 +1,35 @@
+/// How a call of the program ended; its number is the program's exit code.
+#[derive(Clone, Copy, PartialEq, Eq, Debug)]
+pub enum Status {
+    /// The command did its work.
+    Done,
+    /// The words are no command.
+    Usage,
+    /// The source failed.
+    ReadFault,
+    /// The sink failed.
+    WriteFault,
+    /// The bytes of the source are no text, or their program cannot run yet.
+    Syntax,
+    /// There was no memory. Nothing was written.
+    OutOfMemory,
+}
+
+impl Status {
+    ghost use Rattle.std.specs.Prelude.{◌≡◌};
+    ghost use Rattle.dfd_run.specs.Status.{code_of};
+
+    /// The exit code of a program that ends so.
+    pub fn code(self) -> u8
+        ensures { result ≡ code_of self }
+    {
+        match self {
+            Status::Done => 0,
+            Status::Usage => 1,
+            Status::ReadFault => 2,
+            Status::WriteFault => 3,
+            Status::Syntax => 4,
+            Status::OutOfMemory => 10,
+        }
+    }
+}
