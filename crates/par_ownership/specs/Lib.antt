@@ -1,0 +1,5 @@
+pub mod Environment
+pub mod Mention
+pub mod Ownership
+pub mod Walk
+pub mod Laws
