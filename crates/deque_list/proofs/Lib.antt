@@ -1,0 +1,9 @@
+pub mod IdLemmas
+pub mod OrderLemmas
+pub mod TableLemmas
+pub mod LendLemmas
+pub mod KeptLemmas
+pub mod ViewLemmas
+pub mod LaneLemmas
+pub mod TopLemmas
+pub mod ChangeLemmas
