@@ -1,0 +1,83 @@
+ghost use Rattle.std.specs.Prelude.{◌≡◌, ◌+◌, ◌≤◌, [], IfOk};
+ghost use Rattle.bounded_list.specs.BoundedList.{entries, spare};
+ghost use Rattle.dummy_tree.specs.QuotaWords.{quota_words};
+ghost use Rattle.quota_period.specs.Charges.{IsCharge};
+
+use crate::charge::Charge;
+use bounded_list::BoundedList;
+use dag_order::Births;
+use dummy_tree::Quota;
+use space_ledger::{Book, Closed};
+use std::alloc::{AllocError, Global};
+
+/// A period that is under way.
+#[derive(PartialEq, Eq, Debug, Drop)]
+pub struct Period {
+    /// Its number, from 1.
+    pub number: u32,
+    /// The words that it has allocated by allocations within the quota.
+    pub used: u32,
+    /// Whether its deque had a deque to its left as it began.
+    pub ahead: bool,
+    /// The actions that it ran so far.
+    pub book: Book,
+    /// The threads that it forked so far.
+    pub births: Births,
+}
+
+impl Period {
+    /// A period in which nothing is done yet, with room for a first action and a first birth.
+    pub fn start(alloc: Global, number: u32, ahead: bool) -> Result<Period, AllocError>
+        ensures number { IfOk result (λ period. period.number ≡ number) }
+        ensures unused { IfOk result (λ period. period.used ≡ 0) }
+        ensures ahead { IfOk result (λ period. period.ahead ≡ ahead) }
+        ensures empty { IfOk result (λ period. (entries period.book ≡ []) × (entries period.births ≡ [])) }
+        ensures room { IfOk result (λ period. (1 ≤ spare period.book) × (1 ≤ spare period.births)) }
+    {
+        let mut book: Book = BoundedList::new(alloc);
+        book.reserve()?;
+        let mut births: Births = BoundedList::new(alloc);
+        births.reserve()?;
+        Ok(Period {
+            number,
+            used: 0,
+            ahead,
+            book,
+            births,
+        })
+    }
+
+    /// What an allocation of `words` words would do. The quota counts gross: what is released refills none.
+    pub fn charge(&self, words: u32, k: Quota) -> Charge
+        ensures { IsCharge self.now.used words (quota_words k) result }
+    {
+        let k = k.get();
+        if words > k {
+            Charge::Large
+        } else if u64::from(self.used) + u64::from(words) <= u64::from(k) {
+            Charge::Fits
+        } else {
+            Charge::Ends
+        }
+    }
+
+    /// Counts the words of an allocation that fits. No quota is above 1,048,576 words.
+    pub fn note(&mut self, words: u32)
+        requires { self.old.used + words ≤ 1048576 }
+        ensures { self.new ≡ record self.old { used = self.old.used + words } }
+    {
+        self.used += words;
+    }
+
+    /// The period as one that has ended. It takes no memory.
+    pub fn close(self) -> Closed
+        ensures { result ≡ record { number = self.number; ahead = self.ahead; book = self.book; births = self.births } }
+    {
+        Closed {
+            number: self.number,
+            ahead: self.ahead,
+            book: self.book,
+            births: self.births,
+        }
+    }
+}

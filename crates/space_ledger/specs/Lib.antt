@@ -1,0 +1,5 @@
+pub mod Sums
+pub mod SumLaws
+pub mod Counts
+pub mod MovesList
+pub mod BooksList

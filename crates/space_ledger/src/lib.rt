@@ -1,0 +1,22 @@
+//! What a run did: the words that it took and gave back, and which actions stand in which period.
+//!
+//! The live words of a run are the sum of its moves, and its high-water mark is their greatest sum at any
+//! time. Each period, from a steal to the next, has a book of the actions that it ran. Both are kept as the
+//! run goes on, with their sums, so that no call walks them.
+//!
+//! The crate stands on `bounded_list` and `dag_order`. Its one theorem: [`Moves::high`] is the greatest sum
+//! of a prefix of the moves, and [`Books`] counts its periods, marks and actions.
+#![tactic(auto)]
+
+mod book;
+mod books;
+mod moved;
+mod moves;
+
+pub use book::{Book, Closed};
+pub use books::Books;
+pub use moved::Moved;
+pub use moves::Moves;
+
+#[cfg(test)]
+mod tests;
