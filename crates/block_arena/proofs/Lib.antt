@@ -1,0 +1,4 @@
+pub mod Lists
+pub mod Contents
+pub mod Fronts
+pub mod Regions

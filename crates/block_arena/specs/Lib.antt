@@ -1,0 +1,4 @@
+pub mod Size
+pub mod Pieces
+pub mod Region
+pub mod Content

@@ -1,0 +1,136 @@
+ghost use Rattle.std.specs.Prelude.{◌≡◌, ◌≤◌, ◌<◌, ◌-◌, ◌↔◌, ◌⊎◌, ◌≢◌, ◌%◌, length, slice_get, slice_set, IsErr, IsNone, IsTrue, IfOk, IfErr, OnOk, OnErr};
+ghost use Rattle.block_arena.specs.Size.{pieces_for, words_taken};
+ghost use Rattle.block_arena.specs.Content.{left_of, right_of, joined, IsCut, CanJoin};
+
+use crate::error::{OutOfRange, SplitRefused};
+use crate::pieces::{PieceList, move_tail};
+use crate::shell::Shell;
+use crate::size::{MAX_WORDS, PIECE_WORDS, pieces_for};
+use std::marker::Model;
+
+/// A block: a list of numbers, in pieces that came out of a pool.
+#[derive(Debug, Drop)]
+pub struct Block {
+    pub(crate) pieces: PieceList,
+    pub(crate) len: u32,
+}
+
+impl Model for Block {
+    ghost use Rattle.std.specs.Prelude.{vec_len, vec_capacity};
+    ghost use Rattle.block_arena.specs.Content.{Content, HoldsPieces};
+    ghost use Rattle.block_arena.specs.Pieces.{block_in};
+
+    ghost Value = { Content };
+
+    ghost view = { λ block. block_in block.pieces block.len };
+
+    ghost invariant = { λ block. HoldsPieces (vec_len block.pieces) (vec_capacity block.pieces) block.len };
+}
+
+impl Block {
+    /// How many numbers the block has: no more than the greatest pool has words, and no more than the list
+    /// has room for.
+    pub fn len(&self) -> u32
+        ensures value { result ≡ length self.now.items }
+        ensures greatest { words_taken (length self.now.items) ≤ MAX_WORDS }
+        ensures room { pieces_for (length self.now.items) ≤ self.now.room }
+    {
+        self.len
+    }
+
+    /// Whether the block has no numbers.
+    pub fn is_empty(&self) -> bool
+        ensures { IsTrue result ↔ (length self.now.items ≡ 0) }
+    {
+        self.len == 0
+    }
+
+    /// How many words the block has taken from its pool.
+    pub fn words(&self) -> u32
+        ensures { result ≡ words_taken (length self.now.items) }
+    {
+        pieces_for(self.len) * PIECE_WORDS
+    }
+
+    /// The number at place `i`, from 0; None exactly where `i` is not below the length.
+    pub fn get(&self, i: u32) -> Option<i64>
+        ensures value { result ≡ slice_get self.now.items i }
+        ensures none { IsNone result ↔ (length self.now.items ≤ i) }
+    {
+        if self.len <= i {
+            return None;
+        }
+        let piece = &self.pieces[(i / PIECE_WORDS) as usize];
+        Some(piece.get((i % PIECE_WORDS) as usize))
+    }
+
+    /// Puts `value` at place `i`, from 0.
+    pub fn set(&mut self, i: u32, value: i64) -> Result<(), OutOfRange>
+        ensures refused { IsErr result ↔ (length self.old.items ≤ i) }
+        ensures ok { OnOk result (self.new ≡ record self.old { items = slice_set self.old.items i value }) }
+        ensures err { OnErr result (self.new ≡ self.old) }
+    {
+        if self.len <= i {
+            return Err(OutOfRange);
+        }
+        let piece = &mut self.pieces[(i / PIECE_WORDS) as usize];
+        piece.set((i % PIECE_WORDS) as usize, value);
+        Ok(())
+    }
+
+    /// Cuts the block at place `at` into the numbers before it and those from it on.
+    ///
+    /// The right block becomes the list of `shell`. Where the block can't be cut there, it comes back with
+    /// the shell.
+    pub fn split(
+        self,
+        at: u32,
+        shell: Shell,
+    ) -> Result<(Block, Block), (Block, Shell, SplitRefused)>
+        requires { pieces_for (length self.items - at) ≤ shell }
+        ensures refused { IsErr result ↔ ((at % PIECE_WORDS ≢ 0) ⊎ (length self.items < at)) }
+
+        ensures cut { OnOk result (IsCut self at) }
+        ensures left { IfOk result (λ parts. parts.0 ≡ left_of self at) }
+        ensures right { IfOk result (λ parts. parts.1 ≡ right_of self at shell) }
+
+        // A join of the parts is the block that was there.
+        ensures joinable { IfOk result (λ parts. CanJoin parts.0 parts.1) }
+        ensures rejoined { IfOk result (λ parts. joined parts.0 parts.1 ≡ self) }
+
+        ensures block_back { IfErr result (λ kept. kept.0 ≡ self) }
+        ensures shell_back { IfErr result (λ kept. kept.1 ≡ shell) }
+    {
+        if at % PIECE_WORDS != 0 || self.len < at {
+            return Err((self, shell, SplitRefused));
+        }
+        let Block { mut pieces, len } = self;
+        let mut rest = shell.into_list();
+        move_tail(&mut pieces, (at / PIECE_WORDS) as usize, &mut rest);
+        let left = Block { pieces, len: at };
+        let right = Block {
+            pieces: rest,
+            len: len - at,
+        };
+        Ok((left, right))
+    }
+
+    /// Joins two blocks to one that lies in the list of the left one. The right one's list comes back.
+    pub fn join(left: Block, right: Block) -> (Block, Shell)
+        requires { CanJoin left right }
+        ensures block { result.0 ≡ joined left right }
+        ensures shell { result.1 ≡ right.room }
+    {
+        let Block { mut pieces, len } = left;
+        let Block {
+            pieces: mut rest,
+            len: more,
+        } = right;
+        move_tail(&mut rest, 0, &mut pieces);
+        let whole = Block {
+            pieces,
+            len: len + more,
+        };
+        (whole, Shell::from_list(rest))
+    }
+}

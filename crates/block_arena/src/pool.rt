@@ -1,0 +1,132 @@
+ghost use Rattle.std.specs.Prelude.{◌≡◌, ◌≢◌, ◌+◌, ◌%◌, ◌<◌, ◌≤◌, ◌↔◌, ◌⊎◌, length, IsErr, IfOk, IfErr, OnOk, OnErr};
+ghost use Rattle.block_arena.specs.Size.{pieces_for, words_taken};
+ghost use Rattle.block_arena.specs.Region.{IsWhole, IsSound, fresh_region, with_taken, with_given};
+ghost use Rattle.block_arena.specs.Content.{zeros};
+
+use crate::block::Block;
+use crate::error::{Full, PoolError};
+use crate::pieces::{PieceList, clear_all, move_tail, new_pieces};
+use crate::shell::Shell;
+use crate::size::{MAX_WORDS, PIECE_WORDS, pieces_for};
+use std::alloc::Global;
+use std::marker::Model;
+
+/// The pieces that are not out in blocks.
+///
+/// All pieces are made once, by [`Pool::new`]. From then on each lies in the pool or in a block, in one place,
+/// and moves. It is of no account which pieces lie in the pool, so none that is free is ever out of reach.
+#[derive(Debug, Drop)]
+pub struct Pool {
+    free: PieceList,
+    capacity: u64,
+    live: u64,
+    high: u64,
+}
+
+impl Model for Pool {
+    ghost use Rattle.std.specs.Prelude.{vec_len, vec_capacity};
+    ghost use Rattle.block_arena.specs.Region.{Region, region_of, KeepsPieces};
+
+    ghost Value = { Region };
+
+    ghost view = { λ pool. region_of pool.capacity pool.live pool.high };
+
+    ghost invariant = { λ pool. KeepsPieces (vec_len pool.free) (vec_capacity pool.free) (region_of pool.capacity pool.live pool.high) };
+}
+
+impl Pool {
+    /// A pool of `words` words, all of them free.
+    pub fn new(alloc: Global, words: u32) -> Result<Pool, PoolError>
+        ensures ok { IfOk result (λ pool. pool ≡ fresh_region words) }
+        ensures whole { OnOk result (IsWhole words) }
+        ensures sound { IfOk result IsSound }
+
+        // The words are tested before any memory is asked for.
+        ensures not_whole { (result ≡ Err PoolError.NotWhole) ↔ ((words % PIECE_WORDS ≢ 0) ⊎ (words ≡ 0)) }
+        ensures too_large { (result ≡ Err PoolError.TooLarge) ↔ (IsWhole words × (MAX_WORDS < words)) }
+    {
+        if words % PIECE_WORDS != 0 || words == 0 {
+            return Err(PoolError::NotWhole);
+        }
+        if MAX_WORDS < words {
+            return Err(PoolError::TooLarge);
+        }
+        let Ok(free) = new_pieces(alloc, words / PIECE_WORDS) else {
+            return Err(PoolError::OutOfMemory);
+        };
+        Ok(Pool {
+            free,
+            capacity: u64::from(words),
+            live: 0,
+            high: 0,
+        })
+    }
+
+    /// How many words the pool was made with.
+    pub fn capacity(&self) -> u64
+        ensures value { result ≡ self.now.capacity }
+        ensures sound { IsSound self.now }
+    {
+        self.capacity
+    }
+
+    /// How many words are out in blocks.
+    pub fn live(&self) -> u64
+        ensures value { result ≡ self.now.live }
+        ensures sound { IsSound self.now }
+    {
+        self.live
+    }
+
+    /// The most words that ever were out at once.
+    pub fn high(&self) -> u64
+        ensures value { result ≡ self.now.high }
+        ensures sound { IsSound self.now }
+    {
+        self.high
+    }
+
+    /// Takes a block of `words` zeros out of the pool. It becomes the list of `shell`.
+    ///
+    /// It is refused only where the words that are out and those of the block are more than the pool has.
+    pub fn take(&mut self, words: u32, shell: Shell) -> Result<Block, Full>
+        requires { pieces_for words ≤ shell }
+        // Which pieces are free is of no account, only how many.
+        ensures full { IsErr result ↔ (self.old.capacity < self.old.live + words_taken words) }
+
+        ensures block { IfOk result (λ block. block ≡ zeros words shell) }
+        ensures taken { OnOk result (self.new ≡ with_taken self.old (words_taken words)) }
+
+        ensures told { IfErr result (λ refusal. refusal ≡ record { live = self.old.live; asked = words_taken words; shell = shell }) }
+        ensures unchanged { OnErr result (self.new ≡ self.old) }
+    {
+        let count = pieces_for(words);
+        let asked = u64::from(count) * u64::from(PIECE_WORDS);
+        if self.capacity < self.live + asked {
+            return Err(Full {
+                live: self.live,
+                asked,
+                shell,
+            });
+        }
+        let mut pieces = shell.into_list();
+        let keep = self.free.len() - count as usize;
+        move_tail(&mut self.free, keep, &mut pieces);
+        clear_all(&mut pieces);
+        self.live += asked;
+        self.high = self.high.max(self.live);
+        Ok(Block { pieces, len: words })
+    }
+
+    /// Gives a block back to the pool. Its list comes back, empty.
+    pub fn give(&mut self, block: Block) -> Shell
+        requires { words_taken (length block.items) ≤ self.old.live }
+        ensures given { self.new ≡ with_given self.old (words_taken (length block.items)) }
+        ensures shell { result ≡ block.room }
+    {
+        self.live -= u64::from(block.words());
+        let Block { mut pieces, .. } = block;
+        move_tail(&mut pieces, 0, &mut self.free);
+        Shell::from_list(pieces)
+    }
+}
