@@ -1,0 +1,14 @@
+pub mod Hands
+mod Rows
+mod Steps
+mod Fronts
+mod PutBacks
+mod Comings
+mod Sits
+mod Wraps
+mod Closing
+pub mod NoteLaws
+pub mod Left
+pub mod Standing
+mod Numbers
+mod Tallies

@@ -1,0 +1,3 @@
+//! Two users of a row: slots whose numbers keep their sum, and seats that count.
+mod sums;
+mod tallies;

@@ -1,0 +1,124 @@
+//! Seats that count, and note how often.
+ghost use Rattle.std.specs.Prelude.{◌≡◌, ◌+◌, [], IfOk};
+ghost use Rattle.turn_table.specs.Tables.{IsSeatOf};
+
+use crate::{Held, Joins, Keep, Notes, Splits, StillHeld, TurnLaw, TurnSeat, Turns};
+use std::alloc::{AllocError, Global};
+use std::test::Fail;
+use std::thread;
+use std::thread::Threads;
+
+// The count word is the sum of the notes, but for whole turns of the word.
+struct Tallied;
+
+impl TurnLaw<u8> for Tallied {
+    ghost use Rattle.std.specs.Prelude.{◌≡◌, ◌%◌, ◌^◌, sum};
+    ghost use Rattle.turn_table.specs.Notes.{notes};
+
+    type Key = ();
+
+    type Note = u64;
+
+    ghost fact = { λ _ _ count hands. count ≡ sum (notes hands) % 2 ^ 64 };
+
+    ghost blank = { 0 };
+}
+
+// Each count adds 1 to the note, and a join adds the notes up.
+struct Tally;
+
+impl Notes<u8, u64> for Tally {
+    ghost use Rattle.std.specs.Prelude.{◌+◌};
+
+    ghost note = { λ hand _. hand.note + 1 };
+}
+
+impl Splits<u8, u64> for Tally {
+    ghost left = { λ hand. hand.note };
+
+    ghost right = { λ _. 0 };
+}
+
+impl Joins<u8, u64> for Tally {
+    ghost use Rattle.std.specs.Prelude.{◌+◌};
+
+    ghost note = { λ hand other. hand.note + other.note };
+}
+
+type Row = Turns<u8, Tallied>;
+
+type Counter = TurnSeat<u8, Tallied>;
+
+fn count_up(row: &Row, mut seat: Counter, times: u64) -> Counter
+    requires { IsSeatOf row.now seat × (seat.hand.holds ≡ []) }
+    ensures { IsSeatOf row.now result × (result.hand.holds ≡ []) × (result.hand.note ≡ seat.hand.note + times) }
+{
+    for done in 0..times {
+        let _ = done;
+        row.count::<Tally>(&mut seat);
+    }
+    seat
+}
+
+// Two seats that count in threads of their own. The seat that stays notes the counts of both.
+fn count_in_two_threads<R: Threads>(
+    rt: &R,
+    row: &Row,
+    a: Counter,
+    b: Counter,
+    times: u64,
+) -> Counter
+    requires { IsSeatOf row.now a × (a.hand.holds ≡ []) × IsSeatOf row.now b × (b.hand.holds ≡ []) }
+    ensures { IsSeatOf row.now result × (result.hand.holds ≡ []) × (result.hand.note ≡ a.hand.note + times + (b.hand.note + times)) }
+{
+    let (b, mut a) = thread::join(
+        rt,
+        move || -> Counter
+            requires { IsSeatOf row.now b × (b.hand.holds ≡ []) }
+            ensures { IsSeatOf row.entry.now result × (result.hand.holds ≡ []) × (result.hand.note ≡ b.hand.note + times) }
+        { count_up(row, b, times) },
+        move || -> Counter
+            requires { IsSeatOf row.now a × (a.hand.holds ≡ []) }
+            ensures { IsSeatOf row.entry.now result × (result.hand.holds ≡ []) × (result.hand.note ≡ a.hand.note + times) }
+        { count_up(row, a, times) },
+    );
+    row.join_seat::<Tally>(&mut a, b);
+    a
+}
+
+// A row of one slot, and two seats.
+fn opened(alloc: Global) -> Result<(Row, Counter, Counter), AllocError>
+    ensures { IfOk result (λ made. IsSeatOf made.0 made.1 × (made.1.hand.holds ≡ []) × IsSeatOf made.0 made.2 × (made.2.hand.holds ≡ [])) }
+{
+    let values = vec![in alloc; 9]?;
+    match Row::new::<Keep>(alloc, values, ()) {
+        Ok((row, mut a)) => {
+            let b = row.split_seat::<Tally>(&mut a);
+            Ok((row, a, b))
+        }
+        Err((_, error)) => Err(error),
+    }
+}
+
+#[test]
+fn counts_in_two_threads(rt: HostRuntime) -> Result<(), Fail> {
+    let (row, a, b) = opened(rt.alloc())?;
+    let mut a = count_in_two_threads(&rt, &row, a, b, 1000);
+    assert_eq!(rt; row.count::<Tally>(&mut a), 2000);
+    Ok(())
+}
+
+#[test]
+fn refuses_what_is_held(rt: HostRuntime) -> Result<(), Fail> {
+    let (row, mut a, mut b) = opened(rt.alloc())?;
+    let taken = row.take::<Keep>(&mut a, 0);
+    let tried = row.take::<Keep>(&mut b, 0);
+    assert_eq!(rt; taken, Ok(9));
+    assert_eq!(rt; tried, Err(Held { slot: 0, seen: 1 }));
+    let closed = row.close(b);
+    assert!(rt; closed.is_err());
+    if let Err(still) = closed {
+        assert_eq!(rt; still, StillHeld { slot: 0 });
+    }
+    Ok(())
+}
