@@ -1,0 +1,55 @@
+//! The checker's public call.
+
+ghost use Rattle.std.specs.Prelude.{◌≡◌, IfOk};
+ghost use Rattle.std.specs.Option.{option_map};
+ghost use Rattle.par_tree.specs.View.{program_tree};
+ghost use Rattle.par_ownership.specs.Walk.{program_refusal};
+ghost use Rattle.block_check.specs.Checked.{Checks, error_shown};
+
+use crate::check_error::CheckError;
+use crate::check_fail::CheckFail;
+use crate::checked::Checked;
+use crate::functions;
+use crate::refusal::Fail;
+use par_tree::{Name, Program};
+use std::alloc::{AllocError, Global};
+
+/// The first refusal of a program, with a name of its own.
+fn first_refusal(alloc: Global, program: &Program) -> Result<Option<CheckError>, AllocError>
+    ensures { IfOk result (λ o. option_map error_shown o ≡ program_refusal (program_tree program.now)) }
+{
+    match functions::program(alloc, &program.funcs) {
+        Ok(()) => Ok(None),
+        Err(Fail::Memory) => Err(AllocError),
+        Err(Fail::Refused(refusal)) => {
+            let name = Name {
+                bytes: refusal.name.to_vec(alloc)?,
+            };
+            Ok(Some(CheckError {
+                kind: refusal.kind,
+                line: refusal.line,
+                name,
+            }))
+        }
+    }
+}
+
+/// Checks a program against the rules of ownership.
+///
+/// It is accepted exactly where it keeps the rules, and else refused with the first refusal of a walk
+/// from its first function to its last. No program is too deep, and none need be the tree of a text.
+/// It takes time of at most the size of the program times the names of a function.
+///
+/// # Errors
+///
+/// `Refused` gives the program back with its first refusal, `OutOfMemory` gives it back where there is
+/// not enough memory to check it.
+pub fn check(alloc: Global, program: Program) -> Result<Checked, CheckFail>
+    ensures { Checks program result }
+{
+    match first_refusal(alloc, &program) {
+        Ok(None) => Ok(Checked { program }),
+        Ok(Some(error)) => Err(CheckFail::Refused(program, error)),
+        Err(_) => Err(CheckFail::OutOfMemory(program)),
+    }
+}

@@ -1,0 +1,47 @@
+//! Expressions.
+
+ghost use Rattle.std.specs.Prelude.{◌≡◌};
+ghost use Rattle.par_tree.specs.View.{expr_tree, links_tree};
+ghost use Rattle.par_ownership.specs.Walk.{expr_refusal, links_refusal};
+ghost use Rattle.block_check.specs.Shown.{entries_shown, Tests};
+
+use crate::entry::Entry;
+use crate::environment::{block, integer};
+use crate::refusal::Fail;
+use par_tree::{Expr, Link};
+
+/// An expression is read from left to right.
+#[cycle(expression)]
+pub(crate) fn expression<'a>(line: u32, env: &[Entry], expr: &'a Expr) -> Result<(), Fail<'a>>
+    ensures { Tests result (expr_refusal line (entries_shown env.now) (expr_tree expr.now)) }
+{
+    match expr {
+        Expr::Num(_) => Ok(()),
+        Expr::Var(name) => integer(line, env, &name.bytes),
+        Expr::Get(name, index) => {
+            block(line, env, &name.bytes)?;
+            expression(line, env, index)
+        }
+        Expr::Len(name) => block(line, env, &name.bytes),
+        Expr::Neg(operand) => expression(line, env, operand),
+        Expr::Chain { first, rest } => {
+            expression(line, env, first)?;
+            links(line, env, rest)
+        }
+        Expr::Cmp { left, right, .. } => {
+            expression(line, env, left)?;
+            expression(line, env, right)
+        }
+    }
+}
+
+/// The operands of a chain behind its first one.
+#[cycle(expression)]
+fn links<'a>(line: u32, env: &[Entry], rest: &'a [Link]) -> Result<(), Fail<'a>>
+    ensures { Tests result (links_refusal line (entries_shown env.now) (links_tree rest.now)) }
+{
+    for link in rest {
+        expression(line, env, &link.operand)?;
+    }
+    Ok(())
+}

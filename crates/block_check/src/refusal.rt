@@ -1,0 +1,36 @@
+ghost use Rattle.std.specs.Prelude.{◌≡◌};
+ghost use Rattle.block_check.specs.declared.refusal.Fail.TheVariants.{Memory};
+
+use par_ownership::CheckKind;
+use std::alloc::{AllocError, AllocFailed};
+
+/// Why the walk ends.
+#[derive(Drop)]
+pub(crate) enum Fail<'a> {
+    Memory,
+    Refused(Refusal<'a>),
+}
+
+/// The first refusal that the walk meets.
+#[derive(Drop)]
+pub(crate) struct Refusal<'a> {
+    pub(crate) kind: CheckKind,
+    pub(crate) line: u32,
+    pub(crate) name: &'a [u8],
+}
+
+impl From<AllocError> for Fail<'_> {
+    ghost from_gives = { λ _ e. e ≡ Memory };
+
+    fn from(_e: AllocError) -> Self {
+        Fail::Memory
+    }
+}
+
+impl<T: Drop> From<AllocFailed<T>> for Fail<'_> {
+    ghost from_gives = { λ _ e. e ≡ Memory };
+
+    fn from(_e: AllocFailed<T>) -> Self {
+        Fail::Memory
+    }
+}
