@@ -1,5 +1,6 @@
 ghost use Rattle.std.specs.Prelude.{◌≡◌, IsTrue, is_none};
 ghost use Rattle.par_tree.specs.View.{program_tree};
+ghost use Rattle.par_text.specs.Trees.{IsTreeOfText};
 ghost use Rattle.par_ownership.specs.Walk.{program_refusal};
 
 use crate::branch_sets::BranchSets;
@@ -8,10 +9,11 @@ use crate::sets_fail::SetsFail;
 use par_tree::Program;
 use std::alloc::Global;
 
-/// A program that keeps the rules of ownership.
+/// A program that keeps the rules of ownership, and is the tree of a text.
 #[derive(Drop)]
 pub struct Checked {
     pub(crate) program: Program,
+    ghost of_text: { IsTreeOfText (program_tree program) },
     ghost accepted: { IsTrue (is_none (program_refusal (program_tree program))) },
 }
 
@@ -24,6 +26,7 @@ impl Checked {
     /// The program.
     pub fn program(&self) -> &Program
         ensures value { result.now ≡ program_of self.now }
+        ensures of_text { IsTreeOfText (program_tree result.now) }
         ensures owns { Ownership (program_tree result.now) }
     {
         &self.program

@@ -3,6 +3,7 @@
 ghost use Rattle.std.specs.Prelude.{◌≡◌, IfOk};
 ghost use Rattle.std.specs.Option.{option_map};
 ghost use Rattle.par_tree.specs.View.{program_tree};
+ghost use Rattle.par_text.specs.Trees.{IsTreeOfText};
 ghost use Rattle.par_ownership.specs.Walk.{program_refusal};
 ghost use Rattle.block_check.specs.Checked.{Checks, error_shown};
 
@@ -37,14 +38,15 @@ fn first_refusal(alloc: Global, program: &Program) -> Result<Option<CheckError>,
 /// Checks a program against the rules of ownership.
 ///
 /// It is accepted exactly where it keeps the rules, and else refused with the first refusal of a walk
-/// from its first function to its last. No program is too deep, and none need be the tree of a text.
-/// It takes time of at most the size of the program times the names of a function.
+/// from its first function to its last. It is to be the tree of a text, as a parser gives it, so that what
+/// the limits of a text say holds of an accepted program. It takes time of at most the size of the program times the names of a function.
 ///
 /// # Errors
 ///
 /// `Refused` gives the program back with its first refusal, `OutOfMemory` gives it back where there is
 /// not enough memory to check it.
 pub fn check(alloc: Global, program: Program) -> Result<Checked, CheckFail>
+    requires { IsTreeOfText (program_tree program) }
     ensures { Checks program result }
 {
     match first_refusal(alloc, &program) {

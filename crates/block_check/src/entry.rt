@@ -3,11 +3,11 @@ use crate::kind::Kind;
 /// A declared name: what it stands for, whether it is a block that is held, and the line of its
 /// declaration.
 #[derive(Clone, Copy)]
-pub(crate) struct Entry<'a> {
-    pub(crate) name: &'a [u8],
-    pub(crate) kind: Kind,
-    pub(crate) held: bool,
-    pub(crate) line: u32,
+pub struct Entry<'a> {
+    pub name: &'a [u8],
+    pub kind: Kind,
+    pub held: bool,
+    pub line: u32,
 }
 
 impl Entry<'_> {

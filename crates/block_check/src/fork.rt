@@ -3,8 +3,8 @@ use par_tree::Body;
 
 /// A `par`, with the names that are visible before it.
 #[derive(Drop)]
-pub(crate) struct Fork<'a> {
-    pub(crate) names: Vec<Entry<'a>>,
-    pub(crate) left: &'a Body,
-    pub(crate) right: &'a Body,
+pub struct Fork<'a> {
+    pub names: Vec<Entry<'a>>,
+    pub left: &'a Body,
+    pub right: &'a Body,
 }

@@ -1,8 +1,11 @@
 /// What a name stands for.
 #[derive(Clone, Copy)]
-pub(crate) enum Kind {
+pub enum Kind {
+    /// An integer.
     Integer,
+    /// A block that the function owns.
     Own,
+    /// A block that is lent to the function.
     Lent,
 }
 

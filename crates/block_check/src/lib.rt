@@ -32,8 +32,11 @@ pub use check_error::CheckError;
 pub use check_fail::CheckFail;
 pub use checked::Checked;
 pub use checker::check;
+pub use entry::Entry;
+pub use fork::Fork;
+pub use kind::Kind;
 pub use par_ownership::CheckKind;
+pub use refusal::{Fail, Refusal};
+pub use search::{declared_by, with_params, with_parts};
+pub use sets::sets_of;
 pub use sets_fail::SetsFail;
-
-#[cfg(test)]
-mod tests;

@@ -6,17 +6,19 @@ use std::alloc::{AllocError, AllocFailed};
 
 /// Why the walk ends.
 #[derive(Drop)]
-pub(crate) enum Fail<'a> {
+pub enum Fail<'a> {
+    /// There was not enough memory.
     Memory,
+    /// A rule is broken.
     Refused(Refusal<'a>),
 }
 
 /// The first refusal that the walk meets.
 #[derive(Drop)]
-pub(crate) struct Refusal<'a> {
-    pub(crate) kind: CheckKind,
-    pub(crate) line: u32,
-    pub(crate) name: &'a [u8],
+pub struct Refusal<'a> {
+    pub kind: CheckKind,
+    pub line: u32,
+    pub name: &'a [u8],
 }
 
 impl From<AllocError> for Fail<'_> {

@@ -16,7 +16,7 @@ use par_tree::{Body, Func, Name, Param, Stmt, StmtKind};
 use std::alloc::Global;
 
 /// The names that are visible behind a statement.
-fn declared_by<'a>(
+pub fn declared_by<'a>(
     line: u32,
     names: Vec<Entry<'a>>,
     kind: &'a StmtKind,
@@ -39,7 +39,7 @@ fn declared_by<'a>(
 }
 
 /// The names of a `split` are visible in its body.
-fn with_parts<'a>(
+pub fn with_parts<'a>(
     line: u32,
     names: Vec<Entry<'a>>,
     left: &'a Name,
@@ -136,7 +136,7 @@ fn seek_in_list<'a>(
 }
 
 /// The parameters of a function are visible in its body.
-fn with_params<'a>(
+pub fn with_params<'a>(
     line: u32,
     mut names: Vec<Entry<'a>>,
     params: &'a [Param],

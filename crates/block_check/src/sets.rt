@@ -67,7 +67,7 @@ fn integers_assigned(alloc: Global, names: &[Entry], branch: &[Stmt]) -> Result<
 }
 
 /// The branch sets of a `par`.
-fn sets_of(alloc: Global, fork: &Fork) -> Result<BranchSets, AllocError>
+pub fn sets_of(alloc: Global, fork: &Fork) -> Result<BranchSets, AllocError>
     ensures { IfOk result (λ s. SetsOf (fork_shown fork.now) s) }
 {
     let left_blocks = blocks_named(alloc, &fork.names, fork.left)?;

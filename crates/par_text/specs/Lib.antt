@@ -8,3 +8,4 @@ pub mod Text
 pub mod Lexing
 pub mod Counts
 pub mod Judging
+pub mod Trees

@@ -1,10 +1,9 @@
-use Rattle.std.proofs.Common.{◌≡◌, ◌||◌, inl, inr, refl, sym, ap, ◌∙◌}
-use Rattle.std.specs.Str.{bytes_eq}
-use Rattle.par_tree.specs.View.{name_tree, expr_tree, stmt_tree, body_tree}
+use Rattle.std.proofs.Common.{inl, inr, sym, ap, ◌∙◌}
+use Rattle.par_tree.specs.View.{stmt_tree, body_tree}
 use Rattle.par_tree.proofs.Lists.{stmt_tree-if, stmt_tree-while, stmt_tree-par, stmt_tree-split}
-use Rattle.par_ownership.specs.Mention.{names_in_expr, names_in_stmt, names_in_body, assigns_in_stmt, assigns_in_body}
-use Rattle.block_check.proofs.Rows.{or_then, or_else}
-use Rattle.block_check.proofs.mentions.+assigns_in_statement.Goals as goal
+use Rattle.par_ownership.specs.Mention.{assigns_in_stmt, assigns_in_body}
+use Rattle.par_mention.proofs.Tests.{or_then, or_else}
+use Rattle.par_mention.proofs.mentions.+assigns_in_statement.Goals as goal
 
 pub assigns_in_statement-returns-then-assigns_in : goal.assigns_in_statement-returns-then-assigns_in
 assigns_in_statement-returns-then-assigns_in t c =

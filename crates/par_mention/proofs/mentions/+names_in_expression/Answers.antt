@@ -1,9 +1,9 @@
-use Rattle.std.proofs.Common.{◌≡◌, sym, ap, ◌∙◌}
+use Rattle.std.proofs.Common.{sym, ap, ◌∙◌}
 use Rattle.par_tree.specs.View.{expr_tree, links_tree}
 use Rattle.par_tree.proofs.Lists.{expr_tree-chain}
 use Rattle.par_ownership.specs.Mention.{names_in_expr, names_in_links}
-use Rattle.block_check.proofs.Rows.{or_else}
-use Rattle.block_check.proofs.mentions.+names_in_expression.Goals as goal
+use Rattle.par_mention.proofs.Tests.{or_else}
+use Rattle.par_mention.proofs.mentions.+names_in_expression.Goals as goal
 
 pub names_in_expression-returns-else-names_in_expression : goal.names_in_expression-returns-else-names_in_expression
 names_in_expression-returns-else-names_in_expression t c =

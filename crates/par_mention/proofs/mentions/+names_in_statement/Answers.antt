@@ -1,10 +1,10 @@
-use Rattle.std.proofs.Common.{◌≡◌, ◌||◌, refl, sym, ap, ◌∙◌}
+use Rattle.std.proofs.Common.{◌||◌, refl, sym, ap, ◌∙◌}
 use Rattle.std.specs.Str.{bytes_eq}
 use Rattle.par_tree.specs.View.{name_tree, expr_tree, stmt_tree, body_tree}
 use Rattle.par_tree.proofs.Lists.{stmt_tree-if, stmt_tree-while, stmt_tree-par, stmt_tree-split}
-use Rattle.par_ownership.specs.Mention.{names_in_expr, names_in_stmt, names_in_body, assigns_in_stmt, assigns_in_body}
-use Rattle.block_check.proofs.Rows.{or_then, or_else}
-use Rattle.block_check.proofs.mentions.+names_in_statement.Goals as goal
+use Rattle.par_ownership.specs.Mention.{names_in_expr, names_in_stmt, names_in_body}
+use Rattle.par_mention.proofs.Tests.{or_then, or_else}
+use Rattle.par_mention.proofs.mentions.+names_in_statement.Goals as goal
 
 pub names_in_statement-returns-then-names_in : goal.names_in_statement-returns-then-names_in
 names_in_statement-returns-then-names_in t c =

@@ -1,0 +1,3 @@
+pub mod Passing
+pub mod Naming
+pub mod Functions
