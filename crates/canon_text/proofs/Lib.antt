@@ -1,0 +1,17 @@
+pub mod LineLemmas
+pub mod Lexemes
+pub mod Written
+pub mod Claims
+pub mod Leaves
+pub mod Symbols
+pub mod Places
+pub mod Sound
+pub mod Expressions
+pub mod Statements
+pub mod Meanings
+pub mod Functions
+pub mod Tokens
+pub mod Counting
+pub mod Scans
+pub mod Limits
+pub mod ReadBack
