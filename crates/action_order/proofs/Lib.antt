@@ -1,0 +1,13 @@
+pub mod Trace
+pub mod Steps
+pub mod Own
+pub mod Joins
+pub mod Whole
+pub mod ThreadLaws
+pub mod JoinLaws
+pub mod OrderLaw
+pub mod Trees
+pub mod TreeLaws
+pub mod Peak
+pub mod Examples
+pub mod Building
