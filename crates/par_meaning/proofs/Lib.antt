@@ -1,0 +1,8 @@
+pub mod Worked
+pub mod Keeping
+pub mod Fixed
+pub mod Stepping
+pub mod Nearing
+pub mod Built
+pub mod Words
+pub mod Covered

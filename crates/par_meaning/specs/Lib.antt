@@ -1,0 +1,7 @@
+pub mod Stores
+pub mod Values
+pub mod States
+pub mod Calls
+pub mod Run
+pub mod Middle
+pub mod Laws
