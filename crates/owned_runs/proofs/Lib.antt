@@ -1,0 +1,10 @@
+pub mod Counting
+pub mod Environments
+pub mod Tame
+pub mod Sizes
+pub mod Moves
+pub mod Passing
+pub mod Statements
+pub mod Calling
+pub mod Owned
+pub mod Needed

@@ -1,0 +1,3 @@
+pub mod Counts
+pub mod Needs
+pub mod Laws
