@@ -1,0 +1,193 @@
+-- Tables that grow, and what stays true in a longer one.
+use Rattle.std.proofs.Common.{◌≡◌, ◌≢◌, ℕ, zero, suc, ◌+◌, ◌<◌, ◌≤◌, List, [], ◌∷◌, ◌++◌, length, set, Some, refl, sym, ap, ◌∙◌, subst, arith, append_assoc, append-nil, length-append, length-set}
+use Rattle.std.specs.Prelude.{slice_get}
+use Rattle.par_tree.specs.Tree.{Name, Expr, Stmt, declare, assign, store, allocate, release, choose, repeat, call, print, both, split, Body, done, step}
+use Rattle.par_ownership.specs.Environment.{Environment}
+use Rattle.block_check.specs.Forks.{declared_by, split_names}
+use Rattle.frame_code.specs.Table.{AsIf, AsWhile, AsBoth, AsSplit, AsStep, IsStmt, IsBody, Grown}
+use Rattle.std.specs.declared.vec.Vec.{Vec}
+use Rattle.std.specs.declared.alloc.Global.{Global}
+use Rattle.frame_code.specs.Lowered.{IsExpr}
+use Rattle.frame_code.specs.Branches.{SlotsOfBranches}
+use Rattle.frame_code.specs.declared.branches.Branches.{Branches}
+use Rattle.frame_code.specs.declared.code_expr.CodeExpr.{CodeExpr}
+use Rattle.frame_code.specs.declared.node.Node.{Node}
+use Rattle.frame_code.specs.declared.node_kind.NodeKind.{NodeKind}
+use Rattle.frame_code.specs.declared.node_kind.NodeKind.TheVariants as k
+
+-- lists by number
+pub get_below : {A : Type 0} (xs : List A) (m : ℕ) (v : A) → slice_get xs m ≡ Some v → m < length xs
+get_below [] m v e = let never : ⊥ = cc in absurd never
+get_below (x ∷ xs) zero v e = omega arith
+get_below (x ∷ xs) (suc m) v e = let h : m < length xs = get_below xs m v e in omega arith
+
+get_front : {A : Type 0} (xs ys : List A) (m : ℕ) (v : A) → slice_get xs m ≡ Some v → slice_get (xs ++ ys) m ≡ Some v
+get_front [] ys m v e = let never : ⊥ = cc in absurd never
+get_front (x ∷ xs) ys zero v e = e
+get_front (x ∷ xs) ys (suc m) v e = get_front xs ys m v e
+
+get_written : {A : Type 0} (xs : List A) (n : ℕ) (v : A) → n < length xs → slice_get (set xs n v) n ≡ Some v
+get_written [] n v h = let never : ⊥ = omega arith in absurd never
+get_written (x ∷ xs) zero v h = refl
+get_written (x ∷ xs) (suc n) v h = let less : n < length xs = omega arith in get_written xs n v less
+
+get_other : {A : Type 0} (xs : List A) (n m : ℕ) (v : A) → m ≢ n → slice_get (set xs n v) m ≡ slice_get xs m
+get_other [] n m v h = refl
+get_other (x ∷ xs) zero zero v h = absurd (h refl)
+get_other (x ∷ xs) zero (suc m) v h = refl
+get_other (x ∷ xs) (suc n) zero v h = refl
+get_other (x ∷ xs) (suc n) (suc m) v h = get_other xs n m v (λ e. h (ap (λ i. suc i) e))
+
+-- from a number on, nothing is lost
+pub record KeepsFrom (low : ℕ) (t u : List Node) : Type 0 where
+  pub keeps : (m : ℕ) (v : Node) → low ≤ m → slice_get t m ≡ Some v → slice_get u m ≡ Some v
+
+pub grown_same : (t : List Node) → Grown t t
+grown_same t = record { keeps = λ m v e. e; longer = omega arith }
+
+pub grown_trans : (t u w : List Node) → Grown t u → Grown u w → Grown t w
+grown_trans t u w a b = record { keeps = λ m v e. b.keeps m v (a.keeps m v e); longer = let x = a.longer in let y = b.longer in omega arith }
+
+pub keeps_grown : (low : ℕ) (t u : List Node) → Grown t u → KeepsFrom low t u
+keeps_grown low t u g = record { keeps = λ m v h e. g.keeps m v e }
+
+pub keeps_same : (low : ℕ) (t : List Node) → KeepsFrom low t t
+keeps_same low t = record { keeps = λ m v h e. e }
+
+keeps_above : (low high : ℕ) (t u : List Node) → low ≤ high → KeepsFrom low t u → KeepsFrom high t u
+keeps_above low high t u h a = record { keeps = λ m v le e. a.keeps m v (omega arith) e }
+
+keeps_trans : (low : ℕ) (t u w : List Node) → KeepsFrom low t u → KeepsFrom low u w → KeepsFrom low t w
+keeps_trans low t u w a b = record { keeps = λ m v h e. b.keeps m v h (a.keeps m v h e) }
+
+-- facts of the numbers inside a node
+AsIf-map : (names : List Name) (e : Expr) (P Q R S : List ℕ → Type 0) (kind : NodeKind) → ((ns : List ℕ) → P ns → R ns) → ((ns : List ℕ) → Q ns → S ns) → AsIf names e P Q kind → AsIf names e R S kind
+AsIf-map names e P Q R S (k.If c a b) f g h = (h.0, f a.items h.1, g b.items h.2)
+AsIf-map names e P Q R S _ f g h = absurd h
+
+AsWhile-map : (names : List Name) (e : Expr) (P R : List ℕ → Type 0) (kind : NodeKind) → ((ns : List ℕ) → P ns → R ns) → AsWhile names e P kind → AsWhile names e R kind
+AsWhile-map names e P R (k.While c a) f h = (h.0, f a.items h.1)
+AsWhile-map names e P R _ f h = absurd h
+
+AsBoth-map : (names : List Name) (env : Environment) (left : Body) (P Q R S : List ℕ → Type 0) (kind : NodeKind) → ((ns : List ℕ) → P ns → R ns) → ((ns : List ℕ) → Q ns → S ns) → AsBoth names env left P Q kind → AsBoth names env left R S kind
+AsBoth-map names env left P Q R S (k.Both a b xs ys) f g h = (f a.items h.0, g b.items h.1, h.2, h.3)
+AsBoth-map names env left P Q R S _ f g h = absurd h
+
+AsSplit-map : (names : List Name) (b : Name) (e : Expr) (l r : Name) (P R : List ℕ → Type 0) (kind : NodeKind) → ((ns : List ℕ) → P ns → R ns) → AsSplit names b e l r P kind → AsSplit names b e l r R kind
+AsSplit-map names b e l r P R (k.Split s c m n a) f h = (h.0, h.1, h.2, h.3, f a.items h.4)
+AsSplit-map names b e l r P R _ f h = absurd h
+
+AsStep-map : (t u : List Node) (low less line : ℕ) (P P' : ℕ → NodeKind → Type 0) (Q Q' : List ℕ → Type 0) (ns : List ℕ) → less ≤ low → KeepsFrom low t u → ((n : ℕ) (kind : NodeKind) → low ≤ n → P n kind → P' n kind) → ((ms : List ℕ) → Q ms → Q' ms) → AsStep t low line P Q ns → AsStep u less line P' Q' ns
+AsStep-map t u low less line P P' Q Q' [] le keeps f g h = absurd h
+AsStep-map t u low less line P P' Q Q' (n ∷ ns) le keeps f g h =
+    let below : low ≤ n = h.0 in
+    (omega arith, (h.1.0, keeps.keeps n h.1.0 below h.1.1, h.1.2, f (n + 1) h.1.0.kind (omega arith) h.1.3), g ns h.2)
+
+-- a table that keeps what stands from a number on has the same statements there
+module _ (functions names : List Name) where
+  mutual
+    pub stmt_kept : (t u : List Node) (env : Environment) (line : ℕ) (s : Stmt) (low less : ℕ) (kind : NodeKind) → less ≤ low → KeepsFrom low t u → IsStmt t functions names env line s low kind → IsStmt u functions names env line s less kind
+    stmt_kept t u env line (declare x e) low less kind le keeps h = h
+    stmt_kept t u env line (assign x e) low less kind le keeps h = h
+    stmt_kept t u env line (store b i e) low less kind le keeps h = h
+    stmt_kept t u env line (allocate b e) low less kind le keeps h = h
+    stmt_kept t u env line (release b) low less kind le keeps h = h
+    stmt_kept t u env line (choose c a b) low less kind le keeps h =
+        AsIf-map names c (IsBody t functions names env a low) (IsBody t functions names env b low) (IsBody u functions names env a less) (IsBody u functions names env b less) kind
+        (λ ns p. body_kept t u env a low less ns le keeps p) (λ ns p. body_kept t u env b low less ns le keeps p) h
+    stmt_kept t u env line (repeat c a) low less kind le keeps h =
+        AsWhile-map names c (IsBody t functions names env a low) (IsBody u functions names env a less) kind (λ ns p. body_kept t u env a low less ns le keeps p) h
+    stmt_kept t u env line (call v f args) low less kind le keeps h = h
+    stmt_kept t u env line (print e) low less kind le keeps h = h
+    stmt_kept t u env line (both a b) low less kind le keeps h =
+        AsBoth-map names env a (IsBody t functions names env a low) (IsBody t functions names env b low) (IsBody u functions names env a less) (IsBody u functions names env b less) kind
+        (λ ns p. body_kept t u env a low less ns le keeps p) (λ ns p. body_kept t u env b low less ns le keeps p) h
+    stmt_kept t u env line (split b e l r a) low less kind le keeps h =
+        AsSplit-map names b e l r (IsBody t functions names (split_names env line l r) a low) (IsBody u functions names (split_names env line l r) a less) kind
+        (λ ns p. body_kept t u (split_names env line l r) a low less ns le keeps p) h
+
+    pub body_kept : (t u : List Node) (env : Environment) (b : Body) (low less : ℕ) (ns : List ℕ) → less ≤ low → KeepsFrom low t u → IsBody t functions names env b low ns → IsBody u functions names env b less ns
+    body_kept t u env done low less [] le keeps h = tt
+    body_kept t u env done low less (n ∷ ns) le keeps h = absurd h
+    body_kept t u env (step line s rest) low less ns le keeps h =
+        AsStep-map t u low less line (IsStmt t functions names env line s) (IsStmt u functions names env line s) (IsBody t functions names (declared_by env line s) rest low) (IsBody u functions names (declared_by env line s) rest less) ns le keeps
+        (λ n kind above p. stmt_kept t u env line s n n kind (omega arith) (keeps_above low n t u above keeps) p)
+        (λ ms p. body_kept t u (declared_by env line s) rest low less ms le keeps p) h
+
+  -- what a loop over a list of statements keeps: the table has grown, and in each table that keeps it from
+  -- its start on, the numbers so far with those of what is left are the numbers of the whole list
+  pub record Walked (start now : List Node) (first env : Environment) (whole rest : Body) (numbers : List ℕ) : Type 0 where
+    pub grown : Grown start now
+    pub continues : (u : List Node) → KeepsFrom (length start) now u → (more : List ℕ) → IsBody u functions names env rest (length start) more → IsBody u functions names first whole (length start) (numbers ++ more)
+
+  pub walked_first : (start : List Node) (env : Environment) (whole : Body) → Walked start start env env whole whole []
+  walked_first start env whole = record { grown = grown_same start; continues = λ u keeps more p. p }
+
+  pub walked_next : (start now begun made new : List Node) (first env after : Environment) (whole rest : Body) (numbers found : List ℕ) (line n : ℕ) (s : Stmt) (kind : NodeKind) (p : Node)
+      → Walked start now first env whole (step line s rest) numbers
+      → n ≡ length now → begun ≡ now ++ p ∷ [] → Grown begun made
+      → IsStmt made functions names env line s (length begun) kind
+      → new ≡ set made n (record { line = line; kind = kind }) → found ≡ numbers ++ n ∷ [] → after ≡ declared_by env line s
+      → Walked start new first after whole rest found
+  walked_next start now begun made new first env after whole rest numbers found line n s kind p w num b g is_stmt e f d =
+      let node : Node = record { line = line; kind = kind } in
+      let count : length begun ≡ n + 1 = ap length b ∙ length-append now (p ∷ []) ∙ ap (λ m. m + 1) (sym num) in
+      let begun_longer = g.longer in
+      let fits : n < length made = omega arith in
+      let now_made : (m : ℕ) (v : Node) → slice_get now m ≡ Some v → slice_get made m ≡ Some v
+      = λ m v h. g.keeps m v (subst (λ (t : List Node). slice_get t m ≡ Some v) (sym b) (get_front now (p ∷ []) m v h)) in
+      let other : (m : ℕ) (v : Node) → m ≢ n → slice_get made m ≡ Some v → slice_get new m ≡ Some v
+      = λ m v ne h. ap (λ (t : List Node). slice_get t m) e ∙ get_other made n m node ne ∙ h in
+      let here : slice_get new n ≡ Some node = ap (λ (t : List Node). slice_get t n) e ∙ get_written made n node fits in
+      let same_length : length new ≡ length made = ap length e ∙ length-set made n node in
+      let now_new : Grown now new
+      = record {
+        keeps = λ m v h. let lt : m < length now = get_below now m v h in other m v (omega arith) (now_made m v h);
+        longer = omega arith;
+      } in
+      let inside : KeepsFrom (n + 1) made new = record { keeps = λ m v le h. other m v (omega arith) h } in
+      let was_longer = w.grown.longer in
+      record {
+        grown = grown_trans start now new w.grown now_new;
+        continues = λ u keeps more q.
+            let stands : IsStmt u functions names env line s (n + 1) kind
+            = stmt_kept new u env line s (n + 1) (n + 1) kind (omega arith) (keeps_above (length start) (n + 1) new u (omega arith) keeps)
+            (stmt_kept made new env line s (n + 1) (n + 1) kind (omega arith) inside (subst (λ (m : ℕ). IsStmt made functions names env line s m kind) count is_stmt)) in
+            let tail = subst (λ (v : Environment). IsBody u functions names v rest (length start) more) d q in
+            subst (λ v. IsBody u functions names first whole (length start) v) (sym (ap (λ v. v ++ more) f ∙ append_assoc numbers (n ∷ []) more))
+            (w.continues u (keeps_trans (length start) now new u (keeps_grown (length start) now new now_new) keeps) (n ∷ more)
+            (omega arith, (node, keeps.keeps n node (omega arith) here, refl, stands), tail));
+      }
+
+  pub walked_end : (start now : List Node) (first env : Environment) (whole : Body) (numbers : List ℕ) → Walked start now first env whole done numbers → Grown start now × IsBody now functions names first whole (length start) numbers
+  walked_end start now first env whole numbers w =
+      (w.grown, subst (λ v. IsBody now functions names first whole (length start) v) (append-nil numbers) (w.continues now (keeps_same (length start) now) [] tt))
+
+  -- an `if`, from its condition and its arms
+  pub if_made : (start one two : List Node) (env : Environment) (line : ℕ) (s : Stmt) (e : Expr) (a b : Body) (c : CodeExpr) (x y : Vec ℕ Global) → s ≡ choose e a b → IsExpr names c e
+      → Grown start one × IsBody one functions names env a (length start) x.items → Grown one two × IsBody two functions names env b (length one) y.items
+      → Grown start two × IsStmt two functions names env line s (length start) (k.If c x y)
+  if_made start one two env line s e a b c x y same cond left right =
+      let long = left.0.longer in (
+        grown_trans start one two left.0 right.0,
+        subst (λ (v : Stmt). IsStmt two functions names env line v (length start) (k.If c x y)) (sym same) (
+          cond,
+          body_kept one two env a (length start) (length start) x.items (omega arith) (keeps_grown (length start) one two right.0) left.1,
+          body_kept two two env b (length one) (length start) y.items long (keeps_same (length one) two) right.1,
+        ),
+      )
+
+  -- a `par`, from its branches
+  pub both_made : (start one two : List Node) (env : Environment) (line : ℕ) (s : Stmt) (a b : Body) (sets : Branches) (x y : Vec ℕ Global) → s ≡ both a b → SlotsOfBranches names env a sets
+      → Grown start one × IsBody one functions names env a (length start) x.items → Grown one two × IsBody two functions names env b (length one) y.items
+      → Grown start two × IsStmt two functions names env line s (length start) (k.Both x y sets.blocks sets.assigned)
+  both_made start one two env line s a b sets x y same goes left right =
+      let long = left.0.longer in (
+        grown_trans start one two left.0 right.0,
+        subst (λ (v : Stmt). IsStmt two functions names env line v (length start) (k.Both x y sets.blocks sets.assigned)) (sym same) (
+          body_kept one two env a (length start) (length start) x.items (omega arith) (keeps_grown (length start) one two right.0) left.1,
+          body_kept two two env b (length one) (length start) y.items long (keeps_same (length one) two) right.1,
+          goes.blocks,
+          goes.assigned,
+        ),
+      )

@@ -1,0 +1,21 @@
+use Rattle.std.proofs.Common.{refl, sym, ap, subst, ◌∙◌}
+use Rattle.par_tree.specs.View.{expr_tree, links_tree}
+use Rattle.par_tree.proofs.Lists.{expr_tree-chain}
+use Rattle.frame_code.specs.Names.{names_tree}
+use Rattle.frame_code.specs.Lowered.{IsExpr, AreLinks}
+use Rattle.frame_code.proofs.Rows.{chain_is}
+use Rattle.frame_code.proofs.Lists.{continues_end}
+use Rattle.frame_code.proofs.expressions.+expression.Goals as goal
+
+pub expression-returns-in_ok-first-in-Chain-2 : goal.expression-returns-in_ok-first-in-Chain-2
+expression-returns-in_ok-first-in-Chain-2 t c =
+    let names = names_tree c.args.names.now.names.items in
+    let same = ap expr_tree c.in-Chain.is ∙ expr_tree-chain c.in-Chain.first c.in-Chain.rest in
+    let first = subst (λ e. IsExpr names e (expr_tree c.in-Chain.first.value)) (sym c.in_ok-first-in-Chain-2.ensures.ok)
+    (subst (λ e. IsExpr names c.in_ok-first-in-Chain.first (expr_tree e)) c.deref-in-Chain.ensures c.in_ok-first-in-Chain.ensures) in
+    let rest = subst (λ xs. AreLinks names c.in_ok-rest-in-Chain.rest.items (links_tree xs)) c.deref-in-Chain-2.ensures.value c.in_ok-rest-in-Chain.ensures in
+    chain_is names c.in_ok-first-in-Chain-2.first c.in_ok-rest-in-Chain.rest (expr_tree c.in-Chain.first.value) (links_tree c.in-Chain.rest.items) (expr_tree c.args.expr.now) same first rest
+
+pub links-returns : goal.links-returns
+links-returns t c =
+    continues_end (λ cs ls. AreLinks (names_tree c.args.names.now.names.items) cs (links_tree ls)) c.args.rest.now c.loop-link.found.items c.loop-link.link-index c.loop-link-test.false c.loop-link.invariant (refl, tt)

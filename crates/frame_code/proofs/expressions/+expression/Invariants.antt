@@ -1,0 +1,9 @@
+use Rattle.par_tree.specs.View.{links_tree}
+use Rattle.frame_code.specs.Names.{names_tree}
+use Rattle.frame_code.specs.Lowered.{AreLinks}
+use Rattle.frame_code.proofs.Lists.{Continues}
+use Rattle.frame_code.proofs.expressions.+expression.Given as goal
+
+abbrev pub invariant-links-loop-link : goal.invariant-links-loop-link
+invariant-links-loop-link l =
+    Continues (λ cs ls. AreLinks (names_tree l.names.names.items) cs (links_tree ls)) l.rest l.found.items l.link-index

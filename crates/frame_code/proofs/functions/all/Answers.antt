@@ -1,0 +1,24 @@
+use Rattle.std.proofs.Common.{◌+◌, drop, subst}
+use Rattle.std.proofs.lemmas.List.{drop_all}
+use Rattle.par_tree.specs.View.{func_tree}
+use Rattle.block_check.specs.Shown.{funcs_tree}
+use Rattle.frame_code.specs.Scopes.{func_names}
+use Rattle.frame_code.proofs.Lists.{at_item}
+use Rattle.frame_code.proofs.Gathering.{Gathered, gathered_next, gathered_end}
+use Rattle.frame_code.proofs.functions.all.Goals as goal
+
+pub loop-func-preserved : goal.loop-func-preserved
+loop-func-preserved c =
+    let fs = c.args.funcs.now in
+    let i = c.loop-func.func-index in
+    let item = c.func-item.result in
+    let now = c.loop-func.nodes.items in
+    gathered_next (func_names fs) now c.in_ok-more.more.items (funcs_tree fs) (funcs_tree (drop (i + 1) fs)) (func_tree item) c.in_ok-more.code c.loop-func.codes.items c.push.new.self.items
+    (at_item (λ gs. Gathered (func_names fs) now (funcs_tree fs) (funcs_tree gs) c.loop-func.codes.items) fs i item c.loop-func-test.true c.func-item.is c.loop-func.invariant)
+    c.in_ok-more.ensures.0 c.in_ok-more.ensures.1 c.in_ok-push.ensures.items
+
+pub returns : goal.returns
+returns c =
+    let fs = c.args.funcs.now in
+    gathered_end (func_names fs) c.loop-func.nodes.items (funcs_tree fs) c.loop-func.codes.items
+    (subst (λ gs. Gathered (func_names fs) c.loop-func.nodes.items (funcs_tree fs) (funcs_tree gs) c.loop-func.codes.items) (drop_all c.loop-func.func-index fs c.loop-func-test.false) c.loop-func.invariant)

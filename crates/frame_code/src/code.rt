@@ -1,0 +1,54 @@
+ghost use Rattle.std.specs.Prelude.{◌≤◌};
+ghost use Rattle.std.specs.Vec.{vec_len};
+
+use crate::func_code::FuncCode;
+use crate::node::Node;
+
+/// A program as a table of nodes, with its functions in the order of the text.
+#[derive(Drop)]
+pub struct Code {
+    pub(crate) nodes: Vec<Node>,
+    pub(crate) funcs: Vec<FuncCode>,
+    pub(crate) main: u32,
+    ghost numbered: { vec_len nodes ≤ 4294967295 },
+}
+
+impl Code {
+    ghost use Rattle.std.specs.Prelude.{◌≡◌, ◌==◌, length, slice_get, option_copied};
+    ghost use Rattle.frame_code.specs.Codes.{nodes_of, funcs_of, main_of};
+
+    /// How many nodes there are.
+    pub fn len(&self) -> u32
+        ensures { result ≡ length (nodes_of self.now) }
+    {
+        self.nodes.len() as u32
+    }
+
+    /// Whether there are no nodes.
+    pub fn is_empty(&self) -> bool
+        ensures { result ≡ (length (nodes_of self.now) == 0) }
+    {
+        self.nodes.is_empty()
+    }
+
+    /// The node of a number, which is `None` where the number is not below `len`.
+    pub fn node(&self, number: u32) -> Option<&Node>
+        ensures { option_copied result ≡ slice_get (nodes_of self.now) number }
+    {
+        self.nodes.get(number as usize)
+    }
+
+    /// The function of a number, in the order of the text from 0, or `None` where there is none.
+    pub fn func(&self, number: u32) -> Option<&FuncCode>
+        ensures { option_copied result ≡ slice_get (funcs_of self.now) number }
+    {
+        self.funcs.get(number as usize)
+    }
+
+    /// The number of `main`.
+    pub fn main(&self) -> u32
+        ensures { result ≡ main_of self.now }
+    {
+        self.main
+    }
+}

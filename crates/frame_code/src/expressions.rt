@@ -1,0 +1,144 @@
+//! Expressions, arguments, targets and `return` over slots.
+
+ghost use Rattle.std.specs.Prelude.{IfOk};
+ghost use Rattle.par_tree.specs.View.{expr_tree, links_tree, target_tree, arg_tree, args_tree, ret_tree, ret_value_tree};
+ghost use Rattle.frame_code.specs.Names.{names_tree};
+ghost use Rattle.frame_code.specs.Lowered.{IsExpr, AreLinks, IsTarget, IsArg, AreArgs, IsReturnValue, IsReturn};
+
+use crate::code_arg::{CodeArg, CodeArgs};
+use crate::code_expr::CodeExpr;
+use crate::code_link::{CodeLink, CodeRest};
+use crate::code_ret::CodeRet;
+use crate::code_ret_value::CodeRetValue;
+use crate::code_target::CodeTarget;
+use crate::slot_names::SlotNames;
+use par_tree::{Arg, Expr, Link, Ret, RetValue, Target};
+use std::alloc::{AllocError, Global};
+
+/// An expression.
+#[cycle(expression)]
+pub(crate) fn expression(
+    alloc: Global,
+    names: &SlotNames,
+    expr: &Expr,
+) -> Result<CodeExpr, AllocError>
+    ensures { IfOk result (λ c. IsExpr (names_tree names.now.names.items) c (expr_tree expr.now)) }
+{
+    match expr {
+        Expr::Num(number) => Ok(CodeExpr::Num(*number)),
+        Expr::Var(name) => Ok(CodeExpr::Var(names.slot(name)?)),
+        Expr::Get(name, index) => {
+            let index = expression(alloc, names, index)?;
+            Ok(CodeExpr::Get(names.slot(name)?, Box::new(alloc, index)?))
+        }
+        Expr::Len(name) => Ok(CodeExpr::Len(names.slot(name)?)),
+        Expr::Neg(operand) => {
+            let operand = expression(alloc, names, operand)?;
+            Ok(CodeExpr::Neg(Box::new(alloc, operand)?))
+        }
+        Expr::Chain { first, rest } => {
+            let first = expression(alloc, names, first)?;
+            let rest = links(alloc, names, rest)?;
+            let first = Box::new(alloc, first)?;
+            Ok(CodeExpr::Chain { first, rest })
+        }
+        Expr::Cmp { op, left, right } => {
+            let left = expression(alloc, names, left)?;
+            let right = expression(alloc, names, right)?;
+            let left = Box::new(alloc, left)?;
+            let right = Box::new(alloc, right)?;
+            Ok(CodeExpr::Cmp {
+                op: *op,
+                left,
+                right,
+            })
+        }
+    }
+}
+
+/// The links of a chain.
+#[cycle(expression)]
+fn links(alloc: Global, names: &SlotNames, rest: &[Link]) -> Result<CodeRest, AllocError>
+    ensures { IfOk result (λ v. AreLinks (names_tree names.now.names.items) v.items (links_tree rest.now)) }
+{
+    let mut found = Vec::new(alloc);
+    for link in rest {
+        let operand = expression(alloc, names, &link.operand)?;
+        found.push(CodeLink {
+            op: link.op,
+            operand,
+        })?;
+    }
+    Ok(found)
+}
+
+/// The target of a call.
+pub(crate) fn target(names: &SlotNames, target: &Target) -> Result<CodeTarget, AllocError>
+    ensures { IfOk result (λ c. IsTarget (names_tree names.now.names.items) c (target_tree target.now)) }
+{
+    match target {
+        Target::Unused => Ok(CodeTarget::Unused),
+        Target::Int(name) => Ok(CodeTarget::Int(names.slot(name)?)),
+        Target::Own(name) => Ok(CodeTarget::Own(names.slot(name)?)),
+    }
+}
+
+/// An argument of a call.
+fn argument(alloc: Global, names: &SlotNames, arg: &Arg) -> Result<CodeArg, AllocError>
+    ensures { IfOk result (λ c. IsArg (names_tree names.now.names.items) c (arg_tree arg.now)) }
+{
+    match arg {
+        Arg::Value(expr) => Ok(CodeArg::Value(expression(alloc, names, expr)?)),
+        Arg::Lend(name) => Ok(CodeArg::Lend(names.slot(name)?)),
+        Arg::Give(name) => Ok(CodeArg::Give(names.slot(name)?)),
+    }
+}
+
+/// The arguments of a call.
+pub(crate) fn arguments(
+    alloc: Global,
+    names: &SlotNames,
+    args: &[Arg],
+) -> Result<CodeArgs, AllocError>
+    ensures { IfOk result (λ v. AreArgs (names_tree names.now.names.items) v.items (args_tree args.now)) }
+{
+    let mut found = Vec::new(alloc);
+    for arg in args {
+        found.push(argument(alloc, names, arg)?)?;
+    }
+    Ok(found)
+}
+
+/// What a `return` gives back.
+fn returned_value(
+    alloc: Global,
+    names: &SlotNames,
+    value: &RetValue,
+) -> Result<CodeRetValue, AllocError>
+    ensures { IfOk result (λ c. IsReturnValue (names_tree names.now.names.items) c (ret_value_tree value.now)) }
+{
+    match value {
+        RetValue::Int(expr) => Ok(CodeRetValue::Int(expression(alloc, names, expr)?)),
+        RetValue::Own(name) => Ok(CodeRetValue::Own(names.slot(name)?)),
+    }
+}
+
+/// A `return`.
+pub(crate) fn returned(
+    alloc: Global,
+    names: &SlotNames,
+    ret: &Option<Ret>,
+) -> Result<Option<CodeRet>, AllocError>
+    ensures { IfOk result (λ c. IsReturn (names_tree names.now.names.items) c (ret_tree ret.now)) }
+{
+    match ret {
+        None => Ok(None),
+        Some(ret) => {
+            let value = returned_value(alloc, names, &ret.value)?;
+            Ok(Some(CodeRet {
+                line: ret.line,
+                value,
+            }))
+        }
+    }
+}

@@ -1,0 +1,90 @@
+//! Functions as code.
+
+ghost use Rattle.std.specs.Prelude.{◌≡◌, [], IfOk, length};
+ghost use Rattle.par_tree.specs.View.{params_tree, func_tree};
+ghost use Rattle.accepted_program.specs.Written.{param_names};
+ghost use Rattle.block_check.specs.Shown.{env_shown, funcs_tree};
+ghost use Rattle.block_check.specs.Forks.{with_params};
+ghost use Rattle.frame_code.specs.Names.{names_tree, slot_names};
+ghost use Rattle.frame_code.specs.Lowered.{AreSlots};
+ghost use Rattle.frame_code.specs.Scopes.{func_names, functions_of, names_of_scope};
+ghost use Rattle.frame_code.specs.Table.{Grown};
+ghost use Rattle.frame_code.specs.Codes.{IsFunc, AreFuncs};
+
+use crate::declared::slot_names;
+use crate::expressions::returned;
+use crate::func_code::FuncCode;
+use crate::node::{Node, Slots};
+use crate::scope::Scope;
+use crate::slot_names::SlotNames;
+use crate::statements::list;
+use block_check::{Entry, with_params};
+use par_tree::{Func, Param};
+use std::alloc::{AllocError, Global};
+
+/// The names that are visible where a function's body begins.
+fn at_start<'a>(alloc: Global, func: &'a Func) -> Result<Vec<Entry<'a>>, AllocError>
+    ensures { IfOk result (λ v. env_shown v ≡ with_params [] func.now.line (params_tree func.now.params.items)) }
+{
+    match with_params(func.line, Vec::new(alloc), &func.params) {
+        Ok(visible) => Ok(visible),
+        Err(_) => Err(AllocError),
+    }
+}
+
+/// The slots of parameters.
+fn param_slots(alloc: Global, names: &SlotNames, params: &[Param]) -> Result<Slots, AllocError>
+    ensures { IfOk result (λ v. AreSlots (names_tree names.now.names.items) v.items (param_names (params_tree params.now))) }
+{
+    let mut found = Vec::new(alloc);
+    for param in params {
+        found.push(names.slot(&param.name)?)?;
+    }
+    Ok(found)
+}
+
+/// With what a function's body is lowered.
+fn scope_of<'a>(alloc: Global, funcs: &'a [Func], func: &Func) -> Result<Scope<'a>, AllocError>
+    ensures { IfOk result (λ s. (functions_of s ≡ func_names funcs.now) × (names_of_scope s ≡ slot_names (func_tree func.now))) }
+{
+    let names = SlotNames::of(slot_names(alloc, func)?)?;
+    Ok(Scope { funcs, names })
+}
+
+/// A function, with its nodes behind the others.
+fn lowered(
+    alloc: Global,
+    funcs: &[Func],
+    func: &Func,
+    nodes: Vec<Node>,
+) -> Result<(Vec<Node>, FuncCode), AllocError>
+    ensures { IfOk result (λ r. Grown nodes.items r.0.items × IsFunc r.0.items (func_names funcs.now) (func_tree func.now) r.1) }
+{
+    let scope = scope_of(alloc, funcs, func)?;
+    let visible = at_start(alloc, func)?;
+    let params = param_slots(alloc, &scope.names, &func.params)?;
+    let ret = returned(alloc, &scope.names, &func.ret)?;
+    let (nodes, body) = list(alloc, &scope, visible, nodes, &func.body)?;
+    let slots = scope.names.count();
+    let code = FuncCode {
+        slots,
+        params,
+        body,
+        ret,
+    };
+    Ok((nodes, code))
+}
+
+/// All functions.
+pub(crate) fn all(alloc: Global, funcs: &[Func]) -> Result<(Vec<Node>, Vec<FuncCode>), AllocError>
+    ensures { IfOk result (λ r. AreFuncs r.0.items (func_names funcs.now) (funcs_tree funcs.now) r.1.items) }
+{
+    let mut nodes = Vec::new(alloc);
+    let mut codes = Vec::new(alloc);
+    for func in funcs {
+        let (more, code) = lowered(alloc, funcs, func, nodes)?;
+        nodes = more;
+        codes.push(code)?;
+    }
+    Ok((nodes, codes))
+}

@@ -1,0 +1,60 @@
+ghost use Rattle.std.specs.Prelude.{◌≤◌};
+ghost use Rattle.std.specs.Vec.{vec_len};
+
+use par_tree::Name;
+use std::alloc::{AllocError, Global};
+
+/// The names of a function's slots, of which there are at most 65,535.
+#[derive(Drop)]
+pub(crate) struct SlotNames {
+    pub(crate) names: Vec<Name>,
+    ghost few: { vec_len names ≤ 65535 },
+}
+
+impl SlotNames {
+    ghost use Rattle.std.specs.Prelude.{◌≡◌, IfOk, length};
+    ghost use Rattle.par_tree.specs.View.{name_tree};
+    ghost use Rattle.frame_code.specs.Names.{names_tree, IsSlot};
+    ghost use Rattle.frame_code.specs.Lowered.{AreSlots};
+
+    /// Names that are the slots of a function.
+    pub(crate) fn of(names: Vec<Name>) -> Result<SlotNames, AllocError>
+        ensures { IfOk result (λ s. s.names ≡ names) }
+    {
+        if names.len() <= 65535 {
+            Ok(SlotNames { names })
+        } else {
+            Err(AllocError)
+        }
+    }
+
+    /// How many there are.
+    pub(crate) fn count(&self) -> u16
+        ensures { result ≡ length (names_tree self.now.names.items) }
+    {
+        self.names.len() as u16
+    }
+
+    /// The slot of a name.
+    pub(crate) fn slot(&self, name: &Name) -> Result<u16, AllocError>
+        ensures { IfOk result (λ s. IsSlot (names_tree self.now.names.items) s (name_tree name.now)) }
+    {
+        for i in 0..self.names.len() {
+            if self.names[i].bytes == name.bytes {
+                return Ok(i as u16);
+            }
+        }
+        Err(AllocError)
+    }
+
+    /// The slots of names.
+    pub(crate) fn slots(&self, alloc: Global, wanted: &[Name]) -> Result<Vec<u16>, AllocError>
+        ensures { IfOk result (λ v. AreSlots (names_tree self.now.names.items) v.items (names_tree wanted.now)) }
+    {
+        let mut found = Vec::new(alloc);
+        for name in wanted {
+            found.push(self.slot(name)?)?;
+        }
+        Ok(found)
+    }
+}
