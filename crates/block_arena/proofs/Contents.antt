@@ -79,3 +79,11 @@ zeros-more pieces i piece within before clear =
     ap contents (take_more_set pieces i piece within)
     ∙ flat_map-append words_in (take i pieces) (piece ∷ [])
     ∙ rw (before, append-nil, clear) (replicate-append-replicate (16 * i) 16 (pos 0) ∙ ap (λ n. replicate n (pos 0)) more)
+
+-- a new piece of zeros behind others
+pub zeros-pushed : (pieces : Pieces) (n : ℕ) (piece : Box Piece Global) → contents pieces ≡ replicate (16 * n) (pos 0) →
+    words_in piece ≡ replicate 16 (pos 0) → contents (pieces ++ piece ∷ []) ≡ replicate (16 * (n + 1)) (pos 0)
+zeros-pushed pieces n piece before clear =
+    let more : 16 * n + 16 ≡ 16 * (n + 1) = omega arith in
+    flat_map-append words_in pieces (piece ∷ [])
+    ∙ rw (before, append-nil, clear) (replicate-append-replicate (16 * n) 16 (pos 0) ∙ ap (λ k. replicate k (pos 0)) more)

@@ -1,8 +1,9 @@
 -- The list of a block is the front of its pieces' words: how long it is, and what each call does to it.
-use Rattle.std.proofs.Common.{Vec, vec_len, vec_capacity, ◌≡◌, ℕ, ◌+◌, ◌-◌, ◌*◌, ◌/◌, ◌%◌, ◌<◌, ◌≤◌, ◌++◌, List, length, take, drop, set, slice_get, Some, Box, ap, sym, ◌∙◌, arith, replicate, ℤ, pos}
+use Rattle.std.proofs.Common.{Vec, vec_len, vec_capacity, ◌≡◌, ℕ, ◌+◌, ◌-◌, ◌*◌, ◌/◌, ◌%◌, ◌<◌, ◌≤◌, ◌++◌, List, length, take, drop, set, slice_get, Some, Box, ap, sym, ◌∙◌, arith, replicate, ℤ, pos, suc, [], ◌∷◌, get_or, refl, append_assoc, length-append, drop-cons, Result, Ok, Err, IsErr, OnOk}
 use Rattle.std.specs.Vec.{with_item}
 use Rattle.std.specs.declared.alloc.Global.{Global}
-use Rattle.std.proofs.lemmas.List.{length-take-le, take-take, drop-take, take_all, take-append-drop, length-drop, take-replicate}
+use Rattle.std.proofs.lemmas.List.{take_more, set-append_right, length-take-le, take-take, drop-take, take_all, take-append-drop, length-drop, take-replicate}
+use Rattle.std.proofs.lemmas.Option.{get_or_from_slice_get}
 use Rattle.std.proofs.lemmas.List.Concat.{flat_map-append}
 use Rattle.std.proofs.Math.Seq.{take-set-lt, take-append-add}
 use Rattle.block_arena.specs.declared.piece.Piece.{Piece}
@@ -148,3 +149,43 @@ pub rejoins : (block left right : Content) (at room : ℕ) → left ≡ left_of 
     CanJoin left right × (joined left right ≡ block)
 rejoins block left right at room is_left is_right cut fits greatest =
     rw (is_left, is_right) (CanJoin-cut block at room cut fits greatest, joined-cut block at room)
+
+-- the numbers of two blocks' pieces, in a list with any room
+pub shown-appended : (left right : Vec (Box Piece Global) Global) (all : Pieces) (len more : ℕ) (before after : Content) →
+    block_in left len ≡ before → block_in right more ≡ after → all ≡ left.items ++ right.items →
+    vec_len left ≡ pieces_for len → len % 16 ≡ 0 → take (len + more) (contents all) ≡ before.items ++ after.items
+shown-appended left right all len more before after shown shows items exact whole =
+    rw (← shown, ← shows) (ap (λ both. take (len + more) (contents both)) items
+    ∙ append-front left.items right.items len more (sym left.ok.0 ∙ exact) whole)
+
+-- the last number of the front of a list is written
+pub set_seam : (before behind : List ℤ) (n : ℕ) (old value : ℤ) → length before ≡ n →
+    set (before ++ old ∷ behind) n value ≡ before ++ value ∷ behind
+set_seam before behind n old value long =
+    let none : n - n ≡ 0 = omega arith in
+    set-append_right before (old ∷ behind) n n value long (omega arith)
+    ∙ ap (λ k. before ++ set (old ∷ behind) k value) none
+
+-- the numbers of a list are written over another from a place on: the first i, and then one more
+pub written_more : (before from : List ℤ) (first i : ℕ) (value : ℤ) → slice_get from i ≡ Some value →
+    i < length from → first + i < length before →
+    set (take first before ++ take i from ++ drop (first + i) before) (first + i) value
+    ≡ take first before ++ take (i + 1) from ++ drop (first + (i + 1)) before
+written_more before from first i value at within room =
+    let front = take first before in
+    let long : length (front ++ take i from) ≡ first + i =
+    length-append front (take i from) ∙ omega (arith, length-take-le first before (omega arith), length-take-le i from (omega arith)) in
+    let next : suc (first + i) ≡ first + (i + 1) = omega arith in
+    let more : take (i + 1) from ≡ take i from ++ value ∷ [] =
+    take_more from i value within ∙ ap (λ v. take i from ++ v ∷ []) (get_or_from_slice_get from i value value at) in
+    ap (λ rest. set (front ++ take i from ++ rest) (first + i) value) (drop-cons before (first + i) value room)
+    ∙ set_seam (front ++ take i from) (drop (suc (first + i)) before) (first + i) (get_or before (first + i) value) value long
+    ∙ sym (append_assoc (front ++ take i from) (value ∷ []) (drop (suc (first + i)) before))
+    ∙ ap (λ xs. xs ++ drop (suc (first + i)) before) (append_assoc front (take i from) (value ∷ []))
+    ∙ ap (λ xs. front ++ xs ++ drop (suc (first + i)) before) (sym more)
+    ∙ ap (λ n. front ++ take (i + 1) from ++ drop n before) next
+
+-- a call that can't be refused is done
+pub done : {E : Type 0} (r : Result (Unit {0}) E) (P : Type 0) → ¬ IsErr r → OnOk r P → P
+done (Ok v) P never p = p
+done (Err e) P never p = absurd (never refl)

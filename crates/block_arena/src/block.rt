@@ -1,6 +1,6 @@
 ghost use Rattle.std.specs.Prelude.{◌≡◌, ◌≤◌, ◌<◌, ◌-◌, ◌↔◌, ◌⊎◌, ◌≢◌, ◌%◌, length, slice_get, slice_set, IsErr, IsNone, IsTrue, IfOk, IfErr, OnOk, OnErr};
 ghost use Rattle.block_arena.specs.Size.{pieces_for, words_taken};
-ghost use Rattle.block_arena.specs.Content.{left_of, right_of, joined, IsCut, CanJoin};
+ghost use Rattle.block_arena.specs.Content.{zeros, left_of, right_of, joined, IsCut, CanJoin};
 
 use crate::error::{OutOfRange, SplitRefused};
 use crate::pieces::{PieceList, move_tail};

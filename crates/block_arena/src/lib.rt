@@ -21,6 +21,7 @@
 
 mod block;
 mod error;
+mod own;
 mod piece;
 mod pieces;
 mod pool;

@@ -7,10 +7,11 @@ use std::alloc::{AllocError, Global};
 /// Pieces in one order, each in a place of its own.
 pub(crate) type PieceList = Vec<Box<Piece>>;
 
-/// A list of `count` new pieces.
+/// A list of `count` new pieces of zeros.
 pub(crate) fn new_pieces(alloc: Global, count: u32) -> Result<PieceList, AllocError>
     ensures len { IfOk result (λ pieces. vec_len pieces ≡ count) }
-    ensures room { IfOk result (λ pieces. count ≤ vec_capacity pieces) }
+    ensures room { IfOk result (λ pieces. vec_capacity pieces ≡ count) }
+    ensures zeros { IfOk result (λ pieces. contents pieces.items ≡ replicate (16 * count) (pos 0)) }
 {
     let mut pieces = Vec::with_capacity(alloc, count as usize)?;
     for _ in 0..count {

@@ -197,3 +197,42 @@ fn refusals_say_why(rt: HostRuntime) -> Result<(), Fail> {
     );
     Ok(())
 }
+
+// A block of `len` numbers in memory of its own, `first` at place 0, the next one at place 1 and so on.
+fn own(rt: &(impl Abort + AllocGlobal), first: i64, len: u16) -> Result<Block, Fail> {
+    let len = u32::from(len);
+    let mut block = Block::zeros(rt.alloc(), len)?;
+    for i in 0..len {
+        assert_eq!(rt; block.get(i), Some(0), "at {i} of {len}");
+        block.set(i, first.wrapping_add(i64::from(i)))?;
+    }
+    Ok(block)
+}
+
+#[test]
+fn appends_blocks_of_their_own(rt: HostRuntime) -> Result<(), Fail> {
+    for left in [0u16, 5, 16, 17, 32] {
+        for right in [0u16, 1, 16, 40] {
+            let first = own(&rt, 1, left)?;
+            let second = own(&rt, i64::from(left) + 1, right)?;
+            let whole = first.append(rt.alloc(), second)?;
+            check(&rt, &whole, 1, u32::from(left) + u32::from(right));
+        }
+    }
+    let empty = Block::empty(rt.alloc()).append(rt.alloc(), Block::empty(rt.alloc()))?;
+    check(&rt, &empty, 1, 0);
+    Ok(())
+}
+
+// A block that was cut has room for its parts, so they are joined with no memory.
+#[test]
+fn parts_are_appended_again(rt: HostRuntime) -> Result<(), Fail> {
+    let block = own(&rt, 1, 40)?;
+    let room = pieces_for(block.len().saturating_sub(32));
+    let Ok((left, right)) = block.split(32, Shell::with_room(rt.alloc(), room)?) else {
+        return Err("a block was not cut")?;
+    };
+    let whole = left.append(rt.alloc(), right)?;
+    check(&rt, &whole, 1, 40);
+    Ok(())
+}

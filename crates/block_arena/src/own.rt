@@ -1,0 +1,98 @@
+//! Blocks that have memory of their own, which lies in no pool.
+
+ghost use Rattle.std.specs.Prelude.{◌≡◌, ◌≤◌, ◌<◌, ◌+◌, ◌%◌, ◌^◌, ◌++◌, pos, length, replicate, take, drop, [], IsErr, IsNone, IfOk, IfSome};
+ghost use Rattle.block_arena.specs.Size.{pieces_for, words_taken};
+ghost use Rattle.block_arena.specs.Content.{zeros};
+
+use crate::block::Block;
+use crate::pieces::{move_tail, new_pieces};
+use crate::size::{MAX_WORDS, PIECE_WORDS, pieces_for};
+use std::alloc::{AllocError, Global};
+
+impl Block {
+    /// A block of no numbers, which takes no memory.
+    pub fn empty(alloc: Global) -> Block
+        ensures { result.items ≡ [] }
+    {
+        Block {
+            pieces: Vec::new(alloc),
+            len: 0,
+        }
+    }
+
+    /// A block of `len` zeros in new pieces. Its words are no more than the greatest pool has.
+    pub fn zeros(alloc: Global, len: u32) -> Result<Block, AllocError>
+        requires { words_taken len ≤ MAX_WORDS }
+        ensures { IfOk result (λ block. block.items ≡ replicate len (pos 0)) }
+    {
+        let pieces = new_pieces(alloc, pieces_for(len))?;
+        Ok(Block { pieces, len })
+    }
+
+    /// One block followed by another, however long they are and however much room their lists have.
+    ///
+    /// Where the left one has no piece in part the pieces move, and else the numbers are copied. A block
+    /// that would be longer than the greatest pool is want of memory.
+    pub fn append(self, alloc: Global, right: Block) -> Result<Block, AllocError>
+        ensures items { IfOk result (λ block. block.items ≡ self.items ++ right.items) }
+        ensures too_long { MAX_WORDS < words_taken (length self.items + length right.items) → IsErr result }
+    {
+        let Some(len) = self.len_with(&right) else {
+            return Err(AllocError);
+        };
+        if self.len % PIECE_WORDS == 0 {
+            self.moved(alloc, right)
+        } else {
+            copied(alloc, &self, &right, len)
+        }
+    }
+
+    /// The length of both blocks together, where a block may have it.
+    fn len_with(&self, right: &Block) -> Option<u32>
+        ensures some { IfSome result (λ len. len ≡ length self.now.items + length right.now.items) }
+        ensures fits { IfSome result (λ len. words_taken len ≤ MAX_WORDS) }
+        ensures none { IsNone result → MAX_WORDS < words_taken (length self.now.items + length right.now.items) }
+    {
+        let len = self.len + right.len;
+        if len <= MAX_WORDS { Some(len) } else { None }
+    }
+
+    /// One block followed by another, by moving the pieces.
+    fn moved(self, alloc: Global, right: Block) -> Result<Block, AllocError>
+        requires whole { length self.items % PIECE_WORDS ≡ 0 }
+        requires fits { words_taken (length self.items + length right.items) ≤ MAX_WORDS }
+        ensures { IfOk result (λ block. block.items ≡ self.items ++ right.items) }
+    {
+        let len = self.len + right.len;
+        let mut pieces = self.pieces;
+        let mut rest = right.pieces;
+        pieces.reserve_exact(rest.len())?;
+        move_tail(&mut rest, 0, &mut pieces);
+        Ok(Block { pieces, len })
+    }
+}
+
+/// One block followed by another, by copying the numbers of both into new pieces.
+fn copied(alloc: Global, left: &Block, right: &Block, len: u32) -> Result<Block, AllocError>
+    requires both { len ≡ length left.now.items + length right.now.items }
+    requires fits { words_taken len ≤ MAX_WORDS }
+    ensures { IfOk result (λ block. block.items ≡ left.now.items ++ right.now.items) }
+{
+    let mut block = Block::zeros(alloc, len)?;
+    copy_into(&mut block, 0, left);
+    copy_into(&mut block, left.len(), right);
+    Ok(block)
+}
+
+/// Writes the numbers of `from` to the places of `block` from `first` on.
+fn copy_into(block: &mut Block, first: u32, from: &Block)
+    requires within { first + length from.now.items ≤ length block.old.items }
+    requires short { first + length from.now.items < 2 ^ 32 }
+    ensures { block.new.items ≡ take first block.old.items ++ from.now.items ++ drop (first + length from.now.items) block.old.items }
+{
+    for i in 0..from.len() {
+        if let Some(number) = from.get(i) {
+            let _ = block.set(first + i, number);
+        }
+    }
+}

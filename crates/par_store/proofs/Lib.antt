@@ -1,0 +1,9 @@
+pub mod Names
+pub mod Setting
+pub mod Holding
+pub mod Stores
+pub mod Chains
+pub mod Joining
+pub mod Passed
+pub mod Words
+pub mod Pairs
