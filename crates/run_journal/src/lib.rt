@@ -1,0 +1,23 @@
+//! What is written down of a depth-first run.
+//!
+//! A [`Journal`] takes the items of a run one after another: statements that begin, actions, printed numbers and
+//! faults. It gives the [`Serial`]: the finish, the output, the actions with their names and weights, the births of
+//! the threads and the peak of the live words, which it keeps as they change. It stands on the definition of the
+//! depth-first run, on names of threads and actions, and on lists.
+//!
+//! Its one theorem: what a journal has written down tells the items that it took, and it takes an action exactly
+//! where its limit is not reached.
+#![tactic(auto)]
+
+mod action;
+mod journal;
+mod serial;
+mod serial_stop;
+
+pub use action::{Action, Actions};
+pub use journal::Journal;
+pub use serial::Serial;
+pub use serial_stop::SerialStop;
+
+#[cfg(test)]
+mod tests;
