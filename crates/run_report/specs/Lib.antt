@@ -1,0 +1,4 @@
+pub mod Shown
+pub mod Texts
+pub mod Lines
+pub mod Reading
