@@ -2,7 +2,7 @@
 use Rattle.std.proofs.Common.{◌≡◌, ℕ, ℤ, List, [], ◌∷◌, ◌++◌, map, Vec, Global, refl, sym, ap, ◌∙◌, arith}
 use Rattle.print_program.specs.Tree.{Statements}
 use Rattle.print_program.specs.Body.{statements_of}
-use Rattle.serial_meaning.specs.DepthFirst.{lines_of}
+use Rattle.print_program.specs.TextOrder.{lines_of}
 use Rattle.print_program.specs.declared.body.Stmt.{Stmt}
 use Rattle.print_program.specs.declared.body.Stmt.TheVariants.{Par}
 use Rattle.dfd_core.specs.declared.thread.Task.{Task}

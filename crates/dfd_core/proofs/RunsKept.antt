@@ -3,7 +3,7 @@ use Rattle.std.proofs.Common.{◌≡◌, ℕ, ℤ, ◌<◌, List, [], ◌∷◌,
 use Rattle.std.proofs.lemmas.List.Elements.{All-head}
 use Rattle.std.specs.declared.alloc.AllocError.{AllocError}
 use Rattle.print_program.specs.Tree.{Statements}
-use Rattle.serial_meaning.specs.DepthFirst.{lines_of}
+use Rattle.print_program.specs.TextOrder.{lines_of}
 use Rattle.dfd_core.specs.declared.thread.Thread.{Thread}
 use Rattle.dfd_core.specs.declared.deque.Deque.{Deque}
 use Rattle.dfd_core.specs.declared.moment.Moment.{Moment}

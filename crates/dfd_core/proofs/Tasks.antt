@@ -3,7 +3,7 @@ use Rattle.std.proofs.Common.{◌≡◌, ℕ, ℤ, ◌+◌, List, [], ◌∷◌,
 use Rattle.dfd_core.specs.declared.thread.Next.TheVariants as action
 use Rattle.dfd_core.specs.Thread.{IsNext}
 use Rattle.print_program.specs.Body.{statements_of}
-use Rattle.serial_meaning.specs.DepthFirst.{lines_of}
+use Rattle.print_program.specs.TextOrder.{lines_of}
 use Rattle.print_program.specs.declared.body.Stmt.{Stmt}
 use Rattle.print_program.specs.declared.body.Stmt.TheVariants.{Print, Par}
 use Rattle.dfd_core.specs.declared.thread.Task.{Task}

@@ -5,7 +5,7 @@ use Rattle.std.specs.List.{All}
 use Rattle.std.proofs.lemmas.Bool.{eq-eqb, ne_eqb, cases_lt}
 use Rattle.std.proofs.lemmas.List.Elements.{All-nil, All-cons, All-head, All-tail, All-weaker, All-push}
 use Rattle.print_program.specs.Tree.{Statements}
-use Rattle.serial_meaning.specs.DepthFirst.{lines_of}
+use Rattle.print_program.specs.TextOrder.{lines_of}
 use Rattle.print_program.specs.declared.body.Stmt.TheVariants.{Print, Par}
 use Rattle.dfd_core.specs.declared.thread.Task.{Task}
 use Rattle.dfd_core.specs.declared.thread.Task.TheVariants.{Do, Join}

@@ -1,7 +1,7 @@
 -- What contracts see of a core, and the steps of its run.
 use Rattle.std.specs.Prelude.{◌≡◌, ◌⊎◌, ℕ, ℤ, List, Option, Some, None, All, Ok, ◌≢◌}
 use Rattle.print_program.specs.Tree.{Statements}
-use Rattle.serial_meaning.specs.DepthFirst.{lines_of}
+use Rattle.print_program.specs.TextOrder.{lines_of}
 use Rattle.dag_order.specs.declared.finish.Finish.{Finish}
 use Rattle.dag_order.specs.declared.finish.Finish.TheVariants.{Done}
 use Rattle.dfd_core.specs.declared.deque.Deque.{Deque}

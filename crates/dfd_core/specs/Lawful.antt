@@ -1,7 +1,7 @@
 -- The laws that every moment of a run keeps, and what its threads come to.
 use Rattle.std.specs.Prelude.{◌≡◌, ℕ, ℤ, ◌+◌, ◌*◌, ◌<◌, ◌≤◌, List, [], ◌∷◌, ◌++◌, length, Option, Some, None, All, nat_eq, if◌then◌else◌, zero, suc}
 use Rattle.print_program.specs.Tree.{Statements}
-use Rattle.serial_meaning.specs.DepthFirst.{lines_of}
+use Rattle.print_program.specs.TextOrder.{lines_of}
 use Rattle.dfd_core.specs.declared.thread.Thread.{Thread}
 use Rattle.dfd_core.specs.declared.thread.Next.TheVariants as next
 use Rattle.dfd_core.specs.declared.deque.Deque.{Deque}

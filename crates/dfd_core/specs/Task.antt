@@ -1,7 +1,7 @@
 -- What the tasks of a thread come to.
 use Rattle.std.specs.Prelude.{ℕ, ℤ, ◌+◌, List, [], ◌∷◌, ◌++◌}
 use Rattle.print_program.specs.Tree.{Statements, empty, print, par}
-use Rattle.serial_meaning.specs.DepthFirst.{lines_of}
+use Rattle.print_program.specs.TextOrder.{lines_of}
 use Rattle.print_program.specs.declared.body.Stmt.TheVariants.{Print, Par}
 use Rattle.dfd_core.specs.declared.thread.Task.{Task}
 use Rattle.dfd_core.specs.declared.thread.Task.TheVariants.{Do, Join}

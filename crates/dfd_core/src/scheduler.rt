@@ -1,6 +1,6 @@
 ghost use Rattle.std.specs.Prelude.{◌≡◌, ◌<◌, ◌≤◌, ℕ, None, Some, IfOk, OnOk, IsTrue, ◌↔◌, IsSome, ◌+◌, ◌%◌};
 ghost use Rattle.bounded_list.specs.BoundedList.{entries};
-ghost use Rattle.serial_meaning.specs.DepthFirst.{lines_of};
+ghost use Rattle.print_program.specs.TextOrder.{lines_of};
 ghost use Rattle.print_program.specs.Tree.{Statements};
 ghost use Rattle.dfd_core.specs.Finds.{FindsOwned, FindsVictim};
 ghost use Rattle.dfd_core.specs.Machine.{IsReady};

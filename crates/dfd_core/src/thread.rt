@@ -4,7 +4,7 @@ ghost use Rattle.print_program.specs.Body.{statements_of};
 ghost use Rattle.dfd_core.specs.declared.thread.Task.TheVariants.{Do};
 ghost use Rattle.dfd_core.specs.Thread.{thread_outcome, open_children, actions_left, IsSame, IsNext, IsParOf, Forks, Joins};
 ghost use Rattle.dfd_core.specs.declared.thread.Next.TheVariants.{Fork, Join};
-ghost use Rattle.serial_meaning.specs.DepthFirst.{lines_of};
+ghost use Rattle.print_program.specs.TextOrder.{lines_of};
 ghost use Rattle.dfd_core.specs.Task.{actions_in};
 
 use print_program::{Body, Stmt};

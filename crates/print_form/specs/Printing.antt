@@ -1,8 +1,9 @@
 -- Which programs are of the small form, and with which statements.
-use Rattle.std.specs.Prelude.{Bool, true, false, ◌&&◌, if◌then◌else◌, List, [], ◌∷◌, Option, Some, None, codes}
+use Rattle.std.specs.Prelude.{ℕ, Bool, true, false, ◌&&◌, if◌then◌else◌, List, [], ◌∷◌, Option, Some, None, codes}
 use Rattle.std.specs.Str.{bytes_eq}
 use Rattle.par_tree.specs.Tree
 use Rattle.print_program.specs.Tree.{Statements, empty, print, par}
+use Rattle.print_program.specs.TextOrder.{is_within}
 
 -- the statements that begin with what a first one adds, where both are of the form
 abbrev pub begun : Option (Statements → Statements) → Option Statements → Option Statements
@@ -40,7 +41,17 @@ gives_nothing (Some ret) = false
 abbrev pub is_main : Tree.Func → Bool
 is_main func = bytes_eq func.name (codes "main") && is_none_of func.params && gives_nothing func.ret
 
--- the statements of a program of the small form: its one function is `main`, and only prints numbers and forks
+-- how many pars may stand within one another: a thread below more forks ends with a fault, which this form does not know
+abbrev pub deepest : ℕ
+deepest = 256
+
+-- statements whose pars are not too deep
+abbrev pub if_within : Option Statements → Option Statements
+if_within (Some main) = if is_within deepest main then Some main else None
+if_within None = None
+
+-- the statements of a program of the small form: its one function is `main`, and only prints numbers and forks, with at
+-- most 256 pars within one another
 abbrev pub printing : Tree.Program → Option Statements
-printing (func ∷ []) = if is_main func then printed func.body else None
+printing (func ∷ []) = if is_main func then if_within (printed func.body) else None
 printing _ = None

@@ -8,6 +8,9 @@ use par_tree::{Expr, Func, StmtKind};
 use print_program::{Body, Program, Stmt};
 use std::alloc::{AllocError, Global};
 
+/// How many pars may stand within one another.
+const MAX_FORKS: u32 = 256;
+
 /// The statement of the small form that a statement is, if it is one.
 #[cycle(printed)]
 fn statement(alloc: Global, kind: &StmtKind) -> Result<Option<Stmt>, AllocError>
@@ -56,7 +59,8 @@ fn is_main(func: &Func) -> bool
 /// The program of the small form that a program is, if it is one.
 ///
 /// A program is of the small form where its one function is `main`, without parameters and without a `return`, and
-/// each statement is a `print` of a plain number or a `par` of such statements.
+/// each statement is a `print` of a plain number or a `par` of such statements, with at most [`MAX_FORKS`] pars within
+/// one another.
 pub fn printing(alloc: Global, program: &par_tree::Program) -> Result<Option<Program>, AllocError>
     ensures { IfOk result (λ found. option_map (λ small. small.main) found ≡ printing (program_tree program.now)) }
 {
@@ -66,6 +70,12 @@ pub fn printing(alloc: Global, program: &par_tree::Program) -> Result<Option<Pro
     if !others.is_empty() || !is_main(func) {
         return Ok(None);
     }
-    let main = body(alloc, &func.body)?;
-    Ok(main.map(|main| Program { main }))
+    let Some(main) = body(alloc, &func.body)? else {
+        return Ok(None);
+    };
+    if main.is_within(MAX_FORKS) {
+        Ok(Some(Program { main }))
+    } else {
+        Ok(None)
+    }
 }

@@ -1,4 +1,7 @@
 ghost use Rattle.std.specs.Prelude.{◌≡◌};
+ghost use Rattle.print_program.specs.Body.{statements_of};
+ghost use Rattle.print_program.specs.TextOrder.{is_within};
+ghost use Rattle.print_program.specs.Fits.{fits};
 
 use std::marker::Model;
 
@@ -37,6 +40,34 @@ impl Model for Body {
     ghost size_decreases = { λ b h. size_falls b.stmts.items };
 }
 
+/// Whether at most `most` pars stand within one another in a statement.
+#[cycle(within)]
+fn fits(stmt: &Stmt, most: u32) -> bool
+    ensures { result ≡ fits most stmt.now }
+{
+    match stmt {
+        Stmt::Print(_) => true,
+        Stmt::Par(left, right) => {
+            most > 0 && are_within(&left.stmts, most - 1) && are_within(&right.stmts, most - 1)
+        }
+    }
+}
+
+/// Whether at most `most` pars stand within one another in a list of statements.
+#[cycle(within)]
+fn are_within(stmts: &[Stmt], most: u32) -> bool
+    ensures { result ≡ is_within most (statements_of stmts.now) }
+{
+    let mut rest = stmts;
+    'stmts: while let Some((first, after)) = rest.split_first() {
+        if !fits(first, most) {
+            return false;
+        }
+        rest = after;
+    }
+    true
+}
+
 impl Body {
     ghost use Rattle.print_program.specs.Body.{statements_of};
 
@@ -54,10 +85,17 @@ impl Body {
         self.stmts
     }
 
+    /// Whether at most `most` pars stand within one another.
+    pub fn is_within(&self, most: u32) -> bool
+        ensures { result ≡ is_within most self.now }
+    {
+        are_within(&self.stmts, most)
+    }
+
     /// The statements, from the first to the last.
     pub fn stmts(&self) -> &[Stmt]
         ensures { statements_of result.now ≡ self.now }
     {
-        &self.stmts
+        self.stmts.as_slice()
     }
 }

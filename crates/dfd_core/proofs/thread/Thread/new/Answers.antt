@@ -1,5 +1,5 @@
 use Rattle.std.proofs.Common.{[], refl, ap, arith}
-use Rattle.serial_meaning.specs.DepthFirst.{lines_of}
+use Rattle.print_program.specs.TextOrder.{lines_of}
 use Rattle.dfd_core.specs.Task.{actions_in}
 use Rattle.dfd_core.proofs.Tasks.{outcome-open, children-open, actions-open}
 use Rattle.dfd_core.proofs.thread.Thread.new.Goals as goal
