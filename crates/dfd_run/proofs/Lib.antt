@@ -1,5 +1,1 @@
 pub mod Answers
-pub mod Queues
-pub mod Reports
-pub mod Streams
-pub mod Words

@@ -1,51 +1,108 @@
 -- What a call of the program answers, and why.
-use Rattle.std.specs.Prelude.{◌≡◌, ℕ, List, Option, Some, None, ◌⊎◌, take, codes}
+use Rattle.std.specs.Prelude.{◌≡◌, ℕ, List, Option, Some, None, ◌⊎◌, take}
+use Rattle.canon_text.specs.Canonical.{canonical}
+use Rattle.command_words.specs.Words.{IsCommand, InRange, number_of}
+use Rattle.command_words.specs.declared.command.Command.{Command}
+use Rattle.command_words.specs.declared.command_kind.CommandKind.{CommandKind}
+use Rattle.command_words.specs.declared.command_kind.CommandKind.TheVariants.{Play, Peak, Check as Checks}
+use Rattle.command_words.specs.declared.setting.Setting.{Setting}
+use Rattle.dag_order.specs.declared.finish.Finish.TheVariants.{Done as EndDone}
+use Rattle.par_ownership.specs.Ownership.{Ownership}
+use Rattle.par_ownership.specs.Walk.{Refusal, program_refusal}
 use Rattle.par_text.specs.Judging.{IsText, IsRefused}
 use Rattle.par_text.specs.declared.syntax_error.SyntaxError.{SyntaxError}
 use Rattle.par_tree.specs.Tree.{Program}
 use Rattle.print_program.specs.Tree.{Statements}
 use Rattle.print_form.specs.Printing.{printing}
-use Rattle.serial_meaning.specs.DepthFirst.{lines_of}
-use Rattle.dfd_run.specs.Report.{line, report_text, syntax_text, not_yet_text}
-use Rattle.dfd_run.specs.Sink.{Takes}
-use Rattle.dfd_run.specs.Source.{IsRead}
-use Rattle.dfd_run.specs.Words.{IsCommand, NoCommand}
+use Rattle.print_program.specs.TextOrder.{lines_of}
+use Rattle.run_report.specs.Texts.{text_of, outcome_lines}
+use Rattle.dfd_run.specs.Messages.{usage_text, read_fault_text, syntax_text, not_yet_text, check_text}
+use Rattle.byte_streams.specs.Sink.{Takes}
+use Rattle.byte_streams.specs.Source.{IsRead}
 use Rattle.dfd_run.specs.declared.status.Status.{Status}
-use Rattle.dfd_run.specs.declared.status.Status.TheVariants.{Done, Usage, ReadFault, WriteFault, Syntax, OutOfMemory}
+use Rattle.dfd_run.specs.declared.status.Status.TheVariants.{Done, Usage, ReadFault, WriteFault, Syntax, Check, UserFault, StepsSpent, OutOfMemory}
 
--- what the command `play` makes of a program: the report of the depth-first run of its statements, or, where it is
+-- the bytes are no text, and the line says why and where
+abbrev pub SyntaxGives : List ℕ → List ℕ → Type 0
+SyntaxGives bytes text = (e : SyntaxError) × (IsRefused bytes e × (text ≡ syntax_text e))
+
+-- the bytes are the text of a program that breaks the rules of ownership, and the line tells the first refusal
+abbrev pub OwnershipGives : List ℕ → List ℕ → Type 0
+OwnershipGives bytes text =
+    (p : Program) × (IsText bytes p × ((r : Refusal) × ((program_refusal p ≡ Some r) × (text ≡ check_text r))))
+
+-- the bytes are refused, as no text or for their program
+abbrev pub RefusalGives : List ℕ → Status → List ℕ → Type 0
+RefusalGives bytes Syntax text = SyntaxGives bytes text
+RefusalGives bytes Check text = OwnershipGives bytes text
+RefusalGives bytes status text = ⊥
+
+-- what a command gives that makes this of each program: the refusal of the bytes, or else the refusal of their
+-- program, or else what it makes of the program
+abbrev pub SourceGives : (makes : Program → Status → List ℕ → Type 0) → List ℕ → Status → List ℕ → Type 0
+SourceGives makes bytes Syntax text = SyntaxGives bytes text
+SourceGives makes bytes Check text = OwnershipGives bytes text
+SourceGives makes bytes status text = (p : Program) × (IsText bytes p × (Ownership p × makes p status text))
+
+-- what the command `check` makes of a program: its canonical text
+abbrev pub CheckMakes : Program → Status → List ℕ → Type 0
+CheckMakes p Done text = text ≡ canonical p
+CheckMakes p status text = ⊥
+
+-- what the command `play` makes of a program: what the depth-first run of its statements prints, or, where it is
 -- no program of prints and forks, the word that such a program cannot run yet
-abbrev pub ProgramGives : Program → Status → List ℕ → Type 0
-ProgramGives p Done text = (main : Statements) × ((printing p ≡ Some main) × (text ≡ report_text (lines_of main)))
-ProgramGives p Syntax text = (printing p ≡ None) × (text ≡ not_yet_text)
-ProgramGives p status text = ⊥
-
--- the bytes are refused, and the text says why and where
-abbrev pub RefusalGives : List ℕ → List ℕ → Type 0
-RefusalGives bytes text = (e : SyntaxError) × (IsRefused bytes e × (text ≡ syntax_text e))
+abbrev pub PlayMakes : Program → Status → List ℕ → Type 0
+PlayMakes p Done text =
+    (main : Statements) × ((printing p ≡ Some main) × (text ≡ text_of (outcome_lines (lines_of main) EndDone)))
+PlayMakes p Syntax text = (printing p ≡ None) × (text ≡ not_yet_text)
+PlayMakes p status text = ⊥
 
 -- the bytes are the text of a program, of which `play` makes this
-abbrev pub TextGives : List ℕ → Status → List ℕ → Type 0
-TextGives bytes status text = (p : Program) × (IsText bytes p × ProgramGives p status text)
+abbrev pub PlayTextGives : List ℕ → Status → List ℕ → Type 0
+PlayTextGives bytes status text = (p : Program) × (IsText bytes p × PlayMakes p status text)
 
 -- what the command `play` makes of the bytes of a source: what it makes of their program, or, where they are no text,
 -- the refusal
 abbrev pub PlayGives : List ℕ → Status → List ℕ → Type 0
-PlayGives bytes Done text = TextGives bytes Done text
-PlayGives bytes Syntax text = TextGives bytes Syntax text ⊎ RefusalGives bytes text
+PlayGives bytes Done text = PlayTextGives bytes Done text
+PlayGives bytes Syntax text = PlayTextGives bytes Syntax text ⊎ SyntaxGives bytes text
 PlayGives bytes status text = ⊥
+
+-- the command `peak` cannot run yet
+abbrev pub PeakGives : (k limit : ℕ) → List ℕ → Status → List ℕ → Type 0
+PeakGives k limit bytes Syntax text = text ≡ not_yet_text
+PeakGives k limit bytes status text = ⊥
+
+-- what a command makes of the bytes of a source
+abbrev pub KindGives : CommandKind → (k limit : ℕ) → List ℕ → Status → List ℕ → Type 0
+KindGives Play k limit = PlayGives
+KindGives Peak k limit = PeakGives k limit
+KindGives Checks k limit = SourceGives CheckMakes
 
 -- what a command answers that reads its source: where the source failed, just this, else what it makes of the bytes
 -- that it read
-abbrev pub CommandGives : (failed : Type 0) → (left left' : Option (List ℕ)) → Status → List ℕ → Type 0
-CommandGives failed left left' ReadFault text = failed × (text ≡ line (codes "read fault"))
-CommandGives failed left left' status text = (bytes : List ℕ) × (IsRead left left' bytes × PlayGives bytes status text)
+abbrev pub CommandGives : Command → (failed : Type 0) → (left left' : Option (List ℕ)) → Status → List ℕ → Type 0
+CommandGives command failed left left' ReadFault text = failed × (text ≡ read_fault_text)
+CommandGives command failed left left' status text =
+    (bytes : List ℕ) × (IsRead left left' bytes × KindGives command.kind command.k command.steps bytes status text)
+
+-- the numbers of a command are those that its options may have
+abbrev pub HasRanges : Command → Type 0
+HasRanges command = (s : Setting) → InRange s (number_of command s)
+
+-- the words are a command
+abbrev pub IsSomeCommand : List (List ℕ) → Type 0
+IsSomeCommand words = (command : Command) × IsCommand words command
+
+-- the words are no command
+abbrev pub NoCommand : List (List ℕ) → Type 0
+NoCommand words = (command : Command) → ¬ IsCommand words command
 
 -- what a call with these words answers
 abbrev pub CallGives : List (List ℕ) → (failed : Type 0) → (left left' : Option (List ℕ)) → Status → List ℕ → Type 0
-CallGives words failed left left' Usage text =
-    NoCommand words × (text ≡ line (codes "usage: dfd play|run|peak|check|make [options]"))
-CallGives words failed left left' status text = IsCommand words × CommandGives failed left left' status text
+CallGives words failed left left' Usage text = NoCommand words × (text ≡ usage_text)
+CallGives words failed left left' status text =
+    (command : Command) × (IsCommand words command × CommandGives command failed left left' status text)
 
 -- how a call ends that has such an answer to write: the sink took the whole text, or failed behind a front of it; or
 -- there was no memory, and it took nothing

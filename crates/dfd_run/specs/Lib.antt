@@ -1,14 +1,4 @@
 pub mod Answer
-pub mod ByteQueue
-pub mod CallPlan
-pub mod Faults
-pub mod Given
-pub mod Kept
-pub mod Options
-pub mod ReadFail
-pub mod Report
-pub mod Sink
-pub mod Source
-pub mod Status
-pub mod Words
+pub mod Messages
 pub mod PcgChoices
+pub mod Status

@@ -1,8 +1,8 @@
 use crate::status::Status;
 
-/// What a command answers: its status, and the text that it writes.
+/// What a command answers: its status, and the bytes of the text that it writes.
 #[derive(Drop)]
 pub struct Answer {
     pub status: Status,
-    pub text: String,
+    pub text: Vec<u8>,
 }

@@ -1,31 +1,30 @@
-ghost use Rattle.std.specs.Prelude.{◌≡◌, IfOk, string_bytes};
+ghost use Rattle.std.specs.Prelude.{◌≡◌, ◌<◌, IfOk};
 ghost use Rattle.bounded_list.specs.BoundedList.{entries};
 ghost use Rattle.par_tree.specs.View.{program_tree};
-ghost use Rattle.dfd_run.specs.Answer.{ProgramGives, PlayGives};
-ghost use Rattle.dfd_run.specs.Words.{IsCrew};
-ghost use Rattle.serial_meaning.specs.DepthFirst.{lines_of};
+ghost use Rattle.dfd_run.specs.Answer.{PlayMakes, PlayGives};
+ghost use Rattle.print_program.specs.TextOrder.{lines_of};
 
 use crate::answer::Answer;
-use crate::command::Command;
+use crate::messages::{not_yet_text, syntax_text};
 use crate::pcg_choices::PcgChoices;
-use crate::report::{not_yet_text, report_text, syntax_text};
 use crate::status::Status;
-use dag_order::Lines;
+use dag_order::{Finish, Lines};
 use dfd_core::Core;
 use par_syntax::{ParseFail, parse};
 use print_form::printing;
 use print_program::Program;
+use run_report::outcome_text;
 use std::alloc::{AllocError, Global};
 
 /// The seed of the words that pick who moves and whom a thief robs.
 const SEED: u64 = 1;
 
 /// What the workers print when they run the program.
-fn run(alloc: Global, command: Command, program: Program) -> Result<Lines, AllocError>
-    requires { IsCrew command.workers }
+fn run(alloc: Global, workers: u32, program: Program) -> Result<Lines, AllocError>
+    requires { 0 < workers }
     ensures { IfOk result (λ lines. entries lines ≡ lines_of program.main) }
 {
-    let mut core = Core::new(alloc, program, command.workers)?;
+    let mut core = Core::new(alloc, program, workers)?;
     let mut choices = PcgChoices::new(SEED);
     dfd_core::play(&mut core, &mut choices);
     core.output(alloc).map_err(|_| AllocError)
@@ -34,11 +33,11 @@ fn run(alloc: Global, command: Command, program: Program) -> Result<Lines, Alloc
 /// Runs a program of prints and forks, and reports it; a program of another form cannot run yet.
 fn play_program(
     alloc: Global,
-    command: Command,
+    workers: u32,
     program: &par_tree::Program,
 ) -> Result<Answer, AllocError>
-    requires { IsCrew command.workers }
-    ensures { IfOk result (λ answer. ProgramGives (program_tree program.now) answer.status (string_bytes answer.text)) }
+    requires { 0 < workers }
+    ensures { IfOk result (λ answer. PlayMakes (program_tree program.now) answer.status answer.text.items) }
 {
     let Some(small) = printing(alloc, program)? else {
         let text = not_yet_text(alloc)?;
@@ -47,21 +46,21 @@ fn play_program(
             text,
         });
     };
-    let printed = run(alloc, command, small)?;
-    let text = report_text(alloc, &printed)?;
+    let printed = run(alloc, workers, small)?;
+    let text = outcome_text(alloc, &printed, Finish::Done)?;
     Ok(Answer {
         status: Status::Done,
-        text,
+        text: text.into_bytes(),
     })
 }
 
 /// Runs the program whose text these bytes are and reports it, or says why and where they are no text.
-pub fn play(alloc: Global, command: Command, bytes: &[u8]) -> Result<Answer, AllocError>
-    requires { IsCrew command.workers }
-    ensures { IfOk result (λ answer. PlayGives bytes.now answer.status (string_bytes answer.text)) }
+pub fn play(alloc: Global, workers: u32, bytes: &[u8]) -> Result<Answer, AllocError>
+    requires { 0 < workers }
+    ensures { IfOk result (λ answer. PlayGives bytes.now answer.status answer.text.items) }
 {
     match parse(alloc, bytes) {
-        Ok(program) => play_program(alloc, command, &program),
+        Ok(program) => play_program(alloc, workers, &program),
         Err(ParseFail::Refused(refusal)) => {
             let text = syntax_text(alloc, refusal)?;
             Ok(Answer {

@@ -7,10 +7,16 @@ pub enum Status {
     Usage,
     /// The source failed.
     ReadFault,
-    /// The sink failed.
+    /// The sink failed, and has taken a front of the text.
     WriteFault,
-    /// The bytes of the source are no text, or their program cannot run yet.
+    /// The bytes of the source are no text, or their program cannot be played yet.
     Syntax,
+    /// The program of the source breaks a rule of ownership.
+    Check,
+    /// The program ran to its end with a fault.
+    UserFault,
+    /// The run has more actions than the limit allows.
+    StepsSpent,
     /// There was no memory. Nothing was written.
     OutOfMemory,
 }
@@ -29,6 +35,9 @@ impl Status {
             Status::ReadFault => 2,
             Status::WriteFault => 3,
             Status::Syntax => 4,
+            Status::Check => 5,
+            Status::UserFault => 6,
+            Status::StepsSpent => 7,
             Status::OutOfMemory => 10,
         }
     }

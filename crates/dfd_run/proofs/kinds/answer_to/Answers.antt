@@ -1,0 +1,5 @@
+use Rattle.dfd_run.proofs.Answers.{has_worker}
+use Rattle.dfd_run.proofs.kinds.answer_to.Goals as goal
+
+pub play-requires : goal.play-requires
+play-requires c = has_worker c.args.command.now c.requires

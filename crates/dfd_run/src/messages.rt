@@ -1,0 +1,92 @@
+//! The texts of one line, each of which says why there is no result.
+
+ghost use Rattle.std.specs.Prelude.{◌≡◌, IfOk};
+ghost use Rattle.block_check.specs.Checked.{error_shown};
+ghost use Rattle.dfd_run.specs.Messages.{read_fault_text, syntax_word, syntax_text, not_yet_text, check_word, check_text, spent_text};
+
+use block_check::{CheckError, CheckKind};
+use par_syntax::{SyntaxError, SyntaxKind};
+use std::alloc::{AllocError, Global};
+
+/// The line of words that are no command.
+pub const USAGE: &str = "usage: dfd play|run|peak|check|make [options]\n";
+
+const READ_FAULT: &str = "read fault\n";
+
+const NOT_YET: &str = "syntax NotYet at 0\n";
+
+/// The line of a source that failed.
+pub fn read_fault_text(alloc: Global) -> Result<Vec<u8>, AllocError>
+    ensures { IfOk result (λ text. text.items ≡ read_fault_text) }
+{
+    Vec::from_slice(alloc, READ_FAULT.as_bytes())
+}
+
+/// The word for a refusal of a text.
+fn syntax_word(kind: SyntaxKind) -> &'static str
+    ensures { result.now ≡ syntax_word kind }
+{
+    match kind {
+        SyntaxKind::BadByte => "BadByte",
+        SyntaxKind::BadToken => "BadToken",
+        SyntaxKind::NumberTooLarge => "NumberTooLarge",
+        SyntaxKind::Expected => "Expected",
+        SyntaxKind::TooDeep => "TooDeep",
+        SyntaxKind::TooLong => "TooLong",
+        SyntaxKind::TooMany => "TooMany",
+    }
+}
+
+/// The line of a refused text: the refusal and the byte where it stands.
+pub fn syntax_text(alloc: Global, refusal: SyntaxError) -> Result<Vec<u8>, AllocError>
+    ensures { IfOk result (λ text. text.items ≡ syntax_text refusal) }
+{
+    let line = format!(in alloc; "syntax {} at {}\n", syntax_word(refusal.kind), refusal.at)?;
+    Ok(line.into_bytes())
+}
+
+/// The line of a program that is no program of prints and forks: such a program cannot be played yet.
+pub fn not_yet_text(alloc: Global) -> Result<Vec<u8>, AllocError>
+    ensures { IfOk result (λ text. text.items ≡ not_yet_text) }
+{
+    Vec::from_slice(alloc, NOT_YET.as_bytes())
+}
+
+/// The word for a refusal of a program.
+fn check_word(kind: CheckKind) -> &'static str
+    ensures { result.now ≡ check_word kind }
+{
+    match kind {
+        CheckKind::UnknownName => "UnknownName",
+        CheckKind::Redefined => "Redefined",
+        CheckKind::WrongKind => "WrongKind",
+        CheckKind::WrongCount => "WrongCount",
+        CheckKind::SharedBlock => "SharedBlock",
+        CheckKind::SharedInt => "SharedInt",
+        CheckKind::Gone => "Gone",
+        CheckKind::NotFreed => "NotFreed",
+        CheckKind::ArmsDiffer => "ArmsDiffer",
+        CheckKind::FreesLent => "FreesLent",
+        CheckKind::NoMain => "NoMain",
+    }
+}
+
+/// The line of a refused program: the refusal, the line where it stands and the name that it is of.
+pub fn check_text(alloc: Global, refusal: &CheckError) -> Result<Vec<u8>, AllocError>
+    ensures { IfOk result (λ text. text.items ≡ check_text (error_shown refusal.now)) }
+{
+    let kind = check_word(refusal.kind);
+    let front = format!(in alloc; "check {kind} line {} name ", refusal.line)?;
+    let mut text = front.into_bytes();
+    text.extend_from_slice(&refusal.name.bytes)?;
+    text.push(b'\n')?;
+    Ok(text)
+}
+
+/// The line of a run that has more actions than the limit.
+pub fn spent_text(alloc: Global, limit: u32) -> Result<Vec<u8>, AllocError>
+    ensures { IfOk result (λ text. text.items ≡ spent_text limit) }
+{
+    let line = format!(in alloc; "stop StepsSpent limit {limit}\n")?;
+    Ok(line.into_bytes())
+}
