@@ -8,3 +8,6 @@ pub mod Statements
 pub mod Calling
 pub mod Owned
 pub mod Needed
+pub mod Putting
+pub mod Fitting
+pub mod Reaching

@@ -1,11 +1,11 @@
 -- The blocks that a statement needs are held where it begins.
 use Rattle.std.specs.Prelude.{◌≡◌, ℕ, Bool, true, false, ◌||◌, List, [], ◌∷◌, ◌++◌, refl}
 use Rattle.std.specs.Str.{bytes_eq}
-use Rattle.std.proofs.Common.{sym, ◌∙◌, ap, subst}
+use Rattle.std.proofs.Common.{◌∙◌, subst}
 use Rattle.par_tree.specs.Tree.{Name, Program, Expr, number, variable, element, extent, negative, chain, compare, Links, last, link, Arg, value, lend, give, Param, ParamKind, by_value, lent, owned, Stmt, declare, assign, store, allocate, release, choose, repeat, call, print, both, split}
 use Rattle.par_ownership.specs.Environment.{Environment}
 use Rattle.par_ownership.specs.Mention.{names_in_expr, names_in_links, names_in_args, names_in_target, names_in_stmt, names_in_body}
-use Rattle.par_ownership.specs.Ownership.{IsHeld, Reads, ReadsLinks, PassesOne, Passes, Owns}
+use Rattle.par_ownership.specs.Ownership.{Reads, ReadsLinks, PassesOne, Passes, Owns}
 use Rattle.par_meaning.specs.States.{State}
 use Rattle.owned_runs.specs.Counts.{count, held_in}
 use Rattle.owned_runs.specs.Needs.{reads_block, reads_links, needed_by_args, needs_block}
@@ -14,7 +14,7 @@ use Rattle.owned_runs.proofs.Tame.{passes_give, passes_lend}
 use Rattle.owned_runs.proofs.Passing.{or_left, or_right}
 
 -- what follows from each of two tests follows from either
-or_cases : {P : Type 0} (a b : Bool) → (a || b) ≡ true → (a ≡ true → P) → (b ≡ true → P) → P
+pub or_cases : {P : Type 0} (a b : Bool) → (a || b) ≡ true → (a ≡ true → P) → (b ≡ true → P) → P
 or_cases true b e f g = f refl
 or_cases false b e f g = g e
 
@@ -22,11 +22,11 @@ or_cases false b e f g = g e
 or_map : (a b c d : Bool) → (a ≡ true → c ≡ true) → (b ≡ true → d ≡ true) → (a || b) ≡ true → (c || d) ≡ true
 or_map a b c d f g e = or_cases a b e (λ h. or_left c d (f h)) (λ h. or_right c d (g h))
 
-held_name : (env : Environment) (b x : Name) → held_in env b ≡ 1 → bytes_eq b x ≡ true → held_in env x ≡ 1
+pub held_name : (env : Environment) (b x : Name) → held_in env b ≡ 1 → bytes_eq b x ≡ true → held_in env x ≡ 1
 held_name env b x h e = subst (λ (n : Name). held_in env n ≡ 1) (same_name b x e) h
 
 mutual
-  reads_held : (env : Environment) (x : Name) (e : Expr) → Reads env e → reads_block x e ≡ true → held_in env x ≡ 1
+  pub reads_held : (env : Environment) (x : Name) (e : Expr) → Reads env e → reads_block x e ≡ true → held_in env x ≡ 1
   reads_held env x (number n) r h = let never : ⊥ = cc in absurd never
   reads_held env x (variable y) r h = let never : ⊥ = cc in absurd never
   reads_held env x (element b i) r h = or_cases (bytes_eq b x) (reads_block x i) h (held_name env b x (held_block env b r.0).0) (reads_held env x i r.1)

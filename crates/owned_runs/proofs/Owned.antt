@@ -8,7 +8,7 @@ use Rattle.std.proofs.lemmas.Bool.{ltb-true}
 use Rattle.dag_order.specs.declared.fault.FaultKind.{FaultKind}
 use Rattle.action_order.specs.Actions as actions
 use Rattle.action_order.specs.Actions.{live_words}
-use Rattle.par_tree.specs.Tree.{Name, Param, Ret, RetValue, gives, hands, Stmt, declare, assign, store, allocate, release, choose, repeat, call, print, both, split, Body, done, step, Func}
+use Rattle.par_tree.specs.Tree.{Name, Expr, Program, Param, Ret, RetValue, gives, hands, Stmt, declare, assign, store, allocate, release, choose, repeat, call, print, both, split, Body, done, step, Func}
 use Rattle.par_ownership.specs.Environment as environments
 use Rattle.par_ownership.specs.Environment.{Kind, Entry, Environment, integer_entry, block_entry, lent_entry, with_entry, regained, opened, after_gives, after_answer, held_in_both, is_released}
 use Rattle.par_ownership.specs.Mention.{names_in_expr, names_in_stmt, names_in_body}
@@ -22,7 +22,7 @@ use Rattle.par_meaning.specs.Run.{setting_integer, putting_value, allocating, si
 use Rattle.par_meaning.proofs.Keeping.{exec_keeps, exec_all_keeps, run_keeps}
 use Rattle.par_meaning.proofs.Fixed.{room_kept, room_fewer, room_child, run_fixed}
 use Rattle.owned_runs.specs.Laws.{HoldsFor, HasStopped, GoesOn}
-use Rattle.owned_runs.specs.Counts.{count, found, held_entry, lent_entry_of, held_in, seen_in}
+use Rattle.owned_runs.specs.Counts.{hit, count, found, held_entry, lent_entry_of, held_in, seen_in}
 use Rattle.owned_runs.proofs.Counting.{name_same, same_name, count_parted, count_named, count_not_named, fresh_unseen, held_block, owned_block, unseen_none, none_held, none_counted, empty_found, seen_or_not}
 use Rattle.owned_runs.proofs.Environments.{Follows, Like, follows_same, follows_take, seen_like, like_back, held_at_most_one, held_take, held_both, held_the_same, released_held, lent_back_in}
 use Rattle.owned_runs.proofs.Tame.{Tame, tame_stmt, tame_all, follows_all, held_with_integer, fresh_pair}
@@ -45,7 +45,7 @@ unfolding Agrees
 agrees_less named other env s w a = λ x h. a x (w x h)
 
 -- seen from outside of its list
-ran_within : (env end : Environment) (s t : State) → Follows env end → list_all is_released (drop (length env) end) ≡ true → Ran env end s t → Ran env (take (length env) end) s t
+pub ran_within : (env end : Environment) (s t : State) → Follows env end → list_all is_released (drop (length env) end) ≡ true → Ran env end s t → Ran env (take (length env) end) s t
 ran_within env end s t f rel r = ran_to env end (take (length env) end) s t (λ x. sym (held_take env end x f rel)) r
 
 -- ---- a Fork
@@ -56,7 +56,7 @@ apart_entry a b name held line environments.integer h p q = refl
 apart_entry a b name held line environments.own h p q = let e : not (names_in_body name a && names_in_body name b) ≡ false = ap (λ t. not (t && names_in_body name b)) p ∙ ap not q in let no : true ≡ false = sym h ∙ e in let never : ⊥ = cc in absurd never
 apart_entry a b name held line environments.lent h p q = let e : not (names_in_body name a && names_in_body name b) ≡ false = ap (λ t. not (t && names_in_body name b)) p ∙ ap not q in let no : true ≡ false = sym h ∙ e in let never : ⊥ = cc in absurd never
 
-and_two : (a b : Bool) → (a && b) ≡ true → (a ≡ true) × (b ≡ true)
+pub and_two : (a b : Bool) → (a && b) ≡ true → (a ≡ true) × (b ≡ true)
 and_two true true e = (refl, refl)
 and_two true false e = let never : ⊥ = cc in absurd never
 and_two false b e = let never : ⊥ = cc in absurd never
@@ -75,7 +75,7 @@ apart_held a b (e ∷ es) x h p q =
         apart_entry a b e.name e.held e.line e.kind k (subst (λ (n : Name). names_in_body n a ≡ true) same p) (subst (λ (n : Name). names_in_body n b ≡ true) same q)
     by r k false u = r
 
-child_agrees : (a : Body) (named : Name → Bool) (env : Environment) (s : State) (c : Setting) → Agrees named env s.store → ((x : Name) → names_in_body x a ≡ true → named x ≡ true)
+pub child_agrees : (a : Body) (named : Name → Bool) (env : Environment) (s : State) (c : Setting) → Agrees named env s.store → ((x : Name) → names_in_body x a ≡ true → named x ≡ true)
     → Agrees (λ x. names_in_body x a) env (child_of c (names_in a) s).store
 unfolding Agrees
 child_agrees a named env s c agrees w = λ x h.
@@ -83,7 +83,7 @@ child_agrees a named env s c agrees w = λ x h.
     let z = count_not_named (names_in a) s.store.blocks x h in
     let e = agrees x (w x h) in omega (arith, p, z, e)
 
-parent_agrees : (a b : Body) (named : Name → Bool) (env : Environment) (s : State) (items : List Item) → list_all (are_apart a b) env ≡ true → Agrees named env s.store
+pub parent_agrees : (a b : Body) (named : Name → Bool) (env : Environment) (s : State) (items : List Item) → list_all (are_apart a b) env ≡ true → Agrees named env s.store
     → ((x : Name) → names_in_body x b ≡ true → named x ≡ true)
     → Agrees (λ x. names_in_body x b) env (parent_of (names_in a) items s).store
 unfolding Agrees
@@ -161,17 +161,64 @@ ran_round c env line body again v s f b a =
     (exact_trans u t (again t) r.exact q.exact, way_trans env env env u t (again t) (follows_same env) (falls_same env) (held_at_most_one env) m q.way))))
     (went_ran env env s s (exact_same s) (moved_same env s f))
 
-room_same : (c : Setting) (s t : State) → t.label ≡ s.label → t.turns ≡ s.turns → room c t ≡ room c s
+pub room_same : (c : Setting) (s t : State) → t.label ≡ s.label → t.turns ≡ s.turns → room c t ≡ room c s
 room_same c s t l n =
     ap (λ label. (c.most_forks - length label) * suc c.most_turns + t.turns) l
     ∙ ap (λ turns. (c.most_forks - length s.label) * suc c.most_turns + turns) n
 
-or_none : (a : Bool) → (a || false) ≡ true → a ≡ true
+pub or_none : (a : Bool) → (a || false) ≡ true → a ≡ true
 or_none true e = refl
 or_none false e = e
 
-held_seen : (env : Environment) (x : Name) → held_in env x ≡ 1 → seen_in env x ≡ 1
+pub held_seen : (env : Environment) (x : Name) → held_in env x ≡ 1 → seen_in env x ≡ 1
 held_seen env x h = seen_or_not env x (seen_in env x ≡ 1) (λ s. s) (λ s. let z = unseen_none held_entry 0 env x s in absurd (omega (arith, z, h)))
+
+-- ---- a `split`
+
+-- what a `split` that keeps the rules stands on
+pub split_ends : (p : Program) (line : ℕ) (b : Name) (e : Expr) (l r : Name) (a : Body) (env after : Environment) (h : Owns p line (split b e l r a) env after) → SplitEnds env h.4.1.0 b l r line
+split_ends p line b e l r a env after h =
+    let inner : Environment = opened env b l r line in
+    let end : Environment = h.4.1.0 in
+    let fresh = fresh_pair env l r line h.2 h.3 in
+    record {
+      held = h.0;
+      seen = held_seen env b (held_block env b h.0).0;
+      left_new = fresh.0;
+      right_new = fresh.1;
+      right_newer = fresh_unseen (with_entry env (lent_entry l line)) r h.3;
+      two = fresh.2;
+      follows = follows_all p a inner end h.4.1.1;
+      released = h.4.1.2;
+      lents = λ x k. (tame_all p a inner end x h.4.1.1).lents k;
+      falls = λ x k. (tame_all p a inner end x h.4.1.1).falls k;
+    }
+
+-- its block is there, and its two parts are not yet
+pub split_counts : (p : Program) (line : ℕ) (b : Name) (e : Expr) (l r : Name) (a : Body) (env after : Environment) (s : State) → Owns p line (split b e l r a) env after
+    → Agrees (λ x. names_in_stmt x (split b e l r a)) env s.store → (count s.store.blocks b ≡ 1) × (count s.store.blocks l ≡ 0) × (count s.store.blocks r ≡ 0)
+unfolding Agrees
+split_counts p line b e l r a env after s h agrees =
+    let fresh = fresh_pair env l r line h.2 h.3 in
+    let nb : names_in_stmt b (split b e l r a) ≡ true =
+    or_left (bytes_eq b b || names_in_expr b e || bytes_eq l b || bytes_eq r b) (names_in_body b a) (or_left (bytes_eq b b || names_in_expr b e || bytes_eq l b) (bytes_eq r b)
+    (or_left (bytes_eq b b || names_in_expr b e) (bytes_eq l b) (or_left (bytes_eq b b) (names_in_expr b e) (name_same b)))) in
+    let nl : names_in_stmt l (split b e l r a) ≡ true =
+    or_left (bytes_eq b l || names_in_expr l e || bytes_eq l l || bytes_eq r l) (names_in_body l a) (or_left (bytes_eq b l || names_in_expr l e || bytes_eq l l) (bytes_eq r l)
+    (or_right (bytes_eq b l || names_in_expr l e) (bytes_eq l l) (name_same l))) in
+    let nr : names_in_stmt r (split b e l r a) ≡ true =
+    or_left (bytes_eq b r || names_in_expr r e || bytes_eq l r || bytes_eq r r) (names_in_body r a) (or_right (bytes_eq b r || names_in_expr r e || bytes_eq l r) (bytes_eq r r) (name_same r)) in
+    (agrees b nb ∙ (held_block env b h.0).0, agrees l nl ∙ unseen_none held_entry 0 env l fresh.0, agrees r nr ∙ unseen_none held_entry 0 env r fresh.1)
+
+-- behind the cut the thread has what the body's first environment says
+pub split_agrees : (p : Program) (line : ℕ) (b : Name) (e : Expr) (l r : Name) (a : Body) (env after : Environment) (s t : State) → Owns p line (split b e l r a) env after
+    → Agrees (λ x. names_in_stmt x (split b e l r a)) env s.store → ((x : Name) → count t.store.blocks x + hit b x ≡ count s.store.blocks x + (hit l x + hit r x))
+    → Agrees (λ x. names_in_body x a) (opened env b l r line) t.store
+unfolding Agrees
+split_agrees p line b e l r a env after s t h agrees cut = λ x n.
+    let k = split_ends p line b e l r a env after h in
+    let g = agrees x (or_right (bytes_eq b x || names_in_expr x e || bytes_eq l x || bytes_eq r x) (names_in_body x a) n) in
+    let d = cut x in let i = inner_held env b l r line x k.held k.left_new k.right_newer k.seen in omega (arith, g, d, i)
 
 exact_noting : (line : ℕ) (s : State) → Exact s (noting (States.began line) s)
 exact_noting line s = exact_light s (noting (States.began line) s) (States.began line) refl refl refl
@@ -270,40 +317,15 @@ mutual
   ran_exec c all line (split b e l r a) env after s good h f agrees =
       let end : Environment = h.4.1.0 in
       let inner : Environment = opened env b l r line in
-      let fresh = fresh_pair env l r line h.2 h.3 in
-      let newer = fresh_unseen (with_entry env (lent_entry l line)) r h.3 in
-      let hb = (held_block env b h.0).0 in
-      let seen : seen_in env b ≡ 1 = held_seen env b hb in
-      let ends : SplitEnds env end b l r line = record {
-        held = h.0;
-        seen = seen;
-        left_new = fresh.0;
-        right_new = fresh.1;
-        right_newer = newer;
-        two = fresh.2;
-        follows = follows_all c.program a inner end h.4.1.1;
-        released = h.4.1.2;
-        lents = λ x k. (tame_all c.program a inner end x h.4.1.1).lents k;
-        falls = λ x k. (tame_all c.program a inner end x h.4.1.1).falls k;
-      } in
-      let nb : names_in_stmt b (split b e l r a) ≡ true =
-      or_left (bytes_eq b b || names_in_expr b e || bytes_eq l b || bytes_eq r b) (names_in_body b a) (or_left (bytes_eq b b || names_in_expr b e || bytes_eq l b) (bytes_eq r b)
-      (or_left (bytes_eq b b || names_in_expr b e) (bytes_eq l b) (or_left (bytes_eq b b) (names_in_expr b e) (name_same b)))) in
-      let nl : names_in_stmt l (split b e l r a) ≡ true =
-      or_left (bytes_eq b l || names_in_expr l e || bytes_eq l l || bytes_eq r l) (names_in_body l a) (or_left (bytes_eq b l || names_in_expr l e || bytes_eq l l) (bytes_eq r l)
-      (or_right (bytes_eq b l || names_in_expr l e) (bytes_eq l l) (name_same l))) in
-      let nr : names_in_stmt r (split b e l r a) ≡ true =
-      or_left (bytes_eq b r || names_in_expr r e || bytes_eq l r || bytes_eq r r) (names_in_body r a) (or_right (bytes_eq b r || names_in_expr r e || bytes_eq l r) (bytes_eq r r) (name_same r)) in
+      let ends : SplitEnds env end b l r line = split_ends c.program line b e l r a env after h in
+      let counts = split_counts c.program line b e l r a env after s h agrees in
       ran_end env (regained (take (length env) end) b) after s (exec c (run c) line (split b e l r a) s) (h.4.2 ∙ ap (λ (v : Environment). regained v b) h.4.1.3)
       (ran_settled env (regained (take (length env) end) b) line (value s.store e) (splitting line b l r (exec_all c (run c) a)) s
-      (λ v. ran_splitting env end b l r line (exec_all c (run c) a) v s ends f (agrees b nb ∙ hb)
-      (agrees l nl ∙ unseen_none held_entry 0 env l fresh.0) (agrees r nr ∙ unseen_none held_entry 0 env r fresh.1)
-      (λ t running label turns counts.
+      (λ v. ran_splitting env end b l r line (exec_all c (run c) a) v s ends f counts.0 counts.1 counts.2
+      (λ t running label turns cut.
       let same = room_same c s t label turns in
       ran_all c all a inner end t (good_less c (room c s) (room c t) (omega (arith, same)) good) h.4.1.1 running
-      (λ x n.
-      let g = agrees x (or_right (bytes_eq b x || names_in_expr x e || bytes_eq l x || bytes_eq r x) (names_in_body x a) n) in
-      let k = counts x in let i = inner_held env b l r line x h.0 fresh.0 newer seen in omega (arith, g, k, i)))))
+      (split_agrees c.program line b e l r a env after s t h agrees cut))))
 
   ran_all : (c : Setting) → OwnsFunctions c.program c.program → (b : Body) (env after : Environment) (s : State) → Good c (room c s) → OwnsAll c.program b env after
       → s.faulted ≡ false → Agrees (λ x. names_in_body x b) env s.store → Ran env after s (exec_all c (run c) b s)
@@ -372,7 +394,7 @@ main_answered c (Some r) end after t hb owns rel e m f = by r.line r.value hb ow
         (record { exact = e; empty = released_end c end t m f (subst (λ (v : Environment). list_all is_released v ≡ true) own.1 rel); alone = m.callers })
     by line (hands b) hb own = let never : ⊥ = cc in absurd never
 
-no_parameters : (line : ℕ) (qs : List Param) (start : Environment) → takes_nothing qs ≡ true → OwnsParams line qs [] start → start ≡ []
+pub no_parameters : (line : ℕ) (qs : List Param) (start : Environment) → takes_nothing qs ≡ true → OwnsParams line qs [] start → start ≡ []
 no_parameters line [] start t o = o
 no_parameters line (q ∷ qs) start t o = let never : ⊥ = cc in absurd never
 

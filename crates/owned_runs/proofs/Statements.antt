@@ -248,7 +248,7 @@ split_numbers env end b l r line k =
     swap a c = by_names (λ (a : Name) (c : Name). hit a c ≡ 0 → hit c a ≡ 0) a c (λ x z. z) (λ d z. hit_other c a (bytes_swap a c d))
 
 -- a cut
-cut_count : (b l r : Name) (at : ℕ) (s : Store) (x : Name) → count s.blocks b ≡ 1 → count (cutting b l r at s).blocks x + hit b x ≡ count s.blocks x + (hit l x + hit r x)
+pub cut_count : (b l r : Name) (at : ℕ) (s : Store) (x : Name) → count s.blocks b ≡ 1 → count (cutting b l r at s).blocks x + hit b x ≡ count s.blocks x + (hit l x + hit r x)
 cut_count b l r at s x e =
     let xs : List ℤ = block_of s.blocks b in
     let t : Store = dropping b s in
@@ -319,6 +319,21 @@ rejoin_size b l r s x =
     let w = size_with (dropping r t).blocks b (xs ++ ys) x in
     let n : weigh b x (length (xs ++ ys)) ≡ weigh b x (length xs + length ys) = ap (weigh b x) (length-append xs ys) in omega (arith, d, e, w, n)
 
+-- behind the body of a `split` its two parts are there
+pub parts_left : (env end : Environment) (b l r : Name) (line at : ℕ) (s v : State) → SplitEnds env end b l r line → count s.store.blocks b ≡ 1 → count s.store.blocks l ≡ 0 → count s.store.blocks r ≡ 0
+    → Moved (opened env b l r line) end (storing (cutting b l r at) s) v → (count v.store.blocks l ≡ 1) × (count v.store.blocks r ≡ 1)
+parts_left env end b l r line at s v ends cb cl cr m =
+    let k = split_numbers env end b l r line ends in
+    let lr : hit l r ≡ 0 = hit_other l r ends.two in
+    let rl : hit r l ≡ 0 = hit_other r l (bytes_swap l r ends.two) in
+    let bl : hit b l ≡ 0 = hit_other b l (bytes_swap l b (differs env l b ends.left_new ends.seen)) in
+    let br : hit b r ≡ 0 = hit_other b r (bytes_swap r b (differs env r b ends.right_new ends.seen)) in
+    let ll = hit_same l in let rr = hit_same r in
+    let ul = cut_count b l r at s.store l cb in let ur = cut_count b l r at s.store r cb in
+    let ml = m.counts l in let mr = m.counts r in
+    let il = k.in_left in let ir = k.in_right in let el = k.end_left in let er = k.end_right in
+    (omega (arith, ul, ml, il, el, cl, ll, rl, bl), omega (arith, ur, mr, ir, er, cr, rr, lr, br))
+
 cut_moved : (env end : Environment) (b l r : Name) (line : ℕ) (body : State → State) (at q : ℕ) (s : State) → SplitEnds env end b l r line → at ≡ 16 * q → at ≤ length (block_of s.store.blocks b)
     → s.faulted ≡ false → count s.store.blocks b ≡ 1 → count s.store.blocks l ≡ 0 → count s.store.blocks r ≡ 0
     → (v : State) → Moved (opened env b l r line) end (storing (cutting b l r at) s) v
@@ -331,17 +346,16 @@ cut_moved env end b l r line body at q s ends whole le f cb cl cr v m =
     let rb : hit r b ≡ 0 = hit_other r b (differs env r b ends.right_new ends.seen) in
     let lr : hit l r ≡ 0 = hit_other l r ends.two in
     let rl_ : bytes_eq r l ≡ false = bytes_swap l r ends.two in
-    let rl : hit r l ≡ 0 = hit_other r l rl_ in
     let bl_ : bytes_eq b l ≡ false = bytes_swap l b (differs env l b ends.left_new ends.seen) in
     let br_ : bytes_eq b r ≡ false = bytes_swap r b (differs env r b ends.right_new ends.seen) in
-    let bl : hit b l ≡ 0 = hit_other b l bl_ in let br : hit b r ≡ 0 = hit_other b r br_ in
-    let ll = hit_same l in let rr = hit_same r in let bb = hit_same b in
-    let ul = cut_count b l r at s.store l cb in let ur = cut_count b l r at s.store r cb in let ub = cut_count b l r at s.store b cb in
-    let ml = m.counts l in let mr = m.counts r in let mb = m.counts b in
-    let il = k.in_left in let ir = k.in_right in let ib = k.in_block in
+    let bb = hit_same b in
+    let ub = cut_count b l r at s.store b cb in
+    let mb = m.counts b in
+    let ib = k.in_block in
     let el = k.end_left in let er = k.end_right in let eb = k.end_block in
-    let vl : count v.store.blocks l ≡ 1 = omega (arith, ul, ml, il, el, cl, ll, rl, bl) in
-    let vr : count v.store.blocks r ≡ 1 = omega (arith, ur, mr, ir, er, cr, rr, lr, br) in
+    let two = parts_left env end b l r line at s v ends cb cl cr m in
+    let vl : count v.store.blocks l ≡ 1 = two.0 in
+    let vr : count v.store.blocks r ≡ 1 = two.1 in
     let vb : count v.store.blocks b ≡ 0 = omega (arith, ub, mb, ib, eb, cb, bb, lb, rb) in
     let xs : List ℤ = block_of v.store.blocks l in
     let t : Store = dropping l v.store in

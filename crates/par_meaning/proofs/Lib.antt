@@ -6,3 +6,4 @@ pub mod Nearing
 pub mod Built
 pub mod Words
 pub mod Covered
+pub mod OneAction

@@ -100,21 +100,27 @@ allocating_words_at_puts : (c : Setting) (line : ℕ) (x : Name) (o : Option ℕ
 allocating_words_at_puts c line x None fs s = puts_kept 2 fs s _ (faulting_keeps _ line s)
 allocating_words_at_puts c line x (Some n) fs s = allocated_at_puts (nat_le (block_words n) c.quota) c x n fs s
 
+-- a list of statements is one frame, or none where it is empty
+before_few : (b : Body) (fs : List Frame) → length (before_all b fs) ≤ length fs + 1
+before_few done fs = omega arith
+before_few (step line stmt rest) fs = omega arith
+
 branch_at_puts : (t : Bool) (a b : Body) (fs : List Frame) (s : State) → Puts 2 fs s (branch_at t a b fs s)
-branch_at_puts true a b fs s = record { few = omega arith; grows = grows_same s }
-branch_at_puts false a b fs s = record { few = omega arith; grows = grows_same s }
+branch_at_puts true a b fs s = let l = before_few a fs in record { few = omega (arith, l); grows = grows_same s }
+branch_at_puts false a b fs s = let l = before_few b fs in record { few = omega (arith, l); grows = grows_same s }
 
 turning_at_puts : (n line : ℕ) (ahead fs : List Frame) (s : State) → length ahead ≤ length fs + 2 → Puts 2 fs s (turning_at n line ahead fs s)
 turning_at_puts zero line ahead fs s l = puts_kept 2 fs s _ (faulting_keeps _ line s)
 turning_at_puts (suc left) line ahead fs s l = record { few = l; grows = grows_to s (record s { turns = left }) refl }
 
 round_at_puts : (b : Bool) (line : ℕ) (e : Expr) (a : Body) (fs : List Frame) (s : State) → Puts 2 fs s (round_at b line e a fs s)
-round_at_puts true line e a fs s = turning_at_puts s.turns line (before_all a (before_all (step line (repeat e a) done) fs)) fs s (omega arith)
+round_at_puts true line e a fs s = turning_at_puts s.turns line (before_all a (before_all (step line (repeat e a) done) fs)) fs s
+    (let l = before_few a (before_all (step line (repeat e a) done) fs) in omega (arith, l))
 round_at_puts false line e a fs s = puts_kept 2 fs s s (keeps_same s)
 
 body_at_puts : (n line : ℕ) (t : Target) (args : List Arg) (g : Func) (h : Passing) (fs : List Frame) (s : State) → Puts 2 fs s (body_at n line t args g h fs s)
 body_at_puts zero line t args g h fs s = puts_kept 2 fs s _ (faulting_keeps _ line s)
-body_at_puts (suc left) line t args g h fs s = record { few = omega arith; grows = grows_to s (entered h (record s { turns = left })) refl }
+body_at_puts (suc left) line t args g h fs s = let l = before_few g.body (answers g.ret g.params args t ∷ fs) in record { few = omega (arith, l); grows = grows_to s (entered h (record s { turns = left })) refl }
 
 opening_at_puts : (b : Bool) (line : ℕ) (t : Target) (args : List Arg) (g : Func) (h : Passing) (fs : List Frame) (s : State) → Puts 2 fs s (opening_at b line t args g h fs s)
 opening_at_puts true line t args g h fs s = body_at_puts s.turns line t args g h fs s
@@ -140,7 +146,7 @@ both_at_puts false c line x y fs s = puts_kept 2 fs s _ (faulting_keeps _ line s
 
 cut_at_puts : (line : ℕ) (b l r : Name) (a : Body) (o : Option ℕ) (fs : List Frame) (s : State) → Puts 2 fs s (cut_at line b l r a o fs s)
 cut_at_puts line b l r a None fs s = puts_kept 2 fs s _ (faulting_keeps _ line s)
-cut_at_puts line b l r a (Some at) fs s = record { few = omega arith; grows = grows_to s (storing (cutting b l r at) s) refl }
+cut_at_puts line b l r a (Some at) fs s = let l' = before_few a (rejoins b l r ∷ fs) in record { few = omega (arith, l'); grows = grows_to s (storing (cutting b l r at) s) refl }
 
 statement_puts : (c : Setting) (line : ℕ) (stmt : Stmt) (fs : List Frame) (s : State) → Puts 2 fs s (statement_at c line stmt fs s)
 statement_puts c line (declare x e) fs s =
@@ -173,9 +179,9 @@ first_steps true c line stmt rest fs s = pops (omega arith) (grows_same s)
 first_steps false c line stmt rest fs s =
     let u : State = noting (States.began line) s in
     let p = statement_puts c line stmt (before_all rest fs) u in
-    let few = p.few in let l = longer u _ p.grows in
+    let few = p.few in let l = longer u _ p.grows in let ahead = before_few rest fs in
     let one : length u.items ≡ length s.items + 1 = length-append s.items (States.began line ∷ []) in
-    marks (omega (arith, few)) (omega (arith, l, one))
+    marks (omega (arith, few, ahead)) (omega (arith, l, one))
 
 -- an action is an item
 acted_longer : (s t : State) (item : Item) (new : List Item) → t.items ≡ (s.items ++ item ∷ []) ++ new → length s.items < length t.items

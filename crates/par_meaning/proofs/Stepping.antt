@@ -68,11 +68,21 @@ unfolding delayed
 allocating_words_at_comes c line x None fs s = refl
 allocating_words_at_comes c line x (Some n) fs s = allocated_at_comes (nat_le (block_words n) c.quota) c x n fs s
 
+-- what a list of statements that comes first comes to, also where it is empty
+pub run_nothing : (c : Setting) (s : State) → run c done s ≡ s
+unfolding exec_all
+run_nothing c s = run_fixed c done s
+
+pub before_comes : (c : Setting) (b : Body) (fs : List Frame) (s : State) → finish c (before_all b fs) s ≡ finish c fs (run c b s)
+unfolding finish
+before_comes c done fs s = ap (λ t. finish c fs t) (sym (run_nothing c s))
+before_comes c (step line stmt rest) fs s = refl
+
 branch_at_comes : (t : Bool) (c : Setting) (a b : Body) (fs : List Frame) (s : State)
     → finished c (branch_at t a b fs s) ≡ finish c fs (branching (exec_all c (run c) a) (exec_all c (run c) b) t s)
 unfolding finish
-branch_at_comes true c a b fs s = ap (λ t. finish c fs t) (run_fixed c a s)
-branch_at_comes false c a b fs s = ap (λ t. finish c fs t) (run_fixed c b s)
+branch_at_comes true c a b fs s = before_comes c a fs s ∙ ap (λ t. finish c fs t) (run_fixed c a s)
+branch_at_comes false c a b fs s = before_comes c b fs s ∙ ap (λ t. finish c fs t) (run_fixed c b s)
 
 turning_at_comes : (c : Setting) (n line : ℕ) (ahead fs : List Frame) (f : State → State) (s : State)
     → ((t : State) → finish c ahead t ≡ finish c fs (f t)) → finished c (turning_at n line ahead fs s) ≡ finish c fs (turning n line f s)
@@ -83,7 +93,8 @@ round_comes : (c : Setting) (a again : Body) (fs : List Frame) (t : State)
     → finish c (before_all a (before_all again fs)) t ≡ finish c fs (one_round (exec_all c (run c) a) (run c again) t)
 unfolding finish
 round_comes c a again fs t =
-    ap (λ u. finish c fs u) (run_unless c again (run c a t) ∙ ap (λ u. unless_faulted (run c again) u) (run_fixed c a t))
+    before_comes c a (before_all again fs) t ∙ before_comes c again fs (run c a t)
+    ∙ ap (λ u. finish c fs u) (run_unless c again (run c a t) ∙ ap (λ u. unless_faulted (run c again) u) (run_fixed c a t))
 
 round_at_comes : (b : Bool) (c : Setting) (line : ℕ) (e : Expr) (a : Body) (fs : List Frame) (s : State)
     → finished c (round_at b line e a fs s)
@@ -97,7 +108,7 @@ round_at_comes false c line e a fs s = refl
 body_comes : (c : Setting) (t : Target) (args : List Arg) (g : Func) (h : Passing) (fs : List Frame) (s : State)
     → finish c (before_all g.body (answers g.ret g.params args t ∷ fs)) (entered h s) ≡ finish c fs (running_body (run c) t args g h s)
 unfolding finish
-body_comes c t args g h fs s = refl
+body_comes c t args g h fs s = before_comes c g.body (answers g.ret g.params args t ∷ fs) (entered h s)
 
 body_at_comes : (c : Setting) (n line : ℕ) (t : Target) (args : List Arg) (g : Func) (h : Passing) (fs : List Frame) (s : State)
     → finished c (body_at n line t args g h fs s) ≡ finish c fs (turning n line (running_body (run c) t args g h) s)
@@ -137,7 +148,8 @@ cut_at_comes : (c : Setting) (line : ℕ) (b l r : Name) (a : Body) (o : Option 
 unfolding finish
 cut_at_comes c line b l r a None fs s = refl
 cut_at_comes c line b l r a (Some at) fs s =
-    ap (λ t. finish c fs (unless_faulted (storing (rejoining b l r)) t)) (run_fixed c a (storing (cutting b l r at) s))
+    before_comes c a (rejoins b l r ∷ fs) (storing (cutting b l r at) s)
+    ∙ ap (λ t. finish c fs (unless_faulted (storing (rejoining b l r)) t)) (run_fixed c a (storing (cutting b l r at) s))
 
 statement_comes : (c : Setting) (line : ℕ) (stmt : Stmt) (fs : List Frame) (s : State)
     → finished c (statement_at c line stmt fs s) ≡ finish c fs (exec c (run c) line stmt s)
@@ -170,6 +182,7 @@ first_comes true c line stmt rest fs s e = ap (λ t. finish c fs t) (sym (run_sk
 first_comes false c line stmt rest fs s e =
     let u : State = noting (States.began line) s in
     statement_comes c line stmt (before_all rest fs) u
+    ∙ before_comes c rest fs (exec c (run c) line stmt u)
     ∙ ap (λ t. finish c fs t) (sym (run_first c line stmt rest s
     ∙ ap (λ t. run c rest t) (going (beginning line (exec c (run c) line stmt)) s e)))
 
@@ -205,4 +218,4 @@ beginning_comes c = ap ended (by (function_of c.program main_name))
   where
     by : (o : Option Func) → main_run c o (opening c) ≡ finished c (beginning_of c o)
     by None = refl
-    by (Some g) = refl
+    by (Some g) = sym (before_comes c g.body (answers_main g.ret ∷ []) (opening c))

@@ -1,5 +1,5 @@
 -- What a caller may use of the depth-first run.
-use Rattle.std.specs.Prelude.{◌≡◌, ◌<◌, ℕ, List, ◌∷◌, ◌++◌, take, pos, ◌≤ℤ◌}
+use Rattle.std.specs.Prelude.{◌≡◌, ◌<◌, ◌≤◌, ℕ, List, ◌∷◌, ◌++◌, length, take, pos, ◌≤ℤ◌}
 use Rattle.action_order.specs.Actions.{live_words}
 use Rattle.action_order.specs.Runs.{IsDepthFirst}
 use Rattle.par_tree.specs.Tree.{Body}
@@ -28,6 +28,11 @@ ItemsOnlyGrow = (c : Setting) (m : Middle) → (new : List Item) × (State.items
 abbrev pub StepsNearTheEnd : Type 0
 StepsNearTheEnd = (c : Setting) (f : Frame) (fs : List Frame) (s : State)
     → to_come c (advance c (middle (f ∷ fs) s)) < to_come c (middle (f ∷ fs) s)
+
+-- a step leaves its items, with one action at most, next behind those so far: in what the run comes to they stand there
+abbrev pub StepsGiveTheNextAction : Type 0
+StepsGiveTheNextAction = (c : Setting) (m : Middle) → (new : List Item) × (later : List Item) × (length (actions_of new) ≤ 1) × ((advance c m).state.items ≡ m.state.items ++ new)
+    × (State.items (finished c m) ≡ (m.state.items ++ new) ++ later)
 
 -- the actions of a run are a depth-first list, so all that holds of each such list holds of them
 abbrev pub ActionsAreDepthFirst : Type 0

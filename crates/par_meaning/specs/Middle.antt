@@ -81,9 +81,10 @@ allocating_words_at c line b (Some n) fs s = allocated_at (nat_le (block_words n
 abbrev pub allocating_at : Setting → ℕ → Name → ℤ → List Frame → State → Middle
 allocating_at c line b n fs s = allocating_words_at c line b (size_of n) fs s
 
--- a list of statements comes first, and then what is left
+-- a list of statements comes first, where there are any, and then what is left
 abbrev pub before_all : Body → List Frame → List Frame
-before_all b fs = does (statements b) ∷ fs
+before_all done fs = fs
+before_all (step line stmt rest) fs = does (statements (step line stmt rest)) ∷ fs
 
 abbrev pub branch_at : Bool → Body → Body → List Frame → State → Middle
 branch_at true a b fs s = middle (before_all a fs) s

@@ -1,4 +1,4 @@
-ghost use Rattle.par_meaning.specs.Laws.{RunIsFixed, BeginningComesToTheWhole, StepsComeToTheSame, ItemsOnlyGrow, StepsNearTheEnd, ActionsAreDepthFirst, LiveWordsNeverFallBelowZero};
+ghost use Rattle.par_meaning.specs.Laws.{RunIsFixed, BeginningComesToTheWhole, StepsComeToTheSame, ItemsOnlyGrow, StepsNearTheEnd, StepsGiveTheNextAction, ActionsAreDepthFirst, LiveWordsNeverFallBelowZero};
 
 /// Running a list of statements is running its statements one after another.
 pub fn run_is_fixed()
@@ -23,6 +23,11 @@ pub fn items_only_grow()
 /// Each step in the middle of a run brings its end nearer.
 pub fn steps_near_the_end()
     ensures { StepsNearTheEnd }
+{}
+
+/// A step in the middle of a run gives its next action, where it gives one.
+pub fn steps_give_the_next_action()
+    ensures { StepsGiveTheNextAction }
 {}
 
 /// The actions of a run stand in depth-first order.
