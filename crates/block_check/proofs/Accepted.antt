@@ -1,5 +1,5 @@
 -- What an absent refusal tells.
-use Rattle.std.proofs.Common.{◌≡◌, Bool, true, Option, Some, None, is_none, refl, sym, ap, ◌∙◌}
+use Rattle.std.proofs.Common.{◌≡◌, true, Option, Some, None, is_none, refl}
 use Rattle.par_tree.specs.Tree.{Program}
 use Rattle.par_ownership.specs.Ownership.{Ownership}
 use Rattle.par_ownership.specs.Walk.{Refusal, program_refusal}

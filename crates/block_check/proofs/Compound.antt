@@ -1,5 +1,5 @@
 -- What the compound statements do, from what their parts do.
-use Rattle.std.proofs.Common.{◌≡◌, ◌<◌, ℕ, List, length, Option, Some, None, Result, Ok, Err, refl, sym, ap, subst, ◌∙◌}
+use Rattle.std.proofs.Common.{◌≡◌, ℕ, List, length, Option, Some, None, Result, Ok, refl, sym, ap, subst, ◌∙◌}
 use Rattle.par_tree.specs.Tree.{Name}
 use Rattle.par_ownership.specs.Environment.{Environment, held_in_both, regained}
 use Rattle.par_ownership.specs.Walk.{Refusal, guarded, ended, arms_refusal, after_arms, after_round, after_branches, after_split}

@@ -1,5 +1,5 @@
 pub mod Entries
-pub mod Rows
+pub mod Taken
 pub mod Compound
 pub mod Accepted
 pub mod Seeking

@@ -1,10 +1,10 @@
 -- How the searches of two parts make the search of both.
-use Rattle.std.proofs.Common.{◌≡◌, ◌≤◌, ◌<◌, ℕ, zero, suc, ◌+◌, ◌-◌, List, [], ◌∷◌, ◌++◌, take, drop, map, length, get_or, Option, Some, None, Result, Ok, Err, refl, sym, ap, ◌∙◌, subst, arith, add-one, drop-cons}
+use Rattle.std.proofs.Common.{◌≡◌, ◌≤◌, ◌<◌, ℕ, zero, suc, ◌+◌, ◌-◌, List, [], ◌∷◌, ◌++◌, take, drop, length, get_or, Some, Result, Ok, Err, refl, sym, ap, ◌∙◌, subst, arith, add-one, drop-cons}
 use Rattle.std.specs.Prelude.{slice_get}
 use Rattle.std.proofs.lemmas.List.{length-append, take-append-le, take-map, drop_all}
 use Rattle.par_tree.specs.Tree
 use Rattle.par_tree.specs.Tree.{Name, Body, Stmt, declare, assign, store, allocate, release, choose, repeat, call, print, both, split}
-use Rattle.par_ownership.specs.Environment.{Environment, Entry, after_answer, integer_entry, block_entry, lent_entry, with_entry}
+use Rattle.par_ownership.specs.Environment.{Environment, Entry, integer_entry, block_entry, lent_entry, with_entry}
 use Rattle.block_check.specs.Forks.{Fork, declared_by, split_names, forks_in_body}
 use Rattle.block_check.specs.Sought.{Seeks, fork_shown}
 use Rattle.block_check.specs.Shown.{entry_shown, entries_shown, env_shown}

@@ -1,5 +1,5 @@
 -- What the answers of the checker show.
-use Rattle.std.specs.Prelude.{◌≡◌, Option, Some, Result, Ok, Err}
+use Rattle.std.specs.Prelude.{◌≡◌, Some, Result, Ok, Err}
 use Rattle.par_tree.specs.View.{name_tree, program_tree}
 use Rattle.par_tree.specs.declared.program.Program.{Program}
 use Rattle.par_ownership.specs.Ownership.{Ownership}

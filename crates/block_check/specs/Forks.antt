@@ -1,13 +1,13 @@
 -- The `par` statements of a function in the order of the text, each with the names that are visible
 -- there, and the names that its branches take and give back.
-use Rattle.std.specs.Prelude.{◌≡◌, ℕ, Bool, not, ◌&&◌, ◌+◌, List, [], ◌∷◌, ◌++◌, map, length, slice_get, Option, Some, None, Result, Ok, Err}
+use Rattle.std.specs.Prelude.{ℕ, Bool, not, ◌&&◌, List, [], ◌∷◌, ◌++◌, map, slice_get, Option}
 use Rattle.std.specs.List.{filter}
 use Rattle.std.specs.Option.{option_and_then}
 use Rattle.std.specs.declared.vec.Vec.{Vec}
 use Rattle.std.specs.declared.alloc.Global.{Global}
 use Rattle.par_tree.specs.Tree
 use Rattle.par_tree.specs.Tree.{Program, Stmt, declare, assign, store, allocate, release, choose, repeat, call, print, both, split, Body, done, step, Param, Func}
-use Rattle.par_tree.specs.View.{name_tree, program_tree}
+use Rattle.par_tree.specs.View.{name_tree}
 use Rattle.par_tree.specs.declared.name.Name.{Name}
 use Rattle.par_ownership.specs.Environment.{Environment, Entry, is_block, integer_entry, block_entry, lent_entry, with_entry, after_answer, param_entry}
 use Rattle.par_ownership.specs.Mention.{names_in_body, assigns_in_body}

@@ -1,6 +1,5 @@
 -- What the branch sets of a `par` are.
-use Rattle.std.specs.Prelude.{◌≡◌, ℕ, Option, Some, None, Result, Ok, Err}
-use Rattle.block_check.specs.Forks
+use Rattle.std.specs.Prelude.{◌≡◌, Option, Some, None, Result, Ok, Err}
 use Rattle.block_check.specs.Forks.{Fork, names_of, takes_block, assigns_integer, names_shown}
 use Rattle.block_check.specs.declared.branch_sets.BranchSets.{BranchSets}
 use Rattle.block_check.specs.declared.sets_fail.SetsFail.{SetsFail}

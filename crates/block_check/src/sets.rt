@@ -1,7 +1,8 @@
 //! The branch sets of a `par`.
 
 ghost use Rattle.std.specs.Prelude.{◌≡◌, IfOk, slice_get};
-ghost use Rattle.par_tree.specs.View.{name_tree, body_tree, func_tree};
+ghost use Rattle.par_tree.specs.View.{name_tree, func_tree};
+ghost use Rattle.par_mention.specs.Named.{body_of};
 ghost use Rattle.block_check.specs.Shown.{entry_shown, entries_shown, funcs_tree};
 ghost use Rattle.block_check.specs.Forks.{names_of, takes_block, assigns_integer, names_shown, forks_in_func, fork_at};
 ghost use Rattle.block_check.specs.Sought.{fork_shown};
@@ -10,25 +11,25 @@ ghost use Rattle.block_check.specs.Sets.{SetsOf, GivesSets};
 use crate::branch_sets::{BranchSets, Names};
 use crate::entry::Entry;
 use crate::fork::Fork;
-use crate::mentions::{assigns_in, names_in};
+use crate::mentions::{NamedBody, named};
 use crate::search::seek_in_function;
 use crate::sets_fail::SetsFail;
 use crate::sought::Sought;
-use par_tree::{Func, Name, Stmt};
+use par_tree::{Func, Name};
 use std::alloc::{AllocError, Global};
 
 /// Whether a branch names a block.
-fn takes_block(branch: &[Stmt], entry: Entry) -> bool
-    ensures { result ≡ takes_block (body_tree branch.now) (entry_shown entry.entry) }
+fn takes_block(branch: &NamedBody, entry: Entry) -> bool
+    ensures { result ≡ takes_block (body_of branch.now) (entry_shown entry.entry) }
 {
-    entry.kind.is_block() && names_in(entry.name, branch)
+    entry.kind.is_block() && branch.names(entry.name)
 }
 
 /// Whether a branch assigns to an integer.
-fn assigns_integer(branch: &[Stmt], entry: Entry) -> bool
-    ensures { result ≡ assigns_integer (body_tree branch.now) (entry_shown entry.entry) }
+fn assigns_integer(branch: &NamedBody, entry: Entry) -> bool
+    ensures { result ≡ assigns_integer (body_of branch.now) (entry_shown entry.entry) }
 {
-    !entry.kind.is_block() && assigns_in(entry.name, branch)
+    !entry.kind.is_block() && branch.assigns(entry.name)
 }
 
 /// A name of its own.
@@ -41,8 +42,8 @@ fn owned(alloc: Global, name: &[u8]) -> Result<Name, AllocError>
 }
 
 /// The blocks that a branch names.
-fn blocks_named(alloc: Global, names: &[Entry], branch: &[Stmt]) -> Result<Names, AllocError>
-    ensures { IfOk result (λ v. names_shown v ≡ names_of (takes_block (body_tree branch.now)) (entries_shown names.now)) }
+fn blocks_named(alloc: Global, names: &[Entry], branch: &NamedBody) -> Result<Names, AllocError>
+    ensures { IfOk result (λ v. names_shown v ≡ names_of (takes_block (body_of branch.now)) (entries_shown names.now)) }
 {
     let mut found = Vec::new(alloc);
     for entry in names {
@@ -54,8 +55,12 @@ fn blocks_named(alloc: Global, names: &[Entry], branch: &[Stmt]) -> Result<Names
 }
 
 /// The integers to which a branch assigns.
-fn integers_assigned(alloc: Global, names: &[Entry], branch: &[Stmt]) -> Result<Names, AllocError>
-    ensures { IfOk result (λ v. names_shown v ≡ names_of (assigns_integer (body_tree branch.now)) (entries_shown names.now)) }
+fn integers_assigned(
+    alloc: Global,
+    names: &[Entry],
+    branch: &NamedBody,
+) -> Result<Names, AllocError>
+    ensures { IfOk result (λ v. names_shown v ≡ names_of (assigns_integer (body_of branch.now)) (entries_shown names.now)) }
 {
     let mut found = Vec::new(alloc);
     for entry in names {
@@ -70,9 +75,11 @@ fn integers_assigned(alloc: Global, names: &[Entry], branch: &[Stmt]) -> Result<
 pub fn sets_of(alloc: Global, fork: &Fork) -> Result<BranchSets, AllocError>
     ensures { IfOk result (λ s. SetsOf (fork_shown fork.now) s) }
 {
-    let left_blocks = blocks_named(alloc, &fork.names, fork.left)?;
-    let right_blocks = blocks_named(alloc, &fork.names, fork.right)?;
-    let left_assigned = integers_assigned(alloc, &fork.names, fork.left)?;
+    let left = named(alloc, &fork.names, fork.left)?;
+    let right = named(alloc, &fork.names, fork.right)?;
+    let left_blocks = blocks_named(alloc, &fork.names, &left)?;
+    let right_blocks = blocks_named(alloc, &fork.names, &right)?;
+    let left_assigned = integers_assigned(alloc, &fork.names, &left)?;
     Ok(BranchSets {
         left_blocks,
         right_blocks,

@@ -5,6 +5,7 @@ ghost use Rattle.par_tree.specs.View.{name_tree, expr_tree, target_tree, args_tr
 ghost use Rattle.par_ownership.specs.Environment.{with_entry, integer_entry, block_entry, without, regained, after_gives, after_answer};
 ghost use Rattle.par_ownership.specs.Walk.{branches_refusal, arms_refusal, after_arms, after_round, after_branches, ended, walk, walk_all, guarded, expr_refusal, fresh_refusal, integer_refusal, block_refusal, lent_refusal, call_refusal};
 ghost use Rattle.par_ownership.specs.Ownership.{are_apart};
+ghost use Rattle.par_mention.specs.Named.{body_of};
 ghost use Rattle.block_check.specs.Shown.{rows_tree, split_opened, entry_shown, entries_shown, env_shown, funcs_tree, Tests, Walks};
 
 use crate::calls::call;
@@ -15,7 +16,7 @@ use crate::changes::{
 use crate::entry::Entry;
 use crate::environment::{block, integer, is_fresh, not_lent, unless};
 use crate::expressions::expression;
-use crate::mentions::{assigns_in, names_in};
+use crate::mentions::{NamedBody, named};
 use crate::refusal::Fail;
 use par_ownership::CheckKind;
 use par_tree::{Arg, Body, Expr, Func, Name, Stmt, StmtKind, Target};
@@ -23,21 +24,25 @@ use std::alloc::Global;
 
 /// Whether two branches may both run: no block is named in both, and no integer is assigned in one
 /// and named in the other.
-fn are_apart(left: &[Stmt], right: &[Stmt], entry: Entry) -> bool
-    ensures { result ≡ are_apart (body_tree left.now) (body_tree right.now) (entry_shown entry.entry) }
+fn are_apart(left: &NamedBody, right: &NamedBody, entry: Entry) -> bool
+    ensures { result ≡ are_apart (body_of left.now) (body_of right.now) (entry_shown entry.entry) }
 {
     let name = entry.name;
     if entry.kind.is_block() {
-        !(names_in(name, left) && names_in(name, right))
+        !(left.names(name) && right.names(name))
     } else {
-        !((assigns_in(name, left) && names_in(name, right))
-            || (assigns_in(name, right) && names_in(name, left)))
+        !((left.assigns(name) && right.names(name)) || (right.assigns(name) && left.names(name)))
     }
 }
 
 /// Refuses the first name that two branches share.
-fn apart<'a>(line: u32, left: &[Stmt], right: &[Stmt], env: &[Entry<'a>]) -> Result<(), Fail<'a>>
-    ensures { Tests result (branches_refusal line (body_tree left.now) (body_tree right.now) (entries_shown env.now)) }
+fn apart<'a>(
+    line: u32,
+    left: &NamedBody,
+    right: &NamedBody,
+    env: &[Entry<'a>],
+) -> Result<(), Fail<'a>>
+    ensures { Tests result (branches_refusal line (body_of left.now) (body_of right.now) (entries_shown env.now)) }
 {
     for entry in env {
         let kind = if entry.kind.is_block() {
@@ -51,10 +56,18 @@ fn apart<'a>(line: u32, left: &[Stmt], right: &[Stmt], env: &[Entry<'a>]) -> Res
 }
 
 /// The branches of a `par` share no name.
-fn branches<'a>(line: u32, left: &Body, right: &Body, env: &[Entry<'a>]) -> Result<(), Fail<'a>>
+fn branches<'a>(
+    alloc: Global,
+    line: u32,
+    left: &'a Body,
+    right: &'a Body,
+    env: &[Entry<'a>],
+) -> Result<(), Fail<'a>>
     ensures { Tests result (branches_refusal line (rows_tree left.now) (rows_tree right.now) (entries_shown env.now)) }
 {
-    apart(line, left, right, env)
+    let left_names = named(alloc, env, left)?;
+    let right_names = named(alloc, env, right)?;
+    apart(line, &left_names, &right_names, env)
 }
 
 /// `let x = e;`
@@ -259,7 +272,7 @@ fn statement<'a>(
             after_arms(line, env, end)
         }
         StmtKind::Par { left, right } => {
-            branches(line, left, right, &env)?;
+            branches(alloc, line, left, right, &env)?;
             let forked = copy_of(alloc, &env)?;
             let left = list(alloc, funcs, visible, forked, left)?;
             let right = list(alloc, funcs, visible, env, right)?;

@@ -1,1 +1,5 @@
 pub mod Tests
+pub mod Rows
+pub mod Listed
+pub mod Found
+pub mod Inserted

@@ -2,9 +2,15 @@
 //!
 //! A checker parts names between branches by these tests, and a run parts the blocks of a thread by them.
 //! The layer stands on the tree of programs and on the definitions of what a list mentions; its one theorem is
-//! that the tests decide them.
+//! that the tests decide them. `names_in` and `assigns_in` walk the statements for each name. Who asks for many
+//! names of one list makes a `NamedBody`, which walks it once.
 #![tactic(auto)]
 
+mod assigned;
+mod mentioned;
 mod mentions;
+mod name_set;
+mod named_body;
 
 pub use mentions::{assigns_in, is_name, names_in};
+pub use named_body::NamedBody;

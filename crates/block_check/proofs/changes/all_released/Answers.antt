@@ -1,4 +1,4 @@
-use Rattle.std.proofs.Common.{◌≡◌, refl, sym, ap}
+use Rattle.std.proofs.Common.{sym, ap}
 use Rattle.std.proofs.lemmas.List.{drop-map}
 use Rattle.par_ownership.specs.Walk.{end_refusal}
 use Rattle.block_check.specs.Shown.{entry_shown}

@@ -1,4 +1,4 @@
-use Rattle.std.proofs.Common.{◌≡◌, ◌≤◌, ◌++◌, Ok, Result, min, length, arith, sym, ap, ◌∙◌, append-nil}
+use Rattle.std.proofs.Common.{◌≤◌, ◌++◌, Ok, min, length, arith, sym, ap, ◌∙◌, append-nil}
 use Rattle.par_ownership.specs.Environment.{Environment}
 use Rattle.block_check.specs.Shown.{entries_shown}
 use Rattle.block_check.proofs.Entries.{both_end}

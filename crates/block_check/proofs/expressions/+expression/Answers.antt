@@ -1,9 +1,9 @@
-use Rattle.std.proofs.Common.{◌≡◌, rules, arith, refl, sym, ap, subst, ◌∙◌}
+use Rattle.std.proofs.Common.{arith, sym, ap, subst, ◌∙◌}
 use Rattle.std.proofs.lemmas.Grind.{common_steps}
 use Rattle.par_tree.specs.Tree
-use Rattle.par_tree.specs.View.{expr_tree, links_tree}
+use Rattle.par_tree.specs.View.{expr_tree}
 use Rattle.par_tree.proofs.Lists.{expr_tree-chain}
-use Rattle.par_ownership.specs.Walk.{expr_refusal, links_refusal}
+use Rattle.par_ownership.specs.Walk.{expr_refusal}
 use Rattle.block_check.specs.Shown.{entries_shown, Tests}
 use Rattle.block_check.proofs.expressions.+expression.Goals as goal
 

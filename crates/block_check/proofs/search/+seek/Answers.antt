@@ -1,18 +1,17 @@
-use Rattle.std.proofs.Common.{◌≡◌, ◌≤◌, ◌<◌, ◌+◌, ◌-◌, ℕ, List, [], ◌∷◌, ◌++◌, take, drop, length, Option, Some, Result, Ok, arith, refl, sym, ap, subst, ◌∙◌}
+use Rattle.std.proofs.Common.{◌≡◌, ◌<◌, ◌+◌, ◌-◌, List, ◌++◌, drop, length, Ok, arith, sym, ap, subst, ◌∙◌}
 use Rattle.std.specs.Prelude.{slice_get}
 use Rattle.std.proofs.lemmas.Grind.{common_steps}
 use Rattle.std.proofs.lemmas.List.{length-map}
 use Rattle.par_tree.specs.Tree.{Body}
 use Rattle.par_tree.specs.View.{name_tree, stmt_tree, body_tree}
 use Rattle.par_ownership.specs.Environment.{Environment}
-use Rattle.block_check.specs.Shown.{entry_shown, entries_shown, env_shown, rows_tree}
+use Rattle.block_check.specs.Shown.{entry_shown, env_shown, rows_tree}
 use Rattle.block_check.specs.Forks.{Fork, declared_by, split_names, forks_in_stmt, forks_in_body}
-use Rattle.block_check.specs.Sought.{Seeks, fork_shown}
-use Rattle.block_check.specs.declared.sought.Sought.{Sought}
-use Rattle.block_check.specs.declared.sought.Sought.TheVariants.{Found, Passed}
-use Rattle.block_check.proofs.Rows.{body_is}
+use Rattle.block_check.specs.Sought.{Seeks}
+use Rattle.block_check.specs.declared.sought.Sought.TheVariants.{Found}
+use Rattle.par_mention.proofs.Rows.{body_is}
 use Rattle.block_check.proofs.Compound.{same_ok}
-use Rattle.block_check.proofs.Seeking.{Left, seeks_first, seeks_second, seeks_next, drop_item, begins_left, goes_left, ends_left, passed_parts}
+use Rattle.block_check.proofs.Seeking.{seeks_first, seeks_second, seeks_next, drop_item, goes_left, ends_left, passed_parts}
 use Rattle.block_check.proofs.search.+seek.Goals as goal
 
 pub seek-returns : goal.seek-returns

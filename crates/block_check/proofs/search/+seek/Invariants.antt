@@ -1,5 +1,4 @@
-use Rattle.std.proofs.Common.{◌≡◌, ◌+◌, take, drop, length}
-use Rattle.std.specs.Prelude.{slice_get}
+use Rattle.std.proofs.Common.{drop}
 use Rattle.par_tree.specs.View.{body_tree}
 use Rattle.block_check.specs.Shown.{env_shown}
 use Rattle.block_check.specs.Forks.{forks_in_body}

@@ -1,12 +1,12 @@
-use Rattle.std.proofs.Common.{◌≡◌, ◌∙◌, ℕ, Result, Ok, arith, length, ap, sym, subst}
+use Rattle.std.proofs.Common.{◌≡◌, ◌∙◌, Result, Ok, arith, length, ap, sym, subst}
 use Rattle.std.proofs.lemmas.Grind.{common_steps}
 use Rattle.std.proofs.lemmas.List.{length-map}
 use Rattle.par_tree.specs.Tree.{Body}
 use Rattle.par_tree.specs.View.{name_tree, expr_tree, stmt_tree, body_tree}
 use Rattle.par_ownership.specs.Environment.{Environment, with_entry, lent_entry, opened, held_in_both}
-use Rattle.par_ownership.specs.Walk.{Refusal, guarded, ended, walk, walk_all, expr_refusal, block_refusal, fresh_refusal, branches_refusal, arms_refusal}
-use Rattle.block_check.specs.Shown.{entry_shown, entries_shown, env_shown, funcs_tree, rows_tree, split_opened, Walks}
-use Rattle.block_check.proofs.Rows.{body_is}
+use Rattle.par_ownership.specs.Walk.{Refusal, ended, walk, walk_all, expr_refusal, block_refusal, fresh_refusal, branches_refusal}
+use Rattle.block_check.specs.Shown.{entry_shown, entries_shown, env_shown, funcs_tree, rows_tree, Walks}
+use Rattle.par_mention.proofs.Rows.{body_is}
 use Rattle.block_check.proofs.Compound.{copied, walked_if, walked_while, walked_par, walked_split}
 use Rattle.block_check.proofs.statements.+statement.Goals as goal
 
