@@ -6,10 +6,8 @@ use Rattle.par_tree.specs.View.{func_tree}
 use Rattle.par_tree.specs.declared.func.Func.{Func}
 use Rattle.block_check.specs.Shown.{funcs_tree}
 use Rattle.block_check.specs.Forks.{with_params}
-use Rattle.std.specs.Prelude.{Result, Ok, Err, IfOk}
 use Rattle.std.specs.declared.vec.Vec.{Vec}
 use Rattle.std.specs.declared.alloc.Global.{Global}
-use Rattle.std.specs.declared.alloc.AllocError.{AllocError}
 use Rattle.par_tree.specs.View.{program_tree}
 use Rattle.par_tree.specs.declared.program.Program.{Program as RustProgram}
 use Rattle.par_ownership.specs.Ownership.{main_name}
@@ -25,7 +23,7 @@ use Rattle.accepted_program.specs.Written.{param_names}
 use Rattle.frame_code.specs.Lowered.{AreSlots, IsReturn}
 use Rattle.frame_code.specs.declared.code_ret.CodeRet.{CodeRet}
 use Rattle.frame_code.specs.Table.{Grown, IsBody}
-use Rattle.frame_code.specs.Codes.{IsFunc, AreFuncs, function_names, IsCodeOf}
+use Rattle.frame_code.specs.Codes.{IsFunc, AreFuncs, function_names, nodes_of, funcs_of, main_of, IsCodeOf}
 use Rattle.frame_code.specs.declared.node.Node.{Node}
 use Rattle.frame_code.specs.declared.func_code.FuncCode.{FuncCode}
 use Rattle.frame_code.proofs.Tables.{body_kept, keeps_grown}
@@ -66,21 +64,15 @@ pub gathered_end : (functions : List Name) (now : List Node) (whole : List Tree.
 gathered_end functions now whole codes w = subst (λ v. AreFuncs now functions whole v) (append-nil codes) (w.continues now (grown_itself now) [] tt)
 
 -- the table of a program, from its functions and the number of `main`
-pub code_made : (p : RustProgram) (fs : List Func) (nodes : Vec Node Global) (codes : Vec FuncCode Global) (m : ℕ) (r : Result Code AllocError) → fs ≡ p.funcs.items
-    → AreFuncs nodes.items (func_names fs) (funcs_tree fs) codes.items → IsSlot (func_names fs) m main_name
-    → IfOk r (λ c. (c.nodes ≡ nodes) × (c.funcs ≡ codes) × (c.main ≡ m)) → IfOk r (λ c. IsCodeOf (program_tree p) c)
-code_made p fs nodes codes m (Ok c) same funcs main h = record {
+pub code_made : {c : Code} (p : RustProgram) (fs : List Func) → fs ≡ p.funcs.items → AreFuncs (nodes_of c) (func_names fs) (funcs_tree fs) (funcs_of c) → IsSlot (func_names fs) (main_of c) main_name → IsCodeOf (program_tree p) c
+code_made {c} p fs same funcs main = record {
   functions =
-      subst (λ (t : Vec Node Global). AreFuncs t.items (function_names (program_tree p)) (program_tree p) c.funcs.items) (sym h.0)
-      (subst (λ (v : Vec FuncCode Global). AreFuncs nodes.items (function_names (program_tree p)) (program_tree p) v.items) (sym h.1)
-      (subst (λ names. AreFuncs nodes.items names (funcs_tree p.funcs.items) codes.items) (names_are p.funcs.items)
-      (subst (λ (gs : List Func). AreFuncs nodes.items (func_names gs) (funcs_tree gs) codes.items) same funcs)));
+      subst (λ names. AreFuncs (nodes_of c) names (funcs_tree p.funcs.items) (funcs_of c)) (names_are p.funcs.items)
+      (subst (λ (gs : List Func). AreFuncs (nodes_of c) (func_names gs) (funcs_tree gs) (funcs_of c)) same funcs);
   main =
-      subst (λ n. IsSlot (function_names (program_tree p)) n main_name) (sym h.2)
-      (subst (λ names. IsSlot names m main_name) (names_are p.funcs.items)
-      (subst (λ (gs : List Func). IsSlot (func_names gs) m main_name) same main));
+      subst (λ names. IsSlot names (main_of c) main_name) (names_are p.funcs.items)
+      (subst (λ (gs : List Func). IsSlot (func_names gs) (main_of c) main_name) same main);
 }
-code_made p fs nodes codes m (Err e) same funcs main h = tt
 
 -- a function, from its parts
 pub func_made : (functions : List Name) (f : Func) (start new : List Node) (env : Environment) (fs ns : List Name) (slots : ℕ) (ps : List Param) (bs : List Stmt) (params body : Vec ℕ Global) (ret : Option CodeRet)

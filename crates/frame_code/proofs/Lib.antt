@@ -4,3 +4,9 @@ pub mod Tables
 pub mod Naming
 pub mod Gathering
 pub mod Distinct
+pub mod Having
+pub mod Weights
+pub mod Covering
+pub mod Accepted
+pub mod Showing
+pub mod Alike

@@ -61,19 +61,19 @@ keeps_trans : (low : ℕ) (t u w : List Node) → KeepsFrom low t u → KeepsFro
 keeps_trans low t u w a b = record { keeps = λ m v h e. b.keeps m v h (a.keeps m v h e) }
 
 -- facts of the numbers inside a node
-AsIf-map : (names : List Name) (e : Expr) (P Q R S : List ℕ → Type 0) (kind : NodeKind) → ((ns : List ℕ) → P ns → R ns) → ((ns : List ℕ) → Q ns → S ns) → AsIf names e P Q kind → AsIf names e R S kind
+pub AsIf-map : (names : List Name) (e : Expr) (P Q R S : List ℕ → Type 0) (kind : NodeKind) → ((ns : List ℕ) → P ns → R ns) → ((ns : List ℕ) → Q ns → S ns) → AsIf names e P Q kind → AsIf names e R S kind
 AsIf-map names e P Q R S (k.If c a b) f g h = (h.0, f a.items h.1, g b.items h.2)
 AsIf-map names e P Q R S _ f g h = absurd h
 
-AsWhile-map : (names : List Name) (e : Expr) (P R : List ℕ → Type 0) (kind : NodeKind) → ((ns : List ℕ) → P ns → R ns) → AsWhile names e P kind → AsWhile names e R kind
+pub AsWhile-map : (names : List Name) (e : Expr) (P R : List ℕ → Type 0) (kind : NodeKind) → ((ns : List ℕ) → P ns → R ns) → AsWhile names e P kind → AsWhile names e R kind
 AsWhile-map names e P R (k.While c a) f h = (h.0, f a.items h.1)
 AsWhile-map names e P R _ f h = absurd h
 
-AsBoth-map : (names : List Name) (env : Environment) (left : Body) (P Q R S : List ℕ → Type 0) (kind : NodeKind) → ((ns : List ℕ) → P ns → R ns) → ((ns : List ℕ) → Q ns → S ns) → AsBoth names env left P Q kind → AsBoth names env left R S kind
+pub AsBoth-map : (names : List Name) (env : Environment) (left : Body) (P Q R S : List ℕ → Type 0) (kind : NodeKind) → ((ns : List ℕ) → P ns → R ns) → ((ns : List ℕ) → Q ns → S ns) → AsBoth names env left P Q kind → AsBoth names env left R S kind
 AsBoth-map names env left P Q R S (k.Both a b xs ys) f g h = (f a.items h.0, g b.items h.1, h.2, h.3)
 AsBoth-map names env left P Q R S _ f g h = absurd h
 
-AsSplit-map : (names : List Name) (b : Name) (e : Expr) (l r : Name) (P R : List ℕ → Type 0) (kind : NodeKind) → ((ns : List ℕ) → P ns → R ns) → AsSplit names b e l r P kind → AsSplit names b e l r R kind
+pub AsSplit-map : (names : List Name) (b : Name) (e : Expr) (l r : Name) (P R : List ℕ → Type 0) (kind : NodeKind) → ((ns : List ℕ) → P ns → R ns) → AsSplit names b e l r P kind → AsSplit names b e l r R kind
 AsSplit-map names b e l r P R (k.Split s c m n a) f h = (h.0, h.1, h.2, h.3, f a.items h.4)
 AsSplit-map names b e l r P R _ f h = absurd h
 

@@ -6,3 +6,5 @@ pub mod Scopes
 pub mod Branches
 pub mod Codes
 pub mod Laws
+pub mod Slotted
+pub mod Plain

@@ -2,6 +2,7 @@ ghost use Rattle.std.specs.Prelude.{◌≡◌, IfOk};
 ghost use Rattle.block_check.specs.Shown.{entries_shown, rows_tree};
 ghost use Rattle.frame_code.specs.Scopes.{names_of_scope};
 ghost use Rattle.frame_code.specs.Branches.{SlotsOfBranches};
+ghost use Rattle.frame_code.specs.Slotted.{Covers};
 
 use crate::node::Slots;
 use crate::scope::Scope;
@@ -24,6 +25,7 @@ pub(crate) fn branch_slots<'a>(
     left: &'a Body,
     right: &'a Body,
 ) -> Result<Branches, AllocError>
+    requires { Covers (names_of_scope scope.now) (rows_tree left.now) }
     ensures { IfOk result (SlotsOfBranches (names_of_scope scope.now) (entries_shown visible.now) (rows_tree left.now)) }
 {
     let names = visible.to_vec(alloc)?;

@@ -1,8 +1,10 @@
 ghost use Rattle.std.specs.Prelude.{◌≤◌};
 ghost use Rattle.std.specs.Vec.{vec_len};
 
+use crate::copies::{functions, nodes};
 use crate::func_code::FuncCode;
 use crate::node::Node;
+use std::alloc::{AllocError, Global};
 
 /// A program as a table of nodes, with its functions in the order of the text.
 #[derive(Drop)]
@@ -14,8 +16,9 @@ pub struct Code {
 }
 
 impl Code {
-    ghost use Rattle.std.specs.Prelude.{◌≡◌, ◌==◌, length, slice_get, option_copied};
+    ghost use Rattle.std.specs.Prelude.{◌≡◌, ◌==◌, IfOk, length, slice_get, option_copied};
     ghost use Rattle.frame_code.specs.Codes.{nodes_of, funcs_of, main_of};
+    ghost use Rattle.frame_code.specs.Plain.{code_shown};
 
     /// How many nodes there are.
     pub fn len(&self) -> u32
@@ -50,5 +53,19 @@ impl Code {
         ensures { result ≡ main_of self.now }
     {
         self.main
+    }
+
+    /// A code of the same program: the same nodes, the same functions and the same `main`.
+    ///
+    /// # Errors
+    ///
+    /// There is not enough memory.
+    pub fn copy(&self, alloc: Global) -> Result<Code, AllocError>
+        ensures { IfOk result (λ c. code_shown c ≡ code_shown self.now) }
+    {
+        let nodes = nodes(alloc, &self.nodes)?;
+        let funcs = functions(alloc, &self.funcs)?;
+        let main = self.main;
+        Ok(Code { nodes, funcs, main })
     }
 }

@@ -4,6 +4,7 @@ ghost use Rattle.std.specs.Prelude.{IfOk};
 ghost use Rattle.par_tree.specs.View.{expr_tree, links_tree, target_tree, arg_tree, args_tree, ret_tree, ret_value_tree};
 ghost use Rattle.frame_code.specs.Names.{names_tree};
 ghost use Rattle.frame_code.specs.Lowered.{IsExpr, AreLinks, IsTarget, IsArg, AreArgs, IsReturnValue, IsReturn};
+ghost use Rattle.frame_code.specs.Slotted.{HasExpr, HasLinks, HasTarget, HasArg, HasArgs, HasValue, HasReturn};
 
 use crate::code_arg::{CodeArg, CodeArgs};
 use crate::code_expr::CodeExpr;
@@ -22,16 +23,17 @@ pub(crate) fn expression(
     names: &SlotNames,
     expr: &Expr,
 ) -> Result<CodeExpr, AllocError>
+    requires { HasExpr (names_tree names.now.names.items) (expr_tree expr.now) }
     ensures { IfOk result (λ c. IsExpr (names_tree names.now.names.items) c (expr_tree expr.now)) }
 {
     match expr {
         Expr::Num(number) => Ok(CodeExpr::Num(*number)),
-        Expr::Var(name) => Ok(CodeExpr::Var(names.slot(name)?)),
+        Expr::Var(name) => Ok(CodeExpr::Var(names.slot(name))),
         Expr::Get(name, index) => {
             let index = expression(alloc, names, index)?;
-            Ok(CodeExpr::Get(names.slot(name)?, Box::new(alloc, index)?))
+            Ok(CodeExpr::Get(names.slot(name), Box::new(alloc, index)?))
         }
-        Expr::Len(name) => Ok(CodeExpr::Len(names.slot(name)?)),
+        Expr::Len(name) => Ok(CodeExpr::Len(names.slot(name))),
         Expr::Neg(operand) => {
             let operand = expression(alloc, names, operand)?;
             Ok(CodeExpr::Neg(Box::new(alloc, operand)?))
@@ -59,6 +61,7 @@ pub(crate) fn expression(
 /// The links of a chain.
 #[cycle(expression)]
 fn links(alloc: Global, names: &SlotNames, rest: &[Link]) -> Result<CodeRest, AllocError>
+    requires { HasLinks (names_tree names.now.names.items) (links_tree rest.now) }
     ensures { IfOk result (λ v. AreLinks (names_tree names.now.names.items) v.items (links_tree rest.now)) }
 {
     let mut found = Vec::new(alloc);
@@ -73,24 +76,26 @@ fn links(alloc: Global, names: &SlotNames, rest: &[Link]) -> Result<CodeRest, Al
 }
 
 /// The target of a call.
-pub(crate) fn target(names: &SlotNames, target: &Target) -> Result<CodeTarget, AllocError>
-    ensures { IfOk result (λ c. IsTarget (names_tree names.now.names.items) c (target_tree target.now)) }
+pub(crate) fn target(names: &SlotNames, target: &Target) -> CodeTarget
+    requires { HasTarget (names_tree names.now.names.items) (target_tree target.now) }
+    ensures { IsTarget (names_tree names.now.names.items) result (target_tree target.now) }
 {
     match target {
-        Target::Unused => Ok(CodeTarget::Unused),
-        Target::Int(name) => Ok(CodeTarget::Int(names.slot(name)?)),
-        Target::Own(name) => Ok(CodeTarget::Own(names.slot(name)?)),
+        Target::Unused => CodeTarget::Unused,
+        Target::Int(name) => CodeTarget::Int(names.slot(name)),
+        Target::Own(name) => CodeTarget::Own(names.slot(name)),
     }
 }
 
 /// An argument of a call.
 fn argument(alloc: Global, names: &SlotNames, arg: &Arg) -> Result<CodeArg, AllocError>
+    requires { HasArg (names_tree names.now.names.items) (arg_tree arg.now) }
     ensures { IfOk result (λ c. IsArg (names_tree names.now.names.items) c (arg_tree arg.now)) }
 {
     match arg {
         Arg::Value(expr) => Ok(CodeArg::Value(expression(alloc, names, expr)?)),
-        Arg::Lend(name) => Ok(CodeArg::Lend(names.slot(name)?)),
-        Arg::Give(name) => Ok(CodeArg::Give(names.slot(name)?)),
+        Arg::Lend(name) => Ok(CodeArg::Lend(names.slot(name))),
+        Arg::Give(name) => Ok(CodeArg::Give(names.slot(name))),
     }
 }
 
@@ -100,6 +105,7 @@ pub(crate) fn arguments(
     names: &SlotNames,
     args: &[Arg],
 ) -> Result<CodeArgs, AllocError>
+    requires { HasArgs (names_tree names.now.names.items) (args_tree args.now) }
     ensures { IfOk result (λ v. AreArgs (names_tree names.now.names.items) v.items (args_tree args.now)) }
 {
     let mut found = Vec::new(alloc);
@@ -115,11 +121,12 @@ fn returned_value(
     names: &SlotNames,
     value: &RetValue,
 ) -> Result<CodeRetValue, AllocError>
+    requires { HasValue (names_tree names.now.names.items) (ret_value_tree value.now) }
     ensures { IfOk result (λ c. IsReturnValue (names_tree names.now.names.items) c (ret_value_tree value.now)) }
 {
     match value {
         RetValue::Int(expr) => Ok(CodeRetValue::Int(expression(alloc, names, expr)?)),
-        RetValue::Own(name) => Ok(CodeRetValue::Own(names.slot(name)?)),
+        RetValue::Own(name) => Ok(CodeRetValue::Own(names.slot(name))),
     }
 }
 
@@ -129,6 +136,7 @@ pub(crate) fn returned(
     names: &SlotNames,
     ret: &Option<Ret>,
 ) -> Result<Option<CodeRet>, AllocError>
+    requires { HasReturn (names_tree names.now.names.items) (ret_tree ret.now) }
     ensures { IfOk result (λ c. IsReturn (names_tree names.now.names.items) c (ret_tree ret.now)) }
 {
     match ret {

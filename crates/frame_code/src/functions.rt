@@ -1,6 +1,6 @@
 //! Functions as code.
 
-ghost use Rattle.std.specs.Prelude.{◌≡◌, [], IfOk, length};
+ghost use Rattle.std.specs.Prelude.{◌≡◌, ◌≤◌, ◌+◌, [], IfOk, length};
 ghost use Rattle.par_tree.specs.View.{params_tree, func_tree};
 ghost use Rattle.accepted_program.specs.Written.{param_names};
 ghost use Rattle.block_check.specs.Shown.{env_shown, funcs_tree};
@@ -10,6 +10,8 @@ ghost use Rattle.frame_code.specs.Lowered.{AreSlots};
 ghost use Rattle.frame_code.specs.Scopes.{func_names, functions_of, names_of_scope};
 ghost use Rattle.frame_code.specs.Table.{Grown};
 ghost use Rattle.frame_code.specs.Codes.{IsFunc, AreFuncs};
+ghost use Rattle.frame_code.specs.Slotted.{HasAll, HasFunc, CanBeLowered, most_slots, most_nodes};
+ghost use Rattle.program_sizes.specs.Sizes.{body_size, functions_size};
 
 use crate::declared::slot_names;
 use crate::expressions::returned;
@@ -18,7 +20,7 @@ use crate::node::{Node, Slots};
 use crate::scope::Scope;
 use crate::slot_names::SlotNames;
 use crate::statements::list;
-use block_check::{Entry, with_params};
+use block_check::{Entry, Fail, with_params};
 use par_tree::{Func, Param};
 use std::alloc::{AllocError, Global};
 
@@ -28,26 +30,30 @@ fn at_start<'a>(alloc: Global, func: &'a Func) -> Result<Vec<Entry<'a>>, AllocEr
 {
     match with_params(func.line, Vec::new(alloc), &func.params) {
         Ok(visible) => Ok(visible),
-        Err(_) => Err(AllocError),
+        Err(Fail::Memory) => Err(AllocError),
+        Err(Fail::Refused(_)) => unreachable!(),
     }
 }
 
 /// The slots of parameters.
 fn param_slots(alloc: Global, names: &SlotNames, params: &[Param]) -> Result<Slots, AllocError>
+    requires { HasAll (names_tree names.now.names.items) (param_names (params_tree params.now)) }
     ensures { IfOk result (λ v. AreSlots (names_tree names.now.names.items) v.items (param_names (params_tree params.now))) }
 {
     let mut found = Vec::new(alloc);
     for param in params {
-        found.push(names.slot(&param.name)?)?;
+        found.push(names.slot(&param.name))?;
     }
     Ok(found)
 }
 
 /// With what a function's body is lowered.
 fn scope_of<'a>(alloc: Global, funcs: &'a [Func], func: &Func) -> Result<Scope<'a>, AllocError>
+    requires few { length funcs.now ≤ most_nodes }
+    requires slots { length (slot_names (func_tree func.now)) ≤ most_slots }
     ensures { IfOk result (λ s. (functions_of s ≡ func_names funcs.now) × (names_of_scope s ≡ slot_names (func_tree func.now))) }
 {
-    let names = SlotNames::of(slot_names(alloc, func)?)?;
+    let names = SlotNames::of(slot_names(alloc, func)?);
     Ok(Scope { funcs, names })
 }
 
@@ -58,7 +64,11 @@ fn lowered(
     func: &Func,
     nodes: Vec<Node>,
 ) -> Result<(Vec<Node>, FuncCode), AllocError>
-    ensures { IfOk result (λ r. Grown nodes.items r.0.items × IsFunc r.0.items (func_names funcs.now) (func_tree func.now) r.1) }
+    requires few { length funcs.now ≤ most_nodes }
+    requires named { HasFunc (func_names funcs.now) (func_tree func.now) }
+    requires room { length nodes.items + body_size (func_tree func.now).body ≤ most_nodes }
+    ensures count { IfOk result (λ r. length r.0.items ≡ length nodes.items + body_size (func_tree func.now).body) }
+    ensures made { IfOk result (λ r. Grown nodes.items r.0.items × IsFunc r.0.items (func_names funcs.now) (func_tree func.now) r.1) }
 {
     let scope = scope_of(alloc, funcs, func)?;
     let visible = at_start(alloc, func)?;
@@ -77,7 +87,9 @@ fn lowered(
 
 /// All functions.
 pub(crate) fn all(alloc: Global, funcs: &[Func]) -> Result<(Vec<Node>, Vec<FuncCode>), AllocError>
-    ensures { IfOk result (λ r. AreFuncs r.0.items (func_names funcs.now) (funcs_tree funcs.now) r.1.items) }
+    requires { CanBeLowered (func_names funcs.now) (funcs_tree funcs.now) }
+    ensures count { IfOk result (λ r. length r.0.items ≡ functions_size (funcs_tree funcs.now)) }
+    ensures made { IfOk result (λ r. AreFuncs r.0.items (func_names funcs.now) (funcs_tree funcs.now) r.1.items) }
 {
     let mut nodes = Vec::new(alloc);
     let mut codes = Vec::new(alloc);

@@ -2,8 +2,9 @@
 //!
 //! This layer turns an accepted program into a table of statements, in which a name is the number of a
 //! slot of its function's frame and a list of statements is a list of node numbers. It stands on the
-//! checker and on the tree of programs. Its one theorem is that the table, read with names in place of
-//! slots and of function numbers, is the program.
+//! checker, on the laws of accepted programs and on the tree of programs. Its one theorem is that the
+//! table, read with names in place of slots and of function numbers, is the program. Want of memory is
+//! its one free answer.
 #![tactic(auto)]
 
 mod branches;
@@ -14,9 +15,11 @@ mod code_link;
 mod code_ret;
 mod code_ret_value;
 mod code_target;
+mod copies;
 mod declared;
 mod expressions;
 mod func_code;
+mod function_numbers;
 mod functions;
 mod laws;
 mod lowering;
@@ -34,10 +37,12 @@ pub use code_ret::CodeRet;
 pub use code_ret_value::CodeRetValue;
 pub use code_target::CodeTarget;
 pub use func_code::FuncCode;
-pub use laws::slot_names_differ;
+pub use laws::{same_table_same_program, slot_names_differ};
 pub use lowering::lower;
 pub use node::{Node, NodeList, Slots};
 pub use node_kind::NodeKind;
 
+#[cfg(test)]
+mod read_back;
 #[cfg(test)]
 mod tests;

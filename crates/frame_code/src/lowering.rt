@@ -1,23 +1,24 @@
-ghost use Rattle.std.specs.Prelude.{◌≡◌, IfOk, length};
+ghost use Rattle.std.specs.Prelude.{◌≤◌, IfOk, length};
 ghost use Rattle.par_tree.specs.View.{program_tree};
 ghost use Rattle.par_ownership.specs.Ownership.{main_name};
 ghost use Rattle.block_check.specs.Checked.{program_of};
 ghost use Rattle.frame_code.specs.Names.{IsSlot};
 ghost use Rattle.frame_code.specs.Scopes.{func_names};
 ghost use Rattle.frame_code.specs.Codes.{IsCodeOf};
+ghost use Rattle.frame_code.specs.Slotted.{Has, most_nodes};
 
 use crate::code::Code;
-use crate::func_code::FuncCode;
+use crate::function_numbers::number_of;
 use crate::functions::all;
-use crate::node::Node;
-use crate::scope::number_of;
 use block_check::Checked;
 use par_tree::Func;
 use std::alloc::{AllocError, Global};
 
 /// The number of `main`.
-fn main_of(funcs: &[Func]) -> Result<u32, AllocError>
-    ensures { IfOk result (λ n. IsSlot (func_names funcs.now) n main_name) }
+fn main_of(funcs: &[Func]) -> u32
+    requires few { length funcs.now ≤ most_nodes }
+    requires there { Has (func_names funcs.now) main_name }
+    ensures { IsSlot (func_names funcs.now) result main_name }
 {
     number_of(funcs, b"main".as_slice())
 }
@@ -30,24 +31,16 @@ fn main_of(funcs: &[Func]) -> Result<u32, AllocError>
 ///
 /// # Errors
 ///
-/// There is not enough memory. A table has room for 4,294,967,295 nodes and functions, and a frame for
-/// 65,535 slots.
+/// There is not enough memory.
 pub fn lower(alloc: Global, program: Checked) -> Result<Code, AllocError>
     ensures { IfOk result (λ c. IsCodeOf (program_tree (program_of program)) c) }
 {
     let funcs = &program.program().funcs;
     let (nodes, codes) = all(alloc, funcs)?;
-    let main = main_of(funcs)?;
-    coded(nodes, codes, main)
-}
-
-/// A table of as many nodes as have numbers.
-fn coded(nodes: Vec<Node>, funcs: Vec<FuncCode>, main: u32) -> Result<Code, AllocError>
-    ensures { IfOk result (λ c. (c.nodes ≡ nodes) × (c.funcs ≡ funcs) × (c.main ≡ main)) }
-{
-    if nodes.len() <= 4294967295 {
-        Ok(Code { nodes, funcs, main })
-    } else {
-        Err(AllocError)
-    }
+    let main = main_of(funcs);
+    Ok(Code {
+        nodes,
+        funcs: codes,
+        main,
+    })
 }

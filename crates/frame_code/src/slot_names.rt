@@ -16,16 +16,14 @@ impl SlotNames {
     ghost use Rattle.par_tree.specs.View.{name_tree};
     ghost use Rattle.frame_code.specs.Names.{names_tree, IsSlot};
     ghost use Rattle.frame_code.specs.Lowered.{AreSlots};
+    ghost use Rattle.frame_code.specs.Slotted.{Has, HasAll};
 
     /// Names that are the slots of a function.
-    pub(crate) fn of(names: Vec<Name>) -> Result<SlotNames, AllocError>
-        ensures { IfOk result (λ s. s.names ≡ names) }
+    pub(crate) fn of(names: Vec<Name>) -> SlotNames
+        requires { vec_len names ≤ 65535 }
+        ensures { result.names ≡ names }
     {
-        if names.len() <= 65535 {
-            Ok(SlotNames { names })
-        } else {
-            Err(AllocError)
-        }
+        SlotNames { names }
     }
 
     /// How many there are.
@@ -36,24 +34,26 @@ impl SlotNames {
     }
 
     /// The slot of a name.
-    pub(crate) fn slot(&self, name: &Name) -> Result<u16, AllocError>
-        ensures { IfOk result (λ s. IsSlot (names_tree self.now.names.items) s (name_tree name.now)) }
+    pub(crate) fn slot(&self, name: &Name) -> u16
+        requires { Has (names_tree self.now.names.items) (name_tree name.now) }
+        ensures { IsSlot (names_tree self.now.names.items) result (name_tree name.now) }
     {
         for i in 0..self.names.len() {
             if self.names[i].bytes == name.bytes {
-                return Ok(i as u16);
+                return i as u16;
             }
         }
-        Err(AllocError)
+        unreachable!()
     }
 
     /// The slots of names.
     pub(crate) fn slots(&self, alloc: Global, wanted: &[Name]) -> Result<Vec<u16>, AllocError>
+        requires { HasAll (names_tree self.now.names.items) (names_tree wanted.now) }
         ensures { IfOk result (λ v. AreSlots (names_tree self.now.names.items) v.items (names_tree wanted.now)) }
     {
         let mut found = Vec::new(alloc);
         for name in wanted {
-            found.push(self.slot(name)?)?;
+            found.push(self.slot(name))?;
         }
         Ok(found)
     }

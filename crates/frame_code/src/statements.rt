@@ -1,18 +1,21 @@
 //! Statements as nodes.
 
-ghost use Rattle.std.specs.Prelude.{◌≡◌, ◌<◌, ◌+◌, ◌++◌, [], ◌∷◌, IfOk, length, slice_set};
+ghost use Rattle.std.specs.Prelude.{◌≡◌, ◌<◌, ◌≤◌, ◌+◌, ◌++◌, [], ◌∷◌, IfOk, length, slice_set};
 ghost use Rattle.par_tree.specs.View.{name_tree, expr_tree, target_tree, args_tree, stmt_tree, body_tree};
 ghost use Rattle.block_check.specs.Shown.{env_shown, entries_shown, rows_tree};
 ghost use Rattle.block_check.specs.Forks.{declared_by, split_names};
 ghost use Rattle.frame_code.specs.Scopes.{functions_of, names_of_scope};
 ghost use Rattle.frame_code.specs.Table.{Grown, IsStmt, IsBody, AsLet, AsAssign, AsPut, AsAlloc, AsFree, AsCall};
+ghost use Rattle.frame_code.specs.Slotted.{Has, HasExpr, HasTarget, HasArgs, HasStmt, HasBody, most_nodes};
+ghost use Rattle.program_sizes.specs.Sizes.{stmt_size, body_size};
 
 use crate::branches::branch_slots;
 use crate::expressions::{arguments, expression, target};
+use crate::function_numbers::function;
 use crate::node::{Node, NodeList};
 use crate::node_kind::NodeKind;
-use crate::scope::{Scope, function};
-use block_check::{Entry, declared_by, with_parts};
+use crate::scope::Scope;
+use block_check::{Entry, Fail, declared_by, with_parts};
 use par_tree::{Arg, Body, Expr, Name, Stmt, StmtKind, Target};
 use std::alloc::{AllocError, Global};
 
@@ -26,7 +29,8 @@ fn behind<'a>(
 {
     match declared_by(line, visible, kind) {
         Ok(visible) => Ok(visible),
-        Err(_) => Err(AllocError),
+        Err(Fail::Memory) => Err(AllocError),
+        Err(Fail::Refused(_)) => unreachable!(),
     }
 }
 
@@ -41,7 +45,8 @@ fn inside<'a>(
 {
     match with_parts(line, visible, left, right) {
         Ok(visible) => Ok(visible),
-        Err(_) => Err(AllocError),
+        Err(Fail::Memory) => Err(AllocError),
+        Err(Fail::Refused(_)) => unreachable!(),
     }
 }
 
@@ -53,13 +58,11 @@ fn copied<'a>(alloc: Global, visible: &[Entry<'a>]) -> Result<Vec<Entry<'a>>, Al
 }
 
 /// The number of the next node.
-fn next_number(nodes: &[Node]) -> Result<u32, AllocError>
-    ensures { IfOk result (λ n. n ≡ length nodes.now) }
+fn next_number(nodes: &[Node]) -> u32
+    requires { length nodes.now ≤ most_nodes }
+    ensures { result ≡ length nodes.now }
 {
-    match u32::try_from(nodes.len()) {
-        Ok(number) => Ok(number),
-        Err(_) => Err(AllocError),
-    }
+    nodes.len() as u32
 }
 
 /// Keeps a place for a node, behind which what stands inside the node is put.
@@ -84,10 +87,11 @@ fn placed(mut nodes: Vec<Node>, number: u32, node: Node) -> Vec<Node>
 
 /// `let name = value;`
 fn let_node(alloc: Global, scope: &Scope, name: &Name, value: &Expr) -> Result<NodeKind, AllocError>
+    requires { Has (names_of_scope scope.now) (name_tree name.now) × HasExpr (names_of_scope scope.now) (expr_tree value.now) }
     ensures { IfOk result (AsLet (names_of_scope scope.now) (name_tree name.now) (expr_tree value.now)) }
 {
     let value = expression(alloc, &scope.names, value)?;
-    let name = scope.names.slot(name)?;
+    let name = scope.names.slot(name);
     Ok(NodeKind::Let { name, value })
 }
 
@@ -98,10 +102,11 @@ fn assign_node(
     name: &Name,
     value: &Expr,
 ) -> Result<NodeKind, AllocError>
+    requires { Has (names_of_scope scope.now) (name_tree name.now) × HasExpr (names_of_scope scope.now) (expr_tree value.now) }
     ensures { IfOk result (AsAssign (names_of_scope scope.now) (name_tree name.now) (expr_tree value.now)) }
 {
     let value = expression(alloc, &scope.names, value)?;
-    let name = scope.names.slot(name)?;
+    let name = scope.names.slot(name);
     Ok(NodeKind::Assign { name, value })
 }
 
@@ -113,11 +118,12 @@ fn put_node(
     index: &Expr,
     value: &Expr,
 ) -> Result<NodeKind, AllocError>
+    requires { Has (names_of_scope scope.now) (name_tree block.now) × HasExpr (names_of_scope scope.now) (expr_tree index.now) × HasExpr (names_of_scope scope.now) (expr_tree value.now) }
     ensures { IfOk result (AsPut (names_of_scope scope.now) (name_tree block.now) (expr_tree index.now) (expr_tree value.now)) }
 {
     let index = expression(alloc, &scope.names, index)?;
     let value = expression(alloc, &scope.names, value)?;
-    let block = scope.names.slot(block)?;
+    let block = scope.names.slot(block);
     Ok(NodeKind::Put {
         block,
         index,
@@ -132,10 +138,11 @@ fn alloc_node(
     name: &Name,
     size: &Expr,
 ) -> Result<NodeKind, AllocError>
+    requires { Has (names_of_scope scope.now) (name_tree name.now) × HasExpr (names_of_scope scope.now) (expr_tree size.now) }
     ensures { IfOk result (AsAlloc (names_of_scope scope.now) (name_tree name.now) (expr_tree size.now)) }
 {
     let size = expression(alloc, &scope.names, size)?;
-    let name = scope.names.slot(name)?;
+    let name = scope.names.slot(name);
     Ok(NodeKind::Alloc { name, size })
 }
 
@@ -147,10 +154,11 @@ fn call_node(
     name: &Name,
     args: &[Arg],
 ) -> Result<NodeKind, AllocError>
+    requires { HasTarget (names_of_scope scope.now) (target_tree receiver.now) × Has (functions_of scope.now) (name_tree name.now) × HasArgs (names_of_scope scope.now) (args_tree args.now) }
     ensures { IfOk result (AsCall (functions_of scope.now) (names_of_scope scope.now) (target_tree receiver.now) (name_tree name.now) (args_tree args.now)) }
 {
-    let target = target(&scope.names, receiver)?;
-    let func = function(scope, name)?;
+    let target = target(&scope.names, receiver);
+    let func = function(scope, name);
     let args = arguments(alloc, &scope.names, args)?;
     Ok(NodeKind::Call { target, func, args })
 }
@@ -165,7 +173,9 @@ fn statement<'a>(
     line: u32,
     kind: &'a StmtKind,
 ) -> Result<(Vec<Node>, NodeKind), AllocError>
-    ensures { IfOk result (λ r. Grown nodes.items r.0.items × IsStmt r.0.items (functions_of scope.now) (names_of_scope scope.now) (entries_shown visible.now) line (stmt_tree kind.now) (length nodes.items) r.1) }
+    requires { HasStmt (functions_of scope.now) (names_of_scope scope.now) (stmt_tree kind.now) × (length nodes.items + stmt_size (stmt_tree kind.now) ≤ most_nodes + 1) }
+    ensures count { IfOk result (λ r. length r.0.items + 1 ≡ length nodes.items + stmt_size (stmt_tree kind.now)) }
+    ensures table { IfOk result (λ r. Grown nodes.items r.0.items × IsStmt r.0.items (functions_of scope.now) (names_of_scope scope.now) (entries_shown visible.now) line (stmt_tree kind.now) (length nodes.items) r.1) }
 {
     match kind {
         StmtKind::Let { name, value } => Ok((nodes, let_node(alloc, scope, name, value)?)),
@@ -177,7 +187,7 @@ fn statement<'a>(
         } => Ok((nodes, put_node(alloc, scope, block, index, value)?)),
         StmtKind::Alloc { name, size } => Ok((nodes, alloc_node(alloc, scope, name, size)?)),
         StmtKind::Free { name } => {
-            let name = scope.names.slot(name)?;
+            let name = scope.names.slot(name);
             Ok((nodes, NodeKind::Free { name }))
         }
         StmtKind::Call { target, func, args } => {
@@ -220,9 +230,9 @@ fn statement<'a>(
             let at = expression(alloc, &scope.names, at)?;
             let inner = inside(line, visible.to_vec(alloc)?, left, right)?;
             let (nodes, body) = owned(alloc, scope, &inner, nodes, body)?;
-            let block = scope.names.slot(block)?;
-            let left = scope.names.slot(left)?;
-            let right = scope.names.slot(right)?;
+            let block = scope.names.slot(block);
+            let left = scope.names.slot(left);
+            let right = scope.names.slot(right);
             let kind = NodeKind::Split {
                 block,
                 at,
@@ -244,7 +254,9 @@ fn owned<'a>(
     nodes: Vec<Node>,
     body: &'a Body,
 ) -> Result<(Vec<Node>, NodeList), AllocError>
-    ensures { IfOk result (λ r. Grown nodes.items r.0.items × IsBody r.0.items (functions_of scope.now) (names_of_scope scope.now) (entries_shown visible.now) (rows_tree body.now) (length nodes.items) r.1.items) }
+    requires { HasBody (functions_of scope.now) (names_of_scope scope.now) (rows_tree body.now) × (length nodes.items + body_size (rows_tree body.now) ≤ most_nodes) }
+    ensures count { IfOk result (λ r. length r.0.items ≡ length nodes.items + body_size (rows_tree body.now)) }
+    ensures table { IfOk result (λ r. Grown nodes.items r.0.items × IsBody r.0.items (functions_of scope.now) (names_of_scope scope.now) (entries_shown visible.now) (rows_tree body.now) (length nodes.items) r.1.items) }
 {
     let names = copied(alloc, visible)?;
     list(alloc, scope, names, nodes, body)
@@ -259,13 +271,15 @@ pub(crate) fn list<'a>(
     nodes: Vec<Node>,
     body: &'a [Stmt],
 ) -> Result<(Vec<Node>, NodeList), AllocError>
-    ensures { IfOk result (λ r. Grown nodes.items r.0.items × IsBody r.0.items (functions_of scope.now) (names_of_scope scope.now) (env_shown visible.entry) (body_tree body.now) (length nodes.items) r.1.items) }
+    requires { HasBody (functions_of scope.now) (names_of_scope scope.now) (body_tree body.now) × (length nodes.items + body_size (body_tree body.now) ≤ most_nodes) }
+    ensures count { IfOk result (λ r. length r.0.items ≡ length nodes.items + body_size (body_tree body.now)) }
+    ensures table { IfOk result (λ r. Grown nodes.items r.0.items × IsBody r.0.items (functions_of scope.now) (names_of_scope scope.now) (env_shown visible.entry) (body_tree body.now) (length nodes.items) r.1.items) }
 {
     let mut numbers = Vec::new(alloc);
     let mut nodes = nodes;
     let mut visible = visible;
     for stmt in body {
-        let number = next_number(&nodes)?;
+        let number = next_number(&nodes);
         let started = reserved(nodes, stmt.line)?;
         let (made, kind) = statement(alloc, scope, &visible, started, stmt.line, &stmt.kind)?;
         let line = stmt.line;

@@ -1,8 +1,10 @@
-use Rattle.std.proofs.Common.{refl, sym, ap, subst, ◌∙◌}
+use Rattle.std.proofs.Common.{rules, refl, sym, ap, subst, ◌∙◌}
 use Rattle.par_tree.specs.View.{expr_tree, links_tree}
 use Rattle.par_tree.proofs.Lists.{expr_tree-chain}
 use Rattle.frame_code.specs.Names.{names_tree}
 use Rattle.frame_code.specs.Lowered.{IsExpr, AreLinks}
+use Rattle.frame_code.proofs.Having.{link_has, chain_has}
+use Rattle.frame_code.proofs.Weights.{links_weight, link_lighter, chain_weight}
 use Rattle.frame_code.proofs.Rows.{chain_is}
 use Rattle.frame_code.proofs.Lists.{continues_end}
 use Rattle.frame_code.proofs.expressions.+expression.Goals as goal
@@ -19,3 +21,16 @@ expression-returns-in_ok-first-in-Chain-2 t c =
 pub links-returns : goal.links-returns
 links-returns t c =
     continues_end (λ cs ls. AreLinks (names_tree c.args.names.now.names.items) cs (links_tree ls)) c.args.rest.now c.loop-link.found.items c.loop-link.link-index c.loop-link-test.false c.loop-link.invariant (refl, tt)
+
+pub expression-links-requires : goal.expression-links-requires
+expression-links-requires t c =
+    let has = chain_has (names_tree c.args.names.now.names.items) c.in-Chain.first c.in-Chain.rest c.args.expr.now c.deref-in-Chain-2.result.now c.in-Chain.is c.deref-in-Chain-2.ensures.value c.requires in
+    let whole = chain_weight c.in-Chain.first c.in-Chain.rest c.args.expr.now c.in-Chain.is in
+    let same = ap (λ ls. links_weight (links_tree ls)) c.deref-in-Chain-2.ensures.value in
+    search rules
+
+pub links-expression-requires : goal.links-expression-requires
+links-expression-requires t c =
+    let has = link_has (names_tree c.args.names.now.names.items) c.args.rest.now c.loop-link.link-index c.link-item.result c.loop-link-test.true c.link-item.is c.requires in
+    let less = link_lighter c.args.rest.now c.loop-link.link-index c.link-item.result c.loop-link-test.true c.link-item.is in
+    search rules
