@@ -1,0 +1,192 @@
+-- What single statements do to the point in the middle of a run where the machine is.
+use Rattle.std.proofs.Common.{inl, inr, ◌≡◌, ℕ, suc, ◌<◌, ◌≤◌, List, [], ◌∷◌, length, ℤ, Bool, true, false, Result, Ok, Err, MatchResult, Option, Some, None, refl, sym, ◌∙◌, ap, subst, arith}
+use Rattle.std.specs.Prelude.{is_some, nat_lt, ◌⊎◌}
+use Rattle.std.proofs.lemmas.Bool.{lt-ltb, le-ltb, le-leb, lt-leb, cases_lt}
+use Rattle.dummy_tree.specs.Leaves.{IsTreeSize}
+use Rattle.dummy_tree.specs.Quotas.{dummies_of}
+use Rattle.dummy_tree.specs.QuotaLaws.{no_dummies}
+use Rattle.dummy_tree.specs.Shapes.{Shape}
+use Rattle.action_order.specs.Runs.{tree_for}
+use Rattle.dag_order.specs.Births.{HasLabel}
+use Rattle.dag_order.specs.declared.birth.Birth.{Birth}
+use Rattle.dag_order.specs.declared.fault.FaultKind.{FaultKind}
+use Rattle.dag_order.specs.declared.fault.FaultKind.TheVariants as faults
+use Rattle.par_tree.specs.Tree.{Name, Expr, Stmt, Body, repeat, done, step}
+use Rattle.par_meaning.specs.Stores.{block_of, block_words}
+use Rattle.par_meaning.specs.Values.{value, is_true}
+use Rattle.par_meaning.specs.States.{Setting, State, began, noting, faulting}
+use Rattle.par_meaning.specs.Run.{actions_of, cut_of, cutting, size_of, names_in, assigns_in}
+use Rattle.par_meaning.specs.Middle.{Frame, Middle, middle, does, statements, tree, allocates, settled_at, allocated, allocated_at, allocating_words_at, allocating_at, before_all, turning_at, round_at, repeating_at, forking_at, both_at, rejoins, cut_at, statement_at, first_at, part_at, frame_at}
+use Rattle.par_store.specs.Effects.{Cuts}
+use Rattle.par_store.specs.Shown.{store_shown}
+use Rattle.par_store.specs.declared.store.Store.{Store as RustStore}
+use Rattle.par_store.specs.declared.stop.Stop.TheVariants as stops
+use Rattle.run_journal.specs.declared.journal.Journal.{Journal}
+use Rattle.run_journal.specs.declared.serial_stop.SerialStop.{SerialStop}
+use Rattle.run_journal.specs.Stops.{OnStop}
+use Rattle.run_journal.specs.Journals.{births_of}
+use Rattle.serial_meaning.specs.declared.machine.Machine.{Machine}
+use Rattle.serial_meaning.specs.declared.runner.Runner.{Runner}
+use Rattle.serial_meaning.specs.declared.thread.Thread.{Thread}
+use Rattle.serial_meaning.specs.Views.{thread_state, Is, IsBeyond}
+use Rattle.serial_meaning.specs.Moving.{AreFrames, At}
+use Rattle.serial_meaning.specs.Cuts.{cut_place, cut_or_fault}
+use Rattle.serial_meaning.proofs.Steps.{by_runner, is_stored, stops_so}
+use Rattle.serial_meaning.proofs.Stack.{at_point, settled_at_ok}
+
+-- a run that keeps up is not beyond its limit
+pub never_beyond : (limit : ℕ) (r : Runner) (s : State) (S : Type 0) (stop : SerialStop) → Is limit r s → OnStop stop (IsBeyond limit s) → OnStop stop S
+never_beyond limit r s S stop is h =
+    stops_so (IsBeyond limit s) S stop
+    (λ beyond. let within : length (actions_of s.items) ≤ limit = is.keeps.within in
+    let more : limit < length (actions_of s.items) = beyond in absurd (omega arith)) h
+
+-- the frames stay, while the thread that runs goes on
+pub at_after : (limit : ℕ) (before : Machine) (after : Runner) (fs : List Frame) (s t : State) → At limit before (middle fs s) → Is limit after t
+    → births_of after.journal ≡ births_of before.runner.journal → At limit (record { frames = before.frames; runner = after }) (middle fs t)
+at_after limit before after fs s t at is born = record {
+  now = is;
+  left = subst (λ (bs : List Birth). AreFrames bs before.frames.items fs) (sym born) at.left;
+}
+
+-- what follows a number of an expression
+pub numbered_at : (limit line : ℕ) (before after : Machine) (r : Result (Unit {0}) SerialStop) (e : Expr) (v : ℤ) (f : ℤ → List Frame → State → Middle)
+    → Ok v ≡ value (store_shown before.runner.thread.store) e → (fs : List Frame) (s : State) (m : Middle) → At limit before (middle fs s) → m ≡ f v fs s
+    → MatchResult r (λ _. At limit after m) (λ stop. OnStop stop (IsBeyond limit m.state))
+    → MatchResult r (λ _. At limit after (settled_at line (value s.store e) f fs s)) (λ stop. OnStop stop (IsBeyond limit (settled_at line (value s.store e) f fs s).state))
+numbered_at limit line before after r e v f is fs s m at same h =
+    at_point limit after r m (settled_at line (value s.store e) f fs s) (same ∙ settled_at_ok limit line before.runner e v f fs s at.now is) h
+
+-- the rounds of a loop
+pub no_turn : (line : ℕ) (e : Expr) (a : Body) (v : ℤ) (fs : List Frame) (s : State) → is_true v ≡ true → s.turns ≡ 0
+    → middle fs (faulting faults.Turns line s) ≡ repeating_at line e a v fs s
+no_turn line e a v fs s goes none =
+    ap (λ (n : ℕ). turning_at n line (before_all a (before_all (step line (repeat e a) done) fs)) fs s) (sym none)
+    ∙ ap (λ (b : Bool). round_at b line e a fs s) (sym goes)
+
+pub one_turn : (line : ℕ) (e : Expr) (a : Body) (v : ℤ) (fs : List Frame) (s : State) (left : ℕ) → is_true v ≡ true → s.turns ≡ suc left
+    → middle (before_all a (before_all (step line (repeat e a) done) fs)) (record s { turns = left }) ≡ repeating_at line e a v fs s
+one_turn line e a v fs s left goes some =
+    ap (λ (n : ℕ). turning_at n line (before_all a (before_all (step line (repeat e a) done) fs)) fs s) (sym some)
+    ∙ ap (λ (b : Bool). round_at b line e a fs s) (sym goes)
+
+-- the thread has other turns left
+pub is_turned : (limit : ℕ) (t u : Thread) (j : Journal) (left : ℕ) → u ≡ record t { turns = left } → (s : State) → Is limit (record { thread = t; journal = j }) s
+    → Is limit (record { thread = u; journal = j }) (record s { turns = left })
+is_turned limit t u j left same s is =
+    by_runner limit t j (λ v. Is limit (record { thread = u; journal = j }) (record v { turns = left }))
+    (λ label items now. record {
+      thread = record {
+        shown = ap (λ (x : Thread). thread_state x label items) (sym same);
+        labelled = subst (λ (x : Thread). HasLabel (births_of j ∷ []) x.id label) (sym same) now.thread.labelled;
+        deep = ap (λ (x : Thread). x.depth) same ∙ now.thread.deep;
+      };
+      keeps = now.keeps;
+    }) s is
+
+-- a block that is cut, and one that cannot be
+pub is_cut : (limit line : ℕ) (b l r : Name) (index : ℤ) (t u : Thread) (j : Journal) (kept : RustStore) → u ≡ record t { store = kept }
+    → Cuts b l r (cut_of (block_of (store_shown t.store).blocks b) index) (store_shown t.store) (Ok tt) (store_shown kept)
+    → (s : State) → Is limit (record { thread = t; journal = j }) s
+    → (true ≡ is_some (cut_place b index s)) × Is limit (record { thread = u; journal = j }) (cut_or_fault line b l r (cut_place b index s) s)
+is_cut limit line b l r index t u j kept same cuts s is =
+    by_runner limit t j (λ w. (true ≡ is_some (cut_place b index w)) × Is limit (record { thread = u; journal = j }) (cut_or_fault line b l r (cut_place b index w) w))
+    (λ label items now. (
+      ap (λ (p : Option ℕ). is_some p) (sym cuts.1),
+      subst (λ (p : Option ℕ). Is limit (record { thread = u; journal = j }) (cut_or_fault line b l r p (thread_state t label items))) (sym cuts.1)
+          (is_stored limit t u j (cutting b l r cuts.0) kept same cuts.2 (thread_state t label items) now),
+    )) s is
+
+pub cut_fails : (limit line : ℕ) (b l r : Name) (index : ℤ) (run : Runner) (kind : FaultKind) (kept : RustStore)
+    → Cuts b l r (cut_of (block_of (store_shown run.thread.store).blocks b) index) (store_shown run.thread.store) (Err (stops.Fault kind)) (store_shown kept)
+    → (s : State) → Is limit run s → (false ≡ is_some (cut_place b index s)) × (faulting faults.Split line s ≡ cut_or_fault line b l r (cut_place b index s) s)
+cut_fails limit line b l r index run kind kept cuts s is =
+    by_runner limit run.thread run.journal (λ w. (false ≡ is_some (cut_place b index w)) × (faulting faults.Split line w ≡ cut_or_fault line b l r (cut_place b index w) w))
+    (λ label items now. (
+      ap (λ (p : Option ℕ). is_some p) (sym cuts.0),
+      ap (λ (p : Option ℕ). cut_or_fault line b l r p (thread_state run.thread label items)) (sym cuts.0),
+    )) s is
+
+-- the point behind the beginning of a `split`
+pub was_cut : (line : ℕ) (b l r : Name) (a : Body) (place : Option ℕ) (fs : List Frame) (s : State) → true ≡ is_some place
+    → middle (before_all a (rejoins b l r ∷ fs)) (cut_or_fault line b l r place s) ≡ cut_at line b l r a place fs s
+was_cut line b l r a (Some at) fs s is = refl
+was_cut line b l r a None fs s is = let never : ⊥ = cc in absurd never
+
+pub not_cut : (line : ℕ) (b l r : Name) (a : Body) (place : Option ℕ) (fs : List Frame) (s : State) → false ≡ is_some place
+    → middle fs (cut_or_fault line b l r place s) ≡ cut_at line b l r a place fs s
+not_cut line b l r a (Some at) fs s is = let never : ⊥ = cc in absurd never
+not_cut line b l r a None fs s is = refl
+
+pub cut_state : (line : ℕ) (b l r : Name) (a : Body) (place : Option ℕ) (fs : List Frame) (s : State) → cut_or_fault line b l r place s ≡ (cut_at line b l r a place fs s).state
+cut_state line b l r a (Some at) fs s = refl
+cut_state line b l r a None fs s = refl
+
+-- a statement that is known
+pub stated : (limit : ℕ) (after : Machine) (r : Result (Unit {0}) SerialStop) (c : Setting) (line : ℕ) (x y : Stmt) → x ≡ y → (fs : List Frame) (s : State)
+    → MatchResult r (λ _. At limit after (statement_at c line y fs s)) (λ stop. OnStop stop (IsBeyond limit (statement_at c line y fs s).state))
+    → MatchResult r (λ _. At limit after (statement_at c line x fs s)) (λ stop. OnStop stop (IsBeyond limit (statement_at c line x fs s).state))
+stated limit after r c line x y same fs s h =
+    at_point limit after r (statement_at c line y fs s) (statement_at c line x fs s) (ap (λ (k : Stmt). statement_at c line k fs s) (sym same)) h
+
+-- a frame that is known
+pub framed : (limit : ℕ) (after : Machine) (r : Result (Unit {0}) SerialStop) (c : Setting) (f g : Frame) → f ≡ g → (fs : List Frame) (s : State)
+    → MatchResult r (λ _. At limit after (frame_at c g fs s)) (λ stop. OnStop stop (IsBeyond limit (frame_at c g fs s).state))
+    → MatchResult r (λ _. At limit after (frame_at c f fs s)) (λ stop. OnStop stop (IsBeyond limit (frame_at c f fs s).state))
+framed limit after r c f g same fs s h =
+    at_point limit after r (frame_at c g fs s) (frame_at c f fs s) (ap (λ (x : Frame). frame_at c x fs s) (sym same)) h
+
+-- the first statement of a list
+pub first_now : (c : Setting) (b : Body) (line : ℕ) (x : Stmt) (rest : Body) (fs : List Frame) (s : State) → b ≡ step line x rest → s.faulted ≡ false
+    → statement_at c line x (before_all rest fs) (noting (began line) s) ≡ part_at c (statements b) fs s
+first_now c b line x rest fs s is goes =
+    ap (λ (t : Bool). first_at t c line x rest fs s) (sym goes) ∙ ap (λ (y : Body). part_at c (statements y) fs s) (sym is)
+
+-- a `par` whose fork may be, and one that stands too deep
+pub both_now : (c : Setting) (line : ℕ) (a b a' b' : Body) (within : Bool) (fs : List Frame) (s : State) → a' ≡ a → b' ≡ b → within ≡ true
+    → forking_at c (names_in a') (assigns_in a') (statements a') (statements b') fs s ≡ both_at within c line a b fs s
+both_now c line a b a' b' within fs s left right is =
+    ap (λ (x : Body). both_at true c line x b' fs s) left ∙ ap (λ (x : Body). both_at true c line a x fs s) right
+    ∙ ap (λ (t : Bool). both_at t c line a b fs s) (sym is)
+
+pub both_never : (c : Setting) (line : ℕ) (a b : Body) (within : Bool) (fs : List Frame) (s : State) → within ≡ false
+    → middle fs (faulting faults.Depth line s) ≡ both_at within c line a b fs s
+both_never c line a b within fs s is = ap (λ (t : Bool). both_at t c line a b fs s) (sym is)
+
+pub forks_within : (limit : ℕ) (r : Runner) (s : State) (most : ℕ) → Is limit r s → r.thread.depth < most → nat_lt (length s.label) most ≡ true
+forks_within limit r s most is few = lt-ltb (length s.label) most (subst (λ (n : ℕ). n < most) is.thread.deep few)
+
+pub forks_beyond : (limit : ℕ) (r : Runner) (s : State) (most : ℕ) → Is limit r s → most ≤ r.thread.depth → nat_lt (length s.label) most ≡ false
+forks_beyond limit r s most is many = le-ltb (length s.label) most (subst (λ (n : ℕ). most ≤ n) is.thread.deep many)
+
+-- an allocation of no length of a block; one that the quota covers; and one behind its tree of dummies
+pub no_size : (c : Setting) (line : ℕ) (b : Name) (v : ℤ) (fs : List Frame) (s : State) → None ≡ size_of v → middle fs (faulting faults.Size line s) ≡ allocating_at c line b v fs s
+no_size c line b v fs s none = ap (λ (o : Option ℕ). allocating_words_at c line b o fs s) none
+
+pub allocated_now : (c : Setting) (line : ℕ) (b : Name) (v : ℤ) (n : ℕ) (fs : List Frame) (s : State) → Some n ≡ size_of v → block_words n ≤ c.quota
+    → middle fs (allocated b n s) ≡ allocating_at c line b v fs s
+allocated_now c line b v n fs s size few =
+    ap (λ (t : Bool). allocated_at t c b n fs s) (sym (le-leb (block_words n) c.quota few))
+    ∙ ap (λ (o : Option ℕ). allocating_words_at c line b o fs s) size
+
+pub allocated_later : (c : Setting) (line : ℕ) (b : Name) (v : ℤ) (n : ℕ) (shape : Shape) (fs : List Frame) (s : State) → Some n ≡ size_of v → c.quota < block_words n
+    → shape ≡ tree_for c.quota (block_words n) → middle (does (tree shape) ∷ allocates b n ∷ fs) s ≡ allocating_at c line b v fs s
+allocated_later c line b v n shape fs s size many same =
+    ap (λ (x : Shape). middle (does (tree x) ∷ allocates b n ∷ fs) s) same
+    ∙ ap (λ (t : Bool). allocated_at t c b n fs s) (sym (lt-leb (block_words n) c.quota many))
+    ∙ ap (λ (o : Option ℕ). allocating_words_at c line b o fs s) size
+
+-- there is no tree exactly where the quota covers the words
+pub few_words : (words k n : ℕ) → words ≤ 1048576 → (k < words → 1 < n) → (words ≤ 1048576 → n ≤ 65536) → (IsTreeSize n → ⊥) → words ≤ k
+few_words words k n small several bound none = go (cases_lt k words)
+  where
+    go : (k < words) ⊎ (words ≤ k) → words ≤ k
+    go (inl many) = let more = several many in let within = bound small in absurd (none (omega arith, within))
+    go (inr few) = few
+
+pub many_words : (words k n : ℕ) → n ≡ dummies_of words k → 1 ≤ n → k < words
+many_words words k n dummies some = go (cases_lt k words)
+  where
+    go : (k < words) ⊎ (words ≤ k) → k < words
+    go (inl many) = many
+    go (inr few) = let never = no_dummies words k few in absurd (omega (arith, dummies, never))

@@ -1,0 +1,9 @@
+pub mod Settings
+pub mod Lengths
+pub mod Views
+pub mod Frames
+pub mod Moving
+pub mod Forks
+pub mod Runs
+pub mod Cuts
+pub mod Opening

@@ -1,0 +1,15 @@
+-- A call that begins, and a call that meets a limit.
+use Rattle.std.specs.Prelude.{ℕ, pred, Result, Ok, Err}
+use Rattle.dag_order.specs.declared.fault.FaultKind.{FaultKind}
+use Rattle.par_meaning.specs.Stores.{Store}
+use Rattle.par_meaning.specs.States.{State, faulting}
+use Rattle.par_meaning.specs.Calls.{Passing, entered}
+
+-- a function begins with this store, while the store of its caller waits; it is a turn
+abbrev pub entering : Store → State → State
+entering callee s = entered record { callee = callee; caller = s.store } (record s { turns = pred s.turns })
+
+-- a call that meets a limit is the fault of an argument, or else that of the limit
+abbrev pub refused : ℕ → FaultKind → Result Passing FaultKind → State → State
+refused line limit (Ok h) s = faulting limit line s
+refused line limit (Err kind) s = faulting kind line s

@@ -1,0 +1,8 @@
+-- What a run is of, with the limits of a run.
+use Rattle.std.specs.Prelude.{ℕ}
+use Rattle.par_tree.specs.Tree.{Program}
+use Rattle.par_meaning.specs.States.{Setting}
+
+-- a program and a quota: at most 10,000 open calls, 1,000,000 turns of a thread, and 256 forks above one another
+abbrev pub setting_of : Program → ℕ → Setting
+setting_of program k = record { program = program; quota = k; most_calls = 10000; most_turns = 1000000; most_forks = 256 }

@@ -1,0 +1,38 @@
+ghost use Rattle.std.specs.Prelude.{◌≡◌, ◌≤◌};
+ghost use Rattle.std.specs.Option.{option_map};
+ghost use Rattle.par_meaning.specs.Stores.{block_words};
+ghost use Rattle.par_meaning.specs.Run.{size_of};
+
+/// The length of a block: 0 to 1,048,576 numbers.
+#[derive(Clone, Copy)]
+pub(crate) struct BlockLen {
+    pub(crate) len: u32,
+    pub(crate) ghost small: { len ≤ 1048576 },
+}
+
+#[tactic(auto, unfolding(par_meaning::specs::Stores::block_words))]
+impl BlockLen {
+    ghost use Rattle.serial_meaning.specs.Lengths.{length_of};
+
+    /// None exactly where the number is no length of a block.
+    pub(crate) fn of(number: i64) -> Option<BlockLen>
+        ensures { option_map length_of result ≡ size_of number }
+    {
+        let Ok(len) = u32::try_from(number) else {
+            return None;
+        };
+        if len <= 1_048_576 {
+            Some(BlockLen { len })
+        } else {
+            None
+        }
+    }
+
+    /// The words that such a block takes: whole pieces of 16.
+    pub(crate) fn words(self) -> u32
+        ensures value { result ≡ block_words (length_of self) }
+        ensures bound { result ≤ 1048576 }
+    {
+        self.len.div_ceil(16) * 16
+    }
+}

@@ -1,0 +1,101 @@
+ghost use Rattle.std.specs.Prelude.{◌≡◌, ℕ, Ok, MatchResult};
+ghost use Rattle.action_order.specs.Actions.{Deed, kind_of};
+ghost use Rattle.par_meaning.specs.States.{acting, faulting, noting, printed, emptied};
+ghost use Rattle.run_journal.specs.Stops.{OnStop};
+ghost use Rattle.run_journal.specs.Telling.{IsNoFork};
+
+use crate::thread::Thread;
+use dag_order::{ActionId, FaultAt, FaultKind, Kind};
+use par_store::Store;
+use run_journal::{Journal, SerialStop};
+use std::alloc::Global;
+
+/// The thread that runs, and what is written down of the run.
+#[derive(Drop)]
+pub(crate) struct Runner<'a> {
+    pub(crate) thread: Thread<'a>,
+    pub(crate) journal: Journal,
+}
+
+impl<'a> Runner<'a> {
+    ghost use Rattle.serial_meaning.specs.Views.{Goes, fault_of, thread_holdings};
+
+    /// The name of the thread's next action.
+    pub(crate) fn next_name(&self) -> ActionId
+        ensures by { result.by ≡ self.now.thread.id }
+        ensures index { result.index ≡ self.now.thread.done }
+    {
+        ActionId {
+            by: self.thread.id,
+            index: self.thread.done,
+        }
+    }
+
+    /// The thread does an action that is no Fork.
+    pub(crate) fn act(&mut self, kind: Kind, words: u64) -> Result<(), SerialStop>
+        ensures { (limit : ℕ) (deed : Deed) → kind ≡ kind_of deed → IsNoFork deed → Goes limit self.old result self.new (acting deed words) }
+    {
+        let name = self.next_name();
+        self.journal.act(name, kind, words)?;
+        let done = self.thread.done.checked_add(1);
+        self.thread.done = done.ok_or(SerialStop::OutOfMemory)?;
+        Ok(())
+    }
+
+    /// A number is printed.
+    pub(crate) fn print(&mut self, value: i64) -> Result<(), SerialStop>
+        ensures { (limit : ℕ) → Goes limit self.old result self.new (noting (printed value)) }
+    {
+        self.journal.print(value)
+    }
+
+    /// The words that the thread holds, in all its open calls.
+    pub(crate) fn holdings(&self) -> Result<u64, SerialStop>
+        ensures { MatchResult result (λ words. words ≡ thread_holdings self.now.thread) (λ stop. OnStop stop ⊥) }
+    {
+        let mut words = self.thread.store.held_words();
+        for caller in &self.thread.callers {
+            let more = words.checked_add(caller.held_words());
+            words = more.ok_or(SerialStop::OutOfMemory)?;
+        }
+        Ok(words)
+    }
+
+    /// The thread holds nothing from now on, and does no further statement.
+    pub(crate) fn empty(&mut self, alloc: Global)
+        ensures { (limit : ℕ) → Goes limit self.old (Ok tt) self.new emptied }
+    {
+        self.thread.faulted = true;
+        self.thread.store = Store::new(alloc);
+        self.thread.callers = Vec::new(alloc);
+    }
+
+    /// A fault of a thread that holds so many words: it gives them back, and does no further statement.
+    pub(crate) fn fault_with(
+        &mut self,
+        alloc: Global,
+        words: u64,
+        kind: FaultKind,
+        line: u32,
+    ) -> Result<(), SerialStop>
+        ensures { (limit : ℕ) → Goes limit self.old result self.new (fault_of words kind line) }
+    {
+        self.act(Kind::Fault, words)?;
+        self.journal.fail(FaultAt { kind, line })?;
+        self.empty(alloc);
+        Ok(())
+    }
+
+    /// A fault at a line.
+    pub(crate) fn fault(
+        &mut self,
+        alloc: Global,
+        kind: FaultKind,
+        line: u32,
+    ) -> Result<(), SerialStop>
+        ensures { (limit : ℕ) → Goes limit self.old result self.new (faulting kind line) }
+    {
+        let words = self.holdings()?;
+        self.fault_with(alloc, words, kind, line)
+    }
+}
