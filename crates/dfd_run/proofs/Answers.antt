@@ -1,5 +1,5 @@
 -- The answer of a command is the answer of its call, and a front of an answer's text ends a call at a fault.
-use Rattle.std.proofs.Common.{◌≡◌, ℕ, ◌<◌, List, [], ◌∷◌, take, Option, arith, refl, sym, subst}
+use Rattle.std.proofs.Common.{ℕ, ◌<◌, List, [], ◌∷◌, take, Option, arith, refl, sym, subst}
 use Rattle.std.proofs.lemmas.Result.{IfOk-weaker}
 use Rattle.std.specs.Prelude.{Result, Err, IfOk}
 use Rattle.std.specs.declared.alloc.AllocError.{AllocError}
@@ -13,7 +13,6 @@ use Rattle.command_words.specs.declared.setting.Setting.{Setting}
 use Rattle.command_words.specs.declared.setting.Setting.TheVariants.{Quota, Workers, Steps}
 use Rattle.par_tree.specs.Tree.{Program}
 use Rattle.dfd_run.specs.Answer.{RefusalGives, SourceGives, KindGives, CommandGives, CallGives, Ends, HasRanges}
-use Rattle.dfd_run.specs.Messages.{read_fault_text}
 use Rattle.byte_streams.specs.Sink.{Takes}
 use Rattle.byte_streams.specs.Source.{IsRead}
 use Rattle.dfd_run.specs.declared.answer.Answer.{Answer}
@@ -45,13 +44,13 @@ refused_source makes bytes fail result reads gives =
 -- what is made of bytes is no fault of the source
 no_read_fault : (kind : CommandKind) (k limit : ℕ) (bytes text : List ℕ) → ¬ KindGives kind k limit bytes ReadFault text
 no_read_fault Play k limit bytes text gives = gives
-no_read_fault Peak k limit bytes text gives = gives
+no_read_fault Peak k limit bytes text gives = gives.1.1.1
 no_read_fault Checks k limit bytes text gives = gives.1.1.1
 
 -- and no usage line
 no_usage : (kind : CommandKind) (k limit : ℕ) (bytes text : List ℕ) → ¬ KindGives kind k limit bytes Usage text
 no_usage Play k limit bytes text gives = gives
-no_usage Peak k limit bytes text gives = gives
+no_usage Peak k limit bytes text gives = gives.1.1.1
 no_usage Checks k limit bytes text gives = gives.1.1.1
 
 -- what a command makes of the bytes that it read is what it answers

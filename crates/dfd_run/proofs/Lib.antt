@@ -1,1 +1,4 @@
 pub mod Answers
+pub mod OneAnswer
+pub mod Peaks
+pub mod Plays

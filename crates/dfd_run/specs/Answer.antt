@@ -1,26 +1,23 @@
 -- What a call of the program answers, and why.
-use Rattle.std.specs.Prelude.{◌≡◌, ℕ, List, Option, Some, None, ◌⊎◌, take}
+use Rattle.std.specs.Prelude.{◌≡◌, ℕ, List, Option, Some, ◌⊎◌, take}
 use Rattle.canon_text.specs.Canonical.{canonical}
 use Rattle.command_words.specs.Words.{IsCommand, InRange, number_of}
 use Rattle.command_words.specs.declared.command.Command.{Command}
 use Rattle.command_words.specs.declared.command_kind.CommandKind.{CommandKind}
 use Rattle.command_words.specs.declared.command_kind.CommandKind.TheVariants.{Play, Peak, Check as Checks}
 use Rattle.command_words.specs.declared.setting.Setting.{Setting}
-use Rattle.dag_order.specs.declared.finish.Finish.TheVariants.{Done as EndDone}
 use Rattle.par_ownership.specs.Ownership.{Ownership}
 use Rattle.par_ownership.specs.Walk.{Refusal, program_refusal}
 use Rattle.par_text.specs.Judging.{IsText, IsRefused}
 use Rattle.par_text.specs.declared.syntax_error.SyntaxError.{SyntaxError}
 use Rattle.par_tree.specs.Tree.{Program}
-use Rattle.print_program.specs.Tree.{Statements}
-use Rattle.print_form.specs.Printing.{printing}
-use Rattle.print_program.specs.TextOrder.{lines_of}
-use Rattle.run_report.specs.Texts.{text_of, outcome_lines}
-use Rattle.dfd_run.specs.Messages.{usage_text, read_fault_text, syntax_text, not_yet_text, check_text}
+use Rattle.dfd_run.specs.Peak.{PeakMakes}
+use Rattle.dfd_run.specs.Play.{PlayMakes}
+use Rattle.dfd_run.specs.Messages.{usage_text, read_fault_text, syntax_text, check_text}
 use Rattle.byte_streams.specs.Sink.{Takes}
 use Rattle.byte_streams.specs.Source.{IsRead}
 use Rattle.dfd_run.specs.declared.status.Status.{Status}
-use Rattle.dfd_run.specs.declared.status.Status.TheVariants.{Done, Usage, ReadFault, WriteFault, Syntax, Check, UserFault, StepsSpent, OutOfMemory}
+use Rattle.dfd_run.specs.declared.status.Status.TheVariants.{Done, Usage, ReadFault, WriteFault, Syntax, Check, OutOfMemory}
 
 -- the bytes are no text, and the line says why and where
 abbrev pub SyntaxGives : List ℕ → List ℕ → Type 0
@@ -49,34 +46,21 @@ abbrev pub CheckMakes : Program → Status → List ℕ → Type 0
 CheckMakes p Done text = text ≡ canonical p
 CheckMakes p status text = ⊥
 
--- what the command `play` makes of a program: what the depth-first run of its statements prints, or, where it is
--- no program of prints and forks, the word that such a program cannot run yet
-abbrev pub PlayMakes : Program → Status → List ℕ → Type 0
-PlayMakes p Done text =
-    (main : Statements) × ((printing p ≡ Some main) × (text ≡ text_of (outcome_lines (lines_of main) EndDone)))
-PlayMakes p Syntax text = (printing p ≡ None) × (text ≡ not_yet_text)
-PlayMakes p status text = ⊥
-
 -- the bytes are the text of a program, of which `play` makes this
-abbrev pub PlayTextGives : List ℕ → Status → List ℕ → Type 0
-PlayTextGives bytes status text = (p : Program) × (IsText bytes p × PlayMakes p status text)
+abbrev pub PlayTextGives : (k : ℕ) → List ℕ → Status → List ℕ → Type 0
+PlayTextGives k bytes status text = (p : Program) × (IsText bytes p × PlayMakes k p status text)
 
 -- what the command `play` makes of the bytes of a source: what it makes of their program, or, where they are no text,
 -- the refusal
-abbrev pub PlayGives : List ℕ → Status → List ℕ → Type 0
-PlayGives bytes Done text = PlayTextGives bytes Done text
-PlayGives bytes Syntax text = PlayTextGives bytes Syntax text ⊎ SyntaxGives bytes text
-PlayGives bytes status text = ⊥
-
--- the command `peak` cannot run yet
-abbrev pub PeakGives : (k limit : ℕ) → List ℕ → Status → List ℕ → Type 0
-PeakGives k limit bytes Syntax text = text ≡ not_yet_text
-PeakGives k limit bytes status text = ⊥
+abbrev pub PlayGives : (k : ℕ) → List ℕ → Status → List ℕ → Type 0
+PlayGives k bytes Done text = PlayTextGives k bytes Done text
+PlayGives k bytes Syntax text = PlayTextGives k bytes Syntax text ⊎ SyntaxGives bytes text
+PlayGives k bytes status text = ⊥
 
 -- what a command makes of the bytes of a source
 abbrev pub KindGives : CommandKind → (k limit : ℕ) → List ℕ → Status → List ℕ → Type 0
-KindGives Play k limit = PlayGives
-KindGives Peak k limit = PeakGives k limit
+KindGives Play k limit = PlayGives k
+KindGives Peak k limit = SourceGives (PeakMakes k limit)
 KindGives Checks k limit = SourceGives CheckMakes
 
 -- what a command answers that reads its source: where the source failed, just this, else what it makes of the bytes

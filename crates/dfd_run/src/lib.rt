@@ -5,17 +5,19 @@
 //!
 //! The layer stands on `command_words`, which says which words are a command; on `checked_source`, which reads bytes as
 //! a program that keeps the rules of ownership or says why not; on `canon_text` and `par_print`, the text of a program
-//! in one layout; on `run_report`, the texts of runs; and on `print_form` and `dfd_core`, which play
-//! the programs that only print and fork. `play` refuses a program of another form by the word `NotYet`. The one
-//! theorem of the layer is the contract of `dfd`, and of [`serve`], which does what `dfd` does for a command: the status
-//! and the text that the sink took are those that `CallGives` of `specs/Answer.antt` gives for the words and the bytes
-//! read, and each fault has its cause.
+//! in one layout; on `serial_meaning`, the depth-first run of a program, and `run_report`, the texts of runs; and on
+//! `print_form` and `dfd_core`, which play the programs that only print and fork. `play` refuses a
+//! program of another form by the word `NotYet`. The one theorem of the layer is the contract of `dfd`, and of
+//! [`serve`], which does what `dfd` does for a command: the status and the text that the sink took are those that
+//! `CallGives` of `specs/Answer.antt` gives for the words and the bytes read, and each fault has its cause.
+//! [`a_command_has_one_answer`] says that these are a function of the command and the bytes.
 #![tactic(auto)]
 
 mod answer;
 mod call;
 mod checking;
 mod kinds;
+mod laws;
 mod messages;
 mod pcg_choices;
 mod peaking;
@@ -29,6 +31,7 @@ pub use byte_streams::{
 };
 pub use call::{dfd, serve};
 pub use command_words::{Command, CommandKind, read_words};
+pub use laws::a_command_has_one_answer;
 pub use pcg_choices::PcgChoices;
 pub use status::Status;
 

@@ -1,18 +1,80 @@
-ghost use Rattle.std.specs.Prelude.{IfOk};
-ghost use Rattle.dfd_run.specs.Answer.{PeakGives};
+ghost use Rattle.std.specs.Prelude.{◌≡◌, ◌≤◌, ℕ, List, IfOk, length};
+ghost use Rattle.block_check.specs.Checked.{program_of};
+ghost use Rattle.par_tree.specs.View.{program_tree};
+ghost use Rattle.command_words.specs.Words.{InRange};
+ghost use Rattle.command_words.specs.declared.setting.Setting.TheVariants.{Quota as QuotaSetting};
+ghost use Rattle.par_meaning.specs.States.{Item};
+ghost use Rattle.par_meaning.specs.Run.{actions_of};
+ghost use Rattle.run_journal.specs.Telling.{Tells};
+ghost use Rattle.dfd_run.specs.Answer.{SourceGives};
+ghost use Rattle.dfd_run.specs.Peak.{finish_status, RunMakes, PeakMakes};
 
 use crate::answer::Answer;
-use crate::messages::not_yet_text;
+use crate::messages::spent_text;
+use crate::refusal::refusal_answer;
 use crate::status::Status;
+use block_check::Checked;
+use checked_source::read_source;
+use dag_order::Finish;
+use dummy_tree::Quota;
+use run_report::{PeakReport, peak_text};
+use serial_meaning::{Serial, SerialStop, depth_first};
 use std::alloc::{AllocError, Global};
 
-/// A program cannot be run depth-first yet.
-pub fn peak(alloc: Global, k: u32, limit: u32, bytes: &[u8]) -> Result<Answer, AllocError>
-    ensures { IfOk result (λ answer. PeakGives k limit bytes.now answer.status answer.text.items) }
+/// The status of a run that finished so.
+fn finish_status(finish: Finish) -> Status
+    ensures { result ≡ finish_status finish }
 {
-    let text = not_yet_text(alloc)?;
-    Ok(Answer {
-        status: Status::Syntax,
-        text,
-    })
+    match finish {
+        Finish::Done => Status::Done,
+        Finish::Faulted(_) => Status::UserFault,
+    }
+}
+
+/// The answer of a run within its limit.
+fn run_answer(alloc: Global, run: Serial) -> Result<Answer, AllocError>
+    ensures { IfOk result (λ answer. (limit : ℕ) (items : List Item) → Tells items run → length (actions_of items) ≤ limit →
+        RunMakes items limit answer.status answer.text.items) }
+{
+    let status = finish_status(run.finish);
+    let report = PeakReport {
+        actions: run.actions.len(),
+        finish: run.finish,
+        lines: run.output,
+        peak: run.peak,
+    };
+    let text = peak_text(alloc, &report)?;
+    Ok(Answer { status, text })
+}
+
+/// Runs a program depth-first.
+fn peak_program(alloc: Global, k: u32, limit: u32, program: &Checked) -> Result<Answer, AllocError>
+    requires { InRange QuotaSetting k }
+    ensures { IfOk result (λ answer. PeakMakes k limit (program_tree (program_of program.now)) answer.status answer.text.items) }
+{
+    let Some(quota) = Quota::new(k) else {
+        unreachable!();
+    };
+    match depth_first(alloc, program, quota, limit) {
+        Ok(run) => run_answer(alloc, run),
+        Err(SerialStop::StepsSpent) => {
+            let text = spent_text(alloc, limit)?;
+            Ok(Answer {
+                status: Status::StepsSpent,
+                text,
+            })
+        }
+        Err(SerialStop::OutOfMemory) => Err(AllocError),
+    }
+}
+
+/// What the depth-first run of the program whose text these bytes are comes to, or why and where they are refused.
+pub fn peak(alloc: Global, k: u32, limit: u32, bytes: &[u8]) -> Result<Answer, AllocError>
+    requires { InRange QuotaSetting k }
+    ensures { IfOk result (λ answer. SourceGives (PeakMakes k limit) bytes.now answer.status answer.text.items) }
+{
+    match read_source(alloc, bytes) {
+        Ok(program) => peak_program(alloc, k, limit, &program),
+        Err(fail) => refusal_answer(alloc, fail),
+    }
 }

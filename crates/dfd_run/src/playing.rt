@@ -1,8 +1,12 @@
-ghost use Rattle.std.specs.Prelude.{◌≡◌, ◌<◌, IfOk};
+ghost use Rattle.std.specs.Prelude.{◌≡◌, ◌<◌, ℕ, Some, IfOk};
 ghost use Rattle.bounded_list.specs.BoundedList.{entries};
 ghost use Rattle.par_tree.specs.View.{program_tree};
-ghost use Rattle.dfd_run.specs.Answer.{PlayMakes, PlayGives};
-ghost use Rattle.print_program.specs.TextOrder.{lines_of};
+ghost use Rattle.par_tree.specs.Tree.{Program as ProgramTree};
+ghost use Rattle.par_meaning.specs.Run.{whole};
+ghost use Rattle.print_form.specs.Printing.{printing};
+ghost use Rattle.serial_meaning.specs.Settings.{setting_of};
+ghost use Rattle.dfd_run.specs.Answer.{PlayGives};
+ghost use Rattle.dfd_run.specs.Play.{PlayMakes, PrintsDone};
 
 use crate::answer::Answer;
 use crate::messages::{not_yet_text, syntax_text};
@@ -19,10 +23,10 @@ use std::alloc::{AllocError, Global};
 /// The seed of the words that pick who moves and whom a thief robs.
 const SEED: u64 = 1;
 
-/// What the workers print when they run the program.
+/// What the workers print when they run the program: the lines of its depth-first run, whatever the quota.
 fn run(alloc: Global, workers: u32, program: Program) -> Result<Lines, AllocError>
     requires { 0 < workers }
-    ensures { IfOk result (λ lines. entries lines ≡ lines_of program.main) }
+    ensures { IfOk result (λ lines. (p : ProgramTree) (k : ℕ) → printing p ≡ Some program.main → PrintsDone (whole (setting_of p k)).items (entries lines)) }
 {
     let mut core = Core::new(alloc, program, workers)?;
     let mut choices = PcgChoices::new(SEED);
@@ -37,7 +41,7 @@ fn play_program(
     program: &par_tree::Program,
 ) -> Result<Answer, AllocError>
     requires { 0 < workers }
-    ensures { IfOk result (λ answer. PlayMakes (program_tree program.now) answer.status answer.text.items) }
+    ensures { IfOk result (λ answer. (k : ℕ) → PlayMakes k (program_tree program.now) answer.status answer.text.items) }
 {
     let Some(small) = printing(alloc, program)? else {
         let text = not_yet_text(alloc)?;
@@ -57,7 +61,7 @@ fn play_program(
 /// Runs the program whose text these bytes are and reports it, or says why and where they are no text.
 pub fn play(alloc: Global, workers: u32, bytes: &[u8]) -> Result<Answer, AllocError>
     requires { 0 < workers }
-    ensures { IfOk result (λ answer. PlayGives bytes.now answer.status answer.text.items) }
+    ensures { IfOk result (λ answer. (k : ℕ) → PlayGives k bytes.now answer.status answer.text.items) }
 {
     match parse(alloc, bytes) {
         Ok(program) => play_program(alloc, workers, &program),

@@ -1,5 +1,7 @@
 //! Calls of the program over streams in memory.
 mod checks;
+mod examples;
+mod peaks;
 mod plays;
 mod streams;
 mod words;

@@ -12,9 +12,14 @@ const LONG_REPORT: &str = "1234567890123456789\n1234567\n--\nend done\n";
 const LONG_TEXT: &str =
     "fn main() {\n  par {\n    print 1234567890123456789;\n  } and {\n    print 1234567;\n  }\n}\n";
 
+/// What `peak` writes of it: 57 bytes.
+const LONG_PEAK: &str = "1234567890123456789\n1234567\n--\nend done\nactions 4\npeak 0\n";
+
 const PLAY: [&str; 3] = ["play", "--p", "1"];
 
 const CHECK: [&str; 1] = ["check"];
+
+const PEAK: [&str; 1] = ["peak"];
 
 #[test]
 fn failing_sources_are_read_faults(rt: HostRuntime) -> Result<(), Fail> {
@@ -63,7 +68,7 @@ fn failing_sinks_took_a_front(rt: HostRuntime) -> Result<(), Fail> {
 /// A source of 10 bytes a call that fails at each of its calls in turn, and a sink of 7 bytes a call that does.
 #[test]
 fn each_call_of_a_stream_may_fail(rt: HostRuntime) -> Result<(), Fail> {
-    let table: [(&[&str], &str, u32, Status, &str, u32); 3] = [
+    let table: [(&[&str], &str, u32, Status, &str, u32); 8] = [
         (&CHECK, LONG, 8, Status::Done, LONG_TEXT, 13),
         (
             &CHECK,
@@ -79,6 +84,39 @@ fn each_call_of_a_stream_may_fail(rt: HostRuntime) -> Result<(), Fail> {
             3,
             Status::Syntax,
             "syntax Expected at 11\n",
+            4,
+        ),
+        (&PEAK, LONG, 8, Status::Done, LONG_PEAK, 9),
+        (
+            &PEAK,
+            "fn main() { print 1 / 0; }",
+            4,
+            Status::UserFault,
+            "--\nend fault Divide line 1\nactions 2\npeak 0\n",
+            7,
+        ),
+        (
+            &PEAK,
+            "fn main() {",
+            3,
+            Status::Syntax,
+            "syntax Expected at 11\n",
+            4,
+        ),
+        (
+            &PEAK,
+            "fn main() { free b; }",
+            4,
+            Status::Check,
+            "check UnknownName line 1 name b\n",
+            5,
+        ),
+        (
+            &["peak", "--steps", "1"],
+            "fn main() { print 1 / 0; }",
+            4,
+            Status::StepsSpent,
+            "stop StepsSpent limit 1\n",
             4,
         ),
     ];
@@ -110,6 +148,29 @@ fn each_call_of_a_stream_may_fail(rt: HostRuntime) -> Result<(), Fail> {
             assert_eq!(rt; status, done);
             assert_eq!(rt; written.as_slice(), text.as_bytes());
         }
+    }
+    Ok(())
+}
+
+/// The text of a peak that a sink of 4 bytes a call cut, and a source that failed before it.
+#[test]
+fn a_peak_is_cut_at_a_fault(rt: HostRuntime) -> Result<(), Fail> {
+    let table: [(u32, u32, Status, &str); 4] = [
+        (0, 0, Status::Done, "7\n--\nend done\nactions 3\npeak 32\n"),
+        (0, 2, Status::WriteFault, "7\n--"),
+        (1, 0, Status::ReadFault, "read fault\n"),
+        (1, 2, Status::WriteFault, "read"),
+    ];
+    let source = "fn main() { alloc b = 20; b[3] = 7; print b[3]; free b; }";
+    for (read, write, want, text) in table {
+        let words = ["peak", "--k", "64"];
+        let (status, written) = call_failing(rt.alloc(), &words, source, read, 4, write)?;
+        assert_eq!(rt; status, want, "failing at {read} and {write}");
+        assert_eq!(rt;
+            written.as_slice(),
+            text.as_bytes(),
+            "failing at {read} and {write}"
+        );
     }
     Ok(())
 }

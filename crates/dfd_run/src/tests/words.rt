@@ -5,7 +5,7 @@ use std::test::Fail;
 
 #[test]
 fn words_that_are_no_command(rt: HostRuntime) -> Result<(), Fail> {
-    let table: [&[&str]; 26] = [
+    let table: [&[&str]; 30] = [
         &[],
         &["play", "--k", "24"],
         &["play", "--p", "0"],
@@ -29,6 +29,10 @@ fn words_that_are_no_command(rt: HostRuntime) -> Result<(), Fail> {
         &["peak", "--steps", "0"],
         &["peak", "--steps", "4000001"],
         &["peak", "--steps=9", "--steps=9"],
+        &["peak", "--k=16", "--k", "16"],
+        &["peak", "--step", "9"],
+        &["peak", "--"],
+        &["peak", "1"],
         &["check", "--k", "16"],
         &["check", "--"],
         &["check", "check"],
@@ -43,13 +47,22 @@ fn words_that_are_no_command(rt: HostRuntime) -> Result<(), Fail> {
 
 #[test]
 fn words_that_are_a_command(rt: HostRuntime) -> Result<(), Fail> {
-    let table: [(&[&str], &str); 4] = [
+    let table: [(&[&str], &str); 7] = [
         (&["play", "--k=016", "--p", "1"], "1\n2\n3\n--\nend done\n"),
         (
             &["play", "--p=01", "--k", "00000000000000000016"],
             "1\n2\n3\n--\nend done\n",
         ),
         (&["play"], "1\n2\n3\n--\nend done\n"),
+        (
+            &["peak", "--k=32", "--steps", "4"],
+            "1\n2\n3\n--\nend done\nactions 4\npeak 0\n",
+        ),
+        (
+            &["peak", "--steps=4000000", "--k", "1048576"],
+            "1\n2\n3\n--\nend done\nactions 4\npeak 0\n",
+        ),
+        (&["peak"], "1\n2\n3\n--\nend done\nactions 4\npeak 0\n"),
         (
             &["check"],
             "fn main() {\n  par {\n    print 1;\n  } and {\n    print 2;\n  }\n  print 3;\n}\n",

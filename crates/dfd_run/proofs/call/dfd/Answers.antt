@@ -1,4 +1,4 @@
-use Rattle.dfd_run.proofs.Answers.{call_of_command, command_ranges, ends_at_fault, ends_more}
+use Rattle.dfd_run.proofs.Answers.{call_of_command, ends_at_fault, ends_more}
 use Rattle.dfd_run.specs.declared.status.Status.TheVariants.{Usage}
 use Rattle.dfd_run.proofs.call.dfd.Goals as goal
 
