@@ -1,11 +1,11 @@
 //! The names of branches.
 
 ghost use Rattle.std.specs.Prelude.{◌≡◌, IfOk};
-ghost use Rattle.par_mention.specs.Named.{body_of};
+ghost use Rattle.par_names.specs.Named.{body_of};
 ghost use Rattle.block_check.specs.Shown.{rows_tree};
 
 use crate::entry::Entry;
-pub(crate) use par_mention::{NamedBody, is_name};
+pub(crate) use par_names::{NamedBody, is_name};
 use par_tree::Body;
 use std::alloc::{AllocError, Global};
 

@@ -2,7 +2,7 @@
 
 ghost use Rattle.std.specs.Prelude.{◌≡◌, IfOk, slice_get};
 ghost use Rattle.par_tree.specs.View.{name_tree, func_tree};
-ghost use Rattle.par_mention.specs.Named.{body_of};
+ghost use Rattle.par_names.specs.Named.{body_of};
 ghost use Rattle.block_check.specs.Shown.{entry_shown, entries_shown, funcs_tree};
 ghost use Rattle.block_check.specs.Forks.{names_of, takes_block, assigns_integer, names_shown, forks_in_func, fork_at};
 ghost use Rattle.block_check.specs.Sought.{fork_shown};

@@ -5,7 +5,7 @@ ghost use Rattle.par_tree.specs.View.{name_tree, expr_tree, target_tree, args_tr
 ghost use Rattle.par_ownership.specs.Environment.{with_entry, integer_entry, block_entry, without, regained, after_gives, after_answer};
 ghost use Rattle.par_ownership.specs.Walk.{branches_refusal, arms_refusal, after_arms, after_round, after_branches, ended, walk, walk_all, guarded, expr_refusal, fresh_refusal, integer_refusal, block_refusal, lent_refusal, call_refusal};
 ghost use Rattle.par_ownership.specs.Ownership.{are_apart};
-ghost use Rattle.par_mention.specs.Named.{body_of};
+ghost use Rattle.par_names.specs.Named.{body_of};
 ghost use Rattle.block_check.specs.Shown.{rows_tree, split_opened, entry_shown, entries_shown, env_shown, funcs_tree, Tests, Walks};
 
 use crate::calls::call;

@@ -3,14 +3,14 @@ use Rattle.std.proofs.Common.{ℕ, ◌<◌, List, [], ◌∷◌, take, Option, a
 use Rattle.std.proofs.lemmas.Result.{IfOk-weaker}
 use Rattle.std.specs.Prelude.{Result, Err, IfOk}
 use Rattle.std.specs.declared.alloc.AllocError.{AllocError}
-use Rattle.checked_source.specs.Sources.{ReadsSource}
-use Rattle.checked_source.specs.declared.source_fail.SourceFail.{SourceFail}
-use Rattle.command_words.specs.Words.{IsCommand, Sets, InRange, rule_of, number_of, values_of}
-use Rattle.command_words.specs.declared.command.Command.{Command}
-use Rattle.command_words.specs.declared.command_kind.CommandKind.{CommandKind}
-use Rattle.command_words.specs.declared.command_kind.CommandKind.TheVariants.{Play, Peak, Check as Checks}
-use Rattle.command_words.specs.declared.setting.Setting.{Setting}
-use Rattle.command_words.specs.declared.setting.Setting.TheVariants.{Quota, Workers, Steps}
+use Rattle.accepted_source.specs.Sources.{ReadsSource}
+use Rattle.accepted_source.specs.declared.source_fail.SourceFail.{SourceFail}
+use Rattle.command_line.specs.Words.{IsCommand, Sets, InRange, rule_of, number_of, values_of}
+use Rattle.command_line.specs.declared.command.Command.{Command}
+use Rattle.command_line.specs.declared.command_kind.CommandKind.{CommandKind}
+use Rattle.command_line.specs.declared.command_kind.CommandKind.TheVariants.{Play, Peak, Check as Checks}
+use Rattle.command_line.specs.declared.setting.Setting.{Setting}
+use Rattle.command_line.specs.declared.setting.Setting.TheVariants.{Quota, Workers, Steps}
 use Rattle.par_tree.specs.Tree.{Program}
 use Rattle.dfd_run.specs.Answer.{RefusalGives, SourceGives, KindGives, CommandGives, CallGives, Ends, HasRanges}
 use Rattle.byte_streams.specs.Sink.{Takes}

@@ -1,12 +1,12 @@
 -- A command has one answer to the bytes of a source.
 use Rattle.std.proofs.Common.{◌≡◌, ℕ, ℤ, pos, negsuc, ◌≤◌, ◌<◌, length, arith, List, Option, Some, None, inl, inr, ap, sym, ◌∙◌, refl, subst}
-use Rattle.canon_text.specs.Canonical.{canonical}
-use Rattle.command_words.specs.declared.command_kind.CommandKind.{CommandKind}
-use Rattle.command_words.specs.declared.command_kind.CommandKind.TheVariants.{Play, Peak, Check as Checks}
+use Rattle.canonical_text.specs.Canonical.{canonical}
+use Rattle.command_line.specs.declared.command_kind.CommandKind.{CommandKind}
+use Rattle.command_line.specs.declared.command_kind.CommandKind.TheVariants.{Play, Peak, Check as Checks}
 use Rattle.dag_order.specs.declared.fault.FaultAt.{FaultAt}
-use Rattle.par_meaning.specs.States.{Item}
-use Rattle.par_meaning.specs.Run.{whole, actions_of, first_fault, lines_of}
-use Rattle.run_journal.specs.Telling.{finish_of}
+use Rattle.depth_first_run.specs.States.{Item}
+use Rattle.depth_first_run.specs.Run.{whole, actions_of, first_fault, lines_of}
+use Rattle.serial_journal.specs.Telling.{finish_of}
 use Rattle.serial_meaning.specs.Settings.{setting_of}
 use Rattle.par_ownership.specs.Ownership.{Ownership}
 use Rattle.par_ownership.specs.Walk.{Refusal, program_refusal}

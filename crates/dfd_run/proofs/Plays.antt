@@ -5,9 +5,9 @@ use Rattle.std.specs.Prelude.{Result, IfOk}
 use Rattle.std.specs.declared.alloc.AllocError.{AllocError}
 use Rattle.dag_order.specs.declared.finish.Finish.TheVariants.{Done as EndDone}
 use Rattle.dag_order.specs.declared.fault.FaultAt.{FaultAt}
-use Rattle.par_meaning.specs.States.{Item}
-use Rattle.par_meaning.specs.Run.{whole}
-use Rattle.par_meaning.specs.Run.{lines_of as items_lines}
+use Rattle.depth_first_run.specs.States.{Item}
+use Rattle.depth_first_run.specs.Run.{whole}
+use Rattle.depth_first_run.specs.Run.{lines_of as items_lines}
 use Rattle.par_text.specs.Judging.{IsText}
 use Rattle.par_tree.specs.Tree.{Program}
 use Rattle.print_form.specs.Printing.{printing}
@@ -15,7 +15,7 @@ use Rattle.print_program.specs.Tree.{Statements}
 use Rattle.print_program.specs.TextOrder.{lines_of}
 use Rattle.print_runs.specs.Laws.{PrintsInTextOrder}
 use Rattle.print_runs.proofs.Printed.{small_prints}
-use Rattle.run_journal.specs.Telling.{finish_of}
+use Rattle.serial_journal.specs.Telling.{finish_of}
 use Rattle.run_report.specs.Texts.{text_of, outcome_lines}
 use Rattle.serial_meaning.specs.Settings.{setting_of}
 use Rattle.dfd_run.specs.Play.{PrintsDone, DoneMakes, PlayMakes}

@@ -1,11 +1,11 @@
 -- What a call of the program answers, and why.
 use Rattle.std.specs.Prelude.{◌≡◌, ℕ, List, Option, Some, ◌⊎◌, take}
-use Rattle.canon_text.specs.Canonical.{canonical}
-use Rattle.command_words.specs.Words.{IsCommand, InRange, number_of}
-use Rattle.command_words.specs.declared.command.Command.{Command}
-use Rattle.command_words.specs.declared.command_kind.CommandKind.{CommandKind}
-use Rattle.command_words.specs.declared.command_kind.CommandKind.TheVariants.{Play, Peak, Check as Checks}
-use Rattle.command_words.specs.declared.setting.Setting.{Setting}
+use Rattle.canonical_text.specs.Canonical.{canonical}
+use Rattle.command_line.specs.Words.{IsCommand, InRange, number_of}
+use Rattle.command_line.specs.declared.command.Command.{Command}
+use Rattle.command_line.specs.declared.command_kind.CommandKind.{CommandKind}
+use Rattle.command_line.specs.declared.command_kind.CommandKind.TheVariants.{Play, Peak, Check as Checks}
+use Rattle.command_line.specs.declared.setting.Setting.{Setting}
 use Rattle.par_ownership.specs.Ownership.{Ownership}
 use Rattle.par_ownership.specs.Walk.{Refusal, program_refusal}
 use Rattle.par_text.specs.Judging.{IsText, IsRefused}

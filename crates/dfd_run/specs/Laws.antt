@@ -1,6 +1,6 @@
 -- What a caller may use.
 use Rattle.std.specs.Prelude.{◌≡◌, ℕ, List}
-use Rattle.command_words.specs.declared.command_kind.CommandKind.{CommandKind}
+use Rattle.command_line.specs.declared.command_kind.CommandKind.{CommandKind}
 use Rattle.dfd_run.specs.Answer.{KindGives}
 use Rattle.dfd_run.specs.declared.status.Status.{Status}
 

@@ -1,13 +1,13 @@
 -- What the command `peak` makes of a program.
 use Rattle.std.specs.Prelude.{◌≡◌, ◌≤◌, ◌<◌, ℕ, List, length, pos, None, Some}
-use Rattle.action_order.specs.Actions.{peak}
+use Rattle.depth_first_list.specs.Actions.{peak}
 use Rattle.dag_order.specs.declared.fault.FaultAt.{FaultAt}
 use Rattle.dag_order.specs.declared.finish.Finish.{Finish}
 use Rattle.dag_order.specs.declared.finish.Finish.TheVariants.{Done as EndDone, Faulted}
-use Rattle.par_meaning.specs.States.{Item}
-use Rattle.par_meaning.specs.Run.{whole, actions_of, first_fault, lines_of}
+use Rattle.depth_first_run.specs.States.{Item}
+use Rattle.depth_first_run.specs.Run.{whole, actions_of, first_fault, lines_of}
 use Rattle.par_tree.specs.Tree.{Program}
-use Rattle.run_journal.specs.Telling.{finish_of}
+use Rattle.serial_journal.specs.Telling.{finish_of}
 use Rattle.serial_meaning.specs.Settings.{setting_of}
 use Rattle.run_report.specs.Texts.{peak_text}
 use Rattle.dfd_run.specs.Messages.{spent_text}

@@ -1,11 +1,11 @@
 -- What the command `play` makes of a program.
 use Rattle.std.specs.Prelude.{◌≡◌, ℕ, List, ℤ, None, Some}
-use Rattle.par_meaning.specs.States.{Item}
-use Rattle.par_meaning.specs.Run.{whole, first_fault, lines_of}
+use Rattle.depth_first_run.specs.States.{Item}
+use Rattle.depth_first_run.specs.Run.{whole, first_fault, lines_of}
 use Rattle.par_tree.specs.Tree.{Program}
 use Rattle.print_form.specs.Printing.{printing}
 use Rattle.print_program.specs.Tree.{Statements}
-use Rattle.run_journal.specs.Telling.{finish_of}
+use Rattle.serial_journal.specs.Telling.{finish_of}
 use Rattle.run_report.specs.Texts.{text_of, outcome_lines}
 use Rattle.serial_meaning.specs.Settings.{setting_of}
 use Rattle.dfd_run.specs.Messages.{not_yet_text}

@@ -1,5 +1,5 @@
 ghost use Rattle.std.specs.Prelude.{◌≡◌, ◌≤◌, IfOk};
-ghost use Rattle.command_words.specs.Words.{words_of};
+ghost use Rattle.command_line.specs.Words.{words_of};
 ghost use Rattle.dfd_run.specs.Answer.{CommandGives, CallGives, Ends, HasRanges, IsSomeCommand, NoCommand};
 ghost use Rattle.byte_streams.specs.Faults.{Rose};
 ghost use Rattle.dfd_run.specs.declared.status.Status.TheVariants.{WriteFault, OutOfMemory};
@@ -9,7 +9,7 @@ use crate::kinds::answer_to;
 use crate::messages::{USAGE, read_fault_text};
 use crate::status::Status;
 use byte_streams::{ReadFail, Sink, SinkFailed, Source, read_source, write_text};
-use command_words::{Command, read_words};
+use command_line::{Command, read_words};
 use std::alloc::{AllocError, Global};
 
 /// Reads the source and does the command with what it read.

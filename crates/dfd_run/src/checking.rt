@@ -4,7 +4,7 @@ ghost use Rattle.dfd_run.specs.Answer.{SourceGives, CheckMakes};
 use crate::answer::Answer;
 use crate::refusal::refusal_answer;
 use crate::status::Status;
-use checked_source::read_source;
+use accepted_source::read_source;
 use std::alloc::{AllocError, Global};
 
 /// The canonical text of the program whose text these bytes are, or why and where they are refused.

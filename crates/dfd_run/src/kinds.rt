@@ -5,7 +5,7 @@ use crate::answer::Answer;
 use crate::checking::check;
 use crate::peaking::peak;
 use crate::playing::play;
-use command_words::{Command, CommandKind};
+use command_line::{Command, CommandKind};
 use std::alloc::{AllocError, Global};
 
 /// What a command makes of the bytes of a source.

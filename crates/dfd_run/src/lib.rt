@@ -3,8 +3,8 @@
 //! [`dfd`] takes the words of the command line, reads its program from a [`Source`] and writes its text to a [`Sink`],
 //! whose kinds and contracts are those of `byte_streams`.
 //!
-//! The layer stands on `command_words`, which says which words are a command; on `checked_source`, which reads bytes as
-//! a program that keeps the rules of ownership or says why not; on `canon_text` and `par_print`, the text of a program
+//! The layer stands on `command_line`, which says which words are a command; on `accepted_source`, which reads bytes as
+//! a program that keeps the rules of ownership or says why not; on `canonical_text` and `par_print`, the text of a program
 //! in one layout; on `serial_meaning`, the depth-first run of a program, and `run_report`, the texts of runs; and on
 //! `print_form` and `dfd_core`, which play the programs that only print and fork. `play` refuses a
 //! program of another form by the word `NotYet`. The one theorem of the layer is the contract of `dfd`, and of
@@ -30,7 +30,7 @@ pub use byte_streams::{
     Source, SourceFailed, StdinSource, StdoutSink, read_source, write_text,
 };
 pub use call::{dfd, serve};
-pub use command_words::{Command, CommandKind, read_words};
+pub use command_line::{Command, CommandKind, read_words};
 pub use laws::a_command_has_one_answer;
 pub use pcg_choices::PcgChoices;
 pub use status::Status;

@@ -1,11 +1,11 @@
 ghost use Rattle.std.specs.Prelude.{◌≡◌, ◌≤◌, ℕ, List, IfOk, length};
 ghost use Rattle.block_check.specs.Checked.{program_of};
 ghost use Rattle.par_tree.specs.View.{program_tree};
-ghost use Rattle.command_words.specs.Words.{InRange};
-ghost use Rattle.command_words.specs.declared.setting.Setting.TheVariants.{Quota as QuotaSetting};
-ghost use Rattle.par_meaning.specs.States.{Item};
-ghost use Rattle.par_meaning.specs.Run.{actions_of};
-ghost use Rattle.run_journal.specs.Telling.{Tells};
+ghost use Rattle.command_line.specs.Words.{InRange};
+ghost use Rattle.command_line.specs.declared.setting.Setting.TheVariants.{Quota as QuotaSetting};
+ghost use Rattle.depth_first_run.specs.States.{Item};
+ghost use Rattle.depth_first_run.specs.Run.{actions_of};
+ghost use Rattle.serial_journal.specs.Telling.{Tells};
 ghost use Rattle.dfd_run.specs.Answer.{SourceGives};
 ghost use Rattle.dfd_run.specs.Peak.{finish_status, RunMakes, PeakMakes};
 
@@ -14,7 +14,7 @@ use crate::messages::spent_text;
 use crate::refusal::refusal_answer;
 use crate::status::Status;
 use block_check::Checked;
-use checked_source::read_source;
+use accepted_source::read_source;
 use dag_order::Finish;
 use dummy_tree::Quota;
 use run_report::{PeakReport, peak_text};

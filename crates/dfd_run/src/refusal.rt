@@ -1,11 +1,11 @@
 ghost use Rattle.std.specs.Prelude.{Err, IfOk, ℕ, List};
-ghost use Rattle.checked_source.specs.Sources.{ReadsSource};
+ghost use Rattle.accepted_source.specs.Sources.{ReadsSource};
 ghost use Rattle.dfd_run.specs.Answer.{RefusalGives};
 
 use crate::answer::Answer;
 use crate::messages::{check_text, syntax_text};
 use crate::status::Status;
-use checked_source::SourceFail;
+use accepted_source::SourceFail;
 use std::alloc::{AllocError, Global};
 
 /// The answer to a source that is refused: the line of its refusal.

@@ -13,14 +13,14 @@ use Rattle.block_check.specs.Shown.{funcs_tree}
 use Rattle.par_text.specs.Trees.{IsTreeOfText}
 use Rattle.par_ownership.specs.Mention.{names_in_expr, names_in_links, names_in_target, names_in_arg, names_in_args, names_in_stmt, names_in_body}
 use Rattle.par_ownership.specs.Ownership.{Ownership, function_of, main_name}
-use Rattle.accepted_program.specs.Calls.{EachCallOfStmt, EachCall, IsCall}
-use Rattle.accepted_program.specs.Written.{is_among, param_names, declared_in, names_in_value, names_in_return}
-use Rattle.accepted_program.specs.Laws.{EachFunction, IsDeclared}
-use Rattle.accepted_program.proofs.Passing.{calls}
-use Rattle.accepted_program.proofs.Naming.{declared}
-use Rattle.accepted_program.proofs.Functions.{main_of}
-use Rattle.program_sizes.specs.Sizes.{HasFewNames}
-use Rattle.program_sizes.proofs.Small.{small}
+use Rattle.accepted_laws.specs.Calls.{EachCallOfStmt, EachCall, IsCall}
+use Rattle.accepted_laws.specs.Written.{is_among, param_names, declared_in, names_in_value, names_in_return}
+use Rattle.accepted_laws.specs.Laws.{EachFunction, IsDeclared}
+use Rattle.accepted_laws.proofs.Passing.{calls}
+use Rattle.accepted_laws.proofs.Naming.{declared}
+use Rattle.accepted_laws.proofs.Functions.{main_of}
+use Rattle.accepted_laws.specs.Sizes.{HasFewNames}
+use Rattle.accepted_laws.proofs.Small.{small}
 use Rattle.frame_code.specs.Names.{with_name, with_names, slot_names}
 use Rattle.frame_code.specs.Codes.{name_of, function_names}
 use Rattle.frame_code.specs.Slotted.{Has, HasAll, HasExpr, HasLinks, HasTarget, HasArg, HasArgs, HasValue, HasReturn, HasStmt, HasBody, HasFunc, CanBeLowered}

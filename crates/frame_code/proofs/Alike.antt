@@ -6,7 +6,7 @@ use Rattle.par_tree.specs.Tree.{Name, Program, Func, Stmt, Body, done, step}
 use Rattle.par_tree.specs.View.{chain_op_tree, cmp_op_tree}
 use Rattle.par_ownership.specs.Environment.{Environment}
 use Rattle.par_ownership.specs.Ownership.{main_name}
-use Rattle.accepted_program.specs.Written.{param_names}
+use Rattle.accepted_laws.specs.Written.{param_names}
 use Rattle.block_check.specs.Forks.{declared_by, split_names, with_params, names_of, takes_block, assigns_integer}
 use Rattle.frame_code.specs.Names.{name_at, slot_names, IsSlot}
 use Rattle.frame_code.specs.Reading.{expr_read, row_read, arg_read, args_read, ret_value_read, FitsExpr, FitsRow, FitsArg, FitsArgs, FitsRetValue}

@@ -5,7 +5,7 @@ use Rattle.std.specs.Str.{bytes_eq}
 use Rattle.std.proofs.lemmas.Slice.Eq.{bytes_eq-Decides}
 use Rattle.std.proofs.lemmas.List.Folds.{list_any-append}
 use Rattle.par_tree.specs.Tree.{Name, Func}
-use Rattle.accepted_program.specs.Written.{is_among, declared_in}
+use Rattle.accepted_laws.specs.Written.{is_among, declared_in}
 use Rattle.frame_code.specs.Names.{with_name, with_names, slot_names, name_at}
 
 abbrev Distinct : List Name → Type 0

@@ -19,7 +19,7 @@ use Rattle.par_tree.specs.View.{params_tree, body_tree, ret_tree}
 use Rattle.par_tree.specs.declared.param.Param.{Param}
 use Rattle.par_tree.specs.declared.stmt.Stmt.{Stmt}
 use Rattle.par_ownership.specs.Environment.{Environment}
-use Rattle.accepted_program.specs.Written.{param_names}
+use Rattle.accepted_laws.specs.Written.{param_names}
 use Rattle.frame_code.specs.Lowered.{AreSlots, IsReturn}
 use Rattle.frame_code.specs.declared.code_ret.CodeRet.{CodeRet}
 use Rattle.frame_code.specs.Table.{Grown, IsBody}

@@ -5,8 +5,8 @@ use Rattle.par_tree.specs.Tree.{Name}
 use Rattle.par_tree.specs.View.{name_tree, expr_tree, links_tree, arg_tree, args_tree, params_tree, stmt_tree, body_tree, func_tree}
 use Rattle.par_tree.specs.declared.func.Func.{Func}
 use Rattle.block_check.specs.Shown.{funcs_tree}
-use Rattle.accepted_program.specs.Laws.{EachFunction}
-use Rattle.program_sizes.specs.Sizes.{body_size, functions_size}
+use Rattle.accepted_laws.specs.Laws.{EachFunction}
+use Rattle.accepted_laws.specs.Sizes.{body_size, functions_size}
 use Rattle.par_tree.specs.declared.name.Name.{Name as RustName}
 use Rattle.par_tree.specs.declared.link.Link.{Link}
 use Rattle.par_tree.specs.declared.expr.Expr.{Expr, Chain}
@@ -17,7 +17,7 @@ use Rattle.par_tree.proofs.Lists.{expr_tree-chain}
 use Rattle.par_tree.specs.declared.arg.Arg.{Arg}
 use Rattle.par_tree.specs.declared.param.Param.{Param}
 use Rattle.par_tree.specs.declared.stmt.Stmt.{Stmt}
-use Rattle.accepted_program.specs.Written.{is_among, param_names}
+use Rattle.accepted_laws.specs.Written.{is_among, param_names}
 use Rattle.frame_code.specs.Names.{names_tree}
 use Rattle.frame_code.specs.Slotted.{Has, HasAll, HasExpr, HasLinks, HasArg, HasArgs, HasStmt, HasBody, HasFunc}
 use Rattle.frame_code.proofs.Lists.{at_item, drop_item}

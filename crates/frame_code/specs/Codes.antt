@@ -2,7 +2,7 @@
 use Rattle.std.specs.Prelude.{◌≡◌, ℕ, List, [], ◌∷◌, map, length}
 use Rattle.par_tree.specs.Tree.{Name, Func, Program}
 use Rattle.par_ownership.specs.Ownership.{main_name}
-use Rattle.accepted_program.specs.Written.{param_names}
+use Rattle.accepted_laws.specs.Written.{param_names}
 use Rattle.block_check.specs.Forks.{with_params}
 use Rattle.frame_code.specs.Names.{slot_names, IsSlot}
 use Rattle.frame_code.specs.Lowered.{AreSlots, IsReturn}

@@ -5,7 +5,7 @@ use Rattle.par_tree.specs.Tree
 use Rattle.par_tree.specs.Tree.{Func}
 use Rattle.par_tree.specs.View.{name_tree}
 use Rattle.par_tree.specs.declared.name.Name.{Name}
-use Rattle.accepted_program.specs.Written.{is_among, declared_in}
+use Rattle.accepted_laws.specs.Written.{is_among, declared_in}
 
 -- a name behind others, unless it is among them
 abbrev pub with_name : List Tree.Name → Tree.Name → List Tree.Name

@@ -4,9 +4,9 @@ use Rattle.par_tree.specs.Tree
 use Rattle.par_tree.specs.Tree.{Name, Expr, number, variable, element, extent, negative, chain, compare, Links, last, link, Target, unused, block, Arg, value, lend, give, Stmt, declare, assign, store, allocate, release, choose, repeat, call, print, both, split, Body, done, step, RetValue, gives, hands, Ret, Func, Program}
 use Rattle.par_ownership.specs.Mention.{names_in_body}
 use Rattle.par_ownership.specs.Ownership.{main_name}
-use Rattle.accepted_program.specs.Written.{is_among, param_names}
-use Rattle.accepted_program.specs.Laws.{EachFunction}
-use Rattle.program_sizes.specs.Sizes.{functions_size}
+use Rattle.accepted_laws.specs.Written.{is_among, param_names}
+use Rattle.accepted_laws.specs.Laws.{EachFunction}
+use Rattle.accepted_laws.specs.Sizes.{functions_size}
 use Rattle.frame_code.specs.Names.{slot_names}
 
 -- x is among the names

@@ -3,7 +3,7 @@
 ghost use Rattle.std.specs.Prelude.{◌≡◌, IfOk};
 ghost use Rattle.par_tree.specs.View.{name_tree, target_tree, stmt_tree, body_tree, params_tree, func_tree};
 ghost use Rattle.block_check.specs.Shown.{rows_tree};
-ghost use Rattle.accepted_program.specs.Written.{is_among, declared_by_target, declared_in_stmt, declared_in_body, param_names};
+ghost use Rattle.accepted_laws.specs.Written.{is_among, declared_by_target, declared_in_stmt, declared_in_body, param_names};
 ghost use Rattle.frame_code.specs.Names.{names_tree, with_name, with_names, slot_names};
 
 use par_tree::{Body, Func, Name, Param, Stmt, StmtKind, Target};

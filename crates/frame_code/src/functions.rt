@@ -2,7 +2,7 @@
 
 ghost use Rattle.std.specs.Prelude.{◌≡◌, ◌≤◌, ◌+◌, [], IfOk, length};
 ghost use Rattle.par_tree.specs.View.{params_tree, func_tree};
-ghost use Rattle.accepted_program.specs.Written.{param_names};
+ghost use Rattle.accepted_laws.specs.Written.{param_names};
 ghost use Rattle.block_check.specs.Shown.{env_shown, funcs_tree};
 ghost use Rattle.block_check.specs.Forks.{with_params};
 ghost use Rattle.frame_code.specs.Names.{names_tree, slot_names};
@@ -11,7 +11,7 @@ ghost use Rattle.frame_code.specs.Scopes.{func_names, functions_of, names_of_sco
 ghost use Rattle.frame_code.specs.Table.{Grown};
 ghost use Rattle.frame_code.specs.Codes.{IsFunc, AreFuncs};
 ghost use Rattle.frame_code.specs.Slotted.{HasAll, HasFunc, CanBeLowered, most_slots, most_nodes};
-ghost use Rattle.program_sizes.specs.Sizes.{body_size, functions_size};
+ghost use Rattle.accepted_laws.specs.Sizes.{body_size, functions_size};
 
 use crate::declared::slot_names;
 use crate::expressions::returned;

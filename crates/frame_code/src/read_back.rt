@@ -1,7 +1,7 @@
 //! A table read back as text, by a reader that is told the names of slots and of functions.
 
 use crate::{Code, CodeArg, CodeExpr, CodeRet, CodeRetValue, CodeTarget, NodeKind, lower};
-use checked_source::read_source;
+use accepted_source::read_source;
 use par_print::print;
 use par_tree::{ChainOp, CmpOp};
 use std::alloc::Global;

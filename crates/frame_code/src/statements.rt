@@ -7,7 +7,7 @@ ghost use Rattle.block_check.specs.Forks.{declared_by, split_names};
 ghost use Rattle.frame_code.specs.Scopes.{functions_of, names_of_scope};
 ghost use Rattle.frame_code.specs.Table.{Grown, IsStmt, IsBody, AsLet, AsAssign, AsPut, AsAlloc, AsFree, AsCall};
 ghost use Rattle.frame_code.specs.Slotted.{Has, HasExpr, HasTarget, HasArgs, HasStmt, HasBody, most_nodes};
-ghost use Rattle.program_sizes.specs.Sizes.{stmt_size, body_size};
+ghost use Rattle.accepted_laws.specs.Sizes.{stmt_size, body_size};
 
 use crate::branches::branch_slots;
 use crate::expressions::{arguments, expression, target};

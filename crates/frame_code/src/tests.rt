@@ -1,7 +1,7 @@
 //! Tables whose nodes the text gives, worked out by hand.
 
 use crate::{Code, CodeArg, CodeExpr, CodeRetValue, CodeTarget, NodeKind, lower};
-use checked_source::read_source;
+use accepted_source::read_source;
 use std::alloc::{AllocError, Global};
 use std::fmt::Write;
 use std::process::Abort;

@@ -11,8 +11,8 @@ use Rattle.par_tree.specs.declared.link.Link.{Link}
 use Rattle.par_tree.specs.declared.stmt.Stmt.{Stmt}
 use Rattle.par_tree.specs.declared.stmt_kind.StmtKind.{StmtKind, If, While, Par, Split}
 use Rattle.par_tree.proofs.Lists.{expr_tree-chain, stmt_tree-if, stmt_tree-while, stmt_tree-par, stmt_tree-split}
-use Rattle.canon_text.specs.declared.place.Place.{Place}
-use Rattle.canon_text.specs.Canonical.{expr_text, links_text, text_in, first_place, stmt_text, body_text, braces, deeper, else_text}
+use Rattle.canonical_text.specs.declared.place.Place.{Place}
+use Rattle.canonical_text.specs.Canonical.{expr_text, links_text, text_in, first_place, stmt_text, body_text, braces, deeper, else_text}
 
 -- what holds where a call succeeds, from what is ensured there
 pub if_ok : {X E : Type 0} {P Q : Type 0} (r : Result X E) → (P → Q) → IfOk r (λ _. P) → IfOk r (λ _. Q)

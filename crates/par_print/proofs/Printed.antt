@@ -3,9 +3,9 @@ use Rattle.std.proofs.Common.{◌≡◌, ℕ, ◌≤◌, List, length, sym, ◌�
 use Rattle.par_tree.specs.Tree.{Program}
 use Rattle.par_text.specs.Lexing.{longest_text}
 use Rattle.par_text.specs.Judging.{IsText}
-use Rattle.canon_text.specs.Canonical.{canonical}
-use Rattle.canon_text.specs.Laws.{IsTextButForLines}
-use Rattle.canon_text.proofs.ReadBack.{canonical_text, canonical_again}
+use Rattle.canonical_text.specs.Canonical.{canonical}
+use Rattle.canonical_text.specs.Laws.{IsTextButForLines}
+use Rattle.canonical_text.proofs.ReadBack.{canonical_text, canonical_again}
 
 pub printed_text : (text : List ℕ) (p : Program) → text ≡ canonical p → (source : List ℕ) → IsText source p → length text ≤ longest_text → IsTextButForLines text p
 printed_text text p is source h short =

@@ -3,12 +3,12 @@
 ghost use Rattle.std.specs.Prelude.{◌≡◌, ◌++◌, IfOk, codes};
 ghost use Rattle.par_tree.specs.View.{name_tree, expr_tree, links_tree};
 ghost use Rattle.par_tree.specs.Tree.{element as element_tree, extent as extent_tree, negative as negative_tree};
-ghost use Rattle.canon_text.specs.Canonical.{expr_text, links_text, text_in};
-ghost use Rattle.canon_text.specs.declared.place.Place.TheVariants.{Factor};
+ghost use Rattle.canonical_text.specs.Canonical.{expr_text, links_text, text_in};
+ghost use Rattle.canonical_text.specs.declared.place.Place.TheVariants.{Factor};
 
 use crate::places::{first_place, needs_parentheses, operand_place};
 use crate::words::{comparison, number, operator};
-use canon_text::Place;
+use canonical_text::Place;
 use par_tree::{Expr, Link, Name};
 use std::alloc::{AllocError, Global};
 

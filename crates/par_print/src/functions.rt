@@ -3,7 +3,7 @@
 ghost use Rattle.std.specs.Prelude.{◌≡◌, ◌++◌, IfOk, map, codes, []};
 ghost use Rattle.std.specs.List.{flat_map};
 ghost use Rattle.par_tree.specs.View.{name_tree, params_tree, body_tree, ret_value_tree, ret_tree, func_tree};
-ghost use Rattle.canon_text.specs.Canonical.{◌⊕◌, with_commas, param_text, ret_value_text, ret_text, braces, line_end, body_text, func_text};
+ghost use Rattle.canonical_text.specs.Canonical.{◌⊕◌, with_commas, param_text, ret_value_text, ret_text, braces, line_end, body_text, func_text};
 
 use crate::expressions::expression;
 use crate::lists::params;

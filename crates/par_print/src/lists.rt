@@ -3,7 +3,7 @@
 ghost use Rattle.std.specs.Prelude.{◌≡◌, ◌++◌, IfOk, map};
 ghost use Rattle.std.specs.List.{flat_map};
 ghost use Rattle.par_tree.specs.View.{arg_tree, args_tree, params_tree};
-ghost use Rattle.canon_text.specs.Canonical.{arg_text, param_text, behind_comma, with_commas};
+ghost use Rattle.canonical_text.specs.Canonical.{arg_text, param_text, behind_comma, with_commas};
 
 use crate::expressions::expression;
 use crate::words::param;

@@ -2,9 +2,9 @@
 
 ghost use Rattle.std.specs.Prelude.{◌≡◌};
 ghost use Rattle.par_tree.specs.View.{expr_tree, links_tree, chain_op_tree};
-ghost use Rattle.canon_text.specs.Canonical.{operand_place, first_place, are_of_sum, is_sum, is_chain, is_comparison, needs_parentheses};
+ghost use Rattle.canonical_text.specs.Canonical.{operand_place, first_place, are_of_sum, is_sum, is_chain, is_comparison, needs_parentheses};
 
-use canon_text::Place;
+use canonical_text::Place;
 use par_tree::{ChainOp, Expr, Link};
 
 /// The place of an operand.

@@ -3,8 +3,8 @@ ghost use Rattle.par_tree.specs.Tree.{Program as ProgramTree};
 ghost use Rattle.par_tree.specs.View.{program_tree};
 ghost use Rattle.par_text.specs.Judging.{IsText};
 ghost use Rattle.par_text.specs.Lexing.{longest_text};
-ghost use Rattle.canon_text.specs.Canonical.{canonical};
-ghost use Rattle.canon_text.specs.Laws.{IsTextButForLines};
+ghost use Rattle.canonical_text.specs.Canonical.{canonical};
+ghost use Rattle.canonical_text.specs.Laws.{IsTextButForLines};
 
 use crate::functions::funcs;
 use par_tree::Program;

@@ -1,5 +1,5 @@
 use crate::print;
-use par_syntax::{ParseFail, parse};
+use par_parse::{ParseFail, parse};
 use std::alloc::{AllocError, Global};
 use std::test::Fail;
 

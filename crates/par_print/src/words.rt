@@ -3,7 +3,7 @@
 ghost use Rattle.std.specs.Prelude.{◌≡◌, ◌++◌, IfOk};
 ghost use Rattle.std.specs.Fmt.{signed_decimal};
 ghost use Rattle.par_tree.specs.View.{chain_op_tree, cmp_op_tree, target_tree, param_kind_tree, param_tree};
-ghost use Rattle.canon_text.specs.Canonical.{operator_text, comparison_text, target_text, kind_text, param_text, deeper};
+ghost use Rattle.canonical_text.specs.Canonical.{operator_text, comparison_text, target_text, kind_text, param_text, deeper};
 
 use par_tree::{ChainOp, CmpOp, Param, ParamKind, Target};
 use std::alloc::{AllocError, Global};

@@ -3,7 +3,7 @@ use Rattle.std.specs.Prelude.{◌≡◌, ℕ, zero, suc, ◌+◌, ◌≤◌, ◌
 use Rattle.std.specs.Str.{bytes_eq}
 use Rattle.std.proofs.Common.{sym, ◌∙◌, ap, arith, subst, append_assoc, append-nil, length-append}
 use Rattle.std.proofs.lemmas.Bool.{lt-ltb, false≢true}
-use Rattle.action_order.specs.Actions as actions
+use Rattle.depth_first_list.specs.Actions as actions
 use Rattle.par_tree.specs.Tree
 use Rattle.par_tree.specs.Tree.{Body, Stmt}
 use Rattle.par_ownership.specs.Ownership.{function_of, main_name}
@@ -11,12 +11,12 @@ use Rattle.print_program.specs.Tree.{Statements, empty, print, par}
 use Rattle.print_program.specs.TextOrder as small
 use Rattle.print_program.specs.TextOrder.{is_within}
 use Rattle.print_form.specs.Printing.{begun, forked, added, printed, is_none_of, gives_nothing, is_main, if_within, deepest, printing}
-use Rattle.par_meaning.specs.Values.{value}
-use Rattle.par_meaning.specs.States
-use Rattle.par_meaning.specs.States.{Setting, State, Item, noting, acting, choosing, unless_faulted, settled, limiting, with_depth, child_of, parent_of, ended, given_back, taking, joined, joining, forking, next_action}
-use Rattle.par_meaning.specs.Calls.{answering}
-use Rattle.par_meaning.specs.Run.{names_in, assigns_in, beginning, exec, exec_all, run, main_run, dropping_answer, opening, whole, lines_of, first_fault}
-use Rattle.par_meaning.proofs.Fixed.{run_fixed}
+use Rattle.depth_first_run.specs.Values.{value}
+use Rattle.depth_first_run.specs.States
+use Rattle.depth_first_run.specs.States.{Setting, State, Item, noting, acting, choosing, unless_faulted, settled, limiting, with_depth, child_of, parent_of, ended, given_back, taking, joined, joining, forking, next_action}
+use Rattle.depth_first_run.specs.Calls.{answering}
+use Rattle.depth_first_run.specs.Run.{names_in, assigns_in, beginning, exec, exec_all, run, main_run, dropping_answer, opening, whole, lines_of, first_fault}
+use Rattle.depth_first_run.proofs.Fixed.{run_fixed}
 use Rattle.print_runs.specs.Laws.{PrintsInTextOrder}
 
 -- ---- options

@@ -3,8 +3,8 @@ use Rattle.std.specs.Prelude.{◌≡◌, ◌≤◌, Some, None}
 use Rattle.print_program.specs.Tree.{Statements}
 use Rattle.print_program.specs.TextOrder as small
 use Rattle.print_form.specs.Printing.{deepest, printing}
-use Rattle.par_meaning.specs.States.{Setting, State}
-use Rattle.par_meaning.specs.Run.{whole, lines_of, first_fault}
+use Rattle.depth_first_run.specs.States.{Setting, State}
+use Rattle.depth_first_run.specs.Run.{whole, lines_of, first_fault}
 
 -- a run of these statements as the rules say: no fault, and these lines
 pub record PrintsInTextOrder (c : Setting) (main : Statements) : Type 0 where

@@ -14,17 +14,17 @@ use Rattle.par_tree.specs.declared.expr.Expr.{Expr as Expr'}
 use Rattle.par_tree.specs.declared.ret.Ret.{Ret}
 use Rattle.par_tree.specs.declared.ret_value.RetValue.{RetValue}
 use Rattle.par_tree.specs.declared.ret_value.RetValue.TheVariants.{Int, Own}
-use Rattle.par_meaning.specs.Stores as stores
-use Rattle.par_meaning.specs.Stores.{block_of, dropping}
-use Rattle.par_meaning.specs.Values.{value}
-use Rattle.par_meaning.specs.States.{State, unless_faulted, faulting}
-use Rattle.par_meaning.specs.Calls as calls
-use Rattle.par_meaning.specs.Calls.{Answer, answered, lent_back, closing, returned, answering, giving}
-use Rattle.par_meaning.specs.Run.{storing}
-use Rattle.par_store.specs.Shown.{store_shown}
-use Rattle.par_store.specs.declared.store.Store.{Store as RustStore}
-use Rattle.run_journal.specs.declared.journal.Journal.{Journal}
-use Rattle.run_journal.specs.Journals.{births_of}
+use Rattle.depth_first_run.specs.Stores as stores
+use Rattle.depth_first_run.specs.Stores.{block_of, dropping}
+use Rattle.depth_first_run.specs.Values.{value}
+use Rattle.depth_first_run.specs.States.{State, unless_faulted, faulting}
+use Rattle.depth_first_run.specs.Calls as calls
+use Rattle.depth_first_run.specs.Calls.{Answer, answered, lent_back, closing, returned, answering, giving}
+use Rattle.depth_first_run.specs.Run.{storing}
+use Rattle.serial_store.specs.Shown.{store_shown}
+use Rattle.serial_store.specs.declared.store.Store.{Store as RustStore}
+use Rattle.serial_journal.specs.declared.journal.Journal.{Journal}
+use Rattle.serial_journal.specs.Journals.{births_of}
 use Rattle.serial_meaning.specs.declared.thread.Thread.{Thread}
 use Rattle.serial_meaning.specs.declared.runner.Runner.{Runner}
 use Rattle.serial_meaning.specs.Views.{thread_state, callers_shown, Is}

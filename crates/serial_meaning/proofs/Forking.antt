@@ -5,15 +5,15 @@ use Rattle.std.specs.List.{AllZip}
 use Rattle.dag_order.specs.Births.{HasLabel}
 use Rattle.dag_order.specs.LabelOrder.{fork_of}
 use Rattle.dag_order.specs.declared.birth.Birth.{Birth}
-use Rattle.action_order.specs.Actions as deeds
+use Rattle.depth_first_list.specs.Actions as deeds
 use Rattle.par_tree.specs.Tree.{Name, Program}
-use Rattle.par_meaning.specs.States.{Setting, State, Item, acted, acting, child_of, parent_of, ended}
-use Rattle.par_meaning.specs.Run.{actions_of}
-use Rattle.par_meaning.specs.Middle as middles
-use Rattle.par_store.specs.Shown.{store_shown}
-use Rattle.par_store.specs.Effects.{child_store, parent_store}
-use Rattle.run_journal.specs.Journals.{KeepsUp, KeepsLabels, births_of, action_named}
-use Rattle.run_journal.specs.declared.journal.Journal.{Journal}
+use Rattle.depth_first_run.specs.States.{Setting, State, Item, acted, acting, child_of, parent_of, ended}
+use Rattle.depth_first_run.specs.Run.{actions_of}
+use Rattle.depth_first_run.specs.Middle as middles
+use Rattle.serial_store.specs.Shown.{store_shown}
+use Rattle.serial_store.specs.Effects.{child_store, parent_store}
+use Rattle.serial_journal.specs.Journals.{KeepsUp, KeepsLabels, births_of, action_named}
+use Rattle.serial_journal.specs.declared.journal.Journal.{Journal}
 use Rattle.serial_meaning.specs.Settings.{setting_of}
 use Rattle.serial_meaning.specs.Views.{Is, IsThread, IsBeyond, thread_state, callers_shown}
 use Rattle.serial_meaning.specs.Frames.{IsFrame}

@@ -1,14 +1,14 @@
 -- A Join, by whether its thread and the child are faulted.
 use Rattle.std.proofs.Common.{◌≡◌, ℕ, Bool, true, false, refl, sym, ◌∙◌, ap}
-use Rattle.action_order.specs.Actions as deeds
+use Rattle.depth_first_list.specs.Actions as deeds
 use Rattle.par_tree.specs.Tree.{Name}
-use Rattle.par_meaning.specs.Stores as stores
-use Rattle.par_meaning.specs.Stores.{held_words}
-use Rattle.par_meaning.specs.States.{State, acting, emptied, holdings, given_back, taking, joined}
-use Rattle.par_meaning.specs.Run.{storing}
-use Rattle.par_store.specs.Shown.{store_shown}
-use Rattle.par_store.specs.Effects.{joined_store}
-use Rattle.par_store.specs.declared.store.Store.{Store}
+use Rattle.depth_first_run.specs.Stores as stores
+use Rattle.depth_first_run.specs.Stores.{held_words}
+use Rattle.depth_first_run.specs.States.{State, acting, emptied, holdings, given_back, taking, joined}
+use Rattle.depth_first_run.specs.Run.{storing}
+use Rattle.serial_store.specs.Shown.{store_shown}
+use Rattle.serial_store.specs.Effects.{joined_store}
+use Rattle.serial_store.specs.declared.store.Store.{Store}
 use Rattle.serial_meaning.specs.Views.{Is, thread_holdings}
 use Rattle.serial_meaning.specs.declared.runner.Runner.{Runner}
 

@@ -6,25 +6,25 @@ use Rattle.dummy_tree.specs.Leaves.{IsTreeSize}
 use Rattle.dummy_tree.specs.Quotas.{dummies_of}
 use Rattle.dummy_tree.specs.QuotaLaws.{no_dummies}
 use Rattle.dummy_tree.specs.Shapes.{Shape}
-use Rattle.action_order.specs.Runs.{tree_for}
+use Rattle.depth_first_list.specs.Runs.{tree_for}
 use Rattle.dag_order.specs.Births.{HasLabel}
 use Rattle.dag_order.specs.declared.birth.Birth.{Birth}
 use Rattle.dag_order.specs.declared.fault.FaultKind.{FaultKind}
 use Rattle.dag_order.specs.declared.fault.FaultKind.TheVariants as faults
 use Rattle.par_tree.specs.Tree.{Name, Expr, Stmt, Body, repeat, done, step}
-use Rattle.par_meaning.specs.Stores.{block_of, block_words}
-use Rattle.par_meaning.specs.Values.{value, is_true}
-use Rattle.par_meaning.specs.States.{Setting, State, began, noting, faulting}
-use Rattle.par_meaning.specs.Run.{actions_of, cut_of, cutting, size_of, names_in, assigns_in}
-use Rattle.par_meaning.specs.Middle.{Frame, Middle, middle, does, statements, tree, allocates, settled_at, allocated, allocated_at, allocating_words_at, allocating_at, before_all, turning_at, round_at, repeating_at, forking_at, both_at, rejoins, cut_at, statement_at, first_at, part_at, frame_at}
-use Rattle.par_store.specs.Effects.{Cuts}
-use Rattle.par_store.specs.Shown.{store_shown}
-use Rattle.par_store.specs.declared.store.Store.{Store as RustStore}
-use Rattle.par_store.specs.declared.stop.Stop.TheVariants as stops
-use Rattle.run_journal.specs.declared.journal.Journal.{Journal}
-use Rattle.run_journal.specs.declared.serial_stop.SerialStop.{SerialStop}
-use Rattle.run_journal.specs.Stops.{OnStop}
-use Rattle.run_journal.specs.Journals.{births_of}
+use Rattle.depth_first_run.specs.Stores.{block_of, block_words}
+use Rattle.depth_first_run.specs.Values.{value, is_true}
+use Rattle.depth_first_run.specs.States.{Setting, State, began, noting, faulting}
+use Rattle.depth_first_run.specs.Run.{actions_of, cut_of, cutting, size_of, names_in, assigns_in}
+use Rattle.depth_first_run.specs.Middle.{Frame, Middle, middle, does, statements, tree, allocates, settled_at, allocated, allocated_at, allocating_words_at, allocating_at, before_all, turning_at, round_at, repeating_at, forking_at, both_at, rejoins, cut_at, statement_at, first_at, part_at, frame_at}
+use Rattle.serial_store.specs.Effects.{Cuts}
+use Rattle.serial_store.specs.Shown.{store_shown}
+use Rattle.serial_store.specs.declared.store.Store.{Store as RustStore}
+use Rattle.serial_store.specs.declared.stop.Stop.TheVariants as stops
+use Rattle.serial_journal.specs.declared.journal.Journal.{Journal}
+use Rattle.serial_journal.specs.declared.serial_stop.SerialStop.{SerialStop}
+use Rattle.serial_journal.specs.Stops.{OnStop}
+use Rattle.serial_journal.specs.Journals.{births_of}
 use Rattle.serial_meaning.specs.declared.machine.Machine.{Machine}
 use Rattle.serial_meaning.specs.declared.runner.Runner.{Runner}
 use Rattle.serial_meaning.specs.declared.thread.Thread.{Thread}

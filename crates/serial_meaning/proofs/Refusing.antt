@@ -6,15 +6,15 @@ use Rattle.dag_order.specs.declared.birth.Birth.{Birth}
 use Rattle.dag_order.specs.declared.fault.FaultKind.{FaultKind}
 use Rattle.dag_order.specs.declared.fault.FaultKind.TheVariants.{Depth, Turns}
 use Rattle.par_tree.specs.Tree.{Program, Func, Param, Arg, Target}
-use Rattle.par_meaning.specs.Stores as stores
-use Rattle.par_meaning.specs.States.{State, acting, faulting}
-use Rattle.par_meaning.specs.Calls.{Passing, all_passed}
-use Rattle.par_meaning.specs.Run.{storing}
-use Rattle.par_meaning.specs.Middle.{Frame, middle, before_all, answers, body_at, opening_at, calling_with_at, calling_at}
-use Rattle.par_store.specs.Shown.{store_shown}
-use Rattle.run_journal.specs.declared.serial_stop.SerialStop.{SerialStop}
-use Rattle.run_journal.specs.Stops.{OnStop}
-use Rattle.run_journal.specs.Journals.{births_of}
+use Rattle.depth_first_run.specs.Stores as stores
+use Rattle.depth_first_run.specs.States.{State, acting, faulting}
+use Rattle.depth_first_run.specs.Calls.{Passing, all_passed}
+use Rattle.depth_first_run.specs.Run.{storing}
+use Rattle.depth_first_run.specs.Middle.{Frame, middle, before_all, answers, body_at, opening_at, calling_with_at, calling_at}
+use Rattle.serial_store.specs.Shown.{store_shown}
+use Rattle.serial_journal.specs.declared.serial_stop.SerialStop.{SerialStop}
+use Rattle.serial_journal.specs.Stops.{OnStop}
+use Rattle.serial_journal.specs.Journals.{births_of}
 use Rattle.serial_meaning.specs.declared.thread.Thread.{Thread}
 use Rattle.serial_meaning.specs.declared.runner.Runner.{Runner}
 use Rattle.serial_meaning.specs.Settings.{setting_of}

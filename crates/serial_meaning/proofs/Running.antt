@@ -5,16 +5,16 @@ use Rattle.std.specs.List.{AllZip}
 use Rattle.std.proofs.lemmas.List.{reverse-append, length-reverse}
 use Rattle.std.proofs.lemmas.Slice.Zip.{AllZip-long}
 use Rattle.dag_order.specs.declared.birth.Birth.{Birth}
-use Rattle.action_order.specs.Actions as deeds
-use Rattle.action_order.specs.Actions.{Action}
-use Rattle.par_meaning.specs.States.{Setting, State, Item, acted, acting, ended}
-use Rattle.par_meaning.specs.Run.{whole, actions_of}
-use Rattle.par_meaning.specs.Middle as middles
-use Rattle.par_meaning.specs.Middle.{Middle, middle, finish, finished, advance, frame_at, to_come}
-use Rattle.par_meaning.proofs.Stepping.{advance_comes}
-use Rattle.par_meaning.proofs.Nearing.{advance_nears, items_grow}
-use Rattle.run_journal.specs.Journals.{births_of, action_named}
-use Rattle.run_journal.proofs.Items.{actions_more}
+use Rattle.depth_first_list.specs.Actions as deeds
+use Rattle.depth_first_list.specs.Actions.{Action}
+use Rattle.depth_first_run.specs.States.{Setting, State, Item, acted, acting, ended}
+use Rattle.depth_first_run.specs.Run.{whole, actions_of}
+use Rattle.depth_first_run.specs.Middle as middles
+use Rattle.depth_first_run.specs.Middle.{Middle, middle, finish, finished, advance, frame_at, to_come}
+use Rattle.depth_first_run.proofs.Stepping.{advance_comes}
+use Rattle.depth_first_run.proofs.Nearing.{advance_nears, items_grow}
+use Rattle.serial_journal.specs.Journals.{births_of, action_named}
+use Rattle.serial_journal.proofs.Items.{actions_more}
 use Rattle.serial_meaning.specs.Views.{Is, IsBeyond}
 use Rattle.serial_meaning.specs.Frames.{IsFrame}
 use Rattle.serial_meaning.specs.Moving.{AreFrames, At}

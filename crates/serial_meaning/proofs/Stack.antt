@@ -6,14 +6,14 @@ use Rattle.std.proofs.lemmas.List.{reverse-append}
 use Rattle.dag_order.specs.declared.birth.Birth.{Birth}
 use Rattle.dag_order.specs.declared.fault.FaultKind.{FaultKind}
 use Rattle.par_tree.specs.Tree.{Expr}
-use Rattle.par_meaning.specs.Stores as stores
-use Rattle.par_meaning.specs.Values.{Outcome, value}
-use Rattle.par_meaning.specs.States.{State, faulting}
-use Rattle.par_meaning.specs.Middle.{Frame, Middle, middle, settled_at}
-use Rattle.par_store.specs.Shown.{store_shown}
-use Rattle.run_journal.specs.declared.serial_stop.SerialStop.{SerialStop}
-use Rattle.run_journal.specs.Stops.{OnStop}
-use Rattle.run_journal.specs.Journals.{births_of}
+use Rattle.depth_first_run.specs.Stores as stores
+use Rattle.depth_first_run.specs.Values.{Outcome, value}
+use Rattle.depth_first_run.specs.States.{State, faulting}
+use Rattle.depth_first_run.specs.Middle.{Frame, Middle, middle, settled_at}
+use Rattle.serial_store.specs.Shown.{store_shown}
+use Rattle.serial_journal.specs.declared.serial_stop.SerialStop.{SerialStop}
+use Rattle.serial_journal.specs.Stops.{OnStop}
+use Rattle.serial_journal.specs.Journals.{births_of}
 use Rattle.serial_meaning.specs.declared.frame.Frame.{Frame as RustFrame}
 use Rattle.serial_meaning.specs.declared.machine.Machine.{Machine}
 use Rattle.serial_meaning.specs.declared.runner.Runner.{Runner}

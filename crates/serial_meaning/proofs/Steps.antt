@@ -5,33 +5,33 @@ use Rattle.std.specs.Result.{IsErrAnd}
 use Rattle.dag_order.specs.Births.{HasLabel}
 use Rattle.dag_order.specs.declared.birth.Birth.{Birth}
 use Rattle.dag_order.specs.declared.fault.FaultKind.{FaultKind}
-use Rattle.action_order.specs.Actions as deeds
-use Rattle.action_order.specs.Actions.{Deed, Action}
-use Rattle.par_meaning.specs.States.{State, Item, acted, failed, noting, acting, faulting}
-use Rattle.par_meaning.specs.Run.{actions_of}
+use Rattle.depth_first_list.specs.Actions as deeds
+use Rattle.depth_first_list.specs.Actions.{Deed, Action}
+use Rattle.depth_first_run.specs.States.{State, Item, acted, failed, noting, acting, faulting}
+use Rattle.depth_first_run.specs.Run.{actions_of}
 use Rattle.std.specs.Prelude.{map, reverse, take}
 use Rattle.std.proofs.lemmas.List.{reverse-append, map-append, take_more}
 use Rattle.std.proofs.Common.{get_or, take_all}
 use Rattle.par_tree.specs.Tree.{Expr}
-use Rattle.par_meaning.specs.Stores as stores
-use Rattle.par_meaning.specs.Stores.{stored_words, held_words}
-use Rattle.par_meaning.specs.Values.{Outcome, value}
-use Rattle.par_meaning.specs.Stores.{block_of, writing, dropping}
-use Rattle.par_meaning.specs.Values.{place_in}
-use Rattle.par_meaning.specs.States.{settled, unless_faulted, choosing}
-use Rattle.par_meaning.specs.Run.{storing, putting, putting_at}
-use Rattle.par_store.specs.Effects.{Puts}
+use Rattle.depth_first_run.specs.Stores as stores
+use Rattle.depth_first_run.specs.Stores.{stored_words, held_words}
+use Rattle.depth_first_run.specs.Values.{Outcome, value}
+use Rattle.depth_first_run.specs.Stores.{block_of, writing, dropping}
+use Rattle.depth_first_run.specs.Values.{place_in}
+use Rattle.depth_first_run.specs.States.{settled, unless_faulted, choosing}
+use Rattle.depth_first_run.specs.Run.{storing, putting, putting_at}
+use Rattle.serial_store.specs.Effects.{Puts}
 use Rattle.dag_order.specs.declared.fault.FaultKind.TheVariants as faults
 use Rattle.par_tree.specs.Tree.{Name}
 use Rattle.std.specs.Prelude.{true, false, slice_set}
-use Rattle.par_store.specs.Shown.{store_shown}
-use Rattle.par_store.specs.declared.store.Store.{Store as RustStore}
-use Rattle.run_journal.specs.declared.journal.Journal.{Journal}
-use Rattle.run_journal.specs.declared.serial_stop.SerialStop.{SerialStop}
-use Rattle.run_journal.specs.declared.serial_stop.SerialStop.TheVariants.{StepsSpent, OutOfMemory}
-use Rattle.run_journal.specs.Stops.{OnStop}
-use Rattle.run_journal.specs.Journals.{KeepsUp, births_of, action_named}
-use Rattle.run_journal.proofs.Items.{actions_more}
+use Rattle.serial_store.specs.Shown.{store_shown}
+use Rattle.serial_store.specs.declared.store.Store.{Store as RustStore}
+use Rattle.serial_journal.specs.declared.journal.Journal.{Journal}
+use Rattle.serial_journal.specs.declared.serial_stop.SerialStop.{SerialStop}
+use Rattle.serial_journal.specs.declared.serial_stop.SerialStop.TheVariants.{StepsSpent, OutOfMemory}
+use Rattle.serial_journal.specs.Stops.{OnStop}
+use Rattle.serial_journal.specs.Journals.{KeepsUp, births_of, action_named}
+use Rattle.serial_journal.proofs.Items.{actions_more}
 use Rattle.serial_meaning.specs.declared.thread.Thread.{Thread}
 use Rattle.serial_meaning.specs.declared.runner.Runner.{Runner}
 use Rattle.serial_meaning.specs.Views.{thread_state, IsThread, Is, IsBeyond, fault_of, thread_holdings}

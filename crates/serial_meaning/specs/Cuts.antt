@@ -2,12 +2,12 @@
 use Rattle.std.specs.Prelude.{◌≡◌, ℕ, ℤ, Bool, Option, Some, None, is_some, Result, MatchResult}
 use Rattle.dag_order.specs.declared.fault.FaultKind.TheVariants as faults
 use Rattle.par_tree.specs.Tree.{Name}
-use Rattle.par_meaning.specs.Stores.{block_of}
-use Rattle.par_meaning.specs.States.{State, faulting}
-use Rattle.par_meaning.specs.Run.{storing, cut_of, cutting}
-use Rattle.run_journal.specs.declared.serial_stop.SerialStop.{SerialStop}
-use Rattle.run_journal.specs.Stops.{OnStop}
-use Rattle.run_journal.specs.Journals.{births_of}
+use Rattle.depth_first_run.specs.Stores.{block_of}
+use Rattle.depth_first_run.specs.States.{State, faulting}
+use Rattle.depth_first_run.specs.Run.{storing, cut_of, cutting}
+use Rattle.serial_journal.specs.declared.serial_stop.SerialStop.{SerialStop}
+use Rattle.serial_journal.specs.Stops.{OnStop}
+use Rattle.serial_journal.specs.Journals.{births_of}
 use Rattle.serial_meaning.specs.declared.runner.Runner.{Runner}
 use Rattle.serial_meaning.specs.Views.{Is, IsBeyond}
 

@@ -1,8 +1,8 @@
 -- What a Fork leaves.
 use Rattle.std.specs.Prelude.{ℕ, [], Bool}
 use Rattle.par_tree.specs.Tree.{Name}
-use Rattle.par_meaning.specs.States.{Setting, State, child_of, parent_of}
-use Rattle.run_journal.specs.Journals.{KeepsUp, KeepsLabels, births_of}
+use Rattle.depth_first_run.specs.States.{Setting, State, child_of, parent_of}
+use Rattle.serial_journal.specs.Journals.{KeepsUp, KeepsLabels, births_of}
 use Rattle.serial_meaning.specs.Views.{IsThread}
 use Rattle.serial_meaning.specs.declared.thread.Thread.{Thread}
 use Rattle.serial_meaning.specs.declared.runner.Runner.{Runner}

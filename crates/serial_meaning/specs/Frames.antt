@@ -5,10 +5,10 @@ use Rattle.dummy_tree.specs.Shapes.{shape_of}
 use Rattle.dummy_tree.specs.TreeLeaves.{tree_leaves}
 use Rattle.par_tree.specs.Tree.{Name}
 use Rattle.par_tree.specs.View.{name_tree, body_tree, ret_tree, params_tree, args_tree, target_tree}
-use Rattle.par_meaning.specs.States.{State, parent_of}
-use Rattle.par_meaning.specs.Run.{names_in, assigns_in, no_name}
-use Rattle.par_meaning.specs.Middle as middles
-use Rattle.par_store.specs.Shown.{store_shown}
+use Rattle.depth_first_run.specs.States.{State, parent_of}
+use Rattle.depth_first_run.specs.Run.{names_in, assigns_in, no_name}
+use Rattle.depth_first_run.specs.Middle as middles
+use Rattle.serial_store.specs.Shown.{store_shown}
 use Rattle.serial_meaning.specs.Lengths.{length_of}
 use Rattle.serial_meaning.specs.Views.{IsThread}
 use Rattle.serial_meaning.specs.declared.part.Part.{Part}

@@ -2,11 +2,11 @@
 use Rattle.std.specs.Prelude.{◌≡◌, ℕ, List, ◌∷◌, reverse, Result, MatchResult}
 use Rattle.std.specs.List.{AllZip}
 use Rattle.dag_order.specs.declared.birth.Birth.{Birth}
-use Rattle.par_meaning.specs.States.{State}
-use Rattle.par_meaning.specs.Middle.{Frame, Middle, middle}
-use Rattle.run_journal.specs.declared.serial_stop.SerialStop.{SerialStop}
-use Rattle.run_journal.specs.Stops.{OnStop}
-use Rattle.run_journal.specs.Journals.{births_of}
+use Rattle.depth_first_run.specs.States.{State}
+use Rattle.depth_first_run.specs.Middle.{Frame, Middle, middle}
+use Rattle.serial_journal.specs.declared.serial_stop.SerialStop.{SerialStop}
+use Rattle.serial_journal.specs.Stops.{OnStop}
+use Rattle.serial_journal.specs.Journals.{births_of}
 use Rattle.serial_meaning.specs.Views.{Is, IsBeyond}
 use Rattle.serial_meaning.specs.Frames.{IsFrame}
 use Rattle.serial_meaning.specs.declared.frame.Frame.{Frame as RustFrame}

@@ -1,9 +1,9 @@
 -- A call that begins, and a call that meets a limit.
 use Rattle.std.specs.Prelude.{ℕ, pred, Result, Ok, Err}
 use Rattle.dag_order.specs.declared.fault.FaultKind.{FaultKind}
-use Rattle.par_meaning.specs.Stores.{Store}
-use Rattle.par_meaning.specs.States.{State, faulting}
-use Rattle.par_meaning.specs.Calls.{Passing, entered}
+use Rattle.depth_first_run.specs.Stores.{Store}
+use Rattle.depth_first_run.specs.States.{State, faulting}
+use Rattle.depth_first_run.specs.Calls.{Passing, entered}
 
 -- a function begins with this store, while the store of its caller waits; it is a turn
 abbrev pub entering : Store → State → State

@@ -1,12 +1,12 @@
 -- What a run gives, and where the machine is on its way there.
 use Rattle.std.specs.Prelude.{◌≡◌, ◌<◌, ◌≤◌, ℕ, List, length, Result, MatchResult}
-use Rattle.par_meaning.specs.States.{Setting, State, Item, ended}
-use Rattle.par_meaning.specs.Run.{whole, actions_of}
-use Rattle.par_meaning.specs.Middle.{Middle, finished}
-use Rattle.run_journal.specs.Stops.{OnStop}
-use Rattle.run_journal.specs.Telling.{Tells}
-use Rattle.run_journal.specs.declared.serial.Serial.{Serial}
-use Rattle.run_journal.specs.declared.serial_stop.SerialStop.{SerialStop}
+use Rattle.depth_first_run.specs.States.{Setting, State, Item, ended}
+use Rattle.depth_first_run.specs.Run.{whole, actions_of}
+use Rattle.depth_first_run.specs.Middle.{Middle, finished}
+use Rattle.serial_journal.specs.Stops.{OnStop}
+use Rattle.serial_journal.specs.Telling.{Tells}
+use Rattle.serial_journal.specs.declared.serial.Serial.{Serial}
+use Rattle.serial_journal.specs.declared.serial_stop.SerialStop.{SerialStop}
 use Rattle.serial_meaning.specs.Moving.{At}
 use Rattle.serial_meaning.specs.Views.{Is}
 use Rattle.serial_meaning.specs.declared.machine.Machine.{Machine}

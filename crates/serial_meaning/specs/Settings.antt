@@ -1,7 +1,7 @@
 -- What a run is of, with the limits of a run.
 use Rattle.std.specs.Prelude.{ℕ}
 use Rattle.par_tree.specs.Tree.{Program}
-use Rattle.par_meaning.specs.States.{Setting}
+use Rattle.depth_first_run.specs.States.{Setting}
 
 -- a program and a quota: at most 10,000 open calls, 1,000,000 turns of a thread, and 256 forks above one another
 abbrev pub setting_of : Program → ℕ → Setting

@@ -3,16 +3,16 @@ use Rattle.std.specs.Prelude.{◌≡◌, ℕ, ◌+◌, ◌<◌, List, [], ◌∷
 use Rattle.dag_order.specs.Births.{HasLabel}
 use Rattle.dag_order.specs.declared.birth.Birth.{Birth}
 use Rattle.dag_order.specs.declared.fault.FaultKind.{FaultKind}
-use Rattle.action_order.specs.Actions as deeds
-use Rattle.par_meaning.specs.Stores as stores
-use Rattle.par_meaning.specs.Stores.{held_words, stored_words}
-use Rattle.par_meaning.specs.States.{State, Item, failed, noting, acting, emptied}
-use Rattle.par_meaning.specs.Run.{actions_of}
-use Rattle.par_store.specs.Shown.{store_shown}
-use Rattle.par_store.specs.declared.store.Store.{Store}
-use Rattle.run_journal.specs.declared.serial_stop.SerialStop.{SerialStop}
-use Rattle.run_journal.specs.Stops.{OnStop}
-use Rattle.run_journal.specs.Journals.{KeepsUp, births_of}
+use Rattle.depth_first_list.specs.Actions as deeds
+use Rattle.depth_first_run.specs.Stores as stores
+use Rattle.depth_first_run.specs.Stores.{held_words, stored_words}
+use Rattle.depth_first_run.specs.States.{State, Item, failed, noting, acting, emptied}
+use Rattle.depth_first_run.specs.Run.{actions_of}
+use Rattle.serial_store.specs.Shown.{store_shown}
+use Rattle.serial_store.specs.declared.store.Store.{Store}
+use Rattle.serial_journal.specs.declared.serial_stop.SerialStop.{SerialStop}
+use Rattle.serial_journal.specs.Stops.{OnStop}
+use Rattle.serial_journal.specs.Journals.{KeepsUp, births_of}
 use Rattle.serial_meaning.specs.declared.thread.Thread.{Thread}
 use Rattle.serial_meaning.specs.declared.runner.Runner.{Runner}
 

@@ -1,7 +1,7 @@
 ghost use Rattle.std.specs.Prelude.{◌≡◌, ◌≤◌};
 ghost use Rattle.std.specs.Option.{option_map};
-ghost use Rattle.par_meaning.specs.Stores.{block_words};
-ghost use Rattle.par_meaning.specs.Run.{size_of};
+ghost use Rattle.depth_first_run.specs.Stores.{block_words};
+ghost use Rattle.depth_first_run.specs.Run.{size_of};
 
 /// The length of a block: 0 to 1,048,576 numbers.
 #[derive(Clone, Copy)]
@@ -10,7 +10,7 @@ pub(crate) struct BlockLen {
     pub(crate) ghost small: { len ≤ 1048576 },
 }
 
-#[tactic(auto, unfolding(par_meaning::specs::Stores::block_words))]
+#[tactic(auto, unfolding(depth_first_run::specs::Stores::block_words))]
 impl BlockLen {
     ghost use Rattle.serial_meaning.specs.Lengths.{length_of};
 

@@ -7,11 +7,11 @@ ghost use Rattle.std.specs.Prelude.{ℕ};
 ghost use Rattle.dummy_tree.specs.QuotaWords.{quota_words};
 ghost use Rattle.par_tree.specs.View.{name_tree, ret_tree, params_tree, args_tree, target_tree, func_tree, program_tree};
 ghost use Rattle.par_ownership.specs.Ownership as ownership;
-ghost use Rattle.par_meaning.specs.States.{unless_faulted};
-ghost use Rattle.par_meaning.specs.Calls.{all_passed, answering, returned};
-ghost use Rattle.par_meaning.specs.Run.{dropping_answer};
-ghost use Rattle.par_meaning.specs.Middle.{calling_at};
-ghost use Rattle.par_store.specs.Shown.{store_shown, answer_shown};
+ghost use Rattle.depth_first_run.specs.States.{unless_faulted};
+ghost use Rattle.depth_first_run.specs.Calls.{all_passed, answering, returned};
+ghost use Rattle.depth_first_run.specs.Run.{dropping_answer};
+ghost use Rattle.depth_first_run.specs.Middle.{calling_at};
+ghost use Rattle.serial_store.specs.Shown.{store_shown, answer_shown};
 ghost use Rattle.serial_meaning.specs.Opening.{entering, refused};
 ghost use Rattle.serial_meaning.specs.Settings.{setting_of};
 
@@ -22,9 +22,9 @@ use crate::machine::Machine;
 use crate::plan::Plan;
 use crate::runner::Runner;
 use dag_order::FaultKind;
-use par_store::{Answer, Stop, Store, evaluate, lend_back, pass};
+use serial_store::{Answer, Stop, Store, evaluate, lend_back, pass};
 use par_tree::{Arg, Name, Param, Ret, RetValue, Target};
-use run_journal::SerialStop;
+use serial_journal::SerialStop;
 use std::alloc::Global;
 use std::mem;
 

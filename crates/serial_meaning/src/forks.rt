@@ -2,12 +2,12 @@
 
 ghost use Rattle.std.specs.Prelude.{◌≡◌, ℕ, [], IfOk, OnOk, MatchResult};
 ghost use Rattle.par_tree.specs.Tree.{Program};
-ghost use Rattle.par_meaning.specs.States.{State, child_of, parent_of, ended, joined};
-ghost use Rattle.par_meaning.specs.Middle.{forking_at, awaited_at};
-ghost use Rattle.par_store.specs.Shown.{store_shown};
-ghost use Rattle.par_store.specs.Effects.{child_store, parent_store, joined_store};
-ghost use Rattle.run_journal.specs.Journals.{births_of};
-ghost use Rattle.run_journal.specs.Stops.{OnStop};
+ghost use Rattle.depth_first_run.specs.States.{State, child_of, parent_of, ended, joined};
+ghost use Rattle.depth_first_run.specs.Middle.{forking_at, awaited_at};
+ghost use Rattle.serial_store.specs.Shown.{store_shown};
+ghost use Rattle.serial_store.specs.Effects.{child_store, parent_store, joined_store};
+ghost use Rattle.serial_journal.specs.Journals.{births_of};
+ghost use Rattle.serial_journal.specs.Stops.{OnStop};
 ghost use Rattle.serial_meaning.specs.Settings.{setting_of};
 ghost use Rattle.serial_meaning.specs.Frames.{part_shown, names_of, assigns_of};
 
@@ -18,8 +18,8 @@ use crate::part::Part;
 use crate::runner::Runner;
 use crate::thread::Thread;
 use dag_order::Kind;
-use par_store::Store;
-use run_journal::SerialStop;
+use serial_store::Store;
+use serial_journal::SerialStop;
 use std::alloc::{AllocError, Global};
 use std::mem;
 

@@ -1,7 +1,7 @@
 use crate::block_len::BlockLen;
 use crate::part::Part;
 use crate::thread::Thread;
-use par_store::Store;
+use serial_store::Store;
 use par_tree::{Arg, Name, Param, Ret, Target};
 
 /// What is left to do.

@@ -3,7 +3,7 @@ ghost use Rattle.std.specs.Option.{option_map};
 ghost use Rattle.par_tree.specs.View.{func_tree};
 ghost use Rattle.par_ownership.specs.Ownership as ownership;
 
-use par_mention::is_name;
+use par_names::is_name;
 use par_tree::Func;
 
 /// The function of a name.

@@ -26,7 +26,7 @@ mod statements;
 mod thread;
 
 pub use run::depth_first;
-pub use run_journal::{Action, Actions, Serial, SerialStop};
+pub use serial_journal::{Action, Actions, Serial, SerialStop};
 
 #[cfg(test)]
 mod tests;

@@ -5,8 +5,8 @@ ghost use Rattle.dummy_tree.specs.Shapes.{shape_of};
 ghost use Rattle.par_tree.specs.Tree.{Program};
 ghost use Rattle.par_tree.specs.View.{program_tree};
 ghost use Rattle.serial_meaning.specs.Settings.{setting_of};
-ghost use Rattle.par_meaning.specs.Middle as middles;
-ghost use Rattle.run_journal.specs.Journals.{births_of};
+ghost use Rattle.depth_first_run.specs.Middle as middles;
+ghost use Rattle.serial_journal.specs.Journals.{births_of};
 ghost use Rattle.serial_meaning.specs.Frames.{IsFrame, part_shown};
 
 use crate::frame::Frame;
@@ -15,7 +15,7 @@ use crate::plan::Plan;
 use crate::runner::Runner;
 use dag_order::Kind;
 use dummy_tree::Tree;
-use run_journal::SerialStop;
+use serial_journal::SerialStop;
 use std::alloc::{AllocError, Global};
 
 /// A run in the middle: what is left to do, the next one last, and the thread that runs.

@@ -6,10 +6,10 @@ ghost use Rattle.dummy_tree.specs.QuotaWords.{quota_words};
 ghost use Rattle.par_tree.specs.View.{program_tree};
 ghost use Rattle.par_tree.specs.Tree.{Program as ProgramTree};
 ghost use Rattle.par_ownership.specs.Ownership as ownership;
-ghost use Rattle.par_meaning.specs.States.{Setting, State};
-ghost use Rattle.par_meaning.specs.Run.{whole, opening};
-ghost use Rattle.par_meaning.specs.Middle.{middle, beginning_of};
-ghost use Rattle.run_journal.specs.Stops.{OnStop};
+ghost use Rattle.depth_first_run.specs.States.{Setting, State};
+ghost use Rattle.depth_first_run.specs.Run.{whole, opening};
+ghost use Rattle.depth_first_run.specs.Middle.{middle, beginning_of};
+ghost use Rattle.serial_journal.specs.Stops.{OnStop};
 ghost use Rattle.serial_meaning.specs.Settings.{setting_of};
 ghost use Rattle.serial_meaning.specs.Views.{IsBeyond};
 ghost use Rattle.serial_meaning.specs.Moving.{At};
@@ -25,8 +25,8 @@ use crate::thread::Thread;
 use block_check::Checked;
 use dag_order::{Kind, ThreadId};
 use dummy_tree::Quota;
-use par_store::Store;
-use run_journal::{Journal, Serial, SerialStop};
+use serial_store::Store;
+use serial_journal::{Journal, Serial, SerialStop};
 use std::alloc::Global;
 
 /// Runs a program depth-first, with a quota of `k` words, up to so many actions.

@@ -1,13 +1,13 @@
 ghost use Rattle.std.specs.Prelude.{◌≡◌, ℕ, Ok, MatchResult};
-ghost use Rattle.action_order.specs.Actions.{Deed, kind_of};
-ghost use Rattle.par_meaning.specs.States.{acting, faulting, noting, printed, emptied};
-ghost use Rattle.run_journal.specs.Stops.{OnStop};
-ghost use Rattle.run_journal.specs.Telling.{IsNoFork};
+ghost use Rattle.depth_first_list.specs.Actions.{Deed, kind_of};
+ghost use Rattle.depth_first_run.specs.States.{acting, faulting, noting, printed, emptied};
+ghost use Rattle.serial_journal.specs.Stops.{OnStop};
+ghost use Rattle.serial_journal.specs.Telling.{IsNoFork};
 
 use crate::thread::Thread;
 use dag_order::{ActionId, FaultAt, FaultKind, Kind};
-use par_store::Store;
-use run_journal::{Journal, SerialStop};
+use serial_store::Store;
+use serial_journal::{Journal, SerialStop};
 use std::alloc::Global;
 
 /// The thread that runs, and what is written down of the run.

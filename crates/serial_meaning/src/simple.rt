@@ -2,18 +2,18 @@
 
 ghost use Rattle.std.specs.Prelude.{ℕ};
 ghost use Rattle.par_tree.specs.View.{name_tree, expr_tree};
-ghost use Rattle.par_meaning.specs.Values.{value};
-ghost use Rattle.par_meaning.specs.States.{settled, unless_faulted};
-ghost use Rattle.par_meaning.specs.Run.{storing, setting_integer, putting_value, printing, freeing, rejoining};
-ghost use Rattle.par_meaning.specs.Middle.{allocated};
+ghost use Rattle.depth_first_run.specs.Values.{value};
+ghost use Rattle.depth_first_run.specs.States.{settled, unless_faulted};
+ghost use Rattle.depth_first_run.specs.Run.{storing, setting_integer, putting_value, printing, freeing, rejoining};
+ghost use Rattle.depth_first_run.specs.Middle.{allocated};
 ghost use Rattle.serial_meaning.specs.Lengths.{length_of};
 
 use crate::block_len::BlockLen;
 use crate::runner::Runner;
 use dag_order::{FaultKind, Kind};
-use par_store::{Stop, evaluate};
+use serial_store::{Stop, evaluate};
 use par_tree::{Expr, Name};
-use run_journal::SerialStop;
+use serial_journal::SerialStop;
 use std::alloc::Global;
 
 impl<'a> Runner<'a> {

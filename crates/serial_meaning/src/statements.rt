@@ -5,9 +5,9 @@ ghost use Rattle.par_tree.specs.View.{body_tree, name_tree, expr_tree, stmt_tree
 ghost use Rattle.par_tree.specs.Tree.{Program, step, repeat, done};
 ghost use Rattle.dummy_tree.specs.QuotaWords.{quota_words};
 ghost use Rattle.serial_meaning.specs.Settings.{setting_of};
-ghost use Rattle.par_meaning.specs.Values.{value};
-ghost use Rattle.par_meaning.specs.Middle.{middle, before_all, settled_at, choosing_at, repeating_at, both_at, splitting_at, statement_at, part_at, allocating_at};
-ghost use Rattle.par_meaning.specs.Middle as middles;
+ghost use Rattle.depth_first_run.specs.Values.{value};
+ghost use Rattle.depth_first_run.specs.Middle.{middle, before_all, settled_at, choosing_at, repeating_at, both_at, splitting_at, statement_at, part_at, allocating_at};
+ghost use Rattle.depth_first_run.specs.Middle as middles;
 
 use crate::block_len::BlockLen;
 use crate::frame::Frame;
@@ -17,9 +17,9 @@ use crate::part::Part;
 use crate::plan::Plan;
 use dag_order::FaultKind;
 use dummy_tree::{Tree, dummies};
-use par_store::{evaluate, is_true};
+use serial_store::{evaluate, is_true};
 use par_tree::{Body, Expr, Name, Stmt, StmtKind};
-use run_journal::SerialStop;
+use serial_journal::SerialStop;
 use std::alloc::Global;
 use std::slice;
 

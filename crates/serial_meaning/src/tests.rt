@@ -12,7 +12,7 @@ use crate::{Serial, SerialStop, depth_first};
 use block_check::check;
 use dag_order::{FaultAt, FaultKind, Finish};
 use dummy_tree::Quota;
-use par_syntax::parse;
+use par_parse::parse;
 use std::alloc::Global;
 
 /// More actions than most of these runs have.

@@ -1,5 +1,5 @@
 use dag_order::ThreadId;
-use par_store::Store;
+use serial_store::Store;
 
 /// A thread while it runs.
 #[derive(Drop)]

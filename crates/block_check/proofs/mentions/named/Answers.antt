@@ -1,9 +1,9 @@
 use Rattle.std.proofs.Common.{◌≡◌, IfOk, ap, sym, subst, ◌∙◌}
 use Rattle.par_tree.specs.Tree.{Body}
 use Rattle.par_tree.specs.View.{body_tree}
-use Rattle.par_mention.specs.Named.{body_of}
-use Rattle.par_mention.specs.declared.named_body.NamedBody.{NamedBody}
-use Rattle.par_mention.proofs.Rows.{body_is}
+use Rattle.par_names.specs.Named.{body_of}
+use Rattle.par_names.specs.declared.named_body.NamedBody.{NamedBody}
+use Rattle.par_names.proofs.Rows.{body_is}
 use Rattle.block_check.proofs.mentions.named.Goals as goal
 
 pub returns : goal.returns

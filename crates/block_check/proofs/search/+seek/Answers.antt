@@ -9,7 +9,7 @@ use Rattle.block_check.specs.Shown.{entry_shown, env_shown, rows_tree}
 use Rattle.block_check.specs.Forks.{Fork, declared_by, split_names, forks_in_stmt, forks_in_body}
 use Rattle.block_check.specs.Sought.{Seeks}
 use Rattle.block_check.specs.declared.sought.Sought.TheVariants.{Found}
-use Rattle.par_mention.proofs.Rows.{body_is}
+use Rattle.par_names.proofs.Rows.{body_is}
 use Rattle.block_check.proofs.Compound.{same_ok}
 use Rattle.block_check.proofs.Seeking.{seeks_first, seeks_second, seeks_next, drop_item, goes_left, ends_left, passed_parts}
 use Rattle.block_check.proofs.search.+seek.Goals as goal

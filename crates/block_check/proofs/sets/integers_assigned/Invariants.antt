@@ -1,5 +1,5 @@
 use Rattle.std.proofs.Common.{◌≡◌, ◌++◌, drop}
-use Rattle.par_mention.specs.Named.{body_of}
+use Rattle.par_names.specs.Named.{body_of}
 use Rattle.block_check.specs.Shown.{entries_shown}
 use Rattle.block_check.specs.Forks.{names_of, assigns_integer, names_shown}
 use Rattle.block_check.proofs.sets.integers_assigned.Given as goal

@@ -1,5 +1,5 @@
 use Rattle.std.proofs.Common.{◌∙◌}
-use Rattle.par_mention.specs.Named.{body_of}
+use Rattle.par_names.specs.Named.{body_of}
 use Rattle.block_check.specs.Shown.{rows_tree}
 use Rattle.block_check.specs.Forks.{takes_block, assigns_integer}
 use Rattle.block_check.proofs.Taken.{names_same}

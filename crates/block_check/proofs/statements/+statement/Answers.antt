@@ -6,7 +6,7 @@ use Rattle.par_tree.specs.View.{name_tree, expr_tree, stmt_tree, body_tree}
 use Rattle.par_ownership.specs.Environment.{Environment, with_entry, lent_entry, opened, held_in_both}
 use Rattle.par_ownership.specs.Walk.{Refusal, ended, walk, walk_all, expr_refusal, block_refusal, fresh_refusal, branches_refusal}
 use Rattle.block_check.specs.Shown.{entry_shown, entries_shown, env_shown, funcs_tree, rows_tree, Walks}
-use Rattle.par_mention.proofs.Rows.{body_is}
+use Rattle.par_names.proofs.Rows.{body_is}
 use Rattle.block_check.proofs.Compound.{copied, walked_if, walked_while, walked_par, walked_split}
 use Rattle.block_check.proofs.statements.+statement.Goals as goal
 

@@ -1,4 +1,4 @@
-use Rattle.par_mention.specs.Named.{body_of}
+use Rattle.par_names.specs.Named.{body_of}
 use Rattle.std.proofs.Common.{◌≡◌, drop}
 use Rattle.par_ownership.specs.Walk.{branches_refusal}
 use Rattle.block_check.specs.Shown.{entries_shown}

@@ -1,4 +1,4 @@
-use Rattle.command_words.specs.declared.setting.Setting.TheVariants.{Quota}
+use Rattle.command_line.specs.declared.setting.Setting.TheVariants.{Quota}
 use Rattle.dfd_run.proofs.Answers.{has_worker}
 use Rattle.dfd_run.proofs.kinds.answer_to.Goals as goal
 

@@ -2,7 +2,7 @@ use Rattle.std.proofs.Common.{◌≡◌, ◌+◌, ◌∙◌, drop, sym, ap, subs
 use Rattle.par_tree.specs.Tree.{Body}
 use Rattle.par_tree.specs.View.{stmt_tree, body_tree}
 use Rattle.block_check.specs.Shown.{rows_tree}
-use Rattle.accepted_program.specs.Written.{declared_in_stmt, declared_in_body}
+use Rattle.accepted_laws.specs.Written.{declared_in_stmt, declared_in_body}
 use Rattle.frame_code.specs.Names.{names_tree, with_names}
 use Rattle.frame_code.proofs.Lists.{drop_item}
 use Rattle.frame_code.proofs.Rows.{body_is}

@@ -1,6 +1,6 @@
 use Rattle.std.proofs.Common.{◌≡◌, drop}
 use Rattle.par_tree.specs.View.{body_tree}
-use Rattle.accepted_program.specs.Written.{declared_in_body}
+use Rattle.accepted_laws.specs.Written.{declared_in_body}
 use Rattle.frame_code.specs.Names.{names_tree, with_names}
 use Rattle.frame_code.proofs.declared.+declared.Given as goal
 

@@ -1,6 +1,6 @@
 use Rattle.std.proofs.Common.{◌≡◌, drop}
 use Rattle.par_tree.specs.View.{params_tree}
-use Rattle.accepted_program.specs.Written.{param_names}
+use Rattle.accepted_laws.specs.Written.{param_names}
 use Rattle.frame_code.specs.Names.{names_tree, with_names}
 use Rattle.frame_code.proofs.declared.in_params.Given as goal
 

@@ -1,6 +1,6 @@
 use Rattle.std.proofs.Common.{◌≡◌, ◌∙◌, [], refl, ap, subst, IfOk}
 use Rattle.par_tree.specs.View.{params_tree, body_tree, func_tree}
-use Rattle.accepted_program.specs.Written.{declared_in, declared_in_body, param_names}
+use Rattle.accepted_laws.specs.Written.{declared_in, declared_in_body, param_names}
 use Rattle.frame_code.specs.Names.{names_tree, with_names}
 use Rattle.frame_code.proofs.Naming.{with_part}
 use Rattle.frame_code.proofs.declared.slot_names.Goals as goal

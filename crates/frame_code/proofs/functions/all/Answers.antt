@@ -3,7 +3,7 @@ use Rattle.std.proofs.lemmas.List.{drop_all}
 use Rattle.par_tree.specs.View.{func_tree}
 use Rattle.block_check.specs.Shown.{funcs_tree}
 use Rattle.frame_code.specs.Scopes.{func_names}
-use Rattle.program_sizes.specs.Sizes.{functions_size}
+use Rattle.accepted_laws.specs.Sizes.{functions_size}
 use Rattle.frame_code.proofs.Having.{func_has, func_size}
 use Rattle.frame_code.proofs.Lists.{at_item}
 use Rattle.frame_code.proofs.Gathering.{Gathered, gathered_next, gathered_end}

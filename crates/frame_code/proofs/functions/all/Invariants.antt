@@ -1,7 +1,7 @@
 use Rattle.std.proofs.Common.{◌≡◌, ◌+◌, length, drop}
 use Rattle.block_check.specs.Shown.{funcs_tree}
 use Rattle.frame_code.specs.Scopes.{func_names}
-use Rattle.program_sizes.specs.Sizes.{functions_size}
+use Rattle.accepted_laws.specs.Sizes.{functions_size}
 use Rattle.frame_code.proofs.Gathering.{Gathered}
 use Rattle.frame_code.proofs.functions.all.Given as goal
 

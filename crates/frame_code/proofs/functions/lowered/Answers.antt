@@ -1,6 +1,6 @@
 use Rattle.std.proofs.Common.{◌+◌, ◌∙◌, length, ap}
 use Rattle.par_tree.specs.View.{body_tree}
-use Rattle.program_sizes.specs.Sizes.{body_size}
+use Rattle.accepted_laws.specs.Sizes.{body_size}
 use Rattle.block_check.specs.Shown.{env_shown}
 use Rattle.frame_code.specs.Scopes.{func_names, functions_of, names_of_scope}
 use Rattle.frame_code.proofs.Gathering.{func_made}

@@ -1,6 +1,6 @@
 use Rattle.std.proofs.Common.{refl}
 use Rattle.par_tree.specs.View.{params_tree}
-use Rattle.accepted_program.specs.Written.{param_names}
+use Rattle.accepted_laws.specs.Written.{param_names}
 use Rattle.frame_code.specs.Names.{names_tree}
 use Rattle.frame_code.specs.Lowered.{AreSlots}
 use Rattle.frame_code.proofs.Having.{param_has}

@@ -1,5 +1,5 @@
 use Rattle.par_tree.specs.View.{params_tree}
-use Rattle.accepted_program.specs.Written.{param_names}
+use Rattle.accepted_laws.specs.Written.{param_names}
 use Rattle.frame_code.specs.Names.{names_tree}
 use Rattle.frame_code.specs.Lowered.{AreSlots}
 use Rattle.frame_code.proofs.Lists.{Continues}

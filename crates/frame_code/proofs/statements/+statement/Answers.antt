@@ -6,7 +6,7 @@ use Rattle.par_ownership.specs.Environment.{Environment}
 use Rattle.block_check.specs.Shown.{env_shown, entries_shown, rows_tree}
 use Rattle.frame_code.specs.Scopes.{functions_of, names_of_scope}
 use Rattle.frame_code.specs.Table.{Grown, IsStmt, IsBody}
-use Rattle.program_sizes.specs.Sizes.{stmt_size, body_size}
+use Rattle.accepted_laws.specs.Sizes.{stmt_size, body_size}
 use Rattle.frame_code.specs.Slotted.{HasStmt, HasBody, most_nodes}
 use Rattle.frame_code.proofs.Having.{stmt_has}
 use Rattle.frame_code.proofs.Weights.{stmt_weight, owned_weight, list_weight, item_size, rest_size}

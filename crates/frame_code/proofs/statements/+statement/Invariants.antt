@@ -1,7 +1,7 @@
 use Rattle.std.proofs.Common.{◌≡◌, ◌+◌, length, drop}
 use Rattle.par_tree.specs.View.{stmt_tree, body_tree}
 use Rattle.block_check.specs.Shown.{env_shown, rows_tree}
-use Rattle.program_sizes.specs.Sizes.{body_size}
+use Rattle.accepted_laws.specs.Sizes.{body_size}
 use Rattle.frame_code.specs.Scopes.{functions_of, names_of_scope}
 use Rattle.frame_code.proofs.Tables.{Walked}
 use Rattle.frame_code.proofs.Weights.{stmt_weight, owned_weight, list_weight}

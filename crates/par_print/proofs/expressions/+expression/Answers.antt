@@ -2,8 +2,8 @@ use Rattle.std.proofs.Common.{List, ℕ, ◌++◌, ap, ◌∙◌}
 use Rattle.par_tree.specs.View.{expr_tree, links_tree}
 use Rattle.par_tree.specs.declared.expr.Expr.{Expr}
 use Rattle.par_tree.specs.declared.link.Link.{Link}
-use Rattle.canon_text.specs.declared.place.Place.{Place}
-use Rattle.canon_text.specs.Canonical.{links_text, text_in, first_place}
+use Rattle.canonical_text.specs.declared.place.Place.{Place}
+use Rattle.canonical_text.specs.Canonical.{links_text, text_in, first_place}
 use Rattle.par_print.proofs.Parts.{if_ok, two_written, chain_text}
 use Rattle.par_print.proofs.expressions.+expression.Goals as goal
 

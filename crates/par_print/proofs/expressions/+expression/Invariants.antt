@@ -1,6 +1,6 @@
 use Rattle.std.proofs.Common.{◌≡◌, ◌++◌, drop}
 use Rattle.par_tree.specs.View.{links_tree}
-use Rattle.canon_text.specs.Canonical.{links_text}
+use Rattle.canonical_text.specs.Canonical.{links_text}
 use Rattle.par_print.proofs.expressions.+expression.Given as goal
 
 abbrev pub invariant-links-links : goal.invariant-links-links

@@ -1,7 +1,7 @@
 use Rattle.std.proofs.Common.{◌≡◌, ◌++◌, drop, map}
 use Rattle.std.specs.List.{flat_map}
 use Rattle.par_tree.specs.View.{func_tree}
-use Rattle.canon_text.specs.Canonical.{func_text}
+use Rattle.canonical_text.specs.Canonical.{func_text}
 use Rattle.par_print.proofs.functions.funcs.Given as goal
 
 abbrev pub invariant-funcs : goal.invariant-funcs

@@ -3,7 +3,7 @@ use Rattle.par_tree.specs.View.{expr_tree, links_tree}
 use Rattle.par_tree.specs.declared.expr.Expr.{Expr}
 use Rattle.par_tree.specs.declared.link.Link.{Link}
 use Rattle.par_tree.proofs.Lists.{expr_tree-chain}
-use Rattle.canon_text.specs.Canonical.{are_of_sum, is_sum}
+use Rattle.canonical_text.specs.Canonical.{are_of_sum, is_sum}
 use Rattle.par_print.proofs.places.is_sum.Goals as goal
 
 pub returns-in-Chain : goal.returns-in-Chain

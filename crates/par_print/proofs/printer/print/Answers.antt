@@ -2,7 +2,7 @@ use Rattle.std.proofs.Common.{◌≡◌, ℕ, List, ◌++◌, map, ap, ◌∙◌
 use Rattle.std.specs.List.{flat_map}
 use Rattle.par_tree.specs.View.{func_tree, program_tree}
 use Rattle.par_tree.specs.declared.func.Func.{Func}
-use Rattle.canon_text.specs.Canonical.{func_text}
+use Rattle.canonical_text.specs.Canonical.{func_text}
 use Rattle.par_print.proofs.Printed.{printed_text, printed_again}
 use Rattle.par_print.proofs.printer.print.Goals as goal
 

@@ -1,6 +1,6 @@
 use Rattle.std.proofs.Common.{◌≡◌, ◌++◌, drop}
 use Rattle.par_tree.specs.View.{body_tree}
-use Rattle.canon_text.specs.Canonical.{body_text}
+use Rattle.canonical_text.specs.Canonical.{body_text}
 use Rattle.par_print.proofs.statements.+statement.Given as goal
 
 abbrev pub invariant-body-statements : goal.invariant-body-statements

@@ -6,9 +6,9 @@ use Rattle.par_tree.specs.declared.func.Func.{Func as Func'}
 use Rattle.par_tree.specs.declared.stmt.Stmt.{Stmt as Stmt'}
 use Rattle.par_tree.specs.View.{program_tree, func_tree, body_tree, ret_tree}
 use Rattle.par_ownership.specs.Ownership.{function_of, main_name}
-use Rattle.par_meaning.specs.States.{Setting}
-use Rattle.par_meaning.specs.Run.{opening}
-use Rattle.par_meaning.specs.Middle.{middle, before_all, beginning_of, answers_main}
+use Rattle.depth_first_run.specs.States.{Setting}
+use Rattle.depth_first_run.specs.Run.{opening}
+use Rattle.depth_first_run.specs.Middle.{middle, before_all, beginning_of, answers_main}
 use Rattle.serial_meaning.specs.Settings.{setting_of}
 use Rattle.serial_meaning.specs.Moving.{At}
 use Rattle.serial_meaning.specs.declared.machine.Machine.{Machine}

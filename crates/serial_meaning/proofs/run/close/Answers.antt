@@ -1,8 +1,8 @@
 use Rattle.std.proofs.Common.{◌≤◌, ◌∙◌, length, refl, subst}
-use Rattle.action_order.specs.Actions as deeds
-use Rattle.par_meaning.specs.States.{State}
-use Rattle.par_meaning.specs.Run.{whole, actions_of}
-use Rattle.run_journal.specs.Telling.{Tells}
+use Rattle.depth_first_list.specs.Actions as deeds
+use Rattle.depth_first_run.specs.States.{State}
+use Rattle.depth_first_run.specs.Run.{whole, actions_of}
+use Rattle.serial_journal.specs.Telling.{Tells}
 use Rattle.serial_meaning.specs.Views.{Is, IsBeyond}
 use Rattle.serial_meaning.proofs.Steps.{err_exit, stops_so}
 use Rattle.serial_meaning.proofs.Forking.{end_is}

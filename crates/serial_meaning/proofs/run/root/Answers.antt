@@ -1,6 +1,6 @@
 use Rattle.std.proofs.Common.{List, [], refl, sym, ap, subst}
 use Rattle.std.specs.Prelude.{false}
-use Rattle.run_journal.specs.Journals.{births_of}
+use Rattle.serial_journal.specs.Journals.{births_of}
 use Rattle.serial_meaning.specs.Views.{callers_shown}
 use Rattle.serial_meaning.specs.Moving.{AreFrames}
 use Rattle.serial_meaning.specs.declared.frame.Frame.{Frame}

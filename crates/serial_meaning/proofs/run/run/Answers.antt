@@ -3,12 +3,12 @@ use Rattle.std.proofs.lemmas.List.{nil_from_length}
 use Rattle.dummy_tree.specs.QuotaWords.{quota_words}
 use Rattle.par_tree.specs.View.{program_tree}
 use Rattle.par_ownership.specs.Ownership.{function_of, main_name}
-use Rattle.par_meaning.proofs.Stepping.{beginning_comes}
-use Rattle.par_meaning.specs.States.{Setting, ended}
-use Rattle.par_meaning.specs.Run.{whole}
-use Rattle.par_meaning.specs.Middle as middles
-use Rattle.par_meaning.specs.Middle.{Middle, middle, finished, beginning_of, frame_at}
-use Rattle.run_journal.specs.Journals.{births_of}
+use Rattle.depth_first_run.proofs.Stepping.{beginning_comes}
+use Rattle.depth_first_run.specs.States.{Setting, ended}
+use Rattle.depth_first_run.specs.Run.{whole}
+use Rattle.depth_first_run.specs.Middle as middles
+use Rattle.depth_first_run.specs.Middle.{Middle, middle, finished, beginning_of, frame_at}
+use Rattle.serial_journal.specs.Journals.{births_of}
 use Rattle.serial_meaning.specs.Settings.{setting_of}
 use Rattle.serial_meaning.specs.Views.{IsBeyond}
 use Rattle.serial_meaning.specs.Moving.{AreFrames}

@@ -1,8 +1,8 @@
 use Rattle.std.proofs.Common.{◌+◌, ◌*◌, ◌-◌, length, vec_len}
 use Rattle.dummy_tree.specs.QuotaWords.{quota_words}
 use Rattle.par_tree.specs.View.{program_tree}
-use Rattle.par_meaning.specs.States.{State}
-use Rattle.par_meaning.specs.Run.{whole}
+use Rattle.depth_first_run.specs.States.{State}
+use Rattle.depth_first_run.specs.Run.{whole}
 use Rattle.serial_meaning.specs.Settings.{setting_of}
 use Rattle.serial_meaning.specs.Runs.{IsUnderWay}
 use Rattle.serial_meaning.proofs.run.run.Given as goal

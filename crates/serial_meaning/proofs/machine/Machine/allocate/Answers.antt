@@ -5,15 +5,15 @@ use Rattle.dummy_tree.specs.QuotaWords.{quota_words}
 use Rattle.dummy_tree.specs.Leaves.{IsTreeSize}
 use Rattle.dummy_tree.specs.Shapes.{Shape, shape_of}
 use Rattle.dummy_tree.specs.TreeLeaves.{tree_leaves}
-use Rattle.action_order.specs.Runs.{tree_for}
+use Rattle.depth_first_list.specs.Runs.{tree_for}
 use Rattle.par_tree.specs.Tree.{Name, Expr}
 use Rattle.par_tree.specs.View.{name_tree, expr_tree}
-use Rattle.par_meaning.specs.Stores.{block_words}
-use Rattle.par_meaning.specs.Values.{value}
-use Rattle.par_meaning.specs.States.{Setting, faulting}
-use Rattle.par_meaning.specs.Run.{size_of}
-use Rattle.par_meaning.specs.Middle.{Middle, middle, does, tree, allocates, allocated, allocating_at}
-use Rattle.par_store.specs.Shown.{store_shown}
+use Rattle.depth_first_run.specs.Stores.{block_words}
+use Rattle.depth_first_run.specs.Values.{value}
+use Rattle.depth_first_run.specs.States.{Setting, faulting}
+use Rattle.depth_first_run.specs.Run.{size_of}
+use Rattle.depth_first_run.specs.Middle.{Middle, middle, does, tree, allocates, allocated, allocating_at}
+use Rattle.serial_store.specs.Shown.{store_shown}
 use Rattle.serial_meaning.specs.declared.machine.Machine.{Machine}
 use Rattle.serial_meaning.specs.Lengths.{length_of}
 use Rattle.serial_meaning.specs.Settings.{setting_of}

@@ -3,9 +3,9 @@ use Rattle.std.specs.Prelude.{nat_lt, length}
 use Rattle.dag_order.specs.declared.fault.FaultKind.TheVariants as faults
 use Rattle.par_tree.specs.Tree.{Body}
 use Rattle.par_tree.specs.View.{body_tree}
-use Rattle.par_meaning.specs.States.{Setting, faulting}
-use Rattle.par_meaning.specs.Run.{names_in, assigns_in}
-use Rattle.par_meaning.specs.Middle.{middle, statements, forking_at, both_at}
+use Rattle.depth_first_run.specs.States.{Setting, faulting}
+use Rattle.depth_first_run.specs.Run.{names_in, assigns_in}
+use Rattle.depth_first_run.specs.Middle.{middle, statements, forking_at, both_at}
 use Rattle.serial_meaning.specs.Settings.{setting_of}
 use Rattle.serial_meaning.specs.declared.machine.Machine.{Machine}
 use Rattle.serial_meaning.proofs.Stack.{at_point, lifted}

@@ -8,13 +8,13 @@ use Rattle.par_tree.specs.declared.param.Param.{Param as Param'}
 use Rattle.par_tree.specs.declared.stmt.Stmt.{Stmt as Stmt'}
 use Rattle.par_tree.specs.View.{program_tree, func_tree, body_tree, name_tree, params_tree, args_tree, target_tree}
 use Rattle.par_ownership.specs.Ownership.{function_of}
-use Rattle.par_meaning.specs.Stores as stores
-use Rattle.par_meaning.specs.States.{State, faulting}
-use Rattle.par_meaning.specs.Calls.{Passing, all_passed}
-use Rattle.par_meaning.specs.Run.{storing}
-use Rattle.par_meaning.specs.Middle.{Frame, Middle, middle, before_all, answers, calling_at}
-use Rattle.par_store.specs.Shown.{store_shown}
-use Rattle.run_journal.specs.Stops.{OnStop}
+use Rattle.depth_first_run.specs.Stores as stores
+use Rattle.depth_first_run.specs.States.{State, faulting}
+use Rattle.depth_first_run.specs.Calls.{Passing, all_passed}
+use Rattle.depth_first_run.specs.Run.{storing}
+use Rattle.depth_first_run.specs.Middle.{Frame, Middle, middle, before_all, answers, calling_at}
+use Rattle.serial_store.specs.Shown.{store_shown}
+use Rattle.serial_journal.specs.Stops.{OnStop}
 use Rattle.serial_meaning.specs.declared.machine.Machine.{Machine}
 use Rattle.serial_meaning.specs.declared.thread.Thread.{Thread}
 use Rattle.serial_meaning.specs.Settings.{setting_of}

@@ -1,6 +1,6 @@
 use Rattle.std.proofs.Common.{refl}
 use Rattle.par_tree.specs.View.{body_tree, expr_tree}
-use Rattle.par_meaning.specs.Middle.{choosing_at}
+use Rattle.depth_first_run.specs.Middle.{choosing_at}
 use Rattle.serial_meaning.specs.declared.machine.Machine.{Machine}
 use Rattle.serial_meaning.proofs.Stack.{faulted_at}
 use Rattle.serial_meaning.proofs.machine.Machine.choose.Goals as goal

@@ -4,8 +4,8 @@ use Rattle.dummy_tree.specs.Shapes.{shape_of}
 use Rattle.dummy_tree.specs.TreeLeaves.{tree_leaves}
 use Rattle.par_tree.specs.Tree.{Program}
 use Rattle.par_tree.specs.View.{body_tree, program_tree}
-use Rattle.par_meaning.specs.States.{Setting}
-use Rattle.par_meaning.specs.Middle.{part_at, statements, tree}
+use Rattle.depth_first_run.specs.States.{Setting}
+use Rattle.depth_first_run.specs.Middle.{part_at, statements, tree}
 use Rattle.serial_meaning.specs.declared.part.Part.{Part}
 use Rattle.serial_meaning.specs.Settings.{setting_of}
 use Rattle.serial_meaning.specs.Frames.{part_shown}

@@ -1,8 +1,8 @@
 use Rattle.std.proofs.Common.{◌≡◌, ℕ, Bool, true, false, List, [], ◌∷◌, ◌==◌, length, refl, sym, ◌∙◌, ◌+◌, suc, arith, rules}
 use Rattle.par_tree.specs.View.{body_tree}
 use Rattle.par_tree.specs.declared.stmt.Stmt.{Stmt}
-use Rattle.par_meaning.specs.States.{State}
-use Rattle.par_meaning.specs.Middle.{Frame, middle, does, statements, before_all}
+use Rattle.depth_first_run.specs.States.{State}
+use Rattle.depth_first_run.specs.Middle.{Frame, middle, does, statements, before_all}
 use Rattle.serial_meaning.specs.Moving.{At}
 use Rattle.serial_meaning.specs.declared.machine.Machine.{Machine}
 use Rattle.serial_meaning.proofs.machine.Machine.do_statements_later.Goals as goal

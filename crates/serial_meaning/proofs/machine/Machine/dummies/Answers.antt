@@ -1,9 +1,9 @@
 use Rattle.std.proofs.Common.{refl, sym, ap}
-use Rattle.action_order.specs.Actions as deeds
+use Rattle.depth_first_list.specs.Actions as deeds
 use Rattle.dummy_tree.specs.Shapes.{Shape, forked, shape_of}
 use Rattle.dummy_tree.specs.TreeLeaves.{tree_leaves}
-use Rattle.par_meaning.specs.States.{acting}
-use Rattle.par_meaning.specs.Middle.{middle, part_at, tree}
+use Rattle.depth_first_run.specs.States.{acting}
+use Rattle.depth_first_run.specs.Middle.{middle, part_at, tree}
 use Rattle.serial_meaning.specs.Settings.{setting_of}
 use Rattle.serial_meaning.specs.declared.machine.Machine.{Machine}
 use Rattle.serial_meaning.proofs.Stack.{lifted, at_point}

@@ -1,9 +1,9 @@
 use Rattle.std.proofs.Common.{suc, List, [], ◌∷◌, refl, sym, ap, subst}
 use Rattle.dag_order.specs.declared.birth.Birth.{Birth}
-use Rattle.action_order.specs.Actions as deeds
-use Rattle.par_meaning.specs.States.{State, ended, parent_of}
-use Rattle.par_meaning.specs.Middle.{middle, joins, does, awaited_at}
-use Rattle.run_journal.specs.Journals.{births_of}
+use Rattle.depth_first_list.specs.Actions as deeds
+use Rattle.depth_first_run.specs.States.{State, ended, parent_of}
+use Rattle.depth_first_run.specs.Middle.{middle, joins, does, awaited_at}
+use Rattle.serial_journal.specs.Journals.{births_of}
 use Rattle.serial_meaning.specs.Frames.{part_shown, names_of, assigns_of}
 use Rattle.serial_meaning.specs.Views.{Is, IsBeyond, IsThread}
 use Rattle.serial_meaning.specs.Moving.{At, AreFrames}

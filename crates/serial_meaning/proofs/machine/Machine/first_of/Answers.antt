@@ -2,9 +2,9 @@ use Rattle.std.proofs.Common.{◌≡◌, ◌∙◌, ℕ, false, ap}
 use Rattle.dummy_tree.specs.QuotaWords.{quota_words}
 use Rattle.par_tree.specs.Tree.{Body, Stmt, step}
 use Rattle.par_tree.specs.View.{body_tree, stmt_tree, program_tree}
-use Rattle.par_meaning.specs.States.{Setting, State, began, noting}
-use Rattle.par_meaning.specs.Middle.{Middle, middle, before_all, statements, statement_at, part_at}
-use Rattle.run_journal.specs.Journals.{births_of}
+use Rattle.depth_first_run.specs.States.{Setting, State, began, noting}
+use Rattle.depth_first_run.specs.Middle.{Middle, middle, before_all, statements, statement_at, part_at}
+use Rattle.serial_journal.specs.Journals.{births_of}
 use Rattle.serial_meaning.specs.declared.runner.Runner.{Runner}
 use Rattle.serial_meaning.specs.Settings.{setting_of}
 use Rattle.serial_meaning.specs.Views.{Is, IsBeyond}

@@ -1,7 +1,7 @@
 use Rattle.std.proofs.Common.{[], ◌∷◌, refl, sym, subst}
-use Rattle.par_meaning.specs.States.{State, child_of, parent_of}
-use Rattle.par_meaning.specs.Middle.{Frame, middle, awaits, does, forking_at}
-use Rattle.run_journal.specs.Journals.{births_of}
+use Rattle.depth_first_run.specs.States.{State, child_of, parent_of}
+use Rattle.depth_first_run.specs.Middle.{Frame, middle, awaits, does, forking_at}
+use Rattle.serial_journal.specs.Journals.{births_of}
 use Rattle.serial_meaning.specs.Settings.{setting_of}
 use Rattle.serial_meaning.specs.Frames.{part_shown, names_of, assigns_of}
 use Rattle.serial_meaning.specs.Views.{IsThread, IsBeyond}

@@ -3,10 +3,10 @@ use Rattle.std.proofs.lemmas.Int.{to_z-of_z}
 use Rattle.dag_order.specs.declared.fault.FaultKind.TheVariants as faults
 use Rattle.par_tree.specs.Tree.{Body, Expr, step, repeat, done}
 use Rattle.par_tree.specs.View.{body_tree, expr_tree}
-use Rattle.par_meaning.specs.Values.{value}
-use Rattle.par_meaning.specs.States.{State, faulting}
-use Rattle.par_meaning.specs.Middle.{Middle, middle, before_all, settled_at, repeating_at}
-use Rattle.par_store.specs.Shown.{store_shown}
+use Rattle.depth_first_run.specs.Values.{value}
+use Rattle.depth_first_run.specs.States.{State, faulting}
+use Rattle.depth_first_run.specs.Middle.{Middle, middle, before_all, settled_at, repeating_at}
+use Rattle.serial_store.specs.Shown.{store_shown}
 use Rattle.serial_meaning.specs.declared.machine.Machine.{Machine}
 use Rattle.serial_meaning.specs.declared.runner.Runner.{Runner}
 use Rattle.serial_meaning.specs.declared.thread.Thread.{Thread}

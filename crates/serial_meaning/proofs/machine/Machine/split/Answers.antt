@@ -2,10 +2,10 @@ use Rattle.std.proofs.Common.{◌≡◌, ◌∙◌, ◌∷◌, ℤ, ℕ, Option,
 use Rattle.std.proofs.lemmas.Int.{to_z-of_z}
 use Rattle.par_tree.specs.Tree.{Name, Body, Expr}
 use Rattle.par_tree.specs.View.{name_tree, body_tree, expr_tree}
-use Rattle.par_meaning.specs.Values.{value}
-use Rattle.par_meaning.specs.States.{State}
-use Rattle.par_meaning.specs.Middle.{Middle, middle, before_all, rejoins, settled_at, cut_at, splitting_at}
-use Rattle.par_store.specs.Shown.{store_shown}
+use Rattle.depth_first_run.specs.Values.{value}
+use Rattle.depth_first_run.specs.States.{State}
+use Rattle.depth_first_run.specs.Middle.{Middle, middle, before_all, rejoins, settled_at, cut_at, splitting_at}
+use Rattle.serial_store.specs.Shown.{store_shown}
 use Rattle.serial_meaning.specs.declared.machine.Machine.{Machine}
 use Rattle.serial_meaning.specs.Views.{IsBeyond}
 use Rattle.serial_meaning.specs.Moving.{At}

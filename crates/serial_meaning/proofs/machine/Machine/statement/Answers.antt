@@ -3,9 +3,9 @@ use Rattle.dummy_tree.specs.QuotaWords.{quota_words}
 use Rattle.par_tree.specs.Tree.{Name, Expr, Target, Arg, Stmt, declare, assign, store, release, choose, repeat, call, print, both, split, step, done}
 use Rattle.par_tree.specs.View.{name_tree, expr_tree, body_tree, stmt_tree, target_tree, args_tree, program_tree}
 use Rattle.par_tree.proofs.Lists.{stmt_tree-if, stmt_tree-while, stmt_tree-par, stmt_tree-split}
-use Rattle.par_meaning.specs.Values.{value}
-use Rattle.par_meaning.specs.States.{Setting, settled}
-use Rattle.par_meaning.specs.Run.{setting_integer, putting_value, printing, freeing}
+use Rattle.depth_first_run.specs.Values.{value}
+use Rattle.depth_first_run.specs.States.{Setting, settled}
+use Rattle.depth_first_run.specs.Run.{setting_integer, putting_value, printing, freeing}
 use Rattle.serial_meaning.specs.Settings.{setting_of}
 use Rattle.serial_meaning.specs.declared.machine.Machine.{Machine}
 use Rattle.serial_meaning.proofs.Stack.{lifted}

@@ -3,11 +3,11 @@ use Rattle.dag_order.specs.declared.birth.Birth.{Birth}
 use Rattle.dummy_tree.specs.QuotaWords.{quota_words}
 use Rattle.par_tree.specs.Tree.{Program}
 use Rattle.par_tree.specs.View.{name_tree, ret_tree, params_tree, args_tree, target_tree, program_tree}
-use Rattle.par_meaning.specs.States.{Setting, State, unless_faulted, joined}
-use Rattle.par_meaning.specs.Calls.{answering, returned}
-use Rattle.par_meaning.specs.Run.{storing, rejoining, dropping_answer}
-use Rattle.par_meaning.specs.Middle as middles
-use Rattle.run_journal.specs.Journals.{births_of}
+use Rattle.depth_first_run.specs.States.{Setting, State, unless_faulted, joined}
+use Rattle.depth_first_run.specs.Calls.{answering, returned}
+use Rattle.depth_first_run.specs.Run.{storing, rejoining, dropping_answer}
+use Rattle.depth_first_run.specs.Middle as middles
+use Rattle.serial_journal.specs.Journals.{births_of}
 use Rattle.serial_meaning.specs.declared.frame.Frame.{Frame}
 use Rattle.serial_meaning.specs.declared.machine.Machine.{Machine}
 use Rattle.serial_meaning.specs.Lengths.{length_of}

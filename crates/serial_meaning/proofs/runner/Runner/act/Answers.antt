@@ -1,9 +1,9 @@
 use Rattle.std.proofs.Common.{◌≡◌, ◌+◌, ◌<◌, ◌≤◌, ◌∷◌, [], ◌++◌, length, refl, sym, subst}
 use Rattle.dag_order.specs.Births.{HasLabel}
 use Rattle.dag_order.specs.declared.thread_id.ThreadId.{ThreadId}
-use Rattle.par_meaning.specs.States.{acted, acting}
-use Rattle.par_meaning.specs.Run.{actions_of}
-use Rattle.run_journal.specs.Journals.{births_of, action_named, KeepsUp}
+use Rattle.depth_first_run.specs.States.{acted, acting}
+use Rattle.depth_first_run.specs.Run.{actions_of}
+use Rattle.serial_journal.specs.Journals.{births_of, action_named, KeepsUp}
 use Rattle.serial_meaning.specs.declared.thread.Thread.{Thread}
 use Rattle.serial_meaning.specs.Views.{Is, IsBeyond}
 use Rattle.serial_meaning.proofs.Steps.{is_acted, act_beyond, stops_so, err_exit, sum_is}

@@ -1,9 +1,9 @@
 use Rattle.std.proofs.Common.{◌≡◌, ◌∙◌, refl, subst, pos, replicate}
 use Rattle.par_tree.specs.View.{name_tree}
-use Rattle.action_order.specs.Actions as deeds
-use Rattle.par_meaning.specs.States.{acting}
-use Rattle.par_meaning.specs.Stores.{holding, block_words}
-use Rattle.par_meaning.specs.Run.{storing}
+use Rattle.depth_first_list.specs.Actions as deeds
+use Rattle.depth_first_run.specs.States.{acting}
+use Rattle.depth_first_run.specs.Stores.{holding, block_words}
+use Rattle.depth_first_run.specs.Run.{storing}
 use Rattle.serial_meaning.specs.declared.thread.Thread.{Thread}
 use Rattle.serial_meaning.specs.Lengths.{length_of}
 use Rattle.serial_meaning.specs.Views.{Is}

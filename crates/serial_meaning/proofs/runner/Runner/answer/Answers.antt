@@ -1,13 +1,13 @@
 use Rattle.std.proofs.Common.{◌≡◌, ◌∙◌, refl, ap, subst, Ok, ℤ, pos, rules, SFits, to_z, of_z, w64}
 use Rattle.std.proofs.lemmas.Int.{to_z-of_z}
 use Rattle.par_tree.specs.View.{ret_tree, name_tree, expr_tree, params_tree, args_tree, target_tree}
-use Rattle.par_meaning.specs.States.{State, faulting, unless_faulted}
-use Rattle.par_meaning.specs.Calls as calls
-use Rattle.par_meaning.specs.Calls.{Answer, answering, returned}
-use Rattle.par_meaning.specs.Run.{storing}
-use Rattle.par_meaning.specs.Stores.{dropping}
-use Rattle.par_meaning.specs.Values.{value}
-use Rattle.par_store.specs.Shown.{store_shown}
+use Rattle.depth_first_run.specs.States.{State, faulting, unless_faulted}
+use Rattle.depth_first_run.specs.Calls as calls
+use Rattle.depth_first_run.specs.Calls.{Answer, answering, returned}
+use Rattle.depth_first_run.specs.Run.{storing}
+use Rattle.depth_first_run.specs.Stores.{dropping}
+use Rattle.depth_first_run.specs.Values.{value}
+use Rattle.serial_store.specs.Shown.{store_shown}
 use Rattle.serial_meaning.specs.declared.thread.Thread.{Thread}
 use Rattle.serial_meaning.specs.Views.{Is}
 use Rattle.serial_meaning.proofs.Steps.{skipped, at_same, is_stored}

@@ -1,10 +1,10 @@
 use Rattle.std.proofs.Common.{refl, subst}
 use Rattle.par_tree.specs.View.{ret_tree, name_tree}
-use Rattle.par_meaning.specs.States.{State, faulting, unless_faulted}
-use Rattle.par_meaning.specs.Calls.{answering}
-use Rattle.par_meaning.specs.Run.{dropping_answer}
-use Rattle.par_meaning.specs.Stores.{block_of, dropping}
-use Rattle.par_store.specs.Shown.{store_shown}
+use Rattle.depth_first_run.specs.States.{State, faulting, unless_faulted}
+use Rattle.depth_first_run.specs.Calls.{answering}
+use Rattle.depth_first_run.specs.Run.{dropping_answer}
+use Rattle.depth_first_run.specs.Stores.{block_of, dropping}
+use Rattle.serial_store.specs.Shown.{store_shown}
 use Rattle.serial_meaning.specs.declared.thread.Thread.{Thread}
 use Rattle.serial_meaning.specs.Views.{Is}
 use Rattle.serial_meaning.proofs.Steps.{skipped, at_same, is_stored}

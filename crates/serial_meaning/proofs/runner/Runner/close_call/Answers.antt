@@ -1,10 +1,10 @@
 use Rattle.std.proofs.Common.{◌≡◌, ◌∙◌, [], refl, ap, arith, append-nil}
 use Rattle.std.proofs.lemmas.List.{nil_from_length}
 use Rattle.par_tree.specs.View.{params_tree, args_tree, target_tree}
-use Rattle.par_meaning.specs.Stores as stores
-use Rattle.par_meaning.specs.Calls.{Answer, answered, lent_back}
-use Rattle.par_store.specs.Shown.{store_shown, answer_shown}
-use Rattle.par_store.specs.declared.store.Store.{Store}
+use Rattle.depth_first_run.specs.Stores as stores
+use Rattle.depth_first_run.specs.Calls.{Answer, answered, lent_back}
+use Rattle.serial_store.specs.Shown.{store_shown, answer_shown}
+use Rattle.serial_store.specs.declared.store.Store.{Store}
 use Rattle.serial_meaning.specs.declared.thread.Thread.{Thread}
 use Rattle.serial_meaning.proofs.Calling.{is_closed, is_not_closed}
 use Rattle.serial_meaning.proofs.runner.Runner.close_call.Goals as goal

@@ -2,13 +2,13 @@ use Rattle.std.proofs.Common.{◌≡◌, ℤ, Ok, Err, to_z, of_z, w64, refl, su
 use Rattle.std.proofs.lemmas.Int.{to_z-of_z}
 use Rattle.par_tree.specs.Tree.{Name}
 use Rattle.par_tree.specs.View.{name_tree}
-use Rattle.par_meaning.specs.Stores.{block_of}
-use Rattle.par_meaning.specs.States.{State}
-use Rattle.par_meaning.specs.Run.{cut_of}
-use Rattle.par_store.specs.Effects.{Cuts}
-use Rattle.par_store.specs.Shown.{store_shown}
-use Rattle.par_store.specs.declared.stop.Stop.{Stop}
-use Rattle.par_store.specs.declared.stop.Stop.TheVariants as stops
+use Rattle.depth_first_run.specs.Stores.{block_of}
+use Rattle.depth_first_run.specs.States.{State}
+use Rattle.depth_first_run.specs.Run.{cut_of}
+use Rattle.serial_store.specs.Effects.{Cuts}
+use Rattle.serial_store.specs.Shown.{store_shown}
+use Rattle.serial_store.specs.declared.stop.Stop.{Stop}
+use Rattle.serial_store.specs.declared.stop.Stop.TheVariants as stops
 use Rattle.serial_meaning.specs.declared.thread.Thread.{Thread}
 use Rattle.serial_meaning.specs.Views.{Is}
 use Rattle.serial_meaning.proofs.Steps.{is_stored}

@@ -1,6 +1,6 @@
 use Rattle.serial_meaning.specs.Views.{fault_of}
-use Rattle.par_meaning.specs.States.{faulting}
-use Rattle.run_journal.specs.Journals.{births_of}
+use Rattle.depth_first_run.specs.States.{faulting}
+use Rattle.serial_journal.specs.Journals.{births_of}
 use Rattle.serial_meaning.proofs.Steps.{holdings_are, at_same}
 use Rattle.serial_meaning.proofs.runner.Runner.fault.Goals as goal
 

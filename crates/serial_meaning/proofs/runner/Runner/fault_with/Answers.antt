@@ -1,7 +1,7 @@
 use Rattle.std.proofs.Common.{◌≡◌, ◌∙◌, refl}
-use Rattle.action_order.specs.Actions as deeds
-use Rattle.par_meaning.specs.States.{State, acting, noting, failed}
-use Rattle.run_journal.specs.Journals.{births_of}
+use Rattle.depth_first_list.specs.Actions as deeds
+use Rattle.depth_first_run.specs.States.{State, acting, noting, failed}
+use Rattle.serial_journal.specs.Journals.{births_of}
 use Rattle.serial_meaning.specs.Views.{Is, IsBeyond, fault_of}
 use Rattle.serial_meaning.proofs.Steps.{err_exit, stops_so, is_noted, fault_beyond}
 use Rattle.serial_meaning.proofs.runner.Runner.fault_with.Goals as goal

@@ -1,9 +1,9 @@
 use Rattle.std.proofs.Common.{◌≡◌, ◌+◌, [], ◌∷◌, refl, sym, subst}
 use Rattle.std.specs.Prelude.{false}
 use Rattle.dag_order.specs.Births.{HasLabel}
-use Rattle.par_meaning.specs.States.{child_of}
-use Rattle.run_journal.specs.Journals.{births_of}
-use Rattle.run_journal.specs.declared.journal.Journal.{Journal}
+use Rattle.depth_first_run.specs.States.{child_of}
+use Rattle.serial_journal.specs.Journals.{births_of}
+use Rattle.serial_journal.specs.declared.journal.Journal.{Journal}
 use Rattle.serial_meaning.specs.Settings.{setting_of}
 use Rattle.serial_meaning.specs.Frames.{names_of}
 use Rattle.serial_meaning.specs.Views.{IsBeyond}

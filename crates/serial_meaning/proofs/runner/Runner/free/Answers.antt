@@ -1,10 +1,10 @@
 use Rattle.std.proofs.Common.{◌≡◌, ◌∙◌, refl, sym, ap, subst, length}
 use Rattle.par_tree.specs.View.{name_tree}
-use Rattle.action_order.specs.Actions as deeds
-use Rattle.par_meaning.specs.States.{State, acting}
-use Rattle.par_meaning.specs.Stores.{dropping, block_of, block_words, Store}
-use Rattle.par_meaning.specs.Run.{storing}
-use Rattle.par_store.specs.Shown.{store_shown}
+use Rattle.depth_first_list.specs.Actions as deeds
+use Rattle.depth_first_run.specs.States.{State, acting}
+use Rattle.depth_first_run.specs.Stores.{dropping, block_of, block_words, Store}
+use Rattle.depth_first_run.specs.Run.{storing}
+use Rattle.serial_store.specs.Shown.{store_shown}
 use Rattle.serial_meaning.specs.declared.thread.Thread.{Thread}
 use Rattle.serial_meaning.specs.Views.{Is}
 use Rattle.serial_meaning.proofs.Steps.{is_stored}

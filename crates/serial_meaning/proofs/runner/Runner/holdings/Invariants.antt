@@ -1,6 +1,6 @@
 use Rattle.std.proofs.Common.{◌≡◌, ◌+◌, take, map}
-use Rattle.par_meaning.specs.Stores.{held_words, stored_words}
-use Rattle.par_store.specs.Shown.{store_shown}
+use Rattle.depth_first_run.specs.Stores.{held_words, stored_words}
+use Rattle.serial_store.specs.Shown.{store_shown}
 use Rattle.serial_meaning.proofs.runner.Runner.holdings.Given as goal
 
 abbrev pub invariant-loop-caller : goal.invariant-loop-caller

@@ -1,9 +1,9 @@
 use Rattle.std.proofs.Common.{◌≡◌, ◌∙◌, refl, subst}
-use Rattle.action_order.specs.Actions as deeds
-use Rattle.par_meaning.specs.States.{State, acting, joined}
-use Rattle.par_store.specs.Shown.{store_shown}
-use Rattle.par_store.specs.Effects.{joined_store}
-use Rattle.run_journal.specs.Journals.{births_of}
+use Rattle.depth_first_list.specs.Actions as deeds
+use Rattle.depth_first_run.specs.States.{State, acting, joined}
+use Rattle.serial_store.specs.Shown.{store_shown}
+use Rattle.serial_store.specs.Effects.{joined_store}
+use Rattle.serial_journal.specs.Journals.{births_of}
 use Rattle.serial_meaning.specs.Frames.{assigns_of}
 use Rattle.serial_meaning.specs.Views.{Is, IsBeyond}
 use Rattle.serial_meaning.specs.declared.thread.Thread.{Thread}

@@ -1,9 +1,9 @@
 use Rattle.std.proofs.Common.{◌≡◌, ◌∷◌, [], ◌++◌, ℤ, w64, subst}
 use Rattle.std.proofs.lemmas.Int.{to_z-of_z}
-use Rattle.par_meaning.specs.States.{printed, noting}
-use Rattle.run_journal.specs.Stops.{OnStop}
+use Rattle.depth_first_run.specs.States.{printed, noting}
+use Rattle.serial_journal.specs.Stops.{OnStop}
 use Rattle.std.proofs.Common.{MatchResult}
-use Rattle.run_journal.specs.Journals.{KeepsUp, births_of}
+use Rattle.serial_journal.specs.Journals.{KeepsUp, births_of}
 use Rattle.serial_meaning.specs.Views.{Is, IsBeyond}
 use Rattle.serial_meaning.proofs.Steps.{is_noted, ends_so}
 use Rattle.serial_meaning.proofs.runner.Runner.print.Goals as goal

@@ -2,10 +2,10 @@ use Rattle.std.proofs.Common.{rules, SFits, to_z, of_z, w64, Ok}
 use Rattle.std.proofs.lemmas.Int.{to_z-of_z}
 use Rattle.std.proofs.Common.{◌≡◌, ◌∙◌, sym, ap, ℤ}
 use Rattle.par_tree.specs.View.{expr_tree}
-use Rattle.par_meaning.specs.States.{settled, noting, printed, faulting}
-use Rattle.par_meaning.specs.Run.{printing}
-use Rattle.par_meaning.specs.Values.{value}
-use Rattle.par_store.specs.Shown.{store_shown}
+use Rattle.depth_first_run.specs.States.{settled, noting, printed, faulting}
+use Rattle.depth_first_run.specs.Run.{printing}
+use Rattle.depth_first_run.specs.Values.{value}
+use Rattle.serial_store.specs.Shown.{store_shown}
 use Rattle.serial_meaning.proofs.Steps.{settled_ok, settled_err, at_same}
 use Rattle.serial_meaning.proofs.runner.Runner.print_value.Goals as goal
 

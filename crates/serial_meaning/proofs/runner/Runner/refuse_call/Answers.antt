@@ -1,14 +1,14 @@
 use Rattle.std.proofs.Common.{◌≡◌, ◌∙◌, refl, sym, ap, subst, Result, Ok, Err, MatchResult}
 use Rattle.dag_order.specs.declared.fault.FaultKind.{FaultKind}
 use Rattle.par_tree.specs.View.{params_tree, args_tree}
-use Rattle.par_meaning.specs.Stores as stores
-use Rattle.par_meaning.specs.States.{State}
-use Rattle.par_meaning.specs.Calls.{all_passed}
-use Rattle.par_meaning.specs.Run.{storing}
-use Rattle.par_store.specs.Shown.{store_shown}
-use Rattle.run_journal.specs.declared.serial_stop.SerialStop.{SerialStop}
-use Rattle.run_journal.specs.Stops.{OnStop}
-use Rattle.run_journal.specs.Journals.{births_of}
+use Rattle.depth_first_run.specs.Stores as stores
+use Rattle.depth_first_run.specs.States.{State}
+use Rattle.depth_first_run.specs.Calls.{all_passed}
+use Rattle.depth_first_run.specs.Run.{storing}
+use Rattle.serial_store.specs.Shown.{store_shown}
+use Rattle.serial_journal.specs.declared.serial_stop.SerialStop.{SerialStop}
+use Rattle.serial_journal.specs.Stops.{OnStop}
+use Rattle.serial_journal.specs.Journals.{births_of}
 use Rattle.serial_meaning.specs.declared.thread.Thread.{Thread}
 use Rattle.serial_meaning.specs.Opening.{refused}
 use Rattle.serial_meaning.specs.Views.{Is, IsBeyond, fault_of}

@@ -1,7 +1,7 @@
 use Rattle.std.proofs.Common.{refl, subst}
 use Rattle.par_tree.specs.View.{name_tree}
-use Rattle.par_meaning.specs.States.{State}
-use Rattle.par_meaning.specs.Run.{storing, rejoining}
+use Rattle.depth_first_run.specs.States.{State}
+use Rattle.depth_first_run.specs.Run.{storing, rejoining}
 use Rattle.serial_meaning.specs.declared.thread.Thread.{Thread}
 use Rattle.serial_meaning.specs.Views.{Is}
 use Rattle.serial_meaning.proofs.Steps.{is_stored, skipped, unskipped}

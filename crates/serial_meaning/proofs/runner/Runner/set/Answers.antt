@@ -2,11 +2,11 @@ use Rattle.std.proofs.Common.{rules, SFits, to_z, of_z, w64, Ok}
 use Rattle.std.proofs.lemmas.Int.{to_z-of_z}
 use Rattle.std.proofs.Common.{◌≡◌, ◌∙◌, refl, sym, ap, subst, ℤ}
 use Rattle.par_tree.specs.View.{name_tree, expr_tree}
-use Rattle.par_meaning.specs.States.{State, settled, faulting}
-use Rattle.par_meaning.specs.Stores.{with_integer}
-use Rattle.par_meaning.specs.Run.{setting_integer}
-use Rattle.par_meaning.specs.Values.{value}
-use Rattle.par_store.specs.Shown.{store_shown}
+use Rattle.depth_first_run.specs.States.{State, settled, faulting}
+use Rattle.depth_first_run.specs.Stores.{with_integer}
+use Rattle.depth_first_run.specs.Run.{setting_integer}
+use Rattle.depth_first_run.specs.Values.{value}
+use Rattle.serial_store.specs.Shown.{store_shown}
 use Rattle.serial_meaning.specs.declared.thread.Thread.{Thread}
 use Rattle.serial_meaning.specs.Views.{Is}
 use Rattle.serial_meaning.proofs.Steps.{settled_ok, settled_err, at_same, is_stored}

@@ -1,0 +1,4 @@
+pub mod Calls
+pub mod Written
+pub mod Laws
+pub mod Sizes

@@ -1,5 +1,0 @@
-use Rattle.accepted_program.proofs.Functions.{names_differ}
-use Rattle.accepted_program.proofs.laws.function_names_differ.Goals as goal
-
-pub returns : goal.returns
-returns c = names_differ

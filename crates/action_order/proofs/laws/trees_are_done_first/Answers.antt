@@ -1,5 +1,0 @@
-use Rattle.action_order.proofs.TreeLaws as law
-use Rattle.action_order.proofs.laws.trees_are_done_first.Goals as goal
-
-pub returns : goal.returns
-returns c = law.trees_are_done_first

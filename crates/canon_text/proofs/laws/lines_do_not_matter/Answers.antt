@@ -1,5 +1,0 @@
-use Rattle.canon_text.proofs.LineLemmas.{same_text}
-use Rattle.canon_text.proofs.laws.lines_do_not_matter.Goals as goal
-
-pub returns : goal.returns
-returns c = same_text

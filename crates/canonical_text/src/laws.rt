@@ -1,0 +1,18 @@
+ghost use Rattle.canonical_text.specs.Laws.{LinesDoNotMatter, CanonicalIsText, CanonicalStays};
+
+/// Programs that are the same but for lines have the same canonical text.
+pub fn lines_do_not_matter()
+    ensures { LinesDoNotMatter }
+{}
+
+/// The canonical text of a program that is the tree of a text is a text of the same program but for
+/// lines, wherever it is not too long for a text.
+pub fn canonical_is_text()
+    ensures { CanonicalIsText }
+{}
+
+/// Whatever is read from a canonical text has that canonical text again, and is the same program but
+/// for lines.
+pub fn canonical_stays()
+    ensures { CanonicalStays }
+{}

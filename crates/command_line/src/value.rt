@@ -1,0 +1,36 @@
+ghost use Rattle.std.specs.Prelude.{◌≡◌, ℕ, ◌<◌, ◌^◌, MatchOption, SomeIff};
+ghost use Rattle.std.specs.Str.Parse.{digits_value};
+ghost use Rattle.command_line.specs.Words.{IsValue, InRange, Gives};
+
+use crate::setting::Setting;
+
+/// The most digits of a value.
+const MAX_DIGITS: usize = 20;
+
+/// The number that a value writes, of 1 to 20 decimal digits. There is no sign.
+fn number(value: &[u8]) -> Option<u64>
+    ensures { SomeIff result (IsValue value.now × (digits_value 10 value.now < 2 ^ 64)) (digits_value 10 value.now) }
+{
+    let Ok(text) = str::from_utf8(value) else {
+        return None;
+    };
+    if text.len() > MAX_DIGITS || text.as_bytes().first() == Some(&b'+') {
+        return None;
+    }
+    text.parse::<u64>().ok()
+}
+
+/// The number that a value gives to an option, where the option may have it.
+pub fn number_for(setting: Setting, value: &[u8]) -> Option<u32>
+    ensures { MatchOption result ((n : ℕ) → ¬ Gives setting value.now n) (λ n. Gives setting value.now n) }
+{
+    let rule = setting.rule();
+    let number = number(value)?;
+    if number < u64::from(rule.least)
+        || number > u64::from(rule.most)
+        || number % u64::from(rule.unit) != 0
+    {
+        return None;
+    }
+    Some(number as u32)
+}

@@ -1,0 +1,161 @@
+-- A thread while it runs, and what single actions do to it.
+use Rattle.std.specs.Prelude.{ℕ, zero, suc, ◌+◌, Bool, true, false, nat_lt, List, [], ◌∷◌, ◌++◌, ℤ, Ok, Err}
+use Rattle.dag_order.specs.LabelOrder.{fork_of}
+use Rattle.dag_order.specs.declared.fault.FaultKind.{FaultKind}
+use Rattle.dag_order.specs.declared.fault.FaultKind.TheVariants as faults
+use Rattle.dag_order.specs.declared.fault.FaultAt.{FaultAt}
+use Rattle.depth_first_list.specs.Actions as actions
+use Rattle.depth_first_list.specs.Actions.{Action, Deed}
+use Rattle.par_tree.specs.Tree.{Name, Program}
+use Rattle.depth_first_run.specs.Stores.{Store, nothing, those_named, those_not_named, held_words, stored_words}
+use Rattle.depth_first_run.specs.Values.{Outcome}
+
+-- What a run is of: a program and the quota k in words; and its limits, the open calls and the loop rounds and calls
+-- that a thread may have, and the forks that may stand above one another.
+pub record Setting : Type 0 where
+  pub program : Program
+  pub quota : ℕ
+  pub most_calls : ℕ
+  pub most_turns : ℕ
+  pub most_forks : ℕ
+
+-- what a run leaves, in depth-first order: the mark of a statement of this line that begins, an action, a printed
+-- number, the mark of a fault
+pub data Item : Type 0 where
+  began : ℕ → Item
+  acted : Action → Item
+  printed : ℤ → Item
+  failed : FaultAt → Item
+
+-- A thread: its label; how many actions and how many forks it has done; whether a fault ended its work; what it can
+-- reach, and the stores of the callers of its open calls, the innermost first; how many calls are open, those at the
+-- forks above it among them; the loop rounds and calls that it may still have; and the items of the run so far.
+pub record State : Type 0 where
+  pub label : List ℕ
+  pub done : ℕ
+  pub forks : ℕ
+  pub faulted : Bool
+  pub store : Store
+  pub callers : List Store
+  pub calls : ℕ
+  pub turns : ℕ
+  pub items : List Item
+
+-- one item more
+abbrev pub noting : Item → State → State
+noting item s = record s { items = s.items ++ item ∷ [] }
+
+-- the next action of the thread
+abbrev pub next_action : Deed → ℕ → State → Item
+next_action deed words s = acted record { label = s.label; index = s.done; deed = deed; words = words }
+
+-- it does an action
+unfoldable pub acting : Deed → ℕ → State → State
+acting deed words s = record s { done = suc s.done; items = s.items ++ next_action deed words s ∷ [] }
+
+-- the words that the thread holds, in all its open calls
+abbrev pub holdings : State → ℕ
+holdings s = held_words s.store.blocks + stored_words s.callers
+
+-- a fault ended the work of the thread, which holds nothing from now on
+abbrev pub emptied : State → State
+emptied s = record s { faulted = true; store = nothing; callers = [] }
+
+-- a fault at a line: the action that gives back all that the thread holds, and its mark
+unfoldable pub faulting : FaultKind → ℕ → State → State
+faulting kind line s =
+    emptied (noting (failed (record { kind = kind; line = line })) (acting actions.faults (holdings s) s))
+
+-- a thread that no fault has ended goes on; one that a fault ended skips its statements
+abbrev pub choosing : Bool → (State → State) → State → State
+choosing true f s = s
+choosing false f s = f s
+
+unfoldable pub unless_faulted : (State → State) → State → State
+unless_faulted f s = choosing s.faulted f s
+
+-- what follows a number, or a fault at the line
+unfoldable pub settled : ℕ → Outcome → (ℤ → State → State) → State → State
+settled line (Ok v) f s = f v s
+settled line (Err kind) f s = faulting kind line s
+
+-- a loop round or a call is a turn, where the thread may have one more
+abbrev pub turning : ℕ → ℕ → (State → State) → State → State
+turning zero line f s = faulting faults.Turns line s
+turning (suc left) line f s = f (record s { turns = left })
+
+unfoldable pub with_turn : ℕ → (State → State) → State → State
+with_turn line f s = turning s.turns line f s
+
+-- what may be done only where a number is below its limit, else the fault Depth
+abbrev pub limiting : Bool → ℕ → (State → State) → State → State
+limiting true line f s = f s
+limiting false line f s = faulting faults.Depth line s
+
+unfoldable pub with_depth : ℕ → ℕ → ℕ → (State → State) → State → State
+with_depth depth most line f s = limiting (nat_lt depth most) line f s
+
+-- A forked child as it begins: it has copies of the integers, and the blocks whose names pass.
+abbrev pub child_of : Setting → (Name → Bool) → State → State
+child_of c named s = record {
+  label = fork_of s.label (suc s.forks);
+  done = 0;
+  forks = 0;
+  faulted = false;
+  store = record { integers = s.store.integers; blocks = those_named named s.store.blocks };
+  callers = [];
+  calls = s.calls;
+  turns = c.most_turns;
+  items = s.items ++ next_action (actions.forks (suc s.forks)) 0 s ∷ [];
+}
+
+-- its parent, which goes on with the other blocks behind all that the child left
+abbrev pub parent_of : (Name → Bool) → List Item → State → State
+parent_of named items s = record s {
+  done = suc s.done;
+  forks = suc s.forks;
+  store = record { integers = s.store.integers; blocks = those_not_named named s.store.blocks };
+  items = items;
+}
+
+-- the last action of a thread
+unfoldable pub ended : State → State
+ended s = acting actions.ends 0 s
+
+-- The words that a Join gives back: those that the child brings to a thread that a fault ended; those of the thread,
+-- where a fault ended the child; else none.
+abbrev pub given_back : (parent child : Bool) → State → State → ℕ
+given_back true child c s = held_words c.store.blocks
+given_back false true c s = holdings s
+given_back false false c s = 0
+
+-- the integers that the child's branch assigned are the child's
+abbrev pub taken_integers : (Name → Bool) → (Name → ℤ) → (Name → ℤ) → Name → ℤ
+taken_integers assigned child own x = choice (assigned x)
+  where
+    choice : Bool → ℤ
+    choice true = child x
+    choice false = own x
+
+-- what the thread has behind the Join: the blocks that the child still holds come back, with the integers that its
+-- branch assigned; a thread that a fault ended, or whose child one ended, has nothing
+abbrev pub taking : (parent child : Bool) → (Name → Bool) → State → State → State
+taking true child assigned c s = s
+taking false true assigned c s = emptied s
+taking false false assigned c s = record s {
+  store = record { integers = taken_integers assigned c.store.integers s.store.integers; blocks = s.store.blocks ++ c.store.blocks };
+}
+
+-- the Join of a child that has ended
+unfoldable pub joined : (Name → Bool) → (child : ℕ) → State → State → State
+joined assigned child c s =
+    taking s.faulted c.faulted assigned c (acting (actions.joins child) (given_back s.faulted c.faulted c s) s)
+
+-- behind the whole run of a child the thread does its own part, and joins the child
+unfoldable pub joining : (named assigned : Name → Bool) → (own : State → State) → State → State → State
+joining named assigned own s c = joined assigned (suc s.forks) c (own (parent_of named c.items s))
+
+-- A thread forks a child that does its work, does its own part, and then joins the child. Both parts are done, also
+-- where one of them faults.
+unfoldable pub forking : Setting → (named assigned : Name → Bool) → (work own : State → State) → State → State
+forking c named assigned work own s = joining named assigned own s (ended (work (child_of c named s)))

@@ -1,5 +1,0 @@
-use Rattle.owned_runs.proofs.Fitting.{finds_at}
-use Rattle.owned_runs.proofs.laws.each_statement_finds_its_blocks.Goals as goal
-
-pub returns : goal.returns
-returns c = λ setting owned n line stmt rest fs s at running x needs. finds_at setting owned n line stmt rest fs s at running x needs

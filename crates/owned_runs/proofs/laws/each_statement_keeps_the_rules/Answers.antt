@@ -1,5 +1,0 @@
-use Rattle.owned_runs.proofs.Fitting.{keeps_at}
-use Rattle.owned_runs.proofs.laws.each_statement_keeps_the_rules.Goals as goal
-
-pub returns : goal.returns
-returns c = λ setting owned n line stmt rest fs s at running. keeps_at setting owned n line stmt rest fs s at running

@@ -1,5 +1,0 @@
-use Rattle.owned_runs.proofs.Reaching.{end_reached}
-use Rattle.owned_runs.proofs.laws.points_reach_the_end.Goals as goal
-
-pub returns : goal.returns
-returns c = λ setting. end_reached setting

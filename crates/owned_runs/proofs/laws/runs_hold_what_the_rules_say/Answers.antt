@@ -1,5 +1,0 @@
-use Rattle.owned_runs.proofs.Owned.{holds_rules}
-use Rattle.owned_runs.proofs.laws.runs_hold_what_the_rules_say.Goals as goal
-
-pub returns : goal.returns
-returns c = λ setting owned b env after s owns running holds. holds_rules setting owned b env after s owns running holds

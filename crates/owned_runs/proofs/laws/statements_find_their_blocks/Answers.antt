@@ -1,5 +1,0 @@
-use Rattle.owned_runs.proofs.Needed.{needed_is_there}
-use Rattle.owned_runs.proofs.laws.statements_find_their_blocks.Goals as goal
-
-pub returns : goal.returns
-returns c = λ p line stmt env after s owns holds x needs. needed_is_there p line stmt env after s owns holds x needs

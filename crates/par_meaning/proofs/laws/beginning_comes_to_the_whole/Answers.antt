@@ -1,5 +1,0 @@
-use Rattle.par_meaning.proofs.Stepping.{beginning_comes}
-use Rattle.par_meaning.proofs.laws.beginning_comes_to_the_whole.Goals as goal
-
-pub returns : goal.returns
-returns c = λ setting. beginning_comes setting

@@ -1,0 +1,28 @@
+ghost use Rattle.std.specs.Prelude.{◌≡◌};
+ghost use Rattle.par_parse.specs.declared.parse_error.ParseError.TheVariants.{Memory};
+
+use par_text::Stop;
+use std::alloc::{AllocError, AllocFailed};
+
+/// Why no tree is read, and at how many tokens before the end.
+#[derive(Drop)]
+pub(crate) enum ParseError {
+    Memory,
+    Stopped { stop: Stop, left: usize },
+}
+
+impl From<AllocError> for ParseError {
+    ghost from_gives = { λ _ e. e ≡ Memory };
+
+    fn from(_e: AllocError) -> ParseError {
+        ParseError::Memory
+    }
+}
+
+impl<T: Drop> From<AllocFailed<T>> for ParseError {
+    ghost from_gives = { λ _ e. e ≡ Memory };
+
+    fn from(_e: AllocFailed<T>) -> ParseError {
+        ParseError::Memory
+    }
+}

@@ -1,0 +1,46 @@
+use Rattle.std.proofs.Common.{◌≡◌, ◌≤◌, ◌∷◌, [], ◌++◌, ap, ◌∙◌, subst, sym, pos, List, length}
+use Rattle.dag_order.specs.declared.birth.Birth.{Birth}
+use Rattle.dag_order.specs.declared.thread_id.ThreadId.{ThreadId}
+use Rattle.dag_order.specs.declared.kind.Kind.TheVariants.{Fork}
+use Rattle.dag_order.specs.Births.{HasLabel}
+use Rattle.dag_order.specs.LabelOrder.{fork_of}
+use Rattle.bounded_list.specs.BoundedList.{entries}
+use Rattle.bounded_list.specs.declared.bounded_list.BoundedList.{BoundedList}
+use Rattle.depth_first_run.specs.Run.{actions_of}
+use Rattle.serial_journal.specs.declared.journal.Journal.{Journal}
+use Rattle.serial_journal.specs.declared.action.Action.{Action as Shown}
+use Rattle.serial_journal.specs.Journals.{births_of, KeepsLabels, KeepsUp}
+use Rattle.serial_journal.proofs.Known.{labels_stay, child_has_label}
+use Rattle.serial_journal.proofs.Keeping.{fork_kept, room_kept, limit_reached, stopping}
+use Rattle.serial_journal.proofs.journal.Journal.fork.Goals as goal
+
+pub returns-in-Err-clause-keeps_up : goal.returns-in-Err-clause-keeps_up
+returns-in-Err-clause-keeps_up c = λ limit items label keeps labelled.
+    stopping (c.args.self.now.limit ≤ length (entries c.args.self.now.actions)) (limit ≤ length (actions_of items)) c.in-Err.stop
+    (limit_reached limit items c.args.self.now keeps) c.in-Err.ensures.cases
+
+pub returns-clause-labels : goal.returns-clause-labels
+returns-clause-labels c =
+    let birth : Birth = record { parent = c.args.name.by; ordinal = c.args.ordinal } in
+    let added : entries c.add.new.self ≡ births_of c.args.self.now ++ birth ∷ [] =
+    c.add.ensures.entries ∙ ap (λ (bs : BoundedList Birth). entries bs ++ birth ∷ []) c.in_default.ensures.births
+    ∙ ap (λ (bs : List Birth). bs ++ birth ∷ []) c.in_ok-reserve.ensures.entries in
+    subst (λ (bs : List Birth). KeepsLabels (births_of c.args.self.now) bs) (sym added) (labels_stay (births_of c.args.self.now) (birth ∷ []))
+
+pub returns-clause-keeps_up : goal.returns-clause-keeps_up
+returns-clause-keeps_up c = λ limit items label keeps labelled.
+    let birth : Birth = record { parent = c.args.name.by; ordinal = c.args.ordinal } in
+    let shown : Shown = record { name = c.args.name; kind = Fork; change = pos 0 } in
+    let roomy : Journal = record c.args.self.now { births = c.reserve.new.self } in
+    let same : births_of roomy ≡ births_of c.args.self.now = c.in_ok-reserve.ensures.entries in
+    let kept : KeepsUp limit items roomy = room_kept limit items c.args.self.now c.reserve.new.self same keeps in
+    let added : entries c.add.new.self ≡ births_of roomy ++ birth ∷ [] =
+    c.add.ensures.entries ∙ ap (λ (bs : BoundedList Birth). entries bs ++ birth ∷ []) c.in_default.ensures.births in
+    let known : HasLabel (births_of roomy ∷ []) c.args.name.by label = subst (λ (bs : List Birth). HasLabel (bs ∷ []) c.args.name.by label) (sym same) labelled in
+    let id : ThreadId = record { period = 1; nth = length (births_of roomy) } in
+    let child : HasLabel (entries c.add.new.self ∷ []) id (fork_of label c.args.ordinal) =
+    subst (λ (bs : List Birth). HasLabel (bs ∷ []) id (fork_of label c.args.ordinal)) (sym added) (child_has_label (births_of roomy) c.args.name.by c.args.ordinal label known) in
+    let at : length (births_of roomy) ≡ c.len-nth.result = ap length same ∙ sym c.len-nth.ensures in (
+      fork_kept limit items label c.args.name c.args.ordinal c.add.new.self roomy c.write_down.new.self c.in_default.ensures.cases added kept known,
+      subst (λ n. HasLabel (entries c.add.new.self ∷ []) (record { period = 1; nth = n }) (fork_of label c.args.ordinal)) at child,
+    )

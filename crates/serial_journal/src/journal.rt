@@ -1,0 +1,189 @@
+ghost use Rattle.std.specs.Prelude.{◌≡◌, ℕ, ◌≤◌, [], ◌∷◌, ◌++◌, List, length, IfOk, MatchResult, Ok, Err};
+ghost use Rattle.std.specs.Prelude.{pos};
+ghost use Rattle.std.specs.Int.{int_max};
+ghost use Rattle.depth_first_list.specs.Actions.{Deed, kind_of, weight_of};
+ghost use Rattle.serial_journal.specs.Stops.{OnStop};
+
+use crate::action::{Action, Actions};
+use crate::serial::Serial;
+use crate::serial_stop::SerialStop;
+use bounded_list::BoundedList;
+use dag_order::{ActionId, Birth, Births, FaultAt, Finish, Kind, Lines, ThreadId};
+use std::alloc::Global;
+
+/// What is written down of a depth-first run as it goes on.
+#[derive(Drop)]
+pub struct Journal {
+    finish: Finish,
+    output: Lines,
+    actions: Actions,
+    births: Births,
+    live: i64,
+    peak: u64,
+    limit: u32,
+    items: u64,
+}
+
+impl Journal {
+    ghost use Rattle.bounded_list.specs.BoundedList.{entries};
+    ghost use Rattle.dag_order.specs.Births.{HasLabel};
+    ghost use Rattle.dag_order.specs.LabelOrder.{fork_of};
+    ghost use Rattle.depth_first_list.specs.Actions.{forks};
+    ghost use Rattle.depth_first_run.specs.States.{Item, began, acted, printed, failed};
+    ghost use Rattle.depth_first_run.specs.Run.{actions_of};
+    ghost use Rattle.serial_journal.specs.Telling.{Tells, IsNoFork};
+    ghost use Rattle.serial_journal.specs.Journals.{KeepsUp, KeepsLabels, Counted, Recorded, births_of, action_named};
+
+    /// A journal of no item, which takes at most `limit` actions. It takes no memory.
+    pub fn new(alloc: Global, limit: u32) -> Journal
+        ensures keeps_up { KeepsUp limit [] result }
+        ensures births { births_of result ≡ [] }
+    {
+        Journal {
+            finish: Finish::Done,
+            output: BoundedList::new(alloc),
+            actions: BoundedList::new(alloc),
+            births: BoundedList::new(alloc),
+            live: 0,
+            peak: 0,
+            limit,
+            items: 0,
+        }
+    }
+
+    /// A statement begins.
+    pub fn begin(&mut self) -> Result<(), SerialStop>
+        ensures births { births_of self.new ≡ births_of self.old }
+        ensures keeps_up { (limit line : ℕ) (items : List Item) → KeepsUp limit items self.old → MatchResult result (λ _. KeepsUp limit (items ++ began line ∷ []) self.new) (λ stop. OnStop stop ⊥) }
+    {
+        self.count()
+    }
+
+    /// A number is printed. It is no part of the output where a fault came before.
+    pub fn print(&mut self, value: i64) -> Result<(), SerialStop>
+        ensures births { births_of self.new ≡ births_of self.old }
+        ensures keeps_up { (limit : ℕ) (items : List Item) → KeepsUp limit items self.old → MatchResult result (λ _. KeepsUp limit (items ++ printed value ∷ []) self.new) (λ stop. OnStop stop ⊥) }
+    {
+        self.count()?;
+        match self.finish {
+            Finish::Done => {
+                self.output.reserve()?;
+                self.output.add(value);
+                Ok(())
+            }
+            Finish::Faulted(_) => Ok(()),
+        }
+    }
+
+    /// A fault comes. It is the finish where it is the first one.
+    pub fn fail(&mut self, fault: FaultAt) -> Result<(), SerialStop>
+        ensures births { births_of self.new ≡ births_of self.old }
+        ensures keeps_up { (limit : ℕ) (items : List Item) → KeepsUp limit items self.old → MatchResult result (λ _. KeepsUp limit (items ++ failed fault ∷ []) self.new) (λ stop. OnStop stop ⊥) }
+    {
+        self.count()?;
+        match self.finish {
+            Finish::Done => {
+                self.finish = Finish::Faulted(fault);
+                Ok(())
+            }
+            Finish::Faulted(_) => Ok(()),
+        }
+    }
+
+    /// A thread does an action that is no Fork, of so many words.
+    ///
+    /// # Errors
+    ///
+    /// `StepsSpent` exactly where the limit is reached.
+    pub fn act(&mut self, name: ActionId, kind: Kind, words: u64) -> Result<(), SerialStop>
+        ensures births { births_of self.new ≡ births_of self.old }
+        ensures keeps_up { (limit : ℕ) (items : List Item) (label : List ℕ) (deed : Deed) → KeepsUp limit items self.old → HasLabel (births_of self.old ∷ []) name.by label → kind ≡ kind_of deed → IsNoFork deed → MatchResult result (λ _. KeepsUp limit (items ++ acted (action_named label name.index deed words) ∷ []) self.new) (λ stop. OnStop stop (limit ≤ length (actions_of items))) }
+    {
+        let change = change_of(kind, words)?;
+        self.write_down(Action { name, kind, change })
+    }
+
+    /// A thread forks the child `ordinal`, whose name is given.
+    ///
+    /// # Errors
+    ///
+    /// `StepsSpent` exactly where the limit is reached.
+    pub fn fork(&mut self, name: ActionId, ordinal: u32) -> Result<ThreadId, SerialStop>
+        ensures labels { KeepsLabels (births_of self.old) (births_of self.new) }
+        ensures keeps_up { (limit : ℕ) (items : List Item) (label : List ℕ) → KeepsUp limit items self.old → HasLabel (births_of self.old ∷ []) name.by label → MatchResult result (λ child. KeepsUp limit (items ++ acted (action_named label name.index (forks ordinal) 0) ∷ []) self.new × HasLabel (births_of self.new ∷ []) child (fork_of label ordinal)) (λ stop. OnStop stop (limit ≤ length (actions_of items))) }
+    {
+        let nth = self.births.len();
+        self.births.reserve()?;
+        let forks = Action {
+            name,
+            kind: Kind::Fork,
+            change: 0,
+        };
+        if let Err(stop) = self.write_down(forks) {
+            return Err(stop);
+        }
+        self.births.add(Birth {
+            parent: name.by,
+            ordinal,
+        });
+        Ok(ThreadId { period: 1, nth })
+    }
+
+    /// What the run gave, where it has ended.
+    pub fn close(self) -> Serial
+        ensures { (limit : ℕ) (items : List Item) → KeepsUp limit items self → Tells items result × (length (actions_of items) ≤ limit) }
+    {
+        Serial {
+            finish: self.finish,
+            output: self.output,
+            actions: self.actions,
+            births: self.births,
+            peak: self.peak,
+        }
+    }
+
+    // One item more.
+    fn count(&mut self) -> Result<(), SerialStop>
+        ensures births { self.new.births ≡ self.old.births }
+        ensures cases { MatchResult result (λ _. Counted self.old self.new) (λ stop. OnStop stop ⊥) }
+    {
+        self.items = self.items.checked_add(1).ok_or(SerialStop::OutOfMemory)?;
+        Ok(())
+    }
+
+    // One action more, with the words that are live behind it.
+    fn write_down(&mut self, action: Action) -> Result<(), SerialStop>
+        ensures births { self.new.births ≡ self.old.births }
+        ensures cases { MatchResult result (λ _. Recorded action self.old self.new) (λ stop. OnStop stop (self.old.limit ≤ length (entries self.old.actions))) }
+    {
+        if self.limit <= self.actions.len() {
+            return Err(SerialStop::StepsSpent);
+        }
+        self.count()?;
+        let live = self.live.checked_add(action.change);
+        self.live = live.ok_or(SerialStop::OutOfMemory)?;
+        self.peak = self.peak.max(above_zero(self.live));
+        self.actions.reserve()?;
+        self.actions.add(action);
+        Ok(())
+    }
+}
+
+// A number of words, or 0 where it is below.
+fn above_zero(words: i64) -> u64
+    ensures { pos result ≡ int_max (pos 0) words }
+{
+    if words < 0 { 0 } else { words as u64 }
+}
+
+// By how many words the live words rise.
+fn change_of(kind: Kind, words: u64) -> Result<i64, SerialStop>
+    ensures { (deed : Deed) → kind ≡ kind_of deed → MatchResult result (λ change. change ≡ weight_of deed words) (λ stop. OnStop stop ⊥) }
+{
+    let words = i64::try_from(words).or(Err(SerialStop::OutOfMemory))?;
+    Ok(match kind {
+        Kind::Alloc => words,
+        Kind::Fork | Kind::Dummy | Kind::End => 0,
+        Kind::Join | Kind::Release | Kind::Fault => -words,
+    })
+}

@@ -1,0 +1,46 @@
+-- What the calls do that may fault, and what a fork and a join do to stores.
+use Rattle.std.specs.Prelude.{◌≡◌, ℕ, Bool, ◌++◌, ℤ, Option, Some, None, Result, Ok, Err, slice_set}
+use Rattle.dag_order.specs.declared.fault.FaultKind.{FaultKind}
+use Rattle.dag_order.specs.declared.fault.FaultKind.TheVariants as faults
+use Rattle.par_tree.specs.Tree.{Name}
+use Rattle.depth_first_run.specs.Stores.{Store, block_of, writing, those_named, those_not_named}
+use Rattle.depth_first_run.specs.States.{taken_integers}
+use Rattle.depth_first_run.specs.Calls.{Passing}
+use Rattle.depth_first_run.specs.Run.{cutting}
+use Rattle.serial_store.specs.declared.stop.Stop.{Stop}
+use Rattle.serial_store.specs.declared.stop.Stop.TheVariants as stops
+use Rattle.serial_store.specs.declared.store.Store.{Store as RustStore}
+use Rattle.serial_store.specs.Shown.{store_shown}
+
+-- a number is written to a place of a block, or the place is outside the block and nothing changes
+abbrev pub Puts : Name → ℤ → Option ℕ → Store → Result (Unit {0}) FaultKind → Store → Type 0
+Puts b v (Some i) before result behind =
+    (result ≡ Ok tt) × (behind ≡ writing b (slice_set (block_of before.blocks b) i v) before)
+Puts b v None before result behind = (result ≡ Err faults.Index) × (behind ≡ before)
+
+-- A block is cut at a place, or can't be cut and nothing changes.
+-- `OutOfMemory` is want of memory, behind which nothing is said.
+abbrev pub Cuts : (b l r : Name) → Option ℕ → Store → Result (Unit {0}) Stop → Store → Type 0
+Cuts b l r place before (Ok done) behind = (at : ℕ) × (place ≡ Some at) × (behind ≡ cutting b l r at before)
+Cuts b l r place before (Err (stops.Fault kind)) behind = (place ≡ None) × (kind ≡ faults.Split) × (behind ≡ before)
+Cuts b l r place before (Err stops.OutOfMemory) behind = Unit {0}
+
+-- a call passes its arguments, or one of them faults and nothing changes
+abbrev pub Passes : Result Passing FaultKind → Store → Result RustStore Stop → Store → Type 0
+Passes passed before (Ok callee) behind = passed ≡ Ok record { callee = store_shown callee; caller = behind }
+Passes passed before (Err (stops.Fault kind)) behind = (passed ≡ Err kind) × (behind ≡ before)
+Passes passed before (Err stops.OutOfMemory) behind = Unit {0}
+
+-- the store of a child that is forked with the blocks whose names pass, and what its parent keeps
+abbrev pub child_store : (Name → Bool) → Store → Store
+child_store named s = record { integers = s.integers; blocks = those_named named s.blocks }
+
+abbrev pub parent_store : (Name → Bool) → Store → Store
+parent_store named s = record { integers = s.integers; blocks = those_not_named named s.blocks }
+
+-- the store behind a Join: the child's integers whose names pass, and all its blocks
+abbrev pub joined_store : (Name → Bool) → (child own : Store) → Store
+joined_store assigned child own = record {
+  integers = taken_integers assigned child.integers own.integers;
+  blocks = own.blocks ++ child.blocks;
+}
