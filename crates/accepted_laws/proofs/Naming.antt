@@ -6,7 +6,7 @@ use Rattle.std.specs.Str.{bytes_eq}
 use Rattle.std.proofs.lemmas.Slice.Eq.{bytes_eq-Decides}
 use Rattle.std.proofs.lemmas.List.Folds.{list_any-append}
 use Rattle.par_tree.specs.Tree
-use Rattle.par_tree.specs.Tree.{Name, Program, Expr, number, variable, element, extent, negative, chain, compare, Links, last, link, Target, unused, block, Arg, value, lend, give, Stmt, declare, assign, store, allocate, release, choose, repeat, call, print, both, split, Body, done, step, ParamKind, by_value, owned, Param, Func, Ret, RetValue, gives, hands}
+use Rattle.par_tree.specs.Tree.{Name, Program, Expr, num, var, get, len_of, neg, chain, cmp, Links, last, link, Target, unused, block, Arg, value, lend, give, Stmt, let_stmt, assign_stmt, put_stmt, alloc_stmt, free_stmt, if_stmt, while_stmt, call_stmt, print_stmt, par_stmt, split_stmt, Body, done, step, ParamKind, by_value, owned, Param, Func, Ret, RetValue, gives, hands}
 use Rattle.par_ownership.specs.Environment.{Entry, Environment, has_name, entry_of, with_entry, marked, integer_entry, block_entry, lent_entry, opened, without, after_gives, after_answer, held_in_both, param_entry}
 use Rattle.par_ownership.specs.Mention.{names_in_expr, names_in_links, names_in_target, names_in_arg, names_in_args, names_in_stmt, names_in_body}
 use Rattle.par_ownership.specs.Ownership.{IsHeld, Reads, ReadsLinks, IsTarget, PassesOne, Passes, Within, Owns, OwnsAll, OwnsParams, OwnsReturn, OwnsValue, OwnsFunction, OwnsFunctions, Ownership}
@@ -134,15 +134,15 @@ known_opened x env b l r line ds h =
 -- expressions, arguments and targets name what is visible
 mutual
   seen_expr : (x : Name) (env : Environment) (e : Expr) → Reads env e → names_in_expr x e ≡ true → Sees x env
-  seen_expr x env (number n) r h = never_true h
-  seen_expr x env (variable y) r h = seen_as x y env r.0 r.1 h
-  seen_expr x env (element b i) r h =
+  seen_expr x env (num n) r h = never_true h
+  seen_expr x env (var y) r h = seen_as x y env r.0 r.1 h
+  seen_expr x env (get b i) r h =
       elim (or_cases (bytes_eq b x) (names_in_expr x i) h) [ inl l ↦ seen_as x b env r.0.0 r.0.1 l | inr m ↦ seen_expr x env i r.1 m ]
-  seen_expr x env (extent b) r h = seen_as x b env r.0 r.1 h
-  seen_expr x env (negative e) r h = seen_expr x env e r h
+  seen_expr x env (len_of b) r h = seen_as x b env r.0 r.1 h
+  seen_expr x env (neg e) r h = seen_expr x env e r h
   seen_expr x env (chain e ls) r h =
       elim (or_cases (names_in_expr x e) (names_in_links x ls) h) [ inl l ↦ seen_expr x env e r.0 l | inr m ↦ seen_links x env ls r.1 m ]
-  seen_expr x env (compare op a b) r h =
+  seen_expr x env (cmp op a b) r h =
       elim (or_cases (names_in_expr x a) (names_in_expr x b) h) [ inl l ↦ seen_expr x env a r.0 l | inr m ↦ seen_expr x env b r.1 m ]
 
   seen_links : (x : Name) (env : Environment) (ls : Links) → ReadsLinks env ls → names_in_links x ls ≡ true → Sees x env
@@ -183,20 +183,20 @@ ended x n R env after ds k w v = k w.0 w.1 (sees_take x n w.0 (subst (λ (e : En
 -- what is visible behind a statement was visible before it, or is declared by it
 mutual
   grows_stmt : (x : Name) (p : Program) (line : ℕ) (s : Stmt) (env after : Environment) → Owns p line s env after → Sees x after → Known x env (declared_in_stmt s)
-  grows_stmt x p line (declare y e) env after h v = known_entry x env (integer_entry y line) (subst (λ (w : Environment). Sees x w) h.2 v)
-  grows_stmt x p line (assign y e) env after h v = inl (subst (λ (w : Environment). Sees x w) h.2 v)
-  grows_stmt x p line (store b i e) env after h v = inl (subst (λ (w : Environment). Sees x w) h.3 v)
-  grows_stmt x p line (allocate b e) env after h v = known_entry x env (block_entry b line) (subst (λ (w : Environment). Sees x w) h.2 v)
-  grows_stmt x p line (release b) env after h v = inl (sees_without x b env (subst (λ (w : Environment). Sees x w) h.1 v))
-  grows_stmt x p line (choose c a b) env after h v = known_left x env (declared_in_body a) (declared_in_body b) (ended x (length env) (OwnsAll p a) env after (declared_in_body a) (λ end run w. grows_body x p a env end run w) h.1 v)
-  grows_stmt x p line (repeat c a) env after h v = inl (subst (λ (w : Environment). Sees x w) h.2 v)
-  grows_stmt x p line (call t f args) env after h v =
+  grows_stmt x p line (let_stmt y e) env after h v = known_entry x env (integer_entry y line) (subst (λ (w : Environment). Sees x w) h.2 v)
+  grows_stmt x p line (assign_stmt y e) env after h v = inl (subst (λ (w : Environment). Sees x w) h.2 v)
+  grows_stmt x p line (put_stmt b i e) env after h v = inl (subst (λ (w : Environment). Sees x w) h.3 v)
+  grows_stmt x p line (alloc_stmt b e) env after h v = known_entry x env (block_entry b line) (subst (λ (w : Environment). Sees x w) h.2 v)
+  grows_stmt x p line (free_stmt b) env after h v = inl (sees_without x b env (subst (λ (w : Environment). Sees x w) h.1 v))
+  grows_stmt x p line (if_stmt c a b) env after h v = known_left x env (declared_in_body a) (declared_in_body b) (ended x (length env) (OwnsAll p a) env after (declared_in_body a) (λ end run w. grows_body x p a env end run w) h.1 v)
+  grows_stmt x p line (while_stmt c a) env after h v = inl (subst (λ (w : Environment). Sees x w) h.2 v)
+  grows_stmt x p line (call_stmt t f args) env after h v =
       elim (known_answer x (after_gives env args) t line (subst (λ (w : Environment). Sees x w) h.2 v)) [ inl l ↦ inl (sees_gives x env args l) | inr r ↦ inr r ]
-  grows_stmt x p line (print e) env after h v = inl (subst (λ (w : Environment). Sees x w) h.1 v)
-  grows_stmt x p line (both a b) env after h v =
+  grows_stmt x p line (print_stmt e) env after h v = inl (subst (λ (w : Environment). Sees x w) h.1 v)
+  grows_stmt x p line (par_stmt a b) env after h v =
       known_left x env (declared_in_body a) (declared_in_body b)
       (ended x (length env) (OwnsAll p a) env h.1.0 (declared_in_body a) (λ end run w. grows_body x p a env end run w) h.1.1 (sees_both x h.1.0 h.1.2.0 (subst (λ (w : Environment). Sees x w) h.1.2.2 v)))
-  grows_stmt x p line (split b e l r a) env after h v =
+  grows_stmt x p line (split_stmt b e l r a) env after h v =
       known_opened x env b l r line (declared_in_body a)
       (ended x (length env) (OwnsAll p a) (opened env b l r line) h.4.0 (declared_in_body a) (λ end run w. grows_body x p a (opened env b l r line) end run w) h.4.1 (sym (sees_marked x b true h.4.0) ∙ subst (λ (w : Environment). Sees x w) h.4.2 v))
 
@@ -222,19 +222,19 @@ covers_parts x env b e l r ds held reads n =
 -- what statements name was visible before them, or is declared by them
 mutual
   covers_stmt : (x : Name) (p : Program) (line : ℕ) (s : Stmt) (env after : Environment) → Owns p line s env after → names_in_stmt x s ≡ true → Known x env (declared_in_stmt s)
-  covers_stmt x p line (declare y e) env after h n =
+  covers_stmt x p line (let_stmt y e) env after h n =
       elim (or_cases (bytes_eq y x) (names_in_expr x e) n) [ inl l ↦ inr (or_left (bytes_eq y x) false l) | inr r ↦ inl (seen_expr x env e h.1 r) ]
-  covers_stmt x p line (assign y e) env after h n =
+  covers_stmt x p line (assign_stmt y e) env after h n =
       elim (or_cases (bytes_eq y x) (names_in_expr x e) n) [ inl l ↦ inl (seen_as x y env h.0.0 h.0.1 l) | inr r ↦ inl (seen_expr x env e h.1 r) ]
-  covers_stmt x p line (store b i e) env after h n =
+  covers_stmt x p line (put_stmt b i e) env after h n =
       elim (or_cases (bytes_eq b x || names_in_expr x i) (names_in_expr x e) n) [
         | inl l ↦ elim (or_cases (bytes_eq b x) (names_in_expr x i) l) [ inl m ↦ inl (seen_as x b env h.0.0 h.0.1 m) | inr m ↦ inl (seen_expr x env i h.1 m) ]
         | inr r ↦ inl (seen_expr x env e h.2 r)
       ]
-  covers_stmt x p line (allocate b e) env after h n =
+  covers_stmt x p line (alloc_stmt b e) env after h n =
       elim (or_cases (bytes_eq b x) (names_in_expr x e) n) [ inl l ↦ inr (or_left (bytes_eq b x) false l) | inr r ↦ inl (seen_expr x env e h.1 r) ]
-  covers_stmt x p line (release b) env after h n = inl (seen_as x b env h.0.0 h.0.1 n)
-  covers_stmt x p line (choose c a b) env after h n =
+  covers_stmt x p line (free_stmt b) env after h n = inl (seen_as x b env h.0.0 h.0.1 n)
+  covers_stmt x p line (if_stmt c a b) env after h n =
       elim (or_cases (names_in_expr x c) (names_in_body x a || names_in_body x b) n) [
         | inl l ↦ inl (seen_expr x env c h.0 l)
         | inr r ↦ elim (or_cases (names_in_body x a) (names_in_body x b) r) [
@@ -242,20 +242,20 @@ mutual
           | inr m ↦ known_right x env (declared_in_body a) (declared_in_body b) (covers_body x p b env h.2.1.0 h.2.1.1 m)
         ]
       ]
-  covers_stmt x p line (repeat c a) env after h n =
+  covers_stmt x p line (while_stmt c a) env after h n =
       elim (or_cases (names_in_expr x c) (names_in_body x a) n) [ inl l ↦ inl (seen_expr x env c h.0 l) | inr r ↦ covers_body x p a env h.1.1.0 h.1.1.1 r ]
-  covers_stmt x p line (call t f args) env after h n =
+  covers_stmt x p line (call_stmt t f args) env after h n =
       elim (or_cases (names_in_target x t) (names_in_args x args) n) [
         | inl l ↦ known_target x env t h.0 l
         | inr r ↦ inl (seen_args x env [] h.1.0.params args h.1.3 r)
       ]
-  covers_stmt x p line (print e) env after h n = inl (seen_expr x env e h.0 n)
-  covers_stmt x p line (both a b) env after h n =
+  covers_stmt x p line (print_stmt e) env after h n = inl (seen_expr x env e h.0 n)
+  covers_stmt x p line (par_stmt a b) env after h n =
       elim (or_cases (names_in_body x a) (names_in_body x b) n) [
         | inl m ↦ known_left x env (declared_in_body a) (declared_in_body b) (covers_body x p a env h.1.1.0 h.1.1.1 m)
         | inr m ↦ known_right x env (declared_in_body a) (declared_in_body b) (covers_body x p b env h.1.2.1.0 h.1.2.1.1 m)
       ]
-  covers_stmt x p line (split b e l r a) env after h n =
+  covers_stmt x p line (split_stmt b e l r a) env after h n =
       elim (or_cases (bytes_eq b x || names_in_expr x e || bytes_eq l x || bytes_eq r x) (names_in_body x a) n) [
         | inl m ↦ covers_parts x env b e l r (declared_in_body a) h.0 h.1 m
         | inr m ↦ known_opened x env b l r line (declared_in_body a) (covers_body x p a (opened env b l r line) h.4.1.0 h.4.1.1 m)

@@ -1,7 +1,7 @@
 -- A program that keeps the rules passes what its functions take.
 use Rattle.std.proofs.Common.{◌≡◌, ℕ, true, List, [], ◌∷◌, ◌++◌, refl}
 use Rattle.par_tree.specs.Tree
-use Rattle.par_tree.specs.Tree.{Name, Program, Target, Arg, value, lend, give, Stmt, declare, assign, store, allocate, release, choose, repeat, call, print, both, split, Body, done, step, ParamKind, by_value, owned, Param, Func}
+use Rattle.par_tree.specs.Tree.{Name, Program, Target, Arg, value, lend, give, Stmt, let_stmt, assign_stmt, put_stmt, alloc_stmt, free_stmt, if_stmt, while_stmt, call_stmt, print_stmt, par_stmt, split_stmt, Body, done, step, ParamKind, by_value, owned, Param, Func}
 use Rattle.par_ownership.specs.Environment.{Environment}
 use Rattle.par_ownership.specs.Ownership.{Owns, OwnsAll, OwnsFunctions, PassesOne, Passes, Ownership}
 use Rattle.accepted_laws.specs.Calls.{EachCallOfStmt, EachCall, IsCall, AreTaken, is_taken}
@@ -26,17 +26,17 @@ all_taken env before (q ∷ qs) (a ∷ rest) h = (taken env before q.kind a h.0,
 
 mutual
   calls_of_stmt : (p : Program) (line : ℕ) (s : Stmt) (env after : Environment) → Owns p line s env after → EachCallOfStmt (IsCall p) s
-  calls_of_stmt p line (declare x e) env after h = tt
-  calls_of_stmt p line (assign x e) env after h = tt
-  calls_of_stmt p line (store b i e) env after h = tt
-  calls_of_stmt p line (allocate b e) env after h = tt
-  calls_of_stmt p line (release b) env after h = tt
-  calls_of_stmt p line (choose c a b) env after h = (calls_of_body p a env h.1.0 h.1.1, calls_of_body p b env h.2.1.0 h.2.1.1)
-  calls_of_stmt p line (repeat c a) env after h = calls_of_body p a env h.1.1.0 h.1.1.1
-  calls_of_stmt p line (call t f args) env after h = record { callee = h.1.0; found = h.1.1; answered = h.1.2; passed = all_taken env [] h.1.0.params args h.1.3 }
-  calls_of_stmt p line (print e) env after h = tt
-  calls_of_stmt p line (both a b) env after h = (calls_of_body p a env h.1.1.0 h.1.1.1, calls_of_body p b env h.1.2.1.0 h.1.2.1.1)
-  calls_of_stmt p line (split b e l r a) env after h = calls_of_body p a _ h.4.1.0 h.4.1.1
+  calls_of_stmt p line (let_stmt x e) env after h = tt
+  calls_of_stmt p line (assign_stmt x e) env after h = tt
+  calls_of_stmt p line (put_stmt b i e) env after h = tt
+  calls_of_stmt p line (alloc_stmt b e) env after h = tt
+  calls_of_stmt p line (free_stmt b) env after h = tt
+  calls_of_stmt p line (if_stmt c a b) env after h = (calls_of_body p a env h.1.0 h.1.1, calls_of_body p b env h.2.1.0 h.2.1.1)
+  calls_of_stmt p line (while_stmt c a) env after h = calls_of_body p a env h.1.1.0 h.1.1.1
+  calls_of_stmt p line (call_stmt t f args) env after h = record { callee = h.1.0; found = h.1.1; answered = h.1.2; passed = all_taken env [] h.1.0.params args h.1.3 }
+  calls_of_stmt p line (print_stmt e) env after h = tt
+  calls_of_stmt p line (par_stmt a b) env after h = (calls_of_body p a env h.1.1.0 h.1.1.1, calls_of_body p b env h.1.2.1.0 h.1.2.1.1)
+  calls_of_stmt p line (split_stmt b e l r a) env after h = calls_of_body p a _ h.4.1.0 h.4.1.1
 
   pub calls_of_body : (p : Program) (b : Body) (env after : Environment) → OwnsAll p b env after → EachCall (IsCall p) b
   calls_of_body p done env after h = tt

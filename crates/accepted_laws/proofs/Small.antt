@@ -5,7 +5,7 @@ use Rattle.std.proofs.Math.Logic.{∥∥₁_elim, ∥∥₁_map}
 use Rattle.std.proofs.lemmas.Bool.{ltb-true, ltb-false}
 use Rattle.std.proofs.lemmas.List.{length-append, length-map}
 use Rattle.par_tree.specs.Tree
-use Rattle.par_tree.specs.Tree.{Target, unused, block, Stmt, declare, assign, store, allocate, release, choose, repeat, call, print, both, split, Body, done, step, Func, Program}
+use Rattle.par_tree.specs.Tree.{Target, unused, block, Stmt, let_stmt, assign_stmt, put_stmt, alloc_stmt, free_stmt, if_stmt, while_stmt, call_stmt, print_stmt, par_stmt, split_stmt, Body, done, step, Func, Program}
 use Rattle.par_text.specs.Rule.{Token}
 use Rattle.par_text.specs.Form.{token_of}
 use Rattle.par_text.specs.Text.{program_spelling, program_meaning}
@@ -30,36 +30,36 @@ count_target (Tree.integer x) = refl
 count_target (block b) = refl
 
 count_two : (a b : Body) → length (declared_in_body a) ≡ body_names a → length (declared_in_body b) ≡ body_names b → length (declared_in_body a ++ declared_in_body b) ≡ body_names a + body_names b
-count_two a b first second = let both = length-append (declared_in_body a) (declared_in_body b) in omega (arith, first, second, both)
+count_two a b first second = let par_stmt = length-append (declared_in_body a) (declared_in_body b) in omega (arith, first, second, par_stmt)
 
 mutual
   count_stmt : (s : Stmt) → length (declared_in_stmt s) ≡ stmt_names s
-  count_stmt (declare x e) = refl
-  count_stmt (assign x e) = refl
-  count_stmt (store b i e) = refl
-  count_stmt (allocate b e) = refl
-  count_stmt (release b) = refl
-  count_stmt (choose c a b) = count_two a b (count_body a) (count_body b)
-  count_stmt (repeat c a) = count_body a
-  count_stmt (call t f args) = count_target t
-  count_stmt (print e) = refl
-  count_stmt (both a b) = count_two a b (count_body a) (count_body b)
-  count_stmt (split b e l r a) = let inside = count_body a in omega (arith, inside)
+  count_stmt (let_stmt x e) = refl
+  count_stmt (assign_stmt x e) = refl
+  count_stmt (put_stmt b i e) = refl
+  count_stmt (alloc_stmt b e) = refl
+  count_stmt (free_stmt b) = refl
+  count_stmt (if_stmt c a b) = count_two a b (count_body a) (count_body b)
+  count_stmt (while_stmt c a) = count_body a
+  count_stmt (call_stmt t f args) = count_target t
+  count_stmt (print_stmt e) = refl
+  count_stmt (par_stmt a b) = count_two a b (count_body a) (count_body b)
+  count_stmt (split_stmt b e l r a) = let inside = count_body a in omega (arith, inside)
 
   count_body : (b : Body) → length (declared_in_body b) ≡ body_names b
   count_body done = refl
   count_body (step line s rest) =
       let first = count_stmt s in
       let more = count_body rest in
-      let both = length-append (declared_in_stmt s) (declared_in_body rest) in
-      omega (arith, first, more, both)
+      let par_stmt = length-append (declared_in_stmt s) (declared_in_body rest) in
+      omega (arith, first, more, par_stmt)
 
 count_function : (f : Func) → length (declared_in f) ≡ func_names f
 count_function f =
     let params = length-map f.params param_name in
     let inside = count_body f.body in
-    let both = length-append (param_names f.params) (declared_in_body f.body) in
-    omega (arith, params, inside, both)
+    let par_stmt = length-append (param_names f.params) (declared_in_body f.body) in
+    omega (arith, params, inside, par_stmt)
 
 -- functions and names within the limits
 
@@ -95,7 +95,7 @@ is_below m n h = go (nat_lt n m) refl
 
 each_below : (fs : List Func) → ∥ EachFunction HasFewNames fs ∥₁ → EachFunction HasFewNames fs
 each_below [] h = tt
-each_below (f ∷ fs) h = (is_below (length (declared_in f)) most_names (∥∥₁_map h (λ both. both.0)), each_below fs (∥∥₁_map h (λ both. both.1)))
+each_below (f ∷ fs) h = (is_below (length (declared_in f)) most_names (∥∥₁_map h (λ par_stmt. par_stmt.0)), each_below fs (∥∥₁_map h (λ par_stmt. par_stmt.1)))
 
 pub small : (p : Program) → IsTreeOfText p → IsSmall p
 small p h =

@@ -1,23 +1,23 @@
 -- The calls of a list of statements, and what a call of an accepted program is.
 use Rattle.std.specs.Prelude.{◌≡◌, Bool, true, false, List, [], ◌∷◌, Some}
 use Rattle.par_tree.specs.Tree
-use Rattle.par_tree.specs.Tree.{Name, Program, Target, Arg, value, lend, give, Stmt, declare, assign, store, allocate, release, choose, repeat, call, print, both, split, Body, done, step, ParamKind, by_value, owned, Param, Func}
+use Rattle.par_tree.specs.Tree.{Name, Program, Target, Arg, value, lend, give, Stmt, let_stmt, assign_stmt, put_stmt, alloc_stmt, free_stmt, if_stmt, while_stmt, call_stmt, print_stmt, par_stmt, split_stmt, Body, done, step, ParamKind, by_value, owned, Param, Func}
 use Rattle.par_ownership.specs.Ownership.{function_of, hands_back, takes_answer}
 
 -- P holds of each call: of its target, of the name of the function, and of the arguments
 abbrev mutual
   pub EachCallOfStmt : (Target → Name → List Arg → Type 0) → Stmt → Type 0
-  EachCallOfStmt P (declare x e) = Unit {0}
-  EachCallOfStmt P (assign x e) = Unit {0}
-  EachCallOfStmt P (store b i e) = Unit {0}
-  EachCallOfStmt P (allocate b e) = Unit {0}
-  EachCallOfStmt P (release b) = Unit {0}
-  EachCallOfStmt P (choose c a b) = EachCall P a × EachCall P b
-  EachCallOfStmt P (repeat c a) = EachCall P a
-  EachCallOfStmt P (call t f args) = P t f args
-  EachCallOfStmt P (print e) = Unit {0}
-  EachCallOfStmt P (both a b) = EachCall P a × EachCall P b
-  EachCallOfStmt P (split b e l r a) = EachCall P a
+  EachCallOfStmt P (let_stmt x e) = Unit {0}
+  EachCallOfStmt P (assign_stmt x e) = Unit {0}
+  EachCallOfStmt P (put_stmt b i e) = Unit {0}
+  EachCallOfStmt P (alloc_stmt b e) = Unit {0}
+  EachCallOfStmt P (free_stmt b) = Unit {0}
+  EachCallOfStmt P (if_stmt c a b) = EachCall P a × EachCall P b
+  EachCallOfStmt P (while_stmt c a) = EachCall P a
+  EachCallOfStmt P (call_stmt t f args) = P t f args
+  EachCallOfStmt P (print_stmt e) = Unit {0}
+  EachCallOfStmt P (par_stmt a b) = EachCall P a × EachCall P b
+  EachCallOfStmt P (split_stmt b e l r a) = EachCall P a
 
   pub EachCall : (Target → Name → List Arg → Type 0) → Body → Type 0
   EachCall P done = Unit {0}

@@ -1,6 +1,6 @@
 -- How large a program is, and that the tree of a text is small.
 use Rattle.std.specs.Prelude.{ℕ, ◌+◌, ◌≤◌, List, [], ◌∷◌, length}
-use Rattle.par_tree.specs.Tree.{Stmt, declare, assign, store, allocate, release, choose, repeat, call, print, both, split, Body, done, step, Func, Program}
+use Rattle.par_tree.specs.Tree.{Stmt, let_stmt, assign_stmt, put_stmt, alloc_stmt, free_stmt, if_stmt, while_stmt, call_stmt, print_stmt, par_stmt, split_stmt, Body, done, step, Func, Program}
 use Rattle.accepted_laws.specs.Laws.{EachFunction}
 use Rattle.accepted_laws.specs.Written.{declared_in}
 use Rattle.par_text.specs.Counts.{most_functions, most_names}
@@ -10,17 +10,17 @@ use Rattle.par_text.specs.Trees.{IsTreeOfText}
 -- how many statements a statement is with those inside it, and how many stand in a list
 abbrev mutual
   pub stmt_size : Stmt → ℕ
-  stmt_size (declare x e) = 1
-  stmt_size (assign x e) = 1
-  stmt_size (store b i e) = 1
-  stmt_size (allocate b e) = 1
-  stmt_size (release b) = 1
-  stmt_size (choose c a b) = 1 + (body_size a + body_size b)
-  stmt_size (repeat c a) = 1 + body_size a
-  stmt_size (call t f args) = 1
-  stmt_size (print e) = 1
-  stmt_size (both a b) = 1 + (body_size a + body_size b)
-  stmt_size (split b e l r a) = 1 + body_size a
+  stmt_size (let_stmt x e) = 1
+  stmt_size (assign_stmt x e) = 1
+  stmt_size (put_stmt b i e) = 1
+  stmt_size (alloc_stmt b e) = 1
+  stmt_size (free_stmt b) = 1
+  stmt_size (if_stmt c a b) = 1 + (body_size a + body_size b)
+  stmt_size (while_stmt c a) = 1 + body_size a
+  stmt_size (call_stmt t f args) = 1
+  stmt_size (print_stmt e) = 1
+  stmt_size (par_stmt a b) = 1 + (body_size a + body_size b)
+  stmt_size (split_stmt b e l r a) = 1 + body_size a
 
   pub body_size : Body → ℕ
   body_size done = 0

@@ -3,7 +3,7 @@ use Rattle.std.specs.Prelude.{Bool, false, ◌||◌, List, [], ◌∷◌, ◌++�
 use Rattle.std.specs.Str.{bytes_eq}
 use Rattle.std.specs.List.{list_any}
 use Rattle.par_tree.specs.Tree
-use Rattle.par_tree.specs.Tree.{Name, Target, unused, block, Stmt, declare, assign, store, allocate, release, choose, repeat, call, print, both, split, Body, done, step, Param, Func, Ret, RetValue, gives, hands}
+use Rattle.par_tree.specs.Tree.{Name, Target, unused, block, Stmt, let_stmt, assign_stmt, put_stmt, alloc_stmt, free_stmt, if_stmt, while_stmt, call_stmt, print_stmt, par_stmt, split_stmt, Body, done, step, Param, Func, Ret, RetValue, gives, hands}
 use Rattle.par_ownership.specs.Mention.{names_in_expr, names_in_body}
 
 -- the block that a call hands back is declared
@@ -15,17 +15,17 @@ declared_by_target (block b) = b ∷ []
 -- the names that statements declare, in the order of the text, each as often as it is declared
 abbrev mutual
   pub declared_in_stmt : Stmt → List Name
-  declared_in_stmt (declare x e) = x ∷ []
-  declared_in_stmt (assign x e) = []
-  declared_in_stmt (store b i e) = []
-  declared_in_stmt (allocate b e) = b ∷ []
-  declared_in_stmt (release b) = []
-  declared_in_stmt (choose c a b) = declared_in_body a ++ declared_in_body b
-  declared_in_stmt (repeat c a) = declared_in_body a
-  declared_in_stmt (call t f args) = declared_by_target t
-  declared_in_stmt (print e) = []
-  declared_in_stmt (both a b) = declared_in_body a ++ declared_in_body b
-  declared_in_stmt (split b e l r a) = l ∷ r ∷ declared_in_body a
+  declared_in_stmt (let_stmt x e) = x ∷ []
+  declared_in_stmt (assign_stmt x e) = []
+  declared_in_stmt (put_stmt b i e) = []
+  declared_in_stmt (alloc_stmt b e) = b ∷ []
+  declared_in_stmt (free_stmt b) = []
+  declared_in_stmt (if_stmt c a b) = declared_in_body a ++ declared_in_body b
+  declared_in_stmt (while_stmt c a) = declared_in_body a
+  declared_in_stmt (call_stmt t f args) = declared_by_target t
+  declared_in_stmt (print_stmt e) = []
+  declared_in_stmt (par_stmt a b) = declared_in_body a ++ declared_in_body b
+  declared_in_stmt (split_stmt b e l r a) = l ∷ r ∷ declared_in_body a
 
   pub declared_in_body : Body → List Name
   declared_in_body done = []

@@ -3,7 +3,7 @@ use Rattle.std.proofs.Common.{◌≡◌, ◌≤◌, ◌<◌, ℕ, zero, suc, ◌
 use Rattle.std.specs.Prelude.{slice_get}
 use Rattle.std.proofs.lemmas.List.{length-append, take-append-le, take-map, drop_all}
 use Rattle.par_tree.specs.Tree
-use Rattle.par_tree.specs.Tree.{Name, Body, Stmt, declare, assign, store, allocate, release, choose, repeat, call, print, both, split}
+use Rattle.par_tree.specs.Tree.{Name, Body, Stmt, let_stmt, assign_stmt, put_stmt, alloc_stmt, free_stmt, if_stmt, while_stmt, call_stmt, print_stmt, par_stmt, split_stmt}
 use Rattle.par_ownership.specs.Environment.{Environment, Entry, integer_entry, block_entry, lent_entry, with_entry}
 use Rattle.block_check.specs.Forks.{Fork, declared_by, split_names, forks_in_body}
 use Rattle.block_check.specs.Sought.{Seeks, fork_shown}
@@ -72,19 +72,19 @@ pushed visible env e h = (rw take-append-le, omega (arith, length-append env (e 
 
 -- a statement declares behind the names that are visible
 pub declared_keeps : (visible : ℕ) (env : Environment) (line : ℕ) (s : Stmt) → visible ≤ length env → (take visible (declared_by env line s) ≡ take visible env) × (visible ≤ length (declared_by env line s))
-declared_keeps visible env line (declare x e) h = pushed visible env (integer_entry x line) h
-declared_keeps visible env line (assign x e) h = (refl, h)
-declared_keeps visible env line (store b i e) h = (refl, h)
-declared_keeps visible env line (allocate b e) h = pushed visible env (block_entry b line) h
-declared_keeps visible env line (release b) h = (refl, h)
-declared_keeps visible env line (choose c a b) h = (refl, h)
-declared_keeps visible env line (repeat c a) h = (refl, h)
-declared_keeps visible env line (call Tree.unused f args) h = (refl, h)
-declared_keeps visible env line (call (Tree.integer x) f args) h = (refl, h)
-declared_keeps visible env line (call (Tree.block b) f args) h = pushed visible env (block_entry b line) h
-declared_keeps visible env line (print e) h = (refl, h)
-declared_keeps visible env line (both a b) h = (refl, h)
-declared_keeps visible env line (split b e l r a) h = (refl, h)
+declared_keeps visible env line (let_stmt x e) h = pushed visible env (integer_entry x line) h
+declared_keeps visible env line (assign_stmt x e) h = (refl, h)
+declared_keeps visible env line (put_stmt b i e) h = (refl, h)
+declared_keeps visible env line (alloc_stmt b e) h = pushed visible env (block_entry b line) h
+declared_keeps visible env line (free_stmt b) h = (refl, h)
+declared_keeps visible env line (if_stmt c a b) h = (refl, h)
+declared_keeps visible env line (while_stmt c a) h = (refl, h)
+declared_keeps visible env line (call_stmt Tree.unused f args) h = (refl, h)
+declared_keeps visible env line (call_stmt (Tree.integer x) f args) h = (refl, h)
+declared_keeps visible env line (call_stmt (Tree.block b) f args) h = pushed visible env (block_entry b line) h
+declared_keeps visible env line (print_stmt e) h = (refl, h)
+declared_keeps visible env line (par_stmt a b) h = (refl, h)
+declared_keeps visible env line (split_stmt b e l r a) h = (refl, h)
 
 -- the names that were visible at first are what is left of those at the end
 truncated : (visible : ℕ) (env now : Environment) (names out : Vec RustEntry Global) → out.items ≡ take visible names.items → env_shown names ≡ now → take visible now ≡ env → env_shown out ≡ env

@@ -6,7 +6,7 @@ use Rattle.std.specs.Option.{option_and_then}
 use Rattle.std.specs.declared.vec.Vec.{Vec}
 use Rattle.std.specs.declared.alloc.Global.{Global}
 use Rattle.par_tree.specs.Tree
-use Rattle.par_tree.specs.Tree.{Program, Stmt, declare, assign, store, allocate, release, choose, repeat, call, print, both, split, Body, done, step, Param, Func}
+use Rattle.par_tree.specs.Tree.{Program, Stmt, let_stmt, assign_stmt, put_stmt, alloc_stmt, free_stmt, if_stmt, while_stmt, call_stmt, print_stmt, par_stmt, split_stmt, Body, done, step, Param, Func}
 use Rattle.par_tree.specs.View.{name_tree}
 use Rattle.par_tree.specs.declared.name.Name.{Name}
 use Rattle.par_ownership.specs.Environment.{Environment, Entry, is_block, integer_entry, block_entry, lent_entry, with_entry, after_answer, param_entry}
@@ -20,17 +20,17 @@ pub record Fork : Type 0 where
 
 -- the names that are visible behind a statement
 abbrev pub declared_by : Environment → ℕ → Stmt → Environment
-declared_by env line (declare x e) = with_entry env (integer_entry x line)
-declared_by env line (assign x e) = env
-declared_by env line (store b i e) = env
-declared_by env line (allocate b e) = with_entry env (block_entry b line)
-declared_by env line (release b) = env
-declared_by env line (choose c a b) = env
-declared_by env line (repeat c a) = env
-declared_by env line (call t f args) = after_answer env t line
-declared_by env line (print e) = env
-declared_by env line (both a b) = env
-declared_by env line (split b e l r a) = env
+declared_by env line (let_stmt x e) = with_entry env (integer_entry x line)
+declared_by env line (assign_stmt x e) = env
+declared_by env line (put_stmt b i e) = env
+declared_by env line (alloc_stmt b e) = with_entry env (block_entry b line)
+declared_by env line (free_stmt b) = env
+declared_by env line (if_stmt c a b) = env
+declared_by env line (while_stmt c a) = env
+declared_by env line (call_stmt t f args) = after_answer env t line
+declared_by env line (print_stmt e) = env
+declared_by env line (par_stmt a b) = env
+declared_by env line (split_stmt b e l r a) = env
 
 -- inside a `split` its two names are visible too
 abbrev pub split_names : Environment → ℕ → Tree.Name → Tree.Name → Environment
@@ -38,17 +38,17 @@ split_names env line l r = with_entry (with_entry env (lent_entry l line)) (lent
 
 abbrev mutual
   pub forks_in_stmt : Environment → ℕ → Stmt → List Fork
-  forks_in_stmt env line (declare x e) = []
-  forks_in_stmt env line (assign x e) = []
-  forks_in_stmt env line (store b i e) = []
-  forks_in_stmt env line (allocate b e) = []
-  forks_in_stmt env line (release b) = []
-  forks_in_stmt env line (choose c a b) = forks_in_body env a ++ forks_in_body env b
-  forks_in_stmt env line (repeat c a) = forks_in_body env a
-  forks_in_stmt env line (call t f args) = []
-  forks_in_stmt env line (print e) = []
-  forks_in_stmt env line (both a b) = record { names = env; left = a; right = b } ∷ (forks_in_body env a ++ forks_in_body env b)
-  forks_in_stmt env line (split b e l r a) = forks_in_body (split_names env line l r) a
+  forks_in_stmt env line (let_stmt x e) = []
+  forks_in_stmt env line (assign_stmt x e) = []
+  forks_in_stmt env line (put_stmt b i e) = []
+  forks_in_stmt env line (alloc_stmt b e) = []
+  forks_in_stmt env line (free_stmt b) = []
+  forks_in_stmt env line (if_stmt c a b) = forks_in_body env a ++ forks_in_body env b
+  forks_in_stmt env line (while_stmt c a) = forks_in_body env a
+  forks_in_stmt env line (call_stmt t f args) = []
+  forks_in_stmt env line (print_stmt e) = []
+  forks_in_stmt env line (par_stmt a b) = record { names = env; left = a; right = b } ∷ (forks_in_body env a ++ forks_in_body env b)
+  forks_in_stmt env line (split_stmt b e l r a) = forks_in_body (split_names env line l r) a
 
   pub forks_in_body : Environment → Body → List Fork
   forks_in_body env done = []

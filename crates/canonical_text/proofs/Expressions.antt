@@ -4,7 +4,7 @@ use Rattle.std.specs.Prelude.{Option, Some, None, ℤ, pos, Ok, Err, nat_le, cod
 use Rattle.std.proofs.lemmas.List.{append-nil}
 use Rattle.std.proofs.lemmas.Bool.{leb-true}
 use Rattle.std.specs.List.{list_all}
-use Rattle.par_tree.specs.Tree.{ChainOp, plus, minus, times, over, modulo, Comparison, equal, unequal, below, at_most, above, at_least, Expr, number, variable, element, extent, negative, compare, Links, last, link}
+use Rattle.par_tree.specs.Tree.{ChainOp, plus, minus, times, over, modulo, Comparison, equal, unequal, below, at_most, above, at_least, Expr, num, var, get, len_of, neg, cmp, Links, last, link}
 use Rattle.par_text.specs.declared.kind.Kind.TheVariants as k
 use Rattle.par_text.specs.declared.syntax_error.SyntaxKind.TheVariants.{BadToken, NumberTooLarge}
 use Rattle.par_text.specs.Rule.{Token, expression, factor}
@@ -30,37 +30,37 @@ pub record Inside (n : ℕ) (P : ℕ → Type 0) : Type 0 where
 
 -- factors
 
-variable_claim : {most n : ℕ} (x : List ℕ) → IsName x → Claim most Factor n (variable x)
+variable_claim : {most n : ℕ} (x : List ℕ) → IsName x → Claim most Factor n (var x)
 unfolding factor_rule index_rule
 variable_claim x h =
     factor_claim refl (first_fits (same_fits (append-nil x)
-    (pair_fits named (λ rest c. c) (λ y o p q. ap (λ i. named y i) q ∙ ap (λ z. variable z) p) (name_fits x h) (second_fits (nothing_fits {R = λ o. o ≡ None} refl)))))
+    (pair_fits named (λ rest c. c) (λ y o p q. ap (λ i. named y i) q ∙ ap (λ z. var z) p) (name_fits x h) (second_fits (nothing_fits {R = λ o. o ≡ None} refl)))))
 
-element_claim : {most n : ℕ} (b : List ℕ) (e : Expr) → IsName b → Inside n (λ m. Claim most Expression m e) → Claim most Factor n (element b e)
+element_claim : {most n : ℕ} (b : List ℕ) (e : Expr) → IsName b → Inside n (λ m. Claim most Expression m e) → Claim most Factor n (get b e)
 unfolding factor_rule index_rule
 element_claim {most} {n} b e h inside =
-    subst (λ (i : ℕ). Claim most Factor i (element b e)) (sym inside.is)
+    subst (λ (i : ℕ). Claim most Factor i (get b e)) (sym inside.is)
     (factor_claim refl (first_fits
-    (pair_fits {Q = λ o. o ≡ Some e} named (λ rest c. (refl, refl)) (λ y o p q. ap (λ i. named y i) q ∙ ap (λ z. element z e) p) (name_fits b h)
+    (pair_fits {Q = λ o. o ≡ Some e} named (λ rest c. (refl, refl)) (λ y o p q. ap (λ i. named y i) q ∙ ap (λ z. get z e) p) (name_fits b h)
     (first_fits (nest_fits opens-LeftBracket.lexeme opens-LeftBracket.form opens-LeftBracket.whole opens-LeftBracket.allowed
     (before_fits (λ rest c. (refl, refl)) (within_fits {s = expression} (λ x. Some x) (λ x q. ap (λ y. Some y) q) (in_place Expression e inside.holds)) reads-RightBracket))))))
 
-extent_claim : {most n : ℕ} (b : List ℕ) → IsName b → Claim most Factor (suc n) (extent b)
+extent_claim : {most n : ℕ} (b : List ℕ) → IsName b → Claim most Factor (suc n) (len_of b)
 unfolding factor_rule extent_rule
 extent_claim b h =
     factor_claim refl (second_fits (first_fits
     (then_fits (λ rest c. (refl, refl)) reads-Len
     (nest_fits opens-LeftParen.lexeme opens-LeftParen.form opens-LeftParen.whole opens-LeftParen.allowed
-    (before_fits (λ rest c. (refl, refl)) (mapped_fits extent (λ x q. ap (λ y. extent y) q) (name_fits b h)) reads-RightParen)))))
+    (before_fits (λ rest c. (refl, refl)) (mapped_fits len_of (λ x q. ap (λ y. len_of y) q) (name_fits b h)) reads-RightParen)))))
 
-negative_claim : {most n : ℕ} (e : Expr) → Claim most Factor n e → Claim most Factor (suc n) (negative e)
+negative_claim : {most n : ℕ} (e : Expr) → Claim most Factor n e → Claim most Factor (suc n) (neg e)
 unfolding factor_rule sign_rule
 negative_claim e c =
     factor_claim refl (second_fits (second_fits (second_fits (first_fits
     (nest_fits opens-Minus.lexeme opens-Minus.form opens-Minus.whole opens-Minus.allowed
-    (within_fits {s = factor} negative (λ x q. ap (λ y. negative y) q) (in_place Factor e c)))))))
+    (within_fits {s = factor} neg (λ x q. ap (λ y. neg y) q) (in_place Factor e c)))))))
 
-number_claim : {most n : ℕ} (z : ℤ) → IsNumber z → Claim most Factor n (number z)
+number_claim : {most n : ℕ} (z : ℤ) → IsNumber z → Claim most Factor n (num z)
 unfolding factor_rule
 number_claim z h = factor_claim refl (second_fits (second_fits (second_fits (second_fits (number_fits z h)))))
 
@@ -190,13 +190,13 @@ sum_claim {n = n} e (link minus f rest) c h = record { room = n; enough = omega 
 -- comparisons
 
 compare_text : {most n : ℕ} (op : Comparison) (l r : Expr) (w : List ℕ) → Fits most false n comparison (λ y. y ≡ op) w → Claim most Sum n l → Claim most Sum n r
-    → Reads most n Expression (compare op l r) (text_in Sum l ++ ((space ++ w) ++ (space ++ text_in Sum r)))
+    → Reads most n Expression (cmp op l r) (text_in Sum l ++ ((space ++ w) ++ (space ++ text_in Sum r)))
 unfolding expr_rule compared_rule
 compare_text op l r w o cl cr =
-    pair_fits {Q = λ y. y ≡ Some (op, r)} compared (λ rest c. (refl, refl)) (λ x y p q. ap (λ z. compared x z) q ∙ ap (λ z. compare op z r) p) (in_place Sum l cl)
+    pair_fits {Q = λ y. y ≡ Some (op, r)} compared (λ rest c. (refl, refl)) (λ x y p q. ap (λ z. compared x z) q ∙ ap (λ z. cmp op z r) p) (in_place Sum l cl)
     (first_fits (pair_fits (λ c e. Some (c, e)) (λ rest c. (refl, refl)) (λ x y p q. ap (λ z. Some (x, z)) q ∙ ap (λ z. Some (z, r)) p) (gaps_fit space (gap-space, tt) o) (gaps_fit space (gap-space, tt) (in_place Sum r cr))))
 
-own_compare : {most n : ℕ} (op : Comparison) (l r : Expr) → Claim most Sum n l → Claim most Sum n r → Own most n (compare op l r)
+own_compare : {most n : ℕ} (op : Comparison) (l r : Expr) → Claim most Sum n l → Claim most Sum n r → Own most n (cmp op l r)
 unfolding comparison
 own_compare equal l r cl cr = compare_text equal l r (codes "==") (first_fits (mapped_fits (λ _. equal) (λ x h. refl) reads-EqualEqual)) cl cr
 own_compare unequal l r cl cr = compare_text unequal l r (codes "!=") (second_fits (first_fits (mapped_fits (λ _. unequal) (λ x h. refl) reads-NotEqual))) cl cr
@@ -239,7 +239,7 @@ module _ {most size : ℕ}
   tells_extent : Tells most size depth extent_rule (Claim most Factor n)
   unfolding extent_rule
   tells_extent =
-      tells_then (tells_nest n room (λ m is e. tells_before (tells_mapped (λ x h. subst (λ (i : ℕ). Claim most Factor i (extent x)) (sym is) (extent_claim x h)) tells_name)))
+      tells_then (tells_nest n room (λ m is e. tells_before (tells_mapped (λ x h. subst (λ (i : ℕ). Claim most Factor i (len_of x)) (sym is) (extent_claim x h)) tells_name)))
 
   tells_group : Tells most size depth group_rule (Claim most Factor n)
   unfolding group_rule
@@ -247,7 +247,7 @@ module _ {most size : ℕ}
 
   tells_sign : Tells most size depth sign_rule (Claim most Factor n)
   unfolding sign_rule
-  tells_sign = tells_nest n room (λ m is e. tells_within (λ x h. subst (λ (i : ℕ). Claim most Factor i (negative x)) (sym is) (negative_claim x h)) (of_factor (depth + 1) m e))
+  tells_sign = tells_nest n room (λ m is e. tells_within (λ x h. subst (λ (i : ℕ). Claim most Factor i (neg x)) (sym is) (negative_claim x h)) (of_factor (depth + 1) m e))
 
   tells_number : Tells most size depth number_rule (Claim most Factor n)
   unfolding number_rule

@@ -12,7 +12,7 @@ use Rattle.par_text.specs.declared.kind.Kind.TheVariants as k
 use Rattle.par_text.specs.declared.syntax_error.SyntaxKind.TheVariants.{BadToken, NumberTooLarge}
 use Rattle.par_text.specs.Rule.{token}
 use Rattle.par_text.specs.Grammar.{name, name_of, number_of, number_rule}
-use Rattle.par_tree.specs.Tree.{number}
+use Rattle.par_tree.specs.Tree.{num}
 use Rattle.par_text.specs.Lexing.{is_word, is_letter, is_digit, is_allowed, is_not_newline, takes_equal, begins_with_equal, run, piece_rest, is_lexeme, form_of, of_word, keyword_kind, symbol_kind, of_known, of_digits, value_from, greatest_number}
 use Rattle.par_text.proofs.KindLemmas.{both_true}
 use Rattle.canonical_text.proofs.Lexemes.{Clear, Words, Allowed, IsWhole, word-whole}
@@ -149,16 +149,16 @@ pub record IsNumber (z : ℤ) : Type 0 where
   pub is : z ≡ pos value
   pub small : value ≤ greatest_number
 
-digits_fit : {most : ℕ} {i : Bool} {n : ℕ} (v : ℕ) → v ≤ greatest_number → (ds : List ℕ) → Digits ds → 0 < length ds → value_from 0 ds ≡ v → Fits most i n number_rule (λ e. e ≡ number (pos v)) ds
+digits_fit : {most : ℕ} {i : Bool} {n : ℕ} (v : ℕ) → v ≤ greatest_number → (ds : List ℕ) → Digits ds → 0 < length ds → value_from 0 ds ≡ v → Fits most i n number_rule (λ e. e ≡ num (pos v)) ds
 unfolding number_rule
 digits_fit v small [] h some e = absurd (omega (arith, some))
 digits_fit v small (c ∷ cs) h some e =
-    mapped_fits number_of (λ t p. ap (λ (z : ℤ). number z) (p.1 ∙ ap (λ (b : Bool). cond b (pos (value_from 0 (c ∷ cs))) (pos 0)) h.0 ∙ ap pos e))
+    mapped_fits number_of (λ t p. ap (λ (z : ℤ). num z) (p.1 ∙ ap (λ (b : Bool). cond b (pos (value_from 0 (c ∷ cs))) (pos 0)) h.0 ∙ ap pos e))
     (token_fits (digit_lexeme c cs h.0) (digits_form c cs h (omega (arith, e))) (word-whole (c ∷ cs) (digits_words (c ∷ cs) h)) (digits_allowed (c ∷ cs) h))
 
-pub number_fits : {most : ℕ} {i : Bool} {n : ℕ} (z : ℤ) → IsNumber z → Fits most i n number_rule (λ e. e ≡ number z) (signed_decimal z)
+pub number_fits : {most : ℕ} {i : Bool} {n : ℕ} (z : ℤ) → IsNumber z → Fits most i n number_rule (λ e. e ≡ num z) (signed_decimal z)
 number_fits {most} {i} {n} z h =
     let v = h.value in
     let small : v < 2 ^ 64 = omega (arith, h.small) in
-    subst (λ (y : ℤ). Fits most i n number_rule (λ e. e ≡ number y) (signed_decimal y)) (sym h.is)
+    subst (λ (y : ℤ). Fits most i n number_rule (λ e. e ≡ num y) (signed_decimal y)) (sym h.is)
     (digits_fit v h.small (decimal v) (digits_decimal numerals v small) (decimal_nonempty v small) (digits_value-decimal numerals v small))

@@ -1,7 +1,7 @@
 -- The canonical text of a program is that of the program without its lines.
 use Rattle.std.proofs.Common.{◌≡◌, ℕ, List, [], ◌∷◌, map, Option, Some, None, refl, sym, ap, ◌∙◌}
 use Rattle.std.specs.Prelude.{codes}
-use Rattle.par_tree.specs.Tree.{Stmt, declare, assign, store, allocate, release, choose, repeat, call, print, both, split, Body, done, step, Ret, Func, Program}
+use Rattle.par_tree.specs.Tree.{Stmt, let_stmt, assign_stmt, put_stmt, alloc_stmt, free_stmt, if_stmt, while_stmt, call_stmt, print_stmt, par_stmt, split_stmt, Body, done, step, Ret, Func, Program}
 use Rattle.canonical_text.specs.Canonical.{◌⊕◌, expr_text, braces, deeper, else_text, line_end, with_commas, param_text, stmt_text, body_text, ret_text, func_text, canonical}
 use Rattle.canonical_text.specs.Lines.{stmt_without_lines, body_without_lines, ret_without_lines, func_without_lines, without_lines, SameButForLines}
 
@@ -11,22 +11,22 @@ else_by_text margin (step line s rest) t u e = ap (λ (x : List ℕ). codes " el
 
 mutual
   stmt_text-lines : (margin : List ℕ) (s : Stmt) → stmt_text margin (stmt_without_lines s) ≡ stmt_text margin s
-  stmt_text-lines margin (declare x e) = refl
-  stmt_text-lines margin (assign x e) = refl
-  stmt_text-lines margin (store b i e) = refl
-  stmt_text-lines margin (allocate b e) = refl
-  stmt_text-lines margin (release b) = refl
-  stmt_text-lines margin (choose e a b) =
+  stmt_text-lines margin (let_stmt x e) = refl
+  stmt_text-lines margin (assign_stmt x e) = refl
+  stmt_text-lines margin (put_stmt b i e) = refl
+  stmt_text-lines margin (alloc_stmt b e) = refl
+  stmt_text-lines margin (free_stmt b) = refl
+  stmt_text-lines margin (if_stmt e a b) =
       ap (λ (x : List ℕ). codes "if " ⊕ expr_text e ⊕ codes " " ⊕ braces margin x ⊕ else_text margin (body_without_lines b) (body_text (deeper margin) (body_without_lines b))) (body_text-lines (deeper margin) a)
       ∙ ap (λ (x : List ℕ). codes "if " ⊕ expr_text e ⊕ codes " " ⊕ braces margin (body_text (deeper margin) a) ⊕ x) (else_by_text margin b (body_text (deeper margin) (body_without_lines b)) (body_text (deeper margin) b) (body_text-lines (deeper margin) b))
-  stmt_text-lines margin (repeat e a) = ap (λ (x : List ℕ). codes "while " ⊕ expr_text e ⊕ codes " " ⊕ braces margin x) (body_text-lines (deeper margin) a)
-  stmt_text-lines margin (call t f xs) = refl
-  stmt_text-lines margin (print e) = refl
-  stmt_text-lines margin (both a b) =
+  stmt_text-lines margin (while_stmt e a) = ap (λ (x : List ℕ). codes "while " ⊕ expr_text e ⊕ codes " " ⊕ braces margin x) (body_text-lines (deeper margin) a)
+  stmt_text-lines margin (call_stmt t f xs) = refl
+  stmt_text-lines margin (print_stmt e) = refl
+  stmt_text-lines margin (par_stmt a b) =
       ap (λ (x : List ℕ). codes "par " ⊕ braces margin x ⊕ codes " and " ⊕ braces margin (body_text (deeper margin) (body_without_lines b))) (body_text-lines (deeper margin) a)
       ∙ ap (λ (x : List ℕ). codes "par " ⊕ braces margin (body_text (deeper margin) a) ⊕ codes " and " ⊕ braces margin x) (body_text-lines (deeper margin) b)
-  stmt_text-lines margin (split b e l r a) =
-      ap (λ (x : List ℕ). codes "split " ⊕ b ⊕ codes " at " ⊕ expr_text e ⊕ codes " into " ⊕ l ⊕ codes ", " ⊕ r ⊕ codes " " ⊕ braces margin x) (body_text-lines (deeper margin) a)
+  stmt_text-lines margin (split_stmt b e l r a) =
+      ap (λ (x : List ℕ). codes "split_stmt " ⊕ b ⊕ codes " at " ⊕ expr_text e ⊕ codes " into " ⊕ l ⊕ codes ", " ⊕ r ⊕ codes " " ⊕ braces margin x) (body_text-lines (deeper margin) a)
 
   body_text-lines : (margin : List ℕ) (b : Body) → body_text margin (body_without_lines b) ≡ body_text margin b
   body_text-lines margin done = refl

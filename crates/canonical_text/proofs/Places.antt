@@ -2,7 +2,7 @@
 use Rattle.std.proofs.Common.{◌≡◌, ℕ, suc, ◌+◌, ◌≤◌, Bool, true, false, cond, List, [], ◌∷◌, ◌++◌, refl, ap, ◌∙◌, arith}
 use Rattle.std.specs.Prelude.{Option, None}
 use Rattle.std.proofs.lemmas.List.{append-nil}
-use Rattle.par_tree.specs.Tree.{ChainOp, plus, minus, times, over, modulo, Comparison, Expr, number, variable, element, extent, negative, chain, compare, Links, last, link}
+use Rattle.par_tree.specs.Tree.{ChainOp, plus, minus, times, over, modulo, Comparison, Expr, num, var, get, len_of, neg, chain, cmp, Links, last, link}
 use Rattle.par_text.specs.Rule.{Rule, expression}
 use Rattle.par_text.specs.Grammar.{chained, compared, factor_rule, group_rule, term_links, term_rule, sum_links, sum_rule, compared_rule, expr_rule}
 use Rattle.canonical_text.specs.declared.place.Place.{Place}
@@ -74,7 +74,7 @@ links_place (link op e rest) = chain_place op
 
 abbrev pub own_place : Expr → Place
 own_place (chain e rest) = links_place rest
-own_place (compare op l r) = Expression
+own_place (cmp op l r) = Expression
 own_place _ = Factor
 
 abbrev pub Own : ℕ → ℕ → Expr → Type 0
@@ -90,11 +90,11 @@ never : true ≡ false → ⊥
 never e = cc
 
 bare : (p : Place) (e : Expr) → needs_parentheses p e ≡ false → level p ≤ level (own_place e)
-bare p (number z) h = level_most p
-bare p (variable x) h = level_most p
-bare p (element b i) h = level_most p
-bare p (extent b) h = level_most p
-bare p (negative e) h = level_most p
+bare p (num z) h = level_most p
+bare p (var x) h = level_most p
+bare p (get b i) h = level_most p
+bare p (len_of b) h = level_most p
+bare p (neg e) h = level_most p
 bare Expression (chain e rest) h = omega arith
 bare p (chain e last) h = level_most p
 bare Factor (chain e (link op f rest)) h = absurd (never h)
@@ -108,10 +108,10 @@ bare Term (chain e (link minus f rest)) h = absurd (never h)
 bare Term (chain e (link times f rest)) h = omega arith
 bare Term (chain e (link over f rest)) h = omega arith
 bare Term (chain e (link modulo f rest)) h = omega arith
-bare Expression (compare op l r) h = omega arith
-bare Sum (compare op l r) h = absurd (never h)
-bare Term (compare op l r) h = absurd (never h)
-bare Factor (compare op l r) h = absurd (never h)
+bare Expression (cmp op l r) h = omega arith
+bare Sum (cmp op l r) h = absurd (never h)
+bare Term (cmp op l r) h = absurd (never h)
+bare Factor (cmp op l r) h = absurd (never h)
 
 -- an expression between parentheses is a factor
 grouped : {most n : ℕ} {e : Expr} {u : List ℕ} → Reads most n Expression e u → Reads most (suc n) Factor e (40 ∷ (u ++ 41 ∷ []))
@@ -141,27 +141,27 @@ in_place {most} {n} p e c = go (needs_parentheses p e) refl c.enough
 -- in a looser place no more parentheses are needed
 
 sum_is_chain : (e : Expr) → cond (needs_parentheses Term e) 1 0 ≤ cond (needs_parentheses Factor e) 1 0
-sum_is_chain (number z) = omega arith
-sum_is_chain (variable x) = omega arith
-sum_is_chain (element b i) = omega arith
-sum_is_chain (extent b) = omega arith
-sum_is_chain (negative e) = omega arith
+sum_is_chain (num z) = omega arith
+sum_is_chain (var x) = omega arith
+sum_is_chain (get b i) = omega arith
+sum_is_chain (len_of b) = omega arith
+sum_is_chain (neg e) = omega arith
 sum_is_chain (chain e last) = omega arith
 sum_is_chain (chain e (link plus f rest)) = omega arith
 sum_is_chain (chain e (link minus f rest)) = omega arith
 sum_is_chain (chain e (link times f rest)) = omega arith
 sum_is_chain (chain e (link over f rest)) = omega arith
 sum_is_chain (chain e (link modulo f rest)) = omega arith
-sum_is_chain (compare op l r) = omega arith
+sum_is_chain (cmp op l r) = omega arith
 
 comparison_is_needed : (e : Expr) → cond (needs_parentheses Sum e) 1 0 ≤ cond (needs_parentheses Term e) 1 0
-comparison_is_needed (number z) = omega arith
-comparison_is_needed (variable x) = omega arith
-comparison_is_needed (element b i) = omega arith
-comparison_is_needed (extent b) = omega arith
-comparison_is_needed (negative e) = omega arith
+comparison_is_needed (num z) = omega arith
+comparison_is_needed (var x) = omega arith
+comparison_is_needed (get b i) = omega arith
+comparison_is_needed (len_of b) = omega arith
+comparison_is_needed (neg e) = omega arith
 comparison_is_needed (chain e rest) = omega arith
-comparison_is_needed (compare op l r) = omega arith
+comparison_is_needed (cmp op l r) = omega arith
 
 pub looser_term : {most n : ℕ} {e : Expr} → Claim most Factor n e → Claim most Term n e
 looser_term {e = e} c = record { room = c.room; enough = let h = sum_is_chain e in omega (arith, h, c.enough); own = c.own }

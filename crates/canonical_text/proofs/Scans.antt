@@ -1,7 +1,7 @@
 -- The count of names in the tokens of a form is that of its meaning.
 use Rattle.std.proofs.Common.{◌≡◌, ℕ, zero, suc, ◌+◌, Bool, true, false, List, [], ◌∷◌, ◌++◌, inl, inr, refl, sym, ap, ◌∙◌, subst, arith}
 use Rattle.std.specs.Prelude.{◌&&◌, ◌||◌, not, Option, Some, None}
-use Rattle.par_tree.specs.Tree.{Expr, Target, unused, integer, block, Arg, Stmt, declare, assign, store, allocate, release, choose, repeat, call, print, both, split, Body, done, step}
+use Rattle.par_tree.specs.Tree.{Expr, Target, unused, integer, block, Arg, Stmt, let_stmt, assign_stmt, put_stmt, alloc_stmt, free_stmt, if_stmt, while_stmt, call_stmt, print_stmt, par_stmt, split_stmt, Body, done, step}
 use Rattle.par_text.specs.declared.kind.Kind.{Kind}
 use Rattle.par_text.specs.declared.kind.Kind.TheVariants as k
 use Rattle.par_text.specs.Kinds.{is}
@@ -24,17 +24,17 @@ target_names (block x) = 1
 
 abbrev mutual
   pub stmt_names : Stmt → ℕ
-  stmt_names (declare x e) = 1
-  stmt_names (assign x e) = 0
-  stmt_names (store b i e) = 0
-  stmt_names (allocate b e) = 1
-  stmt_names (release b) = 0
-  stmt_names (choose e a b) = body_names a + body_names b
-  stmt_names (repeat e a) = body_names a
-  stmt_names (call t f xs) = target_names t
-  stmt_names (print e) = 0
-  stmt_names (both a b) = body_names a + body_names b
-  stmt_names (split b e l r a) = 2 + body_names a
+  stmt_names (let_stmt x e) = 1
+  stmt_names (assign_stmt x e) = 0
+  stmt_names (put_stmt b i e) = 0
+  stmt_names (alloc_stmt b e) = 1
+  stmt_names (free_stmt b) = 0
+  stmt_names (if_stmt e a b) = body_names a + body_names b
+  stmt_names (while_stmt e a) = body_names a
+  stmt_names (call_stmt t f xs) = target_names t
+  stmt_names (print_stmt e) = 0
+  stmt_names (par_stmt a b) = body_names a + body_names b
+  stmt_names (split_stmt b e l r a) = 2 + body_names a
 
   pub body_names : Body → ℕ
   body_names done = 0
@@ -42,17 +42,17 @@ abbrev mutual
 
 mutual
   stmt_names-lines : (s : Stmt) → stmt_names (stmt_without_lines s) ≡ stmt_names s
-  stmt_names-lines (declare x e) = refl
-  stmt_names-lines (assign x e) = refl
-  stmt_names-lines (store b i e) = refl
-  stmt_names-lines (allocate b e) = refl
-  stmt_names-lines (release b) = refl
-  stmt_names-lines (choose e a b) = ap (λ n. n + body_names (body_without_lines b)) (body_names-lines a) ∙ ap (λ n. body_names a + n) (body_names-lines b)
-  stmt_names-lines (repeat e a) = body_names-lines a
-  stmt_names-lines (call t f xs) = refl
-  stmt_names-lines (print e) = refl
-  stmt_names-lines (both a b) = ap (λ n. n + body_names (body_without_lines b)) (body_names-lines a) ∙ ap (λ n. body_names a + n) (body_names-lines b)
-  stmt_names-lines (split b e l r a) = ap (λ n. 2 + n) (body_names-lines a)
+  stmt_names-lines (let_stmt x e) = refl
+  stmt_names-lines (assign_stmt x e) = refl
+  stmt_names-lines (put_stmt b i e) = refl
+  stmt_names-lines (alloc_stmt b e) = refl
+  stmt_names-lines (free_stmt b) = refl
+  stmt_names-lines (if_stmt e a b) = ap (λ n. n + body_names (body_without_lines b)) (body_names-lines a) ∙ ap (λ n. body_names a + n) (body_names-lines b)
+  stmt_names-lines (while_stmt e a) = body_names-lines a
+  stmt_names-lines (call_stmt t f xs) = refl
+  stmt_names-lines (print_stmt e) = refl
+  stmt_names-lines (par_stmt a b) = ap (λ n. n + body_names (body_without_lines b)) (body_names-lines a) ∙ ap (λ n. body_names a + n) (body_names-lines b)
+  stmt_names-lines (split_stmt b e l r a) = ap (λ n. 2 + n) (body_names-lines a)
 
   pub body_names-lines : (b : Body) → body_names (body_without_lines b) ≡ body_names b
   body_names-lines done = refl

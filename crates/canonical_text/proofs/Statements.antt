@@ -2,7 +2,7 @@
 use Rattle.std.proofs.Common.{◌≡◌, ℕ, true, false, List, [], ◌∷◌, ◌++◌, map, refl, sym, ap, ◌∙◌, subst, append_assoc}
 use Rattle.std.specs.Prelude.{Some, None, codes}
 use Rattle.std.specs.List.{flat_map}
-use Rattle.par_tree.specs.Tree.{Expr, Target, unused, integer, block, Arg, value, lend, give, Stmt, declare, assign, store, allocate, release, choose, repeat, call, print, both, split, Body, done, step}
+use Rattle.par_tree.specs.Tree.{Expr, Target, unused, integer, block, Arg, value, lend, give, Stmt, let_stmt, assign_stmt, put_stmt, alloc_stmt, free_stmt, if_stmt, while_stmt, call_stmt, print_stmt, par_stmt, split_stmt, Body, done, step}
 use Rattle.par_text.specs.declared.kind.Kind.{Kind}
 use Rattle.par_text.specs.declared.kind.Kind.TheVariants as k
 use Rattle.par_text.specs.Rule.{Rule, token, nest, within, expression, statements}
@@ -62,42 +62,42 @@ braces_fit {most} margin b gaps inside =
 
 -- statements
 
-pub declare_claim : {most n : ℕ} (x : List ℕ) (e : Expr) → IsName x → Claim most Expression n e → StmtClaim most n (declare x e)
+pub declare_claim : {most n : ℕ} (x : List ℕ) (e : Expr) → IsName x → Claim most Expression n e → StmtClaim most n (let_stmt x e)
 unfolding stmt_rule let_rule
-declare_claim x e h c = record { reads = λ margin g. first_fits (behind_fits (declare x e) (λ v q. ap (λ z. stmt_without_lines (declared z)) q) reads-Let (named_value_fits x e h c)) }
+declare_claim x e h c = record { reads = λ margin g. first_fits (behind_fits (let_stmt x e) (λ v q. ap (λ z. stmt_without_lines (declared z)) q) reads-Let (named_value_fits x e h c)) }
 
-pub allocate_claim : {most n : ℕ} (x : List ℕ) (e : Expr) → IsName x → Claim most Expression n e → StmtClaim most n (allocate x e)
+pub allocate_claim : {most n : ℕ} (x : List ℕ) (e : Expr) → IsName x → Claim most Expression n e → StmtClaim most n (alloc_stmt x e)
 unfolding stmt_rule alloc_rule
-allocate_claim x e h c = record { reads = λ margin g. second_fits (first_fits (behind_fits (allocate x e) (λ v q. ap (λ z. stmt_without_lines (allocated z)) q) reads-Alloc (named_value_fits x e h c))) }
+allocate_claim x e h c = record { reads = λ margin g. second_fits (first_fits (behind_fits (alloc_stmt x e) (λ v q. ap (λ z. stmt_without_lines (allocated z)) q) reads-Alloc (named_value_fits x e h c))) }
 
-pub release_claim : {most n : ℕ} (x : List ℕ) → IsName x → StmtClaim most n (release x)
+pub release_claim : {most n : ℕ} (x : List ℕ) → IsName x → StmtClaim most n (free_stmt x)
 unfolding stmt_rule free_rule
-release_claim x h = record { reads = λ margin g. second_fits (second_fits (first_fits (behind_fits (release x) (λ v q. ap (λ z. release z) q) reads-Free (before_fits (λ rest c. (refl, refl)) (name_fits x h) reads-Semicolon)))) }
+release_claim x h = record { reads = λ margin g. second_fits (second_fits (first_fits (behind_fits (free_stmt x) (λ v q. ap (λ z. free_stmt z) q) reads-Free (before_fits (λ rest c. (refl, refl)) (name_fits x h) reads-Semicolon)))) }
 
-pub print_claim : {most n : ℕ} (e : Expr) → Claim most Expression n e → StmtClaim most n (print e)
+pub print_claim : {most n : ℕ} (e : Expr) → Claim most Expression n e → StmtClaim most n (print_stmt e)
 unfolding stmt_rule print_rule
 print_claim e c = record {
   reads = λ margin g.
       second_fits (second_fits (second_fits (second_fits (second_fits (second_fits (first_fits
-      (behind_fits (print e) (λ v q. ap (λ z. print z) q) reads-Print (before_fits (λ rest h. (refl, refl)) (in_place Expression e c) reads-Semicolon))))))));
+      (behind_fits (print_stmt e) (λ v q. ap (λ z. print_stmt z) q) reads-Print (before_fits (λ rest h. (refl, refl)) (in_place Expression e c) reads-Semicolon))))))));
 }
 
-pub assign_claim : {most n : ℕ} (x : List ℕ) (e : Expr) → IsName x → Claim most Expression n e → StmtClaim most n (assign x e)
+pub assign_claim : {most n : ℕ} (x : List ℕ) (e : Expr) → IsName x → Claim most Expression n e → StmtClaim most n (assign_stmt x e)
 unfolding stmt_rule write_rule written_value index_rule
 assign_claim x e h c = record {
   reads = λ margin g.
       second_fits (second_fits (second_fits (second_fits (second_fits (second_fits (second_fits (second_fits (second_fits
-      (pair_fits {Q = λ v. v ≡ (None, e)} (λ t v. (t.line, written t.bytes v)) (λ rest d. (refl, refl)) (λ t v p q. ap (λ z. stmt_without_lines (written t.bytes z)) q ∙ ap (λ z. assign z e) p) (name_token_fits x h)
+      (pair_fits {Q = λ v. v ≡ (None, e)} (λ t v. (t.line, written t.bytes v)) (λ rest d. (refl, refl)) (λ t v p q. ap (λ z. stmt_without_lines (written t.bytes z)) q ∙ ap (λ z. assign_stmt z e) p) (name_token_fits x h)
       (pair_fits {P = λ o. o ≡ None} (λ o z. (o, z)) (λ rest d. (refl, refl)) (λ o z p q. ap (λ v. (o, v)) q ∙ ap (λ v. (v, e)) p) (second_fits (nothing_fits refl)) (value_fits e c)))))))))));
 }
 
-pub store_claim : {most n : ℕ} (x : List ℕ) (i e : Expr) → IsName x → Inside n (λ m. Claim most Expression m i) → Claim most Expression n e → StmtClaim most n (store x i e)
+pub store_claim : {most n : ℕ} (x : List ℕ) (i e : Expr) → IsName x → Inside n (λ m. Claim most Expression m i) → Claim most Expression n e → StmtClaim most n (put_stmt x i e)
 unfolding stmt_rule write_rule written_value index_rule
 store_claim {most} {n} x i e h inside c = record {
   reads = λ margin g.
       same_fits (ap (λ z. x ++ (91 ∷ z)) (append_assoc (expr_text i) (93 ∷ []) (codes " = " ++ (expr_text e ++ codes ";"))))
       (second_fits (second_fits (second_fits (second_fits (second_fits (second_fits (second_fits (second_fits (second_fits
-      (pair_fits {Q = λ v. v ≡ (Some i, e)} (λ t v. (t.line, written t.bytes v)) (λ rest d. (refl, refl)) (λ t v p q. ap (λ z. stmt_without_lines (written t.bytes z)) q ∙ ap (λ z. store z i e) p) (name_token_fits x h)
+      (pair_fits {Q = λ v. v ≡ (Some i, e)} (λ t v. (t.line, written t.bytes v)) (λ rest d. (refl, refl)) (λ t v p q. ap (λ z. stmt_without_lines (written t.bytes z)) q ∙ ap (λ z. put_stmt z i e) p) (name_token_fits x h)
       (pair_fits {P = λ o. o ≡ Some i} (λ o z. (o, z)) (λ rest d. (refl, refl)) (λ o z p q. ap (λ v. (o, v)) q ∙ ap (λ v. (v, e)) p) (first_fits index) (value_fits e c))))))))))));
 }
   where
@@ -107,12 +107,12 @@ store_claim {most} {n} x i e h inside c = record {
         (nest_fits opens-LeftBracket.lexeme opens-LeftBracket.form opens-LeftBracket.whole opens-LeftBracket.allowed
         (before_fits (λ rest d. (refl, refl)) (within_fits {s = expression} (λ y. Some y) (λ y q. ap (λ v. Some v) q) (in_place Expression i inside.holds)) reads-RightBracket))
 
-pub repeat_claim : {most n : ℕ} (e : Expr) (a : Body) → Claim most Expression n e → Inside n (λ m. BodyClaim most m a) → StmtClaim most n (repeat e a)
+pub repeat_claim : {most n : ℕ} (e : Expr) (a : Body) → Claim most Expression n e → Inside n (λ m. BodyClaim most m a) → StmtClaim most n (while_stmt e a)
 unfolding stmt_rule while_rule
 repeat_claim e a c inside = record {
   reads = λ margin g.
       second_fits (second_fits (second_fits (second_fits (first_fits
-      (behind_fits {P = λ v. (v.0 ≡ e) × SameBody a v.1} (repeat e a) (λ v q. ap (λ z. repeat z (body_without_lines v.1)) q.0 ∙ ap (λ z. repeat e z) q.1) reads-While
+      (behind_fits {P = λ v. (v.0 ≡ e) × SameBody a v.1} (while_stmt e a) (λ v q. ap (λ z. while_stmt z (body_without_lines v.1)) q.0 ∙ ap (λ z. while_stmt e z) q.1) reads-While
       (pair_fits (λ x y. (x, y)) (λ rest d. (refl, refl)) (λ x y p q. (p, q)) (in_place Expression e c) (gaps_fit space (gap-space, tt) (braces_fit margin a g inside))))))));
 }
 
@@ -129,40 +129,40 @@ else_opens : (margin : List ℕ) (b : Body) (u : List ℕ) → Opens (else_text 
 else_opens margin done u = λ rest h. h
 else_opens margin (step l s rest) u = λ r h. (refl, refl)
 
-pub choose_claim : {most n : ℕ} (e : Expr) (a b : Body) → Claim most Expression n e → Inside n (λ m. BodyClaim most m a) → ElseClaim most n b → StmtClaim most n (choose e a b)
+pub choose_claim : {most n : ℕ} (e : Expr) (a b : Body) → Claim most Expression n e → Inside n (λ m. BodyClaim most m a) → ElseClaim most n b → StmtClaim most n (if_stmt e a b)
 unfolding stmt_rule if_rule
 choose_claim e a b c inside other = record {
   reads = λ margin g.
       second_fits (second_fits (second_fits (first_fits
-      (behind_fits {P = λ v. (v.0 ≡ e) × (SameBody a v.1.0 × SameBody b v.1.1)} (choose e a b)
-      (λ v q. ap (λ z. choose z (body_without_lines v.1.0) (body_without_lines v.1.1)) q.0 ∙ ap (λ z. choose e z (body_without_lines v.1.1)) q.1.0 ∙ ap (λ z. choose e (body_without_lines a) z) q.1.1)
+      (behind_fits {P = λ v. (v.0 ≡ e) × (SameBody a v.1.0 × SameBody b v.1.1)} (if_stmt e a b)
+      (λ v q. ap (λ z. if_stmt z (body_without_lines v.1.0) (body_without_lines v.1.1)) q.0 ∙ ap (λ z. if_stmt e z (body_without_lines v.1.1)) q.1.0 ∙ ap (λ z. if_stmt e (body_without_lines a) z) q.1.1)
       reads-If
       (pair_fits (λ x y. (x, y)) (λ rest d. (refl, refl)) (λ x y p q. (p, q)) (in_place Expression e c)
       (pair_fits {P = SameBody a} {Q = SameBody b} (λ x y. (x, y)) (else_opens margin b (body_text (deeper margin) b)) (λ x y p q. (p, q)) (gaps_fit space (gap-space, tt) (braces_fit margin a g inside)) (else_fits margin b g other)))))));
 }
 
-pub both_claim : {most n : ℕ} (a b : Body) → Inside n (λ m. BodyClaim most m a) → Inside n (λ m. BodyClaim most m b) → StmtClaim most n (both a b)
+pub both_claim : {most n : ℕ} (a b : Body) → Inside n (λ m. BodyClaim most m a) → Inside n (λ m. BodyClaim most m b) → StmtClaim most n (par_stmt a b)
 unfolding stmt_rule par_rule
 both_claim a b ia ib = record {
   reads = λ margin g.
       second_fits (second_fits (second_fits (second_fits (second_fits (second_fits (second_fits (first_fits
-      (behind_fits {P = λ v. SameBody a v.0 × SameBody b v.1} (both a b) (λ v q. ap (λ z. both z (body_without_lines v.1)) q.0 ∙ ap (λ z. both (body_without_lines a) z) q.1) reads-Par
+      (behind_fits {P = λ v. SameBody a v.0 × SameBody b v.1} (par_stmt a b) (λ v q. ap (λ z. par_stmt z (body_without_lines v.1)) q.0 ∙ ap (λ z. par_stmt (body_without_lines a) z) q.1) reads-Par
       (pair_fits {P = SameBody a} {Q = SameBody b} (λ x y. (x, y)) (λ rest d. (refl, refl)) (λ x y p q. (p, q)) (braces_fit margin a g ia)
       (then_fits (λ rest d. (refl, refl)) (gaps_fit space (gap-space, tt) reads-And) (gaps_fit space (gap-space, tt) (braces_fit margin b g ib))))))))))));
 }
 
-pub split_claim : {most n : ℕ} (x : List ℕ) (e : Expr) (l r : List ℕ) (a : Body) → IsName x → Claim most Expression n e → IsName l → IsName r → Inside n (λ m. BodyClaim most m a) → StmtClaim most n (split x e l r a)
+pub split_claim : {most n : ℕ} (x : List ℕ) (e : Expr) (l r : List ℕ) (a : Body) → IsName x → Claim most Expression n e → IsName l → IsName r → Inside n (λ m. BodyClaim most m a) → StmtClaim most n (split_stmt x e l r a)
 unfolding stmt_rule split_rule parts_rule
 split_claim x e l r a h c hl hr inside = record {
   reads = λ margin g.
-      same_fits (ap (λ z. codes "split " ++ (x ++ (codes " at " ++ (expr_text e ++ (codes " into " ++ z))))) (append_assoc l (44 ∷ 32 ∷ r) (space ++ braces margin (body_text (deeper margin) a))))
+      same_fits (ap (λ z. codes "split_stmt " ++ (x ++ (codes " at " ++ (expr_text e ++ (codes " into " ++ z))))) (append_assoc l (44 ∷ 32 ∷ r) (space ++ braces margin (body_text (deeper margin) a))))
       (second_fits (second_fits (second_fits (second_fits (second_fits (second_fits (second_fits (second_fits (first_fits
-      (behind_fits {P = λ v. (v.0 ≡ x) × ((v.1.0 ≡ e) × ((v.1.1.0 ≡ (l, r)) × SameBody a v.1.1.1))} (split x e l r a)
+      (behind_fits {P = λ v. (v.0 ≡ x) × ((v.1.0 ≡ e) × ((v.1.1.0 ≡ (l, r)) × SameBody a v.1.1.1))} (split_stmt x e l r a)
       (λ v q.
-      ap (λ z. split z v.1.0 v.1.1.0.0 v.1.1.0.1 (body_without_lines v.1.1.1)) q.0
-      ∙ ap (λ z. split x z v.1.1.0.0 v.1.1.0.1 (body_without_lines v.1.1.1)) q.1.0
-      ∙ ap (λ z. split x e z.0 z.1 (body_without_lines v.1.1.1)) q.1.1.0
-      ∙ ap (λ z. split x e l r z) q.1.1.1)
+      ap (λ z. split_stmt z v.1.0 v.1.1.0.0 v.1.1.0.1 (body_without_lines v.1.1.1)) q.0
+      ∙ ap (λ z. split_stmt x z v.1.1.0.0 v.1.1.0.1 (body_without_lines v.1.1.1)) q.1.0
+      ∙ ap (λ z. split_stmt x e z.0 z.1 (body_without_lines v.1.1.1)) q.1.1.0
+      ∙ ap (λ z. split_stmt x e l r z) q.1.1.1)
       reads-Split
       (pair_fits (λ y z. (y, z)) (λ rest d. (refl, refl)) (λ y z p q. (p, q)) (name_fits x h)
       (then_fits (λ rest d. (refl, refl)) (gaps_fit space (gap-space, tt) reads-At)
@@ -230,19 +230,19 @@ TargetClaim unused = Unit {0}
 TargetClaim (integer x) = IsName x
 TargetClaim (block x) = IsName x
 
-any_call_fits : {most n : ℕ} (t : Target) (f : List ℕ) (xs : List Arg) → TargetClaim t → IsName f → Inside n (λ m. ArgsClaim most m xs) → Fits most false n any_call (λ y. y ≡ call t f xs) (call_text t f xs)
+any_call_fits : {most n : ℕ} (t : Target) (f : List ℕ) (xs : List Arg) → TargetClaim t → IsName f → Inside n (λ m. ArgsClaim most m xs) → Fits most false n any_call (λ y. y ≡ call_stmt t f xs) (call_text t f xs)
 unfolding any_call plain_call owning_call callee_rule
 any_call_fits unused f xs ht hf inside =
-    second_fits (pair_fits {Q = λ v. v ≡ (None, xs)} answering (λ rest d. (refl, refl)) (λ y v p q. ap (λ z. answering y z) q ∙ ap (λ z. call unused z xs) p) (name_fits f hf)
+    second_fits (pair_fits {Q = λ v. v ≡ (None, xs)} answering (λ rest d. (refl, refl)) (λ y v p q. ap (λ z. answering y z) q ∙ ap (λ z. call_stmt unused z xs) p) (name_fits f hf)
     (pair_fits {P = λ o. o ≡ None} (λ o z. (o, z)) (λ rest d. (refl, refl)) (λ o z p q. ap (λ v. (o, v)) q ∙ ap (λ v. (v, xs)) p) (second_fits (nothing_fits refl)) (args_fit xs inside)))
 any_call_fits (integer x) f xs ht hf inside =
-    second_fits (pair_fits {Q = λ v. v ≡ (Some f, xs)} answering (λ rest d. (refl, refl)) (λ y v p q. ap (λ z. answering y z) q ∙ ap (λ z. call (integer z) f xs) p) (name_fits x ht)
+    second_fits (pair_fits {Q = λ v. v ≡ (Some f, xs)} answering (λ rest d. (refl, refl)) (λ y v p q. ap (λ z. answering y z) q ∙ ap (λ z. call_stmt (integer z) f xs) p) (name_fits x ht)
     (pair_fits {P = λ o. o ≡ Some f} (λ o z. (o, z)) (λ rest d. (refl, refl)) (λ o z p q. ap (λ v. (o, v)) q ∙ ap (λ v. (v, xs)) p)
     (first_fits (then_fits (λ rest d. (refl, refl)) (gaps_fit space (gap-space, tt) reads-Assign) (gaps_fit space (gap-space, tt) (mapped_fits (λ x. Some x) (λ y q. ap (λ v. Some v) q) (name_fits f hf)))))
     (args_fit xs inside)))
 any_call_fits (block x) f xs ht hf inside =
     first_fits (then_fits (λ rest d. (refl, refl)) reads-Own
-    (pair_fits {Q = λ v. v ≡ (f, xs)} (λ x c. call (block x) c.0 c.1) (λ rest d. (refl, refl)) (λ y v p q. ap (λ z. call (block y) z.0 z.1) q ∙ ap (λ z. call (block z) f xs) p) (gaps_fit space (gap-space, tt) (name_fits x ht))
+    (pair_fits {Q = λ v. v ≡ (f, xs)} (λ x c. call_stmt (block x) c.0 c.1) (λ rest d. (refl, refl)) (λ y v p q. ap (λ z. call_stmt (block y) z.0 z.1) q ∙ ap (λ z. call_stmt (block z) f xs) p) (gaps_fit space (gap-space, tt) (name_fits x ht))
     (then_fits (λ rest d. (refl, refl)) (gaps_fit space (gap-space, tt) reads-Assign)
     (pair_fits (λ y z. (y, z)) (λ rest d. (refl, refl)) (λ y z p q. ap (λ v. (y, v)) q ∙ ap (λ v. (v, xs)) p) (gaps_fit space (gap-space, tt) (name_fits f hf)) (args_fit xs inside)))))
 
@@ -255,18 +255,18 @@ call_to x f xs =
     ∙ ap (λ z. x ++ (codes " = " ++ z)) (call_ends f xs)
     ∙ sym (append_assoc x (codes " = ") (f ++ (codes "(" ++ (with_commas (map arg_text xs) ++ codes ");"))))
 
-call_same : (margin : List ℕ) (t : Target) (f : List ℕ) (xs : List Arg) → codes "call " ++ (call_text t f xs ++ codes ";") ≡ stmt_text margin (call t f xs)
-call_same margin unused f xs = ap (λ z. codes "call " ++ z) (call_ends f xs)
-call_same margin (integer x) f xs = ap (λ z. codes "call " ++ z) (call_to x f xs)
-call_same margin (block x) f xs = ap (λ z. codes "call own " ++ z) (call_to x f xs)
+call_same : (margin : List ℕ) (t : Target) (f : List ℕ) (xs : List Arg) → codes "call_stmt " ++ (call_text t f xs ++ codes ";") ≡ stmt_text margin (call_stmt t f xs)
+call_same margin unused f xs = ap (λ z. codes "call_stmt " ++ z) (call_ends f xs)
+call_same margin (integer x) f xs = ap (λ z. codes "call_stmt " ++ z) (call_to x f xs)
+call_same margin (block x) f xs = ap (λ z. codes "call_stmt own " ++ z) (call_to x f xs)
 
-pub call_claim : {most n : ℕ} (t : Target) (f : List ℕ) (xs : List Arg) → TargetClaim t → IsName f → Inside n (λ m. ArgsClaim most m xs) → StmtClaim most n (call t f xs)
+pub call_claim : {most n : ℕ} (t : Target) (f : List ℕ) (xs : List Arg) → TargetClaim t → IsName f → Inside n (λ m. ArgsClaim most m xs) → StmtClaim most n (call_stmt t f xs)
 unfolding stmt_rule call_rule
 call_claim t f xs ht hf inside = record {
   reads = λ margin g.
       same_fits (call_same margin t f xs)
       (second_fits (second_fits (second_fits (second_fits (second_fits (first_fits
-      (behind_fits (call t f xs) (λ v q. ap (λ z. stmt_without_lines z) q) reads-Call (before_fits (λ rest d. (refl, refl)) (any_call_fits t f xs ht hf inside) reads-Semicolon))))))));
+      (behind_fits (call_stmt t f xs) (λ v q. ap (λ z. stmt_without_lines z) q) reads-Call (before_fits (λ rest d. (refl, refl)) (any_call_fits t f xs ht hf inside) reads-Semicolon))))))));
 }
 
 -- lists of statements

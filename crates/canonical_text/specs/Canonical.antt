@@ -3,7 +3,7 @@
 use Rattle.std.specs.Prelude.{ℕ, Bool, true, false, ◌||◌, List, [], ◌∷◌, ◌++◌, map, Option, Some, None, codes}
 use Rattle.std.specs.List.{flat_map}
 use Rattle.std.specs.Fmt.{signed_decimal}
-use Rattle.par_tree.specs.Tree.{ChainOp, plus, minus, times, over, modulo, Comparison, equal, unequal, below, at_most, above, at_least, Expr, number, variable, element, extent, negative, chain, compare, Links, last, link, Target, unused, integer, block, Arg, value, lend, give, Stmt, declare, assign, store, allocate, release, choose, repeat, call, print, both, split, Body, done, step, Param, ParamKind, by_value, lent, owned, RetValue, gives, hands, Ret, Func, Program}
+use Rattle.par_tree.specs.Tree.{ChainOp, plus, minus, times, over, modulo, Comparison, equal, unequal, below, at_most, above, at_least, Expr, num, var, get, len_of, neg, chain, cmp, Links, last, link, Target, unused, integer, block, Arg, value, lend, give, Stmt, let_stmt, assign_stmt, put_stmt, alloc_stmt, free_stmt, if_stmt, while_stmt, call_stmt, print_stmt, par_stmt, split_stmt, Body, done, step, Param, ParamKind, by_value, lent, owned, RetValue, gives, hands, Ret, Func, Program}
 use Rattle.canonical_text.specs.declared.place.Place.{Place}
 use Rattle.canonical_text.specs.declared.place.Place.TheVariants.{Expression, Sum, Term, Factor}
 
@@ -58,7 +58,7 @@ is_chain (chain e rest) = true
 is_chain _ = false
 
 abbrev pub is_comparison : Expr → Bool
-is_comparison (compare op l r) = true
+is_comparison (cmp op l r) = true
 is_comparison _ = false
 
 -- Whether the grammar reads an expression in a place only between parentheses: a comparison is no
@@ -77,13 +77,13 @@ parenthesised false text = text
 -- decimal digits without leading zeros. A sign has no space behind it, and brackets have none inside.
 abbrev mutual
   pub expr_text : Expr → List ℕ
-  expr_text (number n) = signed_decimal n
-  expr_text (variable x) = x
-  expr_text (element b i) = b ⊕ codes "[" ⊕ expr_text i ⊕ codes "]"
-  expr_text (extent b) = codes "len(" ⊕ b ⊕ codes ")"
-  expr_text (negative e) = codes "-" ⊕ parenthesised (needs_parentheses Factor e) (expr_text e)
+  expr_text (num n) = signed_decimal n
+  expr_text (var x) = x
+  expr_text (get b i) = b ⊕ codes "[" ⊕ expr_text i ⊕ codes "]"
+  expr_text (len_of b) = codes "len(" ⊕ b ⊕ codes ")"
+  expr_text (neg e) = codes "-" ⊕ parenthesised (needs_parentheses Factor e) (expr_text e)
   expr_text (chain e rest) = parenthesised (needs_parentheses (first_place rest) e) (expr_text e) ⊕ links_text rest
-  expr_text (compare op l r) =
+  expr_text (cmp op l r) =
       parenthesised (needs_parentheses Sum l) (expr_text l) ⊕ comparison_text op ⊕ parenthesised (needs_parentheses Sum r) (expr_text r)
 
   pub links_text : Links → List ℕ
@@ -135,20 +135,20 @@ arg_text (give b) = codes "own " ⊕ b
 -- a statement behind its margin, up to the end of its last line, and a list of statements
 abbrev mutual
   pub stmt_text : List ℕ → Stmt → List ℕ
-  stmt_text margin (declare x e) = codes "let " ⊕ x ⊕ codes " = " ⊕ expr_text e ⊕ codes ";"
-  stmt_text margin (assign x e) = x ⊕ codes " = " ⊕ expr_text e ⊕ codes ";"
-  stmt_text margin (store b i e) = b ⊕ codes "[" ⊕ expr_text i ⊕ codes "] = " ⊕ expr_text e ⊕ codes ";"
-  stmt_text margin (allocate b e) = codes "alloc " ⊕ b ⊕ codes " = " ⊕ expr_text e ⊕ codes ";"
-  stmt_text margin (release b) = codes "free " ⊕ b ⊕ codes ";"
-  stmt_text margin (choose e a b) =
+  stmt_text margin (let_stmt x e) = codes "let " ⊕ x ⊕ codes " = " ⊕ expr_text e ⊕ codes ";"
+  stmt_text margin (assign_stmt x e) = x ⊕ codes " = " ⊕ expr_text e ⊕ codes ";"
+  stmt_text margin (put_stmt b i e) = b ⊕ codes "[" ⊕ expr_text i ⊕ codes "] = " ⊕ expr_text e ⊕ codes ";"
+  stmt_text margin (alloc_stmt b e) = codes "alloc " ⊕ b ⊕ codes " = " ⊕ expr_text e ⊕ codes ";"
+  stmt_text margin (free_stmt b) = codes "free " ⊕ b ⊕ codes ";"
+  stmt_text margin (if_stmt e a b) =
       codes "if " ⊕ expr_text e ⊕ codes " " ⊕ braces margin (body_text (deeper margin) a) ⊕ else_text margin b (body_text (deeper margin) b)
-  stmt_text margin (repeat e a) = codes "while " ⊕ expr_text e ⊕ codes " " ⊕ braces margin (body_text (deeper margin) a)
-  stmt_text margin (call t f xs) = codes "call " ⊕ target_text t ⊕ f ⊕ codes "(" ⊕ with_commas (map arg_text xs) ⊕ codes ");"
-  stmt_text margin (print e) = codes "print " ⊕ expr_text e ⊕ codes ";"
-  stmt_text margin (both a b) =
+  stmt_text margin (while_stmt e a) = codes "while " ⊕ expr_text e ⊕ codes " " ⊕ braces margin (body_text (deeper margin) a)
+  stmt_text margin (call_stmt t f xs) = codes "call_stmt " ⊕ target_text t ⊕ f ⊕ codes "(" ⊕ with_commas (map arg_text xs) ⊕ codes ");"
+  stmt_text margin (print_stmt e) = codes "print_stmt " ⊕ expr_text e ⊕ codes ";"
+  stmt_text margin (par_stmt a b) =
       codes "par " ⊕ braces margin (body_text (deeper margin) a) ⊕ codes " and " ⊕ braces margin (body_text (deeper margin) b)
-  stmt_text margin (split b e l r a) =
-      codes "split " ⊕ b ⊕ codes " at " ⊕ expr_text e ⊕ codes " into " ⊕ l ⊕ codes ", " ⊕ r ⊕ codes " " ⊕ braces margin (body_text (deeper margin) a)
+  stmt_text margin (split_stmt b e l r a) =
+      codes "split_stmt " ⊕ b ⊕ codes " at " ⊕ expr_text e ⊕ codes " into " ⊕ l ⊕ codes ", " ⊕ r ⊕ codes " " ⊕ braces margin (body_text (deeper margin) a)
 
   pub body_text : List ℕ → Body → List ℕ
   body_text margin done = []

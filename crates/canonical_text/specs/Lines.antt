@@ -1,21 +1,21 @@
 -- Programs that are the same but for lines.
 use Rattle.std.specs.Prelude.{◌≡◌, map, Option, Some, None}
-use Rattle.par_tree.specs.Tree.{Stmt, declare, assign, store, allocate, release, choose, repeat, call, print, both, split, Body, done, step, Ret, Func, Program}
+use Rattle.par_tree.specs.Tree.{Stmt, let_stmt, assign_stmt, put_stmt, alloc_stmt, free_stmt, if_stmt, while_stmt, call_stmt, print_stmt, par_stmt, split_stmt, Body, done, step, Ret, Func, Program}
 
 -- A tree whose lines are all 0.
 abbrev mutual
   pub stmt_without_lines : Stmt → Stmt
-  stmt_without_lines (declare x e) = declare x e
-  stmt_without_lines (assign x e) = assign x e
-  stmt_without_lines (store b i e) = store b i e
-  stmt_without_lines (allocate b e) = allocate b e
-  stmt_without_lines (release b) = release b
-  stmt_without_lines (choose e a b) = choose e (body_without_lines a) (body_without_lines b)
-  stmt_without_lines (repeat e a) = repeat e (body_without_lines a)
-  stmt_without_lines (call t f xs) = call t f xs
-  stmt_without_lines (print e) = print e
-  stmt_without_lines (both a b) = both (body_without_lines a) (body_without_lines b)
-  stmt_without_lines (split b e l r a) = split b e l r (body_without_lines a)
+  stmt_without_lines (let_stmt x e) = let_stmt x e
+  stmt_without_lines (assign_stmt x e) = assign_stmt x e
+  stmt_without_lines (put_stmt b i e) = put_stmt b i e
+  stmt_without_lines (alloc_stmt b e) = alloc_stmt b e
+  stmt_without_lines (free_stmt b) = free_stmt b
+  stmt_without_lines (if_stmt e a b) = if_stmt e (body_without_lines a) (body_without_lines b)
+  stmt_without_lines (while_stmt e a) = while_stmt e (body_without_lines a)
+  stmt_without_lines (call_stmt t f xs) = call_stmt t f xs
+  stmt_without_lines (print_stmt e) = print_stmt e
+  stmt_without_lines (par_stmt a b) = par_stmt (body_without_lines a) (body_without_lines b)
+  stmt_without_lines (split_stmt b e l r a) = split_stmt b e l r (body_without_lines a)
 
   pub body_without_lines : Body → Body
   body_without_lines done = done

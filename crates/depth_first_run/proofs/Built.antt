@@ -7,16 +7,16 @@ use Rattle.dummy_tree.specs.Shapes.{Shape, leaf, forked}
 use Rattle.depth_first_list.specs.Actions as actions
 use Rattle.depth_first_list.specs.Actions.{Action, Deed}
 use Rattle.depth_first_list.specs.Runs.{Point, start, action_at_point, after_action, after_fork, after_join, end_at, after_tree, tree_run, tree_for, IsPlain, Runs, rests, goes_on, acts, joins_the_newest, forks_a_child, allocates_behind_a_tree, IsDepthFirst}
-use Rattle.par_tree.specs.Tree.{Name, Expr, Target, Arg, Param, Stmt, declare, assign, store, allocate, release, choose, repeat, call, print, both, split, Body, done, step, Func, Ret, RetValue, gives, hands}
+use Rattle.par_tree.specs.Tree.{Name, Expr, Target, Arg, Param, Stmt, let_stmt, assign_stmt, put_stmt, alloc_stmt, free_stmt, if_stmt, while_stmt, call_stmt, print_stmt, par_stmt, split_stmt, Body, done, step, Func, Ret, RetValue, gives, hands}
 use Rattle.par_ownership.specs.Ownership.{function_of, main_name}
 use Rattle.depth_first_run.specs.Stores.{Store, block_of, block_words}
 use Rattle.depth_first_run.specs.Values.{Outcome, value, is_true}
 use Rattle.depth_first_run.specs.States
-use Rattle.depth_first_run.specs.States.{Setting, State, Item, acted, noting, acting, faulting, choosing, unless_faulted, settled, turning, with_turn, limiting, with_depth, child_of, parent_of, ended, given_back, taking, joined, joining, forking, next_action}
+use Rattle.depth_first_run.specs.States.{Setting, State, Item, acted, with_item, with_action, with_fault, skip_if, unless_faulted, with_number, with_turns, with_turn, under_limit, with_depth, child_of, parent_of, ended, given_back, with_result, joined, own_part_then_join, fork_join, next_action}
 use Rattle.depth_first_run.specs.Calls
-use Rattle.depth_first_run.specs.Calls.{Passing, all_passed, entered, Answer, closing, returned, answering, answering_value, giving}
+use Rattle.depth_first_run.specs.Calls.{Passing, all_passed, entered, Answer, end_call, returned, with_answer, with_return, as_number}
 use Rattle.depth_first_run.specs.Run
-use Rattle.depth_first_run.specs.Run.{storing, putting_at, putting, putting_value, printing, names_in, assigns_in, no_name, running_tree, delaying, delayed, size_of, allocating_words, allocating, freeing, branching, choosing_by, staying, one_round, cut_of, splitting_at, splitting, running_body, calling_with, calling, beginning, exec, exec_all, within, run, main_run, dropping_answer, opening, whole, actions_of}
+use Rattle.depth_first_run.specs.Run.{on_store, put_in_place, put_number, put_value, print_number, names_in, assigns_in, no_name, run_tree, run_tree_unless, run_tree_before, size_of, alloc_words, alloc_block, free_block, branch, branch_on, unchanged, one_round, cut_of, split_in_place, split_block, run_callee, call_with, call_function, begin_statement, exec, exec_all, within, run, main_run, ignore_answer, root_start, whole, actions_of}
 
 -- where a thread is, over the children that are open
 abbrev point_of : List ℕ → State → Point
@@ -62,8 +62,8 @@ built_trans c s t u p q = record {
       (goes_on s.label (point_of o s) (point_of o t) (point_of o u) (actions_of p.new) (actions_of q.new) (p.runs o) (subst L p.label (q.runs o)));
 }
 
-built_acting : (c : Setting) (deed : Deed) (words : ℕ) (s : State) → IsPlain c.quota deed words → Built c s (acting deed words s)
-unfolding acting
+built_acting : (c : Setting) (deed : Deed) (words : ℕ) (s : State) → IsPlain c.quota deed words → Built c s (with_action deed words s)
+unfolding with_action
 built_acting c deed words s plain = record {
   label = refl;
   new = next_action deed words s ∷ [];
@@ -71,8 +71,8 @@ built_acting c deed words s plain = record {
   runs = λ o. acts s.label (point_of o s) deed words plain;
 }
 
-built_fault : (c : Setting) (kind : FaultKind) (line : ℕ) (s : State) → Built c s (faulting kind line s)
-unfolding faulting acting
+built_fault : (c : Setting) (kind : FaultKind) (line : ℕ) (s : State) → Built c s (with_fault kind line s)
+unfolding with_fault with_action
 built_fault c kind line s =
     let words : ℕ = States.holdings s in
     let mark : Item = States.failed (record { kind = kind; line = line }) in
@@ -83,10 +83,10 @@ built_fault c kind line s =
       runs = λ o. acts s.label (point_of o s) actions.faults words tt;
     }
 
-built_printed : (c : Setting) (v : ℤ) (s : State) → Built c s (noting (States.printed v) s)
+built_printed : (c : Setting) (v : ℤ) (s : State) → Built c s (with_item (States.printed v) s)
 built_printed c v s = record { label = refl; new = States.printed v ∷ []; grown = refl; runs = λ o. rests s.label (point_of o s) }
 
-built_began : (c : Setting) (line : ℕ) (s : State) → Built c s (noting (States.began line) s)
+built_began : (c : Setting) (line : ℕ) (s : State) → Built c s (with_item (States.began line) s)
 built_began c line s = record { label = refl; new = States.began line ∷ []; grown = refl; runs = λ o. rests s.label (point_of o s) }
 
 built_storing : (c : Setting) (st : Store) (s : State) → Built c s (record s { store = st })
@@ -94,7 +94,7 @@ built_storing c st s = built_quiet c s (record s { store = st }) refl refl refl 
 
 -- ---- the combinators
 
-built_choosing : (c : Setting) (b : Bool) (f : State → State) (s : State) → (b ≡ false → Built c s (f s)) → Built c s (choosing b f s)
+built_choosing : (c : Setting) (b : Bool) (f : State → State) (s : State) → (b ≡ false → Built c s (f s)) → Built c s (skip_if b f s)
 built_choosing c true f s k = built_same c s
 built_choosing c false f s k = k refl
 
@@ -102,13 +102,13 @@ built_unless : (c : Setting) (f : State → State) (s : State) → (s.faulted �
 unfolding unless_faulted
 built_unless c f s k = built_choosing c s.faulted f s k
 
-built_settled : (c : Setting) (line : ℕ) (o : Outcome) (f : ℤ → State → State) (s : State) → ((v : ℤ) → Built c s (f v s)) → Built c s (settled line o f s)
-unfolding settled
+built_settled : (c : Setting) (line : ℕ) (o : Outcome) (f : ℤ → State → State) (s : State) → ((v : ℤ) → Built c s (f v s)) → Built c s (with_number line o f s)
+unfolding with_number
 built_settled c line (Ok v) f s k = k v
 built_settled c line (Err kind) f s k = built_fault c kind line s
 
 built_turning : (c : Setting) (n line : ℕ) (f : State → State) (s : State) → ((left : ℕ) → Built c (record s { turns = left }) (f (record s { turns = left })))
-    → Built c s (turning n line f s)
+    → Built c s (with_turns n line f s)
 built_turning c zero line f s k = built_fault c _ line s
 built_turning c (suc left) line f s k =
     let t : State = record s { turns = left } in
@@ -119,7 +119,7 @@ built_with_turn : (c : Setting) (line : ℕ) (f : State → State) (s : State) �
 unfolding with_turn
 built_with_turn c line f s k = built_turning c s.turns line f s k
 
-built_limiting : (c : Setting) (b : Bool) (line : ℕ) (f : State → State) (s : State) → Built c s (f s) → Built c s (limiting b line f s)
+built_limiting : (c : Setting) (b : Bool) (line : ℕ) (f : State → State) (s : State) → Built c s (f s) → Built c s (under_limit b line f s)
 built_limiting c true line f s k = k
 built_limiting c false line f s k = built_fault c _ line s
 
@@ -127,29 +127,29 @@ built_with_depth : (c : Setting) (depth most line : ℕ) (f : State → State) (
 unfolding with_depth
 built_with_depth c depth most line f s k = built_limiting c (nat_lt depth most) line f s k
 
-built_branching : (c : Setting) (b : Bool) (f g : State → State) (s : State) → Built c s (f s) → Built c s (g s) → Built c s (branching f g b s)
+built_branching : (c : Setting) (b : Bool) (f g : State → State) (s : State) → Built c s (f s) → Built c s (g s) → Built c s (branch f g b s)
 built_branching c true f g s p q = p
 built_branching c false f g s p q = q
 
 -- ---- a Fork, the child, the thread's own part, and the Join
 
 -- a Join leaves its action, whatever it takes in
-joined_label : (p q : Bool) (assigned : Name → Bool) (d t : State) → State.label (taking p q assigned d t) ≡ t.label
+joined_label : (p q : Bool) (assigned : Name → Bool) (d t : State) → State.label (with_result p q assigned d t) ≡ t.label
 joined_label true q assigned d t = refl
 joined_label false true assigned d t = refl
 joined_label false false assigned d t = refl
 
-joined_done : (p q : Bool) (assigned : Name → Bool) (d t : State) → State.done (taking p q assigned d t) ≡ t.done
+joined_done : (p q : Bool) (assigned : Name → Bool) (d t : State) → State.done (with_result p q assigned d t) ≡ t.done
 joined_done true q assigned d t = refl
 joined_done false true assigned d t = refl
 joined_done false false assigned d t = refl
 
-joined_forks : (p q : Bool) (assigned : Name → Bool) (d t : State) → State.forks (taking p q assigned d t) ≡ t.forks
+joined_forks : (p q : Bool) (assigned : Name → Bool) (d t : State) → State.forks (with_result p q assigned d t) ≡ t.forks
 joined_forks true q assigned d t = refl
 joined_forks false true assigned d t = refl
 joined_forks false false assigned d t = refl
 
-joined_items : (p q : Bool) (assigned : Name → Bool) (d t : State) → State.items (taking p q assigned d t) ≡ t.items
+joined_items : (p q : Bool) (assigned : Name → Bool) (d t : State) → State.items (with_result p q assigned d t) ≡ t.items
 joined_items true q assigned d t = refl
 joined_items false true assigned d t = refl
 joined_items false false assigned d t = refl
@@ -163,8 +163,8 @@ point_same o s t d f =
 built_forking : (c : Setting) (named assigned : Name → Bool) (work own : State → State) (s : State)
     → Built c (child_of c named s) (work (child_of c named s))
     → ((items : List Item) → Built c (parent_of named items s) (own (parent_of named items s)))
-    → Built c s (forking c named assigned work own s)
-unfolding forking joining joined ended acting
+    → Built c s (fork_join c named assigned work own s)
+unfolding fork_join own_part_then_join joined ended with_action
 built_forking c named assigned work own s w built_own =
     let kid : ℕ = suc s.forks in
     let k : State = child_of c named s in
@@ -174,8 +174,8 @@ built_forking c named assigned work own s w built_own =
     let q : State = own p in
     let b : Built c p q = built_own d.items in
     let words : ℕ = given_back q.faulted d.faulted d q in
-    let t : State = acting (actions.joins kid) words q in
-    let r : State = taking q.faulted d.faulted assigned d t in
+    let t : State = with_action (actions.joins kid) words q in
+    let r : State = with_result q.faulted d.faulted assigned d t in
     let fork : Item = next_action (actions.forks kid) 0 s in
     let last : Item = next_action actions.ends 0 e in
     let join : Item = next_action (actions.joins kid) words q in
@@ -235,15 +235,15 @@ record Treed (c : Setting) (shape : Shape) (s t : State) : Type 0 where
 
 -- the Join of two threads that no fault ended
 sound_taking : (x y : Bool) (assigned : Name → Bool) (d t : State) → x ≡ false → y ≡ false → t.faulted ≡ false
-    → State.faulted (taking x y assigned d t) ≡ false
+    → State.faulted (with_result x y assigned d t) ≡ false
 sound_taking x y assigned d t ex ey et =
-    ap (λ v. State.faulted (taking v y assigned d t)) ex ∙ ap (λ v. State.faulted (taking false v assigned d t)) ey ∙ et
+    ap (λ v. State.faulted (with_result v y assigned d t)) ex ∙ ap (λ v. State.faulted (with_result false v assigned d t)) ey ∙ et
 
 no_words : (x y : Bool) (d q : State) → x ≡ false → y ≡ false → given_back x y d q ≡ 0
 no_words x y d q ex ey = ap (λ v. given_back v y d q) ex ∙ ap (λ v. given_back false v d q) ey
 
-treed : (c : Setting) (shape : Shape) (s : State) → s.faulted ≡ false → Treed c shape s (running_tree c shape s)
-unfolding running_tree forking joining joined ended acting
+treed : (c : Setting) (shape : Shape) (s : State) → s.faulted ≡ false → Treed c shape s (run_tree c shape s)
+unfolding run_tree fork_join own_part_then_join joined ended with_action
 treed c leaf s sound = record {
   label = refl;
   sound = sound;
@@ -255,15 +255,15 @@ treed c leaf s sound = record {
 treed c (forked child own) s sound =
     let kid : ℕ = suc s.forks in
     let k : State = child_of c no_name s in
-    let w : Treed c child k (running_tree c child k) = treed c child k refl in
-    let e : State = running_tree c child k in
+    let w : Treed c child k (run_tree c child k) = treed c child k refl in
+    let e : State = run_tree c child k in
     let d : State = ended e in
     let p : State = parent_of no_name d.items s in
-    let b : Treed c own p (running_tree c own p) = treed c own p sound in
-    let q : State = running_tree c own p in
+    let b : Treed c own p (run_tree c own p) = treed c own p sound in
+    let q : State = run_tree c own p in
     let words : ℕ = given_back q.faulted d.faulted d q in
-    let t : State = acting (actions.joins kid) words q in
-    let r : State = taking q.faulted d.faulted no_name d t in
+    let t : State = with_action (actions.joins kid) words q in
+    let r : State = with_result q.faulted d.faulted no_name d t in
     let fork : Item = next_action (actions.forks kid) 0 s in
     let last : Item = next_action actions.ends 0 e in
     let join : Item = next_action (actions.joins kid) words q in
@@ -304,12 +304,12 @@ treed c (forked child own) s sound =
 
 -- an allocation with its tree
 built_delayed : (c : Setting) (b : Bool) (words : ℕ) (s : State) → nat_le words c.quota ≡ b → s.faulted ≡ false
-    → Built c s (acting actions.allocates words (delaying b c words s))
-unfolding acting
+    → Built c s (with_action actions.allocates words (run_tree_unless b c words s))
+unfolding with_action
 built_delayed c true words s is sound = built_acting c actions.allocates words s (leb-true words c.quota is)
 built_delayed c false words s is sound =
     let shape : Shape = tree_for c.quota words in
-    let t : State = running_tree c shape s in
+    let t : State = run_tree c shape s in
     let r : Treed c shape s t = treed c shape s sound in
     let alloc : Item = next_action actions.allocates words t in
     record {
@@ -330,88 +330,88 @@ built_delayed c false words s is sound =
           subst B (sym (r.point o)) (subst A list total);
     }
 
-built_allocating : (c : Setting) (line : ℕ) (b : Name) (o : Option ℕ) (s : State) → s.faulted ≡ false → Built c s (allocating_words c line b o s)
-unfolding delayed
+built_allocating : (c : Setting) (line : ℕ) (b : Name) (o : Option ℕ) (s : State) → s.faulted ≡ false → Built c s (alloc_words c line b o s)
+unfolding run_tree_before
 built_allocating c line b None s sound = built_fault c _ line s
 built_allocating c line b (Some n) s sound =
     let w : ℕ = block_words n in
-    let t : State = acting actions.allocates w (delaying (nat_le w c.quota) c w s) in
-    built_trans c s t (allocating_words c line b (Some n) s) (built_delayed c (nat_le w c.quota) w s refl sound) (built_storing c _ t)
+    let t : State = with_action actions.allocates w (run_tree_unless (nat_le w c.quota) c w s) in
+    built_trans c s t (alloc_words c line b (Some n) s) (built_delayed c (nat_le w c.quota) w s refl sound) (built_storing c _ t)
 
 -- ---- statements
 
 BuiltAll : Setting → (Body → State → State) → Type 0
 BuiltAll c more = (b : Body) (s : State) → Built c s (more b s)
 
-built_putting_at : (c : Setting) (line : ℕ) (b : Name) (v : ℤ) (o : Option ℕ) (s : State) → Built c s (putting_at line b v o s)
+built_putting_at : (c : Setting) (line : ℕ) (b : Name) (v : ℤ) (o : Option ℕ) (s : State) → Built c s (put_in_place line b v o s)
 built_putting_at c line b v None s = built_fault c _ line s
 built_putting_at c line b v (Some i) s = built_storing c _ s
 
-built_putting_value : (c : Setting) (line : ℕ) (b : Name) (e : Expr) (i : ℤ) (s : State) → Built c s (putting_value line b e i s)
-built_putting_value c line b e i s = built_settled c line (value s.store e) (putting line b i) s (λ v. built_putting_at c line b v _ s)
+built_putting_value : (c : Setting) (line : ℕ) (b : Name) (e : Expr) (i : ℤ) (s : State) → Built c s (put_value line b e i s)
+built_putting_value c line b e i s = built_settled c line (value s.store e) (put_number line b i) s (λ v. built_putting_at c line b v _ s)
 
-built_freeing : (c : Setting) (b : Name) (s : State) → Built c s (freeing b s)
+built_freeing : (c : Setting) (b : Name) (s : State) → Built c s (free_block b s)
 built_freeing c b s =
     let w : ℕ = block_words (length (block_of s.store.blocks b)) in
-    let t : State = acting actions.releases w s in
-    built_trans c s t (freeing b s) (built_acting c actions.releases w s tt) (built_storing c _ t)
+    let t : State = with_action actions.releases w s in
+    built_trans c s t (free_block b s) (built_acting c actions.releases w s tt) (built_storing c _ t)
 
 built_splitting_at : (c : Setting) (line : ℕ) (b l r : Name) (body : State → State) (o : Option ℕ) (s : State)
-    → ((t : State) → Built c t (body t)) → Built c s (splitting_at line b l r body o s)
+    → ((t : State) → Built c t (body t)) → Built c s (split_in_place line b l r body o s)
 built_splitting_at c line b l r body None s k = built_fault c _ line s
 built_splitting_at c line b l r body (Some at) s k =
-    let f : State → State = storing (Run.rejoining b l r) in
-    let t : State = storing (Run.cutting b l r at) s in
-    built_trans c s t (splitting_at line b l r body (Some at) s) (built_storing c _ s)
+    let f : State → State = on_store (Run.rejoin_block b l r) in
+    let t : State = on_store (Run.cut_block b l r at) s in
+    built_trans c s t (split_in_place line b l r body (Some at) s) (built_storing c _ s)
     (built_trans c t (body t) (unless_faulted f (body t)) (k t) (built_unless c f (body t) (λ sound. built_storing c _ (body t))))
 
-built_closing : (c : Setting) (callers : List Store) (params : List Param) (args : List Arg) (t : Target) (a : Answer) (s : State) → Built c s (closing callers params args t a s)
+built_closing : (c : Setting) (callers : List Store) (params : List Param) (args : List Arg) (t : Target) (a : Answer) (s : State) → Built c s (end_call callers params args t a s)
 built_closing c [] params args t a s = built_same c s
-built_closing c (caller ∷ callers) params args t a s = built_quiet c s (closing (caller ∷ callers) params args t a s) refl refl refl refl
+built_closing c (caller ∷ callers) params args t a s = built_quiet c s (end_call (caller ∷ callers) params args t a s) refl refl refl refl
 
 built_returned : (c : Setting) (params : List Param) (args : List Arg) (t : Target) (a : Answer) (s : State) → Built c s (returned params args t a s)
 unfolding returned
 built_returned c params args t a s = built_closing c s.callers params args t a s
 
 built_answering_value : (c : Setting) (line : ℕ) (r : RetValue) (next : Answer → State → State) (s : State)
-    → ((a : Answer) (st : Store) → Built c (record s { store = st }) (next a (record s { store = st }))) → Built c s (answering_value line r next s)
-built_answering_value c line (gives e) next s k = built_settled c line (value s.store e) (giving next) s (λ v. k (Calls.number v) s.store)
+    → ((a : Answer) (st : Store) → Built c (record s { store = st }) (next a (record s { store = st }))) → Built c s (with_return line r next s)
+built_answering_value c line (gives e) next s k = built_settled c line (value s.store e) (as_number next) s (λ v. k (Calls.number v) s.store)
 built_answering_value c line (hands b) next s k =
-    let st : Store = Rattle.depth_first_run.specs.Stores.dropping b s.store in let t : State = record s { store = st } in
-    built_trans c s t (answering_value line (hands b) next s) (built_storing c st s) (k _ st)
+    let st : Store = Rattle.depth_first_run.specs.Stores.drop_block b s.store in let t : State = record s { store = st } in
+    built_trans c s t (with_return line (hands b) next s) (built_storing c st s) (k _ st)
 
 built_answering : (c : Setting) (r : Option Ret) (next : Answer → State → State) (s : State)
-    → ((a : Answer) (st : Store) → Built c (record s { store = st }) (next a (record s { store = st }))) → Built c s (answering r next s)
-unfolding answering
+    → ((a : Answer) (st : Store) → Built c (record s { store = st }) (next a (record s { store = st }))) → Built c s (with_answer r next s)
+unfolding with_answer
 built_answering c None next s k = k _ s.store
 built_answering c (Some r) next s k = built_answering_value c r.line r.value next s k
 
 built_running_body : (c : Setting) (more : Body → State → State) → BuiltAll c more → (t : Target) (args : List Arg) (g : Func) (h : Passing) (s : State)
-    → Built c s (running_body more t args g h s)
+    → Built c s (run_callee more t args g h s)
 unfolding BuiltAll
 built_running_body c more k t args g h s =
     let u : State = entered h s in let v : State = more g.body u in
-    let f : State → State = answering g.ret (returned g.params args t) in
-    built_trans c s u (running_body more t args g h s) (built_quiet c s u refl refl refl refl)
+    let f : State → State = with_answer g.ret (returned g.params args t) in
+    built_trans c s u (run_callee more t args g h s) (built_quiet c s u refl refl refl refl)
     (built_trans c u v (unless_faulted f v) (k g.body u)
     (built_unless c f v (λ sound. built_answering c g.ret (returned g.params args t) v (λ a st. built_returned c g.params args t a (record v { store = st })))))
 
 built_calling_with : (c : Setting) (more : Body → State → State) → BuiltAll c more → (line : ℕ) (t : Target) (args : List Arg) (g : Func)
-    (r : Result Passing FaultKind) (s : State) → Built c s (calling_with c more line t args g r s)
+    (r : Result Passing FaultKind) (s : State) → Built c s (call_with c more line t args g r s)
 built_calling_with c more k line t args g (Ok h) s =
-    built_with_depth c s.calls c.most_calls line (with_turn line (running_body more t args g h)) s
-    (built_with_turn c line (running_body more t args g h) s (λ left. built_running_body c more k t args g h (record s { turns = left })))
+    built_with_depth c s.calls c.most_calls line (with_turn line (run_callee more t args g h)) s
+    (built_with_turn c line (run_callee more t args g h) s (λ left. built_running_body c more k t args g h (record s { turns = left })))
 built_calling_with c more k line t args g (Err kind) s = built_fault c kind line s
 
 built_calling : (c : Setting) (more : Body → State → State) → BuiltAll c more → (line : ℕ) (t : Target) (args : List Arg)
-    (o : Option Func) (s : State) → Built c s (calling c more line t args o s)
+    (o : Option Func) (s : State) → Built c s (call_function c more line t args o s)
 built_calling c more k line t args None s = built_same c s
 built_calling c more k line t args (Some g) s = built_calling_with c more k line t args g (all_passed s.store g.params args) s
 
 built_repeat : (c : Setting) (line : ℕ) (body again : State → State) (v : ℤ) (s : State) → ((t : State) → Built c t (body t)) → ((t : State) → Built c t (again t))
-    → Built c s (choosing_by (with_turn line (one_round body again)) staying v s)
+    → Built c s (branch_on (with_turn line (one_round body again)) unchanged v s)
 built_repeat c line body again v s b a =
-    built_branching c (is_true v) (with_turn line (one_round body again)) staying s
+    built_branching c (is_true v) (with_turn line (one_round body again)) unchanged s
     (built_with_turn c line (one_round body again) s (λ left.
     let t : State = record s { turns = left } in
     built_trans c t (body t) (one_round body again t) (b t) (built_unless c again (body t) (λ sound. a (body t)))))
@@ -421,35 +421,35 @@ mutual
   unfolding exec exec_all BuiltAll
 
   built_exec : (c : Setting) (more : Body → State → State) → BuiltAll c more → (line : ℕ) (stmt : Stmt) (s : State) → s.faulted ≡ false → Built c s (exec c more line stmt s)
-  built_exec c more k line (declare x e) s sound = built_settled c line (value s.store e) (Run.setting_integer x) s (λ v. built_storing c _ s)
-  built_exec c more k line (assign x e) s sound = built_settled c line (value s.store e) (Run.setting_integer x) s (λ v. built_storing c _ s)
-  built_exec c more k line (store b i e) s sound = built_settled c line (value s.store i) (putting_value line b e) s (λ v. built_putting_value c line b e v s)
-  built_exec c more k line (allocate b e) s sound =
-      built_settled c line (value s.store e) (allocating c line b) s (λ v. built_allocating c line b (size_of v) s sound)
-  built_exec c more k line (release b) s sound = built_freeing c b s
-  built_exec c more k line (choose e a b) s sound =
-      built_settled c line (value s.store e) (choosing_by (exec_all c more a) (exec_all c more b)) s
+  built_exec c more k line (let_stmt x e) s sound = built_settled c line (value s.store e) (Run.set_integer x) s (λ v. built_storing c _ s)
+  built_exec c more k line (assign_stmt x e) s sound = built_settled c line (value s.store e) (Run.set_integer x) s (λ v. built_storing c _ s)
+  built_exec c more k line (put_stmt b i e) s sound = built_settled c line (value s.store i) (put_value line b e) s (λ v. built_putting_value c line b e v s)
+  built_exec c more k line (alloc_stmt b e) s sound =
+      built_settled c line (value s.store e) (alloc_block c line b) s (λ v. built_allocating c line b (size_of v) s sound)
+  built_exec c more k line (free_stmt b) s sound = built_freeing c b s
+  built_exec c more k line (if_stmt e a b) s sound =
+      built_settled c line (value s.store e) (branch_on (exec_all c more a) (exec_all c more b)) s
       (λ v. built_branching c (is_true v) (exec_all c more a) (exec_all c more b) s (built_exec_all c more k a s) (built_exec_all c more k b s))
-  built_exec c more k line (repeat e a) s sound =
-      built_settled c line (value s.store e) (choosing_by (with_turn line (one_round (exec_all c more a) (more (step line (repeat e a) done)))) staying) s
-      (λ v. built_repeat c line (exec_all c more a) (more (step line (repeat e a) done)) v s (built_exec_all c more k a) (k (step line (repeat e a) done)))
-  built_exec c more k line (call t f args) s sound = built_calling c more k line t args (function_of c.program f) s
-  built_exec c more k line (print e) s sound = built_settled c line (value s.store e) printing s (λ v. built_printed c v s)
-  built_exec c more k line (both a b) s sound =
-      built_with_depth c (length s.label) c.most_forks line (forking c (names_in a) (assigns_in a) (exec_all c more a) (exec_all c more b)) s
+  built_exec c more k line (while_stmt e a) s sound =
+      built_settled c line (value s.store e) (branch_on (with_turn line (one_round (exec_all c more a) (more (step line (while_stmt e a) done)))) unchanged) s
+      (λ v. built_repeat c line (exec_all c more a) (more (step line (while_stmt e a) done)) v s (built_exec_all c more k a) (k (step line (while_stmt e a) done)))
+  built_exec c more k line (call_stmt t f args) s sound = built_calling c more k line t args (function_of c.program f) s
+  built_exec c more k line (print_stmt e) s sound = built_settled c line (value s.store e) print_number s (λ v. built_printed c v s)
+  built_exec c more k line (par_stmt a b) s sound =
+      built_with_depth c (length s.label) c.most_forks line (fork_join c (names_in a) (assigns_in a) (exec_all c more a) (exec_all c more b)) s
       (built_forking c (names_in a) (assigns_in a) (exec_all c more a) (exec_all c more b) s
       (built_exec_all c more k a (child_of c (names_in a) s))
       (λ items. built_exec_all c more k b (parent_of (names_in a) items s)))
-  built_exec c more k line (split b e l r a) s sound =
-      built_settled c line (value s.store e) (splitting line b l r (exec_all c more a)) s
+  built_exec c more k line (split_stmt b e l r a) s sound =
+      built_settled c line (value s.store e) (split_block line b l r (exec_all c more a)) s
       (λ v. built_splitting_at c line b l r (exec_all c more a) (cut_of (block_of s.store.blocks b) v) s (built_exec_all c more k a))
 
   built_exec_all : (c : Setting) (more : Body → State → State) → BuiltAll c more → (b : Body) (s : State) → Built c s (exec_all c more b s)
   built_exec_all c more k done s = built_same c s
   built_exec_all c more k (step line stmt rest) s =
-      let f : State → State = beginning line (exec c more line stmt) in
+      let f : State → State = begin_statement line (exec c more line stmt) in
       let t : State = unless_faulted f s in
-      let u : State = noting (States.began line) s in
+      let u : State = with_item (States.began line) s in
       built_trans c s t (exec_all c more rest t)
       (built_unless c f s (λ sound. built_trans c s u (f s) (built_began c line s) (built_exec c more k line stmt u sound)))
       (built_exec_all c more k rest t)
@@ -463,20 +463,20 @@ built_run : (c : Setting) → BuiltAll c (run c)
 unfolding run BuiltAll
 built_run c = λ b s. built_within c (suc (Run.room c s)) b s
 
-built_main : (c : Setting) (o : Option Func) → Built c (opening c) (main_run c o (opening c))
+built_main : (c : Setting) (o : Option Func) → Built c (root_start c) (main_run c o (root_start c))
 unfolding BuiltAll
-built_main c None = built_same c (opening c)
+built_main c None = built_same c (root_start c)
 built_main c (Some g) =
-    let t : State = run c g.body (opening c) in
-    built_trans c (opening c) t (main_run c (Some g) (opening c)) (built_run c g.body (opening c))
-    (built_unless c (answering g.ret dropping_answer) t (λ sound. built_answering c g.ret dropping_answer t (λ a st. built_same c (record t { store = st }))))
+    let t : State = run c g.body (root_start c) in
+    built_trans c (root_start c) t (main_run c (Some g) (root_start c)) (built_run c g.body (root_start c))
+    (built_unless c (with_answer g.ret ignore_answer) t (λ sound. built_answering c g.ret ignore_answer t (λ a st. built_same c (record t { store = st }))))
 
 -- the actions of the whole run are a depth-first list
 pub whole_is_depth_first : (c : Setting) → IsDepthFirst c.quota (actions_of (State.items (whole c)))
-unfolding whole ended acting
+unfolding whole ended with_action
 whole_is_depth_first c =
-    let e : State = main_run c (function_of c.program main_name) (opening c) in
-    let b : Built c (opening c) e = built_main c (function_of c.program main_name) in
+    let e : State = main_run c (function_of c.program main_name) (root_start c) in
+    let b : Built c (root_start c) e = built_main c (function_of c.program main_name) in
     let last : Item = next_action actions.ends 0 e in
     record {
       last = point_of [] e;

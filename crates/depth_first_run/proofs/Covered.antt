@@ -9,17 +9,17 @@ use Rattle.dummy_tree.specs.Shapes.{Shape, leaf, forked}
 use Rattle.depth_first_list.specs.Actions as actions
 use Rattle.depth_first_list.specs.Actions.{Action, Deed, weight, weight_of, live_words}
 use Rattle.depth_first_list.specs.Runs.{tree_for}
-use Rattle.par_tree.specs.Tree.{Name, Expr, Target, Arg, Param, Stmt, declare, assign, store, allocate, release, choose, repeat, call, print, both, split, Body, done, step, Func, Ret, RetValue, gives, hands}
+use Rattle.par_tree.specs.Tree.{Name, Expr, Target, Arg, Param, Stmt, let_stmt, assign_stmt, put_stmt, alloc_stmt, free_stmt, if_stmt, while_stmt, call_stmt, print_stmt, par_stmt, split_stmt, Body, done, step, Func, Ret, RetValue, gives, hands}
 use Rattle.par_ownership.specs.Ownership.{function_of, main_name}
 use Rattle.depth_first_run.specs.Stores
-use Rattle.depth_first_run.specs.Stores.{Store, block_of, block_words, held_words, stored_words, holding, dropping}
+use Rattle.depth_first_run.specs.Stores.{Store, block_of, block_words, held_words, stored_words, hold_block, drop_block}
 use Rattle.depth_first_run.specs.Values.{Outcome, value, is_true}
 use Rattle.depth_first_run.specs.States
-use Rattle.depth_first_run.specs.States.{Setting, State, Item, noting, acting, faulting, choosing, unless_faulted, settled, turning, with_turn, limiting, with_depth, child_of, parent_of, ended, given_back, taking, joined, joining, forking, next_action, holdings}
+use Rattle.depth_first_run.specs.States.{Setting, State, Item, with_item, with_action, with_fault, skip_if, unless_faulted, with_number, with_turns, with_turn, under_limit, with_depth, child_of, parent_of, ended, given_back, with_result, joined, own_part_then_join, fork_join, next_action, holdings}
 use Rattle.depth_first_run.specs.Calls
-use Rattle.depth_first_run.specs.Calls.{Passing, all_passed, entered, Answer, closing, returned, answering, answering_value, giving, lent_back, answered}
+use Rattle.depth_first_run.specs.Calls.{Passing, all_passed, entered, Answer, end_call, returned, with_answer, with_return, as_number, lent_back, answered}
 use Rattle.depth_first_run.specs.Run
-use Rattle.depth_first_run.specs.Run.{storing, putting_at, putting, putting_value, printing, names_in, assigns_in, no_name, running_tree, delaying, delayed, size_of, allocating_words, allocating, freeing, branching, choosing_by, staying, one_round, cut_of, splitting_at, splitting, running_body, calling_with, calling, beginning, exec, exec_all, within, run, main_run, dropping_answer, opening, whole, actions_of}
+use Rattle.depth_first_run.specs.Run.{on_store, put_in_place, put_number, put_value, print_number, names_in, assigns_in, no_name, run_tree, run_tree_unless, run_tree_before, size_of, alloc_words, alloc_block, free_block, branch, branch_on, unchanged, one_round, cut_of, split_in_place, split_block, run_callee, call_with, call_function, begin_statement, exec, exec_all, within, run, main_run, ignore_answer, root_start, whole, actions_of}
 use Rattle.depth_first_run.proofs.Words.{cut_words, joined_words, without_words, held_append, with_words, replaced_words, parted_words, both_words, passed_words, passes_same, PassesWords, lent_back_words, answer_words, answered_words}
 
 -- ---- lists of actions that a budget of words covers
@@ -150,15 +150,15 @@ sound_giving s t words a new i is w le = sound_act s t a new i is (first (holdin
     second : (m n k : ℕ) (z : ℤ) → z ≡ neg_ℤ (pos k) → m + k ≤ n → pos m ≤ℤ (pos n +ℤ z)
     second m n k z e le = omega (arith, ints, le)
 
-sound_fault : (kind : FaultKind) (line : ℕ) (s : State) → Sound s (faulting kind line s)
-unfolding faulting acting
+sound_fault : (kind : FaultKind) (line : ℕ) (s : State) → Sound s (with_fault kind line s)
+unfolding with_fault with_action
 sound_fault kind line s =
     let words : ℕ = holdings s in
     let mark : Item = States.failed (record { kind = kind; line = line }) in
-    sound_giving s (faulting kind line s) words (record { label = s.label; index = s.done; deed = actions.faults; words = words })
+    sound_giving s (with_fault kind line s) words (record { label = s.label; index = s.done; deed = actions.faults; words = words })
     (next_action actions.faults words s ∷ mark ∷ []) (append_assoc s.items (next_action actions.faults words s ∷ []) (mark ∷ [])) refl refl (omega arith)
 
-sound_noting : (item : Item) (s : State) → actions_of (item ∷ []) ≡ [] → Sound s (noting item s)
+sound_noting : (item : Item) (s : State) → actions_of (item ∷ []) ≡ [] → Sound s (with_item item s)
 unfolding Covered
 sound_noting item s none = record {
   new = item ∷ [];
@@ -176,7 +176,7 @@ sound_storing st s le = sound_quiet s (record s { store = st }) refl (omega (ari
 
 -- ---- the combinators
 
-sound_choosing : (b : Bool) (f : State → State) (s : State) → Sound s (f s) → Sound s (choosing b f s)
+sound_choosing : (b : Bool) (f : State → State) (s : State) → Sound s (f s) → Sound s (skip_if b f s)
 sound_choosing true f s k = sound_same s
 sound_choosing false f s k = k
 
@@ -184,13 +184,13 @@ sound_unless : (f : State → State) (s : State) → Sound s (f s) → Sound s (
 unfolding unless_faulted
 sound_unless f s k = sound_choosing s.faulted f s k
 
-sound_settled : (line : ℕ) (o : Outcome) (f : ℤ → State → State) (s : State) → ((v : ℤ) → Sound s (f v s)) → Sound s (settled line o f s)
-unfolding settled
+sound_settled : (line : ℕ) (o : Outcome) (f : ℤ → State → State) (s : State) → ((v : ℤ) → Sound s (f v s)) → Sound s (with_number line o f s)
+unfolding with_number
 sound_settled line (Ok v) f s k = k v
 sound_settled line (Err kind) f s k = sound_fault kind line s
 
 sound_turning : (n line : ℕ) (f : State → State) (s : State) → ((left : ℕ) → Sound (record s { turns = left }) (f (record s { turns = left })))
-    → Sound s (turning n line f s)
+    → Sound s (with_turns n line f s)
 sound_turning zero line f s k = sound_fault _ line s
 sound_turning (suc left) line f s k =
     let t : State = record s { turns = left } in sound_trans s t (f t) (sound_quiet s t refl (omega arith)) (k left)
@@ -200,7 +200,7 @@ sound_with_turn : (line : ℕ) (f : State → State) (s : State) → ((left : �
 unfolding with_turn
 sound_with_turn line f s k = sound_turning s.turns line f s k
 
-sound_limiting : (b : Bool) (line : ℕ) (f : State → State) (s : State) → Sound s (f s) → Sound s (limiting b line f s)
+sound_limiting : (b : Bool) (line : ℕ) (f : State → State) (s : State) → Sound s (f s) → Sound s (under_limit b line f s)
 sound_limiting true line f s k = k
 sound_limiting false line f s k = sound_fault _ line s
 
@@ -208,20 +208,20 @@ sound_with_depth : (depth most line : ℕ) (f : State → State) (s : State) →
 unfolding with_depth
 sound_with_depth depth most line f s k = sound_limiting (nat_lt depth most) line f s k
 
-sound_branching : (b : Bool) (f g : State → State) (s : State) → Sound s (f s) → Sound s (g s) → Sound s (branching f g b s)
+sound_branching : (b : Bool) (f g : State → State) (s : State) → Sound s (f s) → Sound s (g s) → Sound s (branch f g b s)
 sound_branching true f g s p q = p
 sound_branching false f g s p q = q
 
 -- ---- a Fork: what the parent keeps and what the child has are what the parent had
 
-pub taking_items : (p q : Bool) (assigned : Name → Bool) (d t : State) → State.items (taking p q assigned d t) ≡ t.items
+pub taking_items : (p q : Bool) (assigned : Name → Bool) (d t : State) → State.items (with_result p q assigned d t) ≡ t.items
 taking_items true q assigned d t = refl
 taking_items false true assigned d t = refl
 taking_items false false assigned d t = refl
 
 -- behind the Join the thread has what it and the child had, less what was given back
 taking_words : (p q : Bool) (assigned : Name → Bool) (d t u : State) → t.store ≡ u.store → t.callers ≡ u.callers
-    → holdings (taking p q assigned d t) + given_back p q d u ≤ holdings u + held_words d.store.blocks
+    → holdings (with_result p q assigned d t) + given_back p q d u ≤ holdings u + held_words d.store.blocks
 taking_words true q assigned d t u es ec =
     let e : holdings t ≡ holdings u = ap (λ (st : Store). held_words st.blocks + stored_words t.callers) es ∙ ap (λ cs. held_words u.store.blocks + stored_words cs) ec in
     omega (arith, e)
@@ -234,8 +234,8 @@ taking_words false false assigned d t u es ec =
 sound_forking : (c : Setting) (named assigned : Name → Bool) (work own : State → State) (s : State)
     → Sound (child_of c named s) (work (child_of c named s))
     → ((items : List Item) → Sound (parent_of named items s) (own (parent_of named items s)))
-    → Sound s (forking c named assigned work own s)
-unfolding forking joining joined ended acting Covered
+    → Sound s (fork_join c named assigned work own s)
+unfolding fork_join own_part_then_join joined ended with_action Covered
 sound_forking c named assigned work own s w sound_own =
     let kid : ℕ = suc s.forks in
     let k : State = child_of c named s in
@@ -245,8 +245,8 @@ sound_forking c named assigned work own s w sound_own =
     let q : State = own p in
     let b : Sound p q = sound_own d.items in
     let words : ℕ = given_back q.faulted d.faulted d q in
-    let t : State = acting (actions.joins kid) words q in
-    let r : State = taking q.faulted d.faulted assigned d t in
+    let t : State = with_action (actions.joins kid) words q in
+    let r : State = with_result q.faulted d.faulted assigned d t in
     let fork : Item = next_action (actions.forks kid) 0 s in
     let last : Item = next_action actions.ends 0 e in
     let join : Item = next_action (actions.joins kid) words q in
@@ -314,23 +314,23 @@ sound_forking c named assigned work own s w sound_own =
         → pos e ≤ℤ (pos k +ℤ l) → pos q ≤ℤ (pos p +ℤ m) → r + words ≤ q + e → pos r ≤ℤ (pos s +ℤ z)
     at_last s k p e q r words l m z t is h g le = omega (arith, ints, is, le)
 
-sound_tree : (c : Setting) (shape : Shape) (s : State) → Sound s (running_tree c shape s)
-unfolding running_tree acting
-sound_tree c leaf s = sound_light s (running_tree c leaf s) (next_action actions.dummy 0 s) (record { label = s.label; index = s.done; deed = actions.dummy; words = 0 }) refl refl refl (omega arith)
+sound_tree : (c : Setting) (shape : Shape) (s : State) → Sound s (run_tree c shape s)
+unfolding run_tree with_action
+sound_tree c leaf s = sound_light s (run_tree c leaf s) (next_action actions.dummy 0 s) (record { label = s.label; index = s.done; deed = actions.dummy; words = 0 }) refl refl refl (omega arith)
 sound_tree c (forked child own) s =
-    sound_forking c no_name no_name (running_tree c child) (running_tree c own) s (sound_tree c child (child_of c no_name s))
+    sound_forking c no_name no_name (run_tree c child) (run_tree c own) s (sound_tree c child (child_of c no_name s))
     (λ items. sound_tree c own (parent_of no_name items s))
 
 -- ---- statements
 
-sound_delaying : (b : Bool) (c : Setting) (words : ℕ) (s : State) → Sound s (delaying b c words s)
+sound_delaying : (b : Bool) (c : Setting) (words : ℕ) (s : State) → Sound s (run_tree_unless b c words s)
 sound_delaying true c words s = sound_same s
 sound_delaying false c words s = sound_tree c (tree_for c.quota words) s
 
-sound_allocated : (b : Name) (n : ℕ) (s : State) → Sound s (storing (holding b (replicate n (pos 0))) (acting actions.allocates (block_words n) s))
-unfolding acting
+sound_allocated : (b : Name) (n : ℕ) (s : State) → Sound s (on_store (hold_block b (replicate n (pos 0))) (with_action actions.allocates (block_words n) s))
+unfolding with_action
 sound_allocated b n s =
-    let t : State = storing (holding b (replicate n (pos 0))) (acting actions.allocates (block_words n) s) in
+    let t : State = on_store (hold_block b (replicate n (pos 0))) (with_action actions.allocates (block_words n) s) in
     let w = with_words s.store.blocks b (replicate n (pos 0)) in
     let l : block_words (length (replicate n (pos 0))) ≡ block_words n = ap block_words (length-replicate n (pos 0)) in
     let more : holdings t ≡ holdings s + block_words n = omega (arith, w, l) in
@@ -343,40 +343,40 @@ sound_allocated b n s =
     second : (t m k : ℕ) → t ≡ m + k → pos t ≤ℤ (pos m +ℤ pos k)
     second t m k e = omega (arith, ints, e)
 
-sound_allocating : (c : Setting) (line : ℕ) (b : Name) (o : Option ℕ) (s : State) → Sound s (allocating_words c line b o s)
-unfolding delayed
+sound_allocating : (c : Setting) (line : ℕ) (b : Name) (o : Option ℕ) (s : State) → Sound s (alloc_words c line b o s)
+unfolding run_tree_before
 sound_allocating c line b None s = sound_fault _ line s
 sound_allocating c line b (Some n) s =
-    let t : State = delaying (nat_le (block_words n) c.quota) c (block_words n) s in
-    sound_trans s t (allocating_words c line b (Some n) s) (sound_delaying (nat_le (block_words n) c.quota) c (block_words n) s) (sound_allocated b n t)
+    let t : State = run_tree_unless (nat_le (block_words n) c.quota) c (block_words n) s in
+    sound_trans s t (alloc_words c line b (Some n) s) (sound_delaying (nat_le (block_words n) c.quota) c (block_words n) s) (sound_allocated b n t)
 
-sound_freeing : (b : Name) (s : State) → Sound s (freeing b s)
-unfolding acting
+sound_freeing : (b : Name) (s : State) → Sound s (free_block b s)
+unfolding with_action
 sound_freeing b s =
     let n : ℕ = block_words (length (block_of s.store.blocks b)) in
     let w = without_words s.store.blocks b in
-    sound_giving s (freeing b s) n (record { label = s.label; index = s.done; deed = actions.releases; words = n })
+    sound_giving s (free_block b s) n (record { label = s.label; index = s.done; deed = actions.releases; words = n })
     (next_action actions.releases n s ∷ []) refl refl refl (omega (arith, w))
 
-sound_putting_at : (line : ℕ) (b : Name) (v : ℤ) (o : Option ℕ) (s : State) → Sound s (putting_at line b v o s)
+sound_putting_at : (line : ℕ) (b : Name) (v : ℤ) (o : Option ℕ) (s : State) → Sound s (put_in_place line b v o s)
 sound_putting_at line b v None s = sound_fault _ line s
 sound_putting_at line b v (Some i) s =
     let xs : List ℤ = slice_set (block_of s.store.blocks b) i v in
     let w = replaced_words s.store.blocks b xs (length-set (block_of s.store.blocks b) i v) in
-    sound_storing (Stores.writing b xs s.store) s (omega (arith, w))
+    sound_storing (Stores.write_block b xs s.store) s (omega (arith, w))
 
-sound_putting_value : (line : ℕ) (b : Name) (e : Expr) (i : ℤ) (s : State) → Sound s (putting_value line b e i s)
-sound_putting_value line b e i s = sound_settled line (value s.store e) (putting line b i) s (λ v. sound_putting_at line b v _ s)
+sound_putting_value : (line : ℕ) (b : Name) (e : Expr) (i : ℤ) (s : State) → Sound s (put_value line b e i s)
+sound_putting_value line b e i s = sound_settled line (value s.store e) (put_number line b i) s (λ v. sound_putting_at line b v _ s)
 
 -- the words of a cut and of its end
 cutting_words : (b l r : Name) (at q : ℕ) (s : Store) → at ≡ 16 * q → at ≤ length (block_of s.blocks b)
-    → held_words (Run.cutting b l r at s).blocks ≤ held_words s.blocks
+    → held_words (Run.cut_block b l r at s).blocks ≤ held_words s.blocks
 cutting_words b l r at q s whole le =
     let xs : List ℤ = block_of s.blocks b in
-    let t : Store = dropping b s in
+    let t : Store = drop_block b s in
     let d = without_words s.blocks b in
     let w = with_words t.blocks l (take at xs) in
-    let v = with_words (holding l (take at xs) t).blocks r (drop at xs) in
+    let v = with_words (hold_block l (take at xs) t).blocks r (drop at xs) in
     let lt : block_words (length (take at xs)) ≡ block_words at = ap block_words (taken xs le) in
     let ld : block_words (length (drop at xs)) ≡ block_words (length xs - at) = ap block_words (dropped xs) in
     let c = cut_words (length xs) at q whole le in omega (arith, d, w, v, lt, ld, c)
@@ -387,32 +387,32 @@ cutting_words b l r at q s whole le =
     dropped : (xs : List ℤ) → length (drop at xs) ≡ length xs - at
     dropped xs = length-drop at xs
 
-rejoining_words : (b l r : Name) (s : Store) → held_words (Run.rejoining b l r s).blocks ≤ held_words s.blocks
+rejoining_words : (b l r : Name) (s : Store) → held_words (Run.rejoin_block b l r s).blocks ≤ held_words s.blocks
 rejoining_words b l r s =
     let xs : List ℤ = block_of s.blocks l in
-    let t : Store = dropping l s in
+    let t : Store = drop_block l s in
     let ys : List ℤ = block_of t.blocks r in
     let d = without_words s.blocks l in
     let e = without_words t.blocks r in
-    let w = with_words (dropping r t).blocks b (xs ++ ys) in
+    let w = with_words (drop_block r t).blocks b (xs ++ ys) in
     let n : block_words (length (xs ++ ys)) ≡ block_words (length xs + length ys) = ap block_words (length-append xs ys) in
     let j = joined_words (length xs) (length ys) in omega (arith, d, e, w, n, j)
 
 sound_cut : (line : ℕ) (b l r : Name) (body : State → State) (at q : ℕ) (s : State) → at ≡ 16 * q → at ≤ length (block_of s.store.blocks b)
-    → ((t : State) → Sound t (body t)) → Sound s (splitting_at line b l r body (Some at) s)
+    → ((t : State) → Sound t (body t)) → Sound s (split_in_place line b l r body (Some at) s)
 sound_cut line b l r body at q s whole le k =
-    let f : State → State = storing (Run.rejoining b l r) in
-    let t : State = storing (Run.cutting b l r at) s in
+    let f : State → State = on_store (Run.rejoin_block b l r) in
+    let t : State = on_store (Run.cut_block b l r at) s in
     let u : State = body t in
-    sound_trans s t (unless_faulted f u) (sound_storing (Run.cutting b l r at s.store) s (cutting_words b l r at q s.store whole le))
-    (sound_trans t u (unless_faulted f u) (k t) (sound_unless f u (sound_storing (Run.rejoining b l r u.store) u (rejoining_words b l r u.store))))
+    sound_trans s t (unless_faulted f u) (sound_storing (Run.cut_block b l r at s.store) s (cutting_words b l r at q s.store whole le))
+    (sound_trans t u (unless_faulted f u) (k t) (sound_unless f u (sound_storing (Run.rejoin_block b l r u.store) u (rejoining_words b l r u.store))))
 
-sound_splitting : (line : ℕ) (b l r : Name) (body : State → State) (v : ℤ) (s : State) → ((t : State) → Sound t (body t)) → Sound s (splitting line b l r body v s)
+sound_splitting : (line : ℕ) (b l r : Name) (body : State → State) (v : ℤ) (s : State) → ((t : State) → Sound t (body t)) → Sound s (split_block line b l r body v s)
 sound_splitting line b l r body (negsuc n) s k = sound_fault _ line s
 sound_splitting line b l r body (pos n) s k = by (nat_le n (length (block_of s.store.blocks b))) refl (nat_eq (n % 16) 0) refl
   where
     by : (x : Bool) → nat_le n (length (block_of s.store.blocks b)) ≡ x → (y : Bool) → nat_eq (n % 16) 0 ≡ y
-        → Sound s (splitting_at line b l r body (if x && y then Some n else None) s)
+        → Sound s (split_in_place line b l r body (if x && y then Some n else None) s)
     by true le true whole =
         let rest = eqb-true (n % 16) 0 whole in
         sound_cut line b l r body n (n / 16) s (omega (arith, rest)) (leb-true n (length (block_of s.store.blocks b)) le) k
@@ -421,14 +421,14 @@ sound_splitting line b l r body (pos n) s k = by (nat_le n (length (block_of s.s
 
 -- the end of a call
 sound_closing : (callers : List Store) (params : List Param) (args : List Arg) (t : Target) (a : Answer) (s u : State) → callers ≡ s.callers
-    → s.items ≡ u.items → holdings s + answer_words a ≤ holdings u → Sound u (closing callers params args t a s)
+    → s.items ≡ u.items → holdings s + answer_words a ≤ holdings u → Sound u (end_call callers params args t a s)
 sound_closing [] params args t a s u e i le = sound_quiet u s i (omega (arith, le))
 sound_closing (caller ∷ callers) params args t a s u e i le =
     let back : Store = lent_back params args s.store.blocks caller in
     let l = lent_back_words params args s.store.blocks caller in
     let w = answered_words t a back in
     let c : stored_words s.callers ≡ held_words caller.blocks + stored_words callers = ap stored_words (sym e) in
-    sound_quiet u (closing (caller ∷ callers) params args t a s) i (omega (arith, l, w, c, le))
+    sound_quiet u (end_call (caller ∷ callers) params args t a s) i (omega (arith, l, w, c, le))
 
 sound_returned : (params : List Param) (args : List Arg) (t : Target) (a : Answer) (s u : State) → s.items ≡ u.items → holdings s + answer_words a ≤ holdings u
     → Sound u (returned params args t a s)
@@ -436,49 +436,49 @@ unfolding returned
 sound_returned params args t a s u i le = sound_closing s.callers params args t a s u refl i le
 
 sound_answering : (r : Option Ret) (next : Answer → State → State) (s : State)
-    → ((a : Answer) (t : State) → t.items ≡ s.items → holdings t + answer_words a ≤ holdings s → Sound s (next a t)) → Sound s (answering r next s)
-unfolding answering
+    → ((a : Answer) (t : State) → t.items ≡ s.items → holdings t + answer_words a ≤ holdings s → Sound s (next a t)) → Sound s (with_answer r next s)
+unfolding with_answer
 sound_answering None next s k = k _ s refl (omega arith)
 sound_answering (Some r) next s k = by r.value
   where
-    by : (v : RetValue) → Sound s (answering_value r.line v next s)
-    by (gives e) = sound_settled r.line (value s.store e) (giving next) s (λ v. k (Calls.number v) s refl (omega arith))
+    by : (v : RetValue) → Sound s (with_return r.line v next s)
+    by (gives e) = sound_settled r.line (value s.store e) (as_number next) s (λ v. k (Calls.number v) s refl (omega arith))
     by (hands b) =
         let d = without_words s.store.blocks b in
-        k (Calls.items (block_of s.store.blocks b)) (record s { store = dropping b s.store }) refl (omega (arith, d))
+        k (Calls.items (block_of s.store.blocks b)) (record s { store = drop_block b s.store }) refl (omega (arith, d))
 
 SoundAll : (Body → State → State) → Type 0
 SoundAll more = (b : Body) (s : State) → Sound s (more b s)
 
 sound_running_body : (more : Body → State → State) → SoundAll more → (t : Target) (args : List Arg) (g : Func) (h : Passing) (s : State)
-    → both_words h ≡ held_words s.store.blocks → Sound s (running_body more t args g h s)
+    → both_words h ≡ held_words s.store.blocks → Sound s (run_callee more t args g h s)
 unfolding SoundAll
 sound_running_body more k t args g h s e =
     let u : State = entered h s in let v : State = more g.body u in
-    let f : State → State = answering g.ret (returned g.params args t) in
-    sound_trans s u (running_body more t args g h s) (sound_quiet s u refl (omega (arith, e)))
+    let f : State → State = with_answer g.ret (returned g.params args t) in
+    sound_trans s u (run_callee more t args g h s) (sound_quiet s u refl (omega (arith, e)))
     (sound_trans u v (unless_faulted f v) (k g.body u)
     (sound_unless f v (sound_answering g.ret (returned g.params args t) v (λ a w i le. sound_returned g.params args t a w v i le))))
 
 sound_calling_with : (c : Setting) (more : Body → State → State) → SoundAll more → (line : ℕ) (t : Target) (args : List Arg) (g : Func)
-    (r : Result Passing FaultKind) (s : State) → PassesWords (held_words s.store.blocks) r → Sound s (calling_with c more line t args g r s)
+    (r : Result Passing FaultKind) (s : State) → PassesWords (held_words s.store.blocks) r → Sound s (call_with c more line t args g r s)
 unfolding PassesWords
 sound_calling_with c more k line t args g (Ok h) s e =
-    sound_with_depth s.calls c.most_calls line (with_turn line (running_body more t args g h)) s
-    (sound_with_turn line (running_body more t args g h) s (λ left. sound_running_body more k t args g h (record s { turns = left }) e))
+    sound_with_depth s.calls c.most_calls line (with_turn line (run_callee more t args g h)) s
+    (sound_with_turn line (run_callee more t args g h) s (λ left. sound_running_body more k t args g h (record s { turns = left }) e))
 sound_calling_with c more k line t args g (Err kind) s e = sound_fault kind line s
 
 sound_calling : (c : Setting) (more : Body → State → State) → SoundAll more → (line : ℕ) (t : Target) (args : List Arg)
-    (o : Option Func) (s : State) → Sound s (calling c more line t args o s)
+    (o : Option Func) (s : State) → Sound s (call_function c more line t args o s)
 sound_calling c more k line t args None s = sound_same s
 sound_calling c more k line t args (Some g) s =
     sound_calling_with c more k line t args g (all_passed s.store g.params args) s
     (passes_same (omega arith) (all_passed s.store g.params args) (passed_words s.store g.params args (record { callee = Stores.nothing; caller = s.store })))
 
 sound_repeat : (line : ℕ) (body again : State → State) (v : ℤ) (s : State) → ((t : State) → Sound t (body t)) → ((t : State) → Sound t (again t))
-    → Sound s (choosing_by (with_turn line (one_round body again)) staying v s)
+    → Sound s (branch_on (with_turn line (one_round body again)) unchanged v s)
 sound_repeat line body again v s b a =
-    sound_branching (is_true v) (with_turn line (one_round body again)) staying s
+    sound_branching (is_true v) (with_turn line (one_round body again)) unchanged s
     (sound_with_turn line (one_round body again) s (λ left.
     let t : State = record s { turns = left } in
     sound_trans t (body t) (one_round body again t) (b t) (sound_unless again (body t) (a (body t)))))
@@ -488,34 +488,34 @@ mutual
   unfolding exec exec_all SoundAll
 
   sound_exec : (c : Setting) (more : Body → State → State) → SoundAll more → (line : ℕ) (stmt : Stmt) (s : State) → Sound s (exec c more line stmt s)
-  sound_exec c more k line (declare x e) s = sound_settled line (value s.store e) (Run.setting_integer x) s (λ v. sound_storing _ s (omega arith))
-  sound_exec c more k line (assign x e) s = sound_settled line (value s.store e) (Run.setting_integer x) s (λ v. sound_storing _ s (omega arith))
-  sound_exec c more k line (store b i e) s = sound_settled line (value s.store i) (putting_value line b e) s (λ v. sound_putting_value line b e v s)
-  sound_exec c more k line (allocate b e) s = sound_settled line (value s.store e) (allocating c line b) s (λ v. sound_allocating c line b (size_of v) s)
-  sound_exec c more k line (release b) s = sound_freeing b s
-  sound_exec c more k line (choose e a b) s =
-      sound_settled line (value s.store e) (choosing_by (exec_all c more a) (exec_all c more b)) s
+  sound_exec c more k line (let_stmt x e) s = sound_settled line (value s.store e) (Run.set_integer x) s (λ v. sound_storing _ s (omega arith))
+  sound_exec c more k line (assign_stmt x e) s = sound_settled line (value s.store e) (Run.set_integer x) s (λ v. sound_storing _ s (omega arith))
+  sound_exec c more k line (put_stmt b i e) s = sound_settled line (value s.store i) (put_value line b e) s (λ v. sound_putting_value line b e v s)
+  sound_exec c more k line (alloc_stmt b e) s = sound_settled line (value s.store e) (alloc_block c line b) s (λ v. sound_allocating c line b (size_of v) s)
+  sound_exec c more k line (free_stmt b) s = sound_freeing b s
+  sound_exec c more k line (if_stmt e a b) s =
+      sound_settled line (value s.store e) (branch_on (exec_all c more a) (exec_all c more b)) s
       (λ v. sound_branching (is_true v) (exec_all c more a) (exec_all c more b) s (sound_exec_all c more k a s) (sound_exec_all c more k b s))
-  sound_exec c more k line (repeat e a) s =
-      sound_settled line (value s.store e) (choosing_by (with_turn line (one_round (exec_all c more a) (more (step line (repeat e a) done)))) staying) s
-      (λ v. sound_repeat line (exec_all c more a) (more (step line (repeat e a) done)) v s (sound_exec_all c more k a) (k (step line (repeat e a) done)))
-  sound_exec c more k line (call t f args) s = sound_calling c more k line t args (function_of c.program f) s
-  sound_exec c more k line (print e) s = sound_settled line (value s.store e) printing s (λ v. sound_noting (States.printed v) s refl)
-  sound_exec c more k line (both a b) s =
-      sound_with_depth (length s.label) c.most_forks line (forking c (names_in a) (assigns_in a) (exec_all c more a) (exec_all c more b)) s
+  sound_exec c more k line (while_stmt e a) s =
+      sound_settled line (value s.store e) (branch_on (with_turn line (one_round (exec_all c more a) (more (step line (while_stmt e a) done)))) unchanged) s
+      (λ v. sound_repeat line (exec_all c more a) (more (step line (while_stmt e a) done)) v s (sound_exec_all c more k a) (k (step line (while_stmt e a) done)))
+  sound_exec c more k line (call_stmt t f args) s = sound_calling c more k line t args (function_of c.program f) s
+  sound_exec c more k line (print_stmt e) s = sound_settled line (value s.store e) print_number s (λ v. sound_noting (States.printed v) s refl)
+  sound_exec c more k line (par_stmt a b) s =
+      sound_with_depth (length s.label) c.most_forks line (fork_join c (names_in a) (assigns_in a) (exec_all c more a) (exec_all c more b)) s
       (sound_forking c (names_in a) (assigns_in a) (exec_all c more a) (exec_all c more b) s
       (sound_exec_all c more k a (child_of c (names_in a) s))
       (λ items. sound_exec_all c more k b (parent_of (names_in a) items s)))
-  sound_exec c more k line (split b e l r a) s =
-      sound_settled line (value s.store e) (splitting line b l r (exec_all c more a)) s
+  sound_exec c more k line (split_stmt b e l r a) s =
+      sound_settled line (value s.store e) (split_block line b l r (exec_all c more a)) s
       (λ v. sound_splitting line b l r (exec_all c more a) v s (sound_exec_all c more k a))
 
   sound_exec_all : (c : Setting) (more : Body → State → State) → SoundAll more → (b : Body) (s : State) → Sound s (exec_all c more b s)
   sound_exec_all c more k done s = sound_same s
   sound_exec_all c more k (step line stmt rest) s =
-      let f : State → State = beginning line (exec c more line stmt) in
+      let f : State → State = begin_statement line (exec c more line stmt) in
       let t : State = unless_faulted f s in
-      let u : State = noting (States.began line) s in
+      let u : State = with_item (States.began line) s in
       sound_trans s t (exec_all c more rest t)
       (sound_unless f s (sound_trans s u (f s) (sound_noting (States.began line) s refl) (sound_exec c more k line stmt u)))
       (sound_exec_all c more k rest t)
@@ -529,24 +529,24 @@ sound_run : (c : Setting) → SoundAll (run c)
 unfolding run SoundAll
 sound_run c = λ b s. sound_within c (suc (Run.room c s)) b s
 
-sound_main : (c : Setting) (o : Option Func) → Sound (opening c) (main_run c o (opening c))
+sound_main : (c : Setting) (o : Option Func) → Sound (root_start c) (main_run c o (root_start c))
 unfolding SoundAll
-sound_main c None = sound_same (opening c)
+sound_main c None = sound_same (root_start c)
 sound_main c (Some g) =
-    let t : State = run c g.body (opening c) in
-    sound_trans (opening c) t (main_run c (Some g) (opening c)) (sound_run c g.body (opening c))
-    (sound_unless (answering g.ret dropping_answer) t (sound_answering g.ret dropping_answer t (λ a u i le. sound_quiet t u i (omega (arith, le)))))
+    let t : State = run c g.body (root_start c) in
+    sound_trans (root_start c) t (main_run c (Some g) (root_start c)) (sound_run c g.body (root_start c))
+    (sound_unless (with_answer g.ret ignore_answer) t (sound_answering g.ret ignore_answer t (λ a u i le. sound_quiet t u i (omega (arith, le)))))
 
 sound_ended : (s : State) → Sound s (ended s)
-unfolding ended acting
+unfolding ended with_action
 sound_ended s = sound_light s (ended s) (next_action actions.ends 0 s) (record { label = s.label; index = s.done; deed = actions.ends; words = 0 }) refl refl refl (omega arith)
 
 -- live words never fall below 0
 pub never_below : (c : Setting) (n : ℕ) → pos 0 ≤ℤ live_words (take n (actions_of (State.items (whole c))))
 unfolding whole
 never_below c n =
-    let e : State = main_run c (function_of c.program main_name) (opening c) in
-    let s : Sound (opening c) (ended e) = sound_trans (opening c) e (ended e) (sound_main c (function_of c.program main_name)) (sound_ended e) in
+    let e : State = main_run c (function_of c.program main_name) (root_start c) in
+    let s : Sound (root_start c) (ended e) = sound_trans (root_start c) e (ended e) (sound_main c (function_of c.program main_name)) (sound_ended e) in
     let l : live_words (take n (actions_of (State.items (ended e)))) ≡ live_words (take n (actions_of s.new)) = ap (λ is. live_words (take n (actions_of is))) s.grown in
     by (live_words (take n (actions_of (State.items (ended e))))) (live_words (take n (actions_of s.new))) l (covered_prefix (actions_of s.new) (pos 0) n (omega (arith, ints)) s.covered)
   where

@@ -6,9 +6,9 @@ use Rattle.std.proofs.Common.{◌∙◌, ap, arith}
 use Rattle.std.proofs.lemmas.Grind.{div_ceil_times}
 use Rattle.dag_order.specs.declared.fault.FaultKind.{FaultKind}
 use Rattle.par_tree.specs.Tree.{Name, Arg, value, lend, give, Param, Target, unused, integer, block}
-use Rattle.depth_first_run.specs.Stores.{Store, Held, block_of, without, replaced, with_block, holding, those_named, those_not_named, block_words, held_words}
+use Rattle.depth_first_run.specs.Stores.{Store, Held, block_of, without, replaced, with_block, hold_block, those_named, those_not_named, block_words, held_words}
 use Rattle.depth_first_run.specs.Values as values
-use Rattle.depth_first_run.specs.Calls.{Passing, passing_integer, passing_block, passing_value, passed, lent_back, Answer, number, items, answered}
+use Rattle.depth_first_run.specs.Calls.{Passing, pass_integer, pass_block, pass_value, passed, lent_back, Answer, number, items, answered}
 
 -- the words of a block are its numbers, rounded up to whole pieces
 pub words_bounds : (n : ℕ) → (n ≤ block_words n) × (block_words n < n + 16)
@@ -80,7 +80,7 @@ unfoldable pub PassesWords : ℕ → Result Passing FaultKind → Type 0
 PassesWords n (Ok h) = both_words h ≡ n
 PassesWords n (Err kind) = Unit {0}
 
-passing_block_words : (q b : Name) (h : Passing) → both_words (passing_block q b h) ≡ both_words h
+passing_block_words : (q b : Name) (h : Passing) → both_words (pass_block q b h) ≡ both_words h
 passing_block_words q b h =
     let w = with_words h.callee.blocks q (block_of h.caller.blocks b) in let d = without_words h.caller.blocks b in omega (arith, w, d)
 
@@ -90,9 +90,9 @@ passes_same e (Ok k) p = p ∙ e
 passes_same e (Err kind) p = tt
 
 passes_value : (n : ℕ) (q : Name) (o : values.Outcome) (h : Passing) (rest : Passing → Result Passing FaultKind)
-    → ((g : Passing) → both_words g ≡ both_words h → PassesWords n (rest g)) → PassesWords n (passing_value q o h rest)
+    → ((g : Passing) → both_words g ≡ both_words h → PassesWords n (rest g)) → PassesWords n (pass_value q o h rest)
 unfolding PassesWords
-passes_value n q (Ok v) h rest p = p (passing_integer q v h) refl
+passes_value n q (Ok v) h rest p = p (pass_integer q v h) refl
 passes_value n q (Err kind) h rest p = tt
 
 pub passed_words : (s : Store) (qs : List Param) (args : List Arg) (h : Passing) → PassesWords (both_words h) (passed s qs args h)
@@ -103,9 +103,9 @@ passed_words s (q ∷ qs) (value e ∷ args) h =
     passes_value (both_words h) q.name (values.value s e) h (passed s qs args)
     (λ g same. passes_same same (passed s qs args g) (passed_words s qs args g))
 passed_words s (q ∷ qs) (lend b ∷ args) h =
-    let g : Passing = passing_block q.name b h in passes_same (passing_block_words q.name b h) (passed s qs args g) (passed_words s qs args g)
+    let g : Passing = pass_block q.name b h in passes_same (passing_block_words q.name b h) (passed s qs args g) (passed_words s qs args g)
 passed_words s (q ∷ qs) (give b ∷ args) h =
-    let g : Passing = passing_block q.name b h in passes_same (passing_block_words q.name b h) (passed s qs args g) (passed_words s qs args g)
+    let g : Passing = pass_block q.name b h in passes_same (passing_block_words q.name b h) (passed s qs args g) (passed_words s qs args g)
 
 pub passed_ok : (n : ℕ) (h : Passing) → PassesWords n (Ok h) → both_words h ≡ n
 unfolding PassesWords
@@ -119,7 +119,7 @@ lent_back_words [] args callee caller = omega arith
 lent_back_words (q ∷ qs) [] callee caller = omega arith
 lent_back_words (q ∷ qs) (value e ∷ args) callee caller = lent_back_words qs args callee caller
 lent_back_words (q ∷ qs) (lend b ∷ args) callee caller =
-    let r = lent_back_words qs args (without callee q.name) (holding b (block_of callee q.name) caller) in
+    let r = lent_back_words qs args (without callee q.name) (hold_block b (block_of callee q.name) caller) in
     let w = with_words caller.blocks b (block_of callee q.name) in let d = without_words callee q.name in omega (arith, r, w, d)
 lent_back_words (q ∷ qs) (give b ∷ args) callee caller = lent_back_words qs args callee caller
 

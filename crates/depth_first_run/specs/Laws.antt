@@ -6,7 +6,7 @@ use Rattle.par_tree.specs.Tree.{Body}
 use Rattle.par_ownership.specs.Ownership.{function_of, main_name}
 use Rattle.depth_first_run.specs.States.{Setting, State, Item, ended}
 use Rattle.depth_first_run.specs.Run.{exec_all, run, whole, actions_of}
-use Rattle.depth_first_run.specs.Middle.{Frame, Middle, middle, finished, advance, beginning_of, to_come}
+use Rattle.depth_first_run.specs.Middle.{Frame, Middle, middle, finished, advance, run_start, to_come}
 
 -- a run is its own fixed point: where it goes on by itself in loops and calls, nothing changes
 abbrev pub RunIsFixed : Type 0
@@ -14,7 +14,7 @@ RunIsFixed = (c : Setting) (b : Body) (s : State) → run c b s ≡ exec_all c (
 
 -- the whole run is the End of what its beginning comes to
 abbrev pub BeginningComesToTheWhole : Type 0
-BeginningComesToTheWhole = (c : Setting) → whole c ≡ ended (finished c (beginning_of c (function_of c.program main_name)))
+BeginningComesToTheWhole = (c : Setting) → whole c ≡ ended (finished c (run_start c (function_of c.program main_name)))
 
 -- finishing from any point gives what finishing from the point before it gives
 abbrev pub StepsComeToTheSame : Type 0

@@ -7,36 +7,36 @@ use Rattle.dummy_tree.specs.Shapes.{Shape, leaf, forked}
 use Rattle.depth_first_list.specs.Actions as actions
 use Rattle.depth_first_list.specs.Actions.{Action}
 use Rattle.depth_first_list.specs.Runs.{tree_for}
-use Rattle.par_tree.specs.Tree.{Name, Expr, Target, Arg, Stmt, declare, assign, store, allocate, release, choose, repeat, call, print, both, split, Body, done, step, Func}
+use Rattle.par_tree.specs.Tree.{Name, Expr, Target, Arg, Stmt, let_stmt, assign_stmt, put_stmt, alloc_stmt, free_stmt, if_stmt, while_stmt, call_stmt, print_stmt, par_stmt, split_stmt, Body, done, step, Func}
 use Rattle.par_ownership.specs.Mention.{names_in_body, assigns_in_body}
 use Rattle.par_ownership.specs.Ownership.{function_of, main_name}
-use Rattle.depth_first_run.specs.Stores.{Store, nothing, with_integer, block_of, dropping, holding, writing, block_words}
+use Rattle.depth_first_run.specs.Stores.{Store, nothing, with_integer, block_of, drop_block, hold_block, write_block, block_words}
 use Rattle.depth_first_run.specs.Values.{value, is_true, place_in}
-use Rattle.depth_first_run.specs.States.{Setting, State, Item, began, acted, printed, failed, noting, acting, faulting, unless_faulted, settled, with_turn, with_depth, ended, forking}
-use Rattle.depth_first_run.specs.Calls.{Passing, all_passed, entered, Answer, returned, answering}
+use Rattle.depth_first_run.specs.States.{Setting, State, Item, began, acted, printed, failed, with_item, with_action, with_fault, unless_faulted, with_number, with_turn, with_depth, ended, fork_join}
+use Rattle.depth_first_run.specs.Calls.{Passing, all_passed, entered, Answer, returned, with_answer}
 
 -- the thread's store changes
-abbrev pub storing : (Store → Store) → State → State
-storing f s = record s { store = f s.store }
+abbrev pub on_store : (Store → Store) → State → State
+on_store f s = record s { store = f s.store }
 
 -- `let x = e` and `x = e`
-abbrev pub setting_integer : Name → ℤ → State → State
-setting_integer x v s = storing (with_integer x v) s
+abbrev pub set_integer : Name → ℤ → State → State
+set_integer x v s = on_store (with_integer x v) s
 
 -- `b[i] = e`: the place is tested when both are evaluated
-abbrev pub putting_at : ℕ → Name → ℤ → Option ℕ → State → State
-putting_at line b v None s = faulting faults.Index line s
-putting_at line b v (Some i) s = storing (writing b (slice_set (block_of s.store.blocks b) i v)) s
+abbrev pub put_in_place : ℕ → Name → ℤ → Option ℕ → State → State
+put_in_place line b v None s = with_fault faults.Index line s
+put_in_place line b v (Some i) s = on_store (write_block b (slice_set (block_of s.store.blocks b) i v)) s
 
-abbrev pub putting : ℕ → Name → ℤ → ℤ → State → State
-putting line b i v s = putting_at line b v (place_in (block_of s.store.blocks b) i) s
+abbrev pub put_number : ℕ → Name → ℤ → ℤ → State → State
+put_number line b i v s = put_in_place line b v (place_in (block_of s.store.blocks b) i) s
 
-abbrev pub putting_value : ℕ → Name → Expr → ℤ → State → State
-putting_value line b e i s = settled line (value s.store e) (putting line b i) s
+abbrev pub put_value : ℕ → Name → Expr → ℤ → State → State
+put_value line b e i s = with_number line (value s.store e) (put_number line b i) s
 
 -- `print e`
-abbrev pub printing : ℤ → State → State
-printing v s = noting (printed v) s
+abbrev pub print_number : ℤ → State → State
+print_number v s = with_item (printed v) s
 
 -- the names that a branch writes, and the integers that it assigns to
 abbrev pub names_in : Body → Name → Bool
@@ -50,17 +50,17 @@ abbrev pub no_name : Name → Bool
 no_name x = false
 
 -- the tree of dummies before a large allocation: one Dummy; or a Fork of a child that runs a tree, a tree, and the Join
-unfoldable pub running_tree : Setting → Shape → State → State
-running_tree c leaf s = acting actions.dummy 0 s
-running_tree c (forked child own) s = forking c no_name no_name (running_tree c child) (running_tree c own) s
+unfoldable pub run_tree : Setting → Shape → State → State
+run_tree c leaf s = with_action actions.dummy 0 s
+run_tree c (forked child own) s = fork_join c no_name no_name (run_tree c child) (run_tree c own) s
 
-abbrev pub delaying : Bool → Setting → ℕ → State → State
-delaying true c words s = s
-delaying false c words s = running_tree c (tree_for c.quota words) s
+abbrev pub run_tree_unless : Bool → Setting → ℕ → State → State
+run_tree_unless true c words s = s
+run_tree_unless false c words s = run_tree c (tree_for c.quota words) s
 
 -- the quota covers an allocation, or the tree of dummies stands directly before it
-unfoldable pub delayed : Setting → ℕ → State → State
-delayed c words s = delaying (nat_le words c.quota) c words s
+unfoldable pub run_tree_before : Setting → ℕ → State → State
+run_tree_before c words s = run_tree_unless (nat_le words c.quota) c words s
 
 -- the number of words that is asked for: 0 to 1,048,576
 abbrev pub size_of : ℤ → Option ℕ
@@ -68,28 +68,28 @@ size_of (pos n) = if nat_le n 1048576 then Some n else None
 size_of (negsuc n) = None
 
 -- `alloc b = e`: zeros
-abbrev pub allocating_words : Setting → ℕ → Name → Option ℕ → State → State
-allocating_words c line b None s = faulting faults.Size line s
-allocating_words c line b (Some n) s =
-    storing (holding b (replicate n (pos 0))) (acting actions.allocates (block_words n) (delayed c (block_words n) s))
+abbrev pub alloc_words : Setting → ℕ → Name → Option ℕ → State → State
+alloc_words c line b None s = with_fault faults.Size line s
+alloc_words c line b (Some n) s =
+    on_store (hold_block b (replicate n (pos 0))) (with_action actions.allocates (block_words n) (run_tree_before c (block_words n) s))
 
-abbrev pub allocating : Setting → ℕ → Name → ℤ → State → State
-allocating c line b n s = allocating_words c line b (size_of n) s
+abbrev pub alloc_block : Setting → ℕ → Name → ℤ → State → State
+alloc_block c line b n s = alloc_words c line b (size_of n) s
 
 -- `free b`
-abbrev pub freeing : Name → State → State
-freeing b s = storing (dropping b) (acting actions.releases (block_words (length (block_of s.store.blocks b))) s)
+abbrev pub free_block : Name → State → State
+free_block b s = on_store (drop_block b) (with_action actions.releases (block_words (length (block_of s.store.blocks b))) s)
 
 -- `if`, and `while`: where the condition holds the round is a turn, the body runs, and the loop goes on
-abbrev pub branching : (on_true on_false : State → State) → Bool → State → State
-branching on_true on_false true s = on_true s
-branching on_true on_false false s = on_false s
+abbrev pub branch : (on_true on_false : State → State) → Bool → State → State
+branch on_true on_false true s = on_true s
+branch on_true on_false false s = on_false s
 
-abbrev pub choosing_by : (on_true on_false : State → State) → ℤ → State → State
-choosing_by on_true on_false v s = branching on_true on_false (is_true v) s
+abbrev pub branch_on : (on_true on_false : State → State) → ℤ → State → State
+branch_on on_true on_false v s = branch on_true on_false (is_true v) s
 
-abbrev pub staying : State → State
-staying s = s
+abbrev pub unchanged : State → State
+unchanged s = s
 
 abbrev pub one_round : (body again : State → State) → State → State
 one_round body again s = unless_faulted again (body s)
@@ -100,66 +100,66 @@ cut_of items (pos n) = if nat_le n (length items) && nat_eq (n % 16) 0 then Some
 cut_of items (negsuc n) = None
 
 -- inside a `split` its block is gone, and its two parts are held
-abbrev pub cutting : Name → Name → Name → ℕ → Store → Store
-cutting b l r at s =
-    holding r (drop at (block_of s.blocks b)) (holding l (take at (block_of s.blocks b)) (dropping b s))
+abbrev pub cut_block : Name → Name → Name → ℕ → Store → Store
+cut_block b l r at s =
+    hold_block r (drop at (block_of s.blocks b)) (hold_block l (take at (block_of s.blocks b)) (drop_block b s))
 
 -- and behind it the block is the one part followed by the other
-abbrev pub rejoining : Name → Name → Name → Store → Store
-rejoining b l r s = holding b (block_of s.blocks l ++ block_of (dropping l s).blocks r) (dropping r (dropping l s))
+abbrev pub rejoin_block : Name → Name → Name → Store → Store
+rejoin_block b l r s = hold_block b (block_of s.blocks l ++ block_of (drop_block l s).blocks r) (drop_block r (drop_block l s))
 
-abbrev pub splitting_at : ℕ → Name → Name → Name → (body : State → State) → Option ℕ → State → State
-splitting_at line b l r body None s = faulting faults.Split line s
-splitting_at line b l r body (Some at) s = unless_faulted (storing (rejoining b l r)) (body (storing (cutting b l r at) s))
+abbrev pub split_in_place : ℕ → Name → Name → Name → (body : State → State) → Option ℕ → State → State
+split_in_place line b l r body None s = with_fault faults.Split line s
+split_in_place line b l r body (Some at) s = unless_faulted (on_store (rejoin_block b l r)) (body (on_store (cut_block b l r at) s))
 
-abbrev pub splitting : ℕ → Name → Name → Name → (body : State → State) → ℤ → State → State
-splitting line b l r body at s = splitting_at line b l r body (cut_of (block_of s.store.blocks b) at) s
+abbrev pub split_block : ℕ → Name → Name → Name → (body : State → State) → ℤ → State → State
+split_block line b l r body at s = split_in_place line b l r body (cut_of (block_of s.store.blocks b) at) s
 
 -- a call whose arguments are passed: where one more may be open and the thread has a turn left, the body runs on its
 -- parameters, and its end takes the caller's store up again
-abbrev pub running_body : (more : Body → State → State) → Target → List Arg → Func → Passing → State → State
-running_body more t args g h s =
-    unless_faulted (answering g.ret (returned g.params args t)) (more g.body (entered h s))
+abbrev pub run_callee : (more : Body → State → State) → Target → List Arg → Func → Passing → State → State
+run_callee more t args g h s =
+    unless_faulted (with_answer g.ret (returned g.params args t)) (more g.body (entered h s))
 
-abbrev pub opening_call : Setting → (more : Body → State → State) → ℕ → Target → List Arg → Func → Passing → State → State
-opening_call c more line t args g h s =
-    with_depth s.calls c.most_calls line (with_turn line (running_body more t args g h)) s
+abbrev pub open_call : Setting → (more : Body → State → State) → ℕ → Target → List Arg → Func → Passing → State → State
+open_call c more line t args g h s =
+    with_depth s.calls c.most_calls line (with_turn line (run_callee more t args g h)) s
 
-abbrev pub calling_with : Setting → (more : Body → State → State) → ℕ → Target → List Arg → Func → Result Passing FaultKind → State → State
-calling_with c more line t args g (Ok h) s = opening_call c more line t args g h s
-calling_with c more line t args g (Err kind) s = faulting kind line s
+abbrev pub call_with : Setting → (more : Body → State → State) → ℕ → Target → List Arg → Func → Result Passing FaultKind → State → State
+call_with c more line t args g (Ok h) s = open_call c more line t args g h s
+call_with c more line t args g (Err kind) s = with_fault kind line s
 
-abbrev pub calling : Setting → (more : Body → State → State) → ℕ → Target → List Arg → Option Func → State → State
-calling c more line t args None s = s
-calling c more line t args (Some g) s = calling_with c more line t args g (all_passed s.store g.params args) s
+abbrev pub call_function : Setting → (more : Body → State → State) → ℕ → Target → List Arg → Option Func → State → State
+call_function c more line t args None s = s
+call_function c more line t args (Some g) s = call_with c more line t args g (all_passed s.store g.params args) s
 
 -- a statement begins
-abbrev pub beginning : ℕ → (State → State) → State → State
-beginning line f s = f (noting (began line) s)
+abbrev pub begin_statement : ℕ → (State → State) → State → State
+begin_statement line f s = f (with_item (began line) s)
 
 -- A statement with its line, and a list of statements. `more` runs what is no part of the statement: the body of a
 -- function that is called, and a loop again behind its round.
 unfoldable mutual
   pub exec : Setting → (more : Body → State → State) → ℕ → Stmt → State → State
-  exec c more line (declare x e) s = settled line (value s.store e) (setting_integer x) s
-  exec c more line (assign x e) s = settled line (value s.store e) (setting_integer x) s
-  exec c more line (store b i e) s = settled line (value s.store i) (putting_value line b e) s
-  exec c more line (allocate b e) s = settled line (value s.store e) (allocating c line b) s
-  exec c more line (release b) s = freeing b s
-  exec c more line (choose e a b) s = settled line (value s.store e) (choosing_by (exec_all c more a) (exec_all c more b)) s
-  exec c more line (repeat e a) s =
-      settled line (value s.store e)
-      (choosing_by (with_turn line (one_round (exec_all c more a) (more (step line (repeat e a) done)))) staying) s
-  exec c more line (call t f args) s = calling c more line t args (function_of c.program f) s
-  exec c more line (print e) s = settled line (value s.store e) printing s
-  exec c more line (both a b) s =
+  exec c more line (let_stmt x e) s = with_number line (value s.store e) (set_integer x) s
+  exec c more line (assign_stmt x e) s = with_number line (value s.store e) (set_integer x) s
+  exec c more line (put_stmt b i e) s = with_number line (value s.store i) (put_value line b e) s
+  exec c more line (alloc_stmt b e) s = with_number line (value s.store e) (alloc_block c line b) s
+  exec c more line (free_stmt b) s = free_block b s
+  exec c more line (if_stmt e a b) s = with_number line (value s.store e) (branch_on (exec_all c more a) (exec_all c more b)) s
+  exec c more line (while_stmt e a) s =
+      with_number line (value s.store e)
+      (branch_on (with_turn line (one_round (exec_all c more a) (more (step line (while_stmt e a) done)))) unchanged) s
+  exec c more line (call_stmt t f args) s = call_function c more line t args (function_of c.program f) s
+  exec c more line (print_stmt e) s = with_number line (value s.store e) print_number s
+  exec c more line (par_stmt a b) s =
       with_depth (length s.label) c.most_forks line
-      (forking c (names_in a) (assigns_in a) (exec_all c more a) (exec_all c more b)) s
-  exec c more line (split b e l r a) s = settled line (value s.store e) (splitting line b l r (exec_all c more a)) s
+      (fork_join c (names_in a) (assigns_in a) (exec_all c more a) (exec_all c more b)) s
+  exec c more line (split_stmt b e l r a) s = with_number line (value s.store e) (split_block line b l r (exec_all c more a)) s
 
   pub exec_all : Setting → (more : Body → State → State) → Body → State → State
   exec_all c more done s = s
-  exec_all c more (step line stmt rest) s = exec_all c more rest (unless_faulted (beginning line (exec c more line stmt)) s)
+  exec_all c more (step line stmt rest) s = exec_all c more rest (unless_faulted (begin_statement line (exec c more line stmt)) s)
 
 -- What is run is found by turns: each use of `more` costs a turn of its thread, and a fork makes a label longer. So a
 -- run with as many rounds as `room` says never ends for want of rounds.
@@ -175,8 +175,8 @@ unfoldable pub run : Setting → Body → State → State
 run c b s = within c (suc (room c s)) b s
 
 -- the root before its first action: `main` is open
-abbrev pub opening : Setting → State
-opening c = record {
+abbrev pub root_start : Setting → State
+root_start c = record {
   label = [];
   done = 0;
   forks = 0;
@@ -189,16 +189,16 @@ opening c = record {
 }
 
 -- the value of the `return` of `main` is dropped
-abbrev pub dropping_answer : Answer → State → State
-dropping_answer answer s = s
+abbrev pub ignore_answer : Answer → State → State
+ignore_answer answer s = s
 
 abbrev pub main_run : Setting → Option Func → State → State
 main_run c None s = s
-main_run c (Some g) s = unless_faulted (answering g.ret dropping_answer) (run c g.body s)
+main_run c (Some g) s = unless_faulted (with_answer g.ret ignore_answer) (run c g.body s)
 
 -- the depth-first run of the program: what is left when the root has ended
 unfoldable pub whole : Setting → State
-whole c = ended (main_run c (function_of c.program main_name) (opening c))
+whole c = ended (main_run c (function_of c.program main_name) (root_start c))
 
 -- L, the actions in depth-first order
 abbrev pub actions_of : List Item → List Action

@@ -42,16 +42,16 @@ pub record State : Type 0 where
   pub items : List Item
 
 -- one item more
-abbrev pub noting : Item → State → State
-noting item s = record s { items = s.items ++ item ∷ [] }
+abbrev pub with_item : Item → State → State
+with_item item s = record s { items = s.items ++ item ∷ [] }
 
 -- the next action of the thread
 abbrev pub next_action : Deed → ℕ → State → Item
 next_action deed words s = acted record { label = s.label; index = s.done; deed = deed; words = words }
 
 -- it does an action
-unfoldable pub acting : Deed → ℕ → State → State
-acting deed words s = record s { done = suc s.done; items = s.items ++ next_action deed words s ∷ [] }
+unfoldable pub with_action : Deed → ℕ → State → State
+with_action deed words s = record s { done = suc s.done; items = s.items ++ next_action deed words s ∷ [] }
 
 -- the words that the thread holds, in all its open calls
 abbrev pub holdings : State → ℕ
@@ -62,38 +62,38 @@ abbrev pub emptied : State → State
 emptied s = record s { faulted = true; store = nothing; callers = [] }
 
 -- a fault at a line: the action that gives back all that the thread holds, and its mark
-unfoldable pub faulting : FaultKind → ℕ → State → State
-faulting kind line s =
-    emptied (noting (failed (record { kind = kind; line = line })) (acting actions.faults (holdings s) s))
+unfoldable pub with_fault : FaultKind → ℕ → State → State
+with_fault kind line s =
+    emptied (with_item (failed (record { kind = kind; line = line })) (with_action actions.faults (holdings s) s))
 
 -- a thread that no fault has ended goes on; one that a fault ended skips its statements
-abbrev pub choosing : Bool → (State → State) → State → State
-choosing true f s = s
-choosing false f s = f s
+abbrev pub skip_if : Bool → (State → State) → State → State
+skip_if true f s = s
+skip_if false f s = f s
 
 unfoldable pub unless_faulted : (State → State) → State → State
-unless_faulted f s = choosing s.faulted f s
+unless_faulted f s = skip_if s.faulted f s
 
 -- what follows a number, or a fault at the line
-unfoldable pub settled : ℕ → Outcome → (ℤ → State → State) → State → State
-settled line (Ok v) f s = f v s
-settled line (Err kind) f s = faulting kind line s
+unfoldable pub with_number : ℕ → Outcome → (ℤ → State → State) → State → State
+with_number line (Ok v) f s = f v s
+with_number line (Err kind) f s = with_fault kind line s
 
 -- a loop round or a call is a turn, where the thread may have one more
-abbrev pub turning : ℕ → ℕ → (State → State) → State → State
-turning zero line f s = faulting faults.Turns line s
-turning (suc left) line f s = f (record s { turns = left })
+abbrev pub with_turns : ℕ → ℕ → (State → State) → State → State
+with_turns zero line f s = with_fault faults.Turns line s
+with_turns (suc left) line f s = f (record s { turns = left })
 
 unfoldable pub with_turn : ℕ → (State → State) → State → State
-with_turn line f s = turning s.turns line f s
+with_turn line f s = with_turns s.turns line f s
 
 -- what may be done only where a number is below its limit, else the fault Depth
-abbrev pub limiting : Bool → ℕ → (State → State) → State → State
-limiting true line f s = f s
-limiting false line f s = faulting faults.Depth line s
+abbrev pub under_limit : Bool → ℕ → (State → State) → State → State
+under_limit true line f s = f s
+under_limit false line f s = with_fault faults.Depth line s
 
 unfoldable pub with_depth : ℕ → ℕ → ℕ → (State → State) → State → State
-with_depth depth most line f s = limiting (nat_lt depth most) line f s
+with_depth depth most line f s = under_limit (nat_lt depth most) line f s
 
 -- A forked child as it begins: it has copies of the integers, and the blocks whose names pass.
 abbrev pub child_of : Setting → (Name → Bool) → State → State
@@ -120,7 +120,7 @@ parent_of named items s = record s {
 
 -- the last action of a thread
 unfoldable pub ended : State → State
-ended s = acting actions.ends 0 s
+ended s = with_action actions.ends 0 s
 
 -- The words that a Join gives back: those that the child brings to a thread that a fault ended; those of the thread,
 -- where a fault ended the child; else none.
@@ -139,23 +139,23 @@ taken_integers assigned child own x = choice (assigned x)
 
 -- what the thread has behind the Join: the blocks that the child still holds come back, with the integers that its
 -- branch assigned; a thread that a fault ended, or whose child one ended, has nothing
-abbrev pub taking : (parent child : Bool) → (Name → Bool) → State → State → State
-taking true child assigned c s = s
-taking false true assigned c s = emptied s
-taking false false assigned c s = record s {
+abbrev pub with_result : (parent child : Bool) → (Name → Bool) → State → State → State
+with_result true child assigned c s = s
+with_result false true assigned c s = emptied s
+with_result false false assigned c s = record s {
   store = record { integers = taken_integers assigned c.store.integers s.store.integers; blocks = s.store.blocks ++ c.store.blocks };
 }
 
 -- the Join of a child that has ended
 unfoldable pub joined : (Name → Bool) → (child : ℕ) → State → State → State
 joined assigned child c s =
-    taking s.faulted c.faulted assigned c (acting (actions.joins child) (given_back s.faulted c.faulted c s) s)
+    with_result s.faulted c.faulted assigned c (with_action (actions.joins child) (given_back s.faulted c.faulted c s) s)
 
 -- behind the whole run of a child the thread does its own part, and joins the child
-unfoldable pub joining : (named assigned : Name → Bool) → (own : State → State) → State → State → State
-joining named assigned own s c = joined assigned (suc s.forks) c (own (parent_of named c.items s))
+unfoldable pub own_part_then_join : (named assigned : Name → Bool) → (own : State → State) → State → State → State
+own_part_then_join named assigned own s c = joined assigned (suc s.forks) c (own (parent_of named c.items s))
 
 -- A thread forks a child that does its work, does its own part, and then joins the child. Both parts are done, also
 -- where one of them faults.
-unfoldable pub forking : Setting → (named assigned : Name → Bool) → (work own : State → State) → State → State
-forking c named assigned work own s = joining named assigned own s (ended (work (child_of c named s)))
+unfoldable pub fork_join : Setting → (named assigned : Name → Bool) → (work own : State → State) → State → State
+fork_join c named assigned work own s = own_part_then_join named assigned own s (ended (work (child_of c named s)))

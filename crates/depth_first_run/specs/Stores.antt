@@ -48,14 +48,14 @@ abbrev pub with_block : List Held → Name → List ℤ → List Held
 with_block hs b items = hs ++ record { name = b; items = items } ∷ []
 
 -- a block is no longer held; is held from now on; has other numbers
-abbrev pub dropping : Name → Store → Store
-dropping b s = record s { blocks = without s.blocks b }
+abbrev pub drop_block : Name → Store → Store
+drop_block b s = record s { blocks = without s.blocks b }
 
-abbrev pub holding : Name → List ℤ → Store → Store
-holding b items s = record s { blocks = with_block s.blocks b items }
+abbrev pub hold_block : Name → List ℤ → Store → Store
+hold_block b items s = record s { blocks = with_block s.blocks b items }
 
-abbrev pub writing : Name → List ℤ → Store → Store
-writing b items s = record s { blocks = replaced s.blocks b items }
+abbrev pub write_block : Name → List ℤ → Store → Store
+write_block b items s = record s { blocks = replaced s.blocks b items }
 
 -- the blocks whose names pass, and the others
 abbrev pub those_named : (Name → Bool) → List Held → List Held

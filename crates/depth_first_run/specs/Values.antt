@@ -5,7 +5,7 @@ use Rattle.std.specs.Int.{w64, int_wrapping_add, int_wrapping_sub, int_wrapping_
 use Rattle.std.specs.Ordering.{int_eq}
 use Rattle.dag_order.specs.declared.fault.FaultKind.{FaultKind}
 use Rattle.dag_order.specs.declared.fault.FaultKind.TheVariants as faults
-use Rattle.par_tree.specs.Tree.{Expr, number, variable, element, extent, negative, chain, compare, Links, last, link, ChainOp, plus, minus, times, over, modulo, Comparison, equal, unequal, below, at_most, above, at_least}
+use Rattle.par_tree.specs.Tree.{Expr, num, var, get, len_of, neg, chain, cmp, Links, last, link, ChainOp, plus, minus, times, over, modulo, Comparison, equal, unequal, below, at_most, above, at_least}
 use Rattle.depth_first_run.specs.Stores.{Store, block_of}
 
 -- a number, or a fault
@@ -36,13 +36,13 @@ place_in items (pos n) = if nat_le (length items) n then None else Some n
 place_in items (negsuc n) = None
 
 -- the number that stands at a place
-abbrev pub found_at : Option ℤ → Outcome
-found_at (Some v) = Ok v
-found_at None = Err faults.Index
+abbrev pub or_index_fault : Option ℤ → Outcome
+or_index_fault (Some v) = Ok v
+or_index_fault None = Err faults.Index
 
-abbrev pub element_at : List ℤ → ℤ → Outcome
-element_at items (pos n) = found_at (slice_get items n)
-element_at items (negsuc n) = Err faults.Index
+abbrev pub number_at : List ℤ → ℤ → Outcome
+number_at items (pos n) = or_index_fault (slice_get items n)
+number_at items (negsuc n) = Err faults.Index
 
 -- a division, where the divisor is zero or not
 abbrev pub divided : Bool → ℤ → Outcome
@@ -79,13 +79,13 @@ compared op x y = Ok (truth (holds op x y))
 -- an expression over a store, and the rest of a chain behind the number of its front
 unfoldable mutual
   pub value : Store → Expr → Outcome
-  value s (number n) = Ok n
-  value s (variable x) = Ok (s.integers x)
-  value s (element b e) = and_then (value s e) (element_at (block_of s.blocks b))
-  value s (extent b) = Ok (pos (length (block_of s.blocks b)))
-  value s (negative e) = and_then (value s e) negated
+  value s (num n) = Ok n
+  value s (var x) = Ok (s.integers x)
+  value s (get b e) = and_then (value s e) (number_at (block_of s.blocks b))
+  value s (len_of b) = Ok (pos (length (block_of s.blocks b)))
+  value s (neg e) = and_then (value s e) negated
   value s (chain e ls) = and_then (value s e) (chained s ls)
-  value s (compare op l r) = and_both (value s l) (value s r) (compared op)
+  value s (cmp op l r) = and_both (value s l) (value s r) (compared op)
 
   pub chained : Store → Links → ℤ → Outcome
   chained s last v = Ok v

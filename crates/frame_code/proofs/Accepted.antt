@@ -5,7 +5,7 @@ use Rattle.std.specs.Str.{bytes_eq}
 use Rattle.std.proofs.lemmas.Slice.Eq.{bytes_eq-Decides}
 use Rattle.std.proofs.lemmas.List.Folds.{list_any-append}
 use Rattle.par_tree.specs.Tree
-use Rattle.par_tree.specs.Tree.{Name, Expr, number, variable, element, extent, negative, chain, compare, Links, last, link, Target, unused, block, Arg, value, lend, give, Stmt, declare, assign, store, allocate, release, choose, repeat, call, print, both, split, Body, done, step, RetValue, gives, hands, Ret, Func, Program}
+use Rattle.par_tree.specs.Tree.{Name, Expr, num, var, get, len_of, neg, chain, cmp, Links, last, link, Target, unused, block, Arg, value, lend, give, Stmt, let_stmt, assign_stmt, put_stmt, alloc_stmt, free_stmt, if_stmt, while_stmt, call_stmt, print_stmt, par_stmt, split_stmt, Body, done, step, RetValue, gives, hands, Ret, Func, Program}
 use Rattle.par_tree.specs.View.{program_tree}
 use Rattle.par_tree.specs.declared.func.Func.{Func as RustFunc}
 use Rattle.par_tree.specs.declared.program.Program.{Program as RustProgram}
@@ -53,13 +53,13 @@ module _ (names : List Name) where
 
   mutual
     expr_has : (e : Expr) → Knows names (λ x. names_in_expr x e) → HasExpr names e
-    expr_has (number n) k = tt
-    expr_has (variable x) k = k x (itself x)
-    expr_has (element b i) k = (left (λ x. bytes_eq b x) (λ x. names_in_expr x i) k b (itself b), expr_has i (right (λ x. bytes_eq b x) (λ x. names_in_expr x i) k))
-    expr_has (extent b) k = k b (itself b)
-    expr_has (negative e) k = expr_has e k
+    expr_has (num n) k = tt
+    expr_has (var x) k = k x (itself x)
+    expr_has (get b i) k = (left (λ x. bytes_eq b x) (λ x. names_in_expr x i) k b (itself b), expr_has i (right (λ x. bytes_eq b x) (λ x. names_in_expr x i) k))
+    expr_has (len_of b) k = k b (itself b)
+    expr_has (neg e) k = expr_has e k
     expr_has (chain e rest) k = (expr_has e (left (λ x. names_in_expr x e) (λ x. names_in_links x rest) k), links_have rest (right (λ x. names_in_expr x e) (λ x. names_in_links x rest) k))
-    expr_has (compare op l r) k = (expr_has l (left (λ x. names_in_expr x l) (λ x. names_in_expr x r) k), expr_has r (right (λ x. names_in_expr x l) (λ x. names_in_expr x r) k))
+    expr_has (cmp op l r) k = (expr_has l (left (λ x. names_in_expr x l) (λ x. names_in_expr x r) k), expr_has r (right (λ x. names_in_expr x l) (λ x. names_in_expr x r) k))
 
     links_have : (ls : Links) → Knows names (λ x. names_in_links x ls) → HasLinks names ls
     links_have last k = tt
@@ -98,30 +98,30 @@ module _ (names : List Name) where
   -- statements whose names have slots, and whose calls can be done
   mutual
     stmt_has : (p : Program) (s : Stmt) → Knows names (λ x. names_in_stmt x s) → EachCallOfStmt (IsCall p) s → HasStmt (function_names p) names s
-    stmt_has p (declare y e) k c = named_has y e k
-    stmt_has p (assign y e) k c = named_has y e k
-    stmt_has p (store b i e) k c =
+    stmt_has p (let_stmt y e) k c = named_has y e k
+    stmt_has p (assign_stmt y e) k c = named_has y e k
+    stmt_has p (put_stmt b i e) k c =
         let front = named_has b i (left (λ x. bytes_eq b x || names_in_expr x i) (λ x. names_in_expr x e) k) in
         (front.0, front.1, expr_has e (right (λ x. bytes_eq b x || names_in_expr x i) (λ x. names_in_expr x e) k))
-    stmt_has p (allocate b e) k c = named_has b e k
-    stmt_has p (release b) k c = k b (itself b)
-    stmt_has p (choose e a b) k c =
+    stmt_has p (alloc_stmt b e) k c = named_has b e k
+    stmt_has p (free_stmt b) k c = k b (itself b)
+    stmt_has p (if_stmt e a b) k c =
         let arms = right (λ x. names_in_expr x e) (λ x. names_in_body x a || names_in_body x b) k in (
           expr_has e (left (λ x. names_in_expr x e) (λ x. names_in_body x a || names_in_body x b) k),
           body_has p a (left (λ x. names_in_body x a) (λ x. names_in_body x b) arms) c.0,
           body_has p b (right (λ x. names_in_body x a) (λ x. names_in_body x b) arms) c.1,
         )
-    stmt_has p (repeat e a) k c = (expr_has e (left (λ x. names_in_expr x e) (λ x. names_in_body x a) k), body_has p a (right (λ x. names_in_expr x e) (λ x. names_in_body x a) k) c)
-    stmt_has p (call t f args) k c = (
+    stmt_has p (while_stmt e a) k c = (expr_has e (left (λ x. names_in_expr x e) (λ x. names_in_body x a) k), body_has p a (right (λ x. names_in_expr x e) (λ x. names_in_body x a) k) c)
+    stmt_has p (call_stmt t f args) k c = (
       target_has t (left (λ x. names_in_target x t) (λ x. names_in_args x args) k),
       found_has p f c.callee c.found,
       args_have args (right (λ x. names_in_target x t) (λ x. names_in_args x args) k),
     )
-    stmt_has p (print e) k c = expr_has e k
-    stmt_has p (both a b) k c =
+    stmt_has p (print_stmt e) k c = expr_has e k
+    stmt_has p (par_stmt a b) k c =
         let first = left (λ x. names_in_body x a) (λ x. names_in_body x b) k in
         (first, body_has p a first c.0, body_has p b (right (λ x. names_in_body x a) (λ x. names_in_body x b) k) c.1)
-    stmt_has p (split b e l r a) k c =
+    stmt_has p (split_stmt b e l r a) k c =
         let head = left (λ x. bytes_eq b x || names_in_expr x e || bytes_eq l x || bytes_eq r x) (λ x. names_in_body x a) k in
         let parts = left (λ x. bytes_eq b x || names_in_expr x e || bytes_eq l x) (λ x. bytes_eq r x) head in
         let front = named_has b e (left (λ x. bytes_eq b x || names_in_expr x e) (λ x. bytes_eq l x) parts) in (
@@ -168,7 +168,7 @@ added x names (d ∷ ds) h = go (bytes_eq d x) refl h (added x (with_name names 
 
 one_more : (names : List Name) (y : Name) (b : Bool) → length (if b then names else names ++ y ∷ []) ≤ length names + 1
 one_more names y true = omega arith
-one_more names y false = let both = length-append names (y ∷ []) in omega (arith, both)
+one_more names y false = let par_stmt = length-append names (y ∷ []) in omega (arith, par_stmt)
 
 few_slots : (names ds : List Name) → length (with_names names ds) ≤ length names + length ds
 few_slots names [] = omega arith

@@ -32,13 +32,13 @@ use Rattle.frame_code.proofs.Tables.{AsIf-map, AsWhile-map, AsBoth-map, AsSplit-
 
 abbrev mutual
   read_expr : List Name → Plain.Expr → Tree.Expr
-  read_expr names (Plain.number n) = Tree.number n
-  read_expr names (Plain.variable s) = Tree.variable (name_at names s)
-  read_expr names (Plain.element s i) = Tree.element (name_at names s) (read_expr names i)
-  read_expr names (Plain.extent s) = Tree.extent (name_at names s)
-  read_expr names (Plain.negative e) = Tree.negative (read_expr names e)
+  read_expr names (Plain.number n) = Tree.num n
+  read_expr names (Plain.variable s) = Tree.var (name_at names s)
+  read_expr names (Plain.element s i) = Tree.get (name_at names s) (read_expr names i)
+  read_expr names (Plain.extent s) = Tree.len_of (name_at names s)
+  read_expr names (Plain.negative e) = Tree.neg (read_expr names e)
   read_expr names (Plain.chain e rest) = Tree.chain (read_expr names e) (read_links names rest)
-  read_expr names (Plain.compare op l r) = Tree.compare (cmp_op_tree op) (read_expr names l) (read_expr names r)
+  read_expr names (Plain.compare op l r) = Tree.cmp (cmp_op_tree op) (read_expr names l) (read_expr names r)
 
   read_links : List Name → Plain.Links → Tree.Links
   read_links names Plain.last = Tree.last
@@ -62,11 +62,11 @@ mutual
   read_is : (names : List Name) (c : CodeExpr) → expr_read names c ≡ read_expr names (expr_shown c)
   read_is names (Num n) = refl
   read_is names (Var s) = refl
-  read_is names (Get' s p i) = ap (λ x. Tree.element (name_at names s) x) (read_is names i)
+  read_is names (Get' s p i) = ap (λ x. Tree.get (name_at names s) x) (read_is names i)
   read_is names (Len s) = refl
-  read_is names (Neg' p e) = ap (λ x. Tree.negative x) (read_is names e)
+  read_is names (Neg' p e) = ap (λ x. Tree.neg x) (read_is names e)
   read_is names (Chain' p e shape rest) = ap (λ x. Tree.chain x (row_read names rest)) (read_is names e) ∙ ap (λ x. Tree.chain (read_expr names (expr_shown e)) x) (row_is names rest)
-  read_is names (Cmp' op p l q r) = ap (λ x. Tree.compare (cmp_op_tree op) x (expr_read names r)) (read_is names l) ∙ ap (λ x. Tree.compare (cmp_op_tree op) (read_expr names (expr_shown l)) x) (read_is names r)
+  read_is names (Cmp' op p l q r) = ap (λ x. Tree.cmp (cmp_op_tree op) x (expr_read names r)) (read_is names l) ∙ ap (λ x. Tree.cmp (cmp_op_tree op) (read_expr names (expr_shown l)) x) (read_is names r)
 
   row_is : {n : _} (names : List Name) (r : Row_of-CodeLink n) → row_read names r ≡ read_links names (row_shown r)
   row_is names end_of-CodeLink = refl
@@ -294,25 +294,25 @@ module _ (t u : List Node) (alike : nodes_shown t ≡ nodes_shown u) where
   module _ (functions names : List Name) where
     mutual
       stmt_alike : (env : Environment) (line : ℕ) (s : Stmt) (low : ℕ) (a b : NodeKind) → kind_shown a ≡ kind_shown b → IsStmt t functions names env line s low a → IsStmt u functions names env line s low b
-      stmt_alike env line (Tree.declare x e) low a b same h = carried (LetRead names x e) a b (let_same names x e) same h
-      stmt_alike env line (Tree.assign x e) low a b same h = carried (AssignRead names x e) a b (assign_same names x e) same h
-      stmt_alike env line (Tree.store x i e) low a b same h = carried (PutRead names x i e) a b (put_same names x i e) same h
-      stmt_alike env line (Tree.allocate x e) low a b same h = carried (AllocRead names x e) a b (alloc_same names x e) same h
-      stmt_alike env line (Tree.release x) low a b same h = carried (FreeRead names x) a b (free_same names x) same h
-      stmt_alike env line (Tree.choose e x y) low a b same h =
+      stmt_alike env line (Tree.let_stmt x e) low a b same h = carried (LetRead names x e) a b (let_same names x e) same h
+      stmt_alike env line (Tree.assign_stmt x e) low a b same h = carried (AssignRead names x e) a b (assign_same names x e) same h
+      stmt_alike env line (Tree.put_stmt x i e) low a b same h = carried (PutRead names x i e) a b (put_same names x i e) same h
+      stmt_alike env line (Tree.alloc_stmt x e) low a b same h = carried (AllocRead names x e) a b (alloc_same names x e) same h
+      stmt_alike env line (Tree.free_stmt x) low a b same h = carried (FreeRead names x) a b (free_same names x) same h
+      stmt_alike env line (Tree.if_stmt e x y) low a b same h =
           carried (IfRead names e (IsBody u functions names env x low) (IsBody u functions names env y low)) a b (if_same names e (IsBody u functions names env x low) (IsBody u functions names env y low)) same
           (AsIf-map names e (IsBody t functions names env x low) (IsBody t functions names env y low) (IsBody u functions names env x low) (IsBody u functions names env y low) a
           (λ ns q. body_alike env x low ns q) (λ ns q. body_alike env y low ns q) h)
-      stmt_alike env line (Tree.repeat e x) low a b same h =
+      stmt_alike env line (Tree.while_stmt e x) low a b same h =
           carried (WhileRead names e (IsBody u functions names env x low)) a b (while_same names e (IsBody u functions names env x low)) same
           (AsWhile-map names e (IsBody t functions names env x low) (IsBody u functions names env x low) a (λ ns q. body_alike env x low ns q) h)
-      stmt_alike env line (Tree.call v f xs) low a b same h = carried (CallRead names functions v f xs) a b (call_same names functions v f xs) same h
-      stmt_alike env line (Tree.print e) low a b same h = carried (PrintRead names e) a b (print_same names e) same h
-      stmt_alike env line (Tree.both x y) low a b same h =
+      stmt_alike env line (Tree.call_stmt v f xs) low a b same h = carried (CallRead names functions v f xs) a b (call_same names functions v f xs) same h
+      stmt_alike env line (Tree.print_stmt e) low a b same h = carried (PrintRead names e) a b (print_same names e) same h
+      stmt_alike env line (Tree.par_stmt x y) low a b same h =
           carried (BothRead names env x (IsBody u functions names env x low) (IsBody u functions names env y low)) a b (both_same names env x (IsBody u functions names env x low) (IsBody u functions names env y low)) same
           (AsBoth-map names env x (IsBody t functions names env x low) (IsBody t functions names env y low) (IsBody u functions names env x low) (IsBody u functions names env y low) a
           (λ ns q. body_alike env x low ns q) (λ ns q. body_alike env y low ns q) h)
-      stmt_alike env line (Tree.split y e l r x) low a b same h =
+      stmt_alike env line (Tree.split_stmt y e l r x) low a b same h =
           carried (SplitRead names y e l r (IsBody u functions names (split_names env line l r) x low)) a b (split_same names y e l r (IsBody u functions names (split_names env line l r) x low)) same
           (AsSplit-map names y e l r (IsBody t functions names (split_names env line l r) x low) (IsBody u functions names (split_names env line l r) x low) a
           (λ ns q. body_alike (split_names env line l r) x low ns q) h)

@@ -3,7 +3,7 @@ use Rattle.std.proofs.Common.{◌≡◌, Bool, true, false, cond, ◌||◌, ◌&
 use Rattle.std.specs.List.{filter}
 use Rattle.std.specs.Str.{bytes_eq}
 use Rattle.par_tree.specs.Tree
-use Rattle.par_tree.specs.Tree.{Name, Target, unused, block, Stmt, declare, assign, store, allocate, release, choose, repeat, call, print, both, split, Body, done, step}
+use Rattle.par_tree.specs.Tree.{Name, Target, unused, block, Stmt, let_stmt, assign_stmt, put_stmt, alloc_stmt, free_stmt, if_stmt, while_stmt, call_stmt, print_stmt, par_stmt, split_stmt, Body, done, step}
 use Rattle.par_ownership.specs.Environment.{Environment, Entry, is_block}
 use Rattle.par_ownership.specs.Mention.{names_in_expr, names_in_target, names_in_args, names_in_stmt, names_in_body, assigns_in_target, assigns_in_stmt, assigns_in_body}
 use Rattle.block_check.specs.Forks.{names_of, takes_block, assigns_integer}
@@ -36,19 +36,19 @@ assigned_target x (block b) h = never_true h
 
 mutual
   assigned_stmt : (x : Name) (s : Stmt) → assigns_in_stmt x s ≡ true → names_in_stmt x s ≡ true
-  assigned_stmt x (declare y e) h = never_true h
-  assigned_stmt x (assign y e) h = or_l (bytes_eq y x) (names_in_expr x e) h
-  assigned_stmt x (store b i e) h = never_true h
-  assigned_stmt x (allocate b e) h = never_true h
-  assigned_stmt x (release b) h = never_true h
-  assigned_stmt x (choose c a b) h =
+  assigned_stmt x (let_stmt y e) h = never_true h
+  assigned_stmt x (assign_stmt y e) h = or_l (bytes_eq y x) (names_in_expr x e) h
+  assigned_stmt x (put_stmt b i e) h = never_true h
+  assigned_stmt x (alloc_stmt b e) h = never_true h
+  assigned_stmt x (free_stmt b) h = never_true h
+  assigned_stmt x (if_stmt c a b) h =
       or_r (names_in_expr x c) (names_in_body x a || names_in_body x b)
       (or_both (assigns_in_body x a) (assigns_in_body x b) (names_in_body x a) (names_in_body x b) (assigned_body x a) (assigned_body x b) h)
-  assigned_stmt x (repeat c a) h = or_r (names_in_expr x c) (names_in_body x a) (assigned_body x a h)
-  assigned_stmt x (call t f args) h = or_l (names_in_target x t) (names_in_args x args) (assigned_target x t h)
-  assigned_stmt x (print e) h = never_true h
-  assigned_stmt x (both a b) h = or_both (assigns_in_body x a) (assigns_in_body x b) (names_in_body x a) (names_in_body x b) (assigned_body x a) (assigned_body x b) h
-  assigned_stmt x (split b e l r a) h = or_r (bytes_eq b x || names_in_expr x e || bytes_eq l x || bytes_eq r x) (names_in_body x a) (assigned_body x a h)
+  assigned_stmt x (while_stmt c a) h = or_r (names_in_expr x c) (names_in_body x a) (assigned_body x a h)
+  assigned_stmt x (call_stmt t f args) h = or_l (names_in_target x t) (names_in_args x args) (assigned_target x t h)
+  assigned_stmt x (print_stmt e) h = never_true h
+  assigned_stmt x (par_stmt a b) h = or_both (assigns_in_body x a) (assigns_in_body x b) (names_in_body x a) (names_in_body x b) (assigned_body x a) (assigned_body x b) h
+  assigned_stmt x (split_stmt b e l r a) h = or_r (bytes_eq b x || names_in_expr x e || bytes_eq l x || bytes_eq r x) (names_in_body x a) (assigned_body x a h)
 
   assigned_body : (x : Name) (b : Body) → assigns_in_body x b ≡ true → names_in_body x b ≡ true
   assigned_body x done h = never_true h

@@ -41,7 +41,7 @@ chain_is names first rest e ls whole w f l = (
 )
 
 body_of : Tree.Stmt → Tree.Body
-body_of (Tree.repeat e b) = b
+body_of (Tree.while_stmt e b) = b
 body_of _ = Tree.done
 
 pub body_is : (b : Vec Stmt Global) → row_body (hidden-the_row-Stmt-0 b) ≡ body_tree b.items

@@ -1,7 +1,7 @@
 -- Tables that grow, and what stays true in a longer one.
 use Rattle.std.proofs.Common.{◌≡◌, ◌≢◌, ℕ, zero, suc, ◌+◌, ◌<◌, ◌≤◌, List, [], ◌∷◌, ◌++◌, length, set, Some, refl, sym, ap, ◌∙◌, subst, arith, append_assoc, append-nil, length-append, length-set}
 use Rattle.std.specs.Prelude.{slice_get}
-use Rattle.par_tree.specs.Tree.{Name, Expr, Stmt, declare, assign, store, allocate, release, choose, repeat, call, print, both, split, Body, done, step}
+use Rattle.par_tree.specs.Tree.{Name, Expr, Stmt, let_stmt, assign_stmt, put_stmt, alloc_stmt, free_stmt, if_stmt, while_stmt, call_stmt, print_stmt, par_stmt, split_stmt, Body, done, step}
 use Rattle.par_ownership.specs.Environment.{Environment}
 use Rattle.block_check.specs.Forks.{declared_by, split_names}
 use Rattle.frame_code.specs.Table.{AsIf, AsWhile, AsBoth, AsSplit, AsStep, IsStmt, IsBody, Grown}
@@ -87,22 +87,22 @@ AsStep-map t u low less line P P' Q Q' (n ∷ ns) le keeps f g h =
 module _ (functions names : List Name) where
   mutual
     pub stmt_kept : (t u : List Node) (env : Environment) (line : ℕ) (s : Stmt) (low less : ℕ) (kind : NodeKind) → less ≤ low → KeepsFrom low t u → IsStmt t functions names env line s low kind → IsStmt u functions names env line s less kind
-    stmt_kept t u env line (declare x e) low less kind le keeps h = h
-    stmt_kept t u env line (assign x e) low less kind le keeps h = h
-    stmt_kept t u env line (store b i e) low less kind le keeps h = h
-    stmt_kept t u env line (allocate b e) low less kind le keeps h = h
-    stmt_kept t u env line (release b) low less kind le keeps h = h
-    stmt_kept t u env line (choose c a b) low less kind le keeps h =
+    stmt_kept t u env line (let_stmt x e) low less kind le keeps h = h
+    stmt_kept t u env line (assign_stmt x e) low less kind le keeps h = h
+    stmt_kept t u env line (put_stmt b i e) low less kind le keeps h = h
+    stmt_kept t u env line (alloc_stmt b e) low less kind le keeps h = h
+    stmt_kept t u env line (free_stmt b) low less kind le keeps h = h
+    stmt_kept t u env line (if_stmt c a b) low less kind le keeps h =
         AsIf-map names c (IsBody t functions names env a low) (IsBody t functions names env b low) (IsBody u functions names env a less) (IsBody u functions names env b less) kind
         (λ ns p. body_kept t u env a low less ns le keeps p) (λ ns p. body_kept t u env b low less ns le keeps p) h
-    stmt_kept t u env line (repeat c a) low less kind le keeps h =
+    stmt_kept t u env line (while_stmt c a) low less kind le keeps h =
         AsWhile-map names c (IsBody t functions names env a low) (IsBody u functions names env a less) kind (λ ns p. body_kept t u env a low less ns le keeps p) h
-    stmt_kept t u env line (call v f args) low less kind le keeps h = h
-    stmt_kept t u env line (print e) low less kind le keeps h = h
-    stmt_kept t u env line (both a b) low less kind le keeps h =
+    stmt_kept t u env line (call_stmt v f args) low less kind le keeps h = h
+    stmt_kept t u env line (print_stmt e) low less kind le keeps h = h
+    stmt_kept t u env line (par_stmt a b) low less kind le keeps h =
         AsBoth-map names env a (IsBody t functions names env a low) (IsBody t functions names env b low) (IsBody u functions names env a less) (IsBody u functions names env b less) kind
         (λ ns p. body_kept t u env a low less ns le keeps p) (λ ns p. body_kept t u env b low less ns le keeps p) h
-    stmt_kept t u env line (split b e l r a) low less kind le keeps h =
+    stmt_kept t u env line (split_stmt b e l r a) low less kind le keeps h =
         AsSplit-map names b e l r (IsBody t functions names (split_names env line l r) a low) (IsBody u functions names (split_names env line l r) a less) kind
         (λ ns p. body_kept t u (split_names env line l r) a low less ns le keeps p) h
 
@@ -164,7 +164,7 @@ module _ (functions names : List Name) where
       (w.grown, subst (λ v. IsBody now functions names first whole (length start) v) (append-nil numbers) (w.continues now (keeps_same (length start) now) [] tt))
 
   -- an `if`, from its condition and its arms
-  pub if_made : (start one two : List Node) (env : Environment) (line : ℕ) (s : Stmt) (e : Expr) (a b : Body) (c : CodeExpr) (x y : Vec ℕ Global) → s ≡ choose e a b → IsExpr names c e
+  pub if_made : (start one two : List Node) (env : Environment) (line : ℕ) (s : Stmt) (e : Expr) (a b : Body) (c : CodeExpr) (x y : Vec ℕ Global) → s ≡ if_stmt e a b → IsExpr names c e
       → Grown start one × IsBody one functions names env a (length start) x.items → Grown one two × IsBody two functions names env b (length one) y.items
       → Grown start two × IsStmt two functions names env line s (length start) (k.If c x y)
   if_made start one two env line s e a b c x y same cond left right =
@@ -178,7 +178,7 @@ module _ (functions names : List Name) where
       )
 
   -- a `par`, from its branches
-  pub both_made : (start one two : List Node) (env : Environment) (line : ℕ) (s : Stmt) (a b : Body) (sets : Branches) (x y : Vec ℕ Global) → s ≡ both a b → SlotsOfBranches names env a sets
+  pub both_made : (start one two : List Node) (env : Environment) (line : ℕ) (s : Stmt) (a b : Body) (sets : Branches) (x y : Vec ℕ Global) → s ≡ par_stmt a b → SlotsOfBranches names env a sets
       → Grown start one × IsBody one functions names env a (length start) x.items → Grown one two × IsBody two functions names env b (length one) y.items
       → Grown start two × IsStmt two functions names env line s (length start) (k.Both x y sets.blocks sets.assigned)
   both_made start one two env line s a b sets x y same goes left right =

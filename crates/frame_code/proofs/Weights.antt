@@ -3,7 +3,7 @@ use Rattle.std.proofs.Common.{◌≡◌, ℕ, zero, suc, ◌+◌, ◌*◌, ◌<�
 use Rattle.std.specs.declared.vec.Vec.{Vec}
 use Rattle.std.specs.declared.boxed.Box.{Box}
 use Rattle.std.specs.declared.alloc.Global.{Global}
-use Rattle.par_tree.specs.Tree.{Expr, number, variable, element, extent, negative, chain, compare, Links, last, link, Stmt, Body}
+use Rattle.par_tree.specs.Tree.{Expr, num, var, get, len_of, neg, chain, cmp, Links, last, link, Stmt, Body}
 use Rattle.par_tree.specs.View.{expr_tree, links_tree, stmt_tree, body_tree}
 use Rattle.par_tree.specs.declared.expr.Expr.{Expr as RustExpr, Chain}
 use Rattle.par_tree.specs.declared.link.Link.{Link}
@@ -14,13 +14,13 @@ use Rattle.frame_code.proofs.Lists.{drop_item}
 
 abbrev mutual
   pub expr_weight : Expr → ℕ
-  expr_weight (number n) = 1
-  expr_weight (variable x) = 1
-  expr_weight (element b i) = 1 + expr_weight i
-  expr_weight (extent b) = 1
-  expr_weight (negative e) = 1 + expr_weight e
+  expr_weight (num n) = 1
+  expr_weight (var x) = 1
+  expr_weight (get b i) = 1 + expr_weight i
+  expr_weight (len_of b) = 1
+  expr_weight (neg e) = 1 + expr_weight e
   expr_weight (chain e rest) = 1 + (expr_weight e + links_weight rest)
-  expr_weight (compare op l r) = 1 + (expr_weight l + expr_weight r)
+  expr_weight (cmp op l r) = 1 + (expr_weight l + expr_weight r)
 
   pub links_weight : Links → ℕ
   links_weight last = 0

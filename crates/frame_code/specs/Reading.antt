@@ -17,13 +17,13 @@ use Rattle.frame_code.specs.declared.code_ret.CodeRet.{CodeRet}
 -- an expression, and the links of a chain
 abbrev mutual
   pub expr_read : List Tree.Name → CodeExpr → Tree.Expr
-  expr_read names (Num n) = Tree.number n
-  expr_read names (Var s) = Tree.variable (name_at names s)
-  expr_read names (Get' s p i) = Tree.element (name_at names s) (expr_read names i)
-  expr_read names (Len s) = Tree.extent (name_at names s)
-  expr_read names (Neg' p e) = Tree.negative (expr_read names e)
+  expr_read names (Num n) = Tree.num n
+  expr_read names (Var s) = Tree.var (name_at names s)
+  expr_read names (Get' s p i) = Tree.get (name_at names s) (expr_read names i)
+  expr_read names (Len s) = Tree.len_of (name_at names s)
+  expr_read names (Neg' p e) = Tree.neg (expr_read names e)
   expr_read names (Chain' p e shape rest) = Tree.chain (expr_read names e) (row_read names rest)
-  expr_read names (Cmp' op p l q r) = Tree.compare (cmp_op_tree op) (expr_read names l) (expr_read names r)
+  expr_read names (Cmp' op p l q r) = Tree.cmp (cmp_op_tree op) (expr_read names l) (expr_read names r)
 
   pub row_read : {n : _} → List Tree.Name → Row_of-CodeLink n → Tree.Links
   row_read names end_of-CodeLink = Tree.last

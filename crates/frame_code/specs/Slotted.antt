@@ -1,7 +1,7 @@
 -- What can be lowered: each name has a slot, each call has a function, and there are not too many of them.
 use Rattle.std.specs.Prelude.{◌≡◌, ℕ, ◌≤◌, true, List, [], ◌∷◌, length, Option, Some, None}
 use Rattle.par_tree.specs.Tree
-use Rattle.par_tree.specs.Tree.{Name, Expr, number, variable, element, extent, negative, chain, compare, Links, last, link, Target, unused, block, Arg, value, lend, give, Stmt, declare, assign, store, allocate, release, choose, repeat, call, print, both, split, Body, done, step, RetValue, gives, hands, Ret, Func, Program}
+use Rattle.par_tree.specs.Tree.{Name, Expr, num, var, get, len_of, neg, chain, cmp, Links, last, link, Target, unused, block, Arg, value, lend, give, Stmt, let_stmt, assign_stmt, put_stmt, alloc_stmt, free_stmt, if_stmt, while_stmt, call_stmt, print_stmt, par_stmt, split_stmt, Body, done, step, RetValue, gives, hands, Ret, Func, Program}
 use Rattle.par_ownership.specs.Mention.{names_in_body}
 use Rattle.par_ownership.specs.Ownership.{main_name}
 use Rattle.accepted_laws.specs.Written.{is_among, param_names}
@@ -20,13 +20,13 @@ HasAll names (x ∷ xs) = Has names x × HasAll names xs
 -- each name of an expression, of links, of a target, of arguments or of a `return` is among the names
 abbrev mutual
   pub HasExpr : List Name → Expr → Type 0
-  HasExpr names (number n) = Unit {0}
-  HasExpr names (variable x) = Has names x
-  HasExpr names (element b i) = Has names b × HasExpr names i
-  HasExpr names (extent b) = Has names b
-  HasExpr names (negative e) = HasExpr names e
+  HasExpr names (num n) = Unit {0}
+  HasExpr names (var x) = Has names x
+  HasExpr names (get b i) = Has names b × HasExpr names i
+  HasExpr names (len_of b) = Has names b
+  HasExpr names (neg e) = HasExpr names e
   HasExpr names (chain e rest) = HasExpr names e × HasLinks names rest
-  HasExpr names (compare op l r) = HasExpr names l × HasExpr names r
+  HasExpr names (cmp op l r) = HasExpr names l × HasExpr names r
 
   pub HasLinks : List Name → Links → Type 0
   HasLinks names last = Unit {0}
@@ -62,17 +62,17 @@ module _ (functions names : List Name) where
   -- each name of a statement is among the names, and each function that it calls among the functions
   abbrev mutual
     pub HasStmt : Stmt → Type 0
-    HasStmt (declare x e) = Has names x × HasExpr names e
-    HasStmt (assign x e) = Has names x × HasExpr names e
-    HasStmt (store b i e) = Has names b × HasExpr names i × HasExpr names e
-    HasStmt (allocate b e) = Has names b × HasExpr names e
-    HasStmt (release b) = Has names b
-    HasStmt (choose c a b) = HasExpr names c × HasBody a × HasBody b
-    HasStmt (repeat c a) = HasExpr names c × HasBody a
-    HasStmt (call t f args) = HasTarget names t × Has functions f × HasArgs names args
-    HasStmt (print e) = HasExpr names e
-    HasStmt (both a b) = Covers names a × HasBody a × HasBody b
-    HasStmt (split b e l r a) = Has names b × HasExpr names e × Has names l × Has names r × HasBody a
+    HasStmt (let_stmt x e) = Has names x × HasExpr names e
+    HasStmt (assign_stmt x e) = Has names x × HasExpr names e
+    HasStmt (put_stmt b i e) = Has names b × HasExpr names i × HasExpr names e
+    HasStmt (alloc_stmt b e) = Has names b × HasExpr names e
+    HasStmt (free_stmt b) = Has names b
+    HasStmt (if_stmt c a b) = HasExpr names c × HasBody a × HasBody b
+    HasStmt (while_stmt c a) = HasExpr names c × HasBody a
+    HasStmt (call_stmt t f args) = HasTarget names t × Has functions f × HasArgs names args
+    HasStmt (print_stmt e) = HasExpr names e
+    HasStmt (par_stmt a b) = Covers names a × HasBody a × HasBody b
+    HasStmt (split_stmt b e l r a) = Has names b × HasExpr names e × Has names l × Has names r × HasBody a
 
     pub HasBody : Body → Type 0
     HasBody done = Unit {0}

@@ -1,6 +1,6 @@
 -- The node table as a program: which node is which statement, and which numbers are a list of them.
 use Rattle.std.specs.Prelude.{◌≡◌, ℕ, ◌+◌, ◌≤◌, List, [], ◌∷◌, length, slice_get, Some}
-use Rattle.par_tree.specs.Tree.{Name, Expr, Target, Arg, Stmt, declare, assign, store, allocate, release, choose, repeat, call, print, both, split, Body, done, step}
+use Rattle.par_tree.specs.Tree.{Name, Expr, Target, Arg, Stmt, let_stmt, assign_stmt, put_stmt, alloc_stmt, free_stmt, if_stmt, while_stmt, call_stmt, print_stmt, par_stmt, split_stmt, Body, done, step}
 use Rattle.par_ownership.specs.Environment.{Environment}
 use Rattle.block_check.specs.Forks.{declared_by, split_names, names_of, takes_block, assigns_integer}
 use Rattle.frame_code.specs.Names.{IsSlot}
@@ -75,17 +75,17 @@ module _ (t : List Node) (functions names : List Name) where
   -- numbers, none below low, are these statements.
   abbrev mutual
     pub IsStmt : Environment → ℕ → Stmt → ℕ → NodeKind → Type 0
-    IsStmt env line (declare x e) low = AsLet names x e
-    IsStmt env line (assign x e) low = AsAssign names x e
-    IsStmt env line (store b i e) low = AsPut names b i e
-    IsStmt env line (allocate b e) low = AsAlloc names b e
-    IsStmt env line (release b) low = AsFree names b
-    IsStmt env line (choose c a b) low = AsIf names c (IsBody env a low) (IsBody env b low)
-    IsStmt env line (repeat c a) low = AsWhile names c (IsBody env a low)
-    IsStmt env line (call u f args) low = AsCall functions names u f args
-    IsStmt env line (print e) low = AsPrint names e
-    IsStmt env line (both a b) low = AsBoth names env a (IsBody env a low) (IsBody env b low)
-    IsStmt env line (split b e l r a) low = AsSplit names b e l r (IsBody (split_names env line l r) a low)
+    IsStmt env line (let_stmt x e) low = AsLet names x e
+    IsStmt env line (assign_stmt x e) low = AsAssign names x e
+    IsStmt env line (put_stmt b i e) low = AsPut names b i e
+    IsStmt env line (alloc_stmt b e) low = AsAlloc names b e
+    IsStmt env line (free_stmt b) low = AsFree names b
+    IsStmt env line (if_stmt c a b) low = AsIf names c (IsBody env a low) (IsBody env b low)
+    IsStmt env line (while_stmt c a) low = AsWhile names c (IsBody env a low)
+    IsStmt env line (call_stmt u f args) low = AsCall functions names u f args
+    IsStmt env line (print_stmt e) low = AsPrint names e
+    IsStmt env line (par_stmt a b) low = AsBoth names env a (IsBody env a low) (IsBody env b low)
+    IsStmt env line (split_stmt b e l r a) low = AsSplit names b e l r (IsBody (split_names env line l r) a low)
 
     pub IsBody : Environment → Body → ℕ → List ℕ → Type 0
     IsBody env done low = IsNone

@@ -5,19 +5,19 @@ use Rattle.std.specs.List.{list_all}
 use Rattle.std.proofs.Common.{sym, ◌∙◌, ap, arith, subst}
 use Rattle.std.proofs.lemmas.Int.{ints}
 use Rattle.dag_order.specs.declared.fault.FaultKind.{FaultKind}
-use Rattle.par_tree.specs.Tree.{Name, Expr, Program, Arg, Param, Target, unused, integer, block, Func, Ret, RetValue, gives, hands, call, Body}
+use Rattle.par_tree.specs.Tree.{Name, Expr, Program, Arg, Param, Target, unused, integer, block, Func, Ret, RetValue, gives, hands, call_stmt, Body}
 use Rattle.par_ownership.specs.Environment as environments
 use Rattle.par_ownership.specs.Environment.{Environment, block_entry, with_entry, after_gives, after_answer, is_released}
 use Rattle.par_ownership.specs.Mention.{names_in_args, names_in_target, names_in_stmt, names_in_body}
 use Rattle.par_ownership.specs.Ownership.{IsTarget, IsOwned, Passes, OwnsAll, OwnsReturn, OwnsValue, OwnsFunction, OwnsFunctions, hands_back, takes_answer, function_of}
 use Rattle.depth_first_run.specs.Stores
-use Rattle.depth_first_run.specs.Stores.{Store, block_of, block_words, held_words, stored_words, dropping, without, holding}
+use Rattle.depth_first_run.specs.Stores.{Store, block_of, block_words, held_words, stored_words, drop_block, without, hold_block}
 use Rattle.depth_first_run.specs.Values.{value, Outcome}
 use Rattle.depth_first_run.specs.States
-use Rattle.depth_first_run.specs.States.{Setting, State, settled, unless_faulted, holdings}
+use Rattle.depth_first_run.specs.States.{Setting, State, with_number, unless_faulted, holdings}
 use Rattle.depth_first_run.specs.Calls
-use Rattle.depth_first_run.specs.Calls.{Passing, all_passed, entered, Answer, closing, returned, answering, answering_value, giving, lent_back, answered}
-use Rattle.depth_first_run.specs.Run.{running_body, calling_with, calling, room, run}
+use Rattle.depth_first_run.specs.Calls.{Passing, all_passed, entered, Answer, end_call, returned, with_answer, with_return, as_number, lent_back, answered}
+use Rattle.depth_first_run.specs.Run.{run_callee, call_with, call_function, room, run}
 use Rattle.depth_first_run.proofs.Words.{without_words, with_words, answer_words, PassesWords, passed_words, passes_same, both_words}
 use Rattle.depth_first_run.proofs.Fixed.{room_fewer}
 use Rattle.ownership_laws.specs.Counts.{hit, count, held_in, seen_in, lent_in, held_entry, lent_entry_of}
@@ -103,9 +103,9 @@ target_new env (block b) x i s = hit_other b x (differs env b x (fresh_unseen en
 -- ---- the end of a call
 
 returned_is : (params : List Param) (args : List Arg) (t : Target) (a : Answer) (v : State) (caller : Store) (callers : List Store) → v.callers ≡ caller ∷ callers
-    → returned params args t a v ≡ closing (caller ∷ callers) params args t a v
+    → returned params args t a v ≡ end_call (caller ∷ callers) params args t a v
 unfolding returned
-returned_is params args t a v caller callers e = ap (λ cs. closing cs params args t a v) e
+returned_is params args t a v caller callers e = ap (λ cs. end_call cs params args t a v) e
 
 -- what the call was made with
 record Made (env : Environment) (params : List Param) (args : List Arg) (t : Target) (h : Passing) (s : State) : Type 0 where
@@ -127,7 +127,7 @@ ran_returned : (env : Environment) (line : ℕ) (params : List Param) (args : Li
     → (pos (holdings v + answer_words a) +ℤ live s.items) ≡ (pos (holdings s) +ℤ live v.items)
     → Ran env (after_answer (after_gives env args) t line) s (returned params args t a v)
 ran_returned env line params args t a h s v m l f e =
-    let w : State = closing (h.caller ∷ s.callers) params args t a v in
+    let w : State = end_call (h.caller ∷ s.callers) params args t a v in
     let back : Store = lent_back params args v.store.blocks h.caller in
     let after : Environment = after_answer (after_gives env args) t line in
     let x1 = lent_back_exact env [] params args v.store.blocks h.caller m.passes l.few in
@@ -173,8 +173,8 @@ lent_at_most_one env x = lent_most env x
 ran_answering : (p : Program) (env : Environment) (line : ℕ) (g : Func) (args : List Arg) (t : Target) (h : Passing) (s v : State) (start end after : Environment)
     → Made env g.params args t h s → Body_ends p g args start end → takes_answer t (hands_back g.ret) ≡ true → OwnsReturn g.ret end after → list_all is_released after ≡ true
     → Exact s v → Moved start end (entered h s) v
-    → Ran env (after_answer (after_gives env args) t line) s (answering g.ret (returned g.params args t) v)
-unfolding answering settled
+    → Ran env (after_answer (after_gives env args) t line) s (with_answer g.ret (returned g.params args t) v)
+unfolding with_answer with_number
 ran_answering p env line g args t h s v start end after m b takes owns released e w = by g.ret takes owns
   where
     -- the counts behind the body are those of its last environment
@@ -220,9 +220,9 @@ ran_answering p env line g args t h s v start end after m b takes owns released 
 
     -- a block is handed over
     block_end : (c : Name) → takes_answer t true ≡ true → IsOwned end c → list_all is_released (environments.without end c) ≡ true
-        → Ran env (after_answer (after_gives env args) t line) s (returned g.params args t (Calls.items (block_of v.store.blocks c)) (record v { store = dropping c v.store }))
+        → Ran env (after_answer (after_gives env args) t line) s (returned g.params args t (Calls.items (block_of v.store.blocks c)) (record v { store = drop_block c v.store }))
     block_end c tk own rel =
-        let u : State = record v { store = dropping c v.store } in
+        let u : State = record v { store = drop_block c v.store } in
         let xs : List ℤ = block_of v.store.blocks c in
         let o = owned_block end c own in
         let o0 = o.0 in let o1 = o.1 in
@@ -255,28 +255,28 @@ ran_answering p env line g args t h s v start end after m b takes owns released 
         handed a d b x y i e = omega (arith, ints, i)
 
     by_value : (l : ℕ) (r : RetValue) → takes_answer t (hands_back (Some (record { line = l; value = r }))) ≡ true → OwnsValue r end after
-        → Ran env (after_answer (after_gives env args) t line) s (answering_value l r (returned g.params args t) v)
+        → Ran env (after_answer (after_gives env args) t line) s (with_return l r (returned g.params args t) v)
     by_value l (gives x) tk own =
         ran_settled_from l x (λ z. number_end z tk (subst (λ (n : Environment). list_all is_released n ≡ true) own.1 released))
       where
         ran_settled_from : (l : ℕ) (x : Expr) → ((z : ℤ) → Ran env (after_answer (after_gives env args) t line) s (returned g.params args t (Calls.number z) v))
-            → Ran env (after_answer (after_gives env args) t line) s (answering_value l (gives x) (returned g.params args t) v)
+            → Ran env (after_answer (after_gives env args) t line) s (with_return l (gives x) (returned g.params args t) v)
         ran_settled_from l x k = settled_here (value v.store x)
           where
-            settled_here : (o : Outcome) → Ran env (after_answer (after_gives env args) t line) s (settled l o (giving (returned g.params args t)) v)
+            settled_here : (o : Outcome) → Ran env (after_answer (after_gives env args) t line) s (with_number l o (as_number (returned g.params args t)) v)
             settled_here (Ok z) = k z
             settled_here (Err kind) = let f = ran_fault env (after_answer (after_gives env args) t line) kind l v in
-                record { exact = exact_trans s v (States.faulting kind l v) e f.exact; way = stopped (stops kind l v) }
+                record { exact = exact_trans s v (States.with_fault kind l v) e f.exact; way = stopped (stops kind l v) }
     by_value l (hands c) tk own = block_end c tk own.0 (subst (λ (n : Environment). list_all is_released n ≡ true) own.1 released)
 
-    by : (r : Option Ret) → takes_answer t (hands_back r) ≡ true → OwnsReturn r end after → Ran env (after_answer (after_gives env args) t line) s (answering r (returned g.params args t) v)
+    by : (r : Option Ret) → takes_answer t (hands_back r) ≡ true → OwnsReturn r end after → Ran env (after_answer (after_gives env args) t line) s (with_answer r (returned g.params args t) v)
     by None tk own = number_end (pos 0) tk (subst (λ (n : Environment). list_all is_released n ≡ true) own released)
     by (Some r) tk own = by_value r.line r.value tk own
 
 -- the body of a function and its end
 ran_body : (c : Setting) (n : ℕ) → Good c n → (env : Environment) (line : ℕ) (g : Func) (args : List Arg) (t : Target) (h : Passing) (s : State)
     → room c s < n → s.faulted ≡ false → Made env g.params args t h s → both_words h ≡ held_words s.store.blocks → takes_answer t (hands_back g.ret) ≡ true → OwnsFunction c.program g
-    → Ran env (after_answer (after_gives env args) t line) s (running_body (run c) t args g h s)
+    → Ran env (after_answer (after_gives env args) t line) s (run_callee (run c) t args g h s)
 unfolding Good Agrees
 ran_body c n good env line g args t h s less f m words takes owns =
     let start : Environment = owns.0 in let end : Environment = owns.2.0 in let after : Environment = owns.2.2.0 in
@@ -293,21 +293,21 @@ ran_body c n good env line g args t h s less f m words takes owns =
     by v r.way same b
   where
     by : (v : State) → Way owns.0 owns.2.0 (entered h s) v → Exact s v → Body_ends c.program g args owns.0 owns.2.0
-        → Ran env (after_answer (after_gives env args) t line) s (unless_faulted (answering g.ret (returned g.params args t)) v)
-    by v (stopped k) e b = subst (λ w. Ran env (after_answer (after_gives env args) t line) s w) (sym (unless_stopped (answering g.ret (returned g.params args t)) v k.faulted)) (record { exact = e; way = stopped k })
-    by v (went w) e b = subst (λ w. Ran env (after_answer (after_gives env args) t line) s w) (sym (unless_running (answering g.ret (returned g.params args t)) v w.running))
+        → Ran env (after_answer (after_gives env args) t line) s (unless_faulted (with_answer g.ret (returned g.params args t)) v)
+    by v (stopped k) e b = subst (λ w. Ran env (after_answer (after_gives env args) t line) s w) (sym (unless_stopped (with_answer g.ret (returned g.params args t)) v k.faulted)) (record { exact = e; way = stopped k })
+    by v (went w) e b = subst (λ w. Ran env (after_answer (after_gives env args) t line) s w) (sym (unless_running (with_answer g.ret (returned g.params args t)) v w.running))
         (ran_answering c.program env line g args t h s v owns.0 owns.2.0 owns.2.2.0 m b takes owns.2.2.1 owns.2.2.2 e w)
 
 ran_calling_with : (c : Setting) (env : Environment) (line : ℕ) (g : Func) (args : List Arg) (t : Target) (r : Result Passing FaultKind) (s : State) → Good c (room c s)
     → s.faulted ≡ false → IsTarget env t → Passes env [] g.params args → Apart g.params args
     → PassedWell g.params args (record { callee = Stores.nothing; caller = s.store }) r → PassesWords (held_words s.store.blocks) r
     → takes_answer t (hands_back g.ret) ≡ true → OwnsFunction c.program g
-    → Ran env (after_answer (after_gives env args) t line) s (calling_with c (run c) line t args g r s)
+    → Ran env (after_answer (after_gives env args) t line) s (call_with c (run c) line t args g r s)
 unfolding PassedWell PassesWords
 ran_calling_with c env line g args t (Err kind) s good f target passes apart well words takes owns = ran_fault env (after_answer (after_gives env args) t line) kind line s
 ran_calling_with c env line g args t (Ok h) s good f target passes apart well words takes owns =
-    ran_with_depth env (after_answer (after_gives env args) t line) s.calls c.most_calls line (States.with_turn line (running_body (run c) t args g h)) s
-    (λ below. ran_with_turn env (after_answer (after_gives env args) t line) line (running_body (run c) t args g h) s
+    ran_with_depth env (after_answer (after_gives env args) t line) s.calls c.most_calls line (States.with_turn line (run_callee (run c) t args g h)) s
+    (λ below. ran_with_turn env (after_answer (after_gives env args) t line) line (run_callee (run c) t args g h) s
     (λ left is.
     let u : State = record s { turns = left } in
     ran_body c (room c s) good env line g args t h u (room_fewer c s left is) f
@@ -318,8 +318,8 @@ zero_plus n = omega arith
 
 pub ran_calling : (c : Setting) (env : Environment) (line : ℕ) (t : Target) (f : Name) (args : List Arg) (g : Func) (s : State) → Good c (room c s) → OwnsFunctions c.program c.program
     → s.faulted ≡ false → IsTarget env t → function_of c.program f ≡ Some g → takes_answer t (hands_back g.ret) ≡ true → Passes env [] g.params args
-    → Agrees (λ x. names_in_stmt x (call t f args)) env s.store
-    → Ran env (after_answer (after_gives env args) t line) s (calling c (run c) line t args (function_of c.program f) s)
+    → Agrees (λ x. names_in_stmt x (call_stmt t f args)) env s.store
+    → Ran env (after_answer (after_gives env args) t line) s (call_function c (run c) line t args (function_of c.program f) s)
 unfolding Agrees Ready NewNames
 ran_calling c env line t f args g s good all running target is takes passes agrees =
     let h : Passing = record { callee = Stores.nothing; caller = s.store } in
@@ -330,5 +330,5 @@ ran_calling c env line t f args g s good all running target is takes passes agre
     passed_well s.store env [] g.params args h passes apart
     (λ x b held n. agrees x (or_right (names_in_target x t) (names_in_args x args) n) ∙ held) (λ y le. none_counted y) in
     let words : PassesWords (held_words s.store.blocks) r = passes_same (zero_plus (held_words s.store.blocks)) r (passed_words s.store g.params args h) in
-    subst (λ o. Ran env (after_answer (after_gives env args) t line) s (calling c (run c) line t args o s)) (sym is)
+    subst (λ o. Ran env (after_answer (after_gives env args) t line) s (call_function c (run c) line t args o s)) (sym is)
     (ran_calling_with c env line g args t r s good running target passes apart well words takes owns)

@@ -4,7 +4,7 @@ use Rattle.std.specs.Str.{bytes_eq}
 use Rattle.std.proofs.Common.{sym, ◌∙◌, arith, subst}
 use Rattle.dag_order.specs.declared.fault.FaultKind.{FaultKind}
 use Rattle.dummy_tree.specs.Shapes.{leaf, forked}
-use Rattle.par_tree.specs.Tree.{Name, Expr, Target, Arg, value, lend, give, Param, Ret, RetValue, gives, hands, Stmt, declare, assign, store, allocate, release, choose, repeat, call, print, both, split, Body, done, step, Func}
+use Rattle.par_tree.specs.Tree.{Name, Expr, Target, Arg, value, lend, give, Param, Ret, RetValue, gives, hands, Stmt, let_stmt, assign_stmt, put_stmt, alloc_stmt, free_stmt, if_stmt, while_stmt, call_stmt, print_stmt, par_stmt, split_stmt, Body, done, step, Func}
 use Rattle.par_ownership.specs.Environment.{Environment, opened}
 use Rattle.par_ownership.specs.Mention.{names_in_expr, names_in_target, names_in_args, names_in_stmt, names_in_body}
 use Rattle.par_ownership.specs.Ownership.{HoldTheSame, Owns, OwnsAll, OwnsReturn, OwnsValue, OwnsFunction, OwnsFunctions, Ownership, Passes, function_of, main_name, begins, takes_nothing, hands_back}
@@ -13,11 +13,11 @@ use Rattle.depth_first_run.specs.Stores.{block_of, block_words}
 use Rattle.depth_first_run.specs.Values as values
 use Rattle.depth_first_run.specs.Values.{Outcome, is_true}
 use Rattle.depth_first_run.specs.States
-use Rattle.depth_first_run.specs.States.{Setting, State, noting, child_of, parent_of, ended}
+use Rattle.depth_first_run.specs.States.{Setting, State, with_item, child_of, parent_of, ended}
 use Rattle.depth_first_run.specs.Calls.{Passing, all_passed, entered}
-use Rattle.depth_first_run.specs.Run.{cut_of, cutting, storing, size_of, names_in, run, opening}
+use Rattle.depth_first_run.specs.Run.{cut_of, cut_block, on_store, size_of, names_in, run, root_start}
 use Rattle.depth_first_run.specs.Middle
-use Rattle.depth_first_run.specs.Middle.{Part, statements, tree, Frame, does, answers, rejoins, answers_main, allocates, awaits, joins, frame_done, finish, Middle, middle, finished, settled_at, allocated_at, allocating_words_at, allocating_at, before_all, branch_at, choosing_at, turning_at, round_at, repeating_at, body_at, opening_at, calling_with_at, calling_at, both_at, cut_at, statement_at, first_at, frame_at, advance, beginning_of}
+use Rattle.depth_first_run.specs.Middle.{Part, statements, tree, Frame, does, answers, rejoins, answers_main, allocates, awaits, joins, frame_done, finish, Middle, middle, finished, step_with_number, step_alloc_within, step_alloc_words, step_alloc, before_all, step_branch, step_if, step_turn, step_round, step_while, step_body, step_open_call, step_call_with, step_call, step_par, step_cut, step_statement, step_first, step_frame, advance, run_start}
 use Rattle.ownership_laws.specs.Counts.{count, held_in, lent_in, held_entry, lent_entry_of}
 use Rattle.ownership_laws.specs.Needs.{needs_block, needed_by_value, needed_by_return, lent_to, end_needs}
 use Rattle.ownership_laws.specs.Points.{after_steps}
@@ -91,17 +91,17 @@ end_behind ret params args env end after s t (went m) owns holds lents = end_fit
 
 -- ---- what a statement puts
 
-settled_fits : (c : Setting) (line : ℕ) (o : Outcome) (f : ℤ → List Frame → State → Middle) (s : State) → ((v : ℤ) → FitsPoint c (f v [] s)) → FitsPoint c (settled_at line o f [] s)
+settled_fits : (c : Setting) (line : ℕ) (o : Outcome) (f : ℤ → List Frame → State → Middle) (s : State) → ((v : ℤ) → FitsPoint c (f v [] s)) → FitsPoint c (step_with_number line o f [] s)
 unfolding Fitting
 settled_fits c line (Ok v) f s k = k v
 settled_fits c line (Err kind) f s k = tt
 
-allocated_fits : (b : Bool) (c : Setting) (x : Name) (n : ℕ) (s : State) → FitsPoint c (allocated_at b c x n [] s)
+allocated_fits : (b : Bool) (c : Setting) (x : Name) (n : ℕ) (s : State) → FitsPoint c (step_alloc_within b c x n [] s)
 unfolding Fitting FitsFrame FitsPart
 allocated_fits true c x n s = tt
 allocated_fits false c x n s = (tt, (tt, tt))
 
-allocating_words_fits : (c : Setting) (line : ℕ) (x : Name) (o : Option ℕ) (s : State) → FitsPoint c (allocating_words_at c line x o [] s)
+allocating_words_fits : (c : Setting) (line : ℕ) (x : Name) (o : Option ℕ) (s : State) → FitsPoint c (step_alloc_words c line x o [] s)
 unfolding Fitting
 allocating_words_fits c line x None s = tt
 allocating_words_fits c line x (Some n) s = allocated_fits (nat_le (block_words n) c.quota) c x n s
@@ -112,19 +112,19 @@ unfolding Fitting FitsFrame FitsPart
 before_fits c done fs s p q = subst (λ t. Fitting c fs t) (run_nothing c s) q
 before_fits c (step line stmt rest) fs s p q = (p, q)
 
-branch_fits : (t : Bool) (c : Setting) (a b : Body) (s : State) → FitsBody c a s → FitsBody c b s → FitsPoint c (branch_at t a b [] s)
+branch_fits : (t : Bool) (c : Setting) (a b : Body) (s : State) → FitsBody c a s → FitsBody c b s → FitsPoint c (step_branch t a b [] s)
 unfolding Fitting FitsFrame FitsPart
 branch_fits true c a b s p q = before_fits c a [] s p tt
 branch_fits false c a b s p q = before_fits c b [] s q tt
 
-turning_fits : (c : Setting) (n line : ℕ) (ahead : List Frame) (s : State) → ((left : ℕ) → Fitting c ahead (record s { turns = left })) → FitsPoint c (turning_at n line ahead [] s)
+turning_fits : (c : Setting) (n line : ℕ) (ahead : List Frame) (s : State) → ((left : ℕ) → Fitting c ahead (record s { turns = left })) → FitsPoint c (step_turn n line ahead [] s)
 unfolding Fitting
 turning_fits c zero line ahead s k = tt
 turning_fits c (suc left) line ahead s k = k left
 
 -- a loop: its body, and the loop again behind it
-loop_fits : (c : Setting) → OwnsFunctions c.program c.program → (line : ℕ) (e : Expr) (a : Body) (env after : Environment) (s : State) → Owns c.program line (repeat e a) env after
-    → s.faulted ≡ false → Agrees (λ x. names_in_stmt x (repeat e a)) env s.store → FitsBody c a s × FitsBody c (step line (repeat e a) done) (run c a s)
+loop_fits : (c : Setting) → OwnsFunctions c.program c.program → (line : ℕ) (e : Expr) (a : Body) (env after : Environment) (s : State) → Owns c.program line (while_stmt e a) env after
+    → s.faulted ≡ false → Agrees (λ x. names_in_stmt x (while_stmt e a)) env s.store → FitsBody c a s × FitsBody c (step line (while_stmt e a) done) (run c a s)
 unfolding Agrees
 loop_fits c all line e a env after s h f agrees =
     let end : Environment = h.1.1.0 in
@@ -136,14 +136,14 @@ loop_fits c all line e a env after s h f agrees =
     ran_to env taken env s (run c a s) (λ x. sym (held_the_same env taken x (follows_take env end fol) same))
     (ran_within env end s (run c a s) fol h.1.1.2 (ran_run c all a env end s h.1.1.1 f inside)) in (
       body_fits env end h.1.1.1 inside,
-      body_behind c (step line (repeat e a) done) env env env s (run c a s) r.way (env, (h.0, h.1, refl), refl) (λ x n. agrees x (or_none (names_in_expr x e || names_in_body x a) n)),
+      body_behind c (step line (while_stmt e a) done) env env env s (run c a s) r.way (env, (h.0, h.1, refl), refl) (λ x n. agrees x (or_none (names_in_expr x e || names_in_body x a) n)),
     )
 
 round_fits : (b : Bool) (c : Setting) (line : ℕ) (e : Expr) (a : Body) (s : State)
-    → ((left : ℕ) → FitsBody c a (record s { turns = left }) × FitsBody c (step line (repeat e a) done) (run c a (record s { turns = left }))) → FitsPoint c (round_at b line e a [] s)
+    → ((left : ℕ) → FitsBody c a (record s { turns = left }) × FitsBody c (step line (while_stmt e a) done) (run c a (record s { turns = left }))) → FitsPoint c (step_round b line e a [] s)
 unfolding Fitting FitsFrame FitsPart
 round_fits true c line e a s k =
-    let again : Body = step line (repeat e a) done in
+    let again : Body = step line (while_stmt e a) done in
     turning_fits c s.turns line (before_all a (before_all again [])) s
     (λ left. let p = k left in let u : State = record s { turns = left } in before_fits c a (before_all again []) u p.0 (before_fits c again [] (run c a u) p.1 tt))
 round_fits false c line e a s k = tt
@@ -179,20 +179,20 @@ function_fits c all env g args s owns passes f taken =
     )
 
 body_at_fits : (c : Setting) (n line : ℕ) (t : Target) (args : List Arg) (g : Func) (h : Passing) (s : State)
-    → ((left : ℕ) → FitsBody c g.body (entered h (record s { turns = left })) × FitsEnd g.ret g.params args (run c g.body (entered h (record s { turns = left })))) → FitsPoint c (body_at n line t args g h [] s)
+    → ((left : ℕ) → FitsBody c g.body (entered h (record s { turns = left })) × FitsEnd g.ret g.params args (run c g.body (entered h (record s { turns = left })))) → FitsPoint c (step_body n line t args g h [] s)
 unfolding Fitting FitsFrame FitsPart
 body_at_fits c zero line t args g h s k = tt
 body_at_fits c (suc left) line t args g h s k = let p = k left in before_fits c g.body (answers g.ret g.params args t ∷ []) (entered h (record s { turns = left })) p.0 (p.1, tt)
 
 opening_fits : (b : Bool) (c : Setting) (line : ℕ) (t : Target) (args : List Arg) (g : Func) (h : Passing) (s : State)
-    → ((left : ℕ) → FitsBody c g.body (entered h (record s { turns = left })) × FitsEnd g.ret g.params args (run c g.body (entered h (record s { turns = left })))) → FitsPoint c (opening_at b line t args g h [] s)
+    → ((left : ℕ) → FitsBody c g.body (entered h (record s { turns = left })) × FitsEnd g.ret g.params args (run c g.body (entered h (record s { turns = left })))) → FitsPoint c (step_open_call b line t args g h [] s)
 unfolding Fitting
 opening_fits true c line t args g h s k = body_at_fits c s.turns line t args g h s k
 opening_fits false c line t args g h s k = tt
 
 calling_with_fits : (c : Setting) → OwnsFunctions c.program c.program → (env : Environment) (line : ℕ) (t : Target) (args : List Arg) (g : Func) (r : Result Passing FaultKind) (s : State)
     → OwnsFunction c.program g → Passes env [] g.params args → s.faulted ≡ false → PassedWell g.params args (record { callee = Stores.nothing; caller = s.store }) r
-    → FitsPoint c (calling_with_at c line t args g r [] s)
+    → FitsPoint c (step_call_with c line t args g r [] s)
 unfolding Fitting PassedWell
 calling_with_fits c all env line t args g (Err kind) s owns passes f well = tt
 calling_with_fits c all env line t args g (Ok h) s owns passes f well =
@@ -200,7 +200,7 @@ calling_with_fits c all env line t args g (Ok h) s owns passes f well =
     (λ left. function_fits c all env g args (entered h (record s { turns = left })) owns passes f (λ y. let a = well.callee y in let z = none_counted y in omega (arith, a, z)))
 
 calling_fits : (c : Setting) → OwnsFunctions c.program c.program → (line : ℕ) (t : Target) (f : Name) (args : List Arg) (env after : Environment) (s : State)
-    → Owns c.program line (call t f args) env after → s.faulted ≡ false → Agrees (λ x. names_in_stmt x (call t f args)) env s.store → FitsPoint c (calling_at c line t args (function_of c.program f) [] s)
+    → Owns c.program line (call_stmt t f args) env after → s.faulted ≡ false → Agrees (λ x. names_in_stmt x (call_stmt t f args)) env s.store → FitsPoint c (step_call c line t args (function_of c.program f) [] s)
 unfolding Agrees Ready NewNames
 calling_fits c all line t f args env after s h running agrees =
     let g : Func = h.1.0 in
@@ -209,25 +209,25 @@ calling_fits c all line t f args env after s h running agrees =
     let apart : Apart g.params args = (params_held g.line env [] g.params args [] owns.0 [] owns.1 h.1.3).3 in
     let well : PassedWell g.params args k (all_passed s.store g.params args) =
     passed_well s.store env [] g.params args k h.1.3 apart (λ x b held n. agrees x (or_right (names_in_target x t) (names_in_args x args) n) ∙ held) (λ y le. none_counted y) in
-    subst (λ o. FitsPoint c (calling_at c line t args o [] s)) (sym h.1.1) (calling_with_fits c all env line t args g (all_passed s.store g.params args) s owns h.1.3 running well)
+    subst (λ o. FitsPoint c (step_call c line t args o [] s)) (sym h.1.1) (calling_with_fits c all env line t args g (all_passed s.store g.params args) s owns h.1.3 running well)
 
 -- a Fork: the child's part, and the parent's own part behind it
-both_fits : (v : Bool) (c : Setting) (line : ℕ) (a b : Body) (env after : Environment) (s : State) → Owns c.program line (both a b) env after
-    → Agrees (λ x. names_in_stmt x (both a b)) env s.store → FitsPoint c (both_at v c line a b [] s)
+both_fits : (v : Bool) (c : Setting) (line : ℕ) (a b : Body) (env after : Environment) (s : State) → Owns c.program line (par_stmt a b) env after
+    → Agrees (λ x. names_in_stmt x (par_stmt a b)) env s.store → FitsPoint c (step_par v c line a b [] s)
 unfolding Fitting FitsFrame FitsPart
 both_fits false c line a b env after s h agrees = tt
 both_fits true c line a b env after s h agrees =
     let d : State = ended (run c a (child_of c (names_in a) s)) in (
-      body_fits env h.1.1.0 h.1.1.1 (child_agrees a (λ x. names_in_stmt x (both a b)) env s c agrees (λ x n. or_left (names_in_body x a) (names_in_body x b) n)),
+      body_fits env h.1.1.0 h.1.1.1 (child_agrees a (λ x. names_in_stmt x (par_stmt a b)) env s c agrees (λ x n. or_left (names_in_body x a) (names_in_body x b) n)),
       (
-        body_fits env h.1.2.1.0 h.1.2.1.1 (parent_agrees a b (λ x. names_in_stmt x (both a b)) env s d.items h.0 agrees (λ x n. or_right (names_in_body x a) (names_in_body x b) n)),
+        body_fits env h.1.2.1.0 h.1.2.1.1 (parent_agrees a b (λ x. names_in_stmt x (par_stmt a b)) env s d.items h.0 agrees (λ x n. or_right (names_in_body x a) (names_in_body x b) n)),
         tt,
       ),
     )
 
 -- a cut: the body, and the end of the `split` behind it
-parts_behind : (c : Setting) (line : ℕ) (b : Name) (e : Expr) (l r : Name) (a : Body) (env after : Environment) (at : ℕ) (s t : State) (h : Owns c.program line (split b e l r a) env after)
-    → Agrees (λ x. names_in_stmt x (split b e l r a)) env s.store → Way (opened env b l r line) h.4.1.0 (storing (cutting b l r at) s) t → FitsParts l r t
+parts_behind : (c : Setting) (line : ℕ) (b : Name) (e : Expr) (l r : Name) (a : Body) (env after : Environment) (at : ℕ) (s t : State) (h : Owns c.program line (split_stmt b e l r a) env after)
+    → Agrees (λ x. names_in_stmt x (split_stmt b e l r a)) env s.store → Way (opened env b l r line) h.4.1.0 (on_store (cut_block b l r at) s) t → FitsParts l r t
 parts_behind c line b e l r a env after at s t h agrees (stopped k) = parts_over k.faulted
 parts_behind c line b e l r a env after at s t h agrees (went m) =
     let ends = split_ends c.program line b e l r a env after h in
@@ -236,11 +236,11 @@ parts_behind c line b e l r a env after at s t h agrees (went m) =
     parts_fit two.0 two.1
 
 cut_fits : (c : Setting) → OwnsFunctions c.program c.program → (line : ℕ) (b : Name) (e : Expr) (l r : Name) (a : Body) (o : Option ℕ) (env after : Environment) (s : State)
-    → Owns c.program line (split b e l r a) env after → s.faulted ≡ false → Agrees (λ x. names_in_stmt x (split b e l r a)) env s.store → FitsPoint c (cut_at line b l r a o [] s)
+    → Owns c.program line (split_stmt b e l r a) env after → s.faulted ≡ false → Agrees (λ x. names_in_stmt x (split_stmt b e l r a)) env s.store → FitsPoint c (step_cut line b l r a o [] s)
 unfolding Fitting FitsFrame FitsPart
 cut_fits c all line b e l r a None env after s h f agrees = tt
 cut_fits c all line b e l r a (Some at) env after s h f agrees =
-    let u : State = storing (cutting b l r at) s in
+    let u : State = on_store (cut_block b l r at) s in
     let inner : Environment = opened env b l r line in
     let n = split_counts c.program line b e l r a env after s h agrees in
     let inside : Agrees (λ x. names_in_body x a) inner u.store =
@@ -249,27 +249,27 @@ cut_fits c all line b e l r a (Some at) env after s h f agrees =
     before_fits c a (rejoins b l r ∷ []) u (body_fits inner h.4.1.0 h.4.1.1 inside) (parts_behind c line b e l r a env after at s (run c a u) h agrees way, tt)
 
 statement_fits : (c : Setting) → OwnsFunctions c.program c.program → (line : ℕ) (stmt : Stmt) (env after : Environment) (s : State) → Owns c.program line stmt env after
-    → s.faulted ≡ false → Agrees (λ x. names_in_stmt x stmt) env s.store → FitsPoint c (statement_at c line stmt [] s)
+    → s.faulted ≡ false → Agrees (λ x. names_in_stmt x stmt) env s.store → FitsPoint c (step_statement c line stmt [] s)
 unfolding Fitting Agrees
-statement_fits c all line (declare x e) env after s h f agrees = tt
-statement_fits c all line (assign x e) env after s h f agrees = tt
-statement_fits c all line (store b i e) env after s h f agrees = tt
-statement_fits c all line (allocate b e) env after s h f agrees =
-    settled_fits c line (values.value s.store e) (allocating_at c line b) s (λ v. allocating_words_fits c line b (size_of v) s)
-statement_fits c all line (release b) env after s h f agrees = tt
-statement_fits c all line (choose e a b) env after s h f agrees =
-    settled_fits c line (values.value s.store e) (choosing_at a b) s
+statement_fits c all line (let_stmt x e) env after s h f agrees = tt
+statement_fits c all line (assign_stmt x e) env after s h f agrees = tt
+statement_fits c all line (put_stmt b i e) env after s h f agrees = tt
+statement_fits c all line (alloc_stmt b e) env after s h f agrees =
+    settled_fits c line (values.value s.store e) (step_alloc c line b) s (λ v. allocating_words_fits c line b (size_of v) s)
+statement_fits c all line (free_stmt b) env after s h f agrees = tt
+statement_fits c all line (if_stmt e a b) env after s h f agrees =
+    settled_fits c line (values.value s.store e) (step_if a b) s
     (λ v. branch_fits (is_true v) c a b s
     (body_fits env h.1.0 h.1.1 (λ x n. agrees x (or_right (names_in_expr x e) (names_in_body x a || names_in_body x b) (or_left (names_in_body x a) (names_in_body x b) n))))
     (body_fits env h.2.1.0 h.2.1.1 (λ x n. agrees x (or_right (names_in_expr x e) (names_in_body x a || names_in_body x b) (or_right (names_in_body x a) (names_in_body x b) n)))))
-statement_fits c all line (repeat e a) env after s h f agrees =
-    settled_fits c line (values.value s.store e) (repeating_at line e a) s
+statement_fits c all line (while_stmt e a) env after s h f agrees =
+    settled_fits c line (values.value s.store e) (step_while line e a) s
     (λ v. round_fits (is_true v) c line e a s (λ left. loop_fits c all line e a env after (record s { turns = left }) h f agrees))
-statement_fits c all line (call t g args) env after s h f agrees = calling_fits c all line t g args env after s h f agrees
-statement_fits c all line (print e) env after s h f agrees = tt
-statement_fits c all line (both a b) env after s h f agrees = both_fits (nat_lt (length s.label) c.most_forks) c line a b env after s h agrees
-statement_fits c all line (split b e l r a) env after s h f agrees =
-    settled_fits c line (values.value s.store e) (Middle.splitting_at line b l r a) s
+statement_fits c all line (call_stmt t g args) env after s h f agrees = calling_fits c all line t g args env after s h f agrees
+statement_fits c all line (print_stmt e) env after s h f agrees = tt
+statement_fits c all line (par_stmt a b) env after s h f agrees = both_fits (nat_lt (length s.label) c.most_forks) c line a b env after s h agrees
+statement_fits c all line (split_stmt b e l r a) env after s h f agrees =
+    settled_fits c line (values.value s.store e) (Middle.step_split line b l r a) s
     (λ v. cut_fits c all line b e l r a (cut_of (block_of s.store.blocks b) v) env after s h f agrees)
 
 -- ---- a step
@@ -287,20 +287,20 @@ not_both true t f = let never : ⊥ = cc in absurd never
 not_both false t f = let never : ⊥ = cc in absurd never
 
 first_fits : (v : Bool) (c : Setting) → OwnsFunctions c.program c.program → (line : ℕ) (stmt : Stmt) (rest : Body) (s : State) → s.faulted ≡ v
-    → FitsBody c (step line stmt rest) s → FitsPoint c (first_at v c line stmt rest [] s)
+    → FitsBody c (step line stmt rest) s → FitsPoint c (step_first v c line stmt rest [] s)
 unfolding Fitting FitsFrame FitsPart Agrees
 first_fits true c all line stmt rest s e p = tt
 first_fits false c all line stmt rest s e (body_over k) = not_both s.faulted k e
 first_fits false c all line stmt rest s e (body_fits env after owns agrees) =
-    let u : State = noting (States.began line) s in
-    let m : Middle = statement_at c line stmt [] u in
+    let u : State = with_item (States.began line) s in
+    let m : Middle = step_statement c line stmt [] u in
     subst (λ k. FitsPoint c k) (sym (statement_put c line stmt (before_all rest []) u))
     (fitting_append c m.frames (before_all rest []) m.state
     (statement_fits c all line stmt env owns.0 u owns.1 e (λ x n. agrees x (or_left (names_in_stmt x stmt) (names_in_body x rest) n)))
     (subst (λ t. Fitting c (before_all rest []) t) (sym (statement_finishes c line stmt s e))
     (before_fits c rest [] (run c (step line stmt done) s) (rest_fits c all line stmt rest env after s owns e agrees) tt)))
 
-frame_fits : (c : Setting) → OwnsFunctions c.program c.program → (f : Frame) (s : State) → FitsFrame c f s → FitsPoint c (frame_at c f [] s)
+frame_fits : (c : Setting) → OwnsFunctions c.program c.program → (f : Frame) (s : State) → FitsFrame c f s → FitsPoint c (step_frame c f [] s)
 unfolding Fitting FitsFrame FitsPart
 frame_fits c all (does (statements done)) s p = tt
 frame_fits c all (does (statements (step line stmt rest))) s p = first_fits s.faulted c all line stmt rest s refl p
@@ -317,28 +317,28 @@ advance_fits : (c : Setting) → OwnsFunctions c.program c.program → (fs : Lis
 unfolding advance Fitting
 advance_fits c all [] s p = tt
 advance_fits c all (f ∷ fs) s p =
-    let m : Middle = frame_at c f [] s in
+    let m : Middle = step_frame c f [] s in
     subst (λ k. FitsPoint c k) (sym (advance_put c f fs s))
     (fitting_append c m.frames fs m.state (frame_fits c all f s p.0) (subst (λ t. Fitting c fs t) (sym (frame_finishes c f s)) p.1))
 
 -- ---- the whole run
 
-main_fits : (c : Setting) (g : Func) → OwnsFunctions c.program c.program → OwnsFunction c.program g → begins g ≡ true → FitsPoint c (beginning_of c (Some g))
+main_fits : (c : Setting) (g : Func) → OwnsFunctions c.program c.program → OwnsFunction c.program g → begins g ≡ true → FitsPoint c (run_start c (Some g))
 unfolding Fitting FitsFrame FitsPart Agrees
 main_fits c g all owns first =
     let start : owns.0 ≡ [] = no_parameters g.line g.params owns.0 (and_two (takes_nothing g.params) (not (hands_back g.ret)) first).0 owns.1 in
     let end : Environment = owns.2.0 in
     let body : OwnsAll c.program g.body [] end = subst (λ (v : Environment). OwnsAll c.program g.body v end) start owns.2.1 in
-    let holds : (y : Name) → count (opening c).store.blocks y ≡ held_in [] y = λ y. none_counted y ∙ sym (empty_found held_entry y) in
-    let r : Ran [] end (opening c) (run c g.body (opening c)) = ran_run c all g.body [] end (opening c) body refl (λ y n. holds y) in
-    before_fits c g.body (answers_main g.ret ∷ []) (opening c) (body_fits [] end body (λ y n. holds y))
-    (end_behind g.ret [] [] [] end owns.2.2.0 (opening c) (run c g.body (opening c)) r.way owns.2.2.1 holds (λ y n. let never : ⊥ = cc in absurd never), tt)
+    let holds : (y : Name) → count (root_start c).store.blocks y ≡ held_in [] y = λ y. none_counted y ∙ sym (empty_found held_entry y) in
+    let r : Ran [] end (root_start c) (run c g.body (root_start c)) = ran_run c all g.body [] end (root_start c) body refl (λ y n. holds y) in
+    before_fits c g.body (answers_main g.ret ∷ []) (root_start c) (body_fits [] end body (λ y n. holds y))
+    (end_behind g.ret [] [] [] end owns.2.2.0 (root_start c) (run c g.body (root_start c)) r.way owns.2.2.1 holds (λ y n. let never : ⊥ = cc in absurd never), tt)
 
 fits_after : (c : Setting) → Ownership c.program → (n : ℕ) → FitsPoint c (after_steps c n)
 unfolding after_steps
 fits_after c o zero =
     let g : Func = o.main.0 in
-    subst (λ f. FitsPoint c (beginning_of c f)) (sym o.main.1) (main_fits c g o.functions (function_owned c.program c.program main_name g o.main.1 o.functions) o.main.2)
+    subst (λ f. FitsPoint c (run_start c f)) (sym o.main.1) (main_fits c g o.functions (function_owned c.program c.program main_name g o.main.1 o.functions) o.main.2)
 fits_after c o (suc n) = let m : Middle = after_steps c n in advance_fits c o.functions m.frames m.state (fits_after c o n)
 
 next_fits : (c : Setting) → Ownership c.program → (n : ℕ) (f : Frame) (fs : List Frame) (s : State) → after_steps c n ≡ middle (f ∷ fs) s → FitsFrame c f s

@@ -12,8 +12,8 @@ use Rattle.par_ownership.specs.Environment.{Environment}
 use Rattle.depth_first_run.specs.Stores.{held_words, stored_words}
 use Rattle.depth_first_run.specs.Values.{Outcome}
 use Rattle.depth_first_run.specs.States
-use Rattle.depth_first_run.specs.States.{Setting, State, Item, noting, acting, faulting, choosing, unless_faulted, settled, turning, with_turn, limiting, with_depth, child_of, parent_of, ended, given_back, taking, joined, joining, forking, next_action, holdings}
-use Rattle.depth_first_run.specs.Run.{no_name, running_tree, actions_of, branching}
+use Rattle.depth_first_run.specs.States.{Setting, State, Item, with_item, with_action, with_fault, skip_if, unless_faulted, with_number, with_turns, with_turn, under_limit, with_depth, child_of, parent_of, ended, given_back, with_result, joined, own_part_then_join, fork_join, next_action, holdings}
+use Rattle.depth_first_run.specs.Run.{no_name, run_tree, actions_of, branch}
 use Rattle.depth_first_run.proofs.Words.{parted_words, held_append}
 use Rattle.depth_first_run.proofs.Covered.{live_append, actions_append, taking_items}
 use Rattle.ownership_laws.specs.Counts.{count, held_in, seen_in}
@@ -61,12 +61,12 @@ plus_nothing n = omega (arith, ints)
 pub exact_light : (s t : State) (item : Item) → t.items ≡ s.items ++ item ∷ [] → live (item ∷ []) ≡ pos 0 → holdings t ≡ holdings s → Exact s t
 exact_light s t item i l h = exact_act s t (item ∷ []) (pos 0) i l (ap pos h ∙ plus_nothing (holdings s))
 
-pub exact_fault : (kind : FaultKind) (line : ℕ) (s : State) → Exact s (faulting kind line s)
-unfolding faulting acting
+pub exact_fault : (kind : FaultKind) (line : ℕ) (s : State) → Exact s (with_fault kind line s)
+unfolding with_fault with_action
 exact_fault kind line s =
     let words : ℕ = holdings s in
     let mark : Item = States.failed (record { kind = kind; line = line }) in
-    exact_act s (faulting kind line s) (next_action actions.faults words s ∷ mark ∷ []) (neg_ℤ (pos words))
+    exact_act s (with_fault kind line s) (next_action actions.faults words s ∷ mark ∷ []) (neg_ℤ (pos words))
     (append_assoc s.items (next_action actions.faults words s ∷ []) (mark ∷ [])) (nothing_more (neg_ℤ (pos words))) (gone words)
   where
     nothing_more : (z : ℤ) → (z +ℤ pos 0) ≡ z
@@ -98,11 +98,11 @@ pub record Ran (env after : Environment) (s t : State) : Type 0 where
   pub exact : Exact s t
   pub way : Way env after s t
 
-pub stops : (kind : FaultKind) (line : ℕ) (s : State) → Stopped (faulting kind line s)
-unfolding faulting acting
+pub stops : (kind : FaultKind) (line : ℕ) (s : State) → Stopped (with_fault kind line s)
+unfolding with_fault with_action
 stops kind line s = record { faulted = refl; empty = refl; alone = refl }
 
-pub ran_fault : (env after : Environment) (kind : FaultKind) (line : ℕ) (s : State) → Ran env after s (faulting kind line s)
+pub ran_fault : (env after : Environment) (kind : FaultKind) (line : ℕ) (s : State) → Ran env after s (with_fault kind line s)
 ran_fault env after kind line s = record { exact = exact_fault kind line s; way = stopped (stops kind line s) }
 
 pub moved_same : (env : Environment) (s : State) → s.faulted ≡ false → Moved env env s s
@@ -167,11 +167,11 @@ ran_to env after other s t e r = record { exact = r.exact; way = way_to env afte
 
 pub unless_stopped : (f : State → State) (t : State) → t.faulted ≡ true → unless_faulted f t ≡ t
 unfolding unless_faulted
-unless_stopped f t e = ap (λ b. choosing b f t) e
+unless_stopped f t e = ap (λ b. skip_if b f t) e
 
 pub unless_running : (f : State → State) (t : State) → t.faulted ≡ false → unless_faulted f t ≡ f t
 unfolding unless_faulted
-unless_running f t e = ap (λ b. choosing b f t) e
+unless_running f t e = ap (λ b. skip_if b f t) e
 
 -- what follows where no fault ended the thread, and nothing else
 pub ran_unless : (env mid after : Environment) (s t : State) (f : State → State) → Ran env mid s t → (Moved env mid s t → Exact s (f t) × Way env after s (f t)) → Ran env after s (unless_faulted f t)
@@ -181,13 +181,13 @@ ran_unless env mid after s t f r next = by r.way
     by (stopped k) = subst (λ u. Ran env after s u) (sym (unless_stopped f t k.faulted)) (record { exact = r.exact; way = stopped k })
     by (went m) = subst (λ u. Ran env after s u) (sym (unless_running f t m.running)) (let n = next m in record { exact = n.0; way = n.1 })
 
-pub ran_settled : (env after : Environment) (line : ℕ) (o : Outcome) (f : ℤ → State → State) (s : State) → ((v : ℤ) → Ran env after s (f v s)) → Ran env after s (settled line o f s)
-unfolding settled
+pub ran_settled : (env after : Environment) (line : ℕ) (o : Outcome) (f : ℤ → State → State) (s : State) → ((v : ℤ) → Ran env after s (f v s)) → Ran env after s (with_number line o f s)
+unfolding with_number
 ran_settled env after line (Ok v) f s k = k v
 ran_settled env after line (Err kind) f s k = ran_fault env after kind line s
 
 ran_turning : (env after : Environment) (n line : ℕ) (f : State → State) (s : State) → n ≡ s.turns
-    → ((left : ℕ) → s.turns ≡ suc left → Ran env after (record s { turns = left }) (f (record s { turns = left }))) → Ran env after s (turning n line f s)
+    → ((left : ℕ) → s.turns ≡ suc left → Ran env after (record s { turns = left }) (f (record s { turns = left }))) → Ran env after s (with_turns n line f s)
 ran_turning env after zero line f s e k = ran_fault env after _ line s
 ran_turning env after (suc left) line f s e k =
     let t : State = record s { turns = left } in ran_from env after s t (f t) (exact_quiet s t refl refl) refl refl (k left (sym e))
@@ -197,7 +197,7 @@ pub ran_with_turn : (env after : Environment) (line : ℕ) (f : State → State)
 unfolding with_turn
 ran_with_turn env after line f s k = ran_turning env after s.turns line f s refl k
 
-ran_limiting : (env after : Environment) (b : Bool) (line : ℕ) (f : State → State) (s : State) → (b ≡ true → Ran env after s (f s)) → Ran env after s (limiting b line f s)
+ran_limiting : (env after : Environment) (b : Bool) (line : ℕ) (f : State → State) (s : State) → (b ≡ true → Ran env after s (f s)) → Ran env after s (under_limit b line f s)
 ran_limiting env after true line f s k = k refl
 ran_limiting env after false line f s k = ran_fault env after _ line s
 
@@ -205,7 +205,7 @@ pub ran_with_depth : (env after : Environment) (depth most line : ℕ) (f : Stat
 unfolding with_depth
 ran_with_depth env after depth most line f s k = ran_limiting env after (nat_lt depth most) line f s k
 
-pub ran_branching : (env after : Environment) (b : Bool) (f g : State → State) (s : State) → Ran env after s (f s) → Ran env after s (g s) → Ran env after s (branching f g b s)
+pub ran_branching : (env after : Environment) (b : Bool) (f g : State → State) (s : State) → Ran env after s (f s) → Ran env after s (g s) → Ran env after s (branch f g b s)
 ran_branching env after true f g s p q = p
 ran_branching env after false f g s p q = q
 
@@ -220,12 +220,12 @@ HeldInBoth env left right after = (x : Name) → seen_in env x ≡ 1 → held_in
 
 -- a thread behind its part, with a child that has ended
 after_join : (p q : Bool) (assigned : Name → Bool) (kid : ℕ) (d t : State) → State
-after_join p q assigned kid d t = taking p q assigned d (acting (actions.joins kid) (given_back p q d t) t)
+after_join p q assigned kid d t = with_result p q assigned d (with_action (actions.joins kid) (given_back p q d t) t)
 
 join_exact : (c : Setting) (named : Name → Bool) (s e q r : State) (words : ℕ)
     → Exact (child_of c named s) e → Exact (parent_of named (ended e).items s) q
     → live r.items ≡ live q.items +ℤ neg_ℤ (pos words) → holdings r + words ≡ holdings q + holdings e → Exact s r
-unfolding ended acting
+unfolding ended with_action
 join_exact c named s e q r words w o l h =
     let k : State = child_of c named s in
     let p : State = parent_of named (ended e).items s in
@@ -243,9 +243,9 @@ join_exact c named s e q r words w o l h =
     by s k p e q r words ls lk lp le lq lr a b c d f g h = omega (arith, ints, a, h)
 
 join_live : (p q : Bool) (assigned : Name → Bool) (kid : ℕ) (d t : State) → live (State.items (after_join p q assigned kid d t)) ≡ live t.items +ℤ neg_ℤ (pos (given_back p q d t))
-unfolding after_join acting
+unfolding after_join with_action
 join_live p q assigned kid d t =
-    ap live (taking_items p q assigned d (acting (actions.joins kid) (given_back p q d t) t)) ∙ live_more t.items (next_action (actions.joins kid) (given_back p q d t) t ∷ [])
+    ap live (taking_items p q assigned d (with_action (actions.joins kid) (given_back p q d t) t)) ∙ live_more t.items (next_action (actions.joins kid) (given_back p q d t) t ∷ [])
     ∙ by (live t.items) (given_back p q d t)
   where
     by : (z : ℤ) (n : ℕ) → (z +ℤ (neg_ℤ (pos n) +ℤ pos 0)) ≡ z +ℤ neg_ℤ (pos n)
@@ -262,7 +262,7 @@ both_went : (c : Setting) (named assigned : Name → Bool) (env left right after
     → Exact (child_of c named s) e → Exact (parent_of named (ended e).items s) q → Moved env left (child_of c named s) e → Moved env right (parent_of named (ended e).items s) q
     → MakeUp env left right after → HeldInBoth env left right after
     → Exact s (after_join false false assigned (suc s.forks) (ended e) q) × Moved env after s (after_join false false assigned (suc s.forks) (ended e) q)
-unfolding after_join ended acting
+unfolding after_join ended with_action
 both_went c named assigned env left right after s e q we wq me mq sum both =
     let d : State = ended e in
     let r : State = after_join false false assigned (suc s.forks) d q in
@@ -295,7 +295,7 @@ join_ran : (c : Setting) (named assigned : Name → Bool) (env left right after 
     → MakeUp env left right after → HeldInBoth env left right after
     → (x : Bool) → q.faulted ≡ x → (y : Bool) → e.faulted ≡ y
     → Ran env after s (after_join x y assigned (suc s.forks) (ended e) q)
-unfolding after_join ended acting
+unfolding after_join ended with_action
 join_ran c named assigned env left right after s e q we wq ve (went mq) sum both true f y g = true_or_false q.faulted f mq.running
 join_ran c named assigned env left right after s e q we wq ve (stopped k) sum both true f y g =
     let d : State = ended e in
@@ -323,8 +323,8 @@ pub ran_forking : (c : Setting) (named assigned : Name → Bool) (env left right
     → Ran env left (child_of c named s) (work (child_of c named s))
     → ((items : List Item) → Ran env right (parent_of named items s) (own (parent_of named items s)))
     → MakeUp env left right after → HeldInBoth env left right after
-    → Ran env after s (forking c named assigned work own s)
-unfolding forking joining joined ended acting after_join
+    → Ran env after s (fork_join c named assigned work own s)
+unfolding fork_join own_part_then_join joined ended with_action after_join
 ran_forking c named assigned env left right after work own s w o sum both =
     let e : State = work (child_of c named s) in
     let d : State = ended e in
@@ -333,21 +333,21 @@ ran_forking c named assigned env left right after work own s w o sum both =
     join_ran c named assigned env left right after s e q w.exact p.exact w.way p.way sum both q.faulted refl e.faulted refl
 
 -- a tree of dummies changes nothing that is held, and never faults
-pub tree_went : (c : Setting) (shape : Shape) (env : Environment) (s : State) → s.faulted ≡ false → Exact s (running_tree c shape s) × Moved env env s (running_tree c shape s)
-unfolding running_tree forking joining joined ended acting after_join
+pub tree_went : (c : Setting) (shape : Shape) (env : Environment) (s : State) → s.faulted ≡ false → Exact s (run_tree c shape s) × Moved env env s (run_tree c shape s)
+unfolding run_tree fork_join own_part_then_join joined ended with_action after_join
 tree_went c leaf env s f = (
-  exact_light s (running_tree c leaf s) (next_action actions.dummy 0 s) refl refl refl,
+  exact_light s (run_tree c leaf s) (next_action actions.dummy 0 s) refl refl refl,
   record { running = f; callers = refl; counts = λ x. refl; sizes = λ x a b. refl },
 )
 tree_went c (forked child own) env s f =
     let k : State = child_of c no_name s in
     let w = tree_went c child env k refl in
-    let e : State = running_tree c child k in
+    let e : State = run_tree c child k in
     let d : State = ended e in
     let p : State = parent_of no_name d.items s in
     let o = tree_went c own env p f in
-    let q : State = running_tree c own p in
+    let q : State = run_tree c own p in
     let r = both_went c no_name no_name env env env env s e q w.0 o.0 w.1 o.1 (λ x. refl) (λ x a b. (b, b)) in
-    let same : forking c no_name no_name (running_tree c child) (running_tree c own) s ≡ after_join false false no_name (suc s.forks) d q =
+    let same : fork_join c no_name no_name (run_tree c child) (run_tree c own) s ≡ after_join false false no_name (suc s.forks) d q =
     ap (λ t. after_join t e.faulted no_name (suc s.forks) d q) (o.1).running ∙ ap (λ t. after_join false t no_name (suc s.forks) d q) (w.1).running in
     subst (λ t. Exact s t × Moved env env s t) (sym same) r

@@ -8,7 +8,7 @@ use Rattle.std.proofs.lemmas.Bool.{ltb-true}
 use Rattle.dag_order.specs.declared.fault.FaultKind.{FaultKind}
 use Rattle.depth_first_list.specs.Actions as actions
 use Rattle.depth_first_list.specs.Actions.{live_words}
-use Rattle.par_tree.specs.Tree.{Name, Expr, Program, Param, Ret, RetValue, gives, hands, Stmt, declare, assign, store, allocate, release, choose, repeat, call, print, both, split, Body, done, step, Func}
+use Rattle.par_tree.specs.Tree.{Name, Expr, Program, Param, Ret, RetValue, gives, hands, Stmt, let_stmt, assign_stmt, put_stmt, alloc_stmt, free_stmt, if_stmt, while_stmt, call_stmt, print_stmt, par_stmt, split_stmt, Body, done, step, Func}
 use Rattle.par_ownership.specs.Environment as environments
 use Rattle.par_ownership.specs.Environment.{Kind, Entry, Environment, integer_entry, block_entry, lent_entry, with_entry, regained, opened, after_gives, after_answer, held_in_both, is_released}
 use Rattle.par_ownership.specs.Mention.{names_in_expr, names_in_stmt, names_in_body}
@@ -16,9 +16,9 @@ use Rattle.par_ownership.specs.Ownership.{HoldTheSame, are_apart, Owns, OwnsAll,
 use Rattle.depth_first_run.specs.Stores.{Store, held_words, stored_words, with_integer, those_not_named}
 use Rattle.depth_first_run.specs.Values.{Outcome, value, is_true}
 use Rattle.depth_first_run.specs.States
-use Rattle.depth_first_run.specs.States.{Setting, State, Item, noting, acting, settled, unless_faulted, with_turn, child_of, parent_of, ended, forking, holdings, next_action}
-use Rattle.depth_first_run.specs.Calls.{answering, answering_value, giving}
-use Rattle.depth_first_run.specs.Run.{setting_integer, putting_value, allocating, size_of, printing, names_in, assigns_in, choosing_by, staying, one_round, splitting, beginning, exec, exec_all, room, run, main_run, dropping_answer, opening, whole, actions_of}
+use Rattle.depth_first_run.specs.States.{Setting, State, Item, with_item, with_action, with_number, unless_faulted, with_turn, child_of, parent_of, ended, fork_join, holdings, next_action}
+use Rattle.depth_first_run.specs.Calls.{with_answer, with_return, as_number}
+use Rattle.depth_first_run.specs.Run.{set_integer, put_value, alloc_block, size_of, print_number, names_in, assigns_in, branch_on, unchanged, one_round, split_block, begin_statement, exec, exec_all, room, run, main_run, ignore_answer, root_start, whole, actions_of}
 use Rattle.depth_first_run.proofs.Keeping.{exec_keeps, exec_all_keeps, run_keeps}
 use Rattle.depth_first_run.proofs.Fixed.{room_kept, room_fewer, room_child, run_fixed}
 use Rattle.ownership_laws.specs.Laws.{HoldsFor, HasStopped, GoesOn}
@@ -131,7 +131,7 @@ all_stopped : (c : Setting) (b : Body) (s : State) → s.faulted ≡ true → ex
 unfolding exec_all
 all_stopped c done s f = refl
 all_stopped c (step line stmt rest) s f =
-    let g : State → State = beginning line (exec c (run c) line stmt) in
+    let g : State → State = begin_statement line (exec c (run c) line stmt) in
     ap (λ t. exec_all c (run c) rest t) (unless_stopped g s f) ∙ all_stopped c rest s f
 
 -- a statement, and then the rest
@@ -149,9 +149,9 @@ ran_step c env mid after s t rest f l r next = by r.way
 ran_round : (c : Setting) (env : Environment) (line : ℕ) (body again : State → State) (v : ℤ) (s : State) → s.faulted ≡ false
     → ((left : ℕ) → s.turns ≡ suc left → Ran env env (record s { turns = left }) (body (record s { turns = left })))
     → ((left : ℕ) → s.turns ≡ suc left → Moved env env (record s { turns = left }) (body (record s { turns = left })) → Ran env env (body (record s { turns = left })) (again (body (record s { turns = left }))))
-    → Ran env env s (choosing_by (with_turn line (one_round body again)) staying v s)
+    → Ran env env s (branch_on (with_turn line (one_round body again)) unchanged v s)
 ran_round c env line body again v s f b a =
-    ran_branching env env (is_true v) (with_turn line (one_round body again)) staying s
+    ran_branching env env (is_true v) (with_turn line (one_round body again)) unchanged s
     (ran_with_turn env env line (one_round body again) s (λ left is.
     let u : State = record s { turns = left } in
     let t : State = body u in
@@ -176,7 +176,7 @@ held_seen env x h = seen_or_not env x (seen_in env x ≡ 1) (λ s. s) (λ s. let
 -- ---- a `split`
 
 -- what a `split` that keeps the rules stands on
-pub split_ends : (p : Program) (line : ℕ) (b : Name) (e : Expr) (l r : Name) (a : Body) (env after : Environment) (h : Owns p line (split b e l r a) env after) → SplitEnds env h.4.1.0 b l r line
+pub split_ends : (p : Program) (line : ℕ) (b : Name) (e : Expr) (l r : Name) (a : Body) (env after : Environment) (h : Owns p line (split_stmt b e l r a) env after) → SplitEnds env h.4.1.0 b l r line
 split_ends p line b e l r a env after h =
     let inner : Environment = opened env b l r line in
     let end : Environment = h.4.1.0 in
@@ -195,24 +195,24 @@ split_ends p line b e l r a env after h =
     }
 
 -- its block is there, and its two parts are not yet
-pub split_counts : (p : Program) (line : ℕ) (b : Name) (e : Expr) (l r : Name) (a : Body) (env after : Environment) (s : State) → Owns p line (split b e l r a) env after
-    → Agrees (λ x. names_in_stmt x (split b e l r a)) env s.store → (count s.store.blocks b ≡ 1) × (count s.store.blocks l ≡ 0) × (count s.store.blocks r ≡ 0)
+pub split_counts : (p : Program) (line : ℕ) (b : Name) (e : Expr) (l r : Name) (a : Body) (env after : Environment) (s : State) → Owns p line (split_stmt b e l r a) env after
+    → Agrees (λ x. names_in_stmt x (split_stmt b e l r a)) env s.store → (count s.store.blocks b ≡ 1) × (count s.store.blocks l ≡ 0) × (count s.store.blocks r ≡ 0)
 unfolding Agrees
 split_counts p line b e l r a env after s h agrees =
     let fresh = fresh_pair env l r line h.2 h.3 in
-    let nb : names_in_stmt b (split b e l r a) ≡ true =
+    let nb : names_in_stmt b (split_stmt b e l r a) ≡ true =
     or_left (bytes_eq b b || names_in_expr b e || bytes_eq l b || bytes_eq r b) (names_in_body b a) (or_left (bytes_eq b b || names_in_expr b e || bytes_eq l b) (bytes_eq r b)
     (or_left (bytes_eq b b || names_in_expr b e) (bytes_eq l b) (or_left (bytes_eq b b) (names_in_expr b e) (name_same b)))) in
-    let nl : names_in_stmt l (split b e l r a) ≡ true =
+    let nl : names_in_stmt l (split_stmt b e l r a) ≡ true =
     or_left (bytes_eq b l || names_in_expr l e || bytes_eq l l || bytes_eq r l) (names_in_body l a) (or_left (bytes_eq b l || names_in_expr l e || bytes_eq l l) (bytes_eq r l)
     (or_right (bytes_eq b l || names_in_expr l e) (bytes_eq l l) (name_same l))) in
-    let nr : names_in_stmt r (split b e l r a) ≡ true =
+    let nr : names_in_stmt r (split_stmt b e l r a) ≡ true =
     or_left (bytes_eq b r || names_in_expr r e || bytes_eq l r || bytes_eq r r) (names_in_body r a) (or_right (bytes_eq b r || names_in_expr r e || bytes_eq l r) (bytes_eq r r) (name_same r)) in
     (agrees b nb ∙ (held_block env b h.0).0, agrees l nl ∙ unseen_none held_entry 0 env l fresh.0, agrees r nr ∙ unseen_none held_entry 0 env r fresh.1)
 
 -- behind the cut the thread has what the body's first environment says
-pub split_agrees : (p : Program) (line : ℕ) (b : Name) (e : Expr) (l r : Name) (a : Body) (env after : Environment) (s t : State) → Owns p line (split b e l r a) env after
-    → Agrees (λ x. names_in_stmt x (split b e l r a)) env s.store → ((x : Name) → count t.store.blocks x + hit b x ≡ count s.store.blocks x + (hit l x + hit r x))
+pub split_agrees : (p : Program) (line : ℕ) (b : Name) (e : Expr) (l r : Name) (a : Body) (env after : Environment) (s t : State) → Owns p line (split_stmt b e l r a) env after
+    → Agrees (λ x. names_in_stmt x (split_stmt b e l r a)) env s.store → ((x : Name) → count t.store.blocks x + hit b x ≡ count s.store.blocks x + (hit l x + hit r x))
     → Agrees (λ x. names_in_body x a) (opened env b l r line) t.store
 unfolding Agrees
 split_agrees p line b e l r a env after s t h agrees cut = λ x n.
@@ -220,34 +220,34 @@ split_agrees p line b e l r a env after s t h agrees cut = λ x n.
     let g = agrees x (or_right (bytes_eq b x || names_in_expr x e || bytes_eq l x || bytes_eq r x) (names_in_body x a) n) in
     let d = cut x in let i = inner_held env b l r line x k.held k.left_new k.right_newer k.seen in omega (arith, g, d, i)
 
-exact_noting : (line : ℕ) (s : State) → Exact s (noting (States.began line) s)
-exact_noting line s = exact_light s (noting (States.began line) s) (States.began line) refl refl refl
+exact_noting : (line : ℕ) (s : State) → Exact s (with_item (States.began line) s)
+exact_noting line s = exact_light s (with_item (States.began line) s) (States.began line) refl refl refl
 
 mutual
   unfolding exec exec_all Good Agrees
 
   ran_exec : (c : Setting) → OwnsFunctions c.program c.program → (line : ℕ) (stmt : Stmt) (env after : Environment) (s : State) → Good c (room c s) → Owns c.program line stmt env after
       → s.faulted ≡ false → Agrees (λ x. names_in_stmt x stmt) env s.store → Ran env after s (exec c (run c) line stmt s)
-  ran_exec c all line (declare x e) env after s good h f agrees =
+  ran_exec c all line (let_stmt x e) env after s good h f agrees =
       let mid : Environment = with_entry env (integer_entry x line) in
-      ran_end env mid after s (exec c (run c) line (declare x e) s) h.2
-      (ran_settled env mid line (value s.store e) (setting_integer x) s
+      ran_end env mid after s (exec c (run c) line (let_stmt x e) s) h.2
+      (ran_settled env mid line (value s.store e) (set_integer x) s
       (λ v. ran_integers env mid (with_integer x v s.store) s f refl (λ y. held_with_integer env x line y (fresh_unseen env x h.0))))
-  ran_exec c all line (assign x e) env after s good h f agrees =
-      ran_end env env after s (exec c (run c) line (assign x e) s) h.2
-      (ran_settled env env line (value s.store e) (setting_integer x) s (λ v. ran_integers env env (with_integer x v s.store) s f refl (λ y. refl)))
-  ran_exec c all line (store b i e) env after s good h f agrees =
-      ran_end env env after s (exec c (run c) line (store b i e) s) h.3
-      (ran_settled env env line (value s.store i) (putting_value line b e) s (λ v. ran_putting_value env line b e v s f))
-  ran_exec c all line (allocate b e) env after s good h f agrees =
+  ran_exec c all line (assign_stmt x e) env after s good h f agrees =
+      ran_end env env after s (exec c (run c) line (assign_stmt x e) s) h.2
+      (ran_settled env env line (value s.store e) (set_integer x) s (λ v. ran_integers env env (with_integer x v s.store) s f refl (λ y. refl)))
+  ran_exec c all line (put_stmt b i e) env after s good h f agrees =
+      ran_end env env after s (exec c (run c) line (put_stmt b i e) s) h.3
+      (ran_settled env env line (value s.store i) (put_value line b e) s (λ v. ran_putting_value env line b e v s f))
+  ran_exec c all line (alloc_stmt b e) env after s good h f agrees =
       let mid : Environment = with_entry env (block_entry b line) in
-      ran_end env mid after s (exec c (run c) line (allocate b e) s) h.2
-      (ran_settled env mid line (value s.store e) (allocating c line b) s (λ v. ran_allocating c env line b (size_of v) s f (fresh_unseen env b h.0)))
-  ran_exec c all line (release b) env after s good h f agrees =
+      ran_end env mid after s (exec c (run c) line (alloc_stmt b e) s) h.2
+      (ran_settled env mid line (value s.store e) (alloc_block c line b) s (λ v. ran_allocating c env line b (size_of v) s f (fresh_unseen env b h.0)))
+  ran_exec c all line (free_stmt b) env after s good h f agrees =
       let o = (owned_block env b h.0).0 in
-      ran_end env (environments.without env b) after s (exec c (run c) line (release b) s) h.1
+      ran_end env (environments.without env b) after s (exec c (run c) line (free_stmt b) s) h.1
       (ran_freeing env b s f o (agrees b (name_same b) ∙ o))
-  ran_exec c all line (choose e a b) env after s good h f agrees =
+  ran_exec c all line (if_stmt e a b) env after s good h f agrees =
       let la : Environment = h.1.0 in let lb : Environment = h.2.1.0 in
       let fa = follows_all c.program a env la h.1.1 in let fb = follows_all c.program b env lb h.2.1.1 in
       let left : Environment = take (length env) la in let right : Environment = take (length env) lb in
@@ -255,20 +255,20 @@ mutual
       let rb = ran_all c all b env lb s good h.2.1.1 f (λ x n. agrees x (or_right (names_in_expr x e) (names_in_body x a || names_in_body x b) (or_right (names_in_body x a) (names_in_body x b) n))) in
       let like : Like left right = like_back env left right (follows_take env la fa) (follows_take env lb fb) in
       let same : HoldTheSame left right = subst (λ (v : Environment). HoldTheSame left v) h.2.1.3 (subst (λ (v : Environment). HoldTheSame v h.2.0) h.1.3 h.2.2) in
-      ran_end env left after s (exec c (run c) line (choose e a b) s) h.1.3
-      (ran_settled env left line (value s.store e) (choosing_by (exec_all c (run c) a) (exec_all c (run c) b)) s
+      ran_end env left after s (exec c (run c) line (if_stmt e a b) s) h.1.3
+      (ran_settled env left line (value s.store e) (branch_on (exec_all c (run c) a) (exec_all c (run c) b)) s
       (λ v. ran_branching env left (is_true v) (exec_all c (run c) a) (exec_all c (run c) b) s
       (ran_within env la s (exec_all c (run c) a s) fa h.1.2 ra)
       (ran_to env right left s (exec_all c (run c) b s) (λ x. sym (held_the_same left right x like same))
       (ran_within env lb s (exec_all c (run c) b s) fb h.2.1.2 rb))))
-  ran_exec c all line (repeat e a) env after s good h f agrees =
+  ran_exec c all line (while_stmt e a) env after s good h f agrees =
       let end : Environment = h.1.1.0 in
       let fol = follows_all c.program a env end h.1.1.1 in
       let taken : Environment = take (length env) end in
       let same : HoldTheSame env taken = subst (λ (v : Environment). HoldTheSame env v) h.1.1.3 h.1.2 in
-      let again : Body = step line (repeat e a) done in
-      ran_end env env after s (exec c (run c) line (repeat e a) s) h.2
-      (ran_settled env env line (value s.store e) (choosing_by (with_turn line (one_round (exec_all c (run c) a) (run c again))) staying) s
+      let again : Body = step line (while_stmt e a) done in
+      ran_end env env after s (exec c (run c) line (while_stmt e a) s) h.2
+      (ran_settled env env line (value s.store e) (branch_on (with_turn line (one_round (exec_all c (run c) a) (run c again))) unchanged) s
       (λ v. ran_round c env line (exec_all c (run c) a) (run c again) v s f
       (λ left is.
       let u : State = record s { turns = left } in
@@ -284,43 +284,43 @@ mutual
       let kept = room_kept c u t (exec_all_keeps c (run c) (run_keeps c) a u) in
       good again env env t (omega (arith, less, kept)) (env, (h.0, h.1, refl), refl) m.running
       (λ x n. let g = agrees x (or_none (names_in_expr x e || names_in_body x a) n) in let k = m.counts x in omega (arith, g, k)))))
-  ran_exec c all line (call t g args) env after s good h f agrees =
-      ran_end env (after_answer (after_gives env args) t line) after s (exec c (run c) line (call t g args) s) h.2
+  ran_exec c all line (call_stmt t g args) env after s good h f agrees =
+      ran_end env (after_answer (after_gives env args) t line) after s (exec c (run c) line (call_stmt t g args) s) h.2
       (ran_calling c env line t g args h.1.0 s good all f h.0 h.1.1 h.1.2 h.1.3 agrees)
-  ran_exec c all line (print e) env after s good h f agrees =
-      ran_end env env after s (exec c (run c) line (print e) s) h.1
-      (ran_settled env env line (value s.store e) printing s
-      (λ v. went_ran env env s (printing v s) (exact_light s (printing v s) (States.printed v) refl refl refl)
+  ran_exec c all line (print_stmt e) env after s good h f agrees =
+      ran_end env env after s (exec c (run c) line (print_stmt e) s) h.1
+      (ran_settled env env line (value s.store e) print_number s
+      (λ v. went_ran env env s (print_number v s) (exact_light s (print_number v s) (States.printed v) refl refl refl)
       (record { running = f; callers = refl; counts = λ x. refl; sizes = λ x p q. refl })))
-  ran_exec c all line (both a b) env after s good h f agrees =
+  ran_exec c all line (par_stmt a b) env after s good h f agrees =
       let l : Environment = h.1.1.0 in let r : Environment = h.1.2.1.0 in
       let left : Environment = take (length env) l in let right : Environment = take (length env) r in
       let mid : Environment = held_in_both left right in
       let fl = follows_all c.program a env l h.1.1.1 in let fr = follows_all c.program b env r h.1.2.1.1 in
       let e : after ≡ mid = h.1.2.2 ∙ ap (λ (v : Environment). held_in_both v h.1.2.0) h.1.1.3 ∙ ap (λ (v : Environment). held_in_both left v) h.1.2.1.3 in
       let child : State = child_of c (names_in a) s in
-      ran_end env mid after s (exec c (run c) line (both a b) s) e
-      (ran_with_depth env mid (length s.label) c.most_forks line (forking c (names_in a) (assigns_in a) (exec_all c (run c) a) (exec_all c (run c) b)) s
+      ran_end env mid after s (exec c (run c) line (par_stmt a b) s) e
+      (ran_with_depth env mid (length s.label) c.most_forks line (fork_join c (names_in a) (assigns_in a) (exec_all c (run c) a) (exec_all c (run c) b)) s
       (λ below.
       let less = room_child c (names_in a) s (ltb-true (length s.label) c.most_forks below) in
       ran_forking c (names_in a) (assigns_in a) env left right mid (exec_all c (run c) a) (exec_all c (run c) b) s
       (ran_within env l child (exec_all c (run c) a child) fl h.1.1.2
       (ran_all c all a env l child (good_less c (room c s) (room c child) (omega (arith, less)) good) h.1.1.1 refl
-      (child_agrees a (λ x. names_in_stmt x (both a b)) env s c agrees (λ x n. or_left (names_in_body x a) (names_in_body x b) n))))
+      (child_agrees a (λ x. names_in_stmt x (par_stmt a b)) env s c agrees (λ x n. or_left (names_in_body x a) (names_in_body x b) n))))
       (λ items.
       let parent : State = parent_of (names_in a) items s in
       ran_within env r parent (exec_all c (run c) b parent) fr h.1.2.1.2
       (ran_all c all b env r parent good h.1.2.1.1 f
-      (parent_agrees a b (λ x. names_in_stmt x (both a b)) env s items h.0 agrees (λ x n. or_right (names_in_body x a) (names_in_body x b) n))))
+      (parent_agrees a b (λ x. names_in_stmt x (par_stmt a b)) env s items h.0 agrees (λ x n. or_right (names_in_body x a) (names_in_body x b) n))))
       (λ x. both_make_up a b env l r x h.0 (tame_all c.program a env l x h.1.1.1) (tame_all c.program b env r x h.1.2.1.1) h.1.1.2 h.1.2.1.2)
       (λ x p q. both_held env left right x (follows_take env l fl) (follows_take env r fr) q)))
-  ran_exec c all line (split b e l r a) env after s good h f agrees =
+  ran_exec c all line (split_stmt b e l r a) env after s good h f agrees =
       let end : Environment = h.4.1.0 in
       let inner : Environment = opened env b l r line in
       let ends : SplitEnds env end b l r line = split_ends c.program line b e l r a env after h in
       let counts = split_counts c.program line b e l r a env after s h agrees in
-      ran_end env (regained (take (length env) end) b) after s (exec c (run c) line (split b e l r a) s) (h.4.2 ∙ ap (λ (v : Environment). regained v b) h.4.1.3)
-      (ran_settled env (regained (take (length env) end) b) line (value s.store e) (splitting line b l r (exec_all c (run c) a)) s
+      ran_end env (regained (take (length env) end) b) after s (exec c (run c) line (split_stmt b e l r a) s) (h.4.2 ∙ ap (λ (v : Environment). regained v b) h.4.1.3)
+      (ran_settled env (regained (take (length env) end) b) line (value s.store e) (split_block line b l r (exec_all c (run c) a)) s
       (λ v. ran_splitting env end b l r line (exec_all c (run c) a) v s ends f counts.0 counts.1 counts.2
       (λ t running label turns cut.
       let same = room_same c s t label turns in
@@ -332,8 +332,8 @@ mutual
   ran_all c all done env after s good h f agrees = ran_end env env after s s h (went_ran env env s s (exact_same s) (moved_same env s f))
   ran_all c all (step line stmt rest) env after s good h f agrees =
       let mid : Environment = h.0 in
-      let g : State → State = beginning line (exec c (run c) line stmt) in
-      let u : State = noting (States.began line) s in
+      let g : State → State = begin_statement line (exec c (run c) line stmt) in
+      let u : State = with_item (States.began line) s in
       let t : State = exec c (run c) line stmt u in
       let r : Ran env mid s t = ran_from env mid s u t (exact_noting line s) refl refl
       (ran_exec c all line stmt env mid u good h.1 f (λ x n. agrees x (or_left (names_in_stmt x stmt) (names_in_body x rest) n))) in
@@ -361,34 +361,34 @@ ran_run c all b env after s owns f agrees = all_good c all (suc (room c s)) b en
 
 -- nothing is held, and no call is open
 pub record Closed (c : Setting) (t : State) : Type 0 where
-  pub exact : Exact (opening c) t
+  pub exact : Exact (root_start c) t
   pub empty : t.store.blocks ≡ []
   pub alone : t.callers ≡ []
 
-closed_fault : (c : Setting) (kind : FaultKind) (line : ℕ) (t : State) → Closed c t → Closed c (States.faulting kind line t)
+closed_fault : (c : Setting) (kind : FaultKind) (line : ℕ) (t : State) → Closed c t → Closed c (States.with_fault kind line t)
 closed_fault c kind line t k =
-    let r : Ran [] [] t (States.faulting kind line t) = ran_fault [] [] kind line t in
-    let s : Stopped (States.faulting kind line t) = stops kind line t in
-    record { exact = exact_trans (opening c) t (States.faulting kind line t) k.exact r.exact; empty = s.empty; alone = s.alone }
+    let r : Ran [] [] t (States.with_fault kind line t) = ran_fault [] [] kind line t in
+    let s : Stopped (States.with_fault kind line t) = stops kind line t in
+    record { exact = exact_trans (root_start c) t (States.with_fault kind line t) k.exact r.exact; empty = s.empty; alone = s.alone }
 
-closed_settled : (c : Setting) (line : ℕ) (o : Outcome) (t : State) → Closed c t → Closed c (settled line o (giving dropping_answer) t)
-unfolding settled
+closed_settled : (c : Setting) (line : ℕ) (o : Outcome) (t : State) → Closed c t → Closed c (with_number line o (as_number ignore_answer) t)
+unfolding with_number
 closed_settled c line (Ok v) t k = k
 closed_settled c line (Err kind) t k = closed_fault c kind line t k
 
-released_end : (c : Setting) (end : Environment) (t : State) → Moved [] end (opening c) t → Follows [] end → list_all is_released end ≡ true → t.store.blocks ≡ []
+released_end : (c : Setting) (end : Environment) (t : State) → Moved [] end (root_start c) t → Follows [] end → list_all is_released end ≡ true → t.store.blocks ≡ []
 released_end c end t m f rel = none_held t.store.blocks (λ x.
     let a = m.counts x in let z = none_counted x in let y = empty_found held_entry x in
     let r = released_held end x rel in let l = lent_back_in [] end x f in let w = empty_found lent_entry_of x in omega (arith, a, z, y, r, l, w))
 
 main_answered : (c : Setting) (ret : Option Ret) (end after : Environment) (t : State) → hands_back ret ≡ false → OwnsReturn ret end after → list_all is_released after ≡ true
-    → Exact (opening c) t → Moved [] end (opening c) t → Follows [] end → Closed c (answering ret dropping_answer t)
-unfolding answering
+    → Exact (root_start c) t → Moved [] end (root_start c) t → Follows [] end → Closed c (with_answer ret ignore_answer t)
+unfolding with_answer
 main_answered c None end after t hb owns rel e m f =
     record { exact = e; empty = released_end c end t m f (subst (λ (v : Environment). list_all is_released v ≡ true) owns rel); alone = m.callers }
 main_answered c (Some r) end after t hb owns rel e m f = by r.line r.value hb owns
   where
-    by : (line : ℕ) (v : RetValue) → hands_back (Some (record { line = line; value = v })) ≡ false → OwnsValue v end after → Closed c (answering_value line v dropping_answer t)
+    by : (line : ℕ) (v : RetValue) → hands_back (Some (record { line = line; value = v })) ≡ false → OwnsValue v end after → Closed c (with_return line v ignore_answer t)
     by line (gives x) hb own =
         closed_settled c line (value t.store x) t
         (record { exact = e; empty = released_end c end t m f (subst (λ (v : Environment). list_all is_released v ≡ true) own.1 rel); alone = m.callers })
@@ -402,36 +402,36 @@ not_true : (b : Bool) → not b ≡ true → b ≡ false
 not_true true e = let never : ⊥ = cc in absurd never
 not_true false e = refl
 
-main_closed : (c : Setting) (g : Func) → OwnsFunctions c.program c.program → OwnsFunction c.program g → begins g ≡ true → Closed c (main_run c (Some g) (opening c))
+main_closed : (c : Setting) (g : Func) → OwnsFunctions c.program c.program → OwnsFunction c.program g → begins g ≡ true → Closed c (main_run c (Some g) (root_start c))
 unfolding Agrees
 main_closed c g all owns first =
     let two = and_two (takes_nothing g.params) (not (hands_back g.ret)) first in
     let end : Environment = owns.2.0 in
     let start : owns.0 ≡ [] = no_parameters g.line g.params owns.0 two.0 owns.1 in
     let body : OwnsAll c.program g.body [] end = subst (λ (v : Environment). OwnsAll c.program g.body v end) start owns.2.1 in
-    let t : State = run c g.body (opening c) in
-    let r : Ran [] end (opening c) t = ran_run c all g.body [] end (opening c) body refl (λ x n. none_counted x ∙ sym (empty_found held_entry x)) in
+    let t : State = run c g.body (root_start c) in
+    let r : Ran [] end (root_start c) t = ran_run c all g.body [] end (root_start c) body refl (λ x n. none_counted x ∙ sym (empty_found held_entry x)) in
     by t r.way r.exact (follows_all c.program g.body [] end body) (not_true (hands_back g.ret) two.1)
   where
-    by : (t : State) → Way [] owns.2.0 (opening c) t → Exact (opening c) t → Follows [] owns.2.0 → hands_back g.ret ≡ false → Closed c (unless_faulted (answering g.ret dropping_answer) t)
-    by t (stopped k) e f hb = subst (λ w. Closed c w) (sym (unless_stopped (answering g.ret dropping_answer) t k.faulted)) (record { exact = e; empty = k.empty; alone = k.alone })
-    by t (went m) e f hb = subst (λ w. Closed c w) (sym (unless_running (answering g.ret dropping_answer) t m.running))
+    by : (t : State) → Way [] owns.2.0 (root_start c) t → Exact (root_start c) t → Follows [] owns.2.0 → hands_back g.ret ≡ false → Closed c (unless_faulted (with_answer g.ret ignore_answer) t)
+    by t (stopped k) e f hb = subst (λ w. Closed c w) (sym (unless_stopped (with_answer g.ret ignore_answer) t k.faulted)) (record { exact = e; empty = k.empty; alone = k.alone })
+    by t (went m) e f hb = subst (λ w. Closed c w) (sym (unless_running (with_answer g.ret ignore_answer) t m.running))
         (main_answered c g.ret owns.2.0 owns.2.2.0 t hb owns.2.2.1 owns.2.2.2 e m f)
 
 -- the root ends with nothing
-pub whole_closed : (c : Setting) → Ownership c.program → Closed c (main_run c (function_of c.program main_name) (opening c))
+pub whole_closed : (c : Setting) → Ownership c.program → Closed c (main_run c (function_of c.program main_name) (root_start c))
 whole_closed c o =
     let g : Func = o.main.0 in
-    subst (λ f. Closed c (main_run c f (opening c))) (sym o.main.1) (main_closed c g o.functions (function_owned c.program c.program main_name g o.main.1 o.functions) o.main.2)
+    subst (λ f. Closed c (main_run c f (root_start c))) (sym o.main.1) (main_closed c g o.functions (function_owned c.program c.program main_name g o.main.1 o.functions) o.main.2)
 
 pub nothing_held : (c : Setting) → Ownership c.program → ((State.store (whole c)).blocks ≡ []) × (State.callers (whole c) ≡ [])
-unfolding whole ended acting
+unfolding whole ended with_action
 nothing_held c o = let k = whole_closed c o in (k.empty, k.alone)
 
 pub live_at_end : (c : Setting) → Ownership c.program → live_words (actions_of (State.items (whole c))) ≡ pos 0
-unfolding whole ended acting
+unfolding whole ended with_action
 live_at_end c o =
-    let t : State = main_run c (function_of c.program main_name) (opening c) in
+    let t : State = main_run c (function_of c.program main_name) (root_start c) in
     let k : Closed c t = whole_closed c o in
     let last : Exact t (ended t) = exact_light t (ended t) (next_action actions.ends 0 t) refl refl refl in
     let none : holdings t ≡ 0 = ap (λ hs. held_words hs + stored_words t.callers) k.empty ∙ ap (λ cs. 0 + stored_words cs) k.alone in

@@ -10,9 +10,9 @@ use Rattle.par_ownership.specs.Environment as environments
 use Rattle.par_ownership.specs.Environment.{Entry, Environment, integer_entry, block_entry, lent_entry, with_entry, after_gives, after_answer, param_entry, is_released}
 use Rattle.par_ownership.specs.Mention.{names_in_args, names_in_expr}
 use Rattle.par_ownership.specs.Ownership.{Passes, passes, OwnsParams, OwnsFunction, OwnsFunctions}
-use Rattle.depth_first_run.specs.Stores.{Store, Held, block_of, without, with_block, holding, held_words}
+use Rattle.depth_first_run.specs.Stores.{Store, Held, block_of, without, with_block, hold_block, held_words}
 use Rattle.depth_first_run.specs.Values as values
-use Rattle.depth_first_run.specs.Calls.{Passing, passing_integer, passing_block, passing_value, passed, lent_back}
+use Rattle.depth_first_run.specs.Calls.{Passing, pass_integer, pass_block, pass_value, passed, lent_back}
 use Rattle.depth_first_run.proofs.Words.{with_words, without_words}
 use Rattle.ownership_laws.specs.Counts.{hit, count, held_in, lent_in, seen_in, seen_entry}
 use Rattle.ownership_laws.proofs.Counting.{by_names, name_same, same_name, hit_same, hit_other, hit_true, fresh_unseen, held_block, owned_block, found_with, count_with, count_without, none_held, held_without}
@@ -130,21 +130,21 @@ passed_nothing qs args h a b c = record {
   sizes = λ x g. let z = c x in omega (arith, z);
 }
 
-number_one : (q : Param) (e : Expr) (qs : List Param) (args : List Arg) (v : ℤ) (h : Passing) (r : Result Passing FaultKind) → PassedWell qs args (passing_integer q.name v h) r → PassedWell (q ∷ qs) (value e ∷ args) h r
+number_one : (q : Param) (e : Expr) (qs : List Param) (args : List Arg) (v : ℤ) (h : Passing) (r : Result Passing FaultKind) → PassedWell qs args (pass_integer q.name v h) r → PassedWell (q ∷ qs) (value e ∷ args) h r
 unfolding PassedWell lends gives taken_as lent_size
 number_one q e qs args v h (Ok k) p = record { caller = p.caller; callee = p.callee; kept = p.kept; sizes = p.sizes }
 number_one q e qs args v h (Err kind) p = tt
 
 passes_on : (q : Param) (e : Expr) (qs : List Param) (args : List Arg) (s : Store) (o : values.Outcome) (h : Passing)
-    → ((v : ℤ) → PassedWell qs args (passing_integer q.name v h) (passed s qs args (passing_integer q.name v h)))
-    → PassedWell (q ∷ qs) (value e ∷ args) h (passing_value q.name o h (passed s qs args))
+    → ((v : ℤ) → PassedWell qs args (pass_integer q.name v h) (passed s qs args (pass_integer q.name v h)))
+    → PassedWell (q ∷ qs) (value e ∷ args) h (pass_value q.name o h (passed s qs args))
 unfolding PassedWell
 passes_on q e qs args s (Err kind) h k = tt
-passes_on q e qs args s (Ok v) h k = number_one q e qs args v h (passed s qs args (passing_integer q.name v h)) (k v)
+passes_on q e qs args s (Ok v) h k = number_one q e qs args v h (passed s qs args (pass_integer q.name v h)) (k v)
 
 -- a block that is lent
 lend_one : (q : Param) (b : Name) (qs : List Param) (args : List Arg) (h : Passing) (r : Result Passing FaultKind) → 1 ≤ count h.caller.blocks b → count h.caller.blocks b ≤ 1 → count h.callee.blocks q.name ≡ 0
-    → taken_as qs args q.name ≡ 0 → PassedWell qs args (passing_block q.name b h) r → PassedWell (q ∷ qs) (lend b ∷ args) h r
+    → taken_as qs args q.name ≡ 0 → PassedWell qs args (pass_block q.name b h) r → PassedWell (q ∷ qs) (lend b ∷ args) h r
 unfolding PassedWell lends gives taken_as lent_size
 lend_one q b qs args h (Err kind) le most new apart p = tt
 lend_one q b qs args h (Ok k) le most new apart p =
@@ -175,7 +175,7 @@ lend_one q b qs args h (Ok k) le most new apart p =
 
 -- a block that is given
 give_one : (q : Param) (b : Name) (qs : List Param) (args : List Arg) (h : Passing) (r : Result Passing FaultKind) → 1 ≤ count h.caller.blocks b
-    → PassedWell qs args (passing_block q.name b h) r → PassedWell (q ∷ qs) (give b ∷ args) h r
+    → PassedWell qs args (pass_block q.name b h) r → PassedWell (q ∷ qs) (give b ∷ args) h r
 unfolding PassedWell lends gives taken_as lent_size
 give_one q b qs args h (Err kind) le p = tt
 give_one q b qs args h (Ok k) le p =
@@ -216,20 +216,20 @@ passed_well s over before [] (b ∷ args) h p a r n = absurd p
 passed_well s over before (q ∷ qs) [] h p a r n = absurd p
 passed_well s over before (q ∷ qs) (value e ∷ args) h p a r n =
     passes_on q e qs args s (values.value s e) h
-    (λ v. passed_well s over (before ++ value e ∷ []) qs args (passing_integer q.name v h) p.1 a (ready_number over before h.caller.blocks e args r) n)
+    (λ v. passed_well s over (before ++ value e ∷ []) qs args (pass_integer q.name v h) p.1 a (ready_number over before h.caller.blocks e args r) n)
 passed_well s over before (q ∷ qs) (lend b ∷ args) h p a r n =
     let one = passes_lend over before q.kind b p.0 in
     let e : count h.caller.blocks b ≡ 1 = r b one.2 (held_block over b one.1).0 (or_left (bytes_eq b b) (names_in_args b args) (name_same b)) in
     let le : 1 ≤ count h.caller.blocks b = omega (arith, e) in
     let z : count h.callee.blocks q.name ≡ 0 = n q.name (let o = hit_same q.name in omega (arith, o)) in
-    let k : Passing = passing_block q.name b h in
+    let k : Passing = pass_block q.name b h in
     lend_one q b qs args h (passed s qs args k) le (at_most_one (count h.caller.blocks b) e) z a.0
     (passed_well s over (before ++ lend b ∷ []) qs args k p.1 a.1 (ready_lend over before h.caller.blocks b args r le) (new_with q qs args h.callee (block_of h.caller.blocks b) a.0 n))
 passed_well s over before (q ∷ qs) (give b ∷ args) h p a r n =
     let one = passes_give over before q.kind b p.0 in
     let e : count h.caller.blocks b ≡ 1 = r b one.2 (owned_block over b one.1).0 (or_left (bytes_eq b b) (names_in_args b args) (name_same b)) in
     let le : 1 ≤ count h.caller.blocks b = omega (arith, e) in
-    let k : Passing = passing_block q.name b h in
+    let k : Passing = pass_block q.name b h in
     give_one q b qs args h (passed s qs args k) le
     (passed_well s over (before ++ give b ∷ []) qs args k p.1 a.1 (ready_give over before h.caller.blocks b args r le) (new_with q qs args h.callee (block_of h.caller.blocks b) a.0 n))
 
@@ -338,7 +338,7 @@ lent_back_count over before [] (a ∷ args) callee caller x p = absurd p
 lent_back_count over before (q ∷ qs) [] callee caller x p = absurd p
 lent_back_count over before (q ∷ qs) (value e ∷ args) callee caller x p = lent_back_count over (before ++ value e ∷ []) qs args callee caller x p.1
 lent_back_count over before (q ∷ qs) (lend b ∷ args) callee caller x p =
-    let r = lent_back_count over (before ++ lend b ∷ []) qs args (without callee q.name) (holding b (block_of callee q.name) caller) x p.1 in
+    let r = lent_back_count over (before ++ lend b ∷ []) qs args (without callee q.name) (hold_block b (block_of callee q.name) caller) x p.1 in
     let w = count_with caller.blocks b (block_of callee q.name) x in omega (arith, r, w)
 lent_back_count over before (q ∷ qs) (give b ∷ args) callee caller x p = lent_back_count over (before ++ give b ∷ []) qs args callee caller x p.1
 
@@ -367,7 +367,7 @@ lent_back_exact over before [] (a ∷ args) callee caller p few = absurd p
 lent_back_exact over before (q ∷ qs) [] callee caller p few = absurd p
 lent_back_exact over before (q ∷ qs) (value e ∷ args) callee caller p few = lent_back_exact over (before ++ value e ∷ []) qs args callee caller p.1 few
 lent_back_exact over before (q ∷ qs) (lend b ∷ args) callee caller p few =
-    let r = lent_back_exact over (before ++ lend b ∷ []) qs args (without callee q.name) (holding b (block_of callee q.name) caller) p.1
+    let r = lent_back_exact over (before ++ lend b ∷ []) qs args (without callee q.name) (hold_block b (block_of callee q.name) caller) p.1
     (λ y. without_less callee q.name y (lent_as qs args y) (few y)) in
     let w = with_words caller.blocks b (block_of callee q.name) in let d = without_words callee q.name in omega (arith, r, w, d)
 lent_back_exact over before (q ∷ qs) (give b ∷ args) callee caller p few = lent_back_exact over (before ++ give b ∷ []) qs args callee caller p.1 few
@@ -404,7 +404,7 @@ lent_back_size over before (q ∷ qs) [] callee caller x p a one = absurd p
 lent_back_size over before (q ∷ qs) (value e ∷ args) callee caller x p a one = lent_back_size over (before ++ value e ∷ []) qs args callee caller x p.1 a one
 lent_back_size over before (q ∷ qs) (lend b ∷ args) callee caller x p a one =
     let xs : List ℤ = block_of callee q.name in
-    let r = lent_back_size over (before ++ lend b ∷ []) qs args (without callee q.name) (holding b xs caller) x p.1 a.1
+    let r = lent_back_size over (before ++ lend b ∷ []) qs args (without callee q.name) (hold_block b xs caller) x p.1 a.1
     (λ y. let w = without_fewer callee q.name y in let o = one y in omega (arith, w, o)) in
     let w = size_with caller.blocks b xs x in
     let s : weigh b x (size callee q.name) ≡ weigh b x (length xs) = ap (weigh b x) (size_one callee q.name (one q.name)) in

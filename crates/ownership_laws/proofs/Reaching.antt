@@ -4,12 +4,12 @@ use Rattle.std.proofs.Common.{sym, ◌∙◌, ap, arith, subst}
 use Rattle.par_ownership.specs.Ownership.{function_of, main_name}
 use Rattle.depth_first_run.specs.States.{Setting, State, ended}
 use Rattle.depth_first_run.specs.Run.{whole}
-use Rattle.depth_first_run.specs.Middle.{Frame, finish, middle, finished, advance, beginning_of, to_come}
+use Rattle.depth_first_run.specs.Middle.{Frame, finish, middle, finished, advance, run_start, to_come}
 use Rattle.depth_first_run.proofs.Stepping.{advance_comes, beginning_comes}
 use Rattle.depth_first_run.proofs.Nearing.{advance_nears}
 use Rattle.ownership_laws.specs.Points.{after_steps}
 
-points_come : (c : Setting) (n : ℕ) → finished c (after_steps c n) ≡ finished c (beginning_of c (function_of c.program main_name))
+points_come : (c : Setting) (n : ℕ) → finished c (after_steps c n) ≡ finished c (run_start c (function_of c.program main_name))
 unfolding after_steps
 points_come c zero = refl
 points_come c (suc n) = advance_comes c (after_steps c n) ∙ points_come c n

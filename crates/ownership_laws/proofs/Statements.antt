@@ -13,10 +13,10 @@ use Rattle.par_ownership.specs.Environment as environments
 use Rattle.par_ownership.specs.Environment.{Environment, Entry, block_entry, lent_entry, with_entry, regained, opened, is_released, after_gives}
 use Rattle.par_ownership.specs.Ownership.{IsHeld}
 use Rattle.depth_first_run.specs.Stores
-use Rattle.depth_first_run.specs.Stores.{Store, block_of, block_words, held_words, holding, dropping, without, with_block, writing}
+use Rattle.depth_first_run.specs.Stores.{Store, block_of, block_words, held_words, hold_block, drop_block, without, with_block, write_block}
 use Rattle.depth_first_run.specs.Values.{value}
-use Rattle.depth_first_run.specs.States.{Setting, State, acting, unless_faulted, next_action, holdings}
-use Rattle.depth_first_run.specs.Run.{storing, putting_at, putting, putting_value, delaying, delayed, allocating_words, freeing, cutting, rejoining, splitting_at, splitting}
+use Rattle.depth_first_run.specs.States.{Setting, State, with_action, unless_faulted, next_action, holdings}
+use Rattle.depth_first_run.specs.Run.{on_store, put_in_place, put_number, put_value, run_tree_unless, run_tree_before, alloc_words, free_block, cut_block, rejoin_block, split_in_place, split_block}
 use Rattle.depth_first_run.proofs.Words.{cut_words, joined_words, without_words, with_words, replaced_words}
 use Rattle.ownership_laws.specs.Counts.{hit, count, held_in, seen_in, lent_in, block_in, held_entry, seen_entry, lent_entry_of}
 use Rattle.ownership_laws.proofs.Counting.{by_names, hit_same, hit_other, count_with, count_without, count_replaced, held_block, found_front, found_marked, held_without, held_regained, unseen_none, bytes_swap}
@@ -51,12 +51,12 @@ ran_integers env after st s f b h = went_ran env after s (record s { store = st 
       sizes = λ x v w. ap (λ hs. size hs x) b;
     })
 
-ran_putting_at : (env : Environment) (line : ℕ) (b : Name) (v : ℤ) (o : Option ℕ) (s : State) → s.faulted ≡ false → Ran env env s (putting_at line b v o s)
+ran_putting_at : (env : Environment) (line : ℕ) (b : Name) (v : ℤ) (o : Option ℕ) (s : State) → s.faulted ≡ false → Ran env env s (put_in_place line b v o s)
 ran_putting_at env line b v None s f = ran_fault env env _ line s
 ran_putting_at env line b v (Some i) s f =
     let xs : List ℤ = slice_set (block_of s.store.blocks b) i v in
     let l = length-set (block_of s.store.blocks b) i v in
-    let t : State = putting_at line b v (Some i) s in
+    let t : State = put_in_place line b v (Some i) s in
     let w = replaced_words s.store.blocks b xs l in
     went_ran env env s t (exact_quiet s t refl (omega (arith, w)))
     (record {
@@ -66,22 +66,22 @@ ran_putting_at env line b v (Some i) s f =
       sizes = λ x p q. size_replaced s.store.blocks b xs x l;
     })
 
-pub ran_putting_value : (env : Environment) (line : ℕ) (b : Name) (e : Expr) (i : ℤ) (s : State) → s.faulted ≡ false → Ran env env s (putting_value line b e i s)
-ran_putting_value env line b e i s f = ran_settled env env line (value s.store e) (putting line b i) s (λ v. ran_putting_at env line b v _ s f)
+pub ran_putting_value : (env : Environment) (line : ℕ) (b : Name) (e : Expr) (i : ℤ) (s : State) → s.faulted ≡ false → Ran env env s (put_value line b e i s)
+ran_putting_value env line b e i s f = ran_settled env env line (value s.store e) (put_number line b i) s (λ v. ran_putting_at env line b v _ s f)
 
-went_delaying : (t : Bool) (c : Setting) (words : ℕ) (env : Environment) (s : State) → s.faulted ≡ false → Exact s (delaying t c words s) × Moved env env s (delaying t c words s)
+went_delaying : (t : Bool) (c : Setting) (words : ℕ) (env : Environment) (s : State) → s.faulted ≡ false → Exact s (run_tree_unless t c words s) × Moved env env s (run_tree_unless t c words s)
 went_delaying true c words env s f = (exact_same s, moved_same env s f)
 went_delaying false c words env s f = tree_went c (tree_for c.quota words) env s f
 
 pub ran_allocating : (c : Setting) (env : Environment) (line : ℕ) (b : Name) (o : Option ℕ) (s : State) → s.faulted ≡ false → seen_in env b ≡ 0
-    → Ran env (with_entry env (block_entry b line)) s (allocating_words c line b o s)
-unfolding delayed acting
+    → Ran env (with_entry env (block_entry b line)) s (alloc_words c line b o s)
+unfolding run_tree_before with_action
 ran_allocating c env line b None s f u = ran_fault env (with_entry env (block_entry b line)) _ line s
 ran_allocating c env line b (Some n) s f u =
     let after : Environment = with_entry env (block_entry b line) in
-    let t : State = delaying (nat_le (block_words n) c.quota) c (block_words n) s in
+    let t : State = run_tree_unless (nat_le (block_words n) c.quota) c (block_words n) s in
     let d = went_delaying (nat_le (block_words n) c.quota) c (block_words n) env s f in
-    let r : State = allocating_words c line b (Some n) s in
+    let r : State = alloc_words c line b (Some n) s in
     let xs : List ℤ = replicate n (pos 0) in
     let w = with_words t.store.blocks b xs in
     let l : block_words (length xs) ≡ block_words n = ap block_words (length-replicate n (pos 0)) in
@@ -105,11 +105,11 @@ ran_allocating c env line b (Some n) s f u =
     falls : (x : Name) → seen_in env x ≡ 1 → held_in (with_entry env (block_entry b line)) x ≤ held_in env x
     falls x v = let e = found_front held_entry 0 env (block_entry b line ∷ []) x v in omega (arith, e)
 
-pub ran_freeing : (env : Environment) (b : Name) (s : State) → s.faulted ≡ false → held_in env b ≡ 1 → count s.store.blocks b ≡ 1 → Ran env (environments.without env b) s (freeing b s)
-unfolding acting
+pub ran_freeing : (env : Environment) (b : Name) (s : State) → s.faulted ≡ false → held_in env b ≡ 1 → count s.store.blocks b ≡ 1 → Ran env (environments.without env b) s (free_block b s)
+unfolding with_action
 ran_freeing env b s f h e =
     let n : ℕ = block_words (length (block_of s.store.blocks b)) in
-    let t : State = freeing b s in
+    let t : State = free_block b s in
     let w = without_words s.store.blocks b in
     let less : holdings t + n ≡ holdings s = omega (arith, w) in
     went_ran env (environments.without env b) s t
@@ -248,22 +248,22 @@ split_numbers env end b l r line k =
     swap a c = by_names (λ (a : Name) (c : Name). hit a c ≡ 0 → hit c a ≡ 0) a c (λ x z. z) (λ d z. hit_other c a (bytes_swap a c d))
 
 -- a cut
-pub cut_count : (b l r : Name) (at : ℕ) (s : Store) (x : Name) → count s.blocks b ≡ 1 → count (cutting b l r at s).blocks x + hit b x ≡ count s.blocks x + (hit l x + hit r x)
+pub cut_count : (b l r : Name) (at : ℕ) (s : Store) (x : Name) → count s.blocks b ≡ 1 → count (cut_block b l r at s).blocks x + hit b x ≡ count s.blocks x + (hit l x + hit r x)
 cut_count b l r at s x e =
     let xs : List ℤ = block_of s.blocks b in
-    let t : Store = dropping b s in
+    let t : Store = drop_block b s in
     let d = count_without s.blocks b x (omega (arith, e)) in
     let w = count_with t.blocks l (take at xs) x in
-    let v = count_with (holding l (take at xs) t).blocks r (drop at xs) x in omega (arith, d, w, v)
+    let v = count_with (hold_block l (take at xs) t).blocks r (drop at xs) x in omega (arith, d, w, v)
 
 cut_size : (b l r : Name) (at : ℕ) (s : Store) (x : Name)
-    → size (cutting b l r at s).blocks x + weigh b x (length (block_of s.blocks b)) ≡ size s.blocks x + (weigh l x (length (take at (block_of s.blocks b))) + weigh r x (length (drop at (block_of s.blocks b))))
+    → size (cut_block b l r at s).blocks x + weigh b x (length (block_of s.blocks b)) ≡ size s.blocks x + (weigh l x (length (take at (block_of s.blocks b))) + weigh r x (length (drop at (block_of s.blocks b))))
 cut_size b l r at s x =
     let xs : List ℤ = block_of s.blocks b in
-    let t : Store = dropping b s in
+    let t : Store = drop_block b s in
     let d = size_without s.blocks b x in
     let w = size_with t.blocks l (take at xs) x in
-    let v = size_with (holding l (take at xs) t).blocks r (drop at xs) x in omega (arith, d, w, v)
+    let v = size_with (hold_block l (take at xs) t).blocks r (drop at xs) x in omega (arith, d, w, v)
 
 taken_length : (at : ℕ) (xs : List ℤ) → at ≤ length xs → length (take at xs) ≡ at
 taken_length at xs le = let t = length-take at xs in omega (arith, t, le)
@@ -271,13 +271,13 @@ taken_length at xs le = let t = length-take at xs in omega (arith, t, le)
 dropped_length : (at : ℕ) (xs : List ℤ) → length (drop at xs) ≡ length xs - at
 dropped_length at xs = length-drop at xs
 
-cut_exact : (b l r : Name) (at q : ℕ) (s : Store) → at ≡ 16 * q → at ≤ length (block_of s.blocks b) → held_words (cutting b l r at s).blocks ≡ held_words s.blocks
+cut_exact : (b l r : Name) (at q : ℕ) (s : Store) → at ≡ 16 * q → at ≤ length (block_of s.blocks b) → held_words (cut_block b l r at s).blocks ≡ held_words s.blocks
 cut_exact b l r at q s whole le =
     let xs : List ℤ = block_of s.blocks b in
-    let t : Store = dropping b s in
+    let t : Store = drop_block b s in
     let d = without_words s.blocks b in
     let w = with_words t.blocks l (take at xs) in
-    let v = with_words (holding l (take at xs) t).blocks r (drop at xs) in
+    let v = with_words (hold_block l (take at xs) t).blocks r (drop at xs) in
     let lt : block_words (length (take at xs)) ≡ block_words at = ap block_words (taken_length at xs le) in
     let ld : block_words (length (drop at xs)) ≡ block_words (length xs - at) = ap block_words (dropped_length at xs) in
     let c = whole_words at (length xs - at) q whole in
@@ -286,42 +286,42 @@ cut_exact b l r at q s whole le =
     sum : (a n : ℕ) → a ≤ n → a + (n - a) ≡ n
     sum a n le = omega (arith, le)
 
-rejoin_exact : (b l r : Name) (q : ℕ) (s : Store) → length (block_of s.blocks l) ≡ 16 * q → held_words (rejoining b l r s).blocks ≡ held_words s.blocks
+rejoin_exact : (b l r : Name) (q : ℕ) (s : Store) → length (block_of s.blocks l) ≡ 16 * q → held_words (rejoin_block b l r s).blocks ≡ held_words s.blocks
 rejoin_exact b l r q s whole =
     let xs : List ℤ = block_of s.blocks l in
-    let t : Store = dropping l s in
+    let t : Store = drop_block l s in
     let ys : List ℤ = block_of t.blocks r in
     let d = without_words s.blocks l in
     let e = without_words t.blocks r in
-    let w = with_words (dropping r t).blocks b (xs ++ ys) in
+    let w = with_words (drop_block r t).blocks b (xs ++ ys) in
     let n : block_words (length (xs ++ ys)) ≡ block_words (length xs + length ys) = ap block_words (length-append xs ys) in
     let j = whole_words (length xs) (length ys) q whole in omega (arith, d, e, w, n, j)
 
-rejoin_count : (b l r : Name) (s : Store) (x : Name) → count s.blocks l ≡ 1 → count s.blocks r ≡ 1 → hit l r ≡ 0 → count (rejoining b l r s).blocks x + (hit l x + hit r x) ≡ count s.blocks x + hit b x
+rejoin_count : (b l r : Name) (s : Store) (x : Name) → count s.blocks l ≡ 1 → count s.blocks r ≡ 1 → hit l r ≡ 0 → count (rejoin_block b l r s).blocks x + (hit l x + hit r x) ≡ count s.blocks x + hit b x
 rejoin_count b l r s x cl cr lr =
     let xs : List ℤ = block_of s.blocks l in
-    let t : Store = dropping l s in
+    let t : Store = drop_block l s in
     let ys : List ℤ = block_of t.blocks r in
     let d = count_without s.blocks l x (omega (arith, cl)) in
     let dr = count_without s.blocks l r (omega (arith, cl)) in
     let e = count_without t.blocks r x (omega (arith, dr, cr, lr)) in
-    let w = count_with (dropping r t).blocks b (xs ++ ys) x in omega (arith, d, e, w)
+    let w = count_with (drop_block r t).blocks b (xs ++ ys) x in omega (arith, d, e, w)
 
 rejoin_size : (b l r : Name) (s : Store) (x : Name)
-    → size (rejoining b l r s).blocks x + (weigh l x (length (block_of s.blocks l)) + weigh r x (length (block_of (dropping l s).blocks r)))
-    ≡ size s.blocks x + weigh b x (length (block_of s.blocks l) + length (block_of (dropping l s).blocks r))
+    → size (rejoin_block b l r s).blocks x + (weigh l x (length (block_of s.blocks l)) + weigh r x (length (block_of (drop_block l s).blocks r)))
+    ≡ size s.blocks x + weigh b x (length (block_of s.blocks l) + length (block_of (drop_block l s).blocks r))
 rejoin_size b l r s x =
     let xs : List ℤ = block_of s.blocks l in
-    let t : Store = dropping l s in
+    let t : Store = drop_block l s in
     let ys : List ℤ = block_of t.blocks r in
     let d = size_without s.blocks l x in
     let e = size_without t.blocks r x in
-    let w = size_with (dropping r t).blocks b (xs ++ ys) x in
+    let w = size_with (drop_block r t).blocks b (xs ++ ys) x in
     let n : weigh b x (length (xs ++ ys)) ≡ weigh b x (length xs + length ys) = ap (weigh b x) (length-append xs ys) in omega (arith, d, e, w, n)
 
 -- behind the body of a `split` its two parts are there
 pub parts_left : (env end : Environment) (b l r : Name) (line at : ℕ) (s v : State) → SplitEnds env end b l r line → count s.store.blocks b ≡ 1 → count s.store.blocks l ≡ 0 → count s.store.blocks r ≡ 0
-    → Moved (opened env b l r line) end (storing (cutting b l r at) s) v → (count v.store.blocks l ≡ 1) × (count v.store.blocks r ≡ 1)
+    → Moved (opened env b l r line) end (on_store (cut_block b l r at) s) v → (count v.store.blocks l ≡ 1) × (count v.store.blocks r ≡ 1)
 parts_left env end b l r line at s v ends cb cl cr m =
     let k = split_numbers env end b l r line ends in
     let lr : hit l r ≡ 0 = hit_other l r ends.two in
@@ -336,11 +336,11 @@ parts_left env end b l r line at s v ends cb cl cr m =
 
 cut_moved : (env end : Environment) (b l r : Name) (line : ℕ) (body : State → State) (at q : ℕ) (s : State) → SplitEnds env end b l r line → at ≡ 16 * q → at ≤ length (block_of s.store.blocks b)
     → s.faulted ≡ false → count s.store.blocks b ≡ 1 → count s.store.blocks l ≡ 0 → count s.store.blocks r ≡ 0
-    → (v : State) → Moved (opened env b l r line) end (storing (cutting b l r at) s) v
-    → (held_words (rejoining b l r v.store).blocks ≡ held_words v.store.blocks) × Moved env (regained (take (length env) end) b) s (storing (rejoining b l r) v)
+    → (v : State) → Moved (opened env b l r line) end (on_store (cut_block b l r at) s) v
+    → (held_words (rejoin_block b l r v.store).blocks ≡ held_words v.store.blocks) × Moved env (regained (take (length env) end) b) s (on_store (rejoin_block b l r) v)
 cut_moved env end b l r line body at q s ends whole le f cb cl cr v m =
     let k = split_numbers env end b l r line ends in
-    let u : State = storing (cutting b l r at) s in
+    let u : State = on_store (cut_block b l r at) s in
     let bs : List ℤ = block_of s.store.blocks b in
     let lb : hit l b ≡ 0 = hit_other l b (differs env l b ends.left_new ends.seen) in
     let rb : hit r b ≡ 0 = hit_other r b (differs env r b ends.right_new ends.seen) in
@@ -358,7 +358,7 @@ cut_moved env end b l r line body at q s ends whole le f cb cl cr v m =
     let vr : count v.store.blocks r ≡ 1 = two.1 in
     let vb : count v.store.blocks b ≡ 0 = omega (arith, ub, mb, ib, eb, cb, bb, lb, rb) in
     let xs : List ℤ = block_of v.store.blocks l in
-    let t : Store = dropping l v.store in
+    let t : Store = drop_block l v.store in
     let ys : List ℤ = block_of t.blocks r in
     -- the left part is as long as it was
     let zl = size_none s.store.blocks l cl in let zr = size_none s.store.blocks r cr in
@@ -388,7 +388,7 @@ cut_moved env end b l r line body at q s ends whole le f cb cl cr v m =
             let d = rejoin_size b l r v.store x in
             let xl = weigh_other l x (length xs) (differs env l x ends.left_new w) in
             let xr = weigh_other r x (length ys) (differs env r x ends.right_new w) in
-            by_names (λ (b' : Name) (x' : Name). b' ≡ b → x' ≡ x → size (rejoining b l r v.store).blocks x ≡ size s.store.blocks x) b x
+            by_names (λ (b' : Name) (x' : Name). b' ≡ b → x' ≡ x → size (rejoin_block b l r v.store).blocks x ≡ size s.store.blocks x) b x
             (λ y p p'.
             let e : b ≡ x = sym p ∙ p' in
             let db = rejoin_size b l r v.store b in
@@ -397,8 +397,8 @@ cut_moved env end b l r line body at q s ends whole le f cb cl cr v m =
             let bb0 = weigh_same b (length xs + length ys) in
             let z = size_none v.store.blocks b vb in
             let o = size_one s.store.blocks b (omega (arith, cb)) in
-            let final : size (rejoining b l r v.store).blocks b ≡ size s.store.blocks b = omega (arith, db, bl0, br0, bb0, z, o, lx, ly, le) in
-            subst (λ (n : Name). size (rejoining b l r v.store).blocks n ≡ size s.store.blocks n) e final)
+            let final : size (rejoin_block b l r v.store).blocks b ≡ size s.store.blocks b = omega (arith, db, bl0, br0, bb0, z, o, lx, ly, le) in
+            subst (λ (n : Name). size (rejoin_block b l r v.store).blocks n ≡ size s.store.blocks n) e final)
             (λ nb p p'.
             let xb = weigh_other b x (length xs + length ys) nb in
             let kept = m.sizes x (inner_seen env b l r line x w) (sym (k.same x w nb) ∙ h) in
@@ -413,36 +413,36 @@ cut_moved env end b l r line body at q s ends whole le f cb cl cr v m =
 ran_cut : (env end : Environment) (b l r : Name) (line : ℕ) (body : State → State) (at q : ℕ) (s : State) → SplitEnds env end b l r line → at ≡ 16 * q → at ≤ length (block_of s.store.blocks b)
     → s.faulted ≡ false → count s.store.blocks b ≡ 1 → count s.store.blocks l ≡ 0 → count s.store.blocks r ≡ 0
     → ((t : State) → t.faulted ≡ false → t.label ≡ s.label → t.turns ≡ s.turns → ((x : Name) → count t.store.blocks x + hit b x ≡ count s.store.blocks x + (hit l x + hit r x)) → Ran (opened env b l r line) end t (body t))
-    → Ran env (regained (take (length env) end) b) s (splitting_at line b l r body (Some at) s)
+    → Ran env (regained (take (length env) end) b) s (split_in_place line b l r body (Some at) s)
 ran_cut env end b l r line body at q s ends whole le f cb cl cr k =
     let inner : Environment = opened env b l r line in
     let after : Environment = regained (take (length env) end) b in
-    let g : State → State = storing (rejoining b l r) in
-    let u : State = storing (cutting b l r at) s in
+    let g : State → State = on_store (rejoin_block b l r) in
+    let u : State = on_store (cut_block b l r at) s in
     let v : State = body u in
     let ran : Ran inner end u v = k u f refl refl (λ x. cut_count b l r at s.store x cb) in
     let cut : Exact s u = exact_quiet s u refl (let c = cut_exact b l r at q s.store whole le in omega (arith, c)) in
     by v ran.way (exact_trans s u v cut ran.exact)
   where
-    by : (v : State) → Way (opened env b l r line) end (storing (cutting b l r at) s) v → Exact s v
-        → Ran env (regained (take (length env) end) b) s (unless_faulted (storing (rejoining b l r)) v)
-    by v (stopped p) e = subst (λ w. Ran env (regained (take (length env) end) b) s w) (sym (unless_stopped (storing (rejoining b l r)) v p.faulted)) (record { exact = e; way = stopped p })
+    by : (v : State) → Way (opened env b l r line) end (on_store (cut_block b l r at) s) v → Exact s v
+        → Ran env (regained (take (length env) end) b) s (unless_faulted (on_store (rejoin_block b l r)) v)
+    by v (stopped p) e = subst (λ w. Ran env (regained (take (length env) end) b) s w) (sym (unless_stopped (on_store (rejoin_block b l r)) v p.faulted)) (record { exact = e; way = stopped p })
     by v (went m) e =
         let r2 = cut_moved env end b l r line body at q s ends whole le f cb cl cr v m in
-        let w : State = storing (rejoining b l r) v in
+        let w : State = on_store (rejoin_block b l r) v in
         let same = r2.0 in
-        subst (λ w. Ran env (regained (take (length env) end) b) s w) (sym (unless_running (storing (rejoining b l r)) v m.running))
+        subst (λ w. Ran env (regained (take (length env) end) b) s w) (sym (unless_running (on_store (rejoin_block b l r)) v m.running))
         (went_ran env (regained (take (length env) end) b) s w (exact_trans s v w e (exact_quiet v w refl (omega (arith, same)))) r2.1)
 
 pub ran_splitting : (env end : Environment) (b l r : Name) (line : ℕ) (body : State → State) (at : ℤ) (s : State) → SplitEnds env end b l r line
     → s.faulted ≡ false → count s.store.blocks b ≡ 1 → count s.store.blocks l ≡ 0 → count s.store.blocks r ≡ 0
     → ((t : State) → t.faulted ≡ false → t.label ≡ s.label → t.turns ≡ s.turns → ((x : Name) → count t.store.blocks x + hit b x ≡ count s.store.blocks x + (hit l x + hit r x)) → Ran (opened env b l r line) end t (body t))
-    → Ran env (regained (take (length env) end) b) s (splitting line b l r body at s)
+    → Ran env (regained (take (length env) end) b) s (split_block line b l r body at s)
 ran_splitting env end b l r line body (negsuc n) s ends f cb cl cr k = ran_fault env (regained (take (length env) end) b) _ line s
 ran_splitting env end b l r line body (pos n) s ends f cb cl cr k = by (nat_le n (length (block_of s.store.blocks b))) refl (nat_eq (n % 16) 0) refl
   where
     by : (x : Bool) → nat_le n (length (block_of s.store.blocks b)) ≡ x → (y : Bool) → nat_eq (n % 16) 0 ≡ y
-        → Ran env (regained (take (length env) end) b) s (splitting_at line b l r body (if x && y then Some n else None) s)
+        → Ran env (regained (take (length env) end) b) s (split_in_place line b l r body (if x && y then Some n else None) s)
     by true le true whole =
         let rest = eqb-true (n % 16) 0 whole in
         ran_cut env end b l r line body n (n / 16) s ends (omega (arith, rest)) (leb-true n (length (block_of s.store.blocks b)) le) f cb cl cr k

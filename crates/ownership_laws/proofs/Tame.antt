@@ -4,7 +4,7 @@ use Rattle.std.specs.Prelude.{◌≡◌, ℕ, ◌+◌, ◌≤◌, Bool, true, fa
 use Rattle.std.specs.Str.{bytes_eq}
 use Rattle.std.specs.List.{list_all, list_any}
 use Rattle.std.proofs.Common.{sym, ◌∙◌, ap, arith, subst}
-use Rattle.par_tree.specs.Tree.{Name, Program, Expr, Target, unused, integer, block, Arg, value, lend, give, Param, ParamKind, by_value, lent, owned, Stmt, declare, assign, store, allocate, release, choose, repeat, call, print, both, split, Body, done, step}
+use Rattle.par_tree.specs.Tree.{Name, Program, Expr, Target, unused, integer, block, Arg, value, lend, give, Param, ParamKind, by_value, lent, owned, Stmt, let_stmt, assign_stmt, put_stmt, alloc_stmt, free_stmt, if_stmt, while_stmt, call_stmt, print_stmt, par_stmt, split_stmt, Body, done, step}
 use Rattle.par_ownership.specs.Environment as environments
 use Rattle.par_ownership.specs.Environment.{Kind, Entry, Environment, entry_of, integer_entry, block_entry, lent_entry, with_entry, marked, regained, opened, after_gives, after_answer, held_in_both, is_released}
 use Rattle.par_ownership.specs.Mention.{names_in_args, names_in_stmt, names_in_body, names_in_expr, names_in_target}
@@ -238,24 +238,24 @@ split_names false false false false a h = h
 
 mutual
   pub tame_stmt : (p : Program) (line : ℕ) (stmt : Stmt) (env after : Environment) (x : Name) → Owns p line stmt env after → Tame (names_in_stmt x stmt) env after x
-  tame_stmt p line (declare y e) env after x h = tame_to _ env (with_entry env (integer_entry y line)) after x h.2 (tame_integer _ env y line x (fresh_unseen env y h.0))
-  tame_stmt p line (assign y e) env after x h = tame_to _ env env after x h.2 (tame_same _ env x)
-  tame_stmt p line (store b i e) env after x h = tame_to _ env env after x h.3 (tame_same _ env x)
-  tame_stmt p line (allocate b e) env after x h =
+  tame_stmt p line (let_stmt y e) env after x h = tame_to _ env (with_entry env (integer_entry y line)) after x h.2 (tame_integer _ env y line x (fresh_unseen env y h.0))
+  tame_stmt p line (assign_stmt y e) env after x h = tame_to _ env env after x h.2 (tame_same _ env x)
+  tame_stmt p line (put_stmt b i e) env after x h = tame_to _ env env after x h.3 (tame_same _ env x)
+  tame_stmt p line (alloc_stmt b e) env after x h =
       tame_to _ env (with_entry env (block_entry b line)) after x h.2 (tame_block _ env b line x (fresh_unseen env b h.0) (or_first (bytes_eq b x) (names_in_expr x e)))
-  tame_stmt p line (release b) env after x h =
+  tame_stmt p line (free_stmt b) env after x h =
       tame_to _ env (environments.without env b) after x h.1 (tame_without _ env b x (owned_block env b h.0).1 (λ e. e))
-  tame_stmt p line (choose c a b) env after x h =
+  tame_stmt p line (if_stmt c a b) env after x h =
       let end : Environment = h.1.0 in
       tame_to _ env (take (length env) end) after x h.1.3
-      (tame_as (names_in_stmt x (choose c a b)) (names_in_body x a) env (take (length env) end) x
+      (tame_as (names_in_stmt x (if_stmt c a b)) (names_in_body x a) env (take (length env) end) x
       (λ e. or_first (names_in_body x a) (names_in_body x b) (or_second (names_in_expr x c) (names_in_body x a || names_in_body x b) e))
       (tame_taken (names_in_body x a) env end x h.1.2 (tame_all p a env end x h.1.1)))
-  tame_stmt p line (repeat c a) env after x h = tame_to _ env env after x h.2 (tame_same _ env x)
-  tame_stmt p line (call t f args) env after x h =
+  tame_stmt p line (while_stmt c a) env after x h = tame_to _ env env after x h.2 (tame_same _ env x)
+  tame_stmt p line (call_stmt t f args) env after x h =
       tame_to _ env (after_answer (after_gives env args) t line) after x h.2 (tame_call _ env h.1.0.params args t line x h.0 h.1.3 (λ e. e))
-  tame_stmt p line (print e) env after x h = tame_to _ env env after x h.1 (tame_same _ env x)
-  tame_stmt p line (both a b) env after x h =
+  tame_stmt p line (print_stmt e) env after x h = tame_to _ env env after x h.1 (tame_same _ env x)
+  tame_stmt p line (par_stmt a b) env after x h =
       let l : Environment = h.1.1.0 in let r : Environment = h.1.2.1.0 in
       let tl : Tame (names_in_body x a) env l x = tame_all p a env l x h.1.1.1 in
       let tr : Tame (names_in_body x b) env r x = tame_all p b env r x h.1.2.1.1 in
@@ -264,11 +264,11 @@ mutual
       (h.1.2.2 ∙ ap (λ (v : Environment). held_in_both v h.1.2.0) h.1.1.3 ∙ ap (λ (v : Environment). held_in_both left v) h.1.2.1.3)
       (tame_both (names_in_body x a) (names_in_body x b) env left right x (follows_take env l tl.follows) (follows_take env r tr.follows)
       (tame_taken (names_in_body x a) env l x h.1.1.2 tl) (tame_taken (names_in_body x b) env r x h.1.2.1.2 tr))
-  tame_stmt p line (split b e l r a) env after x h =
+  tame_stmt p line (split_stmt b e l r a) env after x h =
       let end : Environment = h.4.1.0 in
       let inner : Environment = opened env b l r line in
       tame_to _ env (regained (take (length env) end) b) after x (h.4.2 ∙ ap (λ (v : Environment). regained v b) h.4.1.3)
-      (tame_as (names_in_stmt x (split b e l r a)) ((bytes_eq b x || bytes_eq l x || bytes_eq r x) || names_in_body x a) env (regained (take (length env) end) b) x
+      (tame_as (names_in_stmt x (split_stmt b e l r a)) ((bytes_eq b x || bytes_eq l x || bytes_eq r x) || names_in_body x a) env (regained (take (length env) end) b) x
       (split_names (bytes_eq b x) (names_in_expr x e) (bytes_eq l x) (bytes_eq r x) (names_in_body x a))
       (tame_split (names_in_body x a) env end b l r line x h.0 (tame_all p a inner end x h.4.1.1)))
 

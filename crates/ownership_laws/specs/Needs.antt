@@ -1,19 +1,19 @@
 -- Which blocks must be there where a statement begins, and at the end of a call or of a `split`.
 use Rattle.std.specs.Prelude.{Bool, false, ◌||◌, List, [], ◌∷◌, Option, Some, None}
 use Rattle.std.specs.Str.{bytes_eq}
-use Rattle.par_tree.specs.Tree.{Name, Expr, number, variable, element, extent, negative, chain, compare, Links, last, link, Arg, value, lend, give, Stmt, declare, assign, store, allocate, release, choose, repeat, call, print, both, split, Param, Ret, RetValue, gives, hands}
+use Rattle.par_tree.specs.Tree.{Name, Expr, num, var, get, len_of, neg, chain, cmp, Links, last, link, Arg, value, lend, give, Stmt, let_stmt, assign_stmt, put_stmt, alloc_stmt, free_stmt, if_stmt, while_stmt, call_stmt, print_stmt, par_stmt, split_stmt, Param, Ret, RetValue, gives, hands}
 use Rattle.depth_first_run.specs.Middle.{Frame, does, answers, rejoins, answers_main, allocates, awaits, joins}
 
 -- the expression reads the block x, or its length
 abbrev mutual
   pub reads_block : Name → Expr → Bool
-  reads_block x (number n) = false
-  reads_block x (variable y) = false
-  reads_block x (element b i) = bytes_eq b x || reads_block x i
-  reads_block x (extent b) = bytes_eq b x
-  reads_block x (negative e) = reads_block x e
+  reads_block x (num n) = false
+  reads_block x (var y) = false
+  reads_block x (get b i) = bytes_eq b x || reads_block x i
+  reads_block x (len_of b) = bytes_eq b x
+  reads_block x (neg e) = reads_block x e
   reads_block x (chain e ls) = reads_block x e || reads_links x ls
-  reads_block x (compare op l r) = reads_block x l || reads_block x r
+  reads_block x (cmp op l r) = reads_block x l || reads_block x r
 
   pub reads_links : Name → Links → Bool
   reads_links x last = false
@@ -28,17 +28,17 @@ needed_by_args x (give b ∷ args) = bytes_eq b x || needed_by_args x args
 
 -- the statement itself reads, writes, frees, passes or cuts the block x; what stands in its bodies begins later
 abbrev pub needs_block : Name → Stmt → Bool
-needs_block x (declare y e) = reads_block x e
-needs_block x (assign y e) = reads_block x e
-needs_block x (store b i e) = bytes_eq b x || (reads_block x i || reads_block x e)
-needs_block x (allocate b e) = reads_block x e
-needs_block x (release b) = bytes_eq b x
-needs_block x (choose c a b) = reads_block x c
-needs_block x (repeat c a) = reads_block x c
-needs_block x (call t f args) = needed_by_args x args
-needs_block x (print e) = reads_block x e
-needs_block x (both a b) = false
-needs_block x (split b e l r a) = bytes_eq b x || reads_block x e
+needs_block x (let_stmt y e) = reads_block x e
+needs_block x (assign_stmt y e) = reads_block x e
+needs_block x (put_stmt b i e) = bytes_eq b x || (reads_block x i || reads_block x e)
+needs_block x (alloc_stmt b e) = reads_block x e
+needs_block x (free_stmt b) = bytes_eq b x
+needs_block x (if_stmt c a b) = reads_block x c
+needs_block x (while_stmt c a) = reads_block x c
+needs_block x (call_stmt t f args) = needed_by_args x args
+needs_block x (print_stmt e) = reads_block x e
+needs_block x (par_stmt a b) = false
+needs_block x (split_stmt b e l r a) = bytes_eq b x || reads_block x e
 
 -- the `return` reads the block x, or hands it back
 abbrev pub needed_by_value : Name → RetValue → Bool

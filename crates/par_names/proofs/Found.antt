@@ -2,7 +2,7 @@
 use Rattle.std.proofs.Common.{◌≡◌, Bool, true, false, ◌||◌, List, [], ◌∷◌, ◌++◌, refl, ap, ◌∙◌}
 use Rattle.std.specs.Str.{bytes_eq}
 use Rattle.std.proofs.lemmas.List.Folds.{list_any-append}
-use Rattle.par_tree.specs.Tree.{Name, Expr, number, variable, element, extent, negative, chain, compare, Links, last, link, Target, unused, integer, block, Arg, value, lend, give, Stmt, declare, assign, store, allocate, release, choose, repeat, call, print, both, split, Body, done, step}
+use Rattle.par_tree.specs.Tree.{Name, Expr, num, var, get, len_of, neg, chain, cmp, Links, last, link, Target, unused, integer, block, Arg, value, lend, give, Stmt, let_stmt, assign_stmt, put_stmt, alloc_stmt, free_stmt, if_stmt, while_stmt, call_stmt, print_stmt, par_stmt, split_stmt, Body, done, step}
 use Rattle.par_ownership.specs.Mention.{names_in_expr, names_in_links, names_in_target, names_in_arg, names_in_args, names_in_stmt, names_in_body, assigns_in_target, assigns_in_stmt, assigns_in_body}
 use Rattle.par_names.specs.Mentioned.{expr_names, links_names, target_names, arg_names, args_names, parts_names, stmt_names, body_names, target_assigned, stmt_assigned, body_assigned}
 use Rattle.par_names.specs.Sets.{is_among}
@@ -29,13 +29,13 @@ behind x y ys e = ap (λ c. bytes_eq y x || c) e
 
 mutual
   pub expr_found : (x : Name) (e : Expr) → is_among x (expr_names e) ≡ names_in_expr x e
-  expr_found x (number n) = refl
-  expr_found x (variable y) = among-one x y
-  expr_found x (element b i) = behind x b (expr_names i) (expr_found x i)
-  expr_found x (extent b) = among-one x b
-  expr_found x (negative e) = expr_found x e
+  expr_found x (num n) = refl
+  expr_found x (var y) = among-one x y
+  expr_found x (get b i) = behind x b (expr_names i) (expr_found x i)
+  expr_found x (len_of b) = among-one x b
+  expr_found x (neg e) = expr_found x e
   expr_found x (chain e ls) = joined x (expr_names e) (links_names ls) (expr_found x e) (links_found x ls)
-  expr_found x (compare op l r) = joined x (expr_names l) (expr_names r) (expr_found x l) (expr_found x r)
+  expr_found x (cmp op l r) = joined x (expr_names l) (expr_names r) (expr_found x l) (expr_found x r)
 
   pub links_found : (x : Name) (ls : Links) → is_among x (links_names ls) ≡ names_in_links x ls
   links_found x last = refl
@@ -67,19 +67,19 @@ parts_found x b e l r =
 
 mutual
   pub stmt_found : (x : Name) (s : Stmt) → is_among x (stmt_names s) ≡ names_in_stmt x s
-  stmt_found x (declare y e) = behind x y (expr_names e) (expr_found x e)
-  stmt_found x (assign y e) = behind x y (expr_names e) (expr_found x e)
-  stmt_found x (store b i e) =
+  stmt_found x (let_stmt y e) = behind x y (expr_names e) (expr_found x e)
+  stmt_found x (assign_stmt y e) = behind x y (expr_names e) (expr_found x e)
+  stmt_found x (put_stmt b i e) =
       behind x b (expr_names i ++ expr_names e) (joined x (expr_names i) (expr_names e) (expr_found x i) (expr_found x e))
       ∙ or_assoc (bytes_eq b x) (names_in_expr x i) (names_in_expr x e)
-  stmt_found x (allocate b e) = behind x b (expr_names e) (expr_found x e)
-  stmt_found x (release b) = among-one x b
-  stmt_found x (choose c a b) = joined x (expr_names c) (body_names a ++ body_names b) (expr_found x c) (joined x (body_names a) (body_names b) (body_found x a) (body_found x b))
-  stmt_found x (repeat c a) = joined x (expr_names c) (body_names a) (expr_found x c) (body_found x a)
-  stmt_found x (call t f args) = joined x (target_names t) (args_names args) (target_found x t) (args_found x args)
-  stmt_found x (print e) = expr_found x e
-  stmt_found x (both a b) = joined x (body_names a) (body_names b) (body_found x a) (body_found x b)
-  stmt_found x (split b e l r a) = joined x (parts_names b e l r) (body_names a) (parts_found x b e l r) (body_found x a)
+  stmt_found x (alloc_stmt b e) = behind x b (expr_names e) (expr_found x e)
+  stmt_found x (free_stmt b) = among-one x b
+  stmt_found x (if_stmt c a b) = joined x (expr_names c) (body_names a ++ body_names b) (expr_found x c) (joined x (body_names a) (body_names b) (body_found x a) (body_found x b))
+  stmt_found x (while_stmt c a) = joined x (expr_names c) (body_names a) (expr_found x c) (body_found x a)
+  stmt_found x (call_stmt t f args) = joined x (target_names t) (args_names args) (target_found x t) (args_found x args)
+  stmt_found x (print_stmt e) = expr_found x e
+  stmt_found x (par_stmt a b) = joined x (body_names a) (body_names b) (body_found x a) (body_found x b)
+  stmt_found x (split_stmt b e l r a) = joined x (parts_names b e l r) (body_names a) (parts_found x b e l r) (body_found x a)
 
   pub body_found : (x : Name) (b : Body) → is_among x (body_names b) ≡ names_in_body x b
   body_found x done = refl
@@ -92,17 +92,17 @@ target_assigned_found x (block b) = refl
 
 mutual
   pub stmt_assigned_found : (x : Name) (s : Stmt) → is_among x (stmt_assigned s) ≡ assigns_in_stmt x s
-  stmt_assigned_found x (declare y e) = refl
-  stmt_assigned_found x (assign y e) = among-one x y
-  stmt_assigned_found x (store b i e) = refl
-  stmt_assigned_found x (allocate b e) = refl
-  stmt_assigned_found x (release b) = refl
-  stmt_assigned_found x (choose c a b) = joined x (body_assigned a) (body_assigned b) (body_assigned_found x a) (body_assigned_found x b)
-  stmt_assigned_found x (repeat c a) = body_assigned_found x a
-  stmt_assigned_found x (call t f args) = target_assigned_found x t
-  stmt_assigned_found x (print e) = refl
-  stmt_assigned_found x (both a b) = joined x (body_assigned a) (body_assigned b) (body_assigned_found x a) (body_assigned_found x b)
-  stmt_assigned_found x (split b e l r a) = body_assigned_found x a
+  stmt_assigned_found x (let_stmt y e) = refl
+  stmt_assigned_found x (assign_stmt y e) = among-one x y
+  stmt_assigned_found x (put_stmt b i e) = refl
+  stmt_assigned_found x (alloc_stmt b e) = refl
+  stmt_assigned_found x (free_stmt b) = refl
+  stmt_assigned_found x (if_stmt c a b) = joined x (body_assigned a) (body_assigned b) (body_assigned_found x a) (body_assigned_found x b)
+  stmt_assigned_found x (while_stmt c a) = body_assigned_found x a
+  stmt_assigned_found x (call_stmt t f args) = target_assigned_found x t
+  stmt_assigned_found x (print_stmt e) = refl
+  stmt_assigned_found x (par_stmt a b) = joined x (body_assigned a) (body_assigned b) (body_assigned_found x a) (body_assigned_found x b)
+  stmt_assigned_found x (split_stmt b e l r a) = body_assigned_found x a
 
   pub body_assigned_found : (x : Name) (b : Body) → is_among x (body_assigned b) ≡ assigns_in_body x b
   body_assigned_found x done = refl

@@ -10,7 +10,7 @@ use Rattle.par_tree.proofs.Lists.{stmt_tree-while}
 use Rattle.par_names.specs.Rows.{rows_tree}
 
 body_of : Tree.Stmt → Tree.Body
-body_of (Tree.repeat e b) = b
+body_of (Tree.while_stmt e b) = b
 body_of _ = Tree.done
 
 pub body_is : (b : Vec Stmt Global) → rows_tree b ≡ body_tree b.items

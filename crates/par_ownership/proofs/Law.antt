@@ -1,7 +1,7 @@
 -- The walk refuses nothing exactly where the ownership rules hold.
 use Rattle.std.proofs.Common.{◌≡◌, ℕ, true, List, [], ◌∷◌, length, Option, Some, None, Result, Ok, Err, refl, sym, subst}
 use Rattle.std.specs.List.{list_all}
-use Rattle.par_tree.specs.Tree.{Program, Stmt, declare, assign, store, allocate, release, choose, repeat, call, print, both, split, Body, done, step, Param, Func, Ret, RetValue, gives, hands}
+use Rattle.par_tree.specs.Tree.{Program, Stmt, let_stmt, assign_stmt, put_stmt, alloc_stmt, free_stmt, if_stmt, while_stmt, call_stmt, print_stmt, par_stmt, split_stmt, Body, done, step, Param, Func, Ret, RetValue, gives, hands}
 use Rattle.par_ownership.specs.Environment.{Environment, integer_entry, block_entry, lent_entry, with_entry, opened, without, after_gives, after_answer, is_released, param_entry}
 use Rattle.par_ownership.specs.Ownership.{Owns, OwnsAll, OwnsParams, OwnsReturn, OwnsValue, OwnsFunction, OwnsFunctions, Ownership, function_of, main_name}
 use Rattle.par_ownership.specs.Walk.{Refusal, walk, walk_all, walk_params, walk_return, walk_value, block_refusal, lent_refusal, last_refusal, func_refusal, funcs_refusal, program_refusal}
@@ -10,33 +10,33 @@ use Rattle.par_ownership.proofs.Tests.{tells_fresh, tells_integer, tells_held, t
 
 mutual
   pub exact_stmt : (p : Program) (line : ℕ) (s : Stmt) (env : Environment) → Exact (walk p line s env) (Owns p line s env)
-  exact_stmt p line (declare x e) env =
+  exact_stmt p line (let_stmt x e) env =
       exact_as (exact_guarded (tells_fresh line env x) (exact_guarded (tells_expr line env e) (exact_ok (with_entry env (integer_entry x line)))))
       (λ after h. (h.0, h.1.0, h.1.1)) (λ after h. (h.0, (h.1, h.2)))
-  exact_stmt p line (assign x e) env =
+  exact_stmt p line (assign_stmt x e) env =
       exact_as (exact_guarded (tells_integer line env x) (exact_guarded (tells_expr line env e) (exact_ok env)))
       (λ after h. (h.0, h.1.0, h.1.1)) (λ after h. (h.0, (h.1, h.2)))
-  exact_stmt p line (store b i e) env =
+  exact_stmt p line (put_stmt b i e) env =
       exact_as (exact_guarded (tells_held line env b) (exact_guarded (tells_expr line env i) (exact_guarded (tells_expr line env e) (exact_ok env))))
       (λ after h. (h.0, h.1.0, h.1.1.0, h.1.1.1)) (λ after h. (h.0, (h.1, (h.2, h.3))))
-  exact_stmt p line (allocate b e) env =
+  exact_stmt p line (alloc_stmt b e) env =
       exact_as (exact_guarded (tells_fresh line env b) (exact_guarded (tells_expr line env e) (exact_ok (with_entry env (block_entry b line)))))
       (λ after h. (h.0, h.1.0, h.1.1)) (λ after h. (h.0, (h.1, h.2)))
-  exact_stmt p line (release b) env = exact_two (block_refusal line env b) (lent_refusal line env b) (tells_owned line env b) (exact_ok (without env b))
-  exact_stmt p line (choose c a b) env =
+  exact_stmt p line (free_stmt b) env = exact_two (block_refusal line env b) (lent_refusal line env b) (tells_owned line env b) (exact_ok (without env b))
+  exact_stmt p line (if_stmt c a b) env =
       exact_as (exact_guarded (tells_expr line env c) (exact_arms line (exact_ended (OwnsAll p a) (length env) env (exact_all p a env)) (exact_ended (OwnsAll p b) (length env) env (exact_all p b env))))
       (λ after h. (h.0, h.1.0, h.1.1)) (λ after h. (h.0, (h.1, h.2)))
-  exact_stmt p line (repeat c a) env =
+  exact_stmt p line (while_stmt c a) env =
       exact_as (exact_guarded (tells_expr line env c) (exact_round line env (exact_ended (OwnsAll p a) (length env) env (exact_all p a env))))
       (λ after h. (h.0, h.1.0, h.1.1)) (λ after h. (h.0, (h.1, h.2)))
-  exact_stmt p line (call t f args) env =
+  exact_stmt p line (call_stmt t f args) env =
       exact_as (exact_guarded (tells_call p line env t f args) (exact_ok (after_answer (after_gives env args) t line)))
       (λ after h. (h.0.0, h.0.1, h.1)) (λ after h. ((h.0, h.1), h.2))
-  exact_stmt p line (print e) env = exact_guarded (tells_expr line env e) (exact_ok env)
-  exact_stmt p line (both a b) env =
+  exact_stmt p line (print_stmt e) env = exact_guarded (tells_expr line env e) (exact_ok env)
+  exact_stmt p line (par_stmt a b) env =
       exact_guarded (tells_branches line a b env)
       (exact_branches (exact_ended (OwnsAll p a) (length env) env (exact_all p a env)) (exact_ended (OwnsAll p b) (length env) env (exact_all p b env)))
-  exact_stmt p line (split b e l r a) env =
+  exact_stmt p line (split_stmt b e l r a) env =
       exact_as
       (exact_guarded (tells_held line env b)
       (exact_guarded (tells_expr line env e)

@@ -2,7 +2,7 @@
 use Rattle.std.proofs.Common.{◌≡◌, ℕ, Bool, true, false, not, List, [], ◌∷◌, ◌++◌, length, nat_eq, Option, Some, None, is_none, refl, sym, subst, arith, eq-eqb, eqb-true}
 use Rattle.std.specs.List.{list_all, list_any}
 use Rattle.par_tree.specs.Tree
-use Rattle.par_tree.specs.Tree.{Name, Program, Expr, number, variable, element, extent, negative, chain, compare, Links, last, link, Target, unused, block, Arg, value, lend, give, Body, ParamKind, by_value, owned, Param, Func}
+use Rattle.par_tree.specs.Tree.{Name, Program, Expr, num, var, get, len_of, neg, chain, cmp, Links, last, link, Target, unused, block, Arg, value, lend, give, Body, ParamKind, by_value, owned, Param, Func}
 use Rattle.par_ownership.specs.declared.check_kind.CheckKind.{CheckKind}
 use Rattle.par_ownership.specs.declared.check_kind.CheckKind.TheVariants.{UnknownName, Redefined, WrongKind, WrongCount, SharedBlock, Gone, FreesLent, NoMain}
 use Rattle.par_ownership.specs.Environment.{Kind, integer, own, lent, is_block, is_own, Entry, Environment, entry_of}
@@ -66,13 +66,13 @@ tells_owned line env b = tells_as (owned_told line b (entry_of env b)) (λ h. (h
 -- expressions
 mutual
   pub tells_expr : (line : ℕ) (env : Environment) (e : Expr) → Tells (expr_refusal line env e) (Reads env e)
-  tells_expr line env (number n) = tells_nothing
-  tells_expr line env (variable x) = tells_integer line env x
-  tells_expr line env (element b i) = tells_first (tells_held line env b) (tells_expr line env i)
-  tells_expr line env (extent b) = tells_held line env b
-  tells_expr line env (negative e) = tells_expr line env e
+  tells_expr line env (num n) = tells_nothing
+  tells_expr line env (var x) = tells_integer line env x
+  tells_expr line env (get b i) = tells_first (tells_held line env b) (tells_expr line env i)
+  tells_expr line env (len_of b) = tells_held line env b
+  tells_expr line env (neg e) = tells_expr line env e
   tells_expr line env (chain e ls) = tells_first (tells_expr line env e) (tells_links line env ls)
-  tells_expr line env (compare op l r) = tells_first (tells_expr line env l) (tells_expr line env r)
+  tells_expr line env (cmp op l r) = tells_first (tells_expr line env l) (tells_expr line env r)
 
   tells_links : (line : ℕ) (env : Environment) (ls : Links) → Tells (links_refusal line env ls) (ReadsLinks env ls)
   tells_links line env last = tells_nothing

@@ -5,7 +5,7 @@ use Rattle.std.specs.Prelude.{◌≡◌, ℕ, Bool, true, false, not, ◌&&◌, 
 use Rattle.std.specs.List.{find, list_all, list_any}
 use Rattle.std.specs.Str.{bytes_eq}
 use Rattle.par_tree.specs.Tree
-use Rattle.par_tree.specs.Tree.{Name, Program, Expr, number, variable, element, extent, negative, chain, compare, Links, last, link, Target, unused, block, Arg, value, lend, give, Stmt, declare, assign, store, allocate, release, choose, repeat, call, print, both, split, Body, done, step, ParamKind, by_value, owned, Param, Func, Ret, RetValue, gives, hands}
+use Rattle.par_tree.specs.Tree.{Name, Program, Expr, num, var, get, len_of, neg, chain, cmp, Links, last, link, Target, unused, block, Arg, value, lend, give, Stmt, let_stmt, assign_stmt, put_stmt, alloc_stmt, free_stmt, if_stmt, while_stmt, call_stmt, print_stmt, par_stmt, split_stmt, Body, done, step, ParamKind, by_value, owned, Param, Func, Ret, RetValue, gives, hands}
 use Rattle.par_ownership.specs.Environment.{is_block, is_own, Entry, Environment, entry_of, integer_entry, block_entry, lent_entry, with_entry, regained, opened, without, after_gives, after_answer, held_in_both, is_released, param_entry}
 use Rattle.par_ownership.specs.Mention.{names_in_body, assigns_in_body}
 
@@ -28,13 +28,13 @@ IsOwned env b = (e : Entry) × (entry_of env b ≡ Some e) × (is_own e.kind ≡
 -- every name of an expression is an integer, or a block that is held, as its place wants
 abbrev mutual
   pub Reads : Environment → Expr → Type 0
-  Reads env (number n) = Unit {0}
-  Reads env (variable x) = IsInteger env x
-  Reads env (element b i) = IsHeld env b × Reads env i
-  Reads env (extent b) = IsHeld env b
-  Reads env (negative e) = Reads env e
+  Reads env (num n) = Unit {0}
+  Reads env (var x) = IsInteger env x
+  Reads env (get b i) = IsHeld env b × Reads env i
+  Reads env (len_of b) = IsHeld env b
+  Reads env (neg e) = Reads env e
   Reads env (chain e ls) = Reads env e × ReadsLinks env ls
-  Reads env (compare op l r) = Reads env l × Reads env r
+  Reads env (cmp op l r) = Reads env l × Reads env r
 
   pub ReadsLinks : Environment → Links → Type 0
   ReadsLinks env last = Unit {0}
@@ -112,26 +112,26 @@ Within n R env after = (end : Environment) × R env end × (list_all is_released
 -- a statement with its line, and a list of statements
 abbrev mutual
   pub Owns : Program → ℕ → Stmt → Environment → Environment → Type 0
-  Owns p line (declare x e) env after = IsFresh env x × Reads env e × (after ≡ with_entry env (integer_entry x line))
-  Owns p line (assign x e) env after = IsInteger env x × Reads env e × (after ≡ env)
-  Owns p line (store b i e) env after = IsHeld env b × Reads env i × Reads env e × (after ≡ env)
-  Owns p line (allocate b e) env after = IsFresh env b × Reads env e × (after ≡ with_entry env (block_entry b line))
-  Owns p line (release b) env after = IsOwned env b × (after ≡ without env b)
-  Owns p line (choose c a b) env after =
+  Owns p line (let_stmt x e) env after = IsFresh env x × Reads env e × (after ≡ with_entry env (integer_entry x line))
+  Owns p line (assign_stmt x e) env after = IsInteger env x × Reads env e × (after ≡ env)
+  Owns p line (put_stmt b i e) env after = IsHeld env b × Reads env i × Reads env e × (after ≡ env)
+  Owns p line (alloc_stmt b e) env after = IsFresh env b × Reads env e × (after ≡ with_entry env (block_entry b line))
+  Owns p line (free_stmt b) env after = IsOwned env b × (after ≡ without env b)
+  Owns p line (if_stmt c a b) env after =
       Reads env c × Within (length env) (OwnsAll p a) env after
       × ((other : Environment) × Within (length env) (OwnsAll p b) env other × HoldTheSame after other)
-  Owns p line (repeat c a) env after =
+  Owns p line (while_stmt c a) env after =
       Reads env c × ((end : Environment) × Within (length env) (OwnsAll p a) env end × HoldTheSame env end) × (after ≡ env)
-  Owns p line (call t f args) env after =
+  Owns p line (call_stmt t f args) env after =
       IsTarget env t
       × ((g : Func) × (function_of p f ≡ Some g) × (takes_answer t (hands_back g.ret) ≡ true) × Passes env [] g.params args)
       × (after ≡ after_answer (after_gives env args) t line)
-  Owns p line (print e) env after = Reads env e × (after ≡ env)
-  Owns p line (both a b) env after =
+  Owns p line (print_stmt e) env after = Reads env e × (after ≡ env)
+  Owns p line (par_stmt a b) env after =
       (list_all (are_apart a b) env ≡ true)
       × ((left : Environment) × Within (length env) (OwnsAll p a) env left
       × ((right : Environment) × Within (length env) (OwnsAll p b) env right × (after ≡ held_in_both left right)))
-  Owns p line (split b e l r a) env after =
+  Owns p line (split_stmt b e l r a) env after =
       IsHeld env b × Reads env e × IsFresh env l × IsFresh (with_entry env (lent_entry l line)) r
       × ((end : Environment)
       × Within (length env) (OwnsAll p a) (opened env b l r line) end

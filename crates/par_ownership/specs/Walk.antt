@@ -3,7 +3,7 @@
 use Rattle.std.specs.Prelude.{ℕ, Bool, true, false, not, List, [], ◌∷◌, ◌++◌, take, drop, length, nat_eq, Option, Some, None, is_none, Result, Ok, Err}
 use Rattle.std.specs.List.{list_any}
 use Rattle.par_tree.specs.Tree
-use Rattle.par_tree.specs.Tree.{Name, Program, Expr, number, variable, element, extent, negative, chain, compare, Links, last, link, Target, unused, block, Arg, value, lend, give, Stmt, declare, assign, store, allocate, release, choose, repeat, call, print, both, split, Body, done, step, ParamKind, by_value, owned, Param, Func, Ret, RetValue, gives, hands}
+use Rattle.par_tree.specs.Tree.{Name, Program, Expr, num, var, get, len_of, neg, chain, cmp, Links, last, link, Target, unused, block, Arg, value, lend, give, Stmt, let_stmt, assign_stmt, put_stmt, alloc_stmt, free_stmt, if_stmt, while_stmt, call_stmt, print_stmt, par_stmt, split_stmt, Body, done, step, ParamKind, by_value, owned, Param, Func, Ret, RetValue, gives, hands}
 use Rattle.par_ownership.specs.declared.check_kind.CheckKind.{CheckKind}
 use Rattle.par_ownership.specs.declared.check_kind.CheckKind.TheVariants.{UnknownName, Redefined, WrongKind, WrongCount, SharedBlock, SharedInt, Gone, NotFreed, ArmsDiffer, FreesLent, NoMain}
 use Rattle.par_ownership.specs.Environment.{is_block, is_own, Entry, Environment, entry_of, integer_entry, block_entry, lent_entry, with_entry, regained, opened, without, after_gives, after_answer, held_in_both, is_released, param_entry}
@@ -66,13 +66,13 @@ lent_refusal line env b = lent_case line b (entry_of env b)
 -- an expression from left to right
 abbrev mutual
   pub expr_refusal : ℕ → Environment → Expr → Option Refusal
-  expr_refusal line env (number n) = None
-  expr_refusal line env (variable x) = integer_refusal line env x
-  expr_refusal line env (element b i) = first_of (block_refusal line env b) (expr_refusal line env i)
-  expr_refusal line env (extent b) = block_refusal line env b
-  expr_refusal line env (negative e) = expr_refusal line env e
+  expr_refusal line env (num n) = None
+  expr_refusal line env (var x) = integer_refusal line env x
+  expr_refusal line env (get b i) = first_of (block_refusal line env b) (expr_refusal line env i)
+  expr_refusal line env (len_of b) = block_refusal line env b
+  expr_refusal line env (neg e) = expr_refusal line env e
   expr_refusal line env (chain e ls) = first_of (expr_refusal line env e) (links_refusal line env ls)
-  expr_refusal line env (compare op l r) = first_of (expr_refusal line env l) (expr_refusal line env r)
+  expr_refusal line env (cmp op l r) = first_of (expr_refusal line env l) (expr_refusal line env r)
 
   pub links_refusal : ℕ → Environment → Links → Option Refusal
   links_refusal line env last = None
@@ -169,25 +169,25 @@ after_split b (Ok end) = Ok (regained end b)
 -- a statement with its line, and a list of statements
 abbrev mutual
   pub walk : Program → ℕ → Stmt → Environment → Result Environment Refusal
-  walk p line (declare x e) env =
+  walk p line (let_stmt x e) env =
       guarded (fresh_refusal line env x) (guarded (expr_refusal line env e) (Ok (with_entry env (integer_entry x line))))
-  walk p line (assign x e) env = guarded (integer_refusal line env x) (guarded (expr_refusal line env e) (Ok env))
-  walk p line (store b i e) env =
+  walk p line (assign_stmt x e) env = guarded (integer_refusal line env x) (guarded (expr_refusal line env e) (Ok env))
+  walk p line (put_stmt b i e) env =
       guarded (block_refusal line env b) (guarded (expr_refusal line env i) (guarded (expr_refusal line env e) (Ok env)))
-  walk p line (allocate b e) env =
+  walk p line (alloc_stmt b e) env =
       guarded (fresh_refusal line env b) (guarded (expr_refusal line env e) (Ok (with_entry env (block_entry b line))))
-  walk p line (release b) env = guarded (block_refusal line env b) (guarded (lent_refusal line env b) (Ok (without env b)))
-  walk p line (choose c a b) env =
+  walk p line (free_stmt b) env = guarded (block_refusal line env b) (guarded (lent_refusal line env b) (Ok (without env b)))
+  walk p line (if_stmt c a b) env =
       guarded (expr_refusal line env c)
       (after_arms line (ended (length env) (walk_all p a env)) (ended (length env) (walk_all p b env)))
-  walk p line (repeat c a) env = guarded (expr_refusal line env c) (after_round line env (ended (length env) (walk_all p a env)))
-  walk p line (call t f args) env =
+  walk p line (while_stmt c a) env = guarded (expr_refusal line env c) (after_round line env (ended (length env) (walk_all p a env)))
+  walk p line (call_stmt t f args) env =
       guarded (call_refusal p line env t f args) (Ok (after_answer (after_gives env args) t line))
-  walk p line (print e) env = guarded (expr_refusal line env e) (Ok env)
-  walk p line (both a b) env =
+  walk p line (print_stmt e) env = guarded (expr_refusal line env e) (Ok env)
+  walk p line (par_stmt a b) env =
       guarded (branches_refusal line a b env)
       (after_branches (ended (length env) (walk_all p a env)) (ended (length env) (walk_all p b env)))
-  walk p line (split b e l r a) env =
+  walk p line (split_stmt b e l r a) env =
       guarded (block_refusal line env b)
       (guarded (expr_refusal line env e)
       (guarded (fresh_refusal line env l)

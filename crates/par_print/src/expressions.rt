@@ -2,7 +2,7 @@
 
 ghost use Rattle.std.specs.Prelude.{◌≡◌, ◌++◌, IfOk, codes};
 ghost use Rattle.par_tree.specs.View.{name_tree, expr_tree, links_tree};
-ghost use Rattle.par_tree.specs.Tree.{element as element_tree, extent as extent_tree, negative as negative_tree};
+ghost use Rattle.par_tree.specs.Tree.{get as element_tree, len_of as extent_tree, neg as negative_tree};
 ghost use Rattle.canonical_text.specs.Canonical.{expr_text, links_text, text_in};
 ghost use Rattle.canonical_text.specs.declared.place.Place.TheVariants.{Factor};
 

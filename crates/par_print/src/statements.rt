@@ -2,7 +2,7 @@
 
 ghost use Rattle.std.specs.Prelude.{◌≡◌, ◌++◌, IfOk, codes, []};
 ghost use Rattle.par_tree.specs.View.{name_tree, expr_tree, target_tree, args_tree, stmt_tree, body_tree};
-ghost use Rattle.par_tree.specs.Tree.{store as store_tree, call as call_tree};
+ghost use Rattle.par_tree.specs.Tree.{put_stmt as store_tree, call_stmt as call_tree};
 ghost use Rattle.canonical_text.specs.Canonical.{◌⊕◌, expr_text, stmt_text, body_text, else_text, braces, deeper};
 
 use crate::expressions::expression;

@@ -1,6 +1,6 @@
 -- The grammar of the language, and the tree that each form means. Parentheses leave no trace.
 use Rattle.std.specs.Prelude.{ℕ, Bool, false, ◌||◌, not, List, [], ◌∷◌, Option, Some, None}
-use Rattle.par_tree.specs.Tree.{Name, ChainOp, plus, minus, times, over, modulo, Comparison, equal, unequal, below, at_most, above, at_least, Expr, number, variable, element, extent, negative, chain, compare, Links, last, link, unused, integer, block, Arg, value, lend, give, Stmt, declare, assign, store, allocate, release, choose, repeat, call, print, both, split, Body, done, step, Param, by_value, lent, owned, RetValue, gives, hands, Ret, Func, Program}
+use Rattle.par_tree.specs.Tree.{Name, ChainOp, plus, minus, times, over, modulo, Comparison, equal, unequal, below, at_most, above, at_least, Expr, num, var, get, len_of, neg, chain, cmp, Links, last, link, unused, integer, block, Arg, value, lend, give, Stmt, let_stmt, assign_stmt, put_stmt, alloc_stmt, free_stmt, if_stmt, while_stmt, call_stmt, print_stmt, par_stmt, split_stmt, Body, done, step, Param, by_value, lent, owned, RetValue, gives, hands, Ret, Func, Program}
 use Rattle.par_text.specs.declared.kind.Kind.{Kind}
 use Rattle.par_text.specs.declared.kind.Kind.TheVariants as k
 use Rattle.par_text.specs.Kinds.{is}
@@ -34,8 +34,8 @@ one_of (i ∷ is_) j = is i j || one_of is_ j
 -- expressions
 
 abbrev pub named : Name → Option Expr → Expr
-named x None = variable x
-named b (Some i) = element b i
+named x None = var x
+named b (Some i) = get b i
 
 -- "[" expr "]", or nothing
 unfoldable pub index_rule : Rule (Option Expr)
@@ -43,16 +43,16 @@ index_rule = either (is k.LeftBracket) (nest k.LeftBracket (within expression (�
 
 -- factor = NAME | NAME "[" expr "]" | "len" "(" NAME ")" | "(" expr ")" | "-" factor | NUMBER
 unfoldable pub extent_rule : Rule Expr
-extent_rule = token k.Len ⊳ nest k.LeftParen (mapped extent name ⊲ token k.RightParen)
+extent_rule = token k.Len ⊳ nest k.LeftParen (mapped len_of name ⊲ token k.RightParen)
 
 unfoldable pub group_rule : Rule Expr
 group_rule = nest k.LeftParen (within expression (λ e. e) ⊲ token k.RightParen)
 
 unfoldable pub sign_rule : Rule Expr
-sign_rule = nest k.Minus (within factor negative)
+sign_rule = nest k.Minus (within factor neg)
 
 abbrev pub number_of : Token → Expr
-number_of t = number t.value
+number_of t = num t.value
 
 unfoldable pub number_rule : Rule Expr
 number_rule = mapped number_of (token k.Number)
@@ -123,7 +123,7 @@ comparison =
 
 abbrev pub compared : Expr → Option (Comparison × Expr) → Expr
 compared e None = e
-compared e (Some c) = compare c.0 e c.1
+compared e (Some c) = cmp c.0 e c.1
 
 unfoldable pub compared_rule : Rule (Option (Comparison × Expr))
 compared_rule = either is_comparison (pair (λ c e. Some (c, e)) comparison sum_rule) (nothing None)
@@ -146,14 +146,14 @@ unfoldable pub named_value : Rule (Name × Expr)
 named_value = two name (token k.Assign ⊳ expr_rule ⊲ token k.Semicolon)
 
 abbrev pub declared : Name × Expr → Stmt
-declared v = declare v.0 v.1
+declared v = let_stmt v.0 v.1
 
 -- "let" NAME "=" expr ";"
 unfoldable pub let_rule : Rule (ℕ × Stmt)
 let_rule = behind k.Let declared named_value
 
 abbrev pub allocated : Name × Expr → Stmt
-allocated v = allocate v.0 v.1
+allocated v = alloc_stmt v.0 v.1
 
 -- "alloc" NAME "=" expr ";"
 unfoldable pub alloc_rule : Rule (ℕ × Stmt)
@@ -161,15 +161,15 @@ alloc_rule = behind k.Alloc allocated named_value
 
 -- "free" NAME ";"
 unfoldable pub free_rule : Rule (ℕ × Stmt)
-free_rule = behind k.Free release (name ⊲ token k.Semicolon)
+free_rule = behind k.Free free_stmt (name ⊲ token k.Semicolon)
 
 -- "print" expr ";"
 unfoldable pub print_rule : Rule (ℕ × Stmt)
-print_rule = behind k.Print print (expr_rule ⊲ token k.Semicolon)
+print_rule = behind k.Print print_stmt (expr_rule ⊲ token k.Semicolon)
 
 abbrev pub written : Name → Option Expr × Expr → Stmt
-written x (None, e) = assign x e
-written b (Some i, e) = store b i e
+written x (None, e) = assign_stmt x e
+written b (Some i, e) = put_stmt b i e
 
 -- [ "[" expr "]" ] "=" expr ";"
 unfoldable pub written_value : Rule (Option Expr × Expr)
@@ -184,14 +184,14 @@ unfoldable pub else_rule : Rule Body
 else_rule = either (is k.Else) (token k.Else ⊳ body_rule) (nothing done)
 
 abbrev pub chosen : Expr × (Body × Body) → Stmt
-chosen v = choose v.0 v.1.0 v.1.1
+chosen v = if_stmt v.0 v.1.0 v.1.1
 
 -- "if" expr body [ "else" body ]
 unfoldable pub if_rule : Rule (ℕ × Stmt)
 if_rule = behind k.If chosen (two expr_rule (two body_rule else_rule))
 
 abbrev pub repeated : Expr × Body → Stmt
-repeated v = repeat v.0 v.1
+repeated v = while_stmt v.0 v.1
 
 -- "while" expr body
 unfoldable pub while_rule : Rule (ℕ × Stmt)
@@ -221,8 +221,8 @@ unfoldable pub args_rule : Rule (List Arg)
 args_rule = nest k.LeftParen (arg_list ⊲ token k.RightParen)
 
 abbrev pub answering : Name → Option Name × List Arg → Stmt
-answering f (None, xs) = call unused f xs
-answering x (Some f, xs) = call (integer x) f xs
+answering f (None, xs) = call_stmt unused f xs
+answering x (Some f, xs) = call_stmt (integer x) f xs
 
 -- [ "=" NAME ]
 unfoldable pub callee_rule : Rule (Option Name)
@@ -230,7 +230,7 @@ callee_rule = either (is k.Assign) (token k.Assign ⊳ mapped (λ x. Some x) nam
 
 -- "own" NAME "=" NAME "(" [ arg { "," arg } ] ")"
 unfoldable pub owning_call : Rule Stmt
-owning_call = token k.Own ⊳ pair (λ x c. call (block x) c.0 c.1) name (token k.Assign ⊳ two name args_rule)
+owning_call = token k.Own ⊳ pair (λ x c. call_stmt (block x) c.0 c.1) name (token k.Assign ⊳ two name args_rule)
 
 -- [ NAME "=" ] NAME "(" [ arg { "," arg } ] ")"
 unfoldable pub plain_call : Rule Stmt
@@ -244,7 +244,7 @@ unfoldable pub call_rule : Rule (ℕ × Stmt)
 call_rule = behind k.Call (λ s. s) (any_call ⊲ token k.Semicolon)
 
 abbrev pub forked : Body × Body → Stmt
-forked v = both v.0 v.1
+forked v = par_stmt v.0 v.1
 
 -- "par" body "and" body
 unfoldable pub par_rule : Rule (ℕ × Stmt)
@@ -255,7 +255,7 @@ unfoldable pub parts_rule : Rule (Name × Name)
 parts_rule = two name (token k.Comma ⊳ name)
 
 abbrev pub parted : Name × (Expr × ((Name × Name) × Body)) → Stmt
-parted v = split v.0 v.1.0 v.1.1.0.0 v.1.1.0.1 v.1.1.1
+parted v = split_stmt v.0 v.1.0 v.1.1.0.0 v.1.1.0.1 v.1.1.1
 
 -- "split" NAME "at" expr "into" NAME "," NAME body
 unfoldable pub split_rule : Rule (ℕ × Stmt)

@@ -30,18 +30,18 @@ body_is b = row_body-list (hidden-the_row-Stmt-0 b) ∙ ap body_tree (items_hidd
 pub expr_tree-chain : (first : Box Expr Global) (rest : Vec Link Global) → expr_tree (Chain first rest) ≡ Tree.chain (expr_tree first.value) (links_tree rest.items)
 expr_tree-chain first rest = ap (λ (r : Tree.Links). Tree.chain (expr_tree first.value) r) (links_are rest)
 
-pub stmt_tree-if : (e : Expr) (a b : Vec Stmt Global) → stmt_tree (If e a b) ≡ Tree.choose (expr_tree e) (body_tree a.items) (body_tree b.items)
+pub stmt_tree-if : (e : Expr) (a b : Vec Stmt Global) → stmt_tree (If e a b) ≡ Tree.if_stmt (expr_tree e) (body_tree a.items) (body_tree b.items)
 stmt_tree-if e a b =
-    ap (λ (x : Tree.Body). Tree.choose (expr_tree e) x (row_body (hidden-the_row-Stmt-0 b))) (body_is a)
-    ∙ ap (λ (x : Tree.Body). Tree.choose (expr_tree e) (body_tree a.items) x) (body_is b)
+    ap (λ (x : Tree.Body). Tree.if_stmt (expr_tree e) x (row_body (hidden-the_row-Stmt-0 b))) (body_is a)
+    ∙ ap (λ (x : Tree.Body). Tree.if_stmt (expr_tree e) (body_tree a.items) x) (body_is b)
 
-pub stmt_tree-while : (e : Expr) (a : Vec Stmt Global) → stmt_tree (While e a) ≡ Tree.repeat (expr_tree e) (body_tree a.items)
-stmt_tree-while e a = ap (λ (x : Tree.Body). Tree.repeat (expr_tree e) x) (body_is a)
+pub stmt_tree-while : (e : Expr) (a : Vec Stmt Global) → stmt_tree (While e a) ≡ Tree.while_stmt (expr_tree e) (body_tree a.items)
+stmt_tree-while e a = ap (λ (x : Tree.Body). Tree.while_stmt (expr_tree e) x) (body_is a)
 
-pub stmt_tree-par : (a b : Vec Stmt Global) → stmt_tree (Par a b) ≡ Tree.both (body_tree a.items) (body_tree b.items)
+pub stmt_tree-par : (a b : Vec Stmt Global) → stmt_tree (Par a b) ≡ Tree.par_stmt (body_tree a.items) (body_tree b.items)
 stmt_tree-par a b =
-    ap (λ (x : Tree.Body). Tree.both x (row_body (hidden-the_row-Stmt-0 b))) (body_is a)
-    ∙ ap (λ (x : Tree.Body). Tree.both (body_tree a.items) x) (body_is b)
+    ap (λ (x : Tree.Body). Tree.par_stmt x (row_body (hidden-the_row-Stmt-0 b))) (body_is a)
+    ∙ ap (λ (x : Tree.Body). Tree.par_stmt (body_tree a.items) x) (body_is b)
 
-pub stmt_tree-split : (b : Name) (e : Expr) (l r : Name) (a : Vec Stmt Global) → stmt_tree (Split b e l r a) ≡ Tree.split (name_tree b) (expr_tree e) (name_tree l) (name_tree r) (body_tree a.items)
-stmt_tree-split b e l r a = ap (λ (x : Tree.Body). Tree.split (name_tree b) (expr_tree e) (name_tree l) (name_tree r) x) (body_is a)
+pub stmt_tree-split : (b : Name) (e : Expr) (l r : Name) (a : Vec Stmt Global) → stmt_tree (Split b e l r a) ≡ Tree.split_stmt (name_tree b) (expr_tree e) (name_tree l) (name_tree r) (body_tree a.items)
+stmt_tree-split b e l r a = ap (λ (x : Tree.Body). Tree.split_stmt (name_tree b) (expr_tree e) (name_tree l) (name_tree r) x) (body_is a)

@@ -26,13 +26,13 @@ pub data Comparison : Type 0 where
 -- an expression, and the operators and operands of a chain behind its first operand
 mutual
   pub data Expr : Type 0 where
-    number : ℤ → Expr
-    variable : Name → Expr
-    element : Name → Expr → Expr
-    extent : Name → Expr
-    negative : Expr → Expr
+    num : ℤ → Expr
+    var : Name → Expr
+    get : Name → Expr → Expr
+    len_of : Name → Expr
+    neg : Expr → Expr
     chain : Expr → Links → Expr
-    compare : Comparison → Expr → Expr → Expr
+    cmp : Comparison → Expr → Expr → Expr
 
   pub data Links : Type 0 where
     last : Links
@@ -50,22 +50,21 @@ pub data Arg : Type 0 where
   lend : Name → Arg
   give : Name → Arg
 
--- A statement, and a list of statements with their lines: `step line statement rest`.
--- `allocate b e` is `alloc b = e`, `release b` is `free b`, `choose` is `if`, `repeat` is `while`,
--- `store b i e` is `b[i] = e`, `both` is `par`, and `split b e l r` is followed by its body.
+-- A statement, and a list of statements with their lines: `step line statement rest`. Each is named as in the Rust type; `put_stmt b i e`
+-- is `b[i] = e`, and in `split_stmt b e l r body` the block b is cut at e into l and r.
 mutual
   pub data Stmt : Type 0 where
-    declare : Name → Expr → Stmt
-    assign : Name → Expr → Stmt
-    store : Name → Expr → Expr → Stmt
-    allocate : Name → Expr → Stmt
-    release : Name → Stmt
-    choose : Expr → Body → Body → Stmt
-    repeat : Expr → Body → Stmt
-    call : Target → Name → List Arg → Stmt
-    print : Expr → Stmt
-    both : Body → Body → Stmt
-    split : Name → Expr → Name → Name → Body → Stmt
+    let_stmt : Name → Expr → Stmt
+    assign_stmt : Name → Expr → Stmt
+    put_stmt : Name → Expr → Expr → Stmt
+    alloc_stmt : Name → Expr → Stmt
+    free_stmt : Name → Stmt
+    if_stmt : Expr → Body → Body → Stmt
+    while_stmt : Expr → Body → Stmt
+    call_stmt : Target → Name → List Arg → Stmt
+    print_stmt : Expr → Stmt
+    par_stmt : Body → Body → Stmt
+    split_stmt : Name → Expr → Name → Name → Body → Stmt
 
   pub data Body : Type 0 where
     done : Body

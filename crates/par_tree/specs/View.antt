@@ -44,13 +44,13 @@ cmp_op_tree cmp_ops.Ge = Tree.at_least
 -- an expression, and the links of a chain
 abbrev mutual
   pub expr_tree : Expr → Tree.Expr
-  expr_tree (Num n) = Tree.number n
-  expr_tree (Var x) = Tree.variable (name_tree x)
-  expr_tree (Get' b p i) = Tree.element (name_tree b) (expr_tree i)
-  expr_tree (Len b) = Tree.extent (name_tree b)
-  expr_tree (Neg' p e) = Tree.negative (expr_tree e)
+  expr_tree (Num n) = Tree.num n
+  expr_tree (Var x) = Tree.var (name_tree x)
+  expr_tree (Get' b p i) = Tree.get (name_tree b) (expr_tree i)
+  expr_tree (Len b) = Tree.len_of (name_tree b)
+  expr_tree (Neg' p e) = Tree.neg (expr_tree e)
   expr_tree (Chain' p e shape rest) = Tree.chain (expr_tree e) (row_links rest)
-  expr_tree (Cmp' op p l q r) = Tree.compare (cmp_op_tree op) (expr_tree l) (expr_tree r)
+  expr_tree (Cmp' op p l q r) = Tree.cmp (cmp_op_tree op) (expr_tree l) (expr_tree r)
 
   pub row_links : {n : _} → Row_of-Link n → Tree.Links
   row_links end_of-Link = Tree.last
@@ -77,17 +77,17 @@ args_tree xs = map arg_tree xs
 -- a statement, and a list of statements
 abbrev mutual
   pub stmt_tree : StmtKind → Tree.Stmt
-  stmt_tree (Let x e) = Tree.declare (name_tree x) (expr_tree e)
-  stmt_tree (Assign x e) = Tree.assign (name_tree x) (expr_tree e)
-  stmt_tree (Put b i e) = Tree.store (name_tree b) (expr_tree i) (expr_tree e)
-  stmt_tree (Alloc b e) = Tree.allocate (name_tree b) (expr_tree e)
-  stmt_tree (Free b) = Tree.release (name_tree b)
-  stmt_tree (If' e p a q b) = Tree.choose (expr_tree e) (row_body a) (row_body b)
-  stmt_tree (While' e p a) = Tree.repeat (expr_tree e) (row_body a)
-  stmt_tree (Call t f xs) = Tree.call (target_tree t) (name_tree f) (args_tree xs.items)
-  stmt_tree (Print e) = Tree.print (expr_tree e)
-  stmt_tree (Par' p a q b) = Tree.both (row_body a) (row_body b)
-  stmt_tree (Split' b e l r p a) = Tree.split (name_tree b) (expr_tree e) (name_tree l) (name_tree r) (row_body a)
+  stmt_tree (Let x e) = Tree.let_stmt (name_tree x) (expr_tree e)
+  stmt_tree (Assign x e) = Tree.assign_stmt (name_tree x) (expr_tree e)
+  stmt_tree (Put b i e) = Tree.put_stmt (name_tree b) (expr_tree i) (expr_tree e)
+  stmt_tree (Alloc b e) = Tree.alloc_stmt (name_tree b) (expr_tree e)
+  stmt_tree (Free b) = Tree.free_stmt (name_tree b)
+  stmt_tree (If' e p a q b) = Tree.if_stmt (expr_tree e) (row_body a) (row_body b)
+  stmt_tree (While' e p a) = Tree.while_stmt (expr_tree e) (row_body a)
+  stmt_tree (Call t f xs) = Tree.call_stmt (target_tree t) (name_tree f) (args_tree xs.items)
+  stmt_tree (Print e) = Tree.print_stmt (expr_tree e)
+  stmt_tree (Par' p a q b) = Tree.par_stmt (row_body a) (row_body b)
+  stmt_tree (Split' b e l r p a) = Tree.split_stmt (name_tree b) (expr_tree e) (name_tree l) (name_tree r) (row_body a)
 
   pub row_body : {n : _} → Row_of-Stmt n → Tree.Body
   row_body end_of-Stmt = Tree.done

@@ -19,8 +19,8 @@ forked _ _ = None
 -- other is. A list of statements is of the form where each of them is; their lines do not matter.
 abbrev mutual
   pub added : Tree.Stmt → Option (Statements → Statements)
-  added (Tree.print (Tree.number value)) = Some (print value)
-  added (Tree.both left right) = forked (printed left) (printed right)
+  added (Tree.print_stmt (Tree.num value)) = Some (print value)
+  added (Tree.par_stmt left right) = forked (printed left) (printed right)
   added _ = None
 
   pub printed : Tree.Body → Option Statements

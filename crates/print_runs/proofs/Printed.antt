@@ -13,9 +13,9 @@ use Rattle.print_program.specs.TextOrder.{is_within}
 use Rattle.print_form.specs.Printing.{begun, forked, added, printed, is_none_of, gives_nothing, is_main, if_within, deepest, printing}
 use Rattle.depth_first_run.specs.Values.{value}
 use Rattle.depth_first_run.specs.States
-use Rattle.depth_first_run.specs.States.{Setting, State, Item, noting, acting, choosing, unless_faulted, settled, limiting, with_depth, child_of, parent_of, ended, given_back, taking, joined, joining, forking, next_action}
-use Rattle.depth_first_run.specs.Calls.{answering}
-use Rattle.depth_first_run.specs.Run.{names_in, assigns_in, beginning, exec, exec_all, run, main_run, dropping_answer, opening, whole, lines_of, first_fault}
+use Rattle.depth_first_run.specs.States.{Setting, State, Item, with_item, with_action, skip_if, unless_faulted, with_number, under_limit, with_depth, child_of, parent_of, ended, given_back, with_result, joined, own_part_then_join, fork_join, next_action}
+use Rattle.depth_first_run.specs.Calls.{with_answer}
+use Rattle.depth_first_run.specs.Run.{names_in, assigns_in, begin_statement, exec, exec_all, run, main_run, ignore_answer, root_start, whole, lines_of, first_fault}
 use Rattle.depth_first_run.proofs.Fixed.{run_fixed}
 use Rattle.print_runs.specs.Laws.{PrintsInTextOrder}
 
@@ -82,16 +82,16 @@ prints_trans s t u xs ys p q = record {
 
 -- the Join of two threads without a fault
 sound_taking : (x y : Bool) (assigned : Tree.Name → Bool) (d t : State) → x ≡ false → y ≡ false → t.faulted ≡ false
-    → State.faulted (taking x y assigned d t) ≡ false
+    → State.faulted (with_result x y assigned d t) ≡ false
 sound_taking x y assigned d t ex ey et =
-    ap (λ v. State.faulted (taking v y assigned d t)) ex ∙ ap (λ v. State.faulted (taking false v assigned d t)) ey ∙ et
+    ap (λ v. State.faulted (with_result v y assigned d t)) ex ∙ ap (λ v. State.faulted (with_result false v assigned d t)) ey ∙ et
 
-taking_label : (p q : Bool) (assigned : Tree.Name → Bool) (d t : State) → State.label (taking p q assigned d t) ≡ t.label
+taking_label : (p q : Bool) (assigned : Tree.Name → Bool) (d t : State) → State.label (with_result p q assigned d t) ≡ t.label
 taking_label true q assigned d t = refl
 taking_label false true assigned d t = refl
 taking_label false false assigned d t = refl
 
-taking_items : (p q : Bool) (assigned : Tree.Name → Bool) (d t : State) → State.items (taking p q assigned d t) ≡ t.items
+taking_items : (p q : Bool) (assigned : Tree.Name → Bool) (d t : State) → State.items (with_result p q assigned d t) ≡ t.items
 taking_items true q assigned d t = refl
 taking_items false true assigned d t = refl
 taking_items false false assigned d t = refl
@@ -99,8 +99,8 @@ taking_items false false assigned d t = refl
 prints_forking : (c : Setting) (named assigned : Tree.Name → Bool) (work own : State → State) (s : State) (xs ys : List ℤ)
     → Prints (child_of c named s) (work (child_of c named s)) xs
     → ((items : List Item) → Prints (parent_of named items s) (own (parent_of named items s)) ys)
-    → Prints s (forking c named assigned work own s) (xs ++ ys)
-unfolding forking joining joined ended acting
+    → Prints s (fork_join c named assigned work own s) (xs ++ ys)
+unfolding fork_join own_part_then_join joined ended with_action
 prints_forking c named assigned work own s xs ys w prints_own =
     let kid : ℕ = suc s.forks in
     let k : State = child_of c named s in
@@ -110,7 +110,7 @@ prints_forking c named assigned work own s xs ys w prints_own =
     let q : State = own p in
     let b : Prints p q ys = prints_own d.items in
     let words : ℕ = given_back q.faulted d.faulted d q in
-    let t : State = acting (actions.joins kid) words q in
+    let t : State = with_action (actions.joins kid) words q in
     let fork : Item = next_action (actions.forks kid) 0 s in
     let last : Item = next_action actions.ends 0 e in
     let join : Item = next_action (actions.joins kid) words q in
@@ -135,10 +135,10 @@ prints_forking c named assigned work own s xs ys w prints_own =
 
 -- a thread without a fault begins its statement
 prints_begun : (line : ℕ) (f : State → State) (s : State) (xs : List ℤ) → s.faulted ≡ false
-    → Prints (noting (States.began line) s) (f (noting (States.began line) s)) xs → Prints s (unless_faulted (beginning line f) s) xs
+    → Prints (with_item (States.began line) s) (f (with_item (States.began line) s)) xs → Prints s (unless_faulted (begin_statement line f) s) xs
 unfolding unless_faulted
 prints_begun line f s xs sound p =
-    let u : State = noting (States.began line) s in
+    let u : State = with_item (States.began line) s in
     let whole : Prints s (f u) xs = prints_trans s u (f u) [] xs (record {
       sound = sound;
       label = refl;
@@ -147,7 +147,7 @@ prints_begun line f s xs sound p =
       no_fault = refl;
       is = refl;
     }) p in
-    let P : Bool → Type 0 = λ b. Prints s (choosing b (beginning line f) s) xs in
+    let P : Bool → Type 0 = λ b. Prints s (skip_if b (begin_statement line f) s) xs in
     subst P (sym sound) whole
 
 -- what is known of a statement of the form
@@ -159,13 +159,13 @@ record Adds (n : ℕ) (c : Setting) (more : Body → State → State) (line : �
 -- statements behind a first one of the form are within the depth too
 rest_within : (n : ℕ) (stmt : Stmt) (first : Statements → Statements) (rest : Statements) → added stmt ≡ Some first → is_within n (first rest) ≡ true
     → is_within n rest ≡ true
-rest_within n (Tree.print (Tree.number v)) first rest e h =
+rest_within n (Tree.print_stmt (Tree.num v)) first rest e h =
     let P : (Statements → Statements) → Type 0 = λ f. is_within n (f rest) ≡ true in first_is n v rest (subst P (sym (some_same (print v) first e)) h)
   where
     first_is : (n : ℕ) (v : ℤ) (rest : Statements) → is_within n (print v rest) ≡ true → is_within n rest ≡ true
     first_is zero v rest h = h
     first_is (suc n) v rest h = h
-rest_within n (Tree.both a b) first rest e h = by (printed a) (printed b) e
+rest_within n (Tree.par_stmt a b) first rest e h = by (printed a) (printed b) e
   where
     inside : (n : ℕ) (l r rest : Statements) → is_within n (par l r rest) ≡ true → is_within n rest ≡ true
     inside zero l r rest h = absurd (false≢true h)
@@ -185,7 +185,7 @@ both_adds : (n : ℕ) (c : Setting) (more : Body → State → State) (line : �
     → Prints s (exec_all c more a s) (small.lines_of l))
     → ((m : ℕ) (r : Statements) → printed b ≡ Some r → is_within m r ≡ true → (s : State) → s.faulted ≡ false → m + length s.label ≤ c.most_forks
     → Prints s (exec_all c more b s) (small.lines_of r))
-    → Adds n c more line (Tree.both a b) first
+    → Adds n c more line (Tree.par_stmt a b) first
 unfolding exec with_depth
 both_adds n c more line a b first rest None y ex ey e h ha hb = absurd (none_is_not_some first e)
 both_adds n c more line a b first rest (Some l) None ex ey e h ha hb = absurd (none_is_not_some first e)
@@ -201,11 +201,11 @@ both_adds (suc n) c more line a b first rest (Some l) (Some r) ex ey e h ha hb =
       lines = small.lines_of l ++ small.lines_of r;
       ahead = λ t. ap (λ f. small.lines_of (f t)) (sym (some_same (par l r) first e)) ∙ sym (append_assoc (small.lines_of l) (small.lines_of r) (small.lines_of t));
       prints = λ s sound le.
-          let f : State → State = forking c (names_in a) (assigns_in a) (exec_all c more a) (exec_all c more b) in
+          let f : State → State = fork_join c (names_in a) (assigns_in a) (exec_all c more a) (exec_all c more b) in
           let k : State = child_of c (names_in a) s in
           let longer : length k.label ≡ length s.label + 1 = length-append s.label (suc s.forks ∷ []) in
           let below : length s.label < c.most_forks = omega (arith, le) in
-          let Q : Bool → Type 0 = λ t. Prints s (limiting t line f s) (small.lines_of l ++ small.lines_of r) in
+          let Q : Bool → Type 0 = λ t. Prints s (under_limit t line f s) (small.lines_of l ++ small.lines_of r) in
           subst Q (sym (lt-ltb (length s.label) c.most_forks below))
           (prints_forking c (names_in a) (assigns_in a) (exec_all c more a) (exec_all c more b) s (small.lines_of l) (small.lines_of r)
           (ha n l ex in_l k refl (omega (arith, le, longer)))
@@ -227,9 +227,9 @@ list_adds n c more line stmt tail st (Some first) (Some rest) ex ey e h s sound 
     let is : first rest ≡ st = some_same (first rest) st e in
     let inside : is_within n (first rest) ≡ true = ap (λ z. is_within n z) is ∙ h in
     let a : Adds n c more line stmt first = first_adds first rest ex inside in
-    let u : State = noting (States.began line) s in
+    let u : State = with_item (States.began line) s in
     let f : State → State = exec c more line stmt in
-    let t : State = unless_faulted (beginning line f) s in
+    let t : State = unless_faulted (begin_statement line f) s in
     let p : Prints s t a.lines = prints_begun line f s a.lines sound (a.prints u sound le) in
     let room : n + length t.label ≤ c.most_forks = let same = ap length p.label in omega (arith, le, same) in
     let q : Prints t (exec_all c more tail t) (small.lines_of rest) =
@@ -238,11 +238,11 @@ list_adds n c more line stmt tail st (Some first) (Some rest) ex ey e h s sound 
     subst R (sym (a.ahead rest) ∙ ap small.lines_of is) (prints_trans s t (exec_all c more tail t) a.lines (small.lines_of rest) p q)
 
 mutual
-  unfolding exec exec_all settled value with_depth
+  unfolding exec exec_all with_number value with_depth
 
   prints_stmt : (n : ℕ) (c : Setting) (more : Body → State → State) (line : ℕ) (stmt : Stmt) (first : Statements → Statements) (rest : Statements)
       → added stmt ≡ Some first → is_within n (first rest) ≡ true → Adds n c more line stmt first
-  prints_stmt n c more line (Tree.print (Tree.number v)) first rest e h = record {
+  prints_stmt n c more line (Tree.print_stmt (Tree.num v)) first rest e h = record {
     lines = v ∷ [];
     ahead = λ r. ap (λ f. small.lines_of (f r)) (sym (some_same (print v) first e));
     prints = λ s sound le. record {
@@ -254,7 +254,7 @@ mutual
       is = refl;
     };
   }
-  prints_stmt n c more line (Tree.both a b) first rest e h =
+  prints_stmt n c more line (Tree.par_stmt a b) first rest e h =
       both_adds n c more line a b first rest (printed a) (printed b) refl refl e h
       (λ m l ea ha s sound le. prints_all m c more a l ea ha s sound le)
       (λ m r eb hb s sound le. prints_all m c more b r eb hb s sound le)
@@ -293,18 +293,18 @@ main_found f e = ap (λ (b : Bool). if b then Some f else None) e
 
 whole_prints : (c : Setting) (f : Tree.Func) (main : Statements) → c.program ≡ f ∷ [] → is_main f ≡ true → printed f.body ≡ Some main → is_within deepest main ≡ true
     → deepest ≤ c.most_forks → PrintsInTextOrder c main
-unfolding whole ended acting answering unless_faulted
+unfolding whole ended with_action with_answer unless_faulted
 whole_prints c f main program is_f body inside forks =
     let found : function_of c.program main_name ≡ Some f = ap (λ p. function_of p main_name) program ∙ main_found f (named_main f is_f) in
-    let start : State = opening c in
+    let start : State = root_start c in
     let t : State = run c f.body start in
     let p : Prints start (exec_all c (run c) f.body start) (small.lines_of main) = prints_all deepest c (run c) f.body main body inside start refl (omega (arith, forks)) in
     let T : State → Type 0 = λ u. Prints start u (small.lines_of main) in
     let q : Prints start t (small.lines_of main) = subst T (sym (run_fixed c f.body start)) p in
     let e_is : main_run c (function_of c.program main_name) start ≡ t =
     ap (λ o. main_run c o start) found
-    ∙ ap (λ b. choosing b (answering f.ret dropping_answer) t) q.sound
-    ∙ ap (λ r. answering r dropping_answer t) (no_return f is_f) in
+    ∙ ap (λ b. skip_if b (with_answer f.ret ignore_answer) t) q.sound
+    ∙ ap (λ r. with_answer r ignore_answer t) (no_return f is_f) in
     let last : State → Item = λ e. next_action actions.ends 0 e in
     let items : State.items (whole c) ≡ q.new ++ last t ∷ [] =
     ap (λ e. e.items ++ last e ∷ []) e_is ∙ ap (λ is. is ++ last t ∷ []) q.grown in

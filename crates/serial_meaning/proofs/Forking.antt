@@ -7,7 +7,7 @@ use Rattle.dag_order.specs.LabelOrder.{fork_of}
 use Rattle.dag_order.specs.declared.birth.Birth.{Birth}
 use Rattle.depth_first_list.specs.Actions as deeds
 use Rattle.par_tree.specs.Tree.{Name, Program}
-use Rattle.depth_first_run.specs.States.{Setting, State, Item, acted, acting, child_of, parent_of, ended}
+use Rattle.depth_first_run.specs.States.{Setting, State, Item, acted, with_action, child_of, parent_of, ended}
 use Rattle.depth_first_run.specs.Run.{actions_of}
 use Rattle.depth_first_run.specs.Middle as middles
 use Rattle.serial_store.specs.Shown.{store_shown}
@@ -116,7 +116,7 @@ has_forked limit k program named t u child j j' ordinal index at next labels beg
     }) s is
 
 -- the End of a thread
-pub end_is : (s : State) → acting deeds.ends 0 s ≡ ended s
+pub end_is : (s : State) → with_action deeds.ends 0 s ≡ ended s
 unfolding ended
 end_is s = refl
 

@@ -11,12 +11,12 @@ use Rattle.dag_order.specs.Births.{HasLabel}
 use Rattle.dag_order.specs.declared.birth.Birth.{Birth}
 use Rattle.dag_order.specs.declared.fault.FaultKind.{FaultKind}
 use Rattle.dag_order.specs.declared.fault.FaultKind.TheVariants as faults
-use Rattle.par_tree.specs.Tree.{Name, Expr, Stmt, Body, repeat, done, step}
+use Rattle.par_tree.specs.Tree.{Name, Expr, Stmt, Body, while_stmt, done, step}
 use Rattle.depth_first_run.specs.Stores.{block_of, block_words}
 use Rattle.depth_first_run.specs.Values.{value, is_true}
-use Rattle.depth_first_run.specs.States.{Setting, State, began, noting, faulting}
-use Rattle.depth_first_run.specs.Run.{actions_of, cut_of, cutting, size_of, names_in, assigns_in}
-use Rattle.depth_first_run.specs.Middle.{Frame, Middle, middle, does, statements, tree, allocates, settled_at, allocated, allocated_at, allocating_words_at, allocating_at, before_all, turning_at, round_at, repeating_at, forking_at, both_at, rejoins, cut_at, statement_at, first_at, part_at, frame_at}
+use Rattle.depth_first_run.specs.States.{Setting, State, began, with_item, with_fault}
+use Rattle.depth_first_run.specs.Run.{actions_of, cut_of, cut_block, size_of, names_in, assigns_in}
+use Rattle.depth_first_run.specs.Middle.{Frame, Middle, middle, does, statements, tree, allocates, step_with_number, allocated, step_alloc_within, step_alloc_words, step_alloc, before_all, step_turn, step_round, step_while, step_fork, step_par, rejoins, step_cut, step_statement, step_first, step_part, step_frame}
 use Rattle.serial_store.specs.Effects.{Cuts}
 use Rattle.serial_store.specs.Shown.{store_shown}
 use Rattle.serial_store.specs.declared.store.Store.{Store as RustStore}
@@ -53,22 +53,22 @@ at_after limit before after fs s t at is born = record {
 pub numbered_at : (limit line : ℕ) (before after : Machine) (r : Result (Unit {0}) SerialStop) (e : Expr) (v : ℤ) (f : ℤ → List Frame → State → Middle)
     → Ok v ≡ value (store_shown before.runner.thread.store) e → (fs : List Frame) (s : State) (m : Middle) → At limit before (middle fs s) → m ≡ f v fs s
     → MatchResult r (λ _. At limit after m) (λ stop. OnStop stop (IsBeyond limit m.state))
-    → MatchResult r (λ _. At limit after (settled_at line (value s.store e) f fs s)) (λ stop. OnStop stop (IsBeyond limit (settled_at line (value s.store e) f fs s).state))
+    → MatchResult r (λ _. At limit after (step_with_number line (value s.store e) f fs s)) (λ stop. OnStop stop (IsBeyond limit (step_with_number line (value s.store e) f fs s).state))
 numbered_at limit line before after r e v f is fs s m at same h =
-    at_point limit after r m (settled_at line (value s.store e) f fs s) (same ∙ settled_at_ok limit line before.runner e v f fs s at.now is) h
+    at_point limit after r m (step_with_number line (value s.store e) f fs s) (same ∙ settled_at_ok limit line before.runner e v f fs s at.now is) h
 
 -- the rounds of a loop
 pub no_turn : (line : ℕ) (e : Expr) (a : Body) (v : ℤ) (fs : List Frame) (s : State) → is_true v ≡ true → s.turns ≡ 0
-    → middle fs (faulting faults.Turns line s) ≡ repeating_at line e a v fs s
+    → middle fs (with_fault faults.Turns line s) ≡ step_while line e a v fs s
 no_turn line e a v fs s goes none =
-    ap (λ (n : ℕ). turning_at n line (before_all a (before_all (step line (repeat e a) done) fs)) fs s) (sym none)
-    ∙ ap (λ (b : Bool). round_at b line e a fs s) (sym goes)
+    ap (λ (n : ℕ). step_turn n line (before_all a (before_all (step line (while_stmt e a) done) fs)) fs s) (sym none)
+    ∙ ap (λ (b : Bool). step_round b line e a fs s) (sym goes)
 
 pub one_turn : (line : ℕ) (e : Expr) (a : Body) (v : ℤ) (fs : List Frame) (s : State) (left : ℕ) → is_true v ≡ true → s.turns ≡ suc left
-    → middle (before_all a (before_all (step line (repeat e a) done) fs)) (record s { turns = left }) ≡ repeating_at line e a v fs s
+    → middle (before_all a (before_all (step line (while_stmt e a) done) fs)) (record s { turns = left }) ≡ step_while line e a v fs s
 one_turn line e a v fs s left goes some =
-    ap (λ (n : ℕ). turning_at n line (before_all a (before_all (step line (repeat e a) done) fs)) fs s) (sym some)
-    ∙ ap (λ (b : Bool). round_at b line e a fs s) (sym goes)
+    ap (λ (n : ℕ). step_turn n line (before_all a (before_all (step line (while_stmt e a) done) fs)) fs s) (sym some)
+    ∙ ap (λ (b : Bool). step_round b line e a fs s) (sym goes)
 
 -- the thread has other turns left
 pub is_turned : (limit : ℕ) (t u : Thread) (j : Journal) (left : ℕ) → u ≡ record t { turns = left } → (s : State) → Is limit (record { thread = t; journal = j }) s
@@ -94,14 +94,14 @@ is_cut limit line b l r index t u j kept same cuts s is =
     (λ label items now. (
       ap (λ (p : Option ℕ). is_some p) (sym cuts.1),
       subst (λ (p : Option ℕ). Is limit (record { thread = u; journal = j }) (cut_or_fault line b l r p (thread_state t label items))) (sym cuts.1)
-          (is_stored limit t u j (cutting b l r cuts.0) kept same cuts.2 (thread_state t label items) now),
+          (is_stored limit t u j (cut_block b l r cuts.0) kept same cuts.2 (thread_state t label items) now),
     )) s is
 
 pub cut_fails : (limit line : ℕ) (b l r : Name) (index : ℤ) (run : Runner) (kind : FaultKind) (kept : RustStore)
     → Cuts b l r (cut_of (block_of (store_shown run.thread.store).blocks b) index) (store_shown run.thread.store) (Err (stops.Fault kind)) (store_shown kept)
-    → (s : State) → Is limit run s → (false ≡ is_some (cut_place b index s)) × (faulting faults.Split line s ≡ cut_or_fault line b l r (cut_place b index s) s)
+    → (s : State) → Is limit run s → (false ≡ is_some (cut_place b index s)) × (with_fault faults.Split line s ≡ cut_or_fault line b l r (cut_place b index s) s)
 cut_fails limit line b l r index run kind kept cuts s is =
-    by_runner limit run.thread run.journal (λ w. (false ≡ is_some (cut_place b index w)) × (faulting faults.Split line w ≡ cut_or_fault line b l r (cut_place b index w) w))
+    by_runner limit run.thread run.journal (λ w. (false ≡ is_some (cut_place b index w)) × (with_fault faults.Split line w ≡ cut_or_fault line b l r (cut_place b index w) w))
     (λ label items now. (
       ap (λ (p : Option ℕ). is_some p) (sym cuts.0),
       ap (λ (p : Option ℕ). cut_or_fault line b l r p (thread_state run.thread label items)) (sym cuts.0),
@@ -109,49 +109,49 @@ cut_fails limit line b l r index run kind kept cuts s is =
 
 -- the point behind the beginning of a `split`
 pub was_cut : (line : ℕ) (b l r : Name) (a : Body) (place : Option ℕ) (fs : List Frame) (s : State) → true ≡ is_some place
-    → middle (before_all a (rejoins b l r ∷ fs)) (cut_or_fault line b l r place s) ≡ cut_at line b l r a place fs s
+    → middle (before_all a (rejoins b l r ∷ fs)) (cut_or_fault line b l r place s) ≡ step_cut line b l r a place fs s
 was_cut line b l r a (Some at) fs s is = refl
 was_cut line b l r a None fs s is = let never : ⊥ = cc in absurd never
 
 pub not_cut : (line : ℕ) (b l r : Name) (a : Body) (place : Option ℕ) (fs : List Frame) (s : State) → false ≡ is_some place
-    → middle fs (cut_or_fault line b l r place s) ≡ cut_at line b l r a place fs s
+    → middle fs (cut_or_fault line b l r place s) ≡ step_cut line b l r a place fs s
 not_cut line b l r a (Some at) fs s is = let never : ⊥ = cc in absurd never
 not_cut line b l r a None fs s is = refl
 
-pub cut_state : (line : ℕ) (b l r : Name) (a : Body) (place : Option ℕ) (fs : List Frame) (s : State) → cut_or_fault line b l r place s ≡ (cut_at line b l r a place fs s).state
+pub cut_state : (line : ℕ) (b l r : Name) (a : Body) (place : Option ℕ) (fs : List Frame) (s : State) → cut_or_fault line b l r place s ≡ (step_cut line b l r a place fs s).state
 cut_state line b l r a (Some at) fs s = refl
 cut_state line b l r a None fs s = refl
 
 -- a statement that is known
 pub stated : (limit : ℕ) (after : Machine) (r : Result (Unit {0}) SerialStop) (c : Setting) (line : ℕ) (x y : Stmt) → x ≡ y → (fs : List Frame) (s : State)
-    → MatchResult r (λ _. At limit after (statement_at c line y fs s)) (λ stop. OnStop stop (IsBeyond limit (statement_at c line y fs s).state))
-    → MatchResult r (λ _. At limit after (statement_at c line x fs s)) (λ stop. OnStop stop (IsBeyond limit (statement_at c line x fs s).state))
+    → MatchResult r (λ _. At limit after (step_statement c line y fs s)) (λ stop. OnStop stop (IsBeyond limit (step_statement c line y fs s).state))
+    → MatchResult r (λ _. At limit after (step_statement c line x fs s)) (λ stop. OnStop stop (IsBeyond limit (step_statement c line x fs s).state))
 stated limit after r c line x y same fs s h =
-    at_point limit after r (statement_at c line y fs s) (statement_at c line x fs s) (ap (λ (k : Stmt). statement_at c line k fs s) (sym same)) h
+    at_point limit after r (step_statement c line y fs s) (step_statement c line x fs s) (ap (λ (k : Stmt). step_statement c line k fs s) (sym same)) h
 
 -- a frame that is known
 pub framed : (limit : ℕ) (after : Machine) (r : Result (Unit {0}) SerialStop) (c : Setting) (f g : Frame) → f ≡ g → (fs : List Frame) (s : State)
-    → MatchResult r (λ _. At limit after (frame_at c g fs s)) (λ stop. OnStop stop (IsBeyond limit (frame_at c g fs s).state))
-    → MatchResult r (λ _. At limit after (frame_at c f fs s)) (λ stop. OnStop stop (IsBeyond limit (frame_at c f fs s).state))
+    → MatchResult r (λ _. At limit after (step_frame c g fs s)) (λ stop. OnStop stop (IsBeyond limit (step_frame c g fs s).state))
+    → MatchResult r (λ _. At limit after (step_frame c f fs s)) (λ stop. OnStop stop (IsBeyond limit (step_frame c f fs s).state))
 framed limit after r c f g same fs s h =
-    at_point limit after r (frame_at c g fs s) (frame_at c f fs s) (ap (λ (x : Frame). frame_at c x fs s) (sym same)) h
+    at_point limit after r (step_frame c g fs s) (step_frame c f fs s) (ap (λ (x : Frame). step_frame c x fs s) (sym same)) h
 
 -- the first statement of a list
 pub first_now : (c : Setting) (b : Body) (line : ℕ) (x : Stmt) (rest : Body) (fs : List Frame) (s : State) → b ≡ step line x rest → s.faulted ≡ false
-    → statement_at c line x (before_all rest fs) (noting (began line) s) ≡ part_at c (statements b) fs s
+    → step_statement c line x (before_all rest fs) (with_item (began line) s) ≡ step_part c (statements b) fs s
 first_now c b line x rest fs s is goes =
-    ap (λ (t : Bool). first_at t c line x rest fs s) (sym goes) ∙ ap (λ (y : Body). part_at c (statements y) fs s) (sym is)
+    ap (λ (t : Bool). step_first t c line x rest fs s) (sym goes) ∙ ap (λ (y : Body). step_part c (statements y) fs s) (sym is)
 
 -- a `par` whose fork may be, and one that stands too deep
 pub both_now : (c : Setting) (line : ℕ) (a b a' b' : Body) (within : Bool) (fs : List Frame) (s : State) → a' ≡ a → b' ≡ b → within ≡ true
-    → forking_at c (names_in a') (assigns_in a') (statements a') (statements b') fs s ≡ both_at within c line a b fs s
+    → step_fork c (names_in a') (assigns_in a') (statements a') (statements b') fs s ≡ step_par within c line a b fs s
 both_now c line a b a' b' within fs s left right is =
-    ap (λ (x : Body). both_at true c line x b' fs s) left ∙ ap (λ (x : Body). both_at true c line a x fs s) right
-    ∙ ap (λ (t : Bool). both_at t c line a b fs s) (sym is)
+    ap (λ (x : Body). step_par true c line x b' fs s) left ∙ ap (λ (x : Body). step_par true c line a x fs s) right
+    ∙ ap (λ (t : Bool). step_par t c line a b fs s) (sym is)
 
 pub both_never : (c : Setting) (line : ℕ) (a b : Body) (within : Bool) (fs : List Frame) (s : State) → within ≡ false
-    → middle fs (faulting faults.Depth line s) ≡ both_at within c line a b fs s
-both_never c line a b within fs s is = ap (λ (t : Bool). both_at t c line a b fs s) (sym is)
+    → middle fs (with_fault faults.Depth line s) ≡ step_par within c line a b fs s
+both_never c line a b within fs s is = ap (λ (t : Bool). step_par t c line a b fs s) (sym is)
 
 pub forks_within : (limit : ℕ) (r : Runner) (s : State) (most : ℕ) → Is limit r s → r.thread.depth < most → nat_lt (length s.label) most ≡ true
 forks_within limit r s most is few = lt-ltb (length s.label) most (subst (λ (n : ℕ). n < most) is.thread.deep few)
@@ -160,21 +160,21 @@ pub forks_beyond : (limit : ℕ) (r : Runner) (s : State) (most : ℕ) → Is li
 forks_beyond limit r s most is many = le-ltb (length s.label) most (subst (λ (n : ℕ). most ≤ n) is.thread.deep many)
 
 -- an allocation of no length of a block; one that the quota covers; and one behind its tree of dummies
-pub no_size : (c : Setting) (line : ℕ) (b : Name) (v : ℤ) (fs : List Frame) (s : State) → None ≡ size_of v → middle fs (faulting faults.Size line s) ≡ allocating_at c line b v fs s
-no_size c line b v fs s none = ap (λ (o : Option ℕ). allocating_words_at c line b o fs s) none
+pub no_size : (c : Setting) (line : ℕ) (b : Name) (v : ℤ) (fs : List Frame) (s : State) → None ≡ size_of v → middle fs (with_fault faults.Size line s) ≡ step_alloc c line b v fs s
+no_size c line b v fs s none = ap (λ (o : Option ℕ). step_alloc_words c line b o fs s) none
 
 pub allocated_now : (c : Setting) (line : ℕ) (b : Name) (v : ℤ) (n : ℕ) (fs : List Frame) (s : State) → Some n ≡ size_of v → block_words n ≤ c.quota
-    → middle fs (allocated b n s) ≡ allocating_at c line b v fs s
+    → middle fs (allocated b n s) ≡ step_alloc c line b v fs s
 allocated_now c line b v n fs s size few =
-    ap (λ (t : Bool). allocated_at t c b n fs s) (sym (le-leb (block_words n) c.quota few))
-    ∙ ap (λ (o : Option ℕ). allocating_words_at c line b o fs s) size
+    ap (λ (t : Bool). step_alloc_within t c b n fs s) (sym (le-leb (block_words n) c.quota few))
+    ∙ ap (λ (o : Option ℕ). step_alloc_words c line b o fs s) size
 
 pub allocated_later : (c : Setting) (line : ℕ) (b : Name) (v : ℤ) (n : ℕ) (shape : Shape) (fs : List Frame) (s : State) → Some n ≡ size_of v → c.quota < block_words n
-    → shape ≡ tree_for c.quota (block_words n) → middle (does (tree shape) ∷ allocates b n ∷ fs) s ≡ allocating_at c line b v fs s
+    → shape ≡ tree_for c.quota (block_words n) → middle (does (tree shape) ∷ allocates b n ∷ fs) s ≡ step_alloc c line b v fs s
 allocated_later c line b v n shape fs s size many same =
     ap (λ (x : Shape). middle (does (tree x) ∷ allocates b n ∷ fs) s) same
-    ∙ ap (λ (t : Bool). allocated_at t c b n fs s) (sym (lt-leb (block_words n) c.quota many))
-    ∙ ap (λ (o : Option ℕ). allocating_words_at c line b o fs s) size
+    ∙ ap (λ (t : Bool). step_alloc_within t c b n fs s) (sym (lt-leb (block_words n) c.quota many))
+    ∙ ap (λ (o : Option ℕ). step_alloc_words c line b o fs s) size
 
 -- there is no tree exactly where the quota covers the words
 pub few_words : (words k n : ℕ) → words ≤ 1048576 → (k < words → 1 < n) → (words ≤ 1048576 → n ≤ 65536) → (IsTreeSize n → ⊥) → words ≤ k

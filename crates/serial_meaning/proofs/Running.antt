@@ -7,10 +7,10 @@ use Rattle.std.proofs.lemmas.Slice.Zip.{AllZip-long}
 use Rattle.dag_order.specs.declared.birth.Birth.{Birth}
 use Rattle.depth_first_list.specs.Actions as deeds
 use Rattle.depth_first_list.specs.Actions.{Action}
-use Rattle.depth_first_run.specs.States.{Setting, State, Item, acted, acting, ended}
+use Rattle.depth_first_run.specs.States.{Setting, State, Item, acted, with_action, ended}
 use Rattle.depth_first_run.specs.Run.{whole, actions_of}
 use Rattle.depth_first_run.specs.Middle as middles
-use Rattle.depth_first_run.specs.Middle.{Middle, middle, finish, finished, advance, frame_at, to_come}
+use Rattle.depth_first_run.specs.Middle.{Middle, middle, finish, finished, advance, step_frame, to_come}
 use Rattle.depth_first_run.proofs.Stepping.{advance_comes}
 use Rattle.depth_first_run.proofs.Nearing.{advance_nears, items_grow}
 use Rattle.serial_journal.specs.Journals.{births_of, action_named}
@@ -45,7 +45,7 @@ none_left births [] are = refl
 none_left births (f ∷ fs) are = absurd are
 
 -- one step of a frame is one step of the run
-pub step_is : (c : Setting) (f : middles.Frame) (fs : List middles.Frame) (s : State) → frame_at c f fs s ≡ advance c (middle (f ∷ fs) s)
+pub step_is : (c : Setting) (f : middles.Frame) (fs : List middles.Frame) (s : State) → step_frame c f fs s ≡ advance c (middle (f ∷ fs) s)
 unfolding advance
 step_is c f fs s = refl
 
@@ -55,12 +55,12 @@ unfolding finish
 nothing_left c s = refl
 
 -- an End is one item more, and one action more
-one_item : (s : State) → length (State.items (acting deeds.ends 0 s)) ≡ length s.items + 1
-unfolding acting
+one_item : (s : State) → length (State.items (with_action deeds.ends 0 s)) ≡ length s.items + 1
+unfolding with_action
 one_item s = length-append s.items (acted (action_named s.label s.done deeds.ends 0) ∷ [])
 
-one_more : (s : State) → length (actions_of (State.items (acting deeds.ends 0 s))) ≡ length (actions_of s.items) + 1
-unfolding acting
+one_more : (s : State) → length (actions_of (State.items (with_action deeds.ends 0 s))) ≡ length (actions_of s.items) + 1
+unfolding with_action
 one_more s = one_action s.items (action_named s.label s.done deeds.ends 0)
 
 -- the actions so far are no more than those of the whole run
@@ -99,10 +99,10 @@ taken limit before popped x m same stack at =
     }
 
 -- the point behind the step of the frame that came next
-pub next_is : (c : Setting) (limit : ℕ) (popped : Machine) (x : Frame) (m : Middle) (t : Taken limit popped x m) → frame_at c t.first t.rest m.state ≡ advance c m
+pub next_is : (c : Setting) (limit : ℕ) (popped : Machine) (x : Frame) (m : Middle) (t : Taken limit popped x m) → step_frame c t.first t.rest m.state ≡ advance c m
 next_is c limit popped x m t = step_is c t.first t.rest m.state ∙ ap (advance c) (sym t.point_is)
 
-pub next_comes : (c : Setting) (limit : ℕ) (popped : Machine) (x : Frame) (m : Middle) (t : Taken limit popped x m) → finished c (frame_at c t.first t.rest m.state) ≡ finished c m
+pub next_comes : (c : Setting) (limit : ℕ) (popped : Machine) (x : Frame) (m : Middle) (t : Taken limit popped x m) → finished c (step_frame c t.first t.rest m.state) ≡ finished c m
 next_comes c limit popped x m t = ap (finished c) (next_is c limit popped x m t) ∙ advance_comes c m
 
 -- as many frames are on the stack as are left
@@ -113,12 +113,12 @@ falls : (all whole i j f g : ℕ) → whole ≡ all + 1 → i ≤ all → j ≤ 
 falls all whole i j f g one before after less = omega (arith, one, before, after, less)
 
 -- how far the machine is from the end, by the items that it wrote down and its frames
-pub nearer : (c : Setting) (limit : ℕ) (before popped after : Machine) (x : Frame) (m : Middle) → At limit before m → (t : Taken limit popped x m) → At limit after (frame_at c t.first t.rest m.state)
+pub nearer : (c : Setting) (limit : ℕ) (before popped after : Machine) (x : Frame) (m : Middle) → At limit before m → (t : Taken limit popped x m) → At limit after (step_frame c t.first t.rest m.state)
     → ended (finished c m) ≡ whole c → vec_len before.frames ≡ length before.frames.items → vec_len after.frames ≡ length after.frames.items
     → 4 * (length (State.items (whole c)) - after.runner.journal.items) + vec_len after.frames < 4 * (length (State.items (whole c)) - before.runner.journal.items) + vec_len before.frames
 unfolding to_come
 nearer c limit before popped after x m at t at_next comes long_before long_after =
-    let n : Middle = frame_at c t.first t.rest m.state in
+    let n : Middle = step_frame c t.first t.rest m.state in
     let less : to_come c n < to_come c m =
     subst (λ (v : Middle). to_come c v < to_come c m) (sym (next_is c limit popped x m t))
     (subst (λ (v : Middle). to_come c (advance c v) < to_come c v) (sym t.point_is) (advance_nears c t.first t.rest m.state)) in

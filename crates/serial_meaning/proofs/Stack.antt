@@ -8,8 +8,8 @@ use Rattle.dag_order.specs.declared.fault.FaultKind.{FaultKind}
 use Rattle.par_tree.specs.Tree.{Expr}
 use Rattle.depth_first_run.specs.Stores as stores
 use Rattle.depth_first_run.specs.Values.{Outcome, value}
-use Rattle.depth_first_run.specs.States.{State, faulting}
-use Rattle.depth_first_run.specs.Middle.{Frame, Middle, middle, settled_at}
+use Rattle.depth_first_run.specs.States.{State, with_fault}
+use Rattle.depth_first_run.specs.Middle.{Frame, Middle, middle, step_with_number}
 use Rattle.serial_store.specs.Shown.{store_shown}
 use Rattle.serial_journal.specs.declared.serial_stop.SerialStop.{SerialStop}
 use Rattle.serial_journal.specs.Stops.{OnStop}
@@ -50,21 +50,21 @@ at_point limit after r m n same h =
 
 -- what follows a number of an expression, or its fault
 pub settled_at_ok : (limit line : ℕ) (r : Runner) (e : Expr) (v : ℤ) (f : ℤ → List Frame → State → Middle) (fs : List Frame) (s : State) → Is limit r s
-    → Ok v ≡ value (store_shown r.thread.store) e → f v fs s ≡ settled_at line (value s.store e) f fs s
+    → Ok v ≡ value (store_shown r.thread.store) e → f v fs s ≡ step_with_number line (value s.store e) f fs s
 settled_at_ok limit line r e v f fs s is same =
     let store : store_shown r.thread.store ≡ s.store = ap (λ (x : State). x.store) (sym is.thread.shown) in
-    ap (λ (o : Outcome). settled_at line o f fs s) (same ∙ ap (λ (st : stores.Store). value st e) store)
+    ap (λ (o : Outcome). step_with_number line o f fs s) (same ∙ ap (λ (st : stores.Store). value st e) store)
 
 pub settled_at_err : (limit line : ℕ) (r : Runner) (e : Expr) (kind : FaultKind) (f : ℤ → List Frame → State → Middle) (fs : List Frame) (s : State) → Is limit r s
-    → Err kind ≡ value (store_shown r.thread.store) e → middle fs (faulting kind line s) ≡ settled_at line (value s.store e) f fs s
+    → Err kind ≡ value (store_shown r.thread.store) e → middle fs (with_fault kind line s) ≡ step_with_number line (value s.store e) f fs s
 settled_at_err limit line r e kind f fs s is same =
     let store : store_shown r.thread.store ≡ s.store = ap (λ (x : State). x.store) (sym is.thread.shown) in
-    ap (λ (o : Outcome). settled_at line o f fs s) (same ∙ ap (λ (st : stores.Store). value st e) store)
+    ap (λ (o : Outcome). step_with_number line o f fs s) (same ∙ ap (λ (st : stores.Store). value st e) store)
 
 -- a fault in the place of a number
 pub faulted_at : (limit line : ℕ) (before after : Machine) (r : Result (Unit {0}) SerialStop) (e : Expr) (kind : FaultKind) (f : ℤ → List Frame → State → Middle) → after.frames.items ≡ before.frames.items
-    → Goes limit before.runner r after.runner (faulting kind line) → Err kind ≡ value (store_shown before.runner.thread.store) e → (fs : List Frame) (s : State) → At limit before (middle fs s)
-    → MatchResult r (λ _. At limit after (settled_at line (value s.store e) f fs s)) (λ stop. OnStop stop (IsBeyond limit (settled_at line (value s.store e) f fs s).state))
+    → Goes limit before.runner r after.runner (with_fault kind line) → Err kind ≡ value (store_shown before.runner.thread.store) e → (fs : List Frame) (s : State) → At limit before (middle fs s)
+    → MatchResult r (λ _. At limit after (step_with_number line (value s.store e) f fs s)) (λ stop. OnStop stop (IsBeyond limit (step_with_number line (value s.store e) f fs s).state))
 faulted_at limit line before after r e kind f same goes is fs s at =
-    at_point limit after r (middle fs (faulting kind line s)) (settled_at line (value s.store e) f fs s) (settled_at_err limit line before.runner e kind f fs s at.now is)
-    (lifted limit before after r (faulting kind line) same goes fs s at)
+    at_point limit after r (middle fs (with_fault kind line s)) (step_with_number line (value s.store e) f fs s) (settled_at_err limit line before.runner e kind f fs s at.now is)
+    (lifted limit before after r (with_fault kind line) same goes fs s at)

@@ -7,7 +7,7 @@ use Rattle.dag_order.specs.declared.birth.Birth.{Birth}
 use Rattle.dag_order.specs.declared.fault.FaultKind.{FaultKind}
 use Rattle.depth_first_list.specs.Actions as deeds
 use Rattle.depth_first_list.specs.Actions.{Deed, Action}
-use Rattle.depth_first_run.specs.States.{State, Item, acted, failed, noting, acting, faulting}
+use Rattle.depth_first_run.specs.States.{State, Item, acted, failed, with_item, with_action, with_fault}
 use Rattle.depth_first_run.specs.Run.{actions_of}
 use Rattle.std.specs.Prelude.{map, reverse, take}
 use Rattle.std.proofs.lemmas.List.{reverse-append, map-append, take_more}
@@ -16,10 +16,10 @@ use Rattle.par_tree.specs.Tree.{Expr}
 use Rattle.depth_first_run.specs.Stores as stores
 use Rattle.depth_first_run.specs.Stores.{stored_words, held_words}
 use Rattle.depth_first_run.specs.Values.{Outcome, value}
-use Rattle.depth_first_run.specs.Stores.{block_of, writing, dropping}
+use Rattle.depth_first_run.specs.Stores.{block_of, write_block, drop_block}
 use Rattle.depth_first_run.specs.Values.{place_in}
-use Rattle.depth_first_run.specs.States.{settled, unless_faulted, choosing}
-use Rattle.depth_first_run.specs.Run.{storing, putting, putting_at}
+use Rattle.depth_first_run.specs.States.{with_number, unless_faulted, skip_if}
+use Rattle.depth_first_run.specs.Run.{on_store, put_number, put_in_place}
 use Rattle.serial_store.specs.Effects.{Puts}
 use Rattle.dag_order.specs.declared.fault.FaultKind.TheVariants as faults
 use Rattle.par_tree.specs.Tree.{Name}
@@ -50,11 +50,11 @@ one_action items a = ap length (actions_more items (acted a ∷ [])) ∙ length-
 pub is_acted : (limit : ℕ) (t u : Thread) (j k : Journal) (deed : Deed) (words done : ℕ)
     → u ≡ record t { done = done } → done ≡ t.done + 1 → births_of k ≡ births_of j → (s : State) → Is limit (record { thread = t; journal = j }) s
     → KeepsUp limit (s.items ++ acted (action_named s.label t.done deed words) ∷ []) k
-    → Is limit (record { thread = u; journal = k }) (acting deed words s) × (births_of k ≡ births_of j)
-unfolding acting
+    → Is limit (record { thread = u; journal = k }) (with_action deed words s) × (births_of k ≡ births_of j)
+unfolding with_action
 is_acted limit t u j k deed words done same next born s is =
     by_thread (births_of j) t (λ v. KeepsUp limit (v.items ++ acted (action_named v.label t.done deed words) ∷ []) k
-    → Is limit (record { thread = u; journal = k }) (acting deed words v) × (births_of k ≡ births_of j))
+    → Is limit (record { thread = u; journal = k }) (with_action deed words v) × (births_of k ≡ births_of j))
     (λ label items labelled deep keeps. (
       record {
         thread = record {
@@ -70,14 +70,14 @@ is_acted limit t u j k deed words done same next born s is =
     )) s is.thread
 
 -- where the limit is reached, an action more is beyond it
-pub act_beyond : (limit : ℕ) (deed : Deed) (words : ℕ) (s : State) → limit ≤ length (actions_of s.items) → IsBeyond limit (acting deed words s)
-unfolding acting
+pub act_beyond : (limit : ℕ) (deed : Deed) (words : ℕ) (s : State) → limit ≤ length (actions_of s.items) → IsBeyond limit (with_action deed words s)
+unfolding with_action
 act_beyond limit deed words s full =
     let more = one_action s.items (action_named s.label s.done deed words) in omega (arith, more, full)
 
 -- the thread that runs stays as it is
 pub is_noted : (limit : ℕ) (t : Thread) (j k : Journal) (item : Item) (s : State) → births_of k ≡ births_of j → Is limit (record { thread = t; journal = j }) s
-    → KeepsUp limit (s.items ++ item ∷ []) k → Is limit (record { thread = t; journal = k }) (noting item s) × (births_of k ≡ births_of j)
+    → KeepsUp limit (s.items ++ item ∷ []) k → Is limit (record { thread = t; journal = k }) (with_item item s) × (births_of k ≡ births_of j)
 is_noted limit t j k item s born is keeps = (
   record {
     thread = record {
@@ -102,18 +102,18 @@ stops_so S S' StepsSpent more h = more h
 stops_so S S' OutOfMemory more h = tt
 
 -- a fault's mark is no action
-pub fault_beyond : (limit words line : ℕ) (kind : FaultKind) (s : State) → IsBeyond limit (acting deeds.faults words s) → IsBeyond limit (fault_of words kind line s)
+pub fault_beyond : (limit words line : ℕ) (kind : FaultKind) (s : State) → IsBeyond limit (with_action deeds.faults words s) → IsBeyond limit (fault_of words kind line s)
 fault_beyond limit words line kind s beyond =
-    let items : List Item = (acting deeds.faults words s).items in
+    let items : List Item = (with_action deeds.faults words s).items in
     let same = ap length (actions_more items (failed (record { kind = kind; line = line }) ∷ []) ∙ append-nil (actions_of items)) in
     omega (arith, same, beyond)
 
 -- the words that a thread holds are those of its state
 pub holdings_are : (births : List Birth) (t : Thread) (s : State) → IsThread births t s → (kind : FaultKind) (line words : ℕ) → words ≡ thread_holdings t
-    → fault_of words kind line s ≡ faulting kind line s
-unfolding faulting
+    → fault_of words kind line s ≡ with_fault kind line s
+unfolding with_fault
 holdings_are births t s is kind line words same =
-    by_thread births t (λ v. fault_of words kind line v ≡ faulting kind line v)
+    by_thread births t (λ v. fault_of words kind line v ≡ with_fault kind line v)
     (λ label items labelled deep. ap (λ w. fault_of w kind line (thread_state t label items)) same) s is
 
 -- an exit by `?`
@@ -147,17 +147,17 @@ pub stored_one_more : (xs : List stores.Store) (x : stores.Store) → stored_wor
 stored_one_more xs x = let more = stored_more xs (x ∷ []) in omega (arith, more)
 
 -- a number of an expression, or its fault
-pub settled_ok : (limit line : ℕ) (r : Runner) (e : Expr) (v : ℤ) (f : ℤ → State → State) (s : State) → Is limit r s → Ok v ≡ value (store_shown r.thread.store) e → settled line (value s.store e) f s ≡ f v s
-unfolding settled
+pub settled_ok : (limit line : ℕ) (r : Runner) (e : Expr) (v : ℤ) (f : ℤ → State → State) (s : State) → Is limit r s → Ok v ≡ value (store_shown r.thread.store) e → with_number line (value s.store e) f s ≡ f v s
+unfolding with_number
 settled_ok limit line r e v f s is same =
     let store : s.store ≡ store_shown r.thread.store = ap (λ (x : State). x.store) is.thread.shown in
-    ap (λ (st : stores.Store). settled line (value st e) f s) store ∙ ap (λ (o : Outcome). settled line o f s) (sym same)
+    ap (λ (st : stores.Store). with_number line (value st e) f s) store ∙ ap (λ (o : Outcome). with_number line o f s) (sym same)
 
-pub settled_err : (limit line : ℕ) (r : Runner) (e : Expr) (kind : FaultKind) (f : ℤ → State → State) (s : State) → Is limit r s → Err kind ≡ value (store_shown r.thread.store) e → settled line (value s.store e) f s ≡ faulting kind line s
-unfolding settled
+pub settled_err : (limit line : ℕ) (r : Runner) (e : Expr) (kind : FaultKind) (f : ℤ → State → State) (s : State) → Is limit r s → Err kind ≡ value (store_shown r.thread.store) e → with_number line (value s.store e) f s ≡ with_fault kind line s
+unfolding with_number
 settled_err limit line r e kind f s is same =
     let store : s.store ≡ store_shown r.thread.store = ap (λ (x : State). x.store) is.thread.shown in
-    ap (λ (st : stores.Store). settled line (value st e) f s) store ∙ ap (λ (o : Outcome). settled line o f s) (sym same)
+    ap (λ (st : stores.Store). with_number line (value st e) f s) store ∙ ap (λ (o : Outcome). with_number line o f s) (sym same)
 
 -- the outcome of a call, at an equal state
 pub at_same : (limit : ℕ) (before : Runner) (r : Result (Unit {0}) SerialStop) (after : Runner) (s t : State) → s ≡ t
@@ -175,9 +175,9 @@ by_runner limit t j P all s is =
 
 -- the thread's store changes
 pub is_stored : (limit : ℕ) (t u : Thread) (j : Journal) (g : stores.Store → stores.Store) (kept : RustStore) → u ≡ record t { store = kept } → store_shown kept ≡ g (store_shown t.store)
-    → (s : State) → Is limit (record { thread = t; journal = j }) s → Is limit (record { thread = u; journal = j }) (storing g s)
+    → (s : State) → Is limit (record { thread = t; journal = j }) s → Is limit (record { thread = u; journal = j }) (on_store g s)
 is_stored limit t u j g kept same is_st s is =
-    by_runner limit t j (λ v. Is limit (record { thread = u; journal = j }) (storing g v))
+    by_runner limit t j (λ v. Is limit (record { thread = u; journal = j }) (on_store g v))
     (λ label items now. record {
       thread = record {
         shown = ap (λ (x : stores.Store). record (thread_state t label items) { store = x }) (sym is_st) ∙ ap (λ (x : Thread). thread_state x label items) (sym same);
@@ -190,39 +190,39 @@ is_stored limit t u j g kept same is_st s is =
 -- a thread that a fault ended skips what another one does
 pub skipped : (limit : ℕ) (r : Runner) (f : State → State) (s : State) → Is limit r s → r.thread.faulted ≡ true → s ≡ unless_faulted f s
 unfolding unless_faulted
-skipped limit r f s is ended = ap (λ b. choosing b f s) (sym (ap (λ (v : State). v.faulted) is.thread.shown ∙ ended))
+skipped limit r f s is ended = ap (λ b. skip_if b f s) (sym (ap (λ (v : State). v.faulted) is.thread.shown ∙ ended))
 
 pub unskipped : (limit : ℕ) (r : Runner) (f : State → State) (s : State) → Is limit r s → r.thread.faulted ≡ false → f s ≡ unless_faulted f s
 unfolding unless_faulted
-unskipped limit r f s is goes = ap (λ b. choosing b f s) (sym (ap (λ (v : State). v.faulted) is.thread.shown ∙ goes))
+unskipped limit r f s is goes = ap (λ b. skip_if b f s) (sym (ap (λ (v : State). v.faulted) is.thread.shown ∙ goes))
 
 -- `b[i] = v` where the place is in the block, and where it is not
 pub is_put : (limit line : ℕ) (b : Name) (v index : ℤ) (t u : Thread) (j : Journal) (kept : RustStore) → u ≡ record t { store = kept }
     → Puts b v (place_in (block_of (store_shown t.store).blocks b) index) (store_shown t.store) (Ok tt) (store_shown kept)
-    → (s : State) → Is limit (record { thread = t; journal = j }) s → Is limit (record { thread = u; journal = j }) (putting line b index v s)
+    → (s : State) → Is limit (record { thread = t; journal = j }) s → Is limit (record { thread = u; journal = j }) (put_number line b index v s)
 is_put limit line b v index t u j kept same puts s is =
-    by_runner limit t j (λ w. Is limit (record { thread = u; journal = j }) (putting line b index v w))
+    by_runner limit t j (λ w. Is limit (record { thread = u; journal = j }) (put_number line b index v w))
     (λ label items now. go label items now (place_in (block_of (store_shown t.store).blocks b) index) puts) s is
   where
     go : (label : List ℕ) (items : List Item) → Is limit (record { thread = t; journal = j }) (thread_state t label items) → (place : Option ℕ)
-        → Puts b v place (store_shown t.store) (Ok tt) (store_shown kept) → Is limit (record { thread = u; journal = j }) (putting_at line b v place (thread_state t label items))
+        → Puts b v place (store_shown t.store) (Ok tt) (store_shown kept) → Is limit (record { thread = u; journal = j }) (put_in_place line b v place (thread_state t label items))
     go label items now (Some i) h =
-        is_stored limit t u j (writing b (slice_set (block_of (store_shown t.store).blocks b) i v)) kept same h.1 (thread_state t label items) now
+        is_stored limit t u j (write_block b (slice_set (block_of (store_shown t.store).blocks b) i v)) kept same h.1 (thread_state t label items) now
     go label items now None h = cc
 
 pub put_fails : (limit line : ℕ) (b : Name) (v index : ℤ) (r : Runner) (kind : FaultKind) (kept : RustStore)
     → Puts b v (place_in (block_of (store_shown r.thread.store).blocks b) index) (store_shown r.thread.store) (Err kind) (store_shown kept)
-    → (s : State) → Is limit r s → (store_shown kept ≡ store_shown r.thread.store) × (faulting kind line s ≡ putting line b index v s)
+    → (s : State) → Is limit r s → (store_shown kept ≡ store_shown r.thread.store) × (with_fault kind line s ≡ put_number line b index v s)
 put_fails limit line b v index r kind kept puts s is =
-    by_runner limit r.thread r.journal (λ w. (store_shown kept ≡ store_shown r.thread.store) × (faulting kind line w ≡ putting line b index v w))
+    by_runner limit r.thread r.journal (λ w. (store_shown kept ≡ store_shown r.thread.store) × (with_fault kind line w ≡ put_number line b index v w))
     (λ label items now. go label items (place_in (block_of (store_shown r.thread.store).blocks b) index) puts) s is
   where
     go : (label : List ℕ) (items : List Item) (place : Option ℕ) → Puts b v place (store_shown r.thread.store) (Err kind) (store_shown kept)
-        → (store_shown kept ≡ store_shown r.thread.store) × (faulting kind line (thread_state r.thread label items) ≡ putting_at line b v place (thread_state r.thread label items))
+        → (store_shown kept ≡ store_shown r.thread.store) × (with_fault kind line (thread_state r.thread label items) ≡ put_in_place line b v place (thread_state r.thread label items))
     go label items (Some i) h = cc
     go label items None h =
         let which : kind ≡ faults.Index = cc in
-        (h.1, ap (λ (k : FaultKind). faulting k line (thread_state r.thread label items)) which)
+        (h.1, ap (λ (k : FaultKind). with_fault k line (thread_state r.thread label items)) which)
 
 -- the words of the callers that were counted
 pub one_caller_more : (own : RustStore) (seen callers : List RustStore) (caller : RustStore) (i words held sum : ℕ) → seen ≡ callers

@@ -3,8 +3,8 @@ use Rattle.std.specs.Prelude.{◌≡◌, ℕ, ℤ, Bool, Option, Some, None, is_
 use Rattle.dag_order.specs.declared.fault.FaultKind.TheVariants as faults
 use Rattle.par_tree.specs.Tree.{Name}
 use Rattle.depth_first_run.specs.Stores.{block_of}
-use Rattle.depth_first_run.specs.States.{State, faulting}
-use Rattle.depth_first_run.specs.Run.{storing, cut_of, cutting}
+use Rattle.depth_first_run.specs.States.{State, with_fault}
+use Rattle.depth_first_run.specs.Run.{on_store, cut_of, cut_block}
 use Rattle.serial_journal.specs.declared.serial_stop.SerialStop.{SerialStop}
 use Rattle.serial_journal.specs.Stops.{OnStop}
 use Rattle.serial_journal.specs.Journals.{births_of}
@@ -17,8 +17,8 @@ cut_place b at s = cut_of (block_of s.store.blocks b) at
 
 -- the block is gone and its two parts are held, or the cut is a fault
 abbrev pub cut_or_fault : ℕ → Name → Name → Name → Option ℕ → State → State
-cut_or_fault line b l r None s = faulting faults.Split line s
-cut_or_fault line b l r (Some at) s = storing (cutting b l r at) s
+cut_or_fault line b l r None s = with_fault faults.Split line s
+cut_or_fault line b l r (Some at) s = on_store (cut_block b l r at) s
 
 -- a call cuts a block or meets the fault, and says whether it was cut; it stops only where the run has then more
 -- actions than the limit

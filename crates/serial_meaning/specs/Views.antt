@@ -6,7 +6,7 @@ use Rattle.dag_order.specs.declared.fault.FaultKind.{FaultKind}
 use Rattle.depth_first_list.specs.Actions as deeds
 use Rattle.depth_first_run.specs.Stores as stores
 use Rattle.depth_first_run.specs.Stores.{held_words, stored_words}
-use Rattle.depth_first_run.specs.States.{State, Item, failed, noting, acting, emptied}
+use Rattle.depth_first_run.specs.States.{State, Item, failed, with_item, with_action, emptied}
 use Rattle.depth_first_run.specs.Run.{actions_of}
 use Rattle.serial_store.specs.Shown.{store_shown}
 use Rattle.serial_store.specs.declared.store.Store.{Store}
@@ -61,4 +61,4 @@ thread_holdings t = held_words (store_shown t.store).blocks + stored_words (call
 -- a fault of a thread that holds so many words
 abbrev pub fault_of : ℕ → FaultKind → ℕ → State → State
 fault_of words kind line s =
-    emptied (noting (failed (record { kind = kind; line = line })) (acting deeds.faults words s))
+    emptied (with_item (failed (record { kind = kind; line = line })) (with_action deeds.faults words s))

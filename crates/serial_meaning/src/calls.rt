@@ -8,9 +8,9 @@ ghost use Rattle.dummy_tree.specs.QuotaWords.{quota_words};
 ghost use Rattle.par_tree.specs.View.{name_tree, ret_tree, params_tree, args_tree, target_tree, func_tree, program_tree};
 ghost use Rattle.par_ownership.specs.Ownership as ownership;
 ghost use Rattle.depth_first_run.specs.States.{unless_faulted};
-ghost use Rattle.depth_first_run.specs.Calls.{all_passed, answering, returned};
-ghost use Rattle.depth_first_run.specs.Run.{dropping_answer};
-ghost use Rattle.depth_first_run.specs.Middle.{calling_at};
+ghost use Rattle.depth_first_run.specs.Calls.{all_passed, with_answer, returned};
+ghost use Rattle.depth_first_run.specs.Run.{ignore_answer};
+ghost use Rattle.depth_first_run.specs.Middle.{step_call};
 ghost use Rattle.serial_store.specs.Shown.{store_shown, answer_shown};
 ghost use Rattle.serial_meaning.specs.Opening.{entering, refused};
 ghost use Rattle.serial_meaning.specs.Settings.{setting_of};
@@ -40,7 +40,7 @@ impl<'a> Machine<'a> {
         func: &'a Name,
         args: &'a [Arg],
     ) -> Result<(), SerialStop>
-        ensures { (limit : ℕ) → Moves limit self.old result self.new (calling_at (setting_of (program_tree plan.entry.program.now) (quota_words plan.entry.quota)) line (target_tree target.now) (args_tree args.now) (ownership.function_of (program_tree plan.entry.program.now) (name_tree func.now))) }
+        ensures { (limit : ℕ) → Moves limit self.old result self.new (step_call (setting_of (program_tree plan.entry.program.now) (quota_words plan.entry.quota)) line (target_tree target.now) (args_tree args.now) (ownership.function_of (program_tree plan.entry.program.now) (name_tree func.now))) }
     {
         let Some(func) = function_of(&plan.program.funcs, &func.bytes) else {
             return Ok(());
@@ -134,7 +134,7 @@ impl<'a> Runner<'a> {
         args: &'a [Arg],
         target: &'a Target,
     ) -> Result<(), SerialStop>
-        ensures { (limit : ℕ) → Goes limit self.old result self.new (unless_faulted (answering (ret_tree ret.now) (returned (params_tree params.now) (args_tree args.now) (target_tree target.now)))) }
+        ensures { (limit : ℕ) → Goes limit self.old result self.new (unless_faulted (with_answer (ret_tree ret.now) (returned (params_tree params.now) (args_tree args.now) (target_tree target.now)))) }
     {
         if self.thread.faulted {
             return Ok(());
@@ -181,7 +181,7 @@ impl<'a> Runner<'a> {
         alloc: Global,
         ret: &'a Option<Ret>,
     ) -> Result<(), SerialStop>
-        ensures { (limit : ℕ) → Goes limit self.old result self.new (unless_faulted (answering (ret_tree ret.now) dropping_answer)) }
+        ensures { (limit : ℕ) → Goes limit self.old result self.new (unless_faulted (with_answer (ret_tree ret.now) ignore_answer)) }
     {
         if self.thread.faulted {
             return Ok(());

@@ -3,7 +3,7 @@
 ghost use Rattle.std.specs.Prelude.{◌≡◌, ℕ, [], IfOk, OnOk, MatchResult};
 ghost use Rattle.par_tree.specs.Tree.{Program};
 ghost use Rattle.depth_first_run.specs.States.{State, child_of, parent_of, ended, joined};
-ghost use Rattle.depth_first_run.specs.Middle.{forking_at, awaited_at};
+ghost use Rattle.depth_first_run.specs.Middle.{step_fork, step_awaited};
 ghost use Rattle.serial_store.specs.Shown.{store_shown};
 ghost use Rattle.serial_store.specs.Effects.{child_store, parent_store, joined_store};
 ghost use Rattle.serial_journal.specs.Journals.{births_of};
@@ -34,7 +34,7 @@ impl<'a> Machine<'a> {
         child: Part<'a>,
         own: Part<'a>,
     ) -> Result<(), SerialStop>
-        ensures { (limit k : ℕ) (program : Program) → Moves limit self.old result self.new (forking_at (setting_of program k) (names_of child.entry) (assigns_of child.entry) (part_shown child.entry) (part_shown own.entry)) }
+        ensures { (limit k : ℕ) (program : Program) → Moves limit self.old result self.new (step_fork (setting_of program k) (names_of child.entry) (assigns_of child.entry) (part_shown child.entry) (part_shown own.entry)) }
     {
         let thread = self.runner.forked(alloc, child)?;
         let parent = mem::replace(&mut self.runner.thread, thread);
@@ -50,7 +50,7 @@ impl<'a> Machine<'a> {
         own: Part<'a>,
         parent: Thread<'a>,
     ) -> Result<(), SerialStop>
-        ensures { (limit : ℕ) (s : State) → IsThread (births_of self.old.runner.journal) parent.entry (parent_of (names_of child.entry) [] s) → Moves limit self.old result self.new (λ fs d. awaited_at (names_of child.entry) (assigns_of child.entry) (part_shown own.entry) s fs (ended d)) }
+        ensures { (limit : ℕ) (s : State) → IsThread (births_of self.old.runner.journal) parent.entry (parent_of (names_of child.entry) [] s) → Moves limit self.old result self.new (λ fs d. step_awaited (names_of child.entry) (assigns_of child.entry) (part_shown own.entry) s fs (ended d)) }
     {
         self.runner.act(Kind::End, 0)?;
         let ended = mem::replace(&mut self.runner.thread, parent);

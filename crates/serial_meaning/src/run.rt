@@ -7,8 +7,8 @@ ghost use Rattle.par_tree.specs.View.{program_tree};
 ghost use Rattle.par_tree.specs.Tree.{Program as ProgramTree};
 ghost use Rattle.par_ownership.specs.Ownership as ownership;
 ghost use Rattle.depth_first_run.specs.States.{Setting, State};
-ghost use Rattle.depth_first_run.specs.Run.{whole, opening};
-ghost use Rattle.depth_first_run.specs.Middle.{middle, beginning_of};
+ghost use Rattle.depth_first_run.specs.Run.{whole, root_start};
+ghost use Rattle.depth_first_run.specs.Middle.{middle, run_start};
 ghost use Rattle.serial_journal.specs.Stops.{OnStop};
 ghost use Rattle.serial_meaning.specs.Settings.{setting_of};
 ghost use Rattle.serial_meaning.specs.Views.{IsBeyond};
@@ -82,7 +82,7 @@ fn close(runner: Runner) -> Result<Serial, SerialStop>
 
 /// The root before its first statement.
 fn beginning<'a>(plan: Plan<'a>, limit: u32) -> Result<Machine<'a>, SerialStop>
-    ensures { MatchResult result (λ machine. At limit machine (beginning_of (setting_of (program_tree plan.entry.program.now) (quota_words plan.entry.quota)) (ownership.function_of (program_tree plan.entry.program.now) ownership.main_name))) (λ stop. OnStop stop ⊥) }
+    ensures { MatchResult result (λ machine. At limit machine (run_start (setting_of (program_tree plan.entry.program.now) (quota_words plan.entry.quota)) (ownership.function_of (program_tree plan.entry.program.now) ownership.main_name))) (λ stop. OnStop stop ⊥) }
 {
     let mut machine = root(plan.alloc, limit);
     let Some(main) = function_of(&plan.program.funcs, b"main") else {
@@ -95,7 +95,7 @@ fn beginning<'a>(plan: Plan<'a>, limit: u32) -> Result<Machine<'a>, SerialStop>
 
 /// The root with nothing to do.
 fn root<'a>(alloc: Global, limit: u32) -> Machine<'a>
-    ensures { (program : ProgramTree) (k : ℕ) → At limit result (middle [] (opening (setting_of program k))) }
+    ensures { (program : ProgramTree) (k : ℕ) → At limit result (middle [] (root_start (setting_of program k))) }
 {
     let thread = Thread {
         id: ThreadId::ROOT,

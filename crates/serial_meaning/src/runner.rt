@@ -1,6 +1,6 @@
 ghost use Rattle.std.specs.Prelude.{◌≡◌, ℕ, Ok, MatchResult};
 ghost use Rattle.depth_first_list.specs.Actions.{Deed, kind_of};
-ghost use Rattle.depth_first_run.specs.States.{acting, faulting, noting, printed, emptied};
+ghost use Rattle.depth_first_run.specs.States.{with_action, with_fault, with_item, printed, emptied};
 ghost use Rattle.serial_journal.specs.Stops.{OnStop};
 ghost use Rattle.serial_journal.specs.Telling.{IsNoFork};
 
@@ -33,7 +33,7 @@ impl<'a> Runner<'a> {
 
     /// The thread does an action that is no Fork.
     pub(crate) fn act(&mut self, kind: Kind, words: u64) -> Result<(), SerialStop>
-        ensures { (limit : ℕ) (deed : Deed) → kind ≡ kind_of deed → IsNoFork deed → Goes limit self.old result self.new (acting deed words) }
+        ensures { (limit : ℕ) (deed : Deed) → kind ≡ kind_of deed → IsNoFork deed → Goes limit self.old result self.new (with_action deed words) }
     {
         let name = self.next_name();
         self.journal.act(name, kind, words)?;
@@ -44,7 +44,7 @@ impl<'a> Runner<'a> {
 
     /// A number is printed.
     pub(crate) fn print(&mut self, value: i64) -> Result<(), SerialStop>
-        ensures { (limit : ℕ) → Goes limit self.old result self.new (noting (printed value)) }
+        ensures { (limit : ℕ) → Goes limit self.old result self.new (with_item (printed value)) }
     {
         self.journal.print(value)
     }
@@ -93,7 +93,7 @@ impl<'a> Runner<'a> {
         kind: FaultKind,
         line: u32,
     ) -> Result<(), SerialStop>
-        ensures { (limit : ℕ) → Goes limit self.old result self.new (faulting kind line) }
+        ensures { (limit : ℕ) → Goes limit self.old result self.new (with_fault kind line) }
     {
         let words = self.holdings()?;
         self.fault_with(alloc, words, kind, line)

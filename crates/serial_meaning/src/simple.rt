@@ -3,8 +3,8 @@
 ghost use Rattle.std.specs.Prelude.{ℕ};
 ghost use Rattle.par_tree.specs.View.{name_tree, expr_tree};
 ghost use Rattle.depth_first_run.specs.Values.{value};
-ghost use Rattle.depth_first_run.specs.States.{settled, unless_faulted};
-ghost use Rattle.depth_first_run.specs.Run.{storing, setting_integer, putting_value, printing, freeing, rejoining};
+ghost use Rattle.depth_first_run.specs.States.{with_number, unless_faulted};
+ghost use Rattle.depth_first_run.specs.Run.{on_store, set_integer, put_value, print_number, free_block, rejoin_block};
 ghost use Rattle.depth_first_run.specs.Middle.{allocated};
 ghost use Rattle.serial_meaning.specs.Lengths.{length_of};
 
@@ -28,7 +28,7 @@ impl<'a> Runner<'a> {
         name: &'a Name,
         expr: &'a Expr,
     ) -> Result<(), SerialStop>
-        ensures { (limit : ℕ) → Goes limit self.old result self.new (λ s. settled line (value s.store (expr_tree expr.now)) (setting_integer (name_tree name.now)) s) }
+        ensures { (limit : ℕ) → Goes limit self.old result self.new (λ s. with_number line (value s.store (expr_tree expr.now)) (set_integer (name_tree name.now)) s) }
     {
         match evaluate(&self.thread.store, expr) {
             Ok(value) => Ok(self.thread.store.set_integer(name, value)?),
@@ -45,7 +45,7 @@ impl<'a> Runner<'a> {
         at: &'a Expr,
         expr: &'a Expr,
     ) -> Result<(), SerialStop>
-        ensures { (limit : ℕ) → Goes limit self.old result self.new (λ s. settled line (value s.store (expr_tree at.now)) (putting_value line (name_tree block.now) (expr_tree expr.now)) s) }
+        ensures { (limit : ℕ) → Goes limit self.old result self.new (λ s. with_number line (value s.store (expr_tree at.now)) (put_value line (name_tree block.now) (expr_tree expr.now)) s) }
     {
         match evaluate(&self.thread.store, at) {
             Ok(index) => self.put_at(alloc, line, block, index, expr),
@@ -61,7 +61,7 @@ impl<'a> Runner<'a> {
         index: i64,
         expr: &'a Expr,
     ) -> Result<(), SerialStop>
-        ensures { (limit : ℕ) → Goes limit self.old result self.new (putting_value line (name_tree block.now) (expr_tree expr.now) index) }
+        ensures { (limit : ℕ) → Goes limit self.old result self.new (put_value line (name_tree block.now) (expr_tree expr.now) index) }
     {
         match evaluate(&self.thread.store, expr) {
             Ok(value) => match self.thread.store.put(block, index, value) {
@@ -79,7 +79,7 @@ impl<'a> Runner<'a> {
         line: u32,
         expr: &'a Expr,
     ) -> Result<(), SerialStop>
-        ensures { (limit : ℕ) → Goes limit self.old result self.new (λ s. settled line (value s.store (expr_tree expr.now)) printing s) }
+        ensures { (limit : ℕ) → Goes limit self.old result self.new (λ s. with_number line (value s.store (expr_tree expr.now)) print_number s) }
     {
         match evaluate(&self.thread.store, expr) {
             Ok(value) => self.print(value),
@@ -89,7 +89,7 @@ impl<'a> Runner<'a> {
 
     /// `free b;`
     pub(crate) fn free(&mut self, alloc: Global, block: &'a Name) -> Result<(), SerialStop>
-        ensures { (limit : ℕ) → Goes limit self.old result self.new (freeing (name_tree block.now)) }
+        ensures { (limit : ℕ) → Goes limit self.old result self.new (free_block (name_tree block.now)) }
     {
         let words = self.thread.store.words(block);
         self.act(Kind::Release, u64::from(words))?;
@@ -140,7 +140,7 @@ impl<'a> Runner<'a> {
         left: &'a Name,
         right: &'a Name,
     ) -> Result<(), SerialStop>
-        ensures { (limit : ℕ) → Goes limit self.old result self.new (unless_faulted (storing (rejoining (name_tree block.now) (name_tree left.now) (name_tree right.now)))) }
+        ensures { (limit : ℕ) → Goes limit self.old result self.new (unless_faulted (on_store (rejoin_block (name_tree block.now) (name_tree left.now) (name_tree right.now)))) }
     {
         if self.thread.faulted {
             return Ok(());

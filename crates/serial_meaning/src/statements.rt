@@ -2,11 +2,11 @@
 
 ghost use Rattle.std.specs.Prelude.{◌≡◌, ℕ, length, nat_lt};
 ghost use Rattle.par_tree.specs.View.{body_tree, name_tree, expr_tree, stmt_tree, program_tree};
-ghost use Rattle.par_tree.specs.Tree.{Program, step, repeat, done};
+ghost use Rattle.par_tree.specs.Tree.{Program, step, while_stmt, done};
 ghost use Rattle.dummy_tree.specs.QuotaWords.{quota_words};
 ghost use Rattle.serial_meaning.specs.Settings.{setting_of};
 ghost use Rattle.depth_first_run.specs.Values.{value};
-ghost use Rattle.depth_first_run.specs.Middle.{middle, before_all, settled_at, choosing_at, repeating_at, both_at, splitting_at, statement_at, part_at, allocating_at};
+ghost use Rattle.depth_first_run.specs.Middle.{middle, before_all, step_with_number, step_if, step_while, step_par, step_split, step_statement, step_part, step_alloc};
 ghost use Rattle.depth_first_run.specs.Middle as middles;
 
 use crate::block_len::BlockLen;
@@ -38,7 +38,7 @@ impl<'a> Machine<'a> {
 
     /// The first statement of a list, which a thread that a fault ended skips with the others.
     pub(crate) fn first_of(&mut self, plan: Plan<'a>, stmts: &'a [Stmt]) -> Result<(), SerialStop>
-        ensures { (limit : ℕ) → Moves limit self.old result self.new (part_at (setting_of (program_tree plan.entry.program.now) (quota_words plan.entry.quota)) (middles.statements (body_tree stmts.now))) }
+        ensures { (limit : ℕ) → Moves limit self.old result self.new (step_part (setting_of (program_tree plan.entry.program.now) (quota_words plan.entry.quota)) (middles.statements (body_tree stmts.now))) }
     {
         let Some((first, rest)) = stmts.split_first() else {
             return Ok(());
@@ -53,7 +53,7 @@ impl<'a> Machine<'a> {
 
     /// One statement.
     fn statement(&mut self, plan: Plan<'a>, stmt: &'a Stmt) -> Result<(), SerialStop>
-        ensures { (limit : ℕ) → Moves limit self.old result self.new (statement_at (setting_of (program_tree plan.entry.program.now) (quota_words plan.entry.quota)) stmt.now.line (stmt_tree stmt.now.kind)) }
+        ensures { (limit : ℕ) → Moves limit self.old result self.new (step_statement (setting_of (program_tree plan.entry.program.now) (quota_words plan.entry.quota)) stmt.now.line (stmt_tree stmt.now.kind)) }
     {
         let alloc = plan.alloc;
         let line = stmt.line;
@@ -92,7 +92,7 @@ impl<'a> Machine<'a> {
         block: &'a Name,
         size: &'a Expr,
     ) -> Result<(), SerialStop>
-        ensures { (limit : ℕ) (program : Program) → Moves limit self.old result self.new (λ fs s. settled_at line (value s.store (expr_tree size.now)) (allocating_at (setting_of program (quota_words plan.entry.quota)) line (name_tree block.now)) fs s) }
+        ensures { (limit : ℕ) (program : Program) → Moves limit self.old result self.new (λ fs s. step_with_number line (value s.store (expr_tree size.now)) (step_alloc (setting_of program (quota_words plan.entry.quota)) line (name_tree block.now)) fs s) }
     {
         let size = match evaluate(&self.runner.thread.store, size) {
             Ok(size) => size,
@@ -120,7 +120,7 @@ impl<'a> Machine<'a> {
         then: &'a Body,
         other: &'a Body,
     ) -> Result<(), SerialStop>
-        ensures { (limit : ℕ) → Moves limit self.old result self.new (λ fs s. settled_at line (value s.store (expr_tree cond.now)) (choosing_at (body_tree then.now.items) (body_tree other.now.items)) fs s) }
+        ensures { (limit : ℕ) → Moves limit self.old result self.new (λ fs s. step_with_number line (value s.store (expr_tree cond.now)) (step_if (body_tree then.now.items) (body_tree other.now.items)) fs s) }
     {
         match evaluate(&self.runner.thread.store, cond) {
             Ok(number) => {
@@ -143,7 +143,7 @@ impl<'a> Machine<'a> {
         body: &'a Body,
         again: &'a [Stmt],
     ) -> Result<(), SerialStop>
-        ensures { (limit : ℕ) → body_tree again.now ≡ step line (repeat (expr_tree cond.now) (body_tree body.now.items)) done → Moves limit self.old result self.new (λ fs s. settled_at line (value s.store (expr_tree cond.now)) (repeating_at line (expr_tree cond.now) (body_tree body.now.items)) fs s) }
+        ensures { (limit : ℕ) → body_tree again.now ≡ step line (while_stmt (expr_tree cond.now) (body_tree body.now.items)) done → Moves limit self.old result self.new (λ fs s. step_with_number line (value s.store (expr_tree cond.now)) (step_while line (expr_tree cond.now) (body_tree body.now.items)) fs s) }
     {
         match evaluate(&self.runner.thread.store, cond) {
             Ok(number) => {
@@ -169,7 +169,7 @@ impl<'a> Machine<'a> {
         left: &'a Body,
         right: &'a Body,
     ) -> Result<(), SerialStop>
-        ensures { (limit k : ℕ) (program : Program) → Moves limit self.old result self.new (λ fs s. both_at (nat_lt (length s.label) 256) (setting_of program k) line (body_tree left.now.items) (body_tree right.now.items) fs s) }
+        ensures { (limit k : ℕ) (program : Program) → Moves limit self.old result self.new (λ fs s. step_par (nat_lt (length s.label) 256) (setting_of program k) line (body_tree left.now.items) (body_tree right.now.items) fs s) }
     {
         if self.runner.thread.depth < MOST_FORKS {
             self.fork(alloc, Part::Statements(left), Part::Statements(right))
@@ -188,7 +188,7 @@ impl<'a> Machine<'a> {
         parts: (&'a Name, &'a Name),
         body: &'a Body,
     ) -> Result<(), SerialStop>
-        ensures { (limit : ℕ) → Moves limit self.old result self.new (λ fs s. settled_at line (value s.store (expr_tree at.now)) (splitting_at line (name_tree block.now) (name_tree parts.entry.0.now) (name_tree parts.entry.1.now) (body_tree body.now.items)) fs s) }
+        ensures { (limit : ℕ) → Moves limit self.old result self.new (λ fs s. step_with_number line (value s.store (expr_tree at.now)) (step_split line (name_tree block.now) (name_tree parts.entry.0.now) (name_tree parts.entry.1.now) (body_tree body.now.items)) fs s) }
     {
         let (left, right) = parts;
         match evaluate(&self.runner.thread.store, at) {

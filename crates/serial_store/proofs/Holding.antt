@@ -5,7 +5,7 @@ use Rattle.std.specs.Str.{bytes_eq}
 use Rattle.dag_order.specs.declared.fault.FaultKind.TheVariants as faults
 use Rattle.par_tree.specs.Tree.{Name}
 use Rattle.depth_first_run.specs.Stores.{Held, block_of, without, replaced}
-use Rattle.depth_first_run.specs.Values.{element_at, place_in}
+use Rattle.depth_first_run.specs.Values.{number_at, place_in}
 use Rattle.serial_store.specs.declared.held_block.HeldBlock.{HeldBlock}
 use Rattle.serial_store.specs.Places.{one_later, place_of}
 use Rattle.serial_store.specs.Shown.{block_name, held_shown, held_of}
@@ -65,15 +65,15 @@ slice_get-past (x ∷ xs) (suc n) past = slice_get-past xs n (omega arith)
 
 -- a number of a block, by its place
 pub element_found : (items : List ℤ) (index : ℤ) (n : ℕ) (v : ℤ) → index ≡ pos n → slice_get items n ≡ Some v →
-    Ok v ≡ element_at items index
+    Ok v ≡ number_at items index
 element_found items index n v at is = rw (at, is) refl
 
 pub element_missed : (items : List ℤ) (index : ℤ) (n : ℕ) → index ≡ pos n → slice_get items n ≡ None →
-    Err faults.Index ≡ element_at items index
+    Err faults.Index ≡ number_at items index
 element_missed items index n at is = rw (at, is) refl
 
 pub element_far : (items : List ℤ) (index : ℤ) (most : ℕ) → length items ≡ most →
-    ((n : ℕ) → index ≡ pos n → most < n) → Err faults.Index ≡ element_at items index
+    ((n : ℕ) → index ≡ pos n → most < n) → Err faults.Index ≡ number_at items index
 element_far items (pos n) most long far =
     let past : most < n = far n refl in
     rw (slice_get-past items n (omega arith)) refl
@@ -96,7 +96,7 @@ place_far items (pos n) most long far =
     place_past items (pos n) n refl (omega arith)
 place_far items (negsuc n) most long far = refl
 
-pub no_element : (index : ℤ) → Err faults.Index ≡ element_at [] index
+pub no_element : (index : ℤ) → Err faults.Index ≡ number_at [] index
 no_element (pos n) = refl
 no_element (negsuc n) = refl
 

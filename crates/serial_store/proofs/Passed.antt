@@ -5,7 +5,7 @@ use Rattle.par_tree.specs.Tree.{Name, Param, Arg, value, lend, give}
 use Rattle.depth_first_run.specs.Stores.{Store, Held, nothing}
 use Rattle.depth_first_run.specs.Values as values
 use Rattle.depth_first_run.specs.Values.{Outcome}
-use Rattle.depth_first_run.specs.Calls.{Passing, passed, all_passed, passing_value, passing_integer, passing_block}
+use Rattle.depth_first_run.specs.Calls.{Passing, passed, all_passed, pass_value, pass_integer, pass_block}
 use Rattle.serial_store.specs.Passing.{Integers, integer_passed, integers_passed, Moving, moving, blocks_passed, PassesIntegers}
 use Rattle.serial_store.specs.declared.stop.Stop.{Stop}
 use Rattle.serial_store.specs.declared.stop.Stop.TheVariants as stops
@@ -22,9 +22,9 @@ moving_of h = moving h.callee h.caller
 of_value : (s : Store) (q : Name) (qs : List Param) (args : List Arg) (h : Passing) →
     ((g : Passing) → passed s qs args g ≡ settled (blocks_passed qs args (moving_of g)) (integers_passed s qs args g.callee.integers)) →
     (o : Outcome) →
-    passing_value q o h (passed s qs args)
+    pass_value q o h (passed s qs args)
     ≡ settled (blocks_passed qs args (moving_of h)) (integer_passed q o h.callee.integers (integers_passed s qs args))
-of_value s q qs args h told (Ok v) = told (passing_integer q v h)
+of_value s q qs args h told (Ok v) = told (pass_integer q v h)
 of_value s q qs args h told (Err kind) = refl
 
 pub passed_parts : (s : Store) (qs : List Param) (args : List Arg) (h : Passing) →
@@ -33,8 +33,8 @@ unfolding passed integers_passed blocks_passed
 passed_parts s [] args h = refl
 passed_parts s (q ∷ qs) [] h = refl
 passed_parts s (q ∷ qs) (value e ∷ args) h = of_value s q.name qs args h (passed_parts s qs args) (values.value s e)
-passed_parts s (q ∷ qs) (lend b ∷ args) h = passed_parts s qs args (passing_block q.name b h)
-passed_parts s (q ∷ qs) (give b ∷ args) h = passed_parts s qs args (passing_block q.name b h)
+passed_parts s (q ∷ qs) (lend b ∷ args) h = passed_parts s qs args (pass_block q.name b h)
+passed_parts s (q ∷ qs) (give b ∷ args) h = passed_parts s qs args (pass_block q.name b h)
 
 start : Store → Passing
 start s = record { callee = nothing; caller = s }

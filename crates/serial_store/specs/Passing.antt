@@ -2,7 +2,7 @@
 use Rattle.std.specs.Prelude.{◌≡◌, List, [], ◌∷◌, ℤ, Result, Ok, Err}
 use Rattle.dag_order.specs.declared.fault.FaultKind.{FaultKind}
 use Rattle.par_tree.specs.Tree.{Name, Param, Arg, value, lend, give}
-use Rattle.depth_first_run.specs.Stores.{Store, Held, updated, block_of, with_block, dropping}
+use Rattle.depth_first_run.specs.Stores.{Store, Held, updated, block_of, with_block, drop_block}
 use Rattle.depth_first_run.specs.Calls.{lent_back}
 use Rattle.depth_first_run.specs.Values as values
 use Rattle.depth_first_run.specs.Values.{Outcome}
@@ -33,7 +33,7 @@ pub record Moving : Type 0 where
 
 abbrev pub moving_block : Name → Name → Moving → Moving
 moving_block q b m =
-    record { callee = with_block m.callee q (block_of m.caller.blocks b); caller = dropping b m.caller }
+    record { callee = with_block m.callee q (block_of m.caller.blocks b); caller = drop_block b m.caller }
 
 abbrev pub moving : (callee caller : Store) → Moving
 moving callee caller = record { callee = callee.blocks; caller = caller }

@@ -2,8 +2,8 @@
 
 ghost use Rattle.std.specs.Prelude.{◌≡◌, ◌≤◌, ◌<◌, ◌^◌, length, pos, replicate, slice_set, OnOk, OnErr};
 ghost use Rattle.par_tree.specs.View.{name_tree};
-ghost use Rattle.depth_first_run.specs.Stores.{block_of, holding, dropping, writing, block_words, held_words};
-ghost use Rattle.depth_first_run.specs.Values.{element_at, place_in};
+ghost use Rattle.depth_first_run.specs.Stores.{block_of, hold_block, drop_block, write_block, block_words, held_words};
+ghost use Rattle.depth_first_run.specs.Values.{number_at, place_in};
 ghost use Rattle.serial_store.specs.Shown.{store_shown, held_of};
 ghost use Rattle.serial_store.specs.Effects.{Puts};
 
@@ -28,7 +28,7 @@ impl<'a> Store<'a> {
 
     /// The number at a place, from 0, of the block of a name. Outside the block it is the fault Index.
     pub fn element(&self, name: &Name, index: i64) -> Result<i64, FaultKind>
-        ensures { result ≡ element_at (block_of (store_shown self.now).blocks (name_tree name.now)) index }
+        ensures { result ≡ number_at (block_of (store_shown self.now).blocks (name_tree name.now)) index }
     {
         let Some(place) = place_of_block(&self.blocks, name) else {
             return Err(FaultKind::Index);
@@ -66,7 +66,7 @@ impl<'a> Store<'a> {
     /// Writes `value` to a place that the block of a name has.
     fn write(&mut self, name: &Name, place: u32, value: i64)
         requires { place < length (block_of (store_shown self.old).blocks (name_tree name.now)) }
-        ensures { store_shown self.new ≡ writing (name_tree name.now) (slice_set (block_of (store_shown self.old).blocks (name_tree name.now)) place value) (store_shown self.old) }
+        ensures { store_shown self.new ≡ write_block (name_tree name.now) (slice_set (block_of (store_shown self.old).blocks (name_tree name.now)) place value) (store_shown self.old) }
     {
         let Some(held) = place_of_block(&self.blocks, name) else {
             return;
@@ -91,7 +91,7 @@ impl<'a> Store<'a> {
 
     /// A block is held under a name from now on, behind the others.
     pub fn hold(&mut self, name: &'a Name, block: Block) -> Result<(), AllocError>
-        ensures ok { OnOk result (store_shown self.new ≡ holding (name_tree name.now) block.items (store_shown self.old)) }
+        ensures ok { OnOk result (store_shown self.new ≡ hold_block (name_tree name.now) block.items (store_shown self.old)) }
         ensures err { OnErr result (store_shown self.new ≡ store_shown self.old) }
     {
         if self.blocks.len() >= MAX_BLOCKS {
@@ -104,7 +104,7 @@ impl<'a> Store<'a> {
     /// The block of a name is no longer held. Where none is, the answer is an empty one.
     pub fn take(&mut self, alloc: Global, name: &Name) -> Block
         ensures block { result.items ≡ block_of (store_shown self.old).blocks (name_tree name.now) }
-        ensures store { store_shown self.new ≡ dropping (name_tree name.now) (store_shown self.old) }
+        ensures store { store_shown self.new ≡ drop_block (name_tree name.now) (store_shown self.old) }
     {
         match place_of_block(&self.blocks, name) {
             Some(place) => self.blocks.remove(place).block,
@@ -115,7 +115,7 @@ impl<'a> Store<'a> {
     /// A block of `len` zeros is held under a name from now on, behind the others.
     pub fn allocate(&mut self, alloc: Global, name: &'a Name, len: u32) -> Result<(), AllocError>
         requires { len ≤ 1048576 }
-        ensures ok { OnOk result (store_shown self.new ≡ holding (name_tree name.now) (replicate len (pos 0)) (store_shown self.old)) }
+        ensures ok { OnOk result (store_shown self.new ≡ hold_block (name_tree name.now) (replicate len (pos 0)) (store_shown self.old)) }
         ensures err { OnErr result (store_shown self.new ≡ store_shown self.old) }
     {
         let block = Block::zeros(alloc, len)?;
@@ -124,7 +124,7 @@ impl<'a> Store<'a> {
 
     /// The block of a name is given back, and is no longer held.
     pub fn release(&mut self, alloc: Global, name: &Name)
-        ensures { store_shown self.new ≡ dropping (name_tree name.now) (store_shown self.old) }
+        ensures { store_shown self.new ≡ drop_block (name_tree name.now) (store_shown self.old) }
     {
         let _block = self.take(alloc, name);
     }

@@ -3,7 +3,7 @@
 ghost use Rattle.std.specs.Prelude.{◌≡◌, OnOk};
 ghost use Rattle.par_tree.specs.View.{name_tree};
 ghost use Rattle.depth_first_run.specs.Stores.{block_of};
-ghost use Rattle.depth_first_run.specs.Run.{cut_of, rejoining};
+ghost use Rattle.depth_first_run.specs.Run.{cut_of, rejoin_block};
 ghost use Rattle.serial_store.specs.Shown.{store_shown};
 ghost use Rattle.serial_store.specs.Effects.{Cuts};
 
@@ -63,7 +63,7 @@ impl<'a> Store<'a> {
         left: &Name,
         right: &Name,
     ) -> Result<(), AllocError>
-        ensures { OnOk result (store_shown self.new ≡ rejoining (name_tree name.now) (name_tree left.now) (name_tree right.now) (store_shown self.old)) }
+        ensures { OnOk result (store_shown self.new ≡ rejoin_block (name_tree name.now) (name_tree left.now) (name_tree right.now) (store_shown self.old)) }
     {
         let before = self.take(alloc, left);
         let behind = self.take(alloc, right);

@@ -43,19 +43,19 @@ statements-returns t c =
 pub if_statement-returns : goal.if_statement-returns
 unfolding if_rule
 if_statement-returns t c =
-    let whole : read c.args.depth if_rule (words c.args.text.now c.args.tokens.now) ≡ Ok ((c.in_ok-first.first.now.line, Tree.choose (expr_tree c.in_ok-cond.cond) (body_tree c.in_ok-then.then.items) (body_tree c.in_ok-other.other.items)), words c.args.text.now c.in_ok-other.rest.now) = search (rules) in
+    let whole : read c.args.depth if_rule (words c.args.text.now c.args.tokens.now) ≡ Ok ((c.in_ok-first.first.now.line, Tree.if_stmt (expr_tree c.in_ok-cond.cond) (body_tree c.in_ok-then.then.items) (body_tree c.in_ok-other.other.items)), words c.args.text.now c.in_ok-other.rest.now) = search (rules) in
     whole ∙ ap (λ (s : Tree.Stmt). Ok ((c.in_ok-first.first.now.line, s), words c.args.text.now c.in_ok-other.rest.now)) (sym (stmt_tree-if c.in_ok-cond.cond c.in_ok-then.then c.in_ok-other.other))
 
 pub while_statement-returns : goal.while_statement-returns
 unfolding while_rule
 while_statement-returns t c =
-    let whole : read c.args.depth while_rule (words c.args.text.now c.args.tokens.now) ≡ Ok ((c.in_ok-first.first.now.line, Tree.repeat (expr_tree c.in_ok-cond.cond) (body_tree c.in_ok-body.body.items)), words c.args.text.now c.in_ok-body.rest.now) = search (rules) in
+    let whole : read c.args.depth while_rule (words c.args.text.now c.args.tokens.now) ≡ Ok ((c.in_ok-first.first.now.line, Tree.while_stmt (expr_tree c.in_ok-cond.cond) (body_tree c.in_ok-body.body.items)), words c.args.text.now c.in_ok-body.rest.now) = search (rules) in
     whole ∙ ap (λ (s : Tree.Stmt). Ok ((c.in_ok-first.first.now.line, s), words c.args.text.now c.in_ok-body.rest.now)) (sym (stmt_tree-while c.in_ok-cond.cond c.in_ok-body.body))
 
 pub par_statement-returns : goal.par_statement-returns
 unfolding par_rule
 par_statement-returns t c =
-    let whole : read c.args.depth par_rule (words c.args.text.now c.args.tokens.now) ≡ Ok ((c.in_ok-first.first.now.line, Tree.both (body_tree c.in_ok-left.left.items) (body_tree c.in_ok-right.right.items)), words c.args.text.now c.in_ok-right.rest.now) = search (rules) in
+    let whole : read c.args.depth par_rule (words c.args.text.now c.args.tokens.now) ≡ Ok ((c.in_ok-first.first.now.line, Tree.par_stmt (body_tree c.in_ok-left.left.items) (body_tree c.in_ok-right.right.items)), words c.args.text.now c.in_ok-right.rest.now) = search (rules) in
     whole ∙ ap (λ (s : Tree.Stmt). Ok ((c.in_ok-first.first.now.line, s), words c.args.text.now c.in_ok-right.rest.now)) (sym (stmt_tree-par c.in_ok-left.left c.in_ok-right.right))
 
 pub split_statement-returns-in_err-block : goal.split_statement-returns-in_err-block
@@ -85,5 +85,5 @@ split_statement-returns-in_err-body t c = search (rules, c.in_ok-block.ensures c
 pub split_statement-returns : goal.split_statement-returns
 unfolding split_rule
 split_statement-returns t c =
-    let whole : read c.args.depth split_rule (words c.args.text.now c.args.tokens.now) ≡ Ok ((c.in_ok-first.first.now.line, Tree.split (name_tree c.in_ok-block.block) (expr_tree c.in_ok-at.at) (name_tree c.in_ok-left.left) (name_tree c.in_ok-left.right) (body_tree c.in_ok-body.body.items)), words c.args.text.now c.in_ok-body.rest.now) = search (rules, c.in_ok-block.ensures c.args.depth, c.in_ok-left.ensures c.args.depth) in
+    let whole : read c.args.depth split_rule (words c.args.text.now c.args.tokens.now) ≡ Ok ((c.in_ok-first.first.now.line, Tree.split_stmt (name_tree c.in_ok-block.block) (expr_tree c.in_ok-at.at) (name_tree c.in_ok-left.left) (name_tree c.in_ok-left.right) (body_tree c.in_ok-body.body.items)), words c.args.text.now c.in_ok-body.rest.now) = search (rules, c.in_ok-block.ensures c.args.depth, c.in_ok-left.ensures c.args.depth) in
     whole ∙ ap (λ (s : Tree.Stmt). Ok ((c.in_ok-first.first.now.line, s), words c.args.text.now c.in_ok-body.rest.now)) (sym (stmt_tree-split c.in_ok-block.block c.in_ok-at.at c.in_ok-left.left c.in_ok-left.right c.in_ok-body.body))

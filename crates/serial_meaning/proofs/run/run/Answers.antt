@@ -7,7 +7,7 @@ use Rattle.depth_first_run.proofs.Stepping.{beginning_comes}
 use Rattle.depth_first_run.specs.States.{Setting, ended}
 use Rattle.depth_first_run.specs.Run.{whole}
 use Rattle.depth_first_run.specs.Middle as middles
-use Rattle.depth_first_run.specs.Middle.{Middle, middle, finished, beginning_of, frame_at}
+use Rattle.depth_first_run.specs.Middle.{Middle, middle, finished, run_start, step_frame}
 use Rattle.serial_journal.specs.Journals.{births_of}
 use Rattle.serial_meaning.specs.Settings.{setting_of}
 use Rattle.serial_meaning.specs.Views.{IsBeyond}
@@ -23,7 +23,7 @@ pub loop-frame-init : goal.loop-frame-init
 loop-frame-init c =
     let setting : Setting = setting_of (program_tree c.args.plan.program.now) (quota_words c.args.plan.quota) in
     record {
-      point = beginning_of setting (function_of (program_tree c.args.plan.program.now) main_name);
+      point = run_start setting (function_of (program_tree c.args.plan.program.now) main_name);
       at = c.in_ok-machine.ensures;
       comes = sym (beginning_comes setting);
     }
@@ -46,7 +46,7 @@ loop-frame-preserved c =
     let way = c.loop-frame.invariant in
     let t : Taken c.args.limit popped c.in-Some.frame way.point = taken c.args.limit before popped c.in-Some.frame way.point refl c.in-Some.ensures.items way.at in
     record {
-      point = frame_at setting t.first t.rest way.point.state;
+      point = step_frame setting t.first t.rest way.point.state;
       at = c.in_ok-step.ensures c.args.limit t.first t.first_is t.rest way.point.state t.at;
       comes = ap ended (next_comes setting c.args.limit popped c.in-Some.frame way.point t) ∙ way.comes;
     }
@@ -58,7 +58,7 @@ returns-in_err-step c =
     let popped : Machine = record { frames = c.pop.new.self; runner = before.runner } in
     let way = c.loop-frame.invariant in
     let t : Taken c.args.limit popped c.in-Some.frame way.point = taken c.args.limit before popped c.in-Some.frame way.point refl c.in-Some.ensures.items way.at in
-    let next : Middle = frame_at setting t.first t.rest way.point.state in
+    let next : Middle = step_frame setting t.first t.rest way.point.state in
     err_exit (IsAllButEnded c.args.limit setting) (IsBeyond c.args.limit (whole setting)) c.from_residual-in_err-step.result c.in_err-step.field-0.0 c.from_residual-in_err-step.ensures.1
     (stops_so _ _ c.in_err-step.field-0.0 (more_to_come setting c.args.limit next (whole setting) (ap ended (next_comes setting c.args.limit popped c.in-Some.frame way.point t) ∙ way.comes))
     (c.in_err-step.ensures c.args.limit t.first t.first_is t.rest way.point.state t.at))

@@ -10,9 +10,9 @@ use Rattle.par_tree.specs.Tree.{Name, Expr}
 use Rattle.par_tree.specs.View.{name_tree, expr_tree}
 use Rattle.depth_first_run.specs.Stores.{block_words}
 use Rattle.depth_first_run.specs.Values.{value}
-use Rattle.depth_first_run.specs.States.{Setting, faulting}
+use Rattle.depth_first_run.specs.States.{Setting, with_fault}
 use Rattle.depth_first_run.specs.Run.{size_of}
-use Rattle.depth_first_run.specs.Middle.{Middle, middle, does, tree, allocates, allocated, allocating_at}
+use Rattle.depth_first_run.specs.Middle.{Middle, middle, does, tree, allocates, allocated, step_alloc}
 use Rattle.serial_store.specs.Shown.{store_shown}
 use Rattle.serial_meaning.specs.declared.machine.Machine.{Machine}
 use Rattle.serial_meaning.specs.Lengths.{length_of}
@@ -30,7 +30,7 @@ returns-in-Err c = λ limit program fs s at.
     let b : Name = name_tree c.args.block.now in
     let e : Expr = expr_tree c.args.size.now in
     let after : Machine = record { frames = c.args.self.now.frames; runner = c.fault.new.self } in
-    faulted_at limit line c.args.self.now after c.fault.result e c.in-Err.kind (allocating_at setting line b) refl (c.fault.ensures limit) c.in-Err.ensures fs s at
+    faulted_at limit line c.args.self.now after c.fault.result e c.in-Err.kind (step_alloc setting line b) refl (c.fault.ensures limit) c.in-Err.ensures fs s at
 
 pub returns-in_default : goal.returns-in_default
 returns-in_default c = λ limit program fs s at.
@@ -43,9 +43,9 @@ returns-in_default c = λ limit program fs s at.
     let v : ℤ = to_z w64 (of_z w64 c.in-Ok.size) in
     let number : Ok v ≡ value (store_shown c.args.self.now.runner.thread.store) e = ap Ok (to_z-of_z w64 c.in-Ok.size fits) ∙ c.in-Ok.ensures in
     let after : Machine = record { frames = c.args.self.now.frames; runner = c.fault-in_default.new.self } in
-    numbered_at limit line c.args.self.now after c.fault-in_default.result e v (allocating_at setting line b) number fs s (middle fs (faulting faults.Size line s)) at
+    numbered_at limit line c.args.self.now after c.fault-in_default.result e v (step_alloc setting line b) number fs s (middle fs (with_fault faults.Size line s)) at
     (no_size setting line b v fs s c.in_default.ensures)
-    (lifted limit c.args.self.now after c.fault-in_default.result (faulting faults.Size line) refl (c.fault-in_default.ensures limit) fs s at)
+    (lifted limit c.args.self.now after c.fault-in_default.result (with_fault faults.Size line) refl (c.fault-in_default.ensures limit) fs s at)
 
 pub returns-in-None : goal.returns-in-None
 returns-in-None c = λ limit program fs s at.
@@ -64,7 +64,7 @@ returns-in-None c = λ limit program fs s at.
     let none : IsTreeSize c.dummies.result → ⊥ = λ (is : IsTreeSize c.dummies.result). let never = c.in-None.ensures.some.1 is in cc in
     let few : words ≤ k = subst (λ (w : ℕ). w ≤ k) same (few_words c.words.result k c.dummies.result c.words.ensures.bound c.dummies.ensures.several c.dummies.ensures.bound none) in
     let after : Machine = record { frames = c.args.self.now.frames; runner = c.allocate.new.self } in
-    numbered_at limit line c.args.self.now after c.allocate.result e v (allocating_at setting line b) number fs s (middle fs (allocated b n s)) at
+    numbered_at limit line c.args.self.now after c.allocate.result e v (step_alloc setting line b) number fs s (middle fs (allocated b n s)) at
     (allocated_now setting line b v n fs s size few)
     (lifted limit c.args.self.now after c.allocate.result (allocated b n) refl (c.allocate.ensures limit) fs s at)
 
@@ -90,5 +90,5 @@ returns-in_ok-push-in-Some-of-2 c = λ limit program fs s at.
     let behind : At limit c.push.new.self (middle (allocates b n ∷ fs) s) = c.in_ok-push-in-Some-of.ensures.ok limit (allocates b n) refl fs s at in
     subst (λ (x : Middle). At limit c.push-in-Some-of.new.self x)
     (allocated_later setting line b v n shape fs s size many for_words
-    ∙ settled_at_ok limit line c.args.self.now.runner e v (allocating_at setting line b) fs s at.now number)
+    ∙ settled_at_ok limit line c.args.self.now.runner e v (step_alloc setting line b) fs s at.now number)
     (c.in_ok-push-in-Some-of-2.ensures.ok limit (does (tree shape)) refl (allocates b n ∷ fs) s behind)

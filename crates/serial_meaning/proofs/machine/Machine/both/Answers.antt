@@ -3,9 +3,9 @@ use Rattle.std.specs.Prelude.{nat_lt, length}
 use Rattle.dag_order.specs.declared.fault.FaultKind.TheVariants as faults
 use Rattle.par_tree.specs.Tree.{Body}
 use Rattle.par_tree.specs.View.{body_tree}
-use Rattle.depth_first_run.specs.States.{Setting, faulting}
+use Rattle.depth_first_run.specs.States.{Setting, with_fault}
 use Rattle.depth_first_run.specs.Run.{names_in, assigns_in}
-use Rattle.depth_first_run.specs.Middle.{middle, statements, forking_at, both_at}
+use Rattle.depth_first_run.specs.Middle.{middle, statements, step_fork, step_par}
 use Rattle.serial_meaning.specs.Settings.{setting_of}
 use Rattle.serial_meaning.specs.declared.machine.Machine.{Machine}
 use Rattle.serial_meaning.proofs.Stack.{at_point, lifted}
@@ -22,7 +22,7 @@ returns-then-self-lt-MOST_FORKS c = λ limit k program fs s at.
     let b' : Body = body_tree c.deref-then-self-lt-MOST_FORKS.result.now in
     let within : Bool = nat_lt (length s.label) 256 in
     at_point limit c.fork.new.self c.fork.result
-    (forking_at setting (names_in a') (assigns_in a') (statements a') (statements b') fs s) (both_at within setting c.args.line a b fs s)
+    (step_fork setting (names_in a') (assigns_in a') (statements a') (statements b') fs s) (step_par within setting c.args.line a b fs s)
     (both_now setting c.args.line a b a' b' within fs s (ap body_tree c.deref.ensures.value) (ap body_tree c.deref-then-self-lt-MOST_FORKS.ensures.value) (forks_within limit c.args.self.now.runner s 256 at.now few))
     (c.fork.ensures limit k program fs s at)
 
@@ -34,6 +34,6 @@ returns-else-self-lt-MOST_FORKS c = λ limit k program fs s at.
     let b : Body = body_tree c.args.right.now.items in
     let within : Bool = nat_lt (length s.label) 256 in
     let after : Machine = record { frames = c.args.self.now.frames; runner = c.fault.new.self } in
-    at_point limit after c.fault.result (middle fs (faulting faults.Depth c.args.line s)) (both_at within setting c.args.line a b fs s)
+    at_point limit after c.fault.result (middle fs (with_fault faults.Depth c.args.line s)) (step_par within setting c.args.line a b fs s)
     (both_never setting c.args.line a b within fs s (forks_beyond limit c.args.self.now.runner s 256 at.now many))
-    (lifted limit c.args.self.now after c.fault.result (faulting faults.Depth c.args.line) refl (c.fault.ensures limit) fs s at)
+    (lifted limit c.args.self.now after c.fault.result (with_fault faults.Depth c.args.line) refl (c.fault.ensures limit) fs s at)

@@ -2,7 +2,7 @@ use Rattle.std.proofs.Common.{suc, List, [], ◌∷◌, refl, sym, ap, subst}
 use Rattle.dag_order.specs.declared.birth.Birth.{Birth}
 use Rattle.depth_first_list.specs.Actions as deeds
 use Rattle.depth_first_run.specs.States.{State, ended, parent_of}
-use Rattle.depth_first_run.specs.Middle.{middle, joins, does, awaited_at}
+use Rattle.depth_first_run.specs.Middle.{middle, joins, does, step_awaited}
 use Rattle.serial_journal.specs.Journals.{births_of}
 use Rattle.serial_meaning.specs.Frames.{part_shown, names_of, assigns_of}
 use Rattle.serial_meaning.specs.Views.{Is, IsBeyond, IsThread}
@@ -16,7 +16,7 @@ use Rattle.serial_meaning.proofs.machine.Machine.end_child.Goals as goal
 pub returns-in_err-act : goal.returns-in_err-act
 returns-in_err-act c = λ limit s parent fs d at.
     let after : Machine = record { frames = c.args.self.now.frames; runner = c.act.new.self } in
-    let m = awaited_at (names_of c.args.child) (assigns_of c.args.child) (part_shown c.args.own) s fs (ended d) in
+    let m = step_awaited (names_of c.args.child) (assigns_of c.args.child) (part_shown c.args.own) s fs (ended d) in
     err_exit (λ _. At limit after m) (IsBeyond limit m.state) c.from_residual.result c.in_err-act.field-0.0 c.from_residual.ensures.1
     (stops_so _ _ c.in_err-act.field-0.0 (λ more. subst (IsBeyond limit) (end_is d) more) (c.in_err-act.ensures limit deeds.ends refl tt d at.now))
 

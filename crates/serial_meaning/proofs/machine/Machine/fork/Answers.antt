@@ -1,6 +1,6 @@
 use Rattle.std.proofs.Common.{[], ◌∷◌, refl, sym, subst}
 use Rattle.depth_first_run.specs.States.{State, child_of, parent_of}
-use Rattle.depth_first_run.specs.Middle.{Frame, middle, awaits, does, forking_at}
+use Rattle.depth_first_run.specs.Middle.{Frame, middle, awaits, does, step_fork}
 use Rattle.serial_journal.specs.Journals.{births_of}
 use Rattle.serial_meaning.specs.Settings.{setting_of}
 use Rattle.serial_meaning.specs.Frames.{part_shown, names_of, assigns_of}
@@ -15,7 +15,7 @@ use Rattle.serial_meaning.proofs.machine.Machine.fork.Goals as goal
 pub returns-in_err-thread : goal.returns-in_err-thread
 returns-in_err-thread c = λ limit k program fs s at.
     let after : Machine = record { frames = c.args.self.now.frames; runner = c.forked.new.self } in
-    let m = forking_at (setting_of program k) (names_of c.args.child) (assigns_of c.args.child) (part_shown c.args.child) (part_shown c.args.own) fs s in
+    let m = step_fork (setting_of program k) (names_of c.args.child) (assigns_of c.args.child) (part_shown c.args.child) (part_shown c.args.own) fs s in
     err_exit (λ _. At limit after m) (IsBeyond limit m.state) c.from_residual.result c.in_err-thread.field-0.0 c.from_residual.ensures.1 (c.in_err-thread.ensures limit k program s at.now)
 
 pub returns : goal.returns

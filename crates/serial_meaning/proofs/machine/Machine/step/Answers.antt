@@ -4,8 +4,8 @@ use Rattle.dummy_tree.specs.QuotaWords.{quota_words}
 use Rattle.par_tree.specs.Tree.{Program}
 use Rattle.par_tree.specs.View.{name_tree, ret_tree, params_tree, args_tree, target_tree, program_tree}
 use Rattle.depth_first_run.specs.States.{Setting, State, unless_faulted, joined}
-use Rattle.depth_first_run.specs.Calls.{answering, returned}
-use Rattle.depth_first_run.specs.Run.{storing, rejoining, dropping_answer}
+use Rattle.depth_first_run.specs.Calls.{with_answer, returned}
+use Rattle.depth_first_run.specs.Run.{on_store, rejoin_block, ignore_answer}
 use Rattle.depth_first_run.specs.Middle as middles
 use Rattle.serial_journal.specs.Journals.{births_of}
 use Rattle.serial_meaning.specs.declared.frame.Frame.{Frame}
@@ -39,7 +39,7 @@ returns-in-Answers c = λ limit f is fs s at.
     let target = target_tree c.in-Answers.target.now in
     let after : Machine = record { frames = c.args.self.now.frames; runner = c.answer.new.self } in
     framed limit after c.answer.result setting f (middles.answers ret params args target) here fs s
-    (lifted limit c.args.self.now after c.answer.result (unless_faulted (answering ret (returned params args target))) refl (c.answer.ensures limit) fs s at)
+    (lifted limit c.args.self.now after c.answer.result (unless_faulted (with_answer ret (returned params args target))) refl (c.answer.ensures limit) fs s at)
 
 pub returns-in-Rejoins : goal.returns-in-Rejoins
 returns-in-Rejoins c = λ limit f is fs s at.
@@ -53,7 +53,7 @@ returns-in-Rejoins c = λ limit f is fs s at.
     let r = name_tree c.in-Rejoins.right.now in
     let after : Machine = record { frames = c.args.self.now.frames; runner = c.rejoin.new.self } in
     framed limit after c.rejoin.result setting f (middles.rejoins b l r) here fs s
-    (lifted limit c.args.self.now after c.rejoin.result (unless_faulted (storing (rejoining b l r))) refl (c.rejoin.ensures limit) fs s at)
+    (lifted limit c.args.self.now after c.rejoin.result (unless_faulted (on_store (rejoin_block b l r))) refl (c.rejoin.ensures limit) fs s at)
 
 pub returns-in-AnswersMain : goal.returns-in-AnswersMain
 returns-in-AnswersMain c = λ limit f is fs s at.
@@ -65,7 +65,7 @@ returns-in-AnswersMain c = λ limit f is fs s at.
     let ret = ret_tree c.in-AnswersMain.ret.now in
     let after : Machine = record { frames = c.args.self.now.frames; runner = c.answer_main.new.self } in
     framed limit after c.answer_main.result setting f (middles.answers_main ret) here fs s
-    (lifted limit c.args.self.now after c.answer_main.result (unless_faulted (answering ret dropping_answer)) refl (c.answer_main.ensures limit) fs s at)
+    (lifted limit c.args.self.now after c.answer_main.result (unless_faulted (with_answer ret ignore_answer)) refl (c.answer_main.ensures limit) fs s at)
 
 pub returns-in-Allocates : goal.returns-in-Allocates
 returns-in-Allocates c = λ limit f is fs s at.

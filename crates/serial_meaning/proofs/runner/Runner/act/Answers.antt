@@ -1,7 +1,7 @@
 use Rattle.std.proofs.Common.{◌≡◌, ◌+◌, ◌<◌, ◌≤◌, ◌∷◌, [], ◌++◌, length, refl, sym, subst}
 use Rattle.dag_order.specs.Births.{HasLabel}
 use Rattle.dag_order.specs.declared.thread_id.ThreadId.{ThreadId}
-use Rattle.depth_first_run.specs.States.{acted, acting}
+use Rattle.depth_first_run.specs.States.{acted, with_action}
 use Rattle.depth_first_run.specs.Run.{actions_of}
 use Rattle.serial_journal.specs.Journals.{births_of, action_named, KeepsUp}
 use Rattle.serial_meaning.specs.declared.thread.Thread.{Thread}
@@ -13,9 +13,9 @@ pub returns-in_err-act : goal.returns-in_err-act
 returns-in_err-act c = λ limit deed kind plain s is.
     let known : HasLabel (births_of c.args.self.now.journal ∷ []) c.next_name-name.result.by s.label =
     subst (λ (id : ThreadId). HasLabel (births_of c.args.self.now.journal ∷ []) id s.label) (sym c.next_name-name.ensures.by) is.thread.labelled in
-    err_exit (λ _. Is limit (record { thread = c.args.self.now.thread; journal = c.act.new.self }) (acting deed c.args.words s) × (births_of c.act.new.self ≡ births_of c.args.self.now.journal))
-    (IsBeyond limit (acting deed c.args.words s)) c.from_residual.result c.in_err-act.field-0.0 c.from_residual.ensures.1
-    (stops_so (limit ≤ length (actions_of s.items)) (IsBeyond limit (acting deed c.args.words s)) c.in_err-act.field-0.0 (act_beyond limit deed c.args.words s)
+    err_exit (λ _. Is limit (record { thread = c.args.self.now.thread; journal = c.act.new.self }) (with_action deed c.args.words s) × (births_of c.act.new.self ≡ births_of c.args.self.now.journal))
+    (IsBeyond limit (with_action deed c.args.words s)) c.from_residual.result c.in_err-act.field-0.0 c.from_residual.ensures.1
+    (stops_so (limit ≤ length (actions_of s.items)) (IsBeyond limit (with_action deed c.args.words s)) c.in_err-act.field-0.0 (act_beyond limit deed c.args.words s)
     (c.in_err-act.ensures.keeps_up limit s.items s.label deed is.keeps known kind plain))
 
 pub returns : goal.returns

@@ -1,6 +1,6 @@
 use Rattle.std.proofs.Common.{◌≡◌, ◌∙◌, refl, subst}
 use Rattle.depth_first_list.specs.Actions as deeds
-use Rattle.depth_first_run.specs.States.{State, acting, joined}
+use Rattle.depth_first_run.specs.States.{State, with_action, joined}
 use Rattle.serial_store.specs.Shown.{store_shown}
 use Rattle.serial_store.specs.Effects.{joined_store}
 use Rattle.serial_journal.specs.Journals.{births_of}
@@ -13,7 +13,7 @@ use Rattle.serial_meaning.proofs.runner.Runner.join.Goals as goal
 
 pub returns-then-self : goal.returns-then-self
 returns-then-self c = λ limit ordinal d store ended s is.
-    at_same limit c.args.self.now c.act.result c.act.new.self (acting (deeds.joins ordinal) c.held_words.result s) (joined (assigns_of c.args.child) ordinal d s)
+    at_same limit c.args.self.now c.act.result c.act.new.self (with_action (deeds.joins ordinal) c.held_words.result s) (joined (assigns_of c.args.child) ordinal d s)
     (joined_when_faulted limit (assigns_of c.args.child) ordinal c.held_words.result c.args.self.now c.args.store d s is c.if-self.true store c.held_words.ensures.value)
     (c.act.ensures limit (deeds.joins ordinal) refl tt s is)
 
@@ -29,7 +29,7 @@ pub returns-then-faulted : goal.returns-then-faulted
 returns-then-faulted c = λ limit ordinal d store ended s is.
     let same = joined_to_faulted limit (assigns_of c.args.child) ordinal c.in_ok-words.words c.args.self.now d s is c.if-self.false (ended ∙ c.if-faulted.true) c.in_ok-words.ensures in
     let acted = c.in_ok-act.ensures limit (deeds.joins ordinal) refl tt s is in
-    let emptied_now = c.empty.ensures limit (acting (deeds.joins ordinal) c.in_ok-words.words s) acted.0 in
+    let emptied_now = c.empty.ensures limit (with_action (deeds.joins ordinal) c.in_ok-words.words s) acted.0 in
     (subst (λ (v : State). Is limit c.empty.new.self v) same emptied_now.0, emptied_now.1 ∙ acted.1)
 
 pub returns-in_err-act-2 : goal.returns-in_err-act-2
@@ -46,5 +46,5 @@ returns c = λ limit ordinal d store ended s is.
     let acted = c.in_ok-act-2.ensures limit (deeds.joins ordinal) refl tt s is in
     let after : Thread = record c.act-2.new.self.thread { store = c.bring_back.new.store } in
     let brought = is_stored limit c.act-2.new.self.thread after c.act-2.new.self.journal (joined_store (assigns_of c.args.child) (store_shown c.args.store)) c.bring_back.new.store refl
-    c.in_ok-bring_back.ensures (acting (deeds.joins ordinal) 0 s) acted.0 in
+    c.in_ok-bring_back.ensures (with_action (deeds.joins ordinal) 0 s) acted.0 in
     (subst (λ (v : State). Is limit (record { thread = after; journal = c.act-2.new.self.journal }) v) same brought, acted.1)

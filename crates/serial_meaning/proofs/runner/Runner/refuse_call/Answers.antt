@@ -4,7 +4,7 @@ use Rattle.par_tree.specs.View.{params_tree, args_tree}
 use Rattle.depth_first_run.specs.Stores as stores
 use Rattle.depth_first_run.specs.States.{State}
 use Rattle.depth_first_run.specs.Calls.{all_passed}
-use Rattle.depth_first_run.specs.Run.{storing}
+use Rattle.depth_first_run.specs.Run.{on_store}
 use Rattle.serial_store.specs.Shown.{store_shown}
 use Rattle.serial_journal.specs.declared.serial_stop.SerialStop.{SerialStop}
 use Rattle.serial_journal.specs.Stops.{OnStop}
@@ -25,7 +25,7 @@ returns c = λ limit s is.
     let run = c.args.self.now in
     let kept : stores.Store = store_shown c.pass.new.caller in
     let after : Thread = record run.thread { store = c.pass.new.caller } in
-    let moved : State = storing (λ st. kept) s in
+    let moved : State = on_store (λ st. kept) s in
     let is_moved = is_stored limit run.thread after run.journal (λ st. kept) c.pass.new.caller refl refl s is in
     elim c.match-pass.branch [
       | in-Ok w ↦ at_joined limit run w.fault_with.result c.match-pass.result w.fault_with.new.self c.match-pass.self

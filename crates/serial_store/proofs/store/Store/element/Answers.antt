@@ -1,7 +1,7 @@
 use Rattle.std.proofs.Common.{Some, None, Ok, ℤ, length, map, ap, sym, ◌∙◌, arith, List, w64, rules, refl, slice_get}
 use Rattle.std.proofs.lemmas.Int.{to_z-of_z}
 use Rattle.par_tree.specs.View.{name_tree}
-use Rattle.depth_first_run.specs.Values.{element_at}
+use Rattle.depth_first_run.specs.Values.{number_at}
 use Rattle.serial_store.specs.declared.held_block.HeldBlock.{HeldBlock}
 use Rattle.serial_store.specs.Shown.{block_name}
 use Rattle.serial_store.specs.Places.{place_of}
@@ -13,7 +13,7 @@ returns-in_default c =
     let b = name_tree c.args.name.now in
     let told = held_found c.args.self.now.blocks.items b None
     (c.in_default.ensures ∙ ap (λ (hs : List HeldBlock). place_of b (map block_name hs)) c.deref.ensures.value) in
-    no_element c.args.index ∙ ap (λ (items : List ℤ). element_at items c.args.index) (sym told.0)
+    no_element c.args.index ∙ ap (λ (items : List ℤ). number_at items c.args.index) (sym told.0)
 
 pub index-requires : goal.index-requires
 index-requires c =
