@@ -3,7 +3,7 @@ use Rattle.std.specs.Prelude.{◌≡◌, ◌≢◌, ℕ, ◌≤◌, List, length
 use Rattle.std.proofs.Common.{sym, ◌∙◌, ap, subst, inl, inr}
 use Rattle.deque_list.specs.declared.deque_id.DequeId.{DequeId}
 use Rattle.deque_list.specs.Ids.{IsLive, IdsDiffer}
-use Rattle.deque_list.specs.RankLaws.{moved_on, inserted_stands, others_move_on, others_stay, moved_on_differs, moved_on_skips, came_from, same_or_other}
+use Rattle.deque_list.proofs.RankLaws.{moved_on, inserted_stands, others_move_on, others_stay, moved_on_differs, moved_on_skips, came_from, same_or_other}
 
 -- a live deque stays where another is inserted
 pub live_stays : (ids : List DequeId) (at : ℕ) (new id : DequeId) → at ≤ length ids → IsLive ids id → IsLive (insert ids at new) id

@@ -8,8 +8,8 @@ use Rattle.std.proofs.lemmas.List.{length-replicate}
 use Rattle.deque_list.specs.declared.deque_id.DequeId.{DequeId}
 use Rattle.deque_list.specs.Ids.{IsLive, IsSmallestFree, deque_id}
 use Rattle.deque_list.specs.Marks.{IsSound}
-use Rattle.deque_list.specs.IdLaws.{live_stays, new_is_live, live_before, differ_inserted, differ_removed, removed_is_gone, live_remains, lived_before}
-use Rattle.deque_list.specs.RankLaws.{written_stands, others_unwritten, same_or_other}
+use Rattle.deque_list.proofs.IdLaws.{live_stays, new_is_live, live_before, differ_inserted, differ_removed, removed_is_gone, live_remains, lived_before}
+use Rattle.deque_list.proofs.RankLaws.{written_stands, others_unwritten, same_or_other}
 
 -- an unmarked id is free
 pub unmarked_is_free : (ids : List DequeId) (marks : List Bool) (n : ℕ) → IsSound ids marks → slice_get marks n ≡ Some false → ¬ IsLive ids (deque_id n)

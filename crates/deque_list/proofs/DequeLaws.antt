@@ -10,10 +10,10 @@ use Rattle.deque_list.specs.Lanes.{LaneView}
 use Rattle.deque_list.specs.Ids.{IsLive, IdsDiffer, StandsAt, place_ids}
 use Rattle.deque_list.specs.Deques.{Deque, DequeAt, deque_ids}
 use Rattle.deque_list.specs.DequeLists.{lane_items, deque_at}
-use Rattle.deque_list.specs.RankLaws.{written_stands, others_unwritten, same_or_other}
-use Rattle.deque_list.specs.ListLaws.{same_by_rank, same_map, map_inserted, map_removed}
-use Rattle.deque_list.specs.PlaceLaws.{id_stands, ids_removed}
-use Rattle.deque_list.specs.IdLaws.{removed_is_gone}
+use Rattle.deque_list.proofs.RankLaws.{written_stands, others_unwritten, same_or_other}
+use Rattle.deque_list.proofs.ListLaws.{same_by_rank, same_map, map_inserted, map_removed}
+use Rattle.deque_list.proofs.PlaceLaws.{id_stands, ids_removed}
+use Rattle.deque_list.proofs.IdLaws.{removed_is_gone}
 
 -- what stands in a mapped list is made of what stands in the list
 pub mapped_at : {X Y : Type 0} (f : X → Y) (xs : List X) (rank : ℕ) (y : Y) → slice_get (map f xs) rank ≡ Some y → (x : X) × (slice_get xs rank ≡ Some x) × (y ≡ f x)
