@@ -8,21 +8,21 @@ use Rattle.par_ownership.specs.Walk.{Refusal, ended, walk, walk_all, expr_refusa
 use Rattle.block_check.specs.Shown.{entry_shown, entries_shown, env_shown, funcs_tree, rows_tree, Walks}
 use Rattle.par_names.proofs.Rows.{body_is}
 use Rattle.block_check.proofs.Compound.{copied, walked_if, walked_while, walked_par, walked_split}
-use Rattle.block_check.proofs.statements.+statement.Goals as goal
+use Rattle.block_check.proofs.statements.+check_statement.Goals as goal
 
-pub list-returns : goal.list-returns
-list-returns t c =
+pub check_nested-returns : goal.check_nested-returns
+check_nested-returns t c =
     let same = ap body_tree c.deref.ensures.value ∙ sym (body_is c.args.body.now) in
-    subst (λ (b : Body). Walks env_shown c.list_of.result (ended c.args.visible (walk_all (funcs_tree c.args.funcs.now) b (env_shown c.args.env)))) same c.list_of.ensures
+    subst (λ (b : Body). Walks env_shown c.check_list.result (ended c.args.visible (walk_all (funcs_tree c.args.funcs.now) b (env_shown c.args.env)))) same c.check_list.ensures
 
-pub statement-returns-in_ok-other-in-If : goal.statement-returns-in_ok-other-in-If
-statement-returns-in_ok-other-in-If t c =
+pub check_statement-returns-in_ok-other-in-If : goal.check_statement-returns-in_ok-other-in-If
+check_statement-returns-in_ok-other-in-If t c =
     let p = funcs_tree c.args.funcs.now in
     let line = c.args.line in
     let env = env_shown c.args.env in
     let count : c.len-visible.result ≡ length c.args.env.items = grind (arith, common_steps) in
     let visible = count ∙ sym (length-map c.args.env.items entry_shown) in
-    let passed = ap (λ es. expr_refusal line (entries_shown es) (expr_tree c.in-If.cond)) (sym c.deref-in-If.ensures.value) ∙ c.in_ok-expression-in-If.ensures in
+    let passed = ap (λ es. expr_refusal line (entries_shown es) (expr_tree c.in-If.cond)) (sym c.deref-in-If.ensures.value) ∙ c.in_ok-check_expression-in-If.ensures in
     let same = copied (env_shown c.in_ok-saved-in-If.saved) c.deref-in-If-2.result.now c.args.env.items c.in_ok-saved-in-If.ensures c.deref-in-If-2.ensures.value in
     let whole = ap (λ k. walk p line (stmt_tree k) env) c.in-If.is in
     subst (λ (w : Result Environment Refusal). Walks env_shown c.after_arms.result w)
@@ -31,14 +31,14 @@ statement-returns-in_ok-other-in-If t c =
     ∙ walked_if line c.len-visible.result env (env_shown c.in_ok-saved-in-If.saved) (env_shown c.in_ok-env-in-If.env) (env_shown c.in_ok-other-in-If.other) (expr_refusal line env (expr_tree c.in-If.cond)) (walk_all p (rows_tree c.in-If.then)) (walk_all p (rows_tree c.in-If.other)) visible passed same c.in_ok-env-in-If.ensures c.in_ok-other-in-If.ensures))
     c.after_arms.ensures
 
-pub statement-returns-in_ok-end-in-While : goal.statement-returns-in_ok-end-in-While
-statement-returns-in_ok-end-in-While t c =
+pub check_statement-returns-in_ok-end-in-While : goal.check_statement-returns-in_ok-end-in-While
+check_statement-returns-in_ok-end-in-While t c =
     let p = funcs_tree c.args.funcs.now in
     let line = c.args.line in
     let env = env_shown c.args.env in
     let count : c.len-visible.result ≡ length c.args.env.items = grind (arith, common_steps) in
     let visible = count ∙ sym (length-map c.args.env.items entry_shown) in
-    let passed = ap (λ es. expr_refusal line (entries_shown es) (expr_tree c.in-While.cond)) (sym c.deref-in-While.ensures.value) ∙ c.in_ok-expression-in-While.ensures in
+    let passed = ap (λ es. expr_refusal line (entries_shown es) (expr_tree c.in-While.cond)) (sym c.deref-in-While.ensures.value) ∙ c.in_ok-check_expression-in-While.ensures in
     let same = copied (env_shown c.in_ok-round-in-While.round) c.deref-in-While-2.result.now c.args.env.items c.in_ok-round-in-While.ensures c.deref-in-While-2.ensures.value in
     let whole = ap (λ k. walk p line (stmt_tree k) env) c.in-While.is in
     subst (λ (w : Result Environment Refusal). Walks env_shown c.after_arms-in-While.result w)
@@ -47,8 +47,8 @@ statement-returns-in_ok-end-in-While t c =
     ∙ walked_while line c.len-visible.result env (env_shown c.in_ok-round-in-While.round) (env_shown c.in_ok-end-in-While.end) (expr_refusal line env (expr_tree c.in-While.cond)) (walk_all p (rows_tree c.in-While.body)) visible passed same c.in_ok-end-in-While.ensures))
     c.after_arms-in-While.ensures
 
-pub statement-returns-in_ok-right-in-Par : goal.statement-returns-in_ok-right-in-Par
-statement-returns-in_ok-right-in-Par t c =
+pub check_statement-returns-in_ok-right-in-Par : goal.check_statement-returns-in_ok-right-in-Par
+check_statement-returns-in_ok-right-in-Par t c =
     let p = funcs_tree c.args.funcs.now in
     let line = c.args.line in
     let env = env_shown c.args.env in
@@ -69,8 +69,8 @@ statement-returns-in_ok-right-in-Par t c =
     ∙ ap (λ (v : Environment). Ok v) both))
     c.held_in_both.ensures
 
-pub statement-returns-in_ok-end-in-Split : goal.statement-returns-in_ok-end-in-Split
-statement-returns-in_ok-end-in-Split t c =
+pub check_statement-returns-in_ok-end-in-Split : goal.check_statement-returns-in_ok-end-in-Split
+check_statement-returns-in_ok-end-in-Split t c =
     let p = funcs_tree c.args.funcs.now in
     let line = c.args.line in
     let env = env_shown c.args.env in

@@ -5,9 +5,9 @@ use Rattle.par_tree.specs.View.{expr_tree}
 use Rattle.par_tree.proofs.Lists.{expr_tree-chain}
 use Rattle.par_ownership.specs.Walk.{expr_refusal}
 use Rattle.block_check.specs.Shown.{entries_shown, Tests}
-use Rattle.block_check.proofs.expressions.+expression.Goals as goal
+use Rattle.block_check.proofs.expressions.+check_expression.Goals as goal
 
-pub expression-returns-in_ok-expression-in-Chain : goal.expression-returns-in_ok-expression-in-Chain
-expression-returns-in_ok-expression-in-Chain t c =
+pub check_expression-returns-in_ok-check_expression-in-Chain : goal.check_expression-returns-in_ok-check_expression-in-Chain
+check_expression-returns-in_ok-check_expression-in-Chain t c =
     let same = ap expr_tree c.in-Chain.is ∙ expr_tree-chain c.in-Chain.first c.in-Chain.rest in
-    subst (λ (e : Tree.Expr). Tests c.links.result (expr_refusal c.args.line (entries_shown c.args.env.now) e)) (sym same) (grind (arith, common_steps))
+    subst (λ (e : Tree.Expr). Tests c.check_links.result (expr_refusal c.args.line (entries_shown c.args.env.now) e)) (sym same) (grind (arith, common_steps))
