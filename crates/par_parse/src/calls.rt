@@ -8,7 +8,7 @@ ghost use Rattle.par_tree.specs.View.{arg_tree, args_tree, stmt_tree, name_tree}
 ghost use Rattle.par_lex.specs.Words.{words};
 ghost use Rattle.par_parse.specs.Gives.{Gives, option_name};
 
-use crate::expressions::expression;
+use crate::expressions::parse_expression;
 use par_lex::Lexeme;
 use crate::parse_error::ParseError;
 use crate::words::{name, open, peek, take};
@@ -39,7 +39,7 @@ fn arg<'a>(
             Ok((Arg::Give(block), rest))
         }
         _ => {
-            let (value, rest) = expression(alloc, text, depth - 1, tokens)?;
+            let (value, rest) = parse_expression(alloc, text, depth - 1, tokens)?;
             Ok((Arg::Value(value), rest))
         }
     }

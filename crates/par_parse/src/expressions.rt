@@ -127,7 +127,7 @@ fn extent<'a>(
 
 /// `[e]`, or nothing.
 #[tactic(auto, unfolding(par_text::specs::Grammar::index_rule))]
-#[cycle(expression)]
+#[cycle(parse_expression)]
 pub(crate) fn index<'a>(
     alloc: Global,
     text: &[u8],
@@ -140,14 +140,14 @@ pub(crate) fn index<'a>(
         return Ok((None, tokens));
     }
     let (depth, rest) = open(depth, tokens, Kind::LeftBracket)?;
-    let (at, rest) = expression(alloc, text, depth, rest)?;
+    let (at, rest) = parse_expression(alloc, text, depth, rest)?;
     let (_, rest) = take(rest, Kind::RightBracket)?;
     Ok((Some(at), rest))
 }
 
 /// `(e)`.
 #[tactic(auto, unfolding(par_text::specs::Grammar::group_rule))]
-#[cycle(expression)]
+#[cycle(parse_expression)]
 fn group<'a>(
     alloc: Global,
     text: &[u8],
@@ -157,14 +157,14 @@ fn group<'a>(
     ensures { Gives (λ x. (expr_tree x.0, words text.now x.1.now)) result (read depth group_rule (words text.now tokens.now)) }
 {
     let (depth, rest) = open(depth, tokens, Kind::LeftParen)?;
-    let (inside, rest) = expression(alloc, text, depth, rest)?;
+    let (inside, rest) = parse_expression(alloc, text, depth, rest)?;
     let (_, rest) = take(rest, Kind::RightParen)?;
     Ok((inside, rest))
 }
 
 /// A sign and its factor.
 #[tactic(auto, unfolding(par_text::specs::Grammar::sign_rule))]
-#[cycle(expression)]
+#[cycle(parse_expression)]
 fn sign<'a>(
     alloc: Global,
     text: &[u8],
@@ -180,7 +180,7 @@ fn sign<'a>(
 
 /// A factor.
 #[tactic(auto, unfolding(par_text::specs::Grammar::factor_rule))]
-#[cycle(expression)]
+#[cycle(parse_expression)]
 fn factor<'a>(
     alloc: Global,
     text: &[u8],
@@ -207,7 +207,7 @@ fn factor<'a>(
 
 /// An operator of a term, and its factor.
 #[tactic(auto, unfolding(par_text::specs::Grammar::term_link))]
-#[cycle(expression)]
+#[cycle(parse_expression)]
 fn term_link<'a>(
     alloc: Global,
     text: &[u8],
@@ -223,7 +223,7 @@ fn term_link<'a>(
 
 /// The operators of a term, with their factors.
 #[tactic(auto, unfolding(par_text::specs::Grammar::term_links))]
-#[cycle(expression)]
+#[cycle(parse_expression)]
 fn term_links<'a>(
     alloc: Global,
     text: &[u8],
@@ -247,7 +247,7 @@ fn term_links<'a>(
 
 /// A term.
 #[tactic(auto, unfolding(par_text::specs::Grammar::term_rule))]
-#[cycle(expression)]
+#[cycle(parse_expression)]
 fn term<'a>(
     alloc: Global,
     text: &[u8],
@@ -263,7 +263,7 @@ fn term<'a>(
 
 /// An operator of a sum, and its term.
 #[tactic(auto, unfolding(par_text::specs::Grammar::sum_link))]
-#[cycle(expression)]
+#[cycle(parse_expression)]
 fn sum_link<'a>(
     alloc: Global,
     text: &[u8],
@@ -279,7 +279,7 @@ fn sum_link<'a>(
 
 /// The operators of a sum, with their terms.
 #[tactic(auto, unfolding(par_text::specs::Grammar::sum_links))]
-#[cycle(expression)]
+#[cycle(parse_expression)]
 fn sum_links<'a>(
     alloc: Global,
     text: &[u8],
@@ -303,7 +303,7 @@ fn sum_links<'a>(
 
 /// A sum.
 #[tactic(auto, unfolding(par_text::specs::Grammar::sum_rule))]
-#[cycle(expression)]
+#[cycle(parse_expression)]
 fn sum<'a>(
     alloc: Global,
     text: &[u8],
@@ -319,8 +319,8 @@ fn sum<'a>(
 
 /// An expression.
 #[tactic(auto, unfolding(par_text::specs::Grammar::expr_rule, par_text::specs::Grammar::compared_rule))]
-#[cycle(expression)]
-pub(crate) fn expression<'a>(
+#[cycle(parse_expression)]
+pub(crate) fn parse_expression<'a>(
     alloc: Global,
     text: &[u8],
     depth: u32,

@@ -8,7 +8,7 @@ ghost use Rattle.par_tree.specs.View.{param_tree, params_tree, body_tree, ret_tr
 ghost use Rattle.par_lex.specs.Words.{words};
 ghost use Rattle.par_parse.specs.Gives.{Gives, func_trees};
 
-use crate::expressions::expression;
+use crate::expressions::parse_expression;
 use par_lex::Lexeme;
 use crate::parse_error::ParseError;
 use crate::statements::statements;
@@ -134,7 +134,7 @@ fn ret_value<'a>(
             Ok((RetValue::Own(block), rest))
         }
         _ => {
-            let (value, rest) = expression(alloc, text, depth - 1, tokens)?;
+            let (value, rest) = parse_expression(alloc, text, depth - 1, tokens)?;
             Ok((RetValue::Int(value), rest))
         }
     }

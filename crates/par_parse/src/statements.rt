@@ -8,7 +8,7 @@ ghost use Rattle.par_lex.specs.Words.{words};
 ghost use Rattle.par_parse.specs.Gives.{Gives, option_expr, line_and_tree};
 
 use crate::calls::call;
-use crate::expressions::{expression, index};
+use crate::expressions::{parse_expression, index};
 use par_lex::Lexeme;
 use crate::parse_error::ParseError;
 use crate::words::{name, name_from, open, peek, take};
@@ -28,7 +28,7 @@ fn named_value<'a>(
 {
     let (name, rest) = name(alloc, text, tokens)?;
     let (_, rest) = take(rest, Kind::Assign)?;
-    let (value, rest) = expression(alloc, text, depth, rest)?;
+    let (value, rest) = parse_expression(alloc, text, depth, rest)?;
     let (_, rest) = take(rest, Kind::Semicolon)?;
     Ok(((name, value), rest))
 }
@@ -95,7 +95,7 @@ fn print_statement<'a>(
     ensures { Gives (λ x. (line_and_tree x.0, words text.now x.1.now)) result (read depth print_rule (words text.now tokens.now)) }
 {
     let (first, rest) = take(tokens, Kind::Print)?;
-    let (value, rest) = expression(alloc, text, depth, rest)?;
+    let (value, rest) = parse_expression(alloc, text, depth, rest)?;
     let (_, rest) = take(rest, Kind::Semicolon)?;
     let line = first.line;
     let kind = StmtKind::Print { value };
@@ -132,7 +132,7 @@ fn write_statement<'a>(
     let (first, rest) = take(tokens, Kind::Name)?;
     let (at, rest) = index(alloc, text, depth, rest)?;
     let (_, rest) = take(rest, Kind::Assign)?;
-    let (value, rest) = expression(alloc, text, depth, rest)?;
+    let (value, rest) = parse_expression(alloc, text, depth, rest)?;
     let (_, rest) = take(rest, Kind::Semicolon)?;
     let name = name_from(alloc, text, first)?;
     let line = first.line;
@@ -194,7 +194,7 @@ fn if_statement<'a>(
     ensures { Gives (λ x. (line_and_tree x.0, words text.now x.1.now)) result (read depth if_rule (words text.now tokens.now)) }
 {
     let (first, rest) = take(tokens, Kind::If)?;
-    let (cond, rest) = expression(alloc, text, depth, rest)?;
+    let (cond, rest) = parse_expression(alloc, text, depth, rest)?;
     let (then, rest) = body(alloc, text, depth, rest)?;
     let (other, rest) = else_part(alloc, text, depth, rest)?;
     let line = first.line;
@@ -214,7 +214,7 @@ fn while_statement<'a>(
     ensures { Gives (λ x. (line_and_tree x.0, words text.now x.1.now)) result (read depth while_rule (words text.now tokens.now)) }
 {
     let (first, rest) = take(tokens, Kind::While)?;
-    let (cond, rest) = expression(alloc, text, depth, rest)?;
+    let (cond, rest) = parse_expression(alloc, text, depth, rest)?;
     let (body, rest) = body(alloc, text, depth, rest)?;
     let line = first.line;
     let kind = StmtKind::While { cond, body };
@@ -270,7 +270,7 @@ fn split_statement<'a>(
     let (first, rest) = take(tokens, Kind::Split)?;
     let (block, rest) = name(alloc, text, rest)?;
     let (_, rest) = take(rest, Kind::At)?;
-    let (at, rest) = expression(alloc, text, depth, rest)?;
+    let (at, rest) = parse_expression(alloc, text, depth, rest)?;
     let (_, rest) = take(rest, Kind::Into)?;
     let ((left, right), rest) = parts(alloc, text, rest)?;
     let (body, rest) = body(alloc, text, depth, rest)?;

@@ -7,13 +7,13 @@ ghost use Rattle.canonical_text.specs.Canonical.{expr_text, links_text, text_in}
 ghost use Rattle.canonical_text.specs.declared.place.Place.TheVariants.{Factor};
 
 use crate::places::{first_place, needs_parentheses, operand_place};
-use crate::words::{comparison, number, operator};
+use crate::words::{comparison, print_number, operator};
 use canonical_text::Place;
 use par_tree::{Expr, Link, Name};
 use std::alloc::{AllocError, Global};
 
 /// `len(b)`.
-fn extent(block: &Name, out: &mut Vec<u8>) -> Result<(), AllocError>
+fn print_len(block: &Name, out: &mut Vec<u8>) -> Result<(), AllocError>
     ensures { IfOk result (λ _. out.new.items ≡ out.old.items ++ expr_text (extent_tree (name_tree block.now))) }
 {
     out.extend_from_slice(b"len(")?;
@@ -22,40 +22,40 @@ fn extent(block: &Name, out: &mut Vec<u8>) -> Result<(), AllocError>
 }
 
 /// `b[e]`.
-#[cycle(expression)]
-fn element(alloc: Global, block: &Name, index: &Expr, out: &mut Vec<u8>) -> Result<(), AllocError>
+#[cycle(print_expression)]
+fn print_get(alloc: Global, block: &Name, index: &Expr, out: &mut Vec<u8>) -> Result<(), AllocError>
     ensures { IfOk result (λ _. out.new.items ≡ out.old.items ++ expr_text (element_tree (name_tree block.now) (expr_tree index.now))) }
 {
     out.extend_from_slice(&block.bytes)?;
     out.extend_from_slice(b"[")?;
-    expression(alloc, index, out)?;
+    print_expression(alloc, index, out)?;
     out.extend_from_slice(b"]")
 }
 
 /// A sign and its factor.
-#[cycle(expression)]
-fn negative(alloc: Global, signed: &Expr, out: &mut Vec<u8>) -> Result<(), AllocError>
+#[cycle(print_expression)]
+fn print_neg(alloc: Global, signed: &Expr, out: &mut Vec<u8>) -> Result<(), AllocError>
     ensures { IfOk result (λ _. out.new.items ≡ out.old.items ++ expr_text (negative_tree (expr_tree signed.now))) }
 {
     out.extend_from_slice(b"-")?;
-    expression_in(alloc, Place::Factor, signed, out)
+    print_operand(alloc, Place::Factor, signed, out)
 }
 
 /// Operators and operands behind the first operand of a chain.
-#[cycle(expression)]
-fn links(alloc: Global, rest: &[Link], out: &mut Vec<u8>) -> Result<(), AllocError>
+#[cycle(print_expression)]
+fn print_links(alloc: Global, rest: &[Link], out: &mut Vec<u8>) -> Result<(), AllocError>
     ensures { IfOk result (λ _. out.new.items ≡ out.old.items ++ links_text (links_tree rest.now)) }
 {
     'links: for link in rest {
         out.extend_from_slice(operator(link.op))?;
-        expression_in(alloc, operand_place(link.op), &link.operand, out)?;
+        print_operand(alloc, operand_place(link.op), &link.operand, out)?;
     }
     Ok(())
 }
 
 /// An expression in a place, between parentheses where it needs them.
-#[cycle(expression)]
-fn expression_in(
+#[cycle(print_expression)]
+fn print_operand(
     alloc: Global,
     place: Place,
     expr: &Expr,
@@ -64,32 +64,32 @@ fn expression_in(
     ensures { IfOk result (λ _. out.new.items ≡ out.old.items ++ text_in place (expr_tree expr.now)) }
 {
     if !needs_parentheses(place, expr) {
-        return expression(alloc, expr, out);
+        return print_expression(alloc, expr, out);
     }
     out.extend_from_slice(b"(")?;
-    expression(alloc, expr, out)?;
+    print_expression(alloc, expr, out)?;
     out.extend_from_slice(b")")
 }
 
 /// An expression.
-#[cycle(expression)]
-pub(crate) fn expression(alloc: Global, expr: &Expr, out: &mut Vec<u8>) -> Result<(), AllocError>
+#[cycle(print_expression)]
+pub(crate) fn print_expression(alloc: Global, expr: &Expr, out: &mut Vec<u8>) -> Result<(), AllocError>
     ensures { IfOk result (λ _. out.new.items ≡ out.old.items ++ expr_text (expr_tree expr.now)) }
 {
     match expr {
-        Expr::Num(value) => number(alloc, *value, out),
+        Expr::Num(value) => print_number(alloc, *value, out),
         Expr::Var(name) => out.extend_from_slice(&name.bytes),
-        Expr::Get(block, index) => element(alloc, block, index, out),
-        Expr::Len(block) => extent(block, out),
-        Expr::Neg(signed) => negative(alloc, signed, out),
+        Expr::Get(block, index) => print_get(alloc, block, index, out),
+        Expr::Len(block) => print_len(block, out),
+        Expr::Neg(signed) => print_neg(alloc, signed, out),
         Expr::Chain { first, rest } => {
-            expression_in(alloc, first_place(rest), first, out)?;
-            links(alloc, rest, out)
+            print_operand(alloc, first_place(rest), first, out)?;
+            print_links(alloc, rest, out)
         }
         Expr::Cmp { op, left, right } => {
-            expression_in(alloc, Place::Sum, left, out)?;
+            print_operand(alloc, Place::Sum, left, out)?;
             out.extend_from_slice(comparison(*op))?;
-            expression_in(alloc, Place::Sum, right, out)
+            print_operand(alloc, Place::Sum, right, out)
         }
     }
 }

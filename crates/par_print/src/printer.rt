@@ -6,7 +6,7 @@ ghost use Rattle.par_text.specs.Lexing.{longest_text};
 ghost use Rattle.canonical_text.specs.Canonical.{canonical};
 ghost use Rattle.canonical_text.specs.Laws.{IsTextButForLines};
 
-use crate::functions::funcs;
+use crate::functions::print_funcs;
 use par_tree::Program;
 use std::alloc::{AllocError, Global};
 
@@ -24,6 +24,6 @@ pub fn print(alloc: Global, program: &Program) -> Result<Vec<u8>, AllocError>
     ensures stays { (source : List ℕ) (again : ProgramTree) → IsText source (program_tree program.now) → IfOk result (λ text. IsText text.items again → canonical again ≡ text.items) }
 {
     let mut text = Vec::new(alloc);
-    funcs(alloc, &program.funcs, &mut text)?;
+    print_funcs(alloc, &program.funcs, &mut text)?;
     Ok(text)
 }

@@ -5,9 +5,9 @@ ghost use Rattle.par_tree.specs.View.{name_tree, expr_tree, target_tree, args_tr
 ghost use Rattle.par_tree.specs.Tree.{put_stmt as store_tree, call_stmt as call_tree};
 ghost use Rattle.canonical_text.specs.Canonical.{◌⊕◌, expr_text, stmt_text, body_text, else_text, braces, deeper};
 
-use crate::expressions::expression;
-use crate::lists::args;
-use crate::words::{deeper, target};
+use crate::expressions::print_expression;
+use crate::lists::print_args;
+use crate::words::{deeper, print_target};
 use par_tree::{Arg, Expr, Name, Stmt, StmtKind, Target};
 use std::alloc::{AllocError, Global};
 
@@ -16,7 +16,7 @@ fn ended(alloc: Global, word: &[u8], value: &Expr, out: &mut Vec<u8>) -> Result<
     ensures { IfOk result (λ _. out.new.items ≡ out.old.items ++ (word.now ⊕ expr_text (expr_tree value.now) ⊕ codes ";")) }
 {
     out.extend_from_slice(word)?;
-    expression(alloc, value, out)?;
+    print_expression(alloc, value, out)?;
     out.extend_from_slice(b";")
 }
 
@@ -36,7 +36,7 @@ fn named_value(
 }
 
 /// `b[i] = e;`
-fn store(
+fn print_put(
     alloc: Global,
     block: &Name,
     index: &Expr,
@@ -47,12 +47,12 @@ fn store(
 {
     out.extend_from_slice(&block.bytes)?;
     out.extend_from_slice(b"[")?;
-    expression(alloc, index, out)?;
+    print_expression(alloc, index, out)?;
     ended(alloc, b"] = ", value, out)
 }
 
 /// `free b;`
-fn free(block: &Name, out: &mut Vec<u8>) -> Result<(), AllocError>
+fn print_free(block: &Name, out: &mut Vec<u8>) -> Result<(), AllocError>
     ensures { IfOk result (λ _. out.new.items ≡ out.old.items ++ (codes "free " ⊕ name_tree block.now ⊕ codes ";")) }
 {
     out.extend_from_slice(b"free ")?;
@@ -61,7 +61,7 @@ fn free(block: &Name, out: &mut Vec<u8>) -> Result<(), AllocError>
 }
 
 /// `call target = f(args);`
-fn call(
+fn print_call(
     alloc: Global,
     to: &Target,
     func: &Name,
@@ -71,10 +71,10 @@ fn call(
     ensures { IfOk result (λ _. out.new.items ≡ out.old.items ++ stmt_text [] (call_tree (target_tree to.now) (name_tree func.now) (args_tree values.now))) }
 {
     out.extend_from_slice(b"call ")?;
-    target(to, out)?;
+    print_target(to, out)?;
     out.extend_from_slice(&func.bytes)?;
     out.extend_from_slice(b"(")?;
-    args(alloc, values, out)?;
+    print_args(alloc, values, out)?;
     out.extend_from_slice(b");")
 }
 
@@ -83,7 +83,7 @@ fn tested(alloc: Global, word: &[u8], cond: &Expr, out: &mut Vec<u8>) -> Result<
     ensures { IfOk result (λ _. out.new.items ≡ out.old.items ++ (word.now ⊕ expr_text (expr_tree cond.now) ⊕ codes " ")) }
 {
     out.extend_from_slice(word)?;
-    expression(alloc, cond, out)?;
+    print_expression(alloc, cond, out)?;
     out.extend_from_slice(b" ")
 }
 
@@ -116,20 +116,20 @@ fn names(left: &Name, right: &Name, out: &mut Vec<u8>) -> Result<(), AllocError>
 }
 
 /// Statements between braces.
-#[cycle(statement)]
-fn braces(alloc: Global, margin: &[u8], stmts: &[Stmt], out: &mut Vec<u8>) -> Result<(), AllocError>
+#[cycle(print_statement)]
+fn print_braces(alloc: Global, margin: &[u8], stmts: &[Stmt], out: &mut Vec<u8>) -> Result<(), AllocError>
     ensures { IfOk result (λ _. out.new.items ≡ out.old.items ++ braces margin.now (body_text (deeper margin.now) (body_tree stmts.now))) }
 {
     let inner = deeper(alloc, margin)?;
     out.extend_from_slice(b"{\n")?;
-    body(alloc, &inner, stmts, out)?;
+    print_body(alloc, &inner, stmts, out)?;
     out.extend_from_slice(margin)?;
     out.extend_from_slice(b"}")
 }
 
 /// The second arm of an `if`, where it is not empty.
-#[cycle(statement)]
-fn else_part(
+#[cycle(print_statement)]
+fn print_else(
     alloc: Global,
     margin: &[u8],
     stmts: &[Stmt],
@@ -141,12 +141,12 @@ fn else_part(
         return Ok(());
     }
     out.extend_from_slice(b" else ")?;
-    braces(alloc, margin, stmts, out)
+    print_braces(alloc, margin, stmts, out)
 }
 
 /// A statement behind its margin, up to the end of its last line.
-#[cycle(statement)]
-fn statement(
+#[cycle(print_statement)]
+fn print_statement(
     alloc: Global,
     margin: &[u8],
     kind: &StmtKind,
@@ -161,25 +161,25 @@ fn statement(
             block,
             index,
             value,
-        } => store(alloc, block, index, value, out),
+        } => print_put(alloc, block, index, value, out),
         StmtKind::Alloc { name, size } => named_value(alloc, b"alloc ", name, size, out),
-        StmtKind::Free { name } => free(name, out),
+        StmtKind::Free { name } => print_free(name, out),
         StmtKind::If { cond, then, other } => {
             tested(alloc, b"if ", cond, out)?;
-            braces(alloc, margin, then, out)?;
-            else_part(alloc, margin, other, out)
+            print_braces(alloc, margin, then, out)?;
+            print_else(alloc, margin, other, out)
         }
         StmtKind::While { cond, body } => {
             tested(alloc, b"while ", cond, out)?;
-            braces(alloc, margin, body, out)
+            print_braces(alloc, margin, body, out)
         }
-        StmtKind::Call { target, func, args } => call(alloc, target, func, args, out),
+        StmtKind::Call { target, func, args } => print_call(alloc, target, func, args, out),
         StmtKind::Print { value } => ended(alloc, b"print ", value, out),
         StmtKind::Par { left, right } => {
             out.extend_from_slice(b"par ")?;
-            braces(alloc, margin, left, out)?;
+            print_braces(alloc, margin, left, out)?;
             out.extend_from_slice(b" and ")?;
-            braces(alloc, margin, right, out)
+            print_braces(alloc, margin, right, out)
         }
         StmtKind::Split {
             block,
@@ -189,14 +189,14 @@ fn statement(
             body,
         } => {
             parted(alloc, block, at, left, right, out)?;
-            braces(alloc, margin, body, out)
+            print_braces(alloc, margin, body, out)
         }
     }
 }
 
 /// Statements, each on lines of its own behind the margin.
-#[cycle(statement)]
-pub(crate) fn body(
+#[cycle(print_statement)]
+pub(crate) fn print_body(
     alloc: Global,
     margin: &[u8],
     stmts: &[Stmt],
@@ -206,7 +206,7 @@ pub(crate) fn body(
 {
     'statements: for stmt in stmts {
         out.extend_from_slice(margin)?;
-        statement(alloc, margin, &stmt.kind, out)?;
+        print_statement(alloc, margin, &stmt.kind, out)?;
         out.extend_from_slice(b"\n")?;
     }
     Ok(())

@@ -36,7 +36,7 @@ pub(crate) fn comparison(op: CmpOp) -> &'static [u8]
 }
 
 /// The digits of a number, with `-` before a negative one.
-pub(crate) fn number(alloc: Global, number: i64, out: &mut Vec<u8>) -> Result<(), AllocError>
+pub(crate) fn print_number(alloc: Global, number: i64, out: &mut Vec<u8>) -> Result<(), AllocError>
     ensures { IfOk result (λ _. out.new.items ≡ out.old.items ++ signed_decimal number) }
 {
     let digits = format!(in alloc; "{number}")?;
@@ -44,7 +44,7 @@ pub(crate) fn number(alloc: Global, number: i64, out: &mut Vec<u8>) -> Result<()
 }
 
 /// The target of a call and its `=`.
-pub(crate) fn target(target: &Target, out: &mut Vec<u8>) -> Result<(), AllocError>
+pub(crate) fn print_target(target: &Target, out: &mut Vec<u8>) -> Result<(), AllocError>
     ensures { IfOk result (λ _. out.new.items ≡ out.old.items ++ target_text (target_tree target.now)) }
 {
     match target {
@@ -73,7 +73,7 @@ fn kind(kind: ParamKind) -> &'static [u8]
 }
 
 /// A parameter.
-pub(crate) fn param(param: &Param, out: &mut Vec<u8>) -> Result<(), AllocError>
+pub(crate) fn print_param(param: &Param, out: &mut Vec<u8>) -> Result<(), AllocError>
     ensures { IfOk result (λ _. out.new.items ≡ out.old.items ++ param_text (param_tree param.now)) }
 {
     out.extend_from_slice(kind(param.kind))?;

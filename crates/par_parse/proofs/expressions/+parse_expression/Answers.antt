@@ -10,8 +10,8 @@ use Rattle.par_lex.specs.Words.{words}
 use Rattle.par_parse.specs.Gives.{link_pair}
 use Rattle.par_parse.proofs.Loops.{with_front, length-words, starts, goes_on, stops, ends, fails}
 use Rattle.par_parse.proofs.Views.{links_tree-put}
-use Rattle.par_parse.proofs.expressions.+expression.Goals as goal
-use Rattle.par_parse.proofs.expressions.+expression.Goals.{sum_links-else-links-test, sum_links-then-links-test+then-not-is_sum_operator, term_links-else-links-test, term_links-then-links-test+then-not-is_term_operator}
+use Rattle.par_parse.proofs.expressions.+parse_expression.Goals as goal
+use Rattle.par_parse.proofs.expressions.+parse_expression.Goals.{sum_links-else-links-test, sum_links-then-links-test+then-not-is_sum_operator, term_links-else-links-test, term_links-then-links-test+then-not-is_term_operator}
 
 pub sum_links-links-init : goal.sum_links-links-init
 unfolding sum_links

@@ -2,7 +2,7 @@ use Rattle.std.proofs.Common.{◌≡◌, ◌++◌, drop, map}
 use Rattle.std.specs.List.{flat_map}
 use Rattle.par_tree.specs.View.{args_tree}
 use Rattle.canonical_text.specs.Canonical.{arg_text, behind_comma}
-use Rattle.par_print.proofs.lists.more_args.Given as goal
+use Rattle.par_print.proofs.lists.print_more_args.Given as goal
 
 abbrev pub invariant-more : goal.invariant-more
 invariant-more l =

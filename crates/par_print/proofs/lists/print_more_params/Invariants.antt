@@ -2,7 +2,7 @@ use Rattle.std.proofs.Common.{◌≡◌, ◌++◌, drop, map}
 use Rattle.std.specs.List.{flat_map}
 use Rattle.par_tree.specs.View.{params_tree}
 use Rattle.canonical_text.specs.Canonical.{param_text, behind_comma}
-use Rattle.par_print.proofs.lists.more_params.Given as goal
+use Rattle.par_print.proofs.lists.print_more_params.Given as goal
 
 abbrev pub invariant-params : goal.invariant-params
 invariant-params l =

@@ -6,10 +6,10 @@ use Rattle.par_text.specs.Parsing.{read}
 use Rattle.par_lex.specs.Words.{words}
 use Rattle.par_parse.specs.Gives.{link_pair}
 use Rattle.par_parse.proofs.Loops.{with_front}
-use Rattle.par_parse.proofs.expressions.+expression.Given as goal
+use Rattle.par_parse.proofs.expressions.+parse_expression.Given as goal
 
-abbrev pub decreases-expression : goal.decreases-expression
-decreases-expression l = 16 * l.depth + 9
+abbrev pub decreases-parse_expression : goal.decreases-parse_expression
+decreases-parse_expression l = 16 * l.depth + 9
 
 abbrev pub decreases-sum : goal.decreases-sum
 decreases-sum l = 16 * l.depth + 8
