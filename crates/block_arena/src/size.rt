@@ -5,7 +5,7 @@ ghost use Rattle.block_arena.specs.Size.{pieces_for as pieces_for_words};
 pub const PIECE_WORDS: u32 = 16;
 
 /// How many words the greatest pool has.
-pub const MAX_WORDS: u32 = 67_108_864;
+pub const MAX_WORDS: u32 = language_limits::MOST_WORDS;
 
 /// How many pieces hold `words` words, the last of them perhaps in part.
 pub fn pieces_for(words: u32) -> u32

@@ -6,6 +6,7 @@ use Rattle.std.specs.Str.Parse.{IsNumeral, digits_value}
 use Rattle.std.specs.String.{string_bytes}
 use Rattle.std.specs.declared.string.String.{String}
 use Rattle.std.specs.declared.alloc.Global.{Global}
+use Rattle.language_limits.specs.declared.TheConstants.{GREATEST_QUOTA, LEAST_QUOTA, MOST_ACTIONS, MOST_WORKERS}
 use Rattle.command_line.specs.declared.command.Command.{Command}
 use Rattle.command_line.specs.declared.command_kind.CommandKind.{CommandKind}
 use Rattle.command_line.specs.declared.command_kind.CommandKind.TheVariants.{Play, Peak, Check}
@@ -31,9 +32,9 @@ name_of Steps = codes "steps"
 
 -- the numbers that it may have, and its default
 abbrev pub rule_of : Setting → Rule
-rule_of Quota = record { least = 16; most = 1048576; unit = 16; default = 4096 }
-rule_of Workers = record { least = 1; most = 64; unit = 1; default = 4 }
-rule_of Steps = record { least = 1; most = 4000000; unit = 1; default = 4000000 }
+rule_of Quota = record { least = LEAST_QUOTA; most = GREATEST_QUOTA; unit = LEAST_QUOTA; default = 4096 }
+rule_of Workers = record { least = 1; most = MOST_WORKERS; unit = 1; default = 4 }
+rule_of Steps = record { least = 1; most = MOST_ACTIONS; unit = 1; default = MOST_ACTIONS }
 
 -- whether a command has an option
 abbrev pub has : CommandKind → Setting → Bool

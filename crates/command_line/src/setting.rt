@@ -3,6 +3,7 @@ ghost use Rattle.command_line.specs.Words.{name_of, rule_of};
 ghost use Rattle.command_line.specs.declared.setting.Setting.{Setting};
 
 use crate::rule::Rule;
+use language_limits::{GREATEST_QUOTA, LEAST_QUOTA, MOST_ACTIONS, MOST_WORKERS};
 
 /// An option of a command.
 #[derive(Clone, Copy, PartialEq, Eq, Debug)]
@@ -36,9 +37,9 @@ impl Setting {
         ensures { result ≡ rule_of self }
     {
         match self {
-            Setting::Quota => Rule::new(16, 1_048_576, 16, 4_096),
-            Setting::Workers => Rule::new(1, 64, 1, 4),
-            Setting::Steps => Rule::new(1, 4_000_000, 1, 4_000_000),
+            Setting::Quota => Rule::new(LEAST_QUOTA, GREATEST_QUOTA, LEAST_QUOTA, 4_096),
+            Setting::Workers => Rule::new(1, MOST_WORKERS, 1, 4),
+            Setting::Steps => Rule::new(1, MOST_ACTIONS, 1, MOST_ACTIONS),
         }
     }
 }

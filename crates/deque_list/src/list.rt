@@ -9,6 +9,7 @@ use crate::insert_refused::InsertRefused;
 use crate::lane::Lane;
 use crate::lanes::Lanes;
 use crate::order::Order;
+use language_limits::MOST_DEQUES;
 use std::alloc::{AllocError, Global};
 use std::marker::Model;
 
@@ -45,7 +46,7 @@ impl<T> List<T> {
     /// A list of one deque without an owner, which holds `first`. At most `most` deques are allowed, from 1
     /// to 4,096.
     pub fn new(alloc: Global, first: T, most: u32) -> Result<List<T>, (T, AllocError)>
-        requires { (1 ≤ most) × (most ≤ 4096) }
+        requires { (1 ≤ most) × (most ≤ MOST_DEQUES) }
         ensures deques { IfOk result (λ list. list.deques ≡ (record { id = deque_id 0; owner = None; items = first ∷ [] }) ∷ []) }
         ensures most { IfOk result (λ list. list.most ≡ most) }
         ensures spare { IfOk result (λ list. list.spare ≡ 0) }

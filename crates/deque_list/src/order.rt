@@ -7,6 +7,7 @@ use crate::deque_id::DequeId;
 use crate::insert_refused::InsertRefused;
 use crate::place::Place;
 use crate::search::{first_unmarked, rank_in};
+use language_limits::MOST_DEQUES;
 use std::alloc::{AllocError, Global};
 use std::marker::Model;
 
@@ -50,7 +51,7 @@ impl Order {
 
     // An order of one deque, with the id 0 and no owner.
     pub(crate) fn new(alloc: Global, most: u32) -> Result<Order, AllocError>
-        requires { (1 ≤ most) × (most ≤ 4096) }
+        requires { (1 ≤ most) × (most ≤ MOST_DEQUES) }
         ensures places { IfOk result (λ order. order.places ≡ first_place ∷ []) }
         ensures most { IfOk result (λ order. order.most ≡ most) }
     {

@@ -1,6 +1,8 @@
 ghost use Rattle.std.specs.Prelude.{◌≡◌, ◌↔◌, IsSome, IfSome};
 ghost use Rattle.dummy_tree.specs.Quotas.{IsQuota};
 
+use language_limits::{GREATEST_QUOTA, LEAST_QUOTA};
+
 /// The words that a worker may allocate between two steals: a multiple of 16 from 16 to 1,048,576.
 #[derive(Clone, Copy, PartialEq, Eq, Debug)]
 pub struct Quota {
@@ -16,7 +18,7 @@ impl Quota {
         ensures some { IsSome result ↔ IsQuota k }
         ensures words { IfSome result (λ quota. quota_words quota ≡ k) }
     {
-        if k % 16 == 0 && 16 <= k && k <= 1_048_576 {
+        if k % LEAST_QUOTA == 0 && LEAST_QUOTA <= k && k <= GREATEST_QUOTA {
             Some(Quota { words: k })
         } else {
             None

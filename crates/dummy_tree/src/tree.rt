@@ -1,6 +1,8 @@
 ghost use Rattle.std.specs.Prelude.{◌≡◌, ℕ, ◌+◌, ◌*◌, ◌/◌, ◌≤◌, ◌<◌, ◌↔◌, IsSome, IfSome, MatchOption};
 ghost use Rattle.dummy_tree.specs.Leaves.{IsTreeSize};
 
+use language_limits::MOST_LEAVES;
+
 /// A tree of dummy threads, by its number of leaves, from 1 to 65,536.
 ///
 /// The tree of one leaf is one dummy. A larger tree forks a child that runs one half and ends, runs the
@@ -20,7 +22,7 @@ impl Tree {
         ensures some { IsSome result ↔ IsTreeSize n }
         ensures leaves { IfSome result (λ tree. tree_leaves tree ≡ n) }
     {
-        if 1 <= n && n <= 65_536 {
+        if 1 <= n && n <= MOST_LEAVES {
             Some(Tree { leaves: n })
         } else {
             None

@@ -7,11 +7,8 @@ ghost use Rattle.par_lex.specs.Forms.{GivesKind, GivesNumber, GivesForm};
 
 use crate::bytes::{is_digit, is_letter};
 use crate::kinds::{keyword_kind, symbol_kind};
+use language_limits::{GREATEST_NUMBER, LONGEST_NAME};
 use par_text::{Kind, SyntaxKind};
-
-const GREATEST_NUMBER: u64 = i64::MAX as u64;
-
-const LONGEST_NAME: usize = 32;
 
 /// Whether all bytes are digits.
 fn all_digits(word: &[u8]) -> bool
@@ -58,7 +55,7 @@ fn word_form(word: &[u8]) -> Result<Kind, SyntaxKind>
     match keyword_kind(word) {
         Some(kind) => Ok(kind),
         None => {
-            if word.len() <= LONGEST_NAME {
+            if word.len() <= LONGEST_NAME as usize {
                 Ok(Kind::Name)
             } else {
                 Err(SyntaxKind::BadToken)

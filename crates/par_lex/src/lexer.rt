@@ -8,10 +8,9 @@ use crate::bytes::{is_allowed, is_blank, piece_rest};
 use crate::forms::form_of;
 use crate::lexeme::Lexeme;
 use crate::parse_fail::ParseFail;
+use language_limits::LONGEST_TEXT;
 use par_text::{SyntaxError, SyntaxKind};
 use std::alloc::Global;
-
-const LONGEST_TEXT: u32 = 1_048_576;
 
 fn refused(kind: SyntaxKind, at: u32) -> ParseFail
     ensures { result ≡ ParseFail.Refused (record { kind = kind; at = at }) }

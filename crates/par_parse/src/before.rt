@@ -4,11 +4,8 @@ ghost use Rattle.std.specs.Prelude.{◌≡◌, ◌≤◌};
 ghost use Rattle.par_text.specs.Counts.{is_declared, names_after, functions_after, in_header_after, after, is_too_many, most_functions, most_names};
 ghost use Rattle.par_parse.specs.Counting.{counts_of, AllowsMore};
 
+use language_limits::{MOST_FUNCTIONS, MOST_NAMES};
 use par_text::Kind;
-
-const MOST_FUNCTIONS: u32 = 1024;
-
-const MOST_NAMES: u32 = 256;
 
 /// How many functions have begun, how many names the last one has declared, whether its parameters are
 /// not closed yet, and the kinds of the three tokens before, the last one first.

@@ -9,9 +9,9 @@ ghost use Rattle.par_lex.specs.Words.{words};
 ghost use Rattle.par_parse.specs.Gives.{Gives, option_name};
 
 use crate::expressions::parse_expression;
-use par_lex::Lexeme;
 use crate::parse_error::ParseError;
 use crate::words::{name, open, peek, take};
+use par_lex::Lexeme;
 use par_text::Kind;
 use par_tree::{Arg, Args, Name, StmtKind, Target};
 use std::alloc::Global;

@@ -7,9 +7,9 @@ ghost use Rattle.par_tree.specs.View.{expr_tree, links_tree, chain_op_tree, cmp_
 ghost use Rattle.par_lex.specs.Words.{words};
 ghost use Rattle.par_parse.specs.Gives.{Gives, link_pair, option_expr};
 
-use par_lex::Lexeme;
 use crate::parse_error::ParseError;
 use crate::words::{name, open, peek, take};
+use par_lex::Lexeme;
 use par_text::Kind;
 use par_tree::{ChainOp, CmpOp, Expr, Link, Rest};
 use std::alloc::{AllocError, Global};

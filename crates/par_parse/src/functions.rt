@@ -9,10 +9,10 @@ ghost use Rattle.par_lex.specs.Words.{words};
 ghost use Rattle.par_parse.specs.Gives.{Gives, func_trees};
 
 use crate::expressions::parse_expression;
-use par_lex::Lexeme;
 use crate::parse_error::ParseError;
 use crate::statements::statements;
 use crate::words::{name, open, peek, take};
+use par_lex::Lexeme;
 use par_text::{Kind, Stop};
 use par_tree::{Body, Func, Funcs, Param, ParamKind, Params, Program, Ret, RetValue};
 use std::alloc::Global;

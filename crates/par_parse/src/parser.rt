@@ -8,16 +8,12 @@ ghost use Rattle.par_parse.specs.Answers.{IfRefused, IsTreeOrMemory, IsRefusalOr
 
 use crate::counting::crowded;
 use crate::functions::program;
-use par_lex::Lexeme;
-use par_lex::lexemes;
 use crate::parse_error::ParseError;
-use par_lex::ParseFail;
+use language_limits::DEEPEST_NESTING;
+use par_lex::{Lexeme, ParseFail, lexemes};
 use par_text::{Stop, SyntaxError, SyntaxKind};
 use par_tree::Program;
 use std::alloc::Global;
-
-/// How many constructs may be open at once: `{`, `(`, `[` and signs.
-const DEEPEST: u32 = 64;
 
 /// The first byte of a token, or the end where there is none.
 fn place_of(lexemes: &[Lexeme], index: usize, end: u32) -> u32
@@ -76,7 +72,7 @@ fn judge(alloc: Global, text: &[u8]) -> Result<Program, ParseFail>
     let lexemes = lexemes(alloc, text)?;
     let crowded = crowded(&lexemes);
     let end = text.len() as u32;
-    match program(alloc, text, DEEPEST, &lexemes) {
+    match program(alloc, text, DEEPEST_NESTING, &lexemes) {
         Ok(program) => match crowded {
             None => Ok(program),
             Some(index) => {

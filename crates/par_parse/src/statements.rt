@@ -8,10 +8,10 @@ ghost use Rattle.par_lex.specs.Words.{words};
 ghost use Rattle.par_parse.specs.Gives.{Gives, option_expr, line_and_tree};
 
 use crate::calls::call;
-use crate::expressions::{parse_expression, index};
-use par_lex::Lexeme;
+use crate::expressions::{index, parse_expression};
 use crate::parse_error::ParseError;
 use crate::words::{name, name_from, open, peek, take};
+use par_lex::Lexeme;
 use par_text::Kind;
 use par_tree::{Body, Expr, Name, Stmt, StmtKind};
 use std::alloc::Global;

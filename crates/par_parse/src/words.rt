@@ -9,8 +9,8 @@ ghost use Rattle.par_text.specs.Rule.{Token};
 ghost use Rattle.par_lex.specs.Words.{words, word_of};
 ghost use Rattle.par_parse.specs.Gives.{Gives, Inside};
 
-use par_lex::Lexeme;
 use crate::parse_error::ParseError;
+use par_lex::Lexeme;
 use par_text::{Kind, Stop};
 use par_tree::{Expr, Name};
 use std::alloc::{AllocError, Global};

@@ -1,5 +1,6 @@
 -- How many functions there are, and how many names a function declares.
 use Rattle.std.specs.Prelude.{ℕ, ◌+◌, Bool, false, ◌&&◌, ◌||◌, not, nat_lt, if◌then◌else◌, List, [], ◌∷◌, Option, Some, None}
+use Rattle.language_limits.specs.declared.TheConstants.{MOST_FUNCTIONS, MOST_NAMES}
 use Rattle.par_text.specs.declared.kind.Kind.{Kind}
 use Rattle.par_text.specs.declared.kind.Kind.TheVariants as k
 use Rattle.par_text.specs.Kinds.{is}
@@ -46,10 +47,10 @@ after b j = record {
 }
 
 abbrev pub most_functions : ℕ
-most_functions = 1024
+most_functions = MOST_FUNCTIONS
 
 abbrev pub most_names : ℕ
-most_names = 256
+most_names = MOST_NAMES
 
 abbrev pub is_too_many : Before → Bool
 is_too_many b = nat_lt most_functions b.functions || nat_lt most_names b.names

@@ -1,5 +1,6 @@
 -- What is a text, and each refusal of bytes that are none.
 use Rattle.std.specs.Prelude.{◌≡◌, ℕ, zero, suc, ◌+◌, ◌≤◌, List, [], ◌∷◌, length, take, Option, Some, None, IfSome, Ok, Err, ◌⊎◌, nat_lt, if◌then◌else◌}
+use Rattle.language_limits.specs.declared.TheConstants.{DEEPEST_NESTING}
 use Rattle.par_text.specs.declared.stop.Stop.{Stop}
 use Rattle.par_text.specs.declared.stop.Stop.TheVariants as stops
 use Rattle.par_tree.specs.Tree.{Program}
@@ -13,7 +14,7 @@ use Rattle.par_text.specs.Text.{IsProgram, HasBegun, IsExpected, IsTooDeep}
 
 -- how many constructs may be open at once
 abbrev pub deepest : ℕ
-deepest = 64
+deepest = DEEPEST_NESTING
 
 -- The bytes are a text, and p is its tree.
 pub record IsText (text : List ℕ) (p : Program) : Type 0 where

@@ -8,6 +8,7 @@ use Rattle.par_text.specs.declared.syntax_error.SyntaxKind.{SyntaxKind}
 use Rattle.par_text.specs.declared.syntax_error.SyntaxKind.TheVariants.{BadByte, BadToken, NumberTooLarge, TooLong}
 use Rattle.par_text.specs.declared.syntax_error.SyntaxError.{SyntaxError}
 use Rattle.par_text.specs.Rule.{Token}
+use Rattle.language_limits.specs.declared.TheConstants.{GREATEST_NUMBER, LONGEST_NAME, LONGEST_TEXT}
 
 -- bytes
 
@@ -158,10 +159,10 @@ value_from v [] = v
 value_from v (c ∷ cs) = value_from (v * 10 + (c - 48)) cs
 
 abbrev pub greatest_number : ℕ
-greatest_number = 9223372036854775807
+greatest_number = GREATEST_NUMBER
 
 abbrev pub longest_name : ℕ
-longest_name = 32
+longest_name = LONGEST_NAME
 
 abbrev pub of_known : Option Kind → Result Kind SyntaxKind
 of_known (Some j) = Ok j
@@ -222,7 +223,7 @@ forbidden at [] = None
 forbidden at (c ∷ cs) = if is_allowed c then forbidden (at + 1) cs else Some at
 
 abbrev pub longest_text : ℕ
-longest_text = 1048576
+longest_text = LONGEST_TEXT
 
 abbrev pub of_allowed : Option ℕ → List ℕ → Lexed
 of_allowed (Some at) text = Err record { kind = BadByte; at = at }

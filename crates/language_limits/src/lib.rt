@@ -1,0 +1,56 @@
+//! The limits of the language and of a run, each once.
+//!
+//! This page is the lowest of the layers. Code and definitions both cite its constants, so a limit is changed here and nowhere else. It
+//! has no theorem: what a limit means is said by the layer that keeps it.
+#![tactic(auto)]
+
+/// The most bytes of a source.
+pub const LONGEST_TEXT: u32 = 1_048_576;
+
+/// The most functions of a program.
+pub const MOST_FUNCTIONS: u32 = 1_024;
+
+/// The most names that one function declares, each as often as it is declared.
+pub const MOST_NAMES: u32 = 256;
+
+/// The most bytes of a name.
+pub const LONGEST_NAME: u32 = 32;
+
+/// The most constructs of a text that are open at once: `{`, `(`, `[` and signs.
+pub const DEEPEST_NESTING: u32 = 64;
+
+/// The greatest number that a text can have.
+pub const GREATEST_NUMBER: u64 = 9_223_372_036_854_775_807;
+
+/// The most numbers of a block.
+pub const LONGEST_BLOCK: u32 = 1_048_576;
+
+/// The most calls that are open at once, `main` and those open at the forks above among them.
+pub const MOST_CALLS: u32 = 10_000;
+
+/// The most loop rounds and calls of one thread.
+pub const MOST_TURNS: u32 = 1_000_000;
+
+/// The most forks of `par` above one another.
+pub const MOST_FORKS: u32 = 256;
+
+/// The least quota, in words, and the unit of quotas: the words of a piece.
+pub const LEAST_QUOTA: u32 = 16;
+
+/// The greatest quota, in words.
+pub const GREATEST_QUOTA: u32 = 1_048_576;
+
+/// The most leaves of a tree of dummies: the pieces of the longest block, each a quota.
+pub const MOST_LEAVES: u32 = 65_536;
+
+/// The most actions of a run.
+pub const MOST_ACTIONS: u32 = 4_000_000;
+
+/// The most workers of a run.
+pub const MOST_WORKERS: u32 = 64;
+
+/// The most deques of a run.
+pub const MOST_DEQUES: u32 = 4_096;
+
+/// The most words of an arena.
+pub const MOST_WORDS: u32 = 67_108_864;
