@@ -2,3 +2,4 @@ pub mod Words
 pub mod Forms
 pub mod Lexes
 pub mod Places
+pub mod Tables

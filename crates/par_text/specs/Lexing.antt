@@ -80,78 +80,33 @@ is_lexeme (c ∷ cs) = not (is_blank c || c == 35)
 
 -- forms
 
--- brackets and separators
-unfoldable pub bracket_kind : List ℕ → Option Kind
-bracket_kind w =
-    if bytes_eq w (codes "(") then Some LeftParen
-    else (if bytes_eq w (codes ")") then Some RightParen
-    else (if bytes_eq w (codes "{") then Some LeftBrace
-    else (if bytes_eq w (codes "}") then Some RightBrace
-    else (if bytes_eq w (codes "[") then Some LeftBracket
-    else (if bytes_eq w (codes "]") then Some RightBracket
-    else (if bytes_eq w (codes ",") then Some Comma
-    else (if bytes_eq w (codes ";") then Some Semicolon
-    else None)))))))
+-- the symbols, each with its kind
+abbrev pub symbols : List (List ℕ × Kind)
+symbols =
+    (codes "(", LeftParen) ∷ (codes ")", RightParen) ∷ (codes "{", LeftBrace) ∷ (codes "}", RightBrace) ∷
+    (codes "[", LeftBracket) ∷ (codes "]", RightBracket) ∷ (codes ",", Comma) ∷ (codes ";", Semicolon) ∷
+    (codes "=", Assign) ∷ (codes "+", Plus) ∷ (codes "-", Minus) ∷ (codes "*", Star) ∷ (codes "/", Slash) ∷
+    (codes "%", Percent) ∷ (codes "<", Less) ∷ (codes "<=", LessEqual) ∷ (codes ">", Greater) ∷
+    (codes ">=", GreaterEqual) ∷ (codes "==", EqualEqual) ∷ (codes "!=", NotEqual) ∷ []
 
--- operators
-unfoldable pub operator_kind : List ℕ → Option Kind
-operator_kind w =
-    if bytes_eq w (codes "=") then Some Assign
-    else (if bytes_eq w (codes "+") then Some Plus
-    else (if bytes_eq w (codes "-") then Some Minus
-    else (if bytes_eq w (codes "*") then Some Star
-    else (if bytes_eq w (codes "/") then Some Slash
-    else (if bytes_eq w (codes "%") then Some Percent
-    else None)))))
+-- the keywords, each with its kind
+abbrev pub keywords : List (List ℕ × Kind)
+keywords =
+    (codes "fn", Fn) ∷ (codes "let", Let) ∷ (codes "alloc", Alloc) ∷ (codes "free", Free) ∷ (codes "if", If) ∷
+    (codes "else", Else) ∷ (codes "while", While) ∷ (codes "call", Call) ∷ (codes "print", Print) ∷ (codes "par", Par) ∷
+    (codes "and", And) ∷ (codes "split", Split) ∷ (codes "at", At) ∷ (codes "into", Into) ∷ (codes "return", Return) ∷
+    (codes "use", Use) ∷ (codes "own", Own) ∷ (codes "len", Len) ∷ []
 
--- comparisons
-unfoldable pub comparison_kind : List ℕ → Option Kind
-comparison_kind w =
-    if bytes_eq w (codes "<") then Some Less
-    else (if bytes_eq w (codes "<=") then Some LessEqual
-    else (if bytes_eq w (codes ">") then Some Greater
-    else (if bytes_eq w (codes ">=") then Some GreaterEqual
-    else (if bytes_eq w (codes "==") then Some EqualEqual
-    else (if bytes_eq w (codes "!=") then Some NotEqual
-    else None)))))
-
--- words that begin a statement or a function
-unfoldable pub first_word_kind : List ℕ → Option Kind
-first_word_kind w =
-    if bytes_eq w (codes "fn") then Some Fn
-    else (if bytes_eq w (codes "let") then Some Let
-    else (if bytes_eq w (codes "alloc") then Some Alloc
-    else (if bytes_eq w (codes "free") then Some Free
-    else (if bytes_eq w (codes "if") then Some If
-    else (if bytes_eq w (codes "while") then Some While
-    else (if bytes_eq w (codes "call") then Some Call
-    else (if bytes_eq w (codes "print") then Some Print
-    else (if bytes_eq w (codes "par") then Some Par
-    else (if bytes_eq w (codes "split") then Some Split
-    else None)))))))))
-
--- words that stand inside
-unfoldable pub later_word_kind : List ℕ → Option Kind
-later_word_kind w =
-    if bytes_eq w (codes "else") then Some Else
-    else (if bytes_eq w (codes "and") then Some And
-    else (if bytes_eq w (codes "at") then Some At
-    else (if bytes_eq w (codes "into") then Some Into
-    else (if bytes_eq w (codes "return") then Some Return
-    else (if bytes_eq w (codes "use") then Some Use
-    else (if bytes_eq w (codes "own") then Some Own
-    else (if bytes_eq w (codes "len") then Some Len
-    else None)))))))
-
-abbrev pub or_else : Option Kind → Option Kind → Option Kind
-or_else None o = o
-or_else (Some j) o = Some j
+-- the kind of a word of a list
+abbrev pub kind_in : List (List ℕ × Kind) → List ℕ → Option Kind
+kind_in [] w = None
+kind_in (entry ∷ rest) w = if bytes_eq entry.0 w then Some entry.1 else kind_in rest w
 
 unfoldable pub symbol_kind : List ℕ → Option Kind
-symbol_kind w = or_else (bracket_kind w) (or_else (operator_kind w) (comparison_kind w))
+symbol_kind w = kind_in symbols w
 
 unfoldable pub keyword_kind : List ℕ → Option Kind
-keyword_kind w = or_else (first_word_kind w) (later_word_kind w)
+keyword_kind w = kind_in keywords w
 
 -- the number that digits spell, behind others
 unfoldable pub value_from : ℕ → List ℕ → ℕ
