@@ -8,7 +8,7 @@
 mod source;
 mod source_fail;
 
-pub use source::read_source;
+pub use source::accept;
 pub use source_fail::SourceFail;
 
 #[cfg(test)]

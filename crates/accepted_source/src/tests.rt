@@ -1,6 +1,6 @@
 //! Sources whose answers the rules give, worked out by hand.
 
-use crate::{SourceFail, read_source};
+use crate::{SourceFail, accept};
 use block_check::{BranchSets, CheckKind, Checked, Names, SetsFail};
 use par_parse::SyntaxKind;
 use std::alloc::Global;
@@ -8,11 +8,11 @@ use std::process::Abort;
 use std::test::Fail;
 
 fn accepts(rt: &impl Abort, alloc: Global, text: &str) {
-    assert!(rt; read_source(alloc, text.as_bytes()).is_ok());
+    assert!(rt; accept(alloc, text.as_bytes()).is_ok());
 }
 
 fn refuses(rt: &impl Abort, alloc: Global, text: &str, kind: CheckKind, line: u32, name: &str) {
-    match read_source(alloc, text.as_bytes()) {
+    match accept(alloc, text.as_bytes()) {
         Err(SourceFail::Check(error)) => {
             assert_eq!(rt; error.kind, kind);
             assert_eq!(rt; error.line, line);
@@ -24,7 +24,7 @@ fn refuses(rt: &impl Abort, alloc: Global, text: &str, kind: CheckKind, line: u3
 
 #[test]
 fn bytes_that_are_no_text(rt: HostRuntime) -> Result<(), Fail> {
-    match read_source(rt.alloc(), b"fn main() { print x") {
+    match accept(rt.alloc(), b"fn main() { print x") {
         Err(SourceFail::Syntax(error)) => {
             assert_eq!(&rt; error.kind, SyntaxKind::Expected);
             assert_eq!(&rt; error.at, 19);
@@ -985,7 +985,7 @@ fn names_of_nested_branches(rt: HostRuntime) -> Result<(), Fail> {
     let text = "fn main() { let x = 0; alloc a = 1; let y = 0; alloc b = 1;
         par { y = 1; b[0] = 1; par { x = 2; a[0] = 1; } and { print b[0]; } }
         and { let z = 3; z = 4; } free a; free b; }";
-    match read_source(rt.alloc(), text.as_bytes()) {
+    match accept(rt.alloc(), text.as_bytes()) {
         Ok(checked) => sets_of_nested(&rt, rt.alloc(), &checked),
         Err(_) => assert!(rt; false),
     }

@@ -1,7 +1,7 @@
 //! A table read back as text, by a reader that is told the names of slots and of functions.
 
 use crate::{Code, CodeArg, CodeExpr, CodeRet, CodeRetValue, CodeTarget, NodeKind, lower};
-use accepted_source::read_source;
+use accepted_source::accept;
 use par_print::print;
 use par_tree::{ChainOp, CmpOp};
 use std::alloc::Global;
@@ -464,7 +464,7 @@ fn told<'a>() -> [Known<'a>; 4] {
 #[test]
 fn the_table_is_the_text(rt: HostRuntime) -> Result<(), Fail> {
     let alloc = rt.alloc();
-    let Ok(checked) = read_source(alloc, TEXT.as_bytes()) else {
+    let Ok(checked) = accept(alloc, TEXT.as_bytes()) else {
         return Err(Fail::new("the text is refused"));
     };
     let printed = print(alloc, checked.program())?;

@@ -1,14 +1,14 @@
 //! Tables whose nodes the text gives, worked out by hand.
 
 use crate::{Code, CodeArg, CodeExpr, CodeRetValue, CodeTarget, NodeKind, lower};
-use accepted_source::read_source;
+use accepted_source::accept;
 use std::alloc::{AllocError, Global};
 use std::fmt::Write;
 use std::process::Abort;
 use std::test::Fail;
 
 fn code_of(alloc: Global, text: &str) -> Result<Code, AllocError> {
-    match read_source(alloc, text.as_bytes()) {
+    match accept(alloc, text.as_bytes()) {
         Ok(checked) => lower(alloc, checked),
         Err(_) => Err(AllocError),
     }
