@@ -10,7 +10,7 @@ ghost use Rattle.block_check.specs.Shown.{entries_shown, funcs_tree, Tests};
 
 use crate::entry::Entry;
 use crate::environment::{block, integer, is_fresh, not_lent, unless};
-use crate::expressions::expression;
+use crate::expressions::check_expression;
 use crate::mentions::is_name;
 use crate::refusal::Fail;
 use par_ownership::CheckKind;
@@ -121,7 +121,7 @@ fn argument<'a>(
     let wanted = &param.name.bytes;
     match param.kind {
         ParamKind::Int => match arg {
-            Arg::Value(expr) => expression(line, env, expr),
+            Arg::Value(expr) => check_expression(line, env, expr),
             Arg::Lend(_) | Arg::Give(_) => unless(false, CheckKind::WrongKind, line, wanted),
         },
         ParamKind::Lent => match arg {

@@ -11,8 +11,8 @@ use crate::refusal::Fail;
 use par_tree::{Expr, Link};
 
 /// An expression is read from left to right.
-#[cycle(expression)]
-pub(crate) fn expression<'a>(line: u32, env: &[Entry], expr: &'a Expr) -> Result<(), Fail<'a>>
+#[cycle(check_expression)]
+pub(crate) fn check_expression<'a>(line: u32, env: &[Entry], expr: &'a Expr) -> Result<(), Fail<'a>>
     ensures { Tests result (expr_refusal line (entries_shown env.now) (expr_tree expr.now)) }
 {
     match expr {
@@ -20,28 +20,28 @@ pub(crate) fn expression<'a>(line: u32, env: &[Entry], expr: &'a Expr) -> Result
         Expr::Var(name) => integer(line, env, &name.bytes),
         Expr::Get(name, index) => {
             block(line, env, &name.bytes)?;
-            expression(line, env, index)
+            check_expression(line, env, index)
         }
         Expr::Len(name) => block(line, env, &name.bytes),
-        Expr::Neg(operand) => expression(line, env, operand),
+        Expr::Neg(operand) => check_expression(line, env, operand),
         Expr::Chain { first, rest } => {
-            expression(line, env, first)?;
-            links(line, env, rest)
+            check_expression(line, env, first)?;
+            check_links(line, env, rest)
         }
         Expr::Cmp { left, right, .. } => {
-            expression(line, env, left)?;
-            expression(line, env, right)
+            check_expression(line, env, left)?;
+            check_expression(line, env, right)
         }
     }
 }
 
 /// The operands of a chain behind its first one.
-#[cycle(expression)]
-fn links<'a>(line: u32, env: &[Entry], rest: &'a [Link]) -> Result<(), Fail<'a>>
+#[cycle(check_expression)]
+fn check_links<'a>(line: u32, env: &[Entry], rest: &'a [Link]) -> Result<(), Fail<'a>>
     ensures { Tests result (links_refusal line (entries_shown env.now) (links_tree rest.now)) }
 {
     for link in rest {
-        expression(line, env, &link.operand)?;
+        check_expression(line, env, &link.operand)?;
     }
     Ok(())
 }

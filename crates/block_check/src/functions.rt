@@ -10,9 +10,9 @@ use crate::calls::{function_of, hands_back};
 use crate::changes::{all_released, param_entry, with_entry};
 use crate::entry::Entry;
 use crate::environment::{is_fresh, unless};
-use crate::expressions::expression;
+use crate::expressions::check_expression;
 use crate::refusal::Fail;
-use crate::statements::{free, statements};
+use crate::statements::{free, check_statements};
 use par_ownership::CheckKind;
 use par_tree::{Func, Param, Ret, RetValue};
 use std::alloc::Global;
@@ -42,7 +42,7 @@ fn returned_value<'a>(
 {
     match value {
         RetValue::Int(value) => {
-            expression(line, &env, value)?;
+            check_expression(line, &env, value)?;
             Ok(env)
         }
         RetValue::Own(name) => free(line, env, name),
@@ -64,7 +64,7 @@ fn function<'a>(alloc: Global, funcs: &'a [Func], func: &'a Func) -> Result<(), 
     ensures { Tests result (func_refusal (funcs_tree funcs.now) (func_tree func.now)) }
 {
     let start = parameters(func.line, Vec::new(alloc), &func.params)?;
-    let end = statements(alloc, funcs, start, &func.body)?;
+    let end = check_statements(alloc, funcs, start, &func.body)?;
     let after = returned(end, &func.ret)?;
     all_released(0, &after)
 }

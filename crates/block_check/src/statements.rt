@@ -15,7 +15,7 @@ use crate::changes::{
 };
 use crate::entry::Entry;
 use crate::environment::{block, integer, is_fresh, not_lent, unless};
-use crate::expressions::expression;
+use crate::expressions::check_expression;
 use crate::mentions::{NamedBody, named};
 use crate::refusal::Fail;
 use par_ownership::CheckKind;
@@ -80,7 +80,7 @@ fn let_integer<'a>(
     ensures { Walks env_shown result (guarded (fresh_refusal line (env_shown env.entry) (name_tree name.now)) (guarded (expr_refusal line (env_shown env.entry) (expr_tree value.now)) (Ok (with_entry (env_shown env.entry) (integer_entry (name_tree name.now) line))))) }
 {
     is_fresh(line, &env, &name.bytes)?;
-    expression(line, &env, value)?;
+    check_expression(line, &env, value)?;
     with_entry(env, integer_entry(&name.bytes, line))
 }
 
@@ -94,7 +94,7 @@ fn alloc_block<'a>(
     ensures { Walks env_shown result (guarded (fresh_refusal line (env_shown env.entry) (name_tree name.now)) (guarded (expr_refusal line (env_shown env.entry) (expr_tree size.now)) (Ok (with_entry (env_shown env.entry) (block_entry (name_tree name.now) line))))) }
 {
     is_fresh(line, &env, &name.bytes)?;
-    expression(line, &env, size)?;
+    check_expression(line, &env, size)?;
     with_entry(env, block_entry(&name.bytes, line))
 }
 
@@ -108,7 +108,7 @@ fn assign<'a>(
     ensures { Walks env_shown result (guarded (integer_refusal line (env_shown env.entry) (name_tree name.now)) (guarded (expr_refusal line (env_shown env.entry) (expr_tree value.now)) (Ok (env_shown env.entry)))) }
 {
     integer(line, &env, &name.bytes)?;
-    expression(line, &env, value)?;
+    check_expression(line, &env, value)?;
     Ok(env)
 }
 
@@ -116,7 +116,7 @@ fn assign<'a>(
 fn print<'a>(line: u32, env: Vec<Entry<'a>>, value: &'a Expr) -> Result<Vec<Entry<'a>>, Fail<'a>>
     ensures { Walks env_shown result (guarded (expr_refusal line (env_shown env.entry) (expr_tree value.now)) (Ok (env_shown env.entry))) }
 {
-    expression(line, &env, value)?;
+    check_expression(line, &env, value)?;
     Ok(env)
 }
 
@@ -131,8 +131,8 @@ fn put<'a>(
     ensures { Walks env_shown result (guarded (block_refusal line (env_shown env.entry) (name_tree name.now)) (guarded (expr_refusal line (env_shown env.entry) (expr_tree index.now)) (guarded (expr_refusal line (env_shown env.entry) (expr_tree value.now)) (Ok (env_shown env.entry))))) }
 {
     block(line, &env, &name.bytes)?;
-    expression(line, &env, index)?;
-    expression(line, &env, value)?;
+    check_expression(line, &env, index)?;
+    check_expression(line, &env, value)?;
     Ok(env)
 }
 
@@ -203,7 +203,7 @@ fn parts<'a>(
     ensures { Walks env_shown result (split_opened line (env_shown env.entry) (name_tree name.now) (expr_tree at.now) (name_tree left.now) (name_tree right.now)) }
 {
     block(line, &env, &name.bytes)?;
-    expression(line, &env, at)?;
+    check_expression(line, &env, at)?;
     is_fresh(line, &env, &left.bytes)?;
     let mut env = with_entry(env, lent_entry(&left.bytes, line))?;
     is_fresh(line, &env, &right.bytes)?;
@@ -233,8 +233,8 @@ fn after_arms<'a>(
 }
 
 /// A statement.
-#[cycle(statement)]
-fn statement<'a>(
+#[cycle(check_statement)]
+fn check_statement<'a>(
     alloc: Global,
     funcs: &'a [Func],
     line: u32,
@@ -259,23 +259,23 @@ fn statement<'a>(
         }
         StmtKind::Print { value } => print(line, env, value),
         StmtKind::If { cond, then, other } => {
-            expression(line, &env, cond)?;
+            check_expression(line, &env, cond)?;
             let saved = copy_of(alloc, &env)?;
-            let env = list(alloc, funcs, visible, env, then)?;
-            let other = list(alloc, funcs, visible, saved, other)?;
+            let env = check_nested(alloc, funcs, visible, env, then)?;
+            let other = check_nested(alloc, funcs, visible, saved, other)?;
             after_arms(line, env, other)
         }
         StmtKind::While { cond, body } => {
-            expression(line, &env, cond)?;
+            check_expression(line, &env, cond)?;
             let round = copy_of(alloc, &env)?;
-            let end = list(alloc, funcs, visible, round, body)?;
+            let end = check_nested(alloc, funcs, visible, round, body)?;
             after_arms(line, env, end)
         }
         StmtKind::Par { left, right } => {
             branches(alloc, line, left, right, &env)?;
             let forked = copy_of(alloc, &env)?;
-            let left = list(alloc, funcs, visible, forked, left)?;
-            let right = list(alloc, funcs, visible, env, right)?;
+            let left = check_nested(alloc, funcs, visible, forked, left)?;
+            let right = check_nested(alloc, funcs, visible, env, right)?;
             held_in_both(alloc, &left, &right)
         }
         StmtKind::Split {
@@ -286,15 +286,15 @@ fn statement<'a>(
             body,
         } => {
             let env = parts(line, env, block, at, left, right)?;
-            let end = list(alloc, funcs, visible, env, body)?;
+            let end = check_nested(alloc, funcs, visible, env, body)?;
             after_split(end, block)
         }
     }
 }
 
 /// A list of statements with its end, which began with so many visible names.
-#[cycle(statement)]
-fn list<'a>(
+#[cycle(check_statement)]
+fn check_nested<'a>(
     alloc: Global,
     funcs: &'a [Func],
     visible: usize,
@@ -303,12 +303,12 @@ fn list<'a>(
 ) -> Result<Vec<Entry<'a>>, Fail<'a>>
     ensures { Walks env_shown result (ended visible (walk_all (funcs_tree funcs.now) (rows_tree body.now) (env_shown env.entry))) }
 {
-    list_of(alloc, funcs, visible, env, body)
+    check_list(alloc, funcs, visible, env, body)
 }
 
 /// The same, of the statements themselves.
-#[cycle(statement)]
-fn list_of<'a>(
+#[cycle(check_statement)]
+fn check_list<'a>(
     alloc: Global,
     funcs: &'a [Func],
     visible: usize,
@@ -317,13 +317,13 @@ fn list_of<'a>(
 ) -> Result<Vec<Entry<'a>>, Fail<'a>>
     ensures { Walks env_shown result (ended visible (walk_all (funcs_tree funcs.now) (body_tree body.now) (env_shown env.entry))) }
 {
-    let end = statements(alloc, funcs, env, body)?;
+    let end = check_statements(alloc, funcs, env, body)?;
     ended(visible, end)
 }
 
 /// A list of statements.
-#[cycle(statement)]
-pub(crate) fn statements<'a>(
+#[cycle(check_statement)]
+pub(crate) fn check_statements<'a>(
     alloc: Global,
     funcs: &'a [Func],
     mut env: Vec<Entry<'a>>,
@@ -332,7 +332,7 @@ pub(crate) fn statements<'a>(
     ensures { Walks env_shown result (walk_all (funcs_tree funcs.now) (body_tree body.now) (env_shown env.entry)) }
 {
     for stmt in body {
-        env = statement(alloc, funcs, stmt.line, env, &stmt.kind)?;
+        env = check_statement(alloc, funcs, stmt.line, env, &stmt.kind)?;
     }
     Ok(env)
 }

@@ -4,7 +4,7 @@ use Rattle.std.specs.Option.{option_map, option_and_then}
 use Rattle.std.proofs.lemmas.Option.{slice_get-map}
 use Rattle.dag_order.specs.declared.birth.Birth.{Birth}
 use Rattle.dag_order.specs.Births.{birth_in, StopsAt}
-use Rattle.dag_order.specs.BirthLaws.{one_stop}
+use Rattle.dag_order.proofs.BirthLaws.{one_stop}
 use Rattle.dag_order.specs.declared.thread_id.ThreadId.{ThreadId}
 use Rattle.dag_order.specs.declared.roster.RosterFail.{RosterFail}
 use Rattle.dag_order.specs.declared.roster.RosterFail.TheVariants.{Unknown, OutOfMemory}

@@ -1,3 +1,4 @@
+pub mod BirthLaws
 pub mod LabelLemmas
 pub mod BirthLemmas
 pub mod OrderLemmas

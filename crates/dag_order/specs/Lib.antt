@@ -1,4 +1,3 @@
 pub mod LabelOrder
 pub mod LabelLaws
 pub mod Births
-pub mod BirthLaws

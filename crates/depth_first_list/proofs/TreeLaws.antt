@@ -3,9 +3,9 @@ use Rattle.std.proofs.Common.{◌≡◌, ℕ, suc, ◌+◌, ◌-◌, ◌*◌, �
 use Rattle.std.proofs.lemmas.Bool.{cases_order, cases_lt, cases_eq}
 use Rattle.dag_order.specs.LabelOrder.{fork_of}
 use Rattle.dummy_tree.specs.Quotas.{dummies_of}
-use Rattle.dummy_tree.specs.QuotaLaws.{dummies_cover}
+use Rattle.dummy_tree.proofs.QuotaLaws.{dummies_cover}
 use Rattle.dummy_tree.specs.Shapes.{Shape, leaves, shape_of}
-use Rattle.dummy_tree.specs.ShapeLaws.{leaves_of_shape, shape_of_is_shape}
+use Rattle.dummy_tree.proofs.ShapeLaws.{leaves_of_shape, shape_of_is_shape}
 use Rattle.depth_first_list.specs.Actions.{Deed, forks, joins, allocates, releases, dummy, faults, ends, Action}
 use Rattle.depth_first_list.specs.Runs.{Point, start, next_child, action_at_point, end_at, after_tree, tree_run, tree_for, IsPlain, Runs, rests, goes_on, acts, forks_a_child, joins_the_newest, allocates_behind_a_tree, IsDepthFirst}
 use Rattle.depth_first_list.specs.Facts.{action_at, label_at, deed_at, StemsFrom, IsLarge, leaves_at, IsInTreeOf, dummies_from, IsOfTree, TreeStandsBefore, TreesStandBefore, DummiesAreOfTrees, TreesAreApart, TreesAreDoneFirst}

@@ -8,11 +8,11 @@ use Rattle.deque_list.specs.declared.place.Place.{Place}
 use Rattle.deque_list.specs.Lanes.{LaneView}
 use Rattle.deque_list.specs.LaneTables.{LaneTable}
 use Rattle.deque_list.specs.Ids.{IsLive, IsSmallestFree, StandsAt, place_ids}
-use Rattle.deque_list.specs.PlaceLaws.{id_stands}
+use Rattle.deque_list.proofs.PlaceLaws.{id_stands}
 use Rattle.deque_list.specs.Orders.{OrderView}
 use Rattle.deque_list.specs.Deques.{Deque, DequeAt}
 use Rattle.deque_list.specs.DequeLists.{ListView, list_view, lane_room, room_of, deque_at, IsKept, SameElsewhere}
-use Rattle.deque_list.specs.DequeLaws.{deque_inserted, deque_removed, same_id}
+use Rattle.deque_list.proofs.DequeLaws.{deque_inserted, deque_removed, same_id}
 use Rattle.deque_list.proofs.KeptLemmas.{kept_inserted, kept_removed, still_prepared}
 use Rattle.deque_list.proofs.ViewLemmas.{place_of_live, place_shown}
 

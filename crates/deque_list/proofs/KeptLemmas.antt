@@ -8,11 +8,11 @@ use Rattle.deque_list.specs.declared.place.Place.{Place}
 use Rattle.deque_list.specs.Lanes.{LaneView}
 use Rattle.deque_list.specs.LaneTables.{LaneTable}
 use Rattle.deque_list.specs.Ids.{IsLive, IdsDiffer, deque_id, first_place, place_ids}
-use Rattle.deque_list.specs.IdLaws.{live_stays, new_is_live, live_before, differ_inserted, differ_removed, removed_is_gone, live_remains, lived_before}
-use Rattle.deque_list.specs.PlaceLaws.{ids_inserted, ids_removed}
+use Rattle.deque_list.proofs.IdLaws.{live_stays, new_is_live, live_before, differ_inserted, differ_removed, removed_is_gone, live_remains, lived_before}
+use Rattle.deque_list.proofs.PlaceLaws.{ids_inserted, ids_removed}
 use Rattle.deque_list.specs.Orders.{OrderView}
 use Rattle.deque_list.specs.DequeLists.{IsKept, IsPrepared}
-use Rattle.deque_list.specs.RankLaws.{written_stands, others_unwritten, same_or_other}
+use Rattle.deque_list.proofs.RankLaws.{written_stands, others_unwritten, same_or_other}
 
 module _ {T : Type 0} where
   -- a live deque's id has a lane

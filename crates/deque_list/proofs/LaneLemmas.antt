@@ -12,9 +12,9 @@ use Rattle.deque_list.specs.Ids.{IsLive}
 use Rattle.deque_list.specs.Orders.{OrderView}
 use Rattle.deque_list.specs.Deques.{Deque, DequeAt, deque_ids}
 use Rattle.deque_list.specs.DequeLists.{ListView, list_view, lane_items, lane_room, room_of, deque_at, IsKept, IsPrepared, SameElsewhere}
-use Rattle.deque_list.specs.DequeLaws.{lane_written, same_deque, same_id}
-use Rattle.deque_list.specs.ListLaws.{same_map}
-use Rattle.deque_list.specs.RankLaws.{written_stands, same_or_other}
+use Rattle.deque_list.proofs.DequeLaws.{lane_written, same_deque, same_id}
+use Rattle.deque_list.proofs.ListLaws.{same_map}
+use Rattle.deque_list.proofs.RankLaws.{written_stands, same_or_other}
 use Rattle.deque_list.proofs.KeptLemmas.{kept_written}
 use Rattle.deque_list.proofs.ViewLemmas.{live_in_order}
 

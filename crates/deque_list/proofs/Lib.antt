@@ -1,3 +1,9 @@
+pub mod DequeLaws
+pub mod IdLaws
+pub mod ListLaws
+pub mod MarkLaws
+pub mod PlaceLaws
+pub mod RankLaws
 pub mod IdLemmas
 pub mod OrderLemmas
 pub mod TableLemmas

@@ -8,8 +8,8 @@ use Rattle.deque_list.specs.declared.deque_id.DequeId.{DequeId}
 use Rattle.deque_list.specs.declared.place.Place.{Place}
 use Rattle.deque_list.specs.Ids.{IsSmallestFree, deque_id, place_ids}
 use Rattle.deque_list.specs.Marks.{IsSound}
-use Rattle.deque_list.specs.MarkLaws.{first_free_is_within, first_free_is_smallest, sound_inserted}
-use Rattle.deque_list.specs.PlaceLaws.{ids_inserted}
+use Rattle.deque_list.proofs.MarkLaws.{first_free_is_within, first_free_is_smallest, sound_inserted}
+use Rattle.deque_list.proofs.PlaceLaws.{ids_inserted}
 use Rattle.deque_list.specs.Orders.{OrderView, IsLawful}
 
 -- there are no more places than marks

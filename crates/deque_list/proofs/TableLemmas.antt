@@ -8,8 +8,8 @@ use Rattle.std.proofs.lemmas.Bool.{cases_lt}
 use Rattle.std.proofs.Math.ListN.{get_or-eq_default}
 use Rattle.slab.specs.Slab.{Slab, get, Updates, with_value}
 use Rattle.deque_list.specs.LaneTables.{stored, IsKeyed}
-use Rattle.deque_list.specs.ListLaws.{same_by_rank}
-use Rattle.deque_list.specs.RankLaws.{written_stands, others_unwritten, same_or_other}
+use Rattle.deque_list.proofs.ListLaws.{same_by_rank}
+use Rattle.deque_list.proofs.RankLaws.{written_stands, others_unwritten, same_or_other}
 
 -- a key of the new list is the new one, or was there
 key_before : (keys : List (Option ℕ)) (id : ℕ) (slot : Option ℕ) (i k : ℕ) → id < length keys → slice_get (slice_set keys id slot) i ≡ Some (Some k)

@@ -15,8 +15,8 @@ use Rattle.deque_list.specs.ListLends.{with_top_item, with_top_at}
 use Rattle.deque_list.specs.Orders.{OrderView}
 use Rattle.deque_list.specs.Deques.{Deque}
 use Rattle.deque_list.specs.DequeLists.{ListView, list_view, lane_items, room_of, deque_at}
-use Rattle.deque_list.specs.DequeLaws.{same_deque}
-use Rattle.deque_list.specs.ListLaws.{same_map}
+use Rattle.deque_list.proofs.DequeLaws.{same_deque}
+use Rattle.deque_list.proofs.ListLaws.{same_map}
 
 -- writing what stands there changes nothing
 rewritten : {X : Type 0} (xs : List X) (n : ℕ) (x : X) → slice_get xs n ≡ Some x → slice_set xs n x ≡ xs

@@ -9,11 +9,11 @@ use Rattle.deque_list.specs.declared.place.Place.{Place}
 use Rattle.deque_list.specs.Lanes.{LaneView}
 use Rattle.deque_list.specs.LaneTables.{LaneTable, HasLane}
 use Rattle.deque_list.specs.Ids.{IsLive, StandsAt, place_ids}
-use Rattle.deque_list.specs.PlaceLaws.{ids_unwritten, id_stands}
+use Rattle.deque_list.proofs.PlaceLaws.{ids_unwritten, id_stands}
 use Rattle.deque_list.specs.Orders.{OrderView}
 use Rattle.deque_list.specs.Deques.{Deque, DequeAt, IsReady, deque_ids}
 use Rattle.deque_list.specs.DequeLists.{ListView, list_view, lane_items, deque_at, IsKept, IsPrepared}
-use Rattle.deque_list.specs.DequeLaws.{mapped_at, ids_of_deques, place_of_deque, owner_written}
+use Rattle.deque_list.proofs.DequeLaws.{mapped_at, ids_of_deques, place_of_deque, owner_written}
 use Rattle.deque_list.proofs.KeptLemmas.{kept_same}
 
 -- where a live deque stands

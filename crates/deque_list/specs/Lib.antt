@@ -2,16 +2,10 @@ pub mod Lanes
 pub mod LaneRoom
 pub mod LaneLends
 pub mod Ids
-pub mod RankLaws
-pub mod IdLaws
 pub mod Marks
-pub mod MarkLaws
 pub mod Orders
 pub mod Deques
 pub mod DequeLists
-pub mod PlaceLaws
 pub mod LaneTables
-pub mod ListLaws
 pub mod TableLends
-pub mod DequeLaws
 pub mod ListLends

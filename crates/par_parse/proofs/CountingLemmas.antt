@@ -6,8 +6,8 @@ use Rattle.std.proofs.lemmas.List.{get_or_default}
 use Rattle.par_text.specs.Rule.{Token}
 use Rattle.par_text.specs.Counts.{Before, after, is_too_many, crowded_from, most_functions, most_names}
 use Rattle.par_text.specs.Judging.{place_of}
-use Rattle.par_parse.specs.declared.lexeme.Lexeme.{Lexeme}
-use Rattle.par_parse.specs.Gives.{word_of, words}
+use Rattle.par_lex.specs.declared.lexeme.Lexeme.{Lexeme}
+use Rattle.par_lex.specs.Words.{word_of, words}
 
 pub words-cons : (text : List ℕ) (rest : List Lexeme) (l : Lexeme) (ls : List Lexeme) → rest ≡ l ∷ ls → words text rest ≡ word_of text l ∷ words text ls
 unfolding words

@@ -6,8 +6,8 @@ use Rattle.par_tree.specs.declared.program.Program.{Program as RustProgram}
 use Rattle.par_text.specs.declared.syntax_error.SyntaxError.{SyntaxError}
 use Rattle.par_text.specs.Judging.{IsText, IsRefused, Verdict, tree, refusal}
 use Rattle.par_text.proofs.Verdicts.{one_verdict}
-use Rattle.par_parse.specs.declared.parse_fail.ParseFail.{ParseFail}
-use Rattle.par_parse.specs.declared.parse_fail.ParseFail.TheVariants.{Refused, OutOfMemory}
+use Rattle.par_lex.specs.declared.parse_fail.ParseFail.{ParseFail}
+use Rattle.par_lex.specs.declared.parse_fail.ParseFail.TheVariants.{Refused, OutOfMemory}
 use Rattle.par_parse.specs.Answers.{IsTreeOrMemory, IsRefusalOrMemory, IsJudged}
 
 abbrev tree_or : Program → Verdict → Program

@@ -2,8 +2,5 @@ pub mod Loops
 pub mod Views
 pub mod Inner
 pub mod Whole
-pub mod Numbers
-pub mod Pieces
 pub mod CountingLemmas
 pub mod Judged
-pub mod Places

@@ -4,10 +4,11 @@ use Rattle.std.proofs.lemmas.List.{length-map}
 use Rattle.par_text.specs.declared.kind.Kind.{Kind}
 use Rattle.par_text.specs.Rule.{Token}
 use Rattle.par_text.specs.Reading.{Answer, Reader, ◌>>=◌, next, read_many}
-use Rattle.par_parse.specs.declared.lexeme.Lexeme.{Lexeme}
+use Rattle.par_lex.specs.declared.lexeme.Lexeme.{Lexeme}
 use Rattle.par_parse.specs.declared.parse_error.ParseError.{ParseError}
 use Rattle.par_parse.specs.declared.parse_error.ParseError.TheVariants.{Memory, Stopped}
-use Rattle.par_parse.specs.Gives.{Fails, words, word_of}
+use Rattle.par_lex.specs.Words.{words, word_of}
+use Rattle.par_parse.specs.Gives.{Fails}
 
 -- as many tokens as the code sees
 pub length-words : (text : List ℕ) (ts : List Lexeme) → length (words text ts) ≡ length ts

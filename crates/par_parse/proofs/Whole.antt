@@ -3,8 +3,8 @@ use Rattle.std.proofs.Common.{◌≡◌, ℕ, ◌<◌, List, [], ◌∷◌, leng
 use Rattle.par_tree.specs.Tree.{Program}
 use Rattle.par_text.specs.declared.stop.Stop.TheVariants.{Expected}
 use Rattle.par_text.specs.Parsing.{whole}
-use Rattle.par_parse.specs.declared.lexeme.Lexeme.{Lexeme}
-use Rattle.par_parse.specs.Gives.{words}
+use Rattle.par_lex.specs.declared.lexeme.Lexeme.{Lexeme}
+use Rattle.par_lex.specs.Words.{words}
 use Rattle.par_parse.proofs.Loops.{length-words}
 
 pub whole-empty : (p : Program) (text : List ℕ) (rest : List Lexeme) → length rest ≡ 0 → whole (p, words text rest) ≡ Ok p

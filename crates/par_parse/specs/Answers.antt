@@ -5,8 +5,8 @@ use Rattle.par_tree.specs.View.{program_tree}
 use Rattle.par_tree.specs.declared.program.Program.{Program as RustProgram}
 use Rattle.par_text.specs.declared.syntax_error.SyntaxError.{SyntaxError}
 use Rattle.par_text.specs.Judging.{IsText, IsRefused}
-use Rattle.par_parse.specs.declared.parse_fail.ParseFail.{ParseFail}
-use Rattle.par_parse.specs.declared.parse_fail.ParseFail.TheVariants.{Refused, OutOfMemory}
+use Rattle.par_lex.specs.declared.parse_fail.ParseFail.{ParseFail}
+use Rattle.par_lex.specs.declared.parse_fail.ParseFail.TheVariants.{Refused, OutOfMemory}
 
 -- a fact of the refusal, where there is one
 abbrev pub IfRefused : {X : Type 0} → Result X ParseFail → (SyntaxError → Type 0) → Type 0

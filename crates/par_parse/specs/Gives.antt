@@ -1,5 +1,5 @@
 -- What a reading function of the code returns, against reading by the grammar.
-use Rattle.std.specs.Prelude.{◌≡◌, ℕ, List, map, take, drop, Option, Some, None, Result, Ok, Err}
+use Rattle.std.specs.Prelude.{◌≡◌, ℕ, List, map, Option, Some, None, Result, Ok, Err}
 use Rattle.par_tree.specs.declared.expr.Expr.{Expr as RustExpr}
 use Rattle.par_tree.specs.Tree.{Name, ChainOp, Expr, Stmt, Func}
 use Rattle.par_tree.specs.declared.func.Func.{Func as RustFunc}
@@ -11,16 +11,8 @@ use Rattle.par_text.specs.Rule.{Token, expression, factor, statements}
 use Rattle.par_text.specs.Grammar.{expr_rule, factor_rule, stmts_rule}
 use Rattle.par_text.specs.Parsing.{read, read_inner}
 use Rattle.par_text.specs.declared.stop.Stop.{Stop}
-use Rattle.par_parse.specs.declared.lexeme.Lexeme.{Lexeme}
 use Rattle.par_parse.specs.declared.parse_error.ParseError.{ParseError}
 use Rattle.par_parse.specs.declared.parse_error.ParseError.TheVariants.{Memory, Stopped}
-
--- a token of a text
-abbrev pub word_of : List ℕ → Lexeme → Token
-word_of text t = record { kind = t.kind; bytes = take t.len (drop t.at text); value = t.value; at = t.at; len = t.len; line = t.line }
-
-unfoldable pub words : List ℕ → List Lexeme → List Token
-words text ts = map (word_of text) ts
 
 abbrev pub Fails : {Y : Type 0} → ParseError → Result Y (Stop × ℕ) → Type 0
 Fails Memory read = Unit {0}

@@ -5,10 +5,11 @@ ghost use Rattle.par_text.specs.Grammar.{listed, arg_rule, next_arg, more_args, 
 ghost use Rattle.par_text.specs.Reading.{read_as};
 ghost use Rattle.par_text.specs.Parsing.{read};
 ghost use Rattle.par_tree.specs.View.{arg_tree, args_tree, stmt_tree, name_tree};
-ghost use Rattle.par_parse.specs.Gives.{Gives, words, option_name};
+ghost use Rattle.par_lex.specs.Words.{words};
+ghost use Rattle.par_parse.specs.Gives.{Gives, option_name};
 
 use crate::expressions::expression;
-use crate::lexeme::Lexeme;
+use par_lex::Lexeme;
 use crate::parse_error::ParseError;
 use crate::words::{name, open, peek, take};
 use par_text::Kind;

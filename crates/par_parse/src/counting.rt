@@ -2,10 +2,10 @@
 
 ghost use Rattle.std.specs.Prelude.{◌≡◌, ℕ, List};
 ghost use Rattle.par_text.specs.Counts.{crowded};
-ghost use Rattle.par_parse.specs.Gives.{words};
+ghost use Rattle.par_lex.specs.Words.{words};
 
 use crate::before::{Before, after, is_too_many};
-use crate::lexeme::Lexeme;
+use par_lex::Lexeme;
 use par_text::Kind;
 
 /// The place of this token among the tokens.

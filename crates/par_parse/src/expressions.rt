@@ -4,9 +4,10 @@ ghost use Rattle.std.specs.Prelude.{◌≡◌, ℕ, List, IfOk};
 ghost use Rattle.par_text.specs.Grammar.{index_rule, extent_rule, number_rule, factor_rule, term_operator, is_term_operator, term_link, term_links, term_rule, sum_operator, is_sum_operator, sum_link, sum_links, sum_rule, comparison, is_comparison, expr_rule, group_rule, sign_rule, chained};
 ghost use Rattle.par_text.specs.Parsing.{read};
 ghost use Rattle.par_tree.specs.View.{expr_tree, links_tree, chain_op_tree, cmp_op_tree};
-ghost use Rattle.par_parse.specs.Gives.{Gives, words, link_pair, option_expr};
+ghost use Rattle.par_lex.specs.Words.{words};
+ghost use Rattle.par_parse.specs.Gives.{Gives, link_pair, option_expr};
 
-use crate::lexeme::Lexeme;
+use par_lex::Lexeme;
 use crate::parse_error::ParseError;
 use crate::words::{name, open, peek, take};
 use par_text::Kind;

@@ -5,10 +5,11 @@ ghost use Rattle.par_text.specs.Grammar.{listed, param_rule, next_param, more_pa
 ghost use Rattle.par_text.specs.Reading.{read_as};
 ghost use Rattle.par_text.specs.Parsing.{read, read_program};
 ghost use Rattle.par_tree.specs.View.{param_tree, params_tree, body_tree, ret_tree, ret_value_tree, func_tree, program_tree};
-ghost use Rattle.par_parse.specs.Gives.{Gives, words, func_trees};
+ghost use Rattle.par_lex.specs.Words.{words};
+ghost use Rattle.par_parse.specs.Gives.{Gives, func_trees};
 
 use crate::expressions::expression;
-use crate::lexeme::Lexeme;
+use par_lex::Lexeme;
 use crate::parse_error::ParseError;
 use crate::statements::statements;
 use crate::words::{name, open, peek, take};

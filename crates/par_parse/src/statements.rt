@@ -4,11 +4,12 @@ ghost use Rattle.std.specs.Prelude.{◌≡◌, ℕ};
 ghost use Rattle.par_text.specs.Grammar.{begins_statement, body_rule, named_value, let_rule, alloc_rule, free_rule, print_rule, written_value, write_rule, else_rule, if_rule, while_rule, call_rule, par_rule, parts_rule, split_rule, stmt_rule, stmts_rule};
 ghost use Rattle.par_text.specs.Parsing.{read};
 ghost use Rattle.par_tree.specs.View.{name_tree, expr_tree, body_tree};
-ghost use Rattle.par_parse.specs.Gives.{Gives, words, option_expr, line_and_tree};
+ghost use Rattle.par_lex.specs.Words.{words};
+ghost use Rattle.par_parse.specs.Gives.{Gives, option_expr, line_and_tree};
 
 use crate::calls::call;
 use crate::expressions::{expression, index};
-use crate::lexeme::Lexeme;
+use par_lex::Lexeme;
 use crate::parse_error::ParseError;
 use crate::words::{name, name_from, open, peek, take};
 use par_text::Kind;

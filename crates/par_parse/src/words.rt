@@ -6,16 +6,17 @@ ghost use Rattle.par_text.specs.Grammar.{name, name_of};
 ghost use Rattle.par_text.specs.Parsing.{read};
 ghost use Rattle.par_tree.specs.View.{name_tree, expr_tree};
 ghost use Rattle.par_text.specs.Rule.{Token};
-ghost use Rattle.par_parse.specs.Gives.{Gives, Inside, words, word_of};
+ghost use Rattle.par_lex.specs.Words.{words, word_of};
+ghost use Rattle.par_parse.specs.Gives.{Gives, Inside};
 
-use crate::lexeme::Lexeme;
+use par_lex::Lexeme;
 use crate::parse_error::ParseError;
 use par_text::{Kind, Stop};
 use par_tree::{Expr, Name};
 use std::alloc::{AllocError, Global};
 
 /// The kind of the next token.
-#[tactic(auto, unfolding(crate::specs::Gives::words))]
+#[tactic(auto, unfolding(par_lex::specs::Words::words))]
 pub(crate) fn peek(tokens: &[Lexeme]) -> Kind
     ensures { (text : List ℕ) → result ≡ next (words text tokens.now) }
 {
@@ -26,7 +27,7 @@ pub(crate) fn peek(tokens: &[Lexeme]) -> Kind
 }
 
 /// One token of this kind.
-#[tactic(auto, unfolding(crate::specs::Gives::words))]
+#[tactic(auto, unfolding(par_lex::specs::Words::words))]
 pub(crate) fn take<'a>(
     tokens: &'a [Lexeme],
     kind: Kind,
@@ -45,7 +46,7 @@ pub(crate) fn take<'a>(
 }
 
 /// One token of this kind, which opens a construct; with how many more may open inside.
-#[tactic(auto, unfolding(crate::specs::Gives::words))]
+#[tactic(auto, unfolding(par_lex::specs::Words::words))]
 pub(crate) fn open<'a>(
     depth: u32,
     tokens: &'a [Lexeme],
@@ -66,7 +67,7 @@ pub(crate) fn open<'a>(
 }
 
 /// A name.
-#[tactic(auto, unfolding(crate::specs::Gives::words, par_text::specs::Grammar::name))]
+#[tactic(auto, unfolding(par_lex::specs::Words::words, par_text::specs::Grammar::name))]
 pub(crate) fn name<'a>(
     alloc: Global,
     text: &[u8],

@@ -4,7 +4,7 @@ use Rattle.std.specs.Prelude.{is_some, nat_lt, ◌⊎◌}
 use Rattle.std.proofs.lemmas.Bool.{lt-ltb, le-ltb, le-leb, lt-leb, cases_lt}
 use Rattle.dummy_tree.specs.Leaves.{IsTreeSize}
 use Rattle.dummy_tree.specs.Quotas.{dummies_of}
-use Rattle.dummy_tree.specs.QuotaLaws.{no_dummies}
+use Rattle.dummy_tree.proofs.QuotaLaws.{no_dummies}
 use Rattle.dummy_tree.specs.Shapes.{Shape}
 use Rattle.depth_first_list.specs.Runs.{tree_for}
 use Rattle.dag_order.specs.Births.{HasLabel}

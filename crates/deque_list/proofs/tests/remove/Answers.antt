@@ -1,6 +1,6 @@
 -- A deque without a top item has no item.
 use Rattle.std.proofs.Common.{◌≡◌, List, [], ◌∷◌, None, slice_get, sym, refl}
-use Rattle.deque_list.specs.DequeLaws.{deque_of_live}
+use Rattle.deque_list.proofs.DequeLaws.{deque_of_live}
 use Rattle.deque_list.specs.Ids.{deque_id}
 use Rattle.deque_list.proofs.tests.remove.Goals as goal
 

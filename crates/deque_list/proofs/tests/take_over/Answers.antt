@@ -1,6 +1,6 @@
 -- The deque has no owner.
 use Rattle.std.proofs.Common.{sym}
-use Rattle.deque_list.specs.DequeLaws.{deque_of_live}
+use Rattle.deque_list.proofs.DequeLaws.{deque_of_live}
 use Rattle.deque_list.specs.Ids.{deque_id}
 use Rattle.deque_list.proofs.tests.take_over.Goals as goal
 

@@ -3,7 +3,7 @@ use Rattle.std.proofs.lemmas.Result.{err_from_is_err_and}
 use Rattle.std.proofs.lemmas.List.{map_push}
 use Rattle.par_text.specs.Reading.{read_many, read_as}
 use Rattle.par_text.specs.Parsing.{read}
-use Rattle.par_parse.specs.Gives.{words}
+use Rattle.par_lex.specs.Words.{words}
 use Rattle.par_parse.proofs.Loops.{with_front, length-words, starts_with, goes_on, stops, ends, fails}
 use Rattle.par_text.specs.Kinds.{is}
 use Rattle.par_parse.proofs.Views.{args_tree-put}

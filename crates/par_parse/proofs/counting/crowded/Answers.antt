@@ -1,6 +1,6 @@
 use Rattle.std.proofs.Common.{sym, ◌∙◌, arith}
 use Rattle.par_text.specs.Counts.{crowded}
-use Rattle.par_parse.specs.Gives.{words, word_of}
+use Rattle.par_lex.specs.Words.{words, word_of}
 use Rattle.par_parse.specs.Counting.{counts_of}
 use Rattle.par_parse.proofs.CountingLemmas.{words-cons, words-end, crowded-here, crowded-later, crowded-end, allows_more}
 use Rattle.par_parse.proofs.counting.crowded.Goals as goal

@@ -1,6 +1,6 @@
 use Rattle.std.proofs.Common.{◌≡◌, ◌+◌, ℕ, List, length}
 use Rattle.par_text.specs.Counts.{crowded, crowded_from}
-use Rattle.par_parse.specs.Gives.{words}
+use Rattle.par_lex.specs.Words.{words}
 use Rattle.par_parse.specs.Counting.{counts_of, AllowsMore}
 use Rattle.par_parse.proofs.counting.crowded.Given as goal
 

@@ -3,7 +3,8 @@ use Rattle.par_tree.specs.Tree.{last}
 use Rattle.par_text.specs.Reading.{read_many}
 use Rattle.par_text.specs.Grammar.{linked, is_sum_operator, sum_link, sum_links, is_term_operator, term_link, term_links}
 use Rattle.par_text.specs.Parsing.{read}
-use Rattle.par_parse.specs.Gives.{words, link_pair}
+use Rattle.par_lex.specs.Words.{words}
+use Rattle.par_parse.specs.Gives.{link_pair}
 use Rattle.par_parse.proofs.Loops.{with_front}
 use Rattle.par_parse.proofs.expressions.+expression.Given as goal
 

@@ -1,7 +1,7 @@
 use Rattle.std.proofs.Common.{◌≡◌, ℕ, ◌-◌, map, []}
 use Rattle.par_text.specs.Reading.{read_many, read_as}
 use Rattle.par_text.specs.Parsing.{read}
-use Rattle.par_parse.specs.Gives.{words}
+use Rattle.par_lex.specs.Words.{words}
 use Rattle.par_parse.proofs.Loops.{with_front}
 use Rattle.par_text.specs.Kinds.{is}
 use Rattle.par_tree.specs.View.{param_tree}

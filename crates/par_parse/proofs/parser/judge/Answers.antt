@@ -7,9 +7,10 @@ use Rattle.par_text.specs.Parsing.{read_program}
 use Rattle.par_text.specs.Counts.{crowded}
 use Rattle.par_text.specs.Judging.{deepest, IsRefused, refused_at, earlier, kind_of}
 use Rattle.par_text.proofs.Verdicts.{settle, left_within}
-use Rattle.par_parse.specs.Gives.{Fails, words}
+use Rattle.par_lex.specs.Words.{words}
+use Rattle.par_parse.specs.Gives.{Fails}
 use Rattle.par_parse.specs.declared.parse_error.ParseError.{ParseError}
-use Rattle.par_parse.specs.declared.lexeme.Lexeme.{Lexeme}
+use Rattle.par_lex.specs.declared.lexeme.Lexeme.{Lexeme}
 use Rattle.par_parse.proofs.Loops.{length-words}
 use Rattle.par_parse.proofs.parser.judge.Goals as goal
 

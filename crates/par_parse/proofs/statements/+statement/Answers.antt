@@ -3,7 +3,7 @@ use Rattle.std.proofs.lemmas.Result.{err_from_is_err_and}
 use Rattle.std.proofs.lemmas.List.{map_push}
 use Rattle.par_text.specs.Reading.{read_many}
 use Rattle.par_text.specs.Parsing.{read}
-use Rattle.par_parse.specs.Gives.{words}
+use Rattle.par_lex.specs.Words.{words}
 use Rattle.par_parse.proofs.Loops.{with_front, length-words, starts, goes_on, stops, ends, fails}
 use Rattle.par_tree.specs.Tree.{Body, done}
 use Rattle.par_text.specs.Grammar.{stepped, begins_statement, stmt_rule, stmts_rule, if_rule, while_rule, par_rule, split_rule}

@@ -3,7 +3,7 @@ use Rattle.std.proofs.Common.{◌≡◌, [], ◌∷◌, ◌++◌, map, subst, sy
 use Rattle.std.proofs.lemmas.List.{map_push}
 use Rattle.bounded_list.specs.BoundedList.{entries}
 use Rattle.dag_order.specs.Births.{ParentsComeFirst}
-use Rattle.dag_order.specs.BirthLaws.{births_follow}
+use Rattle.dag_order.proofs.BirthLaws.{births_follow}
 use Rattle.dag_order.proofs.roster.Roster.add_period.Goals as goal
 
 pub invariant_of-self-2 : goal.invariant_of-self-2

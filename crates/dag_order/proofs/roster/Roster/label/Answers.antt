@@ -4,7 +4,7 @@ use Rattle.std.proofs.lemmas.Result.{err_from_is_err_and}
 use Rattle.std.proofs.lemmas.List.{reverse-reverse}
 use Rattle.bounded_list.specs.BoundedList.{entries}
 use Rattle.dag_order.specs.Births.{HasLabel}
-use Rattle.dag_order.specs.BirthLaws.{label_or_stop}
+use Rattle.dag_order.proofs.BirthLaws.{label_or_stop}
 use Rattle.dag_order.proofs.BirthLemmas.{refused_alike}
 use Rattle.dag_order.proofs.roster.Roster.label.Goals as goal
 

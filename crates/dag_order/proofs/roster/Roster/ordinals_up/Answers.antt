@@ -2,7 +2,7 @@
 use Rattle.std.proofs.Common.{sym}
 use Rattle.std.proofs.lemmas.Result.{err_from_is_err_and}
 use Rattle.bounded_list.specs.BoundedList.{entries}
-use Rattle.dag_order.specs.BirthLaws.{leads_on}
+use Rattle.dag_order.proofs.BirthLaws.{leads_on}
 use Rattle.dag_order.proofs.roster.Roster.ordinals_up.Goals as goal
 
 pub returns-in_err-reserve-clause-unknown : goal.returns-in_err-reserve-clause-unknown

@@ -1,6 +1,6 @@
 -- The deque leaves with its lane, which is empty.
 use Rattle.std.proofs.Common.{◌∙◌, sym}
-use Rattle.deque_list.specs.PlaceLaws.{id_stands}
+use Rattle.deque_list.proofs.PlaceLaws.{id_stands}
 use Rattle.deque_list.proofs.ViewLemmas.{place_shown, items_shown}
 use Rattle.deque_list.proofs.ChangeLemmas.{removed_kept, removed_shown, removed_rest}
 use Rattle.deque_list.proofs.list.List.remove.Goals as goal

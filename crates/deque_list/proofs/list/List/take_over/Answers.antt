@@ -1,7 +1,7 @@
 -- The place has the new owner.
 use Rattle.std.proofs.Common.{Some, ap, sym, ◌∙◌}
 use Rattle.deque_list.proofs.ViewLemmas.{place_shown, owner_kept, owner_shown}
-use Rattle.deque_list.specs.PlaceLaws.{id_stands}
+use Rattle.deque_list.proofs.PlaceLaws.{id_stands}
 use Rattle.deque_list.proofs.list.List.take_over.Goals as goal
 
 pub take_over-requires : goal.take_over-requires

@@ -3,7 +3,7 @@ use Rattle.std.proofs.Common.{◌≡◌, ◌<◌, ◌∙◌, ap, sym, subst, Lis
 use Rattle.std.specs.Prelude.{insert}
 use Rattle.deque_list.specs.declared.place.Place.{Place}
 use Rattle.deque_list.specs.Ids.{place_ids, IsSmallestFree, deque_id}
-use Rattle.deque_list.specs.PlaceLaws.{id_stands}
+use Rattle.deque_list.proofs.PlaceLaws.{id_stands}
 use Rattle.deque_list.proofs.OrderLemmas.{IsFirstFree, first_free, place_inserted}
 use Rattle.deque_list.proofs.order.Order.insert_reserved.Goals as goal
 

@@ -1,5 +1,5 @@
 -- The id 0 alone is in use.
-use Rattle.deque_list.specs.MarkLaws.{first_sound}
+use Rattle.deque_list.proofs.MarkLaws.{first_sound}
 use Rattle.deque_list.proofs.order.Order.new.Goals as goal
 
 pub invariant_of-result : goal.invariant_of-result

@@ -2,7 +2,7 @@
 use Rattle.std.proofs.Common.{◌≡◌, ◌∙◌, ap, sym, List}
 use Rattle.std.specs.Prelude.{slice_index_or}
 use Rattle.deque_list.specs.declared.place.Place.{Place}
-use Rattle.deque_list.specs.PlaceLaws.{one_place}
+use Rattle.deque_list.proofs.PlaceLaws.{one_place}
 use Rattle.deque_list.proofs.order.Order.owner.Goals as goal
 
 pub returns : goal.returns

@@ -5,8 +5,8 @@ use Rattle.std.proofs.lemmas.Option.{slice_get_within}
 use Rattle.deque_list.specs.declared.deque_id.DequeId.{DequeId}
 use Rattle.deque_list.specs.Ids.{place_ids}
 use Rattle.deque_list.specs.Marks.{IsSound}
-use Rattle.deque_list.specs.MarkLaws.{sound_removed}
-use Rattle.deque_list.specs.PlaceLaws.{id_stands, ids_removed}
+use Rattle.deque_list.proofs.MarkLaws.{sound_removed}
+use Rattle.deque_list.proofs.PlaceLaws.{id_stands, ids_removed}
 use Rattle.deque_list.proofs.order.Order.remove.Goals as goal
 
 pub index_mut-requires : goal.index_mut-requires

@@ -5,7 +5,7 @@ use Rattle.deque_list.specs.declared.deque_id.DequeId.{DequeId}
 use Rattle.deque_list.specs.declared.place.Place.{Place}
 use Rattle.deque_list.specs.Ids.{place_ids}
 use Rattle.deque_list.specs.Marks.{IsSound}
-use Rattle.deque_list.specs.PlaceLaws.{one_place, ids_unwritten}
+use Rattle.deque_list.proofs.PlaceLaws.{one_place, ids_unwritten}
 use Rattle.deque_list.proofs.IdLemmas.{id_at}
 use Rattle.deque_list.proofs.order.Order.set_owner.Goals as goal
 

@@ -1,7 +1,7 @@
 -- The tree of one leaf is that leaf, and a larger one is made of its halves.
 use Rattle.std.proofs.Common.{◌≡◌, ◌<◌, ◌+◌, ◌/◌, ℕ, ◌∙◌, ap, arith}
 use Rattle.dummy_tree.specs.Shapes.{shape_of}
-use Rattle.dummy_tree.specs.ShapeLaws.{shape_of_one, shape_of_more}
+use Rattle.dummy_tree.proofs.ShapeLaws.{shape_of_one, shape_of_more}
 use Rattle.dummy_tree.proofs.tree.Tree.halves.Goals as goal
 
 pub returns-then-self-eq1-clause-shape : goal.returns-then-self-eq1-clause-shape

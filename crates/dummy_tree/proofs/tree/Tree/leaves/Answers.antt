@@ -1,5 +1,5 @@
 -- What is known of the tree of n leaves.
-use Rattle.dummy_tree.specs.ShapeLaws.{shape_of_is_shape, counts_of_tree}
+use Rattle.dummy_tree.proofs.ShapeLaws.{shape_of_is_shape, counts_of_tree}
 use Rattle.dummy_tree.proofs.tree.Tree.leaves.Goals as goal
 
 pub returns-clause-shape : goal.returns-clause-shape

@@ -6,7 +6,7 @@ use Rattle.bounded_list.specs.BoundedList.{entries}
 use Rattle.space_ledger.specs.Sums.{total_change, highest}
 use Rattle.space_ledger.specs.declared.moved.Moved.{Moved}
 use Rattle.space_ledger.proofs.MovesLemmas.{kept_high}
-use Rattle.space_ledger.specs.SumLaws.{total_change_push, highest_push}
+use Rattle.space_ledger.proofs.SumLaws.{total_change_push, highest_push}
 use Rattle.space_ledger.proofs.moves.Moves.add.Goals as goal
 
 pub invariant_of-self-clause-live_is : goal.invariant_of-self-clause-live_is

@@ -3,7 +3,7 @@ use Rattle.std.proofs.Common.{subst, sym, ◌∙◌, ℤ, rules}
 use Rattle.std.specs.Int.{w64}
 use Rattle.std.proofs.lemmas.Int.{to_z-of_z}
 use Rattle.space_ledger.specs.Sums.{IsHighest}
-use Rattle.space_ledger.specs.SumLaws.{highest_is_greatest}
+use Rattle.space_ledger.proofs.SumLaws.{highest_is_greatest}
 use Rattle.space_ledger.specs.MovesList.{moves_list}
 use Rattle.space_ledger.proofs.moves.Moves.high.Goals as goal
 

@@ -1,0 +1,2 @@
+pub mod QuotaLaws
+pub mod ShapeLaws
