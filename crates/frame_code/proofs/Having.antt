@@ -7,7 +7,6 @@ use Rattle.par_tree.specs.declared.func.Func.{Func}
 use Rattle.block_check.specs.Shown.{funcs_tree}
 use Rattle.accepted_laws.specs.Laws.{EachFunction}
 use Rattle.accepted_laws.specs.Sizes.{body_size, functions_size}
-use Rattle.par_tree.specs.declared.name.Name.{Name as RustName}
 use Rattle.par_tree.specs.declared.link.Link.{Link}
 use Rattle.par_tree.specs.declared.expr.Expr.{Expr, Chain}
 use Rattle.std.specs.declared.vec.Vec.{Vec}
@@ -18,7 +17,6 @@ use Rattle.par_tree.specs.declared.arg.Arg.{Arg}
 use Rattle.par_tree.specs.declared.param.Param.{Param}
 use Rattle.par_tree.specs.declared.stmt.Stmt.{Stmt}
 use Rattle.par_ownership.specs.Written.{is_among, param_names}
-use Rattle.frame_code.specs.Scopes.{names_tree}
 use Rattle.frame_code.specs.Slotted.{Has, HasAll, HasExpr, HasLinks, HasArg, HasArgs, HasStmt, HasBody, HasFunc}
 use Rattle.node_table.proofs.Lists.{at_item, drop_item}
 

@@ -63,7 +63,11 @@ fn assigned_slots(alloc: Global, names: &SlotNames, body: &NamedBody) -> Result<
 }
 
 /// What goes in and out of the first branch of a `par`, as slots.
-pub(crate) fn branch_slots(alloc: Global, names: &SlotNames, left: &Body) -> Result<Branches, AllocError>
+pub(crate) fn branch_slots(
+    alloc: Global,
+    names: &SlotNames,
+    left: &Body,
+) -> Result<Branches, AllocError>
     ensures { IfOk result (SlotsOfBranches (names_tree names.now.names.items) (rows_tree left.now)) }
 {
     let asked = bytes_of(alloc, &names.names)?;

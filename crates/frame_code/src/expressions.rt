@@ -8,7 +8,9 @@ ghost use Rattle.frame_code.specs.Scopes.{names_tree};
 ghost use Rattle.frame_code.specs.Slotted.{HasExpr, HasLinks, HasTarget, HasArg, HasArgs, HasValue, HasReturn};
 
 use crate::slot_names::SlotNames;
-use node_table::{CodeArg, CodeArgs, CodeExpr, CodeLink, CodeRest, CodeRet, CodeRetValue, CodeTarget};
+use node_table::{
+    CodeArg, CodeArgs, CodeExpr, CodeLink, CodeRest, CodeRet, CodeRetValue, CodeTarget,
+};
 use par_tree::{Arg, Expr, Link, Ret, RetValue, Target};
 use std::alloc::{AllocError, Global};
 

@@ -73,7 +73,10 @@ fn lower_function(
 }
 
 /// All functions.
-pub(crate) fn lower_functions(alloc: Global, funcs: &[Func]) -> Result<(Vec<Node>, Vec<FuncCode>), AllocError>
+pub(crate) fn lower_functions(
+    alloc: Global,
+    funcs: &[Func],
+) -> Result<(Vec<Node>, Vec<FuncCode>), AllocError>
     requires { CanBeLowered (func_names funcs.now) (funcs_tree funcs.now) }
     ensures count { IfOk result (λ r. length (nodes_shown r.0.items) ≡ functions_size (funcs_tree funcs.now)) }
     ensures made { IfOk result (λ r. AreFuncs (nodes_shown r.0.items) (func_names funcs.now) (funcs_tree funcs.now) (funcs_shown r.1.items)) }

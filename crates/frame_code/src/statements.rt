@@ -140,7 +140,7 @@ fn lower_statement(
     ensures count { IfOk result (λ r. length (nodes_shown r.0.items) + 1 ≡ length (nodes_shown nodes.items) + stmt_size (stmt_tree kind.now)) }
     ensures table { IfOk result (λ r. Grown (nodes_shown nodes.items) (nodes_shown r.0.items)
         × IsStmt (nodes_shown r.0.items) (functions_of scope.now) (names_of_scope scope.now) (stmt_tree kind.now) (length (nodes_shown nodes.items))
-            (kind_shown r.1)) }
+        (kind_shown r.1)) }
 {
     match kind {
         StmtKind::Let { name, value } => Ok((nodes, let_node(alloc, scope, name, value)?)),
@@ -222,7 +222,7 @@ fn lower_nested(
     ensures count { IfOk result (λ r. length (nodes_shown r.0.items) ≡ length (nodes_shown nodes.items) + body_size (rows_tree body.now)) }
     ensures table { IfOk result (λ r. Grown (nodes_shown nodes.items) (nodes_shown r.0.items)
         × IsBody (nodes_shown r.0.items) (functions_of scope.now) (names_of_scope scope.now) (rows_tree body.now) (length (nodes_shown nodes.items))
-            r.1.items) }
+        r.1.items) }
 {
     lower_list(alloc, scope, nodes, body)
 }
@@ -240,7 +240,7 @@ pub(crate) fn lower_list(
     ensures count { IfOk result (λ r. length (nodes_shown r.0.items) ≡ length (nodes_shown nodes.items) + body_size (body_tree body.now)) }
     ensures table { IfOk result (λ r. Grown (nodes_shown nodes.items) (nodes_shown r.0.items)
         × IsBody (nodes_shown r.0.items) (functions_of scope.now) (names_of_scope scope.now) (body_tree body.now) (length (nodes_shown nodes.items))
-            r.1.items) }
+        r.1.items) }
 {
     let mut numbers = Vec::new(alloc);
     let mut nodes = nodes;

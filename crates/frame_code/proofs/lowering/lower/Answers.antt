@@ -1,4 +1,4 @@
-use Rattle.std.proofs.Common.{◌∙◌, ◌≡◌, arith, sym, ap, subst}
+use Rattle.std.proofs.Common.{◌∙◌, arith, sym, ap, subst}
 use Rattle.std.proofs.lemmas.List.{length-map}
 use Rattle.par_tree.specs.View.{func_tree, program_tree}
 use Rattle.par_tree.specs.declared.program.Program.{Program}
@@ -40,7 +40,7 @@ of-requires-clause-accepted c =
     let p = c.program.result.now in
     let table : Table = table_shown c.in_ok-nodes.nodes.items c.in_ok-nodes.codes.items c.main_of-main.result in
     let main = subst (λ gs. IsSlot (func_names gs) c.main_of-main.result main_name) (c.deref-2.ensures.value ∙ sym c.deref.ensures.value) c.main_of-main.ensures in
-    ∣ (program_tree p, (c.program.ensures.owns, table_made p c.deref.result.now table c.deref.ensures.value c.in_ok-nodes.ensures.made main)) ∣₁
+    ∣ (program_tree p, c.program.ensures.owns, table_made p c.deref.result.now table c.deref.ensures.value c.in_ok-nodes.ensures.made main) ∣₁
 
 pub returns : goal.returns
 returns c =
