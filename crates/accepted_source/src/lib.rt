@@ -10,6 +10,3 @@ mod source_fail;
 
 pub use source::accept;
 pub use source_fail::SourceFail;
-
-#[cfg(test)]
-mod tests;

@@ -1,7 +1,7 @@
 //! A table read back as text, by a reader that is told the names of slots and of functions.
 
-use crate::{Code, CodeArg, CodeExpr, CodeRet, CodeRetValue, CodeTarget, NodeKind, lower};
 use accepted_source::accept;
+use frame_code::{Code, CodeArg, CodeExpr, CodeRet, CodeRetValue, CodeTarget, NodeKind, lower};
 use par_print::print;
 use par_tree::{ChainOp, CmpOp};
 use std::alloc::Global;
@@ -20,7 +20,7 @@ struct Known<'a> {
 const LEVELS: u32 = 8;
 
 /// A word of a list.
-fn word(text: &mut String, words: &[&str], number: usize) -> Result<(), Fail> {
+fn add_word(text: &mut String, words: &[&str], number: usize) -> Result<(), Fail> {
     match words.get(number) {
         Some(word) => text.push_str(word)?,
         None => return Err(Fail::new("a number without a name")),
@@ -29,11 +29,11 @@ fn word(text: &mut String, words: &[&str], number: usize) -> Result<(), Fail> {
 }
 
 /// The name of a slot.
-fn slot(text: &mut String, known: &Known, slot: u16) -> Result<(), Fail> {
-    word(text, known.slots, slot as usize)
+fn add_slot(text: &mut String, known: &Known, slot: u16) -> Result<(), Fail> {
+    add_word(text, known.slots, slot as usize)
 }
 
-fn operator(op: ChainOp) -> &'static str {
+fn operator_text(op: ChainOp) -> &'static str {
     match op {
         ChainOp::Add => " + ",
         ChainOp::Sub => " - ",
@@ -43,7 +43,7 @@ fn operator(op: ChainOp) -> &'static str {
     }
 }
 
-fn comparison(op: CmpOp) -> &'static str {
+fn comparison_text(op: CmpOp) -> &'static str {
     match op {
         CmpOp::Eq => " == ",
         CmpOp::Ne => " != ",
@@ -71,91 +71,91 @@ fn is_apart(op: ChainOp, operand: &CodeExpr) -> bool {
 }
 
 /// An expression, between parentheses where it is apart.
-#[cycle(expression)]
-fn operand(text: &mut String, known: &Known, expr: &CodeExpr, apart: bool) -> Result<(), Fail> {
+#[cycle(add_expression)]
+fn add_operand(text: &mut String, known: &Known, expr: &CodeExpr, apart: bool) -> Result<(), Fail> {
     if apart {
         text.push_str("(")?;
     }
-    expression(text, known, expr)?;
+    add_expression(text, known, expr)?;
     if apart {
         text.push_str(")")?;
     }
     Ok(())
 }
 
-#[cycle(expression)]
-fn expression(text: &mut String, known: &Known, expr: &CodeExpr) -> Result<(), Fail> {
+#[cycle(add_expression)]
+fn add_expression(text: &mut String, known: &Known, expr: &CodeExpr) -> Result<(), Fail> {
     match expr {
         CodeExpr::Num(number) => write!(text, "{number}")?,
-        CodeExpr::Var(name) => slot(text, known, *name)?,
+        CodeExpr::Var(name) => add_slot(text, known, *name)?,
         CodeExpr::Get(block, index) => {
-            slot(text, known, *block)?;
+            add_slot(text, known, *block)?;
             text.push_str("[")?;
-            expression(text, known, index)?;
+            add_expression(text, known, index)?;
             text.push_str("]")?;
         }
         CodeExpr::Len(block) => {
             text.push_str("len(")?;
-            slot(text, known, *block)?;
+            add_slot(text, known, *block)?;
             text.push_str(")")?;
         }
         CodeExpr::Neg(inner) => {
             text.push_str("-")?;
-            operand(text, known, inner, is_apart(ChainOp::Mul, inner))?;
+            add_operand(text, known, inner, is_apart(ChainOp::Mul, inner))?;
         }
         CodeExpr::Chain { first, rest } => {
             let apart = match rest.first() {
                 Some(link) => is_apart(link.op, first),
                 None => false,
             };
-            operand(text, known, first, apart)?;
+            add_operand(text, known, first, apart)?;
             for link in rest {
-                text.push_str(operator(link.op))?;
-                operand(text, known, &link.operand, is_apart(link.op, &link.operand))?;
+                text.push_str(operator_text(link.op))?;
+                add_operand(text, known, &link.operand, is_apart(link.op, &link.operand))?;
             }
         }
         CodeExpr::Cmp { op, left, right } => {
-            operand(text, known, left, matches!(**left, CodeExpr::Cmp { .. }))?;
-            text.push_str(comparison(*op))?;
-            operand(text, known, right, matches!(**right, CodeExpr::Cmp { .. }))?;
+            add_operand(text, known, left, matches!(**left, CodeExpr::Cmp { .. }))?;
+            text.push_str(comparison_text(*op))?;
+            add_operand(text, known, right, matches!(**right, CodeExpr::Cmp { .. }))?;
         }
     }
     Ok(())
 }
 
-fn argument(text: &mut String, known: &Known, arg: &CodeArg) -> Result<(), Fail> {
+fn add_argument(text: &mut String, known: &Known, arg: &CodeArg) -> Result<(), Fail> {
     match arg {
-        CodeArg::Value(expr) => expression(text, known, expr),
+        CodeArg::Value(expr) => add_expression(text, known, expr),
         CodeArg::Lend(block) => {
             text.push_str("use ")?;
-            slot(text, known, *block)
+            add_slot(text, known, *block)
         }
         CodeArg::Give(block) => {
             text.push_str("own ")?;
-            slot(text, known, *block)
+            add_slot(text, known, *block)
         }
     }
 }
 
-fn arguments(text: &mut String, known: &Known, args: &[CodeArg]) -> Result<(), Fail> {
+fn add_arguments(text: &mut String, known: &Known, args: &[CodeArg]) -> Result<(), Fail> {
     let mut first = true;
     for arg in args {
         if !first {
             text.push_str(", ")?;
         }
         first = false;
-        argument(text, known, arg)?;
+        add_argument(text, known, arg)?;
     }
     Ok(())
 }
 
-fn target(text: &mut String, known: &Known, target: CodeTarget) -> Result<(), Fail> {
+fn add_target(text: &mut String, known: &Known, target: CodeTarget) -> Result<(), Fail> {
     match target {
         CodeTarget::Unused => return Ok(()),
-        CodeTarget::Int(name) => slot(text, known, name)?,
+        CodeTarget::Int(name) => add_slot(text, known, name)?,
         CodeTarget::Own(name) => {
             text.push_str("own ")?;
-            slot(text, known, name)?;
+            add_slot(text, known, name)?;
         }
     }
     text.push_str(" = ")?;
@@ -163,7 +163,7 @@ fn target(text: &mut String, known: &Known, target: CodeTarget) -> Result<(), Fa
 }
 
 /// What stands before a line, where so many levels are left.
-fn margin(text: &mut String, left: u32) -> Result<(), Fail> {
+fn add_margin(text: &mut String, left: u32) -> Result<(), Fail> {
     for _ in left..LEVELS {
         text.push_str("  ")?;
     }
@@ -179,25 +179,25 @@ struct Place<'a> {
 }
 
 /// Statements between braces, one level deeper.
-#[cycle(body)]
-fn braces(text: &mut String, place: &Place, numbers: &[u32], left: u32) -> Result<(), Fail> {
+#[cycle(add_body)]
+fn add_braces(text: &mut String, place: &Place, numbers: &[u32], left: u32) -> Result<(), Fail> {
     if left == 0 {
         return Err(Fail::new("too many levels"));
     }
     text.push_str("{\n")?;
-    body(text, place, numbers, left - 1)?;
-    margin(text, left)?;
+    add_body(text, place, numbers, left - 1)?;
+    add_margin(text, left)?;
     text.push_str("}")?;
     Ok(())
 }
 
-#[cycle(body)]
-fn body(text: &mut String, place: &Place, numbers: &[u32], left: u32) -> Result<(), Fail> {
+#[cycle(add_body)]
+fn add_body(text: &mut String, place: &Place, numbers: &[u32], left: u32) -> Result<(), Fail> {
     for number in numbers {
         match place.code.node(*number) {
             Some(node) => {
-                margin(text, left)?;
-                statement(text, place, &node.kind, left)?;
+                add_margin(text, left)?;
+                add_statement(text, place, &node.kind, left)?;
                 text.push_str("\n")?;
             }
             None => return Err(Fail::new("a number without a node")),
@@ -207,7 +207,7 @@ fn body(text: &mut String, place: &Place, numbers: &[u32], left: u32) -> Result<
 }
 
 /// `name = value;`, behind a word.
-fn named(
+fn add_named(
     text: &mut String,
     known: &Known,
     word: &str,
@@ -215,52 +215,52 @@ fn named(
     value: &CodeExpr,
 ) -> Result<(), Fail> {
     text.push_str(word)?;
-    slot(text, known, name)?;
+    add_slot(text, known, name)?;
     text.push_str(" = ")?;
-    expression(text, known, value)?;
+    add_expression(text, known, value)?;
     text.push_str(";")?;
     Ok(())
 }
 
 /// The name of a called function, and its arguments.
-fn call(text: &mut String, place: &Place, func: u32, args: &[CodeArg]) -> Result<(), Fail> {
+fn add_call(text: &mut String, place: &Place, func: u32, args: &[CodeArg]) -> Result<(), Fail> {
     match place.all.get(func as usize) {
         Some(callee) => text.push_str(callee.name)?,
         None => return Err(Fail::new("a number without a function")),
     }
     text.push_str("(")?;
-    arguments(text, place.known, args)?;
+    add_arguments(text, place.known, args)?;
     text.push_str(");")?;
     Ok(())
 }
 
-#[cycle(body)]
-fn statement(text: &mut String, place: &Place, kind: &NodeKind, left: u32) -> Result<(), Fail> {
+#[cycle(add_body)]
+fn add_statement(text: &mut String, place: &Place, kind: &NodeKind, left: u32) -> Result<(), Fail> {
     let known = place.known;
     match kind {
-        NodeKind::Let { name, value } => named(text, known, "let ", *name, value)?,
-        NodeKind::Assign { name, value } => named(text, known, "", *name, value)?,
-        NodeKind::Alloc { name, size } => named(text, known, "alloc ", *name, size)?,
+        NodeKind::Let { name, value } => add_named(text, known, "let ", *name, value)?,
+        NodeKind::Assign { name, value } => add_named(text, known, "", *name, value)?,
+        NodeKind::Alloc { name, size } => add_named(text, known, "alloc ", *name, size)?,
         NodeKind::Put {
             block,
             index,
             value,
         } => {
-            slot(text, known, *block)?;
+            add_slot(text, known, *block)?;
             text.push_str("[")?;
-            expression(text, known, index)?;
+            add_expression(text, known, index)?;
             text.push_str("] = ")?;
-            expression(text, known, value)?;
+            add_expression(text, known, value)?;
             text.push_str(";")?;
         }
         NodeKind::Free { name } => {
             text.push_str("free ")?;
-            slot(text, known, *name)?;
+            add_slot(text, known, *name)?;
             text.push_str(";")?;
         }
         NodeKind::Print { value } => {
             text.push_str("print ")?;
-            expression(text, known, value)?;
+            add_expression(text, known, value)?;
             text.push_str(";")?;
         }
         NodeKind::Call {
@@ -269,24 +269,24 @@ fn statement(text: &mut String, place: &Place, kind: &NodeKind, left: u32) -> Re
             args,
         } => {
             text.push_str("call ")?;
-            target(text, known, *receiver)?;
-            call(text, place, *func, args)?;
+            add_target(text, known, *receiver)?;
+            add_call(text, place, *func, args)?;
         }
         NodeKind::If { cond, then, other } => {
             text.push_str("if ")?;
-            expression(text, known, cond)?;
+            add_expression(text, known, cond)?;
             text.push_str(" ")?;
-            braces(text, place, then, left)?;
+            add_braces(text, place, then, left)?;
             if !other.is_empty() {
                 text.push_str(" else ")?;
-                braces(text, place, other, left)?;
+                add_braces(text, place, other, left)?;
             }
         }
         NodeKind::While { cond, body } => {
             text.push_str("while ")?;
-            expression(text, known, cond)?;
+            add_expression(text, known, cond)?;
             text.push_str(" ")?;
-            braces(text, place, body, left)?;
+            add_braces(text, place, body, left)?;
         }
         NodeKind::Both {
             left: first,
@@ -294,9 +294,9 @@ fn statement(text: &mut String, place: &Place, kind: &NodeKind, left: u32) -> Re
             ..
         } => {
             text.push_str("par ")?;
-            braces(text, place, first, left)?;
+            add_braces(text, place, first, left)?;
             text.push_str(" and ")?;
-            braces(text, place, second, left)?;
+            add_braces(text, place, second, left)?;
         }
         NodeKind::Split {
             block,
@@ -306,45 +306,45 @@ fn statement(text: &mut String, place: &Place, kind: &NodeKind, left: u32) -> Re
             body,
         } => {
             text.push_str("split ")?;
-            slot(text, known, *block)?;
+            add_slot(text, known, *block)?;
             text.push_str(" at ")?;
-            expression(text, known, at)?;
+            add_expression(text, known, at)?;
             text.push_str(" into ")?;
-            slot(text, known, *first)?;
+            add_slot(text, known, *first)?;
             text.push_str(", ")?;
-            slot(text, known, *second)?;
+            add_slot(text, known, *second)?;
             text.push_str(" ")?;
-            braces(text, place, body, left)?;
+            add_braces(text, place, body, left)?;
         }
     }
     Ok(())
 }
 
-fn returned(text: &mut String, known: &Known, ret: &CodeRet) -> Result<(), Fail> {
+fn add_return(text: &mut String, known: &Known, ret: &CodeRet) -> Result<(), Fail> {
     text.push_str("  return ")?;
     match &ret.value {
-        CodeRetValue::Int(value) => expression(text, known, value)?,
+        CodeRetValue::Int(value) => add_expression(text, known, value)?,
         CodeRetValue::Own(block) => {
             text.push_str("own ")?;
-            slot(text, known, *block)?;
+            add_slot(text, known, *block)?;
         }
     }
     text.push_str(";\n")?;
     Ok(())
 }
 
-fn parameters(text: &mut String, known: &Known, params: &[u16]) -> Result<(), Fail> {
+fn add_parameters(text: &mut String, known: &Known, params: &[u16]) -> Result<(), Fail> {
     for i in 0..params.len() {
         if i > 0 {
             text.push_str(", ")?;
         }
-        word(text, known.kinds, i)?;
-        slot(text, known, params[i])?;
+        add_word(text, known.kinds, i)?;
+        add_slot(text, known, params[i])?;
     }
     Ok(())
 }
 
-fn function(text: &mut String, place: &Place, number: u32) -> Result<(), Fail> {
+fn add_function(text: &mut String, place: &Place, number: u32) -> Result<(), Fail> {
     let Some(func) = place.code.func(number) else {
         return Err(Fail::new("a number without a function"));
     };
@@ -354,11 +354,11 @@ fn function(text: &mut String, place: &Place, number: u32) -> Result<(), Fail> {
     text.push_str("fn ")?;
     text.push_str(place.known.name)?;
     text.push_str("(")?;
-    parameters(text, place.known, &func.params)?;
+    add_parameters(text, place.known, &func.params)?;
     text.push_str(") {\n")?;
-    body(text, place, &func.body, LEVELS - 1)?;
+    add_body(text, place, &func.body, LEVELS - 1)?;
     if let Some(ret) = &func.ret {
-        returned(text, place.known, ret)?;
+        add_return(text, place.known, ret)?;
     }
     text.push_str("}\n")?;
     Ok(())
@@ -370,7 +370,7 @@ fn read_back<'a>(alloc: Global, code: &'a Code, all: &'a [Known<'a>]) -> Result<
     let mut number = 0u32;
     for known in all {
         let place = Place { code, all, known };
-        function(&mut text, &place, number)?;
+        add_function(&mut text, &place, number)?;
         number = number.wrapping_add(1);
     }
     if code.func(number).is_some() {
