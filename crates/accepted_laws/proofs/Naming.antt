@@ -10,7 +10,7 @@ use Rattle.par_tree.specs.Tree.{Name, Program, Expr, num, var, get, len_of, neg,
 use Rattle.par_ownership.specs.Environment.{Entry, Environment, has_name, entry_of, with_entry, marked, integer_entry, block_entry, lent_entry, opened, without, after_gives, after_answer, held_in_both, param_entry}
 use Rattle.par_ownership.specs.Mention.{names_in_expr, names_in_links, names_in_target, names_in_arg, names_in_args, names_in_stmt, names_in_body}
 use Rattle.par_ownership.specs.Ownership.{IsHeld, Reads, ReadsLinks, IsTarget, PassesOne, Passes, Within, Owns, OwnsAll, OwnsParams, OwnsReturn, OwnsValue, OwnsFunction, OwnsFunctions, Ownership}
-use Rattle.accepted_laws.specs.Written.{declared_by_target, declared_in_stmt, declared_in_body, param_names, declared_in, is_among, names_in_value, names_in_return}
+use Rattle.par_ownership.specs.Written.{declared_by_target, declared_in_stmt, declared_in_body, param_names, declared_in, is_among, names_in_value, names_in_return}
 use Rattle.accepted_laws.specs.Laws.{EachFunction, IsDeclared}
 
 -- x is the name of an entry, and x is that or among some names

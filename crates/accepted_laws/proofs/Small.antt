@@ -17,7 +17,7 @@ use Rattle.canonical_text.proofs.Counting.{Uncrowded, uncrowded_from}
 use Rattle.canonical_text.proofs.Scans.{target_names, stmt_names, body_names}
 use Rattle.canonical_text.proofs.Limits.{func_names, ProgramCount, program_to}
 use Rattle.accepted_laws.specs.Laws.{EachFunction}
-use Rattle.accepted_laws.specs.Written.{declared_by_target, declared_in_stmt, declared_in_body, param_name, param_names, declared_in}
+use Rattle.par_ownership.specs.Written.{declared_by_target, declared_in_stmt, declared_in_body, param_name, param_names, declared_in}
 use Rattle.accepted_laws.specs.Sizes.{functions_size, HasFewNames, IsSmall}
 use Rattle.accepted_laws.proofs.Costs.{program_cost}
 use Rattle.accepted_laws.proofs.Pieces.{few_text_tokens}
@@ -30,7 +30,7 @@ count_target (Tree.integer x) = refl
 count_target (block b) = refl
 
 count_two : (a b : Body) → length (declared_in_body a) ≡ body_names a → length (declared_in_body b) ≡ body_names b → length (declared_in_body a ++ declared_in_body b) ≡ body_names a + body_names b
-count_two a b first second = let par_stmt = length-append (declared_in_body a) (declared_in_body b) in omega (arith, first, second, par_stmt)
+count_two a b first second = let both = length-append (declared_in_body a) (declared_in_body b) in omega (arith, first, second, both)
 
 mutual
   count_stmt : (s : Stmt) → length (declared_in_stmt s) ≡ stmt_names s
@@ -51,15 +51,15 @@ mutual
   count_body (step line s rest) =
       let first = count_stmt s in
       let more = count_body rest in
-      let par_stmt = length-append (declared_in_stmt s) (declared_in_body rest) in
-      omega (arith, first, more, par_stmt)
+      let both = length-append (declared_in_stmt s) (declared_in_body rest) in
+      omega (arith, first, more, both)
 
 count_function : (f : Func) → length (declared_in f) ≡ func_names f
 count_function f =
     let params = length-map f.params param_name in
     let inside = count_body f.body in
-    let par_stmt = length-append (param_names f.params) (declared_in_body f.body) in
-    omega (arith, params, inside, par_stmt)
+    let both = length-append (param_names f.params) (declared_in_body f.body) in
+    omega (arith, params, inside, both)
 
 -- functions and names within the limits
 
@@ -95,7 +95,7 @@ is_below m n h = go (nat_lt n m) refl
 
 each_below : (fs : List Func) → ∥ EachFunction HasFewNames fs ∥₁ → EachFunction HasFewNames fs
 each_below [] h = tt
-each_below (f ∷ fs) h = (is_below (length (declared_in f)) most_names (∥∥₁_map h (λ par_stmt. par_stmt.0)), each_below fs (∥∥₁_map h (λ par_stmt. par_stmt.1)))
+each_below (f ∷ fs) h = (is_below (length (declared_in f)) most_names (∥∥₁_map h (λ both. both.0)), each_below fs (∥∥₁_map h (λ both. both.1)))
 
 pub small : (p : Program) → IsTreeOfText p → IsSmall p
 small p h =

@@ -1,4 +1,3 @@
 pub mod Calls
-pub mod Written
 pub mod Laws
 pub mod Sizes

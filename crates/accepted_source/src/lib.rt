@@ -8,8 +8,5 @@
 mod source;
 mod source_fail;
 
-pub use source::read_source;
+pub use source::accept;
 pub use source_fail::SourceFail;
-
-#[cfg(test)]
-mod tests;

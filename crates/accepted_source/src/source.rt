@@ -11,7 +11,7 @@ use std::alloc::Global;
 ///
 /// `Syntax` where the bytes are no text, `Check` where their program breaks a rule of ownership, and
 /// `OutOfMemory` where there is not enough memory.
-pub fn read_source(alloc: Global, text: &[u8]) -> Result<Checked, SourceFail>
+pub fn accept(alloc: Global, text: &[u8]) -> Result<Checked, SourceFail>
     ensures { ReadsSource text.now result }
 {
     match parse(alloc, text) {

@@ -4,14 +4,14 @@ ghost use Rattle.dfd_run.specs.Answer.{SourceGives, CheckMakes};
 use crate::answer::Answer;
 use crate::refusal::refusal_answer;
 use crate::status::Status;
-use accepted_source::read_source;
+use accepted_source::accept;
 use std::alloc::{AllocError, Global};
 
 /// The canonical text of the program whose text these bytes are, or why and where they are refused.
 pub fn check(alloc: Global, bytes: &[u8]) -> Result<Answer, AllocError>
     ensures { IfOk result (λ answer. SourceGives CheckMakes bytes.now answer.status answer.text.items) }
 {
-    match read_source(alloc, bytes) {
+    match accept(alloc, bytes) {
         Ok(checked) => {
             let text = par_print::print(alloc, checked.program())?;
             Ok(Answer {

@@ -14,7 +14,7 @@ use crate::messages::spent_text;
 use crate::refusal::refusal_answer;
 use crate::status::Status;
 use block_check::Checked;
-use accepted_source::read_source;
+use accepted_source::accept;
 use dag_order::Finish;
 use dummy_tree::Quota;
 use run_report::{PeakReport, peak_text};
@@ -73,7 +73,7 @@ pub fn peak(alloc: Global, k: u32, limit: u32, bytes: &[u8]) -> Result<Answer, A
     requires { InRange QuotaSetting k }
     ensures { IfOk result (λ answer. SourceGives (PeakMakes k limit) bytes.now answer.status answer.text.items) }
 {
-    match read_source(alloc, bytes) {
+    match accept(alloc, bytes) {
         Ok(program) => peak_program(alloc, k, limit, &program),
         Err(fail) => refusal_answer(alloc, fail),
     }

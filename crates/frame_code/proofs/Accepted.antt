@@ -14,19 +14,26 @@ use Rattle.par_text.specs.Trees.{IsTreeOfText}
 use Rattle.par_ownership.specs.Mention.{names_in_expr, names_in_links, names_in_target, names_in_arg, names_in_args, names_in_stmt, names_in_body}
 use Rattle.par_ownership.specs.Ownership.{Ownership, function_of, main_name}
 use Rattle.accepted_laws.specs.Calls.{EachCallOfStmt, EachCall, IsCall}
-use Rattle.accepted_laws.specs.Written.{is_among, param_names, declared_in, names_in_value, names_in_return}
+use Rattle.par_ownership.specs.Written.{is_among, param_names, declared_in, names_in_value, names_in_return}
 use Rattle.accepted_laws.specs.Laws.{EachFunction, IsDeclared}
 use Rattle.accepted_laws.proofs.Passing.{calls}
 use Rattle.accepted_laws.proofs.Naming.{declared}
 use Rattle.accepted_laws.proofs.Functions.{main_of}
 use Rattle.accepted_laws.specs.Sizes.{HasFewNames}
 use Rattle.accepted_laws.proofs.Small.{small}
-use Rattle.frame_code.specs.Names.{with_name, with_names, slot_names}
-use Rattle.frame_code.specs.Codes.{name_of, function_names}
+use Rattle.node_table.specs.Names.{with_name, with_names, slot_names}
+use Rattle.node_table.specs.Programs.{name_of, function_names}
 use Rattle.frame_code.specs.Slotted.{Has, HasAll, HasExpr, HasLinks, HasTarget, HasArg, HasArgs, HasValue, HasReturn, HasStmt, HasBody, HasFunc, CanBeLowered}
 use Rattle.frame_code.specs.Scopes.{func_names}
-use Rattle.frame_code.proofs.Covering.{or_l, or_r}
 use Rattle.frame_code.proofs.Gathering.{names_are}
+
+or_l : (a b : Bool) → a ≡ true → (a || b) ≡ true
+or_l true b h = refl
+or_l false b h = let never : ⊥ = cc in absurd never
+
+or_r : (a b : Bool) → b ≡ true → (a || b) ≡ true
+or_r true b h = refl
+or_r false b h = h
 
 itself : (x : Name) → bytes_eq x x ≡ true
 itself x = (bytes_eq-Decides x x).1 refl
@@ -119,8 +126,7 @@ module _ (names : List Name) where
     )
     stmt_has p (print_stmt e) k c = expr_has e k
     stmt_has p (par_stmt a b) k c =
-        let first = left (λ x. names_in_body x a) (λ x. names_in_body x b) k in
-        (first, body_has p a first c.0, body_has p b (right (λ x. names_in_body x a) (λ x. names_in_body x b) k) c.1)
+        (body_has p a (left (λ x. names_in_body x a) (λ x. names_in_body x b) k) c.0, body_has p b (right (λ x. names_in_body x a) (λ x. names_in_body x b) k) c.1)
     stmt_has p (split_stmt b e l r a) k c =
         let head = left (λ x. bytes_eq b x || names_in_expr x e || bytes_eq l x || bytes_eq r x) (λ x. names_in_body x a) k in
         let parts = left (λ x. bytes_eq b x || names_in_expr x e || bytes_eq l x) (λ x. bytes_eq r x) head in
@@ -168,7 +174,7 @@ added x names (d ∷ ds) h = go (bytes_eq d x) refl h (added x (with_name names 
 
 one_more : (names : List Name) (y : Name) (b : Bool) → length (if b then names else names ++ y ∷ []) ≤ length names + 1
 one_more names y true = omega arith
-one_more names y false = let par_stmt = length-append names (y ∷ []) in omega (arith, par_stmt)
+one_more names y false = let both = length-append names (y ∷ []) in omega (arith, both)
 
 few_slots : (names ds : List Name) → length (with_names names ds) ≤ length names + length ds
 few_slots names [] = omega arith

@@ -7,7 +7,6 @@ use Rattle.par_tree.specs.declared.func.Func.{Func}
 use Rattle.block_check.specs.Shown.{funcs_tree}
 use Rattle.accepted_laws.specs.Laws.{EachFunction}
 use Rattle.accepted_laws.specs.Sizes.{body_size, functions_size}
-use Rattle.par_tree.specs.declared.name.Name.{Name as RustName}
 use Rattle.par_tree.specs.declared.link.Link.{Link}
 use Rattle.par_tree.specs.declared.expr.Expr.{Expr, Chain}
 use Rattle.std.specs.declared.vec.Vec.{Vec}
@@ -17,10 +16,9 @@ use Rattle.par_tree.proofs.Lists.{expr_tree-chain}
 use Rattle.par_tree.specs.declared.arg.Arg.{Arg}
 use Rattle.par_tree.specs.declared.param.Param.{Param}
 use Rattle.par_tree.specs.declared.stmt.Stmt.{Stmt}
-use Rattle.accepted_laws.specs.Written.{is_among, param_names}
-use Rattle.frame_code.specs.Names.{names_tree}
+use Rattle.par_ownership.specs.Written.{is_among, param_names}
 use Rattle.frame_code.specs.Slotted.{Has, HasAll, HasExpr, HasLinks, HasArg, HasArgs, HasStmt, HasBody, HasFunc}
-use Rattle.frame_code.proofs.Lists.{at_item, drop_item}
+use Rattle.node_table.proofs.Lists.{at_item, drop_item}
 
 -- a name that is not the first of the names is behind it
 pub has_behind : (n x : Name) (rest : List Name) → bytes_eq n x ≡ false → Has (n ∷ rest) x → Has rest x
@@ -43,9 +41,6 @@ link_has names ls i x lt e h = item_has (λ (y : Link). HasExpr names (expr_tree
 
 pub arg_has : (names : List Name) (xs : List Arg) (i : ℕ) (x : Arg) → i < length xs → x ≡ get_or xs i x → HasArgs names (args_tree xs) → HasArg names (arg_tree x)
 arg_has names xs i x lt e h = item_has (λ (y : Arg). HasArg names (arg_tree y)) (λ ys. HasArgs names (args_tree ys)) (λ y ys k. k) xs i x lt e h
-
-pub name_has : (names : List Name) (xs : List RustName) (i : ℕ) (x : RustName) → i < length xs → x ≡ get_or xs i x → HasAll names (names_tree xs) → Has names (name_tree x)
-name_has names xs i x lt e h = item_has (λ (y : RustName). Has names (name_tree y)) (λ ys. HasAll names (names_tree ys)) (λ y ys k. k) xs i x lt e h
 
 pub param_has : (names : List Name) (xs : List Param) (i : ℕ) (x : Param) → i < length xs → x ≡ get_or xs i x → HasAll names (param_names (params_tree xs)) → Has names (name_tree x.name)
 param_has names xs i x lt e h = item_has (λ (y : Param). Has names (name_tree y.name)) (λ ys. HasAll names (param_names (params_tree ys))) (λ y ys k. k) xs i x lt e h

@@ -1,12 +1,9 @@
-pub mod Lists
+pub mod Places
 pub mod Rows
 pub mod Tables
 pub mod Naming
 pub mod Gathering
-pub mod Distinct
 pub mod Having
 pub mod Weights
-pub mod Covering
 pub mod Accepted
-pub mod Showing
-pub mod Alike
+pub mod Picking

@@ -6,7 +6,8 @@ use Rattle.std.specs.declared.vec.Vec.{Vec}
 use Rattle.std.specs.declared.alloc.Global.{Global}
 use Rattle.std.specs.declared.alloc.AllocError.{AllocError}
 use Rattle.par_tree.specs.declared.name.Name.{Name as RustName}
-use Rattle.frame_code.specs.Names.{with_name, with_names, names_tree}
+use Rattle.node_table.specs.Names.{with_name, with_names}
+use Rattle.frame_code.specs.Scopes.{names_tree}
 
 pub with_names_append : (names xs ys : List Name) → with_names names (xs ++ ys) ≡ with_names (with_names names xs) ys
 with_names_append names [] ys = refl

@@ -2,21 +2,16 @@
 use Rattle.std.proofs.Common.{◌≡◌, ◌≢◌, ℕ, zero, suc, ◌+◌, ◌<◌, ◌≤◌, List, [], ◌∷◌, ◌++◌, length, set, Some, refl, sym, ap, ◌∙◌, subst, arith, append_assoc, append-nil, length-append, length-set}
 use Rattle.std.specs.Prelude.{slice_get}
 use Rattle.par_tree.specs.Tree.{Name, Expr, Stmt, let_stmt, assign_stmt, put_stmt, alloc_stmt, free_stmt, if_stmt, while_stmt, call_stmt, print_stmt, par_stmt, split_stmt, Body, done, step}
-use Rattle.par_ownership.specs.Environment.{Environment}
-use Rattle.block_check.specs.Forks.{declared_by, split_names}
-use Rattle.frame_code.specs.Table.{AsIf, AsWhile, AsBoth, AsSplit, AsStep, IsStmt, IsBody, Grown}
-use Rattle.std.specs.declared.vec.Vec.{Vec}
-use Rattle.std.specs.declared.alloc.Global.{Global}
-use Rattle.frame_code.specs.Lowered.{IsExpr}
+use Rattle.node_table.specs.Table
+use Rattle.node_table.specs.Table.{Kind, if_node, while_node, both_node, split_node, Node}
+use Rattle.node_table.specs.Programs.{AsIf, AsWhile, AsBoth, AsSplit, AsStep, IsStmt, IsBody}
+use Rattle.node_table.specs.Reading.{IsExpr}
+use Rattle.frame_code.specs.Growing.{Grown}
 use Rattle.frame_code.specs.Branches.{SlotsOfBranches}
 use Rattle.frame_code.specs.declared.branches.Branches.{Branches}
-use Rattle.frame_code.specs.declared.code_expr.CodeExpr.{CodeExpr}
-use Rattle.frame_code.specs.declared.node.Node.{Node}
-use Rattle.frame_code.specs.declared.node_kind.NodeKind.{NodeKind}
-use Rattle.frame_code.specs.declared.node_kind.NodeKind.TheVariants as k
 
 -- lists by number
-pub get_below : {A : Type 0} (xs : List A) (m : ℕ) (v : A) → slice_get xs m ≡ Some v → m < length xs
+get_below : {A : Type 0} (xs : List A) (m : ℕ) (v : A) → slice_get xs m ≡ Some v → m < length xs
 get_below [] m v e = let never : ⊥ = cc in absurd never
 get_below (x ∷ xs) zero v e = omega arith
 get_below (x ∷ xs) (suc m) v e = let h : m < length xs = get_below xs m v e in omega arith
@@ -61,23 +56,23 @@ keeps_trans : (low : ℕ) (t u w : List Node) → KeepsFrom low t u → KeepsFro
 keeps_trans low t u w a b = record { keeps = λ m v h e. b.keeps m v h (a.keeps m v h e) }
 
 -- facts of the numbers inside a node
-pub AsIf-map : (names : List Name) (e : Expr) (P Q R S : List ℕ → Type 0) (kind : NodeKind) → ((ns : List ℕ) → P ns → R ns) → ((ns : List ℕ) → Q ns → S ns) → AsIf names e P Q kind → AsIf names e R S kind
-AsIf-map names e P Q R S (k.If c a b) f g h = (h.0, f a.items h.1, g b.items h.2)
+AsIf-map : (names : List Name) (e : Expr) (P Q R S : List ℕ → Type 0) (kind : Kind) → ((ns : List ℕ) → P ns → R ns) → ((ns : List ℕ) → Q ns → S ns) → AsIf names e P Q kind → AsIf names e R S kind
+AsIf-map names e P Q R S (if_node c a b) f g h = (h.0, f a h.1, g b h.2)
 AsIf-map names e P Q R S _ f g h = absurd h
 
-pub AsWhile-map : (names : List Name) (e : Expr) (P R : List ℕ → Type 0) (kind : NodeKind) → ((ns : List ℕ) → P ns → R ns) → AsWhile names e P kind → AsWhile names e R kind
-AsWhile-map names e P R (k.While c a) f h = (h.0, f a.items h.1)
+AsWhile-map : (names : List Name) (e : Expr) (P R : List ℕ → Type 0) (kind : Kind) → ((ns : List ℕ) → P ns → R ns) → AsWhile names e P kind → AsWhile names e R kind
+AsWhile-map names e P R (while_node c a) f h = (h.0, f a h.1)
 AsWhile-map names e P R _ f h = absurd h
 
-pub AsBoth-map : (names : List Name) (env : Environment) (left : Body) (P Q R S : List ℕ → Type 0) (kind : NodeKind) → ((ns : List ℕ) → P ns → R ns) → ((ns : List ℕ) → Q ns → S ns) → AsBoth names env left P Q kind → AsBoth names env left R S kind
-AsBoth-map names env left P Q R S (k.Both a b xs ys) f g h = (f a.items h.0, g b.items h.1, h.2, h.3)
-AsBoth-map names env left P Q R S _ f g h = absurd h
+AsBoth-map : (names : List Name) (left : Body) (P Q R S : List ℕ → Type 0) (kind : Kind) → ((ns : List ℕ) → P ns → R ns) → ((ns : List ℕ) → Q ns → S ns) → AsBoth names left P Q kind → AsBoth names left R S kind
+AsBoth-map names left P Q R S (both_node a b xs ys) f g h = (f a h.0, g b h.1, h.2, h.3)
+AsBoth-map names left P Q R S _ f g h = absurd h
 
-pub AsSplit-map : (names : List Name) (b : Name) (e : Expr) (l r : Name) (P R : List ℕ → Type 0) (kind : NodeKind) → ((ns : List ℕ) → P ns → R ns) → AsSplit names b e l r P kind → AsSplit names b e l r R kind
-AsSplit-map names b e l r P R (k.Split s c m n a) f h = (h.0, h.1, h.2, h.3, f a.items h.4)
+AsSplit-map : (names : List Name) (b : Name) (e : Expr) (l r : Name) (P R : List ℕ → Type 0) (kind : Kind) → ((ns : List ℕ) → P ns → R ns) → AsSplit names b e l r P kind → AsSplit names b e l r R kind
+AsSplit-map names b e l r P R (split_node s c m n a) f h = (h.0, h.1, h.2, h.3, f a h.4)
 AsSplit-map names b e l r P R _ f h = absurd h
 
-AsStep-map : (t u : List Node) (low less line : ℕ) (P P' : ℕ → NodeKind → Type 0) (Q Q' : List ℕ → Type 0) (ns : List ℕ) → less ≤ low → KeepsFrom low t u → ((n : ℕ) (kind : NodeKind) → low ≤ n → P n kind → P' n kind) → ((ms : List ℕ) → Q ms → Q' ms) → AsStep t low line P Q ns → AsStep u less line P' Q' ns
+AsStep-map : (t u : List Node) (low less line : ℕ) (P P' : ℕ → Kind → Type 0) (Q Q' : List ℕ → Type 0) (ns : List ℕ) → less ≤ low → KeepsFrom low t u → ((n : ℕ) (kind : Kind) → low ≤ n → P n kind → P' n kind) → ((ms : List ℕ) → Q ms → Q' ms) → AsStep t low line P Q ns → AsStep u less line P' Q' ns
 AsStep-map t u low less line P P' Q Q' [] le keeps f g h = absurd h
 AsStep-map t u low less line P P' Q Q' (n ∷ ns) le keeps f g h =
     let below : low ≤ n = h.0 in
@@ -86,50 +81,49 @@ AsStep-map t u low less line P P' Q Q' (n ∷ ns) le keeps f g h =
 -- a table that keeps what stands from a number on has the same statements there
 module _ (functions names : List Name) where
   mutual
-    pub stmt_kept : (t u : List Node) (env : Environment) (line : ℕ) (s : Stmt) (low less : ℕ) (kind : NodeKind) → less ≤ low → KeepsFrom low t u → IsStmt t functions names env line s low kind → IsStmt u functions names env line s less kind
-    stmt_kept t u env line (let_stmt x e) low less kind le keeps h = h
-    stmt_kept t u env line (assign_stmt x e) low less kind le keeps h = h
-    stmt_kept t u env line (put_stmt b i e) low less kind le keeps h = h
-    stmt_kept t u env line (alloc_stmt b e) low less kind le keeps h = h
-    stmt_kept t u env line (free_stmt b) low less kind le keeps h = h
-    stmt_kept t u env line (if_stmt c a b) low less kind le keeps h =
-        AsIf-map names c (IsBody t functions names env a low) (IsBody t functions names env b low) (IsBody u functions names env a less) (IsBody u functions names env b less) kind
-        (λ ns p. body_kept t u env a low less ns le keeps p) (λ ns p. body_kept t u env b low less ns le keeps p) h
-    stmt_kept t u env line (while_stmt c a) low less kind le keeps h =
-        AsWhile-map names c (IsBody t functions names env a low) (IsBody u functions names env a less) kind (λ ns p. body_kept t u env a low less ns le keeps p) h
-    stmt_kept t u env line (call_stmt v f args) low less kind le keeps h = h
-    stmt_kept t u env line (print_stmt e) low less kind le keeps h = h
-    stmt_kept t u env line (par_stmt a b) low less kind le keeps h =
-        AsBoth-map names env a (IsBody t functions names env a low) (IsBody t functions names env b low) (IsBody u functions names env a less) (IsBody u functions names env b less) kind
-        (λ ns p. body_kept t u env a low less ns le keeps p) (λ ns p. body_kept t u env b low less ns le keeps p) h
-    stmt_kept t u env line (split_stmt b e l r a) low less kind le keeps h =
-        AsSplit-map names b e l r (IsBody t functions names (split_names env line l r) a low) (IsBody u functions names (split_names env line l r) a less) kind
-        (λ ns p. body_kept t u (split_names env line l r) a low less ns le keeps p) h
+    pub stmt_kept : (t u : List Node) (s : Stmt) (low less : ℕ) (kind : Kind) → less ≤ low → KeepsFrom low t u → IsStmt t functions names s low kind → IsStmt u functions names s less kind
+    stmt_kept t u (let_stmt x e) low less kind le keeps h = h
+    stmt_kept t u (assign_stmt x e) low less kind le keeps h = h
+    stmt_kept t u (put_stmt b i e) low less kind le keeps h = h
+    stmt_kept t u (alloc_stmt b e) low less kind le keeps h = h
+    stmt_kept t u (free_stmt b) low less kind le keeps h = h
+    stmt_kept t u (if_stmt c a b) low less kind le keeps h =
+        AsIf-map names c (IsBody t functions names a low) (IsBody t functions names b low) (IsBody u functions names a less) (IsBody u functions names b less) kind
+        (λ ns p. body_kept t u a low less ns le keeps p) (λ ns p. body_kept t u b low less ns le keeps p) h
+    stmt_kept t u (while_stmt c a) low less kind le keeps h =
+        AsWhile-map names c (IsBody t functions names a low) (IsBody u functions names a less) kind (λ ns p. body_kept t u a low less ns le keeps p) h
+    stmt_kept t u (call_stmt v f args) low less kind le keeps h = h
+    stmt_kept t u (print_stmt e) low less kind le keeps h = h
+    stmt_kept t u (par_stmt a b) low less kind le keeps h =
+        AsBoth-map names a (IsBody t functions names a low) (IsBody t functions names b low) (IsBody u functions names a less) (IsBody u functions names b less) kind
+        (λ ns p. body_kept t u a low less ns le keeps p) (λ ns p. body_kept t u b low less ns le keeps p) h
+    stmt_kept t u (split_stmt b e l r a) low less kind le keeps h =
+        AsSplit-map names b e l r (IsBody t functions names a low) (IsBody u functions names a less) kind (λ ns p. body_kept t u a low less ns le keeps p) h
 
-    pub body_kept : (t u : List Node) (env : Environment) (b : Body) (low less : ℕ) (ns : List ℕ) → less ≤ low → KeepsFrom low t u → IsBody t functions names env b low ns → IsBody u functions names env b less ns
-    body_kept t u env done low less [] le keeps h = tt
-    body_kept t u env done low less (n ∷ ns) le keeps h = absurd h
-    body_kept t u env (step line s rest) low less ns le keeps h =
-        AsStep-map t u low less line (IsStmt t functions names env line s) (IsStmt u functions names env line s) (IsBody t functions names (declared_by env line s) rest low) (IsBody u functions names (declared_by env line s) rest less) ns le keeps
-        (λ n kind above p. stmt_kept t u env line s n n kind (omega arith) (keeps_above low n t u above keeps) p)
-        (λ ms p. body_kept t u (declared_by env line s) rest low less ms le keeps p) h
+    pub body_kept : (t u : List Node) (b : Body) (low less : ℕ) (ns : List ℕ) → less ≤ low → KeepsFrom low t u → IsBody t functions names b low ns → IsBody u functions names b less ns
+    body_kept t u done low less [] le keeps h = tt
+    body_kept t u done low less (n ∷ ns) le keeps h = absurd h
+    body_kept t u (step line s rest) low less ns le keeps h =
+        AsStep-map t u low less line (IsStmt t functions names s) (IsStmt u functions names s) (IsBody t functions names rest low) (IsBody u functions names rest less) ns le keeps
+        (λ n kind above p. stmt_kept t u s n n kind (omega arith) (keeps_above low n t u above keeps) p)
+        (λ ms p. body_kept t u rest low less ms le keeps p) h
 
   -- what a loop over a list of statements keeps: the table has grown, and in each table that keeps it from
   -- its start on, the numbers so far with those of what is left are the numbers of the whole list
-  pub record Walked (start now : List Node) (first env : Environment) (whole rest : Body) (numbers : List ℕ) : Type 0 where
+  pub record Walked (start now : List Node) (whole rest : Body) (numbers : List ℕ) : Type 0 where
     pub grown : Grown start now
-    pub continues : (u : List Node) → KeepsFrom (length start) now u → (more : List ℕ) → IsBody u functions names env rest (length start) more → IsBody u functions names first whole (length start) (numbers ++ more)
+    pub continues : (u : List Node) → KeepsFrom (length start) now u → (more : List ℕ) → IsBody u functions names rest (length start) more → IsBody u functions names whole (length start) (numbers ++ more)
 
-  pub walked_first : (start : List Node) (env : Environment) (whole : Body) → Walked start start env env whole whole []
-  walked_first start env whole = record { grown = grown_same start; continues = λ u keeps more p. p }
+  pub walked_first : (start : List Node) (whole : Body) → Walked start start whole whole []
+  walked_first start whole = record { grown = grown_same start; continues = λ u keeps more p. p }
 
-  pub walked_next : (start now begun made new : List Node) (first env after : Environment) (whole rest : Body) (numbers found : List ℕ) (line n : ℕ) (s : Stmt) (kind : NodeKind) (p : Node)
-      → Walked start now first env whole (step line s rest) numbers
+  pub walked_next : (start now begun made new : List Node) (whole rest : Body) (numbers found : List ℕ) (line n : ℕ) (s : Stmt) (kind : Kind) (p : Node)
+      → Walked start now whole (step line s rest) numbers
       → n ≡ length now → begun ≡ now ++ p ∷ [] → Grown begun made
-      → IsStmt made functions names env line s (length begun) kind
-      → new ≡ set made n (record { line = line; kind = kind }) → found ≡ numbers ++ n ∷ [] → after ≡ declared_by env line s
-      → Walked start new first after whole rest found
-  walked_next start now begun made new first env after whole rest numbers found line n s kind p w num b g is_stmt e f d =
+      → IsStmt made functions names s (length begun) kind
+      → new ≡ set made n (record { line = line; kind = kind }) → found ≡ numbers ++ n ∷ []
+      → Walked start new whole rest found
+  walked_next start now begun made new whole rest numbers found line n s kind p w num b g is_stmt e f =
       let node : Node = record { line = line; kind = kind } in
       let count : length begun ≡ n + 1 = ap length b ∙ length-append now (p ∷ []) ∙ ap (λ m. m + 1) (sym num) in
       let begun_longer = g.longer in
@@ -150,43 +144,42 @@ module _ (functions names : List Name) where
       record {
         grown = grown_trans start now new w.grown now_new;
         continues = λ u keeps more q.
-            let stands : IsStmt u functions names env line s (n + 1) kind
-            = stmt_kept new u env line s (n + 1) (n + 1) kind (omega arith) (keeps_above (length start) (n + 1) new u (omega arith) keeps)
-            (stmt_kept made new env line s (n + 1) (n + 1) kind (omega arith) inside (subst (λ (m : ℕ). IsStmt made functions names env line s m kind) count is_stmt)) in
-            let tail = subst (λ (v : Environment). IsBody u functions names v rest (length start) more) d q in
-            subst (λ v. IsBody u functions names first whole (length start) v) (sym (ap (λ v. v ++ more) f ∙ append_assoc numbers (n ∷ []) more))
+            let stands : IsStmt u functions names s (n + 1) kind
+            = stmt_kept new u s (n + 1) (n + 1) kind (omega arith) (keeps_above (length start) (n + 1) new u (omega arith) keeps)
+            (stmt_kept made new s (n + 1) (n + 1) kind (omega arith) inside (subst (λ (m : ℕ). IsStmt made functions names s m kind) count is_stmt)) in
+            subst (λ v. IsBody u functions names whole (length start) v) (sym (ap (λ v. v ++ more) f ∙ append_assoc numbers (n ∷ []) more))
             (w.continues u (keeps_trans (length start) now new u (keeps_grown (length start) now new now_new) keeps) (n ∷ more)
-            (omega arith, (node, keeps.keeps n node (omega arith) here, refl, stands), tail));
+            (omega arith, (node, keeps.keeps n node (omega arith) here, refl, stands), q));
       }
 
-  pub walked_end : (start now : List Node) (first env : Environment) (whole : Body) (numbers : List ℕ) → Walked start now first env whole done numbers → Grown start now × IsBody now functions names first whole (length start) numbers
-  walked_end start now first env whole numbers w =
-      (w.grown, subst (λ v. IsBody now functions names first whole (length start) v) (append-nil numbers) (w.continues now (keeps_same (length start) now) [] tt))
+  pub walked_end : (start now : List Node) (whole : Body) (numbers : List ℕ) → Walked start now whole done numbers → Grown start now × IsBody now functions names whole (length start) numbers
+  walked_end start now whole numbers w =
+      (w.grown, subst (λ v. IsBody now functions names whole (length start) v) (append-nil numbers) (w.continues now (keeps_same (length start) now) [] tt))
 
   -- an `if`, from its condition and its arms
-  pub if_made : (start one two : List Node) (env : Environment) (line : ℕ) (s : Stmt) (e : Expr) (a b : Body) (c : CodeExpr) (x y : Vec ℕ Global) → s ≡ if_stmt e a b → IsExpr names c e
-      → Grown start one × IsBody one functions names env a (length start) x.items → Grown one two × IsBody two functions names env b (length one) y.items
-      → Grown start two × IsStmt two functions names env line s (length start) (k.If c x y)
-  if_made start one two env line s e a b c x y same cond left right =
+  pub if_made : (start one two : List Node) (s : Stmt) (e : Expr) (a b : Body) (c : Table.Expr) (x y : List ℕ) → s ≡ if_stmt e a b → IsExpr names c e
+      → Grown start one × IsBody one functions names a (length start) x → Grown one two × IsBody two functions names b (length one) y
+      → Grown start two × IsStmt two functions names s (length start) (if_node c x y)
+  if_made start one two s e a b c x y same cond left right =
       let long = left.0.longer in (
         grown_trans start one two left.0 right.0,
-        subst (λ (v : Stmt). IsStmt two functions names env line v (length start) (k.If c x y)) (sym same) (
+        subst (λ (v : Stmt). IsStmt two functions names v (length start) (if_node c x y)) (sym same) (
           cond,
-          body_kept one two env a (length start) (length start) x.items (omega arith) (keeps_grown (length start) one two right.0) left.1,
-          body_kept two two env b (length one) (length start) y.items long (keeps_same (length one) two) right.1,
+          body_kept one two a (length start) (length start) x (omega arith) (keeps_grown (length start) one two right.0) left.1,
+          body_kept two two b (length one) (length start) y long (keeps_same (length one) two) right.1,
         ),
       )
 
   -- a `par`, from its branches
-  pub both_made : (start one two : List Node) (env : Environment) (line : ℕ) (s : Stmt) (a b : Body) (sets : Branches) (x y : Vec ℕ Global) → s ≡ par_stmt a b → SlotsOfBranches names env a sets
-      → Grown start one × IsBody one functions names env a (length start) x.items → Grown one two × IsBody two functions names env b (length one) y.items
-      → Grown start two × IsStmt two functions names env line s (length start) (k.Both x y sets.blocks sets.assigned)
-  both_made start one two env line s a b sets x y same goes left right =
+  pub both_made : (start one two : List Node) (s : Stmt) (a b : Body) (sets : Branches) (x y : List ℕ) → s ≡ par_stmt a b → SlotsOfBranches names a sets
+      → Grown start one × IsBody one functions names a (length start) x → Grown one two × IsBody two functions names b (length one) y
+      → Grown start two × IsStmt two functions names s (length start) (both_node x y sets.blocks.items sets.assigned.items)
+  both_made start one two s a b sets x y same goes left right =
       let long = left.0.longer in (
         grown_trans start one two left.0 right.0,
-        subst (λ (v : Stmt). IsStmt two functions names env line v (length start) (k.Both x y sets.blocks sets.assigned)) (sym same) (
-          body_kept one two env a (length start) (length start) x.items (omega arith) (keeps_grown (length start) one two right.0) left.1,
-          body_kept two two env b (length one) (length start) y.items long (keeps_same (length one) two) right.1,
+        subst (λ (v : Stmt). IsStmt two functions names v (length start) (both_node x y sets.blocks.items sets.assigned.items)) (sym same) (
+          body_kept one two a (length start) (length start) x (omega arith) (keeps_grown (length start) one two right.0) left.1,
+          body_kept two two b (length one) (length start) y long (keeps_same (length one) two) right.1,
           goes.blocks,
           goes.assigned,
         ),

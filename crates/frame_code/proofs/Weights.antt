@@ -10,7 +10,7 @@ use Rattle.par_tree.specs.declared.link.Link.{Link}
 use Rattle.par_tree.specs.declared.stmt.Stmt.{Stmt as RustStmt}
 use Rattle.par_tree.proofs.Lists.{expr_tree-chain}
 use Rattle.accepted_laws.specs.Sizes.{stmt_size, body_size}
-use Rattle.frame_code.proofs.Lists.{drop_item}
+use Rattle.node_table.proofs.Lists.{drop_item}
 
 abbrev mutual
   pub expr_weight : Expr → ℕ
@@ -34,12 +34,12 @@ link_lighter (y ∷ ys) (suc i) x lt e = let less : i < length ys = omega arith 
 pub chain_weight : (first : Box RustExpr Global) (rest : Vec Link Global) (e : RustExpr) → e ≡ Chain first rest → expr_weight (expr_tree e) ≡ 1 + (expr_weight (expr_tree first.value) + links_weight (links_tree rest.items))
 chain_weight first rest e is = ap (λ x. expr_weight x) (ap expr_tree is ∙ expr_tree-chain first rest)
 
--- A list that a statement owns is lighter than the statement, and a list is heavier than each of its statements.
+-- A list inside a statement is lighter than the statement, and a list is heavier than each of its statements.
 abbrev pub stmt_weight : Stmt → ℕ
 stmt_weight s = 3 * stmt_size s
 
-abbrev pub owned_weight : Body → ℕ
-owned_weight b = 3 * body_size b + 2
+abbrev pub nested_weight : Body → ℕ
+nested_weight b = 3 * body_size b + 2
 
 abbrev pub list_weight : Body → ℕ
 list_weight b = 3 * body_size b + 1

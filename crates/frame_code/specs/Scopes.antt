@@ -2,9 +2,13 @@
 use Rattle.std.specs.Prelude.{List, map}
 use Rattle.par_tree.specs.Tree
 use Rattle.par_tree.specs.View.{name_tree}
+use Rattle.par_tree.specs.declared.name.Name.{Name}
 use Rattle.par_tree.specs.declared.func.Func.{Func}
-use Rattle.frame_code.specs.Names.{names_tree}
 use Rattle.frame_code.specs.declared.scope.Scope.{Scope}
+
+-- names in a list
+abbrev pub names_tree : List Name → List Tree.Name
+names_tree ns = map name_tree ns
 
 abbrev pub func_name : Func → Tree.Name
 func_name f = name_tree f.name

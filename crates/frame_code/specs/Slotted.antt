@@ -2,12 +2,11 @@
 use Rattle.std.specs.Prelude.{◌≡◌, ℕ, ◌≤◌, true, List, [], ◌∷◌, length, Option, Some, None}
 use Rattle.par_tree.specs.Tree
 use Rattle.par_tree.specs.Tree.{Name, Expr, num, var, get, len_of, neg, chain, cmp, Links, last, link, Target, unused, block, Arg, value, lend, give, Stmt, let_stmt, assign_stmt, put_stmt, alloc_stmt, free_stmt, if_stmt, while_stmt, call_stmt, print_stmt, par_stmt, split_stmt, Body, done, step, RetValue, gives, hands, Ret, Func, Program}
-use Rattle.par_ownership.specs.Mention.{names_in_body}
 use Rattle.par_ownership.specs.Ownership.{main_name}
-use Rattle.accepted_laws.specs.Written.{is_among, param_names}
+use Rattle.par_ownership.specs.Written.{is_among, param_names}
 use Rattle.accepted_laws.specs.Laws.{EachFunction}
 use Rattle.accepted_laws.specs.Sizes.{functions_size}
-use Rattle.frame_code.specs.Names.{slot_names}
+use Rattle.node_table.specs.Names.{slot_names}
 
 -- x is among the names
 abbrev pub Has : List Name → Name → Type 0
@@ -54,10 +53,6 @@ abbrev pub HasReturn : List Name → Option Ret → Type 0
 HasReturn names None = Unit {0}
 HasReturn names (Some r) = HasValue names r.value
 
--- whatever name the statements write is among the names
-abbrev pub Covers : List Name → Body → Type 0
-Covers names b = (x : Name) → names_in_body x b ≡ true → Has names x
-
 module _ (functions names : List Name) where
   -- each name of a statement is among the names, and each function that it calls among the functions
   abbrev mutual
@@ -71,7 +66,7 @@ module _ (functions names : List Name) where
     HasStmt (while_stmt c a) = HasExpr names c × HasBody a
     HasStmt (call_stmt t f args) = HasTarget names t × Has functions f × HasArgs names args
     HasStmt (print_stmt e) = HasExpr names e
-    HasStmt (par_stmt a b) = Covers names a × HasBody a × HasBody b
+    HasStmt (par_stmt a b) = HasBody a × HasBody b
     HasStmt (split_stmt b e l r a) = Has names b × HasExpr names e × Has names l × Has names r × HasBody a
 
     pub HasBody : Body → Type 0

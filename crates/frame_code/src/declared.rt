@@ -2,9 +2,10 @@
 
 ghost use Rattle.std.specs.Prelude.{◌≡◌, IfOk};
 ghost use Rattle.par_tree.specs.View.{name_tree, target_tree, stmt_tree, body_tree, params_tree, func_tree};
-ghost use Rattle.block_check.specs.Shown.{rows_tree};
-ghost use Rattle.accepted_laws.specs.Written.{is_among, declared_by_target, declared_in_stmt, declared_in_body, param_names};
-ghost use Rattle.frame_code.specs.Names.{names_tree, with_name, with_names, slot_names};
+ghost use Rattle.par_names.specs.Rows.{rows_tree};
+ghost use Rattle.par_ownership.specs.Written.{is_among, declared_by_target, declared_in_stmt, declared_in_body, param_names};
+ghost use Rattle.node_table.specs.Names.{with_name, with_names, slot_names};
+ghost use Rattle.frame_code.specs.Scopes.{names_tree};
 
 use par_tree::{Body, Func, Name, Param, Stmt, StmtKind, Target};
 use std::alloc::{AllocError, Global};
@@ -43,7 +44,7 @@ fn with_name(alloc: Global, names: Vec<Name>, name: &Name) -> Result<Vec<Name>, 
 }
 
 /// The names behind the target of a call.
-fn in_target(alloc: Global, names: Vec<Name>, target: &Target) -> Result<Vec<Name>, AllocError>
+fn with_target(alloc: Global, names: Vec<Name>, target: &Target) -> Result<Vec<Name>, AllocError>
     ensures { IfOk result (λ v. names_tree v.items ≡ with_names (names_tree names.items) (declared_by_target (target_tree target.now))) }
 {
     match target {
@@ -54,22 +55,22 @@ fn in_target(alloc: Global, names: Vec<Name>, target: &Target) -> Result<Vec<Nam
 }
 
 /// The names behind those that a statement declares.
-#[cycle(declared)]
-fn in_statement(alloc: Global, names: Vec<Name>, kind: &StmtKind) -> Result<Vec<Name>, AllocError>
+#[cycle(with_statement)]
+fn with_statement(alloc: Global, names: Vec<Name>, kind: &StmtKind) -> Result<Vec<Name>, AllocError>
     ensures { IfOk result (λ v. names_tree v.items ≡ with_names (names_tree names.items) (declared_in_stmt (stmt_tree kind.now))) }
 {
     match kind {
         StmtKind::Let { name, .. } => with_name(alloc, names, name),
         StmtKind::Alloc { name, .. } => with_name(alloc, names, name),
-        StmtKind::Call { target, .. } => in_target(alloc, names, target),
+        StmtKind::Call { target, .. } => with_target(alloc, names, target),
         StmtKind::If { then, other, .. } => {
-            let names = in_owned(alloc, names, then)?;
-            in_owned(alloc, names, other)
+            let names = with_nested(alloc, names, then)?;
+            with_nested(alloc, names, other)
         }
-        StmtKind::While { body, .. } => in_owned(alloc, names, body),
+        StmtKind::While { body, .. } => with_nested(alloc, names, body),
         StmtKind::Par { left, right } => {
-            let names = in_owned(alloc, names, left)?;
-            in_owned(alloc, names, right)
+            let names = with_nested(alloc, names, left)?;
+            with_nested(alloc, names, right)
         }
         StmtKind::Split {
             left,
@@ -79,7 +80,7 @@ fn in_statement(alloc: Global, names: Vec<Name>, kind: &StmtKind) -> Result<Vec<
         } => {
             let names = with_name(alloc, names, left)?;
             let names = with_name(alloc, names, right)?;
-            in_owned(alloc, names, body)
+            with_nested(alloc, names, body)
         }
         StmtKind::Assign { .. } => Ok(names),
         StmtKind::Put { .. } => Ok(names),
@@ -88,28 +89,28 @@ fn in_statement(alloc: Global, names: Vec<Name>, kind: &StmtKind) -> Result<Vec<
     }
 }
 
-/// The names behind those of the statements that a statement owns.
-#[cycle(declared)]
-fn in_owned(alloc: Global, names: Vec<Name>, body: &Body) -> Result<Vec<Name>, AllocError>
+/// The names behind those of the statements inside a statement.
+#[cycle(with_statement)]
+fn with_nested(alloc: Global, names: Vec<Name>, body: &Body) -> Result<Vec<Name>, AllocError>
     ensures { IfOk result (λ v. names_tree v.items ≡ with_names (names_tree names.items) (declared_in_body (rows_tree body.now))) }
 {
-    in_list(alloc, names, body)
+    with_list(alloc, names, body)
 }
 
 /// The names behind those of a list of statements.
-#[cycle(declared)]
-fn in_list(alloc: Global, names: Vec<Name>, body: &[Stmt]) -> Result<Vec<Name>, AllocError>
+#[cycle(with_statement)]
+fn with_list(alloc: Global, names: Vec<Name>, body: &[Stmt]) -> Result<Vec<Name>, AllocError>
     ensures { IfOk result (λ v. names_tree v.items ≡ with_names (names_tree names.items) (declared_in_body (body_tree body.now))) }
 {
     let mut names = names;
     for stmt in body {
-        names = in_statement(alloc, names, &stmt.kind)?;
+        names = with_statement(alloc, names, &stmt.kind)?;
     }
     Ok(names)
 }
 
 /// The names behind those of parameters.
-fn in_params(alloc: Global, names: Vec<Name>, params: &[Param]) -> Result<Vec<Name>, AllocError>
+fn with_params(alloc: Global, names: Vec<Name>, params: &[Param]) -> Result<Vec<Name>, AllocError>
     ensures { IfOk result (λ v. names_tree v.items ≡ with_names (names_tree names.items) (param_names (params_tree params.now))) }
 {
     let mut names = names;
@@ -123,6 +124,6 @@ fn in_params(alloc: Global, names: Vec<Name>, params: &[Param]) -> Result<Vec<Na
 pub(crate) fn slot_names(alloc: Global, func: &Func) -> Result<Vec<Name>, AllocError>
     ensures { IfOk result (λ v. names_tree v.items ≡ slot_names (func_tree func.now)) }
 {
-    let names = in_params(alloc, Vec::new(alloc), &func.params)?;
-    in_list(alloc, names, &func.body)
+    let names = with_params(alloc, Vec::new(alloc), &func.params)?;
+    with_list(alloc, names, &func.body)
 }

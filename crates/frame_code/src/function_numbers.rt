@@ -2,7 +2,7 @@
 
 ghost use Rattle.std.specs.Prelude.{◌≤◌, length};
 ghost use Rattle.par_tree.specs.View.{name_tree};
-ghost use Rattle.frame_code.specs.Names.{IsSlot};
+ghost use Rattle.node_table.specs.Names.{IsSlot};
 ghost use Rattle.frame_code.specs.Scopes.{func_names, functions_of};
 ghost use Rattle.frame_code.specs.Slotted.{Has, most_nodes};
 
@@ -24,7 +24,7 @@ pub(crate) fn number_of(funcs: &[Func], name: &[u8]) -> u32
 }
 
 /// The number of a called function.
-pub(crate) fn function(scope: &Scope, name: &Name) -> u32
+pub(crate) fn called_number(scope: &Scope, name: &Name) -> u32
     requires { Has (functions_of scope.now) (name_tree name.now) }
     ensures { IsSlot (functions_of scope.now) result (name_tree name.now) }
 {

@@ -1,39 +1,26 @@
 //! Functions as code.
 
-ghost use Rattle.std.specs.Prelude.{◌≡◌, ◌≤◌, ◌+◌, [], IfOk, length};
+ghost use Rattle.std.specs.Prelude.{◌≡◌, ◌≤◌, ◌+◌, IfOk, length};
 ghost use Rattle.par_tree.specs.View.{params_tree, func_tree};
-ghost use Rattle.accepted_laws.specs.Written.{param_names};
-ghost use Rattle.block_check.specs.Shown.{env_shown, funcs_tree};
-ghost use Rattle.block_check.specs.Forks.{with_params};
-ghost use Rattle.frame_code.specs.Names.{names_tree, slot_names};
-ghost use Rattle.frame_code.specs.Lowered.{AreSlots};
-ghost use Rattle.frame_code.specs.Scopes.{func_names, functions_of, names_of_scope};
-ghost use Rattle.frame_code.specs.Table.{Grown};
-ghost use Rattle.frame_code.specs.Codes.{IsFunc, AreFuncs};
-ghost use Rattle.frame_code.specs.Slotted.{HasAll, HasFunc, CanBeLowered, most_slots, most_nodes};
+ghost use Rattle.par_ownership.specs.Written.{param_names};
+ghost use Rattle.block_check.specs.Shown.{funcs_tree};
 ghost use Rattle.accepted_laws.specs.Sizes.{body_size, functions_size};
+ghost use Rattle.node_table.specs.Names.{slot_names};
+ghost use Rattle.node_table.specs.Programs.{IsFunc, AreFuncs};
+ghost use Rattle.node_table.specs.Reading.{AreSlots};
+ghost use Rattle.node_table.specs.Shown.{nodes_shown, func_shown, funcs_shown};
+ghost use Rattle.frame_code.specs.Growing.{Grown};
+ghost use Rattle.frame_code.specs.Scopes.{names_tree, func_names, functions_of, names_of_scope};
+ghost use Rattle.frame_code.specs.Slotted.{HasAll, HasFunc, CanBeLowered, most_slots, most_nodes};
 
 use crate::declared::slot_names;
-use crate::expressions::returned;
-use crate::func_code::FuncCode;
-use crate::node::{Node, Slots};
+use crate::expressions::lower_return;
 use crate::scope::Scope;
 use crate::slot_names::SlotNames;
-use crate::statements::list;
-use block_check::{Entry, Fail, with_params};
+use crate::statements::lower_list;
+use node_table::{FuncCode, Node, Slots};
 use par_tree::{Func, Param};
 use std::alloc::{AllocError, Global};
-
-/// The names that are visible where a function's body begins.
-fn at_start<'a>(alloc: Global, func: &'a Func) -> Result<Vec<Entry<'a>>, AllocError>
-    ensures { IfOk result (λ v. env_shown v ≡ with_params [] func.now.line (params_tree func.now.params.items)) }
-{
-    match with_params(func.line, Vec::new(alloc), &func.params) {
-        Ok(visible) => Ok(visible),
-        Err(Fail::Memory) => Err(AllocError),
-        Err(Fail::Refused(_)) => unreachable!(),
-    }
-}
 
 /// The slots of parameters.
 fn param_slots(alloc: Global, names: &SlotNames, params: &[Param]) -> Result<Slots, AllocError>
@@ -58,7 +45,7 @@ fn scope_of<'a>(alloc: Global, funcs: &'a [Func], func: &Func) -> Result<Scope<'
 }
 
 /// A function, with its nodes behind the others.
-fn lowered(
+fn lower_function(
     alloc: Global,
     funcs: &[Func],
     func: &Func,
@@ -66,15 +53,15 @@ fn lowered(
 ) -> Result<(Vec<Node>, FuncCode), AllocError>
     requires few { length funcs.now ≤ most_nodes }
     requires named { HasFunc (func_names funcs.now) (func_tree func.now) }
-    requires room { length nodes.items + body_size (func_tree func.now).body ≤ most_nodes }
-    ensures count { IfOk result (λ r. length r.0.items ≡ length nodes.items + body_size (func_tree func.now).body) }
-    ensures made { IfOk result (λ r. Grown nodes.items r.0.items × IsFunc r.0.items (func_names funcs.now) (func_tree func.now) r.1) }
+    requires room { length (nodes_shown nodes.items) + body_size (func_tree func.now).body ≤ most_nodes }
+    ensures count { IfOk result (λ r. length (nodes_shown r.0.items) ≡ length (nodes_shown nodes.items) + body_size (func_tree func.now).body) }
+    ensures made { IfOk result (λ r. Grown (nodes_shown nodes.items) (nodes_shown r.0.items)
+        × IsFunc (nodes_shown r.0.items) (func_names funcs.now) (func_tree func.now) (func_shown r.1)) }
 {
     let scope = scope_of(alloc, funcs, func)?;
-    let visible = at_start(alloc, func)?;
     let params = param_slots(alloc, &scope.names, &func.params)?;
-    let ret = returned(alloc, &scope.names, &func.ret)?;
-    let (nodes, body) = list(alloc, &scope, visible, nodes, &func.body)?;
+    let ret = lower_return(alloc, &scope.names, &func.ret)?;
+    let (nodes, body) = lower_list(alloc, &scope, nodes, &func.body)?;
     let slots = scope.names.count();
     let code = FuncCode {
         slots,
@@ -86,15 +73,18 @@ fn lowered(
 }
 
 /// All functions.
-pub(crate) fn all(alloc: Global, funcs: &[Func]) -> Result<(Vec<Node>, Vec<FuncCode>), AllocError>
+pub(crate) fn lower_functions(
+    alloc: Global,
+    funcs: &[Func],
+) -> Result<(Vec<Node>, Vec<FuncCode>), AllocError>
     requires { CanBeLowered (func_names funcs.now) (funcs_tree funcs.now) }
-    ensures count { IfOk result (λ r. length r.0.items ≡ functions_size (funcs_tree funcs.now)) }
-    ensures made { IfOk result (λ r. AreFuncs r.0.items (func_names funcs.now) (funcs_tree funcs.now) r.1.items) }
+    ensures count { IfOk result (λ r. length (nodes_shown r.0.items) ≡ functions_size (funcs_tree funcs.now)) }
+    ensures made { IfOk result (λ r. AreFuncs (nodes_shown r.0.items) (func_names funcs.now) (funcs_tree funcs.now) (funcs_shown r.1.items)) }
 {
     let mut nodes = Vec::new(alloc);
     let mut codes = Vec::new(alloc);
     for func in funcs {
-        let (more, code) = lowered(alloc, funcs, func, nodes)?;
+        let (more, code) = lower_function(alloc, funcs, func, nodes)?;
         nodes = more;
         codes.push(code)?;
     }

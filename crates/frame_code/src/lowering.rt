@@ -2,15 +2,16 @@ ghost use Rattle.std.specs.Prelude.{◌≤◌, IfOk, length};
 ghost use Rattle.par_tree.specs.View.{program_tree};
 ghost use Rattle.par_ownership.specs.Ownership.{main_name};
 ghost use Rattle.block_check.specs.Checked.{program_of};
-ghost use Rattle.frame_code.specs.Names.{IsSlot};
+ghost use Rattle.node_table.specs.Codes.{code_shown};
+ghost use Rattle.node_table.specs.Names.{IsSlot};
+ghost use Rattle.node_table.specs.Programs.{IsTableOf};
 ghost use Rattle.frame_code.specs.Scopes.{func_names};
-ghost use Rattle.frame_code.specs.Codes.{IsCodeOf};
 ghost use Rattle.frame_code.specs.Slotted.{Has, most_nodes};
 
-use crate::code::Code;
 use crate::function_numbers::number_of;
-use crate::functions::all;
+use crate::functions::lower_functions;
 use block_check::Checked;
+use node_table::Code;
 use par_tree::Func;
 use std::alloc::{AllocError, Global};
 
@@ -33,14 +34,10 @@ fn main_of(funcs: &[Func]) -> u32
 ///
 /// There is not enough memory.
 pub fn lower(alloc: Global, program: Checked) -> Result<Code, AllocError>
-    ensures { IfOk result (λ c. IsCodeOf (program_tree (program_of program)) c) }
+    ensures { IfOk result (λ c. IsTableOf (program_tree (program_of program)) (code_shown c)) }
 {
     let funcs = &program.program().funcs;
-    let (nodes, codes) = all(alloc, funcs)?;
+    let (nodes, codes) = lower_functions(alloc, funcs)?;
     let main = main_of(funcs);
-    Ok(Code {
-        nodes,
-        funcs: codes,
-        main,
-    })
+    Ok(Code::of(nodes, codes, main))
 }

@@ -2,7 +2,6 @@ ghost use Rattle.std.specs.Prelude.{◌≤◌};
 ghost use Rattle.std.specs.Vec.{vec_len};
 
 use par_tree::Name;
-use std::alloc::{AllocError, Global};
 
 /// The names of a function's slots, of which there are at most 65,535.
 #[derive(Drop)]
@@ -12,11 +11,11 @@ pub(crate) struct SlotNames {
 }
 
 impl SlotNames {
-    ghost use Rattle.std.specs.Prelude.{◌≡◌, IfOk, length};
+    ghost use Rattle.std.specs.Prelude.{◌≡◌, length};
     ghost use Rattle.par_tree.specs.View.{name_tree};
-    ghost use Rattle.frame_code.specs.Names.{names_tree, IsSlot};
-    ghost use Rattle.frame_code.specs.Lowered.{AreSlots};
-    ghost use Rattle.frame_code.specs.Slotted.{Has, HasAll};
+    ghost use Rattle.node_table.specs.Names.{IsSlot};
+    ghost use Rattle.frame_code.specs.Scopes.{names_tree};
+    ghost use Rattle.frame_code.specs.Slotted.{Has};
 
     /// Names that are the slots of a function.
     pub(crate) fn of(names: Vec<Name>) -> SlotNames
@@ -44,17 +43,5 @@ impl SlotNames {
             }
         }
         unreachable!()
-    }
-
-    /// The slots of names.
-    pub(crate) fn slots(&self, alloc: Global, wanted: &[Name]) -> Result<Vec<u16>, AllocError>
-        requires { HasAll (names_tree self.now.names.items) (names_tree wanted.now) }
-        ensures { IfOk result (λ v. AreSlots (names_tree self.now.names.items) v.items (names_tree wanted.now)) }
-    {
-        let mut found = Vec::new(alloc);
-        for name in wanted {
-            found.push(self.slot(name))?;
-        }
-        Ok(found)
     }
 }

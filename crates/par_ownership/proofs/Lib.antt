@@ -1,3 +1,4 @@
 pub mod Exact
 pub mod Tests
 pub mod Law
+pub mod NewNames

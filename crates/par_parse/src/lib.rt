@@ -16,6 +16,7 @@ mod parser;
 mod statements;
 mod words;
 
+pub use par_lex::ParseFail;
 pub use par_text::{SyntaxError, SyntaxKind};
 pub use parser::parse;
 

@@ -16,6 +16,3 @@ mod statements;
 mod words;
 
 pub use printer::print;
-
-#[cfg(test)]
-mod tests;

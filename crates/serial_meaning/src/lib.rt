@@ -27,6 +27,3 @@ mod thread;
 
 pub use run::depth_first;
 pub use serial_journal::{Action, Actions, Serial, SerialStop};
-
-#[cfg(test)]
-mod tests;

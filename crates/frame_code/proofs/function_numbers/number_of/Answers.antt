@@ -3,7 +3,7 @@ use Rattle.std.proofs.lemmas.Grind.{common_steps}
 use Rattle.std.proofs.lemmas.List.{length-map}
 use Rattle.std.proofs.lemmas.Slice.Eq.{bytes_eq-Decides}
 use Rattle.frame_code.specs.Scopes.{func_name}
-use Rattle.frame_code.proofs.Lists.{func_at-item}
+use Rattle.frame_code.proofs.Places.{func_at-item}
 use Rattle.frame_code.proofs.function_numbers.number_of.Goals as goal
 
 pub returns-then-eq : goal.returns-then-eq

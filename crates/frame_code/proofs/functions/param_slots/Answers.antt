@@ -1,10 +1,10 @@
 use Rattle.std.proofs.Common.{refl}
 use Rattle.par_tree.specs.View.{params_tree}
-use Rattle.accepted_laws.specs.Written.{param_names}
-use Rattle.frame_code.specs.Names.{names_tree}
-use Rattle.frame_code.specs.Lowered.{AreSlots}
+use Rattle.par_ownership.specs.Written.{param_names}
+use Rattle.frame_code.specs.Scopes.{names_tree}
+use Rattle.node_table.specs.Reading.{AreSlots}
 use Rattle.frame_code.proofs.Having.{param_has}
-use Rattle.frame_code.proofs.Lists.{continues_end}
+use Rattle.node_table.proofs.Lists.{continues_end}
 use Rattle.frame_code.proofs.functions.param_slots.Goals as goal
 
 pub returns : goal.returns

@@ -1,8 +1,8 @@
 use Rattle.par_tree.specs.View.{params_tree}
-use Rattle.accepted_laws.specs.Written.{param_names}
-use Rattle.frame_code.specs.Names.{names_tree}
-use Rattle.frame_code.specs.Lowered.{AreSlots}
-use Rattle.frame_code.proofs.Lists.{Continues}
+use Rattle.par_ownership.specs.Written.{param_names}
+use Rattle.frame_code.specs.Scopes.{names_tree}
+use Rattle.node_table.specs.Reading.{AreSlots}
+use Rattle.node_table.proofs.Lists.{Continues}
 use Rattle.frame_code.proofs.functions.param_slots.Given as goal
 
 abbrev pub invariant-loop-param : goal.invariant-loop-param

@@ -3,7 +3,7 @@ use Rattle.std.proofs.lemmas.Grind.{common_steps}
 use Rattle.std.proofs.lemmas.List.{length-map}
 use Rattle.std.proofs.lemmas.Slice.Eq.{bytes_eq-Decides}
 use Rattle.par_tree.specs.View.{name_tree}
-use Rattle.frame_code.proofs.Lists.{name_at-item}
+use Rattle.frame_code.proofs.Places.{name_at-item}
 use Rattle.frame_code.proofs.slot_names.SlotNames.slot.Goals as goal
 
 pub returns-then-eq : goal.returns-then-eq

@@ -1,6 +1,6 @@
 use Rattle.std.proofs.Common.{drop}
 use Rattle.par_tree.specs.View.{name_tree}
-use Rattle.frame_code.specs.Names.{names_tree}
+use Rattle.frame_code.specs.Scopes.{names_tree}
 use Rattle.frame_code.specs.Slotted.{Has}
 use Rattle.frame_code.proofs.slot_names.SlotNames.slot.Given as goal
 

@@ -1,7 +1,0 @@
-use Rattle.std.proofs.Common.{◌≡◌, refl}
-use Rattle.frame_code.specs.Plain.{args_shown}
-use Rattle.frame_code.proofs.Lists.{continues_end}
-use Rattle.frame_code.proofs.copies.arguments.Goals as goal
-
-pub returns : goal.returns
-returns c = continues_end (λ cs ys. args_shown cs ≡ args_shown ys) c.args.args.now c.loop-arg.found.items c.loop-arg.arg-index c.loop-arg-test.false c.loop-arg.invariant refl

@@ -1,7 +1,0 @@
-use Rattle.std.proofs.Common.{◌≡◌, refl}
-use Rattle.frame_code.specs.Plain.{funcs_shown}
-use Rattle.frame_code.proofs.Lists.{continues_end}
-use Rattle.frame_code.proofs.copies.functions.Goals as goal
-
-pub returns : goal.returns
-returns c = continues_end (λ cs ys. funcs_shown cs ≡ funcs_shown ys) c.args.funcs.now c.loop-func.found.items c.loop-func.func-index c.loop-func-test.false c.loop-func.invariant refl

@@ -1,7 +1,0 @@
-use Rattle.std.proofs.Common.{◌≡◌, refl}
-use Rattle.frame_code.specs.Plain.{nodes_shown}
-use Rattle.frame_code.proofs.Lists.{continues_end}
-use Rattle.frame_code.proofs.copies.nodes.Goals as goal
-
-pub returns : goal.returns
-returns c = continues_end (λ cs ys. nodes_shown cs ≡ nodes_shown ys) c.args.nodes.now c.loop-node.found.items c.loop-node.node-index c.loop-node-test.false c.loop-node.invariant refl

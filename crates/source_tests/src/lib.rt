@@ -1,0 +1,21 @@
+//! Tests over sources: what a text of the language comes to, from its bytes to its canonical text, its node table and its run.
+//!
+//! This crate has no code but tests. It stands on the parser, the checker, the printer, the table and the depth-first run, so that none of
+//! them waits for another one to be tested. It has no theorem: each table says what sources have to give, worked out by hand from the
+//! language, so that a definition that says something else is found.
+#![tactic(auto)]
+
+#[cfg(test)]
+mod printing;
+#[cfg(test)]
+mod read_back;
+#[cfg(test)]
+mod refusals;
+#[cfg(test)]
+mod rows;
+#[cfg(test)]
+mod runs;
+#[cfg(test)]
+mod tables;
+#[cfg(test)]
+mod traces;

@@ -1,0 +1,232 @@
+//! Node tables whose nodes the text gives, worked out by hand, and tables as large as a text can have them.
+
+use accepted_source::accept;
+use block_check::{Checked, Names};
+use frame_code::{Code, CodeArg, CodeExpr, CodeRetValue, CodeTarget, NodeKind, lower};
+use std::alloc::{AllocError, Global};
+use std::fmt::Write;
+use std::process::Abort;
+use std::test::Fail;
+
+/// The table of a text.
+fn code_of(alloc: Global, text: &str) -> Result<Code, AllocError> {
+    match accept(alloc, text.as_bytes()) {
+        Ok(checked) => lower(alloc, checked),
+        Err(_) => Err(AllocError),
+    }
+}
+
+/// The branches of a fork node, and its slots.
+fn fork_told(alloc: Global, code: &Code, number: u32) -> Result<String, AllocError> {
+    match code.node(number) {
+        Some(node) => match &node.kind {
+            NodeKind::Both {
+                left,
+                right,
+                left_blocks,
+                left_assigned,
+            } => format!(in alloc; "{left:?} {right:?} {left_blocks:?} {left_assigned:?}"),
+            _ => format!(in alloc; "another node"),
+        },
+        None => format!(in alloc; "no node"),
+    }
+}
+
+const NESTED: &str = "fn f(use b) { let n = len(b); b[0] = n; }
+    fn main() { let x = 0; alloc a = 1; let y = 0; alloc b = 1;
+    par { y = 1; b[0] = 1; par { x = 2; call f(use a); } and { print b[0]; } }
+    and { let z = 3; z = 4; } free a; free b; }";
+
+/// Nodes 0 and 1 are those of `f`; in `main`, the outer `par` is node 6, and the inner one node 9. The slots of `main` are those of x, a, y,
+/// b and z.
+#[test]
+fn nested_branches(rt: HostRuntime) -> Result<(), Fail> {
+    let alloc = rt.alloc();
+    let code = code_of(alloc, NESTED)?;
+    assert_eq!(&rt; code.len(), 17);
+    assert_eq!(&rt; code.main(), 1);
+    let outer = fork_told(alloc, &code, 6)?;
+    assert_eq!(&rt; outer.as_str(), "[7, 8, 9] [13, 14] [0, 1, 2, 3] [0, 2]");
+    let inner = fork_told(alloc, &code, 9)?;
+    assert_eq!(&rt; inner.as_str(), "[10, 11] [12] [0, 1] [0]");
+    match code.func(1) {
+        Some(main) => {
+            assert_eq!(&rt; main.slots, 5);
+            assert_eq!(&rt; main.body.as_slice(), [2u32, 3, 4, 5, 6, 15, 16].as_slice());
+        }
+        None => assert!(rt; false),
+    }
+    assert!(rt; code.func(2).is_none());
+    assert!(rt; code.node(17).is_none());
+    Ok(())
+}
+
+/// Adds names.
+fn add_names(told: &mut String, names: &Names) -> Result<(), AllocError> {
+    told.push_str(";")?;
+    for name in names {
+        told.push_str(" ")?;
+        for byte in &name.bytes {
+            told.push(*byte as char)?;
+        }
+    }
+    Ok(())
+}
+
+/// What goes in and out of the branches of a `par` of `main`, by the checker.
+fn sets_told(alloc: Global, checked: &Checked, par: u32) -> Result<String, AllocError> {
+    let mut told = String::new(alloc);
+    match checked.branch_sets(alloc, 1, par) {
+        Ok(sets) => {
+            add_names(&mut told, &sets.left_blocks)?;
+            add_names(&mut told, &sets.right_blocks)?;
+            add_names(&mut told, &sets.left_assigned)?;
+        }
+        Err(_) => told.push_str("no par")?,
+    }
+    Ok(told)
+}
+
+#[test]
+fn sets_of_nested_branches(rt: HostRuntime) -> Result<(), Fail> {
+    let alloc = rt.alloc();
+    let Ok(checked) = accept(alloc, NESTED.as_bytes()) else {
+        return Err(Fail::new("the text is refused"));
+    };
+    for (par, want) in [(0, "; a b;; x y"), (1, "; a; b; x"), (2, "no par")] {
+        let told = sets_told(alloc, &checked, par)?;
+        assert_eq!(&rt; told.as_str(), want);
+    }
+    Ok(())
+}
+
+/// A call of the first function by the second one.
+#[test]
+fn calls_and_returns(rt: HostRuntime) -> Result<(), Fail> {
+    let text = "fn mk(n) { alloc b = n; return own b; }
+        fn main() { call own c = mk(3); free c; }";
+    let code = code_of(rt.alloc(), text)?;
+    match code.node(1) {
+        Some(node) => match &node.kind {
+            NodeKind::Call { target, func, args } => {
+                assert!(rt; matches!(target, CodeTarget::Own(0)));
+                assert_eq!(&rt; *func, 0);
+                assert_eq!(&rt; args.len(), 1);
+                assert!(rt; matches!(&args[0], CodeArg::Value(CodeExpr::Num(3))));
+            }
+            _ => assert!(rt; false),
+        },
+        None => assert!(rt; false),
+    }
+    match code.func(0) {
+        Some(mk) => {
+            assert_eq!(&rt; mk.slots, 2);
+            assert_eq!(&rt; mk.params.as_slice(), [0u16].as_slice());
+            match &mk.ret {
+                Some(ret) => assert!(rt; matches!(&ret.value, CodeRetValue::Own(1))),
+                None => assert!(rt; false),
+            }
+        }
+        None => assert!(rt; false),
+    }
+    Ok(())
+}
+
+/// 256 names in one function, each declared once.
+fn many_names(alloc: Global) -> Result<Code, AllocError> {
+    let mut text = String::from_str(alloc, "fn main() {")?;
+    for i in 0..256 {
+        write!(text, " let x{i} = {i};")?;
+    }
+    text.push_str(" }")?;
+    code_of(alloc, &text)
+}
+
+/// 1,024 functions, of which each but the last one, `main`, calls the one behind it.
+fn many_functions(alloc: Global) -> Result<Code, AllocError> {
+    let mut text = String::new(alloc);
+    for i in 0..1_022u32 {
+        write!(text, "fn f{i}() {{ call f{}(); }} ", i + 1)?;
+    }
+    text.push_str("fn f1022() { } fn main() { call f0(); }")?;
+    code_of(alloc, &text)
+}
+
+/// So many statements, of which each prints its number.
+fn many_nodes(alloc: Global, count: u32) -> Result<Code, AllocError> {
+    let mut text = String::from_str(alloc, "fn main() {")?;
+    for i in 0..count {
+        write!(text, "\nprint {i};")?;
+    }
+    text.push_str(" }")?;
+    code_of(alloc, &text)
+}
+
+/// The function that a node calls.
+fn called(code: &Code, number: u32) -> Option<u32> {
+    match &code.node(number)?.kind {
+        NodeKind::Call { func, .. } => Some(*func),
+        _ => None,
+    }
+}
+
+/// Whether a node is at the line behind its number, and prints its number.
+fn prints_its_number(code: &Code, number: u32) -> bool {
+    match code.node(number) {
+        Some(node) => match &node.kind {
+            NodeKind::Print {
+                value: CodeExpr::Num(value),
+            } => *value == number as i64 && node.line == number.wrapping_add(2),
+            _ => false,
+        },
+        None => false,
+    }
+}
+
+#[test]
+fn as_many_names_and_functions_as_there_may_be(rt: HostRuntime) -> Result<(), Fail> {
+    let code = many_names(rt.alloc())?;
+    assert_eq!(&rt; code.len(), 256);
+    match code.func(0) {
+        Some(main) => assert_eq!(&rt; main.slots, 256),
+        None => assert!(rt; false),
+    }
+    match code.node(255) {
+        Some(node) => {
+            assert!(rt;
+                matches!(
+                    &node.kind,
+                    NodeKind::Let {
+                        name: 255,
+                        value: CodeExpr::Num(255)
+                    }
+                )
+            );
+        }
+        None => assert!(rt; false),
+    }
+    let code = many_functions(rt.alloc())?;
+    assert_eq!(&rt; code.main(), 1_023);
+    assert_eq!(&rt; code.len(), 1_023);
+    for i in 0..1_022 {
+        assert_eq!(&rt; called(&code, i), Some(i.wrapping_add(1)));
+    }
+    assert_eq!(&rt; called(&code, 1_022), Some(0));
+    assert!(rt; code.func(1_023).is_some() && code.func(1_024).is_none());
+    Ok(())
+}
+
+/// A table of 2,000 nodes, its copy, and the copy of its copy.
+#[test]
+fn large_tables_are_copied(rt: HostRuntime) -> Result<(), Fail> {
+    let code = many_nodes(rt.alloc(), 2_000)?;
+    let copy = code.copy(rt.alloc())?;
+    let again = copy.copy(rt.alloc())?;
+    for table in [&code, &copy, &again] {
+        assert_eq!(&rt; table.len(), 2_000);
+        for number in 0..2_000 {
+            assert!(rt; prints_its_number(table, number), "{number}");
+        }
+    }
+    Ok(())
+}
