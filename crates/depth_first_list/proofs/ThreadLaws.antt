@@ -81,10 +81,10 @@ child_at k l run f child inside deed =
     let h : HasWhole l (label_at l f) = own_whole k l run f inside in
     (h.e, h.whole.inside, child_whole l (label_at l f) h.s h.e h.whole f child inside refl deed)
 
-first_action : (A : ℕ → Action) (a : List ℕ) (s : ℕ) (p : Point) (t : ℕ) (q : Point) → Steps A a s p t q → A t ≡ end_at a q
+first_action : (A : ℕ → Action) (a : List ℕ) (s : ℕ) (p : Point) (t : ℕ) (q : Point) (words : ℕ) → Steps A a s p t q → A t ≡ end_at a q words
     → ((A s).label ≡ a) × ((A s).index ≡ p.done)
-first_action A a s p t q (none s' p') end = (ap (λ x. x.label) end, ap (λ x. x.index) end)
-first_action A a s p t q (more s' p' u r t' q' step rest) end = (step.label_is, step.index_is)
+first_action A a s p t q words (none s' p') end = (ap (λ x. x.label) end, ap (λ x. x.index) end)
+first_action A a s p t q words (more s' p' u r t' q' step rest) end = (step.label_is, step.index_is)
 
 pub child_begins_behind_fork : (k : ℕ) (l : List Action) → IsDepthFirst k l → ChildBeginsBehindFork l
 child_begins_behind_fork k l run f child inside deed =
@@ -92,7 +92,7 @@ child_begins_behind_fork k l run f child inside deed =
     let c = at_f.2 in let w = c.whole in let up = c.later in let e_in = w.inside in
     let label : List ℕ = fork_of (label_at l f) child in
     let first : (label_at l (suc f) ≡ label) × (index_at l (suc f) ≡ 0) =
-    first_action (action_at l) label (suc f) start c.e w.child.last (own_steps l label (suc f) c.e w) w.child.end in
+    first_action (action_at l) label (suc f) start c.e w.child.last w.child.held (own_steps l label (suc f) c.e w) w.child.end in
     (omega arith, first.0, first.1)
 
 -- the places of a thread's run are those of the thread and of those that stem from it

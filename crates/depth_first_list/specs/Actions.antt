@@ -16,12 +16,17 @@ pub data Deed : Type 0 where
 
 -- One action: the label of its thread, its index in the thread, from 0, what it does, and its words. These
 -- are the words of the block of an Alloc or a Release, the words that the thread gives back at a Fault, or
--- at a Join that meets a fault, and else 0.
+-- at a Join that meets a fault, those of the record block that a Fork takes and the End of a forked thread gives
+-- back, and else 0.
 pub record Action : Type 0 where
   pub label : List ℕ
   pub index : ℕ
   pub deed : Deed
   pub words : ℕ
+
+-- the words of the record block that a forked thread holds from its Fork to its End
+abbrev pub record_words : ℕ
+record_words = 16
 
 -- the kind of what is done
 abbrev pub kind_of : Deed → Kind
@@ -38,13 +43,13 @@ action_kind action = kind_of action.deed
 
 -- by how much the words in use rise
 abbrev pub weight_of : Deed → ℕ → ℤ
-weight_of (forks child) words = pos 0
+weight_of (forks child) words = pos words
 weight_of (joins child) words = neg_ℤ (pos words)
 weight_of allocates words = pos words
 weight_of releases words = neg_ℤ (pos words)
 weight_of dummy words = pos 0
 weight_of faults words = neg_ℤ (pos words)
-weight_of ends words = pos 0
+weight_of ends words = neg_ℤ (pos words)
 
 abbrev pub weight : Action → ℤ
 weight action = weight_of action.deed action.words
