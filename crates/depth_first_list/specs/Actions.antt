@@ -1,6 +1,6 @@
 -- Actions of a run, the words that they take and give back, and the peak of a list of them.
-use Rattle.std.specs.Prelude.{ℕ, List, [], ◌∷◌, ℤ, pos, neg_ℤ, ◌+ℤ◌}
-use Rattle.std.specs.Int.{int_max}
+use Rattle.std.specs.Prelude.{ℕ, List, map, ℤ, pos, neg_ℤ}
+use Rattle.dag_order.specs.Changes.{total, high_water}
 use Rattle.dag_order.specs.declared.kind.Kind.{Kind}
 use Rattle.dag_order.specs.declared.kind.Kind.TheVariants.{Fork, Join, Alloc, Release, Dummy, End, Fault}
 
@@ -56,10 +56,8 @@ weight action = weight_of action.deed action.words
 
 -- the words in use after all of these actions
 abbrev pub live_words : List Action → ℤ
-live_words [] = pos 0
-live_words (action ∷ later) = weight action +ℤ live_words later
+live_words actions = total (map weight actions)
 
--- the greatest sum of the weights of a prefix, which is at least the 0 of the empty one
+-- the most words that are in use at any time
 abbrev pub peak : List Action → ℤ
-peak [] = pos 0
-peak (action ∷ later) = int_max (pos 0) (weight action +ℤ peak later)
+peak actions = high_water (map weight actions)
