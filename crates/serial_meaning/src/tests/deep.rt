@@ -22,13 +22,13 @@ fn a_run_goes_as_deep_as_calls_and_forks_may(rt: HostRuntime) {
             "fn f(n, use a) { if n { par { call f(n - 1, use a); } and { } a[0] = a[0] + n; } } fn main() { alloc a = 16; call f(256, use a); print a[0]; free a; }",
             &[32_896],
             771,
-            16,
+            4_112,
         ),
         (
             "fn f(n) { let l = 0; let r = 1; if n { par { call l = f(n - 1); } and { call r = f(n - 1); } } return l + r; } fn main() { let x = 0; call x = f(12); print x; }",
             &[4_096],
             12_286,
-            0,
+            192,
         ),
     ];
     for (text, lines, actions, peak) in rows {

@@ -59,28 +59,28 @@ fn the_first_fault_is_the_finish(rt: HostRuntime) {
             &[1, 2],
             fault(FaultKind::Divide, 3),
             5,
-            0,
+            16,
         ),
         (
             "fn main() {\n  par { print 1; }\n  and { print 2; print 1 / 0; print 3; }\n  print 4;\n}",
             &[1, 2],
             fault(FaultKind::Divide, 3),
             5,
-            0,
+            16,
         ),
         (
             "fn main() {\n  alloc z = 0;\n  par { print 1; print 1 % 0; }\n  and { print 2; print z[0]; }\n  free z;\n}",
             &[1],
             fault(FaultKind::Divide, 3),
             7,
-            0,
+            16,
         ),
         (
             "fn main() {\n  par {\n    par { }\n    and { let x = 1 / 0; }\n  }\n  and { alloc c = -1; free c; }\n}",
             &[],
             fault(FaultKind::Divide, 4),
             9,
-            0,
+            32,
         ),
         (
             "fn f(n) {\n  print n;\n  return 7 / n;\n}\nfn main() {\n  let x = 0;\n  call x = f(1);\n  call x = f(0);\n  print x;\n}",
@@ -101,14 +101,14 @@ fn the_first_fault_is_the_finish(rt: HostRuntime) {
             &[],
             fault(FaultKind::Turns, 3),
             7,
-            32,
+            48,
         ),
         (
             "fn f() { call f(); }\nfn main() {\n  alloc a = 32;\n  split a at 16 into l, r {\n    par { l[0] = 1; call f(); } and { r[0] = 1; }\n    print 1;\n  }\n  free a;\n}",
             &[],
             fault(FaultKind::Depth, 1),
             6,
-            32,
+            48,
         ),
         (
             "fn main() {\n  alloc a = 32;\n  split a at 16 into l, r {\n    split l at 8 into m, n { }\n    print 1;\n  }\n  free a;\n}",
@@ -122,7 +122,7 @@ fn the_first_fault_is_the_finish(rt: HostRuntime) {
             &[0, 1, 2],
             fault(FaultKind::Divide, 4),
             11,
-            0,
+            16,
         ),
         (
             "fn main() {\n  if 1 {\n    print 1 / 0;\n  }\n  print 2;\n  while 1 { }\n}",
@@ -136,7 +136,7 @@ fn the_first_fault_is_the_finish(rt: HostRuntime) {
             &[],
             fault(FaultKind::Index, 1),
             7,
-            32,
+            48,
         ),
     ];
     for (text, lines, finish, actions, peak) in rows {
