@@ -46,6 +46,10 @@ IndexRises l = (i j : ℕ) → j < length l → i < j → label_at l i ≡ label
 abbrev pub NoIndexIsSkipped : List Action → Type 0
 NoIndexIsSkipped l = (j n : ℕ) → j < length l → n < index_at l j → (i : ℕ) × (i < j) × (label_at l i ≡ label_at l j) × (index_at l i ≡ n)
 
+-- so an action has at least as many before it as its index says
+abbrev pub IndexIsWithin : List Action → Type 0
+IndexIsWithin l = (i : ℕ) → i < length l → index_at l i ≤ i
+
 -- before an action of a forked thread, or of one that stems from it, stands the Fork
 abbrev pub ForkStandsBefore : List Action → Type 0
 ForkStandsBefore l = (i child : ℕ) (parent below : List ℕ) → i < length l → label_at l i ≡ parent ++ child ∷ below
@@ -75,6 +79,10 @@ pub record ForksAreInOrder (l : List Action) : Type 0 where
       → deed_at l f ≡ forks child → deed_at l g ≡ forks later → child < later
   pub none_skipped : (g child later : ℕ) → g < length l → deed_at l g ≡ forks later → 0 < child → child < later
       → (f : ℕ) × (f < g) × (label_at l f ≡ label_at l g) × (deed_at l f ≡ forks child)
+
+-- so a Fork is at least as many actions from the beginning as its ordinal says
+abbrev pub OrdinalIsWithin : List Action → Type 0
+OrdinalIsWithin l = (f child : ℕ) → f < length l → deed_at l f ≡ forks child → child ≤ suc f
 
 -- one Fork for each child
 abbrev pub ForkedOnce : List Action → Type 0

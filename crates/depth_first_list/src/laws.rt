@@ -1,6 +1,6 @@
 ghost use Rattle.std.specs.Prelude.{List};
 ghost use Rattle.depth_first_list.specs.Actions.{Action};
-ghost use Rattle.depth_first_list.specs.Facts.{Always, AlwaysWithin, PeakIsHighest, TreeRunsAsShaped, ForksTakeRecords, ChildEndsGiveBack, RootEndIsWeightless, DummiesAreWeightless, EndMeansAll, RootEndMeansAll, ParentsAreLive, JoinsTheLastLive, NextIsOfItsIndex, FirstMissingGoesFirst, FirstMissingNeverWaits, ChildBeginsBehindFork, ChildStandsBeforeParent, ChildStandsTogether, DummiesAreOfTrees, EachChildIsJoined, EachThreadEnds, EndIsLast, FirstMissingIsNext, ForkStandsBefore, ForkedOnce, ForksAreInOrder, IndexRises, JoinStandsBehindChild, JoinedOnce, JoinsTheNewest, LabelsFollowTheList, LiveHasNext, NamesDiffer, NoIndexIsSkipped, RootEnds, TreesAreApart, TreesAreDoneFirst, TreesStandBefore};
+ghost use Rattle.depth_first_list.specs.Facts.{Always, AlwaysWithin, PeakIsHighest, TreeRunsAsShaped, ForksTakeRecords, ChildEndsGiveBack, RootEndIsWeightless, DummiesAreWeightless, EndMeansAll, RootEndMeansAll, ParentsAreLive, JoinsTheLastLive, NextIsOfItsIndex, FirstMissingGoesFirst, FirstMissingNeverWaits, ChildBeginsBehindFork, ChildStandsBeforeParent, ChildStandsTogether, DummiesAreOfTrees, EachChildIsJoined, EachThreadEnds, EndIsLast, FirstMissingIsNext, ForkStandsBefore, ForkedOnce, ForksAreInOrder, IndexRises, JoinStandsBehindChild, JoinedOnce, JoinsTheNewest, LabelsFollowTheList, LiveHasNext, NamesDiffer, NoIndexIsSkipped, IndexIsWithin, OrdinalIsWithin, RootEnds, TreesAreApart, TreesAreDoneFirst, TreesStandBefore};
 
 /// The root acts, and its End is the last action of the list.
 pub fn root_ends()
@@ -20,6 +20,11 @@ pub fn index_rises()
 /// The indices of a thread are 0, 1, 2, and so on.
 pub fn no_index_is_skipped()
     ensures { Always NoIndexIsSkipped }
+{}
+
+/// An action has at least as many before it as its index says.
+pub fn index_is_within()
+    ensures { Always IndexIsWithin }
 {}
 
 /// Before each action of a forked thread, and of those that stem from it, stands its Fork.
@@ -45,6 +50,11 @@ pub fn child_stands_before_parent()
 /// The forks of a thread have the ordinals 1, 2, and so on, in their order.
 pub fn forks_are_in_order()
     ensures { Always ForksAreInOrder }
+{}
+
+/// A Fork is at least as many actions from the beginning as its ordinal says.
+pub fn ordinal_is_within()
+    ensures { Always OrdinalIsWithin }
 {}
 
 /// Each child has one Fork.
