@@ -1,3 +1,4 @@
 pub mod LabelOrder
 pub mod LabelLaws
 pub mod Births
+pub mod Changes

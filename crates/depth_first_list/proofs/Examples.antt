@@ -13,13 +13,13 @@ act label index deed words = record { label = label; index = index; deed = deed;
 -- With a quota of 16 words a run allocates 40 numbers, which are 48 words and so want 3 dummies, and frees them.
 abbrev pub large_alloc : List Action
 large_alloc =
-    act [] 0 (forks 1) 0
-    ∷ act (1 ∷ []) 0 (forks 1) 0
+    act [] 0 (forks 1) 16
+    ∷ act (1 ∷ []) 0 (forks 1) 16
     ∷ act (1 ∷ 1 ∷ []) 0 dummy 0
-    ∷ act (1 ∷ 1 ∷ []) 1 ends 0
+    ∷ act (1 ∷ 1 ∷ []) 1 ends 16
     ∷ act (1 ∷ []) 1 dummy 0
     ∷ act (1 ∷ []) 2 (joins 1) 0
-    ∷ act (1 ∷ []) 3 ends 0
+    ∷ act (1 ∷ []) 3 ends 16
     ∷ act [] 1 dummy 0
     ∷ act [] 2 (joins 1) 0
     ∷ act [] 3 allocates 48
@@ -57,11 +57,11 @@ two_leaves = refl
 abbrev pub fault_with_two_children : List Action
 fault_with_two_children =
     act [] 0 allocates 16
-    ∷ act [] 1 (forks 1) 0
-    ∷ act (1 ∷ []) 0 ends 0
+    ∷ act [] 1 (forks 1) 16
+    ∷ act (1 ∷ []) 0 ends 16
     ∷ act [] 2 allocates 32
-    ∷ act [] 3 (forks 2) 0
-    ∷ act (2 ∷ []) 0 ends 0
+    ∷ act [] 3 (forks 2) 16
+    ∷ act (2 ∷ []) 0 ends 16
     ∷ act [] 4 faults 32
     ∷ act [] 5 (joins 2) 0
     ∷ act [] 6 (joins 1) 16
@@ -84,7 +84,7 @@ fault_is_depth_first = record {
   is = refl;
 }
 
-pub fault_peak : peak fault_with_two_children ≡ pos 48
+pub fault_peak : peak fault_with_two_children ≡ pos 64
 fault_peak = refl
 
 pub fault_gives_all_back : live_words fault_with_two_children ≡ pos 0

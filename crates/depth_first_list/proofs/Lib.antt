@@ -6,6 +6,8 @@ pub mod Whole
 pub mod ThreadLaws
 pub mod JoinLaws
 pub mod OrderLaw
+pub mod LiveLaws
+pub mod Weights
 pub mod Trees
 pub mod TreeLaws
 pub mod Peak

@@ -64,6 +64,7 @@ labels_follow_the_list k l run done closed a b m n a_live b_live m_next n_next b
 pub first_missing_is_next : (k : ℕ) (l : List Action) → IsDepthFirst k l → FirstMissingIsNext l
 first_missing_is_next k l run done closed i inside missing before = (
   record {
+    acts = (i, inside, refl);
     forked = λ f child f_in deed stems.
         let block = child_stands_together k l run f child f_in deed in
         let there : (f < i) × (i ≤ block.0) = (block.5 i inside).0 stems in before f there.0;
@@ -118,6 +119,7 @@ first_missing l done label e e_in mine missing (suc turns) n before earlier =
         (n, record { inside = n_in; by = own; missing = omega arith; earlier = earlier })
 
 pub live_has_next : (k : ℕ) (l : List Action) → IsDepthFirst k l → LiveHasNext l
-live_has_next k l run done i inside live =
-    let end = each_thread_ends k l run i inside in
-    first_missing l done (label_at l i) end.0 end.2 end.3 (live.goes_on end.0 end.2 end.3 end.4) end.0 0 (omega arith) (λ j lt is. absurd (omega arith))
+live_has_next k l run done label live =
+    let end = each_thread_ends k l run live.acts.0 live.acts.1 in
+    let mine : label_at l end.0 ≡ label = end.3 ∙ live.acts.2 in
+    first_missing l done label end.0 end.2 mine (live.goes_on end.0 end.2 mine end.4) end.0 0 (omega arith) (λ j lt is. absurd (omega arith))

@@ -3,16 +3,17 @@ use Rattle.std.proofs.Common.{◌≡◌, ℕ, suc, ◌≤◌, ◌<◌, List, [],
 use Rattle.std.proofs.lemmas.List.{append_assoc}
 use Rattle.std.proofs.lemmas.Bool.{cases_order, cases_lt}
 use Rattle.dag_order.specs.LabelOrder.{fork_of}
-use Rattle.depth_first_list.specs.Actions.{Deed, forks, joins, Action}
+use Rattle.depth_first_list.specs.Actions.{Deed, forks, joins, Action, record_words}
 use Rattle.depth_first_list.specs.Runs.{Point, start, next_child, action_at_point, after_action, after_fork, after_join, end_at}
 use Rattle.depth_first_list.proofs.Trace.{IsQuiet, Trace, stays, quiet, forking, joining}
 
--- the whole run of a child at the places up to its End at e
+-- the whole run of a thread, as of a child, at the places up to its End at e, with the words of its record block
 pub record Child (A : ℕ → Action) (kid : List ℕ) (s e : ℕ) : Type 0 where
   pub last : Point
+  pub held : ℕ
   pub trace : Trace A kid s start e last
   pub joined : last.open_children ≡ []
-  pub end : A e ≡ end_at kid last
+  pub end : A e ≡ end_at kid last held
 
 -- what an own action at place s does between the points p and r; the next own place is at least u
 pub data Does (A : ℕ → Action) (a : List ℕ) (s : ℕ) (p : Point) (u : ℕ) (r : Point) : Type 0 where
@@ -132,8 +133,8 @@ steps A a s p t q (forking a' s' p' e c t' q' is child joined end rest) =
     (steps A a' (suc e) (after_fork p') t' q' rest)
   where
     forked_step : (A : ℕ → Action) (a : List ℕ) (s : ℕ) (p : Point) (e : ℕ) (c : Point)
-        → A s ≡ action_at_point a p (forks (next_child p)) 0
-        → Trace A (fork_of a (next_child p)) (suc s) start e c → c.open_children ≡ [] → A e ≡ end_at (fork_of a (next_child p)) c
+        → A s ≡ action_at_point a p (forks (next_child p)) record_words
+        → Trace A (fork_of a (next_child p)) (suc s) start e c → c.open_children ≡ [] → A e ≡ end_at (fork_of a (next_child p)) c record_words
         → Steps A (fork_of a (next_child p)) (suc s) start e c → Step A a s p (suc e) (after_fork p)
     forked_step A a s p e c is child joined end below =
         let on : GoesOn (suc s) start e c = goes_on A (fork_of a (next_child p)) (suc s) start e c below in
@@ -150,7 +151,7 @@ steps A a s p t q (forking a' s' p' e c t' q' is child joined end rest) =
             | inr ge ↦ let at_end : i ≡ e = omega arith in
                 record { child = next_child p; rest = []; from = omega arith; up_to = omega arith; is = ap (λ m. (A m).label) at_end ∙ ap (λ x. x.label) end }
           ];
-          does = forks_one e (ap (λ x. x.deed) is) refl (record { last = c; trace = child; joined = joined; end = end }) refl refl;
+          does = forks_one e (ap (λ x. x.deed) is) refl (record { last = c; held = record_words; trace = child; joined = joined; end = end }) refl refl;
         }
 steps A a s p t q (joining a' s' p' child older words t' q' open_is is rest) =
     more s' p' (suc s') (after_join p' older) t' q'

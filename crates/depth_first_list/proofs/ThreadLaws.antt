@@ -1,10 +1,10 @@
 -- The facts of depth-first lists that speak of names, forks and Ends.
-use Rattle.std.proofs.Common.{◌≡◌, ◌↔◌, ℕ, suc, ◌≤◌, ◌<◌, List, [], ◌∷◌, ◌++◌, inl, inr, length, refl, sym, subst, ap, ◌∙◌, arith}
+use Rattle.std.proofs.Common.{◌≡◌, ◌↔◌, ℕ, zero, suc, ◌≤◌, ◌<◌, List, [], ◌∷◌, ◌++◌, inl, inr, length, refl, sym, subst, ap, ◌∙◌, arith}
 use Rattle.std.proofs.lemmas.Bool.{cases_order, cases_lt, cases_eq}
 use Rattle.dag_order.specs.LabelOrder.{fork_of}
 use Rattle.depth_first_list.specs.Actions.{forks, Action}
 use Rattle.depth_first_list.specs.Runs.{Point, start, end_at, IsDepthFirst}
-use Rattle.depth_first_list.specs.Facts.{action_at, label_at, index_at, deed_at, StemsFrom, RootEnds, NamesDiffer, IndexRises, NoIndexIsSkipped, ForkStandsBefore, ChildBeginsBehindFork, ChildStandsTogether, ChildStandsBeforeParent, ForksAreInOrder, ForkedOnce, EachThreadEnds, EndIsLast}
+use Rattle.depth_first_list.specs.Facts.{action_at, label_at, index_at, deed_at, StemsFrom, RootEnds, NamesDiffer, IndexRises, NoIndexIsSkipped, IndexIsWithin, OrdinalIsWithin, ForkStandsBefore, ChildBeginsBehindFork, ChildStandsTogether, ChildStandsBeforeParent, ForksAreInOrder, ForkedOnce, EachThreadEnds, EndIsLast}
 use Rattle.depth_first_list.proofs.Steps.{Steps, none, more, label_not_below}
 use Rattle.depth_first_list.proofs.Own.{IndexFound, index_found, index_rises, Between, fork_between, forks_rise, Found, fork_found, no_end, not_own, one_fork}
 use Rattle.depth_first_list.proofs.Whole.{Whole, own_steps, RootWhole, root_whole, whole_place, end_label, end_deed, own_inside, stems_of_fork, stems_further, stems_itself, not_the_end, forks_do_not_end, ChildWhole, child_whole, fork_of_child, HasWhole, thread_whole, own_whole}
@@ -64,6 +64,16 @@ no_index_is_skipped k l run j n j_in lt =
       ]
     ]
 
+pub index_is_within : (k : ℕ) (l : List Action) → IsDepthFirst k l → IndexIsWithin l
+index_is_within k l run i inside = go (index_at l i) i inside refl
+  where
+    go : (n i : ℕ) → i < length l → index_at l i ≡ n → n ≤ i
+    go zero i inside is = omega arith
+    go (suc n) i inside is =
+        let before = no_index_is_skipped k l run i n inside (omega arith) in
+        let less : before.0 < i = before.1 in
+        let rest : n ≤ before.0 = go n before.0 (omega arith) before.3 in omega arith
+
 pub fork_stands_before : (k : ℕ) (l : List Action) → IsDepthFirst k l → ForkStandsBefore l
 fork_stands_before k l run i child parent below inside is =
     let h : HasWhole l parent = thread_whole k l run i parent (child ∷ below) inside is in
@@ -81,10 +91,10 @@ child_at k l run f child inside deed =
     let h : HasWhole l (label_at l f) = own_whole k l run f inside in
     (h.e, h.whole.inside, child_whole l (label_at l f) h.s h.e h.whole f child inside refl deed)
 
-first_action : (A : ℕ → Action) (a : List ℕ) (s : ℕ) (p : Point) (t : ℕ) (q : Point) → Steps A a s p t q → A t ≡ end_at a q
+first_action : (A : ℕ → Action) (a : List ℕ) (s : ℕ) (p : Point) (t : ℕ) (q : Point) (words : ℕ) → Steps A a s p t q → A t ≡ end_at a q words
     → ((A s).label ≡ a) × ((A s).index ≡ p.done)
-first_action A a s p t q (none s' p') end = (ap (λ x. x.label) end, ap (λ x. x.index) end)
-first_action A a s p t q (more s' p' u r t' q' step rest) end = (step.label_is, step.index_is)
+first_action A a s p t q words (none s' p') end = (ap (λ x. x.label) end, ap (λ x. x.index) end)
+first_action A a s p t q words (more s' p' u r t' q' step rest) end = (step.label_is, step.index_is)
 
 pub child_begins_behind_fork : (k : ℕ) (l : List Action) → IsDepthFirst k l → ChildBeginsBehindFork l
 child_begins_behind_fork k l run f child inside deed =
@@ -92,7 +102,7 @@ child_begins_behind_fork k l run f child inside deed =
     let c = at_f.2 in let w = c.whole in let up = c.later in let e_in = w.inside in
     let label : List ℕ = fork_of (label_at l f) child in
     let first : (label_at l (suc f) ≡ label) × (index_at l (suc f) ≡ 0) =
-    first_action (action_at l) label (suc f) start c.e w.child.last (own_steps l label (suc f) c.e w) w.child.end in
+    first_action (action_at l) label (suc f) start c.e w.child.last w.child.held (own_steps l label (suc f) c.e w) w.child.end in
     (omega arith, first.0, first.1)
 
 -- the places of a thread's run are those of the thread and of those that stem from it
@@ -180,6 +190,21 @@ forks_are_in_order k l run = record { from_one = from_one; rising = rising; none
             | inr gt ↦ let back : later < child = rising g f.i later child (omega arith) gt (sym f.label_is) gd f.deed_is in absurd (omega arith)
           ]
         ]
+
+pub ordinal_is_within : (k : ℕ) (l : List Action) → IsDepthFirst k l → OrdinalIsWithin l
+ordinal_is_within k l run f child inside deed = go child f inside deed
+  where
+    order : ForksAreInOrder l
+    order = forks_are_in_order k l run
+
+    go : (n f : ℕ) → f < length l → deed_at l f ≡ forks n → n ≤ suc f
+    go zero f inside is = omega arith
+    go (suc n) f inside is = elim (cases_lt 0 n) [
+      | inr below ↦ omega arith
+      | inl some ↦ let before = order.none_skipped f n (suc n) inside is some (omega arith) in
+          let less : before.0 < f = before.1 in
+          let rest : n ≤ suc before.0 = go n before.0 (omega arith) before.3 in omega arith
+    ]
 
 pub forked_once : (k : ℕ) (l : List Action) → IsDepthFirst k l → ForkedOnce l
 forked_once k l run f g child f_in g_in same fd gd =

@@ -3,7 +3,7 @@
 use Rattle.std.proofs.Common.{◌≡◌, ℕ, suc, ◌+◌, List, [], ◌∷◌, ◌++◌, length, refl, sym, subst, arith, length-append}
 use Rattle.dag_order.specs.LabelOrder.{fork_of}
 use Rattle.dummy_tree.specs.Shapes.{Shape, leaf, forked}
-use Rattle.depth_first_list.specs.Actions.{Deed, forks, joins, allocates, releases, dummy, faults, ends, Action}
+use Rattle.depth_first_list.specs.Actions.{Deed, forks, joins, allocates, releases, dummy, faults, ends, Action, record_words}
 use Rattle.depth_first_list.specs.Runs.{Point, start, next_child, action_at_point, after_action, after_fork, after_join, end_at, after_tree, tree_run, tree_for, IsPlain, Runs, rests, goes_on, acts, forks_a_child, joins_the_newest, allocates_behind_a_tree}
 
 -- neither a Fork nor a Join nor an End
@@ -22,8 +22,8 @@ pub data Trace (A : ℕ → Action) : List ℕ → ℕ → Point → ℕ → Poi
   quiet : (a : List ℕ) (s : ℕ) (p : Point) (deed : Deed) (words : ℕ) (t : ℕ) (q : Point)
       → A s ≡ action_at_point a p deed words → IsQuiet deed → Trace A a (suc s) (after_action p) t q → Trace A a s p t q
   forking : (a : List ℕ) (s : ℕ) (p : Point) (e : ℕ) (c : Point) (t : ℕ) (q : Point)
-      → A s ≡ action_at_point a p (forks (next_child p)) 0
-      → Trace A (fork_of a (next_child p)) (suc s) start e c → c.open_children ≡ [] → A e ≡ end_at (fork_of a (next_child p)) c
+      → A s ≡ action_at_point a p (forks (next_child p)) record_words
+      → Trace A (fork_of a (next_child p)) (suc s) start e c → c.open_children ≡ [] → A e ≡ end_at (fork_of a (next_child p)) c record_words
       → Trace A a (suc e) (after_fork p) t q → Trace A a s p t q
   joining : (a : List ℕ) (s : ℕ) (p : Point) (child : ℕ) (older : List ℕ) (words : ℕ) (t : ℕ) (q : Point)
       → p.open_children ≡ child ∷ older → A s ≡ action_at_point a p (joins child) words
@@ -57,7 +57,7 @@ tree_traced A (forked child own) a p s t u r e sits rest =
     let below : List Action = tree_run kid start child in
     let mine : List Action = tree_run a (after_fork p) own in
     let join : List Action = action_at_point a (after_tree (after_fork p) own) (joins (next_child p)) 0 ∷ [] in
-    let last : Action = end_at kid (after_tree start child) in
+    let last : Action = end_at kid (after_tree start child) record_words in
     let end : ℕ = suc s + length below in
     let j : ℕ = suc end + length mine in
     let front : Sits A (suc s) below = sits_front A (suc s) below (last ∷ (mine ++ join)) sits.1 in
@@ -100,11 +100,11 @@ traced A k a p l q (acts label p' deed words plain) s t u r e sits rest =
 traced A k a p l q (forks_a_child label p' c below run joined) s t u r e sits rest =
     let kid : List ℕ = fork_of label (next_child p') in
     let end : ℕ = suc s + length below in
-    let both = length-append below (end_at kid c ∷ []) in
+    let both = length-append below (end_at kid c record_words ∷ []) in
     let next : t ≡ suc end = omega (arith, both) in
-    let back : Sits A end (end_at kid c ∷ []) = sits_back A (suc s) end below (end_at kid c ∷ []) refl sits.1 in
+    let back : Sits A end (end_at kid c record_words ∷ []) = sits_back A (suc s) end below (end_at kid c record_words ∷ []) refl sits.1 in
     forking label s p' end c u r sits.0
-    (traced A k kid start below c run (suc s) end end c refl (sits_front A (suc s) below (end_at kid c ∷ []) sits.1) (stays kid end c))
+    (traced A k kid start below c run (suc s) end end c refl (sits_front A (suc s) below (end_at kid c record_words ∷ []) sits.1) (stays kid end c))
     joined back.0 (subst (λ m. Trace A label m (after_fork p') u r) next rest)
 traced A k a p l q (joins_the_newest label p' child older words is) s t u r e sits rest =
     let next : t ≡ suc s = omega arith in

@@ -6,7 +6,7 @@ use Rattle.dummy_tree.specs.Quotas.{dummies_of}
 use Rattle.dummy_tree.proofs.QuotaLaws.{dummies_cover}
 use Rattle.dummy_tree.specs.Shapes.{Shape, leaves, shape_of}
 use Rattle.dummy_tree.proofs.ShapeLaws.{leaves_of_shape, shape_of_is_shape}
-use Rattle.depth_first_list.specs.Actions.{Deed, forks, joins, allocates, releases, dummy, faults, ends, Action}
+use Rattle.depth_first_list.specs.Actions.{Deed, forks, joins, allocates, releases, dummy, faults, ends, Action, record_words}
 use Rattle.depth_first_list.specs.Runs.{Point, start, next_child, action_at_point, end_at, after_tree, tree_run, tree_for, IsPlain, Runs, rests, goes_on, acts, forks_a_child, joins_the_newest, allocates_behind_a_tree, IsDepthFirst}
 use Rattle.depth_first_list.specs.Facts.{action_at, label_at, deed_at, StemsFrom, IsLarge, leaves_at, IsInTreeOf, dummies_from, IsOfTree, TreeStandsBefore, TreesStandBefore, DummiesAreOfTrees, TreesAreApart, TreesAreDoneFirst}
 use Rattle.depth_first_list.proofs.Trace.{Sits, sits_front, sits_back}
@@ -118,8 +118,8 @@ fork_place k label p child words = record { not_large = λ e big. let no : ⊥ =
 join_place : (k : ℕ) (label : List ℕ) (p : Point) (child words : ℕ) → IsPlainPlace k (action_at_point label p (joins child) words)
 join_place k label p child words = record { not_large = λ e big. let no : ⊥ = cc in no; no_dummy = λ e. let no : ⊥ = cc in no }
 
-end_place : (k : ℕ) (label : List ℕ) (p : Point) → IsPlainPlace k (end_at label p)
-end_place k label p = record { not_large = λ e big. let no : ⊥ = cc in no; no_dummy = λ e. let no : ⊥ = cc in no }
+end_place : (k : ℕ) (label : List ℕ) (p : Point) (words : ℕ) → IsPlainPlace k (end_at label p words)
+end_place k label p words = record { not_large = λ e big. let no : ⊥ = cc in no; no_dummy = λ e. let no : ⊥ = cc in no }
 
 -- the places of a run have their trees
 pub treed : (k : ℕ) (l : List Action) → 0 < k → (a : List ℕ) (p : Point) (m : List Action) (q : Point) → Runs k a p m q
@@ -136,13 +136,13 @@ treed k l some a p m q (acts label p' deed words plain) s t e up sits =
 treed k l some a p m q (forks_a_child label p' c below run joined) s t e up sits =
     let kid : List ℕ = fork_of label (next_child p') in
     let end : ℕ = suc s + length below in
-    let both = length-append below (end_at kid c ∷ []) in
-    let back : Sits (action_at l) end (end_at kid c ∷ []) = sits_back (action_at l) (suc s) end below (end_at kid c ∷ []) refl sits.1 in
+    let both = length-append below (end_at kid c record_words ∷ []) in
+    let back : Sits (action_at l) end (end_at kid c record_words ∷ []) = sits_back (action_at l) (suc s) end below (end_at kid c record_words ∷ []) refl sits.1 in
     treed_both k l s (suc s) t (omega (arith, both))
-    (treed_plain k l s (suc s) (action_at_point label p' (forks (next_child p')) 0) refl sits.0 (fork_place k label p' (next_child p') 0))
+    (treed_plain k l s (suc s) (action_at_point label p' (forks (next_child p')) record_words) refl sits.0 (fork_place k label p' (next_child p') record_words))
     (treed_both k l (suc s) end t (omega (arith, both))
-    (treed k l some kid start below c run (suc s) end refl (omega (arith, both)) (sits_front (action_at l) (suc s) below (end_at kid c ∷ []) sits.1))
-    (treed_plain k l end t (end_at kid c) (omega (arith, both)) back.0 (end_place k kid c)))
+    (treed k l some kid start below c run (suc s) end refl (omega (arith, both)) (sits_front (action_at l) (suc s) below (end_at kid c record_words ∷ []) sits.1))
+    (treed_plain k l end t (end_at kid c record_words) (omega (arith, both)) back.0 (end_place k kid c record_words)))
 treed k l some a p m q (joins_the_newest label p' child older words is) s t e up sits =
     treed_plain k l s t (action_at_point label p' (joins child) words) (omega arith) sits.0 (join_place k label p' child words)
 treed k l some a p m q (allocates_behind_a_tree label p' words large) s t e up sits =
@@ -170,7 +170,7 @@ treed k l some a p m q (allocates_behind_a_tree label p' words large) s t e up s
 
 pub treed_list : (k : ℕ) (l : List Action) → 0 < k → IsDepthFirst k l → Treed k l 0 (length l)
 treed_list k l some run =
-    let end : List Action = end_at [] run.last ∷ [] in
+    let end : List Action = end_at [] run.last 0 ∷ [] in
     let e : ℕ = length run.below in
     let both = length-append run.below end in
     let long : length l ≡ length (run.below ++ end) = ap (λ m. length m) run.is in
@@ -178,7 +178,7 @@ treed_list k l some run =
     let back : Sits (action_at l) e end = sits_back (action_at l) 0 e run.below end (omega arith) sits in
     treed_both k l 0 e (length l) (omega (arith, both, long))
     (treed k l some [] start run.below run.last run.runs 0 e (omega arith) (omega (arith, both, long)) (sits_front (action_at l) 0 run.below end sits))
-    (treed_plain k l e (length l) (end_at [] run.last) (omega (arith, both, long)) back.0 (end_place k [] run.last))
+    (treed_plain k l e (length l) (end_at [] run.last 0) (omega (arith, both, long)) back.0 (end_place k [] run.last 0))
 
 pub trees_stand_before : (k : ℕ) (l : List Action) → 0 < k → IsDepthFirst k l → TreesStandBefore k l
 trees_stand_before k l some run a is =

@@ -5,7 +5,7 @@ use Rattle.std.proofs.lemmas.Bool.{cases_lt, cases_eq}
 use Rattle.dag_order.specs.LabelOrder.{fork_of}
 use Rattle.dag_order.specs.declared.kind.Kind.TheVariants.{Fork, Join, End}
 use Rattle.dummy_tree.specs.Shapes.{Shape, leaf, forked, actions, leaves, is_dummy}
-use Rattle.depth_first_list.specs.Actions.{Deed, forks, joins, allocates, dummy, ends, Action, kind_of, action_kind}
+use Rattle.depth_first_list.specs.Actions.{Deed, forks, joins, allocates, dummy, ends, Action, record_words, kind_of, action_kind}
 use Rattle.depth_first_list.specs.Runs.{Point, start, next_child, action_at_point, after_fork, end_at, after_tree, tree_run}
 use Rattle.depth_first_list.specs.Facts.{action_at, label_at, deed_at, words_at, StemsFrom, IsLarge, IsInTreeOf, dummies_from, IsOfTree, TreeStandsBefore, IsDone, TreeRunsAsShaped}
 use Rattle.depth_first_list.proofs.Trace.{Sits, sits_front, sits_back}
@@ -18,7 +18,7 @@ tree_length (forked child own) a p =
     let below : List Action = tree_run kid start child in
     let mine : List Action = tree_run a (after_fork p) own in
     let join : List Action = action_at_point a (after_tree (after_fork p) own) (joins (next_child p)) 0 ∷ [] in
-    let last : Action = end_at kid (after_tree start child) in
+    let last : Action = end_at kid (after_tree start child) record_words in
     let c = tree_length child kid start in let o = tree_length own a (after_fork p) in
     let both = length-append below (last ∷ (mine ++ join)) in let more = length-append mine join in
     omega (arith, c, o, both, more)
@@ -61,7 +61,7 @@ tree_dummies l (forked child own) a p s sits =
     let below : List Action = tree_run kid start child in
     let mine : List Action = tree_run a (after_fork p) own in
     let join : List Action = action_at_point a (after_tree (after_fork p) own) (joins (next_child p)) 0 ∷ [] in
-    let last : Action = end_at kid (after_tree start child) in
+    let last : Action = end_at kid (after_tree start child) record_words in
     let end : ℕ = suc s + length below in
     let j : ℕ = suc end + length mine in
     let back : Sits (action_at l) end (last ∷ (mine ++ join)) = sits_back (action_at l) (suc s) end below (last ∷ (mine ++ join)) refl sits.1 in
@@ -70,7 +70,7 @@ tree_dummies l (forked child own) a p s sits =
     tree_dummies l child kid start (suc s) (sits_front (action_at l) (suc s) below (last ∷ (mine ++ join)) sits.1) in
     let in_own : dummies_from l (suc end) (length mine) ≡ leaves own =
     tree_dummies l own a (after_fork p) (suc end) (sits_front (action_at l) (suc end) mine join back.1) in
-    let at_fork : dummies_from l s 1 ≡ 0 = one_dummy l s (action_at_point a p (forks (next_child p)) 0) sits.0 in
+    let at_fork : dummies_from l s 1 ≡ 0 = one_dummy l s (action_at_point a p (forks (next_child p)) record_words) sits.0 in
     let at_end : dummies_from l end 1 ≡ 0 = one_dummy l end last back.0 in
     let at_join : dummies_from l j 1 ≡ 0 = one_dummy l j (action_at_point a (after_tree (after_fork p) own) (joins (next_child p)) 0) own_back.0 in
     let both = length-append below (last ∷ (mine ++ join)) in let more = length-append mine join in
@@ -91,7 +91,7 @@ abbrev pub Every : (Action → Type 0) → List Action → Type 0
 Every P [] = Unit {0}
 Every P (x ∷ l) = P x × Every P l
 
-every_append : (P : Action → Type 0) (xs ys : List Action) → Every P xs → Every P ys → Every P (xs ++ ys)
+pub every_append : (P : Action → Type 0) (xs ys : List Action) → Every P xs → Every P ys → Every P (xs ++ ys)
 every_append P [] ys h k = k
 every_append P (x ∷ xs) ys h k = (h.0, every_append P xs ys h.1 k)
 
@@ -115,21 +115,21 @@ pub record IsTreeAction (a : List ℕ) (x : Action) : Type 0 where
 from_child : (a : List ℕ) (k : ℕ) (x : Action) → IsTreeAction (fork_of a k) x → IsTreeAction a x
 from_child a k x h = record { deed = h.deed; below = (k ∷ h.below.0, h.below.1 ∙ append_assoc a (k ∷ []) h.below.0) }
 
-own_action : (a : List ℕ) (p : Point) (deed : Deed) → IsOfTree deed → IsTreeAction a (action_at_point a p deed 0)
-own_action a p deed is = record { deed = is; below = ([], sym (append-nil a)) }
+own_action : (a : List ℕ) (p : Point) (deed : Deed) (words : ℕ) → IsOfTree deed → IsTreeAction a (action_at_point a p deed words)
+own_action a p deed words is = record { deed = is; below = ([], sym (append-nil a)) }
 
 pub tree_actions : (shape : Shape) (a : List ℕ) (p : Point) → Every (λ x. IsTreeAction a x) (tree_run a p shape)
-tree_actions leaf a p = (own_action a p dummy tt, tt)
+tree_actions leaf a p = (own_action a p dummy 0 tt, tt)
 tree_actions (forked child own) a p =
     let k : ℕ = next_child p in
     let kid : List ℕ = fork_of a k in
     let join : List Action = action_at_point a (after_tree (after_fork p) own) (joins k) 0 ∷ [] in (
-      own_action a p (forks k) tt,
-      every_append (λ x. IsTreeAction a x) (tree_run kid start child) (end_at kid (after_tree start child) ∷ (tree_run a (after_fork p) own ++ join))
+      own_action a p (forks k) record_words tt,
+      every_append (λ x. IsTreeAction a x) (tree_run kid start child) (end_at kid (after_tree start child) record_words ∷ (tree_run a (after_fork p) own ++ join))
           (every_weaker (λ x. IsTreeAction kid x) (λ x. IsTreeAction a x) (λ x. from_child a k x) (tree_run kid start child) (tree_actions child kid start)) (
-            from_child a k (end_at kid (after_tree start child)) (own_action kid (after_tree start child) ends tt),
+            from_child a k (end_at kid (after_tree start child) record_words) (own_action kid (after_tree start child) ends record_words tt),
             every_append (λ x. IsTreeAction a x) (tree_run a (after_fork p) own) join (tree_actions own a (after_fork p))
-                (own_action a (after_tree (after_fork p) own) (joins k) tt, tt),
+                (own_action a (after_tree (after_fork p) own) (joins k) 0 tt, tt),
           ),
     )
 
@@ -149,7 +149,7 @@ tree_done l done closed (forked child own) a p s sits j le inside mine did i lo 
     let below : List Action = tree_run kid start child in
     let rest : List Action = tree_run a (after_fork p) own in
     let join : List Action = action_at_point a (after_tree (after_fork p) own) (joins k) 0 ∷ [] in
-    let last : Action = end_at kid (after_tree start child) in
+    let last : Action = end_at kid (after_tree start child) record_words in
     let end : ℕ = suc s + length below in
     let n : ℕ = suc end + length rest in
     let back : Sits (action_at l) end (last ∷ (rest ++ join)) = sits_back (action_at l) (suc s) end below (last ∷ (rest ++ join)) refl sits.1 in
@@ -230,7 +230,7 @@ tree_kinds (forked child own) a p =
     let below : List Action = tree_run kid start child in
     let mine : List Action = tree_run a (after_fork p) own in
     let join : List Action = action_at_point a (after_tree (after_fork p) own) (joins k) 0 ∷ [] in
-    let last : Action = end_at kid (after_tree start child) in
+    let last : Action = end_at kid (after_tree start child) record_words in
     let front = map-append action_kind below (last ∷ (mine ++ join)) in
     let back = map-append action_kind mine join in
     ap (λ l. Fork ∷ l) (front

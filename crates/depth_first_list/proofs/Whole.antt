@@ -36,7 +36,7 @@ pub record RootWhole (l : List Action) : Type 0 where
 
 pub root_whole : (k : ℕ) (l : List Action) → IsDepthFirst k l → RootWhole l
 root_whole k l run =
-    let end : List Action = end_at [] run.last ∷ [] in
+    let end : List Action = end_at [] run.last 0 ∷ [] in
     let e : ℕ = length run.below in
     let both = length-append run.below end in
     let long : length l ≡ length (run.below ++ end) = ap (λ m. length m) run.is in
@@ -50,6 +50,7 @@ root_whole k l run =
           last = run.last;
           trace = traced (action_at l) k [] start run.below run.last run.runs 0 e e run.last (omega arith)
               (sits_front (action_at l) 0 run.below end sits) (stays [] e run.last);
+          held = 0;
           joined = run.all_joined;
           end = back.0;
         };

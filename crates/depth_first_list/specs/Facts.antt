@@ -1,14 +1,14 @@
 -- What holds of each depth-first list. An action is spoken of by its place in the list, from 0.
-use Rattle.std.specs.Prelude.{◌≡◌, ◌↔◌, ℕ, zero, suc, ◌+◌, ◌-◌, ◌*◌, ◌≤◌, ◌<◌, List, [], ◌∷◌, ◌++◌, length, map, get_or, cond, take, ◌≤ℤ◌}
+use Rattle.std.specs.Prelude.{◌≡◌, ◌↔◌, ℕ, zero, suc, ◌+◌, ◌-◌, ◌*◌, ◌≤◌, ◌<◌, List, [], ◌∷◌, ◌++◌, ◌⊎◌, length, map, get_or, cond, take, ℤ, pos, neg_ℤ, ◌≤ℤ◌}
 use Rattle.dag_order.specs.LabelOrder.{fork_of, Before}
 use Rattle.dummy_tree.specs.Quotas.{dummies_of}
 use Rattle.dummy_tree.specs.Shapes.{Shape, actions, is_dummy}
-use Rattle.depth_first_list.specs.Actions.{Deed, forks, joins, allocates, releases, dummy, faults, ends, Action, kind_of, action_kind, live_words, peak}
+use Rattle.depth_first_list.specs.Actions.{Deed, forks, joins, allocates, releases, dummy, faults, ends, Action, record_words, kind_of, action_kind, weight, live_words, peak}
 use Rattle.depth_first_list.specs.Runs.{Point, start, end_at, tree_run, IsDepthFirst}
 
 -- the action at a place; what it says where the list has no such place is never used
 abbrev pub action_at : List Action → ℕ → Action
-action_at l i = get_or l i (end_at [] start)
+action_at l i = get_or l i (end_at [] start 0)
 
 abbrev pub label_at : List Action → ℕ → List ℕ
 label_at l i = (action_at l i).label
@@ -21,6 +21,10 @@ deed_at l i = (action_at l i).deed
 
 abbrev pub words_at : List Action → ℕ → ℕ
 words_at l i = (action_at l i).words
+
+-- by how much the words in use rise there
+abbrev pub weight_at : List Action → ℕ → ℤ
+weight_at l i = weight (action_at l i)
 
 -- a label is that of a thread, or of one that stems from it
 abbrev pub StemsFrom : List ℕ → List ℕ → Type 0
@@ -41,6 +45,10 @@ IndexRises l = (i j : ℕ) → j < length l → i < j → label_at l i ≡ label
 -- before an action stand those of its thread with each smaller index
 abbrev pub NoIndexIsSkipped : List Action → Type 0
 NoIndexIsSkipped l = (j n : ℕ) → j < length l → n < index_at l j → (i : ℕ) × (i < j) × (label_at l i ≡ label_at l j) × (index_at l i ≡ n)
+
+-- so an action has at least as many before it as its index says
+abbrev pub IndexIsWithin : List Action → Type 0
+IndexIsWithin l = (i : ℕ) → i < length l → index_at l i ≤ i
 
 -- before an action of a forked thread, or of one that stems from it, stands the Fork
 abbrev pub ForkStandsBefore : List Action → Type 0
@@ -71,6 +79,10 @@ pub record ForksAreInOrder (l : List Action) : Type 0 where
       → deed_at l f ≡ forks child → deed_at l g ≡ forks later → child < later
   pub none_skipped : (g child later : ℕ) → g < length l → deed_at l g ≡ forks later → 0 < child → child < later
       → (f : ℕ) × (f < g) × (label_at l f ≡ label_at l g) × (deed_at l f ≡ forks child)
+
+-- so a Fork is at least as many actions from the beginning as its ordinal says
+abbrev pub OrdinalIsWithin : List Action → Type 0
+OrdinalIsWithin l = (f child : ℕ) → f < length l → deed_at l f ≡ forks child → child ≤ suc f
 
 -- one Fork for each child
 abbrev pub ForkedOnce : List Action → Type 0
@@ -106,6 +118,24 @@ EachChildIsJoined l = (f child : ℕ) → f < length l → deed_at l f ≡ forks
 abbrev pub JoinedOnce : List Action → Type 0
 JoinedOnce l = (i j child : ℕ) → i < length l → j < length l → label_at l i ≡ label_at l j
     → deed_at l i ≡ joins child → deed_at l j ≡ joins child → i ≡ j
+
+-- a Fork takes the words of a record block
+abbrev pub ForksTakeRecords : List Action → Type 0
+ForksTakeRecords l = (f child : ℕ) → f < length l → deed_at l f ≡ forks child
+    → (words_at l f ≡ record_words) × (weight_at l f ≡ pos record_words)
+
+-- the End of a forked thread gives them back
+abbrev pub ChildEndsGiveBack : List Action → Type 0
+ChildEndsGiveBack l = (e child : ℕ) (parent : List ℕ) → e < length l → deed_at l e ≡ ends → label_at l e ≡ fork_of parent child
+    → (words_at l e ≡ record_words) × (weight_at l e ≡ neg_ℤ (pos record_words))
+
+-- the root has no record block
+abbrev pub RootEndIsWeightless : List Action → Type 0
+RootEndIsWeightless l = (e : ℕ) → e < length l → deed_at l e ≡ ends → label_at l e ≡ [] → (words_at l e ≡ 0) × (weight_at l e ≡ pos 0)
+
+-- a Dummy takes nothing
+abbrev pub DummiesAreWeightless : List Action → Type 0
+DummiesAreWeightless l = (i : ℕ) → i < length l → deed_at l i ≡ dummy → (words_at l i ≡ 0) × (weight_at l i ≡ pos 0)
 
 -- an Alloc that a quota of k words does not cover
 abbrev pub IsLarge : ℕ → List Action → ℕ → Type 0
@@ -169,8 +199,9 @@ pub record IsDone (l : List Action) (done : ℕ → ℕ) : Type 0 where
 abbrev pub TreesAreDoneFirst : ℕ → List Action → Type 0
 TreesAreDoneFirst k l = (done : ℕ → ℕ) → IsDone l done → (a i : ℕ) → IsLarge k l a → IsInTreeOf k l a i → 0 < done a → 0 < done i
 
--- a thread is live where the Forks above it are done, and its End is not
+-- a thread is live where it has a place in the list, the Forks above it are done, and its End is not
 pub record IsLive (l : List Action) (done : ℕ → ℕ) (label : List ℕ) : Type 0 where
+  pub acts : (i : ℕ) × (i < length l) × (label_at l i ≡ label)
   pub forked : (f child : ℕ) → f < length l → deed_at l f ≡ forks child → StemsFrom (fork_of (label_at l f) child) label → 0 < done f
   pub goes_on : (e : ℕ) → e < length l → label_at l e ≡ label → deed_at l e ≡ ends → done e ≡ 0
 
@@ -181,9 +212,38 @@ pub record IsNext (l : List Action) (done : ℕ → ℕ) (label : List ℕ) (n :
   pub missing : done n ≡ 0
   pub earlier : (i : ℕ) → i < n → label_at l i ≡ label → 0 < done i
 
--- a live thread that acts has a first place that is not done
+-- a live thread has a first place that is not done
 abbrev pub LiveHasNext : List Action → Type 0
-LiveHasNext l = (done : ℕ → ℕ) (i : ℕ) → i < length l → IsLive l done (label_at l i) → (n : ℕ) × IsNext l done (label_at l i) n
+LiveHasNext l = (done : ℕ → ℕ) (label : List ℕ) → IsLive l done label → (n : ℕ) × IsNext l done label n
+
+-- where the End of a thread is done, all of it is, and all of the threads that stem from it
+abbrev pub EndMeansAll : List Action → Type 0
+EndMeansAll l = (done : ℕ → ℕ) → IsDone l done → (e i : ℕ) → e < length l → i < length l → deed_at l e ≡ ends → 0 < done e
+    → StemsFrom (label_at l e) (label_at l i) → 0 < done i
+
+-- where the root's End is done, everything is
+abbrev pub RootEndMeansAll : List Action → Type 0
+RootEndMeansAll l = (done : ℕ → ℕ) → IsDone l done → (e i : ℕ) → e < length l → i < length l → label_at l e ≡ [] → deed_at l e ≡ ends
+    → 0 < done e → 0 < done i
+
+-- the parent of a live thread is live, and so are those above
+abbrev pub ParentsAreLive : List Action → Type 0
+ParentsAreLive l = (done : ℕ → ℕ) → IsDone l done → (parent below : List ℕ) → IsLive l done (parent ++ below) → IsLive l done parent
+
+-- where a thread's next action is the Join of a child, nothing that stems from a later fork of the thread is live
+abbrev pub JoinsTheLastLive : List Action → Type 0
+JoinsTheLastLive l = (done : ℕ → ℕ) → IsDone l done → (thread : List ℕ) (n child later : ℕ) (below : List ℕ)
+    → IsNext l done thread n → deed_at l n ≡ joins child → child < later → IsLive l done (thread ++ later ∷ below) → ⊥
+
+-- of a thread's actions the first `count` are done, and no others
+pub record HasDone (l : List Action) (done : ℕ → ℕ) (label : List ℕ) (count : ℕ) : Type 0 where
+  pub those : (i : ℕ) → i < length l → label_at l i ≡ label → index_at l i < count → 0 < done i
+  pub no_more : (i : ℕ) → i < length l → label_at l i ≡ label → count ≤ index_at l i → done i ≡ 0
+
+-- the next place of a thread is that whose index is the number of its actions that are done
+abbrev pub NextIsOfItsIndex : List Action → Type 0
+NextIsOfItsIndex l = (done : ℕ → ℕ) → IsDone l done → (label : List ℕ) (n : ℕ) → n < length l → label_at l n ≡ label
+    → IsNext l done label n ↔ HasDone l done label (index_at l n)
 
 -- of two live threads the one whose label is before the other's acts next earlier in the list
 abbrev pub LabelsFollowTheList : List Action → Type 0
@@ -194,6 +254,16 @@ LabelsFollowTheList l = (done : ℕ → ℕ) → IsDone l done → (a b : List �
 abbrev pub FirstMissingIsNext : List Action → Type 0
 FirstMissingIsNext l = (done : ℕ → ℕ) → IsDone l done → (i : ℕ) → i < length l → done i ≡ 0 → ((j : ℕ) → j < i → 0 < done j)
     → IsLive l done (label_at l i) × IsNext l done (label_at l i) i
+
+-- its thread stands before all other live threads
+abbrev pub FirstMissingGoesFirst : List Action → Type 0
+FirstMissingGoesFirst l = (done : ℕ → ℕ) → IsDone l done → (i : ℕ) → i < length l → done i ≡ 0 → ((j : ℕ) → j < i → 0 < done j)
+    → (other : List ℕ) → IsLive l done other → (other ≡ label_at l i) ⊎ Before (label_at l i) other
+
+-- and does not wait for a child: a child that it joins has ended
+abbrev pub FirstMissingNeverWaits : List Action → Type 0
+FirstMissingNeverWaits l = (done : ℕ → ℕ) → IsDone l done → (i child : ℕ) → i < length l → done i ≡ 0 → ((j : ℕ) → j < i → 0 < done j)
+    → deed_at l i ≡ joins child → IsLive l done (fork_of (label_at l i) child) → ⊥
 
 -- the kinds of a thread's actions in a tree of dummies are those of the tree
 abbrev pub TreeRunsAsShaped : Type 0

@@ -3,7 +3,7 @@ use Rattle.std.specs.Prelude.{◌≡◌, ℕ, suc, ◌≤◌, ◌<◌, List, [],
 use Rattle.dag_order.specs.LabelOrder.{fork_of}
 use Rattle.dummy_tree.specs.Quotas.{dummies_of}
 use Rattle.dummy_tree.specs.Shapes.{Shape, leaf, forked, shape_of}
-use Rattle.depth_first_list.specs.Actions.{Deed, forks, joins, allocates, releases, dummy, faults, ends, Action}
+use Rattle.depth_first_list.specs.Actions.{Deed, forks, joins, allocates, releases, dummy, faults, ends, Action, record_words}
 
 -- Where a thread is: how many actions it has done, which is the index of its next one, how many forks it has
 -- done, and the ordinals of its children that it has not joined, the newest first.
@@ -36,9 +36,9 @@ after_fork p = record { done = suc p.done; forks_done = next_child p; open_child
 abbrev pub after_join : Point → List ℕ → Point
 after_join p older = record { done = suc p.done; forks_done = p.forks_done; open_children = older }
 
--- the action by which a thread ends
-abbrev pub end_at : List ℕ → Point → Action
-end_at label p = action_at_point label p ends 0
+-- the action by which a thread ends and gives back the words of its record block
+abbrev pub end_at : List ℕ → Point → ℕ → Action
+end_at label p words = action_at_point label p ends words
 
 -- where a thread is when it has run a tree of dummies
 abbrev pub after_tree : Point → Shape → Point
@@ -50,9 +50,9 @@ after_tree p (forked child own) = after_join (after_tree (after_fork p) own) p.o
 abbrev pub tree_run : List ℕ → Point → Shape → List Action
 tree_run label p leaf = action_at_point label p dummy 0 ∷ []
 tree_run label p (forked child own) =
-    action_at_point label p (forks (next_child p)) 0
+    action_at_point label p (forks (next_child p)) record_words
     ∷ (tree_run (fork_of label (next_child p)) start child
-    ++ (end_at (fork_of label (next_child p)) (after_tree start child)
+    ++ (end_at (fork_of label (next_child p)) (after_tree start child) record_words
     ∷ (tree_run label (after_fork p) own
     ++ (action_at_point label (after_tree (after_fork p) own) (joins (next_child p)) 0 ∷ []))))
 
@@ -81,10 +81,13 @@ pub data Runs (k : ℕ) : List ℕ → Point → List Action → Point → Type 
   -- it does a plain action
   acts : (label : List ℕ) (p : Point) (deed : Deed) (words : ℕ)
       → IsPlain k deed words → Runs k label p (action_at_point label p deed words ∷ []) (after_action p)
-  -- it forks a child, whose whole run follows: it begins at the start, leaves no child open, and ends
+  -- it forks a child, whose whole run follows: it begins at the start, leaves no child open, and ends; the Fork takes
+  -- the words of its record block, and its End gives them back
   forks_a_child : (label : List ℕ) (p q : Point) (below : List Action)
       → Runs k (fork_of label (next_child p)) start below q → q.open_children ≡ []
-      → Runs k label p (action_at_point label p (forks (next_child p)) 0 ∷ (below ++ end_at (fork_of label (next_child p)) q ∷ [])) (after_fork p)
+      → Runs k label p
+      (action_at_point label p (forks (next_child p)) record_words ∷ (below ++ end_at (fork_of label (next_child p)) q record_words ∷ []))
+      (after_fork p)
   -- it joins its newest open child
   joins_the_newest : (label : List ℕ) (p : Point) (child : ℕ) (older : List ℕ) (words : ℕ)
       → p.open_children ≡ child ∷ older
@@ -96,14 +99,15 @@ pub data Runs (k : ℕ) : List ℕ → Point → List Action → Point → Type 
       (tree_run label p (tree_for k words) ++ action_at_point label (after_tree p (tree_for k words)) allocates words ∷ [])
       (after_action (after_tree p (tree_for k words)))
 
--- the whole run of a thread: from the start to a point with no open child, and its End
-pub record RunsWhole (k : ℕ) (label : List ℕ) (actions : List Action) : Type 0 where
+-- the whole run of a thread with a record block of so many words: from the start to a point with no open child,
+-- and its End
+pub record RunsWhole (k : ℕ) (label : List ℕ) (words : ℕ) (actions : List Action) : Type 0 where
   pub last : Point
   pub below : List Action
   pub runs : Runs k label start below last
   pub all_joined : last.open_children ≡ []
-  pub is : actions ≡ below ++ end_at label last ∷ []
+  pub is : actions ≡ below ++ end_at label last words ∷ []
 
--- the depth-first list of a run: the whole run of the root
+-- the depth-first list of a run: the whole run of the root, which has no record block
 abbrev pub IsDepthFirst : ℕ → List Action → Type 0
-IsDepthFirst k actions = RunsWhole k [] actions
+IsDepthFirst k actions = RunsWhole k [] 0 actions

@@ -1,6 +1,6 @@
 ghost use Rattle.std.specs.Prelude.{List};
 ghost use Rattle.depth_first_list.specs.Actions.{Action};
-ghost use Rattle.depth_first_list.specs.Facts.{Always, AlwaysWithin, PeakIsHighest, TreeRunsAsShaped, ChildBeginsBehindFork, ChildStandsBeforeParent, ChildStandsTogether, DummiesAreOfTrees, EachChildIsJoined, EachThreadEnds, EndIsLast, FirstMissingIsNext, ForkStandsBefore, ForkedOnce, ForksAreInOrder, IndexRises, JoinStandsBehindChild, JoinedOnce, JoinsTheNewest, LabelsFollowTheList, LiveHasNext, NamesDiffer, NoIndexIsSkipped, RootEnds, TreesAreApart, TreesAreDoneFirst, TreesStandBefore};
+ghost use Rattle.depth_first_list.specs.Facts.{Always, AlwaysWithin, PeakIsHighest, TreeRunsAsShaped, ForksTakeRecords, ChildEndsGiveBack, RootEndIsWeightless, DummiesAreWeightless, EndMeansAll, RootEndMeansAll, ParentsAreLive, JoinsTheLastLive, NextIsOfItsIndex, FirstMissingGoesFirst, FirstMissingNeverWaits, ChildBeginsBehindFork, ChildStandsBeforeParent, ChildStandsTogether, DummiesAreOfTrees, EachChildIsJoined, EachThreadEnds, EndIsLast, FirstMissingIsNext, ForkStandsBefore, ForkedOnce, ForksAreInOrder, IndexRises, JoinStandsBehindChild, JoinedOnce, JoinsTheNewest, LabelsFollowTheList, LiveHasNext, NamesDiffer, NoIndexIsSkipped, IndexIsWithin, OrdinalIsWithin, RootEnds, TreesAreApart, TreesAreDoneFirst, TreesStandBefore};
 
 /// The root acts, and its End is the last action of the list.
 pub fn root_ends()
@@ -20,6 +20,11 @@ pub fn index_rises()
 /// The indices of a thread are 0, 1, 2, and so on.
 pub fn no_index_is_skipped()
     ensures { Always NoIndexIsSkipped }
+{}
+
+/// An action has at least as many before it as its index says.
+pub fn index_is_within()
+    ensures { Always IndexIsWithin }
 {}
 
 /// Before each action of a forked thread, and of those that stem from it, stands its Fork.
@@ -45,6 +50,11 @@ pub fn child_stands_before_parent()
 /// The forks of a thread have the ordinals 1, 2, and so on, in their order.
 pub fn forks_are_in_order()
     ensures { Always ForksAreInOrder }
+{}
+
+/// A Fork is at least as many actions from the beginning as its ordinal says.
+pub fn ordinal_is_within()
+    ensures { Always OrdinalIsWithin }
 {}
 
 /// Each child has one Fork.
@@ -118,7 +128,7 @@ pub fn peak_is_highest()
     ensures { (l : List Action) → PeakIsHighest l }
 {}
 
-/// Whatever part of the list is done, a live thread that acts has a first action that is not done.
+/// Whatever part of the list is done, a live thread has a first action that is not done.
 pub fn live_has_next()
     ensures { Always LiveHasNext }
 {}
@@ -126,4 +136,60 @@ pub fn live_has_next()
 /// The run of a tree of dummies has the actions of the tree's shape.
 pub fn tree_runs_as_shaped()
     ensures { TreeRunsAsShaped }
+{}
+
+/// A Fork takes the words of the child's record block.
+pub fn forks_take_records()
+    ensures { Always ForksTakeRecords }
+{}
+
+/// The End of a forked thread gives the words of its record block back.
+pub fn child_ends_give_back()
+    ensures { Always ChildEndsGiveBack }
+{}
+
+/// The End of the root weighs nothing.
+pub fn root_end_is_weightless()
+    ensures { Always RootEndIsWeightless }
+{}
+
+/// A Dummy weighs nothing.
+pub fn dummies_are_weightless()
+    ensures { Always DummiesAreWeightless }
+{}
+
+/// Whatever part of the list is done, where the End of a thread is done, all of it is, and all of those that stem from it.
+pub fn end_means_all()
+    ensures { Always EndMeansAll }
+{}
+
+/// Whatever part of the list is done, where the root's End is done, everything is.
+pub fn root_end_means_all()
+    ensures { Always RootEndMeansAll }
+{}
+
+/// Whatever part of the list is done, the threads that a live one stems from are live.
+pub fn parents_are_live()
+    ensures { Always ParentsAreLive }
+{}
+
+/// Whatever part of the list is done, where a thread's next action is the Join of a child, nothing that stems from a later
+/// fork of the thread is live.
+pub fn joins_the_last_live()
+    ensures { Always JoinsTheLastLive }
+{}
+
+/// Whatever part of the list is done, the next place of a thread is that whose index is the number of its actions done.
+pub fn next_is_of_its_index()
+    ensures { Always NextIsOfItsIndex }
+{}
+
+/// Whatever part of the list is done, the thread of the first action that is not done stands before all other live threads.
+pub fn first_missing_goes_first()
+    ensures { Always FirstMissingGoesFirst }
+{}
+
+/// Whatever part of the list is done, the thread of the first action that is not done does not wait for a child.
+pub fn first_missing_never_waits()
+    ensures { Always FirstMissingNeverWaits }
 {}

@@ -5,7 +5,7 @@ use borrow.Author.Tests.{leb-true, leb-false}
 use Rattle.dag_order.specs.declared.fault.FaultKind.{FaultKind}
 use Rattle.dummy_tree.specs.Shapes.{Shape, leaf, forked}
 use Rattle.depth_first_list.specs.Actions as actions
-use Rattle.depth_first_list.specs.Actions.{Action, Deed}
+use Rattle.depth_first_list.specs.Actions.{Action, Deed, record_words}
 use Rattle.depth_first_list.specs.Runs.{Point, start, action_at_point, after_action, after_fork, after_join, end_at, after_tree, tree_run, tree_for, IsPlain, Runs, rests, goes_on, acts, joins_the_newest, forks_a_child, allocates_behind_a_tree, IsDepthFirst}
 use Rattle.par_tree.specs.Tree.{Name, Expr, Target, Arg, Param, Stmt, let_stmt, assign_stmt, put_stmt, alloc_stmt, free_stmt, if_stmt, while_stmt, call_stmt, print_stmt, par_stmt, split_stmt, Body, done, step, Func, Ret, RetValue, gives, hands}
 use Rattle.par_ownership.specs.Ownership.{function_of, main_name}
@@ -169,15 +169,15 @@ built_forking c named assigned work own s w built_own =
     let kid : ℕ = suc s.forks in
     let k : State = child_of c named s in
     let e : State = work k in
-    let d : State = ended e in
+    let d : State = ended record_words e in
     let p : State = parent_of named d.items s in
     let q : State = own p in
     let b : Built c p q = built_own d.items in
     let words : ℕ = given_back q.faulted d.faulted d q in
     let t : State = with_action (actions.joins kid) words q in
     let r : State = with_result q.faulted d.faulted assigned d t in
-    let fork : Item = next_action (actions.forks kid) 0 s in
-    let last : Item = next_action actions.ends 0 e in
+    let fork : Item = next_action (actions.forks kid) record_words s in
+    let last : Item = next_action actions.ends record_words e in
     let join : Item = next_action (actions.joins kid) words q in
     let back : List Item = b.new ++ join ∷ [] in
     let all : List Item = fork ∷ (w.new ++ last ∷ back) in
@@ -197,10 +197,10 @@ built_forking c named assigned work own s w built_own =
       runs = λ o.
           let here : Point = point_of o s in
           let inside : Point = point_of (kid ∷ o) q in
-          let end : Action = record { label = e.label; index = e.done; deed = actions.ends; words = 0 } in
-          let ended_is : end ≡ end_at k.label (point_of [] e) =
-          ap (λ l. let a : Action = record { label = l; index = e.done; deed = actions.ends; words = 0 } in a) w.label in
-          let child : Runs c.quota s.label here (action_at_point s.label here (actions.forks kid) 0 ∷ (actions_of w.new ++ end_at k.label (point_of [] e) ∷ [])) (after_fork here) =
+          let end : Action = record { label = e.label; index = e.done; deed = actions.ends; words = record_words } in
+          let ended_is : end ≡ end_at k.label (point_of [] e) record_words =
+          ap (λ l. let a : Action = record { label = l; index = e.done; deed = actions.ends; words = record_words } in a) w.label in
+          let child : Runs c.quota s.label here (action_at_point s.label here (actions.forks kid) record_words ∷ (actions_of w.new ++ end_at k.label (point_of [] e) record_words ∷ [])) (after_fork here) =
           forks_a_child s.label here (point_of [] e) (actions_of w.new) (w.runs []) refl in
           let joining_runs : Runs c.quota q.label inside (action_at_point q.label inside (actions.joins kid) words ∷ []) (after_join inside o) =
           joins_the_newest q.label inside kid o words refl in
@@ -208,14 +208,14 @@ built_forking c named assigned work own s w built_own =
           let own_runs = goes_on s.label (after_fork here) inside (after_join inside o) (actions_of b.new) (action_at_point q.label inside (actions.joins kid) words ∷ [])
           (b.runs (kid ∷ o)) (subst L b.label joining_runs) in
           let total = goes_on s.label here (after_fork here) (after_join inside o)
-          (action_at_point s.label here (actions.forks kid) 0 ∷ (actions_of w.new ++ end_at k.label (point_of [] e) ∷ []))
+          (action_at_point s.label here (actions.forks kid) record_words ∷ (actions_of w.new ++ end_at k.label (point_of [] e) record_words ∷ []))
           (actions_of b.new ++ action_at_point q.label inside (actions.joins kid) words ∷ []) child own_runs in
           let A : List Action → Type 0 = λ l. Runs c.quota s.label here l (after_join inside o) in
           let B : Point → Type 0 = λ z. Runs c.quota s.label here (actions_of all) z in
-          let list : action_at_point s.label here (actions.forks kid) 0 ∷ (actions_of w.new ++ end_at k.label (point_of [] e) ∷ [])
+          let list : action_at_point s.label here (actions.forks kid) record_words ∷ (actions_of w.new ++ end_at k.label (point_of [] e) record_words ∷ [])
           ++ (actions_of b.new ++ action_at_point q.label inside (actions.joins kid) words ∷ []) ≡ actions_of all =
-          ap (λ l. action_at_point s.label here (actions.forks kid) 0 ∷ l)
-          (append_assoc (actions_of w.new) (end_at k.label (point_of [] e) ∷ []) (actions_of b.new ++ action_at_point q.label inside (actions.joins kid) words ∷ [])
+          ap (λ l. action_at_point s.label here (actions.forks kid) record_words ∷ l)
+          (append_assoc (actions_of w.new) (end_at k.label (point_of [] e) record_words ∷ []) (actions_of b.new ++ action_at_point q.label inside (actions.joins kid) words ∷ [])
           ∙ ap (λ x. actions_of w.new ++ x ∷ (actions_of b.new ++ action_at_point q.label inside (actions.joins kid) words ∷ [])) (sym ended_is)
           ∙ ap (λ l. actions_of w.new ++ end ∷ l) (sym (actions_append b.new (join ∷ [])))
           ∙ sym (actions_append w.new (last ∷ back))) in
@@ -257,15 +257,15 @@ treed c (forked child own) s sound =
     let k : State = child_of c no_name s in
     let w : Treed c child k (run_tree c child k) = treed c child k refl in
     let e : State = run_tree c child k in
-    let d : State = ended e in
+    let d : State = ended record_words e in
     let p : State = parent_of no_name d.items s in
     let b : Treed c own p (run_tree c own p) = treed c own p sound in
     let q : State = run_tree c own p in
     let words : ℕ = given_back q.faulted d.faulted d q in
     let t : State = with_action (actions.joins kid) words q in
     let r : State = with_result q.faulted d.faulted no_name d t in
-    let fork : Item = next_action (actions.forks kid) 0 s in
-    let last : Item = next_action actions.ends 0 e in
+    let fork : Item = next_action (actions.forks kid) record_words s in
+    let last : Item = next_action actions.ends record_words e in
     let join : Item = next_action (actions.joins kid) words q in
     let back : List Item = b.new ++ join ∷ [] in
     let all : List Item = fork ∷ (w.new ++ last ∷ back) in
@@ -290,16 +290,16 @@ treed c (forked child own) s sound =
           ap (λ l. let a : Action = record { label = l; index = q.done; deed = actions.joins kid; words = words } in a) b.label
           ∙ ap (λ z. action_at_point s.label z (actions.joins kid) words) (b.point (kid ∷ o))
           ∙ ap (λ n. action_at_point s.label (after_tree (after_fork here) own) (actions.joins kid) n) (no_words q.faulted d.faulted d q b.sound w.sound) in
-          let last_is : (let a : Action = record { label = e.label; index = e.done; deed = actions.ends; words = 0 } in a) ≡ end_at k.label (after_tree start child) =
-          ap (λ l. let a : Action = record { label = l; index = e.done; deed = actions.ends; words = 0 } in a) w.label
-          ∙ ap (λ z. end_at k.label z) (w.point []) in
-          let front : Action = action_at_point s.label here (actions.forks kid) 0 in
+          let last_is : (let a : Action = record { label = e.label; index = e.done; deed = actions.ends; words = record_words } in a) ≡ end_at k.label (after_tree start child) record_words =
+          ap (λ l. let a : Action = record { label = l; index = e.done; deed = actions.ends; words = record_words } in a) w.label
+          ∙ ap (λ z. end_at k.label z record_words) (w.point []) in
+          let front : Action = action_at_point s.label here (actions.forks kid) record_words in
           ap (λ l. front ∷ l) (actions_append w.new (last ∷ back))
-          ∙ ap (λ l. front ∷ (l ++ (let a : Action = record { label = e.label; index = e.done; deed = actions.ends; words = 0 } in a) ∷ actions_of back)) (w.actions [])
+          ∙ ap (λ l. front ∷ (l ++ (let a : Action = record { label = e.label; index = e.done; deed = actions.ends; words = record_words } in a) ∷ actions_of back)) (w.actions [])
           ∙ ap (λ a. front ∷ (tree_run k.label start child ++ a ∷ actions_of back)) last_is
-          ∙ ap (λ l. front ∷ (tree_run k.label start child ++ end_at k.label (after_tree start child) ∷ l)) (actions_append b.new (join ∷ []))
-          ∙ ap (λ l. front ∷ (tree_run k.label start child ++ end_at k.label (after_tree start child) ∷ (l ++ (let a : Action = record { label = q.label; index = q.done; deed = actions.joins kid; words = words } in a) ∷ []))) (b.actions (kid ∷ o))
-          ∙ ap (λ a. front ∷ (tree_run k.label start child ++ end_at k.label (after_tree start child) ∷ (tree_run s.label (after_fork here) own ++ a ∷ []))) join_is;
+          ∙ ap (λ l. front ∷ (tree_run k.label start child ++ end_at k.label (after_tree start child) record_words ∷ l)) (actions_append b.new (join ∷ []))
+          ∙ ap (λ l. front ∷ (tree_run k.label start child ++ end_at k.label (after_tree start child) record_words ∷ (l ++ (let a : Action = record { label = q.label; index = q.done; deed = actions.joins kid; words = words } in a) ∷ []))) (b.actions (kid ∷ o))
+          ∙ ap (λ a. front ∷ (tree_run k.label start child ++ end_at k.label (after_tree start child) record_words ∷ (tree_run s.label (after_fork here) own ++ a ∷ []))) join_is;
     }
 
 -- an allocation with its tree

@@ -7,7 +7,7 @@ use borrow.Author.Tests.{leb-true, eqb-true}
 use Rattle.dag_order.specs.declared.fault.FaultKind.{FaultKind}
 use Rattle.dummy_tree.specs.Shapes.{Shape, leaf, forked}
 use Rattle.depth_first_list.specs.Actions as actions
-use Rattle.depth_first_list.specs.Actions.{Action, Deed, weight, weight_of, live_words}
+use Rattle.depth_first_list.specs.Actions.{Action, Deed, weight, weight_of, live_words, record_words}
 use Rattle.depth_first_list.specs.Runs.{tree_for}
 use Rattle.par_tree.specs.Tree.{Name, Expr, Target, Arg, Param, Stmt, let_stmt, assign_stmt, put_stmt, alloc_stmt, free_stmt, if_stmt, while_stmt, call_stmt, print_stmt, par_stmt, split_stmt, Body, done, step, Func, Ret, RetValue, gives, hands}
 use Rattle.par_ownership.specs.Ownership.{function_of, main_name}
@@ -240,15 +240,15 @@ sound_forking c named assigned work own s w sound_own =
     let kid : ℕ = suc s.forks in
     let k : State = child_of c named s in
     let e : State = work k in
-    let d : State = ended e in
+    let d : State = ended record_words e in
     let p : State = parent_of named d.items s in
     let q : State = own p in
     let b : Sound p q = sound_own d.items in
     let words : ℕ = given_back q.faulted d.faulted d q in
     let t : State = with_action (actions.joins kid) words q in
     let r : State = with_result q.faulted d.faulted assigned d t in
-    let fork : Item = next_action (actions.forks kid) 0 s in
-    let last : Item = next_action actions.ends 0 e in
+    let fork : Item = next_action (actions.forks kid) record_words s in
+    let last : Item = next_action actions.ends record_words e in
     let join : Item = next_action (actions.joins kid) words q in
     let back : List Item = b.new ++ join ∷ [] in
     let all : List Item = fork ∷ (w.new ++ last ∷ back) in
@@ -257,8 +257,8 @@ sound_forking c named assigned work own s w sound_own =
     ∙ append_assoc ((s.items ++ fork ∷ []) ++ w.new) (last ∷ []) b.new
     ∙ append_assoc (s.items ++ fork ∷ []) w.new (last ∷ b.new)
     ∙ append_assoc s.items (fork ∷ []) (w.new ++ last ∷ b.new) in
-    let a_fork : Action = record { label = s.label; index = s.done; deed = actions.forks kid; words = 0 } in
-    let a_end : Action = record { label = e.label; index = e.done; deed = actions.ends; words = 0 } in
+    let a_fork : Action = record { label = s.label; index = s.done; deed = actions.forks kid; words = record_words } in
+    let a_end : Action = record { label = e.label; index = e.done; deed = actions.ends; words = record_words } in
     let a_join : Action = record { label = q.label; index = q.done; deed = actions.joins kid; words = words } in
     let list : actions_of all ≡ a_fork ∷ (actions_of w.new ++ a_end ∷ (actions_of b.new ++ a_join ∷ [])) =
     ap (λ l. a_fork ∷ l) (actions_append w.new (last ∷ back)
@@ -270,10 +270,10 @@ sound_forking c named assigned work own s w sound_own =
     let r_words : holdings r + words ≤ holdings q + holdings e = omega (arith, behind, d_words) in
     let lw : ℤ = live_words (actions_of w.new) in
     let lb : ℤ = live_words (actions_of b.new) in
-    let total : live_words (actions_of all) ≡ pos 0 +ℤ (lw +ℤ (pos 0 +ℤ (lb +ℤ (neg_ℤ (pos words) +ℤ pos 0)))) =
+    let total : live_words (actions_of all) ≡ pos 16 +ℤ (lw +ℤ (neg_ℤ (pos 16) +ℤ (lb +ℤ (neg_ℤ (pos words) +ℤ pos 0)))) =
     ap live_words list
-    ∙ ap (λ z. pos 0 +ℤ z) (live_append (actions_of w.new) (a_end ∷ (actions_of b.new ++ a_join ∷ []))
-    ∙ ap (λ z. lw +ℤ (pos 0 +ℤ z)) (live_append (actions_of b.new) (a_join ∷ []))) in
+    ∙ ap (λ z. pos 16 +ℤ z) (live_append (actions_of w.new) (a_end ∷ (actions_of b.new ++ a_join ∷ []))
+    ∙ ap (λ z. lw +ℤ (neg_ℤ (pos 16) +ℤ z)) (live_append (actions_of b.new) (a_join ∷ []))) in
     record {
       new = all;
       grown = taking_items q.faulted d.faulted assigned d t ∙ ap (λ is. is ++ join ∷ []) q_items
@@ -281,12 +281,12 @@ sound_forking c named assigned work own s w sound_own =
           ∙ ap (λ is. s.items ++ (fork ∷ is)) (append_assoc w.new (last ∷ b.new) (join ∷ []));
       covered = let C : List Action → Type 0 = λ l. Covered (pos (holdings s)) l in
           subst C (sym list) (
-            zero_more (holdings s),
-            covered_append (actions_of w.new) (a_end ∷ (actions_of b.new ++ a_join ∷ [])) (pos (holdings s) +ℤ pos 0)
-                (covered_more (actions_of w.new) (pos (holdings k)) (pos (holdings s) +ℤ pos 0) (part_of (holdings k) (holdings p) (holdings s) split_is) w.covered) (
+            record_more (holdings s),
+            covered_append (actions_of w.new) (a_end ∷ (actions_of b.new ++ a_join ∷ [])) (pos (holdings s) +ℤ pos 16)
+                (covered_more (actions_of w.new) (pos (holdings k)) (pos (holdings s) +ℤ pos 16) (part_of (holdings k) (holdings p) (holdings s) split_is) w.covered) (
                   at_end (holdings s) (holdings k) (holdings p) (holdings e) lw split_is w.left,
-                  covered_append (actions_of b.new) (a_join ∷ []) (((pos (holdings s) +ℤ pos 0) +ℤ lw) +ℤ pos 0)
-                      (covered_more (actions_of b.new) (pos (holdings p)) (((pos (holdings s) +ℤ pos 0) +ℤ lw) +ℤ pos 0)
+                  covered_append (actions_of b.new) (a_join ∷ []) (((pos (holdings s) +ℤ pos 16) +ℤ lw) +ℤ neg_ℤ (pos 16))
+                      (covered_more (actions_of b.new) (pos (holdings p)) (((pos (holdings s) +ℤ pos 16) +ℤ lw) +ℤ neg_ℤ (pos 16))
                       (own_part (holdings s) (holdings k) (holdings p) (holdings e) lw split_is w.left) b.covered)
                       (at_join (holdings s) (holdings k) (holdings p) (holdings e) (holdings q) (holdings r) words lw lb split_is w.left b.left r_words, tt),
                 ),
@@ -294,23 +294,23 @@ sound_forking c named assigned work own s w sound_own =
       left = at_last (holdings s) (holdings k) (holdings p) (holdings e) (holdings q) (holdings r) words lw lb (live_words (actions_of all)) total split_is w.left b.left r_words;
     }
   where
-    zero_more : (n : ℕ) → pos 0 ≤ℤ (pos n +ℤ pos 0)
-    zero_more n = omega (arith, ints)
+    record_more : (n : ℕ) → pos 0 ≤ℤ (pos n +ℤ pos 16)
+    record_more n = omega (arith, ints)
 
-    part_of : (k p s : ℕ) → k + p ≡ s → pos k ≤ℤ (pos s +ℤ pos 0)
+    part_of : (k p s : ℕ) → k + p ≡ s → pos k ≤ℤ (pos s +ℤ pos 16)
     part_of k p s e = omega (arith, ints, e)
 
-    at_end : (s k p e : ℕ) (l : ℤ) → k + p ≡ s → pos e ≤ℤ (pos k +ℤ l) → pos 0 ≤ℤ (((pos s +ℤ pos 0) +ℤ l) +ℤ pos 0)
+    at_end : (s k p e : ℕ) (l : ℤ) → k + p ≡ s → pos e ≤ℤ (pos k +ℤ l) → pos 0 ≤ℤ (((pos s +ℤ pos 16) +ℤ l) +ℤ neg_ℤ (pos 16))
     at_end s k p e l is h = omega (arith, ints, is)
 
-    own_part : (s k p e : ℕ) (l : ℤ) → k + p ≡ s → pos e ≤ℤ (pos k +ℤ l) → pos p ≤ℤ (((pos s +ℤ pos 0) +ℤ l) +ℤ pos 0)
+    own_part : (s k p e : ℕ) (l : ℤ) → k + p ≡ s → pos e ≤ℤ (pos k +ℤ l) → pos p ≤ℤ (((pos s +ℤ pos 16) +ℤ l) +ℤ neg_ℤ (pos 16))
     own_part s k p e l is h = omega (arith, ints, is)
 
     at_join : (s k p e q r words : ℕ) (l m : ℤ) → k + p ≡ s → pos e ≤ℤ (pos k +ℤ l) → pos q ≤ℤ (pos p +ℤ m) → r + words ≤ q + e
-        → pos 0 ≤ℤ (((((pos s +ℤ pos 0) +ℤ l) +ℤ pos 0) +ℤ m) +ℤ neg_ℤ (pos words))
+        → pos 0 ≤ℤ (((((pos s +ℤ pos 16) +ℤ l) +ℤ neg_ℤ (pos 16)) +ℤ m) +ℤ neg_ℤ (pos words))
     at_join s k p e q r words l m is h g le = omega (arith, ints, is, le)
 
-    at_last : (s k p e q r words : ℕ) (l m z : ℤ) → z ≡ pos 0 +ℤ (l +ℤ (pos 0 +ℤ (m +ℤ (neg_ℤ (pos words) +ℤ pos 0)))) → k + p ≡ s
+    at_last : (s k p e q r words : ℕ) (l m z : ℤ) → z ≡ pos 16 +ℤ (l +ℤ (neg_ℤ (pos 16) +ℤ (m +ℤ (neg_ℤ (pos words) +ℤ pos 0)))) → k + p ≡ s
         → pos e ≤ℤ (pos k +ℤ l) → pos q ≤ℤ (pos p +ℤ m) → r + words ≤ q + e → pos r ≤ℤ (pos s +ℤ z)
     at_last s k p e q r words l m z t is h g le = omega (arith, ints, is, le)
 
@@ -537,18 +537,18 @@ sound_main c (Some g) =
     sound_trans (root_start c) t (main_run c (Some g) (root_start c)) (sound_run c g.body (root_start c))
     (sound_unless (with_answer g.ret ignore_answer) t (sound_answering g.ret ignore_answer t (λ a u i le. sound_quiet t u i (omega (arith, le)))))
 
-sound_ended : (s : State) → Sound s (ended s)
+sound_ended : (s : State) → Sound s (ended 0 s)
 unfolding ended with_action
-sound_ended s = sound_light s (ended s) (next_action actions.ends 0 s) (record { label = s.label; index = s.done; deed = actions.ends; words = 0 }) refl refl refl (omega arith)
+sound_ended s = sound_light s (ended 0 s) (next_action actions.ends 0 s) (record { label = s.label; index = s.done; deed = actions.ends; words = 0 }) refl refl refl (omega arith)
 
 -- live words never fall below 0
 pub never_below : (c : Setting) (n : ℕ) → pos 0 ≤ℤ live_words (take n (actions_of (State.items (whole c))))
 unfolding whole
 never_below c n =
     let e : State = main_run c (function_of c.program main_name) (root_start c) in
-    let s : Sound (root_start c) (ended e) = sound_trans (root_start c) e (ended e) (sound_main c (function_of c.program main_name)) (sound_ended e) in
-    let l : live_words (take n (actions_of (State.items (ended e)))) ≡ live_words (take n (actions_of s.new)) = ap (λ is. live_words (take n (actions_of is))) s.grown in
-    by (live_words (take n (actions_of (State.items (ended e))))) (live_words (take n (actions_of s.new))) l (covered_prefix (actions_of s.new) (pos 0) n (omega (arith, ints)) s.covered)
+    let s : Sound (root_start c) (ended 0 e) = sound_trans (root_start c) e (ended 0 e) (sound_main c (function_of c.program main_name)) (sound_ended e) in
+    let l : live_words (take n (actions_of (State.items (ended 0 e)))) ≡ live_words (take n (actions_of s.new)) = ap (λ is. live_words (take n (actions_of is))) s.grown in
+    by (live_words (take n (actions_of (State.items (ended 0 e))))) (live_words (take n (actions_of s.new))) l (covered_prefix (actions_of s.new) (pos 0) n (omega (arith, ints)) s.covered)
   where
     by : (x y : ℤ) → x ≡ y → pos 0 ≤ℤ (pos 0 +ℤ y) → pos 0 ≤ℤ x
     by x y e h = omega (arith, ints)

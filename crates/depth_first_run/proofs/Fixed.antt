@@ -8,6 +8,7 @@ use Rattle.dag_order.specs.LabelOrder.{fork_of}
 use Rattle.dag_order.specs.declared.fault.FaultKind.{FaultKind}
 use Rattle.par_tree.specs.Tree.{Name, Target, Arg, Stmt, let_stmt, assign_stmt, put_stmt, alloc_stmt, free_stmt, if_stmt, while_stmt, call_stmt, print_stmt, par_stmt, split_stmt, Body, done, step, Func}
 use Rattle.par_ownership.specs.Ownership.{function_of}
+use Rattle.depth_first_list.specs.Actions.{record_words}
 use Rattle.depth_first_run.specs.Stores.{block_of}
 use Rattle.depth_first_run.specs.Values.{Outcome, value, is_true}
 use Rattle.depth_first_run.specs.States
@@ -86,8 +87,8 @@ forking_same : (c : Setting) (named assigned : Name → Bool) (w w' o o' : State
     → fork_join c named assigned w o s ≡ fork_join c named assigned w' o' s
 unfolding fork_join own_part_then_join
 forking_same c named assigned w w' o o' s p q =
-    ap (λ d. own_part_then_join named assigned o s (ended d)) p
-    ∙ (let d : State = ended (w' (child_of c named s)) in ap (λ t. joined assigned (suc s.forks) d t) (q d.items))
+    ap (λ d. own_part_then_join named assigned o s (ended record_words d)) p
+    ∙ (let d : State = ended record_words (w' (child_of c named s)) in ap (λ t. joined assigned (suc s.forks) d t) (q d.items))
 
 splitting_at_same : (line : ℕ) (b l r : Name) (f g : State → State) (at : Option ℕ) (s : State)
     → ((n : ℕ) → f (on_store (cut_block b l r n) s) ≡ g (on_store (cut_block b l r n) s)) → split_in_place line b l r f at s ≡ split_in_place line b l r g at s

@@ -3,7 +3,7 @@ use Rattle.std.specs.Prelude.{◌≡◌, ℕ, zero, suc, ◌≤◌, nat_lt, nat_
 use Rattle.std.proofs.Common.{sym, ◌∙◌, ap, arith, append_assoc, append-nil}
 use Rattle.dag_order.specs.declared.fault.FaultKind.{FaultKind}
 use Rattle.dummy_tree.specs.Shapes.{Shape, leaf, forked}
-use Rattle.depth_first_list.specs.Actions.{Deed}
+use Rattle.depth_first_list.specs.Actions.{Deed, record_words}
 use Rattle.depth_first_list.specs.Actions as actions
 use Rattle.depth_first_list.specs.Runs.{tree_for}
 use Rattle.par_tree.specs.Tree.{Name, Expr, Target, Arg, Param, Stmt, let_stmt, assign_stmt, put_stmt, alloc_stmt, free_stmt, if_stmt, while_stmt, call_stmt, print_stmt, par_stmt, split_stmt, Body, done, step, Func, Ret, RetValue, gives, hands}
@@ -100,9 +100,9 @@ joined_keeps assigned child d s =
     keeps_trans s t (with_result s.faulted d.faulted assigned d t)
     (acting_keeps (actions.joins child) (given_back s.faulted d.faulted d s) s) (taking_keeps s.faulted d.faulted assigned d t)
 
-pub ended_keeps : (s : State) → Keeps s (ended s)
+pub ended_keeps : (words : ℕ) (s : State) → Keeps s (ended words s)
 unfolding ended
-ended_keeps s = acting_keeps actions.ends 0 s
+ended_keeps words s = acting_keeps actions.ends words s
 
 -- a thread behind its child keeps what it was, and the items go on from the child's
 pub joining_keeps : (named assigned : Name → Bool) (own : State → State) (s d : State)
@@ -121,10 +121,10 @@ pub forking_keeps : (c : Setting) (named assigned : Name → Bool) (work own : S
 unfolding fork_join Grows
 forking_keeps c named assigned work own s w o =
     let b : State = child_of c named s in
-    let e : Keeps b (ended (work b)) = keeps_trans b (work b) (ended (work b)) w (ended_keeps (work b)) in
-    let fork : List Item = States.next_action (actions.forks (suc s.forks)) 0 s ∷ [] in
-    joining_keeps named assigned own s (ended (work b))
-    (fork ++ e.grows.0, e.grows.1 ∙ append_assoc s.items fork e.grows.0) (o (ended (work b)).items)
+    let e : Keeps b (ended record_words (work b)) = keeps_trans b (work b) (ended record_words (work b)) w (ended_keeps record_words (work b)) in
+    let fork : List Item = States.next_action (actions.forks (suc s.forks)) record_words s ∷ [] in
+    joining_keeps named assigned own s (ended record_words (work b))
+    (fork ++ e.grows.0, e.grows.1 ∙ append_assoc s.items fork e.grows.0) (o (ended record_words (work b)).items)
 
 pub running_tree_keeps : (c : Setting) (shape : Shape) (s : State) → Keeps s (run_tree c shape s)
 unfolding run_tree

@@ -6,6 +6,7 @@ use Rattle.dummy_tree.specs.Shapes.{leaf, forked}
 use Rattle.depth_first_list.specs.Actions as actions
 use Rattle.par_tree.specs.Tree.{Name, Expr, Target, Arg, Stmt, let_stmt, assign_stmt, put_stmt, alloc_stmt, free_stmt, if_stmt, while_stmt, call_stmt, print_stmt, par_stmt, split_stmt, Body, done, step, Func}
 use Rattle.par_ownership.specs.Ownership.{function_of}
+use Rattle.depth_first_list.specs.Actions.{record_words}
 use Rattle.depth_first_run.specs.Stores.{block_of, block_words}
 use Rattle.depth_first_run.specs.Values.{Outcome, value, is_true}
 use Rattle.depth_first_run.specs.States
@@ -42,7 +43,7 @@ longer s t g =
 
 fork_grows : (c : Setting) (named : Name → Bool) (s : State) → Grows s (child_of c named s)
 unfolding Grows
-fork_grows c named s = (States.next_action (actions.forks (suc s.forks)) 0 s ∷ [], refl)
+fork_grows c named s = (States.next_action (actions.forks (suc s.forks)) record_words s ∷ [], refl)
 
 part_grows : (c : Setting) (p : Part) (s : State) → Keeps s (part_done c p s)
 unfolding KeepsAll
@@ -65,9 +66,9 @@ frame_grows c (answers_main ret) s =
     kept_grows s _ (unless_faulted_keeps (with_answer ret ignore_answer) s (answering_keeps ret ignore_answer s (λ a st. keeps_same (record s { store = st }))))
 frame_grows c (allocates b n) s = kept_grows s _ (allocated_keeps b n s)
 frame_grows c (awaits named assigned own parent) s =
-    let d : State = ended s in let p : State = parent_of named d.items parent in
+    let d : State = ended record_words s in let p : State = parent_of named d.items parent in
     let q : State = part_done c own p in
-    grows_trans s d (joined assigned (suc parent.forks) d q) (kept_grows s d (ended_keeps s))
+    grows_trans s d (joined assigned (suc parent.forks) d q) (kept_grows s d (ended_keeps record_words s))
     (grows_trans d p (joined assigned (suc parent.forks) d q) (grows_to d p refl)
     (grows_trans p q (joined assigned (suc parent.forks) d q) (kept_grows p q (part_grows c own p))
     (kept_grows q _ (joined_keeps assigned (suc parent.forks) d q))))
@@ -194,11 +195,11 @@ part_steps c (statements done) fs s = pops (omega arith) (grows_same s)
 part_steps c (statements (step line stmt rest)) fs s = first_steps s.faulted c line stmt rest fs s
 part_steps c (tree leaf) fs s = pops (omega arith) (kept_grows s _ (acting_keeps actions.dummy 0 s))
 part_steps c (tree (forked child own)) fs s =
-    marks (omega arith) (acted_longer s (child_of c no_name s) (States.next_action (actions.forks (suc s.forks)) 0 s) [] (sym (append-nil _)))
+    marks (omega arith) (acted_longer s (child_of c no_name s) (States.next_action (actions.forks (suc s.forks)) record_words s) [] (sym (append-nil _)))
 
-ended_longer : (s : State) → length s.items < length (State.items (ended s))
+ended_longer : (words : ℕ) (s : State) → length s.items < length (State.items (ended words s))
 unfolding ended with_action
-ended_longer s = acted_longer s (ended s) (States.next_action actions.ends 0 s) [] (sym (append-nil _))
+ended_longer words s = acted_longer s (ended words s) (States.next_action actions.ends words s) [] (sym (append-nil _))
 
 frame_steps : (c : Setting) (f : Frame) (fs : List Frame) (s : State) → Steps fs s (step_frame c f fs s)
 frame_steps c (does part) fs s = part_steps c part fs s
@@ -206,7 +207,7 @@ frame_steps c (answers ret params args t) fs s = pops (omega arith) (frame_grows
 frame_steps c (rejoins b l r) fs s = pops (omega arith) (frame_grows c (rejoins b l r) s)
 frame_steps c (answers_main ret) fs s = pops (omega arith) (frame_grows c (answers_main ret) s)
 frame_steps c (allocates b n) fs s = pops (omega arith) (frame_grows c (allocates b n) s)
-frame_steps c (awaits named assigned own parent) fs s = marks (omega arith) (ended_longer s)
+frame_steps c (awaits named assigned own parent) fs s = marks (omega arith) (ended_longer record_words s)
 frame_steps c (joins assigned child d) fs s = pops (omega arith) (frame_grows c (joins assigned child d) s)
 
 -- from what a step did to the end it is nearer

@@ -6,6 +6,7 @@ use Rattle.dummy_tree.specs.Shapes.{leaf, forked}
 use Rattle.depth_first_list.specs.Actions as actions
 use Rattle.par_tree.specs.Tree.{Name, Expr, Target, Arg, Param, Stmt, let_stmt, assign_stmt, put_stmt, alloc_stmt, free_stmt, if_stmt, while_stmt, call_stmt, print_stmt, par_stmt, split_stmt, Body, done, step, Func, Ret, RetValue, gives, hands}
 use Rattle.par_ownership.specs.Ownership.{function_of}
+use Rattle.depth_first_list.specs.Actions.{record_words}
 use Rattle.depth_first_run.specs.Stores as stores
 use Rattle.depth_first_run.specs.Stores.{block_of, block_words, drop_block}
 use Rattle.depth_first_run.specs.Values.{Outcome, value, is_true, place_in}
@@ -93,9 +94,9 @@ one_joined assigned child d s =
     let words = given_back s.faulted d.faulted d s in
     one_acting (actions.joins child) words s (joined assigned child d s) (one_taking s.faulted d.faulted assigned d (with_action (actions.joins child) words s))
 
-one_ended : (s : State) → One s (ended s)
+one_ended : (words : ℕ) (s : State) → One s (ended words s)
 unfolding ended
-one_ended s = one_acting actions.ends 0 s (ended s) refl
+one_ended words s = one_acting actions.ends words s (ended words s) refl
 
 -- ---- the points behind a step
 
@@ -143,7 +144,7 @@ one_calling_at c line t args None fs s = one_none s s refl
 one_calling_at c line t args (Some g) fs s = one_calling_with_at c line t args g (all_passed s.store g.params args) fs s
 
 one_forking : (c : Setting) (named : Name → Bool) (s : State) → One s (child_of c named s)
-one_forking c named s = one_item s (child_of c named s) (next_action (actions.forks (suc s.forks)) 0 s) (omega arith) refl
+one_forking c named s = one_item s (child_of c named s) (next_action (actions.forks (suc s.forks)) record_words s) (omega arith) refl
 
 one_both_at : (b : Bool) (c : Setting) (line : ℕ) (x y : Body) (fs : List Frame) (s : State) → One s (step_par b c line x y fs s).state
 one_both_at true c line x y fs s = one_forking c (names_in x) s
@@ -188,7 +189,7 @@ one_frame c (answers ret params args t) fs s =
 one_frame c (rejoins b l r) fs s = one_unless (on_store (rejoin_block b l r)) s (one_none s (on_store (rejoin_block b l r) s) refl)
 one_frame c (answers_main ret) fs s = one_unless (with_answer ret ignore_answer) s (one_answering ret ignore_answer s (λ a u. refl))
 one_frame c (allocates b n) fs s = one_allocated b n s
-one_frame c (awaits named assigned own parent) fs s = let one = one_ended s in record { new = one.new; few = one.few; behind = one.behind }
+one_frame c (awaits named assigned own parent) fs s = let one = one_ended record_words s in record { new = one.new; few = one.few; behind = one.behind }
 one_frame c (joins assigned child d) fs s = one_joined assigned child d s
 
 one_advance : (c : Setting) (m : Middle) → One m.state (advance c m).state

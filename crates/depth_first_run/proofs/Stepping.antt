@@ -5,6 +5,7 @@ use Rattle.dag_order.specs.declared.fault.FaultKind.{FaultKind}
 use Rattle.dummy_tree.specs.Shapes.{leaf, forked}
 use Rattle.par_tree.specs.Tree.{Name, Expr, Target, Arg, Stmt, let_stmt, assign_stmt, put_stmt, alloc_stmt, free_stmt, if_stmt, while_stmt, call_stmt, print_stmt, par_stmt, split_stmt, Body, done, step, Func}
 use Rattle.par_ownership.specs.Ownership.{function_of, main_name}
+use Rattle.depth_first_list.specs.Actions.{record_words}
 use Rattle.depth_first_run.specs.Stores.{block_of, block_words}
 use Rattle.depth_first_run.specs.Values.{Outcome, value, is_true}
 use Rattle.depth_first_run.specs.States
@@ -138,8 +139,8 @@ both_at_comes : (b : Bool) (c : Setting) (line : ℕ) (x y : Body) (fs : List Fr
 unfolding finish fork_join own_part_then_join
 both_at_comes true c line x y fs s =
     let k : State = child_of c (names_in x) s in
-    ap (λ d. finish c fs (own_part_then_join (names_in x) (assigns_in x) (part_done c (statements y)) s (ended d))) (run_fixed c x k)
-    ∙ (let d : State = ended (exec_all c (run c) x k) in
+    ap (λ d. finish c fs (own_part_then_join (names_in x) (assigns_in x) (part_done c (statements y)) s (ended record_words d))) (run_fixed c x k)
+    ∙ (let d : State = ended record_words (exec_all c (run c) x k) in
     ap (λ t. finish c fs (joined (assigns_in x) (suc s.forks) d t)) (run_fixed c y (parent_of (names_in x) d.items s)))
 both_at_comes false c line x y fs s = refl
 
@@ -212,9 +213,9 @@ advance_comes c m = by m.frames refl
     by (f ∷ fs) e =
         ap (λ l. finished c (advance c (middle l m.state))) e ∙ frame_comes c f fs m.state ∙ sym (ap (λ l. finish c l m.state) e)
 
-pub beginning_comes : (c : Setting) → whole c ≡ ended (finished c (run_start c (function_of c.program main_name)))
+pub beginning_comes : (c : Setting) → whole c ≡ ended 0 (finished c (run_start c (function_of c.program main_name)))
 unfolding whole finish
-beginning_comes c = ap ended (by (function_of c.program main_name))
+beginning_comes c = ap (ended 0) (by (function_of c.program main_name))
   where
     by : (o : Option Func) → main_run c o (root_start c) ≡ finished c (run_start c o)
     by None = refl

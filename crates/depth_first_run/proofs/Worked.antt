@@ -67,8 +67,8 @@ large = step 1 (Tree.alloc_stmt name_b (num 40)) (step 1 (Tree.free_stmt name_b)
 
 -- with a quota of 16, three dummies stand before the 48 words
 large_run : actions_of (ran (full 16 (one large))) ≡
-    act [] 0 (forks 1) 0 ∷ act (1 ∷ []) 0 (forks 1) 0 ∷ act (1 ∷ 1 ∷ []) 0 dummy 0 ∷ act (1 ∷ 1 ∷ []) 1 ends 0
-    ∷ act (1 ∷ []) 1 dummy 0 ∷ act (1 ∷ []) 2 (joins 1) 0 ∷ act (1 ∷ []) 3 ends 0
+    act [] 0 (forks 1) 16 ∷ act (1 ∷ []) 0 (forks 1) 16 ∷ act (1 ∷ 1 ∷ []) 0 dummy 0 ∷ act (1 ∷ 1 ∷ []) 1 ends 16
+    ∷ act (1 ∷ []) 1 dummy 0 ∷ act (1 ∷ []) 2 (joins 1) 0 ∷ act (1 ∷ []) 3 ends 16
     ∷ act [] 1 dummy 0 ∷ act [] 2 (joins 1) 0 ∷ act [] 3 allocates 48 ∷ act [] 4 releases 48 ∷ act [] 5 ends 0 ∷ []
 unfolding Stores.block_words Values.value States.with_action States.unless_faulted States.with_number States.ended States.joined States.own_part_then_join States.fork_join Calls.with_answer Run.run_tree Run.run_tree_before Run.exec Run.within Run.run Run.whole Shapes.halved Shapes.shape_of
 large_run = refl
@@ -86,7 +86,7 @@ both_fault = step 2 (Tree.par_stmt (says 2 (of_two Tree.over 1 0) done) (says 3 
 
 -- both branches run; the first fault is that of the first branch, and nothing is printed
 both_fault_run : actions_of (ran (full 16 (one both_fault))) ≡
-    act [] 0 (forks 1) 0 ∷ act (1 ∷ []) 0 deeds.faults 0 ∷ act (1 ∷ []) 1 ends 0
+    act [] 0 (forks 1) 16 ∷ act (1 ∷ []) 0 deeds.faults 0 ∷ act (1 ∷ []) 1 ends 16
     ∷ act [] 1 deeds.faults 0 ∷ act [] 2 (joins 1) 0 ∷ act [] 3 ends 0 ∷ []
 unfolding Values.value Values.operated States.with_action States.with_fault States.unless_faulted States.with_number States.with_depth States.ended States.joined States.own_part_then_join States.fork_join Calls.with_answer Run.exec Run.within Run.run Run.whole
 both_fault_run = refl
@@ -112,7 +112,7 @@ own_stays = refl
 -- alloc b = 17; par { print 1 / 0; } and { print 2; } : the Join of a faulted child gives back what the thread holds
 child_faults : actions_of (ran (full 32 (one (step 1 (Tree.alloc_stmt name_b (num 17))
     (step 1 (Tree.par_stmt (says 1 (of_two Tree.over 1 0) done) (says 1 (num 2) done)) done))))) ≡
-    act [] 0 allocates 32 ∷ act [] 1 (forks 1) 0 ∷ act (1 ∷ []) 0 deeds.faults 0 ∷ act (1 ∷ []) 1 ends 0
+    act [] 0 allocates 32 ∷ act [] 1 (forks 1) 16 ∷ act (1 ∷ []) 0 deeds.faults 0 ∷ act (1 ∷ []) 1 ends 16
     ∷ act [] 2 (joins 1) 32 ∷ act [] 3 ends 0 ∷ []
 unfolding Stores.block_words Values.value Values.operated States.with_action States.with_fault States.unless_faulted States.with_number States.with_depth States.ended States.joined States.own_part_then_join States.fork_join Calls.with_answer Run.run_tree_before Run.exec Run.within Run.run Run.whole
 child_faults = refl

@@ -14,7 +14,7 @@ RunIsFixed = (c : Setting) (b : Body) (s : State) → run c b s ≡ exec_all c (
 
 -- the whole run is the End of what its beginning comes to
 abbrev pub BeginningComesToTheWhole : Type 0
-BeginningComesToTheWhole = (c : Setting) → whole c ≡ ended (finished c (run_start c (function_of c.program main_name)))
+BeginningComesToTheWhole = (c : Setting) → whole c ≡ ended 0 (finished c (run_start c (function_of c.program main_name)))
 
 -- finishing from any point gives what finishing from the point before it gives
 abbrev pub StepsComeToTheSame : Type 0

@@ -5,6 +5,7 @@ use Rattle.dag_order.specs.declared.fault.FaultKind.{FaultKind}
 use Rattle.dag_order.specs.declared.fault.FaultKind.TheVariants as faults
 use Rattle.dummy_tree.specs.Shapes.{Shape, leaf, forked}
 use Rattle.depth_first_list.specs.Actions as actions
+use Rattle.depth_first_list.specs.Actions.{record_words}
 use Rattle.depth_first_list.specs.Runs.{tree_for}
 use Rattle.par_tree.specs.Tree.{Name, Expr, Target, Arg, Param, Stmt, let_stmt, assign_stmt, put_stmt, alloc_stmt, free_stmt, if_stmt, while_stmt, call_stmt, print_stmt, par_stmt, split_stmt, Body, done, step, Func, Ret}
 use Rattle.par_ownership.specs.Ownership.{function_of}
@@ -45,7 +46,7 @@ frame_done c (answers ret params args t) s = unless_faulted (with_answer ret (re
 frame_done c (rejoins b l r) s = unless_faulted (on_store (rejoin_block b l r)) s
 frame_done c (answers_main ret) s = unless_faulted (with_answer ret ignore_answer) s
 frame_done c (allocates b n) s = allocated b n s
-frame_done c (awaits named assigned own parent) s = own_part_then_join named assigned (part_done c own) parent (ended s)
+frame_done c (awaits named assigned own parent) s = own_part_then_join named assigned (part_done c own) parent (ended record_words s)
 frame_done c (joins assigned child d) s = joined assigned child d s
 
 -- all that is left
@@ -176,7 +177,7 @@ step_frame c (answers ret params args t) fs s = middle fs (frame_done c (answers
 step_frame c (rejoins b l r) fs s = middle fs (frame_done c (rejoins b l r) s)
 step_frame c (answers_main ret) fs s = middle fs (frame_done c (answers_main ret) s)
 step_frame c (allocates b n) fs s = middle fs (frame_done c (allocates b n) s)
-step_frame c (awaits named assigned own parent) fs s = step_awaited named assigned own parent fs (ended s)
+step_frame c (awaits named assigned own parent) fs s = step_awaited named assigned own parent fs (ended record_words s)
 step_frame c (joins assigned child d) fs s = middle fs (frame_done c (joins assigned child d) s)
 
 -- one step of what is left

@@ -196,9 +196,9 @@ abbrev pub main_run : Setting → Option Func → State → State
 main_run c None s = s
 main_run c (Some g) s = unless_faulted (with_answer g.ret ignore_answer) (run c g.body s)
 
--- the depth-first run of the program: what is left when the root has ended
+-- the depth-first run of the program: what is left when the root has ended, which has no record block
 unfoldable pub whole : Setting → State
-whole c = ended (main_run c (function_of c.program main_name) (root_start c))
+whole c = ended 0 (main_run c (function_of c.program main_name) (root_start c))
 
 -- L, the actions in depth-first order
 abbrev pub actions_of : List Item → List Action

@@ -5,7 +5,7 @@ use Rattle.dag_order.specs.declared.fault.FaultKind.{FaultKind}
 use Rattle.dag_order.specs.declared.fault.FaultKind.TheVariants as faults
 use Rattle.dag_order.specs.declared.fault.FaultAt.{FaultAt}
 use Rattle.depth_first_list.specs.Actions as actions
-use Rattle.depth_first_list.specs.Actions.{Action, Deed}
+use Rattle.depth_first_list.specs.Actions.{Action, Deed, record_words}
 use Rattle.par_tree.specs.Tree.{Name, Program}
 use Rattle.depth_first_run.specs.Stores.{Store, nothing, those_named, those_not_named, held_words, stored_words}
 use Rattle.depth_first_run.specs.Values.{Outcome}
@@ -95,7 +95,8 @@ under_limit false line f s = with_fault faults.Depth line s
 unfoldable pub with_depth : ℕ → ℕ → ℕ → (State → State) → State → State
 with_depth depth most line f s = under_limit (nat_lt depth most) line f s
 
--- A forked child as it begins: it has copies of the integers, and the blocks whose names pass.
+-- A forked child as it begins: it has copies of the integers, and the blocks whose names pass. The Fork takes the
+-- words of its record block, which is in no store.
 abbrev pub child_of : Setting → (Name → Bool) → State → State
 child_of c named s = record {
   label = fork_of s.label (suc s.forks);
@@ -106,7 +107,7 @@ child_of c named s = record {
   callers = [];
   calls = s.calls;
   turns = c.most_turns;
-  items = s.items ++ next_action (actions.forks (suc s.forks)) 0 s ∷ [];
+  items = s.items ++ next_action (actions.forks (suc s.forks)) record_words s ∷ [];
 }
 
 -- its parent, which goes on with the other blocks behind all that the child left
@@ -118,9 +119,9 @@ parent_of named items s = record s {
   items = items;
 }
 
--- the last action of a thread
-unfoldable pub ended : State → State
-ended s = with_action actions.ends 0 s
+-- the last action of a thread, which gives back the words of its record block
+unfoldable pub ended : ℕ → State → State
+ended words s = with_action actions.ends words s
 
 -- The words that a Join gives back: those that the child brings to a thread that a fault ended; those of the thread,
 -- where a fault ended the child; else none.
@@ -158,4 +159,4 @@ own_part_then_join named assigned own s c = joined assigned (suc s.forks) c (own
 -- A thread forks a child that does its work, does its own part, and then joins the child. Both parts are done, also
 -- where one of them faults.
 unfoldable pub fork_join : Setting → (named assigned : Name → Bool) → (work own : State → State) → State → State
-fork_join c named assigned work own s = own_part_then_join named assigned own s (ended (work (child_of c named s)))
+fork_join c named assigned work own s = own_part_then_join named assigned own s (ended record_words (work (child_of c named s)))

@@ -4,6 +4,7 @@ use Rattle.std.specs.Str.{bytes_eq}
 use Rattle.std.proofs.Common.{sym, ◌∙◌, arith, subst}
 use Rattle.dag_order.specs.declared.fault.FaultKind.{FaultKind}
 use Rattle.dummy_tree.specs.Shapes.{leaf, forked}
+use Rattle.depth_first_list.specs.Actions.{record_words}
 use Rattle.par_tree.specs.Tree.{Name, Expr, Target, Arg, value, lend, give, Param, Ret, RetValue, gives, hands, Stmt, let_stmt, assign_stmt, put_stmt, alloc_stmt, free_stmt, if_stmt, while_stmt, call_stmt, print_stmt, par_stmt, split_stmt, Body, done, step, Func}
 use Rattle.par_ownership.specs.Environment.{Environment, opened}
 use Rattle.par_ownership.specs.Mention.{names_in_expr, names_in_target, names_in_args, names_in_stmt, names_in_body}
@@ -60,7 +61,7 @@ FitsFrame c (answers ret params args t) s = FitsEnd ret params args s
 FitsFrame c (rejoins b l r) s = FitsParts l r s
 FitsFrame c (answers_main ret) s = FitsEnd ret [] [] s
 FitsFrame c (allocates b n) s = Unit {0}
-FitsFrame c (awaits named assigned own parent) s = FitsPart c own (parent_of named (ended s).items parent)
+FitsFrame c (awaits named assigned own parent) s = FitsPart c own (parent_of named (ended record_words s).items parent)
 FitsFrame c (joins assigned child d) s = Unit {0}
 
 -- each frame fits the state that those before it come to
@@ -217,7 +218,7 @@ both_fits : (v : Bool) (c : Setting) (line : ℕ) (a b : Body) (env after : Envi
 unfolding Fitting FitsFrame FitsPart
 both_fits false c line a b env after s h agrees = tt
 both_fits true c line a b env after s h agrees =
-    let d : State = ended (run c a (child_of c (names_in a) s)) in (
+    let d : State = ended record_words (run c a (child_of c (names_in a) s)) in (
       body_fits env h.1.1.0 h.1.1.1 (child_agrees a (λ x. names_in_stmt x (par_stmt a b)) env s c agrees (λ x n. or_left (names_in_body x a) (names_in_body x b) n)),
       (
         body_fits env h.1.2.1.0 h.1.2.1.1 (parent_agrees a b (λ x. names_in_stmt x (par_stmt a b)) env s d.items h.0 agrees (λ x n. or_right (names_in_body x a) (names_in_body x b) n)),

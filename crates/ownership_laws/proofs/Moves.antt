@@ -6,7 +6,7 @@ use Rattle.std.proofs.lemmas.Int.{ints}
 use Rattle.dag_order.specs.declared.fault.FaultKind.{FaultKind}
 use Rattle.dummy_tree.specs.Shapes.{Shape, leaf, forked}
 use Rattle.depth_first_list.specs.Actions as actions
-use Rattle.depth_first_list.specs.Actions.{Action, Deed, weight_of, live_words}
+use Rattle.depth_first_list.specs.Actions.{Action, Deed, weight_of, live_words, record_words}
 use Rattle.par_tree.specs.Tree.{Name}
 use Rattle.par_ownership.specs.Environment.{Environment}
 use Rattle.depth_first_run.specs.Stores.{held_words, stored_words}
@@ -223,22 +223,22 @@ after_join : (p q : Bool) (assigned : Name → Bool) (kid : ℕ) (d t : State) �
 after_join p q assigned kid d t = with_result p q assigned d (with_action (actions.joins kid) (given_back p q d t) t)
 
 join_exact : (c : Setting) (named : Name → Bool) (s e q r : State) (words : ℕ)
-    → Exact (child_of c named s) e → Exact (parent_of named (ended e).items s) q
+    → Exact (child_of c named s) e → Exact (parent_of named (ended record_words e).items s) q
     → live r.items ≡ live q.items +ℤ neg_ℤ (pos words) → holdings r + words ≡ holdings q + holdings e → Exact s r
 unfolding ended with_action
 join_exact c named s e q r words w o l h =
     let k : State = child_of c named s in
-    let p : State = parent_of named (ended e).items s in
+    let p : State = parent_of named (ended record_words e).items s in
     let parted = parted_words named s.store.blocks in
     let split_is : holdings k + holdings p ≡ holdings s = omega (arith, parted) in
-    let lk : live k.items ≡ live s.items +ℤ (pos 0 +ℤ pos 0) = live_more s.items (next_action (actions.forks (suc s.forks)) 0 s ∷ []) in
-    let lp : live p.items ≡ live e.items +ℤ (pos 0 +ℤ pos 0) = live_more e.items (next_action actions.ends 0 e ∷ []) in
+    let lk : live k.items ≡ live s.items +ℤ (pos 16 +ℤ pos 0) = live_more s.items (next_action (actions.forks (suc s.forks)) record_words s ∷ []) in
+    let lp : live p.items ≡ live e.items +ℤ (neg_ℤ (pos 16) +ℤ pos 0) = live_more e.items (next_action actions.ends record_words e ∷ []) in
     record {
       same = by (holdings s) (holdings k) (holdings p) (holdings e) (holdings q) (holdings r) words (live s.items) (live k.items) (live p.items) (live e.items) (live q.items) (live r.items)
           split_is lk lp w.same o.same l h;
     }
   where
-    by : (s k p e q r words : ℕ) (ls lk lp le lq lr : ℤ) → k + p ≡ s → lk ≡ ls +ℤ (pos 0 +ℤ pos 0) → lp ≡ le +ℤ (pos 0 +ℤ pos 0)
+    by : (s k p e q r words : ℕ) (ls lk lp le lq lr : ℤ) → k + p ≡ s → lk ≡ ls +ℤ (pos 16 +ℤ pos 0) → lp ≡ le +ℤ (neg_ℤ (pos 16) +ℤ pos 0)
         → (pos e +ℤ lk) ≡ (pos k +ℤ le) → (pos q +ℤ lp) ≡ (pos p +ℤ lq) → lr ≡ lq +ℤ neg_ℤ (pos words) → r + words ≡ q + e → (pos r +ℤ ls) ≡ (pos s +ℤ lr)
     by s k p e q r words ls lk lp le lq lr a b c d f g h = omega (arith, ints, a, h)
 
@@ -259,12 +259,12 @@ own_words : (t : State) → t.callers ≡ [] → holdings t ≡ held_words t.sto
 own_words t e = let z : stored_words t.callers ≡ 0 = ap stored_words e in omega (arith, z)
 
 both_went : (c : Setting) (named assigned : Name → Bool) (env left right after : Environment) (s e q : State)
-    → Exact (child_of c named s) e → Exact (parent_of named (ended e).items s) q → Moved env left (child_of c named s) e → Moved env right (parent_of named (ended e).items s) q
+    → Exact (child_of c named s) e → Exact (parent_of named (ended record_words e).items s) q → Moved env left (child_of c named s) e → Moved env right (parent_of named (ended record_words e).items s) q
     → MakeUp env left right after → HeldInBoth env left right after
-    → Exact s (after_join false false assigned (suc s.forks) (ended e) q) × Moved env after s (after_join false false assigned (suc s.forks) (ended e) q)
+    → Exact s (after_join false false assigned (suc s.forks) (ended record_words e) q) × Moved env after s (after_join false false assigned (suc s.forks) (ended record_words e) q)
 unfolding after_join ended with_action
 both_went c named assigned env left right after s e q we wq me mq sum both =
-    let d : State = ended e in
+    let d : State = ended record_words e in
     let r : State = after_join false false assigned (suc s.forks) d q in
     let words = held_append q.store.blocks e.store.blocks in
     let alone = own_words e me.callers in (
@@ -291,14 +291,14 @@ child_alone c named env left s e (stopped k) = k.alone
 child_alone c named env left s e (went m) = m.callers
 
 join_ran : (c : Setting) (named assigned : Name → Bool) (env left right after : Environment) (s e q : State)
-    → Exact (child_of c named s) e → Exact (parent_of named (ended e).items s) q → Way env left (child_of c named s) e → Way env right (parent_of named (ended e).items s) q
+    → Exact (child_of c named s) e → Exact (parent_of named (ended record_words e).items s) q → Way env left (child_of c named s) e → Way env right (parent_of named (ended record_words e).items s) q
     → MakeUp env left right after → HeldInBoth env left right after
     → (x : Bool) → q.faulted ≡ x → (y : Bool) → e.faulted ≡ y
-    → Ran env after s (after_join x y assigned (suc s.forks) (ended e) q)
+    → Ran env after s (after_join x y assigned (suc s.forks) (ended record_words e) q)
 unfolding after_join ended with_action
 join_ran c named assigned env left right after s e q we wq ve (went mq) sum both true f y g = true_or_false q.faulted f mq.running
 join_ran c named assigned env left right after s e q we wq ve (stopped k) sum both true f y g =
-    let d : State = ended e in
+    let d : State = ended record_words e in
     let r : State = after_join true y assigned (suc s.forks) d q in
     let alone = own_words e (child_alone c named env left s e ve) in
     record {
@@ -308,7 +308,7 @@ join_ran c named assigned env left right after s e q we wq ve (stopped k) sum bo
 join_ran c named assigned env left right after s e q we wq ve (stopped k) sum both false f y g = true_or_false q.faulted k.faulted f
 join_ran c named assigned env left right after s e q we wq (went me) (went mq) sum both false f true g = true_or_false e.faulted g me.running
 join_ran c named assigned env left right after s e q we wq (stopped k) (went mq) sum both false f true g =
-    let d : State = ended e in
+    let d : State = ended record_words e in
     let r : State = after_join false true assigned (suc s.forks) d q in
     let none = no_words e k in
     record {
@@ -327,7 +327,7 @@ pub ran_forking : (c : Setting) (named assigned : Name → Bool) (env left right
 unfolding fork_join own_part_then_join joined ended with_action after_join
 ran_forking c named assigned env left right after work own s w o sum both =
     let e : State = work (child_of c named s) in
-    let d : State = ended e in
+    let d : State = ended record_words e in
     let p = o d.items in
     let q : State = own (parent_of named d.items s) in
     join_ran c named assigned env left right after s e q w.exact p.exact w.way p.way sum both q.faulted refl e.faulted refl
@@ -343,7 +343,7 @@ tree_went c (forked child own) env s f =
     let k : State = child_of c no_name s in
     let w = tree_went c child env k refl in
     let e : State = run_tree c child k in
-    let d : State = ended e in
+    let d : State = ended record_words e in
     let p : State = parent_of no_name d.items s in
     let o = tree_went c own env p f in
     let q : State = run_tree c own p in

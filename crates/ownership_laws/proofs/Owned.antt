@@ -433,9 +433,9 @@ unfolding whole ended with_action
 live_at_end c o =
     let t : State = main_run c (function_of c.program main_name) (root_start c) in
     let k : Closed c t = whole_closed c o in
-    let last : Exact t (ended t) = exact_light t (ended t) (next_action actions.ends 0 t) refl refl refl in
+    let last : Exact t (ended 0 t) = exact_light t (ended 0 t) (next_action actions.ends 0 t) refl refl refl in
     let none : holdings t ≡ 0 = ap (λ hs. held_words hs + stored_words t.callers) k.empty ∙ ap (λ cs. 0 + stored_words cs) k.alone in
-    by (holdings t) (0 + 0) (live t.items) (live (ended t).items) none (omega arith) k.exact.same last.same
+    by (holdings t) (0 + 0) (live t.items) (live (ended 0 t).items) none (omega arith) k.exact.same last.same
   where
     by : (n m : ℕ) (x y : ℤ) → n ≡ 0 → m ≡ 0 → (pos n +ℤ pos 0) ≡ (pos m +ℤ x) → (pos n +ℤ x) ≡ (pos n +ℤ y) → y ≡ pos 0
     by n m x y e z f g = omega (arith, ints, e, z)

@@ -38,8 +38,8 @@ reaches c (suc k) n le = by (reaches c k (suc n)) (after_steps c n).frames refl
     by r [] e = (n, (after_steps c n).state, ap (λ l. middle l (after_steps c n).state) e)
     by r (f ∷ fs) e = let less = nearer c n f fs e in r (omega (arith, less, le))
 
-pub end_reached : (c : Setting) → (n : ℕ) × (t : State) × (after_steps c n ≡ middle [] t) × (whole c ≡ ended t)
+pub end_reached : (c : Setting) → (n : ℕ) × (t : State) × (after_steps c n ≡ middle [] t) × (whole c ≡ ended 0 t)
 unfolding finish
 end_reached c =
     let r : Reached c = reaches c (to_come c (after_steps c zero)) zero (omega arith) in
-    (r.0, r.1, r.2, beginning_comes c ∙ ap ended (sym (points_come c r.0) ∙ ap (finished c) r.2))
+    (r.0, r.1, r.2, beginning_comes c ∙ ap (ended 0) (sym (points_come c r.0) ∙ ap (finished c) r.2))

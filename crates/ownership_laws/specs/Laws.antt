@@ -50,7 +50,7 @@ StatementsFindTheirBlocks = (p : Program) (line : ℕ) (stmt : Stmt) (env after 
 -- the points of a run are those on the way to its end: after some steps nothing is left, and the whole run is the End of
 -- what the thread is then
 abbrev pub PointsReachTheEnd : Type 0
-PointsReachTheEnd = (c : Setting) → (n : ℕ) × (t : State) × (after_steps c n ≡ middle [] t) × (whole c ≡ ended t)
+PointsReachTheEnd = (c : Setting) → (n : ℕ) × (t : State) × (after_steps c n ≡ middle [] t) × (whole c ≡ ended 0 t)
 
 -- at each point of the run of an accepted program, where a statement comes next in a thread that no fault has ended: it
 -- keeps the rules from an environment that says what the thread holds of the names of the statement. So a call finds its

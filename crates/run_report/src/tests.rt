@@ -62,12 +62,12 @@ fn a_depth_first_run(rt: HostRuntime) -> Result<(), Fail> {
         lines: lines(rt.alloc(), &[2_147_450_880])?,
         finish: Finish::Done,
         actions: 442,
-        peak: 65_536,
+        peak: 65_632,
     };
     let text = peak_text(rt.alloc(), &report)?;
     assert_eq!(rt;
         text.as_slice(),
-        b"2147450880\n--\nend done\nactions 442\npeak 65536\n".as_slice()
+        b"2147450880\n--\nend done\nactions 442\npeak 65632\n".as_slice()
     );
     Ok(())
 }
@@ -148,7 +148,7 @@ fn bytes_that_are_no_report(rt: HostRuntime) {
             b"7\n--\nend done\nperiods 1\nahead 0\nhigh 32\nx".as_slice(),
             40,
         ),
-        (b"7\n--\nend done\nactions 442\npeak 65536\n".as_slice(), 14),
+        (b"7\n--\nend done\nactions 442\npeak 65632\n".as_slice(), 14),
         (b"end done\n--\n".as_slice(), 0),
         (b"7\nend done\nperiods 1\nahead 0\nhigh 32\n".as_slice(), 2),
         (b"7\n--\n--\n".as_slice(), 5),

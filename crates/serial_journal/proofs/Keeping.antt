@@ -176,7 +176,16 @@ act_kept limit items label deed words shown j k r same keeps labelled kind chang
     (subst (λ (fs : List ForkOf). AllZip (ShowsBirth (births_of j)) fs (births_of j))
     (sym (ap (λ (fs : List ForkOf). forks_of (actions_of items) ++ fs) (no_fork label deed plain) ∙ append-nil (forks_of (actions_of items)))) keeps.told.births_are)
 
--- room for births changes nothing
+-- room for lines changes nothing, nor does room for births
+pub lines_room_kept : (limit : ℕ) (items : List Item) (j : Journal) (output : BoundedList ℤ) → entries output ≡ entries j.output → KeepsUp limit items j → KeepsUp limit items (record j { output = output })
+lines_room_kept limit items j output same keeps = record {
+  told = subst (λ (ls : List ℤ). Told items j.finish ls (entries j.actions) (entries j.births) j.peak) (sym same) keeps.told;
+  live_is = keeps.live_is;
+  limit_is = keeps.limit_is;
+  within = keeps.within;
+  count_is = keeps.count_is;
+}
+
 pub room_kept : (limit : ℕ) (items : List Item) (j : Journal) (births : BoundedList Birth) → entries births ≡ entries j.births → KeepsUp limit items j → KeepsUp limit items (record j { births = births })
 room_kept limit items j births same keeps = record {
   told = subst (λ (bs : List Birth). Told items j.finish (entries j.output) (entries j.actions) bs j.peak) (sym same) keeps.told;
@@ -186,17 +195,17 @@ room_kept limit items j births same keeps = record {
   count_is = keeps.count_is;
 }
 
-pub fork_kept : (limit : ℕ) (items : List Item) (label : List ℕ) (name : ActionId) (ordinal : ℕ) (added : BoundedList Birth) (j k : Journal)
-    → Recorded (record { name = name; kind = Fork; change = pos 0 }) j k → entries added ≡ births_of j ++ record { parent = name.by; ordinal = ordinal } ∷ []
+pub fork_kept : (limit : ℕ) (items : List Item) (label : List ℕ) (name : ActionId) (ordinal words : ℕ) (change : ℤ) (added : BoundedList Birth) (j k : Journal)
+    → change ≡ pos words → Recorded (record { name = name; kind = Fork; change = change }) j k → entries added ≡ births_of j ++ record { parent = name.by; ordinal = ordinal } ∷ []
     → KeepsUp limit items j → HasLabel (births_of j ∷ []) name.by label
-    → KeepsUp limit (items ++ acted (action_named label name.index (forks ordinal) 0) ∷ []) (record k { births = added })
-fork_kept limit items label name ordinal added j k r same keeps labelled =
+    → KeepsUp limit (items ++ acted (action_named label name.index (forks ordinal) words) ∷ []) (record k { births = added })
+fork_kept limit items label name ordinal words change added j k weighs r same keeps labelled =
     let birth : Birth = record { parent = name.by; ordinal = ordinal } in
     let births : List Birth = births_of j ++ birth ∷ [] in
     let still : HasLabel (births ∷ []) name.by label = labels_stay (births_of j) (birth ∷ []) name.by label labelled in
-    action_kept limit items (action_named label name.index (forks ordinal) 0) (record { name = name; kind = Fork; change = pos 0 }) births added j k r same keeps
+    action_kept limit items (action_named label name.index (forks ordinal) words) (record { name = name; kind = Fork; change = change }) births added j k r same keeps
     (actions_stay (births_of j) (birth ∷ []) (actions_of items) (entries j.actions) keeps.told.actions_are)
-    record { label = still; index = refl; kind = refl; change = refl }
+    record { label = still; index = refl; kind = refl; change = weighs }
     (zip_one_more (ShowsBirth births) (forks_of (actions_of items)) (births_of j) (record { label = label; ordinal = ordinal }) birth
     (births_stay (births_of j) (birth ∷ []) (forks_of (actions_of items)) (births_of j) keeps.told.births_are)
     record { parent = still; ordinal = refl })

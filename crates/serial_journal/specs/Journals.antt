@@ -29,6 +29,17 @@ pub record KeepsUp (limit : ℕ) (items : List Item) (journal : Journal) : Type 
   pub within : length (actions_of items) ≤ limit
   pub count_is : journal.items ≡ length items
 
+-- nothing that is written down is other than before
+pub record IsUnchanged (before after : Journal) : Type 0 where
+  pub finish : after.finish ≡ before.finish
+  pub output : entries after.output ≡ entries before.output
+  pub actions : entries after.actions ≡ entries before.actions
+  pub births : births_of after ≡ births_of before
+  pub live : after.live ≡ before.live
+  pub peak : after.peak ≡ before.peak
+  pub limit : after.limit ≡ before.limit
+  pub count : after.items ≡ before.items
+
 -- a thread that has a label keeps it
 abbrev pub KeepsLabels : List Birth → List Birth → Type 0
 KeepsLabels births more = (id : ThreadId) (label : List ℕ) → HasLabel (births ∷ []) id label → HasLabel (more ∷ []) id label

@@ -1,4 +1,4 @@
-ghost use Rattle.std.specs.Prelude.{◌≡◌, ℕ, ◌≤◌, [], ◌∷◌, ◌++◌, List, length, IfOk, MatchResult, Ok, Err};
+ghost use Rattle.std.specs.Prelude.{◌≡◌, ℕ, ◌≤◌, [], ◌∷◌, ◌++◌, List, length, IfOk, OnErr, MatchResult, Ok, Err};
 ghost use Rattle.std.specs.Prelude.{pos};
 ghost use Rattle.std.specs.Int.{int_max};
 ghost use Rattle.depth_first_list.specs.Actions.{Deed, kind_of, weight_of};
@@ -32,7 +32,7 @@ impl Journal {
     ghost use Rattle.depth_first_run.specs.States.{Item, began, acted, printed, failed};
     ghost use Rattle.depth_first_run.specs.Run.{actions_of};
     ghost use Rattle.serial_journal.specs.Telling.{Tells, IsNoFork};
-    ghost use Rattle.serial_journal.specs.Journals.{KeepsUp, KeepsLabels, Counted, Recorded, births_of, action_named};
+    ghost use Rattle.serial_journal.specs.Journals.{KeepsUp, KeepsLabels, IsUnchanged, Counted, Recorded, births_of, action_named};
 
     /// A journal of no item, which takes at most `limit` actions. It takes no memory.
     pub fn new(alloc: Global, limit: u32) -> Journal
@@ -51,8 +51,9 @@ impl Journal {
         }
     }
 
-    /// A statement begins.
+    /// A statement begins. Behind an error nothing is changed, here and in the other calls.
     pub fn begin(&mut self) -> Result<(), SerialStop>
+        ensures unchanged { OnErr result (IsUnchanged self.old self.new) }
         ensures births { births_of self.new ≡ births_of self.old }
         ensures keeps_up { (limit line : ℕ) (items : List Item) → KeepsUp limit items self.old → MatchResult result (λ _. KeepsUp limit (items ++ began line ∷ []) self.new) (λ stop. OnStop stop ⊥) }
     {
@@ -61,22 +62,24 @@ impl Journal {
 
     /// A number is printed. It is no part of the output where a fault came before.
     pub fn print(&mut self, value: i64) -> Result<(), SerialStop>
+        ensures unchanged { OnErr result (IsUnchanged self.old self.new) }
         ensures births { births_of self.new ≡ births_of self.old }
         ensures keeps_up { (limit : ℕ) (items : List Item) → KeepsUp limit items self.old → MatchResult result (λ _. KeepsUp limit (items ++ printed value ∷ []) self.new) (λ stop. OnStop stop ⊥) }
     {
-        self.count()?;
         match self.finish {
             Finish::Done => {
                 self.output.reserve()?;
+                self.count()?;
                 self.output.add(value);
                 Ok(())
             }
-            Finish::Faulted(_) => Ok(()),
+            Finish::Faulted(_) => self.count(),
         }
     }
 
     /// A fault comes. It is the finish where it is the first one.
     pub fn fail(&mut self, fault: FaultAt) -> Result<(), SerialStop>
+        ensures unchanged { OnErr result (IsUnchanged self.old self.new) }
         ensures births { births_of self.new ≡ births_of self.old }
         ensures keeps_up { (limit : ℕ) (items : List Item) → KeepsUp limit items self.old → MatchResult result (λ _. KeepsUp limit (items ++ failed fault ∷ []) self.new) (λ stop. OnStop stop ⊥) }
     {
@@ -96,6 +99,7 @@ impl Journal {
     ///
     /// `StepsSpent` exactly where the limit is reached.
     pub fn act(&mut self, name: ActionId, kind: Kind, words: u64) -> Result<(), SerialStop>
+        ensures unchanged { OnErr result (IsUnchanged self.old self.new) }
         ensures births { births_of self.new ≡ births_of self.old }
         ensures keeps_up { (limit : ℕ) (items : List Item) (label : List ℕ) (deed : Deed) → KeepsUp limit items self.old → HasLabel (births_of self.old ∷ []) name.by label → kind ≡ kind_of deed → IsNoFork deed → MatchResult result (λ _. KeepsUp limit (items ++ acted (action_named label name.index deed words) ∷ []) self.new) (λ stop. OnStop stop (limit ≤ length (actions_of items))) }
     {
@@ -103,21 +107,22 @@ impl Journal {
         self.write_down(Action { name, kind, change })
     }
 
-    /// A thread forks the child `ordinal`, whose name is given.
+    /// A thread forks the child `ordinal`, which takes a record block of so many words. The name of the child is given.
     ///
     /// # Errors
     ///
     /// `StepsSpent` exactly where the limit is reached.
-    pub fn fork(&mut self, name: ActionId, ordinal: u32) -> Result<ThreadId, SerialStop>
+    pub fn fork(&mut self, name: ActionId, ordinal: u32, words: u32) -> Result<ThreadId, SerialStop>
+        ensures unchanged { OnErr result (IsUnchanged self.old self.new) }
         ensures labels { KeepsLabels (births_of self.old) (births_of self.new) }
-        ensures keeps_up { (limit : ℕ) (items : List Item) (label : List ℕ) → KeepsUp limit items self.old → HasLabel (births_of self.old ∷ []) name.by label → MatchResult result (λ child. KeepsUp limit (items ++ acted (action_named label name.index (forks ordinal) 0) ∷ []) self.new × HasLabel (births_of self.new ∷ []) child (fork_of label ordinal)) (λ stop. OnStop stop (limit ≤ length (actions_of items))) }
+        ensures keeps_up { (limit : ℕ) (items : List Item) (label : List ℕ) → KeepsUp limit items self.old → HasLabel (births_of self.old ∷ []) name.by label → MatchResult result (λ child. KeepsUp limit (items ++ acted (action_named label name.index (forks ordinal) words) ∷ []) self.new × HasLabel (births_of self.new ∷ []) child (fork_of label ordinal)) (λ stop. OnStop stop (limit ≤ length (actions_of items))) }
     {
         let nth = self.births.len();
         self.births.reserve()?;
         let forks = Action {
             name,
             kind: Kind::Fork,
-            change: 0,
+            change: i64::from(words),
         };
         if let Err(stop) = self.write_down(forks) {
             return Err(stop);
@@ -145,6 +150,7 @@ impl Journal {
     // One item more.
     fn count(&mut self) -> Result<(), SerialStop>
         ensures births { self.new.births ≡ self.old.births }
+        ensures unchanged { OnErr result (self.new ≡ self.old) }
         ensures cases { MatchResult result (λ _. Counted self.old self.new) (λ stop. OnStop stop ⊥) }
     {
         self.items = self.items.checked_add(1).ok_or(SerialStop::OutOfMemory)?;
@@ -154,16 +160,18 @@ impl Journal {
     // One action more, with the words that are live behind it.
     fn write_down(&mut self, action: Action) -> Result<(), SerialStop>
         ensures births { self.new.births ≡ self.old.births }
+        ensures unchanged { OnErr result (IsUnchanged self.old self.new) }
         ensures cases { MatchResult result (λ _. Recorded action self.old self.new) (λ stop. OnStop stop (self.old.limit ≤ length (entries self.old.actions))) }
     {
         if self.limit <= self.actions.len() {
             return Err(SerialStop::StepsSpent);
         }
-        self.count()?;
         let live = self.live.checked_add(action.change);
-        self.live = live.ok_or(SerialStop::OutOfMemory)?;
-        self.peak = self.peak.max(above_zero(self.live));
+        let live = live.ok_or(SerialStop::OutOfMemory)?;
         self.actions.reserve()?;
+        self.count()?;
+        self.live = live;
+        self.peak = self.peak.max(above_zero(live));
         self.actions.add(action);
         Ok(())
     }
@@ -182,8 +190,8 @@ fn change_of(kind: Kind, words: u64) -> Result<i64, SerialStop>
 {
     let words = i64::try_from(words).or(Err(SerialStop::OutOfMemory))?;
     Ok(match kind {
-        Kind::Alloc => words,
-        Kind::Fork | Kind::Dummy | Kind::End => 0,
-        Kind::Join | Kind::Release | Kind::Fault => -words,
+        Kind::Alloc | Kind::Fork => words,
+        Kind::Dummy => 0,
+        Kind::Join | Kind::Release | Kind::Fault | Kind::End => -words,
     })
 }

@@ -13,13 +13,13 @@ fn name(by: ThreadId, index: u32) -> ActionId {
 // The run of `fn main() { alloc b = 40; free b; }` with a quota of 16 words, up to its Alloc.
 fn dummies(journal: &mut Journal) -> Result<(), SerialStop> {
     journal.begin()?;
-    let child = journal.fork(name(ThreadId::ROOT, 0), 1)?;
-    let grandchild = journal.fork(name(child, 0), 1)?;
+    let child = journal.fork(name(ThreadId::ROOT, 0), 1, 16)?;
+    let grandchild = journal.fork(name(child, 0), 1, 16)?;
     journal.act(name(grandchild, 0), Kind::Dummy, 0)?;
-    journal.act(name(grandchild, 1), Kind::End, 0)?;
+    journal.act(name(grandchild, 1), Kind::End, 16)?;
     journal.act(name(child, 1), Kind::Dummy, 0)?;
     journal.act(name(child, 2), Kind::Join, 0)?;
-    journal.act(name(child, 3), Kind::End, 0)?;
+    journal.act(name(child, 3), Kind::End, 16)?;
     journal.act(name(ThreadId::ROOT, 1), Kind::Dummy, 0)?;
     journal.act(name(ThreadId::ROOT, 2), Kind::Join, 0)
 }

@@ -6,6 +6,7 @@ use Rattle.dag_order.specs.Births.{HasLabel}
 use Rattle.dag_order.specs.LabelOrder.{fork_of}
 use Rattle.dag_order.specs.declared.birth.Birth.{Birth}
 use Rattle.depth_first_list.specs.Actions as deeds
+use Rattle.depth_first_list.specs.Actions.{record_words}
 use Rattle.par_tree.specs.Tree.{Name, Program}
 use Rattle.depth_first_run.specs.States.{Setting, State, Item, acted, with_action, child_of, parent_of, ended}
 use Rattle.depth_first_run.specs.Run.{actions_of}
@@ -27,7 +28,7 @@ use Rattle.serial_meaning.proofs.Steps.{by_runner, one_action}
 -- where the limit is reached, a Fork is beyond it
 pub fork_beyond : (limit : ℕ) (c : Setting) (named : Name → Bool) (s : State) → limit ≤ length (actions_of s.items) → IsBeyond limit (child_of c named s)
 fork_beyond limit c named s full =
-    let more = one_action s.items (action_named s.label s.done (deeds.forks (suc s.forks)) 0) in omega (arith, more, full)
+    let more = one_action s.items (action_named s.label s.done (deeds.forks (suc s.forks)) record_words) in omega (arith, more, full)
 
 -- a child as it begins
 pub child_begins : (births : List Birth) (k : ℕ) (program : Program) (named : Name → Bool) (t child : Thread) (label : List ℕ) (items : List Item)
@@ -44,7 +45,7 @@ child_begins births k program named t child label items done forks fine store ca
     callers = (ap callers_shown (sym callers)) i;
     calls = (sym calls) i;
     turns = (sym turns) i;
-    items = items ++ acted (action_named label t.done (deeds.forks (suc t.forks)) 0) ∷ [];
+    items = items ++ acted (action_named label t.done (deeds.forks (suc t.forks)) record_words) ∷ [];
   };
   labelled = labelled;
   deep = let longer = length-append label (suc t.forks ∷ []) in omega (arith, longer, deeper, deep);
@@ -97,17 +98,17 @@ pub has_forked : (limit k : ℕ) (program : Program) (named : Name → Bool) (t 
     → ((label : List ℕ) (items : List Item) → HasLabel (births_of j' ∷ []) child.id (fork_of label (suc t.forks)) → t.depth ≡ length label → IsThread (births_of j') child (child_of (setting_of program k) named (thread_state t label items)))
     → ((label : List ℕ) (items : List Item) → HasLabel (births_of j' ∷ []) t.id label → t.depth ≡ length label → IsThread (births_of j') u (parent_of named [] (thread_state t label items)))
     → (s : State) → Is limit (record { thread = t; journal = j }) s
-    → KeepsUp limit (s.items ++ acted (action_named s.label index (deeds.forks ordinal) 0) ∷ []) j' × HasLabel (births_of j' ∷ []) child.id (fork_of s.label ordinal)
+    → KeepsUp limit (s.items ++ acted (action_named s.label index (deeds.forks ordinal) record_words) ∷ []) j' × HasLabel (births_of j' ∷ []) child.id (fork_of s.label ordinal)
     → HasForked limit (setting_of program k) named s child (record { thread = t; journal = j }) (record { thread = u; journal = j' })
 has_forked limit k program named t u child j j' ordinal index at next labels begins goes_on s is =
     by_runner limit t j
-    (λ v. KeepsUp limit (v.items ++ acted (action_named v.label index (deeds.forks ordinal) 0) ∷ []) j' × HasLabel (births_of j' ∷ []) child.id (fork_of v.label ordinal)
+    (λ v. KeepsUp limit (v.items ++ acted (action_named v.label index (deeds.forks ordinal) record_words) ∷ []) j' × HasLabel (births_of j' ∷ []) child.id (fork_of v.label ordinal)
     → HasForked limit (setting_of program k) named v child (record { thread = t; journal = j }) (record { thread = u; journal = j' }))
     (λ label items now told.
     let nth : ordinal ≡ suc t.forks = omega (arith, next) in
-    let keeps : KeepsUp limit (items ++ acted (action_named label t.done (deeds.forks (suc t.forks)) 0) ∷ []) j' =
-    subst (λ n. KeepsUp limit (items ++ acted (action_named label n (deeds.forks (suc t.forks)) 0) ∷ []) j') at
-    (subst (λ n. KeepsUp limit (items ++ acted (action_named label index (deeds.forks n) 0) ∷ []) j') nth told.0) in
+    let keeps : KeepsUp limit (items ++ acted (action_named label t.done (deeds.forks (suc t.forks)) record_words) ∷ []) j' =
+    subst (λ n. KeepsUp limit (items ++ acted (action_named label n (deeds.forks (suc t.forks)) record_words) ∷ []) j') at
+    (subst (λ n. KeepsUp limit (items ++ acted (action_named label index (deeds.forks n) record_words) ∷ []) j') nth told.0) in
     record {
       child_is = begins label items (subst (λ n. HasLabel (births_of j' ∷ []) child.id (fork_of label n)) nth told.1) now.thread.deep;
       parent_is = goes_on label items (labels t.id label now.thread.labelled) now.thread.deep;
@@ -116,9 +117,9 @@ has_forked limit k program named t u child j j' ordinal index at next labels beg
     }) s is
 
 -- the End of a thread
-pub end_is : (s : State) → with_action deeds.ends 0 s ≡ ended s
+pub end_is : (words : ℕ) (s : State) → with_action deeds.ends words s ≡ ended words s
 unfolding ended
-end_is s = refl
+end_is words s = refl
 
 -- a parent goes on behind all that its child left
 pub goes_on_behind : (births : List Birth) (t : Thread) (named : Name → Bool) (s : State) (items : List Item) → IsThread births t (parent_of named [] s) → IsThread births t (parent_of named items s)

@@ -64,14 +64,14 @@ unfolding with_action
 one_more s = one_action s.items (action_named s.label s.done deeds.ends 0)
 
 -- the actions so far are no more than those of the whole run
-pub more_to_come : (c : Setting) (limit : ℕ) (m : Middle) (w : State) → ended (finished c m) ≡ w → IsBeyond limit m.state → IsBeyond limit w
+pub more_to_come : (c : Setting) (limit : ℕ) (m : Middle) (w : State) → ended 0 (finished c m) ≡ w → IsBeyond limit m.state → IsBeyond limit w
 more_to_come c limit m w comes beyond =
     let new = items_grow c m in
     let last : State = finished c m in
     let all : length (actions_of last.items) ≡ length (actions_of m.state.items) + length (actions_of new.0) =
     ap (λ (xs : List Item). length (actions_of xs)) new.1 ∙ ap length (actions_more m.state.items new.0) ∙ length-append (actions_of m.state.items) (actions_of new.0) in
-    let one : length (actions_of (State.items (ended last))) ≡ length (actions_of last.items) + 1 =
-    ap (λ (v : State). length (actions_of v.items)) (sym (end_is last)) ∙ one_more last in
+    let one : length (actions_of (State.items (ended 0 last))) ≡ length (actions_of last.items) + 1 =
+    ap (λ (v : State). length (actions_of v.items)) (sym (end_is 0 last)) ∙ one_more last in
     subst (IsBeyond limit) comes (omega (arith, all, one, beyond))
 
 -- the machine without the frame that comes next
@@ -114,7 +114,7 @@ falls all whole i j f g one before after less = omega (arith, one, before, after
 
 -- how far the machine is from the end, by the items that it wrote down and its frames
 pub nearer : (c : Setting) (limit : ℕ) (before popped after : Machine) (x : Frame) (m : Middle) → At limit before m → (t : Taken limit popped x m) → At limit after (step_frame c t.first t.rest m.state)
-    → ended (finished c m) ≡ whole c → vec_len before.frames ≡ length before.frames.items → vec_len after.frames ≡ length after.frames.items
+    → ended 0 (finished c m) ≡ whole c → vec_len before.frames ≡ length before.frames.items → vec_len after.frames ≡ length after.frames.items
     → 4 * (length (State.items (whole c)) - after.runner.journal.items) + vec_len after.frames < 4 * (length (State.items (whole c)) - before.runner.journal.items) + vec_len before.frames
 unfolding to_come
 nearer c limit before popped after x m at t at_next comes long_before long_after =
@@ -127,7 +127,7 @@ nearer c limit before popped after x m at t at_next comes long_before long_after
     let grown_next = items_grow c n in
     let most : length (State.items (finished c m)) ≡ length m.state.items + length grown.0 = ap length grown.1 ∙ length-append m.state.items grown.0 in
     let most_next : length (State.items (finished c n)) ≡ length n.state.items + length grown_next.0 = ap length grown_next.1 ∙ length-append n.state.items grown_next.0 in
-    let one : length (State.items (whole c)) ≡ length (State.items (finished c m)) + 1 = ap (λ (s : State). length s.items) (sym comes) ∙ ap (λ (s : State). length s.items) (sym (end_is (finished c m))) ∙ one_item (finished c m) in
+    let one : length (State.items (whole c)) ≡ length (State.items (finished c m)) + 1 = ap (λ (s : State). length s.items) (sym comes) ∙ ap (λ (s : State). length s.items) (sym (end_is 0 (finished c m))) ∙ one_item (finished c m) in
     let count = at.now.keeps.count_is in
     let count_next = at_next.now.keeps.count_is in
     let frames = stack_long (births_of before.runner.journal) before.frames.items m.frames at.left in

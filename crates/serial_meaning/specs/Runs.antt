@@ -22,10 +22,10 @@ TellsOrStops limit items result =
 pub record IsUnderWay (limit : ℕ) (c : Setting) (machine : Machine) : Type 0 where
   pub point : Middle
   pub at : At limit machine point
-  pub comes : ended (finished c point) ≡ whole c
+  pub comes : ended 0 (finished c point) ≡ whole c
 
 -- the root has done all but its End
 pub record IsAllButEnded (limit : ℕ) (c : Setting) (runner : Runner) : Type 0 where
   pub state : State
   pub now : Is limit runner state
-  pub comes : ended state ≡ whole c
+  pub comes : ended 0 state ≡ whole c

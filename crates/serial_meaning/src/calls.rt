@@ -22,9 +22,9 @@ use crate::machine::Machine;
 use crate::plan::Plan;
 use crate::runner::Runner;
 use dag_order::FaultKind;
-use serial_store::{Answer, Stop, Store, evaluate, lend_back, pass};
 use par_tree::{Arg, Name, Param, Ret, RetValue, Target};
 use serial_journal::SerialStop;
+use serial_store::{Answer, Stop, Store, evaluate, lend_back, pass};
 use std::alloc::Global;
 use std::mem;
 

@@ -3,6 +3,7 @@
 ghost use Rattle.std.specs.Prelude.{◌≡◌, ℕ, [], IfOk, OnOk, MatchResult};
 ghost use Rattle.par_tree.specs.Tree.{Program};
 ghost use Rattle.depth_first_run.specs.States.{State, child_of, parent_of, ended, joined};
+ghost use Rattle.depth_first_list.specs.Actions.{record_words};
 ghost use Rattle.depth_first_run.specs.Middle.{step_fork, step_awaited};
 ghost use Rattle.serial_store.specs.Shown.{store_shown};
 ghost use Rattle.serial_store.specs.Effects.{child_store, parent_store, joined_store};
@@ -18,8 +19,9 @@ use crate::part::Part;
 use crate::runner::Runner;
 use crate::thread::Thread;
 use dag_order::Kind;
-use serial_store::Store;
+use depth_first_list::RECORD_WORDS;
 use serial_journal::SerialStop;
+use serial_store::Store;
 use std::alloc::{AllocError, Global};
 use std::mem;
 
@@ -43,16 +45,16 @@ impl<'a> Machine<'a> {
         Ok(())
     }
 
-    /// The End of a child, behind which its parent goes on with its own part.
+    /// The End of a child, which gives its record block back. Behind it the parent goes on with its own part.
     pub(crate) fn end_child(
         &mut self,
         child: Part<'a>,
         own: Part<'a>,
         parent: Thread<'a>,
     ) -> Result<(), SerialStop>
-        ensures { (limit : ℕ) (s : State) → IsThread (births_of self.old.runner.journal) parent.entry (parent_of (names_of child.entry) [] s) → Moves limit self.old result self.new (λ fs d. step_awaited (names_of child.entry) (assigns_of child.entry) (part_shown own.entry) s fs (ended d)) }
+        ensures { (limit : ℕ) (s : State) → IsThread (births_of self.old.runner.journal) parent.entry (parent_of (names_of child.entry) [] s) → Moves limit self.old result self.new (λ fs d. step_awaited (names_of child.entry) (assigns_of child.entry) (part_shown own.entry) s fs (ended record_words d)) }
     {
-        self.runner.act(Kind::End, 0)?;
+        self.runner.act(Kind::End, u64::from(RECORD_WORDS))?;
         let ended = mem::replace(&mut self.runner.thread, parent);
         self.push(Frame::Joins {
             child,
@@ -68,7 +70,7 @@ impl<'a> Runner<'a> {
     ghost use Rattle.serial_meaning.specs.Views.{Is, IsBeyond, Goes};
     ghost use Rattle.serial_meaning.specs.Forks.{HasForked};
 
-    /// The Fork of a child: the child as it begins, while the thread has done the Fork.
+    /// The Fork of a child, which takes its record block: the child as it begins, while the thread has done the Fork.
     fn forked(&mut self, alloc: Global, child: Part<'a>) -> Result<Thread<'a>, SerialStop>
         ensures { (limit k : ℕ) (program : Program) (s : State) → Is limit self.old s → MatchResult result (λ thread. HasForked limit (setting_of program k) (names_of child.entry) s thread self.old self.new) (λ stop. OnStop stop (IsBeyond limit (child_of (setting_of program k) (names_of child.entry) s))) }
     {
@@ -79,7 +81,7 @@ impl<'a> Runner<'a> {
         let depth = self.thread.depth.checked_add(1);
         let depth = depth.ok_or(SerialStop::OutOfMemory)?;
         let name = self.next_name();
-        let id = self.journal.fork(name, forks)?;
+        let id = self.journal.fork(name, forks, RECORD_WORDS)?;
         let store = taken_by(alloc, child, &mut self.thread.store)?;
         self.thread.forks = forks;
         self.thread.done = done;

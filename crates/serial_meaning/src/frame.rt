@@ -1,8 +1,8 @@
 use crate::block_len::BlockLen;
 use crate::part::Part;
 use crate::thread::Thread;
-use serial_store::Store;
 use par_tree::{Arg, Name, Param, Ret, Target};
+use serial_store::Store;
 
 /// What is left to do.
 #[derive(Drop)]

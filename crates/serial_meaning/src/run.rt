@@ -25,8 +25,8 @@ use crate::thread::Thread;
 use block_check::Checked;
 use dag_order::{Kind, ThreadId};
 use dummy_tree::Quota;
-use serial_store::Store;
 use serial_journal::{Journal, Serial, SerialStop};
+use serial_store::Store;
 use std::alloc::Global;
 
 /// Runs a program depth-first, with a quota of `k` words, up to so many actions.

@@ -6,8 +6,8 @@ ghost use Rattle.serial_journal.specs.Telling.{IsNoFork};
 
 use crate::thread::Thread;
 use dag_order::{ActionId, FaultAt, FaultKind, Kind};
-use serial_store::Store;
 use serial_journal::{Journal, SerialStop};
+use serial_store::Store;
 use std::alloc::Global;
 
 /// The thread that runs, and what is written down of the run.

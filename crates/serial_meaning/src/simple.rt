@@ -11,9 +11,9 @@ ghost use Rattle.serial_meaning.specs.Lengths.{length_of};
 use crate::block_len::BlockLen;
 use crate::runner::Runner;
 use dag_order::{FaultKind, Kind};
-use serial_store::{Stop, evaluate};
 use par_tree::{Expr, Name};
 use serial_journal::SerialStop;
+use serial_store::{Stop, evaluate};
 use std::alloc::Global;
 
 impl<'a> Runner<'a> {

@@ -17,9 +17,9 @@ use crate::part::Part;
 use crate::plan::Plan;
 use dag_order::FaultKind;
 use dummy_tree::{Tree, dummies};
-use serial_store::{evaluate, is_true};
 use par_tree::{Body, Expr, Name, Stmt, StmtKind};
 use serial_journal::SerialStop;
+use serial_store::{evaluate, is_true};
 use std::alloc::Global;
 use std::slice;
 

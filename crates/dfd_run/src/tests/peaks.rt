@@ -52,7 +52,7 @@ fn programs_are_run_depth_first(rt: HostRuntime) -> Result<(), Fail> {
             &["peak"],
             "fn main() { par { alloc a = 16; free a; } and { alloc b = 16; free b; } }",
             Status::Done,
-            "--\nend done\nactions 8\npeak 16\n",
+            "--\nend done\nactions 8\npeak 32\n",
         ),
         (
             &["peak", "--k", "64"],
@@ -64,7 +64,7 @@ fn programs_are_run_depth_first(rt: HostRuntime) -> Result<(), Fail> {
             &["peak", "--steps", "10"],
             "fn main() { let i = 0; while i < 3 { par { } and { } i = i + 1; } }",
             Status::Done,
-            "--\nend done\nactions 10\npeak 0\n",
+            "--\nend done\nactions 10\npeak 16\n",
         ),
         (
             &["peak", "--k", "64"],
@@ -124,7 +124,7 @@ fn runs_may_fault_or_be_stopped(rt: HostRuntime) -> Result<(), Fail> {
             &["peak"],
             "fn main() {\n  par { print 1 / 0; }\n  and { print 2 % 0; }\n}\n",
             Status::UserFault,
-            "--\nend fault Divide line 2\nactions 6\npeak 0\n",
+            "--\nend fault Divide line 2\nactions 6\npeak 16\n",
         ),
         (
             &["peak"],
@@ -166,7 +166,7 @@ fn runs_may_fault_or_be_stopped(rt: HostRuntime) -> Result<(), Fail> {
             &["peak", "--steps", "6"],
             "fn main() {\n  par { print 1 / 0; }\n  and { print 2 % 0; }\n}\n",
             Status::UserFault,
-            "--\nend fault Divide line 2\nactions 6\npeak 0\n",
+            "--\nend fault Divide line 2\nactions 6\npeak 16\n",
         ),
         (
             &["peak", "--steps", "5"],
@@ -276,7 +276,7 @@ fn a_run_may_have_four_million_actions(rt: HostRuntime) -> Result<(), Fail> {
     assert_eq!(rt; status, Status::Done);
     assert_eq!(rt;
         written.as_slice(),
-        b"--\nend done\nactions 4000000\npeak 0\n".as_slice()
+        b"--\nend done\nactions 4000000\npeak 16\n".as_slice()
     );
     Ok(())
 }
@@ -338,7 +338,7 @@ fn a_sum_by_halves(rt: HostRuntime) -> Result<(), Fail> {
     assert_eq!(rt; status, Status::Done);
     assert_eq!(rt;
         written.as_slice(),
-        b"2147450880\n--\nend done\nactions 442\npeak 65536\n".as_slice()
+        b"2147450880\n--\nend done\nactions 442\npeak 65632\n".as_slice()
     );
     Ok(())
 }

@@ -12,8 +12,8 @@ const LONG_REPORT: &str = "1234567890123456789\n1234567\n--\nend done\n";
 const LONG_TEXT: &str =
     "fn main() {\n  par {\n    print 1234567890123456789;\n  } and {\n    print 1234567;\n  }\n}\n";
 
-/// What `peak` writes of it: 57 bytes.
-const LONG_PEAK: &str = "1234567890123456789\n1234567\n--\nend done\nactions 4\npeak 0\n";
+/// What `peak` writes of it: 58 bytes.
+const LONG_PEAK: &str = "1234567890123456789\n1234567\n--\nend done\nactions 4\npeak 16\n";
 
 const PLAY: [&str; 3] = ["play", "--p", "1"];
 

@@ -56,13 +56,13 @@ fn words_that_are_a_command(rt: HostRuntime) -> Result<(), Fail> {
         (&["play"], "1\n2\n3\n--\nend done\n"),
         (
             &["peak", "--k=32", "--steps", "4"],
-            "1\n2\n3\n--\nend done\nactions 4\npeak 0\n",
+            "1\n2\n3\n--\nend done\nactions 4\npeak 16\n",
         ),
         (
             &["peak", "--steps=4000000", "--k", "1048576"],
-            "1\n2\n3\n--\nend done\nactions 4\npeak 0\n",
+            "1\n2\n3\n--\nend done\nactions 4\npeak 16\n",
         ),
-        (&["peak"], "1\n2\n3\n--\nend done\nactions 4\npeak 0\n"),
+        (&["peak"], "1\n2\n3\n--\nend done\nactions 4\npeak 16\n"),
         (
             &["check"],
             "fn main() {\n  par {\n    print 1;\n  } and {\n    print 2;\n  }\n  print 3;\n}\n",

@@ -48,7 +48,7 @@ loop-frame-preserved c =
     record {
       point = step_frame setting t.first t.rest way.point.state;
       at = c.in_ok-step.ensures c.args.limit t.first t.first_is t.rest way.point.state t.at;
-      comes = ap ended (next_comes setting c.args.limit popped c.in-Some.frame way.point t) ∙ way.comes;
+      comes = ap (ended 0) (next_comes setting c.args.limit popped c.in-Some.frame way.point t) ∙ way.comes;
     }
 
 pub returns-in_err-step : goal.returns-in_err-step
@@ -60,7 +60,7 @@ returns-in_err-step c =
     let t : Taken c.args.limit popped c.in-Some.frame way.point = taken c.args.limit before popped c.in-Some.frame way.point refl c.in-Some.ensures.items way.at in
     let next : Middle = step_frame setting t.first t.rest way.point.state in
     err_exit (IsAllButEnded c.args.limit setting) (IsBeyond c.args.limit (whole setting)) c.from_residual-in_err-step.result c.in_err-step.field-0.0 c.from_residual-in_err-step.ensures.1
-    (stops_so _ _ c.in_err-step.field-0.0 (more_to_come setting c.args.limit next (whole setting) (ap ended (next_comes setting c.args.limit popped c.in-Some.frame way.point t) ∙ way.comes))
+    (stops_so _ _ c.in_err-step.field-0.0 (more_to_come setting c.args.limit next (whole setting) (ap (ended 0) (next_comes setting c.args.limit popped c.in-Some.frame way.point t) ∙ way.comes))
     (c.in_err-step.ensures c.args.limit t.first t.first_is t.rest way.point.state t.at))
 
 pub returns : goal.returns
@@ -74,5 +74,5 @@ returns c =
     record {
       state = way.point.state;
       now = way.at.now;
-      comes = ap ended (sym (nothing_left setting way.point.state) ∙ ap (λ (fs : List middles.Frame). finished setting (middle fs way.point.state)) (sym left)) ∙ way.comes;
+      comes = ap (ended 0) (sym (nothing_left setting way.point.state) ∙ ap (λ (fs : List middles.Frame). finished setting (middle fs way.point.state)) (sym left)) ∙ way.comes;
     }

@@ -1,4 +1,5 @@
-use Rattle.std.proofs.Common.{◌≡◌, ◌≤◌, ◌∷◌, [], ◌++◌, ap, ◌∙◌, subst, sym, pos, List, length}
+use Rattle.std.proofs.lemmas.Int.{to_z-of_z}
+use Rattle.std.proofs.Common.{rules, SFits, to_z, of_z, w64, ℤ, ◌≡◌, ◌≤◌, ◌∷◌, [], ◌++◌, ap, ◌∙◌, subst, sym, pos, List, length}
 use Rattle.dag_order.specs.declared.birth.Birth.{Birth}
 use Rattle.dag_order.specs.declared.thread_id.ThreadId.{ThreadId}
 use Rattle.dag_order.specs.declared.kind.Kind.TheVariants.{Fork}
@@ -30,7 +31,10 @@ returns-clause-labels c =
 pub returns-clause-keeps_up : goal.returns-clause-keeps_up
 returns-clause-keeps_up c = λ limit items label keeps labelled.
     let birth : Birth = record { parent = c.args.name.by; ordinal = c.args.ordinal } in
-    let shown : Shown = record { name = c.args.name; kind = Fork; change = pos 0 } in
+    let fits : SFits w64 c.from.result = search rules in
+    let change : ℤ = to_z w64 (of_z w64 c.from.result) in
+    let weighs : change ≡ pos c.args.words = to_z-of_z w64 c.from.result fits ∙ c.from.ensures in
+    let shown : Shown = record { name = c.args.name; kind = Fork; change = change } in
     let roomy : Journal = record c.args.self.now { births = c.reserve.new.self } in
     let same : births_of roomy ≡ births_of c.args.self.now = c.in_ok-reserve.ensures.entries in
     let kept : KeepsUp limit items roomy = room_kept limit items c.args.self.now c.reserve.new.self same keeps in
@@ -41,6 +45,6 @@ returns-clause-keeps_up c = λ limit items label keeps labelled.
     let child : HasLabel (entries c.add.new.self ∷ []) id (fork_of label c.args.ordinal) =
     subst (λ (bs : List Birth). HasLabel (bs ∷ []) id (fork_of label c.args.ordinal)) (sym added) (child_has_label (births_of roomy) c.args.name.by c.args.ordinal label known) in
     let at : length (births_of roomy) ≡ c.len-nth.result = ap length same ∙ sym c.len-nth.ensures in (
-      fork_kept limit items label c.args.name c.args.ordinal c.add.new.self roomy c.write_down.new.self c.in_default.ensures.cases added kept known,
+      fork_kept limit items label c.args.name c.args.ordinal c.args.words change c.add.new.self roomy c.write_down.new.self weighs c.in_default.ensures.cases added kept known,
       subst (λ n. HasLabel (entries c.add.new.self ∷ []) (record { period = 1; nth = n }) (fork_of label c.args.ordinal)) at child,
     )

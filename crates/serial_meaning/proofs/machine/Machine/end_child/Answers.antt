@@ -1,7 +1,8 @@
-use Rattle.std.proofs.Common.{suc, List, [], ◌∷◌, refl, sym, ap, subst}
+use Rattle.std.proofs.Common.{◌≡◌, ℕ, suc, List, [], ◌∷◌, refl, sym, ◌∙◌, ap, subst}
 use Rattle.dag_order.specs.declared.birth.Birth.{Birth}
 use Rattle.depth_first_list.specs.Actions as deeds
-use Rattle.depth_first_run.specs.States.{State, ended, parent_of}
+use Rattle.depth_first_list.specs.Actions.{record_words}
+use Rattle.depth_first_run.specs.States.{State, with_action, ended, parent_of}
 use Rattle.depth_first_run.specs.Middle.{middle, joins, does, step_awaited}
 use Rattle.serial_journal.specs.Journals.{births_of}
 use Rattle.serial_meaning.specs.Frames.{part_shown, names_of, assigns_of}
@@ -13,20 +14,24 @@ use Rattle.serial_meaning.proofs.Steps.{err_exit, stops_so}
 use Rattle.serial_meaning.proofs.Forking.{end_is, goes_on_behind}
 use Rattle.serial_meaning.proofs.machine.Machine.end_child.Goals as goal
 
+-- its End gives back the words of the record block
+gives_back : (words : ℕ) (d : State) → words ≡ record_words → with_action deeds.ends words d ≡ ended record_words d
+gives_back words d is = ap (λ w. with_action deeds.ends w d) is ∙ end_is record_words d
+
 pub returns-in_err-act : goal.returns-in_err-act
 returns-in_err-act c = λ limit s parent fs d at.
     let after : Machine = record { frames = c.args.self.now.frames; runner = c.act.new.self } in
-    let m = step_awaited (names_of c.args.child) (assigns_of c.args.child) (part_shown c.args.own) s fs (ended d) in
+    let m = step_awaited (names_of c.args.child) (assigns_of c.args.child) (part_shown c.args.own) s fs (ended record_words d) in
     err_exit (λ _. At limit after m) (IsBeyond limit m.state) c.from_residual.result c.in_err-act.field-0.0 c.from_residual.ensures.1
-    (stops_so _ _ c.in_err-act.field-0.0 (λ more. subst (IsBeyond limit) (end_is d) more) (c.in_err-act.ensures limit deeds.ends refl tt d at.now))
+    (stops_so _ _ c.in_err-act.field-0.0 (λ more. subst (IsBeyond limit) (gives_back c.from.result d c.from.ensures) more) (c.in_err-act.ensures limit deeds.ends refl tt d at.now))
 
 pub returns : goal.returns
 returns c = λ limit s parent fs d at.
     let named = names_of c.args.child in
     let births = births_of c.act.new.self.journal in
-    let last : State = ended d in
+    let last : State = ended record_words d in
     let acted = c.in_ok-act.ensures limit deeds.ends refl tt d at.now in
-    let done : Is limit c.act.new.self last = subst (λ (v : State). Is limit c.act.new.self v) (end_is d) acted.0 in
+    let done : Is limit c.act.new.self last = subst (λ (v : State). Is limit c.act.new.self v) (gives_back c.from.result d c.from.ensures) acted.0 in
     let goes_on : State = parent_of named last.items s in
     let waits = subst (λ (bs : List Birth). IsThread bs c.args.parent (parent_of named [] s)) (sym acted.1) parent in
     let before : Machine = record { frames = c.args.self.now.frames; runner = record { thread = c.replace-ended.new.dest; journal = c.act.new.self.journal } } in

@@ -1,0 +1,5 @@
+use Rattle.depth_first_list.proofs.ThreadLaws as law
+use Rattle.depth_first_list.proofs.laws.index_is_within.Goals as goal
+
+pub returns : goal.returns
+returns c = law.index_is_within
