@@ -2,7 +2,7 @@
 
 use crate::rows::text_of;
 use accepted_source::accept;
-use dag_order::{Finish, Kind};
+use dag_order::{Birth, Finish, Kind, ThreadId};
 use dummy_tree::Quota;
 use serial_meaning::{Serial, SerialStop, depth_first};
 use std::alloc::{AllocError, Global};
@@ -106,22 +106,22 @@ const PROGRAMS: &str = "
 @ 16 done, 8 actions, peak 32, prints 7 | fn main() { alloc b = 20; b[3] = 7; print b[3]; free b; }
 @ 32 done, 3 actions, peak 32, prints 7 | fn main() { alloc b = 20; b[3] = 7; print b[3]; free b; }
 @ 64 done, 3 actions, peak 32, prints 7 | fn main() { alloc b = 20; b[3] = 7; print b[3]; free b; }
-@ 16 done, 8 actions, peak 16, prints | fn main() { par { alloc a = 16; free a; } and { alloc b = 16; free b; } }
-@ 32 done, 8 actions, peak 16, prints | fn main() { par { alloc a = 16; free a; } and { alloc b = 16; free b; } }
-@ 64 done, 8 actions, peak 16, prints | fn main() { par { alloc a = 16; free a; } and { alloc b = 16; free b; } }
+@ 16 done, 8 actions, peak 32, prints | fn main() { par { alloc a = 16; free a; } and { alloc b = 16; free b; } }
+@ 32 done, 8 actions, peak 32, prints | fn main() { par { alloc a = 16; free a; } and { alloc b = 16; free b; } }
+@ 64 done, 8 actions, peak 32, prints | fn main() { par { alloc a = 16; free a; } and { alloc b = 16; free b; } }
 @ 16 done, 12 actions, peak 48, prints | fn main() { alloc b = 40; free b; }
 @ 32 done, 8 actions, peak 48, prints | fn main() { alloc b = 40; free b; }
 @ 64 done, 3 actions, peak 48, prints | fn main() { alloc b = 40; free b; }
-@ 16 done, 4 actions, peak 0, prints 1 2 3 | fn main() { par { print 1; } and { print 2; } print 3; }
-@ 32 done, 4 actions, peak 0, prints 1 2 3 | fn main() { par { print 1; } and { print 2; } print 3; }
-@ 64 done, 4 actions, peak 0, prints 1 2 3 | fn main() { par { print 1; } and { print 2; } print 3; }
+@ 16 done, 4 actions, peak 16, prints 1 2 3 | fn main() { par { print 1; } and { print 2; } print 3; }
+@ 32 done, 4 actions, peak 16, prints 1 2 3 | fn main() { par { print 1; } and { print 2; } print 3; }
+@ 64 done, 4 actions, peak 16, prints 1 2 3 | fn main() { par { print 1; } and { print 2; } print 3; }
 @ 64 done, 1 actions, peak 0, prints | fn main() { }
-@ 64 done, 10 actions, peak 0, prints | fn main() { let i = 0; while i < 3 { par { } and { } i = i + 1; } }
+@ 64 done, 10 actions, peak 16, prints | fn main() { let i = 0; while i < 3 { par { } and { } i = i + 1; } }
 @ 64 Turns at 1, 2 actions, peak 0, prints | fn main() { while 1 { } }
 @ 64 Depth at 1, 2 actions, peak 0, prints | fn f() { call f(); } fn main() { call f(); }
 @ 64 done, 3 actions, peak 32, prints 5 | fn mk(n) { alloc b = n; b[0] = 5; return own b; } fn main() { call own x = mk(20); print x[0]; free x; }
 @ 64 Index at 1, 3 actions, peak 0, prints 0 | fn main() { alloc z = 0; print len(z); print z[0]; free z; }
-@ 64 Divide at 2, 6 actions, peak 0, prints | fn main() {
+@ 64 Divide at 2, 6 actions, peak 16, prints | fn main() {
   par { print 1 / 0; }
   and { print 2 % 0; }
 }
@@ -131,24 +131,24 @@ const PROGRAMS: &str = "
 @ 64 Divide at 2, 2 actions, peak 0, prints | fn main() {
   return 7 / 0;
 }
-@ 64 Divide at 3, 5 actions, peak 0, prints 1 2 | fn main() {
+@ 64 Divide at 3, 5 actions, peak 16, prints 1 2 | fn main() {
   print 1;
   par { print 2; print 1 / 0; print 3; }
   and { print 4; }
   print 5;
 }
-@ 64 Divide at 3, 5 actions, peak 0, prints 1 2 | fn main() {
+@ 64 Divide at 3, 5 actions, peak 16, prints 1 2 | fn main() {
   par { print 1; }
   and { print 2; print 1 / 0; print 3; }
   print 4;
 }
-@ 64 Divide at 3, 7 actions, peak 0, prints 1 | fn main() {
+@ 64 Divide at 3, 7 actions, peak 16, prints 1 | fn main() {
   alloc z = 0;
   par { print 1; print 1 % 0; }
   and { print 2; print z[0]; }
   free z;
 }
-@ 64 Divide at 4, 9 actions, peak 0, prints | fn main() {
+@ 64 Divide at 4, 9 actions, peak 32, prints | fn main() {
   par {
     par { }
     and { let x = 1 / 0; }
@@ -175,7 +175,7 @@ fn main() {
   }
 }
 fn main() { call f(3); }
-@ 64 Turns at 3, 7 actions, peak 32, prints | fn f() {
+@ 64 Turns at 3, 7 actions, peak 48, prints | fn f() {
   alloc b = 16;
   while 1 { }
   free b;
@@ -185,7 +185,7 @@ fn main() {
   par { call f(); } and { a[0] = 1; }
   free a;
 }
-@ 64 Depth at 1, 6 actions, peak 32, prints | fn f() { call f(); }
+@ 64 Depth at 1, 6 actions, peak 48, prints | fn f() { call f(); }
 fn main() {
   alloc a = 32;
   split a at 16 into l, r {
@@ -202,7 +202,7 @@ fn main() {
   }
   free a;
 }
-@ 64 Divide at 4, 11 actions, peak 0, prints 0 1 2 | fn main() {
+@ 64 Divide at 4, 11 actions, peak 16, prints 0 1 2 | fn main() {
   let i = 0;
   while i < 10 {
     par { print i; } and { let x = 6 / (2 - i); }
@@ -216,8 +216,8 @@ fn main() {
   print 2;
   while 1 { }
 }
-@ 64 Index at 1, 7 actions, peak 32, prints | fn main() { alloc a = 16; par { alloc b = 16; print b[99]; free b; } and { print a[3]; } print 5; free a; }
-@ 4096 done, 442 actions, peak 65536, prints 2147450880 |
+@ 64 Index at 1, 7 actions, peak 48, prints | fn main() { alloc a = 16; par { alloc b = 16; print b[99]; free b; } and { print a[3]; } print 5; free a; }
+@ 4096 done, 442 actions, peak 65632, prints 2147450880 |
 fn fill(use b, base) {
   let n = len(b);
   if n <= 1024 {
@@ -268,26 +268,26 @@ fn programs_run_to_their_finish(rt: HostRuntime) -> Result<(), Fail> {
 const STATEMENTS: &str = "
 @ 64 done, 1 actions, peak 0, prints 1 4 | fn main() { if -1 { print 1; } else { print 2; } if 0 { print 3; } if 1 == 2 { } else { print 4; } }
 @ 64 done, 1 actions, peak 0, prints 3 2 1 0 | fn main() { let i = 3; while i { print i; i = i - 1; } print i; }
-@ 64 done, 4 actions, peak 0, prints 2 6 | fn main() { let x = 1; let z = 5; par { x = 2; } and { z = 6; } print x; print z; }
-@ 64 done, 4 actions, peak 0, prints 3 4 5 | fn main() { let x = 1; par { let y = 3; print y; } and { let y = 4; x = y; } let y = 5; print x; print y; }
-@ 64 done, 4 actions, peak 0, prints 1 | fn main() { let x = 1; par { if 0 { x = 2; } } and { } print x; }
+@ 64 done, 4 actions, peak 16, prints 2 6 | fn main() { let x = 1; let z = 5; par { x = 2; } and { z = 6; } print x; print z; }
+@ 64 done, 4 actions, peak 16, prints 3 4 5 | fn main() { let x = 1; par { let y = 3; print y; } and { let y = 4; x = y; } let y = 5; print x; print y; }
+@ 64 done, 4 actions, peak 16, prints 1 | fn main() { let x = 1; par { if 0 { x = 2; } } and { } print x; }
 @ 64 done, 1 actions, peak 0, prints 4 | fn g(n) { return n - 1; } fn main() { let x = 0; call x = g(5); print x; }
 @ 64 done, 1 actions, peak 0, prints 10 0 | fn g(n) { n = n + 1; print n; } fn main() { let n = 9; call n = g(n); print n; }
 @ 64 done, 1 actions, peak 0, prints 9 | fn g(n) { n = 8; return n; } fn main() { let n = 9; call g(n); print n; }
 @ 64 done, 1 actions, peak 0, prints 6 7 | fn g(a, b) { return a - b; } fn main() { let a = 1; let b = 7; call a = g(b, a); print a; print b; }
 @ 64 done, 1 actions, peak 0, prints 2432902008176640000 | fn g(n) { let r = 1; if n { let s = 0; call s = g(n - 1); r = n * s; } return r; } fn main() { let x = 0; call x = g(20); print x; }
-@ 64 done, 4 actions, peak 0, prints 4 5 | fn g() { return 4; } fn main() { let x = 1; let y = 2; par { call x = g(); } and { call y = g(); y = y + 1; } print x; print y; }
-@ 64 done, 7 actions, peak 0, prints 8 1 9 1 | fn main() { let x = 0; par { par { x = 1; } and { print 8; } print x; } and { print 9; } print x; }
+@ 64 done, 4 actions, peak 16, prints 4 5 | fn g() { return 4; } fn main() { let x = 1; let y = 2; par { call x = g(); } and { call y = g(); y = y + 1; } print x; print y; }
+@ 64 done, 7 actions, peak 32, prints 8 1 9 1 | fn main() { let x = 0; par { par { x = 1; } and { print 8; } print x; } and { print 9; } print x; }
 @ 64 done, 3 actions, peak 16, prints 6 5 2 | fn main() { alloc b = 2; b[1] = 5; b[0] = b[1] + 1; print b[0]; print b[1]; print len(b); free b; }
 @ 64 done, 9 actions, peak 48, prints 0 | fn main() { alloc b = 17; free b; alloc b2 = 1; print b2[0]; free b2; alloc c = 32; alloc d = 16; free c; free d; }
 @ 64 done, 3 actions, peak 16, prints 3 9 | fn fill(use b, v) { let i = 0; while i < len(b) { b[i] = v; i = i + 1; } return i; } fn main() { alloc b = 3; let n = 0; call n = fill(use b, 9); print n; print b[2]; free b; }
 @ 64 done, 5 actions, peak 16, prints 4 | fn drop(own b) { print b[0]; free b; } fn main() { alloc x = 16; x[0] = 4; call drop(own x); alloc y = 16; free y; }
 @ 64 done, 3 actions, peak 16, prints 2 | fn pass(own b) { b[0] = b[0] + 1; return own b; } fn main() { alloc x = 1; call own y = pass(own x); call own z = pass(own y); print z[0]; free z; }
 @ 64 done, 5 actions, peak 32, prints 2 1 | fn swap(use a, use b) { let t = a[0]; a[0] = b[0]; b[0] = t; } fn main() { alloc a = 1; alloc b = 1; a[0] = 1; b[0] = 2; call swap(use b, use a); print a[0]; print b[0]; free b; free a; }
-@ 64 done, 6 actions, peak 16, prints 4 | fn main() { alloc b = 16; par { b[0] = 4; } and { } print b[0]; free b; }
-@ 64 done, 8 actions, peak 32, prints 5 | fn main() { alloc a = 1; alloc b = 1; par { a[0] = 4; free a; } and { b[0] = 5; } print b[0]; free b; }
+@ 64 done, 6 actions, peak 32, prints 4 | fn main() { alloc b = 16; par { b[0] = 4; } and { } print b[0]; free b; }
+@ 64 done, 8 actions, peak 48, prints 5 | fn main() { alloc a = 1; alloc b = 1; par { a[0] = 4; free a; } and { b[0] = 5; } print b[0]; free b; }
 @ 64 done, 3 actions, peak 48, prints 1 2 3 4 5 6 4 40 | fn main() { alloc b = 40; b[0] = 1; b[15] = 2; b[16] = 3; b[39] = 4; split b at 16 into l, r { print l[0]; print l[15]; print r[0]; print r[23]; l[1] = 5; r[1] = 6; } print b[1]; print b[17]; print b[39]; print len(b); free b; }
-@ 64 done, 6 actions, peak 32, prints 7 8 0 32 32 0 | fn main() { alloc b = 32; split b at 16 into l, r { par { l[0] = 7; } and { r[0] = 8; } } print b[0]; print b[16]; split b at 0 into l, r { print len(l); print len(r); } split b at 32 into l, r { print len(l); print len(r); } free b; }
+@ 64 done, 6 actions, peak 48, prints 7 8 0 32 32 0 | fn main() { alloc b = 32; split b at 16 into l, r { par { l[0] = 7; } and { r[0] = 8; } } print b[0]; print b[16]; split b at 0 into l, r { print len(l); print len(r); } split b at 32 into l, r { print len(l); print len(r); } free b; }
 @ 64 done, 3 actions, peak 64, prints 2 123 | fn main() { alloc b = 50; split b at 16 into l, r { split r at 32 into m, n { l[0] = 1; m[0] = 2; n[0] = 3; print len(n); } } print b[0] * 100 + b[16] * 10 + b[48]; free b; }
 ";
 
@@ -295,18 +295,18 @@ const STATEMENTS: &str = "
 const LIMITS: &str = "
 @ 64 done, 1 actions, peak 0, prints 7 8 | fn f(n) { if n { call f(n - 1); } else { print 7; } } fn main() { call f(9998); print 8; }
 @ 64 Depth at 1, 2 actions, peak 0, prints | fn f(n) { if n { call f(n - 1); } else { print 7; } } fn main() { call f(9999); print 8; }
-@ 64 done, 4 actions, peak 0, prints 7 7 8 | fn f(n) { if n { call f(n - 1); } else { print 7; } } fn main() { par { call f(9998); } and { call f(9998); } print 8; }
-@ 64 Depth at 1, 5 actions, peak 0, prints | fn f(n) { if n { call f(n - 1); } else { print 7; } } fn main() { par { call f(9999); } and { call f(9998); } print 8; }
-@ 64 Depth at 1, 5 actions, peak 0, prints 7 | fn f(n) { if n { call f(n - 1); } else { print 7; } } fn main() { par { call f(9998); } and { call f(9999); } print 8; }
-@ 64 done, 4 actions, peak 0, prints 7 8 | fn f(n) { if n { call f(n - 1); } else { print 7; } } fn g(n) { par { call f(n); } and { } } fn main() { call g(9997); print 8; }
-@ 64 Depth at 1, 5 actions, peak 0, prints | fn f(n) { if n { call f(n - 1); } else { print 7; } } fn g(n) { par { call f(n); } and { } } fn main() { call g(9998); print 8; }
+@ 64 done, 4 actions, peak 16, prints 7 7 8 | fn f(n) { if n { call f(n - 1); } else { print 7; } } fn main() { par { call f(9998); } and { call f(9998); } print 8; }
+@ 64 Depth at 1, 5 actions, peak 16, prints | fn f(n) { if n { call f(n - 1); } else { print 7; } } fn main() { par { call f(9999); } and { call f(9998); } print 8; }
+@ 64 Depth at 1, 5 actions, peak 16, prints 7 | fn f(n) { if n { call f(n - 1); } else { print 7; } } fn main() { par { call f(9998); } and { call f(9999); } print 8; }
+@ 64 done, 4 actions, peak 16, prints 7 8 | fn f(n) { if n { call f(n - 1); } else { print 7; } } fn g(n) { par { call f(n); } and { } } fn main() { call g(9997); print 8; }
+@ 64 Depth at 1, 5 actions, peak 16, prints | fn f(n) { if n { call f(n - 1); } else { print 7; } } fn g(n) { par { call f(n); } and { } } fn main() { call g(9998); print 8; }
 @ 64 Divide at 1, 2 actions, peak 0, prints | fn f(n) { call f(n + 1 + 0 / (9999 - n)); } fn main() { call f(1); }
 @ 64 Depth at 1, 2 actions, peak 0, prints | fn f(n) { call f(n + 1 + 0 / (10000 - n)); } fn main() { call f(1); }
-@ 16 done, 769 actions, peak 0, prints 7 8 | fn f(n) { if n { par { call f(n - 1); } and { } } else { print 7; } } fn main() { call f(256); print 8; }
-@ 16 Depth at 1, 770 actions, peak 0, prints | fn f(n) { if n { par { call f(n - 1); } and { } } else { print 7; } } fn main() { call f(257); print 8; }
-@ 16 done, 901 actions, peak 0, prints 7 8 | fn f(n) { if n { par { } and { call f(n - 1); } } else { print 7; } } fn main() { call f(300); print 8; }
-@ 16 done, 780 actions, peak 48, prints 8 | fn f(n) { if n { par { call f(n - 1); } and { } } else { alloc b = 33; free b; } } fn main() { call f(256); print 8; }
-@ 16 Depth at 1, 771 actions, peak 16, prints | fn f(n, use a) { a[0] = n; if n { par { call f(n - 1, use a); } and { } } } fn main() { alloc a = 16; call f(257, use a); free a; }
+@ 16 done, 769 actions, peak 4096, prints 7 8 | fn f(n) { if n { par { call f(n - 1); } and { } } else { print 7; } } fn main() { call f(256); print 8; }
+@ 16 Depth at 1, 770 actions, peak 4096, prints | fn f(n) { if n { par { call f(n - 1); } and { } } else { print 7; } } fn main() { call f(257); print 8; }
+@ 16 done, 901 actions, peak 16, prints 7 8 | fn f(n) { if n { par { } and { call f(n - 1); } } else { print 7; } } fn main() { call f(300); print 8; }
+@ 16 done, 780 actions, peak 4144, prints 8 | fn f(n) { if n { par { call f(n - 1); } and { } } else { alloc b = 33; free b; } } fn main() { call f(256); print 8; }
+@ 16 Depth at 1, 771 actions, peak 4112, prints | fn f(n, use a) { a[0] = n; if n { par { call f(n - 1, use a); } and { } } } fn main() { alloc a = 16; call f(257, use a); free a; }
 @ 64 done, 1 actions, peak 0, prints 1000000 | fn main() { let i = 0; while i < 1000000 { i = i + 1; } print i; }
 @ 64 Turns at 1, 2 actions, peak 0, prints | fn main() { let i = 0; while i < 1000001 { i = i + 1; } print i; }
 @ 64 Turns at 6, 2 actions, peak 0, prints 999999 | fn g() { } fn main() {
@@ -317,7 +317,7 @@ const LIMITS: &str = "
   call g();
   print 0;
 }
-@ 64 Turns at 7, 5 actions, peak 0, prints 1000000 999999 1 | fn g() { } fn main() {
+@ 64 Turns at 7, 5 actions, peak 16, prints 1000000 999999 1 | fn g() { } fn main() {
   let i = 0;
   while i < 999999 { i = i + 1; }
   par { let j = 0; while j < 1000000 { j = j + 1; } print j; } and { print i; }
@@ -325,7 +325,7 @@ const LIMITS: &str = "
   print 1;
   call g();
 }
-@ 64 Turns at 2, 5 actions, peak 0, prints | fn main() {
+@ 64 Turns at 2, 5 actions, peak 16, prints | fn main() {
   par { let j = 0; while j < 1000001 { j = j + 1; } print j; }
   and { print 2; }
   print 3;
@@ -339,8 +339,8 @@ const LIMITS: &str = "
 @ 64 Turns at 1, 2 actions, peak 0, prints | fn g() { } fn f(n) { if n { call f(n - 1); } else { let i = 0; while i < 990002 { i = i + 1; } call g(); } } fn main() { call f(9997); }
 @ 64 done, 1 actions, peak 0, prints 49985001 | fn f(n) { let r = 0; if n { call r = f(n - 1); r = r + n; } return r; } fn main() { let x = 0; call x = f(9998); print x; }
 @ 64 done, 2003 actions, peak 16016, prints 499500 | fn f(n, use a) { alloc b = 16; b[0] = n; if n { call f(n - 1, use a); } a[0] = a[0] + b[0]; free b; } fn main() { alloc a = 16; call f(999, use a); print a[0]; free a; }
-@ 64 done, 771 actions, peak 16, prints 32896 | fn f(n, use a) { if n { par { call f(n - 1, use a); } and { } a[0] = a[0] + n; } } fn main() { alloc a = 16; call f(256, use a); print a[0]; free a; }
-@ 64 done, 12286 actions, peak 0, prints 4096 | fn f(n) { let l = 0; let r = 1; if n { par { call l = f(n - 1); } and { call r = f(n - 1); } } return l + r; } fn main() { let x = 0; call x = f(12); print x; }
+@ 64 done, 771 actions, peak 4112, prints 32896 | fn f(n, use a) { if n { par { call f(n - 1, use a); } and { } a[0] = a[0] + n; } } fn main() { alloc a = 16; call f(256, use a); print a[0]; free a; }
+@ 64 done, 12286 actions, peak 192, prints 4096 | fn f(n) { let l = 0; let r = 1; if n { par { call l = f(n - 1); } and { call r = f(n - 1); } } return l + r; } fn main() { let x = 0; call x = f(12); print x; }
 ";
 
 #[test]
@@ -585,4 +585,40 @@ fn a_run_has_as_many_actions_as_are_allowed(rt: HostRuntime) {
         Err(_) => assert!(rt; false),
     }
     assert!(rt; stops(rt.alloc(), FOUR_MILLIONS, 64, 3_999_999));
+}
+
+/// How many ordinals the longest label has that these births give; None where memory is wanting.
+fn longest_label(alloc: Global, births: &[Birth]) -> Option<u32> {
+    let mut lengths = Vec::new(alloc);
+    let mut longest = 0u32;
+    for birth in births {
+        let parent = if birth.parent == ThreadId::ROOT {
+            0u32
+        } else {
+            lengths.get(birth.parent.nth as usize).copied()?
+        };
+        let length = parent.saturating_add(1);
+        lengths.push(length).ok()?;
+        longest = longest.max(length);
+    }
+    Some(longest)
+}
+
+/// The forks of a tree of dummies have no limit of 256: an allocation of 65,536 quotas below 256 forks, whose tree has 16 forks above
+/// one another.
+#[test]
+fn dummies_may_stand_272_deep(rt: HostRuntime) {
+    let text =
+        "fn f(n) { if n { par { call f(n - 1); } and { } } else { alloc b = 1048576; free b; } }
+        fn main() { call f(256); print 8; }";
+    match run(rt.alloc(), text, 16, LIMIT) {
+        Ok(serial) => {
+            assert!(rt; serial.finish == Finish::Done);
+            assert!(rt; serial.output.as_slice() == [8].as_slice());
+            assert_eq!(rt; serial.actions.len(), 262_912);
+            assert_eq!(rt; serial.peak, 1_052_672);
+            assert!(rt; longest_label(rt.alloc(), serial.births.as_slice()) == Some(272));
+        }
+        Err(_) => assert!(rt; false),
+    }
 }

@@ -44,8 +44,8 @@ fn trace(alloc: Global, serial: &Serial) -> Result<String, AllocError> {
 /// What programs do with a quota of 16 words. A thread that meets a fault gives back what it holds in all its open calls; one that joins a
 /// faulted child is faulted too; and a faulted thread joins its open children from the newest to the oldest, and gives back what they bring.
 const TRACES: &str = "
-@ 0.0 Fork 0, 1.0 Fork 0, 2.0 Dummy 0, 2.1 End 0, 1.1 Dummy 0, 1.2 Join 0, 1.3 End 0, 0.1 Dummy 0, 0.2 Join 0, 0.3 Alloc 48, 0.4 Release -48, 0.5 End 0; 0.1 1.1 | fn main() { alloc b = 40; free b; }
-@ 0.0 Fork 0, 1.0 Fork 0, 2.0 Alloc 16, 2.1 Release -16, 2.2 End 0, 1.1 Join 0, 1.2 End 0, 0.1 Alloc 16, 0.2 Fork 0, 3.0 End 0, 0.3 Join 0, 0.4 Release -16, 0.5 Join 0, 0.6 End 0; 0.1 1.1 0.2 | fn mk() { alloc b = 1; par { } and { } return own b; } fn main() { par { par { alloc a = 16; free a; } and { } } and { call f(); } } fn f() { call own b = mk(); free b; }
+@ 0.0 Fork 16, 1.0 Fork 16, 2.0 Dummy 0, 2.1 End -16, 1.1 Dummy 0, 1.2 Join 0, 1.3 End -16, 0.1 Dummy 0, 0.2 Join 0, 0.3 Alloc 48, 0.4 Release -48, 0.5 End 0; 0.1 1.1 | fn main() { alloc b = 40; free b; }
+@ 0.0 Fork 16, 1.0 Fork 16, 2.0 Alloc 16, 2.1 Release -16, 2.2 End -16, 1.1 Join 0, 1.2 End -16, 0.1 Alloc 16, 0.2 Fork 16, 3.0 End -16, 0.3 Join 0, 0.4 Release -16, 0.5 Join 0, 0.6 End 0; 0.1 1.1 0.2 | fn mk() { alloc b = 1; par { } and { } return own b; } fn main() { par { par { alloc a = 16; free a; } and { } } and { call f(); } } fn f() { call own b = mk(); free b; }
 @ 0.0 Alloc 16, 0.1 Alloc 16, 0.2 Alloc 16, 0.3 Alloc 16, 0.4 Fault -64, 0.5 End 0; |
 fn f(use u, own o) {
   alloc n = 3;
@@ -66,17 +66,17 @@ fn main() {
   }
   free b;
 }
-@ 0.0 Alloc 16, 0.1 Fork 0, 1.0 Fork 0, 2.0 Fault 0, 2.1 End 0, 1.1 Join 0, 1.2 End 0, 0.2 Join -16, 0.3 End 0; 0.1 1.1 |
+@ 0.0 Alloc 16, 0.1 Fork 16, 1.0 Fork 16, 2.0 Fault 0, 2.1 End -16, 1.1 Join 0, 1.2 End -16, 0.2 Join -16, 0.3 End 0; 0.1 1.1 |
 fn main() {
   alloc a = 16;
   par { par { print 1 / 0; } and { } print 1; }
   and { a[0] = 2; print a[0]; }
   free a;
 }
-@ 0.0 Alloc 16, 0.1 Alloc 16, 0.2 Alloc 16, 0.3 Fork 0, 1.0 Fault -16, 1.1 End 0, 0.4 Join -32, 0.5 End 0; 0.1 |
+@ 0.0 Alloc 16, 0.1 Alloc 16, 0.2 Alloc 16, 0.3 Fork 16, 1.0 Fault -16, 1.1 End -16, 0.4 Join -32, 0.5 End 0; 0.1 |
 fn f(use u) { alloc n = 2; par { n[2] = 1; } and { u[0] = 1; } free n; }
 fn main() { alloc a = 1; alloc c = 1; call f(use a); free a; free c; }
-@ 0.0 Alloc 16, 0.1 Alloc 16, 0.2 Alloc 16, 0.3 Alloc 16, 0.4 Fork 0, 1.0 End 0, 0.5 Fork 0, 2.0 End 0, 0.6 Fault -16, 0.7 Join -16, 0.8 Join -32, 0.9 End 0; 0.1 0.2 |
+@ 0.0 Alloc 16, 0.1 Alloc 16, 0.2 Alloc 16, 0.3 Alloc 16, 0.4 Fork 16, 1.0 End -16, 0.5 Fork 16, 2.0 End -16, 0.6 Fault -16, 0.7 Join -16, 0.8 Join -32, 0.9 End 0; 0.1 0.2 |
 fn main() {
   alloc a = 16; alloc b = 4; alloc c = 5; alloc d = 1;
   par { a[0] = 1; b[0] = 1; } and {
@@ -86,7 +86,7 @@ fn main() {
   print 2;
   free a; free b; free c; free d;
 }
-@ 0.0 Alloc 16, 0.1 Alloc 16, 0.2 Alloc 16, 0.3 Fork 0, 1.0 Fault -16, 1.1 End 0, 0.4 Fork 0, 2.0 End 0, 0.5 Fault -16, 0.6 Join -16, 0.7 Join 0, 0.8 End 0; 0.1 0.2 |
+@ 0.0 Alloc 16, 0.1 Alloc 16, 0.2 Alloc 16, 0.3 Fork 16, 1.0 Fault -16, 1.1 End -16, 0.4 Fork 16, 2.0 End -16, 0.5 Fault -16, 0.6 Join -16, 0.7 Join 0, 0.8 End 0; 0.1 0.2 |
 fn main() {
   alloc a = 16; alloc b = 4; alloc c = 5;
   par { a[16] = 1; } and { par { b[0] = 1; } and { c[0] = 1 / 0; } }
