@@ -8,9 +8,9 @@ use Rattle.std.proofs.lemmas.List.Folds.{list_any-append}
 use Rattle.par_tree.specs.Tree
 use Rattle.par_tree.specs.Tree.{Name, Program, Expr, num, var, get, len_of, neg, chain, cmp, Links, last, link, Target, unused, block, Arg, value, lend, give, Stmt, let_stmt, assign_stmt, put_stmt, alloc_stmt, free_stmt, if_stmt, while_stmt, call_stmt, print_stmt, par_stmt, split_stmt, Body, done, step, ParamKind, by_value, owned, Param, Func, Ret, RetValue, gives, hands}
 use Rattle.par_ownership.specs.Environment.{Entry, Environment, has_name, entry_of, with_entry, marked, integer_entry, block_entry, lent_entry, opened, without, after_gives, after_answer, held_in_both, param_entry}
-use Rattle.par_ownership.specs.Mention.{names_in_expr, names_in_links, names_in_target, names_in_arg, names_in_args, names_in_stmt, names_in_body}
+use Rattle.par_tree.specs.Names.{names_in_expr, names_in_links, names_in_target, names_in_arg, names_in_args, names_in_stmt, names_in_body}
 use Rattle.par_ownership.specs.Ownership.{IsHeld, Reads, ReadsLinks, IsTarget, PassesOne, Passes, Within, Owns, OwnsAll, OwnsParams, OwnsReturn, OwnsValue, OwnsFunction, OwnsFunctions, Ownership}
-use Rattle.par_ownership.specs.Written.{declared_by_target, declared_in_stmt, declared_in_body, param_names, declared_in, is_among, names_in_value, names_in_return}
+use Rattle.par_tree.specs.Names.{declared_by_target, declared_in_stmt, declared_in_body, param_names, declared_in, is_among, names_in_value, names_in_return}
 use Rattle.accepted_laws.specs.Laws.{EachFunction, IsDeclared}
 
 -- x is the name of an entry, and x is that or among some names

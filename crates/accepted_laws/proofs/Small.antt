@@ -17,7 +17,7 @@ use Rattle.canonical_text.proofs.Counting.{Uncrowded, uncrowded_from}
 use Rattle.canonical_text.proofs.Scans.{target_names, stmt_names, body_names}
 use Rattle.canonical_text.proofs.Limits.{func_names, ProgramCount, program_to}
 use Rattle.accepted_laws.specs.Laws.{EachFunction}
-use Rattle.par_ownership.specs.Written.{declared_by_target, declared_in_stmt, declared_in_body, param_name, param_names, declared_in}
+use Rattle.par_tree.specs.Names.{declared_by_target, declared_in_stmt, declared_in_body, param_name, param_names, declared_in}
 use Rattle.accepted_laws.specs.Sizes.{functions_size, HasFewNames, IsSmall}
 use Rattle.accepted_laws.proofs.Costs.{program_cost}
 use Rattle.accepted_laws.proofs.Pieces.{few_text_tokens}

@@ -3,7 +3,7 @@ use Rattle.std.specs.Prelude.{◌≡◌, ℕ, true, false, List, [], ◌∷◌, 
 use Rattle.par_tree.specs.Tree.{Name, Program, Func}
 use Rattle.par_ownership.specs.Ownership.{Ownership, function_of, hands_back, main_name}
 use Rattle.accepted_laws.specs.Calls.{EachCall, IsCall}
-use Rattle.par_ownership.specs.Written.{is_among, is_written_in, declared_in}
+use Rattle.par_tree.specs.Names.{is_among, is_written_in, declared_in}
 
 -- P holds of each function of a list
 abbrev pub EachFunction : (Func → Type 0) → List Func → Type 0

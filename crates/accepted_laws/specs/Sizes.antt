@@ -2,7 +2,7 @@
 use Rattle.std.specs.Prelude.{ℕ, ◌+◌, ◌≤◌, List, [], ◌∷◌, length}
 use Rattle.par_tree.specs.Tree.{Stmt, let_stmt, assign_stmt, put_stmt, alloc_stmt, free_stmt, if_stmt, while_stmt, call_stmt, print_stmt, par_stmt, split_stmt, Body, done, step, Func, Program}
 use Rattle.accepted_laws.specs.Laws.{EachFunction}
-use Rattle.par_ownership.specs.Written.{declared_in}
+use Rattle.par_tree.specs.Names.{declared_in}
 use Rattle.par_text.specs.Counts.{most_functions, most_names}
 use Rattle.par_text.specs.Lexing.{longest_text}
 use Rattle.par_text.specs.Trees.{IsTreeOfText}

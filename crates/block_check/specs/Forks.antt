@@ -10,7 +10,7 @@ use Rattle.par_tree.specs.Tree.{Program, Stmt, let_stmt, assign_stmt, put_stmt, 
 use Rattle.par_tree.specs.View.{name_tree}
 use Rattle.par_tree.specs.declared.name.Name.{Name}
 use Rattle.par_ownership.specs.Environment.{Environment, Entry, is_block, integer_entry, block_entry, lent_entry, with_entry, after_answer, param_entry}
-use Rattle.par_ownership.specs.Mention.{names_in_body, assigns_in_body}
+use Rattle.par_tree.specs.Names.{names_in_body, assigns_in_body}
 
 -- a `par`, with the names that are visible before it
 pub record Fork : Type 0 where

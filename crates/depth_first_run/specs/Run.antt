@@ -8,7 +8,7 @@ use Rattle.depth_first_list.specs.Actions as actions
 use Rattle.depth_first_list.specs.Actions.{Action}
 use Rattle.depth_first_list.specs.Runs.{tree_for}
 use Rattle.par_tree.specs.Tree.{Name, Expr, Target, Arg, Stmt, let_stmt, assign_stmt, put_stmt, alloc_stmt, free_stmt, if_stmt, while_stmt, call_stmt, print_stmt, par_stmt, split_stmt, Body, done, step, Func}
-use Rattle.par_ownership.specs.Mention.{names_in_body, assigns_in_body}
+use Rattle.par_tree.specs.Names.{names_in_body, assigns_in_body}
 use Rattle.par_ownership.specs.Ownership.{function_of, main_name}
 use Rattle.depth_first_run.specs.Stores.{Store, nothing, with_integer, block_of, drop_block, hold_block, write_block, block_words}
 use Rattle.depth_first_run.specs.Values.{value, is_true, place_in}

@@ -11,10 +11,10 @@ use Rattle.par_tree.specs.declared.func.Func.{Func as RustFunc}
 use Rattle.par_tree.specs.declared.program.Program.{Program as RustProgram}
 use Rattle.block_check.specs.Shown.{funcs_tree}
 use Rattle.par_text.specs.Trees.{IsTreeOfText}
-use Rattle.par_ownership.specs.Mention.{names_in_expr, names_in_links, names_in_target, names_in_arg, names_in_args, names_in_stmt, names_in_body}
+use Rattle.par_tree.specs.Names.{names_in_expr, names_in_links, names_in_target, names_in_arg, names_in_args, names_in_stmt, names_in_body}
 use Rattle.par_ownership.specs.Ownership.{Ownership, function_of, main_name}
 use Rattle.accepted_laws.specs.Calls.{EachCallOfStmt, EachCall, IsCall}
-use Rattle.par_ownership.specs.Written.{is_among, param_names, declared_in, names_in_value, names_in_return}
+use Rattle.par_tree.specs.Names.{is_among, param_names, declared_in, names_in_value, names_in_return}
 use Rattle.accepted_laws.specs.Laws.{EachFunction, IsDeclared}
 use Rattle.accepted_laws.proofs.Passing.{calls}
 use Rattle.accepted_laws.proofs.Naming.{declared}

@@ -9,7 +9,7 @@ use Rattle.par_tree.specs.declared.param.Param.{Param}
 use Rattle.par_tree.specs.declared.stmt.Stmt.{Stmt}
 use Rattle.par_tree.specs.declared.program.Program.{Program as RustProgram}
 use Rattle.par_ownership.specs.Ownership.{main_name}
-use Rattle.par_ownership.specs.Written.{param_names}
+use Rattle.par_tree.specs.Names.{param_names}
 use Rattle.block_check.specs.Shown.{funcs_tree}
 use Rattle.node_table.specs.Table.{Ret, Node, Function, Table}
 use Rattle.node_table.specs.Names.{slot_names, IsSlot}

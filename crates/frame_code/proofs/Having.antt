@@ -16,7 +16,7 @@ use Rattle.par_tree.proofs.Lists.{expr_tree-chain}
 use Rattle.par_tree.specs.declared.arg.Arg.{Arg}
 use Rattle.par_tree.specs.declared.param.Param.{Param}
 use Rattle.par_tree.specs.declared.stmt.Stmt.{Stmt}
-use Rattle.par_ownership.specs.Written.{is_among, param_names}
+use Rattle.par_tree.specs.Names.{is_among, param_names}
 use Rattle.frame_code.specs.Slotted.{Has, HasAll, HasExpr, HasLinks, HasArg, HasArgs, HasStmt, HasBody, HasFunc}
 use Rattle.node_table.proofs.Lists.{at_item, drop_item}
 

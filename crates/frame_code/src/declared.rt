@@ -3,7 +3,7 @@
 ghost use Rattle.std.specs.Prelude.{◌≡◌, IfOk};
 ghost use Rattle.par_tree.specs.View.{name_tree, target_tree, stmt_tree, body_tree, params_tree, func_tree};
 ghost use Rattle.par_names.specs.Rows.{rows_tree};
-ghost use Rattle.par_ownership.specs.Written.{is_among, declared_by_target, declared_in_stmt, declared_in_body, param_names};
+ghost use Rattle.par_tree.specs.Names.{is_among, declared_by_target, declared_in_stmt, declared_in_body, param_names};
 ghost use Rattle.node_table.specs.Names.{with_name, with_names, slot_names};
 ghost use Rattle.frame_code.specs.Scopes.{names_tree};
 

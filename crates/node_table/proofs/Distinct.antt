@@ -5,7 +5,7 @@ use Rattle.std.specs.Str.{bytes_eq}
 use Rattle.std.proofs.lemmas.Slice.Eq.{bytes_eq-Decides}
 use Rattle.std.proofs.lemmas.List.Folds.{list_any-append}
 use Rattle.par_tree.specs.Tree.{Name, Func}
-use Rattle.par_ownership.specs.Written.{is_among, declared_in}
+use Rattle.par_tree.specs.Names.{is_among, declared_in}
 use Rattle.node_table.specs.Names.{with_name, with_names, slot_names, name_at}
 
 abbrev Distinct : List Name → Type 0

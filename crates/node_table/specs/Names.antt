@@ -2,7 +2,7 @@
 use Rattle.std.specs.Prelude.{◌≡◌, ℕ, ◌<◌, if◌then◌else◌, List, [], ◌∷◌, ◌++◌, length, slice_get}
 use Rattle.std.specs.Option.{unwrap_or}
 use Rattle.par_tree.specs.Tree.{Name, Func}
-use Rattle.par_ownership.specs.Written.{is_among, declared_in}
+use Rattle.par_tree.specs.Names.{is_among, declared_in}
 
 -- a name behind others, unless it is among them
 abbrev pub with_name : List Name → Name → List Name

@@ -2,9 +2,9 @@
 use Rattle.std.specs.Prelude.{◌≡◌, ℕ, ◌+◌, ◌≤◌, Bool, List, [], ◌∷◌, map, length, slice_get, Some}
 use Rattle.std.specs.List.{filter}
 use Rattle.par_tree.specs.Tree.{Name, Expr, Target, Arg, Stmt, let_stmt, assign_stmt, put_stmt, alloc_stmt, free_stmt, if_stmt, while_stmt, call_stmt, print_stmt, par_stmt, split_stmt, Body, done, step, Func, Program}
-use Rattle.par_ownership.specs.Mention.{names_in_body, assigns_in_body}
+use Rattle.par_tree.specs.Names.{names_in_body, assigns_in_body}
 use Rattle.par_ownership.specs.Ownership.{Ownership, main_name}
-use Rattle.par_ownership.specs.Written.{param_names}
+use Rattle.par_tree.specs.Names.{param_names}
 use Rattle.node_table.specs.Names.{slot_names, IsSlot}
 use Rattle.node_table.specs.Reading.{IsExpr, IsTarget, AreArgs, AreSlots, IsReturn}
 use Rattle.node_table.specs.Table.{Kind, let_node, assign_node, put_node, alloc_node, free_node, if_node, while_node, call_node, print_node, both_node, split_node, Node, Function, Table}

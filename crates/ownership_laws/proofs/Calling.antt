@@ -8,7 +8,7 @@ use Rattle.dag_order.specs.declared.fault.FaultKind.{FaultKind}
 use Rattle.par_tree.specs.Tree.{Name, Expr, Program, Arg, Param, Target, unused, integer, block, Func, Ret, RetValue, gives, hands, call_stmt, Body}
 use Rattle.par_ownership.specs.Environment as environments
 use Rattle.par_ownership.specs.Environment.{Environment, block_entry, with_entry, after_gives, after_answer, is_released}
-use Rattle.par_ownership.specs.Mention.{names_in_args, names_in_target, names_in_stmt, names_in_body}
+use Rattle.par_tree.specs.Names.{names_in_args, names_in_target, names_in_stmt, names_in_body}
 use Rattle.par_ownership.specs.Ownership.{IsTarget, IsOwned, Passes, OwnsAll, OwnsReturn, OwnsValue, OwnsFunction, OwnsFunctions, hands_back, takes_answer, function_of}
 use Rattle.depth_first_run.specs.Stores
 use Rattle.depth_first_run.specs.Stores.{Store, block_of, block_words, held_words, stored_words, drop_block, without, hold_block}

@@ -7,7 +7,7 @@ use Rattle.dummy_tree.specs.Shapes.{leaf, forked}
 use Rattle.depth_first_list.specs.Actions.{record_words}
 use Rattle.par_tree.specs.Tree.{Name, Expr, Target, Arg, value, lend, give, Param, Ret, RetValue, gives, hands, Stmt, let_stmt, assign_stmt, put_stmt, alloc_stmt, free_stmt, if_stmt, while_stmt, call_stmt, print_stmt, par_stmt, split_stmt, Body, done, step, Func}
 use Rattle.par_ownership.specs.Environment.{Environment, opened}
-use Rattle.par_ownership.specs.Mention.{names_in_expr, names_in_target, names_in_args, names_in_stmt, names_in_body}
+use Rattle.par_tree.specs.Names.{names_in_expr, names_in_target, names_in_args, names_in_stmt, names_in_body}
 use Rattle.par_ownership.specs.Ownership.{HoldTheSame, Owns, OwnsAll, OwnsReturn, OwnsValue, OwnsFunction, OwnsFunctions, Ownership, Passes, function_of, main_name, begins, takes_nothing, hands_back}
 use Rattle.depth_first_run.specs.Stores
 use Rattle.depth_first_run.specs.Stores.{block_of, block_words}

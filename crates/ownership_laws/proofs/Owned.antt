@@ -11,7 +11,7 @@ use Rattle.depth_first_list.specs.Actions.{live_words}
 use Rattle.par_tree.specs.Tree.{Name, Expr, Program, Param, Ret, RetValue, gives, hands, Stmt, let_stmt, assign_stmt, put_stmt, alloc_stmt, free_stmt, if_stmt, while_stmt, call_stmt, print_stmt, par_stmt, split_stmt, Body, done, step, Func}
 use Rattle.par_ownership.specs.Environment as environments
 use Rattle.par_ownership.specs.Environment.{Kind, Entry, Environment, integer_entry, block_entry, lent_entry, with_entry, regained, opened, after_gives, after_answer, held_in_both, is_released}
-use Rattle.par_ownership.specs.Mention.{names_in_expr, names_in_stmt, names_in_body}
+use Rattle.par_tree.specs.Names.{names_in_expr, names_in_stmt, names_in_body}
 use Rattle.par_ownership.specs.Ownership.{HoldTheSame, are_apart, Owns, OwnsAll, OwnsParams, OwnsReturn, OwnsValue, OwnsFunction, OwnsFunctions, Ownership, function_of, main_name, begins, takes_nothing, hands_back}
 use Rattle.depth_first_run.specs.Stores.{Store, held_words, stored_words, with_integer, those_not_named}
 use Rattle.depth_first_run.specs.Values.{Outcome, value, is_true}

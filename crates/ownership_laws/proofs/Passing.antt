@@ -8,7 +8,7 @@ use Rattle.par_tree.specs.Tree
 use Rattle.par_tree.specs.Tree.{Name, Expr, Program, Target, unused, integer, block, Arg, value, lend, give, Param, ParamKind, Func}
 use Rattle.par_ownership.specs.Environment as environments
 use Rattle.par_ownership.specs.Environment.{Entry, Environment, integer_entry, block_entry, lent_entry, with_entry, after_gives, after_answer, param_entry, is_released}
-use Rattle.par_ownership.specs.Mention.{names_in_args, names_in_expr}
+use Rattle.par_tree.specs.Names.{names_in_args, names_in_expr}
 use Rattle.par_ownership.specs.Ownership.{Passes, passes, OwnsParams, OwnsFunction, OwnsFunctions}
 use Rattle.depth_first_run.specs.Stores.{Store, Held, block_of, without, with_block, hold_block, held_words}
 use Rattle.depth_first_run.specs.Values as values

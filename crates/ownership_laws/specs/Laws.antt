@@ -3,7 +3,7 @@ use Rattle.std.specs.Prelude.{◌≡◌, ℕ, ◌⊎◌, true, false, List, [], 
 use Rattle.depth_first_list.specs.Actions.{live_words}
 use Rattle.par_tree.specs.Tree.{Name, Program, Stmt, Body, step}
 use Rattle.par_ownership.specs.Environment.{Environment}
-use Rattle.par_ownership.specs.Mention.{names_in_stmt, names_in_body}
+use Rattle.par_tree.specs.Names.{names_in_stmt, names_in_body}
 use Rattle.par_ownership.specs.Ownership.{Ownership, Owns, OwnsAll}
 use Rattle.depth_first_run.specs.States.{Setting, State, ended}
 use Rattle.depth_first_run.specs.Run.{run, whole, actions_of}

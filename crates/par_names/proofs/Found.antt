@@ -3,9 +3,9 @@ use Rattle.std.proofs.Common.{◌≡◌, Bool, true, false, ◌||◌, List, [], 
 use Rattle.std.specs.Str.{bytes_eq}
 use Rattle.std.proofs.lemmas.List.Folds.{list_any-append}
 use Rattle.par_tree.specs.Tree.{Name, Expr, num, var, get, len_of, neg, chain, cmp, Links, last, link, Target, unused, integer, block, Arg, value, lend, give, Stmt, let_stmt, assign_stmt, put_stmt, alloc_stmt, free_stmt, if_stmt, while_stmt, call_stmt, print_stmt, par_stmt, split_stmt, Body, done, step}
-use Rattle.par_ownership.specs.Mention.{names_in_expr, names_in_links, names_in_target, names_in_arg, names_in_args, names_in_stmt, names_in_body, assigns_in_target, assigns_in_stmt, assigns_in_body}
-use Rattle.par_names.specs.Mentioned.{expr_names, links_names, target_names, arg_names, args_names, parts_names, stmt_names, body_names, target_assigned, stmt_assigned, body_assigned}
-use Rattle.par_names.specs.Sets.{is_among}
+use Rattle.par_tree.specs.Names.{names_in_expr, names_in_links, names_in_target, names_in_arg, names_in_args, names_in_stmt, names_in_body, assigns_in_target, assigns_in_stmt, assigns_in_body}
+use Rattle.par_tree.specs.Names.{expr_names, links_names, target_names, arg_names, args_names, parts_names, stmt_names, body_names, target_assigned, stmt_assigned, body_assigned}
+use Rattle.par_tree.specs.Names.{is_among}
 
 or_assoc : (a b c : Bool) → (a || (b || c)) ≡ ((a || b) || c)
 or_assoc true b c = refl

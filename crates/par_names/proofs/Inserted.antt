@@ -9,7 +9,8 @@ use Rattle.std.proofs.lemmas.Bool.{cases_Bool}
 use Rattle.std.proofs.lemmas.List.{take_more, map-append}
 use Rattle.std.proofs.lemmas.Map.Text.{is_eq-slice_cmp}
 use Rattle.par_tree.specs.Tree.{Name}
-use Rattle.par_names.specs.Sets.{names_behind, is_among, has, is_asked}
+use Rattle.par_tree.specs.Names.{is_among}
+use Rattle.par_names.specs.Sets.{names_behind, has, is_asked}
 use Rattle.par_names.specs.declared.name_set.NameSet.{NameSet}
 use Rattle.par_names.proofs.Found.{or-false, among-append, among-one}
 

@@ -8,7 +8,7 @@ use Rattle.par_tree.specs.View.{expr_tree, links_tree}
 use Rattle.par_tree.specs.declared.expr.Expr.{Expr, Chain}
 use Rattle.par_tree.specs.declared.link.Link.{Link}
 use Rattle.par_tree.proofs.Lists.{expr_tree-chain}
-use Rattle.par_names.specs.Mentioned.{expr_names, links_names}
+use Rattle.par_tree.specs.Names.{expr_names, links_names}
 use Rattle.par_names.specs.Sets.{names_behind}
 
 -- what holds where a call succeeds, from what is ensured there

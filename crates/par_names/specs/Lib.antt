@@ -1,4 +1,4 @@
-pub mod Mentioned
 pub mod Rows
 pub mod Sets
 pub mod Named
+pub mod Laws

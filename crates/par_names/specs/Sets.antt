@@ -13,10 +13,6 @@ use Rattle.par_names.specs.declared.name_set.NameSet.{NameSet}
 abbrev pub names_behind : List (Bor (List ℕ)) → List Name
 names_behind rs = map (λ (r : Bor (List ℕ)). r.now) rs
 
--- the name is one of the list
-abbrev pub is_among : Name → List Name → Bool
-is_among x names = list_any (λ (y : Name). bytes_eq y x) names
-
 -- the set has the name
 abbrev pub has : NameSet → Name → Bool
 has s x = contains_by (λ (k : Bor (List ℕ)). slice_cmp nat_cmp x k.now) s.names

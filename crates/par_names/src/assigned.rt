@@ -2,7 +2,7 @@
 
 ghost use Rattle.std.specs.Prelude.{◌≡◌, ◌++◌, IfOk};
 ghost use Rattle.par_tree.specs.View.{target_tree, stmt_tree, body_tree};
-ghost use Rattle.par_names.specs.Mentioned.{target_assigned, stmt_assigned, body_assigned};
+ghost use Rattle.par_tree.specs.Names.{target_assigned, stmt_assigned, body_assigned};
 ghost use Rattle.par_names.specs.Rows.{rows_tree};
 ghost use Rattle.par_names.specs.Sets.{names_behind};
 

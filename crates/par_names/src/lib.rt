@@ -7,10 +7,12 @@
 #![tactic(auto)]
 
 mod assigned;
+mod laws;
 mod mentioned;
 mod mentions;
 mod name_set;
 mod named_body;
 
+pub use laws::tests_find_the_listed;
 pub use mentions::{assigns_in, is_name, names_in};
 pub use named_body::NamedBody;

@@ -2,7 +2,7 @@
 
 ghost use Rattle.std.specs.Prelude.{◌≡◌, ◌++◌, ◌∷◌, [], IfOk};
 ghost use Rattle.par_tree.specs.View.{name_tree, expr_tree, links_tree, target_tree, arg_tree, args_tree, stmt_tree, body_tree};
-ghost use Rattle.par_names.specs.Mentioned.{expr_names, links_names, target_names, arg_names, args_names, parts_names, stmt_names, body_names};
+ghost use Rattle.par_tree.specs.Names.{expr_names, links_names, target_names, arg_names, args_names, parts_names, stmt_names, body_names};
 ghost use Rattle.par_names.specs.Rows.{rows_tree};
 ghost use Rattle.par_names.specs.Sets.{names_behind};
 

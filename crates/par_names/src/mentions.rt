@@ -3,7 +3,7 @@
 ghost use Rattle.std.specs.Prelude.{◌≡◌, ◌||◌};
 ghost use Rattle.std.specs.Str.{bytes_eq};
 ghost use Rattle.par_tree.specs.View.{name_tree, expr_tree, links_tree, target_tree, arg_tree, args_tree, stmt_tree, body_tree};
-ghost use Rattle.par_ownership.specs.Mention.{names_in_expr, names_in_links, names_in_target, names_in_arg, names_in_args, names_in_stmt, names_in_body, assigns_in_target, assigns_in_stmt, assigns_in_body};
+ghost use Rattle.par_tree.specs.Names.{names_in_expr, names_in_links, names_in_target, names_in_arg, names_in_args, names_in_stmt, names_in_body, assigns_in_target, assigns_in_stmt, assigns_in_body};
 
 use par_tree::{Arg, Expr, Link, Name, Stmt, StmtKind, Target};
 

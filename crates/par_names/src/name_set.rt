@@ -9,7 +9,8 @@ pub(crate) struct NameSet<'a> {
 
 impl<'a> NameSet<'a> {
     ghost use Rattle.std.specs.Prelude.{◌≡◌, ℕ, List, true, IfOk};
-    ghost use Rattle.par_names.specs.Sets.{names_behind, is_among, has, is_asked};
+    ghost use Rattle.par_tree.specs.Names.{is_among};
+    ghost use Rattle.par_names.specs.Sets.{names_behind, has, is_asked};
 
     /// The names in a list that are asked for.
     pub(crate) fn of(

@@ -1,7 +1,8 @@
 ghost use Rattle.std.specs.Prelude.{◌≡◌, ℕ, List, true, IfOk};
 ghost use Rattle.par_tree.specs.View.{body_tree};
-ghost use Rattle.par_ownership.specs.Mention.{names_in_body, assigns_in_body};
-ghost use Rattle.par_names.specs.Sets.{names_behind, is_among, has, is_asked};
+ghost use Rattle.par_tree.specs.Names.{names_in_body, assigns_in_body};
+ghost use Rattle.par_tree.specs.Names.{is_among};
+ghost use Rattle.par_names.specs.Sets.{names_behind, has, is_asked};
 
 use crate::assigned::add_assigned;
 use crate::mentioned::add_names;

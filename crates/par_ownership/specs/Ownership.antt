@@ -7,7 +7,7 @@ use Rattle.std.specs.Str.{bytes_eq}
 use Rattle.par_tree.specs.Tree
 use Rattle.par_tree.specs.Tree.{Name, Program, Expr, num, var, get, len_of, neg, chain, cmp, Links, last, link, Target, unused, block, Arg, value, lend, give, Stmt, let_stmt, assign_stmt, put_stmt, alloc_stmt, free_stmt, if_stmt, while_stmt, call_stmt, print_stmt, par_stmt, split_stmt, Body, done, step, ParamKind, by_value, owned, Param, Func, Ret, RetValue, gives, hands}
 use Rattle.par_ownership.specs.Environment.{is_block, is_own, Entry, Environment, entry_of, integer_entry, block_entry, lent_entry, with_entry, regained, opened, without, after_gives, after_answer, held_in_both, is_released, param_entry}
-use Rattle.par_ownership.specs.Mention.{names_in_body, assigns_in_body}
+use Rattle.par_tree.specs.Names.{names_in_body, assigns_in_body}
 
 -- nothing of this name is visible
 abbrev pub IsFresh : Environment → Name → Type 0

@@ -2,7 +2,7 @@ use Rattle.std.proofs.Common.{◌≡◌, ◌+◌, ◌∙◌, drop, sym, ap, subs
 use Rattle.par_tree.specs.Tree.{Body}
 use Rattle.par_tree.specs.View.{stmt_tree, body_tree}
 use Rattle.par_names.specs.Rows.{rows_tree}
-use Rattle.par_ownership.specs.Written.{declared_in_stmt, declared_in_body}
+use Rattle.par_tree.specs.Names.{declared_in_stmt, declared_in_body}
 use Rattle.node_table.specs.Names.{with_names}
 use Rattle.frame_code.specs.Scopes.{names_tree}
 use Rattle.node_table.proofs.Lists.{drop_item}

@@ -1,6 +1,6 @@
 use Rattle.std.proofs.Common.{◌≡◌, drop}
 use Rattle.par_tree.specs.View.{body_tree}
-use Rattle.par_ownership.specs.Written.{declared_in_body}
+use Rattle.par_tree.specs.Names.{declared_in_body}
 use Rattle.node_table.specs.Names.{with_names}
 use Rattle.frame_code.specs.Scopes.{names_tree}
 use Rattle.frame_code.proofs.declared.+with_statement.Given as goal

@@ -1,6 +1,6 @@
 use Rattle.std.proofs.Common.{◌≡◌, drop}
 use Rattle.par_tree.specs.View.{name_tree}
-use Rattle.par_ownership.specs.Written.{is_among}
+use Rattle.par_tree.specs.Names.{is_among}
 use Rattle.frame_code.specs.Scopes.{names_tree}
 use Rattle.frame_code.proofs.declared.is_among.Given as goal
 

@@ -1,6 +1,6 @@
 use Rattle.std.proofs.Common.{◌≡◌, ◌∙◌, [], refl, ap, subst, IfOk}
 use Rattle.par_tree.specs.View.{params_tree, body_tree, func_tree}
-use Rattle.par_ownership.specs.Written.{declared_in, declared_in_body, param_names}
+use Rattle.par_tree.specs.Names.{declared_in, declared_in_body, param_names}
 use Rattle.node_table.specs.Names.{with_names}
 use Rattle.frame_code.specs.Scopes.{names_tree}
 use Rattle.frame_code.proofs.Naming.{with_part}

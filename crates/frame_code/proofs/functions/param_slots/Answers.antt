@@ -1,6 +1,6 @@
 use Rattle.std.proofs.Common.{refl}
 use Rattle.par_tree.specs.View.{params_tree}
-use Rattle.par_ownership.specs.Written.{param_names}
+use Rattle.par_tree.specs.Names.{param_names}
 use Rattle.frame_code.specs.Scopes.{names_tree}
 use Rattle.node_table.specs.Reading.{AreSlots}
 use Rattle.frame_code.proofs.Having.{param_has}

@@ -1,5 +1,5 @@
 use Rattle.par_tree.specs.View.{params_tree}
-use Rattle.par_ownership.specs.Written.{param_names}
+use Rattle.par_tree.specs.Names.{param_names}
 use Rattle.frame_code.specs.Scopes.{names_tree}
 use Rattle.node_table.specs.Reading.{AreSlots}
 use Rattle.node_table.proofs.Lists.{Continues}

@@ -1,7 +1,7 @@
 use Rattle.std.proofs.Common.{◌≡◌, ◌++◌, IfOk, subst, ap, sym, ◌∙◌}
 use Rattle.par_tree.specs.Tree.{Body}
 use Rattle.par_tree.specs.View.{body_tree}
-use Rattle.par_names.specs.Mentioned.{body_assigned}
+use Rattle.par_tree.specs.Names.{body_assigned}
 use Rattle.par_names.specs.Sets.{names_behind}
 use Rattle.par_names.proofs.Rows.{body_is}
 use Rattle.par_names.proofs.assigned.+add_statement.Goals as goal

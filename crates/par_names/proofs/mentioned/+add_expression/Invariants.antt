@@ -1,6 +1,6 @@
 use Rattle.std.proofs.Common.{◌≡◌, ◌++◌, drop}
 use Rattle.par_tree.specs.View.{links_tree}
-use Rattle.par_names.specs.Mentioned.{links_names}
+use Rattle.par_tree.specs.Names.{links_names}
 use Rattle.par_names.specs.Sets.{names_behind}
 use Rattle.par_names.proofs.mentioned.+add_expression.Given as goal
 

@@ -1,6 +1,6 @@
 use Rattle.std.proofs.Common.{◌≡◌, ◌++◌, drop}
 use Rattle.par_tree.specs.View.{body_tree}
-use Rattle.par_names.specs.Mentioned.{body_names}
+use Rattle.par_tree.specs.Names.{body_names}
 use Rattle.par_names.specs.Sets.{names_behind}
 use Rattle.par_names.proofs.mentioned.+add_statement.Given as goal
 

@@ -1,6 +1,6 @@
 use Rattle.std.proofs.Common.{◌≡◌, ◌++◌, drop}
 use Rattle.par_tree.specs.View.{args_tree}
-use Rattle.par_names.specs.Mentioned.{args_names}
+use Rattle.par_tree.specs.Names.{args_names}
 use Rattle.par_names.specs.Sets.{names_behind}
 use Rattle.par_names.proofs.mentioned.add_arguments.Given as goal
 

@@ -1,7 +1,7 @@
 use Rattle.std.proofs.Common.{inl, inr, sym, ap, ◌∙◌}
 use Rattle.par_tree.specs.View.{stmt_tree, body_tree}
 use Rattle.par_tree.proofs.Lists.{stmt_tree-if, stmt_tree-while, stmt_tree-par, stmt_tree-split}
-use Rattle.par_ownership.specs.Mention.{assigns_in_stmt, assigns_in_body}
+use Rattle.par_tree.specs.Names.{assigns_in_stmt, assigns_in_body}
 use Rattle.par_names.proofs.Tests.{or_then, or_else}
 use Rattle.par_names.proofs.mentions.+assigns_in_statement.Goals as goal
 

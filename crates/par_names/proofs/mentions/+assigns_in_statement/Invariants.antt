@@ -1,6 +1,6 @@
 use Rattle.std.proofs.Common.{◌≡◌, drop}
 use Rattle.par_tree.specs.View.{body_tree}
-use Rattle.par_ownership.specs.Mention.{assigns_in_body}
+use Rattle.par_tree.specs.Names.{assigns_in_body}
 use Rattle.par_names.proofs.mentions.+assigns_in_statement.Given as goal
 
 abbrev pub invariant-assigns_in-loop-stmt : goal.invariant-assigns_in-loop-stmt

@@ -1,7 +1,7 @@
 use Rattle.std.proofs.Common.{sym, ap, ◌∙◌}
 use Rattle.par_tree.specs.View.{expr_tree, links_tree}
 use Rattle.par_tree.proofs.Lists.{expr_tree-chain}
-use Rattle.par_ownership.specs.Mention.{names_in_expr, names_in_links}
+use Rattle.par_tree.specs.Names.{names_in_expr, names_in_links}
 use Rattle.par_names.proofs.Tests.{or_else}
 use Rattle.par_names.proofs.mentions.+names_in_expression.Goals as goal
 

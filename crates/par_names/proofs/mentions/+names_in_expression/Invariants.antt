@@ -1,6 +1,6 @@
 use Rattle.std.proofs.Common.{◌≡◌, drop}
 use Rattle.par_tree.specs.View.{links_tree}
-use Rattle.par_ownership.specs.Mention.{names_in_links}
+use Rattle.par_tree.specs.Names.{names_in_links}
 use Rattle.par_names.proofs.mentions.+names_in_expression.Given as goal
 
 abbrev pub invariant-names_in_links-loop-link : goal.invariant-names_in_links-loop-link

@@ -2,7 +2,7 @@ use Rattle.std.proofs.Common.{◌||◌, refl, sym, ap, ◌∙◌}
 use Rattle.std.specs.Str.{bytes_eq}
 use Rattle.par_tree.specs.View.{name_tree, expr_tree, stmt_tree, body_tree}
 use Rattle.par_tree.proofs.Lists.{stmt_tree-if, stmt_tree-while, stmt_tree-par, stmt_tree-split}
-use Rattle.par_ownership.specs.Mention.{names_in_expr, names_in_stmt, names_in_body}
+use Rattle.par_tree.specs.Names.{names_in_expr, names_in_stmt, names_in_body}
 use Rattle.par_names.proofs.Tests.{or_then, or_else}
 use Rattle.par_names.proofs.mentions.+names_in_statement.Goals as goal
 

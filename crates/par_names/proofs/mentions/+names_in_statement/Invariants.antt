@@ -1,6 +1,6 @@
 use Rattle.std.proofs.Common.{◌≡◌, drop}
 use Rattle.par_tree.specs.View.{body_tree}
-use Rattle.par_ownership.specs.Mention.{names_in_body}
+use Rattle.par_tree.specs.Names.{names_in_body}
 use Rattle.par_names.proofs.mentions.+names_in_statement.Given as goal
 
 abbrev pub invariant-names_in-loop-stmt : goal.invariant-names_in-loop-stmt

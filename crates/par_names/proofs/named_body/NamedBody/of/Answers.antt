@@ -1,7 +1,7 @@
 use Rattle.std.proofs.Common.{ap, ◌∙◌}
 use Rattle.par_tree.specs.View.{body_tree}
-use Rattle.par_names.specs.Mentioned.{body_names, body_assigned}
-use Rattle.par_names.specs.Sets.{is_among}
+use Rattle.par_tree.specs.Names.{body_names, body_assigned}
+use Rattle.par_tree.specs.Names.{is_among}
 use Rattle.par_names.proofs.Listed.{listed}
 use Rattle.par_names.proofs.Found.{body_found, body_assigned_found}
 use Rattle.par_names.proofs.named_body.NamedBody.of.Goals as goal
