@@ -2,7 +2,8 @@ ghost use Rattle.accepted_source.specs.Sources.{ReadsSource};
 
 use crate::source_fail::SourceFail;
 use block_check::{CheckFail, Checked, check};
-use par_parse::{ParseFail, parse};
+use par_lex::ParseFail;
+use par_parse::parse;
 use std::alloc::Global;
 
 /// The program of a source.

@@ -5,7 +5,7 @@ ghost use Rattle.block_check.specs.Checked.{error_shown};
 ghost use Rattle.dfd_run.specs.Messages.{read_fault_text, syntax_word, syntax_text, not_yet_text, check_word, check_text, spent_text};
 
 use block_check::{CheckError, CheckKind};
-use par_parse::{SyntaxError, SyntaxKind};
+use par_syntax::{SyntaxError, SyntaxKind};
 use std::alloc::{AllocError, Global};
 
 /// The line of words that are no command.

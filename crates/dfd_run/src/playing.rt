@@ -14,7 +14,7 @@ use crate::pcg_choices::PcgChoices;
 use crate::status::Status;
 use dag_order::{Finish, Lines};
 use dfd_core::Core;
-use par_parse::{ParseFail, parse};
+use par_syntax::{ParseFail, parse};
 use print_form::printing;
 use print_program::Program;
 use run_report::outcome_text;

@@ -1,8 +1,7 @@
 //! Canonical texts. Each was worked out by hand from the rules of the form.
 
 use crate::rows::text_of;
-use par_parse::{ParseFail, parse};
-use par_print::print;
+use par_syntax::{ParseFail, parse, print};
 use std::alloc::{AllocError, Global};
 use std::process::Abort;
 use std::test::Fail;

@@ -2,8 +2,7 @@
 
 use accepted_source::accept;
 use frame_code::{Code, CodeArg, CodeExpr, CodeRet, CodeRetValue, CodeTarget, NodeKind, lower};
-use par_print::print;
-use par_tree::{ChainOp, CmpOp};
+use par_syntax::{ChainOp, CmpOp, print};
 use std::alloc::Global;
 use std::fmt::Write;
 use std::test::Fail;
