@@ -1,0 +1,13 @@
+pub mod Labels
+pub mod OneAction
+pub mod LiveThreads
+pub mod Placed
+pub mod Shapes
+pub mod Order
+pub mod KeptOrder
+pub mod Counts
+pub mod Births
+pub mod KeptPeriods
+pub mod KeptBegun
+pub mod Kept
+pub mod Reached

@@ -1,0 +1,4 @@
+pub mod Moments
+pub mod Machine
+pub mod LawfulOrder
+pub mod Runs

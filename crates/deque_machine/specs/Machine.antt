@@ -1,0 +1,153 @@
+-- The machine: which events may come at a moment, and what each of them does.
+use Rattle.std.specs.Prelude.{◌≡◌, ◌≢◌, ◌⊎◌, ℕ, zero, suc, ◌+◌, ◌<◌, ◌≤◌, min, Bool, true, false, nat_lt, Option, None, Some, List, [], ◌∷◌, ◌++◌, length}
+use Rattle.dag_order.specs.LabelOrder.{fork_of}
+use Rattle.depth_first_list.specs.Actions.{Deed, forks, joins, allocates, releases, dummy, faults, ends, Action, record_words}
+use Rattle.depth_first_list.specs.Facts.{label_at, deed_at, words_at, IsNext}
+use Rattle.lawful_books.specs.Lists.{Among, Each}
+use Rattle.lawful_books.specs.Books.{Book, charged}
+use Rattle.lawful_books.specs.Lawful.{one_more, book_of}
+use Rattle.deque_machine.specs.Moments.{Deque, Waiting, Moment, done_at, owned_by, with_id}
+
+-- what is fixed for a run: its depth-first list, its quota in words, and the number of its workers
+pub record Setting : Type 0 where
+  pub list : List Action
+  pub quota : ℕ
+  pub workers : ℕ
+
+-- what a worker does: it steals from the deque at a place, into a deque with an id; it does the action at a place of
+-- the list; it leaves a thread that has to wait; or it gives its deque up
+pub data Event : Type 0 where
+  steals : ℕ → ℕ → Event
+  does : ℕ → Event
+  suspends : Event
+  gives_up : Event
+
+-- the deque that a worker owns, with what is left and right of it, and the book that is open for the worker, with the
+-- books of older and of newer periods
+pub record Owns (m : Moment) (worker : ℕ) : Type 0 where
+  pub left : List Deque
+  pub id : ℕ
+  pub top : List ℕ
+  pub under : List (List ℕ)
+  pub right : List Deque
+  pub older : List Book
+  pub book : Book
+  pub newer : List Book
+  pub deques_are : m.deques ≡ left ++ record { id = id; owner = Some worker; threads = top ∷ under } ∷ right
+  pub books_are : m.books ≡ older ++ book ∷ newer
+  pub open_for_it : book.owner ≡ Some worker
+
+-- the deques with other threads, and perhaps no owner, in the place of the worker's
+abbrev pub deques_with : {m : Moment} {worker : ℕ} → Owns m worker → Option ℕ → List (List ℕ) → List Deque
+deques_with o owner threads = o.left ++ record { id = o.id; owner = owner; threads = threads } ∷ o.right
+
+-- the books with one action more in the worker's, which stays open or is closed
+abbrev pub books_with : {m : Moment} {worker : ℕ} → Owns m worker → Option ℕ → ℕ → List Book
+books_with o owner place = one_more o.older o.book o.newer owner place
+
+-- the books with the worker's closed
+abbrev pub books_closed : {m : Moment} {worker : ℕ} → Owns m worker → List Book
+books_closed o = o.older ++ book_of o.book None o.book.ran ∷ o.newer
+
+-- the action at a place is the next one of the worker's top thread, and does this
+pub record IsAtTop (s : Setting) (m : Moment) (top : List ℕ) (place : ℕ) (deed : Deed) : Type 0 where
+  pub next : IsNext s.list (done_at m) top place
+  pub deed_is : deed_at s.list place ≡ deed
+
+-- a child of a thread has ended
+abbrev pub HasEnded : Setting → Moment → List ℕ → Type 0
+HasEnded s m thread = (e : ℕ) × (e < length s.list) × (label_at s.list e ≡ thread) × (deed_at s.list e ≡ ends) × (0 < done_at m e)
+
+-- what a worker is that steals
+pub record IsIdle (s : Setting) (m : Moment) (worker : ℕ) : Type 0 where
+  pub is_worker : worker < s.workers
+  pub owns_none : owned_by worker m.deques ≡ 0
+
+-- the book of a period that begins
+abbrev pub new_book : ℕ → Bool → Book
+new_book worker ahead = record { ahead = ahead; owner = Some worker; ran = [] }
+
+-- `May s m worker event after`: at the moment m the worker may do the event, and then the moment is `after`.
+pub data May (s : Setting) (m : Moment) (worker : ℕ) : Event → Moment → Type 0 where
+  -- An idle worker takes the bottom thread of a deque, which keeps its other threads, into a new deque directly to the
+  -- right of it. The victim has no owner or not, but stands at a place below the number of workers. The new period is
+  -- marked ahead, since there is a deque to the left.
+  steals_beside : (left right : List Deque) (victim : Deque) (first : List ℕ) (others : List (List ℕ)) (bottom : List ℕ) (id : ℕ)
+      → IsIdle s m worker → length left < s.workers
+      → m.deques ≡ left ++ victim ∷ right → victim.threads ≡ first ∷ (others ++ bottom ∷ []) → with_id id m.deques ≡ 0
+      → May s m worker (steals (length left) id) (record {
+        deques = left ++ record { id = victim.id; owner = victim.owner; threads = first ∷ others }
+            ∷ record { id = id; owner = Some worker; threads = bottom ∷ [] } ∷ right;
+        waiting = m.waiting;
+        books = m.books ++ new_book worker true ∷ [];
+      })
+  -- An idle worker takes a deque without an owner over where it holds one thread. The new period is marked where there is
+  -- a deque to the left.
+  takes_over : (left right : List Deque) (thread : List ℕ) (id : ℕ)
+      → IsIdle s m worker → length left < s.workers
+      → m.deques ≡ left ++ record { id = id; owner = None; threads = thread ∷ [] } ∷ right
+      → May s m worker (steals (length left) id) (record {
+        deques = left ++ record { id = id; owner = Some worker; threads = thread ∷ [] } ∷ right;
+        waiting = m.waiting;
+        books = m.books ++ new_book worker (nat_lt 0 (length left)) ∷ [];
+      })
+  -- A Fork puts the child on top.
+  forks_child : (o : Owns m worker) (place child : ℕ) → IsAtTop s m o.top place (forks child)
+      → charged s.quota s.list o.book.ran + record_words ≤ s.quota
+      → May s m worker (does place) (record {
+        deques = deques_with o (Some worker) (fork_of o.top child ∷ o.top ∷ o.under);
+        waiting = m.waiting;
+        books = books_with o (Some worker) place;
+      })
+  -- A Join comes when the child has ended.
+  joins_child : (o : Owns m worker) (place child : ℕ) → IsAtTop s m o.top place (joins child) → HasEnded s m (fork_of o.top child)
+      → May s m worker (does place) (record { deques = m.deques; waiting = m.waiting; books = books_with o (Some worker) place })
+  -- An Alloc that the quota covers comes where the period has that much of its quota left.
+  allocates_within : (o : Owns m worker) (place : ℕ) → IsAtTop s m o.top place allocates → words_at s.list place ≤ s.quota
+      → charged s.quota s.list o.book.ran + words_at s.list place ≤ s.quota
+      → May s m worker (does place) (record { deques = m.deques; waiting = m.waiting; books = books_with o (Some worker) place })
+  -- An Alloc that the quota does not cover has its dummies behind it, and takes nothing of the quota.
+  allocates_above : (o : Owns m worker) (place : ℕ) → IsAtTop s m o.top place allocates → s.quota < words_at s.list place
+      → May s m worker (does place) (record { deques = m.deques; waiting = m.waiting; books = books_with o (Some worker) place })
+  releases_words : (o : Owns m worker) (place : ℕ) → IsAtTop s m o.top place releases
+      → May s m worker (does place) (record { deques = m.deques; waiting = m.waiting; books = books_with o (Some worker) place })
+  meets_fault : (o : Owns m worker) (place : ℕ) → IsAtTop s m o.top place faults
+      → May s m worker (does place) (record { deques = m.deques; waiting = m.waiting; books = books_with o (Some worker) place })
+  -- With a Dummy the period ends, and the deque stays without an owner.
+  runs_dummy : (o : Owns m worker) (place : ℕ) → IsAtTop s m o.top place dummy
+      → May s m worker (does place) (record {
+        deques = deques_with o None (o.top ∷ o.under);
+        waiting = m.waiting;
+        books = books_with o None place;
+      })
+  -- At an End with the parent directly below, the parent runs next in the same period.
+  ends_above_parent : (o : Owns m worker) (place child : ℕ) (parent : List ℕ) (below : List (List ℕ)) → IsAtTop s m o.top place ends
+      → o.under ≡ parent ∷ below → o.top ≡ fork_of parent child
+      → May s m worker (does place) (record {
+        deques = deques_with o (Some worker) o.under;
+        waiting = m.waiting;
+        books = books_with o (Some worker) place;
+      })
+  -- Where the parent waits for this child, it takes its place and runs next in the same period.
+  ends_and_wakes : (o : Owns m worker) (place : ℕ) (before after : List Waiting) (parent : Waiting) → IsAtTop s m o.top place ends
+      → o.under ≡ [] → m.waiting ≡ before ++ parent ∷ after → o.top ≡ fork_of parent.thread parent.child
+      → May s m worker (does place) (record {
+        deques = deques_with o (Some worker) (parent.thread ∷ []);
+        waiting = before ++ after;
+        books = books_with o (Some worker) place;
+      })
+  -- Else the deque leaves the list and the period ends, as it does at the End of the root.
+  ends_and_leaves : (o : Owns m worker) (place : ℕ) → IsAtTop s m o.top place ends
+      → o.under ≡ [] → Each (λ waits. o.top ≢ fork_of waits.thread waits.child) m.waiting
+      → May s m worker (does place) (record { deques = o.left ++ o.right; waiting = m.waiting; books = books_with o None place })
+  -- At a Join whose child has not ended, the thread waits, its deque is empty and leaves the list, and the period ends.
+  suspends_top : (o : Owns m worker) (place child : ℕ) → IsAtTop s m o.top place (joins child) → ¬ HasEnded s m (fork_of o.top child)
+      → o.under ≡ []
+      → May s m worker suspends (record {
+        deques = o.left ++ o.right;
+        waiting = record { thread = o.top; child = child } ∷ m.waiting;
+        books = books_closed o;
+      })
+  -- A worker may give its deque up at any time: the deque stays without an owner, and the period ends.
+  gives_deque_up : (o : Owns m worker)
+      → May s m worker gives_up (record { deques = deques_with o None (o.top ∷ o.under); waiting = m.waiting; books = books_closed o })

@@ -1,0 +1,72 @@
+-- The moment of a run over deques.
+use Rattle.std.specs.Prelude.{◌≡◌, ℕ, ◌+◌, Bool, cond, nat_eq, Option, None, Some, List, [], ◌∷◌, ◌++◌, length, ℤ}
+use Rattle.depth_first_list.specs.Actions.{Action}
+use Rattle.lawful_books.specs.Lists.{total}
+use Rattle.lawful_books.specs.Books.{Book, done_in, words_in_use}
+
+-- A deque: its id, the worker that owns it, or none, and its threads from top to bottom, each told by its label. The
+-- owner runs the top thread.
+pub record Deque : Type 0 where
+  pub id : ℕ
+  pub owner : Option ℕ
+  pub threads : List (List ℕ)
+
+-- a thread that waits for one of its children
+pub record Waiting : Type 0 where
+  pub thread : List ℕ
+  pub child : ℕ
+
+-- A moment: the deques from left to right, the waiting threads, the latest first, and the books of all periods. What
+-- is done is what stands in the books.
+pub record Moment : Type 0 where
+  pub deques : List Deque
+  pub waiting : List Waiting
+  pub books : List Book
+
+-- how often each action is done
+abbrev pub done_at : Moment → ℕ → ℕ
+done_at m = done_in m.books
+
+-- the words in use
+abbrev pub live_at : List Action → Moment → ℤ
+live_at l m = words_in_use l m.books
+
+-- the threads of the deques, from left to right and from top to bottom
+abbrev pub threads_in : List Deque → List (List ℕ)
+threads_in [] = []
+threads_in (deque ∷ right) = deque.threads ++ threads_in right
+
+-- the threads that wait
+abbrev pub waiting_threads : List Waiting → List (List ℕ)
+waiting_threads [] = []
+waiting_threads (waits ∷ others) = waits.thread ∷ waiting_threads others
+
+-- 1 for the worker itself
+abbrev pub one_if_worker : ℕ → Option ℕ → ℕ
+one_if_worker worker None = 0
+one_if_worker worker (Some owner) = cond (nat_eq worker owner) 1 0
+
+abbrev pub one_if_owned : ℕ → Deque → ℕ
+one_if_owned worker deque = one_if_worker worker deque.owner
+
+-- how many deques a worker owns
+abbrev pub owned_by : ℕ → List Deque → ℕ
+owned_by worker deques = total (one_if_owned worker) deques
+
+abbrev pub one_if_open : ℕ → Book → ℕ
+one_if_open worker book = one_if_worker worker book.owner
+
+-- how many periods are open for a worker
+abbrev pub open_for : ℕ → List Book → ℕ
+open_for worker books = total (one_if_open worker) books
+
+abbrev pub one_if_id : ℕ → Deque → ℕ
+one_if_id id deque = cond (nat_eq id deque.id) 1 0
+
+-- how many deques have an id
+abbrev pub with_id : ℕ → List Deque → ℕ
+with_id id deques = total (one_if_id id) deques
+
+-- the first moment: one deque without an owner, which holds the root, and no book
+abbrev pub opening : Moment
+opening = record { deques = record { id = 0; owner = None; threads = [] ∷ [] } ∷ []; waiting = []; books = [] }

@@ -1,0 +1,4 @@
+//! The machine.
+#![tactic(auto)]
+
+pub mod laws;

@@ -1,0 +1,4 @@
+//! Books of a depth-first list.
+#![tactic(auto)]
+
+pub mod laws;

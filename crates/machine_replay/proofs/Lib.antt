@@ -1,0 +1,5 @@
+pub mod Examples
+pub mod TestLaws
+pub mod StepSound
+pub mod StepComplete
+pub mod Replay

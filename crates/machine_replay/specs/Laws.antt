@@ -1,0 +1,32 @@
+-- What is said of the computed machine: it is the machine.
+use Rattle.std.specs.Prelude.{◌≡◌, ◌↔◌, ℕ, suc, Option, Some, List, ◌∷◌, ◌++◌, length}
+use Rattle.std.specs.declared.result.Result.TheVariants.{Ok, Err}
+use Rattle.deque_machine.specs.Moments.{Moment, opening}
+use Rattle.deque_machine.specs.Machine.{Setting, Event, May}
+use Rattle.deque_machine.specs.LawfulOrder.{IsLawful}
+use Rattle.deque_machine.specs.Runs.{Pair, Reaches}
+use Rattle.machine_replay.specs.Step.{step, replay}
+
+-- at a lawful moment an event leads to a moment just where the machine has this case
+abbrev pub StepIsTheMachine : Setting → Type 0
+StepIsTheMachine s = (m after : Moment) (worker : ℕ) (event : Event) → IsLawful s m
+    → May s m worker event after ↔ (step s m worker event ≡ Some after)
+
+-- a list of pairs is answered with a moment just where it is a run that reaches the moment
+abbrev pub ReplayReaches : Setting → Type 0
+ReplayReaches s = (pairs : List Pair) (m : Moment) → (replay s pairs ≡ Ok m) ↔ Reaches s opening pairs m
+
+-- the pairs before the n-th are a run, and the n-th is no case of the machine at the moment that they reach
+pub record FailsAt (s : Setting) (pairs : List Pair) (n : ℕ) : Type 0 where
+  pub front : List Pair
+  pub pair : Pair
+  pub back : List Pair
+  pub is : pairs ≡ front ++ pair ∷ back
+  pub number : n ≡ suc (length front)
+  pub moment : Moment
+  pub reached : Reaches s opening front moment
+  pub no_case : (after : Moment) → ¬ May s moment pair.worker pair.event after
+
+-- and with a number just where the pair of this number is the first that is no case
+abbrev pub ReplayFails : Setting → Type 0
+ReplayFails s = (pairs : List Pair) (n : ℕ) → (replay s pairs ≡ Err n) ↔ FailsAt s pairs n

@@ -1,0 +1,4 @@
+//! The machine, computed.
+#![tactic(auto)]
+
+pub mod laws;
