@@ -26,7 +26,7 @@ mutual
       ap (λ (x : List ℕ). codes "par " ⊕ braces margin x ⊕ codes " and " ⊕ braces margin (body_text (deeper margin) (body_without_lines b))) (body_text-lines (deeper margin) a)
       ∙ ap (λ (x : List ℕ). codes "par " ⊕ braces margin (body_text (deeper margin) a) ⊕ codes " and " ⊕ braces margin x) (body_text-lines (deeper margin) b)
   stmt_text-lines margin (split_stmt b e l r a) =
-      ap (λ (x : List ℕ). codes "split_stmt " ⊕ b ⊕ codes " at " ⊕ expr_text e ⊕ codes " into " ⊕ l ⊕ codes ", " ⊕ r ⊕ codes " " ⊕ braces margin x) (body_text-lines (deeper margin) a)
+      ap (λ (x : List ℕ). codes "split " ⊕ b ⊕ codes " at " ⊕ expr_text e ⊕ codes " into " ⊕ l ⊕ codes ", " ⊕ r ⊕ codes " " ⊕ braces margin x) (body_text-lines (deeper margin) a)
 
   body_text-lines : (margin : List ℕ) (b : Body) → body_text margin (body_without_lines b) ≡ body_text margin b
   body_text-lines margin done = refl

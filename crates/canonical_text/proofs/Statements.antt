@@ -155,7 +155,7 @@ pub split_claim : {most n : ℕ} (x : List ℕ) (e : Expr) (l r : List ℕ) (a :
 unfolding stmt_rule split_rule parts_rule
 split_claim x e l r a h c hl hr inside = record {
   reads = λ margin g.
-      same_fits (ap (λ z. codes "split_stmt " ++ (x ++ (codes " at " ++ (expr_text e ++ (codes " into " ++ z))))) (append_assoc l (44 ∷ 32 ∷ r) (space ++ braces margin (body_text (deeper margin) a))))
+      same_fits (ap (λ z. codes "split " ++ (x ++ (codes " at " ++ (expr_text e ++ (codes " into " ++ z))))) (append_assoc l (44 ∷ 32 ∷ r) (space ++ braces margin (body_text (deeper margin) a))))
       (second_fits (second_fits (second_fits (second_fits (second_fits (second_fits (second_fits (second_fits (first_fits
       (behind_fits {P = λ v. (v.0 ≡ x) × ((v.1.0 ≡ e) × ((v.1.1.0 ≡ (l, r)) × SameBody a v.1.1.1))} (split_stmt x e l r a)
       (λ v q.
@@ -255,10 +255,10 @@ call_to x f xs =
     ∙ ap (λ z. x ++ (codes " = " ++ z)) (call_ends f xs)
     ∙ sym (append_assoc x (codes " = ") (f ++ (codes "(" ++ (with_commas (map arg_text xs) ++ codes ");"))))
 
-call_same : (margin : List ℕ) (t : Target) (f : List ℕ) (xs : List Arg) → codes "call_stmt " ++ (call_text t f xs ++ codes ";") ≡ stmt_text margin (call_stmt t f xs)
-call_same margin unused f xs = ap (λ z. codes "call_stmt " ++ z) (call_ends f xs)
-call_same margin (integer x) f xs = ap (λ z. codes "call_stmt " ++ z) (call_to x f xs)
-call_same margin (block x) f xs = ap (λ z. codes "call_stmt own " ++ z) (call_to x f xs)
+call_same : (margin : List ℕ) (t : Target) (f : List ℕ) (xs : List Arg) → codes "call " ++ (call_text t f xs ++ codes ";") ≡ stmt_text margin (call_stmt t f xs)
+call_same margin unused f xs = ap (λ z. codes "call " ++ z) (call_ends f xs)
+call_same margin (integer x) f xs = ap (λ z. codes "call " ++ z) (call_to x f xs)
+call_same margin (block x) f xs = ap (λ z. codes "call own " ++ z) (call_to x f xs)
 
 pub call_claim : {most n : ℕ} (t : Target) (f : List ℕ) (xs : List Arg) → TargetClaim t → IsName f → Inside n (λ m. ArgsClaim most m xs) → StmtClaim most n (call_stmt t f xs)
 unfolding stmt_rule call_rule

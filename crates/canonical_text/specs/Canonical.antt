@@ -143,12 +143,12 @@ abbrev mutual
   stmt_text margin (if_stmt e a b) =
       codes "if " ⊕ expr_text e ⊕ codes " " ⊕ braces margin (body_text (deeper margin) a) ⊕ else_text margin b (body_text (deeper margin) b)
   stmt_text margin (while_stmt e a) = codes "while " ⊕ expr_text e ⊕ codes " " ⊕ braces margin (body_text (deeper margin) a)
-  stmt_text margin (call_stmt t f xs) = codes "call_stmt " ⊕ target_text t ⊕ f ⊕ codes "(" ⊕ with_commas (map arg_text xs) ⊕ codes ");"
-  stmt_text margin (print_stmt e) = codes "print_stmt " ⊕ expr_text e ⊕ codes ";"
+  stmt_text margin (call_stmt t f xs) = codes "call " ⊕ target_text t ⊕ f ⊕ codes "(" ⊕ with_commas (map arg_text xs) ⊕ codes ");"
+  stmt_text margin (print_stmt e) = codes "print " ⊕ expr_text e ⊕ codes ";"
   stmt_text margin (par_stmt a b) =
       codes "par " ⊕ braces margin (body_text (deeper margin) a) ⊕ codes " and " ⊕ braces margin (body_text (deeper margin) b)
   stmt_text margin (split_stmt b e l r a) =
-      codes "split_stmt " ⊕ b ⊕ codes " at " ⊕ expr_text e ⊕ codes " into " ⊕ l ⊕ codes ", " ⊕ r ⊕ codes " " ⊕ braces margin (body_text (deeper margin) a)
+      codes "split " ⊕ b ⊕ codes " at " ⊕ expr_text e ⊕ codes " into " ⊕ l ⊕ codes ", " ⊕ r ⊕ codes " " ⊕ braces margin (body_text (deeper margin) a)
 
   pub body_text : List ℕ → Body → List ℕ
   body_text margin done = []
