@@ -75,11 +75,9 @@ impl<'a> Runner<'a> {
         ensures { (limit k : ℕ) (program : Program) (s : State) → Is limit self.old s → MatchResult result (λ thread. HasForked limit (setting_of program k) (names_of child.entry) s thread self.old self.new) (λ stop. OnStop stop (IsBeyond limit (child_of (setting_of program k) (names_of child.entry) s))) }
     {
         let forks = self.thread.forks.checked_add(1);
-        let forks = forks.ok_or(SerialStop::OutOfMemory)?;
+        let forks = forks.ok_or(SerialStop::StepsSpent)?;
         let done = self.thread.done.checked_add(1);
-        let done = done.ok_or(SerialStop::OutOfMemory)?;
-        let depth = self.thread.depth.checked_add(1);
-        let depth = depth.ok_or(SerialStop::OutOfMemory)?;
+        let done = done.ok_or(SerialStop::StepsSpent)?;
         let name = self.next_name();
         let id = self.journal.fork(name, forks, RECORD_WORDS)?;
         let store = taken_by(alloc, child, &mut self.thread.store)?;
@@ -87,7 +85,7 @@ impl<'a> Runner<'a> {
         self.thread.done = done;
         Ok(Thread {
             id,
-            depth,
+            depth: self.thread.depth.saturating_add(1),
             done: 0,
             forks: 0,
             faulted: false,

@@ -13,7 +13,7 @@ ghost use Rattle.serial_journal.specs.Stops.{OnStop};
 ghost use Rattle.serial_meaning.specs.Settings.{setting_of};
 ghost use Rattle.serial_meaning.specs.Views.{IsBeyond};
 ghost use Rattle.serial_meaning.specs.Moving.{At};
-ghost use Rattle.serial_meaning.specs.Runs.{TellsOrStops, IsAllButEnded};
+ghost use Rattle.serial_meaning.specs.Runs.{TellsOrStops, TellsOrPasses, IsAllButEnded};
 
 use crate::frame::Frame;
 use crate::functions::function_of;
@@ -72,7 +72,7 @@ fn run<'a>(plan: Plan<'a>, limit: u32) -> Result<Runner<'a>, SerialStop>
 
 /// The End of the root, and what was written down.
 fn close(runner: Runner) -> Result<Serial, SerialStop>
-    ensures { (limit : ℕ) (c : Setting) → IsAllButEnded limit c runner.entry → TellsOrStops limit (State.items (whole c)) result }
+    ensures { (limit : ℕ) (c : Setting) → IsAllButEnded limit c runner.entry → TellsOrPasses limit (whole c) result }
 {
     let mut runner = runner;
     runner.act(Kind::End, 0)?;

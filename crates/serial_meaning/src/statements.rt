@@ -1,6 +1,7 @@
 //! Statements that put frames before what is left.
 
-ghost use Rattle.std.specs.Prelude.{◌≡◌, ℕ, length, nat_lt};
+ghost use Rattle.std.specs.Prelude.{◌≡◌, ℕ, length, nat_lt, MatchResult};
+ghost use Rattle.serial_journal.specs.Stops.{OnStop};
 ghost use Rattle.par_tree.specs.View.{body_tree, name_tree, expr_tree, stmt_tree, program_tree};
 ghost use Rattle.par_tree.specs.Tree.{Program, step, while_stmt, done};
 ghost use Rattle.dummy_tree.specs.QuotaWords.{quota_words};
@@ -28,7 +29,8 @@ impl<'a> Machine<'a> {
 
     /// A list of statements comes before what is left, where there are any.
     pub(crate) fn do_statements_later(&mut self, stmts: &'a [Stmt]) -> Result<(), SerialStop>
-        ensures { (limit : ℕ) → Moves limit self.old result self.new (λ fs s. middle (before_all (body_tree stmts.now) fs) s) }
+        ensures moves { (limit : ℕ) → Moves limit self.old result self.new (λ fs s. middle (before_all (body_tree stmts.now) fs) s) }
+        ensures stops { MatchResult result (λ _. Unit {0}) (λ stop. OnStop stop ⊥) }
     {
         if stmts.is_empty() {
             return Ok(());
