@@ -1,5 +1,5 @@
 -- Lawful order, and what else holds at each moment of a run.
-use Rattle.std.specs.Prelude.{◌≡◌, ◌≢◌, ◌⊎◌, ℕ, ◌+◌, ◌<◌, ◌≤◌, Bool, true, false, Option, None, Some, List, [], ◌∷◌, ◌++◌, length}
+use Rattle.std.specs.Prelude.{◌≡◌, ◌≢◌, ◌⊎◌, ℕ, ◌<◌, ◌≤◌, true, false, Option, None, Some, List, [], ◌∷◌, ◌++◌}
 use Rattle.dag_order.specs.LabelOrder.{fork_of, Before}
 use Rattle.depth_first_list.specs.Actions.{forks, joins, Action}
 use Rattle.depth_first_list.specs.Facts.{label_at, deed_at, IsLive, IsNext}

@@ -1,9 +1,9 @@
 -- Runs of the machine, and what holds at each moment that they reach.
-use Rattle.std.specs.Prelude.{◌≡◌, ◌≢◌, ◌⊎◌, ℕ, ◌+◌, ◌*◌, ◌<◌, ◌≤◌, Bool, true, false, nat_lt, nat_le, filter, map, List, [], ◌∷◌, ◌++◌, length, ℤ, pos, ◌+ℤ◌, ◌≤ℤ◌, ◌<ℤ◌}
+use Rattle.std.specs.Prelude.{◌≡◌, ℕ, ◌<◌, ◌≤◌, Bool, true, false, nat_lt, filter, map, List, [], ◌∷◌, ◌++◌, length, ℤ, pos, ◌+ℤ◌, ◌≤ℤ◌, ◌<ℤ◌}
 use Rattle.depth_first_list.specs.Actions.{Deed, forks, joins, allocates, releases, dummy, faults, ends, Action, live_words, peak}
 use Rattle.depth_first_list.specs.Runs.{IsDepthFirst}
-use Rattle.depth_first_list.specs.Facts.{action_at, deed_at, label_at, words_at, weight_at}
-use Rattle.lawful_books.specs.Books.{done_in, IsPrefix, periods_ahead, periods_marked, bound}
+use Rattle.depth_first_list.specs.Facts.{action_at, weight_at}
+use Rattle.lawful_books.specs.Books.{IsPrefix, periods_ahead, periods_marked, bound}
 use Rattle.deque_machine.specs.Moments.{Moment, opening, done_at, live_at}
 use Rattle.deque_machine.specs.Machine.{Setting, Event, steals, does, suspends, gives_up, May, HasEnded}
 use Rattle.deque_machine.specs.LawfulOrder.{IsLawful}

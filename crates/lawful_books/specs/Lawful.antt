@@ -1,11 +1,10 @@
 -- Lawful books, and what holds of them.
 use Rattle.std.specs.Prelude.{◌≡◌, ℕ, ◌+◌, ◌≤◌, ◌<◌, Option, None, Some, List, [], ◌∷◌, ◌++◌, length, ◌≤ℤ◌, ◌<ℤ◌}
 use Rattle.depth_first_list.specs.Actions.{dummy, joins, ends, Action}
-use Rattle.depth_first_list.specs.Runs.{IsDepthFirst}
 use Rattle.dag_order.specs.LabelOrder.{fork_of}
-use Rattle.depth_first_list.specs.Facts.{deed_at, label_at, IsDone, IsLive, IsNext, RootEnds}
-use Rattle.lawful_books.specs.Lists.{Each, total}
-use Rattle.lawful_books.specs.Books.{Book, booked, done_in, charge_at, charged, words_in_use, IsPrefix, periods_ahead, bound}
+use Rattle.depth_first_list.specs.Facts.{deed_at, label_at, IsDone, IsLive, IsNext}
+use Rattle.lawful_books.specs.Lists.{Each}
+use Rattle.lawful_books.specs.Books.{Book, done_in, charge_at, charged, words_in_use, IsPrefix, periods_ahead, bound}
 
 -- a Dummy is the last that its period ran, and the period is closed
 abbrev pub DummyEnds : List Action → Book → Type 0

@@ -1,14 +1,13 @@
 -- Worked runs of the machine, and pairs that never come.
-use Rattle.std.proofs.Common.{◌≡◌, ℕ, Bool, true, false, List, [], ◌∷◌, ◌++◌, refl, map, take, pos}
-use Rattle.std.specs.Prelude.{Option, None, Some, ℤ, is_none}
-use Rattle.std.specs.declared.result.Result.{Result}
+use Rattle.std.proofs.Common.{◌≡◌, ℕ, Bool, true, false, List, [], ◌∷◌, refl, take, pos}
+use Rattle.std.specs.Prelude.{Option, None, Some}
 use Rattle.std.specs.declared.result.Result.TheVariants.{Ok, Err}
-use Rattle.depth_first_list.specs.Actions.{Deed, forks, joins, allocates, releases, dummy, faults, ends, Action, peak}
-use Rattle.lawful_books.specs.Books.{Book, periods_marked}
-use Rattle.deque_machine.specs.Moments.{Deque, Waiting, Moment, opening}
+use Rattle.depth_first_list.specs.Actions.{Deed, forks, joins, allocates, releases, dummy, ends, Action}
+use Rattle.lawful_books.specs.Books.{Book}
+use Rattle.deque_machine.specs.Moments.{Deque}
 use Rattle.deque_machine.specs.Machine.{Setting, Event, steals, does, suspends, gives_up}
 use Rattle.deque_machine.specs.Runs.{Pair, high_water_mark}
-use Rattle.machine_replay.specs.Step.{step, replay, moment_of}
+use Rattle.machine_replay.specs.Step.{replay, moment_of}
 
 abbrev act : List ℕ → ℕ → Deed → ℕ → Action
 act label index deed words = record { label = label; index = index; deed = deed; words = words }
@@ -194,4 +193,3 @@ beyond_the_workers = refl
 -- A new deque has an id that no other has.
 taken_id : replay (setting large_alloc 16 1) (by 0 (steals 0 0) ∷ by 0 (does 0) ∷ by 0 gives_up ∷ by 0 (steals 0 0) ∷ []) ≡ Err 4
 taken_id = refl
-

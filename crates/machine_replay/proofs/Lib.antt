@@ -3,3 +3,4 @@ pub mod TestLaws
 pub mod StepSound
 pub mod StepComplete
 pub mod Replay
+pub mod OnePlay

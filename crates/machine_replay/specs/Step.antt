@@ -1,16 +1,16 @@
 -- The machine, computed: what an event of a worker leads to, or nothing where the machine has no such case.
-use Rattle.std.specs.Prelude.{ℕ, zero, suc, ◌+◌, Bool, true, false, cond, not, ◌&&◌, nat_eq, nat_lt, nat_le, Option, None, Some, List, [], ◌∷◌, ◌++◌, length}
+use Rattle.std.specs.Prelude.{ℕ, suc, ◌+◌, Bool, true, cond, not, ◌&&◌, nat_eq, nat_lt, nat_le, Option, None, Some, List, [], ◌∷◌, ◌++◌, length}
 use Rattle.std.specs.declared.result.Result.{Result}
 use Rattle.std.specs.declared.result.Result.TheVariants.{Ok, Err}
 use Rattle.dag_order.specs.LabelOrder.{fork_of}
-use Rattle.depth_first_list.specs.Actions.{Deed, forks, joins, allocates, releases, dummy, faults, ends, Action, record_words}
-use Rattle.depth_first_list.specs.Facts.{label_at, deed_at, words_at}
+use Rattle.depth_first_list.specs.Actions.{Deed, forks, joins, allocates, releases, dummy, faults, ends, record_words}
+use Rattle.depth_first_list.specs.Facts.{deed_at, words_at}
 use Rattle.lawful_books.specs.Books.{Book, charged}
 use Rattle.lawful_books.specs.Lawful.{one_more, book_of}
 use Rattle.deque_machine.specs.Moments.{Deque, Waiting, Moment, opening, done_at, owned_by, with_id}
 use Rattle.deque_machine.specs.Machine.{Setting, Event, steals, does, suspends, gives_up, new_book}
 use Rattle.deque_machine.specs.Runs.{Pair}
-use Rattle.machine_replay.specs.Tests.{is_next, next_from, ended_by, Cut, cut_first, cut_at, front_of, last_of, same_label, is_fork_of, owns_it, open_for_it, waits_for}
+use Rattle.machine_replay.specs.Tests.{is_next, next_from, ended_by, Cut, cut_first, cut_at, front_of, last_of, is_fork_of, owns_it, open_for_it, waits_for}
 
 -- what a worker has: the deque that it owns, cut out, its top thread and those below, and its open book, cut out
 pub record Hand : Type 0 where

@@ -1,5 +1,5 @@
 -- Tests on labels and lists, for a machine that is computed.
-use Rattle.std.specs.Prelude.{ℕ, zero, suc, ◌+◌, Bool, true, false, cond, not, ◌&&◌, ◌||◌, nat_eq, nat_lt, nat_le, Option, None, Some, List, [], ◌∷◌, ◌++◌, length}
+use Rattle.std.specs.Prelude.{ℕ, zero, suc, Bool, true, false, cond, not, ◌&&◌, ◌||◌, nat_eq, nat_lt, Option, None, Some, List, [], ◌∷◌, length}
 use Rattle.dag_order.specs.LabelOrder.{fork_of}
 use Rattle.depth_first_list.specs.Actions.{Deed, forks, joins, allocates, releases, dummy, faults, ends, Action}
 use Rattle.depth_first_list.specs.Facts.{label_at, deed_at}
