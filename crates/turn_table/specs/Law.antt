@@ -8,7 +8,8 @@ use Rattle.turn_table.specs.declared.still_held.StillHeld.{StillHeld}
 use Rattle.turn_table.specs.Hands.{turn, Shows, showing, without, renewed, fresh, spent, noted, took, refused, counted, gave}
 use Rattle.turn_table.specs.Seats.{SeatView}
 
--- The table's own part: each slot shows a value, no turn is held twice, a held slot shows what the hand says, and a hand without a seat is spent
+-- The table's own part: each slot shows a value, no turn is held twice, a held slot shows what the hand says, and a hand without a seat is
+-- spent
 pub record Fits {V N : Type 0} (blank : N) (slots : ℕ) (shown : List V) (hands : List (Hand V N)) : Type 0 where
   pub long : length shown ≡ slots
   pub once : (i : ℕ) → turn hands i ≤ 1
@@ -67,7 +68,8 @@ module _ {K V N : Type 0} (fact : K → List V → ℕ → List (Hand V N) → T
   JoinKeeps into from note = Always into (λ shown count hands. Stands from shown count hands → ¬ (from.number ≡ into.number)
       → fact key shown count (slice_set (slice_set hands into.number (noted into.hand note)) from.number (spent blank)))
 
-  -- The last state meets the law with this seat's hand. No turn is held there, and these are the values, or this is the first slot whose turn is held
+  -- The last state meets the law with this seat's hand. No turn is held there, and these are the values, or this is the first slot whose
+  -- turn is held
   abbrev pub Closes : {A : Type 0} → SeatView K V N → Result (Vec V A) StillHeld → Type 0
   Closes seat r = (shown : List V) × (count : ℕ) × (hands : List (Hand V N)) × Stands seat shown count hands
       × MatchResult r (λ values. ((i : ℕ) → i < seat.table.slots → turn hands i ≡ 0)
