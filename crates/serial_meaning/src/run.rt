@@ -36,7 +36,7 @@ use std::alloc::Global;
 ///
 /// It keeps its own stack, so calls and forks take none of the caller's. A statement takes time in proportion to the
 /// text of its expressions, times the names of its function, since names are looked up one after another; a Fork and
-/// its Join go through the text of the first branch once for each name.
+/// its Join each go through the text of the first branch once, or for up to eight names once for each.
 ///
 /// # Errors
 ///
