@@ -4,3 +4,4 @@ pub mod StepSound
 pub mod StepComplete
 pub mod Replay
 pub mod OnePlay
+pub mod PlayedSound

@@ -7,6 +7,7 @@ use Rattle.deque_machine.specs.LawfulOrder.{IsLawful}
 use Rattle.deque_machine.specs.Runs.{Pair, Reaches}
 use Rattle.deque_machine.specs.Play.{Limits, Ending, finished, stopped, Turn, Meets, Plays}
 use Rattle.machine_replay.specs.Step.{step, replay}
+use Rattle.machine_replay.specs.Played.{Played, play}
 
 -- at a lawful moment an event leads to a moment just where the machine has this case
 abbrev pub StepIsTheMachine : Setting → Type 0
@@ -50,3 +51,8 @@ HasCause s limits words last (stopped stop) = (n : ℕ) × (pair : Pair) × Turn
 abbrev pub EndingsHaveCauses : Setting → Type 0
 EndingsHaveCauses s = (limits : Limits) (words : ℕ → ℕ) (run : List Pair) (last : Moment) (ending : Ending)
     → Plays s limits words 0 opening run last ending → HasCause s limits words last ending
+
+-- what the computed play answers is the play
+abbrev pub PlayedIsPlay : Setting → Type 0
+PlayedIsPlay s = (limits : Limits) (words : ℕ → ℕ) (turns : ℕ) (played : Played) → play s limits words turns 0 opening ≡ Some played
+    → Plays s limits words 0 opening played.run played.last played.ending

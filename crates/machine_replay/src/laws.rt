@@ -1,5 +1,5 @@
 ghost use Rattle.deque_machine.specs.Runs.{InEachSetting};
-ghost use Rattle.machine_replay.specs.Laws.{StepIsTheMachine, ReplayReaches, ReplayFails, OneWay, OnePlay, EndingsHaveCauses};
+ghost use Rattle.machine_replay.specs.Laws.{StepIsTheMachine, ReplayReaches, ReplayFails, OneWay, OnePlay, EndingsHaveCauses, PlayedIsPlay};
 
 /// At a lawful moment the computed machine answers just the cases of the machine.
 pub fn step_is_the_machine()
@@ -29,4 +29,9 @@ pub fn one_play()
 /// A play that finishes has the End of the root, and one that stops has a turn whose event meets this stop.
 pub fn endings_have_causes()
     ensures { InEachSetting EndingsHaveCauses }
+{}
+
+/// What the computed play answers is the play.
+pub fn played_is_play()
+    ensures { InEachSetting PlayedIsPlay }
 {}
