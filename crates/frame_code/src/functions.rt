@@ -54,7 +54,8 @@ fn lower_function(
     requires few { length funcs.now ≤ most_nodes }
     requires named { HasFunc (func_names funcs.now) (func_tree func.now) }
     requires room { length (nodes_shown nodes.items) + body_size (func_tree func.now).body ≤ most_nodes }
-    ensures count { IfOk result (λ r. length (nodes_shown r.0.items) ≡ length (nodes_shown nodes.items) + body_size (func_tree func.now).body) }
+    ensures count { IfOk result (λ r. length (nodes_shown r.0.items) ≡ length (nodes_shown nodes.items) + body_size
+        (func_tree func.now).body) }
     ensures made { IfOk result (λ r. Grown (nodes_shown nodes.items) (nodes_shown r.0.items)
         × IsFunc (nodes_shown r.0.items) (func_names funcs.now) (func_tree func.now) (func_shown r.1)) }
 {
@@ -79,7 +80,8 @@ pub(crate) fn lower_functions(
 ) -> Result<(Vec<Node>, Vec<FuncCode>), AllocError>
     requires { CanBeLowered (func_names funcs.now) (funcs_tree funcs.now) }
     ensures count { IfOk result (λ r. length (nodes_shown r.0.items) ≡ functions_size (funcs_tree funcs.now)) }
-    ensures made { IfOk result (λ r. AreFuncs (nodes_shown r.0.items) (func_names funcs.now) (funcs_tree funcs.now) (funcs_shown r.1.items)) }
+    ensures made { IfOk result (λ r. AreFuncs (nodes_shown r.0.items) (func_names funcs.now) (funcs_tree funcs.now)
+        (funcs_shown r.1.items)) }
 {
     let mut nodes = Vec::new(alloc);
     let mut codes = Vec::new(alloc);

@@ -33,8 +33,8 @@ first_is : (passes : ℕ → Bool) (Passes : ℕ → Type 0) → ((x : ℕ) → 
 first_is passes Passes says n word zero turns x at none is = absurd (none_is_not_some x is)
 first_is passes Passes says n word (suc left) turns x at none is = elim (cases_Bool (passes ((word + turns) % n))) [
   | inl here ↦
-    let same : (word + turns) % n ≡ x = ap (λ o. unwrap_or o x) (ap (λ b. cond b (Some ((word + turns) % n)) (first_passing passes n word (suc turns) left)) (sym here) ∙ is) in
-    record { turns = turns; few = omega arith; is = sym same; passes = subst Passes same ((says ((word + turns) % n)).holds here); none_before = none }
+      let same : (word + turns) % n ≡ x = ap (λ o. unwrap_or o x) (ap (λ b. cond b (Some ((word + turns) % n)) (first_passing passes n word (suc turns) left)) (sym here) ∙ is) in
+      record { turns = turns; few = omega arith; is = sym same; passes = subst Passes same ((says ((word + turns) % n)).holds here); none_before = none }
   | inr not_here ↦ first_is passes Passes says n word left (suc turns) x (omega arith)
       (λ e lt. elim (cases_eq e turns) [
         | inl same ↦ subst (λ t. ¬ Passes ((word + t) % n)) (sym same) (refused (passes ((word + turns) % n)) (Passes ((word + turns) % n)) (says ((word + turns) % n)) not_here)
@@ -109,15 +109,15 @@ least_is : (ds : List Deque) (turns id x : ℕ) → ((i : ℕ) → i < id → 0 
 least_is ds zero id x had is = absurd (none_is_not_some x is)
 least_is ds (suc turns) id x had is = elim (cases_Bool (nat_eq (with_id id ds) 0)) [
   | inl free ↦
-    let same : id ≡ x = ap (λ o. unwrap_or o x) (ap (λ b. cond b (Some id) (least_id ds (suc id) turns)) (sym free) ∙ is) in
-    (ap (λ t. with_id t ds) (sym same) ∙ eqb-true (with_id id ds) 0 free, λ i lt. had i (omega arith))
+      let same : id ≡ x = ap (λ o. unwrap_or o x) (ap (λ b. cond b (Some id) (least_id ds (suc id) turns)) (sym free) ∙ is) in
+      (ap (λ t. with_id t ds) (sym same) ∙ eqb-true (with_id id ds) 0 free, λ i lt. had i (omega arith))
   | inr taken ↦ least_is ds turns (suc id) x (λ i lt. elim (cases_eq i id) [
-      | inl same ↦ subst (λ t. 0 < with_id t ds) (sym same) (elim (cases_lt 0 (with_id id ds)) [
-        | inl some ↦ some
-        | inr none ↦ absurd (true≢false (sym (eq-eqb (with_id id ds) 0 (omega arith)) ∙ taken))
-      ])
-      | inr other ↦ had i (omega arith)
-    ]) (ap (λ b. cond b (Some id) (least_id ds (suc id) turns)) (sym taken) ∙ is)
+    | inl same ↦ subst (λ t. 0 < with_id t ds) (sym same) (elim (cases_lt 0 (with_id id ds)) [
+      | inl some ↦ some
+      | inr none ↦ absurd (true≢false (sym (eq-eqb (with_id id ds) 0 (omega arith)) ∙ taken))
+    ])
+    | inr other ↦ had i (omega arith)
+  ]) (ap (λ b. cond b (Some id) (least_id ds (suc id) turns)) (sym taken) ∙ is)
 ]
 
 same_event : (a b : Event) → Some a ≡ Some b → a ≡ b
@@ -177,7 +177,9 @@ module _ (s : Setting) (m : Moment) (worker word : ℕ) where
       by_room : (full : Bool) → nat_lt s.quota (charged s.quota s.list ((h.books).here).ran + charge_at s.quota s.list place) ≡ full → IsNext s.list (done_at m) h.top place
           → Wants s m worker word (cond full gives_up (wanted_by s m h place (deed_at s.list place)))
       by_room true full next = a_give_up (record {
-        owner = owns_from m worker h f; place = place; next = next;
+        owner = owns_from m worker h f;
+        place = place;
+        next = next;
         no_room = ltb-true s.quota (charged s.quota s.list ((h.books).here).ran + charge_at s.quota s.list place) full;
       })
       by_room false fits next = by_deed next (ltb-false s.quota (charged s.quota s.list ((h.books).here).ran + charge_at s.quota s.list place) fits) (deed_at s.list place) refl

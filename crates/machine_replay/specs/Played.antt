@@ -14,7 +14,8 @@ use Rattle.machine_replay.specs.Step.{Hand, hand_of, step}
 -- the first that passes of so many numbers that are left, each modulo n
 abbrev pub first_passing : (ℕ → Bool) → ℕ → ℕ → ℕ → ℕ → Option ℕ
 first_passing passes n word turns zero = None
-first_passing passes n word turns (suc left) = cond (passes ((word + turns) % n)) (Some ((word + turns) % n)) (first_passing passes n word (suc turns) left)
+first_passing passes n word turns (suc left) =
+    cond (passes ((word + turns) % n)) (Some ((word + turns) % n)) (first_passing passes n word (suc turns) left)
 
 -- whether some number below n passes
 abbrev pub any_below : (ℕ → Bool) → ℕ → Bool
@@ -50,7 +51,8 @@ steals_into place (Some id) = Some (steals place id)
 
 abbrev pub theft_of : Moment → ℕ → Option Deque → Option Event
 theft_of m place None = None
-theft_of m place (Some deque) = cond (deque_stays deque) (steals_into place (least_id m.deques 0 (suc (length m.deques)))) (Some (steals place deque.id))
+theft_of m place (Some deque) =
+    cond (deque_stays deque) (steals_into place (least_id m.deques 0 (suc (length m.deques)))) (Some (steals place deque.id))
 
 abbrev pub theft_at : Moment → Option ℕ → Option Event
 theft_at m None = None
@@ -69,7 +71,8 @@ wanted_by s m h place ends = does place
 abbrev pub wanted_at : Setting → Moment → Hand → Option ℕ → Option Event
 wanted_at s m h None = None
 wanted_at s m h (Some place) =
-    Some (cond (nat_lt s.quota (charged s.quota s.list ((h.books).here).ran + charge_at s.quota s.list place)) gives_up (wanted_by s m h place (deed_at s.list place)))
+    Some (cond (nat_lt s.quota (charged s.quota s.list ((h.books).here).ran + charge_at s.quota s.list place)) gives_up
+    (wanted_by s m h place (deed_at s.list place)))
 
 abbrev pub wanted_of : Setting → Moment → Option Hand → Option Event
 wanted_of s m None = None
@@ -77,7 +80,8 @@ wanted_of s m (Some h) = wanted_at s m h (next_from s.list (done_at m) h.top 0 (
 
 abbrev pub wanted : Setting → Moment → ℕ → ℕ → Option Event
 wanted s m worker word =
-    cond (nat_eq (owned_by worker m.deques) 0) (theft_at m (first_passing (is_ready m) (reach s m) word 0 (reach s m))) (wanted_of s m (hand_of m worker))
+    cond (nat_eq (owned_by worker m.deques) 0) (theft_at m (first_passing (is_ready m) (reach s m) word 0 (reach s m)))
+    (wanted_of s m (hand_of m worker))
 
 -- whether a number of words is more than a capacity
 abbrev pub exceeds : ℕ → ℤ → Bool
@@ -85,7 +89,8 @@ exceeds capacity (pos words) = nat_lt capacity words
 exceeds capacity (negsuc words) = false
 
 abbrev pub fills : Setting → Limits → Moment → ℕ → Bool
-fills s limits m place = nat_lt 0 (words_taken (action_at s.list place)) && exceeds limits.capacity (live_at s.list m +ℤ pos (words_at s.list place))
+fills s limits m place =
+    nat_lt 0 (words_taken (action_at s.list place)) && exceeds limits.capacity (live_at s.list m +ℤ pos (words_at s.list place))
 
 -- the stop that an event meets, or none
 abbrev pub stop_at : Limits → Moment → Option Deque → Option Stop
@@ -123,7 +128,8 @@ played_unless more s m n pair None = played_behind more (n + words_drawn m pair.
 
 abbrev pub played_with : (ℕ → Moment → Option Played) → Setting → Limits → Moment → ℕ → ℕ → Option Event → Option Played
 played_with more s limits m n worker None = None
-played_with more s limits m n worker (Some event) = played_unless more s m n (record { worker = worker; event = event }) (stop_of s limits m event)
+played_with more s limits m n worker (Some event) =
+    played_unless more s m n (record { worker = worker; event = event }) (stop_of s limits m event)
 
 abbrev pub played_by : (ℕ → Moment → Option Played) → Setting → Limits → (ℕ → ℕ) → Moment → ℕ → Option ℕ → Option Played
 played_by more s limits words m n None = None

@@ -16,7 +16,8 @@ use Rattle.serial_meaning.specs.declared.runner.Runner.{Runner}
 -- it where they are more
 abbrev pub TellsOrStops : ℕ → List Item → Result Serial SerialStop → Type 0
 TellsOrStops limit items result =
-    MatchResult result (λ serial. Tells items serial × (length (actions_of items) ≤ limit)) (λ stop. OnStop stop (limit < length (actions_of items)))
+    MatchResult result (λ serial. Tells items serial
+    × (length (actions_of items) ≤ limit)) (λ stop. OnStop stop (limit < length (actions_of items)))
 
 -- the result of the End of the root, behind which the whole run is told
 abbrev pub TellsOrPasses : ℕ → State → Result Serial SerialStop → Type 0

@@ -76,7 +76,8 @@ IsBeyond limit s = Exceeds limit s.items
 -- a call does this to the state, and no thread is born; it stops only where that has more actions than the limit
 abbrev pub Goes : ℕ → Runner → Result (Unit {0}) SerialStop → Runner → (State → State) → Type 0
 Goes limit before result after does = (s : State) → Is limit before s
-    → MatchResult result (λ _. Is limit after (does s) × (births_of after.journal ≡ births_of before.journal)) (λ stop. OnStop stop (IsBeyond limit (does s)))
+    → MatchResult result (λ _. Is limit after (does s)
+    × (births_of after.journal ≡ births_of before.journal)) (λ stop. OnStop stop (IsBeyond limit (does s)))
 
 -- the words that a thread holds
 abbrev pub thread_holdings : Thread → ℕ

@@ -60,7 +60,8 @@ pub fn depth_first(
 
 /// The run of a plan, up to the End of the root.
 fn run<'a>(plan: Plan<'a>, limit: u32) -> Result<Runner<'a>, SerialStop>
-    ensures { MatchResult result (IsAllButEnded limit (setting_of (program_tree plan.entry.program.now) (quota_words plan.entry.quota))) (λ stop. OnStop stop (IsBeyond limit (whole (setting_of (program_tree plan.entry.program.now) (quota_words plan.entry.quota))))) }
+    ensures { MatchResult result (IsAllButEnded limit (setting_of (program_tree plan.entry.program.now) (quota_words plan.entry.quota)))
+        (λ stop. OnStop stop (IsBeyond limit (whole (setting_of (program_tree plan.entry.program.now) (quota_words plan.entry.quota))))) }
 {
     let mut machine = beginning(plan, limit)?;
     while let Some(frame) = machine.frames.pop() {
@@ -82,7 +83,9 @@ fn close(runner: Runner) -> Result<Serial, SerialStop>
 
 /// The root before its first statement.
 fn beginning<'a>(plan: Plan<'a>, limit: u32) -> Result<Machine<'a>, SerialStop>
-    ensures { MatchResult result (λ machine. At limit machine (run_start (setting_of (program_tree plan.entry.program.now) (quota_words plan.entry.quota)) (ownership.function_of (program_tree plan.entry.program.now) ownership.main_name))) (λ stop. OnStop stop ⊥) }
+    ensures { MatchResult result (λ machine. At limit machine
+        (run_start (setting_of (program_tree plan.entry.program.now) (quota_words plan.entry.quota))
+        (ownership.function_of (program_tree plan.entry.program.now) ownership.main_name))) (λ stop. OnStop stop ⊥) }
 {
     let mut machine = root(plan.alloc, limit);
     let Some(main) = function_of(&plan.program.funcs, b"main") else {

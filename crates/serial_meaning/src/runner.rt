@@ -33,7 +33,8 @@ impl<'a> Runner<'a> {
 
     /// The thread does an action that is no Fork.
     pub(crate) fn act(&mut self, kind: Kind, words: u64) -> Result<(), SerialStop>
-        ensures { (limit : ℕ) (deed : Deed) → kind ≡ kind_of deed → IsNoFork deed → Goes limit self.old result self.new (with_action deed words) }
+        ensures { (limit : ℕ) (deed : Deed) → kind ≡ kind_of deed → IsNoFork deed
+            → Goes limit self.old result self.new (with_action deed words) }
     {
         let name = self.next_name();
         let done = self.thread.done.checked_add(1);

@@ -40,7 +40,10 @@ impl<'a> Machine<'a> {
 
     /// The first statement of a list, which a thread that a fault ended skips with the others.
     pub(crate) fn first_of(&mut self, plan: Plan<'a>, stmts: &'a [Stmt]) -> Result<(), SerialStop>
-        ensures { (limit : ℕ) → Moves limit self.old result self.new (step_part (setting_of (program_tree plan.entry.program.now) (quota_words plan.entry.quota)) (middles.statements (body_tree stmts.now))) }
+        ensures { (limit : ℕ)
+            → Moves limit self.old result self.new
+            (step_part (setting_of (program_tree plan.entry.program.now) (quota_words plan.entry.quota))
+            (middles.statements (body_tree stmts.now))) }
     {
         let Some((first, rest)) = stmts.split_first() else {
             return Ok(());
@@ -55,7 +58,10 @@ impl<'a> Machine<'a> {
 
     /// One statement.
     fn statement(&mut self, plan: Plan<'a>, stmt: &'a Stmt) -> Result<(), SerialStop>
-        ensures { (limit : ℕ) → Moves limit self.old result self.new (step_statement (setting_of (program_tree plan.entry.program.now) (quota_words plan.entry.quota)) stmt.now.line (stmt_tree stmt.now.kind)) }
+        ensures { (limit : ℕ)
+            → Moves limit self.old result self.new
+            (step_statement (setting_of (program_tree plan.entry.program.now) (quota_words plan.entry.quota)) stmt.now.line
+            (stmt_tree stmt.now.kind)) }
     {
         let alloc = plan.alloc;
         let line = stmt.line;
@@ -94,7 +100,10 @@ impl<'a> Machine<'a> {
         block: &'a Name,
         size: &'a Expr,
     ) -> Result<(), SerialStop>
-        ensures { (limit : ℕ) (program : Program) → Moves limit self.old result self.new (λ fs s. step_with_number line (value s.store (expr_tree size.now)) (step_alloc (setting_of program (quota_words plan.entry.quota)) line (name_tree block.now)) fs s) }
+        ensures { (limit : ℕ) (program : Program)
+            → Moves limit self.old result self.new
+            (λ fs s. step_with_number line (value s.store (expr_tree size.now))
+            (step_alloc (setting_of program (quota_words plan.entry.quota)) line (name_tree block.now)) fs s) }
     {
         let size = match evaluate(&self.runner.thread.store, size) {
             Ok(size) => size,
@@ -122,7 +131,10 @@ impl<'a> Machine<'a> {
         then: &'a Body,
         other: &'a Body,
     ) -> Result<(), SerialStop>
-        ensures { (limit : ℕ) → Moves limit self.old result self.new (λ fs s. step_with_number line (value s.store (expr_tree cond.now)) (step_if (body_tree then.now.items) (body_tree other.now.items)) fs s) }
+        ensures { (limit : ℕ)
+            → Moves limit self.old result self.new
+            (λ fs s. step_with_number line (value s.store (expr_tree cond.now))
+            (step_if (body_tree then.now.items) (body_tree other.now.items)) fs s) }
     {
         match evaluate(&self.runner.thread.store, cond) {
             Ok(number) => {
@@ -145,7 +157,10 @@ impl<'a> Machine<'a> {
         body: &'a Body,
         again: &'a [Stmt],
     ) -> Result<(), SerialStop>
-        ensures { (limit : ℕ) → body_tree again.now ≡ step line (while_stmt (expr_tree cond.now) (body_tree body.now.items)) done → Moves limit self.old result self.new (λ fs s. step_with_number line (value s.store (expr_tree cond.now)) (step_while line (expr_tree cond.now) (body_tree body.now.items)) fs s) }
+        ensures { (limit : ℕ) → body_tree again.now ≡ step line (while_stmt (expr_tree cond.now) (body_tree body.now.items)) done
+            → Moves limit self.old result self.new
+            (λ fs s. step_with_number line (value s.store (expr_tree cond.now))
+            (step_while line (expr_tree cond.now) (body_tree body.now.items)) fs s) }
     {
         match evaluate(&self.runner.thread.store, cond) {
             Ok(number) => {
@@ -171,7 +186,10 @@ impl<'a> Machine<'a> {
         left: &'a Body,
         right: &'a Body,
     ) -> Result<(), SerialStop>
-        ensures { (limit k : ℕ) (program : Program) → Moves limit self.old result self.new (λ fs s. step_par (nat_lt (length s.label) 256) (setting_of program k) line (body_tree left.now.items) (body_tree right.now.items) fs s) }
+        ensures { (limit k : ℕ) (program : Program)
+            → Moves limit self.old result self.new
+            (λ fs s. step_par (nat_lt (length s.label) 256) (setting_of program k) line (body_tree left.now.items)
+            (body_tree right.now.items) fs s) }
     {
         if self.runner.thread.depth < MOST_FORKS {
             self.fork(alloc, Part::Statements(left), Part::Statements(right))
@@ -190,7 +208,11 @@ impl<'a> Machine<'a> {
         parts: (&'a Name, &'a Name),
         body: &'a Body,
     ) -> Result<(), SerialStop>
-        ensures { (limit : ℕ) → Moves limit self.old result self.new (λ fs s. step_with_number line (value s.store (expr_tree at.now)) (step_split line (name_tree block.now) (name_tree parts.entry.0.now) (name_tree parts.entry.1.now) (body_tree body.now.items)) fs s) }
+        ensures { (limit : ℕ)
+            → Moves limit self.old result self.new
+            (λ fs s. step_with_number line (value s.store (expr_tree at.now))
+            (step_split line (name_tree block.now) (name_tree parts.entry.0.now) (name_tree parts.entry.1.now)
+            (body_tree body.now.items)) fs s) }
     {
         let (left, right) = parts;
         match evaluate(&self.runner.thread.store, at) {

@@ -54,7 +54,8 @@ impl<'a> Store<'a> {
         child: Store<'a>,
         branch: &'a [Stmt],
     ) -> Result<(), AllocError>
-        ensures ok { OnOk result (store_shown self.new ≡ joined_store (assigns_in (body_tree branch.now)) (store_shown child.entry) (store_shown self.old)) }
+        ensures ok { OnOk result (store_shown self.new ≡ joined_store (assigns_in (body_tree branch.now)) (store_shown child.entry)
+            (store_shown self.old)) }
         ensures err { OnErr result (store_shown self.new ≡ store_shown self.old) }
     {
         if self.blocks.len() + child.blocks.len() > MAX_BLOCKS {
@@ -88,7 +89,8 @@ fn brought_back<'a>(
     child: &[Integer<'a>],
     branch: &Branch,
 ) -> Result<Vec<Integer<'a>>, AllocError>
-    ensures { IfOk result (λ v. v.items ≡ filter (not_assigned_by (branch_shown branch.now)) own.now ++ filter (assigned_by (branch_shown branch.now)) child.now) }
+    ensures { IfOk result (λ v. v.items ≡ filter (not_assigned_by (branch_shown branch.now)) own.now ++ filter
+        (assigned_by (branch_shown branch.now)) child.now) }
 {
     let mut integers = Vec::new(alloc);
     add_others(&mut integers, own, branch)?;
@@ -137,8 +139,10 @@ fn sort_out<'a>(
 )
     requires named_room { vec_len named.old + vec_len blocks.old ≤ vec_capacity named.old }
     requires others_room { vec_len others.old + vec_len blocks.old ≤ vec_capacity others.old }
-    ensures named { held_of named.new.items ≡ held_of named.old.items ++ those_named (names_in (branch_shown branch.now)) (held_of blocks.old.items) }
-    ensures others { held_of others.new.items ≡ held_of others.old.items ++ those_not_named (names_in (branch_shown branch.now)) (held_of blocks.old.items) }
+    ensures named { held_of named.new.items ≡ held_of named.old.items ++ those_named (names_in (branch_shown branch.now))
+        (held_of blocks.old.items) }
+    ensures others { held_of others.new.items ≡ held_of others.old.items ++ those_not_named (names_in (branch_shown branch.now))
+        (held_of blocks.old.items) }
     ensures named_len { vec_len named.new ≤ vec_len named.old + vec_len blocks.old }
     ensures others_len { vec_len others.new ≤ vec_len others.old + vec_len blocks.old }
 {
