@@ -7,6 +7,7 @@ use Rattle.dummy_tree.specs.Shapes.{Shape, leaf, forked}
 use Rattle.depth_first_list.specs.Actions as actions
 use Rattle.depth_first_list.specs.Actions.{Action}
 use Rattle.depth_first_list.specs.Runs.{tree_for}
+use Rattle.language_limits.specs.declared.TheConstants.{LONGEST_BLOCK}
 use Rattle.par_tree.specs.Tree.{Name, Expr, Target, Arg, Stmt, let_stmt, assign_stmt, put_stmt, alloc_stmt, free_stmt, if_stmt, while_stmt, call_stmt, print_stmt, par_stmt, split_stmt, Body, done, step, Func}
 use Rattle.par_tree.specs.Names.{names_in_body, assigns_in_body}
 use Rattle.par_ownership.specs.Ownership.{function_of, main_name}
@@ -64,7 +65,7 @@ run_tree_before c words s = run_tree_unless (nat_le words c.quota) c words s
 
 -- the number of words that is asked for: 0 to 1,048,576
 abbrev pub size_of : ℤ → Option ℕ
-size_of (pos n) = if nat_le n 1048576 then Some n else None
+size_of (pos n) = if nat_le n LONGEST_BLOCK then Some n else None
 size_of (negsuc n) = None
 
 -- `alloc b = e`: zeros

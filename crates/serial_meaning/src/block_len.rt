@@ -3,11 +3,13 @@ ghost use Rattle.std.specs.Option.{option_map};
 ghost use Rattle.depth_first_run.specs.Stores.{block_words};
 ghost use Rattle.depth_first_run.specs.Run.{size_of};
 
+use language_limits::LONGEST_BLOCK;
+
 /// The length of a block: 0 to 1,048,576 numbers.
 #[derive(Clone, Copy)]
 pub(crate) struct BlockLen {
     pub(crate) len: u32,
-    pub(crate) ghost small: { len ≤ 1048576 },
+    pub(crate) ghost small: { len ≤ LONGEST_BLOCK },
 }
 
 #[tactic(auto, unfolding(depth_first_run::specs::Stores::block_words))]
@@ -21,7 +23,7 @@ impl BlockLen {
         let Ok(len) = u32::try_from(number) else {
             return None;
         };
-        if len <= 1_048_576 {
+        if len <= LONGEST_BLOCK {
             Some(BlockLen { len })
         } else {
             None
@@ -31,7 +33,7 @@ impl BlockLen {
     /// The words that such a block takes: whole pieces of 16.
     pub(crate) fn words(self) -> u32
         ensures value { result ≡ block_words (length_of self) }
-        ensures bound { result ≤ 1048576 }
+        ensures bound { result ≤ LONGEST_BLOCK }
     {
         self.len.div_ceil(16) * 16
     }

@@ -17,11 +17,11 @@ ghost use Rattle.serial_meaning.specs.Settings.{setting_of};
 
 use crate::frame::Frame;
 use crate::functions::function_of;
-use crate::limits::MOST_CALLS;
 use crate::machine::Machine;
 use crate::plan::Plan;
 use crate::runner::Runner;
 use dag_order::FaultKind;
+use language_limits::MOST_CALLS;
 use par_tree::{Arg, Name, Param, Ret, RetValue, Target};
 use serial_journal::SerialStop;
 use serial_store::{Answer, Stop, Store, evaluate, lend_back, pass};

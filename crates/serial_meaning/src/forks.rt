@@ -13,13 +13,13 @@ ghost use Rattle.serial_meaning.specs.Settings.{setting_of};
 ghost use Rattle.serial_meaning.specs.Frames.{part_shown, names_of, assigns_of};
 
 use crate::frame::Frame;
-use crate::limits::MOST_TURNS;
 use crate::machine::Machine;
 use crate::part::Part;
 use crate::runner::Runner;
 use crate::thread::Thread;
 use dag_order::Kind;
 use depth_first_list::RECORD_WORDS;
+use language_limits::MOST_TURNS;
 use serial_journal::SerialStop;
 use serial_store::Store;
 use std::alloc::{AllocError, Global};

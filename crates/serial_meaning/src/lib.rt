@@ -15,7 +15,6 @@ mod calls;
 mod forks;
 mod frame;
 mod functions;
-mod limits;
 mod machine;
 mod part;
 mod plan;

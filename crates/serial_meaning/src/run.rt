@@ -17,7 +17,6 @@ ghost use Rattle.serial_meaning.specs.Runs.{TellsOrStops, TellsOrPasses, IsAllBu
 
 use crate::frame::Frame;
 use crate::functions::function_of;
-use crate::limits::MOST_TURNS;
 use crate::machine::Machine;
 use crate::plan::Plan;
 use crate::runner::Runner;
@@ -25,6 +24,7 @@ use crate::thread::Thread;
 use block_check::Checked;
 use dag_order::{Kind, ThreadId};
 use dummy_tree::Quota;
+use language_limits::MOST_TURNS;
 use serial_journal::{Journal, Serial, SerialStop};
 use serial_store::Store;
 use std::alloc::Global;

@@ -12,12 +12,12 @@ ghost use Rattle.depth_first_run.specs.Middle as middles;
 
 use crate::block_len::BlockLen;
 use crate::frame::Frame;
-use crate::limits::MOST_FORKS;
 use crate::machine::Machine;
 use crate::part::Part;
 use crate::plan::Plan;
 use dag_order::FaultKind;
 use dummy_tree::{Tree, dummies};
+use language_limits::MOST_FORKS;
 use par_tree::{Body, Expr, Name, Stmt, StmtKind};
 use serial_journal::SerialStop;
 use serial_store::{evaluate, is_true};
