@@ -1,5 +1,6 @@
 ghost use Rattle.std.specs.Prelude.{◌≡◌, ◌≤◌};
 ghost use Rattle.std.specs.Option.{option_map};
+ghost use Rattle.language_limits.specs.declared.TheConstants.{LONGEST_BLOCK};
 ghost use Rattle.depth_first_run.specs.Stores.{block_words};
 ghost use Rattle.depth_first_run.specs.Run.{size_of};
 
