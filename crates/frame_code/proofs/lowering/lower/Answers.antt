@@ -8,7 +8,7 @@ use Rattle.node_table.specs.Table.{Table}
 use Rattle.node_table.specs.Names.{IsSlot}
 use Rattle.node_table.specs.Programs.{IsTableOf}
 use Rattle.node_table.specs.Shown.{node_shown, table_shown}
-use Rattle.frame_code.specs.Scopes.{func_names}
+use Rattle.frame_code.specs.Numbers.{func_names}
 use Rattle.frame_code.proofs.Accepted.{functions_can}
 use Rattle.frame_code.proofs.Gathering.{table_made}
 use Rattle.frame_code.proofs.lowering.lower.Goals as goal
@@ -16,15 +16,15 @@ use Rattle.frame_code.proofs.lowering.lower.Goals as goal
 pub lower_functions-requires : goal.lower_functions-requires
 lower_functions-requires c = functions_can c.program.result.now c.deref.result.now c.deref.ensures.value c.program.ensures.of_text c.program.ensures.owns
 
-pub main_of-main-requires-clause-few : goal.main_of-main-requires-clause-few
-main_of-main-requires-clause-few c =
+pub number-main-requires-clause-few : goal.number-main-requires-clause-few
+number-main-requires-clause-few c =
     let can = functions_can c.program.result.now c.deref-2.result.now c.deref-2.ensures.value c.program.ensures.of_text c.program.ensures.owns in
     let few = can.few in
     let same = length-map c.deref-2.result.now func_tree in
     omega (arith, few, same)
 
-pub main_of-main-requires-clause-there : goal.main_of-main-requires-clause-there
-main_of-main-requires-clause-there c =
+pub number-main-requires-clause-there : goal.number-main-requires-clause-there
+number-main-requires-clause-there c =
     (functions_can c.program.result.now c.deref-2.result.now c.deref-2.ensures.value c.program.ensures.of_text c.program.ensures.owns).main
 
 pub of-requires-clause-numbered : goal.of-requires-clause-numbered
@@ -38,14 +38,14 @@ of-requires-clause-numbered c =
 pub of-requires-clause-accepted : goal.of-requires-clause-accepted
 of-requires-clause-accepted c =
     let p = c.program.result.now in
-    let table : Table = table_shown c.in_ok-nodes.nodes.items c.in_ok-nodes.codes.items c.main_of-main.result in
-    let main = subst (λ gs. IsSlot (func_names gs) c.main_of-main.result main_name) (c.deref-2.ensures.value ∙ sym c.deref.ensures.value) c.main_of-main.ensures in
+    let table : Table = table_shown c.in_ok-nodes.nodes.items c.in_ok-nodes.codes.items c.number-main.result in
+    let main = subst (λ gs. IsSlot (func_names gs) c.number-main.result main_name) (c.deref-2.ensures.value ∙ sym c.deref.ensures.value) c.number-main.ensures in
     ∣ (program_tree p, c.program.ensures.owns, table_made p c.deref.result.now table c.deref.ensures.value c.in_ok-nodes.ensures.made main) ∣₁
 
 pub returns : goal.returns
 returns c =
     let p = program_of c.args.program in
     let owned = ap (λ (q : Program). q.funcs.items) c.program.ensures.value in
-    let table : Table = table_shown c.in_ok-nodes.nodes.items c.in_ok-nodes.codes.items c.main_of-main.result in
-    let main = subst (λ gs. IsSlot (func_names gs) c.main_of-main.result main_name) (c.deref-2.ensures.value ∙ sym c.deref.ensures.value) c.main_of-main.ensures in
+    let table : Table = table_shown c.in_ok-nodes.nodes.items c.in_ok-nodes.codes.items c.number-main.result in
+    let main = subst (λ gs. IsSlot (func_names gs) c.number-main.result main_name) (c.deref-2.ensures.value ∙ sym c.deref.ensures.value) c.number-main.ensures in
     subst (λ (t : Table). IsTableOf (program_tree p) t) (sym c.of.ensures) (table_made p c.deref.result.now table (c.deref.ensures.value ∙ owned) c.in_ok-nodes.ensures.made main)
