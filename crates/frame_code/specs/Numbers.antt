@@ -1,5 +1,5 @@
 -- The numbers of functions, found by their names.
-use Rattle.std.specs.Prelude.{◌≡◌, ℕ, Bool, true, List, map, Option}
+use Rattle.std.specs.Prelude.{◌≡◌, ℕ, true, List, map, Option}
 use Rattle.std.specs.Option.{is_some, unwrap_or}
 use Rattle.std.specs.Ordering.{nat_cmp}
 use Rattle.std.specs.Cmp.Lexicographic.{slice_cmp}

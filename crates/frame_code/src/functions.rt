@@ -36,11 +36,11 @@ fn param_slots(alloc: Global, names: &SlotNames, params: &[Param]) -> Result<Slo
 }
 
 /// With what a function's body is lowered.
-fn scope_of<'a>(
+fn scope_of<'a, 'b>(
     alloc: Global,
-    functions: &'a FunctionNumbers<'a>,
+    functions: &'a FunctionNumbers<'b>,
     func: &Func,
-) -> Result<Scope<'a>, AllocError>
+) -> Result<Scope<'a, 'b>, AllocError>
     requires { length (slot_names (func_tree func.now)) ≤ most_slots }
     ensures { IfOk result (λ s. (functions_of s ≡ functions_in functions.now) × (names_of_scope s ≡ slot_names (func_tree func.now))) }
 {

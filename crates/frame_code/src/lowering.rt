@@ -12,9 +12,8 @@ use std::alloc::{AllocError, Global};
 
 /// A program with frame slots in place of names, and nodes in place of statements.
 ///
-/// The table, read with names in place of slots and of function numbers, is the program, and what stands
-/// inside a node has greater numbers. It takes time of at most the size of the program times the names of
-/// a function, and times the number of functions for its calls.
+/// The table, read with names in place of slots and of function numbers, is the program, and what stands inside a node has greater numbers.
+/// It takes time of at most the size of the program times the names of a function; the function of a call is found in a map of their names.
 ///
 /// # Errors
 ///

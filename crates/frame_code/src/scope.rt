@@ -3,7 +3,7 @@ use crate::slot_names::SlotNames;
 
 /// The functions of the program, and the names of the slots of the function that is lowered.
 #[derive(Drop)]
-pub(crate) struct Scope<'a> {
-    pub(crate) functions: &'a FunctionNumbers<'a>,
+pub(crate) struct Scope<'a, 'b> {
+    pub(crate) functions: &'a FunctionNumbers<'b>,
     pub(crate) names: SlotNames,
 }
