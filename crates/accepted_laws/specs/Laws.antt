@@ -31,4 +31,5 @@ MainIsThere = (p : Program) → Ownership p → (f : Func) × (function_of p mai
 
 -- functions of different numbers have different names
 abbrev pub FunctionNamesDiffer : Type 0
-FunctionNamesDiffer = (p : Program) → Ownership p → (i j : ℕ) (f g : Func) → slice_get p i ≡ Some f → slice_get p j ≡ Some g → f.name ≡ g.name → i ≡ j
+FunctionNamesDiffer =
+    (p : Program) → Ownership p → (i j : ℕ) (f g : Func) → slice_get p i ≡ Some f → slice_get p j ≡ Some g → f.name ≡ g.name → i ≡ j

@@ -8,4 +8,6 @@
 
 mod laws;
 
-pub use laws::{calls_are_calls, function_names_differ, main_is_there, names_are_declared, sizes_are_small};
+pub use laws::{
+    calls_are_calls, function_names_differ, main_is_there, names_are_declared, sizes_are_small,
+};

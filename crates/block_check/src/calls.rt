@@ -93,7 +93,8 @@ fn not_shared<'a>(line: u32, before: &[Arg], name: &'a [u8]) -> Result<(), Fail<
 
 /// A block that a call lends.
 fn lent_block<'a>(line: u32, env: &[Entry], before: &[Arg], name: &'a Name) -> Result<(), Fail<'a>>
-    ensures { Tests result (first_of (block_refusal line (entries_shown env.now) (name_tree name.now)) (shared_refusal line (args_tree before.now) (name_tree name.now))) }
+    ensures { Tests result (first_of (block_refusal line (entries_shown env.now) (name_tree name.now))
+        (shared_refusal line (args_tree before.now) (name_tree name.now))) }
 {
     block(line, env, &name.bytes)?;
     not_shared(line, before, &name.bytes)
@@ -101,7 +102,9 @@ fn lent_block<'a>(line: u32, env: &[Entry], before: &[Arg], name: &'a Name) -> R
 
 /// A block that a call gives away.
 fn given_block<'a>(line: u32, env: &[Entry], before: &[Arg], name: &'a Name) -> Result<(), Fail<'a>>
-    ensures { Tests result (first_of (block_refusal line (entries_shown env.now) (name_tree name.now)) (first_of (shared_refusal line (args_tree before.now) (name_tree name.now)) (lent_refusal line (entries_shown env.now) (name_tree name.now)))) }
+    ensures { Tests result (first_of (block_refusal line (entries_shown env.now) (name_tree name.now))
+        (first_of (shared_refusal line (args_tree before.now) (name_tree name.now))
+        (lent_refusal line (entries_shown env.now) (name_tree name.now)))) }
 {
     block(line, env, &name.bytes)?;
     not_shared(line, before, &name.bytes)?;
@@ -116,7 +119,8 @@ fn argument<'a>(
     param: &'a Param,
     arg: &'a Arg,
 ) -> Result<(), Fail<'a>>
-    ensures { Tests result (arg_refusal line (entries_shown env.now) (args_tree before.now) (name_tree param.now.name) (param_kind_tree param.now.kind) (arg_tree arg.now)) }
+    ensures { Tests result (arg_refusal line (entries_shown env.now) (args_tree before.now) (name_tree param.now.name)
+        (param_kind_tree param.now.kind) (arg_tree arg.now)) }
 {
     let wanted = &param.name.bytes;
     match param.kind {
@@ -160,7 +164,8 @@ pub(crate) fn call<'a>(
     name: &'a Name,
     args: &'a [Arg],
 ) -> Result<(), Fail<'a>>
-    ensures { Tests result (call_refusal (funcs_tree funcs.now) line (entries_shown env.now) (target_tree answer.now) (name_tree name.now) (args_tree args.now)) }
+    ensures { Tests result (call_refusal (funcs_tree funcs.now) line (entries_shown env.now) (target_tree answer.now) (name_tree name.now)
+        (args_tree args.now)) }
 {
     target(line, env, answer)?;
     let called = &name.bytes;

@@ -12,7 +12,7 @@ use crate::entry::Entry;
 use crate::environment::{is_fresh, unless};
 use crate::expressions::check_expression;
 use crate::refusal::Fail;
-use crate::statements::{free, check_statements};
+use crate::statements::{check_statements, free};
 use par_ownership::CheckKind;
 use par_tree::{Func, Param, Ret, RetValue};
 use std::alloc::Global;

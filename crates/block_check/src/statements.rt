@@ -77,7 +77,9 @@ fn let_integer<'a>(
     name: &'a Name,
     value: &'a Expr,
 ) -> Result<Vec<Entry<'a>>, Fail<'a>>
-    ensures { Walks env_shown result (guarded (fresh_refusal line (env_shown env.entry) (name_tree name.now)) (guarded (expr_refusal line (env_shown env.entry) (expr_tree value.now)) (Ok (with_entry (env_shown env.entry) (integer_entry (name_tree name.now) line))))) }
+    ensures { Walks env_shown result (guarded (fresh_refusal line (env_shown env.entry) (name_tree name.now))
+        (guarded (expr_refusal line (env_shown env.entry) (expr_tree value.now))
+        (Ok (with_entry (env_shown env.entry) (integer_entry (name_tree name.now) line))))) }
 {
     is_fresh(line, &env, &name.bytes)?;
     check_expression(line, &env, value)?;
@@ -91,7 +93,9 @@ fn alloc_block<'a>(
     name: &'a Name,
     size: &'a Expr,
 ) -> Result<Vec<Entry<'a>>, Fail<'a>>
-    ensures { Walks env_shown result (guarded (fresh_refusal line (env_shown env.entry) (name_tree name.now)) (guarded (expr_refusal line (env_shown env.entry) (expr_tree size.now)) (Ok (with_entry (env_shown env.entry) (block_entry (name_tree name.now) line))))) }
+    ensures { Walks env_shown result (guarded (fresh_refusal line (env_shown env.entry) (name_tree name.now))
+        (guarded (expr_refusal line (env_shown env.entry) (expr_tree size.now))
+        (Ok (with_entry (env_shown env.entry) (block_entry (name_tree name.now) line))))) }
 {
     is_fresh(line, &env, &name.bytes)?;
     check_expression(line, &env, size)?;
@@ -105,7 +109,8 @@ fn assign<'a>(
     name: &'a Name,
     value: &'a Expr,
 ) -> Result<Vec<Entry<'a>>, Fail<'a>>
-    ensures { Walks env_shown result (guarded (integer_refusal line (env_shown env.entry) (name_tree name.now)) (guarded (expr_refusal line (env_shown env.entry) (expr_tree value.now)) (Ok (env_shown env.entry)))) }
+    ensures { Walks env_shown result (guarded (integer_refusal line (env_shown env.entry) (name_tree name.now))
+        (guarded (expr_refusal line (env_shown env.entry) (expr_tree value.now)) (Ok (env_shown env.entry)))) }
 {
     integer(line, &env, &name.bytes)?;
     check_expression(line, &env, value)?;
@@ -128,7 +133,9 @@ fn put<'a>(
     index: &'a Expr,
     value: &'a Expr,
 ) -> Result<Vec<Entry<'a>>, Fail<'a>>
-    ensures { Walks env_shown result (guarded (block_refusal line (env_shown env.entry) (name_tree name.now)) (guarded (expr_refusal line (env_shown env.entry) (expr_tree index.now)) (guarded (expr_refusal line (env_shown env.entry) (expr_tree value.now)) (Ok (env_shown env.entry))))) }
+    ensures { Walks env_shown result (guarded (block_refusal line (env_shown env.entry) (name_tree name.now))
+        (guarded (expr_refusal line (env_shown env.entry) (expr_tree index.now))
+        (guarded (expr_refusal line (env_shown env.entry) (expr_tree value.now)) (Ok (env_shown env.entry))))) }
 {
     block(line, &env, &name.bytes)?;
     check_expression(line, &env, index)?;
@@ -142,7 +149,9 @@ pub(crate) fn free<'a>(
     mut env: Vec<Entry<'a>>,
     name: &'a Name,
 ) -> Result<Vec<Entry<'a>>, Fail<'a>>
-    ensures { Walks env_shown result (guarded (block_refusal line (env_shown env.entry) (name_tree name.now)) (guarded (lent_refusal line (env_shown env.entry) (name_tree name.now)) (Ok (without (env_shown env.entry) (name_tree name.now))))) }
+    ensures { Walks env_shown result (guarded (block_refusal line (env_shown env.entry) (name_tree name.now))
+        (guarded (lent_refusal line (env_shown env.entry) (name_tree name.now))
+        (Ok (without (env_shown env.entry) (name_tree name.now))))) }
 {
     block(line, &env, &name.bytes)?;
     not_lent(line, &env, &name.bytes)?;
@@ -184,7 +193,9 @@ fn call_function<'a>(
     name: &'a Name,
     args: &'a [Arg],
 ) -> Result<Vec<Entry<'a>>, Fail<'a>>
-    ensures { Walks env_shown result (guarded (call_refusal (funcs_tree funcs.now) line (env_shown env.entry) (target_tree answer.now) (name_tree name.now) (args_tree args.now)) (Ok (after_answer (after_gives (env_shown env.entry) (args_tree args.now)) (target_tree answer.now) line))) }
+    ensures { Walks env_shown result (guarded (call_refusal (funcs_tree funcs.now) line (env_shown env.entry) (target_tree answer.now)
+        (name_tree name.now) (args_tree args.now))
+        (Ok (after_answer (after_gives (env_shown env.entry) (args_tree args.now)) (target_tree answer.now) line))) }
 {
     call(funcs, line, &env, answer, name, args)?;
     give_all(&mut env, args);
@@ -200,7 +211,8 @@ fn parts<'a>(
     left: &'a Name,
     right: &'a Name,
 ) -> Result<Vec<Entry<'a>>, Fail<'a>>
-    ensures { Walks env_shown result (split_opened line (env_shown env.entry) (name_tree name.now) (expr_tree at.now) (name_tree left.now) (name_tree right.now)) }
+    ensures { Walks env_shown result (split_opened line (env_shown env.entry) (name_tree name.now) (expr_tree at.now) (name_tree left.now)
+        (name_tree right.now)) }
 {
     block(line, &env, &name.bytes)?;
     check_expression(line, &env, at)?;
@@ -226,7 +238,8 @@ fn after_arms<'a>(
     env: Vec<Entry<'a>>,
     other: Vec<Entry<'a>>,
 ) -> Result<Vec<Entry<'a>>, Fail<'a>>
-    ensures { Walks env_shown result (guarded (arms_refusal line (env_shown env.entry) (env_shown other.entry)) (Ok (env_shown env.entry))) }
+    ensures { Walks env_shown result (guarded (arms_refusal line (env_shown env.entry) (env_shown other.entry))
+        (Ok (env_shown env.entry))) }
 {
     same_held(line, &env, &other)?;
     Ok(env)

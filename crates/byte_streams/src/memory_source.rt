@@ -30,7 +30,8 @@ impl Source for MemorySource {
         ensures counted { self.old.plan.faults ≤ self.new.plan.faults }
         ensures cause { IfErr result (λ _. Rose self.old.plan.faults self.new.plan.faults) }
         ensures fails { IsErr result ↔ IsTrue (fails_next self.old.plan) }
-        ensures count { IfOk result (λ count. count ≡ min self.old.plan.most (min (length buffer.new) (length (bytes_left self.old.bytes)))) }
+        ensures count { IfOk result (λ count. count ≡ min self.old.plan.most
+            (min (length buffer.new) (length (bytes_left self.old.bytes)))) }
         ensures calls { self.new.plan.calls ≡ raised self.old.plan.calls }
         ensures plan { (self.new.plan.most ≡ self.old.plan.most) × (self.new.plan.fail ≡ self.old.plan.fail) }
     {

@@ -24,4 +24,5 @@ CanonicalIsText = (text : List ℕ) (p : Program) → IsText text p → length (
 -- Whatever is read from a canonical text has that canonical text again, and is the same program but
 -- for lines.
 abbrev pub CanonicalStays : Type 0
-CanonicalStays = (text : List ℕ) (p q : Program) → IsText text p → IsText (canonical p) q → SameButForLines q p × (canonical q ≡ canonical p)
+CanonicalStays =
+    (text : List ℕ) (p q : Program) → IsText text p → IsText (canonical p) q → SameButForLines q p × (canonical q ≡ canonical p)

@@ -26,7 +26,8 @@ ret_without_lines None = None
 ret_without_lines (Some r) = Some record { line = 0; value = r.value }
 
 abbrev pub func_without_lines : Func → Func
-func_without_lines f = record { name = f.name; params = f.params; body = body_without_lines f.body; ret = ret_without_lines f.ret; line = 0 }
+func_without_lines f =
+    record { name = f.name; params = f.params; body = body_without_lines f.body; ret = ret_without_lines f.ret; line = 0 }
 
 abbrev pub without_lines : Program → Program
 without_lines p = map func_without_lines p

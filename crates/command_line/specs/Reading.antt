@@ -58,12 +58,14 @@ pub record MayFit (kind : CommandKind) (items : List Item) : Type 0 where
 -- with one item more the numbers are these
 abbrev pub MoreFit : CommandKind → Options → Setting → List ℕ → Options → Type 0
 MoreFit kind before s v after =
-    (items : List Item) (joined : Bool) → Fit kind items before → Fit kind (items ++ record { setting = s; value = v; joined = joined } ∷ []) after
+    (items : List Item) (joined : Bool) → Fit kind items before
+    → Fit kind (items ++ record { setting = s; value = v; joined = joined } ∷ []) after
 
 -- no command has one item more, and further ones
 abbrev pub NoneFit : CommandKind → Options → Setting → List ℕ → Type 0
 NoneFit kind before s v =
-    (items more : List Item) (joined : Bool) → Fit kind items before → ¬ MayFit kind (items ++ record { setting = s; value = v; joined = joined } ∷ more)
+    (items more : List Item) (joined : Bool) → Fit kind items before
+    → ¬ MayFit kind (items ++ record { setting = s; value = v; joined = joined } ∷ more)
 
 -- the words are options of a command with these numbers
 pub record AreOptions (kind : CommandKind) (words : List (List ℕ)) (options : Options) : Type 0 where

@@ -7,7 +7,8 @@ use byte_cuts::{behind, cut_at};
 
 /// The option with which some words begin, its value, and the words behind.
 pub fn next_option(words: &[String]) -> Option<(Setting, &[u8], &[String])>
-    ensures { MatchOption result (NoItem (words_of words.now)) (λ next. IsNext (words_of words.now) next.0 next.1.now (words_of next.2.now)) }
+    ensures { MatchOption result (NoItem (words_of words.now))
+        (λ next. IsNext (words_of words.now) next.0 next.1.now (words_of next.2.now)) }
 {
     let (word, after) = words.split_first()?;
     let body = behind(word.as_bytes(), b"--")?;

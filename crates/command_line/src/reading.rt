@@ -29,7 +29,8 @@ fn read_options(kind: CommandKind, words: &[String]) -> Option<Options>
 
 /// The command that the words of a command line are, without the program's own name. None exactly where they are none.
 pub fn read_words(words: &[String]) -> Option<Command>
-    ensures exact { MatchOption result ((command : Command) → ¬ IsCommand (words_of words.now) command) (λ command. IsCommand (words_of words.now) command) }
+    ensures exact { MatchOption result ((command : Command)
+        → ¬ IsCommand (words_of words.now) command) (λ command. IsCommand (words_of words.now) command) }
     ensures only { IfSome result (λ command. (other : Command) → IsCommand (words_of words.now) other → other ≡ command) }
 {
     let (first, rest) = words.split_first()?;

@@ -56,7 +56,8 @@ earlier_fork_is_before [] j k p q lt = inl lt
 earlier_fork_is_before (x ∷ parent) j k p q lt = inr (refl, earlier_fork_is_before parent j k p q lt)
 
 -- a label that is before a thread's is before each fork of the thread, or stems from that fork or a later one
-pub left_of_a_fork : (label parent : List ℕ) (k : ℕ) → Before label parent → Before label (fork_of parent k) ⊎ StemsFromForkOn parent k label
+pub left_of_a_fork : (label parent : List ℕ) (k : ℕ) → Before label parent → Before label (fork_of parent k)
+    ⊎ StemsFromForkOn parent k label
 left_of_a_fork [] parent k h = absurd h
 left_of_a_fork (x ∷ a) [] k h =
     elim (cases_order x k) [
@@ -77,7 +78,8 @@ pub right_of_a_fork : (label parent : List ℕ) (k : ℕ) → Before parent labe
 right_of_a_fork label parent k h = before_further (fork_of parent k) parent label (extension_is_before parent k []) h
 
 -- what stands between a fork and its parent stems from a later fork of the parent
-pub between_fork_and_parent : (label parent : List ℕ) (k : ℕ) → Before (fork_of parent k) label → Before label parent → StemsFromForkOn parent (suc k) label
+pub between_fork_and_parent : (label parent : List ℕ) (k : ℕ) → Before (fork_of parent k) label → Before label parent
+    → StemsFromForkOn parent (suc k) label
 between_fork_and_parent label [] k h below = first_fork label k h below
   where
     first_fork : (label : List ℕ) (k : ℕ) → Before (k ∷ []) label → Before label [] → StemsFromForkOn [] (suc k) label
@@ -112,7 +114,17 @@ before_in_words (x ∷ a) (y ∷ b) h =
       | inl lt ↦ inr ([], x, y, a, b, lt, refl, refl)
       | inr p ↦ elim (before_in_words a b p.1) [
         | inl e ↦ inl (e.0, e.1, ap (λ l. x ∷ l) e.2 ∙ ap (λ n. n ∷ (b ++ e.0 ∷ e.1)) p.0)
-        | inr d ↦ inr (x ∷ d.0, d.1, d.2, d.3, d.4, d.5, ap (λ l. x ∷ l) d.6, ap (λ l. y ∷ l) d.7 ∙ ap (λ n. n ∷ (d.0 ++ d.2 ∷ d.4)) (sym p.0))
+        | inr d ↦ inr (
+          x ∷ d.0,
+          d.1,
+          d.2,
+          d.3,
+          d.4,
+          d.5,
+          ap (λ l. x ∷ l) d.6,
+          ap (λ l. y ∷ l) d.7
+              ∙ ap (λ n. n ∷ (d.0 ++ d.2 ∷ d.4)) (sym p.0),
+        )
       ]
     ]
 

@@ -16,9 +16,11 @@ pub trait Placed {
 
     ghost never_before_itself: { (x : Self) → ¬ Before (label_of x) (label_of x) } = { λ x. laws.never_before_itself (label_of x) };
 
-    ghost before_further: { (x y z : Self) → Before (label_of x) (label_of y) → Before (label_of y) (label_of z) → Before (label_of x) (label_of z) } = { λ x y z. laws.before_further (label_of x) (label_of y) (label_of z) };
+    ghost before_further: { (x y z : Self) → Before (label_of x) (label_of y) → Before (label_of y) (label_of z)
+        → Before (label_of x) (label_of z) } = { λ x y z. laws.before_further (label_of x) (label_of y) (label_of z) };
 
-    ghost one_is_before: { (x y : Self) → label_of x ≢ label_of y → Before (label_of x) (label_of y) ⊎ Before (label_of y) (label_of x) } = { λ x y. laws.one_is_before (label_of x) (label_of y) };
+    ghost one_is_before: { (x y : Self) → label_of x ≢ label_of y
+        → Before (label_of x) (label_of y) ⊎ Before (label_of y) (label_of x) } = { λ x y. laws.one_is_before (label_of x) (label_of y) };
 }
 
 impl Placed for Label {

@@ -102,7 +102,8 @@ impl Roster {
     pub fn label(&self, id: ThreadId) -> Result<Label, RosterFail>
         ensures label { IfOk result (λ label. HasLabel self.now id label) }
         ensures unknown { (unknown : ThreadId) → result ≡ Err (RosterFail.Unknown unknown) → StopsAt self.now id unknown }
-        ensures stops { (unknown : ThreadId) → StopsAt self.now id unknown → (result ≡ Err (RosterFail.Unknown unknown)) ⊎ (result ≡ Err RosterFail.OutOfMemory) }
+        ensures stops { (unknown : ThreadId) → StopsAt self.now id unknown → (result ≡ Err (RosterFail.Unknown unknown))
+            ⊎ (result ≡ Err RosterFail.OutOfMemory) }
     {
         let mut ordinals = self.ordinals_up(id)?.into_vec();
         ordinals.reverse();

@@ -31,7 +31,9 @@ StepsNearTheEnd = (c : Setting) (f : Frame) (fs : List Frame) (s : State)
 
 -- a step leaves its items, with one action at most, next behind those so far: in what the run comes to they stand there
 abbrev pub StepsGiveTheNextAction : Type 0
-StepsGiveTheNextAction = (c : Setting) (m : Middle) → (new : List Item) × (later : List Item) × (length (actions_of new) ≤ 1) × ((advance c m).state.items ≡ m.state.items ++ new)
+StepsGiveTheNextAction =
+    (c : Setting) (m : Middle) → (new : List Item) × (later : List Item) × (length (actions_of new) ≤ 1)
+    × ((advance c m).state.items ≡ m.state.items ++ new)
     × (State.items (finished c m) ≡ (m.state.items ++ new) ++ later)
 
 -- the actions of a run are a depth-first list, so all that holds of each such list holds of them

@@ -20,8 +20,10 @@ pub record ListView (T : Type 0) : Type 0 where
 -- a list is stored as the tuple of its parts
 abbrev pub list_code : {T : Type 0} → Coded T → Coded (ListView T)
 list_code {T} code =
-    code_by (List (Deque T) × (ℕ × (ℕ × List ℕ))) (coded× (coded_list (deque_code code)) (coded× coded_ℕ (coded× coded_ℕ (coded_list coded_ℕ))))
-    (λ list. (list.deques, (list.most, (list.spare, list.rooms)))) (λ p. record { deques = p.0; most = p.1.0; spare = p.1.1.0; rooms = p.1.1.1 }) (λ _. refl)
+    code_by (List (Deque T)
+    × (ℕ × (ℕ × List ℕ))) (coded× (coded_list (deque_code code)) (coded× coded_ℕ (coded× coded_ℕ (coded_list coded_ℕ))))
+    (λ list. (list.deques, (list.most, (list.spare, list.rooms))))
+    (λ p. record { deques = p.0; most = p.1.0; spare = p.1.1.0; rooms = p.1.1.1 }) (λ _. refl)
 
 -- how many more items the lane of a deque takes without memory
 abbrev pub lane_room : {T : Type 0} → ListView T → DequeId → ℕ

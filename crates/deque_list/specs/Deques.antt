@@ -11,7 +11,8 @@ pub record Deque (T : Type 0) : Type 0 where
 
 abbrev pub deque_code : {T : Type 0} → Coded T → Coded (Deque T)
 deque_code {T} code =
-    code_by (ℕ × (Option ℕ × List T)) (coded× coded_ℕ (coded× (coded_option coded_ℕ) (coded_list code))) (λ deque. (deque.id.0, (deque.owner, deque.items)))
+    code_by (ℕ × (Option ℕ
+    × List T)) (coded× coded_ℕ (coded× (coded_option coded_ℕ) (coded_list code))) (λ deque. (deque.id.0, (deque.owner, deque.items)))
     (λ p. record { id = record { 0 = p.0 }; owner = p.1.0; items = p.1.1 }) (λ _. refl)
 
 -- the ids of the deques, from left to right

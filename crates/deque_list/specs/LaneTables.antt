@@ -12,7 +12,8 @@ pub record LaneTable (T : Type 0) : Type 0 where
 -- a table is stored as the pair of its parts
 abbrev pub table_code : {T : Type 0} → Coded T → Coded (LaneTable T)
 table_code {T} code =
-    code_by (List (Option (LaneView T)) × ℕ) (coded× (coded_list (coded_option (lane_code code))) coded_ℕ) (λ table. (table.lanes, table.room))
+    code_by (List (Option (LaneView T))
+    × ℕ) (coded× (coded_list (coded_option (lane_code code))) coded_ℕ) (λ table. (table.lanes, table.room))
     (λ p. record { lanes = p.0; room = p.1 }) (λ _. refl)
 
 -- what is stored under a key, if there is one

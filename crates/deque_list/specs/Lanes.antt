@@ -10,4 +10,5 @@ pub record LaneView (T : Type 0) : Type 0 where
 -- a lane is stored as the pair of its parts
 abbrev pub lane_code : {T : Type 0} → Coded T → Coded (LaneView T)
 lane_code {T} code =
-    code_by (List T × ℕ) (coded× (coded_list code) coded_ℕ) (λ lane. (lane.items, lane.spare)) (λ p. record { items = p.0; spare = p.1 }) (λ _. refl)
+    code_by (List T × ℕ) (coded× (coded_list code) coded_ℕ) (λ lane. (lane.items, lane.spare)) (λ p. record { items = p.0; spare = p.1 })
+    (λ _. refl)

@@ -89,13 +89,15 @@ impl<T> List<T> {
         owner: u32,
     ) -> Result<DequeId, (T, InsertRefused)>
         requires { IsLive (deque_ids self.old.deques) of }
-        ensures ok { IfOk result (λ id. (rank : ℕ) (deque : Deque T) → DequeAt self.old.deques of rank deque → self.new.deques ≡ insert self.old.deques (rank + 1) (record { id = id; owner = Some owner; items = item ∷ [] })) }
+        ensures ok { IfOk result (λ id. (rank : ℕ) (deque : Deque T) → DequeAt self.old.deques of rank deque
+            → self.new.deques ≡ insert self.old.deques (rank + 1) (record { id = id; owner = Some owner; items = item ∷ [] })) }
         ensures id { IfOk result (λ id. IsSmallestFree (deque_ids self.old.deques) id) }
         ensures below { IfOk result (λ id. id.0 < self.old.most) }
         ensures spent { OnOk result (self.new.spare ≡ 0) }
         ensures others { IfOk result (λ id. (other : DequeId) → other ≢ id → lane_room self.new other ≡ lane_room self.old other) }
 
-        ensures full { (deques : ℕ) → IsErrAnd result (λ e. e.1 ≡ InsertRefused.Full deques) ↔ ((length self.old.deques ≡ self.old.most) × (deques ≡ self.old.most)) }
+        ensures full { (deques : ℕ) → IsErrAnd result (λ e. e.1 ≡ InsertRefused.Full deques)
+            ↔ ((length self.old.deques ≡ self.old.most) × (deques ≡ self.old.most)) }
         ensures prepared { self.old.spare ≡ 1 → ¬ IsErrAnd result (λ e. e.1 ≡ InsertRefused.OutOfMemory) }
         ensures err { IfErr result (λ e. (e.0 ≡ item) × (self.new ≡ self.old)) }
         ensures most { self.new.most ≡ self.old.most }
@@ -119,7 +121,8 @@ impl<T> List<T> {
     pub fn room_right(&mut self) -> Result<(), InsertRefused>
         ensures ok { OnOk result (self.new.spare ≡ 1) }
         ensures few { OnOk result (length self.new.deques < self.new.most) }
-        ensures full { (deques : ℕ) → (result ≡ Err (InsertRefused.Full deques)) ↔ ((length self.old.deques ≡ self.old.most) × (deques ≡ self.old.most)) }
+        ensures full { (deques : ℕ) → (result ≡ Err (InsertRefused.Full deques))
+            ↔ ((length self.old.deques ≡ self.old.most) × (deques ≡ self.old.most)) }
         ensures prepared { self.old.spare ≡ 1 → result ≢ Err InsertRefused.OutOfMemory }
         ensures err { OnErr result (self.new ≡ self.old) }
         ensures rest { (self.new.deques ≡ self.old.deques) × (self.new.most ≡ self.old.most) × (self.new.rooms ≡ self.old.rooms) }
@@ -144,7 +147,8 @@ impl<T> List<T> {
     /// Takes a deque without items out of the list.
     pub fn remove(&mut self, id: DequeId)
         requires { (rank : ℕ) × (deque : Deque T) × DequeAt self.old.deques id rank deque × (deque.items ≡ []) }
-        ensures deque { (rank : ℕ) (deque : Deque T) → DequeAt self.old.deques id rank deque → self.new.deques ≡ remove self.old.deques rank }
+        ensures deque { (rank : ℕ) (deque : Deque T) → DequeAt self.old.deques id rank deque
+            → self.new.deques ≡ remove self.old.deques rank }
         ensures rest { SameElsewhere self.old self.new id }
     {
         self.order.remove(id);
@@ -175,7 +179,8 @@ impl<T> List<T> {
 
     /// The rank of a deque; None exactly where it is not live.
     pub fn rank(&self, id: DequeId) -> Option<u32>
-        ensures { MatchOption result (¬ IsLive (deque_ids self.now.deques) id) (λ rank. slice_get (deque_ids self.now.deques) rank ≡ Some id) }
+        ensures { MatchOption result (¬ IsLive (deque_ids self.now.deques) id)
+            (λ rank. slice_get (deque_ids self.now.deques) rank ≡ Some id) }
     {
         self.order.rank(id)
     }
@@ -199,7 +204,8 @@ impl<T> List<T> {
     /// The item at a place of a deque, from 0 at the top; None exactly where there is no such item.
     pub fn item(&self, id: DequeId, place: u32) -> Option<&T>
         requires { IsLive (deque_ids self.now.deques) id }
-        ensures { (rank : ℕ) (deque : Deque T) → DequeAt self.now.deques id rank deque → option_copied result ≡ slice_get deque.items place }
+        ensures { (rank : ℕ) (deque : Deque T) → DequeAt self.now.deques id rank deque
+            → option_copied result ≡ slice_get deque.items place }
     {
         self.lanes.lane(id.0).item(place)
     }
@@ -207,7 +213,8 @@ impl<T> List<T> {
     /// Gives a deque without an owner an owner.
     pub fn take_over(&mut self, id: DequeId, owner: u32)
         requires { (rank : ℕ) × (deque : Deque T) × DequeAt self.old.deques id rank deque × (deque.owner ≡ None) }
-        ensures deque { (rank : ℕ) (deque : Deque T) → DequeAt self.old.deques id rank deque → self.new.deques ≡ slice_set self.old.deques rank (record deque { owner = Some owner }) }
+        ensures deque { (rank : ℕ) (deque : Deque T) → DequeAt self.old.deques id rank deque
+            → self.new.deques ≡ slice_set self.old.deques rank (record deque { owner = Some owner }) }
         ensures rest { SameRoom self.old self.new }
     {
         self.order.take_over(id, owner);
@@ -216,7 +223,8 @@ impl<T> List<T> {
     /// Takes a deque's owner away.
     pub fn give_up(&mut self, id: DequeId)
         requires { IsLive (deque_ids self.old.deques) id }
-        ensures deque { (rank : ℕ) (deque : Deque T) → DequeAt self.old.deques id rank deque → self.new.deques ≡ slice_set self.old.deques rank (record deque { owner = None }) }
+        ensures deque { (rank : ℕ) (deque : Deque T) → DequeAt self.old.deques id rank deque
+            → self.new.deques ≡ slice_set self.old.deques rank (record deque { owner = None }) }
         ensures rest { SameRoom self.old self.new }
     {
         self.order.give_up(id);
@@ -237,7 +245,8 @@ impl<T> List<T> {
     pub fn push_top(&mut self, id: DequeId, item: T)
         requires live { IsLive (deque_ids self.old.deques) id }
         requires room { 1 ≤ lane_room self.old id }
-        ensures deque { (rank : ℕ) (deque : Deque T) → DequeAt self.old.deques id rank deque → self.new.deques ≡ slice_set self.old.deques rank (record deque { items = item ∷ deque.items }) }
+        ensures deque { (rank : ℕ) (deque : Deque T) → DequeAt self.old.deques id rank deque
+            → self.new.deques ≡ slice_set self.old.deques rank (record deque { items = item ∷ deque.items }) }
         ensures room { lane_room self.new id + 1 ≡ lane_room self.old id }
         ensures rest { SameElsewhere self.old self.new id }
     {
@@ -248,7 +257,8 @@ impl<T> List<T> {
     pub fn pop_top(&mut self, id: DequeId) -> Option<T>
         requires { IsLive (deque_ids self.old.deques) id }
         ensures item { (rank : ℕ) (deque : Deque T) → DequeAt self.old.deques id rank deque → result ≡ slice_get deque.items 0 }
-        ensures deque { (rank : ℕ) (deque : Deque T) → DequeAt self.old.deques id rank deque → self.new.deques ≡ slice_set self.old.deques rank (record deque { items = drop 1 deque.items }) }
+        ensures deque { (rank : ℕ) (deque : Deque T) → DequeAt self.old.deques id rank deque
+            → self.new.deques ≡ slice_set self.old.deques rank (record deque { items = drop 1 deque.items }) }
         ensures keeps_room { lane_room self.old id ≤ lane_room self.new id }
         ensures rest { SameElsewhere self.old self.new id }
     {
@@ -258,8 +268,10 @@ impl<T> List<T> {
     /// Takes the bottom item of a deque; None exactly where it has no item. The others do not move.
     pub fn take_bottom(&mut self, id: DequeId) -> Option<T>
         requires { IsLive (deque_ids self.old.deques) id }
-        ensures item { (rank : ℕ) (deque : Deque T) → DequeAt self.old.deques id rank deque → result ≡ slice_get deque.items (length deque.items - 1) }
-        ensures deque { (rank : ℕ) (deque : Deque T) → DequeAt self.old.deques id rank deque → self.new.deques ≡ slice_set self.old.deques rank (record deque { items = take (length deque.items - 1) deque.items }) }
+        ensures item { (rank : ℕ) (deque : Deque T) → DequeAt self.old.deques id rank deque
+            → result ≡ slice_get deque.items (length deque.items - 1) }
+        ensures deque { (rank : ℕ) (deque : Deque T) → DequeAt self.old.deques id rank deque
+            → self.new.deques ≡ slice_set self.old.deques rank (record deque { items = take (length deque.items - 1) deque.items }) }
         ensures keeps_room { lane_room self.old id ≤ lane_room self.new id }
         ensures rest { SameElsewhere self.old self.new id }
     {
@@ -270,7 +282,8 @@ impl<T> List<T> {
     pub fn top_mut(&mut self, id: DequeId) -> Option<&mut T>
         requires { IsLive (deque_ids self.old.deques) id }
         ensures* writes_back { sem 𝓛 (lends_top_item T.row self.entry id result) }
-        ensures item { (rank : ℕ) (deque : Deque T) → DequeAt self.old.deques id rank deque → option_copied_mut result ≡ slice_get deque.items 0 }
+        ensures item { (rank : ℕ) (deque : Deque T) → DequeAt self.old.deques id rank deque
+            → option_copied_mut result ≡ slice_get deque.items 0 }
     {
         self.lanes.lane_mut(id.0).top_mut()
     }
@@ -280,7 +293,8 @@ impl<T: Drop> List<T> {
     /// The order of a list of one deque, the id of this deque and its lane.
     pub fn into_first(self) -> (Order, DequeId, Lane<T>)
         requires { length self.deques ≡ 1 }
-        ensures order { (deque : Deque T) → slice_get self.deques 0 ≡ Some deque → result.0.places ≡ (record { id = deque.id; owner = deque.owner }) ∷ [] }
+        ensures order { (deque : Deque T) → slice_get self.deques 0 ≡ Some deque
+            → result.0.places ≡ (record { id = deque.id; owner = deque.owner }) ∷ [] }
         ensures most { result.0.most ≡ self.most }
         ensures id { slice_get (deque_ids self.deques) 0 ≡ Some result.1 }
         ensures lane { (deque : Deque T) → slice_get self.deques 0 ≡ Some deque → result.2.items ≡ deque.items }

@@ -97,7 +97,8 @@ impl Order {
 
     /// The rank of a deque; None exactly where it is not live.
     pub fn rank(&self, id: DequeId) -> Option<u32>
-        ensures { MatchOption result (¬ IsLive (place_ids self.now.places) id) (λ rank. slice_get (place_ids self.now.places) rank ≡ Some id) }
+        ensures { MatchOption result (¬ IsLive (place_ids self.now.places) id)
+            (λ rank. slice_get (place_ids self.now.places) rank ≡ Some id) }
     {
         match rank_in(&self.places, id) {
             Some(rank) => Some(rank as u32),
@@ -117,7 +118,8 @@ impl Order {
     /// Gives a deque without an owner an owner.
     pub fn take_over(&mut self, id: DequeId, owner: u32)
         requires unowned { (rank : ℕ) × (place : Place) × StandsAt self.old.places id rank place × (place.owner ≡ None) }
-        ensures place { (rank : ℕ) (place : Place) → StandsAt self.old.places id rank place → self.new.places ≡ slice_set self.old.places rank (record place { owner = Some owner }) }
+        ensures place { (rank : ℕ) (place : Place) → StandsAt self.old.places id rank place
+            → self.new.places ≡ slice_set self.old.places rank (record place { owner = Some owner }) }
         ensures rest { (self.new.most ≡ self.old.most) × (self.new.spare ≡ self.old.spare) }
     {
         self.set_owner(id, Some(owner));
@@ -126,7 +128,8 @@ impl Order {
     /// Takes a deque's owner away.
     pub fn give_up(&mut self, id: DequeId)
         requires { IsLive (place_ids self.old.places) id }
-        ensures place { (rank : ℕ) (place : Place) → StandsAt self.old.places id rank place → self.new.places ≡ slice_set self.old.places rank (record place { owner = None }) }
+        ensures place { (rank : ℕ) (place : Place) → StandsAt self.old.places id rank place
+            → self.new.places ≡ slice_set self.old.places rank (record place { owner = None }) }
         ensures rest { (self.new.most ≡ self.old.most) × (self.new.spare ≡ self.old.spare) }
     {
         self.set_owner(id, None);
@@ -139,11 +142,13 @@ impl Order {
     /// it was.
     pub fn insert_right(&mut self, of: DequeId, owner: u32) -> Result<DequeId, OrderRefused>
         requires { IsLive (place_ids self.old.places) of }
-        ensures ok { IfOk result (λ id. (rank : ℕ) (place : Place) → StandsAt self.old.places of rank place → self.new.places ≡ insert self.old.places (rank + 1) (record { id = id; owner = Some owner })) }
+        ensures ok { IfOk result (λ id. (rank : ℕ) (place : Place) → StandsAt self.old.places of rank place
+            → self.new.places ≡ insert self.old.places (rank + 1) (record { id = id; owner = Some owner })) }
         ensures id { IfOk result (λ id. IsSmallestFree (place_ids self.old.places) id) }
         ensures below { IfOk result (λ id. id.0 < self.old.most) }
 
-        ensures full { (deques : ℕ) → (result ≡ Err (InsertRefused.Full deques)) ↔ ((length self.old.places ≡ self.old.most) × (deques ≡ self.old.most)) }
+        ensures full { (deques : ℕ) → (result ≡ Err (InsertRefused.Full deques))
+            ↔ ((length self.old.places ≡ self.old.most) × (deques ≡ self.old.most)) }
         ensures err { OnErr result (self.new.places ≡ self.old.places) }
         ensures most { self.new.most ≡ self.old.most }
     {
@@ -169,7 +174,8 @@ impl Order {
         requires live { IsLive (place_ids self.old.places) of }
         requires room { 1 ≤ self.old.spare }
         requires few { length self.old.places < self.old.most }
-        ensures places { (rank : ℕ) (place : Place) → StandsAt self.old.places of rank place → self.new.places ≡ insert self.old.places (rank + 1) (record { id = result; owner = Some owner }) }
+        ensures places { (rank : ℕ) (place : Place) → StandsAt self.old.places of rank place
+            → self.new.places ≡ insert self.old.places (rank + 1) (record { id = result; owner = Some owner }) }
         ensures id { IsSmallestFree (place_ids self.old.places) result }
         ensures below { result.0 < self.old.most }
         ensures most { self.new.most ≡ self.old.most }
@@ -191,7 +197,8 @@ impl Order {
     /// Takes a deque out of the order.
     pub fn remove(&mut self, id: DequeId)
         requires { IsLive (place_ids self.old.places) id }
-        ensures place { (rank : ℕ) (place : Place) → StandsAt self.old.places id rank place → self.new.places ≡ remove self.old.places rank }
+        ensures place { (rank : ℕ) (place : Place) → StandsAt self.old.places id rank place
+            → self.new.places ≡ remove self.old.places rank }
         ensures most { self.new.most ≡ self.old.most }
         ensures keeps_room { self.old.spare ≤ self.new.spare }
     {
@@ -215,7 +222,8 @@ impl Order {
 
     fn set_owner(&mut self, id: DequeId, owner: Option<u32>)
         requires { IsLive (place_ids self.old.places) id }
-        ensures place { (rank : ℕ) (place : Place) → StandsAt self.old.places id rank place → self.new.places ≡ slice_set self.old.places rank (record place { owner = owner }) }
+        ensures place { (rank : ℕ) (place : Place) → StandsAt self.old.places id rank place
+            → self.new.places ≡ slice_set self.old.places rank (record place { owner = owner }) }
         ensures rest { (self.new.most ≡ self.old.most) × (self.new.spare ≡ self.old.spare) }
     {
         let rank = self.rank_of(id);

@@ -1,19 +1,17 @@
 -- Each event keeps births in order.
-use Rattle.std.proofs.Common.{◌≡◌, ◌≢◌, ℕ, zero, suc, ◌+◌, ◌≤◌, ◌<◌, ◌⊎◌, List, [], ◌∷◌, ◌++◌, length, inl, inr, refl, sym, ap, subst, ◌∙◌, arith, append_assoc, append-nil}
-use Rattle.std.specs.Prelude.{Option, None, Some}
-use Rattle.std.proofs.lemmas.Bool.{cases_lt}
+use Rattle.std.proofs.Common.{◌≡◌, ℕ, ◌⊎◌, List, [], ◌∷◌, ◌++◌, inl, inr, sym, ap, subst, ◌∙◌, append_assoc, append-nil}
+use Rattle.std.specs.Prelude.{Some}
 use Rattle.dag_order.specs.LabelOrder.{fork_of}
-use Rattle.depth_first_list.specs.Actions.{Deed, forks, Action}
+use Rattle.depth_first_list.specs.Actions.{forks, Action}
 use Rattle.depth_first_list.specs.Runs.{IsDepthFirst}
-use Rattle.depth_first_list.specs.Facts.{label_at, deed_at, IsDone, IsLive, StemsFrom}
+use Rattle.depth_first_list.specs.Facts.{label_at, deed_at, IsDone, IsLive}
 use Rattle.lawful_books.specs.Lists.{Among, Each}
 use Rattle.lawful_books.specs.Books.{Book, booked, done_in}
-use Rattle.lawful_books.specs.Lawful.{book_of}
-use Rattle.lawful_books.proofs.Lists.{each_map, each_from, each_among, each_at, each_join, each_left, each_right, among_left, among_right, among_parts, among_times, among_wider, among_middle, by_end}
-use Rattle.deque_machine.specs.Moments.{Deque, threads_in}
-use Rattle.deque_machine.specs.LawfulOrder.{IsBorn, IsRootOrBorn, ParentsFirst, BornBy, OwnedBorn, BirthsOf}
+use Rattle.lawful_books.proofs.Lists.{each_map, each_from, each_among, among_left, among_right, among_parts, among_times, by_end}
+use Rattle.deque_machine.specs.Moments.{Deque}
+use Rattle.deque_machine.specs.LawfulOrder.{IsRootOrBorn, ParentsFirst, BornBy, OwnedBorn}
 use Rattle.deque_machine.proofs.LiveThreads.{fork_is_done}
-use Rattle.deque_machine.proofs.Labels.{one_parent, fork_is_not_root}
+use Rattle.deque_machine.proofs.Labels.{one_parent}
 
 -- all of one list stand in another
 abbrev pub Within : List ℕ → List ℕ → Type 0
@@ -24,9 +22,10 @@ born_wider l xs ys t wider born = elim born [ inl root ↦ inl root | inr b ↦ 
 
 parents_wider : (l : List Action) (a b xs : List ℕ) → Within a b → ParentsFirst l a xs → ParentsFirst l b xs
 parents_wider l a b [] wider all = tt
-parents_wider l a b (x ∷ xs) wider all =
-    ((λ child deed. born_wider l a b (label_at l x) wider (all.0 child deed)),
-    parents_wider l (x ∷ a) (x ∷ b) xs (λ y there. elim there [ inl same ↦ inl same | inr later ↦ inr (wider y later) ]) all.1)
+parents_wider l a b (x ∷ xs) wider all = (
+  (λ child deed. born_wider l a b (label_at l x) wider (all.0 child deed)),
+  parents_wider l (x ∷ a) (x ∷ b) xs (λ y there. elim there [ inl same ↦ inl same | inr later ↦ inr (wider y later) ]) all.1,
+)
 
 -- one more place, whose thread was born before it
 pub parents_insert : (l : List Action) (before xs ys : List ℕ) (p : ℕ)
@@ -34,12 +33,14 @@ pub parents_insert : (l : List Action) (before xs ys : List ℕ) (p : ℕ)
     → ParentsFirst l before (xs ++ ys) → ParentsFirst l before (xs ++ p ∷ ys)
 parents_insert l before [] ys p born all =
     ((λ child deed. born before (λ y there. elim there [ inl b ↦ b | inr none ↦ absurd none ]) child deed), parents_wider l before (p ∷ before) ys (λ y there. inr there) all)
-parents_insert l before (x ∷ xs) ys p born all =
-    (all.0, parents_insert l (x ∷ before) xs ys p
-    (λ seen wider child deed. born seen (λ y there. elim there [
-      | inl b ↦ wider y (inl (inr b))
-      | inr r ↦ elim r [ inl same ↦ wider y (inl (inl same)) | inr later ↦ wider y (inr later) ]
-    ]) child deed) all.1)
+parents_insert l before (x ∷ xs) ys p born all = (
+  all.0,
+  parents_insert l (x ∷ before) xs ys p
+      (λ seen wider child deed. born seen (λ y there. elim there [
+        | inl b ↦ wider y (inl (inr b))
+        | inr r ↦ elim r [ inl same ↦ wider y (inl (inl same)) | inr later ↦ wider y (inr later) ]
+      ]) child deed) all.1,
+)
 
 -- a thread that was born is one of those that a parent forked, after its own birth
 pub parent_born : (l : List Action) (before xs : List ℕ) (t parent : List ℕ) (child : ℕ) → t ≡ fork_of parent child
@@ -48,8 +49,8 @@ pub parent_born : (l : List Action) (before xs : List ℕ) (t parent : List ℕ)
 parent_born l before [] t parent child is all f c there deed born seen old new = absurd there
 parent_born l before (x ∷ xs) t parent child is all f c there deed born seen old new = elim there [
   | inl same ↦
-    let mine : label_at l x ≡ parent = ap (λ u. label_at l u) (sym same) ∙ (one_parent (label_at l f) parent c child (sym born ∙ is)).0 in
-    subst (IsRootOrBorn l seen) mine (born_wider l before seen (label_at l x) old (all.0 c (ap (λ u. deed_at l u) (sym same) ∙ deed)))
+      let mine : label_at l x ≡ parent = ap (λ u. label_at l u) (sym same) ∙ (one_parent (label_at l f) parent c child (sym born ∙ is)).0 in
+      subst (IsRootOrBorn l seen) mine (born_wider l before seen (label_at l x) old (all.0 c (ap (λ u. deed_at l u) (sym same) ∙ deed)))
   | inr later ↦ parent_born l (x ∷ before) xs t parent child is all.1 f c later deed born seen
       (λ y there. elim there [ inl same ↦ new y (inl same) | inr b ↦ old y b ]) (λ y there. new y (inr there))
 ]
@@ -60,8 +61,8 @@ pub live_is_born : (k : ℕ) (l : List Action) → IsDepthFirst k l → (books :
 live_is_born k l run books closed t live = elim (by_end t) [
   | inl root ↦ inl root
   | inr cut ↦
-    let f = fork_is_done k l run (done_in books) closed t cut.0 [] cut.1 live cut.2 in
-    inr (f.0, cut.1, among_times f.0 (booked books) f.4, f.3, cut.2 ∙ ap (λ u. fork_of u cut.1) (sym f.2))
+      let f = fork_is_done k l run (done_in books) closed t cut.0 [] cut.1 live cut.2 in
+      inr (f.0, cut.1, among_times f.0 (booked books) f.4, f.3, cut.2 ∙ ap (λ u. fork_of u cut.1) (sym f.2))
 ]
 
 -- what a deque has of those that were there: their owner, and of one of them all its threads
@@ -88,10 +89,11 @@ pub owned_kept : (l : List Action) (deques others : List Deque) (before seen : L
     → Each (λ book. (worker : ℕ) → book.owner ≡ Some worker → Each (λ d. d.owner ≡ Some worker → HasOf deques d) others) books
     → OwnedBorn l deques before books → OwnedBorn l others seen books
 owned_kept l deques others before seen [] wider has all = tt
-owned_kept l deques others before seen (book ∷ books) wider has all =
-    (born_by_kept l deques others before seen book wider has.0 all.0,
-    owned_kept l deques others (before ++ book.ran) (seen ++ book.ran) books
-    (λ x among. elim (among_parts x before book.ran among) [ inl b ↦ among_left x seen book.ran (wider x b) | inr r ↦ among_right x seen book.ran r ]) has.1 all.1)
+owned_kept l deques others before seen (book ∷ books) wider has all = (
+  born_by_kept l deques others before seen book wider has.0 all.0,
+  owned_kept l deques others (before ++ book.ran) (seen ++ book.ran) books
+      (λ x among. elim (among_parts x before book.ran among) [ inl b ↦ among_left x seen book.ran (wider x b) | inr r ↦ among_right x seen book.ran r ]) has.1 all.1,
+)
 
 -- the middle of a list of books
 pub owned_parts : (l : List Action) (deques : List Deque) (before : List ℕ) (older newer : List Book) → OwnedBorn l deques before (older ++ newer)

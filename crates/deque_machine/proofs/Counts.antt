@@ -1,13 +1,11 @@
 -- Each event keeps one open period for each owner.
-use Rattle.std.proofs.Common.{◌≡◌, ◌≢◌, ℕ, zero, suc, ◌+◌, ◌≤◌, ◌<◌, ◌⊎◌, List, [], ◌∷◌, ◌++◌, length, inl, inr, refl, sym, ap, subst, ◌∙◌, arith}
-use Rattle.std.specs.Prelude.{Option, None, Some, unwrap_or}
-use Rattle.lawful_books.specs.Lists.{Among, Each, total, one_if_same}
+use Rattle.std.proofs.Common.{◌≡◌, ◌≢◌, ℕ, ◌+◌, ◌≤◌, List, [], ◌∷◌, ◌++◌, refl, ap, arith}
+use Rattle.std.specs.Prelude.{Option, Some, unwrap_or}
+use Rattle.lawful_books.specs.Lists.{Each, one_if_same}
 use Rattle.lawful_books.specs.Books.{Book}
-use Rattle.lawful_books.specs.Lawful.{book_of}
-use Rattle.lawful_books.proofs.Lists.{total_append, one_cases, one_same}
-use Rattle.deque_machine.specs.Moments.{Deque, Moment, owned_by, open_for, one_if_owned, one_if_open, one_if_worker}
+use Rattle.lawful_books.proofs.Lists.{total_append, one_same}
+use Rattle.deque_machine.specs.Moments.{Deque, open_for, one_if_owned, one_if_open, one_if_worker}
 use Rattle.deque_machine.specs.LawfulOrder.{OnePeriodEach}
-use Rattle.deque_machine.proofs.Order.{deque_of}
 
 pub same_worker : (a b : ℕ) → Some a ≡ Some b → a ≡ b
 same_worker a b is = ap (λ o. unwrap_or o a) is
@@ -38,9 +36,10 @@ counts_leave left right d older newer book behind each change w =
 -- who has one open period has no other
 pub none_open : (w : ℕ) (books : List Book) → open_for w books ≡ 0 → Each (λ book. book.owner ≢ Some w) books
 none_open w [] none = tt
-none_open w (book ∷ books) none =
-    ((λ is. let one : one_if_open w book ≡ one_if_same w w = opened w book (Some w) is in let o : one_if_same w w ≡ 1 = one_same w w refl in absurd (omega arith)),
-    none_open w books (omega arith))
+none_open w (book ∷ books) none = (
+  (λ is. let one : one_if_open w book ≡ one_if_same w w = opened w book (Some w) is in let o : one_if_same w w ≡ 1 = one_same w w refl in absurd (omega arith)),
+  none_open w books (omega arith),
+)
 
 pub no_other_open : (w : ℕ) (older newer : List Book) (book : Book) → book.owner ≡ Some w → open_for w (older ++ book ∷ newer) ≤ 1
     → Each (λ book. book.owner ≢ Some w) older × Each (λ book. book.owner ≢ Some w) newer

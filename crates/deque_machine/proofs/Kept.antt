@@ -1,17 +1,14 @@
 -- Each case of the machine keeps a moment lawful, and the opening moment is lawful.
-use Rattle.std.proofs.Common.{◌≡◌, ◌≢◌, ℕ, zero, suc, ◌+◌, ◌≤◌, ◌<◌, ◌⊎◌, List, [], ◌∷◌, ◌++◌, length, inl, inr, refl, sym, ap, subst, ◌∙◌, arith, true, cond, nat_eq}
-use Rattle.std.specs.Prelude.{Option, None, Some}
-use Rattle.dag_order.specs.LabelOrder.{fork_of}
+use Rattle.std.proofs.Common.{◌≡◌, ℕ, ◌<◌, List, [], inl, inr, refl, arith}
 use Rattle.depth_first_list.specs.Actions.{Action}
 use Rattle.depth_first_list.specs.Runs.{IsDepthFirst}
-use Rattle.depth_first_list.specs.Facts.{label_at, deed_at, IsLive, StemsFrom}
+use Rattle.depth_first_list.specs.Facts.{label_at, IsLive}
 use Rattle.depth_first_list.proofs.ThreadLaws.{root_ends}
-use Rattle.lawful_books.specs.Lists.{Among, Each}
 use Rattle.lawful_books.proofs.Lists.{one_cases}
 use Rattle.lawful_books.proofs.Keeping.{no_books_are_lawful}
-use Rattle.deque_machine.specs.Moments.{Deque, Waiting, Moment, opening, owned_by}
+use Rattle.deque_machine.specs.Moments.{Moment, opening}
 use Rattle.deque_machine.specs.Machine.{Setting, Event, May}
-use Rattle.deque_machine.specs.LawfulOrder.{OrderOf, LawfulOrder, LawfulPeriods, BegunAhead, IsLawful}
+use Rattle.deque_machine.specs.LawfulOrder.{IsLawful}
 use Rattle.deque_machine.proofs.LiveThreads.{fork_is_done}
 use Rattle.deque_machine.proofs.Labels.{middle_of_fork}
 use Rattle.deque_machine.proofs.KeptOrder.{kept_order, kept_books}
@@ -37,8 +34,8 @@ only_root : (k : ℕ) (l : List Action) → IsDepthFirst k l → (t : List ℕ) 
 only_root k l run t live = elim (by_end t) [
   | inl root ↦ root
   | inr cut ↦
-    let f = fork_is_done k l run (λ i. 0) ((no_books_are_lawful k l).first_actions) t cut.0 [] cut.1 live cut.2 in
-    let did : 0 < 0 = f.4 in absurd (omega arith)
+      let f = fork_is_done k l run (λ i. 0) ((no_books_are_lawful k l).first_actions) t cut.0 [] cut.1 live cut.2 in
+      let did : 0 < 0 = f.4 in absurd (omega arith)
 ]
 
 root_is_live : (k : ℕ) (l : List Action) → IsDepthFirst k l → IsLive l (λ i. 0) []

@@ -1,26 +1,25 @@
 -- Each case of the machine keeps begun ahead.
-use Rattle.std.proofs.Common.{◌≡◌, ◌≢◌, ℕ, zero, suc, ◌+◌, ◌≤◌, ◌<◌, ◌⊎◌, List, [], ◌∷◌, ◌++◌, length, inl, inr, refl, sym, ap, subst, ◌∙◌, arith, nat_lt, nat_le, Bool, true, false, ◌||◌, true≢false}
+use Rattle.std.proofs.Common.{◌≡◌, ◌≢◌, ℕ, ◌≤◌, ◌<◌, ◌⊎◌, List, [], ◌∷◌, ◌++◌, length, inl, inr, refl, sym, ap, subst, ◌∙◌, arith, nat_lt, nat_le, Bool, true, false, ◌||◌, true≢false}
 use Rattle.std.specs.Prelude.{Option, None, Some, is_some}
-use Rattle.std.proofs.lemmas.Bool.{cases_lt, cases_eq, cases_Bool, leb-true, leb-false, le-leb, lt-leb, lt-ltb}
+use Rattle.std.proofs.lemmas.Bool.{cases_lt, cases_eq, cases_Bool, leb-true, leb-false, lt-ltb}
 use Rattle.dag_order.specs.LabelOrder.{fork_of, Before}
-use Rattle.depth_first_list.specs.Actions.{Deed, forks, joins, ends, Action}
+use Rattle.depth_first_list.specs.Actions.{Action}
 use Rattle.depth_first_list.specs.Runs.{IsDepthFirst}
 use Rattle.depth_first_list.specs.Facts.{label_at, deed_at, IsDone, IsLive, IsNext}
 use Rattle.depth_first_list.proofs.OrderLaw.{labels_follow_the_list, first_missing_is_next}
 use Rattle.depth_first_list.proofs.JoinLaws.{join_stands_behind_child}
-use Rattle.lawful_books.specs.Lists.{Among, Each, total, one_if_same, times}
+use Rattle.lawful_books.specs.Lists.{Among, Each, one_if_same, times}
 use Rattle.lawful_books.specs.Books.{Book, booked, done_in, IsPrefix, goes_past, is_ahead}
-use Rattle.lawful_books.specs.Lawful.{LawfulBooks, one_more, book_of}
-use Rattle.lawful_books.proofs.Lists.{each_map, each_from, each_among, each_at, each_join, each_left, each_right, each_change, among_here, among_left, among_right, among_parts, total_append, one_same, times_among}
+use Rattle.lawful_books.specs.Lawful.{LawfulBooks, book_of}
+use Rattle.lawful_books.proofs.Lists.{each_map, each_from, each_among, each_at, each_join, each_left, each_right, each_change, among_left, among_right, among_parts, total_append, one_same, times_among}
 use Rattle.lawful_books.proofs.Keeping.{prefix_of, done_more, closed_same, begun_same}
 use Rattle.deque_machine.specs.Moments.{Deque, Waiting, Moment, threads_in, waiting_threads, done_at, owned_by, one_if_owned, one_if_worker}
-use Rattle.deque_machine.specs.Machine.{Setting, Event, Owns, deques_with, books_with, books_closed, IsAtTop, IsIdle, new_book, May, steals_beside, takes_over, forks_child, joins_child, allocates_within, allocates_above, releases_words, meets_fault, runs_dummy, ends_above_parent, ends_and_wakes, ends_and_leaves, suspends_top, gives_deque_up}
+use Rattle.deque_machine.specs.Machine.{Setting, Event, Owns, deques_with, books_with, books_closed, new_book, May, steals_beside, takes_over, forks_child, joins_child, allocates_within, allocates_above, releases_words, meets_fault, runs_dummy, ends_above_parent, ends_and_wakes, ends_and_leaves, suspends_top, gives_deque_up}
 use Rattle.deque_machine.specs.LawfulOrder.{OrderOf, LawfulOrder, LawfulPeriods, OwnsFirst, BegunAhead, Waits, Rises}
 use Rattle.deque_machine.proofs.Order.{deque_of}
 use Rattle.deque_machine.proofs.Shapes.{threads_append}
 use Rattle.deque_machine.proofs.LiveThreads.{one_next}
 use Rattle.deque_machine.proofs.OneAction.{still_done}
-use Rattle.deque_machine.proofs.Counts.{same_worker}
 use Rattle.deque_machine.proofs.KeptPeriods.{apart_books}
 
 none_is_not_some : (w : ℕ) → ¬ (None ≡ Some w)
@@ -74,16 +73,31 @@ marked_of k l books lawful gaps n prefix =
     (λ book among no_gap past. elim (cases_Bool book.ahead) [
       | inl marked ↦ marked
       | inr unmarked ↦
-        let some = past_some n book.ran past in
-        let did : 0 < done_in books some.0 = times_among some.0 (booked books) (among_booked some.0 book books among some.1) in
-        let inside = lawful.of_the_list some.0 did in
-        let from : n ≤ some.0 = some.2 in
-        let missing = prefix.next_missing (omega arith) in
-        elim (cases_eq n some.0) [
-          | inl same ↦ let alike : done_in books n ≡ done_in books some.0 = ap (done_in books) same in absurd (omega arith)
-          | inr apart ↦ let there = no_gap unmarked some.0 some.1 n (omega arith) in absurd (omega arith)
-        ]
+          let some = past_some n book.ran past in
+          let did : 0 < done_in books some.0 = times_among some.0 (booked books) (among_booked some.0 book books among some.1) in
+          let inside = lawful.of_the_list some.0 did in
+          let from : n ≤ some.0 = some.2 in
+          let missing = prefix.next_missing (omega arith) in
+          elim (cases_eq n some.0) [
+            | inl same ↦ let alike : done_in books n ≡ done_in books some.0 = ap (done_in books) same in absurd (omega arith)
+            | inr apart ↦ let there = no_gap unmarked some.0 some.1 n (omega arith) in absurd (omega arith)
+          ]
     ]) gaps
+
+-- the thread of the first that is missing does not wait
+waits_not : (k : ℕ) (l : List Action) → IsDepthFirst k l → (done : ℕ → ℕ) → IsDone l done → (n : ℕ) → IsPrefix l done n → (u : List ℕ) → IsNext l done u n
+    → (ws : List Waiting) → Each (Waits l done) ws → Among u (waiting_threads ws) → ⊥
+waits_not k l run done closed n prefix u next [] all there = there
+waits_not k l run done closed n prefix u next (w ∷ ws) all there = elim there [
+  | inr later ↦ waits_not k l run done closed n prefix u next ws all.1 later
+  | inl same ↦
+      let own : Waits l done w = all.0 in
+      let here : n ≡ own.place = one_next k l run done closed w.thread n own.place (subst (λ t. IsNext l done t n) same next) own.next in
+      let h = join_stands_behind_child k l run n w.child next.inside (ap (λ t. deed_at l t) here ∙ own.joins_it) in
+      let e_before : h.1 < n = h.3 in let n_in = next.inside in
+      let did = prefix.all_done h.1 e_before in
+      let none = (own.child_live).goes_on h.1 (omega arith) (h.6 ∙ ap (λ t. fork_of t w.child) (next.by ∙ same)) h.7 in absurd (omega arith)
+]
 
 -- what comes next of the first thread is the first that is missing
 pub first_is_missing : (k : ℕ) (l : List Action) → IsDepthFirst k l → (done : ℕ → ℕ) → IsDone l done → (deques : List Deque) (waiting : List Waiting) → OrderOf l done deques waiting
@@ -94,35 +108,35 @@ first_is_missing k l run done closed deques waiting order top rest is place next
     elim (cases_lt place n) [
       | inl below ↦ prefix.all_done j (omega arith)
       | inr not_below ↦
-        let missing = prefix.next_missing (omega arith) in
-        let first = first_missing_is_next k l run done closed n (omega arith) missing prefix.all_done in
-        let u : List ℕ = label_at l n in
-        elim (order.all_placed u first.0) [
-          | inr waits ↦ absurd (waits_not n prefix u first.1 waiting order.waits waits)
-          | inl there ↦ elim (subst (λ t. Among u t) is there) [
-            | inl same ↦
-              let here : n ≡ place = one_next k l run done closed top n place (subst (λ t. IsNext l done t n) same first.1) next in
-              prefix.all_done j (omega arith)
-            | inr later ↦
-              let rises = subst Rises is order.rises in
-              let before : Before top u = each_among (Before top) u rest rises.0 later in
-              let top_live : IsLive l done top = (subst (λ t. Each (IsLive l done) t) is order.all_live).0 in
-              let ahead : place < n = labels_follow_the_list k l run done closed top u place n top_live first.0 next first.1 before in absurd (omega arith)
+          let missing = prefix.next_missing (omega arith) in
+          let first = first_missing_is_next k l run done closed n (omega arith) missing prefix.all_done in
+          let u : List ℕ = label_at l n in
+          elim (order.all_placed u first.0) [
+            | inr waits ↦ absurd (waits_not k l run done closed n prefix u first.1 waiting order.waits waits)
+            | inl there ↦ elim (subst (λ t. Among u t) is there) [
+              | inl same ↦
+                  let here : n ≡ place = one_next k l run done closed top n place (subst (λ t. IsNext l done t n) same first.1) next in
+                  prefix.all_done j (omega arith)
+              | inr later ↦
+                  let rises = subst Rises is order.rises in
+                  let before : Before top u = each_among (Before top) u rest rises.0 later in
+                  let top_live : IsLive l done top = (subst (λ t. Each (IsLive l done) t) is order.all_live).0 in
+                  let ahead : place < n = labels_follow_the_list k l run done closed top u place n top_live first.0 next first.1 before in absurd (omega arith)
+            ]
           ]
-        ]
     ]
-  where
-    waits_not : (n : ℕ) → IsPrefix l done n → (u : List ℕ) → IsNext l done u n → (ws : List Waiting) → Each (Waits l done) ws → Among u (waiting_threads ws) → ⊥
-    waits_not n prefix u next [] all there = there
-    waits_not n prefix u next (w ∷ ws) all there = elim there [
-      | inr later ↦ waits_not n prefix u next ws all.1 later
-      | inl same ↦
-        let own : Waits l done w = all.0 in
-        let here : n ≡ own.place = one_next k l run done closed w.thread n own.place (subst (λ t. IsNext l done t n) same next) own.next in
-        let h = join_stands_behind_child k l run n w.child next.inside (ap (λ t. deed_at l t) here ∙ own.joins_it) in
-        let e_before : h.1 < n = h.3 in let n_in = next.inside in
-        let did = prefix.all_done h.1 e_before in
-        let none = (own.child_live).goes_on h.1 (omega arith) (h.6 ∙ ap (λ t. fork_of t w.child) (next.by ∙ same)) h.7 in absurd (omega arith)
+
+-- while something is missing, there is a deque
+pub never_empty : (k : ℕ) (l : List Action) → IsDepthFirst k l → (done : ℕ → ℕ) → IsDone l done → (deques : List Deque) (waiting : List Waiting) → OrderOf l done deques waiting
+    → deques ≡ [] → (i : ℕ) → i < length l → done i ≡ 0 → ⊥
+never_empty k l run done closed deques waiting order is i inside none =
+    let p = prefix_of l done in let n : ℕ = p.0 in let prefix : IsPrefix l done n = p.1 in
+    let short : n ≤ i = elim (cases_lt i n) [ inl past ↦ let did = prefix.all_done i past in absurd (omega arith) | inr le ↦ le ] in
+    let missing = prefix.next_missing (omega arith) in
+    let first = first_missing_is_next k l run done closed n (omega arith) missing prefix.all_done in
+    elim (order.all_placed (label_at l n) first.0) [
+      | inl there ↦ absurd (subst (λ t. Among (label_at l n) (threads_in t)) is there)
+      | inr waits ↦ waits_not k l run done closed n prefix (label_at l n) first.1 waiting order.waits waits
     ]
 
 -- the owner of the first deque, where the worker's deque is cut out
@@ -157,9 +171,9 @@ module _ (s : Setting) (run : IsDepthFirst s.quota s.list) (m : Moment) (order :
         elim (first_of_cut o.left o.right (deque_of o.id (Some worker) (o.top ∷ o.under)) worker first) [
           | inr other ↦ absurd (twice other.0 other.1 other.2 other.3)
           | inl here ↦
-            first_is_missing s.quota s.list run (done_at m) (periods.lawful).first_actions m.deques m.waiting order o.top (o.under ++ threads_in o.right)
-            (ap threads_in o.deques_are ∙ threads_append o.left (deque_of o.id (Some worker) (o.top ∷ o.under) ∷ o.right)
-            ∙ ap (λ t. threads_in t ++ (o.top ∷ (o.under ++ threads_in o.right))) here.0) place next j lt
+              first_is_missing s.quota s.list run (done_at m) (periods.lawful).first_actions m.deques m.waiting order o.top (o.under ++ threads_in o.right)
+              (ap threads_in o.deques_are ∙ threads_append o.left (deque_of o.id (Some worker) (o.top ∷ o.under) ∷ o.right)
+              ∙ ap (λ t. threads_in t ++ (o.top ∷ (o.under ++ threads_in o.right))) here.0) place next j lt
         ]
       where
         twice : (e : Deque) (rest : List Deque) → o.left ≡ e ∷ rest → e.owner ≡ Some worker → ⊥
@@ -177,7 +191,7 @@ module _ (s : Setting) (run : IsDepthFirst s.quota s.list) (m : Moment) (order :
         let done : ℕ → ℕ = done_in (o.older ++ o.book ∷ o.newer) in
         let later : ℕ → ℕ = done_in (books_with o after place) in
         let up : (j : ℕ) → 0 < done_at m j → 0 < done_in (books_with o after place) j = λ j did.
-            still_done s.list done later place (λ i. done_more o.older o.newer o.book after place i) j (subst (λ t. 0 < done_in t j) o.books_are did) in
+        still_done s.list done later place (λ i. done_more o.older o.newer o.book after place i) j (subst (λ t. 0 < done_in t j) o.books_are did) in
         let cut : Each (Unmarked (done_at m)) (o.older ++ o.book ∷ o.newer) = subst (λ t. Each (Unmarked (done_at m)) t) o.books_are gaps in
         let kept : Each (Unmarked later) (o.older ++ o.book ∷ o.newer) = each_map (Unmarked (done_at m)) (Unmarked later) (o.older ++ o.book ∷ o.newer)
         (λ book among old unmarked i there j lt. up j (old unmarked i there j lt)) cut in
@@ -207,8 +221,8 @@ module _ (s : Setting) (run : IsDepthFirst s.quota s.list) (m : Moment) (order :
         let F : Book → Type 0 = λ book. book.owner ≡ Some w → book.ahead ≡ false → OwnsFirst w ds in
         let G : Book → Type 0 = λ book. book.owner ≡ Some w → book.ahead ≡ false → OwnsFirst w (deques_with o (Some worker) threads) in
         let up : OwnsFirst w ds → OwnsFirst w (deques_with o (Some worker) threads) = λ first.
-            first_with o.left o.right (deque_of o.id (Some worker) threads ∷ o.right) (deque_of o.id (Some worker) (o.top ∷ o.under)) w first
-            (inr (deque_of o.id (Some worker) threads, o.right, refl, refl)) in
+        first_with o.left o.right (deque_of o.id (Some worker) threads ∷ o.right) (deque_of o.id (Some worker) (o.top ∷ o.under)) w first
+        (inr (deque_of o.id (Some worker) threads, o.right, refl, refl)) in
         let kept : Each G (o.older ++ o.book ∷ o.newer) = each_map F G (o.older ++ o.book ∷ o.newer) (λ book among old is unmarked. up (old is unmarked)) (first_cut w) in
         each_change G o.older o.book (book_of o.book (Some worker) ran) o.newer kept
         (λ is unmarked. each_at G o.older o.book o.newer kept (o.open_for_it ∙ is) unmarked)
@@ -222,9 +236,9 @@ module _ (s : Setting) (run : IsDepthFirst s.quota s.list) (m : Moment) (order :
         let apart = apart_books s run m order periods worker o in
         let N : Book → Type 0 = λ b. b.owner ≢ Some worker in
         let keep : (book : Book) → F book → N book → G book = λ book old other is unmarked.
-            first_with o.left o.right others (deque_of o.id (Some worker) (o.top ∷ o.under)) w (old is unmarked) (inl (λ mine. other (is ∙ sym mine))) in
+        first_with o.left o.right others (deque_of o.id (Some worker) (o.top ∷ o.under)) w (old is unmarked) (inl (λ mine. other (is ∙ sym mine))) in
         let both : (books : List Book) → Each F books → Each N books → Each G books = λ books fs ns.
-            each_from G books (λ book among. keep book (each_among F book books fs among) (each_among N book books ns among)) in
+        each_from G books (λ book among. keep book (each_among F book books fs among) (each_among N book books ns among)) in
         each_join G o.older (book_of o.book None ran ∷ o.newer) (both o.older (each_left F o.older (o.book ∷ o.newer) (first_cut w)) apart.0)
         ((λ is. absurd (none_is_not_some w is)), both o.newer (each_right F o.older (o.book ∷ o.newer) (first_cut w)).1 apart.1)
 

@@ -1,20 +1,19 @@
 -- Each case of the machine keeps lawful order and the books lawful.
-use Rattle.std.proofs.Common.{◌≡◌, ◌≢◌, ℕ, zero, suc, ◌+◌, ◌≤◌, ◌<◌, ◌⊎◌, List, [], ◌∷◌, ◌++◌, length, inl, inr, refl, sym, ap, subst, ◌∙◌, arith, append_assoc, cond, nat_le, nat_lt, true}
+use Rattle.std.proofs.Common.{◌≡◌, ◌≢◌, ℕ, ◌+◌, ◌≤◌, ◌<◌, List, [], ◌∷◌, ◌++◌, length, inl, inr, refl, sym, ap, subst, ◌∙◌, arith, cond, nat_lt, true}
 use Rattle.std.specs.Prelude.{Option, None, Some}
 use Rattle.std.proofs.lemmas.Bool.{cases_lt, le-leb, lt-leb}
 use Rattle.dag_order.specs.LabelOrder.{fork_of}
-use Rattle.depth_first_list.specs.Actions.{Deed, forks, joins, allocates, releases, dummy, faults, ends, Action, record_words}
+use Rattle.depth_first_list.specs.Actions.{Deed, forks, joins, allocates, releases, dummy, faults, ends}
 use Rattle.depth_first_list.specs.Runs.{IsDepthFirst}
-use Rattle.depth_first_list.specs.Facts.{label_at, deed_at, words_at, IsDone, IsLive, IsNext}
+use Rattle.depth_first_list.specs.Facts.{label_at, deed_at, words_at, IsLive, IsNext}
 use Rattle.depth_first_list.proofs.ThreadLaws.{end_is_last}
-use Rattle.depth_first_list.proofs.JoinLaws.{join_stands_behind_child}
-use Rattle.lawful_books.specs.Lists.{Among, Each, total, one_if_same, times}
+use Rattle.lawful_books.specs.Lists.{Each, times}
 use Rattle.lawful_books.specs.Books.{Book, booked, done_in, charge, charge_at, charged}
-use Rattle.lawful_books.specs.Lawful.{LawfulBooks, MayRun, one_more, book_of}
-use Rattle.lawful_books.proofs.Lists.{each_at, among_here}
+use Rattle.lawful_books.specs.Lawful.{LawfulBooks}
+use Rattle.lawful_books.proofs.Lists.{each_at}
 use Rattle.lawful_books.proofs.Keeping.{done_more, closed_same, begun_same, running_keeps, closing_keeps, beginning_keeps}
-use Rattle.deque_machine.specs.Moments.{Deque, Waiting, Moment, threads_in, done_at, owned_by, with_id}
-use Rattle.deque_machine.specs.Machine.{Setting, Event, steals, does, suspends, gives_up, Owns, deques_with, books_with, books_closed, IsAtTop, HasEnded, IsIdle, new_book, May, steals_beside, takes_over, forks_child, joins_child, allocates_within, allocates_above, releases_words, meets_fault, runs_dummy, ends_above_parent, ends_and_wakes, ends_and_leaves, suspends_top, gives_deque_up}
+use Rattle.deque_machine.specs.Moments.{Deque, Moment, threads_in, done_at, owned_by, with_id}
+use Rattle.deque_machine.specs.Machine.{Setting, Event, Owns, books_with, books_closed, IsAtTop, HasEnded, new_book, May, steals_beside, takes_over, forks_child, joins_child, allocates_within, allocates_above, releases_words, meets_fault, runs_dummy, ends_above_parent, ends_and_wakes, ends_and_leaves, suspends_top, gives_deque_up}
 use Rattle.deque_machine.specs.LawfulOrder.{Waits, OrderOf, LawfulOrder}
 use Rattle.deque_machine.proofs.Order.{deque_of, owner_changes, owner_comes, deque_comes, deque_suspends, order_plain, order_fork, order_end_above, order_end_leaves, order_end_wakes}
 use Rattle.deque_machine.proofs.LiveThreads.{join_is_no_end, join_is_no_fork, child_live_at_join}
@@ -179,7 +178,7 @@ module _ (s : Setting) (run : IsDepthFirst s.quota s.list) (m : Moment) (order :
         one_join a b e = cc
 
     -- who suspends waits
-    suspended : (place child : ℕ) → IsAtTop s m o.top place (joins child) → ¬ HasEnded s m (fork_of o.top child)
+    pub suspended : (place child : ℕ) → IsAtTop s m o.top place (joins child) → ¬ HasEnded s m (fork_of o.top child)
         → Waits s.list (done_at m) (record { thread = o.top; child = child })
     suspended place child at not_ended =
         let live : IsLive s.list (done_at m) o.top = subst (λ t. IsLive s.list (done_in t) o.top) (sym o.books_are) top_live in record {

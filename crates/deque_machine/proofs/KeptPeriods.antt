@@ -1,24 +1,23 @@
 -- Each case of the machine keeps the periods and the births in order.
-use Rattle.std.proofs.Common.{◌≡◌, ◌≢◌, ℕ, zero, suc, ◌+◌, ◌≤◌, ◌<◌, ◌⊎◌, List, [], ◌∷◌, ◌++◌, length, inl, inr, refl, sym, ap, subst, ◌∙◌, arith, append_assoc, append-nil, nat_lt, true, false, true≢false}
+use Rattle.std.proofs.Common.{◌≡◌, ◌≢◌, ℕ, ◌≤◌, ◌<◌, ◌⊎◌, List, [], ◌∷◌, ◌++◌, length, inl, inr, refl, sym, ap, subst, ◌∙◌, arith, append_assoc, nat_lt, true, true≢false}
 use Rattle.std.specs.Prelude.{Option, None, Some, is_some}
-use Rattle.std.proofs.lemmas.Bool.{cases_lt}
 use Rattle.dag_order.specs.LabelOrder.{fork_of}
-use Rattle.depth_first_list.specs.Actions.{Deed, forks, joins, ends, Action}
+use Rattle.depth_first_list.specs.Actions.{forks, Action}
 use Rattle.depth_first_list.specs.Runs.{IsDepthFirst}
-use Rattle.depth_first_list.specs.Facts.{label_at, deed_at, IsDone, IsLive, IsNext}
-use Rattle.lawful_books.specs.Lists.{Among, Each, total, one_if_same, times}
-use Rattle.lawful_books.specs.Books.{Book, booked, done_in}
-use Rattle.lawful_books.specs.Lawful.{LawfulBooks, one_more, book_of}
-use Rattle.lawful_books.proofs.Lists.{each_map, each_from, each_among, each_at, each_join, each_left, each_right, among_here, among_left, among_right, among_wider, among_parts, total_append, one_cases, one_same}
+use Rattle.depth_first_list.specs.Facts.{label_at, deed_at, IsLive, IsNext}
+use Rattle.lawful_books.specs.Lists.{Among, Each}
+use Rattle.lawful_books.specs.Books.{Book, booked}
+use Rattle.lawful_books.specs.Lawful.{one_more, book_of}
+use Rattle.lawful_books.proofs.Lists.{each_map, each_from, each_among, each_at, each_join, each_left, each_right, among_here, among_left, among_right, among_wider, among_parts, total_append, one_cases}
 use Rattle.lawful_books.proofs.Keeping.{booked_append, closed_same, begun_same}
-use Rattle.deque_machine.specs.Moments.{Deque, Waiting, Moment, threads_in, done_at, owned_by, open_for, with_id, one_if_owned, one_if_open, one_if_worker}
-use Rattle.deque_machine.specs.Machine.{Setting, Event, Owns, deques_with, books_with, books_closed, IsAtTop, IsIdle, new_book, May, steals_beside, takes_over, forks_child, joins_child, allocates_within, allocates_above, releases_words, meets_fault, runs_dummy, ends_above_parent, ends_and_wakes, ends_and_leaves, suspends_top, gives_deque_up}
-use Rattle.deque_machine.specs.LawfulOrder.{OrderOf, LawfulOrder, IsBorn, IsRootOrBorn, ParentsFirst, BornBy, OwnedBorn, BirthsOf, OnePeriodEach, LawfulPeriods}
+use Rattle.deque_machine.specs.Moments.{Deque, Moment, threads_in, done_at, owned_by, open_for, one_if_owned, one_if_open, one_if_worker}
+use Rattle.deque_machine.specs.Machine.{Setting, Event, Owns, deques_with, books_with, books_closed, IsIdle, new_book, May, steals_beside, takes_over, forks_child, joins_child, allocates_within, allocates_above, releases_words, meets_fault, runs_dummy, ends_above_parent, ends_and_wakes, ends_and_leaves, suspends_top, gives_deque_up}
+use Rattle.deque_machine.specs.LawfulOrder.{LawfulOrder, IsRootOrBorn, ParentsFirst, BirthsOf, OnePeriodEach, LawfulPeriods}
 use Rattle.deque_machine.proofs.Order.{deque_of}
 use Rattle.deque_machine.proofs.Shapes.{in_threads}
 use Rattle.deque_machine.proofs.Labels.{fork_is_not_root}
 use Rattle.deque_machine.proofs.Counts.{same_worker, counts_stay, counts_leave, none_open, no_other_open}
-use Rattle.deque_machine.proofs.Births.{Within, HasOf, born_wider, parents_insert, parents_front, parent_born, live_is_born, born_by_kept, owned_kept, owned_parts, owned_join}
+use Rattle.deque_machine.proofs.Births.{Within, HasOf, born_wider, parents_insert, parents_front, parent_born, live_is_born, owned_kept, owned_parts, owned_join}
 
 some_is_not_none : (w : ℕ) → ¬ (None ≡ Some w)
 some_is_not_none w is = true≢false (sym (ap is_some is))
@@ -70,18 +69,19 @@ births_run l deques others older newer book worker place after is or_closed apar
           (λ seen in_seen child deed. born_wider l x seen (label_at l place) (λ y there. in_seen y (inr there)) born)
           (subst (ParentsFirst l []) was births.parents_first));
       owned_born = owned_join l others [] older (b ∷ newer)
-          (owned_kept l deques others [] [] older (λ y there. there) (others_kept l deques others worker s come older apart_older) parts.0)
-          ((λ w owned.
-          let mine : w ≡ worker = elim or_closed [ inl same ↦ same_worker w worker (sym owned ∙ same) | inr none ↦ absurd (some_is_not_none w (sym none ∙ owned)) ] in
-          each_map (Comes l deques worker s) (λ d. d.owner ≡ Some w → Each (IsRootOrBorn l s) d.threads) others
-          (λ d there comes d_owned. elim comes [
-            | inr r ↦ elim r [ inl none ↦ absurd (some_is_not_none w (sym none ∙ d_owned)) | inr own ↦ own.1 ]
-            | inl e ↦
-              let all : Each (IsRootOrBorn l x) (e.0).threads =
-              each_among (λ d. d.owner ≡ Some worker → Each (IsRootOrBorn l x) d.threads) e.0 deques ((parts.1).0 worker is) e.1 (sym e.2 ∙ d_owned ∙ ap Some mine) in
-              each_from (IsRootOrBorn l s) d.threads (λ t in_d. born_wider l x s t wider (each_among (IsRootOrBorn l x) t (e.0).threads all (e.3 t in_d)))
-          ]) come),
-          owned_kept l deques others x s newer wider (others_kept l deques others worker s come newer apart_newer) (parts.1).1);
+          (owned_kept l deques others [] [] older (λ y there. there) (others_kept l deques others worker s come older apart_older) parts.0) (
+            (λ w owned.
+                let mine : w ≡ worker = elim or_closed [ inl same ↦ same_worker w worker (sym owned ∙ same) | inr none ↦ absurd (some_is_not_none w (sym none ∙ owned)) ] in
+                each_map (Comes l deques worker s) (λ d. d.owner ≡ Some w → Each (IsRootOrBorn l s) d.threads) others
+                (λ d there comes d_owned. elim comes [
+                  | inr r ↦ elim r [ inl none ↦ absurd (some_is_not_none w (sym none ∙ d_owned)) | inr own ↦ own.1 ]
+                  | inl e ↦
+                      let all : Each (IsRootOrBorn l x) (e.0).threads =
+                      each_among (λ d. d.owner ≡ Some worker → Each (IsRootOrBorn l x) d.threads) e.0 deques ((parts.1).0 worker is) e.1 (sym e.2 ∙ d_owned ∙ ap Some mine) in
+                      each_from (IsRootOrBorn l s) d.threads (λ t in_d. born_wider l x s t wider (each_among (IsRootOrBorn l x) t (e.0).threads all (e.3 t in_d)))
+                ]) come),
+            owned_kept l deques others x s newer wider (others_kept l deques others worker s come newer apart_newer) (parts.1).1,
+          );
     }
 
 -- births where a worker's period is closed
@@ -94,9 +94,10 @@ births_close l deques others older newer book worker is apart_older apart_newer 
     record {
       parents_first = subst (ParentsFirst l []) (sym (closed_same older newer book None)) births.parents_first;
       owned_born = owned_join l others [] older (book_of book None book.ran ∷ newer)
-          (owned_kept l deques others [] [] older (λ y there. there) (others_kept l deques others worker [] come older apart_older) parts.0)
-          ((λ w owned. absurd (some_is_not_none w owned)),
-          owned_kept l deques others (booked older ++ book.ran) (booked older ++ book.ran) newer (λ y there. there) (others_kept l deques others worker [] come newer apart_newer) (parts.1).1);
+          (owned_kept l deques others [] [] older (λ y there. there) (others_kept l deques others worker [] come older apart_older) parts.0) (
+            (λ w owned. absurd (some_is_not_none w owned)),
+            owned_kept l deques others (booked older ++ book.ran) (booked older ++ book.ran) newer (λ y there. there) (others_kept l deques others worker [] come newer apart_newer) (parts.1).1,
+          );
     }
 
 -- births where a worker begins a period
@@ -107,10 +108,12 @@ births_begin : (l : List Action) (deques others : List Deque) (books : List Book
 births_begin l deques others books new worker empty apart come all births = record {
   parents_first = subst (ParentsFirst l []) (sym (begun_same books new empty)) births.parents_first;
   owned_born = owned_join l others [] books (new ∷ [])
-      (owned_kept l deques others [] [] books (λ y there. there) (others_kept l deques others worker (booked books) come books apart) births.owned_born)
-      ((λ w owned. each_map (λ d. Each (IsRootOrBorn l (booked books)) d.threads) (λ d. d.owner ≡ Some w → Each (IsRootOrBorn l (booked books ++ new.ran)) d.threads) others
-      (λ d there born d_owned. each_from (IsRootOrBorn l (booked books ++ new.ran)) d.threads
-      (λ t in_d. born_wider l (booked books) (booked books ++ new.ran) t (λ y among. among_left y (booked books) new.ran among) (each_among (IsRootOrBorn l (booked books)) t d.threads born in_d))) all), tt);
+      (owned_kept l deques others [] [] books (λ y there. there) (others_kept l deques others worker (booked books) come books apart) births.owned_born) (
+        (λ w owned. each_map (λ d. Each (IsRootOrBorn l (booked books)) d.threads) (λ d. d.owner ≡ Some w → Each (IsRootOrBorn l (booked books ++ new.ran)) d.threads) others
+            (λ d there born d_owned. each_from (IsRootOrBorn l (booked books ++ new.ran)) d.threads
+            (λ t in_d. born_wider l (booked books) (booked books ++ new.ran) t (λ y among. among_left y (booked books) new.ran among) (each_among (IsRootOrBorn l (booked books)) t d.threads born in_d))) all),
+        tt,
+      );
 }
 
 module _ (s : Setting) (run : IsDepthFirst s.quota s.list) (m : Moment) (order : LawfulOrder s.list m) (periods : LawfulPeriods s.quota s.list m) where
@@ -188,9 +191,10 @@ module _ (s : Setting) (run : IsDepthFirst s.quota s.list) (m : Moment) (order :
           (with_middle (booked o.older ++ (o.book.ran ++ place ∷ [])) (deque_of o.id (Some worker) threads) (inr (inr (refl, all))))
 
       pub fork_births : (child : ℕ) → deed_at s.list place ≡ forks child → BirthsOf s.list (deques_with o (Some worker) (fork_of o.top child ∷ o.top ∷ o.under)) (books_with o (Some worker) place)
-      fork_births child deed = threads_births (fork_of o.top child ∷ o.top ∷ o.under)
-          (inr (place, child, among_right place (booked o.older) (o.book.ran ++ place ∷ []) (among_here place o.book.ran []), deed, ap (λ t. fork_of t child) (sym next.by)),
-          still_born (o.top ∷ o.under) own_born)
+      fork_births child deed = threads_births (fork_of o.top child ∷ o.top ∷ o.under) (
+        inr (place, child, among_right place (booked o.older) (o.book.ran ++ place ∷ []) (among_here place o.book.ran []), deed, ap (λ t. fork_of t child) (sym next.by)),
+        still_born (o.top ∷ o.under) own_born,
+      )
 
       pub under_births : BirthsOf s.list (deques_with o (Some worker) o.under) (books_with o (Some worker) place)
       under_births = threads_births o.under (still_born o.under own_born.1)
@@ -203,13 +207,16 @@ module _ (s : Setting) (run : IsDepthFirst s.quota s.list) (m : Moment) (order :
       leave_births = run_births (o.left ++ o.right) None (inr refl) (sides (booked o.older ++ (o.book.ran ++ place ∷ [])))
 
       pub wake_births : (parent : List ℕ) (child : ℕ) → o.top ≡ fork_of parent child → BirthsOf s.list (deques_with o (Some worker) (parent ∷ [])) (books_with o (Some worker) place)
-      wake_births parent child is = threads_births (parent ∷ []) (elim own_born.0 [
-        | inl root ↦ absurd (fork_is_not_root parent child (sym is ∙ root))
-        | inr b ↦ parent_born s.list [] (booked o.older ++ o.book.ran) o.top parent child is
-            (parents_front s.list [] (booked o.older ++ o.book.ran) (booked o.newer)
-            (subst (ParentsFirst s.list []) (booked_append o.older (o.book ∷ o.newer) ∙ sym (append_assoc (booked o.older) o.book.ran (booked o.newer))) (cut_births).parents_first))
-            b.0 b.1 b.2 b.3 b.4 (booked o.older ++ (o.book.ran ++ place ∷ [])) (λ y none. absurd none) wider
-      ], tt)
+      wake_births parent child is = threads_births (parent ∷ []) (
+        elim own_born.0 [
+          | inl root ↦ absurd (fork_is_not_root parent child (sym is ∙ root))
+          | inr b ↦ parent_born s.list [] (booked o.older ++ o.book.ran) o.top parent child is
+              (parents_front s.list [] (booked o.older ++ o.book.ran) (booked o.newer)
+              (subst (ParentsFirst s.list []) (booked_append o.older (o.book ∷ o.newer) ∙ sym (append_assoc (booked o.older) o.book.ran (booked o.newer))) (cut_births).parents_first))
+              b.0 b.1 b.2 b.3 b.4 (booked o.older ++ (o.book.ran ++ place ∷ [])) (λ y none. absurd none) wider
+        ],
+        tt,
+      )
 
     pub close_births : (others : List Deque) → Each (Comes s.list (o.left ++ deque_of o.id (Some worker) (o.top ∷ o.under) ∷ o.right) worker []) others
         → BirthsOf s.list others (books_closed o)
@@ -259,10 +266,13 @@ module _ (s : Setting) (run : IsDepthFirst s.quota s.list) (m : Moment) (order :
       ((λ t there. in_victim t (front t there)), ((λ t there. in_victim t (last t there)), each_from I right (λ d there t among. in_threads t d ds (wide d (among_right d left right there)) among))) in
       let born : Each (λ d. Each (IsRootOrBorn s.list (booked m.books)) d.threads) (left ++ e ∷ n ∷ right) = live_born ds (left ++ e ∷ n ∷ right) deques_are inside in
       births_begin s.list ds (left ++ e ∷ n ∷ right) m.books (new_book worker true) worker refl (idle_books worker idle)
-      (each_join C left (e ∷ n ∷ right) (each_from C left (λ d there. inl (as_it_was ds d (wide d (among_left d left right there)))))
-      (inl (victim, among_here victim left right, refl, front),
-      (inr (inr (refl, (each_right (λ d. Each (IsRootOrBorn s.list (booked m.books)) d.threads) left (e ∷ n ∷ right) born).1.0)),
-      each_from C right (λ d there. inl (as_it_was ds d (wide d (among_right d left right there)))))))
+      (each_join C left (e ∷ n ∷ right) (each_from C left (λ d there. inl (as_it_was ds d (wide d (among_left d left right there))))) (
+        inl (victim, among_here victim left right, refl, front),
+        (
+          inr (inr (refl, (each_right (λ d. Each (IsRootOrBorn s.list (booked m.books)) d.threads) left (e ∷ n ∷ right) born).1.0)),
+          each_from C right (λ d there. inl (as_it_was ds d (wide d (among_right d left right there)))),
+        ),
+      ))
       born (subst (λ t. BirthsOf s.list t m.books) deques_are periods.births)
   kept_births worker event after (takes_over left right thread id idle reach deques_are) =
       let d : Deque = deque_of id None (thread ∷ []) in let e : Deque = deque_of id (Some worker) (thread ∷ []) in
@@ -275,9 +285,10 @@ module _ (s : Setting) (run : IsDepthFirst s.quota s.list) (m : Moment) (order :
       ((λ t there. in_threads t d ds (among_here d left right) there), each_from I right (λ d there t among. in_threads t d ds (wide d (among_right d left right there)) among)) in
       let born : Each (λ d. Each (IsRootOrBorn s.list (booked m.books)) d.threads) (left ++ e ∷ right) = live_born ds (left ++ e ∷ right) deques_are inside in
       births_begin s.list ds (left ++ e ∷ right) m.books (new_book worker (nat_lt 0 (length left))) worker refl (idle_books worker idle)
-      (each_join C left (e ∷ right) (each_from C left (λ d there. inl (as_it_was ds d (wide d (among_left d left right there)))))
-      (inr (inr (refl, (each_right (λ d. Each (IsRootOrBorn s.list (booked m.books)) d.threads) left (e ∷ right) born).0)),
-      each_from C right (λ d there. inl (as_it_was ds d (wide d (among_right d left right there))))))
+      (each_join C left (e ∷ right) (each_from C left (λ d there. inl (as_it_was ds d (wide d (among_left d left right there))))) (
+        inr (inr (refl, (each_right (λ d. Each (IsRootOrBorn s.list (booked m.books)) d.threads) left (e ∷ right) born).0)),
+        each_from C right (λ d there. inl (as_it_was ds d (wide d (among_right d left right there)))),
+      ))
       born (subst (λ t. BirthsOf s.list t m.books) deques_are periods.births)
   kept_births worker event after (forks_child o place child at fits) = fork_births worker o place at.next child at.deed_is
   kept_births worker event after (joins_child o place child at has) = plain_births worker o place at.next

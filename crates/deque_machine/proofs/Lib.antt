@@ -11,3 +11,8 @@ pub mod KeptPeriods
 pub mod KeptBegun
 pub mod Kept
 pub mod Reached
+pub mod Sizes
+pub mod Ends
+pub mod Progress
+pub mod Movers
+pub mod Playing

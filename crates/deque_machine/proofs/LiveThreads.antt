@@ -1,8 +1,8 @@
 -- What is known of live threads.
-use Rattle.std.proofs.Common.{◌≡◌, ◌≢◌, ℕ, zero, suc, ◌+◌, ◌≤◌, ◌<◌, ◌⊎◌, List, [], ◌∷◌, ◌++◌, length, inl, inr, refl, sym, ap, subst, ◌∙◌, arith, append_assoc, append-nil, length-append}
+use Rattle.std.proofs.Common.{◌≡◌, ◌≢◌, ℕ, zero, suc, ◌+◌, ◌≤◌, ◌<◌, List, [], ◌∷◌, ◌++◌, length, inl, inr, sym, ap, subst, ◌∙◌, arith, append_assoc, append-nil, length-append}
 use Rattle.std.proofs.lemmas.Bool.{cases_eq, cases_lt, cases_order}
 use Rattle.std.proofs.lemmas.List.{nil_from_length}
-use Rattle.dag_order.specs.LabelOrder.{fork_of, Before, StemsFromForkOn}
+use Rattle.dag_order.specs.LabelOrder.{fork_of, StemsFromForkOn}
 use Rattle.depth_first_list.specs.Actions.{Deed, forks, joins, ends, Action}
 use Rattle.depth_first_list.specs.Runs.{IsDepthFirst}
 use Rattle.depth_first_list.specs.Facts.{label_at, deed_at, StemsFrom, IsDone, IsLive, IsNext, ForksAreInOrder}
@@ -37,19 +37,19 @@ module _ (k : ℕ) (l : List Action) (run : IsDepthFirst k l) (done : ℕ → �
         goes_on = λ e e_in mine end. elim (cases_lt 0 (done e)) [
           | inr none ↦ omega arith
           | inl did ↦
-            let j = each_child_is_joined k l run f.0 child f_in f.3 in
-            let j_label : label_at l j.0 ≡ parent = j.3 ∙ f.2 in
-            let last : j.0 ≤ e = end_is_last k l run j.0 e j.2 e_in (j_label ∙ sym mine) end in
-            let apart : j.0 ≢ e = λ same. join_is_no_end child (sym j.4 ∙ ap (λ t. deed_at l t) same ∙ end) in
-            elim (cases_eq j.0 e) [
-              | inl same ↦ absurd (apart same)
-              | inr other ↦
-                let joined : 0 < done j.0 = closed.earlier j.0 e (omega arith) e_in (j_label ∙ sym mine) did in
-                let h = join_stands_behind_child k l run j.0 child j.2 j.4 in
-                let end_before : h.1 < j.0 = h.3 in let j_in = j.2 in
-                let ended : 0 < done h.1 = closed.child_ended h.1 j.0 child (omega arith) j.2 j.4 h.6 h.7 joined in
-                let none = live.goes_on h.1 (omega arith) (h.6 ∙ ap (λ t. fork_of t child) j_label) h.7 in absurd (omega arith)
-            ]
+              let j = each_child_is_joined k l run f.0 child f_in f.3 in
+              let j_label : label_at l j.0 ≡ parent = j.3 ∙ f.2 in
+              let last : j.0 ≤ e = end_is_last k l run j.0 e j.2 e_in (j_label ∙ sym mine) end in
+              let apart : j.0 ≢ e = λ same. join_is_no_end child (sym j.4 ∙ ap (λ t. deed_at l t) same ∙ end) in
+              elim (cases_eq j.0 e) [
+                | inl same ↦ absurd (apart same)
+                | inr other ↦
+                    let joined : 0 < done j.0 = closed.earlier j.0 e (omega arith) e_in (j_label ∙ sym mine) did in
+                    let h = join_stands_behind_child k l run j.0 child j.2 j.4 in
+                    let end_before : h.1 < j.0 = h.3 in let j_in = j.2 in
+                    let ended : 0 < done h.1 = closed.child_ended h.1 j.0 child (omega arith) j.2 j.4 h.6 h.7 joined in
+                    let none = live.goes_on h.1 (omega arith) (h.6 ∙ ap (λ t. fork_of t child) j_label) h.7 in absurd (omega arith)
+              ]
         ];
       }
 
@@ -83,9 +83,14 @@ module _ (k : ℕ) (l : List Action) (run : IsDepthFirst k l) (done : ℕ → �
       let f = fork_stands_before k l run live.acts.0 child parent below live.acts.1 (live.acts.2 ∙ is) in
       let f_before : f.0 < live.acts.0 = f.1 in let a_in = live.acts.1 in
       let f_in : f.0 < length l = omega arith in
-      let P : List ℕ → Type 0 = λ t. StemsFrom (fork_of t child) thread in
-      (f.0, f_in, f.2, f.3, live.forked f.0 child f_in f.3 (subst P (sym f.2)
-      (subst (λ t. StemsFrom (fork_of parent child) t) (sym is) (stems_from_fork parent below child))))
+      let P : List ℕ → Type 0 = λ t. StemsFrom (fork_of t child) thread in (
+        f.0,
+        f_in,
+        f.2,
+        f.3,
+        live.forked f.0 child f_in f.3 (subst P (sym f.2)
+            (subst (λ t. StemsFrom (fork_of parent child) t) (sym is) (stems_from_fork parent below child))),
+      )
 
   -- where the next action of a thread is a Fork, nothing that stems from this fork or a later one is live
   pub none_at_fork : (thread : List ℕ) (n child : ℕ) → IsNext l done thread n → deed_at l n ≡ forks child

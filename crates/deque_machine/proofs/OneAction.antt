@@ -1,8 +1,8 @@
 -- Which threads are live, and what comes next, behind one action more.
-use Rattle.std.proofs.Common.{◌≡◌, ◌≢◌, ℕ, zero, suc, ◌+◌, ◌≤◌, ◌<◌, ◌⊎◌, List, [], ◌∷◌, ◌++◌, length, inl, inr, refl, sym, ap, subst, ◌∙◌, arith, append_assoc, append-nil}
-use Rattle.std.proofs.lemmas.Bool.{cases_eq, cases_lt}
-use Rattle.dag_order.specs.LabelOrder.{fork_of, Before}
-use Rattle.depth_first_list.specs.Actions.{Deed, forks, joins, ends, Action}
+use Rattle.std.proofs.Common.{◌≡◌, ◌≢◌, ℕ, suc, ◌+◌, ◌≤◌, ◌<◌, ◌⊎◌, List, [], ◌∷◌, ◌++◌, length, inl, inr, refl, sym, ap, subst, ◌∙◌, arith, append_assoc, append-nil}
+use Rattle.std.proofs.lemmas.Bool.{cases_lt}
+use Rattle.dag_order.specs.LabelOrder.{fork_of}
+use Rattle.depth_first_list.specs.Actions.{Deed, forks, ends, Action}
 use Rattle.depth_first_list.specs.Runs.{IsDepthFirst}
 use Rattle.depth_first_list.specs.Facts.{label_at, deed_at, StemsFrom, IsDone, IsLive, IsNext}
 use Rattle.depth_first_list.proofs.ThreadLaws.{fork_stands_before, forked_once, child_begins_behind_fork, child_stands_together}
@@ -136,7 +136,7 @@ module _ (l : List Action) (done after : ℕ → ℕ) (place : ℕ) (more : (i :
             let f = fork_stands_before k l run live.acts.0 c (fork_of (label_at l place) child) below live.acts.1 (live.acts.2 ∙ is) in
             let f_before : f.0 < live.acts.0 = f.1 in let a_in = live.acts.1 in
             let stems : StemsFrom (fork_of (label_at l f.0) c) thread = subst (λ t. StemsFrom (fork_of t c) thread) (sym f.2)
-                (subst (λ t. StemsFrom (fork_of (fork_of (label_at l place) child) c) t) (sym is) (stems_from_fork (fork_of (label_at l place) child) below c)) in
+            (subst (λ t. StemsFrom (fork_of (fork_of (label_at l place) child) c) t) (sym is) (stems_from_fork (fork_of (label_at l place) child) below c)) in
             let did = live.forked f.0 c (omega arith) f.3 stems in
             let none = nothing_before f.0 (omega arith) ([], f.2 ∙ sym (append-nil (fork_of (label_at l place) child))) in
             let here : f.0 ≢ place = λ e. fork_is_longer (label_at l place) child (sym f.2 ∙ ap (λ t. label_at l t) e) in

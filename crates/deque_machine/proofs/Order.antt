@@ -1,20 +1,19 @@
 -- Each event keeps the order.
-use Rattle.std.proofs.Common.{◌≡◌, ◌≢◌, ℕ, zero, suc, ◌+◌, ◌≤◌, ◌<◌, ◌⊎◌, List, [], ◌∷◌, ◌++◌, length, inl, inr, refl, sym, ap, subst, ◌∙◌, arith, append_assoc, cond, nat_eq, true≢false}
+use Rattle.std.proofs.Common.{◌≡◌, ◌≢◌, ℕ, ◌+◌, ◌≤◌, ◌⊎◌, List, [], ◌∷◌, ◌++◌, inl, inr, refl, sym, ap, subst, ◌∙◌, arith, append_assoc}
 use Rattle.std.specs.Prelude.{Option, None, Some}
-use Rattle.std.proofs.lemmas.Bool.{cases_lt}
 use Rattle.dag_order.specs.LabelOrder.{fork_of}
-use Rattle.depth_first_list.specs.Actions.{Deed, forks, joins, ends, Action}
+use Rattle.depth_first_list.specs.Actions.{forks, ends, Action}
 use Rattle.depth_first_list.specs.Runs.{IsDepthFirst}
 use Rattle.depth_first_list.specs.Facts.{label_at, deed_at, IsDone, IsLive, IsNext}
-use Rattle.lawful_books.specs.Lists.{Among, Each, total, one_if_same}
-use Rattle.lawful_books.proofs.Lists.{total_append, each_map, each_from, each_among, each_at, each_change, each_join, each_left, each_right, among_here, among_wider, among_left, among_right, cons_is_not_nil, one_cases}
+use Rattle.lawful_books.specs.Lists.{Among, Each, one_if_same}
+use Rattle.lawful_books.proofs.Lists.{total_append, each_map, each_from, each_among, each_at, each_change, each_join, each_left, each_right, among_here, among_left, among_right, cons_is_not_nil, one_cases}
 use Rattle.deque_machine.specs.Moments.{Deque, Waiting, threads_in, waiting_threads, owned_by, with_id, one_if_owned, one_if_id, one_if_worker}
-use Rattle.deque_machine.specs.LawfulOrder.{Rises, Waits, Stacked, ChildrenAbove, OrderOf}
+use Rattle.deque_machine.specs.LawfulOrder.{Waits, Stacked, ChildrenAbove, OrderOf}
 use Rattle.deque_machine.proofs.Labels.{one_parent, fork_is_longer, stands_once}
 use Rattle.deque_machine.proofs.OneAction.{end_is_no_fork, was_live, was_live_or_child, ended_is_not_live}
 use Rattle.deque_machine.proofs.LiveThreads.{none_at_fork}
 use Rattle.deque_machine.proofs.Placed.{Placed, placed_plain, placed_fork, placed_end, placed_wake, placed_suspend, waits_among}
-use Rattle.deque_machine.proofs.Shapes.{Shaped, shaped_of, placed_of, order_from, shaped_change, shaped_without, shaped_same, threads_append, child_on_top, parent_on_top, stacked_front, children_front, in_threads, all_children_kept}
+use Rattle.deque_machine.proofs.Shapes.{Shaped, shaped_of, placed_of, order_from, shaped_change, shaped_without, shaped_same, threads_append, child_on_top, parent_on_top, stacked_front, children_front}
 
 -- a deque
 abbrev pub deque_of : ℕ → Option ℕ → List (List ℕ) → Deque
@@ -78,9 +77,10 @@ deque_comes l done left right victim first others bottom id worker waiting is ne
     order_from l done (left ++ e ∷ n ∷ right) waiting (subst (λ t. Placed l done t waiting) same p) (record {
       stacked = each_join S left (e ∷ n ∷ right) (each_left S left (victim ∷ right) o.stacked)
           (stacked_front (first ∷ others) bottom (subst Stacked is (each_at S left victim right o.stacked)), (tt, (each_right S left (victim ∷ right) o.stacked).1));
-      children_above = each_join C left (e ∷ n ∷ right) (each_left C left (victim ∷ right) o.children_above)
-          (children_front l done None (first ∷ others) bottom (subst (ChildrenAbove l done None) is (each_at C left victim right o.children_above)),
-          (tt, (each_right C left (victim ∷ right) o.children_above).1));
+      children_above = each_join C left (e ∷ n ∷ right) (each_left C left (victim ∷ right) o.children_above) (
+        children_front l done None (first ∷ others) bottom (subst (ChildrenAbove l done None) is (each_at C left victim right o.children_above)),
+        (tt, (each_right C left (victim ∷ right) o.children_above).1),
+      );
       none_empty = each_join N left (e ∷ n ∷ right) (each_left N left (victim ∷ right) o.none_empty)
           ((λ none. cons_is_not_nil first others none), ((λ none. cons_is_not_nil bottom [] none), (each_right N left (victim ∷ right) o.none_empty).1));
       ids_differ = λ i. let most = o.ids_differ i in
@@ -112,7 +112,6 @@ deque_suspends l done left right id owner waiting w own o =
 -- one action of the top thread of a deque
 module _ (k : ℕ) (l : List Action) (run : IsDepthFirst k l) (done after : ℕ → ℕ) (place : ℕ) (more : (i : ℕ) → after i ≡ done i + one_if_same i place) (closed : IsDone l done)
     (left right : List Deque) (id worker : ℕ) (waiting : List Waiting) (top : List ℕ) (next : IsNext l done top place) where
-
   own_next : IsNext l done (label_at l place) place
   own_next = subst (λ t. IsNext l done t place) (sym next.by) next
 
@@ -189,8 +188,8 @@ module _ (k : ℕ) (l : List Action) (run : IsDepthFirst k l) (done after : ℕ 
         let there : Among parent (threads_in (left ++ d ∷ right)) = subst (λ t. Among parent t) (sym (threads_append left (d ∷ right)))
         (among_right parent (threads_in left) (top ∷ parent ∷ (below ++ threads_in right)) (inr (inl refl))) in
         let unwaited : Each (λ w. top ≢ fork_of w.thread w.child) waiting = each_from (λ w. top ≢ fork_of w.thread w.child) waiting (λ w among same.
-            each_among (λ thread. ¬ Among thread (threads_in (left ++ d ∷ right))) w.thread (waiting_threads waiting) o.apart (waits_among w waiting among)
-            (subst (λ t. Among t (threads_in (left ++ d ∷ right))) (one_parent parent w.thread child w.child (sym is ∙ same)).0 there)) in
+        each_among (λ thread. ¬ Among thread (threads_in (left ++ d ∷ right))) w.thread (waiting_threads waiting) o.apart (waits_among w waiting among)
+        (subst (λ t. Among t (threads_in (left ++ d ∷ right))) (one_parent parent w.thread child w.child (sym is ∙ same)).0 there)) in
         order_from l after (left ++ e ∷ right) waiting (subst (λ t. Placed l after t waiting) (sym (threads_append left (e ∷ right))) (without_top (parent ∷ below) unwaited o))
         (shaped_change l done after left right d e s refl (λ w. omega arith)
         (each_at (λ deque. Stacked deque.threads) left d right s.stacked).1

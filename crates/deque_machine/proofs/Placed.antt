@@ -1,16 +1,16 @@
 -- Where the live threads are, behind each kind of event: in the deques, as one list of labels, or among the waiting.
-use Rattle.std.proofs.Common.{◌≡◌, ◌≢◌, ℕ, zero, suc, ◌+◌, ◌≤◌, ◌<◌, ◌⊎◌, List, [], ◌∷◌, ◌++◌, length, inl, inr, refl, sym, ap, subst, ◌∙◌, arith}
+use Rattle.std.proofs.Common.{◌≡◌, ◌≢◌, ℕ, ◌+◌, ◌⊎◌, List, [], ◌∷◌, ◌++◌, inl, inr, refl, sym, ap, subst, ◌∙◌, arith}
 use Rattle.dag_order.specs.LabelOrder.{fork_of, Before}
 use Rattle.dag_order.specs.LabelLaws.{extension_is_before, before_further, left_of_a_fork, right_of_a_fork, right_of_an_ended_fork}
-use Rattle.depth_first_list.specs.Actions.{Deed, forks, joins, ends, Action}
+use Rattle.depth_first_list.specs.Actions.{forks, ends, Action}
 use Rattle.depth_first_list.specs.Runs.{IsDepthFirst}
 use Rattle.depth_first_list.specs.Facts.{label_at, deed_at, IsDone, IsLive, IsNext}
 use Rattle.lawful_books.specs.Lists.{Among, Each, Differ, one_if_same}
-use Rattle.lawful_books.proofs.Lists.{each_map, each_from, each_among, each_without, each_change, each_at, each_join, each_left, each_right, among_here, among_wider, among_middle, among_left, among_right, among_parts, differ_without, differ_at}
+use Rattle.lawful_books.proofs.Lists.{each_map, each_from, each_among, each_without, each_at, each_join, each_left, each_right, among_here, among_wider, among_middle, among_left, among_right, differ_without, differ_at}
 use Rattle.deque_machine.specs.Moments.{Waiting, waiting_threads}
 use Rattle.deque_machine.specs.LawfulOrder.{Rises, Waits}
 use Rattle.deque_machine.proofs.Labels.{one_parent, fork_is_longer, rises_without, rises_with, left_is_before, right_is_behind, stands_once}
-use Rattle.deque_machine.proofs.OneAction.{end_is_no_fork, stays_live, was_live, was_live_or_child, child_is_live, ended_is_not_live, stays_next, nothing_before}
+use Rattle.deque_machine.proofs.OneAction.{end_is_no_fork, stays_live, was_live, was_live_or_child, child_is_live, ended_is_not_live, stays_next}
 use Rattle.deque_machine.proofs.LiveThreads.{none_at_fork, none_at_join}
 
 pub record Placed (l : List Action) (done : ℕ → ℕ) (threads : List (List ℕ)) (waiting : List Waiting) : Type 0 where
@@ -73,7 +73,7 @@ module _ (l : List Action) (done after : ℕ → ℕ) (place : ℕ) (more : (i :
         let was : (x : List ℕ) → IsLive l after x → IsLive l done x ⊎ (x ≡ fork_of (label_at l place) child) =
         was_live_or_child l done after place more k run closed next.inside next.missing child deed in
         let child_dead : ¬ IsLive l done (fork_of (label_at l place) child) = λ live.
-            none_at_fork k l run done closed (label_at l place) place child next deed (fork_of (label_at l place) child) live (child, [], omega arith, refl) in
+        none_at_fork k l run done closed (label_at l place) place child next deed (fork_of (label_at l place) child) live (child, [], omega arith, refl) in
         record {
           rises = rises_with a c (t ∷ b) p.rises
               (each_from (λ x. Before x c) a (λ x among. elim (left_of_a_fork x t child (each_among (λ x. Before x t) x a (left_is_before a t b p.rises) among)) [
@@ -148,10 +148,10 @@ module _ (l : List Action) (done after : ℕ → ℕ) (place : ℕ) (more : (i :
         let once : ¬ Among w.thread (waiting_threads before ++ waiting_threads later) =
         differ_at (waiting_threads before) w.thread (waiting_threads later) (subst Differ cut p.wait_once) in
         let wider : (x : List ℕ) → Among x (waiting_threads (before ++ later)) → Among x (waiting_threads (before ++ w ∷ later)) = λ x among.
-            subst (λ u. Among x u) (sym cut) (among_wider x (waiting_threads before) w.thread (waiting_threads later) (subst (λ u. Among x u) left_over among)) in
+        subst (λ u. Among x u) (sym cut) (among_wider x (waiting_threads before) w.thread (waiting_threads later) (subst (λ u. Among x u) left_over among)) in
         let kept_live : (x : List ℕ) → Among x (a ++ b) → IsLive l after x = λ x among.
-            stays_live l done after place more x (each_among (IsLive l done) x threads p.all_live (among_wider x a t b among))
-            (λ e same. stands_once a t b p.rises (subst (λ u. Among u (a ++ b)) (sym same) among)) in
+        stays_live l done after place more x (each_among (IsLive l done) x threads p.all_live (among_wider x a t b among))
+        (λ e same. stands_once a t b p.rises (subst (λ u. Among u (a ++ b)) (sym same) among)) in
         let up : Before t w.thread = subst (λ u. Before u w.thread) (sym is) (extension_is_before w.thread w.child []) in
         record {
           rises = rises_with a w.thread b (rises_without a t b p.rises)
@@ -201,9 +201,11 @@ pub placed_suspend : (l : List Action) (done : ℕ → ℕ) (a b : List (List �
 placed_suspend l done a b waiting w own p = record {
   rises = rises_without a w.thread b p.rises;
   waits = (own, p.waits);
-  apart = (stands_once a w.thread b p.rises,
-      each_map (λ thread. ¬ Among thread (a ++ w.thread ∷ b)) (λ thread. ¬ Among thread (a ++ b)) (waiting_threads waiting)
-      (λ x among out there. out (among_wider x a w.thread b there)) p.apart);
+  apart = (
+    stands_once a w.thread b p.rises,
+    each_map (λ thread. ¬ Among thread (a ++ w.thread ∷ b)) (λ thread. ¬ Among thread (a ++ b)) (waiting_threads waiting)
+        (λ x among out there. out (among_wider x a w.thread b there)) p.apart,
+  );
   all_placed = λ x live. elim (p.all_placed x live) [
     | inr waits ↦ inr (inr waits)
     | inl there ↦ elim (among_middle x a w.thread b there) [ inl same ↦ inr (inl same) | inr old ↦ inl old ]

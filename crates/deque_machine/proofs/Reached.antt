@@ -1,27 +1,25 @@
 -- What holds at each moment that a run reaches.
-use Rattle.std.proofs.Common.{◌≡◌, ◌≢◌, ℕ, zero, suc, ◌+◌, ◌*◌, ◌≤◌, ◌<◌, ◌⊎◌, List, [], ◌∷◌, ◌++◌, length, map, inl, inr, refl, sym, ap, subst, ◌∙◌, arith, append_assoc, append-nil, Bool, true, false, cond, nat_lt, true≢false, ℤ, pos, ◌+ℤ◌, ◌≤ℤ◌, ◌<ℤ◌}
+use Rattle.std.proofs.Common.{◌≡◌, ℕ, ◌*◌, ◌≤◌, ◌<◌, ◌⊎◌, List, [], ◌∷◌, ◌++◌, length, map, inl, inr, refl, sym, ap, subst, ◌∙◌, arith, append_assoc, Bool, true, false, cond, nat_lt, true≢false, ℤ, pos, ◌+ℤ◌, ◌≤ℤ◌, ◌<ℤ◌}
 use Rattle.std.specs.Prelude.{Option, None, Some, filter}
 use Rattle.std.specs.Int.{int_max}
-use Rattle.std.proofs.lemmas.Bool.{cases_lt, cases_Bool, lt-ltb, ltb-false}
+use Rattle.std.proofs.lemmas.Bool.{cases_Bool, ltb-false}
 use Rattle.std.proofs.lemmas.Int.{ints, clamps}
 use Rattle.std.proofs.lemmas.Nat.{mul-le}
 use Rattle.std.proofs.lemmas.List.{nil_from_length, map-append}
-use Rattle.dag_order.specs.LabelOrder.{fork_of}
 use Rattle.depth_first_list.specs.Actions.{Deed, forks, joins, allocates, releases, dummy, faults, ends, Action, live_words, peak, weight, weight_of}
 use Rattle.depth_first_list.specs.Runs.{IsDepthFirst}
-use Rattle.depth_first_list.specs.Facts.{action_at, label_at, deed_at, words_at, weight_at, IsNext}
+use Rattle.depth_first_list.specs.Facts.{action_at, label_at, deed_at, words_at, weight_at}
 use Rattle.depth_first_list.proofs.Weights.{root_end_is_weightless}
-use Rattle.lawful_books.specs.Lists.{Among, Each, total}
-use Rattle.lawful_books.specs.Books.{Book, booked, done_in, words_in_use, IsPrefix, is_ahead, one_if_ahead, one_if_marked, periods_ahead, periods_marked, bound}
-use Rattle.lawful_books.specs.Lawful.{LawfulBooks, one_more, book_of}
+use Rattle.lawful_books.specs.Books.{Book, booked, words_in_use, IsPrefix, is_ahead, one_if_ahead, one_if_marked, periods_ahead, periods_marked, bound}
+use Rattle.lawful_books.specs.Lawful.{one_more, book_of}
 use Rattle.lawful_books.proofs.Lists.{total_append, total_below, each_map}
 use Rattle.lawful_books.proofs.Parts.{live_append}
 use Rattle.lawful_books.proofs.Keeping.{booked_append, closed_same, begun_same, prefix_of, ended_has_all}
 use Rattle.lawful_books.proofs.Accounting.{accounting, arena_law}
 use Rattle.deque_machine.specs.Moments.{Deque, Waiting, Moment, opening, done_at, live_at}
-use Rattle.deque_machine.specs.Machine.{Setting, Event, steals, does, suspends, gives_up, Owns, books_with, books_closed, IsAtTop, HasEnded, new_book, May, steals_beside, takes_over, forks_child, joins_child, allocates_within, allocates_above, releases_words, meets_fault, runs_dummy, ends_above_parent, ends_and_wakes, ends_and_leaves, suspends_top, gives_deque_up}
+use Rattle.deque_machine.specs.Machine.{Setting, Event, steals, does, suspends, gives_up, Owns, books_with, books_closed, new_book, May, steals_beside, takes_over, forks_child, joins_child, allocates_within, allocates_above, releases_words, meets_fault, runs_dummy, ends_above_parent, ends_and_wakes, ends_and_leaves, suspends_top, gives_deque_up}
 use Rattle.deque_machine.specs.LawfulOrder.{IsLawful}
-use Rattle.deque_machine.specs.Runs.{Pair, Reaches, place_of, places_of, moves_words, is_move, moves, high_water_mark, OpeningIsLawful, EventsKeepLawful, ReachedIsLawful, BoundAlways, AheadIsMarked, MovesAreLive, MarkedBound, ArenaRefuses, EndedDidAll}
+use Rattle.deque_machine.specs.Runs.{Pair, Reaches, place_of, places_of, moves_words, is_move, moves, high_water_mark, EventsKeepLawful, ReachedIsLawful, BoundAlways, AheadIsMarked, MovesAreLive, MarkedBound, ArenaRefuses, EndedDidAll}
 use Rattle.deque_machine.proofs.Kept.{kept, opening_is_lawful}
 
 pub lawful_along : (s : Setting) → IsDepthFirst s.quota s.list → (run : List Pair) (first last : Moment) → IsLawful s first → Reaches s first run last → IsLawful s last
@@ -214,9 +212,11 @@ one_event s list m worker event after may = by_event event may ((event_writes s 
     by_event gives_up may live = inl (refl, plain (live_at s.list after) (live_at s.list m) live)
     by_event (does place) may live = elim (cases_Bool (is_move (action_at s.list place))) [
       | inl moved ↦ inr (action_at s.list place, ap (λ b. cond b (action_at s.list place ∷ []) []) moved, weighty (live_at s.list after) (live_at s.list m) (weight_at s.list place) live)
-      | inr none ↦ inl (ap (λ b. cond b (action_at s.list place ∷ []) []) none,
-          weightless (live_at s.list after) (live_at s.list m) (weight_at s.list place) live
-          (no_move_weighs_nothing s.quota s.list list place (place_inside s m worker place after may) none))
+      | inr none ↦ inl (
+        ap (λ b. cond b (action_at s.list place ∷ []) []) none,
+        weightless (live_at s.list after) (live_at s.list m) (weight_at s.list place) live
+            (no_move_weighs_nothing s.quota s.list list place (place_inside s m worker place after may) none),
+      )
     ]
 
 -- the sum of the moves

@@ -1,14 +1,14 @@
 -- The shape of each deque, behind each kind of event.
-use Rattle.std.proofs.Common.{◌≡◌, ◌≢◌, ℕ, zero, suc, ◌+◌, ◌≤◌, ◌<◌, ◌⊎◌, List, [], ◌∷◌, ◌++◌, length, inl, inr, refl, sym, ap, subst, ◌∙◌, arith, append_assoc}
+use Rattle.std.proofs.Common.{◌≡◌, ◌≢◌, ℕ, ◌≤◌, ◌⊎◌, List, [], ◌∷◌, ◌++◌, inl, inr, refl, sym, ap, subst, ◌∙◌, arith, append_assoc}
 use Rattle.std.specs.Prelude.{Option, None, Some, is_some, unwrap_or, cond, nat_eq}
 use Rattle.std.proofs.Common.{true≢false}
 use Rattle.dag_order.specs.LabelOrder.{fork_of}
 use Rattle.depth_first_list.specs.Actions.{Action}
 use Rattle.depth_first_list.specs.Facts.{IsLive}
-use Rattle.lawful_books.specs.Lists.{Among, Each, total}
-use Rattle.lawful_books.proofs.Lists.{total_append, each_map, each_change, each_without, each_at, each_join, each_left, each_right, among_left, among_right, cons_is_not_nil, among_here}
+use Rattle.lawful_books.specs.Lists.{Among, Each}
+use Rattle.lawful_books.proofs.Lists.{total_append, each_map, each_change, each_without, each_join, each_left, each_right, among_left, among_right}
 use Rattle.deque_machine.specs.Moments.{Deque, Waiting, threads_in, owned_by, with_id, one_if_owned, one_if_id}
-use Rattle.deque_machine.specs.LawfulOrder.{Rises, Stacked, ChildrenAbove, OrderOf}
+use Rattle.deque_machine.specs.LawfulOrder.{Stacked, ChildrenAbove, OrderOf}
 use Rattle.deque_machine.proofs.Placed.{Placed}
 
 pub threads_append : (xs ys : List Deque) → threads_in (xs ++ ys) ≡ threads_in xs ++ threads_in ys
@@ -41,8 +41,17 @@ placed_of l done deques waiting o =
 pub order_from : (l : List Action) (done : ℕ → ℕ) (deques : List Deque) (waiting : List Waiting) → Placed l done (threads_in deques) waiting → Shaped l done deques
     → OrderOf l done deques waiting
 order_from l done deques waiting p s = record {
-  rises = p.rises; stacked = s.stacked; children_above = s.children_above; waits = p.waits; apart = p.apart; all_placed = p.all_placed;
-  all_live = p.all_live; wait_once = p.wait_once; none_empty = s.none_empty; ids_differ = s.ids_differ; owns_one = s.owns_one;
+  rises = p.rises;
+  stacked = s.stacked;
+  children_above = s.children_above;
+  waits = p.waits;
+  apart = p.apart;
+  all_placed = p.all_placed;
+  all_live = p.all_live;
+  wait_once = p.wait_once;
+  none_empty = s.none_empty;
+  ids_differ = s.ids_differ;
+  owns_one = s.owns_one;
 }
 
 -- no new live children of these threads
@@ -122,22 +131,26 @@ pub child_on_top : (l : List Action) (done after : ℕ → ℕ) (c t : List ℕ)
     → ((u : List ℕ) → Among u under → (child : ℕ) → IsLive l after (fork_of u child) → IsLive l done (fork_of u child))
     → ChildrenAbove l done None (t ∷ under) → ChildrenAbove l after None (c ∷ t ∷ under)
 child_on_top l done after c t [] own none parent others all = (λ child live. absurd (none child (own child live)), tt)
-child_on_top l done after c t (u ∷ below) own none parent others all =
-    (λ child live. absurd (none child (own child live)),
-    (λ child live. elim (parent child live) [
+child_on_top l done after c t (u ∷ below) own none parent others all = (
+  λ child live. absurd (none child (own child live)),
+  (
+    λ child live. elim (parent child live) [
       | inl before ↦ absurd (some_is_not_none (fork_of t child) (all.0 child before))
       | inr same ↦ ap Some (sym same)
     ],
-    children_kept l done after (Some t) (u ∷ below) others all.1))
+    children_kept l done after (Some t) (u ∷ below) others all.1,
+  ),
+)
 
 -- a thread that ended is gone from above its parent
 pub parent_on_top : (l : List Action) (done after : ℕ → ℕ) (t parent : List ℕ) (below : List (List ℕ))
     → ((x : List ℕ) → IsLive l after x → IsLive l done x) → ¬ IsLive l after t
     → ChildrenAbove l done None (t ∷ parent ∷ below) → ChildrenAbove l after None (parent ∷ below)
 parent_on_top l done after t parent [] was gone all = tt
-parent_on_top l done after t parent (u ∷ below) was gone all =
-    (λ child live. absurd (gone (subst (IsLive l after) (sym (one_thread t (fork_of parent child) ((all.1).0 child (was (fork_of parent child) live)))) live)),
-    children_kept l done after (Some parent) (u ∷ below) (λ x among child. was (fork_of x child)) (all.1).1)
+parent_on_top l done after t parent (u ∷ below) was gone all = (
+  λ child live. absurd (gone (subst (IsLive l after) (sym (one_thread t (fork_of parent child) ((all.1).0 child (was (fork_of parent child) live)))) live)),
+  children_kept l done after (Some parent) (u ∷ below) (λ x among child. was (fork_of x child)) (all.1).1,
+)
 
 -- the front of a deque, and its bottom thread by itself
 pub stacked_front : (front : List (List ℕ)) (bottom : List ℕ) → Stacked (front ++ bottom ∷ []) → Stacked front

@@ -1,5 +1,5 @@
 -- Lawful order, and what else holds at each moment of a run.
-use Rattle.std.specs.Prelude.{◌≡◌, ◌≢◌, ◌⊎◌, ℕ, ◌+◌, ◌<◌, ◌≤◌, Bool, true, false, Option, None, Some, List, [], ◌∷◌, ◌++◌, length}
+use Rattle.std.specs.Prelude.{◌≡◌, ◌≢◌, ◌⊎◌, ℕ, ◌<◌, ◌≤◌, true, false, Option, None, Some, List, [], ◌∷◌, ◌++◌}
 use Rattle.dag_order.specs.LabelOrder.{fork_of, Before}
 use Rattle.depth_first_list.specs.Actions.{forks, joins, Action}
 use Rattle.depth_first_list.specs.Facts.{label_at, deed_at, IsLive, IsNext}
@@ -26,7 +26,8 @@ abbrev pub ChildrenAbove : List Action → (ℕ → ℕ) → Option (List ℕ) �
 ChildrenAbove l done above [] = Unit {0}
 ChildrenAbove l done above (thread ∷ []) = Unit {0}
 ChildrenAbove l done above (thread ∷ parent ∷ below) =
-    ((child : ℕ) → IsLive l done (fork_of thread child) → above ≡ Some (fork_of thread child)) × ChildrenAbove l done (Some thread) (parent ∷ below)
+    ((child : ℕ) → IsLive l done (fork_of thread child) → above ≡ Some (fork_of thread child))
+    × ChildrenAbove l done (Some thread) (parent ∷ below)
 
 -- a thread waits: its next action is the Join of a child that has not ended
 pub record Waits (l : List Action) (done : ℕ → ℕ) (waits : Waiting) : Type 0 where

@@ -2,3 +2,4 @@ pub mod Moments
 pub mod Machine
 pub mod LawfulOrder
 pub mod Runs
+pub mod Play

@@ -1,5 +1,5 @@
 -- The moment of a run over deques.
-use Rattle.std.specs.Prelude.{◌≡◌, ℕ, ◌+◌, Bool, cond, nat_eq, Option, None, Some, List, [], ◌∷◌, ◌++◌, length, ℤ}
+use Rattle.std.specs.Prelude.{ℕ, cond, nat_eq, Option, None, Some, List, [], ◌∷◌, ◌++◌, ℤ}
 use Rattle.depth_first_list.specs.Actions.{Action}
 use Rattle.lawful_books.specs.Lists.{total}
 use Rattle.lawful_books.specs.Books.{Book, done_in, words_in_use}

@@ -1,9 +1,9 @@
 -- Runs of the machine, and what holds at each moment that they reach.
-use Rattle.std.specs.Prelude.{◌≡◌, ◌≢◌, ◌⊎◌, ℕ, ◌+◌, ◌*◌, ◌<◌, ◌≤◌, Bool, true, false, nat_lt, nat_le, filter, map, List, [], ◌∷◌, ◌++◌, length, ℤ, pos, ◌+ℤ◌, ◌≤ℤ◌, ◌<ℤ◌}
+use Rattle.std.specs.Prelude.{◌≡◌, ℕ, ◌<◌, ◌≤◌, Bool, true, false, nat_lt, filter, map, List, [], ◌∷◌, ◌++◌, length, ℤ, pos, ◌+ℤ◌, ◌≤ℤ◌, ◌<ℤ◌}
 use Rattle.depth_first_list.specs.Actions.{Deed, forks, joins, allocates, releases, dummy, faults, ends, Action, live_words, peak}
 use Rattle.depth_first_list.specs.Runs.{IsDepthFirst}
-use Rattle.depth_first_list.specs.Facts.{action_at, deed_at, label_at, words_at, weight_at}
-use Rattle.lawful_books.specs.Books.{done_in, IsPrefix, periods_ahead, periods_marked, bound}
+use Rattle.depth_first_list.specs.Facts.{action_at, weight_at}
+use Rattle.lawful_books.specs.Books.{IsPrefix, periods_ahead, periods_marked, bound}
 use Rattle.deque_machine.specs.Moments.{Moment, opening, done_at, live_at}
 use Rattle.deque_machine.specs.Machine.{Setting, Event, steals, does, suspends, gives_up, May, HasEnded}
 use Rattle.deque_machine.specs.LawfulOrder.{IsLawful}
@@ -84,15 +84,19 @@ MovesAreLive s = (run : List Pair) (m : Moment) → Reaches s opening run m → 
 
 -- the high-water mark is at most the peak, and two quotas for each marked period
 abbrev pub MarkedBound : Setting → Type 0
-MarkedBound s = (run : List Pair) (m : Moment) → Reaches s opening run m → high_water_mark s.list run ≤ℤ bound s.quota s.list (periods_marked m.books)
+MarkedBound s =
+    (run : List Pair) (m : Moment) → Reaches s opening run m → high_water_mark s.list run ≤ℤ bound s.quota s.list (periods_marked m.books)
 
 -- Where an action may come that an arena with room for the peak and two quotas for each of so many periods refuses, more
 -- periods would be ahead behind it.
 abbrev pub ArenaRefuses : Setting → Type 0
-ArenaRefuses s = (run : List Pair) (m after : Moment) (worker place n periods capacity : ℕ) → Reaches s opening run m → May s m worker (does place) after
-    → bound s.quota s.list periods ≤ℤ pos capacity → pos capacity <ℤ (live_at s.list m +ℤ weight_at s.list place) → IsPrefix s.list (done_at after) n
+ArenaRefuses s =
+    (run : List Pair) (m after : Moment) (worker place n periods capacity : ℕ) → Reaches s opening run m → May s m worker (does place) after
+    → bound s.quota s.list periods ≤ℤ pos capacity → pos capacity <ℤ (live_at s.list m +ℤ weight_at s.list place)
+    → IsPrefix s.list (done_at after) n
     → periods < periods_ahead n after.books
 
 -- a run in which the root has ended did each action of the list just once
 abbrev pub EndedDidAll : Setting → Type 0
-EndedDidAll s = (run : List Pair) (m : Moment) → Reaches s opening run m → HasEnded s m [] → (place : ℕ) → place < length s.list → done_at m place ≡ 1
+EndedDidAll s =
+    (run : List Pair) (m : Moment) → Reaches s opening run m → HasEnded s m [] → (place : ℕ) → place < length s.list → done_at m place ≡ 1

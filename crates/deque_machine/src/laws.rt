@@ -1,3 +1,4 @@
+ghost use Rattle.deque_machine.specs.Play.{RunsEnd, ArenaNeverFills, DequesAtMost, SomebodysTurn, WantedMayCome, PlaysAreRuns, PlaysEnd, PlaysFinish};
 ghost use Rattle.deque_machine.specs.Runs.{InEachSetting, OpeningIsLawful, EventsKeepLawful, ReachedIsLawful, BoundAlways, AheadIsMarked, MovesAreLive, MarkedBound, ArenaRefuses, EndedDidAll};
 
 /// The opening moment has lawful order, lawful books and begun ahead.
@@ -44,4 +45,45 @@ pub fn arena_refuses()
 /// A run in which the root has ended did each action of the depth-first list just once.
 pub fn ended_did_all()
     ensures { InEachSetting EndedDidAll }
+{}
+
+/// Where the quota covers a Fork, a run in which no give up is free has at most three events for each action of the
+/// list, and one for each worker.
+pub fn runs_end()
+    ensures { InEachSetting RunsEnd }
+{}
+
+/// An arena with room for all words that the list takes never fills.
+pub fn arena_never_fills()
+    ensures { InEachSetting ArenaNeverFills }
+{}
+
+/// There are never more deques than one and the Forks of the list.
+pub fn deques_at_most()
+    ensures { InEachSetting DequesAtMost }
+{}
+
+/// At a lawful moment what the rules want of a worker may come.
+pub fn wanted_may_come()
+    ensures { InEachSetting WantedMayCome }
+{}
+
+/// While the root has not ended, it is somebody's turn.
+pub fn somebodys_turn()
+    ensures { InEachSetting SomebodysTurn }
+{}
+
+/// A play is a run of the machine in which no give up is free.
+pub fn plays_are_runs()
+    ensures { InEachSetting PlaysAreRuns }
+{}
+
+/// Where the quota covers a Fork and there is a worker, each list of words picks a play, and it ends.
+pub fn plays_end()
+    ensures { InEachSetting PlaysEnd }
+{}
+
+/// With room for all words, actions and deques that the list can want, a play finishes.
+pub fn plays_finish()
+    ensures { InEachSetting PlaysFinish }
 {}

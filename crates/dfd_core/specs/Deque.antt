@@ -41,7 +41,8 @@ pub record TopForked (old new : List Thread) (number : ℕ) : Type 0 where
 
 pub record TopForks (old new : Deque) (number : ℕ) (result : Result (Unit {0}) AllocError) : Type 0 where
   pub owner : new.owner ≡ old.owner
-  pub threads : MatchResult result (λ _. TopForked old.threads.items new.threads.items number) (λ _. TopSame old.threads.items new.threads.items)
+  pub threads : MatchResult result (λ _. TopForked old.threads.items new.threads.items number)
+      (λ _. TopSame old.threads.items new.threads.items)
 
 -- the top thread joined this child, which had these lines
 pub record TopJoined (old new : List Thread) (child : ℕ) (lines : List ℤ) : Type 0 where
@@ -54,5 +55,6 @@ pub record TopJoined (old new : List Thread) (child : ℕ) (lines : List ℤ) : 
 
 pub record TopJoins (old new : Deque) (lines : List ℤ) (result : Result (Unit {0}) AllocError) : Type 0 where
   pub owner : new.owner ≡ old.owner
-  pub threads : MatchResult result (λ _. (child : ℕ) → TopIsNext old (next.Join child) → TopJoined old.threads.items new.threads.items child lines)
+  pub threads : MatchResult result (λ _. (child : ℕ) → TopIsNext old (next.Join child)
+      → TopJoined old.threads.items new.threads.items child lines)
       (λ _. TopSame old.threads.items new.threads.items)

@@ -34,7 +34,8 @@ pub record HasThreadAt (moment : Moment) (place : ℕ) : Type 0 where
 -- a deque has a ready thread: its bottom thread may be stolen, where nobody owns the deque, or its owner runs another
 abbrev pub IsReady : Deque → Type 0
 IsReady deque =
-    ((deque.owner ≡ None) × (deque.threads.items ≢ [])) ⊎ ((top next : Thread) × (below : List Thread) × (deque.threads.items ≡ top ∷ next ∷ below))
+    ((deque.owner ≡ None) × (deque.threads.items ≢ []))
+    ⊎ ((top next : Thread) × (below : List Thread) × (deque.threads.items ≡ top ∷ next ∷ below))
 
 pub record IsReadyAt (moment : Moment) (place : ℕ) : Type 0 where
   pub deque : Deque
@@ -219,11 +220,13 @@ Acts place old new (Err failed) = StaysAt place old new
 
 -- the place of an ended thread
 abbrev pub FindsEnded : List Ended → ℕ → Option ℕ → Type 0
-FindsEnded ended id (Some place) = (child : Ended) × (front back : List Ended) × (ended ≡ front ++ child ∷ back) × (length front ≡ place) × (child.id ≡ id)
+FindsEnded ended id (Some place) =
+    (child : Ended) × (front back : List Ended) × (ended ≡ front ++ child ∷ back) × (length front ≡ place) × (child.id ≡ id)
 FindsEnded ended id None = All (λ one. one.id ≢ id) ended
 
 -- the place of a thread that waits
 abbrev pub FindsWaiting : List Thread → ℕ → Option ℕ → Type 0
 FindsWaiting waiting child (Some place) =
-    (parent : Thread) × (front back : List Thread) × (waiting ≡ front ++ parent ∷ back) × (length front ≡ place) × IsNext parent.tasks.items (next.Join child)
+    (parent : Thread) × (front back : List Thread) × (waiting ≡ front ++ parent ∷ back) × (length front ≡ place)
+    × IsNext parent.tasks.items (next.Join child)
 FindsWaiting waiting child None = All (λ one. ¬ IsNext one.tasks.items (next.Join child)) waiting

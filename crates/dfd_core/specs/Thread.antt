@@ -55,4 +55,5 @@ pub record Joins (old new : Thread) (child : ℕ) (lines : List ℤ) : Type 0 wh
 -- the par that is next has branches of so many statements
 abbrev pub IsParOf : List Task → ℕ → ℕ → Type 0
 IsParOf tasks first second =
-    (left right : Statements) × (rest : List Task) × (tasks ≡ Do (Par left right) ∷ rest) × (count_of left ≡ first) × (count_of right ≡ second)
+    (left right : Statements) × (rest : List Task) × (tasks ≡ Do (Par left right) ∷ rest) × (count_of left ≡ first)
+    × (count_of right ≡ second)

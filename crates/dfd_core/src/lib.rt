@@ -11,8 +11,9 @@
 //!
 //! The layer stands on the statements of `print_program`, which say what a program prints. Its one theorem: whatever
 //! workers move, in whatever order and with whatever victims, a run that finishes has printed just the numbers of the
-//! program in the order of the text, which is that of the depth-first run (`print_runs`). Each step is an event of the machine of `specs/Machine.antt`, some worker can move until the run
-//! ends, and only so many events can come as `events_left` of `specs/Lawful.antt` says.
+//! program in the order of the text, which is that of the depth-first run (`print_runs`). Each step is an event of the machine of
+//! `specs/Machine.antt`, some worker can move until the run ends, and only so many events can come as `events_left` of `specs/Lawful.antt`
+//! says.
 #![tactic(auto)]
 
 mod choices;

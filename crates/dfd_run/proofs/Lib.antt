@@ -1,4 +1,5 @@
 pub mod Answers
 pub mod OneAnswer
+pub mod AnAnswer
 pub mod Peaks
 pub mod Plays

@@ -9,3 +9,7 @@ abbrev pub OneAnswer : Type 0
 OneAnswer =
     (kind : CommandKind) (k limit : ℕ) (bytes : List ℕ) (s s' : Status) (t t' : List ℕ) →
     KindGives kind k limit bytes s t → KindGives kind k limit bytes s' t' → (s ≡ s') × (t ≡ t')
+
+-- a command has an answer to the bytes of a source
+abbrev pub AnAnswer : Type 0
+AnAnswer = (kind : CommandKind) (k limit : ℕ) (bytes : List ℕ) → (s : Status) × ((t : List ℕ) × KindGives kind k limit bytes s t)

@@ -10,7 +10,7 @@
 //! program of another form by the word `NotYet`. The one theorem of the layer is the contract of `dfd`, and of
 //! [`serve`], which does what `dfd` does for a command: the status and the text that the sink took are those that
 //! `CallGives` of `specs/Answer.antt` gives for the words and the bytes read, and each fault has its cause.
-//! [`a_command_has_one_answer`] says that these are a function of the command and the bytes.
+//! [`a_command_has_an_answer`] and [`a_command_has_one_answer`] say that these are a function of the command and the bytes.
 #![tactic(auto)]
 
 mod answer;
@@ -31,7 +31,7 @@ pub use byte_streams::{
 };
 pub use call::{dfd, serve};
 pub use command_line::{Command, CommandKind, read_words};
-pub use laws::a_command_has_one_answer;
+pub use laws::{a_command_has_an_answer, a_command_has_one_answer};
 pub use pcg_choices::PcgChoices;
 pub use status::Status;
 

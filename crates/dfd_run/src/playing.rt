@@ -26,7 +26,8 @@ const SEED: u64 = 1;
 /// What the workers print when they run the program: the lines of its depth-first run, whatever the quota.
 fn run(alloc: Global, workers: u32, program: Program) -> Result<Lines, AllocError>
     requires { 0 < workers }
-    ensures { IfOk result (λ lines. (p : ProgramTree) (k : ℕ) → printing p ≡ Some program.main → PrintsDone (whole (setting_of p k)).items (entries lines)) }
+    ensures { IfOk result (λ lines. (p : ProgramTree) (k : ℕ) → printing p ≡ Some program.main
+        → PrintsDone (whole (setting_of p k)).items (entries lines)) }
 {
     let mut core = Core::new(alloc, program, workers)?;
     let mut choices = PcgChoices::new(SEED);

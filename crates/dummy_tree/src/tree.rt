@@ -44,7 +44,8 @@ impl Tree {
         ensures some { IsSome result ↔ (1 < tree_leaves self.now) }
         ensures child { IfSome result (λ halves. tree_leaves halves.0 ≡ (tree_leaves self.now + 1) / 2) }
         ensures own { IfSome result (λ halves. tree_leaves halves.1 ≡ tree_leaves self.now / 2) }
-        ensures shape { MatchOption result (shape_of (tree_leaves self.now) ≡ leaf) (λ halves. shape_of (tree_leaves self.now) ≡ forked (shape_of (tree_leaves halves.0)) (shape_of (tree_leaves halves.1))) }
+        ensures shape { MatchOption result (shape_of (tree_leaves self.now) ≡ leaf)
+            (λ halves. shape_of (tree_leaves self.now) ≡ forked (shape_of (tree_leaves halves.0)) (shape_of (tree_leaves halves.1))) }
     {
         if self.leaves == 1 {
             return None;

@@ -57,7 +57,8 @@ fn lower_function(
 ) -> Result<(Vec<Node>, FuncCode), AllocError>
     requires named { HasFunc (functions_in functions.now) (func_tree func.now) }
     requires room { length (nodes_shown nodes.items) + body_size (func_tree func.now).body ≤ most_nodes }
-    ensures count { IfOk result (λ r. length (nodes_shown r.0.items) ≡ length (nodes_shown nodes.items) + body_size (func_tree func.now).body) }
+    ensures count { IfOk result (λ r.
+        length (nodes_shown r.0.items) ≡ length (nodes_shown nodes.items) + body_size (func_tree func.now).body) }
     ensures made { IfOk result (λ r. Grown (nodes_shown nodes.items) (nodes_shown r.0.items)
         × IsFunc (nodes_shown r.0.items) (functions_in functions.now) (func_tree func.now) (func_shown r.1)) }
 {

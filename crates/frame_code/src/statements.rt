@@ -80,7 +80,8 @@ fn put_node(
 ) -> Result<NodeKind, AllocError>
     requires { Has (names_of_scope scope.now) (name_tree block.now)
         × HasExpr (names_of_scope scope.now) (expr_tree index.now) × HasExpr (names_of_scope scope.now) (expr_tree value.now) }
-    ensures { IfOk result (λ k. AsPut (names_of_scope scope.now) (name_tree block.now) (expr_tree index.now) (expr_tree value.now) (kind_shown k)) }
+    ensures { IfOk result (λ k. AsPut (names_of_scope scope.now) (name_tree block.now) (expr_tree index.now) (expr_tree value.now)
+        (kind_shown k)) }
 {
     let index = lower_expression(alloc, &scope.names, index)?;
     let value = lower_expression(alloc, &scope.names, value)?;
@@ -117,7 +118,8 @@ fn call_node(
 ) -> Result<NodeKind, AllocError>
     requires { HasTarget (names_of_scope scope.now) (target_tree receiver.now)
         × Has (functions_of scope.now) (name_tree name.now) × HasArgs (names_of_scope scope.now) (args_tree args.now) }
-    ensures { IfOk result (λ k. AsCall (functions_of scope.now) (names_of_scope scope.now) (target_tree receiver.now) (name_tree name.now) (args_tree args.now)
+    ensures { IfOk result (λ k. AsCall (functions_of scope.now) (names_of_scope scope.now) (target_tree receiver.now) (name_tree name.now)
+        (args_tree args.now)
         (kind_shown k)) }
 {
     let target = lower_target(&scope.names, receiver);
@@ -136,7 +138,8 @@ fn lower_statement(
 ) -> Result<(Vec<Node>, NodeKind), AllocError>
     requires { HasStmt (functions_of scope.now) (names_of_scope scope.now) (stmt_tree kind.now)
         × (length (nodes_shown nodes.items) + stmt_size (stmt_tree kind.now) ≤ most_nodes + 1) }
-    ensures count { IfOk result (λ r. length (nodes_shown r.0.items) + 1 ≡ length (nodes_shown nodes.items) + stmt_size (stmt_tree kind.now)) }
+    ensures count { IfOk result (λ r. length (nodes_shown r.0.items) + 1 ≡ length (nodes_shown nodes.items) + stmt_size
+        (stmt_tree kind.now)) }
     ensures table { IfOk result (λ r. Grown (nodes_shown nodes.items) (nodes_shown r.0.items)
         × IsStmt (nodes_shown r.0.items) (functions_of scope.now) (names_of_scope scope.now) (stmt_tree kind.now) (length (nodes_shown nodes.items))
         (kind_shown r.1)) }

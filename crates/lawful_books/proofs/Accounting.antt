@@ -1,23 +1,22 @@
 -- The words in use are at most the peak and two quotas for each period ahead.
-use Rattle.std.proofs.Common.{◌≡◌, ℕ, zero, suc, ◌+◌, ◌-◌, ◌*◌, ◌≤◌, ◌<◌, ◌⊎◌, cond, nat_le, Bool, true, false, ◌||◌, List, [], ◌∷◌, ◌++◌, length, map, take, ℤ, pos, ◌+ℤ◌, ◌≤ℤ◌, ◌<ℤ◌, inl, inr, refl, sym, ap, subst, ◌∙◌, arith, true≢false}
-use Rattle.std.specs.Prelude.{Option, None, Some}
-use Rattle.std.proofs.lemmas.Bool.{cases_eq, cases_lt, cases_Bool, leb-true, leb-false, le-leb, lt-leb}
+use Rattle.std.proofs.Common.{◌≡◌, ℕ, zero, suc, ◌+◌, ◌-◌, ◌*◌, ◌≤◌, ◌<◌, ◌⊎◌, cond, nat_le, Bool, true, false, ◌||◌, List, [], ◌∷◌, ◌++◌, length, take, ℤ, pos, ◌+ℤ◌, ◌≤ℤ◌, ◌<ℤ◌, inl, inr, refl, sym, ap, subst, ◌∙◌, arith, true≢false}
+use Rattle.std.proofs.lemmas.Bool.{cases_eq, cases_lt, leb-false}
 use Rattle.std.proofs.lemmas.Int.{ints}
 use Rattle.std.proofs.Math.Nat.{mul-add, add-mul}
 use Rattle.std.proofs.lemmas.Nat.{mul-le}
 use Rattle.dummy_tree.proofs.QuotaLaws.{dummies_cover}
 use Rattle.dummy_tree.specs.Quotas.{dummies_of}
 use Rattle.dummy_tree.specs.Shapes.{is_dummy}
-use Rattle.depth_first_list.specs.Actions.{Deed, forks, joins, allocates, releases, dummy, faults, ends, Action, kind_of, record_words, weight, weight_of, live_words, peak}
+use Rattle.depth_first_list.specs.Actions.{Deed, forks, joins, allocates, releases, dummy, faults, ends, Action, kind_of, record_words, weight_of, live_words, peak}
 use Rattle.depth_first_list.specs.Runs.{IsDepthFirst}
-use Rattle.depth_first_list.specs.Facts.{action_at, weight_at, deed_at, label_at, words_at, leaves_at, dummies_from, IsOfTree, IsLarge, IsInTreeOf, TreeStandsBefore, IsDone, PeakIsHighest}
+use Rattle.depth_first_list.specs.Facts.{weight_at, deed_at, words_at, leaves_at, dummies_from, IsOfTree, IsLarge, IsInTreeOf, TreeStandsBefore, PeakIsHighest}
 use Rattle.depth_first_list.proofs.TreeLaws.{trees_stand_before, trees_are_done_first}
 use Rattle.depth_first_list.proofs.Peak.{peak_is_highest}
-use Rattle.lawful_books.specs.Lists.{Among, Each, total, times}
-use Rattle.lawful_books.specs.Books.{Book, booked, done_in, words_in_use, charge, charge_at, charged, IsPrefix, goes_past, one_if_ahead, periods_ahead, bound}
-use Rattle.lawful_books.specs.Lawful.{LawfulBooks, DummyEnds, IsWithin, Accounting, ArenaLaw}
-use Rattle.lawful_books.proofs.Lists.{each_from, times_among, total_zero}
-use Rattle.lawful_books.proofs.Parts.{part, part_done, part_missing, part_empty, part_append, part_below, part_sum, part_times, part_none, between_low, between_in, early, early_all, split_at}
+use Rattle.lawful_books.specs.Lists.{Each, total, times}
+use Rattle.lawful_books.specs.Books.{Book, booked, done_in, words_in_use, charge, charge_at, IsPrefix, goes_past, one_if_ahead, periods_ahead}
+use Rattle.lawful_books.specs.Lawful.{LawfulBooks, DummyEnds, Accounting, ArenaLaw}
+use Rattle.lawful_books.proofs.Lists.{each_from, times_among}
+use Rattle.lawful_books.proofs.Parts.{part, part_done, part_missing, part_empty, part_append, part_below, part_sum, part_times, part_none, early, early_all, split_at}
 use Rattle.lawful_books.proofs.Words.{fork_weight}
 
 -- the words of an Alloc that the quota does not cover, and its dummies
@@ -165,22 +164,22 @@ wanted_are_done k l books n some run lawful prefix (suc turns) (suc m) few insid
       | inl low ↦ let none = part_empty n (suc m) (wanted_at k l) (booked books) (omega arith) in omega (arith, none)
       | inr from ↦ elim (cases_eq (done_in books m) 0) [
         | inl missing ↦
-          let a = part_missing n m (wanted_at k l) (booked books) from missing in
-          let b = part_missing n m (dummy_at l) (booked books) from missing in
-          let before = wanted_are_done k l books n some run lawful prefix turns m (omega arith) (omega arith) in omega (arith, a, b, before)
+            let a = part_missing n m (wanted_at k l) (booked books) from missing in
+            let b = part_missing n m (dummy_at l) (booked books) from missing in
+            let before = wanted_are_done k l books n some run lawful prefix turns m (omega arith) (omega arith) in omega (arith, a, b, before)
         | inr there ↦
-          let once_at = lawful.different m in
-          let once : done_in books m ≡ 1 = omega arith in
-          let a = part_done n m (wanted_at k l) (booked books) from once in
-          let b = part_done n m (dummy_at l) (booked books) from once in
-          let before = wanted_are_done k l books n some run lawful prefix turns m (omega arith) (omega arith) in
-          elim (wants k l m (omega arith)) [
-            | inr none ↦ omega (arith, a, b, before, none)
-            | inl large ↦
-              let tree : TreeStandsBefore k l m = trees_stand_before k l some run m large.0 in
-              let earlier = wanted_are_done k l books n some run lawful prefix turns tree.first in
-              through m (omega arith) from once a b large.0 large.1 tree earlier
-          ]
+            let once_at = lawful.different m in
+            let once : done_in books m ≡ 1 = omega arith in
+            let a = part_done n m (wanted_at k l) (booked books) from once in
+            let b = part_done n m (dummy_at l) (booked books) from once in
+            let before = wanted_are_done k l books n some run lawful prefix turns m (omega arith) (omega arith) in
+            elim (wants k l m (omega arith)) [
+              | inr none ↦ omega (arith, a, b, before, none)
+              | inl large ↦
+                  let tree : TreeStandsBefore k l m = trees_stand_before k l some run m large.0 in
+                  let earlier = wanted_are_done k l books n some run lawful prefix turns tree.first in
+                  through m (omega arith) from once a b large.0 large.1 tree earlier
+            ]
       ]
     ]
   where
@@ -194,9 +193,9 @@ wanted_are_done k l books n some run lawful prefix (suc turns) (suc m) few insid
         let size = tree.size in let below = tree.begins_before in let m_in = large.0 in
         let in_tree : (i : ℕ) → tree.first ≤ i → i < m → IsInTreeOf k l m i = λ i low high. (high, omega (arith, size)) in
         let did : (i : ℕ) → tree.first ≤ i → i < m → 0 < done_in books i = λ i low high.
-            trees_are_done_first k l some run (done_in books) lawful.first_actions m i large (in_tree i low high) (omega (arith, once)) in
+        trees_are_done_first k l some run (done_in books) lawful.first_actions m i large (in_tree i low high) (omega (arith, once)) in
         let all : (i : ℕ) → tree.first ≤ i → i < m → times i (booked books) ≡ 1 = λ i low high.
-            let d = did i low high in let most = lawful.different i in omega arith in
+        let d = did i low high in let most = lawful.different i in omega arith in
         let reached : n ≤ tree.first = elim (cases_lt tree.first n) [
           | inr le ↦ le
           | inl past ↦ let missing = prefix.next_missing (omega arith) in elim (cases_lt n m) [
@@ -295,8 +294,8 @@ pub arena_law : (k : ℕ) (l : List Action) → 0 < k → IsDepthFirst k l → A
 arena_law k l some run books n periods lawful prefix above = elim (cases_lt periods (periods_ahead n books)) [
   | inl more ↦ more
   | inr few ↦ let most = accounting k l some run books n lawful prefix in
-    let products : 2 * k * periods_ahead n books ≤ 2 * k * periods = mul-le (2 * k) (periods_ahead n books) (2 * k) periods (omega arith) few in
-    absurd (too_many (words_in_use l books) (peak l) (2 * k * periods_ahead n books) (2 * k * periods) most above products)
+      let products : 2 * k * periods_ahead n books ≤ 2 * k * periods = mul-le (2 * k) (periods_ahead n books) (2 * k) periods (omega arith) few in
+      absurd (too_many (words_in_use l books) (peak l) (2 * k * periods_ahead n books) (2 * k * periods) most above products)
 ]
   where
     too_many : (live top : ℤ) (ahead most : ℕ) → live ≤ℤ (top +ℤ pos ahead) → (top +ℤ pos most) <ℤ live → ahead ≤ most → ⊥

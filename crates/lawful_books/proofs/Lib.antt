@@ -3,3 +3,4 @@ pub mod Parts
 pub mod Words
 pub mod Accounting
 pub mod Keeping
+pub mod Whole

@@ -1,13 +1,13 @@
 -- Sums over the places of a list from one place up to another.
-use Rattle.std.proofs.Common.{◌≡◌, ℕ, zero, suc, ◌+◌, ◌*◌, ◌≤◌, ◌<◌, ◌⊎◌, cond, nat_eq, nat_lt, nat_le, Bool, true, false, List, [], ◌∷◌, ◌++◌, length, map, take, get_or, ℤ, pos, ◌+ℤ◌, ◌≤ℤ◌, inl, inr, refl, sym, ap, subst, ◌∙◌, arith}
+use Rattle.std.proofs.Common.{◌≡◌, ℕ, zero, suc, ◌+◌, ◌*◌, ◌≤◌, ◌<◌, cond, nat_eq, nat_lt, nat_le, List, [], ◌∷◌, ◌++◌, length, map, take, ℤ, pos, ◌+ℤ◌, ◌≤ℤ◌, inl, inr, refl, sym, ap, subst, ◌∙◌, arith}
 use Rattle.std.proofs.lemmas.Bool.{cases_eq, cases_lt, eq-eqb, ne_eqb, lt-ltb, le-ltb, le-leb, lt-leb}
 use Rattle.std.proofs.lemmas.Int.{ints}
 use Rattle.std.proofs.lemmas.List.{take_more}
 use Rattle.std.proofs.Math.Nat.{mul-add}
 use Rattle.depth_first_list.specs.Actions.{Action, weight, live_words}
 use Rattle.depth_first_list.specs.Facts.{action_at, weight_at}
-use Rattle.lawful_books.specs.Lists.{Each, total, one_if_same, times}
-use Rattle.lawful_books.proofs.Lists.{one_cases, total_below, total_zero}
+use Rattle.lawful_books.specs.Lists.{Each, total, times}
+use Rattle.lawful_books.proofs.Lists.{one_cases}
 
 -- f at a place from n on and below m, and else nothing
 pub between : ℕ → ℕ → (ℕ → ℕ) → ℕ → ℕ
@@ -228,3 +228,9 @@ split_at l n m gain (x ∷ xs) above all =
       | inl lt ↦ let a = early_in (weight_at l) n x lt in let b = between_low n m gain x lt in omega (arith, ints, rest, a, b)
       | inr le ↦ let a = early_out (weight_at l) n x le in let b = between_in n m gain x le all.0 in let c = above x all.0 in omega (arith, ints, rest, a, b, c)
     ]
+
+-- where all places are below n, the part below n is the whole
+pub total_is_part : (n : ℕ) (f : ℕ → ℕ) (xs : List ℕ) → Each (λ i. i < n) xs → total f xs ≡ part 0 n f xs
+unfolding part
+total_is_part n f [] inside = refl
+total_is_part n f (x ∷ xs) inside = let rest = total_is_part n f xs inside.1 in let here = between_in 0 n f x (omega arith) inside.0 in omega (arith, rest, here)

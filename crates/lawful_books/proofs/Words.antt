@@ -1,8 +1,7 @@
 -- The words of Forks.
-use Rattle.std.proofs.Common.{◌≡◌, ◌<◌, ℕ, List, length, ℤ, pos, ◌≤ℤ◌, arith, subst, sym}
+use Rattle.std.proofs.Common.{◌≡◌, ◌<◌, ℕ, List, length, pos, ◌≤ℤ◌, arith, subst, sym}
 use Rattle.std.proofs.lemmas.Int.{ints}
-use Rattle.std.proofs.lemmas.Bool.{cases_lt}
-use Rattle.depth_first_list.specs.Actions.{Deed, forks, Action, record_words, weight_of}
+use Rattle.depth_first_list.specs.Actions.{forks, Action, record_words, weight_of}
 use Rattle.depth_first_list.specs.Runs.{IsDepthFirst}
 use Rattle.depth_first_list.specs.Facts.{deed_at, words_at}
 use Rattle.depth_first_list.proofs.Weights.{forks_take_records}

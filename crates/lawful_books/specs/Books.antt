@@ -1,5 +1,5 @@
 -- Books: what each period of a scheduler ran of a depth-first list, and what is done by them.
-use Rattle.std.specs.Prelude.{◌≡◌, ℕ, ◌+◌, ◌≤◌, ◌<◌, ◌*◌, Bool, false, ◌||◌, nat_le, cond, Option, List, [], ◌∷◌, ◌++◌, map, length, ℤ, pos, ◌+ℤ◌, ◌≤ℤ◌}
+use Rattle.std.specs.Prelude.{◌≡◌, ℕ, ◌≤◌, ◌<◌, ◌*◌, Bool, false, ◌||◌, nat_le, cond, Option, List, [], ◌∷◌, ◌++◌, map, length, ℤ, pos, ◌+ℤ◌}
 use Rattle.depth_first_list.specs.Actions.{Deed, forks, joins, allocates, releases, dummy, faults, ends, Action, record_words, live_words, peak}
 use Rattle.depth_first_list.specs.Facts.{action_at, deed_at, words_at}
 use Rattle.lawful_books.specs.Lists.{total, times}

@@ -1,14 +1,15 @@
 -- Worked runs of the machine, and pairs that never come.
-use Rattle.std.proofs.Common.{◌≡◌, ℕ, Bool, true, false, List, [], ◌∷◌, ◌++◌, refl, map, take, pos}
-use Rattle.std.specs.Prelude.{Option, None, Some, ℤ, is_none}
-use Rattle.std.specs.declared.result.Result.{Result}
+use Rattle.std.proofs.Common.{◌≡◌, ℕ, Bool, true, false, List, [], ◌∷◌, refl, take, pos, get_or}
+use Rattle.std.specs.Prelude.{Option, None, Some}
 use Rattle.std.specs.declared.result.Result.TheVariants.{Ok, Err}
-use Rattle.depth_first_list.specs.Actions.{Deed, forks, joins, allocates, releases, dummy, faults, ends, Action, peak}
-use Rattle.lawful_books.specs.Books.{Book, periods_marked}
-use Rattle.deque_machine.specs.Moments.{Deque, Waiting, Moment, opening}
+use Rattle.depth_first_list.specs.Actions.{Deed, forks, joins, allocates, releases, dummy, ends, Action}
+use Rattle.lawful_books.specs.Books.{Book}
+use Rattle.deque_machine.specs.Moments.{Deque, opening}
 use Rattle.deque_machine.specs.Machine.{Setting, Event, steals, does, suspends, gives_up}
 use Rattle.deque_machine.specs.Runs.{Pair, high_water_mark}
-use Rattle.machine_replay.specs.Step.{step, replay, moment_of}
+use Rattle.deque_machine.specs.Play.{Limits, Stop, arena_full, steps_spent, deques_full, Ending, finished, stopped}
+use Rattle.machine_replay.specs.Played.{Played, play}
+use Rattle.machine_replay.specs.Step.{replay, moment_of}
 
 abbrev act : List ℕ → ℕ → Deed → ℕ → Action
 act label index deed words = record { label = label; index = index; deed = deed; words = words }
@@ -195,3 +196,43 @@ beyond_the_workers = refl
 taken_id : replay (setting large_alloc 16 1) (by 0 (steals 0 0) ∷ by 0 (does 0) ∷ by 0 gives_up ∷ by 0 (steals 0 0) ∷ []) ≡ Err 4
 taken_id = refl
 
+-- Play: the words that pick a run, and 0 behind them.
+abbrev words_of : List ℕ → ℕ → ℕ
+words_of words n = get_or words n 0
+
+abbrev ample : Limits
+ample = record { capacity = 1000; actions = 1000; deques = 1000 }
+
+-- how a play ends, and its events
+abbrev ending_of : Option Played → Option Ending
+ending_of None = None
+ending_of (Some played) = Some played.ending
+
+abbrev run_of : Option Played → List Pair
+run_of None = []
+run_of (Some played) = played.run
+
+abbrev played : Setting → Limits → List ℕ → Option Played
+played s limits words = play s limits (words_of words) 64 0 opening
+
+plays_stolen_root : run_of (played (setting one_fork 16 2) ample (0 ∷ 0 ∷ 0 ∷ 1 ∷ 0 ∷ 1 ∷ 0 ∷ 0 ∷ 0 ∷ [])) ≡ stolen_root
+plays_stolen_root = refl
+
+plays_both_blocks : run_of (played (setting two_blocks 32 2) ample (0 ∷ 0 ∷ 0 ∷ 1 ∷ 0 ∷ 0 ∷ 1 ∷ 1 ∷ 1 ∷ 0 ∷ 0 ∷ 0 ∷ 0 ∷ [])) ≡ both_blocks
+plays_both_blocks = refl
+
+plays_seven_periods : run_of (played (setting large_alloc 16 1) ample []) ≡ seven_periods
+plays_seven_periods = refl
+
+plays_to_the_end : ending_of (played (setting large_alloc 16 1) ample []) ≡ Some finished
+plays_to_the_end = refl
+
+-- A small arena, few actions and few deques stop it.
+plays_out_of_words : ending_of (played (setting large_alloc 16 1) (record { capacity = 16; actions = 1000; deques = 1000 }) []) ≡ Some (stopped (arena_full (pos 16) 16))
+plays_out_of_words = refl
+
+plays_out_of_steps : ending_of (played (setting large_alloc 16 1) (record { capacity = 1000; actions = 2; deques = 1000 }) []) ≡ Some (stopped (steps_spent 2))
+plays_out_of_steps = refl
+
+plays_out_of_deques : ending_of (played (setting large_alloc 16 1) (record { capacity = 1000; actions = 1000; deques = 2 }) []) ≡ Some (stopped (deques_full 2))
+plays_out_of_deques = refl

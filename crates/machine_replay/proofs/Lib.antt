@@ -3,3 +3,5 @@ pub mod TestLaws
 pub mod StepSound
 pub mod StepComplete
 pub mod Replay
+pub mod OnePlay
+pub mod PlayedSound

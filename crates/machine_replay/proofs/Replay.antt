@@ -1,16 +1,16 @@
 -- The computed machine is the machine, and a replay is a run.
-use Rattle.std.proofs.Common.{◌≡◌, ◌≢◌, ℕ, zero, suc, ◌+◌, ◌≤◌, ◌<◌, Bool, true, false, true≢false, List, [], ◌∷◌, ◌++◌, length, refl, sym, ap, subst, ◌∙◌, arith}
+use Rattle.std.proofs.Common.{◌≡◌, ℕ, suc, ◌+◌, ◌<◌, true≢false, List, [], ◌∷◌, ◌++◌, length, refl, sym, ap, subst, ◌∙◌, arith}
 use Rattle.std.specs.Prelude.{Option, None, Some, is_some, is_ok}
 use Rattle.std.specs.declared.result.Result.{Result}
 use Rattle.std.specs.declared.result.Result.TheVariants.{Ok, Err}
 use Rattle.depth_first_list.specs.Runs.{IsDepthFirst}
 use Rattle.deque_machine.specs.Moments.{Moment, opening}
-use Rattle.deque_machine.specs.Machine.{Setting, Event, May}
+use Rattle.deque_machine.specs.Machine.{Setting, May}
 use Rattle.deque_machine.specs.LawfulOrder.{IsLawful}
 use Rattle.deque_machine.specs.Runs.{Pair, Reaches}
 use Rattle.deque_machine.proofs.Kept.{kept, opening_is_lawful}
 use Rattle.machine_replay.specs.Step.{step, replay, replay_on}
-use Rattle.machine_replay.specs.Laws.{StepIsTheMachine, ReplayReaches, ReplayFails, FailsAt}
+use Rattle.machine_replay.specs.Laws.{StepIsTheMachine, ReplayReaches, ReplayFails}
 use Rattle.machine_replay.proofs.StepSound.{step_sound}
 use Rattle.machine_replay.proofs.StepComplete.{step_complete}
 
@@ -79,7 +79,13 @@ module _ (s : Setting) (some : 0 < s.quota) (list : IsDepthFirst s.quota s.list)
       by_step None stepped is further =
           let same : suc n ≡ k = same_err (suc n) k is in
           record {
-            front = []; pair = pair; back = later; is = refl; number = omega arith; moment = first; reached = refl;
+            front = [];
+            pair = pair;
+            back = later;
+            is = refl;
+            number = omega arith;
+            moment = first;
+            reached = refl;
             no_case = λ after may. true≢false (sym (ap is_some (sym stepped ∙ step_complete s first lawful pair.worker pair.event after may)));
           }
       by_step (Some next) stepped is further =
@@ -87,8 +93,14 @@ module _ (s : Setting) (some : 0 < s.quota) (list : IsDepthFirst s.quota s.list)
           let f : FailsFrom s next later (suc n) k = further next (kept s list first lawful pair.worker pair.event next may) is in
           let number = f.number in
           record {
-            front = pair ∷ f.front; pair = f.pair; back = f.back; is = ap (λ t. pair ∷ t) f.is; number = omega arith; moment = f.moment;
-            reached = (next, may, f.reached); no_case = f.no_case;
+            front = pair ∷ f.front;
+            pair = f.pair;
+            back = f.back;
+            is = ap (λ t. pair ∷ t) f.is;
+            number = omega arith;
+            moment = f.moment;
+            reached = (next, may, f.reached);
+            no_case = f.no_case;
           }
 
   from_fails : (front : List Pair) (pair : Pair) (back : List Pair) (n : ℕ) (first moment : Moment) → IsLawful s first → Reaches s first front moment
@@ -114,8 +126,8 @@ module _ (s : Setting) (some : 0 < s.quota) (list : IsDepthFirst s.quota s.list)
   pub replay_fails : ReplayFails s
   replay_fails pairs n = (
     (λ is. let f : FailsFrom s opening pairs 0 n = fails_from pairs 0 n opening (opening_is_lawful s list) is in
-      let number = f.number in
-      record { front = f.front; pair = f.pair; back = f.back; is = f.is; number = omega arith; moment = f.moment; reached = f.reached; no_case = f.no_case }),
+        let number = f.number in
+        record { front = f.front; pair = f.pair; back = f.back; is = f.is; number = omega arith; moment = f.moment; reached = f.reached; no_case = f.no_case }),
     (λ f. let number = f.number in let same : suc (0 + length f.front) ≡ n = omega arith in
-      ap (replay s) f.is ∙ from_fails f.front f.pair f.back 0 opening f.moment (opening_is_lawful s list) f.reached f.no_case ∙ ap Err same),
+        ap (replay s) f.is ∙ from_fails f.front f.pair f.back 0 opening f.moment (opening_is_lawful s list) f.reached f.no_case ∙ ap Err same),
   )

@@ -1,21 +1,21 @@
 -- Each case of the machine, at a lawful moment, is what the computed machine answers.
-use Rattle.std.proofs.Common.{◌≡◌, ◌≢◌, ℕ, zero, suc, ◌+◌, ◌≤◌, ◌<◌, ◌⊎◌, Bool, true, false, cond, not, ◌&&◌, ◌||◌, nat_eq, nat_lt, nat_le, true≢false, List, [], ◌∷◌, ◌++◌, length, inl, inr, refl, sym, ap, subst, ◌∙◌, arith}
-use Rattle.std.specs.Prelude.{Option, None, Some, is_some, unwrap_or}
-use Rattle.std.proofs.lemmas.Bool.{cases_lt, cases_eq, cases_Bool, eqb-true, eq-eqb, ne_eqb, ltb-true, lt-ltb, ltb-false, leb-true, le-leb, leb-false, lt-leb, and_parts, and_from}
+use Rattle.std.proofs.Common.{◌≡◌, ◌≢◌, ℕ, ◌+◌, ◌<◌, Bool, true, false, cond, not, ◌&&◌, nat_eq, nat_lt, nat_le, List, [], ◌∷◌, ◌++◌, length, inl, inr, refl, sym, ap, subst, ◌∙◌, arith}
+use Rattle.std.specs.Prelude.{Option, None, Some}
+use Rattle.std.proofs.lemmas.Bool.{cases_Bool, eq-eqb, ne_eqb, lt-ltb, le-leb, lt-leb, and_from}
 use Rattle.dag_order.specs.LabelOrder.{fork_of}
-use Rattle.depth_first_list.specs.Actions.{Deed, forks, joins, allocates, releases, dummy, faults, ends, Action, record_words}
-use Rattle.depth_first_list.specs.Facts.{label_at, deed_at, words_at, IsNext}
-use Rattle.lawful_books.specs.Lists.{Among, Each, Differ, total, one_if_same}
-use Rattle.lawful_books.specs.Books.{Book, charged}
-use Rattle.lawful_books.proofs.Lists.{each_map, each_from, total_append, one_same, same_tail, same_head, cons_is_not_nil, among_left, among_right, among_here}
-use Rattle.deque_machine.specs.Moments.{Deque, Waiting, Moment, done_at, owned_by, open_for, with_id, waiting_threads, one_if_owned, one_if_open, one_if_worker}
-use Rattle.deque_machine.specs.Machine.{Setting, Event, steals, does, suspends, gives_up, Owns, IsAtTop, HasEnded, IsIdle, new_book, May, steals_beside, takes_over, forks_child, joins_child, allocates_within, allocates_above, releases_words, meets_fault, runs_dummy, ends_above_parent, ends_and_wakes, ends_and_leaves, suspends_top, gives_deque_up}
-use Rattle.deque_machine.specs.LawfulOrder.{OrderOf, LawfulOrder, OnePeriodEach, IsLawful}
-use Rattle.deque_machine.proofs.Counts.{none_open, no_other_open, same_worker}
+use Rattle.depth_first_list.specs.Actions.{Deed, forks, joins, allocates, releases, dummy, faults, ends, record_words}
+use Rattle.depth_first_list.specs.Facts.{deed_at, words_at}
+use Rattle.lawful_books.specs.Lists.{Among, Each, Differ, one_if_same}
+use Rattle.lawful_books.specs.Books.{charged}
+use Rattle.lawful_books.proofs.Lists.{each_map, total_append, one_same, among_here}
+use Rattle.deque_machine.specs.Moments.{Deque, Waiting, Moment, done_at, owned_by, open_for, with_id, waiting_threads, one_if_owned, one_if_worker}
+use Rattle.deque_machine.specs.Machine.{Setting, Event, steals, does, Owns, IsAtTop, HasEnded, IsIdle, new_book, May, steals_beside, takes_over, forks_child, joins_child, allocates_within, allocates_above, releases_words, meets_fault, runs_dummy, ends_above_parent, ends_and_wakes, ends_and_leaves, suspends_top, gives_deque_up}
+use Rattle.deque_machine.specs.LawfulOrder.{IsLawful}
+use Rattle.deque_machine.proofs.Counts.{no_other_open}
 use Rattle.deque_machine.proofs.Labels.{one_parent}
 use Rattle.deque_machine.proofs.Placed.{waiting_append}
-use Rattle.machine_replay.specs.Tests.{is_next, next_from, ended_by, Cut, cut_first, cut_at, front_of, last_of, same_label, is_fork_of, is_owner, owns_it, open_for_it, waits_for}
-use Rattle.machine_replay.specs.Step.{Hand, hand_with, hand_by, hand_of, deques_put, books_put, books_shut, moment_of, where_true, ended_alone, ended_over, act_by, suspend_by, suspend_at, steal_from, steal_by, does_by, suspends_by, gives_up_by, step}
+use Rattle.machine_replay.specs.Tests.{ended_by, cut_first, cut_at, front_of, last_of, same_label, is_fork_of, is_owner, owns_it, open_for_it, waits_for}
+use Rattle.machine_replay.specs.Step.{Hand, hand_by, hand_of, deques_put, books_put, moment_of, where_true, ended_alone, ended_over, act_by, suspend_by, suspend_at, steal_from, steal_by, does_by, suspends_by, gives_up_by, step}
 use Rattle.machine_replay.proofs.TestLaws.{same_label_is, is_same_label, next_is_next, next_from_finds, ended_by_is, ended_by_finds, cut_first_finds, cut_first_none, cut_at_finds, front_and_last_are, fork_is_fork_of}
 
 itself : (w : ℕ) → is_owner w (Some w) ≡ true
@@ -28,9 +28,10 @@ not_owner w (Some v) other = ne_eqb w v (λ e. other (ap Some (sym e)))
 -- no deque left of the worker's is the worker's too
 none_owned : (w : ℕ) (left : List Deque) → owned_by w left ≡ 0 → Each (λ d. owns_it w d ≡ false) left
 none_owned w [] none = tt
-none_owned w (d ∷ left) none =
-    (not_owner w d.owner (λ is. let one : one_if_owned w d ≡ one_if_same w w = ap (one_if_worker w) is in let o = one_same w w refl in absurd (omega (arith, one, o, none))),
-    none_owned w left (omega arith))
+none_owned w (d ∷ left) none = (
+  not_owner w d.owner (λ is. let one : one_if_owned w d ≡ one_if_same w w = ap (one_if_worker w) is in let o = one_same w w refl in absurd (omega (arith, one, o, none))),
+  none_owned w left (omega arith),
+)
 
 -- the hand that the machine's cut makes
 abbrev hand_from : {m : Moment} {w : ℕ} → Owns m w → Hand
@@ -82,14 +83,16 @@ module _ (s : Setting) (m : Moment) (lawful : IsLawful s m) (worker : ℕ) where
   alone_waits : (before later : List Waiting) (w : Waiting) (top : List ℕ) → Differ (waiting_threads (before ++ w ∷ later)) → top ≡ fork_of w.thread w.child
       → Each (λ v. waits_for top v ≡ false) before
   alone_waits [] later w top apart is = tt
-  alone_waits (v ∷ before) later w top apart is =
-      (elim (cases_Bool (waits_for top v)) [
-        | inr other ↦ other
-        | inl same ↦ absurd (apart.0 (subst (λ t. Among v.thread t) (sym (waiting_append before (w ∷ later)))
-            (subst (λ t. Among v.thread (waiting_threads before ++ t ∷ waiting_threads later))
-            (one_parent v.thread w.thread v.child w.child (sym (same_label_is top (fork_of v.thread v.child) same) ∙ is)).0
-            (among_here v.thread (waiting_threads before) (waiting_threads later)))))
-      ], alone_waits before later w top apart.1 is)
+  alone_waits (v ∷ before) later w top apart is = (
+    elim (cases_Bool (waits_for top v)) [
+      | inr other ↦ other
+      | inl same ↦ absurd (apart.0 (subst (λ t. Among v.thread t) (sym (waiting_append before (w ∷ later)))
+          (subst (λ t. Among v.thread (waiting_threads before ++ t ∷ waiting_threads later))
+          (one_parent v.thread w.thread v.child w.child (sym (same_label_is top (fork_of v.thread v.child) same) ∙ is)).0
+          (among_here v.thread (waiting_threads before) (waiting_threads later)))))
+    ],
+    alone_waits before later w top apart.1 is,
+  )
 
   pub step_complete : (event : Event) (after : Moment) → May s m worker event after → step s m worker event ≡ Some after
   step_complete event after (steals_beside left right victim first others bottom id idle reach deques_are threads_are new_id) =

@@ -1,17 +1,16 @@
 -- What the computed machine answers is a case of the machine.
-use Rattle.std.proofs.Common.{◌≡◌, ◌≢◌, ℕ, zero, suc, ◌+◌, ◌≤◌, ◌<◌, ◌⊎◌, Bool, true, false, cond, not, ◌&&◌, ◌||◌, nat_eq, nat_lt, nat_le, true≢false, List, [], ◌∷◌, ◌++◌, length, inl, inr, refl, sym, ap, subst, ◌∙◌, arith}
+use Rattle.std.proofs.Common.{◌≡◌, ◌≢◌, ℕ, ◌+◌, ◌<◌, Bool, true, false, cond, not, ◌&&◌, nat_eq, nat_lt, nat_le, true≢false, List, [], ◌∷◌, ◌++◌, length, refl, sym, ap, subst, ◌∙◌}
 use Rattle.std.specs.Prelude.{Option, None, Some, is_some, unwrap_or}
-use Rattle.std.proofs.lemmas.Bool.{cases_lt, cases_eq, cases_Bool, eqb-true, eq-eqb, ltb-true, lt-ltb, ltb-false, leb-true, le-leb, leb-false, lt-leb, and_parts, and_from}
+use Rattle.std.proofs.lemmas.Bool.{eqb-true, ltb-true, leb-true, leb-false, and_parts}
 use Rattle.std.proofs.lemmas.List.{nil_from_length}
 use Rattle.dag_order.specs.LabelOrder.{fork_of}
-use Rattle.depth_first_list.specs.Actions.{Deed, forks, joins, allocates, releases, dummy, faults, ends, Action, record_words}
-use Rattle.depth_first_list.specs.Facts.{label_at, deed_at, words_at, IsNext}
-use Rattle.lawful_books.specs.Lists.{Among, Each}
+use Rattle.depth_first_list.specs.Actions.{Deed, forks, joins, allocates, releases, dummy, faults, ends, record_words}
+use Rattle.depth_first_list.specs.Facts.{deed_at, words_at, IsNext}
 use Rattle.lawful_books.specs.Books.{Book, charged}
 use Rattle.lawful_books.proofs.Lists.{each_map}
 use Rattle.deque_machine.specs.Moments.{Deque, Waiting, Moment, done_at, owned_by, with_id}
 use Rattle.deque_machine.specs.Machine.{Setting, Event, steals, does, suspends, gives_up, Owns, IsAtTop, HasEnded, IsIdle, new_book, May, steals_beside, takes_over, forks_child, joins_child, allocates_within, allocates_above, releases_words, meets_fault, runs_dummy, ends_above_parent, ends_and_wakes, ends_and_leaves, suspends_top, gives_deque_up}
-use Rattle.machine_replay.specs.Tests.{is_next, next_from, ended_by, Cut, cut_first, cut_at, front_of, last_of, same_label, is_fork_of, is_owner, owns_it, open_for_it, waits_for}
+use Rattle.machine_replay.specs.Tests.{is_next, next_from, ended_by, Cut, cut_first, cut_at, front_of, last_of, is_fork_of, is_owner, owns_it, open_for_it, waits_for}
 use Rattle.machine_replay.specs.Step.{Hand, hand_with, hand_by, hand_of, deques_put, books_put, books_shut, moment_of, where_true, ended_alone, ended_over, act_by, suspend_by, suspend_at, steal_from, steal_by, does_by, suspends_by, gives_up_by, step}
 use Rattle.machine_replay.proofs.TestLaws.{same_label_is, is_same_label, is_next_is, next_from_is, ended_by_is, ended_by_finds, cut_first_is, cut_first_passes, none_first, cut_at_is, front_and_last, is_fork_of_is}
 
@@ -41,9 +40,17 @@ pub record HandFacts (m : Moment) (worker : ℕ) (h : Hand) : Type 0 where
 
 abbrev pub owns_from : (m : Moment) (worker : ℕ) (h : Hand) → HandFacts m worker h → Owns m worker
 owns_from m worker h f = record {
-  left = (h.deques).left; id = ((h.deques).here).id; top = h.top; under = h.under; right = (h.deques).right;
-  older = (h.books).left; book = (h.books).here; newer = (h.books).right;
-  deques_are = f.deques_are; books_are = f.books_are; open_for_it = f.open_for_it;
+  left = (h.deques).left;
+  id = ((h.deques).here).id;
+  top = h.top;
+  under = h.under;
+  right = (h.deques).right;
+  older = (h.books).left;
+  book = (h.books).here;
+  newer = (h.books).right;
+  deques_are = f.deques_are;
+  books_are = f.books_are;
+  open_for_it = f.open_for_it;
 }
 
 same_hand : (g h : Hand) → Some g ≡ Some h → g ≡ h

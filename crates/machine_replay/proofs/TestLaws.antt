@@ -1,11 +1,11 @@
 -- What the tests say.
-use Rattle.std.proofs.Common.{◌≡◌, ◌≢◌, ℕ, zero, suc, ◌+◌, ◌≤◌, ◌<◌, ◌⊎◌, Bool, true, false, cond, not, ◌&&◌, ◌||◌, nat_eq, nat_lt, nat_le, true≢false, List, [], ◌∷◌, ◌++◌, length, inl, inr, refl, sym, ap, subst, ◌∙◌, arith}
+use Rattle.std.proofs.Common.{◌≡◌, ◌≢◌, ℕ, zero, suc, ◌+◌, ◌≤◌, ◌<◌, Bool, true, false, cond, not, ◌&&◌, ◌||◌, nat_eq, nat_lt, true≢false, List, [], ◌∷◌, ◌++◌, length, inl, inr, refl, sym, ap, subst, ◌∙◌, arith}
 use Rattle.std.specs.Prelude.{Option, None, Some, is_some, unwrap_or}
-use Rattle.std.proofs.lemmas.Bool.{cases_lt, cases_eq, cases_Bool, eqb-true, eq-eqb, ltb-true, lt-ltb, ltb-false, and_parts, and_from, or_cases}
+use Rattle.std.proofs.lemmas.Bool.{cases_eq, cases_Bool, eqb-true, eq-eqb, ltb-true, lt-ltb, and_parts, and_from, or_cases}
 use Rattle.dag_order.specs.LabelOrder.{fork_of}
 use Rattle.depth_first_list.specs.Actions.{Deed, forks, joins, allocates, releases, dummy, faults, ends, Action}
 use Rattle.depth_first_list.specs.Facts.{label_at, deed_at, IsNext}
-use Rattle.lawful_books.specs.Lists.{Among, Each}
+use Rattle.lawful_books.specs.Lists.{Each}
 use Rattle.lawful_books.proofs.Lists.{same_head, same_tail, middle_is_not_nil, cons_is_not_nil}
 use Rattle.machine_replay.specs.Tests.{same_label, did_all, is_next, next_from, is_end, ended_by, Cut, behind, cut_first, cut_at, front_of, last_of, is_fork_of}
 
@@ -40,9 +40,9 @@ module _ (l : List Action) (done : ℕ → ℕ) (thread : List ℕ) where
       elim (cases_eq i n) [
         | inr other ↦ did_all_is n p.0 i (omega arith) mine
         | inl here ↦
-          let same : same_label (label_at l n) thread ≡ true = is_same_label (label_at l n) thread (ap (λ t. label_at l t) (sym here) ∙ mine) in
-          let did : nat_lt 0 (done n) ≡ true = subst (λ b. (not b || nat_lt 0 (done n)) ≡ true) same p.1 in
-          subst (λ t. 0 < done t) (sym here) (ltb-true 0 (done n) did)
+            let same : same_label (label_at l n) thread ≡ true = is_same_label (label_at l n) thread (ap (λ t. label_at l t) (sym here) ∙ mine) in
+            let did : nat_lt 0 (done n) ≡ true = subst (λ b. (not b || nat_lt 0 (done n)) ≡ true) same p.1 in
+            subst (λ t. 0 < done t) (sym here) (ltb-true 0 (done n) did)
       ]
 
   is_did_all : (n : ℕ) → ((i : ℕ) → i < n → label_at l i ≡ thread → 0 < done i) → did_all l done thread n ≡ true
@@ -79,17 +79,17 @@ module _ (l : List Action) (done : ℕ → ℕ) (thread : List ℕ) where
   next_from_finds zero place p next low high = absurd (omega arith)
   next_from_finds (suc n) place p next low high = elim (cases_Bool (is_next l done thread place)) [
     | inl here ↦
-      let first : IsNext l done thread place = is_next_is place here in
-      let same : place ≡ p = elim (cases_eq place p) [
-        | inl e ↦ e
-        | inr other ↦ let did = next.earlier place (omega arith) first.by in let none = first.missing in absurd (omega arith)
-      ] in ap (λ b. cond b (Some place) (next_from l done thread (suc place) n)) here ∙ ap Some same
+        let first : IsNext l done thread place = is_next_is place here in
+        let same : place ≡ p = elim (cases_eq place p) [
+          | inl e ↦ e
+          | inr other ↦ let did = next.earlier place (omega arith) first.by in let none = first.missing in absurd (omega arith)
+        ] in ap (λ b. cond b (Some place) (next_from l done thread (suc place) n)) here ∙ ap Some same
     | inr later ↦
-      let apart : place ≢ p = λ e. true≢false (sym (next_is_next place (subst (IsNext l done thread) (sym e) next)) ∙ later) in
-      ap (λ b. cond b (Some place) (next_from l done thread (suc place) n)) later ∙ elim (cases_eq place p) [
-        | inl e ↦ absurd (apart e)
-        | inr other ↦ next_from_finds n (suc place) p next (omega arith) (omega arith)
-      ]
+        let apart : place ≢ p = λ e. true≢false (sym (next_is_next place (subst (IsNext l done thread) (sym e) next)) ∙ later) in
+        ap (λ b. cond b (Some place) (next_from l done thread (suc place) n)) later ∙ elim (cases_eq place p) [
+          | inl e ↦ absurd (apart e)
+          | inr other ↦ next_from_finds n (suc place) p next (omega arith) (omega arith)
+        ]
   ]
 
   is_end_is : (deed : Deed) → is_end deed ≡ true → deed ≡ ends
@@ -106,9 +106,9 @@ module _ (l : List Action) (done : ℕ → ℕ) (thread : List ℕ) where
   ended_by_is (suc n) is = elim (or_cases (ended_by l done thread n) (same_label (label_at l n) thread && (is_end (deed_at l n) && nat_lt 0 (done n))) is) [
     | inl before ↦ let e = ended_by_is n before in let lt = e.1 in (e.0, omega arith, e.2, e.3, e.4)
     | inr here ↦
-      let a = and_parts (same_label (label_at l n) thread) (is_end (deed_at l n) && nat_lt 0 (done n)) here in
-      let b = and_parts (is_end (deed_at l n)) (nat_lt 0 (done n)) a.1 in
-      (n, omega arith, same_label_is (label_at l n) thread a.0, is_end_is (deed_at l n) b.0, ltb-true 0 (done n) b.1)
+        let a = and_parts (same_label (label_at l n) thread) (is_end (deed_at l n) && nat_lt 0 (done n)) here in
+        let b = and_parts (is_end (deed_at l n)) (nat_lt 0 (done n)) a.1 in
+        (n, omega arith, same_label_is (label_at l n) thread a.0, is_end_is (deed_at l n) b.0, ltb-true 0 (done n) b.1)
   ]
 
   pub ended_by_finds : (n e : ℕ) → e < n → label_at l e ≡ thread → deed_at l e ≡ ends → 0 < done e → ended_by l done thread n ≡ true

@@ -1,3 +1,4 @@
 pub mod Tests
 pub mod Step
 pub mod Laws
+pub mod Played

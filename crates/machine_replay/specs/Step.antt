@@ -1,16 +1,16 @@
 -- The machine, computed: what an event of a worker leads to, or nothing where the machine has no such case.
-use Rattle.std.specs.Prelude.{ℕ, zero, suc, ◌+◌, Bool, true, false, cond, not, ◌&&◌, nat_eq, nat_lt, nat_le, Option, None, Some, List, [], ◌∷◌, ◌++◌, length}
+use Rattle.std.specs.Prelude.{ℕ, suc, ◌+◌, Bool, true, cond, not, ◌&&◌, nat_eq, nat_lt, nat_le, Option, None, Some, List, [], ◌∷◌, ◌++◌, length}
 use Rattle.std.specs.declared.result.Result.{Result}
 use Rattle.std.specs.declared.result.Result.TheVariants.{Ok, Err}
 use Rattle.dag_order.specs.LabelOrder.{fork_of}
-use Rattle.depth_first_list.specs.Actions.{Deed, forks, joins, allocates, releases, dummy, faults, ends, Action, record_words}
-use Rattle.depth_first_list.specs.Facts.{label_at, deed_at, words_at}
+use Rattle.depth_first_list.specs.Actions.{Deed, forks, joins, allocates, releases, dummy, faults, ends, record_words}
+use Rattle.depth_first_list.specs.Facts.{deed_at, words_at}
 use Rattle.lawful_books.specs.Books.{Book, charged}
 use Rattle.lawful_books.specs.Lawful.{one_more, book_of}
 use Rattle.deque_machine.specs.Moments.{Deque, Waiting, Moment, opening, done_at, owned_by, with_id}
 use Rattle.deque_machine.specs.Machine.{Setting, Event, steals, does, suspends, gives_up, new_book}
 use Rattle.deque_machine.specs.Runs.{Pair}
-use Rattle.machine_replay.specs.Tests.{is_next, next_from, ended_by, Cut, cut_first, cut_at, front_of, last_of, same_label, is_fork_of, owns_it, open_for_it, waits_for}
+use Rattle.machine_replay.specs.Tests.{is_next, next_from, ended_by, Cut, cut_first, cut_at, front_of, last_of, is_fork_of, owns_it, open_for_it, waits_for}
 
 -- what a worker has: the deque that it owns, cut out, its top thread and those below, and its open book, cut out
 pub record Hand : Type 0 where
@@ -57,7 +57,8 @@ ended_alone m h worker place (Some w) =
 abbrev pub ended_over : Moment → Hand → ℕ → ℕ → List (List ℕ) → Option Moment
 ended_over m h worker place [] = ended_alone m h worker place (cut_first (waits_for h.top) m.waiting)
 ended_over m h worker place (parent ∷ below) =
-    where_true (is_fork_of parent h.top) (moment_of (deques_put h (Some worker) (parent ∷ below)) m.waiting (books_put h (Some worker) place))
+    where_true (is_fork_of parent h.top) (moment_of (deques_put h (Some worker) (parent ∷ below)) m.waiting
+    (books_put h (Some worker) place))
 
 -- the action at a place, by its deed
 abbrev pub act_by : Setting → Moment → Hand → ℕ → ℕ → Deed → Option Moment
@@ -65,9 +66,11 @@ act_by s m h worker place (forks child) =
     where_true (nat_le (charged s.quota s.list ((h.books).here).ran + record_words) s.quota)
     (moment_of (deques_put h (Some worker) (fork_of h.top child ∷ h.top ∷ h.under)) m.waiting (books_put h (Some worker) place))
 act_by s m h worker place (joins child) =
-    where_true (ended_by s.list (done_at m) (fork_of h.top child) (length s.list)) (moment_of m.deques m.waiting (books_put h (Some worker) place))
+    where_true (ended_by s.list (done_at m) (fork_of h.top child) (length s.list))
+    (moment_of m.deques m.waiting (books_put h (Some worker) place))
 act_by s m h worker place allocates =
-    where_true (cond (nat_le (words_at s.list place) s.quota) (nat_le (charged s.quota s.list ((h.books).here).ran + words_at s.list place) s.quota) true)
+    where_true (cond (nat_le (words_at s.list place) s.quota)
+    (nat_le (charged s.quota s.list ((h.books).here).ran + words_at s.list place) s.quota) true)
     (moment_of m.deques m.waiting (books_put h (Some worker) place))
 act_by s m h worker place releases = Some (moment_of m.deques m.waiting (books_put h (Some worker) place))
 act_by s m h worker place faults = Some (moment_of m.deques m.waiting (books_put h (Some worker) place))
@@ -76,7 +79,8 @@ act_by s m h worker place ends = ended_over m h worker place h.under
 
 -- a thread that has to wait, at its next place, by the deed there
 abbrev pub suspend_by : Setting → Moment → Hand → Deed → Option Moment
-suspend_by s m h (joins child) = where_true (not (ended_by s.list (done_at m) (fork_of h.top child) (length s.list)) && nat_eq (length h.under) 0)
+suspend_by s m h (joins child) =
+    where_true (not (ended_by s.list (done_at m) (fork_of h.top child) (length s.list)) && nat_eq (length h.under) 0)
     (moment_of ((h.deques).left ++ (h.deques).right) (record { thread = h.top; child = child } ∷ m.waiting) (books_shut h))
 suspend_by s m h other = None
 
@@ -88,11 +92,13 @@ suspend_at s m h (Some place) = suspend_by s m h (deed_at s.list place)
 abbrev pub steal_from : Moment → ℕ → ℕ → Cut Deque → Option ℕ → List (List ℕ) → Option Moment
 steal_from m worker id c owner [] = None
 steal_from m worker id c None (thread ∷ []) = where_true (nat_eq id (c.here).id)
-    (moment_of (c.left ++ record { id = (c.here).id; owner = Some worker; threads = thread ∷ [] } ∷ c.right) m.waiting (m.books ++ new_book worker (nat_lt 0 (length c.left)) ∷ []))
+    (moment_of (c.left ++ record { id = (c.here).id; owner = Some worker; threads = thread ∷ [] } ∷ c.right) m.waiting
+    (m.books ++ new_book worker (nat_lt 0 (length c.left)) ∷ []))
 steal_from m worker id c (Some other) (thread ∷ []) = None
 steal_from m worker id c owner (first ∷ second ∷ more) = where_true (nat_eq (with_id id m.deques) 0)
     (moment_of (c.left ++ record { id = (c.here).id; owner = (c.here).owner; threads = first ∷ front_of second more }
-    ∷ record { id = id; owner = Some worker; threads = last_of second more ∷ [] } ∷ c.right) m.waiting (m.books ++ new_book worker true ∷ []))
+    ∷ record { id = id; owner = Some worker; threads = last_of second more ∷ [] } ∷ c.right) m.waiting
+    (m.books ++ new_book worker true ∷ []))
 
 abbrev pub steal_by : Moment → ℕ → ℕ → Option (Cut Deque) → Option Moment
 steal_by m worker id None = None
@@ -113,7 +119,8 @@ gives_up_by m (Some h) = Some (moment_of (deques_put h None (h.top ∷ h.under))
 -- what an event of a worker leads to
 abbrev pub step : Setting → Moment → ℕ → Event → Option Moment
 step s m worker (steals place id) =
-    cond (nat_lt worker s.workers && (nat_eq (owned_by worker m.deques) 0 && nat_lt place s.workers)) (steal_by m worker id (cut_at place m.deques)) None
+    cond (nat_lt worker s.workers && (nat_eq (owned_by worker m.deques) 0 && nat_lt place s.workers))
+    (steal_by m worker id (cut_at place m.deques)) None
 step s m worker (does place) = does_by s m worker place (hand_of m worker)
 step s m worker suspends = suspends_by s m (hand_of m worker)
 step s m worker gives_up = gives_up_by m (hand_of m worker)

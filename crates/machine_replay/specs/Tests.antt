@@ -1,5 +1,5 @@
 -- Tests on labels and lists, for a machine that is computed.
-use Rattle.std.specs.Prelude.{ℕ, zero, suc, ◌+◌, Bool, true, false, cond, not, ◌&&◌, ◌||◌, nat_eq, nat_lt, nat_le, Option, None, Some, List, [], ◌∷◌, ◌++◌, length}
+use Rattle.std.specs.Prelude.{ℕ, zero, suc, Bool, true, false, cond, not, ◌&&◌, ◌||◌, nat_eq, nat_lt, Option, None, Some, List, [], ◌∷◌, length}
 use Rattle.dag_order.specs.LabelOrder.{fork_of}
 use Rattle.depth_first_list.specs.Actions.{Deed, forks, joins, allocates, releases, dummy, faults, ends, Action}
 use Rattle.depth_first_list.specs.Facts.{label_at, deed_at}
@@ -20,7 +20,8 @@ did_all l done thread (suc n) = did_all l done thread n && (not (same_label (lab
 
 -- whether the action at a place is the next one of a thread
 abbrev pub is_next : List Action → (ℕ → ℕ) → List ℕ → ℕ → Bool
-is_next l done thread place = nat_lt place (length l) && (same_label (label_at l place) thread && (nat_eq (done place) 0 && did_all l done thread place))
+is_next l done thread place =
+    nat_lt place (length l) && (same_label (label_at l place) thread && (nat_eq (done place) 0 && did_all l done thread place))
 
 -- the next place of a thread among n places from one on
 abbrev pub next_from : List Action → (ℕ → ℕ) → List ℕ → ℕ → ℕ → Option ℕ
@@ -39,7 +40,8 @@ is_end ends = true
 -- whether the End of a thread is done, among the first n actions
 abbrev pub ended_by : List Action → (ℕ → ℕ) → List ℕ → ℕ → Bool
 ended_by l done thread zero = false
-ended_by l done thread (suc n) = ended_by l done thread n || (same_label (label_at l n) thread && (is_end (deed_at l n) && nat_lt 0 (done n)))
+ended_by l done thread (suc n) =
+    ended_by l done thread n || (same_label (label_at l n) thread && (is_end (deed_at l n) && nat_lt 0 (done n)))
 
 -- a list with one element taken out
 pub record Cut (X : Type 0) : Type 0 where

@@ -11,7 +11,9 @@ use Rattle.node_table.specs.declared.code.Code.{Code}
 
 -- slots of different numbers have different names
 abbrev pub SlotNamesDiffer : Type 0
-SlotNamesDiffer = (f : Func) (i j : ℕ) → i < length (slot_names f) → j < length (slot_names f) → name_at (slot_names f) i ≡ name_at (slot_names f) j → i ≡ j
+SlotNamesDiffer =
+    (f : Func) (i j : ℕ) → i < length (slot_names f) → j < length (slot_names f) → name_at (slot_names f) i ≡ name_at (slot_names f) j
+    → i ≡ j
 
 -- codes that are the same as plain data are of the same programs
 abbrev pub SameTableSameProgram : Type 0
@@ -26,9 +28,11 @@ pub record IsCallee (p : Program) (t : Table) (n : ℕ) (x : Name) : Type 0 wher
   pub is : IsFunc t.nodes (function_names p) func code
 
 abbrev pub CallsFindFunctions : Type 0
-CallsFindFunctions = (p : Program) (t : Table) (n : ℕ) (x : Name) → Ownership p → IsTableOf p t → IsSlot (function_names p) n x → IsCallee p t n x
+CallsFindFunctions =
+    (p : Program) (t : Table) (n : ℕ) (x : Name) → Ownership p → IsTableOf p t → IsSlot (function_names p) n x → IsCallee p t n x
 
 -- each number of a list of statements has a node
 abbrev pub NumbersHaveNodes : Type 0
 NumbersHaveNodes =
-    (t : List Node) (functions names : List Name) (b : Body) (low : ℕ) (ns : List ℕ) → IsBody t functions names b low ns → All (λ n. n < length t) ns
+    (t : List Node) (functions names : List Name) (b : Body) (low : ℕ) (ns : List ℕ) → IsBody t functions names b low ns
+    → All (λ n. n < length t) ns

@@ -54,7 +54,8 @@ is_named_in b x = names_in_body x b
 abbrev pub is_assigned_in : Body → Name → Bool
 is_assigned_in b x = assigns_in_body x b
 
--- of the slots of the function, in their order: those whose names the first branch of a `par` writes, and those to whose integers it assigns
+-- of the slots of the function, in their order: those whose names the first branch of a `par` writes, and those to whose integers it
+-- assigns
 abbrev pub AsBoth : List Name → Body → (List ℕ → Type 0) → (List ℕ → Type 0) → Kind → Type 0
 AsBoth names left P Q (both_node a b blocks assigned) =
     P a × Q b × AreSlots names blocks (filter (is_named_in left) names) × AreSlots names assigned (filter (is_assigned_in left) names)

@@ -1,8 +1,8 @@
 //! The node table: a program with frame slots in place of names, as a table of statements.
 //!
 //! In the table a name is the number of a slot of its function's frame, and a list of statements is a list of node numbers. This layer has
-//! the table's types, says what a table means, reads and copies it. It stands on the tree of programs and on the rules of ownership. Its one
-//! theorem is that each code is the table of a program that keeps these rules, where a table is that of a program if it is the program,
+//! the table's types, says what a table means, reads and copies it. It stands on the tree of programs and on the rules of ownership. Its
+//! one theorem is that each code is the table of a program that keeps these rules, where a table is that of a program if it is the program,
 //! read with names in place of slots and of function numbers. Want of memory is its one free answer.
 #![tactic(auto)]
 

@@ -30,7 +30,8 @@ GoesOn b after s t =
 -- a thread holds what the rules say: a list that keeps the rules, begun with what its first environment says, ends with
 -- what its last environment says, or by a fault
 abbrev pub RunsHoldWhatTheRulesSay : Type 0
-RunsHoldWhatTheRulesSay = (c : Setting) → Ownership c.program → (b : Body) (env after : Environment) (s : State) → OwnsAll c.program b env after
+RunsHoldWhatTheRulesSay =
+    (c : Setting) → Ownership c.program → (b : Body) (env after : Environment) (s : State) → OwnsAll c.program b env after
     → s.faulted ≡ false → HoldsFor b env s → HasStopped (run c b s) ⊎ GoesOn b after s (run c b s)
 
 -- the root of an accepted program ends with no block and no open call
@@ -45,7 +46,8 @@ LiveWordsEndAtZero = (c : Setting) → Ownership c.program → live_words (actio
 -- there, once
 abbrev pub StatementsFindTheirBlocks : Type 0
 StatementsFindTheirBlocks = (p : Program) (line : ℕ) (stmt : Stmt) (env after : Environment) (s : State) → Owns p line stmt env after
-    → ((x : Name) → names_in_stmt x stmt ≡ true → count s.store.blocks x ≡ held_in env x) → (x : Name) → needs_block x stmt ≡ true → count s.store.blocks x ≡ 1
+    → ((x : Name) → names_in_stmt x stmt ≡ true → count s.store.blocks x ≡ held_in env x) → (x : Name) → needs_block x stmt ≡ true
+    → count s.store.blocks x ≡ 1
 
 -- the points of a run are those on the way to its end: after some steps nothing is left, and the whole run is the End of
 -- what the thread is then
@@ -58,12 +60,14 @@ PointsReachTheEnd = (c : Setting) → (n : ℕ) × (t : State) × (after_steps c
 abbrev pub EachStatementKeepsTheRules : Type 0
 EachStatementKeepsTheRules = (c : Setting) → Ownership c.program → (n line : ℕ) (stmt : Stmt) (rest : Body) (fs : List Frame) (s : State)
     → after_steps c n ≡ middle (does (statements (step line stmt rest)) ∷ fs) s → s.faulted ≡ false
-    → (env : Environment) × (after : Environment) × Owns c.program line stmt env after × ((x : Name) → names_in_stmt x stmt ≡ true → count s.store.blocks x ≡ held_in env x)
+    → (env : Environment) × (after : Environment) × Owns c.program line stmt env after
+    × ((x : Name) → names_in_stmt x stmt ≡ true → count s.store.blocks x ≡ held_in env x)
 
 -- at each such point the statement finds each block that it needs, once
 abbrev pub EachStatementFindsItsBlocks : Type 0
 EachStatementFindsItsBlocks = (c : Setting) → Ownership c.program → (n line : ℕ) (stmt : Stmt) (rest : Body) (fs : List Frame) (s : State)
-    → after_steps c n ≡ middle (does (statements (step line stmt rest)) ∷ fs) s → s.faulted ≡ false → (x : Name) → needs_block x stmt ≡ true → count s.store.blocks x ≡ 1
+    → after_steps c n ≡ middle (does (statements (step line stmt rest)) ∷ fs) s → s.faulted ≡ false → (x : Name)
+    → needs_block x stmt ≡ true → count s.store.blocks x ≡ 1
 
 -- at each point of the run of an accepted program, where the end of a call, of `main` or of a `split` comes next in a
 -- thread that no fault has ended: it finds each block that it needs, once

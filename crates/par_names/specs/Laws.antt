@@ -5,4 +5,5 @@ use Rattle.par_tree.specs.Names.{is_among, names_in_body, assigns_in_body, body_
 
 -- a test holds of just the names that are listed
 abbrev pub TestsFindTheListed : Type 0
-TestsFindTheListed = (x : Name) (b : Body) → (is_among x (body_names b) ≡ names_in_body x b) × (is_among x (body_assigned b) ≡ assigns_in_body x b)
+TestsFindTheListed =
+    (x : Name) (b : Body) → (is_among x (body_names b) ≡ names_in_body x b) × (is_among x (body_assigned b) ≡ assigns_in_body x b)

@@ -90,7 +90,8 @@ fn add_parts<'a>(
     right: &'a Name,
     out: &mut Vec<&'a [u8]>,
 ) -> Result<(), AllocError>
-    ensures { IfOk result (λ _. names_behind out.new.items ≡ names_behind out.old.items ++ parts_names (name_tree block.now) (expr_tree at.now) (name_tree left.now) (name_tree right.now)) }
+    ensures { IfOk result (λ _. names_behind out.new.items ≡ names_behind out.old.items ++ parts_names (name_tree block.now)
+        (expr_tree at.now) (name_tree left.now) (name_tree right.now)) }
 {
     add_name(block, out)?;
     add_expression(at, out)?;

@@ -80,7 +80,8 @@ fn names_in_arguments(name: &[u8], args: &[Arg]) -> bool
 
 /// Whether the head of a `split` names `name`.
 fn names_in_parts(name: &[u8], block: &Name, at: &Expr, left: &Name, right: &Name) -> bool
-    ensures { result ≡ (bytes_eq (name_tree block.now) name.now || names_in_expr name.now (expr_tree at.now) || bytes_eq (name_tree left.now) name.now || bytes_eq (name_tree right.now) name.now) }
+    ensures { result ≡ (bytes_eq (name_tree block.now) name.now || names_in_expr name.now (expr_tree at.now) || bytes_eq
+        (name_tree left.now) name.now || bytes_eq (name_tree right.now) name.now) }
 {
     is_name(block, name)
         || names_in_expression(name, at)

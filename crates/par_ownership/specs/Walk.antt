@@ -97,7 +97,8 @@ arg_refusal line env before q Tree.lent (lend b) = first_of (block_refusal line 
 arg_refusal line env before q Tree.lent (give b) = unless false WrongKind line q
 arg_refusal line env before q owned (value e) = unless false WrongKind line q
 arg_refusal line env before q owned (lend b) = unless false WrongKind line q
-arg_refusal line env before q owned (give b) = first_of (block_refusal line env b) (first_of (shared_refusal line before b) (lent_refusal line env b))
+arg_refusal line env before q owned (give b) =
+    first_of (block_refusal line env b) (first_of (shared_refusal line before b) (lent_refusal line env b))
 
 abbrev pub args_refusal : ℕ → Environment → List Arg → List Param → List Arg → Option Refusal
 args_refusal line env before [] rest = None
@@ -122,7 +123,8 @@ shared_kind false = SharedInt
 
 abbrev pub branches_refusal : ℕ → Body → Body → Environment → Option Refusal
 branches_refusal line a b [] = None
-branches_refusal line a b (e ∷ rest) = first_of (unless (are_apart a b e) (shared_kind (is_block e.kind)) line e.name) (branches_refusal line a b rest)
+branches_refusal line a b (e ∷ rest) =
+    first_of (unless (are_apart a b e) (shared_kind (is_block e.kind)) line e.name) (branches_refusal line a b rest)
 
 -- the first block, in order of declaration, that is held on one side alone
 abbrev pub is_same : Bool → Bool → Bool

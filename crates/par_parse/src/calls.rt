@@ -70,7 +70,8 @@ fn more_args<'a>(
     tokens: &'a [Lexeme],
 ) -> Result<(Args, &'a [Lexeme]), ParseError>
     requires { 0 < depth }
-    ensures { Gives (λ x. (args_tree x.0.items, words text.now x.1.now)) result (read_as (listed (arg_tree first)) (read depth more_args) (words text.now tokens.now)) }
+    ensures { Gives (λ x. (args_tree x.0.items, words text.now x.1.now)) result
+        (read_as (listed (arg_tree first)) (read depth more_args) (words text.now tokens.now)) }
 {
     let mut args = Vec::new(alloc);
     args.push(first)?;

@@ -17,7 +17,8 @@ use std::alloc::{AllocError, Global};
 /// `+` or `-`.
 #[tactic(auto, unfolding(par_text::specs::Grammar::sum_operator))]
 fn sum_operator<'a>(tokens: &'a [Lexeme]) -> Result<(ChainOp, &'a [Lexeme]), ParseError>
-    ensures { (n : ℕ) (text : List ℕ) → Gives (λ x. (chain_op_tree x.0, words text x.1.now)) result (read n sum_operator (words text tokens.now)) }
+    ensures { (n : ℕ) (text : List ℕ)
+        → Gives (λ x. (chain_op_tree x.0, words text x.1.now)) result (read n sum_operator (words text tokens.now)) }
 {
     match peek(tokens) {
         Kind::Plus => {
@@ -41,7 +42,8 @@ fn is_sum_operator(kind: Kind) -> bool
 /// `*`, `/` or `%`.
 #[tactic(auto, unfolding(par_text::specs::Grammar::term_operator))]
 fn term_operator<'a>(tokens: &'a [Lexeme]) -> Result<(ChainOp, &'a [Lexeme]), ParseError>
-    ensures { (n : ℕ) (text : List ℕ) → Gives (λ x. (chain_op_tree x.0, words text x.1.now)) result (read n term_operator (words text tokens.now)) }
+    ensures { (n : ℕ) (text : List ℕ)
+        → Gives (λ x. (chain_op_tree x.0, words text x.1.now)) result (read n term_operator (words text tokens.now)) }
 {
     match peek(tokens) {
         Kind::Star => {
@@ -69,7 +71,8 @@ fn is_term_operator(kind: Kind) -> bool
 /// A comparison.
 #[tactic(auto, unfolding(par_text::specs::Grammar::comparison))]
 fn comparison<'a>(tokens: &'a [Lexeme]) -> Result<(CmpOp, &'a [Lexeme]), ParseError>
-    ensures { (n : ℕ) (text : List ℕ) → Gives (λ x. (cmp_op_tree x.0, words text x.1.now)) result (read n comparison (words text tokens.now)) }
+    ensures { (n : ℕ) (text : List ℕ)
+        → Gives (λ x. (cmp_op_tree x.0, words text x.1.now)) result (read n comparison (words text tokens.now)) }
 {
     let kind = peek(tokens);
     let (op, kind) = match kind {
@@ -102,7 +105,8 @@ fn is_comparison(kind: Kind) -> bool
 /// A number.
 #[tactic(auto, unfolding(par_text::specs::Grammar::number_rule))]
 fn number<'a>(tokens: &'a [Lexeme]) -> Result<(Expr, &'a [Lexeme]), ParseError>
-    ensures { (n : ℕ) (text : List ℕ) → Gives (λ x. (expr_tree x.0, words text x.1.now)) result (read n number_rule (words text tokens.now)) }
+    ensures { (n : ℕ) (text : List ℕ)
+        → Gives (λ x. (expr_tree x.0, words text x.1.now)) result (read n number_rule (words text tokens.now)) }
 {
     let (token, rest) = take(tokens, Kind::Number)?;
     Ok((Expr::Num(token.value), rest))

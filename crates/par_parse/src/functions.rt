@@ -68,7 +68,8 @@ fn more_params<'a>(
     first: Param,
     tokens: &'a [Lexeme],
 ) -> Result<(Params, &'a [Lexeme]), ParseError>
-    ensures { (n : ℕ) → Gives (λ x. (params_tree x.0.items, words text.now x.1.now)) result (read_as (listed (param_tree first)) (read n more_params) (words text.now tokens.now)) }
+    ensures { (n : ℕ) → Gives (λ x. (params_tree x.0.items, words text.now x.1.now)) result
+        (read_as (listed (param_tree first)) (read n more_params) (words text.now tokens.now)) }
 {
     let mut params = Vec::new(alloc);
     params.push(first)?;
@@ -91,7 +92,8 @@ fn param_list<'a>(
     text: &[u8],
     tokens: &'a [Lexeme],
 ) -> Result<(Params, &'a [Lexeme]), ParseError>
-    ensures { (n : ℕ) → Gives (λ x. (params_tree x.0.items, words text.now x.1.now)) result (read n param_list (words text.now tokens.now)) }
+    ensures { (n : ℕ) → Gives (λ x. (params_tree x.0.items, words text.now x.1.now)) result
+        (read n param_list (words text.now tokens.now)) }
 {
     if peek(tokens).is(Kind::RightParen) {
         return Ok((Vec::new(alloc), tokens));
@@ -169,7 +171,8 @@ fn func_body<'a>(
     depth: u32,
     tokens: &'a [Lexeme],
 ) -> Result<((Body, Option<Ret>), &'a [Lexeme]), ParseError>
-    ensures { Gives (λ x. ((body_tree x.0.0.items, ret_tree x.0.1), words text.now x.1.now)) result (read depth func_body (words text.now tokens.now)) }
+    ensures { Gives (λ x. ((body_tree x.0.0.items, ret_tree x.0.1), words text.now x.1.now)) result
+        (read depth func_body (words text.now tokens.now)) }
 {
     let (inside, rest) = open(depth, tokens, Kind::LeftBrace)?;
     let (body, rest) = statements(alloc, text, inside, rest)?;
@@ -212,7 +215,8 @@ fn more_funcs<'a>(
     first: Func,
     tokens: &'a [Lexeme],
 ) -> Result<(Funcs, &'a [Lexeme]), ParseError>
-    ensures { Gives (λ x. (func_trees x.0.items, words text.now x.1.now)) result (read_as (listed (func_tree first)) (read depth more_funcs) (words text.now tokens.now)) }
+    ensures { Gives (λ x. (func_trees x.0.items, words text.now x.1.now)) result
+        (read_as (listed (func_tree first)) (read depth more_funcs) (words text.now tokens.now)) }
 {
     let mut funcs = Vec::new(alloc);
     funcs.push(first)?;

@@ -24,7 +24,8 @@ fn named_value<'a>(
     depth: u32,
     tokens: &'a [Lexeme],
 ) -> Result<((Name, Expr), &'a [Lexeme]), ParseError>
-    ensures { Gives (λ x. ((name_tree x.0.0, expr_tree x.0.1), words text.now x.1.now)) result (read depth named_value (words text.now tokens.now)) }
+    ensures { Gives (λ x. ((name_tree x.0.0, expr_tree x.0.1), words text.now x.1.now)) result
+        (read depth named_value (words text.now tokens.now)) }
 {
     let (name, rest) = name(alloc, text, tokens)?;
     let (_, rest) = take(rest, Kind::Assign)?;
@@ -248,7 +249,8 @@ fn parts<'a>(
     text: &[u8],
     tokens: &'a [Lexeme],
 ) -> Result<((Name, Name), &'a [Lexeme]), ParseError>
-    ensures { (n : ℕ) → Gives (λ x. ((name_tree x.0.0, name_tree x.0.1), words text.now x.1.now)) result (read n parts_rule (words text.now tokens.now)) }
+    ensures { (n : ℕ) → Gives (λ x. ((name_tree x.0.0, name_tree x.0.1), words text.now x.1.now)) result
+        (read n parts_rule (words text.now tokens.now)) }
 {
     let (left, rest) = name(alloc, text, tokens)?;
     let (_, rest) = take(rest, Kind::Comma)?;

@@ -7,7 +7,7 @@ ghost use Rattle.canonical_text.specs.Canonical.{expr_text, links_text, text_in}
 ghost use Rattle.canonical_text.specs.declared.place.Place.TheVariants.{Factor};
 
 use crate::places::{first_place, needs_parentheses, operand_place};
-use crate::words::{comparison, print_number, operator};
+use crate::words::{comparison, operator, print_number};
 use canonical_text::Place;
 use par_tree::{Expr, Link, Name};
 use std::alloc::{AllocError, Global};
@@ -73,7 +73,11 @@ fn print_operand(
 
 /// An expression.
 #[cycle(print_expression)]
-pub(crate) fn print_expression(alloc: Global, expr: &Expr, out: &mut Vec<u8>) -> Result<(), AllocError>
+pub(crate) fn print_expression(
+    alloc: Global,
+    expr: &Expr,
+    out: &mut Vec<u8>,
+) -> Result<(), AllocError>
     ensures { IfOk result (λ _. out.new.items ≡ out.old.items ++ expr_text (expr_tree expr.now)) }
 {
     match expr {

@@ -19,9 +19,11 @@ pub fn print(alloc: Global, program: &Program) -> Result<Vec<u8>, AllocError>
     // The bytes are the canonical text, unless memory runs out.
     ensures text { IfOk result (λ text. text.items ≡ canonical (program_tree program.now)) }
     // What is printed of a program that was read is a text of it but for lines, if it is not too long.
-    ensures reads_back { (source : List ℕ) → IsText source (program_tree program.now) → IfOk result (λ text. length text.items ≤ longest_text → IsTextButForLines text.items (program_tree program.now)) }
+    ensures reads_back { (source : List ℕ) → IsText source (program_tree program.now)
+        → IfOk result (λ text. length text.items ≤ longest_text → IsTextButForLines text.items (program_tree program.now)) }
     // Printing what is read again gives the same bytes.
-    ensures stays { (source : List ℕ) (again : ProgramTree) → IsText source (program_tree program.now) → IfOk result (λ text. IsText text.items again → canonical again ≡ text.items) }
+    ensures stays { (source : List ℕ) (again : ProgramTree) → IsText source (program_tree program.now)
+        → IfOk result (λ text. IsText text.items again → canonical again ≡ text.items) }
 {
     let mut text = Vec::new(alloc);
     print_funcs(alloc, &program.funcs, &mut text)?;

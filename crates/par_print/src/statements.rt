@@ -43,7 +43,8 @@ fn print_put(
     value: &Expr,
     out: &mut Vec<u8>,
 ) -> Result<(), AllocError>
-    ensures { IfOk result (λ _. out.new.items ≡ out.old.items ++ stmt_text [] (store_tree (name_tree block.now) (expr_tree index.now) (expr_tree value.now))) }
+    ensures { IfOk result (λ _. out.new.items ≡ out.old.items ++ stmt_text []
+        (store_tree (name_tree block.now) (expr_tree index.now) (expr_tree value.now))) }
 {
     out.extend_from_slice(&block.bytes)?;
     out.extend_from_slice(b"[")?;
@@ -68,7 +69,8 @@ fn print_call(
     values: &[Arg],
     out: &mut Vec<u8>,
 ) -> Result<(), AllocError>
-    ensures { IfOk result (λ _. out.new.items ≡ out.old.items ++ stmt_text [] (call_tree (target_tree to.now) (name_tree func.now) (args_tree values.now))) }
+    ensures { IfOk result (λ _. out.new.items ≡ out.old.items ++ stmt_text []
+        (call_tree (target_tree to.now) (name_tree func.now) (args_tree values.now))) }
 {
     out.extend_from_slice(b"call ")?;
     print_target(to, out)?;
@@ -117,7 +119,12 @@ fn names(left: &Name, right: &Name, out: &mut Vec<u8>) -> Result<(), AllocError>
 
 /// Statements between braces.
 #[cycle(print_statement)]
-fn print_braces(alloc: Global, margin: &[u8], stmts: &[Stmt], out: &mut Vec<u8>) -> Result<(), AllocError>
+fn print_braces(
+    alloc: Global,
+    margin: &[u8],
+    stmts: &[Stmt],
+    out: &mut Vec<u8>,
+) -> Result<(), AllocError>
     ensures { IfOk result (λ _. out.new.items ≡ out.old.items ++ braces margin.now (body_text (deeper margin.now) (body_tree stmts.now))) }
 {
     let inner = deeper(alloc, margin)?;
@@ -135,7 +142,8 @@ fn print_else(
     stmts: &[Stmt],
     out: &mut Vec<u8>,
 ) -> Result<(), AllocError>
-    ensures { IfOk result (λ _. out.new.items ≡ out.old.items ++ else_text margin.now (body_tree stmts.now) (body_text (deeper margin.now) (body_tree stmts.now))) }
+    ensures { IfOk result (λ _. out.new.items ≡ out.old.items ++ else_text margin.now (body_tree stmts.now)
+        (body_text (deeper margin.now) (body_tree stmts.now))) }
 {
     if stmts.is_empty() {
         return Ok(());

@@ -178,3 +178,12 @@ left_within ts s left r = go s (subst (λ (ans : Result Program (Stop × ℕ)). 
     go : (s : Stop) → SoundAnswer deepest ts (Err (s, left)) → left ≤ length ts
     go stops.Expected h = h.0
     go stops.TooDeep h = h.0
+
+-- bytes have a verdict
+pub has_verdict : (text : List ℕ) → (v : Verdict) × Judges text v
+has_verdict text = go (text_tokens text) refl
+  where
+    go : (tokens : Lexed) → text_tokens text ≡ tokens → (v : Verdict) × Judges text v
+    go (Err e) lexed = (refusal e, inl lexed)
+    go (Ok ts) lexed =
+        (settled text ts (read_program deepest ts) (crowded ts), settle text ts (read_program deepest ts) (crowded ts) lexed refl refl)

@@ -25,7 +25,8 @@ at_start = record { functions = 0; names = 0; in_header = false; last = k.End; s
 abbrev pub is_declared : Before → Bool
 is_declared b =
     (b.in_header && not (is k.Fn b.last))
-    || (is k.Let b.last || (is k.Alloc b.last || (is k.Into b.last || ((is k.Comma b.last && is k.Into b.third) || (is k.Own b.last && is k.Call b.second)))))
+    || (is k.Let b.last || (is k.Alloc b.last || (is k.Into b.last ||
+    ((is k.Comma b.last && is k.Into b.third) || (is k.Own b.last && is k.Call b.second)))))
 
 abbrev pub names_after : Before → Kind → ℕ
 names_after b j = if is k.Fn j then 0 else (if is k.Name j && is_declared b then b.names + 1 else b.names)

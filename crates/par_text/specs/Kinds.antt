@@ -57,4 +57,8 @@ holds_of_all p (k ∷ ks) = p k && holds_of_all p ks
 
 abbrev pub kinds : List Kind
 kinds =
-    End ∷ Name ∷ Number ∷ LeftParen ∷ RightParen ∷ LeftBrace ∷ RightBrace ∷ LeftBracket ∷ RightBracket ∷ Comma ∷ Semicolon ∷ Assign ∷ Plus ∷ Minus ∷ Star ∷ Slash ∷ Percent ∷ Less ∷ LessEqual ∷ Greater ∷ GreaterEqual ∷ EqualEqual ∷ NotEqual ∷ Fn ∷ Let ∷ Alloc ∷ Free ∷ If ∷ Else ∷ While ∷ Call ∷ Print ∷ Par ∷ And ∷ Split ∷ At ∷ Into ∷ Return ∷ Use ∷ Own ∷ Len ∷ []
+    End ∷ Name ∷ Number ∷ LeftParen ∷ RightParen ∷ LeftBrace ∷ RightBrace ∷ LeftBracket ∷
+    RightBracket ∷ Comma ∷ Semicolon ∷ Assign ∷ Plus ∷ Minus ∷ Star ∷ Slash ∷ Percent ∷
+    Less ∷ LessEqual ∷ Greater ∷ GreaterEqual ∷ EqualEqual ∷ NotEqual ∷ Fn ∷ Let ∷ Alloc ∷
+    Free ∷ If ∷ Else ∷ While ∷ Call ∷ Print ∷ Par ∷ And ∷ Split ∷
+    At ∷ Into ∷ Return ∷ Use ∷ Own ∷ Len ∷ []

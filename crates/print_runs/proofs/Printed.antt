@@ -4,6 +4,7 @@ use Rattle.std.specs.Str.{bytes_eq}
 use Rattle.std.proofs.Common.{sym, ◌∙◌, ap, arith, subst, append_assoc, append-nil, length-append}
 use Rattle.std.proofs.lemmas.Bool.{lt-ltb, false≢true}
 use Rattle.depth_first_list.specs.Actions as actions
+use Rattle.depth_first_list.specs.Actions.{record_words}
 use Rattle.par_tree.specs.Tree
 use Rattle.par_tree.specs.Tree.{Body, Stmt}
 use Rattle.par_ownership.specs.Ownership.{function_of, main_name}
@@ -105,14 +106,14 @@ prints_forking c named assigned work own s xs ys w prints_own =
     let kid : ℕ = suc s.forks in
     let k : State = child_of c named s in
     let e : State = work k in
-    let d : State = ended e in
+    let d : State = ended record_words e in
     let p : State = parent_of named d.items s in
     let q : State = own p in
     let b : Prints p q ys = prints_own d.items in
     let words : ℕ = given_back q.faulted d.faulted d q in
     let t : State = with_action (actions.joins kid) words q in
-    let fork : Item = next_action (actions.forks kid) 0 s in
-    let last : Item = next_action actions.ends 0 e in
+    let fork : Item = next_action (actions.forks kid) record_words s in
+    let last : Item = next_action actions.ends record_words e in
     let join : Item = next_action (actions.joins kid) words q in
     let back : List Item = b.new ++ join ∷ [] in
     let q_items : q.items ≡ s.items ++ (fork ∷ (w.new ++ last ∷ b.new)) =

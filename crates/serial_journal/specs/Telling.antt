@@ -52,7 +52,8 @@ pub record ShowsBirth (births : List Birth) (fork : ForkOf) (birth : Birth) : Ty
 
 -- what is written down: the first fault, the numbers printed before it, the actions one by one, a birth for each
 -- Fork, and the peak
-pub record Told (items : List Item) (finish : Finish) (output : List ℤ) (actions : List Shown) (births : List Birth) (high : ℕ) : Type 0 where
+pub record Told (items : List Item) (finish : Finish) (output : List ℤ) (actions : List Shown) (births : List Birth)
+    (high : ℕ) : Type 0 where
   pub finish_is : finish ≡ finish_of (first_fault items)
   pub output_is : output ≡ lines_of items
   pub actions_are : AllZip (ShowsAction births) (actions_of items) actions

@@ -55,7 +55,8 @@ impl Journal {
     pub fn begin(&mut self) -> Result<(), SerialStop>
         ensures unchanged { OnErr result (IsUnchanged self.old self.new) }
         ensures births { births_of self.new ≡ births_of self.old }
-        ensures keeps_up { (limit line : ℕ) (items : List Item) → KeepsUp limit items self.old → MatchResult result (λ _. KeepsUp limit (items ++ began line ∷ []) self.new) (λ stop. OnStop stop ⊥) }
+        ensures keeps_up { (limit line : ℕ) (items : List Item) → KeepsUp limit items self.old
+            → MatchResult result (λ _. KeepsUp limit (items ++ began line ∷ []) self.new) (λ stop. OnStop stop ⊥) }
     {
         self.count()
     }
@@ -64,7 +65,8 @@ impl Journal {
     pub fn print(&mut self, value: i64) -> Result<(), SerialStop>
         ensures unchanged { OnErr result (IsUnchanged self.old self.new) }
         ensures births { births_of self.new ≡ births_of self.old }
-        ensures keeps_up { (limit : ℕ) (items : List Item) → KeepsUp limit items self.old → MatchResult result (λ _. KeepsUp limit (items ++ printed value ∷ []) self.new) (λ stop. OnStop stop ⊥) }
+        ensures keeps_up { (limit : ℕ) (items : List Item) → KeepsUp limit items self.old
+            → MatchResult result (λ _. KeepsUp limit (items ++ printed value ∷ []) self.new) (λ stop. OnStop stop ⊥) }
     {
         match self.finish {
             Finish::Done => {
@@ -81,7 +83,8 @@ impl Journal {
     pub fn fail(&mut self, fault: FaultAt) -> Result<(), SerialStop>
         ensures unchanged { OnErr result (IsUnchanged self.old self.new) }
         ensures births { births_of self.new ≡ births_of self.old }
-        ensures keeps_up { (limit : ℕ) (items : List Item) → KeepsUp limit items self.old → MatchResult result (λ _. KeepsUp limit (items ++ failed fault ∷ []) self.new) (λ stop. OnStop stop ⊥) }
+        ensures keeps_up { (limit : ℕ) (items : List Item) → KeepsUp limit items self.old
+            → MatchResult result (λ _. KeepsUp limit (items ++ failed fault ∷ []) self.new) (λ stop. OnStop stop ⊥) }
     {
         self.count()?;
         match self.finish {
@@ -101,7 +104,10 @@ impl Journal {
     pub fn act(&mut self, name: ActionId, kind: Kind, words: u64) -> Result<(), SerialStop>
         ensures unchanged { OnErr result (IsUnchanged self.old self.new) }
         ensures births { births_of self.new ≡ births_of self.old }
-        ensures keeps_up { (limit : ℕ) (items : List Item) (label : List ℕ) (deed : Deed) → KeepsUp limit items self.old → HasLabel (births_of self.old ∷ []) name.by label → kind ≡ kind_of deed → IsNoFork deed → MatchResult result (λ _. KeepsUp limit (items ++ acted (action_named label name.index deed words) ∷ []) self.new) (λ stop. OnStop stop (limit ≤ length (actions_of items))) }
+        ensures keeps_up { (limit : ℕ) (items : List Item) (label : List ℕ) (deed : Deed) → KeepsUp limit items self.old
+            → HasLabel (births_of self.old ∷ []) name.by label → kind ≡ kind_of deed → IsNoFork deed
+            → MatchResult result (λ _. KeepsUp limit (items ++ acted (action_named label name.index deed words) ∷ []) self.new)
+            (λ stop. OnStop stop (limit ≤ length (actions_of items))) }
     {
         let change = change_of(kind, words)?;
         self.write_down(Action { name, kind, change })
@@ -115,7 +121,11 @@ impl Journal {
     pub fn fork(&mut self, name: ActionId, ordinal: u32, words: u32) -> Result<ThreadId, SerialStop>
         ensures unchanged { OnErr result (IsUnchanged self.old self.new) }
         ensures labels { KeepsLabels (births_of self.old) (births_of self.new) }
-        ensures keeps_up { (limit : ℕ) (items : List Item) (label : List ℕ) → KeepsUp limit items self.old → HasLabel (births_of self.old ∷ []) name.by label → MatchResult result (λ child. KeepsUp limit (items ++ acted (action_named label name.index (forks ordinal) words) ∷ []) self.new × HasLabel (births_of self.new ∷ []) child (fork_of label ordinal)) (λ stop. OnStop stop (limit ≤ length (actions_of items))) }
+        ensures keeps_up { (limit : ℕ) (items : List Item) (label : List ℕ) → KeepsUp limit items self.old
+            → HasLabel (births_of self.old ∷ []) name.by label
+            → MatchResult result (λ child. KeepsUp limit
+            (items ++ acted (action_named label name.index (forks ordinal) words) ∷ []) self.new
+            × HasLabel (births_of self.new ∷ []) child (fork_of label ordinal)) (λ stop. OnStop stop (limit ≤ length (actions_of items))) }
     {
         let nth = self.births.len();
         self.births.reserve()?;
@@ -161,7 +171,8 @@ impl Journal {
     fn write_down(&mut self, action: Action) -> Result<(), SerialStop>
         ensures births { self.new.births ≡ self.old.births }
         ensures unchanged { OnErr result (IsUnchanged self.old self.new) }
-        ensures cases { MatchResult result (λ _. Recorded action self.old self.new) (λ stop. OnStop stop (self.old.limit ≤ length (entries self.old.actions))) }
+        ensures cases { MatchResult result (λ _. Recorded action self.old self.new)
+            (λ stop. OnStop stop (self.old.limit ≤ length (entries self.old.actions))) }
     {
         if self.limit <= self.actions.len() {
             return Err(SerialStop::StepsSpent);

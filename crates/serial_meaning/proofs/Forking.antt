@@ -1,6 +1,6 @@
 -- A Fork, and what it leaves to those who wait.
-use Rattle.std.proofs.Common.{◌≡◌, ℕ, suc, ◌+◌, ◌≤◌, List, [], ◌∷◌, ◌++◌, length, refl, sym, ap, subst, arith, length-append}
-use Rattle.std.specs.Prelude.{Bool, false, reverse}
+use Rattle.std.proofs.Common.{◌≡◌, ◌⊎◌, inl, inr, ℕ, suc, ◌+◌, ◌≤◌, List, [], ◌∷◌, ◌++◌, length, refl, sym, ap, subst, arith, length-append}
+use Rattle.std.specs.Prelude.{Bool, false, min, reverse}
 use Rattle.std.specs.List.{AllZip}
 use Rattle.dag_order.specs.Births.{HasLabel}
 use Rattle.dag_order.specs.LabelOrder.{fork_of}
@@ -16,24 +16,34 @@ use Rattle.serial_store.specs.Effects.{child_store, parent_store}
 use Rattle.serial_journal.specs.Journals.{KeepsUp, KeepsLabels, births_of, action_named}
 use Rattle.serial_journal.specs.declared.journal.Journal.{Journal}
 use Rattle.serial_meaning.specs.Settings.{setting_of}
-use Rattle.serial_meaning.specs.Views.{Is, IsThread, IsBeyond, thread_state, callers_shown}
+use Rattle.serial_meaning.specs.Views.{Is, IsThread, IsBeyond, by_count, by_number, depth_of, thread_state, callers_shown}
 use Rattle.serial_meaning.specs.Frames.{IsFrame}
 use Rattle.serial_meaning.specs.Moving.{AreFrames}
 use Rattle.serial_meaning.specs.Forks.{HasForked}
 use Rattle.serial_meaning.specs.declared.frame.Frame.{Frame}
 use Rattle.serial_meaning.specs.declared.frame.Frame.TheVariants.{Does, Answers, Rejoins, AnswersMain, Allocates, Awaits, Joins}
 use Rattle.serial_meaning.specs.declared.thread.Thread.{Thread}
-use Rattle.serial_meaning.proofs.Steps.{by_runner, one_action}
+use Rattle.serial_meaning.proofs.Steps.{by_runner, one_action, acts_late}
 
 -- where the limit is reached, a Fork is beyond it
 pub fork_beyond : (limit : ℕ) (c : Setting) (named : Name → Bool) (s : State) → limit ≤ length (actions_of s.items) → IsBeyond limit (child_of c named s)
 fork_beyond limit c named s full =
-    let more = one_action s.items (action_named s.label s.done (deeds.forks (suc s.forks)) record_words) in omega (arith, more, full)
+    let more = one_action s.items (action_named s.label s.done (deeds.forks (suc s.forks)) record_words) in by_count (omega (arith, more, full))
+
+-- a Fork by a thread that counts no further, in its actions or in its forks, is beyond each limit
+pub fork_late : (limit : ℕ) (births : List Birth) (c : Setting) (named : Name → Bool) (t : Thread) (s : State) → IsThread births t s → (4294967295 ≤ t.done) ⊎ (4294967295 ≤ t.forks)
+    → IsBeyond limit (child_of c named s)
+fork_late limit births c named t s is (inl late) =
+    let same : s.done ≡ t.done = ap (λ (v : State). v.done) is.shown in
+    by_number (acts_late s.items (action_named s.label s.done (deeds.forks (suc s.forks)) record_words) (inl (omega (arith, same, late))))
+fork_late limit births c named t s is (inr late) =
+    let same : s.forks ≡ t.forks = ap (λ (v : State). v.forks) is.shown in
+    by_number (acts_late s.items (action_named s.label s.done (deeds.forks (suc s.forks)) record_words) (inr (omega (arith, same, late))))
 
 -- a child as it begins
 pub child_begins : (births : List Birth) (k : ℕ) (program : Program) (named : Name → Bool) (t child : Thread) (label : List ℕ) (items : List Item)
     → child.done ≡ 0 → child.forks ≡ 0 → child.faulted ≡ false → store_shown child.store ≡ child_store named (store_shown t.store) → child.callers.items ≡ [] → child.calls ≡ t.calls
-    → child.turns ≡ 1000000 → HasLabel (births ∷ []) child.id (fork_of label (suc t.forks)) → child.depth ≡ t.depth + 1 → t.depth ≡ length label
+    → child.turns ≡ 1000000 → HasLabel (births ∷ []) child.id (fork_of label (suc t.forks)) → child.depth ≡ min (t.depth + 1) 4294967295 → t.depth ≡ depth_of label
     → IsThread births child (child_of (setting_of program k) named (thread_state t label items))
 child_begins births k program named t child label items done forks fine store callers calls turns labelled deeper deep = record {
   shown = λ i. record {
@@ -54,7 +64,7 @@ child_begins births k program named t child label items done forks fine store ca
 -- its parent as it goes on
 pub parent_goes_on : (births : List Birth) (named : Name → Bool) (t u : Thread) (label : List ℕ) (items : List Item)
     → u.done ≡ t.done + 1 → u.forks ≡ t.forks + 1 → u.faulted ≡ t.faulted → store_shown u.store ≡ parent_store named (store_shown t.store) → callers_shown u.callers.items ≡ callers_shown t.callers.items → u.calls ≡ t.calls
-    → u.turns ≡ t.turns → HasLabel (births ∷ []) u.id label → u.depth ≡ length label
+    → u.turns ≡ t.turns → HasLabel (births ∷ []) u.id label → u.depth ≡ depth_of label
     → IsThread births u (parent_of named [] (thread_state t label items))
 parent_goes_on births named t u label items done forks fine store callers calls turns labelled deep = record {
   shown = let d : suc t.done ≡ u.done = omega (arith, done) in let f : suc t.forks ≡ u.forks = omega (arith, forks) in
@@ -95,8 +105,8 @@ frames_kept births more keeps stack fs all = all_kept births more keeps (reverse
 
 -- a thread has forked
 pub has_forked : (limit k : ℕ) (program : Program) (named : Name → Bool) (t u child : Thread) (j j' : Journal) (ordinal index : ℕ) → index ≡ t.done → ordinal ≡ t.forks + 1 → KeepsLabels (births_of j) (births_of j')
-    → ((label : List ℕ) (items : List Item) → HasLabel (births_of j' ∷ []) child.id (fork_of label (suc t.forks)) → t.depth ≡ length label → IsThread (births_of j') child (child_of (setting_of program k) named (thread_state t label items)))
-    → ((label : List ℕ) (items : List Item) → HasLabel (births_of j' ∷ []) t.id label → t.depth ≡ length label → IsThread (births_of j') u (parent_of named [] (thread_state t label items)))
+    → ((label : List ℕ) (items : List Item) → HasLabel (births_of j' ∷ []) child.id (fork_of label (suc t.forks)) → t.depth ≡ depth_of label → IsThread (births_of j') child (child_of (setting_of program k) named (thread_state t label items)))
+    → ((label : List ℕ) (items : List Item) → HasLabel (births_of j' ∷ []) t.id label → t.depth ≡ depth_of label → IsThread (births_of j') u (parent_of named [] (thread_state t label items)))
     → (s : State) → Is limit (record { thread = t; journal = j }) s
     → KeepsUp limit (s.items ++ acted (action_named s.label index (deeds.forks ordinal) record_words) ∷ []) j' × HasLabel (births_of j' ∷ []) child.id (fork_of s.label ordinal)
     → HasForked limit (setting_of program k) named s child (record { thread = t; journal = j }) (record { thread = u; journal = j' })

@@ -1,6 +1,6 @@
 -- What single statements do to the point in the middle of a run where the machine is.
 use Rattle.std.proofs.Common.{inl, inr, ◌≡◌, ℕ, suc, ◌<◌, ◌≤◌, List, [], ◌∷◌, length, ℤ, Bool, true, false, Result, Ok, Err, MatchResult, Option, Some, None, refl, sym, ◌∙◌, ap, subst, arith}
-use Rattle.std.specs.Prelude.{is_some, nat_lt, ◌⊎◌}
+use Rattle.std.specs.Prelude.{is_some, nat_lt, min, ◌⊎◌}
 use Rattle.std.proofs.lemmas.Bool.{lt-ltb, le-ltb, le-leb, lt-leb, cases_lt}
 use Rattle.dummy_tree.specs.Leaves.{IsTreeSize}
 use Rattle.dummy_tree.specs.Quotas.{dummies_of}
@@ -15,7 +15,7 @@ use Rattle.par_tree.specs.Tree.{Name, Expr, Stmt, Body, while_stmt, done, step}
 use Rattle.depth_first_run.specs.Stores.{block_of, block_words}
 use Rattle.depth_first_run.specs.Values.{value, is_true}
 use Rattle.depth_first_run.specs.States.{Setting, State, began, with_item, with_fault}
-use Rattle.depth_first_run.specs.Run.{actions_of, cut_of, cut_block, size_of, names_in, assigns_in}
+use Rattle.depth_first_run.specs.Run.{cut_of, cut_block, size_of, names_in, assigns_in}
 use Rattle.depth_first_run.specs.Middle.{Frame, Middle, middle, does, statements, tree, allocates, step_with_number, allocated, step_alloc_within, step_alloc_words, step_alloc, before_all, step_turn, step_round, step_while, step_fork, step_par, rejoins, step_cut, step_statement, step_first, step_part, step_frame}
 use Rattle.serial_store.specs.Effects.{Cuts}
 use Rattle.serial_store.specs.Shown.{store_shown}
@@ -34,12 +34,9 @@ use Rattle.serial_meaning.specs.Cuts.{cut_place, cut_or_fault}
 use Rattle.serial_meaning.proofs.Steps.{by_runner, is_stored, stops_so}
 use Rattle.serial_meaning.proofs.Stack.{at_point, settled_at_ok}
 
--- a run that keeps up is not beyond its limit
-pub never_beyond : (limit : ℕ) (r : Runner) (s : State) (S : Type 0) (stop : SerialStop) → Is limit r s → OnStop stop (IsBeyond limit s) → OnStop stop S
-never_beyond limit r s S stop is h =
-    stops_so (IsBeyond limit s) S stop
-    (λ beyond. let within : length (actions_of s.items) ≤ limit = is.keeps.within in
-    let more : limit < length (actions_of s.items) = beyond in absurd (omega arith)) h
+-- a stop that never comes
+pub never_stopped : (S : Type 0) (stop : SerialStop) → OnStop stop ⊥ → OnStop stop S
+never_stopped S stop h = stops_so ⊥ S stop (λ never. absurd never) h
 
 -- the frames stay, while the thread that runs goes on
 pub at_after : (limit : ℕ) (before : Machine) (after : Runner) (fs : List Frame) (s t : State) → At limit before (middle fs s) → Is limit after t
@@ -153,11 +150,17 @@ pub both_never : (c : Setting) (line : ℕ) (a b : Body) (within : Bool) (fs : L
     → middle fs (with_fault faults.Depth line s) ≡ step_par within c line a b fs s
 both_never c line a b within fs s is = ap (λ (t : Bool). step_par t c line a b fs s) (sym is)
 
-pub forks_within : (limit : ℕ) (r : Runner) (s : State) (most : ℕ) → Is limit r s → r.thread.depth < most → nat_lt (length s.label) most ≡ true
-forks_within limit r s most is few = lt-ltb (length s.label) most (subst (λ (n : ℕ). n < most) is.thread.deep few)
+pub forks_within : (limit : ℕ) (r : Runner) (s : State) (most : ℕ) → most ≤ 4294967295 → Is limit r s → r.thread.depth < most → nat_lt (length s.label) most ≡ true
+forks_within limit r s most fits is few = lt-ltb (length s.label) most (below (length s.label) (subst (λ (n : ℕ). n < most) is.thread.deep few))
+  where
+    below : (n : ℕ) → min n 4294967295 < most → n < most
+    below n lt = omega arith
 
 pub forks_beyond : (limit : ℕ) (r : Runner) (s : State) (most : ℕ) → Is limit r s → most ≤ r.thread.depth → nat_lt (length s.label) most ≡ false
-forks_beyond limit r s most is many = le-ltb (length s.label) most (subst (λ (n : ℕ). most ≤ n) is.thread.deep many)
+forks_beyond limit r s most is many = le-ltb (length s.label) most (above (length s.label) (subst (λ (n : ℕ). most ≤ n) is.thread.deep many))
+  where
+    above : (n : ℕ) → most ≤ min n 4294967295 → most ≤ n
+    above n le = omega arith
 
 -- an allocation of no length of a block; one that the quota covers; and one behind its tree of dummies
 pub no_size : (c : Setting) (line : ℕ) (b : Name) (v : ℤ) (fs : List Frame) (s : State) → None ≡ size_of v → middle fs (with_fault faults.Size line s) ≡ step_alloc c line b v fs s

@@ -1,12 +1,16 @@
 -- A run from its beginning to its end.
-use Rattle.std.proofs.Common.{◌≡◌, ℕ, ◌+◌, ◌*◌, ◌-◌, ◌<◌, ◌≤◌, List, [], ◌∷◌, ◌++◌, length, vec_len, refl, sym, ◌∙◌, ap, subst, arith, length-append}
+use Rattle.std.proofs.Common.{◌≡◌, ◌⊎◌, inl, inr, ℕ, suc, ◌+◌, ◌*◌, ◌-◌, ◌<◌, ◌≤◌, List, [], ◌∷◌, ◌++◌, length, vec_len, refl, sym, ◌∙◌, ap, subst, arith, length-append}
 use Rattle.std.specs.Prelude.{reverse}
 use Rattle.std.specs.List.{AllZip}
 use Rattle.std.proofs.lemmas.List.{reverse-append, length-reverse}
 use Rattle.std.proofs.lemmas.Slice.Zip.{AllZip-long}
 use Rattle.dag_order.specs.declared.birth.Birth.{Birth}
 use Rattle.depth_first_list.specs.Actions as deeds
-use Rattle.depth_first_list.specs.Actions.{Action}
+use Rattle.depth_first_list.specs.Actions.{Deed, forks, joins, allocates, releases, dummy, faults, ends, Action}
+use Rattle.depth_first_list.specs.Runs.{IsDepthFirst}
+use Rattle.depth_first_list.specs.Facts.{index_at, deed_at}
+use Rattle.depth_first_list.proofs.ThreadLaws.{index_is_within, ordinal_is_within}
+use Rattle.depth_first_run.proofs.Built.{whole_is_depth_first}
 use Rattle.depth_first_run.specs.States.{Setting, State, Item, acted, with_action, ended}
 use Rattle.depth_first_run.specs.Run.{whole, actions_of}
 use Rattle.depth_first_run.specs.Middle as middles
@@ -15,13 +19,13 @@ use Rattle.depth_first_run.proofs.Stepping.{advance_comes}
 use Rattle.depth_first_run.proofs.Nearing.{advance_nears, items_grow}
 use Rattle.serial_journal.specs.Journals.{births_of, action_named}
 use Rattle.serial_journal.proofs.Items.{actions_more}
-use Rattle.serial_meaning.specs.Views.{Is, IsBeyond}
+use Rattle.serial_meaning.specs.Views.{Is, IsBeyond, by_count, by_number, IsLateDeed, HasLate}
 use Rattle.serial_meaning.specs.Frames.{IsFrame}
 use Rattle.serial_meaning.specs.Moving.{AreFrames, At}
 use Rattle.serial_meaning.specs.declared.frame.Frame.{Frame}
 use Rattle.serial_meaning.specs.declared.machine.Machine.{Machine}
 use Rattle.serial_meaning.specs.declared.runner.Runner.{Runner}
-use Rattle.serial_meaning.proofs.Steps.{one_action}
+use Rattle.serial_meaning.proofs.Steps.{one_action, late_more}
 use Rattle.serial_meaning.proofs.Forking.{end_is}
 
 -- a stack whose top is x, and what is left without it
@@ -63,6 +67,46 @@ one_more : (s : State) → length (actions_of (State.items (with_action deeds.en
 unfolding with_action
 one_more s = one_action s.items (action_named s.label s.done deeds.ends 0)
 
+late_to_come : (items new : List Item) (last : State) → last.items ≡ items ++ new → HasLate (actions_of items) → HasLate (actions_of (State.items (ended 0 last)))
+unfolding ended with_action
+late_to_come items new last grown late =
+    let before : HasLate (actions_of last.items) =
+    subst (λ (xs : List Item). HasLate (actions_of xs)) (sym grown) (subst HasLate (sym (actions_more items new)) (late_more (actions_of items) (actions_of new) late)) in
+    let end : Item = acted (action_named last.label last.done deeds.ends 0) in
+    subst HasLate (sym (actions_more last.items (end ∷ []))) (late_more (actions_of last.items) (actions_of (end ∷ [])) before)
+
+-- a depth-first list with a late action is long
+late_place : (l : List Action) → HasLate l → (i : ℕ) × (i < length l) × ((4294967295 ≤ index_at l i) ⊎ IsLateDeed (deed_at l i))
+late_place [] never = absurd never
+late_place (a ∷ l) (inl here) = (0, omega arith, here)
+late_place (a ∷ l) (inr later) = let there = late_place l later in let inside : there.0 < length l = there.1 in (suc there.0, omega arith, there.2)
+
+late_ordinal : (d : Deed) → IsLateDeed d → (child : ℕ) × (d ≡ forks child) × (4294967296 ≤ child)
+late_ordinal (forks child) late = (child, refl, late)
+late_ordinal (joins child) never = absurd never
+late_ordinal allocates never = absurd never
+late_ordinal releases never = absurd never
+late_ordinal dummy never = absurd never
+late_ordinal faults never = absurd never
+late_ordinal ends never = absurd never
+
+late_is_long : (k : ℕ) (l : List Action) → IsDepthFirst k l → HasLate l → 4294967295 < length l
+late_is_long k l run late =
+    let there = late_place l late in
+    let inside : there.0 < length l = there.1 in
+    elim there.2 [
+      | inl index ↦ let within : index_at l there.0 ≤ there.0 = index_is_within k l run there.0 inside in omega arith
+      | inr deed ↦ let fork = late_ordinal (deed_at l there.0) deed in
+          let many : 4294967296 ≤ fork.0 = fork.2 in
+          let within : fork.0 ≤ suc there.0 = ordinal_is_within k l run there.0 fork.0 inside fork.1 in omega arith
+    ]
+
+-- a run that is beyond a limit has more actions
+pub has_more : (limit : ℕ) (c : Setting) → limit < 4294967296 → IsBeyond limit (whole c) → limit < length (actions_of (State.items (whole c)))
+has_more limit c fits (by_count many) = many
+has_more limit c fits (by_number late) =
+    let long : 4294967295 < length (actions_of (State.items (whole c))) = late_is_long c.quota (actions_of (State.items (whole c))) (whole_is_depth_first c) late in omega arith
+
 -- the actions so far are no more than those of the whole run
 pub more_to_come : (c : Setting) (limit : ℕ) (m : Middle) (w : State) → ended 0 (finished c m) ≡ w → IsBeyond limit m.state → IsBeyond limit w
 more_to_come c limit m w comes beyond =
@@ -72,7 +116,10 @@ more_to_come c limit m w comes beyond =
     ap (λ (xs : List Item). length (actions_of xs)) new.1 ∙ ap length (actions_more m.state.items new.0) ∙ length-append (actions_of m.state.items) (actions_of new.0) in
     let one : length (actions_of (State.items (ended 0 last))) ≡ length (actions_of last.items) + 1 =
     ap (λ (v : State). length (actions_of v.items)) (sym (end_is 0 last)) ∙ one_more last in
-    subst (IsBeyond limit) comes (omega (arith, all, one, beyond))
+    subst (IsBeyond limit) comes (elim beyond [
+      | by_count many ↦ by_count (omega (arith, all, one, many))
+      | by_number late ↦ by_number (late_to_come m.state.items new.0 last new.1 late)
+    ])
 
 -- the machine without the frame that comes next
 pub record Taken (limit : ℕ) (popped : Machine) (x : Frame) (m : Middle) : Type 0 where

@@ -1,6 +1,5 @@
 -- What a call does to the point in the middle of a run where the machine is.
-use Rattle.std.proofs.Common.{◌≡◌, ℕ, List, [], ◌∷◌, ◌++◌, ℤ, Result, Ok, Err, MatchResult, refl, sym, ◌∙◌, ap, subst}
-use Rattle.std.specs.Prelude.{reverse}
+use Rattle.std.proofs.Common.{◌≡◌, ℕ, List, [], ◌∷◌, ◌++◌, ℤ, Result, Ok, Err, MatchResult, sym, ◌∙◌, ap, subst}
 use Rattle.std.specs.List.{AllZip}
 use Rattle.std.proofs.lemmas.List.{reverse-append}
 use Rattle.dag_order.specs.declared.birth.Birth.{Birth}
@@ -19,7 +18,7 @@ use Rattle.serial_meaning.specs.declared.machine.Machine.{Machine}
 use Rattle.serial_meaning.specs.declared.runner.Runner.{Runner}
 use Rattle.serial_meaning.specs.Views.{Is, IsBeyond, Goes}
 use Rattle.serial_meaning.specs.Frames.{IsFrame}
-use Rattle.serial_meaning.specs.Moving.{AreFrames, At, Moves}
+use Rattle.serial_meaning.specs.Moving.{AreFrames, At}
 
 -- a frame on the stack
 pub pushed : (births : List Birth) (stack : List RustFrame) (x : RustFrame) (f : Frame) (fs : List Frame) → AreFrames births stack fs → IsFrame births x f

@@ -1,6 +1,7 @@
 -- What a call does to the state that a thread is in.
-use Rattle.std.proofs.Common.{◌≡◌, ℕ, suc, ◌+◌, ◌<◌, ◌≤◌, List, [], ◌∷◌, ◌++◌, length, ℤ, Result, Ok, Err, MatchResult, Option, Some, None, refl, sym, ◌∙◌, ap, subst, arith, append-nil, length-append}
+use Rattle.std.proofs.Common.{◌≡◌, ◌⊎◌, inl, inr, ℕ, suc, ◌+◌, ◌<◌, ◌≤◌, List, [], ◌∷◌, ◌++◌, length, ℤ, Result, Ok, Err, MatchResult, Option, Some, None, refl, sym, ◌∙◌, ap, subst, arith, append-nil, length-append}
 use Rattle.std.specs.Option.{SomeIff}
+use Rattle.std.proofs.lemmas.Bool.{cases_lt}
 use Rattle.std.specs.Result.{IsErrAnd}
 use Rattle.dag_order.specs.Births.{HasLabel}
 use Rattle.dag_order.specs.declared.birth.Birth.{Birth}
@@ -34,11 +35,11 @@ use Rattle.serial_journal.specs.Journals.{KeepsUp, births_of, action_named}
 use Rattle.serial_journal.proofs.Items.{actions_more}
 use Rattle.serial_meaning.specs.declared.thread.Thread.{Thread}
 use Rattle.serial_meaning.specs.declared.runner.Runner.{Runner}
-use Rattle.serial_meaning.specs.Views.{thread_state, IsThread, Is, IsBeyond, fault_of, thread_holdings}
+use Rattle.serial_meaning.specs.Views.{thread_state, IsThread, Is, IsBeyond, fault_of, thread_holdings, by_count, by_number, depth_of, IsLateDeed, HasLate}
 
 -- what holds of a thread's state in any run holds of the state that it is in
 pub by_thread : (births : List Birth) (t : Thread) (P : State → Type 0)
-    → ((label : List ℕ) (items : List Item) → HasLabel (births ∷ []) t.id label → t.depth ≡ length label → P (thread_state t label items))
+    → ((label : List ℕ) (items : List Item) → HasLabel (births ∷ []) t.id label → t.depth ≡ depth_of label → P (thread_state t label items))
     → (s : State) → IsThread births t s → P s
 by_thread births t P all s is = subst P (sym is.shown) (all s.label s.items is.labelled is.deep)
 
@@ -73,7 +74,37 @@ is_acted limit t u j k deed words done same next born s is =
 pub act_beyond : (limit : ℕ) (deed : Deed) (words : ℕ) (s : State) → limit ≤ length (actions_of s.items) → IsBeyond limit (with_action deed words s)
 unfolding with_action
 act_beyond limit deed words s full =
-    let more = one_action s.items (action_named s.label s.done deed words) in omega (arith, more, full)
+    let more = one_action s.items (action_named s.label s.done deed words) in by_count (omega (arith, more, full))
+
+-- what is late stays so, and an action more may be
+pub late_more : (xs ys : List Action) → HasLate xs → HasLate (xs ++ ys)
+late_more [] ys never = absurd never
+late_more (x ∷ xs) ys (inl here) = inl here
+late_more (x ∷ xs) ys (inr later) = inr (late_more xs ys later)
+
+pub late_last : (xs : List Action) (a : Action) → (4294967295 ≤ a.index) ⊎ IsLateDeed a.deed → HasLate (xs ++ a ∷ [])
+late_last [] a late = inl late
+late_last (x ∷ xs) a late = inr (late_last xs a late)
+
+-- behind an action that is late no count goes on
+pub acts_late : (items : List Item) (a : Action) → (4294967295 ≤ a.index) ⊎ IsLateDeed a.deed → HasLate (actions_of (items ++ acted a ∷ []))
+acts_late items a late = subst HasLate (sym (actions_more items (acted a ∷ []))) (late_last (actions_of items) a late)
+
+pub act_late : (limit : ℕ) (births : List Birth) (t : Thread) (deed : Deed) (words : ℕ) (s : State) → IsThread births t s → 4294967295 ≤ t.done → IsBeyond limit (with_action deed words s)
+unfolding with_action
+act_late limit births t deed words s is late =
+    let same : s.done ≡ t.done = ap (λ (v : State). v.done) is.shown in
+    by_number (acts_late s.items (action_named s.label s.done deed words) (inl (omega (arith, same, late))))
+
+-- a stop that has its cause
+pub stopped_by : (S : Type 0) (stop : SerialStop) → S → OnStop stop S
+stopped_by S StepsSpent cause = cause
+stopped_by S OutOfMemory cause = tt
+
+-- a count that goes no further
+pub count_ends : (o : Option ℕ) (n : ℕ) → SomeIff o (n + 1 < 4294967296) (n + 1) → o ≡ None → 4294967295 ≤ n
+count_ends None n counts none = elim (cases_lt (n + 1) 4294967296) [ inl lt ↦ absurd (counts lt) | inr ge ↦ omega arith ]
+count_ends (Some m) n counts none = let never : ⊥ = cc in absurd never
 
 -- the thread that runs stays as it is
 pub is_noted : (limit : ℕ) (t : Thread) (j k : Journal) (item : Item) (s : State) → births_of k ≡ births_of j → Is limit (record { thread = t; journal = j }) s
@@ -105,8 +136,12 @@ stops_so S S' OutOfMemory more h = tt
 pub fault_beyond : (limit words line : ℕ) (kind : FaultKind) (s : State) → IsBeyond limit (with_action deeds.faults words s) → IsBeyond limit (fault_of words kind line s)
 fault_beyond limit words line kind s beyond =
     let items : List Item = (with_action deeds.faults words s).items in
-    let same = ap length (actions_more items (failed (record { kind = kind; line = line }) ∷ []) ∙ append-nil (actions_of items)) in
-    omega (arith, same, beyond)
+    let same : actions_of (items ++ failed (record { kind = kind; line = line }) ∷ []) ≡ actions_of items =
+    actions_more items (failed (record { kind = kind; line = line }) ∷ []) ∙ append-nil (actions_of items) in
+    elim beyond [
+      | by_count more ↦ by_count (subst (λ (xs : List Action). limit < length xs) (sym same) more)
+      | by_number past ↦ by_number (subst HasLate (sym same) past)
+    ]
 
 -- the words that a thread holds are those of its state
 pub holdings_are : (births : List Birth) (t : Thread) (s : State) → IsThread births t s → (kind : FaultKind) (line words : ℕ) → words ≡ thread_holdings t

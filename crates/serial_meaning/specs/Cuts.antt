@@ -25,5 +25,6 @@ cut_or_fault line b l r (Some at) s = on_store (cut_block b l r at) s
 abbrev pub CutsOrFaults : ℕ → Runner → Result Bool SerialStop → Runner → ℕ → (b l r : Name) → ℤ → Type 0
 CutsOrFaults limit before result after line b l r at = (s : State) → Is limit before s
     → MatchResult result
-    (λ was_cut. (was_cut ≡ is_some (cut_place b at s)) × Is limit after (cut_or_fault line b l r (cut_place b at s) s) × (births_of after.journal ≡ births_of before.journal))
+    (λ was_cut. (was_cut ≡ is_some (cut_place b at s)) × Is limit after (cut_or_fault line b l r (cut_place b at s) s)
+    × (births_of after.journal ≡ births_of before.journal))
     (λ stop. OnStop stop (IsBeyond limit (cut_or_fault line b l r (cut_place b at s) s)))

@@ -39,6 +39,7 @@ IsFrame births (Rejoins b l r) f = f ≡ middles.rejoins (name_tree b.now) (name
 IsFrame births (AnswersMain ret) f = f ≡ middles.answers_main (ret_tree ret.now)
 IsFrame births (Allocates b len) f = f ≡ middles.allocates (name_tree b.now) (length_of len)
 IsFrame births (Awaits child own parent) f =
-    (s : State) × (f ≡ middles.awaits (names_of child) (assigns_of child) (part_shown own) s) × IsThread births parent (parent_of (names_of child) [] s)
+    (s : State) × (f ≡ middles.awaits (names_of child) (assigns_of child) (part_shown own) s)
+    × IsThread births parent (parent_of (names_of child) [] s)
 IsFrame births (Joins child faulted store) f =
     (d : State) × (ordinal : ℕ) × (f ≡ middles.joins (assigns_of child) ordinal d) × (d.store ≡ store_shown store) × (d.faulted ≡ faulted)

@@ -1,5 +1,5 @@
 -- Where the machine is in the middle of a run, and what a call does to that.
-use Rattle.std.specs.Prelude.{◌≡◌, ℕ, List, ◌∷◌, reverse, Result, MatchResult}
+use Rattle.std.specs.Prelude.{ℕ, List, ◌∷◌, reverse, Result, MatchResult}
 use Rattle.std.specs.List.{AllZip}
 use Rattle.dag_order.specs.declared.birth.Birth.{Birth}
 use Rattle.depth_first_run.specs.States.{State}

@@ -8,7 +8,7 @@ use Rattle.serial_journal.specs.Telling.{Tells}
 use Rattle.serial_journal.specs.declared.serial.Serial.{Serial}
 use Rattle.serial_journal.specs.declared.serial_stop.SerialStop.{SerialStop}
 use Rattle.serial_meaning.specs.Moving.{At}
-use Rattle.serial_meaning.specs.Views.{Is}
+use Rattle.serial_meaning.specs.Views.{Is, IsBeyond}
 use Rattle.serial_meaning.specs.declared.machine.Machine.{Machine}
 use Rattle.serial_meaning.specs.declared.runner.Runner.{Runner}
 
@@ -16,7 +16,13 @@ use Rattle.serial_meaning.specs.declared.runner.Runner.{Runner}
 -- it where they are more
 abbrev pub TellsOrStops : ℕ → List Item → Result Serial SerialStop → Type 0
 TellsOrStops limit items result =
-    MatchResult result (λ serial. Tells items serial × (length (actions_of items) ≤ limit)) (λ stop. OnStop stop (limit < length (actions_of items)))
+    MatchResult result (λ serial. Tells items serial
+    × (length (actions_of items) ≤ limit)) (λ stop. OnStop stop (limit < length (actions_of items)))
+
+-- the result of the End of the root, behind which the whole run is told
+abbrev pub TellsOrPasses : ℕ → State → Result Serial SerialStop → Type 0
+TellsOrPasses limit w result =
+    MatchResult result (λ serial. Tells w.items serial × (length (actions_of w.items) ≤ limit)) (λ stop. OnStop stop (IsBeyond limit w))
 
 -- the machine is at a point from which what is left comes to the whole run
 pub record IsUnderWay (limit : ℕ) (c : Setting) (machine : Machine) : Type 0 where

@@ -1,9 +1,10 @@
 -- The state that a thread is in, and what a call does to it.
-use Rattle.std.specs.Prelude.{◌≡◌, ℕ, ◌+◌, ◌<◌, List, [], ◌∷◌, length, map, reverse, Result, MatchResult}
+use Rattle.std.specs.Prelude.{◌≡◌, ◌⊎◌, ℕ, ◌+◌, ◌<◌, ◌≤◌, min, List, [], ◌∷◌, length, map, reverse, Result, MatchResult}
 use Rattle.dag_order.specs.Births.{HasLabel}
 use Rattle.dag_order.specs.declared.birth.Birth.{Birth}
 use Rattle.dag_order.specs.declared.fault.FaultKind.{FaultKind}
 use Rattle.depth_first_list.specs.Actions as deeds
+use Rattle.depth_first_list.specs.Actions.{Deed, forks, joins, allocates, releases, dummy, faults, ends, Action}
 use Rattle.depth_first_run.specs.Stores as stores
 use Rattle.depth_first_run.specs.Stores.{held_words, stored_words}
 use Rattle.depth_first_run.specs.States.{State, Item, failed, with_item, with_action, emptied}
@@ -34,25 +35,49 @@ thread_state t label items = record {
   items = items;
 }
 
+-- how many forks stand above a thread, as far as 32 bits count
+abbrev pub depth_of : List ℕ → ℕ
+depth_of label = min (length label) 4294967295
+
 -- a thread is in a state: by the births it has the state's label
 pub record IsThread (births : List Birth) (t : Thread) (s : State) : Type 0 where
   pub shown : s ≡ thread_state t s.label s.items
   pub labelled : HasLabel (births ∷ []) t.id s.label
-  pub deep : t.depth ≡ length s.label
+  pub deep : t.depth ≡ depth_of s.label
 
 -- the thread that runs is in a state, whose items are written down
 pub record Is (limit : ℕ) (r : Runner) (s : State) : Type 0 where
   pub thread : IsThread (births_of r.journal) r.thread s
   pub keeps : KeepsUp limit s.items r.journal
 
--- there are more actions than the limit
+-- An action whose index, or the ordinal of the child that it forks, 32 bits do not count behind: it stands behind so many
+-- actions that no limit allows it.
+abbrev pub IsLateDeed : Deed → Type 0
+IsLateDeed (forks child) = 4294967296 ≤ child
+IsLateDeed (joins child) = ⊥
+IsLateDeed allocates = ⊥
+IsLateDeed releases = ⊥
+IsLateDeed dummy = ⊥
+IsLateDeed faults = ⊥
+IsLateDeed ends = ⊥
+
+abbrev pub HasLate : List Action → Type 0
+HasLate [] = ⊥
+HasLate (action ∷ later) = ((4294967295 ≤ action.index) ⊎ IsLateDeed action.deed) ⊎ HasLate later
+
+-- there are more actions than the limit, as their count shows, or a number of one of them
+pub data Exceeds (limit : ℕ) (items : List Item) : Type 0 where
+  by_count : limit < length (actions_of items) → Exceeds limit items
+  by_number : HasLate (actions_of items) → Exceeds limit items
+
 abbrev pub IsBeyond : ℕ → State → Type 0
-IsBeyond limit s = limit < length (actions_of s.items)
+IsBeyond limit s = Exceeds limit s.items
 
 -- a call does this to the state, and no thread is born; it stops only where that has more actions than the limit
 abbrev pub Goes : ℕ → Runner → Result (Unit {0}) SerialStop → Runner → (State → State) → Type 0
 Goes limit before result after does = (s : State) → Is limit before s
-    → MatchResult result (λ _. Is limit after (does s) × (births_of after.journal ≡ births_of before.journal)) (λ stop. OnStop stop (IsBeyond limit (does s)))
+    → MatchResult result (λ _. Is limit after (does s)
+    × (births_of after.journal ≡ births_of before.journal)) (λ stop. OnStop stop (IsBeyond limit (does s)))
 
 -- the words that a thread holds
 abbrev pub thread_holdings : Thread → ℕ

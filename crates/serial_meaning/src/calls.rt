@@ -40,7 +40,10 @@ impl<'a> Machine<'a> {
         func: &'a Name,
         args: &'a [Arg],
     ) -> Result<(), SerialStop>
-        ensures { (limit : ℕ) → Moves limit self.old result self.new (step_call (setting_of (program_tree plan.entry.program.now) (quota_words plan.entry.quota)) line (target_tree target.now) (args_tree args.now) (ownership.function_of (program_tree plan.entry.program.now) (name_tree func.now))) }
+        ensures { (limit : ℕ)
+            → Moves limit self.old result self.new
+            (step_call (setting_of (program_tree plan.entry.program.now) (quota_words plan.entry.quota)) line (target_tree target.now)
+            (args_tree args.now) (ownership.function_of (program_tree plan.entry.program.now) (name_tree func.now))) }
     {
         let Some(func) = function_of(&plan.program.funcs, &func.bytes) else {
             return Ok(());
@@ -78,7 +81,9 @@ impl<'a> Runner<'a> {
     /// The fault that a call meets whose arguments are without fault, where it meets one: too many calls are open, or
     /// the thread has no turn left.
     pub(crate) fn limit_of_calls(&self) -> Option<FaultKind>
-        ensures { MatchOption result ((self.now.thread.calls < 10000) × (0 < self.now.thread.turns)) (λ kind. ((kind ≡ Depth) × (10000 ≤ self.now.thread.calls)) ⊎ ((kind ≡ Turns) × (self.now.thread.calls < 10000) × (self.now.thread.turns ≡ 0))) }
+        ensures { MatchOption result ((self.now.thread.calls < 10000)
+            × (0 < self.now.thread.turns)) (λ kind. ((kind ≡ Depth) × (10000 ≤ self.now.thread.calls))
+            ⊎ ((kind ≡ Turns) × (self.now.thread.calls < 10000) × (self.now.thread.turns ≡ 0))) }
     {
         if self.thread.calls >= MOST_CALLS {
             Some(FaultKind::Depth)
@@ -98,7 +103,8 @@ impl<'a> Runner<'a> {
         params: &'a [Param],
         args: &'a [Arg],
     ) -> Result<(), SerialStop>
-        ensures { (most : ℕ) → Goes most self.old result self.new (λ s. refused line limit (all_passed s.store (params_tree params.now) (args_tree args.now)) s) }
+        ensures { (most : ℕ) → Goes most self.old result self.new
+            (λ s. refused line limit (all_passed s.store (params_tree params.now) (args_tree args.now)) s) }
     {
         let words = self.holdings()?;
         match pass(alloc, &mut self.thread.store, params, args) {
@@ -134,7 +140,9 @@ impl<'a> Runner<'a> {
         args: &'a [Arg],
         target: &'a Target,
     ) -> Result<(), SerialStop>
-        ensures { (limit : ℕ) → Goes limit self.old result self.new (unless_faulted (with_answer (ret_tree ret.now) (returned (params_tree params.now) (args_tree args.now) (target_tree target.now)))) }
+        ensures { (limit : ℕ)
+            → Goes limit self.old result self.new (unless_faulted
+            (with_answer (ret_tree ret.now) (returned (params_tree params.now) (args_tree args.now) (target_tree target.now)))) }
     {
         if self.thread.faulted {
             return Ok(());
@@ -163,7 +171,9 @@ impl<'a> Runner<'a> {
         target: &'a Target,
         answer: Answer,
     ) -> Result<(), SerialStop>
-        ensures { (limit : ℕ) → Goes limit self.old result self.new (returned (params_tree params.now) (args_tree args.now) (target_tree target.now) (answer_shown answer)) }
+        ensures { (limit : ℕ)
+            → Goes limit self.old result self.new (returned (params_tree params.now) (args_tree args.now) (target_tree target.now)
+            (answer_shown answer)) }
     {
         let Some(caller) = self.thread.callers.pop() else {
             return Ok(());

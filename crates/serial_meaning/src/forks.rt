@@ -36,7 +36,10 @@ impl<'a> Machine<'a> {
         child: Part<'a>,
         own: Part<'a>,
     ) -> Result<(), SerialStop>
-        ensures { (limit k : ℕ) (program : Program) → Moves limit self.old result self.new (step_fork (setting_of program k) (names_of child.entry) (assigns_of child.entry) (part_shown child.entry) (part_shown own.entry)) }
+        ensures { (limit k : ℕ) (program : Program)
+            → Moves limit self.old result self.new
+            (step_fork (setting_of program k) (names_of child.entry) (assigns_of child.entry) (part_shown child.entry)
+            (part_shown own.entry)) }
     {
         let thread = self.runner.forked(alloc, child)?;
         let parent = mem::replace(&mut self.runner.thread, thread);
@@ -52,7 +55,10 @@ impl<'a> Machine<'a> {
         own: Part<'a>,
         parent: Thread<'a>,
     ) -> Result<(), SerialStop>
-        ensures { (limit : ℕ) (s : State) → IsThread (births_of self.old.runner.journal) parent.entry (parent_of (names_of child.entry) [] s) → Moves limit self.old result self.new (λ fs d. step_awaited (names_of child.entry) (assigns_of child.entry) (part_shown own.entry) s fs (ended record_words d)) }
+        ensures { (limit : ℕ) (s : State)
+            → IsThread (births_of self.old.runner.journal) parent.entry (parent_of (names_of child.entry) [] s)
+            → Moves limit self.old result self.new
+            (λ fs d. step_awaited (names_of child.entry) (assigns_of child.entry) (part_shown own.entry) s fs (ended record_words d)) }
     {
         self.runner.act(Kind::End, u64::from(RECORD_WORDS))?;
         let ended = mem::replace(&mut self.runner.thread, parent);
@@ -72,14 +78,14 @@ impl<'a> Runner<'a> {
 
     /// The Fork of a child, which takes its record block: the child as it begins, while the thread has done the Fork.
     fn forked(&mut self, alloc: Global, child: Part<'a>) -> Result<Thread<'a>, SerialStop>
-        ensures { (limit k : ℕ) (program : Program) (s : State) → Is limit self.old s → MatchResult result (λ thread. HasForked limit (setting_of program k) (names_of child.entry) s thread self.old self.new) (λ stop. OnStop stop (IsBeyond limit (child_of (setting_of program k) (names_of child.entry) s))) }
+        ensures { (limit k : ℕ) (program : Program) (s : State) → Is limit self.old s
+            → MatchResult result (λ thread. HasForked limit (setting_of program k) (names_of child.entry) s thread self.old self.new)
+            (λ stop. OnStop stop (IsBeyond limit (child_of (setting_of program k) (names_of child.entry) s))) }
     {
         let forks = self.thread.forks.checked_add(1);
-        let forks = forks.ok_or(SerialStop::OutOfMemory)?;
+        let forks = forks.ok_or(SerialStop::StepsSpent)?;
         let done = self.thread.done.checked_add(1);
-        let done = done.ok_or(SerialStop::OutOfMemory)?;
-        let depth = self.thread.depth.checked_add(1);
-        let depth = depth.ok_or(SerialStop::OutOfMemory)?;
+        let done = done.ok_or(SerialStop::StepsSpent)?;
         let name = self.next_name();
         let id = self.journal.fork(name, forks, RECORD_WORDS)?;
         let store = taken_by(alloc, child, &mut self.thread.store)?;
@@ -87,7 +93,7 @@ impl<'a> Runner<'a> {
         self.thread.done = done;
         Ok(Thread {
             id,
-            depth,
+            depth: self.thread.depth.saturating_add(1),
             done: 0,
             forks: 0,
             faulted: false,
@@ -106,7 +112,8 @@ impl<'a> Runner<'a> {
         faulted: bool,
         store: Store<'a>,
     ) -> Result<(), SerialStop>
-        ensures { (limit ordinal : ℕ) (d : State) → d.store ≡ store_shown store.entry → d.faulted ≡ faulted → Goes limit self.old result self.new (joined (assigns_of child.entry) ordinal d) }
+        ensures { (limit ordinal : ℕ) (d : State) → d.store ≡ store_shown store.entry → d.faulted ≡ faulted
+            → Goes limit self.old result self.new (joined (assigns_of child.entry) ordinal d) }
     {
         if self.thread.faulted {
             return self.act(Kind::Join, store.held_words());
@@ -144,7 +151,8 @@ fn bring_back<'a>(
     brought: Store<'a>,
     store: &mut Store<'a>,
 ) -> Result<(), AllocError>
-    ensures { OnOk result (store_shown store.new ≡ joined_store (assigns_of child.entry) (store_shown brought.entry) (store_shown store.old)) }
+    ensures { OnOk result (store_shown store.new ≡ joined_store (assigns_of child.entry) (store_shown brought.entry)
+        (store_shown store.old)) }
 {
     match child {
         Part::Statements(branch) => store.take_in(alloc, brought, branch),

@@ -31,7 +31,8 @@ impl<'a> Machine<'a> {
     /// A frame comes before what is left.
     pub(crate) fn push(&mut self, frame: Frame<'a>) -> Result<(), AllocError>
         ensures runner { self.new.runner ≡ self.old.runner }
-        ensures ok { (limit : ℕ) (f : middles.Frame) → IsFrame (births_of self.old.runner.journal) frame.entry f → OnOk result (Stacks limit self.old self.new f) }
+        ensures ok { (limit : ℕ) (f : middles.Frame) → IsFrame (births_of self.old.runner.journal) frame.entry f
+            → OnOk result (Stacks limit self.old self.new f) }
     {
         match self.frames.push(frame) {
             Ok(()) => Ok(()),
@@ -41,7 +42,9 @@ impl<'a> Machine<'a> {
 
     /// One step: what a frame does that was the next one.
     pub(crate) fn step(&mut self, plan: Plan<'a>, frame: Frame<'a>) -> Result<(), SerialStop>
-        ensures { (limit : ℕ) (f : middles.Frame) → IsFrame (births_of self.old.runner.journal) frame.entry f → Moves limit self.old result self.new (middles.step_frame (setting_of (program_tree plan.entry.program.now) (quota_words plan.entry.quota)) f) }
+        ensures { (limit : ℕ) (f : middles.Frame) → IsFrame (births_of self.old.runner.journal) frame.entry f
+            → Moves limit self.old result self.new
+            (middles.step_frame (setting_of (program_tree plan.entry.program.now) (quota_words plan.entry.quota)) f) }
     {
         let alloc = plan.alloc;
         match frame {
@@ -66,7 +69,9 @@ impl<'a> Machine<'a> {
 
     /// One step of a part.
     fn do_part(&mut self, plan: Plan<'a>, part: Part<'a>) -> Result<(), SerialStop>
-        ensures { (limit : ℕ) → Moves limit self.old result self.new (middles.step_part (setting_of (program_tree plan.entry.program.now) (quota_words plan.entry.quota)) (part_shown part.entry)) }
+        ensures { (limit : ℕ)
+            → Moves limit self.old result self.new
+            (middles.step_part (setting_of (program_tree plan.entry.program.now) (quota_words plan.entry.quota)) (part_shown part.entry)) }
     {
         match part {
             Part::Statements(stmts) => self.first_of(plan, stmts),
@@ -76,7 +81,8 @@ impl<'a> Machine<'a> {
 
     /// A tree of dummies: one Dummy, or a Fork of a child that runs a tree, a tree, and the Join.
     fn dummies(&mut self, alloc: Global, tree: Tree) -> Result<(), SerialStop>
-        ensures { (limit k : ℕ) (program : Program) → Moves limit self.old result self.new (middles.step_part (setting_of program k) (middles.tree (shape_of (tree_leaves tree)))) }
+        ensures { (limit k : ℕ) (program : Program)
+            → Moves limit self.old result self.new (middles.step_part (setting_of program k) (middles.tree (shape_of (tree_leaves tree)))) }
     {
         match tree.halves() {
             None => self.runner.act(Kind::Dummy, 0),

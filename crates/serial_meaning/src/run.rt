@@ -13,7 +13,7 @@ ghost use Rattle.serial_journal.specs.Stops.{OnStop};
 ghost use Rattle.serial_meaning.specs.Settings.{setting_of};
 ghost use Rattle.serial_meaning.specs.Views.{IsBeyond};
 ghost use Rattle.serial_meaning.specs.Moving.{At};
-ghost use Rattle.serial_meaning.specs.Runs.{TellsOrStops, IsAllButEnded};
+ghost use Rattle.serial_meaning.specs.Runs.{TellsOrStops, TellsOrPasses, IsAllButEnded};
 
 use crate::frame::Frame;
 use crate::functions::function_of;
@@ -36,7 +36,7 @@ use std::alloc::Global;
 ///
 /// It keeps its own stack, so calls and forks take none of the caller's. A statement takes time in proportion to the
 /// text of its expressions, times the names of its function, since names are looked up one after another; a Fork and
-/// its Join go through the text of the first branch once for each name.
+/// its Join each go through the text of the first branch once, or for up to eight names once for each.
 ///
 /// # Errors
 ///
@@ -60,7 +60,8 @@ pub fn depth_first(
 
 /// The run of a plan, up to the End of the root.
 fn run<'a>(plan: Plan<'a>, limit: u32) -> Result<Runner<'a>, SerialStop>
-    ensures { MatchResult result (IsAllButEnded limit (setting_of (program_tree plan.entry.program.now) (quota_words plan.entry.quota))) (λ stop. OnStop stop (IsBeyond limit (whole (setting_of (program_tree plan.entry.program.now) (quota_words plan.entry.quota))))) }
+    ensures { MatchResult result (IsAllButEnded limit (setting_of (program_tree plan.entry.program.now) (quota_words plan.entry.quota)))
+        (λ stop. OnStop stop (IsBeyond limit (whole (setting_of (program_tree plan.entry.program.now) (quota_words plan.entry.quota))))) }
 {
     let mut machine = beginning(plan, limit)?;
     while let Some(frame) = machine.frames.pop() {
@@ -72,7 +73,7 @@ fn run<'a>(plan: Plan<'a>, limit: u32) -> Result<Runner<'a>, SerialStop>
 
 /// The End of the root, and what was written down.
 fn close(runner: Runner) -> Result<Serial, SerialStop>
-    ensures { (limit : ℕ) (c : Setting) → IsAllButEnded limit c runner.entry → TellsOrStops limit (State.items (whole c)) result }
+    ensures { (limit : ℕ) (c : Setting) → IsAllButEnded limit c runner.entry → TellsOrPasses limit (whole c) result }
 {
     let mut runner = runner;
     runner.act(Kind::End, 0)?;
@@ -82,7 +83,9 @@ fn close(runner: Runner) -> Result<Serial, SerialStop>
 
 /// The root before its first statement.
 fn beginning<'a>(plan: Plan<'a>, limit: u32) -> Result<Machine<'a>, SerialStop>
-    ensures { MatchResult result (λ machine. At limit machine (run_start (setting_of (program_tree plan.entry.program.now) (quota_words plan.entry.quota)) (ownership.function_of (program_tree plan.entry.program.now) ownership.main_name))) (λ stop. OnStop stop ⊥) }
+    ensures { MatchResult result (λ machine. At limit machine
+        (run_start (setting_of (program_tree plan.entry.program.now) (quota_words plan.entry.quota))
+        (ownership.function_of (program_tree plan.entry.program.now) ownership.main_name))) (λ stop. OnStop stop ⊥) }
 {
     let mut machine = root(plan.alloc, limit);
     let Some(main) = function_of(&plan.program.funcs, b"main") else {

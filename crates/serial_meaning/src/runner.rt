@@ -33,12 +33,14 @@ impl<'a> Runner<'a> {
 
     /// The thread does an action that is no Fork.
     pub(crate) fn act(&mut self, kind: Kind, words: u64) -> Result<(), SerialStop>
-        ensures { (limit : ℕ) (deed : Deed) → kind ≡ kind_of deed → IsNoFork deed → Goes limit self.old result self.new (with_action deed words) }
+        ensures { (limit : ℕ) (deed : Deed) → kind ≡ kind_of deed → IsNoFork deed
+            → Goes limit self.old result self.new (with_action deed words) }
     {
         let name = self.next_name();
-        self.journal.act(name, kind, words)?;
         let done = self.thread.done.checked_add(1);
-        self.thread.done = done.ok_or(SerialStop::OutOfMemory)?;
+        let done = done.ok_or(SerialStop::StepsSpent)?;
+        self.journal.act(name, kind, words)?;
+        self.thread.done = done;
         Ok(())
     }
 

@@ -28,7 +28,9 @@ impl<'a> Runner<'a> {
         name: &'a Name,
         expr: &'a Expr,
     ) -> Result<(), SerialStop>
-        ensures { (limit : ℕ) → Goes limit self.old result self.new (λ s. with_number line (value s.store (expr_tree expr.now)) (set_integer (name_tree name.now)) s) }
+        ensures { (limit : ℕ)
+            → Goes limit self.old result self.new (λ s. with_number line (value s.store (expr_tree expr.now))
+            (set_integer (name_tree name.now)) s) }
     {
         match evaluate(&self.thread.store, expr) {
             Ok(value) => Ok(self.thread.store.set_integer(name, value)?),
@@ -45,7 +47,9 @@ impl<'a> Runner<'a> {
         at: &'a Expr,
         expr: &'a Expr,
     ) -> Result<(), SerialStop>
-        ensures { (limit : ℕ) → Goes limit self.old result self.new (λ s. with_number line (value s.store (expr_tree at.now)) (put_value line (name_tree block.now) (expr_tree expr.now)) s) }
+        ensures { (limit : ℕ)
+            → Goes limit self.old result self.new (λ s. with_number line (value s.store (expr_tree at.now))
+            (put_value line (name_tree block.now) (expr_tree expr.now)) s) }
     {
         match evaluate(&self.thread.store, at) {
             Ok(index) => self.put_at(alloc, line, block, index, expr),
@@ -79,7 +83,8 @@ impl<'a> Runner<'a> {
         line: u32,
         expr: &'a Expr,
     ) -> Result<(), SerialStop>
-        ensures { (limit : ℕ) → Goes limit self.old result self.new (λ s. with_number line (value s.store (expr_tree expr.now)) print_number s) }
+        ensures { (limit : ℕ)
+            → Goes limit self.old result self.new (λ s. with_number line (value s.store (expr_tree expr.now)) print_number s) }
     {
         match evaluate(&self.thread.store, expr) {
             Ok(value) => self.print(value),
@@ -120,7 +125,8 @@ impl<'a> Runner<'a> {
         left: &'a Name,
         right: &'a Name,
     ) -> Result<bool, SerialStop>
-        ensures { (limit : ℕ) → CutsOrFaults limit self.old result self.new line (name_tree block.now) (name_tree left.now) (name_tree right.now) at }
+        ensures { (limit : ℕ)
+            → CutsOrFaults limit self.old result self.new line (name_tree block.now) (name_tree left.now) (name_tree right.now) at }
     {
         match self.thread.store.cut(alloc, block, at, left, right) {
             Ok(()) => Ok(true),
@@ -140,7 +146,9 @@ impl<'a> Runner<'a> {
         left: &'a Name,
         right: &'a Name,
     ) -> Result<(), SerialStop>
-        ensures { (limit : ℕ) → Goes limit self.old result self.new (unless_faulted (on_store (rejoin_block (name_tree block.now) (name_tree left.now) (name_tree right.now)))) }
+        ensures { (limit : ℕ)
+            → Goes limit self.old result self.new (unless_faulted
+            (on_store (rejoin_block (name_tree block.now) (name_tree left.now) (name_tree right.now)))) }
     {
         if self.thread.faulted {
             return Ok(());

@@ -1,6 +1,7 @@
 //! Statements that put frames before what is left.
 
-ghost use Rattle.std.specs.Prelude.{◌≡◌, ℕ, length, nat_lt};
+ghost use Rattle.std.specs.Prelude.{◌≡◌, ℕ, length, nat_lt, MatchResult};
+ghost use Rattle.serial_journal.specs.Stops.{OnStop};
 ghost use Rattle.par_tree.specs.View.{body_tree, name_tree, expr_tree, stmt_tree, program_tree};
 ghost use Rattle.par_tree.specs.Tree.{Program, step, while_stmt, done};
 ghost use Rattle.dummy_tree.specs.QuotaWords.{quota_words};
@@ -28,7 +29,8 @@ impl<'a> Machine<'a> {
 
     /// A list of statements comes before what is left, where there are any.
     pub(crate) fn do_statements_later(&mut self, stmts: &'a [Stmt]) -> Result<(), SerialStop>
-        ensures { (limit : ℕ) → Moves limit self.old result self.new (λ fs s. middle (before_all (body_tree stmts.now) fs) s) }
+        ensures moves { (limit : ℕ) → Moves limit self.old result self.new (λ fs s. middle (before_all (body_tree stmts.now) fs) s) }
+        ensures stops { MatchResult result (λ _. Unit {0}) (λ stop. OnStop stop ⊥) }
     {
         if stmts.is_empty() {
             return Ok(());
@@ -38,7 +40,10 @@ impl<'a> Machine<'a> {
 
     /// The first statement of a list, which a thread that a fault ended skips with the others.
     pub(crate) fn first_of(&mut self, plan: Plan<'a>, stmts: &'a [Stmt]) -> Result<(), SerialStop>
-        ensures { (limit : ℕ) → Moves limit self.old result self.new (step_part (setting_of (program_tree plan.entry.program.now) (quota_words plan.entry.quota)) (middles.statements (body_tree stmts.now))) }
+        ensures { (limit : ℕ)
+            → Moves limit self.old result self.new
+            (step_part (setting_of (program_tree plan.entry.program.now) (quota_words plan.entry.quota))
+            (middles.statements (body_tree stmts.now))) }
     {
         let Some((first, rest)) = stmts.split_first() else {
             return Ok(());
@@ -53,7 +58,10 @@ impl<'a> Machine<'a> {
 
     /// One statement.
     fn statement(&mut self, plan: Plan<'a>, stmt: &'a Stmt) -> Result<(), SerialStop>
-        ensures { (limit : ℕ) → Moves limit self.old result self.new (step_statement (setting_of (program_tree plan.entry.program.now) (quota_words plan.entry.quota)) stmt.now.line (stmt_tree stmt.now.kind)) }
+        ensures { (limit : ℕ)
+            → Moves limit self.old result self.new
+            (step_statement (setting_of (program_tree plan.entry.program.now) (quota_words plan.entry.quota)) stmt.now.line
+            (stmt_tree stmt.now.kind)) }
     {
         let alloc = plan.alloc;
         let line = stmt.line;
@@ -92,7 +100,10 @@ impl<'a> Machine<'a> {
         block: &'a Name,
         size: &'a Expr,
     ) -> Result<(), SerialStop>
-        ensures { (limit : ℕ) (program : Program) → Moves limit self.old result self.new (λ fs s. step_with_number line (value s.store (expr_tree size.now)) (step_alloc (setting_of program (quota_words plan.entry.quota)) line (name_tree block.now)) fs s) }
+        ensures { (limit : ℕ) (program : Program)
+            → Moves limit self.old result self.new
+            (λ fs s. step_with_number line (value s.store (expr_tree size.now))
+            (step_alloc (setting_of program (quota_words plan.entry.quota)) line (name_tree block.now)) fs s) }
     {
         let size = match evaluate(&self.runner.thread.store, size) {
             Ok(size) => size,
@@ -120,7 +131,10 @@ impl<'a> Machine<'a> {
         then: &'a Body,
         other: &'a Body,
     ) -> Result<(), SerialStop>
-        ensures { (limit : ℕ) → Moves limit self.old result self.new (λ fs s. step_with_number line (value s.store (expr_tree cond.now)) (step_if (body_tree then.now.items) (body_tree other.now.items)) fs s) }
+        ensures { (limit : ℕ)
+            → Moves limit self.old result self.new
+            (λ fs s. step_with_number line (value s.store (expr_tree cond.now))
+            (step_if (body_tree then.now.items) (body_tree other.now.items)) fs s) }
     {
         match evaluate(&self.runner.thread.store, cond) {
             Ok(number) => {
@@ -143,7 +157,10 @@ impl<'a> Machine<'a> {
         body: &'a Body,
         again: &'a [Stmt],
     ) -> Result<(), SerialStop>
-        ensures { (limit : ℕ) → body_tree again.now ≡ step line (while_stmt (expr_tree cond.now) (body_tree body.now.items)) done → Moves limit self.old result self.new (λ fs s. step_with_number line (value s.store (expr_tree cond.now)) (step_while line (expr_tree cond.now) (body_tree body.now.items)) fs s) }
+        ensures { (limit : ℕ) → body_tree again.now ≡ step line (while_stmt (expr_tree cond.now) (body_tree body.now.items)) done
+            → Moves limit self.old result self.new
+            (λ fs s. step_with_number line (value s.store (expr_tree cond.now))
+            (step_while line (expr_tree cond.now) (body_tree body.now.items)) fs s) }
     {
         match evaluate(&self.runner.thread.store, cond) {
             Ok(number) => {
@@ -169,7 +186,10 @@ impl<'a> Machine<'a> {
         left: &'a Body,
         right: &'a Body,
     ) -> Result<(), SerialStop>
-        ensures { (limit k : ℕ) (program : Program) → Moves limit self.old result self.new (λ fs s. step_par (nat_lt (length s.label) 256) (setting_of program k) line (body_tree left.now.items) (body_tree right.now.items) fs s) }
+        ensures { (limit k : ℕ) (program : Program)
+            → Moves limit self.old result self.new
+            (λ fs s. step_par (nat_lt (length s.label) 256) (setting_of program k) line (body_tree left.now.items)
+            (body_tree right.now.items) fs s) }
     {
         if self.runner.thread.depth < MOST_FORKS {
             self.fork(alloc, Part::Statements(left), Part::Statements(right))
@@ -188,7 +208,11 @@ impl<'a> Machine<'a> {
         parts: (&'a Name, &'a Name),
         body: &'a Body,
     ) -> Result<(), SerialStop>
-        ensures { (limit : ℕ) → Moves limit self.old result self.new (λ fs s. step_with_number line (value s.store (expr_tree at.now)) (step_split line (name_tree block.now) (name_tree parts.entry.0.now) (name_tree parts.entry.1.now) (body_tree body.now.items)) fs s) }
+        ensures { (limit : ℕ)
+            → Moves limit self.old result self.new
+            (λ fs s. step_with_number line (value s.store (expr_tree at.now))
+            (step_split line (name_tree block.now) (name_tree parts.entry.0.now) (name_tree parts.entry.1.now)
+            (body_tree body.now.items)) fs s) }
     {
         let (left, right) = parts;
         match evaluate(&self.runner.thread.store, at) {

@@ -5,7 +5,7 @@ use serial_store::Store;
 #[derive(Drop)]
 pub(crate) struct Thread<'a> {
     pub(crate) id: ThreadId,
-    /// How many forks stand above it.
+    /// How many forks stand above it, or `u32::MAX` where they are more.
     pub(crate) depth: u32,
     /// How many actions it has done.
     pub(crate) done: u32,

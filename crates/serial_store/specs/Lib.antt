@@ -1,4 +1,5 @@
 pub mod Places
 pub mod Shown
+pub mod Branches
 pub mod Effects
 pub mod Passing

@@ -45,7 +45,8 @@ impl<'a> Store<'a> {
 
     /// Puts `value` at a place, from 0, of the block of a name. Outside the block it is the fault Index.
     pub fn put(&mut self, name: &Name, index: i64, value: i64) -> Result<(), FaultKind>
-        ensures { Puts (name_tree name.now) value (place_in (block_of (store_shown self.old).blocks (name_tree name.now)) index) (store_shown self.old) result (store_shown self.new) }
+        ensures { Puts (name_tree name.now) value (place_in (block_of (store_shown self.old).blocks (name_tree name.now)) index)
+            (store_shown self.old) result (store_shown self.new) }
     {
         let Some(place) = self.place_in(name, index) else {
             return Err(FaultKind::Index);
@@ -66,7 +67,8 @@ impl<'a> Store<'a> {
     /// Writes `value` to a place that the block of a name has.
     fn write(&mut self, name: &Name, place: u32, value: i64)
         requires { place < length (block_of (store_shown self.old).blocks (name_tree name.now)) }
-        ensures { store_shown self.new ≡ write_block (name_tree name.now) (slice_set (block_of (store_shown self.old).blocks (name_tree name.now)) place value) (store_shown self.old) }
+        ensures { store_shown self.new ≡ write_block (name_tree name.now)
+            (slice_set (block_of (store_shown self.old).blocks (name_tree name.now)) place value) (store_shown self.old) }
     {
         let Some(held) = place_of_block(&self.blocks, name) else {
             return;

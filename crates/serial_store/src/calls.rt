@@ -24,7 +24,8 @@ pub fn pass<'a>(
     params: &'a [Param],
     args: &'a [Arg],
 ) -> Result<Store<'a>, Stop>
-    ensures { Passes (all_passed (store_shown caller.old) (params_tree params.now) (args_tree args.now)) (store_shown caller.old) result (store_shown caller.new) }
+    ensures { Passes (all_passed (store_shown caller.old) (params_tree params.now) (args_tree args.now)) (store_shown caller.old) result
+        (store_shown caller.new) }
 {
     let mut callee = Store::new(alloc);
     pass_integers(caller, params, args, &mut callee)?;
@@ -39,7 +40,8 @@ fn pass_integers<'a>(
     args: &'a [Arg],
     callee: &mut Store<'a>,
 ) -> Result<(), Stop>
-    ensures integers { PassesIntegers (integers_passed (store_shown caller.now) (params_tree params.now) (args_tree args.now) (store_shown callee.old).integers) result (store_shown callee.new).integers }
+    ensures integers { PassesIntegers (integers_passed (store_shown caller.now) (params_tree params.now) (args_tree args.now)
+        (store_shown callee.old).integers) result (store_shown callee.new).integers }
     ensures blocks { OnOk result ((store_shown callee.new).blocks ≡ (store_shown callee.old).blocks) }
 {
     for i in 0..params.len().min(args.len()) {
@@ -56,7 +58,8 @@ fn pass_integer<'a>(
     arg: &'a Arg,
     callee: &mut Store<'a>,
 ) -> Result<(), Stop>
-    ensures integers { PassesInteger (store_shown caller.now) (param_tree param.now) (arg_tree arg.now) (store_shown callee.old).integers result (store_shown callee.new).integers }
+    ensures integers { PassesInteger (store_shown caller.now) (param_tree param.now) (arg_tree arg.now)
+        (store_shown callee.old).integers result (store_shown callee.new).integers }
     ensures blocks { OnOk result ((store_shown callee.new).blocks ≡ (store_shown callee.old).blocks) }
 {
     match arg {
@@ -77,7 +80,8 @@ fn pass_blocks<'a>(
     args: &'a [Arg],
     callee: &mut Store<'a>,
 ) -> Result<(), AllocError>
-    ensures blocks { OnOk result (blocks_passed (params_tree params.now) (args_tree args.now) (moving (store_shown callee.old) (store_shown caller.old)) ≡ moving (store_shown callee.new) (store_shown caller.new)) }
+    ensures blocks { OnOk result (blocks_passed (params_tree params.now) (args_tree args.now)
+        (moving (store_shown callee.old) (store_shown caller.old)) ≡ moving (store_shown callee.new) (store_shown caller.new)) }
     ensures integers { OnOk result ((store_shown callee.new).integers ≡ (store_shown callee.old).integers) }
 {
     for i in 0..params.len().min(args.len()) {
@@ -95,7 +99,8 @@ fn pass_block<'a>(
     arg: &'a Arg,
     callee: &mut Store<'a>,
 ) -> Result<(), AllocError>
-    ensures blocks { OnOk result (PassesBlock (param_tree param.now) (arg_tree arg.now) (moving (store_shown callee.old) (store_shown caller.old)) (moving (store_shown callee.new) (store_shown caller.new))) }
+    ensures blocks { OnOk result (PassesBlock (param_tree param.now) (arg_tree arg.now)
+        (moving (store_shown callee.old) (store_shown caller.old)) (moving (store_shown callee.new) (store_shown caller.new))) }
     ensures integers { OnOk result ((store_shown callee.new).integers ≡ (store_shown callee.old).integers) }
 {
     match arg {
@@ -115,7 +120,8 @@ pub fn lend_back<'a>(
     params: &[Param],
     args: &'a [Arg],
 ) -> Result<(), AllocError>
-    ensures { OnOk result (store_shown caller.new ≡ lent_back (params_tree params.now) (args_tree args.now) (store_shown callee.entry).blocks (store_shown caller.old)) }
+    ensures { OnOk result (store_shown caller.new ≡ lent_back (params_tree params.now) (args_tree args.now)
+        (store_shown callee.entry).blocks (store_shown caller.old)) }
 {
     let mut callee = callee;
     for i in 0..params.len().min(args.len()) {
@@ -133,7 +139,8 @@ fn give_back<'a>(
     param: &Param,
     arg: &'a Arg,
 ) -> Result<(), AllocError>
-    ensures { OnOk result (GivesBack (param_tree param.now) (arg_tree arg.now) (store_shown callee.old) (store_shown caller.old) (store_shown callee.new) (store_shown caller.new)) }
+    ensures { OnOk result (GivesBack (param_tree param.now) (arg_tree arg.now) (store_shown callee.old) (store_shown caller.old)
+        (store_shown callee.new) (store_shown caller.new)) }
 {
     match arg {
         Arg::Lend(name) => {

@@ -11,6 +11,7 @@
 
 mod answer;
 mod blocks;
+mod branch;
 mod calls;
 mod expressions;
 mod forks;

@@ -28,7 +28,8 @@ impl<'a> Store<'a> {
         left: &'a Name,
         right: &'a Name,
     ) -> Result<(), Stop>
-        ensures { Cuts (name_tree name.now) (name_tree left.now) (name_tree right.now) (cut_of (block_of (store_shown self.old).blocks (name_tree name.now)) at) (store_shown self.old) result (store_shown self.new) }
+        ensures { Cuts (name_tree name.now) (name_tree left.now) (name_tree right.now)
+            (cut_of (block_of (store_shown self.old).blocks (name_tree name.now)) at) (store_shown self.old) result (store_shown self.new) }
     {
         let Some(at) = self.cut_place(name, at) else {
             return Err(Stop::Fault(FaultKind::Split));
@@ -63,7 +64,8 @@ impl<'a> Store<'a> {
         left: &Name,
         right: &Name,
     ) -> Result<(), AllocError>
-        ensures { OnOk result (store_shown self.new ≡ rejoin_block (name_tree name.now) (name_tree left.now) (name_tree right.now) (store_shown self.old)) }
+        ensures { OnOk result (store_shown self.new ≡ rejoin_block (name_tree name.now) (name_tree left.now) (name_tree right.now)
+            (store_shown self.old)) }
     {
         let before = self.take(alloc, left);
         let behind = self.take(alloc, right);

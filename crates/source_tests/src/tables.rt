@@ -37,8 +37,8 @@ const NESTED: &str = "fn f(use b) { let n = len(b); b[0] = n; }
     par { y = 1; b[0] = 1; par { x = 2; call f(use a); } and { print b[0]; } }
     and { let z = 3; z = 4; } free a; free b; }";
 
-/// Nodes 0 and 1 are those of `f`; in `main`, the outer `par` is node 6, and the inner one node 9. The slots of `main` are those of x, a, y,
-/// b and z.
+/// Nodes 0 and 1 are those of `f`; in `main`, the outer `par` is node 6, and the inner one node 9. The slots of `main` are those of x, a,
+/// y, b and z.
 #[test]
 fn nested_branches(rt: HostRuntime) -> Result<(), Fail> {
     let alloc = rt.alloc();

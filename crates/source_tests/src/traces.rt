@@ -42,7 +42,8 @@ fn trace(alloc: Global, serial: &Serial) -> Result<String, AllocError> {
 }
 
 /// What programs do with a quota of 16 words. A thread that meets a fault gives back what it holds in all its open calls; one that joins a
-/// faulted child is faulted too; and a faulted thread joins its open children from the newest to the oldest, and gives back what they bring.
+/// faulted child is faulted too; and a faulted thread joins its open children from the newest to the oldest, and gives back what they
+/// bring.
 const TRACES: &str = "
 @ 0.0 Fork 16, 1.0 Fork 16, 2.0 Dummy 0, 2.1 End -16, 1.1 Dummy 0, 1.2 Join 0, 1.3 End -16, 0.1 Dummy 0, 0.2 Join 0, 0.3 Alloc 48, 0.4 Release -48, 0.5 End 0; 0.1 1.1 | fn main() { alloc b = 40; free b; }
 @ 0.0 Fork 16, 1.0 Fork 16, 2.0 Alloc 16, 2.1 Release -16, 2.2 End -16, 1.1 Join 0, 1.2 End -16, 0.1 Alloc 16, 0.2 Fork 16, 3.0 End -16, 0.3 Join 0, 0.4 Release -16, 0.5 Join 0, 0.6 End 0; 0.1 1.1 0.2 | fn mk() { alloc b = 1; par { } and { } return own b; } fn main() { par { par { alloc a = 16; free a; } and { } } and { call f(); } } fn f() { call own b = mk(); free b; }

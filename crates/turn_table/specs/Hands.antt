@@ -59,7 +59,8 @@ module _ {V N : Type 0} where
 
   -- the hand after a take that found this word
   abbrev pub refused : (Hand V N → Look V → N) → Hand V N → ℕ → ℕ → Hand V N
-  refused note h i seen = record { seated = h.seated; holds = h.holds; note = note h (Refused i seen); looks = h.looks ++ Refused i seen ∷ [] }
+  refused note h i seen =
+      record { seated = h.seated; holds = h.holds; note = note h (Refused i seen); looks = h.looks ++ Refused i seen ∷ [] }
 
   -- the hand after a count that found this word
   abbrev pub counted : (Hand V N → Look V → N) → Hand V N → ℕ → Hand V N

@@ -22,7 +22,9 @@ module _ {K V N : Type 0} (P : K → List V → List N → Type 0) where
 
   -- whatever is shown and noted besides
   abbrev pub Whatever : K → SeatView K V N → (List V → List N → Type 0) → Type 0
-  Whatever key seat Q = (shown : List V) (notes : List N) → P key shown notes → length shown ≡ seat.table.slots → Shows shown seat.hand.holds → get_elem? notes seat.number ≡ some seat.hand.note → Q shown notes
+  Whatever key seat Q =
+      (shown : List V) (notes : List N) → P key shown notes → length shown ≡ seat.table.slots → Shows shown seat.hand.holds
+      → get_elem? notes seat.number ≡ some seat.hand.note → Q shown notes
 
   -- this seat may note another thing
   abbrev pub NoteMay : K → SeatView K V N → N → Type 0
@@ -34,7 +36,9 @@ module _ {K V N : Type 0} (P : K → List V → List N → Type 0) where
 
   -- it may put this value back into the slot i and note this, where f says what its other slots show from then on
   abbrev pub PutMay : K → SeatView K V N → ℕ → V → (ℕ → V → V) → N → Type 0
-  PutMay key seat i value f note = Whatever key seat (λ shown notes. P key (showing shown ((i, value) ∷ renewed f (without i seat.hand.holds))) (slice_set notes seat.number note))
+  PutMay key seat i value f note =
+      Whatever key seat (λ shown notes. P key (showing shown ((i, value) ∷ renewed f (without i seat.hand.holds)))
+      (slice_set notes seat.number note))
 
   -- it may note the first, and a new seat the second
   abbrev pub SplitMay : K → SeatView K V N → N → N → Type 0
@@ -42,4 +46,6 @@ module _ {K V N : Type 0} (P : K → List V → List N → Type 0) where
 
   -- it may note this, and another seat nothing any more
   abbrev pub JoinMay : K → N → SeatView K V N → SeatView K V N → N → Type 0
-  JoinMay key blank into from note = Whatever key into (λ shown notes. ¬ (from.number ≡ into.number) → get_elem? notes from.number ≡ some from.hand.note → P key shown (slice_set (slice_set notes into.number note) from.number blank))
+  JoinMay key blank into from note =
+      Whatever key into (λ shown notes. ¬ (from.number ≡ into.number) → get_elem? notes from.number ≡ some from.hand.note
+      → P key shown (slice_set (slice_set notes into.number note) from.number blank))

@@ -24,8 +24,10 @@ module _ {K V N : Type 0} where
     pub homes : s.homes ≡ map some about.values.value.items
     pub views : s.views ≡ unopened about.key.value blank ∷ []
 
-  -- A seat without a hand has no key, which tells it from one that has no note yet. A slot whose turn is free is at home and has the value that it shows, and one whose turn is held is out
-  pub record Row (fact : K → List V → ℕ → List (Hand V N) → Type 0) (blank : N) (about : Opening K V) (s : State (Option V) (Place K V N)) : Type 0 where
+  -- A seat without a hand has no key, which tells it from one that has no note yet. A slot whose turn is free is at home and has the value
+  -- that it shows, and one whose turn is held is out
+  pub record Row (fact : K → List V → ℕ → List (Hand V N)
+      → Type 0) (blank : N) (about : Opening K V) (s : State (Option V) (Place K V N)) : Type 0 where
     pub shown : List V
     pub hands : List (Hand V N)
     pub same : hands_of s.views ≡ hands

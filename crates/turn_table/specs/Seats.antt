@@ -31,4 +31,5 @@ module _ {K V N : Type 0} where
 
   -- between calls the slots that the hand holds are slots of the table, and are out with the seat, in this order, and empty
   abbrev pub IsInPlace : Seat (Option V) (Place K V N) → Type 0
-  IsInPlace seat = (seat.me.1 ≡ vacant seat.me.0.hand.holds) × (seat.me.0.hand.seated ≡ true) × Within seat.table_id.slots seat.me.0.hand.holds
+  IsInPlace seat =
+      (seat.me.1 ≡ vacant seat.me.0.hand.holds) × (seat.me.0.hand.seated ≡ true) × Within seat.table_id.slots seat.me.0.hand.holds

@@ -2,7 +2,8 @@
 ghost use Rattle.std.specs.Prelude.{ℕ, List};
 ghost use Rattle.turn_table.specs.declared.hand.Hand.{Hand};
 
-/// One fact over all slots, the count and all hands. It holds between any two atomic steps, so each call that steps has the condition that its step keeps it.
+/// One fact over all slots, the count and all hands. It holds between any two atomic steps, so each call that steps has the condition that
+/// its step keeps it.
 pub trait TurnLaw<V> {
     /// What the fact may read besides. It is given to `Turns::new` and never changes.
     type Key: Drop;

@@ -34,7 +34,8 @@ pub trait Joins<V, N> {
     ghost note: { Hand V N → Hand V N → N };
 }
 
-/// The first seat's note is blank. From then on each note stays, a new seat has that of the seat it came from, and each slot shows what it showed.
+/// The first seat's note is blank. From then on each note stays, a new seat has that of the seat it came from, and each slot shows what it
+/// showed.
 pub struct Keep;
 
 impl<N> Opens<N> for Keep {

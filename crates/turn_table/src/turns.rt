@@ -25,7 +25,8 @@ pub struct Turns<V, L: TurnLaw<V>> {
     table: Table<Option<V>, Place<L::Key, V, L::Note>, Opening<L::Key, V>, Ruled<L>, Global>,
     // Room for the values when the row is closed.
     spare: Vec<V>,
-    ghost sized: { (table.shared.table_id.words ≡ table.shared.table_id.slots + 1) × (0 < table.shared.table_id.slots) × (table.shared.table_id.slots < 2 ^ 32) },
+    ghost sized: { (table.shared.table_id.words ≡ table.shared.table_id.slots + 1) × (0 < table.shared.table_id.slots)
+        × (table.shared.table_id.slots < 2 ^ 32) },
     ghost told: { length table.shared.key.values.value.items ≡ table.shared.table_id.slots },
     ghost roomy: { (vec_len spare ≡ 0) × (table.shared.table_id.slots ≤ vec_capacity spare) },
 }

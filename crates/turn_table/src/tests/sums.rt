@@ -49,7 +49,8 @@ fn in_two_threads<R: Threads>(rt: &R, row: &Row, a: Taker, b: Taker) -> (Taker, 
 
 // Three fives, and two seats.
 fn opened(alloc: Global) -> Result<(Row, Taker, Taker), AllocError>
-    ensures { IfOk result (λ made. IsSeatOf made.0 made.1 × (made.1.hand.holds ≡ []) × IsSeatOf made.0 made.2 × (made.2.hand.holds ≡ []) × (slot_count made.0 ≡ 3) × (key_of made.0 ≡ 15)) }
+    ensures { IfOk result (λ made. IsSeatOf made.0 made.1 × (made.1.hand.holds ≡ []) × IsSeatOf made.0 made.2 × (made.2.hand.holds ≡ [])
+        × (slot_count made.0 ≡ 3) × (key_of made.0 ≡ 15)) }
 {
     let values = vec![in alloc; 5, 5, 5]?;
     match Row::new::<Keep>(alloc, values, 15) {

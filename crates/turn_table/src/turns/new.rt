@@ -27,7 +27,8 @@ impl<V, L: TurnLaw<V>> Turns<V, L> {
     ) -> Result<(Turns<V, L>, TurnSeat<V, L>), (Vec<V>, AllocError)>
         requires some_slot { 0 < vec_len values }
         requires keeps { L.fact key values.items 0 (fresh (M.note L.blank) ∷ []) }
-        ensures ok { IfOk result (λ made. IsSeatOf made.0 made.1 × (key_of made.0 ≡ key) × (slot_count made.0 ≡ vec_len values) × (made.1.hand ≡ fresh (M.note L.blank))) }
+        ensures ok { IfOk result (λ made. IsSeatOf made.0 made.1 × (key_of made.0 ≡ key) × (slot_count made.0 ≡ vec_len values)
+            × (made.1.hand ≡ fresh (M.note L.blank))) }
         ensures err { IfErr result (λ refused. refused.0.items ≡ values.items) }
     {
         if values.len() > u32::MAX as usize {

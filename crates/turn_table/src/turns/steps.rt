@@ -23,9 +23,12 @@ impl<V, L: TurnLaw<V>> Turns<V, L> {
     pub fn take<M: Notes<V, L::Note>>(&self, seat: &mut TurnSeat<V, L>, i: u32) -> Result<V, Held>
         requires here { IsSeatOf self.now seat.old }
         requires slot { (i < slot_count self.now) × ¬ (Has i seat.old.hand.holds) }
-        requires keeps { TakeKeeps L.fact L.blank (key_of self.now) seat.old i M.note × HeldKeeps L.fact L.blank (key_of self.now) seat.old i M.note }
-        ensures seat { MatchResult result (λ v. seat.new ≡ with_hand seat.old (took M.note seat.old.hand i v)) (λ e. (e.slot ≡ i) × ¬ (e.seen ≡ 0) × (seat.new ≡ with_hand seat.old (refused M.note seat.old.hand i e.seen))) }
-        ensures meets { MatchResult result (λ _. Meets L.fact L.blank (key_of self.now) seat.new) (λ e. MeetsHeld L.fact L.blank (key_of self.now) seat.new i e.seen) }
+        requires keeps { TakeKeeps L.fact L.blank (key_of self.now) seat.old i M.note
+            × HeldKeeps L.fact L.blank (key_of self.now) seat.old i M.note }
+        ensures seat { MatchResult result (λ v. seat.new ≡ with_hand seat.old (took M.note seat.old.hand i v)) (λ e. (e.slot ≡ i)
+            × ¬ (e.seen ≡ 0) × (seat.new ≡ with_hand seat.old (refused M.note seat.old.hand i e.seen))) }
+        ensures meets { MatchResult result (λ _. Meets L.fact L.blank (key_of self.now) seat.new)
+            (λ e. MeetsHeld L.fact L.blank (key_of self.now) seat.new i e.seen) }
     {
         let shared = &self.table.shared;
         let found = shared.compare_exchange::<Brand>(&mut seat.seat, i as usize, 0, 1);

@@ -48,7 +48,8 @@ pub(super) fn unwrap<V>(mut slots: Vec<Option<V>>, values: &mut Vec<V>)
 
 // The first slot whose turn word is not 0.
 pub(super) fn first_taken<S, A: Allocator>(closed: &Closed<S, A>) -> Option<u32>
-    requires { IsFull closed.now.words × (slots_len closed.now.words ≡ slots_len closed.now.slots + 1) × (slots_len closed.now.slots < 2 ^ 32) }
+    requires { IsFull closed.now.words × (slots_len closed.now.words ≡ slots_len closed.now.slots + 1)
+        × (slots_len closed.now.slots < 2 ^ 32) }
     ensures { IsFirstTaken (slots_items closed.now.words) (slots_len closed.now.slots) result }
 {
     for i in 0..closed.slot_count() {

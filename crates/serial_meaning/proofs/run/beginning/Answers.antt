@@ -13,7 +13,7 @@ use Rattle.serial_meaning.specs.Settings.{setting_of}
 use Rattle.serial_meaning.specs.Moving.{At}
 use Rattle.serial_meaning.specs.declared.machine.Machine.{Machine}
 use Rattle.serial_meaning.proofs.Steps.{err_exit}
-use Rattle.serial_meaning.proofs.OneStatement.{never_beyond}
+use Rattle.serial_meaning.proofs.OneStatement.{never_stopped}
 use Rattle.serial_meaning.proofs.run.beginning.Goals as goal
 
 -- the beginning by the function that was found in the list
@@ -36,8 +36,7 @@ returns-in_err-do_statements_later c =
     let first = c.in_ok-push.ensures.ok c.args.limit (answers_main (ret_tree main.ret)) refl [] (root_start (setting_of p k)) (c.root-machine.ensures p k) in
     err_exit (λ machine. At c.args.limit machine (run_start (setting_of p k) (function_of p main_name))) ⊥ c.from_residual-in_err-do_statements_later.result c.in_err-do_statements_later.field-0.0
     c.from_residual-in_err-do_statements_later.ensures.1
-    (never_beyond c.args.limit c.push.new.self.runner (root_start (setting_of p k)) ⊥ c.in_err-do_statements_later.field-0.0 first.now
-    (c.in_err-do_statements_later.ensures c.args.limit (answers_main (ret_tree main.ret) ∷ []) (root_start (setting_of p k)) first))
+    (never_stopped ⊥ c.in_err-do_statements_later.field-0.0 c.in_err-do_statements_later.ensures.stops)
 
 pub returns : goal.returns
 returns c =
@@ -45,7 +44,7 @@ returns c =
     let k = quota_words c.args.plan.quota in
     let main : Func' = c.in-Some.main.now in
     let first = c.in_ok-push.ensures.ok c.args.limit (answers_main (ret_tree main.ret)) refl [] (root_start (setting_of p k)) (c.root-machine.ensures p k) in
-    let second = c.in_ok-do_statements_later.ensures c.args.limit (answers_main (ret_tree main.ret) ∷ []) (root_start (setting_of p k)) first in
+    let second = c.in_ok-do_statements_later.ensures.moves c.args.limit (answers_main (ret_tree main.ret) ∷ []) (root_start (setting_of p k)) first in
     let body : At c.args.limit c.do_statements_later.new.self (run_start (setting_of p k) (Some (func_tree main))) =
     subst (λ (xs : List Stmt'). At c.args.limit c.do_statements_later.new.self (middle (before_all (body_tree xs) (answers_main (ret_tree main.ret) ∷ [])) (root_start (setting_of p k)))) c.deref-2.ensures.value second in
     begins c.args.limit c.do_statements_later.new.self (setting_of p k) c.deref.result.now c.args.plan.program.now.funcs.items (Some (func_tree main)) c.in-Some.ensures c.deref.ensures.value body

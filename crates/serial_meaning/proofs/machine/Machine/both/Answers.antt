@@ -1,4 +1,4 @@
-use Rattle.std.proofs.Common.{◌<◌, ◌≤◌, Bool, refl, ap}
+use Rattle.std.proofs.Common.{◌<◌, ◌≤◌, Bool, refl, ap, lit≤}
 use Rattle.std.specs.Prelude.{nat_lt, length}
 use Rattle.dag_order.specs.declared.fault.FaultKind.TheVariants as faults
 use Rattle.par_tree.specs.Tree.{Body}
@@ -23,7 +23,7 @@ returns-then-self-lt-MOST_FORKS c = λ limit k program fs s at.
     let within : Bool = nat_lt (length s.label) 256 in
     at_point limit c.fork.new.self c.fork.result
     (step_fork setting (names_in a') (assigns_in a') (statements a') (statements b') fs s) (step_par within setting c.args.line a b fs s)
-    (both_now setting c.args.line a b a' b' within fs s (ap body_tree c.deref.ensures.value) (ap body_tree c.deref-then-self-lt-MOST_FORKS.ensures.value) (forks_within limit c.args.self.now.runner s 256 at.now few))
+    (both_now setting c.args.line a b a' b' within fs s (ap body_tree c.deref.ensures.value) (ap body_tree c.deref-then-self-lt-MOST_FORKS.ensures.value) (forks_within limit c.args.self.now.runner s 256 (lit≤ tt) at.now few))
     (c.fork.ensures limit k program fs s at)
 
 pub returns-else-self-lt-MOST_FORKS : goal.returns-else-self-lt-MOST_FORKS

@@ -131,4 +131,4 @@ returns-in_ok-push-in-Ok c = λ limit fs s at.
     (ap (λ (xs : List Stmt'). middle (before_all (body_tree xs) (end ∷ fs)) t) c.deref-in-Ok-2.ensures.value
     ∙ ap (λ (xs : List Param'). middle (before_all g.body (answers g.ret (params_tree xs) args target ∷ fs)) t) c.deref-in-Ok.ensures.value
     ∙ opened)
-    (c.do_statements_later.ensures limit (end ∷ fs) t behind)
+    (c.do_statements_later.ensures.moves limit (end ∷ fs) t behind)

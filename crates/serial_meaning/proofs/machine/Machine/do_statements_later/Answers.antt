@@ -1,4 +1,4 @@
-use Rattle.std.proofs.Common.{◌≡◌, ℕ, Bool, true, false, List, [], ◌∷◌, ◌==◌, length, refl, sym, ◌∙◌, ◌+◌, suc, arith, rules}
+use Rattle.std.proofs.Common.{◌≡◌, ℕ, true, false, List, [], ◌∷◌, ◌==◌, length, refl, sym, ◌∙◌, suc, arith}
 use Rattle.par_tree.specs.View.{body_tree}
 use Rattle.par_tree.specs.declared.stmt.Stmt.{Stmt}
 use Rattle.depth_first_run.specs.States.{State}
@@ -21,10 +21,10 @@ some_before : (limit : ℕ) (machine : Machine) (xs : List Stmt) (fs : List Fram
 some_before limit machine [] fs s empty at = let never : ⊥ = cc in absurd never
 some_before limit machine (x ∷ xs) fs s empty at = at
 
-pub returns-then-is_empty : goal.returns-then-is_empty
-returns-then-is_empty c = λ limit fs s at. none_before limit c.args.self.now c.args.stmts.now fs s (sym c.is_empty.ensures ∙ c.if-is_empty.true) at
+pub returns-then-is_empty-clause-moves : goal.returns-then-is_empty-clause-moves
+returns-then-is_empty-clause-moves c = λ limit fs s at. none_before limit c.args.self.now c.args.stmts.now fs s (sym c.is_empty.ensures ∙ c.if-is_empty.true) at
 
-pub returns : goal.returns
-returns c = λ limit fs s at.
+pub returns-clause-moves : goal.returns-clause-moves
+returns-clause-moves c = λ limit fs s at.
     some_before limit c.push.new.self c.args.stmts.now fs s (sym c.is_empty.ensures ∙ c.if-is_empty.false)
     (c.in_ok-push.ensures.ok limit (does (statements (body_tree c.args.stmts.now))) refl fs s at)

@@ -11,7 +11,7 @@ use Rattle.serial_meaning.specs.Views.{Is, IsBeyond}
 use Rattle.serial_meaning.specs.Moving.{At}
 use Rattle.serial_meaning.proofs.Steps.{err_exit, stops_so, is_noted}
 use Rattle.serial_meaning.proofs.Stack.{at_point}
-use Rattle.serial_meaning.proofs.OneStatement.{never_beyond, at_after, first_now}
+use Rattle.serial_meaning.proofs.OneStatement.{never_stopped, at_after, first_now}
 use Rattle.serial_meaning.proofs.machine.Machine.first_of.Goals as goal
 
 pub returns-in_err-begin : goal.returns-in_err-begin
@@ -35,7 +35,7 @@ returns-in_err-do_statements_later c = λ limit fs s at.
     let here : At limit (record { frames = c.args.self.now.frames; runner = begun }) (middle fs t) = at_after limit c.args.self.now begun fs s t at noted.0 noted.1 in
     err_exit (λ _. At limit c.do_statements_later.new.self m) (IsBeyond limit m.state) c.from_residual-in_err-do_statements_later.result
     c.in_err-do_statements_later.field-0.0 c.from_residual-in_err-do_statements_later.ensures.1
-    (never_beyond limit begun t (IsBeyond limit m.state) c.in_err-do_statements_later.field-0.0 noted.0 (c.in_err-do_statements_later.ensures limit fs t here))
+    (never_stopped (IsBeyond limit m.state) c.in_err-do_statements_later.field-0.0 c.in_err-do_statements_later.ensures.stops)
 
 pub returns : goal.returns
 returns c = λ limit fs s at.
@@ -50,7 +50,7 @@ returns c = λ limit fs s at.
     let here : At limit (record { frames = c.args.self.now.frames; runner = begun }) (middle fs t) = at_after limit c.args.self.now begun fs s t at noted.0 noted.1 in
     let rest : Body = body_tree c.in-Some.rest.now in
     let kind : Stmt = stmt_tree c.in-Some.first.now.kind in
-    let ahead : At limit c.do_statements_later.new.self (middle (before_all rest fs) t) = c.in_ok-do_statements_later.ensures limit fs t here in
+    let ahead : At limit c.do_statements_later.new.self (middle (before_all rest fs) t) = c.in_ok-do_statements_later.ensures.moves limit fs t here in
     let goes : s.faulted ≡ false = ap (λ (x : State). x.faulted) at.now.thread.shown ∙ c.if-self.false in
     let first : body_tree c.args.stmts.now ≡ step line kind rest = ap body_tree c.in-Some.ensures.cases.0 in
     at_point limit c.statement.new.self c.statement.result (step_statement setting line kind (before_all rest fs) t) m

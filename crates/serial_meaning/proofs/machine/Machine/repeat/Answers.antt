@@ -14,7 +14,7 @@ use Rattle.serial_meaning.specs.Views.{Is, IsBeyond}
 use Rattle.serial_meaning.specs.Moving.{At}
 use Rattle.serial_meaning.proofs.Steps.{err_exit}
 use Rattle.serial_meaning.proofs.Stack.{faulted_at, lifted}
-use Rattle.serial_meaning.proofs.OneStatement.{never_beyond, numbered_at, at_after, no_turn, one_turn, is_turned}
+use Rattle.serial_meaning.proofs.OneStatement.{never_stopped, numbered_at, at_after, no_turn, one_turn, is_turned}
 use Rattle.serial_meaning.proofs.machine.Machine.repeat.Goals as goal
 
 pub returns-then-self-eq0 : goal.returns-then-self-eq0
@@ -42,8 +42,7 @@ returns-in_err-do_statements_later-in-Ok c = λ limit same fs s at.
     let here : At limit (record { frames = c.args.self.now.frames; runner = mid }) (middle fs t) = at_after limit c.args.self.now mid fs s t at is refl in
     let m : Middle = step_with_number c.args.line (value s.store e) (step_while c.args.line e a) fs s in
     err_exit (λ _. At limit c.do_statements_later.new.self m) (IsBeyond limit m.state) c.from_residual.result c.in_err-do_statements_later-in-Ok.field-0.0 c.from_residual.ensures.1
-    (never_beyond limit mid t (IsBeyond limit m.state) c.in_err-do_statements_later-in-Ok.field-0.0 is
-    (c.in_err-do_statements_later-in-Ok.ensures limit fs t here))
+    (never_stopped (IsBeyond limit m.state) c.in_err-do_statements_later-in-Ok.field-0.0 c.in_err-do_statements_later-in-Ok.ensures.stops)
 
 pub returns-in_ok-do_statements_later-in-Ok : goal.returns-in_ok-do_statements_later-in-Ok
 returns-in_ok-do_statements_later-in-Ok c = λ limit same fs s at.
@@ -59,14 +58,14 @@ returns-in_ok-do_statements_later-in-Ok c = λ limit same fs s at.
     let is : Is limit mid t = is_turned limit c.args.self.now.runner.thread turned c.args.self.now.runner.journal turns refl s at.now in
     let here : At limit (record { frames = c.args.self.now.frames; runner = mid }) (middle fs t) = at_after limit c.args.self.now mid fs s t at is refl in
     let again : At limit c.do_statements_later.new.self (middle (before_all (step c.args.line (while_stmt e a) done) fs) t) =
-    subst (λ (b : Body). At limit c.do_statements_later.new.self (middle (before_all b fs) t)) same (c.in_ok-do_statements_later-in-Ok.ensures limit fs t here) in
+    subst (λ (b : Body). At limit c.do_statements_later.new.self (middle (before_all b fs) t)) same (c.in_ok-do_statements_later-in-Ok.ensures.moves limit fs t here) in
     let has : s.turns ≡ c.args.self.now.runner.thread.turns = ap (λ (x : State). x.turns) at.now.thread.shown in
     let some : s.turns ≡ suc turns = omega (arith, has) in
     numbered_at limit c.args.line c.args.self.now c.do_statements_later-in-Ok.new.self c.do_statements_later-in-Ok.result e v (step_while c.args.line e a) number fs s
     (middle (before_all (body_tree c.deref.result.now) (before_all (step c.args.line (while_stmt e a) done) fs)) t) at
     (ap (λ (b : Body). middle (before_all b (before_all (step c.args.line (while_stmt e a) done) fs)) t) (ap body_tree c.deref.ensures.value)
     ∙ one_turn c.args.line e a v fs s turns (sym c.if-not-is_true.ensures) some)
-    (c.do_statements_later-in-Ok.ensures limit (before_all (step c.args.line (while_stmt e a) done) fs) t again)
+    (c.do_statements_later-in-Ok.ensures.moves limit (before_all (step c.args.line (while_stmt e a) done) fs) t again)
 
 pub returns-in-Err : goal.returns-in-Err
 returns-in-Err c = λ limit same fs s at.

@@ -12,7 +12,7 @@ use Rattle.serial_meaning.specs.Moving.{At}
 use Rattle.serial_meaning.specs.Cuts.{cut_place, cut_or_fault}
 use Rattle.serial_meaning.proofs.Steps.{err_exit, stops_so}
 use Rattle.serial_meaning.proofs.Stack.{faulted_at, settled_at_ok}
-use Rattle.serial_meaning.proofs.OneStatement.{never_beyond, at_after, was_cut, not_cut, cut_state}
+use Rattle.serial_meaning.proofs.OneStatement.{never_stopped, at_after, was_cut, not_cut, cut_state}
 use Rattle.serial_meaning.proofs.machine.Machine.split.Goals as goal
 
 pub returns-in_err-cut-in-Ok : goal.returns-in_err-cut-in-Ok
@@ -55,8 +55,7 @@ returns-in_err-do_statements_later-in-Ok c = λ limit fs s at.
     let behind : At limit c.push.new.self (middle (rejoins b l r ∷ fs) t) = c.in_ok-push-in-Ok.ensures.ok limit (rejoins b l r) refl fs t here in
     err_exit (λ _. At limit c.do_statements_later.new.self m) (IsBeyond limit m.state) c.from_residual-in_err-do_statements_later-in-Ok.result
     c.in_err-do_statements_later-in-Ok.field-0.0 c.from_residual-in_err-do_statements_later-in-Ok.ensures.1
-    (never_beyond limit c.push.new.self.runner t (IsBeyond limit m.state) c.in_err-do_statements_later-in-Ok.field-0.0 behind.now
-    (c.in_err-do_statements_later-in-Ok.ensures limit (rejoins b l r ∷ fs) t behind))
+    (never_stopped (IsBeyond limit m.state) c.in_err-do_statements_later-in-Ok.field-0.0 c.in_err-do_statements_later-in-Ok.ensures.stops)
 
 pub returns-in_ok-do_statements_later-in-Ok : goal.returns-in_ok-do_statements_later-in-Ok
 returns-in_ok-do_statements_later-in-Ok c = λ limit fs s at.
@@ -79,7 +78,7 @@ returns-in_ok-do_statements_later-in-Ok c = λ limit fs s at.
     subst (λ (x : Middle). At limit c.do_statements_later.new.self x)
     (ap (λ (x : Body). middle (before_all x (rejoins b l r ∷ fs)) t) (ap body_tree c.deref.ensures.value)
     ∙ was_cut line b l r a place fs s (sym c.if-branch.true ∙ done.0) ∙ number_at)
-    (c.in_ok-do_statements_later-in-Ok.ensures limit (rejoins b l r ∷ fs) t behind)
+    (c.in_ok-do_statements_later-in-Ok.ensures.moves limit (rejoins b l r ∷ fs) t behind)
 
 pub returns-else-branch : goal.returns-else-branch
 returns-else-branch c = λ limit fs s at.

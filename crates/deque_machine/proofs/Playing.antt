@@ -1,0 +1,271 @@
+-- Plays are runs, they end, and with room for all they finish.
+use Rattle.std.proofs.Common.{◌≡◌, ℕ, zero, suc, ◌+◌, ◌*◌, ◌≤◌, ◌<◌, ◌⊎◌, List, [], ◌∷◌, ◌++◌, length, inl, inr, refl, sym, ap, subst, ◌∙◌, arith, length-append, true≢false, ℤ, pos, ◌+ℤ◌, ◌≤ℤ◌, ◌<ℤ◌, nat_lt, true}
+use Rattle.std.specs.Prelude.{Option, None, Some, is_some, slice_get, unwrap_or}
+use Rattle.std.proofs.lemmas.Bool.{cases_lt}
+use Rattle.std.proofs.lemmas.Int.{ints, by_lt_z}
+use Rattle.std.proofs.Math.Nat.{mod-lt}
+use Rattle.depth_first_list.specs.Actions.{Deed, forks, joins, allocates, releases, dummy, faults, ends, record_words, weight_of}
+use Rattle.depth_first_list.specs.Runs.{IsDepthFirst}
+use Rattle.depth_first_list.specs.Facts.{action_at, deed_at, words_at, weight_at}
+use Rattle.lawful_books.specs.Lists.{total}
+use Rattle.lawful_books.specs.Books.{booked}
+use Rattle.lawful_books.specs.Lawful.{LawfulBooks}
+use Rattle.lawful_books.proofs.Lists.{each_from, times_among}
+use Rattle.lawful_books.proofs.Keeping.{closed_same, begun_same}
+use Rattle.lawful_books.proofs.Whole.{few_places, total_ones}
+use Rattle.deque_machine.specs.Moments.{Deque, Moment, opening, live_at}
+use Rattle.deque_machine.specs.Machine.{Setting, Event, steals, does, suspends, gives_up, Owns, books_with, books_closed, new_book, May, steals_beside, takes_over, forks_child, joins_child, allocates_within, allocates_above, releases_words, meets_fault, runs_dummy, ends_above_parent, ends_and_wakes, ends_and_leaves, suspends_top, gives_deque_up}
+use Rattle.deque_machine.specs.LawfulOrder.{IsLawful}
+use Rattle.deque_machine.specs.Runs.{Pair, Reaches, place_of}
+use Rattle.deque_machine.specs.Play.{IsForced, NoneFree, words_taken, taken_by, one_if_fork, Limits, Stop, arena_full, steps_spent, deques_full, Ending, finished, stopped, IsFirst, CanMove, Stays, Wants, a_theft, a_give_up, a_wait, an_action, Fills, Meets, no_deque, no_words, no_steps, words_drawn, Plays, is_over, is_stopped, goes_on, PlaysAreRuns, PlaysEnd, PlaysFinish, SomebodysTurn, WantedMayCome}
+use Rattle.deque_machine.proofs.Kept.{opening_is_lawful}
+use Rattle.deque_machine.proofs.Reached.{lawful_along}
+use Rattle.deque_machine.proofs.Sizes.{booked_more, arena_never_fills, deques_at_most}
+use Rattle.deque_machine.proofs.Ends.{runs_end}
+use Rattle.deque_machine.proofs.Progress.{wanted_comes}
+use Rattle.deque_machine.proofs.Movers.{Decided, ended_or_not, mover_wants, somebody_moves, stays_or_not}
+
+IsGiveUp : Event → Type 0
+IsGiveUp (steals place id) = ⊥
+IsGiveUp (does place) = ⊥
+IsGiveUp suspends = ⊥
+IsGiveUp gives_up = Unit {0}
+
+-- a give up that the rules want is not free
+forced_of : (s : Setting) (m : Moment) (worker word : ℕ) (event : Event) → Wants s m worker word event → event ≡ gives_up → IsForced s m worker
+unfolding IsGiveUp
+forced_of s m worker word event (a_theft place id idle first named) is = absurd (subst IsGiveUp (sym is) tt)
+forced_of s m worker word event (a_give_up forced) is = forced
+forced_of s m worker word event (a_wait o place child at none) is = absurd (subst IsGiveUp (sym is) tt)
+forced_of s m worker word event (an_action o place next has fits) is = absurd (subst IsGiveUp (sym is) tt)
+
+module _ (s : Setting) (limits : Limits) (words : ℕ → ℕ) where
+  are_runs : (n : ℕ) (m : Moment) (run : List Pair) (last : Moment) (ending : Ending) → Plays s limits words n m run last ending
+      → (reaches : Reaches s m run last) × NoneFree s m run last reaches
+  are_runs n m run last ending (is_over n' m' has) = (refl, tt)
+  are_runs n m run last ending (is_stopped n' m' pair stop turn meets) = (refl, tt)
+  are_runs n m run last ending (goes_on n' m' next last' pair later ending' turn none may rest) =
+      let r = are_runs (n + words_drawn m pair.worker) next later last ending rest in
+      ((next, may, r.0), (forced_of s m pair.worker (words (suc n)) pair.event turn.wants, r.1))
+
+pub plays_are_runs : (s : Setting) → 0 < s.quota → IsDepthFirst s.quota s.list → PlaysAreRuns s
+plays_are_runs s some list limits words run last ending plays = are_runs s limits words 0 opening run last ending plays
+
+-- one event more at the end of a run
+one_more_event : (s : Setting) (run : List Pair) (first m next : Moment) (pair : Pair) (reaches : Reaches s first run m) → NoneFree s first run m reaches
+    → May s m pair.worker pair.event next → (pair.event ≡ gives_up → IsForced s m pair.worker)
+    → (longer : Reaches s first (run ++ pair ∷ []) next) × NoneFree s first (run ++ pair ∷ []) next longer
+one_more_event s [] first m next pair reaches free may forced =
+    ((next, subst (λ x. May s x pair.worker pair.event next) (sym reaches) may, refl), (λ is. subst (λ x. IsForced s x pair.worker) (sym reaches) (forced is), tt))
+one_more_event s (done ∷ run) first m next pair reaches free may forced =
+    let rest = one_more_event s run reaches.0 m next pair reaches.2 free.1 may forced in
+    ((reaches.0, reaches.1, rest.0), (free.0, rest.1))
+
+-- an event meets a stop, or not
+stop_or_not : (s : Setting) (limits : Limits) (m : Moment) (event : Event) → ((stop : Stop) × Meets s limits m event stop) ⊎ ((stop : Stop) → ¬ Meets s limits m event stop)
+stop_or_not s limits m suspends = inr (λ stop meets. no_stop stop meets)
+  where
+    no_stop : (stop : Stop) → Meets s limits m suspends stop → ⊥
+    no_stop stop meets = elim meets [ ]
+stop_or_not s limits m gives_up = inr (λ stop meets. no_stop stop meets)
+  where
+    no_stop : (stop : Stop) → Meets s limits m gives_up stop → ⊥
+    no_stop stop meets = elim meets [ ]
+stop_or_not s limits m (steals place id) = by_deque (slice_get m.deques place) refl
+  where
+    none_meets : ((d : Deque) → slice_get m.deques place ≡ Some d → Stays d → limits.deques ≤ length m.deques → ⊥) → (stop : Stop) → Meets s limits m (steals place id) stop → ⊥
+    none_meets none stop (no_deque place id deque is stays many) = none deque is stays many
+
+    by_deque : (o : Option Deque) → slice_get m.deques place ≡ o → ((stop : Stop) × Meets s limits m (steals place id) stop) ⊎ ((stop : Stop) → ¬ Meets s limits m (steals place id) stop)
+    by_deque None is = inr (none_meets (λ d there stays many. true≢false (sym (ap is_some (sym is ∙ there)))))
+    by_deque (Some d) is = elim (stays_or_not d) [
+      | inr not ↦ inr (none_meets (λ e there stays many. not (subst Stays (ap (λ u. unwrap_or u d) (sym there ∙ is)) stays)))
+      | inl stays ↦ elim (cases_lt (length m.deques) limits.deques) [
+        | inl room ↦ inr (none_meets (λ e there e_stays many. absurd (omega arith)))
+        | inr many ↦ inl (deques_full limits.deques, no_deque place id d is stays many)
+      ]
+    ]
+stop_or_not s limits m (does place) = by_fills fills_or_not
+  where
+    fills_or_not : Decided (Fills s limits m place)
+    fills_or_not = elim (cases_lt 0 (words_taken (action_at s.list place))) [
+      | inr none ↦ inr (λ fills. let some = fills.0 in absurd (omega arith))
+      | inl some ↦ by_lt_z (pos limits.capacity) (live_at s.list m +ℤ pos (words_at s.list place))
+          (λ full. inl (some, full))
+          (λ room. inr (λ fills. both (live_at s.list m +ℤ pos (words_at s.list place)) (pos limits.capacity) room fills.1))
+    ]
+      where
+        both : (x y : ℤ) → x ≤ℤ y → y <ℤ x → ⊥
+        both x y a b = omega (arith, ints)
+
+    none_meets : ¬ Fills s limits m place → length (booked m.books) < limits.actions → (stop : Stop) → Meets s limits m (does place) stop → ⊥
+    none_meets room few stop (no_words place fills) = room fills
+    none_meets room few stop (no_steps place not many) = absurd (omega arith)
+
+    by_fills : Decided (Fills s limits m place) → ((stop : Stop) × Meets s limits m (does place) stop) ⊎ ((stop : Stop) → ¬ Meets s limits m (does place) stop)
+    by_fills (inl fills) = inl (arena_full (live_at s.list m) (words_at s.list place), no_words place fills)
+    by_fills (inr room) = elim (cases_lt (length (booked m.books)) limits.actions) [
+      | inl few ↦ inr (none_meets room few)
+      | inr many ↦ inl (steps_spent limits.actions, no_steps place room many)
+    ]
+
+-- the first that passes is below n
+in_range : (n word : ℕ) (Passes : ℕ → Type 0) (x : ℕ) → IsFirst n word Passes x → x < n
+in_range n word Passes x first = let few = first.few in subst (λ t. t < n) (sym first.is) (mod-lt (word + first.turns) (let some : 0 < n = omega arith in some))
+
+-- while the root has not ended it is somebody's turn
+pub somebodys_turn : (s : Setting) → 0 < s.quota → IsDepthFirst s.quota s.list → SomebodysTurn s
+somebodys_turn s some list words n m lawful workers not_over =
+    let w = somebody_moves s list m lawful workers (words n) not_over in
+    let e = mover_wants s list m lawful w.0 (words (suc n)) (w.1).passes in
+    (record { worker = w.0; event = e.0 }, record { not_over = not_over; first = w.1; wants = e.1 })
+
+pub wanted_may_come : (s : Setting) → 0 < s.quota → IsDepthFirst s.quota s.list → WantedMayCome s
+wanted_may_come s some list m worker word event lawful below wants = wanted_comes s list m lawful worker below word event wants
+
+module _ (s : Setting) (some : 0 < s.quota) (list : IsDepthFirst s.quota s.list) (fork : record_words ≤ s.quota) (workers : 0 < s.workers) (limits : Limits) (words : ℕ → ℕ) where
+  ends_from : (fuel n : ℕ) (m : Moment) (so_far : List Pair) (reaches : Reaches s opening so_far m) → NoneFree s opening so_far m reaches
+      → length so_far + fuel ≡ suc (3 * length s.list + s.workers) → (run : List Pair) × (last : Moment) × (ending : Ending) × Plays s limits words n m run last ending
+  ends_from zero n m so_far reaches free size = let most = runs_end s some list fork so_far m reaches free in absurd (omega (arith, most, size))
+  ends_from (suc fuel) n m so_far reaches free size =
+      let lawful : IsLawful s m = lawful_along s list so_far opening m (opening_is_lawful s list) reaches in
+      elim (ended_or_not s m []) [
+        | inl has ↦ ([], m, finished, is_over n m has)
+        | inr not_over ↦
+            let turn = somebodys_turn s some list words n m lawful workers not_over in
+            elim (stop_or_not s limits m (turn.0).event) [
+              | inl stop ↦ ([], m, stopped stop.0, is_stopped n m turn.0 stop.0 turn.1 stop.1)
+              | inr none ↦
+                  let below = in_range s.workers (words n) (CanMove s m) (turn.0).worker (turn.1).first in
+                  let next = wanted_comes s list m lawful (turn.0).worker below (words (suc n)) (turn.0).event (turn.1).wants in
+                  let longer = one_more_event s so_far opening m next.0 turn.0 reaches free next.1 (forced_of s m (turn.0).worker (words (suc n)) (turn.0).event (turn.1).wants) in
+                  let more = length-append so_far (turn.0 ∷ []) in
+                  let rest = ends_from fuel (n + words_drawn m (turn.0).worker) next.0 (so_far ++ turn.0 ∷ []) longer.0 longer.1 (omega (arith, more, size)) in
+                  (turn.0 ∷ rest.0, rest.1, rest.2, goes_on n m next.0 rest.1 turn.0 rest.0 rest.2 turn.1 none next.1 rest.3)
+            ]
+      ]
+
+pub plays_end : (s : Setting) → 0 < s.quota → IsDepthFirst s.quota s.list → PlaysEnd s
+plays_end s some list fork workers limits words =
+    ends_from s some list fork workers limits words (suc (3 * length s.list + s.workers)) 0 opening [] refl tt (omega arith)
+
+acted : (s : Setting) (m : Moment) (worker : ℕ) (o : Owns m worker) (owner : Option ℕ) (place : ℕ) → length (booked (books_with o owner place)) ≡ length (booked m.books) + 1
+acted s m worker o owner place =
+    let more = booked_more (λ i. 1) o.older o.newer o.book owner place in
+    let a = total_ones (booked (books_with o owner place)) in let b = total_ones (booked (o.older ++ o.book ∷ o.newer)) in
+    let c : length (booked m.books) ≡ length (booked (o.older ++ o.book ∷ o.newer)) = ap (λ t. length (booked t)) o.books_are in omega (arith, more, a, b, c)
+
+closed : (s : Setting) (m : Moment) (worker : ℕ) (o : Owns m worker) → length (booked (books_closed o)) ≡ length (booked m.books) + 0
+closed s m worker o =
+    let a : length (booked (books_closed o)) ≡ length (booked (o.older ++ o.book ∷ o.newer)) = ap length (closed_same o.older o.newer o.book None) in
+    let c : length (booked m.books) ≡ length (booked (o.older ++ o.book ∷ o.newer)) = ap (λ t. length (booked t)) o.books_are in omega (arith, a, c)
+
+-- an action is done once more
+event_acts : (s : Setting) (m : Moment) (worker : ℕ) (event : Event) (after : Moment) → May s m worker event after
+    → length (booked after.books) ≡ length (booked m.books) + length (place_of event)
+event_acts s m worker event after (steals_beside left right victim first others bottom id idle reach deques_are threads_are new_id) =
+    let same = ap length (begun_same m.books (new_book worker true) refl) in omega (arith, same)
+event_acts s m worker event after (takes_over left right thread id idle reach deques_are) =
+    let same = ap length (begun_same m.books (new_book worker (nat_lt 0 (length left))) refl) in omega (arith, same)
+event_acts s m worker event after (forks_child o place child at fits) = acted s m worker o (Some worker) place
+event_acts s m worker event after (joins_child o place child at has) = acted s m worker o (Some worker) place
+event_acts s m worker event after (allocates_within o place at small fits) = acted s m worker o (Some worker) place
+event_acts s m worker event after (allocates_above o place at large) = acted s m worker o (Some worker) place
+event_acts s m worker event after (releases_words o place at) = acted s m worker o (Some worker) place
+event_acts s m worker event after (meets_fault o place at) = acted s m worker o (Some worker) place
+event_acts s m worker event after (runs_dummy o place at) = acted s m worker o None place
+event_acts s m worker event after (ends_above_parent o place child parent below at under_is top_is) = acted s m worker o (Some worker) place
+event_acts s m worker event after (ends_and_wakes o place before later parent at under_is waiting_is top_is) = acted s m worker o (Some worker) place
+event_acts s m worker event after (ends_and_leaves o place at under_is unwaited) = acted s m worker o None place
+event_acts s m worker event after (suspends_top o place child at not_ended under_is) = closed s m worker o
+event_acts s m worker event after (gives_deque_up o) = closed s m worker o
+
+-- the deque in the middle of a list
+get_middle : (left : List Deque) (d : Deque) (right : List Deque) → slice_get (left ++ d ∷ right) (length left) ≡ Some d
+get_middle [] d right = refl
+get_middle (e ∷ left) d right = get_middle left d right
+
+stolen_place : Event → ℕ
+stolen_place (steals place id) = place
+stolen_place (does place) = 0
+stolen_place suspends = 0
+stolen_place gives_up = 0
+
+IsSteal : Event → Type 0
+IsSteal (steals place id) = Unit {0}
+IsSteal (does place) = ⊥
+IsSteal suspends = ⊥
+IsSteal gives_up = ⊥
+
+-- a theft that leaves the victim there makes one deque more
+theft_adds : (s : Setting) (m : Moment) (worker : ℕ) (event : Event) (after : Moment) → May s m worker event after → (place id : ℕ) → event ≡ steals place id
+    → (d : Deque) → slice_get m.deques place ≡ Some d → Stays d → length after.deques ≡ suc (length m.deques)
+unfolding stolen_place IsSteal
+theft_adds s m worker event after (steals_beside left right victim first others bottom new idle reach deques_are threads_are new_id) place id is d there stays =
+    let was : length m.deques ≡ length left + suc (length right) = ap length deques_are ∙ length-append left (victim ∷ right) in
+    let now : length after.deques ≡ length left + suc (suc (length right)) =
+    length-append left (record { id = victim.id; owner = victim.owner; threads = first ∷ others } ∷ record { id = new; owner = Some worker; threads = bottom ∷ [] } ∷ right) in omega (arith, was, now)
+theft_adds s m worker event after (takes_over left right thread new idle reach deques_are) place id is d there stays =
+    let e : Deque = record { id = new; owner = None; threads = thread ∷ [] } in
+    let at : length left ≡ place = ap stolen_place is in
+    let same : Some d ≡ Some e = sym there ∙ ap (slice_get m.deques) (sym at) ∙ ap (λ t. slice_get t (length left)) deques_are ∙ get_middle left e right in
+    absurd (elim (subst Stays (ap (λ o. unwrap_or o d) same) stays) [ inl owned ↦ owned refl | inr many ↦ absurd (omega arith) ])
+theft_adds s m worker event after (forks_child o p child at fits) place id is d there stays = absurd (subst IsSteal (sym is) tt)
+theft_adds s m worker event after (joins_child o p child at has) place id is d there stays = absurd (subst IsSteal (sym is) tt)
+theft_adds s m worker event after (allocates_within o p at small fits) place id is d there stays = absurd (subst IsSteal (sym is) tt)
+theft_adds s m worker event after (allocates_above o p at large) place id is d there stays = absurd (subst IsSteal (sym is) tt)
+theft_adds s m worker event after (releases_words o p at) place id is d there stays = absurd (subst IsSteal (sym is) tt)
+theft_adds s m worker event after (meets_fault o p at) place id is d there stays = absurd (subst IsSteal (sym is) tt)
+theft_adds s m worker event after (runs_dummy o p at) place id is d there stays = absurd (subst IsSteal (sym is) tt)
+theft_adds s m worker event after (ends_above_parent o p child parent below at under_is top_is) place id is d there stays = absurd (subst IsSteal (sym is) tt)
+theft_adds s m worker event after (ends_and_wakes o p before later parent at under_is waiting_is top_is) place id is d there stays = absurd (subst IsSteal (sym is) tt)
+theft_adds s m worker event after (ends_and_leaves o p at under_is unwaited) place id is d there stays = absurd (subst IsSteal (sym is) tt)
+theft_adds s m worker event after (suspends_top o p child at not_ended under_is) place id is d there stays = absurd (subst IsSteal (sym is) tt)
+theft_adds s m worker event after (gives_deque_up o) place id is d there stays = absurd (subst IsSteal (sym is) tt)
+
+-- an action that takes words weighs them
+taken_weighs : (deed : Deed) (words : ℕ) → 0 < taken_by deed words → weight_of deed words ≡ pos words
+taken_weighs (forks child) words some = refl
+taken_weighs (joins child) words some = absurd (omega arith)
+taken_weighs allocates words some = refl
+taken_weighs releases words some = absurd (omega arith)
+taken_weighs dummy words some = absurd (omega arith)
+taken_weighs faults words some = absurd (omega arith)
+taken_weighs ends words some = absurd (omega arith)
+
+module _ (s : Setting) (some : 0 < s.quota) (list : IsDepthFirst s.quota s.list) (limits : Limits) (words : ℕ → ℕ)
+    (arena : total words_taken s.list ≤ limits.capacity) (actions : length s.list ≤ limits.actions) (deques : total one_if_fork s.list < limits.deques) where
+  no_stop : (so_far : List Pair) (m : Moment) → Reaches s opening so_far m → (worker : ℕ) (event : Event) (after : Moment) → May s m worker event after
+      → (longer : Reaches s opening (so_far ++ record { worker = worker; event = event } ∷ []) after) → (stop : Stop) → Meets s limits m event stop → ⊥
+  no_stop so_far m reaches worker event after may longer stop (no_deque place id deque is stays many) =
+      let more = theft_adds s m worker event after may place id refl deque is stays in
+      let most = deques_at_most s some list (so_far ++ record { worker = worker; event = event } ∷ []) after longer in omega (arith, more, most, many, deques)
+  no_stop so_far m reaches worker event after may longer stop (no_words place fills) =
+      let most = arena_never_fills s some list so_far m after worker place reaches may in
+      too_many (live_at s.list m) (weight_at s.list place) (words_at s.list place) (total words_taken s.list) limits.capacity most
+      (taken_weighs (deed_at s.list place) (words_at s.list place) fills.0) fills.1 arena
+    where
+      too_many : (x w : ℤ) (n t c : ℕ) → (x +ℤ w) ≤ℤ pos t → w ≡ pos n → pos c <ℤ (x +ℤ pos n) → t ≤ c → ⊥
+      too_many x w n t c a b d e = omega (arith, ints)
+  no_stop so_far m reaches worker event after may longer stop (no_steps place room many) =
+      let lawful : IsLawful s after = lawful_along s list (so_far ++ record { worker = worker; event = event } ∷ []) opening after (opening_is_lawful s list) longer in
+      let books : LawfulBooks s.quota s.list after.books = (lawful.periods).lawful in
+      let more = event_acts s m worker (does place) after may in
+      let few = few_places (booked after.books) (length s.list) books.different
+      (each_from (λ i. i < length s.list) (booked after.books) (λ i there. books.of_the_list i (times_among i (booked after.books) there))) in
+      omega (arith, more, few, many, actions)
+
+  finishes : (n : ℕ) (m : Moment) (run : List Pair) (last : Moment) (ending : Ending) (so_far : List Pair) (reaches : Reaches s opening so_far m) → NoneFree s opening so_far m reaches
+      → Plays s limits words n m run last ending → ending ≡ finished
+  finishes n m run last ending so_far reaches free (is_over n' m' has) = refl
+  finishes n m run last ending so_far reaches free (is_stopped n' m' pair stop turn meets) =
+      let lawful : IsLawful s m = lawful_along s list so_far opening m (opening_is_lawful s list) reaches in
+      let next = wanted_comes s list m lawful pair.worker (in_range s.workers (words n) (CanMove s m) pair.worker turn.first) (words (suc n)) pair.event turn.wants in
+      let longer = one_more_event s so_far opening m next.0 pair reaches free next.1 (forced_of s m pair.worker (words (suc n)) pair.event turn.wants) in
+      absurd (no_stop so_far m reaches pair.worker pair.event next.0 next.1 longer.0 stop meets)
+  finishes n m run last ending so_far reaches free (goes_on n' m' next last' pair later ending' turn none may rest) =
+      let longer = one_more_event s so_far opening m next pair reaches free may (forced_of s m pair.worker (words (suc n)) pair.event turn.wants) in
+      finishes (n + words_drawn m pair.worker) next later last ending (so_far ++ pair ∷ []) longer.0 longer.1 rest
+
+pub plays_finish : (s : Setting) → 0 < s.quota → IsDepthFirst s.quota s.list → PlaysFinish s
+plays_finish s some list limits words run last ending arena actions deques plays = finishes s some list limits words arena actions deques 0 opening run last ending [] refl tt plays

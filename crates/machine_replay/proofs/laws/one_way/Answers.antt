@@ -1,0 +1,5 @@
+use Rattle.machine_replay.proofs.OnePlay as law
+use Rattle.machine_replay.proofs.laws.one_way.Goals as goal
+
+pub returns : goal.returns
+returns c = law.one_way
