@@ -24,7 +24,7 @@ use Rattle.accepted_laws.proofs.Small.{small}
 use Rattle.node_table.specs.Names.{with_name, with_names, slot_names}
 use Rattle.node_table.specs.Programs.{name_of, function_names}
 use Rattle.frame_code.specs.Slotted.{Has, HasAll, HasExpr, HasLinks, HasTarget, HasArg, HasArgs, HasValue, HasReturn, HasStmt, HasBody, HasFunc, CanBeLowered}
-use Rattle.frame_code.specs.Scopes.{func_names}
+use Rattle.frame_code.specs.Numbers.{func_names}
 use Rattle.frame_code.proofs.Gathering.{names_are}
 
 or_l : (a b : Bool) → a ≡ true → (a || b) ≡ true

@@ -16,7 +16,7 @@ use Rattle.node_table.specs.Names.{slot_names, IsSlot}
 use Rattle.node_table.specs.Reading.{AreSlots, IsReturn}
 use Rattle.node_table.specs.Programs.{IsBody, IsFunc, AreFuncs, function_names, IsTableOf}
 use Rattle.frame_code.specs.Growing.{Grown}
-use Rattle.frame_code.specs.Scopes.{func_names}
+use Rattle.frame_code.specs.Numbers.{func_names}
 use Rattle.frame_code.proofs.Tables.{body_kept, keeps_grown, grown_same, grown_trans}
 
 pub names_are : (fs : List Func) → func_names fs ≡ function_names (funcs_tree fs)

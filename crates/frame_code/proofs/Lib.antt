@@ -7,3 +7,4 @@ pub mod Having
 pub mod Weights
 pub mod Accepted
 pub mod Picking
+pub mod Numbering

@@ -4,7 +4,8 @@ use Rattle.par_tree.specs.View.{name_tree}
 use Rattle.par_tree.specs.declared.name.Name.{Name}
 use Rattle.par_tree.specs.declared.func.Func.{Func}
 use Rattle.node_table.specs.Names.{name_at}
-use Rattle.frame_code.specs.Scopes.{names_tree, func_name, func_names}
+use Rattle.frame_code.specs.Numbers.{func_name, func_names}
+use Rattle.frame_code.specs.Scopes.{names_tree}
 
 -- the name at a place
 pub name_at-item : (ns : List Name) (i : ℕ) (d : Name) → i < length ns → name_at (names_tree ns) i ≡ name_tree (get_or ns i d)

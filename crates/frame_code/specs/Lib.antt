@@ -1,3 +1,4 @@
+pub mod Numbers
 pub mod Scopes
 pub mod Branches
 pub mod Growing

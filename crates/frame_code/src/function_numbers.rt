@@ -1,32 +1,44 @@
-//! The numbers of functions.
+ghost use Rattle.std.specs.Prelude.{ℕ, List};
+ghost use Rattle.frame_code.specs.Numbers.{func_names, number_in, IsNumber};
+ghost use Rattle.frame_code.specs.Slotted.{Has};
 
-ghost use Rattle.std.specs.Prelude.{◌≤◌, length};
-ghost use Rattle.par_tree.specs.View.{name_tree};
-ghost use Rattle.node_table.specs.Names.{IsSlot};
-ghost use Rattle.frame_code.specs.Scopes.{func_names, functions_of};
-ghost use Rattle.frame_code.specs.Slotted.{Has, most_nodes};
+use par_tree::Func;
+use std::alloc::{AllocError, Global};
+use std::collections::BTreeMap;
 
-use crate::scope::Scope;
-use par_tree::{Func, Name};
-
-/// The number of the function of a name.
-pub(crate) fn number_of(funcs: &[Func], name: &[u8]) -> u32
-    requires few { length funcs.now ≤ most_nodes }
-    requires there { Has (func_names funcs.now) name.now }
-    ensures { IsSlot (func_names funcs.now) result name.now }
-{
-    for i in 0..funcs.len() {
-        if funcs[i].name.bytes.as_slice() == name {
-            return i as u32;
-        }
-    }
-    unreachable!()
+/// The functions of a program, and their numbers by their names.
+#[derive(Drop)]
+pub(crate) struct FunctionNumbers<'a> {
+    pub(crate) funcs: &'a [Func],
+    numbers: BTreeMap<&'a [u8], u32>,
+    ghost are_numbers: { (x : List ℕ) → Has (func_names funcs.now) x → IsNumber (func_names funcs.now) x (number_in numbers x) },
 }
 
-/// The number of a called function.
-pub(crate) fn called_number(scope: &Scope, name: &Name) -> u32
-    requires { Has (functions_of scope.now) (name_tree name.now) }
-    ensures { IsSlot (functions_of scope.now) result (name_tree name.now) }
-{
-    number_of(scope.funcs, &name.bytes)
+impl<'a> FunctionNumbers<'a> {
+    ghost use Rattle.std.specs.Prelude.{◌≡◌, ◌≤◌, IfOk, length};
+    ghost use Rattle.node_table.specs.Names.{IsSlot};
+    ghost use Rattle.frame_code.specs.Slotted.{most_nodes};
+
+    /// Takes down the number of each function.
+    pub(crate) fn of(alloc: Global, funcs: &'a [Func]) -> Result<Self, AllocError>
+        requires { length funcs.now ≤ most_nodes }
+        ensures { IfOk result (λ n. n.funcs.now ≡ funcs.now) }
+    {
+        let mut numbers = BTreeMap::new(alloc);
+        for i in 0..funcs.len() {
+            numbers.insert(funcs[i].name.bytes.as_slice(), i as u32)?;
+        }
+        Ok(FunctionNumbers { funcs, numbers })
+    }
+
+    /// The number of the function of a name.
+    pub(crate) fn number(&self, name: &[u8]) -> u32
+        requires { Has (func_names self.now.funcs.now) name.now }
+        ensures { IsSlot (func_names self.now.funcs.now) result name.now }
+    {
+        match self.numbers.get(name) {
+            Some(number) => *number,
+            None => unreachable!(),
+        }
+    }
 }

@@ -10,11 +10,12 @@ ghost use Rattle.node_table.specs.Programs.{IsFunc, AreFuncs};
 ghost use Rattle.node_table.specs.Reading.{AreSlots};
 ghost use Rattle.node_table.specs.Shown.{nodes_shown, func_shown, funcs_shown};
 ghost use Rattle.frame_code.specs.Growing.{Grown};
-ghost use Rattle.frame_code.specs.Scopes.{names_tree, func_names, functions_of, names_of_scope};
+ghost use Rattle.frame_code.specs.Scopes.{names_tree, functions_in, functions_of, names_of_scope};
 ghost use Rattle.frame_code.specs.Slotted.{HasAll, HasFunc, CanBeLowered, most_slots, most_nodes};
 
 use crate::declared::slot_names;
 use crate::expressions::lower_return;
+use crate::function_numbers::FunctionNumbers;
 use crate::scope::Scope;
 use crate::slot_names::SlotNames;
 use crate::statements::lower_list;
@@ -35,31 +36,33 @@ fn param_slots(alloc: Global, names: &SlotNames, params: &[Param]) -> Result<Slo
 }
 
 /// With what a function's body is lowered.
-fn scope_of<'a>(alloc: Global, funcs: &'a [Func], func: &Func) -> Result<Scope<'a>, AllocError>
-    requires few { length funcs.now ≤ most_nodes }
-    requires slots { length (slot_names (func_tree func.now)) ≤ most_slots }
-    ensures { IfOk result (λ s. (functions_of s ≡ func_names funcs.now) × (names_of_scope s ≡ slot_names (func_tree func.now))) }
+fn scope_of<'a, 'b>(
+    alloc: Global,
+    functions: &'a FunctionNumbers<'b>,
+    func: &Func,
+) -> Result<Scope<'a, 'b>, AllocError>
+    requires { length (slot_names (func_tree func.now)) ≤ most_slots }
+    ensures { IfOk result (λ s. (functions_of s ≡ functions_in functions.now) × (names_of_scope s ≡ slot_names (func_tree func.now))) }
 {
     let names = SlotNames::of(slot_names(alloc, func)?);
-    Ok(Scope { funcs, names })
+    Ok(Scope { functions, names })
 }
 
 /// A function, with its nodes behind the others.
 fn lower_function(
     alloc: Global,
-    funcs: &[Func],
+    functions: &FunctionNumbers,
     func: &Func,
     nodes: Vec<Node>,
 ) -> Result<(Vec<Node>, FuncCode), AllocError>
-    requires few { length funcs.now ≤ most_nodes }
-    requires named { HasFunc (func_names funcs.now) (func_tree func.now) }
+    requires named { HasFunc (functions_in functions.now) (func_tree func.now) }
     requires room { length (nodes_shown nodes.items) + body_size (func_tree func.now).body ≤ most_nodes }
-    ensures count { IfOk result (λ r. length (nodes_shown r.0.items) ≡ length (nodes_shown nodes.items) + body_size
-        (func_tree func.now).body) }
+    ensures count { IfOk result (λ r.
+        length (nodes_shown r.0.items) ≡ length (nodes_shown nodes.items) + body_size (func_tree func.now).body) }
     ensures made { IfOk result (λ r. Grown (nodes_shown nodes.items) (nodes_shown r.0.items)
-        × IsFunc (nodes_shown r.0.items) (func_names funcs.now) (func_tree func.now) (func_shown r.1)) }
+        × IsFunc (nodes_shown r.0.items) (functions_in functions.now) (func_tree func.now) (func_shown r.1)) }
 {
-    let scope = scope_of(alloc, funcs, func)?;
+    let scope = scope_of(alloc, functions, func)?;
     let params = param_slots(alloc, &scope.names, &func.params)?;
     let ret = lower_return(alloc, &scope.names, &func.ret)?;
     let (nodes, body) = lower_list(alloc, &scope, nodes, &func.body)?;
@@ -76,17 +79,17 @@ fn lower_function(
 /// All functions.
 pub(crate) fn lower_functions(
     alloc: Global,
-    funcs: &[Func],
+    functions: &FunctionNumbers,
 ) -> Result<(Vec<Node>, Vec<FuncCode>), AllocError>
-    requires { CanBeLowered (func_names funcs.now) (funcs_tree funcs.now) }
-    ensures count { IfOk result (λ r. length (nodes_shown r.0.items) ≡ functions_size (funcs_tree funcs.now)) }
-    ensures made { IfOk result (λ r. AreFuncs (nodes_shown r.0.items) (func_names funcs.now) (funcs_tree funcs.now)
+    requires { CanBeLowered (functions_in functions.now) (funcs_tree functions.now.funcs.now) }
+    ensures count { IfOk result (λ r. length (nodes_shown r.0.items) ≡ functions_size (funcs_tree functions.now.funcs.now)) }
+    ensures made { IfOk result (λ r. AreFuncs (nodes_shown r.0.items) (functions_in functions.now) (funcs_tree functions.now.funcs.now)
         (funcs_shown r.1.items)) }
 {
     let mut nodes = Vec::new(alloc);
     let mut codes = Vec::new(alloc);
-    for func in funcs {
-        let (more, code) = lower_function(alloc, funcs, func, nodes)?;
+    for func in functions.funcs {
+        let (more, code) = lower_function(alloc, functions, func, nodes)?;
         nodes = more;
         codes.push(code)?;
     }

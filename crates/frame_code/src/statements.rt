@@ -12,7 +12,6 @@ ghost use Rattle.frame_code.specs.Slotted.{Has, HasExpr, HasTarget, HasArgs, Has
 
 use crate::branches::branch_slots;
 use crate::expressions::{lower_arguments, lower_expression, lower_target};
-use crate::function_numbers::called_number;
 use crate::scope::Scope;
 use node_table::{Node, NodeKind, NodeList};
 use par_tree::{Arg, Body, Expr, Name, Stmt, StmtKind, Target};
@@ -124,7 +123,7 @@ fn call_node(
         (kind_shown k)) }
 {
     let target = lower_target(&scope.names, receiver);
-    let func = called_number(scope, name);
+    let func = scope.functions.number(&name.bytes);
     let args = lower_arguments(alloc, &scope.names, args)?;
     Ok(NodeKind::Call { target, func, args })
 }

@@ -2,7 +2,7 @@ use Rattle.std.proofs.Common.{◌+◌, ◌∙◌, [], ◌∷◌, drop, ap, subst
 use Rattle.std.proofs.lemmas.List.{drop_all, map-append}
 use Rattle.par_tree.specs.View.{func_tree}
 use Rattle.block_check.specs.Shown.{funcs_tree}
-use Rattle.frame_code.specs.Scopes.{func_names}
+use Rattle.frame_code.specs.Numbers.{func_names}
 use Rattle.accepted_laws.specs.Sizes.{functions_size}
 use Rattle.frame_code.proofs.Having.{func_has, func_size}
 use Rattle.node_table.specs.Shown.{nodes_shown, func_shown, funcs_shown}
@@ -12,7 +12,7 @@ use Rattle.frame_code.proofs.functions.lower_functions.Goals as goal
 
 pub loop-func-preserved : goal.loop-func-preserved
 loop-func-preserved c =
-    let fs = c.args.funcs.now in
+    let fs = c.args.functions.now.funcs.now in
     let i = c.loop-func.func-index in
     let item = c.func-item.result in
     let now = nodes_shown c.loop-func.nodes.items in
@@ -29,22 +29,22 @@ loop-func-preserved c =
 
 pub returns-clause-made : goal.returns-clause-made
 returns-clause-made c =
-    let fs = c.args.funcs.now in
+    let fs = c.args.functions.now.funcs.now in
     gathered_end (func_names fs) (nodes_shown c.loop-func.nodes.items) (funcs_tree fs) (funcs_shown c.loop-func.codes.items)
     (subst (λ gs. Gathered (func_names fs) (nodes_shown c.loop-func.nodes.items) (funcs_tree fs) (funcs_tree gs) (funcs_shown c.loop-func.codes.items)) (drop_all c.loop-func.func-index fs c.loop-func-test.false) c.loop-func.invariant.0)
 
 pub returns-clause-count : goal.returns-clause-count
 returns-clause-count c =
-    let none = ap (λ gs. functions_size (funcs_tree gs)) (drop_all c.loop-func.func-index c.args.funcs.now c.loop-func-test.false) in
+    let none = ap (λ gs. functions_size (funcs_tree gs)) (drop_all c.loop-func.func-index c.args.functions.now.funcs.now c.loop-func-test.false) in
     let kept = c.loop-func.invariant.1 in
     omega (arith, none, kept)
 
 pub lower_function-requires-clause-named : goal.lower_function-requires-clause-named
-lower_function-requires-clause-named c = func_has (func_names c.args.funcs.now) c.args.funcs.now c.loop-func.func-index c.func-item.result c.loop-func-test.true c.func-item.is c.requires.each
+lower_function-requires-clause-named c = func_has (func_names c.args.functions.now.funcs.now) c.args.functions.now.funcs.now c.loop-func.func-index c.func-item.result c.loop-func-test.true c.func-item.is c.requires.each
 
 pub lower_function-requires-clause-room : goal.lower_function-requires-clause-room
 lower_function-requires-clause-room c =
-    let size = func_size c.args.funcs.now c.loop-func.func-index c.func-item.result c.loop-func-test.true c.func-item.is in
+    let size = func_size c.args.functions.now.funcs.now c.loop-func.func-index c.func-item.result c.loop-func-test.true c.func-item.is in
     let kept = c.loop-func.invariant.1 in
     let room = c.requires.small in
     omega (arith, size, kept, room)
