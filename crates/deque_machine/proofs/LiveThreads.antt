@@ -7,6 +7,7 @@ use Rattle.depth_first_list.specs.Actions.{Deed, forks, joins, ends, Action}
 use Rattle.depth_first_list.specs.Runs.{IsDepthFirst}
 use Rattle.depth_first_list.specs.Facts.{label_at, deed_at, StemsFrom, IsDone, IsLive, IsNext, ForksAreInOrder}
 use Rattle.depth_first_list.proofs.ThreadLaws.{fork_stands_before, forked_once, forks_are_in_order, end_is_last}
+use Rattle.depth_first_list.proofs.LiveLaws.{parents_are_live, joins_the_last_live}
 use Rattle.depth_first_list.proofs.JoinLaws.{each_child_is_joined, join_stands_behind_child, joins_the_newest_law}
 use Rattle.lawful_books.proofs.Lists.{by_end}
 use Rattle.deque_machine.proofs.Labels.{stems_from_fork, above_a_fork, one_parent}
@@ -25,46 +26,9 @@ unfolding IsJoin
 join_is_no_fork child c is = subst IsJoin is tt
 
 module _ (k : ℕ) (l : List Action) (run : IsDepthFirst k l) (done : ℕ → ℕ) (closed : IsDone l done) where
-  -- the parent of a live thread is live
-  pub parent_is_live : (parent : List ℕ) (child : ℕ) → IsLive l done (fork_of parent child) → IsLive l done parent
-  parent_is_live parent child live =
-      let f = fork_stands_before k l run live.acts.0 child parent [] live.acts.1 live.acts.2 in
-      let f_before : f.0 < live.acts.0 = f.1 in let a_in = live.acts.1 in
-      let f_in : f.0 < length l = omega arith in record {
-        acts = (f.0, f_in, f.2);
-        forked = λ g c g_in deed stems. live.forked g c g_in deed
-            (stems.0 ++ child ∷ [], ap (λ t. t ++ child ∷ []) stems.1 ∙ append_assoc (fork_of (label_at l g) c) stems.0 (child ∷ []));
-        goes_on = λ e e_in mine end. elim (cases_lt 0 (done e)) [
-          | inr none ↦ omega arith
-          | inl did ↦
-              let j = each_child_is_joined k l run f.0 child f_in f.3 in
-              let j_label : label_at l j.0 ≡ parent = j.3 ∙ f.2 in
-              let last : j.0 ≤ e = end_is_last k l run j.0 e j.2 e_in (j_label ∙ sym mine) end in
-              let apart : j.0 ≢ e = λ same. join_is_no_end child (sym j.4 ∙ ap (λ t. deed_at l t) same ∙ end) in
-              elim (cases_eq j.0 e) [
-                | inl same ↦ absurd (apart same)
-                | inr other ↦
-                    let joined : 0 < done j.0 = closed.earlier j.0 e (omega arith) e_in (j_label ∙ sym mine) did in
-                    let h = join_stands_behind_child k l run j.0 child j.2 j.4 in
-                    let end_before : h.1 < j.0 = h.3 in let j_in = j.2 in
-                    let ended : 0 < done h.1 = closed.child_ended h.1 j.0 child (omega arith) j.2 j.4 h.6 h.7 joined in
-                    let none = live.goes_on h.1 (omega arith) (h.6 ∙ ap (λ t. fork_of t child) j_label) h.7 in absurd (omega arith)
-              ]
-        ];
-      }
-
-  -- and so is each thread that it stems from
-  above_is_live : (size : ℕ) (thread rest : List ℕ) → length rest ≤ size → IsLive l done (thread ++ rest) → IsLive l done thread
-  above_is_live zero thread rest short live = subst (IsLive l done) (ap (λ t. thread ++ t) (nil_from_length rest (omega arith)) ∙ append-nil thread) live
-  above_is_live (suc size) thread rest short live = elim (by_end rest) [
-    | inl none ↦ subst (IsLive l done) (ap (λ t. thread ++ t) none ∙ append-nil thread) live
-    | inr cut ↦ let longer : length rest ≡ length cut.0 + 1 = ap length cut.2 ∙ length-append cut.0 (cut.1 ∷ []) in
-        above_is_live size thread cut.0 (omega arith)
-        (parent_is_live (thread ++ cut.0) cut.1 (subst (IsLive l done) (ap (λ t. thread ++ t) cut.2 ∙ sym (append_assoc thread cut.0 (cut.1 ∷ []))) live))
-  ]
-
+  -- a thread that a live one stems from is live
   pub stem_is_live : (thread x : List ℕ) → StemsFrom thread x → IsLive l done x → IsLive l done thread
-  stem_is_live thread x stems live = above_is_live (length stems.0) thread stems.0 (omega arith) (subst (IsLive l done) stems.1 live)
+  stem_is_live thread x stems live = parents_are_live k l run done closed thread stems.0 (subst (IsLive l done) stems.1 live)
 
   -- what a thread did is before its next action
   pub done_is_before : (thread : List ℕ) (n i : ℕ) → IsNext l done thread n → i < length l → label_at l i ≡ thread → 0 < done i → i < n
@@ -106,36 +70,7 @@ module _ (k : ℕ) (l : List Action) (run : IsDepthFirst k l) (done : ℕ → �
   pub none_at_join : (thread : List ℕ) (n child : ℕ) → IsNext l done thread n → deed_at l n ≡ joins child
       → (x : List ℕ) → IsLive l done x → ¬ StemsFromForkOn thread (suc child) x
   none_at_join thread n child next deed x live on =
-      let f = fork_is_done x thread on.1 on.0 live on.3 in
-      let before : f.0 < n = done_is_before thread n f.0 next f.1 f.2 f.4 in
-      let least : suc child ≤ on.0 = on.2 in
-      let g = join_stands_behind_child k l run n child next.inside deed in
-      let g_first : g.0 < g.1 = g.2 in let g_end : g.1 < n = g.3 in
-      let g_label : label_at l g.0 ≡ label_at l n = g.4 in
-      let order : ForksAreInOrder l = forks_are_in_order k l run in
-      let n_in = next.inside in
-      let g_in : g.0 < length l = omega arith in
-      let f_label : label_at l f.0 ≡ label_at l n = f.2 ∙ sym next.by in
-      let behind : g.0 < f.0 = elim (cases_order g.0 f.0) [
-        | inl same ↦ let less : child ≡ on.0 = one_of child on.0 (sym g.5 ∙ ap (λ t. deed_at l t) same ∙ f.3) in absurd (omega arith)
-        | inr r ↦ elim r [
-          | inl lt ↦ lt
-          | inr gt ↦ let less : on.0 < child = order.rising f.0 g.0 on.0 child g_in gt (f_label ∙ sym g_label) f.3 g.5 in absurd (omega arith)
-        ]
-      ] in
-      let h = joins_the_newest_law k l run g.0 f.0 n child on.0 n_in behind before deed g_label g.5 f_label f.3 in
-      let h_before : h.0 < n = h.2 in
-      let h_in : h.0 < length l = omega arith in
-      let joined : 0 < done h.0 = next.earlier h.0 h_before (h.3 ∙ next.by) in
-      let e = join_stands_behind_child k l run h.0 on.0 h_in h.4 in
-      let e_before : e.1 < h.0 = e.3 in
-      let ended : 0 < done e.1 = closed.child_ended e.1 h.0 on.0 (omega arith) h_in h.4 e.6 e.7 joined in
-      let up : IsLive l done (fork_of thread on.0) = stem_is_live (fork_of thread on.0) x
-      (subst (λ t. StemsFrom (fork_of thread on.0) t) (sym on.3) (stems_from_fork thread on.1 on.0)) live in
-      let none = up.goes_on e.1 (omega arith) (e.6 ∙ ap (λ t. fork_of t on.0) (h.3 ∙ next.by)) e.7 in absurd (omega arith)
-    where
-      one_of : (a b : ℕ) → forks a ≡ forks b → a ≡ b
-      one_of a b e = cc
+      joins_the_last_live k l run done closed thread n child on.0 on.1 next deed on.2 (subst (IsLive l done) on.3 live)
 
   -- where the next action of a live thread is the Join of a child that was not seen to end, the child is live
   pub child_live_at_join : (thread : List ℕ) (n child : ℕ) → IsLive l done thread → IsNext l done thread n → deed_at l n ≡ joins child

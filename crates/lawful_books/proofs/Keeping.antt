@@ -7,6 +7,7 @@ use Rattle.dag_order.specs.LabelOrder.{fork_of}
 use Rattle.depth_first_list.specs.Actions.{joins, dummy, ends, Action}
 use Rattle.depth_first_list.specs.Runs.{IsDepthFirst}
 use Rattle.depth_first_list.specs.Facts.{deed_at, label_at, IsDone, IsLive, IsNext, StemsFrom}
+use Rattle.depth_first_list.proofs.LiveLaws.{root_end_means_all}
 use Rattle.depth_first_list.proofs.ThreadLaws.{fork_stands_before, each_thread_ends, end_is_last}
 use Rattle.depth_first_list.proofs.JoinLaws.{each_child_is_joined}
 use Rattle.lawful_books.specs.Lists.{one_if_same, times}
@@ -174,44 +175,8 @@ one_prefix l books =
     let found : (m : ℕ) × IsPrefix l (done_in books) m = prefix_of l (done_in books) in
     (found.0, found.1, λ m p. one_prefix_of l (done_in books) found.0 m found.1 p)
 
--- where the root has ended, all threads have, each before its parent
-module _ (k : ℕ) (l : List Action) (run : IsDepthFirst k l) (done : ℕ → ℕ) (closed : IsDone l done)
-    (e : ℕ) (e_in : e < length l) (root : label_at l e ≡ []) (end : deed_at l e ≡ ends) (did : 0 < done e) where
-  of_root : (place : ℕ) → place < length l → label_at l place ≡ [] → 0 < done place
-  of_root place inside is = let last : place ≤ e = end_is_last k l run place e inside e_in (is ∙ sym root) end in elim (cases_eq place e) [
-    | inl same ↦ subst (λ t. 0 < done t) (sym same) did
-    | inr other ↦ closed.earlier place e (omega arith) e_in (is ∙ sym root) did
-  ]
-
-  of_child : (place : ℕ) (parent : List ℕ) (child : ℕ) → place < length l → label_at l place ≡ parent ++ child ∷ []
-      → ((j : ℕ) → j < length l → label_at l j ≡ parent → 0 < done j) → 0 < done place
-  of_child place parent child inside is above =
-      let f = fork_stands_before k l run place child parent [] inside is in
-      let f_before : f.0 < place = f.1 in
-      let j = each_child_is_joined k l run f.0 child (omega arith) f.3 in
-      let last = each_thread_ends k l run place inside in
-      let j_label : label_at l j.0 ≡ parent = j.3 ∙ f.2 in
-      let end_label : label_at l last.0 ≡ fork_of (label_at l j.0) child = last.3 ∙ is ∙ ap (λ t. t ++ child ∷ []) (sym j_label) in
-      let ended : 0 < done last.0 = closed.child_ended last.0 j.0 child last.2 j.2 j.4 end_label last.4 (above j.0 j.2 j_label) in
-      let not_after : place ≤ last.0 = last.1 in
-      elim (cases_eq place last.0) [
-        | inl same ↦ subst (λ t. 0 < done t) (sym same) ended
-        | inr other ↦ closed.earlier place last.0 (omega arith) last.2 (sym last.3) ended
-      ]
-
-  ended_above : (size : ℕ) (place : ℕ) → place < length l → length (label_at l place) ≤ size → 0 < done place
-  ended_above zero place inside short =
-      of_root place inside (nil_from_length (label_at l place) (omega arith))
-  ended_above (suc size) place inside short = elim (by_end (label_at l place)) [
-    | inl none ↦ of_root place inside none
-    | inr cut ↦ let longer : length (label_at l place) ≡ length cut.0 + 1 = ap length cut.2 ∙ length-append cut.0 (cut.1 ∷ []) in
-        of_child place cut.0 cut.1 inside cut.2
-        (λ j j_in is. let same : length (label_at l j) ≡ length cut.0 = ap length is in
-        ended_above size j j_in (omega arith))
-  ]
-
+-- where the root has ended, everything is done, and once
 pub ended_has_all : (k : ℕ) (l : List Action) → IsDepthFirst k l → EndedHasAll k l
 ended_has_all k l run books e lawful e_in root end did place inside =
-    let there : 0 < done_in books place =
-    ended_above k l run (done_in books) lawful.first_actions e e_in root end did (length (label_at l place)) place inside (omega arith) in
+    let there : 0 < done_in books place = root_end_means_all k l run (done_in books) lawful.first_actions e place e_in inside root end did in
     let most = lawful.different place in omega arith
