@@ -1,15 +1,13 @@
 -- What is known of live threads.
-use Rattle.std.proofs.Common.{◌≡◌, ◌≢◌, ℕ, zero, suc, ◌+◌, ◌≤◌, ◌<◌, List, [], ◌∷◌, ◌++◌, length, inl, inr, sym, ap, subst, ◌∙◌, arith, append_assoc, append-nil, length-append}
-use Rattle.std.proofs.lemmas.Bool.{cases_eq, cases_lt, cases_order}
-use Rattle.std.proofs.lemmas.List.{nil_from_length}
+use Rattle.std.proofs.Common.{◌≡◌, ◌≢◌, ℕ, suc, ◌≤◌, ◌<◌, List, ◌∷◌, ◌++◌, length, inl, inr, sym, ap, subst, ◌∙◌, arith}
+use Rattle.std.proofs.lemmas.Bool.{cases_order}
 use Rattle.dag_order.specs.LabelOrder.{fork_of, StemsFromForkOn}
 use Rattle.depth_first_list.specs.Actions.{Deed, forks, joins, ends, Action}
 use Rattle.depth_first_list.specs.Runs.{IsDepthFirst}
 use Rattle.depth_first_list.specs.Facts.{label_at, deed_at, StemsFrom, IsDone, IsLive, IsNext, ForksAreInOrder}
-use Rattle.depth_first_list.proofs.ThreadLaws.{fork_stands_before, forked_once, forks_are_in_order, end_is_last}
+use Rattle.depth_first_list.proofs.ThreadLaws.{fork_stands_before, forked_once, forks_are_in_order}
 use Rattle.depth_first_list.proofs.LiveLaws.{parents_are_live, joins_the_last_live}
-use Rattle.depth_first_list.proofs.JoinLaws.{each_child_is_joined, join_stands_behind_child, joins_the_newest_law}
-use Rattle.lawful_books.proofs.Lists.{by_end}
+use Rattle.depth_first_list.proofs.JoinLaws.{join_stands_behind_child}
 use Rattle.deque_machine.proofs.Labels.{stems_from_fork, above_a_fork, one_parent}
 
 -- a Join is no End, and no Fork

@@ -26,8 +26,8 @@ abbrev pub ChildrenAbove : List Action → (ℕ → ℕ) → Option (List ℕ) �
 ChildrenAbove l done above [] = Unit {0}
 ChildrenAbove l done above (thread ∷ []) = Unit {0}
 ChildrenAbove l done above (thread ∷ parent ∷ below) =
-    ((child : ℕ) → IsLive l done (fork_of thread child) → above ≡ Some (fork_of thread child))
-    × ChildrenAbove l done (Some thread) (parent ∷ below)
+    ((child : ℕ) → IsLive l done (fork_of thread child) → above ≡ Some (fork_of thread child)) ×
+    ChildrenAbove l done (Some thread) (parent ∷ below)
 
 -- a thread waits: its next action is the Join of a child that has not ended
 pub record Waits (l : List Action) (done : ℕ → ℕ) (waits : Waiting) : Type 0 where

@@ -20,8 +20,8 @@ pub record IsForced (s : Setting) (m : Moment) (worker : ℕ) : Type 0 where
 -- no give up of a run is free
 abbrev pub NoneFree : (s : Setting) (first : Moment) (run : List Pair) (last : Moment) → Reaches s first run last → Type 0
 NoneFree s first [] last reaches = Unit {0}
-NoneFree s first (pair ∷ later) last reaches =
-    (pair.event ≡ gives_up → IsForced s first pair.worker) × NoneFree s reaches.0 later last reaches.2
+NoneFree s first (pair ∷ later) last reaches = (pair.event ≡ gives_up → IsForced s first pair.worker) ×
+    NoneFree s reaches.0 later last reaches.2
 
 -- the words that an action takes, where it takes any
 abbrev pub taken_by : Deed → ℕ → ℕ
@@ -89,24 +89,24 @@ pub data Wants (s : Setting) (m : Moment) (worker word : ℕ) : Event → Type 0
   a_theft : (place id : ℕ) → owned_by worker m.deques ≡ 0 → IsFirst (reach s m) word (IsReady m) place → IsThiefsId m place id
       → Wants s m worker word (steals place id)
   a_give_up : IsForced s m worker → Wants s m worker word gives_up
-  a_wait : (o : Owns m worker) (place child : ℕ) → IsAtTop s m o.top place (joins child) → ¬ HasEnded s m (fork_of o.top child)
-      → Wants s m worker word suspends
+  a_wait : (o : Owns m worker) (place child : ℕ) → IsAtTop s m o.top place (joins child) → ¬ HasEnded s m (fork_of o.top child) →
+      Wants s m worker word suspends
   an_action : (o : Owns m worker) (place : ℕ) → IsNext s.list (done_at m) o.top place
       → ((child : ℕ) → deed_at s.list place ≡ joins child → HasEnded s m (fork_of o.top child))
       → charged s.quota s.list o.book.ran + charge_at s.quota s.list place ≤ s.quota → Wants s m worker word (does place)
 
 -- an Alloc or a Fork does not fit the arena
 abbrev pub Fills : Setting → Limits → Moment → ℕ → Type 0
-Fills s limits m place =
-    (0 < words_taken (action_at s.list place)) × (pos limits.capacity <ℤ (live_at s.list m +ℤ pos (words_at s.list place)))
+Fills s limits m place = (0 < words_taken (action_at s.list place)) ×
+    (pos limits.capacity <ℤ (live_at s.list m +ℤ pos (words_at s.list place)))
 
 -- the stop that an event meets
 pub data Meets (s : Setting) (limits : Limits) (m : Moment) : Event → Stop → Type 0 where
   no_deque : (place id : ℕ) (deque : Deque) → slice_get m.deques place ≡ Some deque → Stays deque → limits.deques ≤ length m.deques
       → Meets s limits m (steals place id) (deques_full limits.deques)
   no_words : (place : ℕ) → Fills s limits m place → Meets s limits m (does place) (arena_full (live_at s.list m) (words_at s.list place))
-  no_steps : (place : ℕ) → ¬ Fills s limits m place → limits.actions ≤ length (booked m.books)
-      → Meets s limits m (does place) (steps_spent limits.actions)
+  no_steps : (place : ℕ) → ¬ Fills s limits m place → limits.actions ≤ length (booked m.books) →
+      Meets s limits m (does place) (steps_spent limits.actions)
 
 -- the turn of a worker, behind n words: it is the first that can move, and the rules want this event of it
 pub record Turn (s : Setting) (words : ℕ → ℕ) (n : ℕ) (m : Moment) (pair : Pair) : Type 0 where
@@ -134,13 +134,13 @@ WantedMayCome s = (m : Moment) (worker word : ℕ) (event : Event) → IsLawful 
 
 -- and while the root has not ended, it is somebody's turn
 abbrev pub SomebodysTurn : Setting → Type 0
-SomebodysTurn s =
-    (words : ℕ → ℕ) (n : ℕ) (m : Moment) → IsLawful s m → 0 < s.workers → ¬ HasEnded s m [] → (pair : Pair) × Turn s words n m pair
+SomebodysTurn s = (words : ℕ → ℕ) (n : ℕ) (m : Moment) → IsLawful s m → 0 < s.workers → ¬ HasEnded s m [] →
+    (pair : Pair) × Turn s words n m pair
 
 -- a play is a run of the machine in which no give up is free
 abbrev pub PlaysAreRuns : Setting → Type 0
-PlaysAreRuns s =
-    (limits : Limits) (words : ℕ → ℕ) (run : List Pair) (last : Moment) (ending : Ending) → Plays s limits words 0 opening run last ending
+PlaysAreRuns s = (limits : Limits) (words : ℕ → ℕ) (run : List Pair) (last : Moment) (ending : Ending) →
+    Plays s limits words 0 opening run last ending
     → (reaches : Reaches s opening run last) × NoneFree s opening run last reaches
 
 -- there is a play for all words
@@ -157,9 +157,8 @@ PlaysFinish s = (limits : Limits) (words : ℕ → ℕ) (run : List Pair) (last 
 -- where the quota covers a Fork, a run without a free give up has at most three events for each action of the list, and one
 -- for each worker
 abbrev pub RunsEnd : Setting → Type 0
-RunsEnd s =
-    record_words ≤ s.quota → (run : List Pair) (m : Moment) (reaches : Reaches s opening run m) → NoneFree s opening run m reaches
-    → length run ≤ 3 * length s.list + s.workers
+RunsEnd s = record_words ≤ s.quota → (run : List Pair) (m : Moment) (reaches : Reaches s opening run m) →
+    NoneFree s opening run m reaches → length run ≤ 3 * length s.list + s.workers
 
 -- what an action takes never fills an arena with room for all that the list takes
 abbrev pub ArenaNeverFills : Setting → Type 0

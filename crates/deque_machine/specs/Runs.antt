@@ -84,19 +84,19 @@ MovesAreLive s = (run : List Pair) (m : Moment) → Reaches s opening run m → 
 
 -- the high-water mark is at most the peak, and two quotas for each marked period
 abbrev pub MarkedBound : Setting → Type 0
-MarkedBound s =
-    (run : List Pair) (m : Moment) → Reaches s opening run m → high_water_mark s.list run ≤ℤ bound s.quota s.list (periods_marked m.books)
+MarkedBound s = (run : List Pair) (m : Moment) → Reaches s opening run m →
+    high_water_mark s.list run ≤ℤ bound s.quota s.list (periods_marked m.books)
 
 -- Where an action may come that an arena with room for the peak and two quotas for each of so many periods refuses, more
 -- periods would be ahead behind it.
 abbrev pub ArenaRefuses : Setting → Type 0
-ArenaRefuses s =
-    (run : List Pair) (m after : Moment) (worker place n periods capacity : ℕ) → Reaches s opening run m → May s m worker (does place) after
-    → bound s.quota s.list periods ≤ℤ pos capacity → pos capacity <ℤ (live_at s.list m +ℤ weight_at s.list place)
+ArenaRefuses s = (run : List Pair) (m after : Moment) (worker place n periods capacity : ℕ) → Reaches s opening run m →
+    May s m worker (does place) after → bound s.quota s.list periods ≤ℤ pos capacity
+    → pos capacity <ℤ (live_at s.list m +ℤ weight_at s.list place)
     → IsPrefix s.list (done_at after) n
     → periods < periods_ahead n after.books
 
 -- a run in which the root has ended did each action of the list just once
 abbrev pub EndedDidAll : Setting → Type 0
-EndedDidAll s =
-    (run : List Pair) (m : Moment) → Reaches s opening run m → HasEnded s m [] → (place : ℕ) → place < length s.list → done_at m place ≡ 1
+EndedDidAll s = (run : List Pair) (m : Moment) → Reaches s opening run m → HasEnded s m [] → (place : ℕ) → place < length s.list →
+    done_at m place ≡ 1

@@ -1,19 +1,16 @@
 -- What keeps books lawful.
-use Rattle.std.proofs.Common.{◌≡◌, ℕ, zero, suc, ◌+◌, ◌≤◌, ◌<◌, ◌⊎◌, List, [], ◌∷◌, ◌++◌, length, inl, inr, refl, sym, ap, subst, ◌∙◌, arith, length-append, append_assoc, append-nil, true≢false}
+use Rattle.std.proofs.Common.{◌≡◌, ℕ, zero, suc, ◌+◌, ◌<◌, ◌⊎◌, List, [], ◌∷◌, ◌++◌, length, inl, inr, refl, sym, ap, subst, ◌∙◌, arith, append_assoc, append-nil, true≢false}
 use Rattle.std.specs.Prelude.{Option, None, Some, is_some}
 use Rattle.std.proofs.lemmas.Bool.{cases_eq, cases_lt, cases_order}
-use Rattle.std.proofs.lemmas.List.{nil_from_length}
 use Rattle.dag_order.specs.LabelOrder.{fork_of}
 use Rattle.depth_first_list.specs.Actions.{joins, dummy, ends, Action}
 use Rattle.depth_first_list.specs.Runs.{IsDepthFirst}
 use Rattle.depth_first_list.specs.Facts.{deed_at, label_at, IsDone, IsLive, IsNext, StemsFrom}
 use Rattle.depth_first_list.proofs.LiveLaws.{root_end_means_all}
-use Rattle.depth_first_list.proofs.ThreadLaws.{fork_stands_before, each_thread_ends, end_is_last}
-use Rattle.depth_first_list.proofs.JoinLaws.{each_child_is_joined}
 use Rattle.lawful_books.specs.Lists.{one_if_same, times}
 use Rattle.lawful_books.specs.Books.{Book, booked, done_in, charge_at, charged, IsPrefix}
 use Rattle.lawful_books.specs.Lawful.{DummyEnds, IsWithin, book_of, one_more, NoBooksAreLawful, OnePrefix, RunningKeeps, ClosingKeeps, BeginningKeeps, EndedHasAll}
-use Rattle.lawful_books.proofs.Lists.{total_append, each_change, each_at, each_join, one_cases, at_end, by_end, same_head, same_tail, middle_is_not_nil}
+use Rattle.lawful_books.proofs.Lists.{total_append, each_change, each_at, each_join, one_cases, at_end, same_head, same_tail, middle_is_not_nil}
 
 pub booked_append : (xs ys : List Book) → booked (xs ++ ys) ≡ booked xs ++ booked ys
 booked_append [] ys = refl

@@ -8,8 +8,8 @@ use Rattle.lawful_books.specs.Books.{Book, done_in, charge_at, charged, words_in
 
 -- a Dummy is the last that its period ran, and the period is closed
 abbrev pub DummyEnds : List Action → Book → Type 0
-DummyEnds l book =
-    (front back : List ℕ) (place : ℕ) → book.ran ≡ front ++ place ∷ back → deed_at l place ≡ dummy → (back ≡ []) × (book.owner ≡ None)
+DummyEnds l book = (front back : List ℕ) (place : ℕ) → book.ran ≡ front ++ place ∷ back → deed_at l place ≡ dummy →
+    (back ≡ []) × (book.owner ≡ None)
 
 -- what a period ran takes at most the quota
 abbrev pub IsWithin : ℕ → List Action → Book → Type 0
@@ -35,9 +35,8 @@ OnePrefix l = (books : List Book) → (n : ℕ) × IsPrefix l (done_in books) n 
 
 -- the words in use are at most the peak, and two quotas for each period that is ahead
 abbrev pub Accounting : ℕ → List Action → Type 0
-Accounting k l =
-    (books : List Book) (n : ℕ) → LawfulBooks k l books → IsPrefix l (done_in books) n
-    → words_in_use l books ≤ℤ bound k l (periods_ahead n books)
+Accounting k l = (books : List Book) (n : ℕ) → LawfulBooks k l books → IsPrefix l (done_in books) n →
+    words_in_use l books ≤ℤ bound k l (periods_ahead n books)
 
 -- so where they are more than the peak and two quotas for each of so many periods, more periods are ahead
 abbrev pub ArenaLaw : ℕ → List Action → Type 0
@@ -78,6 +77,6 @@ BeginningKeeps k l = (books : List Book) (book : Book) → book.ran ≡ [] → L
 
 -- where the End of the root is done, each action of the list stands in just one place of the books
 abbrev pub EndedHasAll : ℕ → List Action → Type 0
-EndedHasAll k l =
-    (books : List Book) (e : ℕ) → LawfulBooks k l books → e < length l → label_at l e ≡ [] → deed_at l e ≡ ends → 0 < done_in books e
+EndedHasAll k l = (books : List Book) (e : ℕ) → LawfulBooks k l books → e < length l → label_at l e ≡ [] → deed_at l e ≡ ends →
+    0 < done_in books e
     → (place : ℕ) → place < length l → done_in books place ≡ 1

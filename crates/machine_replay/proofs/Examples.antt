@@ -7,7 +7,7 @@ use Rattle.lawful_books.specs.Books.{Book}
 use Rattle.deque_machine.specs.Moments.{Deque, opening}
 use Rattle.deque_machine.specs.Machine.{Setting, Event, steals, does, suspends, gives_up}
 use Rattle.deque_machine.specs.Runs.{Pair, high_water_mark}
-use Rattle.deque_machine.specs.Play.{Limits, Stop, arena_full, steps_spent, deques_full, Ending, finished, stopped}
+use Rattle.deque_machine.specs.Play.{Limits, arena_full, steps_spent, deques_full, Ending, finished, stopped}
 use Rattle.machine_replay.specs.Played.{Played, play}
 use Rattle.machine_replay.specs.Step.{replay, moment_of}
 

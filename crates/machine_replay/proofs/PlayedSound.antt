@@ -1,6 +1,6 @@
 -- What the computed play answers is the play.
-use Rattle.std.proofs.Common.{◌≡◌, ◌≢◌, ℕ, zero, suc, ◌+◌, ◌%◌, ◌≤◌, ◌<◌, ◌⊎◌, List, [], ◌∷◌, length, inl, inr, refl, sym, ap, subst, ◌∙◌, arith, cond, not, ◌&&◌, ◌||◌, nat_eq, nat_lt, nat_le, Bool, true, false, true≢false, ℤ, pos, negsuc, ◌+ℤ◌, ◌<ℤ◌}
-use Rattle.std.specs.Prelude.{Option, None, Some, is_some, slice_get, unwrap_or}
+use Rattle.std.proofs.Common.{◌≡◌, ℕ, zero, suc, ◌+◌, ◌%◌, ◌≤◌, ◌<◌, ◌⊎◌, List, [], ◌∷◌, length, inl, inr, refl, sym, ap, subst, ◌∙◌, arith, cond, not, ◌&&◌, ◌||◌, nat_eq, nat_lt, nat_le, Bool, true, false, true≢false, ℤ, pos, negsuc, ◌+ℤ◌, ◌<ℤ◌}
+use Rattle.std.specs.Prelude.{Option, None, Some, slice_get, unwrap_or}
 use Rattle.std.proofs.lemmas.Bool.{cases_lt, cases_eq, cases_Bool, eqb-true, eq-eqb, ltb-true, ltb-false, lt-ltb, leb-true, leb-false, le-leb, and_parts, and_from, or_cases}
 use Rattle.std.proofs.lemmas.Int.{ints}
 use Rattle.dag_order.specs.LabelOrder.{fork_of}
@@ -11,10 +11,10 @@ use Rattle.lawful_books.specs.Books.{booked, charge_at, charged}
 use Rattle.deque_machine.specs.Moments.{Deque, Moment, opening, done_at, live_at, owned_by, with_id}
 use Rattle.deque_machine.specs.Machine.{Setting, Event, steals, does, suspends, gives_up, Owns, HasEnded}
 use Rattle.deque_machine.specs.Runs.{Pair}
-use Rattle.deque_machine.specs.Play.{Limits, Stop, arena_full, steps_spent, deques_full, Ending, finished, stopped, IsFirst, IsReady, Stays, reach, CanMove, IsThiefsId, Wants, a_theft, a_give_up, a_wait, an_action, Fills, Meets, no_deque, no_words, no_steps, Turn, words_taken, words_drawn, Plays, is_over, is_stopped, goes_on}
+use Rattle.deque_machine.specs.Play.{Limits, Stop, arena_full, steps_spent, deques_full, finished, stopped, IsFirst, IsReady, Stays, reach, CanMove, Wants, a_theft, a_give_up, a_wait, an_action, Fills, Meets, no_deque, no_words, no_steps, Turn, words_taken, words_drawn, Plays, is_over, is_stopped, goes_on}
 use Rattle.machine_replay.specs.Tests.{next_from, ended_by}
 use Rattle.machine_replay.specs.Step.{Hand, hand_of, step}
-use Rattle.machine_replay.specs.Played.{first_passing, any_below, no_owner, deque_ready, deque_stays, is_ready, can_move, least_id, steals_into, theft_of, theft_at, wanted_by, wanted_at, wanted_of, wanted, exceeds, fills, stop_at, stop_of, Played, played_more, played_stopped, played_behind, played_unless, played_with, played_by, play}
+use Rattle.machine_replay.specs.Played.{first_passing, any_below, no_owner, deque_ready, deque_stays, is_ready, can_move, least_id, steals_into, theft_of, theft_at, wanted_by, wanted_at, wanted_of, wanted, exceeds, fills, stop_at, stop_of, Played, played_more, played_behind, played_unless, played_with, played_by, play}
 use Rattle.machine_replay.specs.Laws.{PlayedIsPlay}
 use Rattle.machine_replay.proofs.TestLaws.{ended_by_is, ended_by_finds, next_from_is}
 use Rattle.deque_machine.proofs.KeptOrder.{own_alloc, own_release, own_dummy, own_fault, fork_is_no_join, end_is_no_join}

@@ -32,7 +32,7 @@ or_right true y is = refl
 or_right false y is = is
 
 module _ (l : List Action) (done : ℕ → ℕ) (thread : List ℕ) where
-  did_all_is : (n : ℕ) → did_all l done thread n ≡ true → (i : ℕ) → i < n → label_at l i ≡ thread → 0 < done i
+  pub did_all_is : (n : ℕ) → did_all l done thread n ≡ true → (i : ℕ) → i < n → label_at l i ≡ thread → 0 < done i
   did_all_is zero is i lt mine = absurd (omega arith)
   did_all_is (suc n) is i lt mine =
       let p : (did_all l done thread n ≡ true) × ((not (same_label (label_at l n) thread) || nat_lt 0 (done n)) ≡ true) =
@@ -92,7 +92,7 @@ module _ (l : List Action) (done : ℕ → ℕ) (thread : List ℕ) where
         ]
   ]
 
-  is_end_is : (deed : Deed) → is_end deed ≡ true → deed ≡ ends
+  pub is_end_is : (deed : Deed) → is_end deed ≡ true → deed ≡ ends
   is_end_is (forks child) is = absurd (true≢false (sym is))
   is_end_is (joins child) is = absurd (true≢false (sym is))
   is_end_is allocates is = absurd (true≢false (sym is))

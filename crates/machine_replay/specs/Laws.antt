@@ -35,8 +35,8 @@ ReplayFails s = (pairs : List Pair) (n : ℕ) → (replay s pairs ≡ Err n) ↔
 
 -- at a lawful moment an event of a worker leads to one moment
 abbrev pub OneWay : Setting → Type 0
-OneWay s =
-    (m one other : Moment) (worker : ℕ) (event : Event) → IsLawful s m → May s m worker event one → May s m worker event other → one ≡ other
+OneWay s = (m one other : Moment) (worker : ℕ) (event : Event) → IsLawful s m → May s m worker event one → May s m worker event other →
+    one ≡ other
 
 -- there is only one play for a list of words
 abbrev pub OnePlay : Setting → Type 0

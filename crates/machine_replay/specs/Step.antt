@@ -92,13 +92,13 @@ suspend_at s m h (Some place) = suspend_by s m h (deed_at s.list place)
 abbrev pub steal_from : Moment → ℕ → ℕ → Cut Deque → Option ℕ → List (List ℕ) → Option Moment
 steal_from m worker id c owner [] = None
 steal_from m worker id c None (thread ∷ []) = where_true (nat_eq id (c.here).id)
-    (moment_of (c.left ++ record { id = (c.here).id; owner = Some worker; threads = thread ∷ [] } ∷ c.right) m.waiting
-    (m.books ++ new_book worker (nat_lt 0 (length c.left)) ∷ []))
+    (moment_of (c.left ++ record { id = (c.here).id; owner = Some worker; threads = thread ∷ [] } ∷ c.right)
+    m.waiting (m.books ++ new_book worker (nat_lt 0 (length c.left)) ∷ []))
 steal_from m worker id c (Some other) (thread ∷ []) = None
 steal_from m worker id c owner (first ∷ second ∷ more) = where_true (nat_eq (with_id id m.deques) 0)
     (moment_of (c.left ++ record { id = (c.here).id; owner = (c.here).owner; threads = first ∷ front_of second more }
-    ∷ record { id = id; owner = Some worker; threads = last_of second more ∷ [] } ∷ c.right) m.waiting
-    (m.books ++ new_book worker true ∷ []))
+    ∷ record { id = id; owner = Some worker; threads = last_of second more ∷ [] } ∷ c.right)
+    m.waiting (m.books ++ new_book worker true ∷ []))
 
 abbrev pub steal_by : Moment → ℕ → ℕ → Option (Cut Deque) → Option Moment
 steal_by m worker id None = None
