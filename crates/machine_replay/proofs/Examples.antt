@@ -69,33 +69,6 @@ two_blocks =
 abbrev seven_periods : List Pair
 seven_periods = by 0 (steals 0 0) ∷ by 0 (does 0) ∷ by 0 gives_up ∷ by 0 (steals 0 1) ∷ by 0 (does 7) ∷ by 0 (steals 0 0) ∷ by 0 (does 1) ∷ by 0 (does 2) ∷ by 0 (steals 0 2) ∷ by 0 (does 4) ∷ by 0 (steals 0 0) ∷ by 0 (does 3) ∷ by 0 (steals 0 2) ∷ by 0 (does 5) ∷ by 0 (does 6) ∷ by 0 (steals 0 1) ∷ by 0 (does 8) ∷ by 0 (does 9) ∷ by 0 (does 10) ∷ by 0 (does 11) ∷ []
 
-after_1 : replay (setting large_alloc 16 1) (take 1 seven_periods) ≡ Ok (moment_of (deque 0 (Some 0) ([] ∷ []) ∷ []) [] (book false (Some 0) ([]) ∷ []))
-after_1 = refl
-
-after_2 : replay (setting large_alloc 16 1) (take 2 seven_periods) ≡ Ok (moment_of (deque 0 (Some 0) ((1 ∷ []) ∷ [] ∷ []) ∷ []) [] (book false (Some 0) (0 ∷ []) ∷ []))
-after_2 = refl
-
-after_3 : replay (setting large_alloc 16 1) (take 3 seven_periods) ≡ Ok (moment_of (deque 0 None ((1 ∷ []) ∷ [] ∷ []) ∷ []) [] (book false None (0 ∷ []) ∷ []))
-after_3 = refl
-
-after_5 : replay (setting large_alloc 16 1) (take 5 seven_periods) ≡ Ok (moment_of (deque 0 None ((1 ∷ []) ∷ []) ∷ deque 1 None ([] ∷ []) ∷ []) [] (book false None (0 ∷ []) ∷ book true None (7 ∷ []) ∷ []))
-after_5 = refl
-
-after_8 : replay (setting large_alloc 16 1) (take 8 seven_periods) ≡ Ok (moment_of (deque 0 None ((1 ∷ 1 ∷ []) ∷ (1 ∷ []) ∷ []) ∷ deque 1 None ([] ∷ []) ∷ []) [] (book false None (0 ∷ []) ∷ book true None (7 ∷ []) ∷ book false None (1 ∷ 2 ∷ []) ∷ []))
-after_8 = refl
-
-after_10 : replay (setting large_alloc 16 1) (take 10 seven_periods) ≡ Ok (moment_of (deque 0 None ((1 ∷ 1 ∷ []) ∷ []) ∷ deque 2 None ((1 ∷ []) ∷ []) ∷ deque 1 None ([] ∷ []) ∷ []) [] (book false None (0 ∷ []) ∷ book true None (7 ∷ []) ∷ book false None (1 ∷ 2 ∷ []) ∷ book true None (4 ∷ []) ∷ []))
-after_10 = refl
-
-after_12 : replay (setting large_alloc 16 1) (take 12 seven_periods) ≡ Ok (moment_of (deque 2 None ((1 ∷ []) ∷ []) ∷ deque 1 None ([] ∷ []) ∷ []) [] (book false None (0 ∷ []) ∷ book true None (7 ∷ []) ∷ book false None (1 ∷ 2 ∷ []) ∷ book true None (4 ∷ []) ∷ book false None (3 ∷ []) ∷ []))
-after_12 = refl
-
-after_15 : replay (setting large_alloc 16 1) (take 15 seven_periods) ≡ Ok (moment_of (deque 1 None ([] ∷ []) ∷ []) [] (book false None (0 ∷ []) ∷ book true None (7 ∷ []) ∷ book false None (1 ∷ 2 ∷ []) ∷ book true None (4 ∷ []) ∷ book false None (3 ∷ []) ∷ book false None (5 ∷ 6 ∷ []) ∷ []))
-after_15 = refl
-
-after_20 : replay (setting large_alloc 16 1) (take 20 seven_periods) ≡ Ok (moment_of ([]) [] (book false None (0 ∷ []) ∷ book true None (7 ∷ []) ∷ book false None (1 ∷ 2 ∷ []) ∷ book true None (4 ∷ []) ∷ book false None (3 ∷ []) ∷ book false None (5 ∷ 6 ∷ []) ∷ book false None (8 ∷ 9 ∷ 10 ∷ 11 ∷ []) ∷ []))
-after_20 = refl
-
 seven_periods_high : high_water_mark large_alloc seven_periods ≡ pos 48
 seven_periods_high = refl
 
@@ -139,6 +112,456 @@ handed_over = by 0 (steals 0 0) ∷ by 0 (does 0) ∷ by 0 gives_up ∷ by 1 (st
 
 handed_over_ends : replay (setting one_fork 16 2) handed_over ≡ Ok (moment_of ([]) ([]) (book false None (0 ∷ []) ∷ book true None ([]) ∷ book false None (1 ∷ 2 ∷ 3 ∷ []) ∷ []))
 handed_over_ends = refl
+
+-- The moment behind each event of these runs, as a second program works it out from the table of events.
+
+seven_periods_1 :
+    replay (setting large_alloc 16 1) (take 1 seven_periods)
+    ≡ Ok (moment_of
+    (deque 0 (Some 0) ([] ∷ []) ∷ [])
+    ([])
+    (book false (Some 0) ([]) ∷ []))
+seven_periods_1 = refl
+
+seven_periods_2 :
+    replay (setting large_alloc 16 1) (take 2 seven_periods)
+    ≡ Ok (moment_of
+    (deque 0 (Some 0) ((1 ∷ []) ∷ [] ∷ []) ∷ [])
+    ([])
+    (book false (Some 0) (0 ∷ []) ∷ []))
+seven_periods_2 = refl
+
+seven_periods_3 :
+    replay (setting large_alloc 16 1) (take 3 seven_periods)
+    ≡ Ok (moment_of
+    (deque 0 None ((1 ∷ []) ∷ [] ∷ []) ∷ [])
+    ([])
+    (book false None (0 ∷ []) ∷ []))
+seven_periods_3 = refl
+
+seven_periods_4 :
+    replay (setting large_alloc 16 1) (take 4 seven_periods)
+    ≡ Ok (moment_of
+    (deque 0 None ((1 ∷ []) ∷ []) ∷ deque 1 (Some 0) ([] ∷ []) ∷ [])
+    ([])
+    (book false None (0 ∷ []) ∷ book true (Some 0) ([]) ∷ []))
+seven_periods_4 = refl
+
+seven_periods_5 :
+    replay (setting large_alloc 16 1) (take 5 seven_periods)
+    ≡ Ok (moment_of
+    (deque 0 None ((1 ∷ []) ∷ []) ∷ deque 1 None ([] ∷ []) ∷ [])
+    ([])
+    (book false None (0 ∷ []) ∷ book true None (7 ∷ []) ∷ []))
+seven_periods_5 = refl
+
+seven_periods_6 :
+    replay (setting large_alloc 16 1) (take 6 seven_periods)
+    ≡ Ok (moment_of
+    (deque 0 (Some 0) ((1 ∷ []) ∷ []) ∷ deque 1 None ([] ∷ []) ∷ [])
+    ([])
+    (book false None (0 ∷ []) ∷ book true None (7 ∷ []) ∷ book false (Some 0) ([]) ∷ []))
+seven_periods_6 = refl
+
+seven_periods_7 :
+    replay (setting large_alloc 16 1) (take 7 seven_periods)
+    ≡ Ok (moment_of
+    (deque 0 (Some 0) ((1 ∷ 1 ∷ []) ∷ (1 ∷ []) ∷ []) ∷ deque 1 None ([] ∷ []) ∷ [])
+    ([])
+    (book false None (0 ∷ []) ∷ book true None (7 ∷ []) ∷ book false (Some 0) (1 ∷ []) ∷ []))
+seven_periods_7 = refl
+
+seven_periods_8 :
+    replay (setting large_alloc 16 1) (take 8 seven_periods)
+    ≡ Ok (moment_of
+    (deque 0 None ((1 ∷ 1 ∷ []) ∷ (1 ∷ []) ∷ []) ∷ deque 1 None ([] ∷ []) ∷ [])
+    ([])
+    (book false None (0 ∷ []) ∷ book true None (7 ∷ []) ∷ book false None (1 ∷ 2 ∷ []) ∷ []))
+seven_periods_8 = refl
+
+seven_periods_9 :
+    replay (setting large_alloc 16 1) (take 9 seven_periods)
+    ≡ Ok (moment_of
+    (deque 0 None ((1 ∷ 1 ∷ []) ∷ []) ∷ deque 2 (Some 0) ((1 ∷ []) ∷ []) ∷ deque 1 None ([] ∷ []) ∷ [])
+    ([])
+    (book false None (0 ∷ []) ∷ book true None (7 ∷ []) ∷ book false None (1 ∷ 2 ∷ []) ∷ book true (Some 0) ([]) ∷ []))
+seven_periods_9 = refl
+
+seven_periods_10 :
+    replay (setting large_alloc 16 1) (take 10 seven_periods)
+    ≡ Ok (moment_of
+    (deque 0 None ((1 ∷ 1 ∷ []) ∷ []) ∷ deque 2 None ((1 ∷ []) ∷ []) ∷ deque 1 None ([] ∷ []) ∷ [])
+    ([])
+    (book false None (0 ∷ []) ∷ book true None (7 ∷ []) ∷ book false None (1 ∷ 2 ∷ []) ∷ book true None (4 ∷ []) ∷ []))
+seven_periods_10 = refl
+
+seven_periods_11 :
+    replay (setting large_alloc 16 1) (take 11 seven_periods)
+    ≡ Ok (moment_of
+    (deque 0 (Some 0) ((1 ∷ 1 ∷ []) ∷ []) ∷ deque 2 None ((1 ∷ []) ∷ []) ∷ deque 1 None ([] ∷ []) ∷ [])
+    ([])
+    (book false None (0 ∷ []) ∷ book true None (7 ∷ []) ∷ book false None (1 ∷ 2 ∷ []) ∷ book true None (4 ∷ []) ∷ book false (Some 0) ([]) ∷ []))
+seven_periods_11 = refl
+
+seven_periods_12 :
+    replay (setting large_alloc 16 1) (take 12 seven_periods)
+    ≡ Ok (moment_of
+    (deque 2 None ((1 ∷ []) ∷ []) ∷ deque 1 None ([] ∷ []) ∷ [])
+    ([])
+    (book false None (0 ∷ []) ∷ book true None (7 ∷ []) ∷ book false None (1 ∷ 2 ∷ []) ∷ book true None (4 ∷ []) ∷ book false None (3 ∷ []) ∷ []))
+seven_periods_12 = refl
+
+seven_periods_13 :
+    replay (setting large_alloc 16 1) (take 13 seven_periods)
+    ≡ Ok (moment_of
+    (deque 2 (Some 0) ((1 ∷ []) ∷ []) ∷ deque 1 None ([] ∷ []) ∷ [])
+    ([])
+    (book false None (0 ∷ []) ∷ book true None (7 ∷ []) ∷ book false None (1 ∷ 2 ∷ []) ∷ book true None (4 ∷ []) ∷ book false None (3 ∷ []) ∷ book false (Some 0) ([]) ∷ []))
+seven_periods_13 = refl
+
+seven_periods_14 :
+    replay (setting large_alloc 16 1) (take 14 seven_periods)
+    ≡ Ok (moment_of
+    (deque 2 (Some 0) ((1 ∷ []) ∷ []) ∷ deque 1 None ([] ∷ []) ∷ [])
+    ([])
+    (book false None (0 ∷ []) ∷ book true None (7 ∷ []) ∷ book false None (1 ∷ 2 ∷ []) ∷ book true None (4 ∷ []) ∷ book false None (3 ∷ []) ∷ book false (Some 0) (5 ∷ []) ∷ []))
+seven_periods_14 = refl
+
+seven_periods_15 :
+    replay (setting large_alloc 16 1) (take 15 seven_periods)
+    ≡ Ok (moment_of
+    (deque 1 None ([] ∷ []) ∷ [])
+    ([])
+    (book false None (0 ∷ []) ∷ book true None (7 ∷ []) ∷ book false None (1 ∷ 2 ∷ []) ∷ book true None (4 ∷ []) ∷ book false None (3 ∷ []) ∷ book false None (5 ∷ 6 ∷ []) ∷ []))
+seven_periods_15 = refl
+
+seven_periods_16 :
+    replay (setting large_alloc 16 1) (take 16 seven_periods)
+    ≡ Ok (moment_of
+    (deque 1 (Some 0) ([] ∷ []) ∷ [])
+    ([])
+    (book false None (0 ∷ []) ∷ book true None (7 ∷ []) ∷ book false None (1 ∷ 2 ∷ []) ∷ book true None (4 ∷ []) ∷ book false None (3 ∷ []) ∷ book false None (5 ∷ 6 ∷ []) ∷ book false (Some 0) ([]) ∷ []))
+seven_periods_16 = refl
+
+seven_periods_17 :
+    replay (setting large_alloc 16 1) (take 17 seven_periods)
+    ≡ Ok (moment_of
+    (deque 1 (Some 0) ([] ∷ []) ∷ [])
+    ([])
+    (book false None (0 ∷ []) ∷ book true None (7 ∷ []) ∷ book false None (1 ∷ 2 ∷ []) ∷ book true None (4 ∷ []) ∷ book false None (3 ∷ []) ∷ book false None (5 ∷ 6 ∷ []) ∷ book false (Some 0) (8 ∷ []) ∷ []))
+seven_periods_17 = refl
+
+seven_periods_18 :
+    replay (setting large_alloc 16 1) (take 18 seven_periods)
+    ≡ Ok (moment_of
+    (deque 1 (Some 0) ([] ∷ []) ∷ [])
+    ([])
+    (book false None (0 ∷ []) ∷ book true None (7 ∷ []) ∷ book false None (1 ∷ 2 ∷ []) ∷ book true None (4 ∷ []) ∷ book false None (3 ∷ []) ∷ book false None (5 ∷ 6 ∷ []) ∷ book false (Some 0) (8 ∷ 9 ∷ []) ∷ []))
+seven_periods_18 = refl
+
+seven_periods_19 :
+    replay (setting large_alloc 16 1) (take 19 seven_periods)
+    ≡ Ok (moment_of
+    (deque 1 (Some 0) ([] ∷ []) ∷ [])
+    ([])
+    (book false None (0 ∷ []) ∷ book true None (7 ∷ []) ∷ book false None (1 ∷ 2 ∷ []) ∷ book true None (4 ∷ []) ∷ book false None (3 ∷ []) ∷ book false None (5 ∷ 6 ∷ []) ∷ book false (Some 0) (8 ∷ 9 ∷ 10 ∷ []) ∷ []))
+seven_periods_19 = refl
+
+seven_periods_20 :
+    replay (setting large_alloc 16 1) (take 20 seven_periods)
+    ≡ Ok (moment_of
+    ([])
+    ([])
+    (book false None (0 ∷ []) ∷ book true None (7 ∷ []) ∷ book false None (1 ∷ 2 ∷ []) ∷ book true None (4 ∷ []) ∷ book false None (3 ∷ []) ∷ book false None (5 ∷ 6 ∷ []) ∷ book false None (8 ∷ 9 ∷ 10 ∷ 11 ∷ []) ∷ []))
+seven_periods_20 = refl
+
+stolen_root_1 :
+    replay (setting one_fork 16 2) (take 1 stolen_root)
+    ≡ Ok (moment_of
+    (deque 0 (Some 0) ([] ∷ []) ∷ [])
+    ([])
+    (book false (Some 0) ([]) ∷ []))
+stolen_root_1 = refl
+
+stolen_root_2 :
+    replay (setting one_fork 16 2) (take 2 stolen_root)
+    ≡ Ok (moment_of
+    (deque 0 (Some 0) ((1 ∷ []) ∷ [] ∷ []) ∷ [])
+    ([])
+    (book false (Some 0) (0 ∷ []) ∷ []))
+stolen_root_2 = refl
+
+stolen_root_3 :
+    replay (setting one_fork 16 2) (take 3 stolen_root)
+    ≡ Ok (moment_of
+    (deque 0 (Some 0) ((1 ∷ []) ∷ []) ∷ deque 1 (Some 1) ([] ∷ []) ∷ [])
+    ([])
+    (book false (Some 0) (0 ∷ []) ∷ book true (Some 1) ([]) ∷ []))
+stolen_root_3 = refl
+
+stolen_root_4 :
+    replay (setting one_fork 16 2) (take 4 stolen_root)
+    ≡ Ok (moment_of
+    (deque 0 (Some 0) ((1 ∷ []) ∷ []) ∷ [])
+    (record { thread = []; child = 1 } ∷ [])
+    (book false (Some 0) (0 ∷ []) ∷ book true None ([]) ∷ []))
+stolen_root_4 = refl
+
+stolen_root_5 :
+    replay (setting one_fork 16 2) (take 5 stolen_root)
+    ≡ Ok (moment_of
+    (deque 0 (Some 0) ([] ∷ []) ∷ [])
+    ([])
+    (book false (Some 0) (0 ∷ 1 ∷ []) ∷ book true None ([]) ∷ []))
+stolen_root_5 = refl
+
+stolen_root_6 :
+    replay (setting one_fork 16 2) (take 6 stolen_root)
+    ≡ Ok (moment_of
+    (deque 0 (Some 0) ([] ∷ []) ∷ [])
+    ([])
+    (book false (Some 0) (0 ∷ 1 ∷ 2 ∷ []) ∷ book true None ([]) ∷ []))
+stolen_root_6 = refl
+
+stolen_root_7 :
+    replay (setting one_fork 16 2) (take 7 stolen_root)
+    ≡ Ok (moment_of
+    ([])
+    ([])
+    (book false None (0 ∷ 1 ∷ 2 ∷ 3 ∷ []) ∷ book true None ([]) ∷ []))
+stolen_root_7 = refl
+
+both_blocks_1 :
+    replay (setting two_blocks 32 2) (take 1 both_blocks)
+    ≡ Ok (moment_of
+    (deque 0 (Some 0) ([] ∷ []) ∷ [])
+    ([])
+    (book false (Some 0) ([]) ∷ []))
+both_blocks_1 = refl
+
+both_blocks_2 :
+    replay (setting two_blocks 32 2) (take 2 both_blocks)
+    ≡ Ok (moment_of
+    (deque 0 (Some 0) ((1 ∷ []) ∷ [] ∷ []) ∷ [])
+    ([])
+    (book false (Some 0) (0 ∷ []) ∷ []))
+both_blocks_2 = refl
+
+both_blocks_3 :
+    replay (setting two_blocks 32 2) (take 3 both_blocks)
+    ≡ Ok (moment_of
+    (deque 0 (Some 0) ((1 ∷ []) ∷ []) ∷ deque 1 (Some 1) ([] ∷ []) ∷ [])
+    ([])
+    (book false (Some 0) (0 ∷ []) ∷ book true (Some 1) ([]) ∷ []))
+both_blocks_3 = refl
+
+both_blocks_4 :
+    replay (setting two_blocks 32 2) (take 4 both_blocks)
+    ≡ Ok (moment_of
+    (deque 0 (Some 0) ((1 ∷ []) ∷ []) ∷ deque 1 (Some 1) ([] ∷ []) ∷ [])
+    ([])
+    (book false (Some 0) (0 ∷ 1 ∷ []) ∷ book true (Some 1) ([]) ∷ []))
+both_blocks_4 = refl
+
+both_blocks_5 :
+    replay (setting two_blocks 32 2) (take 5 both_blocks)
+    ≡ Ok (moment_of
+    (deque 0 (Some 0) ((1 ∷ []) ∷ []) ∷ deque 1 (Some 1) ([] ∷ []) ∷ [])
+    ([])
+    (book false (Some 0) (0 ∷ 1 ∷ []) ∷ book true (Some 1) (4 ∷ []) ∷ []))
+both_blocks_5 = refl
+
+both_blocks_6 :
+    replay (setting two_blocks 32 2) (take 6 both_blocks)
+    ≡ Ok (moment_of
+    (deque 0 (Some 0) ((1 ∷ []) ∷ []) ∷ deque 1 (Some 1) ([] ∷ []) ∷ [])
+    ([])
+    (book false (Some 0) (0 ∷ 1 ∷ []) ∷ book true (Some 1) (4 ∷ 5 ∷ []) ∷ []))
+both_blocks_6 = refl
+
+both_blocks_7 :
+    replay (setting two_blocks 32 2) (take 7 both_blocks)
+    ≡ Ok (moment_of
+    (deque 0 (Some 0) ((1 ∷ []) ∷ []) ∷ [])
+    (record { thread = []; child = 1 } ∷ [])
+    (book false (Some 0) (0 ∷ 1 ∷ []) ∷ book true None (4 ∷ 5 ∷ []) ∷ []))
+both_blocks_7 = refl
+
+both_blocks_8 :
+    replay (setting two_blocks 32 2) (take 8 both_blocks)
+    ≡ Ok (moment_of
+    (deque 0 (Some 0) ((1 ∷ []) ∷ []) ∷ [])
+    (record { thread = []; child = 1 } ∷ [])
+    (book false (Some 0) (0 ∷ 1 ∷ 2 ∷ []) ∷ book true None (4 ∷ 5 ∷ []) ∷ []))
+both_blocks_8 = refl
+
+both_blocks_9 :
+    replay (setting two_blocks 32 2) (take 9 both_blocks)
+    ≡ Ok (moment_of
+    (deque 0 (Some 0) ([] ∷ []) ∷ [])
+    ([])
+    (book false (Some 0) (0 ∷ 1 ∷ 2 ∷ 3 ∷ []) ∷ book true None (4 ∷ 5 ∷ []) ∷ []))
+both_blocks_9 = refl
+
+both_blocks_10 :
+    replay (setting two_blocks 32 2) (take 10 both_blocks)
+    ≡ Ok (moment_of
+    (deque 0 (Some 0) ([] ∷ []) ∷ [])
+    ([])
+    (book false (Some 0) (0 ∷ 1 ∷ 2 ∷ 3 ∷ 6 ∷ []) ∷ book true None (4 ∷ 5 ∷ []) ∷ []))
+both_blocks_10 = refl
+
+both_blocks_11 :
+    replay (setting two_blocks 32 2) (take 11 both_blocks)
+    ≡ Ok (moment_of
+    ([])
+    ([])
+    (book false None (0 ∷ 1 ∷ 2 ∷ 3 ∷ 6 ∷ 7 ∷ []) ∷ book true None (4 ∷ 5 ∷ []) ∷ []))
+both_blocks_11 = refl
+
+given_up_1 :
+    replay (setting one_fork 16 1) (take 1 given_up)
+    ≡ Ok (moment_of
+    (deque 0 (Some 0) ([] ∷ []) ∷ [])
+    ([])
+    (book false (Some 0) ([]) ∷ []))
+given_up_1 = refl
+
+given_up_2 :
+    replay (setting one_fork 16 1) (take 2 given_up)
+    ≡ Ok (moment_of
+    (deque 0 (Some 0) ((1 ∷ []) ∷ [] ∷ []) ∷ [])
+    ([])
+    (book false (Some 0) (0 ∷ []) ∷ []))
+given_up_2 = refl
+
+given_up_3 :
+    replay (setting one_fork 16 1) (take 3 given_up)
+    ≡ Ok (moment_of
+    (deque 0 None ((1 ∷ []) ∷ [] ∷ []) ∷ [])
+    ([])
+    (book false None (0 ∷ []) ∷ []))
+given_up_3 = refl
+
+given_up_4 :
+    replay (setting one_fork 16 1) (take 4 given_up)
+    ≡ Ok (moment_of
+    (deque 0 None ((1 ∷ []) ∷ []) ∷ deque 1 (Some 0) ([] ∷ []) ∷ [])
+    ([])
+    (book false None (0 ∷ []) ∷ book true (Some 0) ([]) ∷ []))
+given_up_4 = refl
+
+given_up_5 :
+    replay (setting one_fork 16 1) (take 5 given_up)
+    ≡ Ok (moment_of
+    (deque 0 None ((1 ∷ []) ∷ []) ∷ [])
+    (record { thread = []; child = 1 } ∷ [])
+    (book false None (0 ∷ []) ∷ book true None ([]) ∷ []))
+given_up_5 = refl
+
+given_up_6 :
+    replay (setting one_fork 16 1) (take 6 given_up)
+    ≡ Ok (moment_of
+    (deque 0 (Some 0) ((1 ∷ []) ∷ []) ∷ [])
+    (record { thread = []; child = 1 } ∷ [])
+    (book false None (0 ∷ []) ∷ book true None ([]) ∷ book false (Some 0) ([]) ∷ []))
+given_up_6 = refl
+
+given_up_7 :
+    replay (setting one_fork 16 1) (take 7 given_up)
+    ≡ Ok (moment_of
+    (deque 0 (Some 0) ([] ∷ []) ∷ [])
+    ([])
+    (book false None (0 ∷ []) ∷ book true None ([]) ∷ book false (Some 0) (1 ∷ []) ∷ []))
+given_up_7 = refl
+
+given_up_8 :
+    replay (setting one_fork 16 1) (take 8 given_up)
+    ≡ Ok (moment_of
+    (deque 0 (Some 0) ([] ∷ []) ∷ [])
+    ([])
+    (book false None (0 ∷ []) ∷ book true None ([]) ∷ book false (Some 0) (1 ∷ 2 ∷ []) ∷ []))
+given_up_8 = refl
+
+given_up_9 :
+    replay (setting one_fork 16 1) (take 9 given_up)
+    ≡ Ok (moment_of
+    ([])
+    ([])
+    (book false None (0 ∷ []) ∷ book true None ([]) ∷ book false None (1 ∷ 2 ∷ 3 ∷ []) ∷ []))
+given_up_9 = refl
+
+handed_over_1 :
+    replay (setting one_fork 16 2) (take 1 handed_over)
+    ≡ Ok (moment_of
+    (deque 0 (Some 0) ([] ∷ []) ∷ [])
+    ([])
+    (book false (Some 0) ([]) ∷ []))
+handed_over_1 = refl
+
+handed_over_2 :
+    replay (setting one_fork 16 2) (take 2 handed_over)
+    ≡ Ok (moment_of
+    (deque 0 (Some 0) ((1 ∷ []) ∷ [] ∷ []) ∷ [])
+    ([])
+    (book false (Some 0) (0 ∷ []) ∷ []))
+handed_over_2 = refl
+
+handed_over_3 :
+    replay (setting one_fork 16 2) (take 3 handed_over)
+    ≡ Ok (moment_of
+    (deque 0 None ((1 ∷ []) ∷ [] ∷ []) ∷ [])
+    ([])
+    (book false None (0 ∷ []) ∷ []))
+handed_over_3 = refl
+
+handed_over_4 :
+    replay (setting one_fork 16 2) (take 4 handed_over)
+    ≡ Ok (moment_of
+    (deque 0 None ((1 ∷ []) ∷ []) ∷ deque 1 (Some 1) ([] ∷ []) ∷ [])
+    ([])
+    (book false None (0 ∷ []) ∷ book true (Some 1) ([]) ∷ []))
+handed_over_4 = refl
+
+handed_over_5 :
+    replay (setting one_fork 16 2) (take 5 handed_over)
+    ≡ Ok (moment_of
+    (deque 0 None ((1 ∷ []) ∷ []) ∷ [])
+    (record { thread = []; child = 1 } ∷ [])
+    (book false None (0 ∷ []) ∷ book true None ([]) ∷ []))
+handed_over_5 = refl
+
+handed_over_6 :
+    replay (setting one_fork 16 2) (take 6 handed_over)
+    ≡ Ok (moment_of
+    (deque 0 (Some 1) ((1 ∷ []) ∷ []) ∷ [])
+    (record { thread = []; child = 1 } ∷ [])
+    (book false None (0 ∷ []) ∷ book true None ([]) ∷ book false (Some 1) ([]) ∷ []))
+handed_over_6 = refl
+
+handed_over_7 :
+    replay (setting one_fork 16 2) (take 7 handed_over)
+    ≡ Ok (moment_of
+    (deque 0 (Some 1) ([] ∷ []) ∷ [])
+    ([])
+    (book false None (0 ∷ []) ∷ book true None ([]) ∷ book false (Some 1) (1 ∷ []) ∷ []))
+handed_over_7 = refl
+
+handed_over_8 :
+    replay (setting one_fork 16 2) (take 8 handed_over)
+    ≡ Ok (moment_of
+    (deque 0 (Some 1) ([] ∷ []) ∷ [])
+    ([])
+    (book false None (0 ∷ []) ∷ book true None ([]) ∷ book false (Some 1) (1 ∷ 2 ∷ []) ∷ []))
+handed_over_8 = refl
+
+handed_over_9 :
+    replay (setting one_fork 16 2) (take 9 handed_over)
+    ≡ Ok (moment_of
+    ([])
+    ([])
+    (book false None (0 ∷ []) ∷ book true None ([]) ∷ book false None (1 ∷ 2 ∷ 3 ∷ []) ∷ []))
+handed_over_9 = refl
 
 -- An idle worker does no action.
 idle_acts : replay (setting one_fork 16 2) (by 0 (steals 0 0) ∷ by 1 (does 0) ∷ []) ≡ Err 2
