@@ -1,8 +1,10 @@
 -- Why a source could not be read.
+use Rattle.std.specs.Prelude.{◌≡◌, ℕ}
+use Rattle.byte_streams.specs.Faults.{Rose}
 use Rattle.byte_streams.specs.declared.read_fail.ReadFail.{ReadFail}
 use Rattle.byte_streams.specs.declared.read_fail.ReadFail.TheVariants.{Fault, OutOfMemory}
 
--- a fact of a failed call of the source, if there was one: want of memory may come at any time
-abbrev pub IfFault : Type 0 → ReadFail → Type 0
-IfFault fact Fault = fact
-IfFault fact OutOfMemory = Unit {0}
+-- what the source counted in a reading that failed: one fault where it says so, and none where there was no memory
+abbrev pub CauseOf : ReadFail → (before after : ℕ) → Type 0
+CauseOf Fault before after = Rose before after
+CauseOf OutOfMemory before after = after ≡ before

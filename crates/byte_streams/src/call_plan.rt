@@ -11,7 +11,8 @@ pub struct CallPlan {
 }
 
 impl CallPlan {
-    ghost use Rattle.byte_streams.specs.CallPlan.{raised, fails_next};
+    ghost use Rattle.byte_streams.specs.CallPlan.{fails_next};
+    ghost use Rattle.byte_streams.specs.Faults.{raised};
 
     /// A plan before its first call. The calls are numbered from 1.
     pub fn new(most: usize, fail: Vec<u32>) -> CallPlan
@@ -41,7 +42,6 @@ impl CallPlan {
         ensures fails { result ≡ fails_next self.old }
         ensures calls { self.new.calls ≡ raised self.old.calls }
         ensures faults { self.new.faults ≡ (if result then raised self.old.faults else self.old.faults) }
-        ensures counted { self.old.faults ≤ self.new.faults }
         ensures most { self.new.most ≡ self.old.most }
         ensures fail { self.new.fail ≡ self.old.fail }
     {

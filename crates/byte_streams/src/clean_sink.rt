@@ -1,4 +1,4 @@
-ghost use Rattle.std.specs.Prelude.{◌≡◌, ◌≤◌, ◌<◌, [], Some, Ok, IfSome, IfOk, IfErr, MatchResult, length, take, vec_capacity};
+ghost use Rattle.std.specs.Prelude.{◌≡◌, ℕ, ◌≤◌, ◌<◌, [], Some, Ok, IfSome, IfOk, MatchResult, length, take, vec_capacity};
 ghost use Rattle.byte_streams.specs.Faults.{Rose};
 ghost use Rattle.byte_streams.specs.Kept.{told, told_after};
 ghost use Rattle.byte_streams.specs.Sink.{Takes};
@@ -30,8 +30,7 @@ impl Sink for CleanSink {
         ensures takes { MatchResult result
             (λ count. Takes (told self.old.kept) (told self.new.kept) (take count piece.now))
             (λ _. Takes (told self.old.kept) (told self.new.kept) []) }
-        ensures counted { 0 ≤ 0 }
-        ensures cause { IfErr result (λ _. Rose 0 0) }
+        ensures counted { MatchResult result (λ _. ◌≡◌ {A = ℕ} 0 0) (λ _. Rose 0 0) }
         ensures whole { result ≡ Ok (length piece.now) }
         ensures told { told self.new.kept ≡ told_after self.old.room (told self.old.kept) piece.now }
         ensures room { self.new.room ≡ self.old.room }

@@ -11,7 +11,7 @@ pub struct Kept {
 }
 
 impl Kept {
-    ghost use Rattle.byte_streams.specs.Kept.{told};
+    ghost use Rattle.byte_streams.specs.Kept.{told, KeepsPiece};
 
     /// No bytes yet. It takes no memory.
     pub fn new(alloc: Global) -> Kept
@@ -37,6 +37,7 @@ impl Kept {
     /// The bytes that were kept.
     pub fn bytes(&self) -> &[u8]
         ensures told { IfSome (told self.now) (λ kept. result.now ≡ kept) }
+        ensures kept { result.now ≡ self.now.bytes.items }
         ensures len { length result.now ≡ vec_len self.now.bytes }
     {
         &self.bytes
@@ -45,6 +46,7 @@ impl Kept {
     /// Keeps a piece behind the others, or, where there is no memory for it, keeps nothing from then on.
     pub fn keep(&mut self, piece: &[u8])
         ensures takes { Takes (told self.old) (told self.new) piece.now }
+        ensures exact { KeepsPiece self.old self.new piece.now }
         ensures room { vec_capacity self.old.bytes ≤ vec_capacity self.new.bytes }
         ensures keeps { vec_len self.old.bytes + length piece.now ≤ vec_capacity self.old.bytes →
             IsSome (told self.old) → IsSome (told self.new) }

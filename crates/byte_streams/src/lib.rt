@@ -3,11 +3,13 @@
 //! Contracts know a stream by two ghost members. A [`Source`] tells the bytes still to come and a [`Sink`] those that it
 //! took, where they tell them at all; and both have a count of their faults, so that a failed call has a cause that its
 //! caller sees. [`CleanSource`] and [`CleanSink`] never fail, [`MemorySource`] and [`MemorySink`] fail at calls that a
-//! list names, and [`StdinSource`] and [`StdoutSink`] are the real streams, which tell nothing of content.
+//! list names. [`ReaderSource`] and [`WriterSink`] are any reader and any writer of the standard library, and
+//! [`StdinSource`] and [`StdoutSink`] are these over the real streams, which tell nothing of content.
 //!
 //! The layer stands on no other. Its one theorem: [`read_source`] gives what the source had to give, up to its end or
-//! to 1,048,577 bytes, [`write_text`] puts the whole text into the sink, or a front of it where the sink fails, and each
-//! fails only where a count rose.
+//! to 1,048,577 bytes, and [`write_text`] puts the whole text into the sink, or a front of it where the sink fails. Each
+//! tells a fault exactly where one was counted in the call. Want of memory, which the reading may answer at any time, comes
+//! without a fault.
 #![tactic(auto)]
 
 mod byte_queue;
@@ -18,11 +20,12 @@ mod kept;
 mod memory_sink;
 mod memory_source;
 mod read_fail;
+mod reader_source;
 mod reading;
 mod sink;
 mod source;
-mod stdin_source;
-mod stdout_sink;
+mod standard;
+mod writer_sink;
 mod writing;
 
 pub use clean_sink::CleanSink;
@@ -30,11 +33,12 @@ pub use clean_source::CleanSource;
 pub use memory_sink::MemorySink;
 pub use memory_source::MemorySource;
 pub use read_fail::ReadFail;
+pub use reader_source::ReaderSource;
 pub use reading::{MOST_READ, read_source};
 pub use sink::{Sink, SinkFailed};
 pub use source::{Source, SourceFailed};
-pub use stdin_source::StdinSource;
-pub use stdout_sink::StdoutSink;
+pub use standard::{StdinSource, StdoutSink};
+pub use writer_sink::WriterSink;
 pub use writing::write_text;
 
 #[cfg(test)]

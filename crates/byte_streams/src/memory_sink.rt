@@ -1,7 +1,7 @@
-ghost use Rattle.std.specs.Prelude.{◌≡◌, ◌≤◌, ◌<◌, ◌↔◌, ◌++◌, [], Some, IsTrue, IsErr, IfSome, IfOk, IfErr, MatchResult, length, min, take};
-ghost use Rattle.byte_streams.specs.CallPlan.{raised, fails_next};
-ghost use Rattle.byte_streams.specs.Faults.{Rose};
-ghost use Rattle.byte_streams.specs.Kept.{told};
+ghost use Rattle.std.specs.Prelude.{◌≡◌, ◌≤◌, ◌<◌, ◌↔◌, ◌++◌, [], Some, IsTrue, IsErr, IfSome, IfOk, MatchResult, length, min, take};
+ghost use Rattle.byte_streams.specs.CallPlan.{fails_next};
+ghost use Rattle.byte_streams.specs.Faults.{raised, Rose};
+ghost use Rattle.byte_streams.specs.Kept.{told, KeepsPiece};
 ghost use Rattle.byte_streams.specs.Sink.{Takes};
 
 use crate::call_plan::CallPlan;
@@ -31,10 +31,14 @@ impl Sink for MemorySink {
         ensures takes { MatchResult result
             (λ count. Takes (told self.old.kept) (told self.new.kept) (take count piece.now))
             (λ _. Takes (told self.old.kept) (told self.new.kept) []) }
-        ensures counted { self.old.plan.faults ≤ self.new.plan.faults }
-        ensures cause { IfErr result (λ _. Rose self.old.plan.faults self.new.plan.faults) }
+        ensures counted { MatchResult result
+            (λ _. self.new.plan.faults ≡ self.old.plan.faults)
+            (λ _. Rose self.old.plan.faults self.new.plan.faults) }
         ensures fails { IsErr result ↔ IsTrue (fails_next self.old.plan) }
         ensures count { IfOk result (λ count. count ≡ min self.old.plan.most (length piece.now)) }
+        ensures keeps { MatchResult result
+            (λ count. KeepsPiece self.old.kept self.new.kept (take count piece.now))
+            (λ _. self.new.kept ≡ self.old.kept) }
         ensures calls { self.new.plan.calls ≡ raised self.old.plan.calls }
         ensures plan { (self.new.plan.most ≡ self.old.plan.most) × (self.new.plan.fail ≡ self.old.plan.fail) }
     {
@@ -61,9 +65,10 @@ impl MemorySink {
         }
     }
 
-    /// The bytes that the sink took and kept.
+    /// The bytes that the sink took and kept: all that it took, or a front of it.
     pub fn kept(&self) -> &[u8]
-        ensures { IfSome (⟦<MemorySink as Sink>⟧.taken self.now) (λ taken. result.now ≡ taken) }
+        ensures told { IfSome (⟦<MemorySink as Sink>⟧.taken self.now) (λ taken. result.now ≡ taken) }
+        ensures kept { result.now ≡ self.now.kept.bytes.items }
     {
         self.kept.bytes()
     }

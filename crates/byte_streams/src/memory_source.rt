@@ -1,6 +1,6 @@
-ghost use Rattle.std.specs.Prelude.{◌≡◌, ◌≤◌, ◌<◌, ◌↔◌, ◌++◌, [], Some, IsTrue, IsErr, IfOk, IfErr, MatchResult, length, min, take};
-ghost use Rattle.byte_streams.specs.CallPlan.{raised, fails_next};
-ghost use Rattle.byte_streams.specs.Faults.{Rose};
+ghost use Rattle.std.specs.Prelude.{◌≡◌, ◌≤◌, ◌<◌, ◌↔◌, ◌++◌, [], Some, IsTrue, IsErr, IfOk, MatchResult, length, min, take};
+ghost use Rattle.byte_streams.specs.CallPlan.{fails_next};
+ghost use Rattle.byte_streams.specs.Faults.{raised, Rose};
 
 use crate::byte_queue::ByteQueue;
 use crate::call_plan::CallPlan;
@@ -27,8 +27,9 @@ impl Source for MemorySource {
             (λ count. bytes_left self.old.bytes ≡ take count buffer.new ++ bytes_left self.new.bytes)
             (λ _. bytes_left self.old.bytes ≡ bytes_left self.new.bytes) }
         ensures end { IfOk result (λ count. count ≡ 0 → 0 < length buffer.new → bytes_left self.new.bytes ≡ []) }
-        ensures counted { self.old.plan.faults ≤ self.new.plan.faults }
-        ensures cause { IfErr result (λ _. Rose self.old.plan.faults self.new.plan.faults) }
+        ensures counted { MatchResult result
+            (λ _. self.new.plan.faults ≡ self.old.plan.faults)
+            (λ _. Rose self.old.plan.faults self.new.plan.faults) }
         ensures fails { IsErr result ↔ IsTrue (fails_next self.old.plan) }
         ensures count { IfOk result (λ count. count ≡ min self.old.plan.most
             (min (length buffer.new) (length (bytes_left self.old.bytes)))) }

@@ -1,6 +1,5 @@
-ghost use Rattle.std.specs.Prelude.{◌≡◌, ◌≤◌, ◌<◌, ◌++◌, ℕ, List, length, IfOk, IfErr, vec_len, take};
-ghost use Rattle.byte_streams.specs.Faults.{Rose};
-ghost use Rattle.byte_streams.specs.ReadFail.{IfFault};
+ghost use Rattle.std.specs.Prelude.{◌≡◌, ◌≤◌, ◌<◌, ◌++◌, ℕ, List, length, IfOk, MatchResult, vec_len, take};
+ghost use Rattle.byte_streams.specs.ReadFail.{CauseOf};
 ghost use Rattle.byte_streams.specs.Source.{Gives, IsSpent, IsRead};
 
 use crate::read_fail::ReadFail;
@@ -24,8 +23,9 @@ fn pull_into<S: Source>(
     ensures gives { IfOk result (λ count. Gives (S.left source.old) (S.left source.new) (take count buffer.new)) }
     ensures end { IfOk result (λ count. count ≡ 0 → 0 < length buffer.new → IsSpent (S.left source.new)) }
     ensures goes_on { (bytes : List ℕ) × Gives (S.left source.old) (S.left source.new) bytes }
-    ensures counted { S.faults source.old ≤ S.faults source.new }
-    ensures cause { IfErr result (IfFault (Rose (S.faults source.old) (S.faults source.new))) }
+    ensures cause { MatchResult result
+        (λ _. S.faults source.new ≡ S.faults source.old)
+        (λ why. CauseOf why (S.faults source.old) (S.faults source.new)) }
 {
     let count = source.pull(buffer)?;
     text.extend_from_slice(&buffer[..count])?;
@@ -34,14 +34,15 @@ fn pull_into<S: Source>(
 
 /// Reads a source to its end, or its first 1,048,577 bytes, by a buffer of 4,096.
 ///
-/// Each call of the source gives a byte, ends or fails, so the reading ends. What was read before a failure is
-/// lost.
+/// Each call of the source gives a byte, ends or fails, so the reading ends. A failure ends it too: the source is not
+/// asked again, and what was read before is lost. Its fault is told as such, and want of memory comes without one.
 pub fn read_source<S: Source>(alloc: Global, source: &mut S) -> Result<Vec<u8>, ReadFail>
     ensures read { IfOk result (λ text. IsRead (S.left source.old) (S.left source.new) text.items) }
     ensures short { IfOk result (λ text. vec_len text ≤ MOST_READ) }
     ensures goes_on { (bytes : List ℕ) × Gives (S.left source.old) (S.left source.new) bytes }
-    ensures counted { S.faults source.old ≤ S.faults source.new }
-    ensures cause { IfErr result (IfFault (Rose (S.faults source.old) (S.faults source.new))) }
+    ensures cause { MatchResult result
+        (λ _. S.faults source.new ≡ S.faults source.old)
+        (λ why. CauseOf why (S.faults source.old) (S.faults source.new)) }
 {
     let mut buffer = [0; BUFFER];
     let mut text = Vec::new(alloc);

@@ -1,4 +1,4 @@
-ghost use Rattle.std.specs.Prelude.{◌≡◌, ◌≤◌, ◌<◌, ℕ, List, Option, [], take, length, IfOk, IfErr, MatchResult};
+ghost use Rattle.std.specs.Prelude.{◌≡◌, ◌≤◌, ◌<◌, ℕ, List, Option, [], take, length, IfOk, MatchResult};
 ghost use Rattle.byte_streams.specs.Faults.{Rose};
 ghost use Rattle.byte_streams.specs.Sink.{Takes};
 
@@ -17,13 +17,14 @@ pub trait Sink {
 
     /// Takes the first bytes of a piece, and answers how many: of a piece that is not empty at least one.
     ///
-    /// A failed call takes no byte. It comes only where the count of faults rose.
+    /// A failed call takes no byte. It counts one fault, and any other call counts none.
     fn push(&mut self, piece: &[u8]) -> Result<usize, SinkFailed>
         ensures fits { IfOk result (λ count. count ≤ length piece.now) }
         ensures goes_on { IfOk result (λ count. 0 < length piece.now → 0 < count) }
         ensures takes { MatchResult result
             (λ count. Takes (taken self.old) (taken self.new) (take count piece.now))
             (λ _. Takes (taken self.old) (taken self.new) []) }
-        ensures counted { faults self.old ≤ faults self.new }
-        ensures cause { IfErr result (λ _. Rose (faults self.old) (faults self.new)) };
+        ensures counted { MatchResult result
+            (λ _. faults self.new ≡ faults self.old)
+            (λ _. Rose (faults self.old) (faults self.new)) };
 }

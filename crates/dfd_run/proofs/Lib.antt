@@ -3,3 +3,4 @@ pub mod OneAnswer
 pub mod AnAnswer
 pub mod Peaks
 pub mod Plays
+pub mod GivenWords

@@ -1,7 +1,9 @@
 pub mod Answer
+pub mod Counts
 pub mod Laws
 pub mod Messages
 pub mod PcgChoices
 pub mod Peak
 pub mod Play
+pub mod Program
 pub mod Status

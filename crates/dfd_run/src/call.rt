@@ -1,41 +1,38 @@
-ghost use Rattle.std.specs.Prelude.{◌≡◌, ◌≤◌, IfOk};
+ghost use Rattle.std.specs.Prelude.{◌≡◌, ℕ};
 ghost use Rattle.command_line.specs.Words.{words_of};
-ghost use Rattle.dfd_run.specs.Answer.{CommandGives, CallGives, Ends, HasRanges, IsSomeCommand, NoCommand};
+ghost use Rattle.dfd_run.specs.Answer.{KindGives, CommandGives, CallGives, Ends, HasRanges, IsSomeCommand, NoCommand};
+ghost use Rattle.dfd_run.specs.Counts.{Counts};
 ghost use Rattle.byte_streams.specs.Faults.{Rose};
-ghost use Rattle.dfd_run.specs.declared.status.Status.TheVariants.{WriteFault, OutOfMemory};
+ghost use Rattle.dfd_run.specs.declared.status.Status.TheVariants.{OutOfMemory};
 
-use crate::answer::Answer;
 use crate::kinds::answer_to;
-use crate::messages::{USAGE, read_fault_text};
+use crate::messages::{READ_FAULT, USAGE};
 use crate::status::Status;
 use byte_streams::{ReadFail, Sink, SinkFailed, Source, read_source, write_text};
 use command_line::{Command, read_words};
-use std::alloc::{AllocError, Global};
+use std::alloc::Global;
 
-/// Reads the source and does the command with what it read.
-fn answer<S: Source>(alloc: Global, command: &Command, source: &mut S) -> Result<Answer, AllocError>
+/// Does the command with the bytes of its source, and writes what it makes of them.
+fn serve_bytes<W: Sink>(alloc: Global, command: &Command, bytes: &[u8], sink: &mut W) -> Status
     requires { HasRanges command.now }
-    ensures gives { IfOk result (λ answer. CommandGives command.now (Rose (S.faults source.old) (S.faults source.new))
-        (S.left source.old) (S.left source.new) answer.status answer.text.items) }
-    ensures counted { S.faults source.old ≤ S.faults source.new }
+    ensures ends { Ends (KindGives command.now.kind command.now.k command.now.steps bytes.now)
+        (W.taken sink.old) (W.taken sink.new) result }
+    ensures no_memory { result ≡ OutOfMemory → sink.new ≡ sink.old }
+    ensures counts { (reads : ℕ) → Counts result reads reads (W.faults sink.old) (W.faults sink.new) }
 {
-    match read_source(alloc, source) {
-        Ok(bytes) => answer_to(alloc, command, &bytes),
-        Err(ReadFail::Fault) => {
-            let text = read_fault_text(alloc)?;
-            Ok(Answer {
-                status: Status::ReadFault,
-                text,
-            })
-        }
-        Err(ReadFail::OutOfMemory) => Err(AllocError),
+    let Ok(answer) = answer_to(alloc, command, bytes) else {
+        return Status::OutOfMemory;
+    };
+    match write_text(sink, &answer.text) {
+        Ok(()) => answer.status,
+        Err(SinkFailed) => Status::WriteFault,
     }
 }
 
 /// Does what [`dfd`] does for words that are this command.
 ///
 /// The order is: the reading, the program, its run, the writing. The text is made whole before its first byte is
-/// written.
+/// written. A fault of the source is told without memory, so want of memory never stands for it.
 pub fn serve<S: Source, W: Sink>(
     alloc: Global,
     command: &Command,
@@ -46,24 +43,23 @@ pub fn serve<S: Source, W: Sink>(
     ensures ends { Ends
         (CommandGives command.now (Rose (S.faults source.old) (S.faults source.new)) (S.left source.old) (S.left source.new))
         (W.taken sink.old) (W.taken sink.new) result }
-    ensures write_fault { result ≡ WriteFault → Rose (W.faults sink.old) (W.faults sink.new) }
     ensures no_memory { result ≡ OutOfMemory → sink.new ≡ sink.old }
-    ensures reads_counted { S.faults source.old ≤ S.faults source.new }
-    ensures writes_counted { W.faults sink.old ≤ W.faults sink.new }
+    ensures counts { Counts result (S.faults source.old) (S.faults source.new) (W.faults sink.old) (W.faults sink.new) }
 {
-    let Ok(answer) = answer(alloc, command, source) else {
-        return Status::OutOfMemory;
-    };
-    match write_text(sink, &answer.text) {
-        Ok(()) => answer.status,
-        Err(SinkFailed) => Status::WriteFault,
+    match read_source(alloc, source) {
+        Ok(bytes) => serve_bytes(alloc, command, &bytes, sink),
+        Err(ReadFail::Fault) => match write_text(sink, READ_FAULT.as_bytes()) {
+            Ok(()) => Status::ReadFault,
+            Err(SinkFailed) => Status::WriteFault,
+        },
+        Err(ReadFail::OutOfMemory) => Status::OutOfMemory,
     }
 }
 
 /// Does what the words of the command line ask for, without the program's own name.
 ///
 /// Words that are no command are answered by the usage line, and the source is left unread; a command is done by
-/// [`serve`].
+/// [`serve`]. A status for a fault comes exactly where a fault was counted.
 pub fn dfd<S: Source, W: Sink>(
     alloc: Global,
     words: &[String],
@@ -73,11 +69,9 @@ pub fn dfd<S: Source, W: Sink>(
     ensures ends { Ends
         (CallGives (words_of words.now) (Rose (S.faults source.old) (S.faults source.new)) (S.left source.old) (S.left source.new))
         (W.taken sink.old) (W.taken sink.new) result }
-    ensures write_fault { result ≡ WriteFault → Rose (W.faults sink.old) (W.faults sink.new) }
     ensures no_memory { result ≡ OutOfMemory → IsSomeCommand (words_of words.now) × (sink.new ≡ sink.old) }
     ensures unread { NoCommand (words_of words.now) → source.new ≡ source.old }
-    ensures reads_counted { S.faults source.old ≤ S.faults source.new }
-    ensures writes_counted { W.faults sink.old ≤ W.faults sink.new }
+    ensures counts { Counts result (S.faults source.old) (S.faults source.new) (W.faults sink.old) (W.faults sink.new) }
 {
     let Some(command) = read_words(words) else {
         return match write_text(sink, USAGE.as_bytes()) {

@@ -22,17 +22,19 @@ mod messages;
 mod pcg_choices;
 mod peaking;
 mod playing;
+mod program;
 mod refusal;
 mod status;
 
 pub use byte_streams::{
-    CleanSink, CleanSource, MOST_READ, MemorySink, MemorySource, ReadFail, Sink, SinkFailed,
-    Source, SourceFailed, StdinSource, StdoutSink, read_source, write_text,
+    CleanSink, CleanSource, MOST_READ, MemorySink, MemorySource, ReadFail, ReaderSource, Sink,
+    SinkFailed, Source, SourceFailed, StdinSource, StdoutSink, WriterSink, read_source, write_text,
 };
 pub use call::{dfd, serve};
 pub use command_line::{Command, CommandKind, read_words};
 pub use laws::{a_command_has_an_answer, a_command_has_one_answer};
 pub use pcg_choices::PcgChoices;
+pub use program::exit_code;
 pub use status::Status;
 
 #[cfg(test)]

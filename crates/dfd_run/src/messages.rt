@@ -2,7 +2,7 @@
 
 ghost use Rattle.std.specs.Prelude.{◌≡◌, IfOk};
 ghost use Rattle.block_check.specs.Checked.{error_shown};
-ghost use Rattle.dfd_run.specs.Messages.{read_fault_text, syntax_word, syntax_text, not_yet_text, check_word, check_text, spent_text};
+ghost use Rattle.dfd_run.specs.Messages.{syntax_word, syntax_text, not_yet_text, check_word, check_text, spent_text};
 
 use block_check::{CheckError, CheckKind};
 use par_syntax::{SyntaxError, SyntaxKind};
@@ -11,16 +11,10 @@ use std::alloc::{AllocError, Global};
 /// The line of words that are no command.
 pub const USAGE: &str = "usage: dfd play|run|peak|check|make [options]\n";
 
-const READ_FAULT: &str = "read fault\n";
+/// The line of a source that failed.
+pub const READ_FAULT: &str = "read fault\n";
 
 const NOT_YET: &str = "syntax NotYet at 0\n";
-
-/// The line of a source that failed.
-pub fn read_fault_text(alloc: Global) -> Result<Vec<u8>, AllocError>
-    ensures { IfOk result (λ text. text.items ≡ read_fault_text) }
-{
-    Vec::from_slice(alloc, READ_FAULT.as_bytes())
-}
 
 /// The word for a refusal of a text.
 fn syntax_word(kind: SyntaxKind) -> &'static str

@@ -1,4 +1,4 @@
-use Rattle.std.proofs.Common.{arith}
+use Rattle.std.proofs.Common.{◌∙◌, arith}
 use Rattle.std.proofs.Math.Seq.{take-add}
 use Rattle.std.proofs.lemmas.List.{take_rest, length-drop}
 use Rattle.byte_streams.proofs.Streams.{takes_both}
@@ -11,5 +11,5 @@ pushes-preserved g c =
     let took = rw (take_rest text c.pushes.written) at c.in_ok-written.ensures.takes in record {
       within = omega (arith, c.pushes-test.true);
       took = rw (take-add c.pushes.written c.in_ok-written.field-0 text) (takes_both _ _ _ _ _ c.pushes.invariant.took took);
-      counted = omega (arith, c.pushes.invariant.counted, c.push.ensures.counted);
+      quiet = c.in_ok-written.ensures.counted ∙ c.pushes.invariant.quiet;
     }

@@ -1,0 +1,63 @@
+ghost use Rattle.std.specs.Prelude.{◌≡◌, ◌≢◌, IfOk, IsOk, IsErr, drop};
+ghost use Rattle.std.specs.Vec.Iter.{into_iter_items};
+ghost use Rattle.byte_streams.specs.Faults.{Rose};
+ghost use Rattle.command_line.specs.Words.{words_of};
+ghost use Rattle.dfd_run.specs.Answer.{CallGives, Ends};
+ghost use Rattle.dfd_run.specs.Counts.{Counts};
+ghost use Rattle.dfd_run.specs.Program.{words_given, LacksWords, AreNoWords};
+ghost use Rattle.dfd_run.specs.Status.{code_of};
+ghost use Rattle.dfd_run.specs.declared.status.Status.{Status as StatusType};
+
+use crate::call::dfd;
+use crate::status::Status;
+use byte_streams::{Sink, Source};
+use std::alloc::{AllocError, Global};
+use std::env::Args;
+use std::io;
+
+/// The words behind the first one, which is the program's own name.
+fn behind_the_name(alloc: Global, mut args: Args) -> Result<Vec<String>, AllocError>
+    ensures { IfOk result (λ words. words.items ≡ drop 1 (into_iter_items args)) }
+{
+    let _name = args.next();
+    args.collect(alloc)
+}
+
+/// The words of the command line, of what the system gave.
+///
+/// Words that cannot be read, as one that is not UTF-8, are no command: no words at all stand for them.
+fn words(alloc: Global, args: io::Result<Args>) -> Result<Vec<String>, AllocError>
+    ensures given { IfOk result (λ words. words_of words.items ≡ words_given args) }
+    ensures lacking { LacksWords args → IsErr result }
+    ensures no_words { AreNoWords args → IsOk result }
+{
+    match args {
+        Ok(args) => behind_the_name(alloc, args),
+        Err(error) if error.kind() == io::ErrorKind::OutOfMemory => Err(AllocError),
+        Err(_) => Ok(Vec::new(alloc)),
+    }
+}
+
+/// Does what the program does, and answers its exit code: [`dfd`] with the words that the system gave.
+///
+/// Words that cannot be read are no command, and want of memory for them is that of the call.
+pub fn exit_code<S: Source, W: Sink>(
+    alloc: Global,
+    args: io::Result<Args>,
+    source: &mut S,
+    sink: &mut W,
+) -> u8
+    ensures ends { (status : StatusType) × ((result ≡ code_of status) × (
+        Ends
+        (CallGives (words_given args) (Rose (S.faults source.old) (S.faults source.new)) (S.left source.old) (S.left source.new))
+        (W.taken sink.old) (W.taken sink.new) status
+        × Counts status (S.faults source.old) (S.faults source.new) (W.faults sink.old) (W.faults sink.new))) }
+    ensures no_memory { result ≡ 10 → sink.new ≡ sink.old }
+    ensures lacking { LacksWords args → result ≡ 10 }
+    ensures no_words { AreNoWords args → (result ≢ 10) × (source.new ≡ source.old) }
+{
+    let Ok(words) = words(alloc, args) else {
+        return Status::OutOfMemory.code();
+    };
+    dfd(alloc, &words, source, sink).code()
+}
