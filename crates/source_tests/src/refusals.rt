@@ -3,26 +3,42 @@
 
 use crate::rows::text_of;
 use accepted_source::{SourceFail, accept};
+use block_check::CheckError;
 use std::alloc::{AllocError, Global};
 use std::fmt::Write;
 use std::process::Abort;
 use std::test::Fail;
 
-/// What a source is.
-fn verdict(alloc: Global, text: &str) -> Result<String, AllocError> {
+/// Adds a broken rule, with its line and name.
+fn add_refusal(told: &mut String, error: &CheckError) -> Result<(), AllocError> {
+    write!(told, "{:?} {} ", error.kind, error.line)?;
+    for byte in &error.name.bytes {
+        told.push(*byte as char)?;
+    }
+    Ok(())
+}
+
+/// What a source that is refused is.
+fn refusal(alloc: Global, fail: &SourceFail) -> Result<String, AllocError> {
     let mut told = String::new(alloc);
-    match accept(alloc, text.as_bytes()) {
-        Ok(_) => told.push_str("accepted")?,
-        Err(SourceFail::Syntax(error)) => write!(told, "{:?} {}", error.kind, error.at)?,
-        Err(SourceFail::Check(error)) => {
-            write!(told, "{:?} {} ", error.kind, error.line)?;
-            for byte in &error.name.bytes {
-                told.push(*byte as char)?;
-            }
-        }
-        Err(SourceFail::OutOfMemory) => return Err(AllocError),
+    match fail {
+        SourceFail::Syntax(error) => write!(told, "{:?} {}", error.kind, error.at)?,
+        SourceFail::Check(error) => add_refusal(&mut told, error)?,
+        SourceFail::OutOfMemory => return Err(AllocError),
     }
     Ok(told)
+}
+
+/// What a source is.
+fn verdict(alloc: Global, text: &str) -> Result<String, AllocError> {
+    match accept(alloc, text.as_bytes()) {
+        Ok(_) => {
+            let mut told = String::new(alloc);
+            told.push_str("accepted")?;
+            Ok(told)
+        }
+        Err(fail) => refusal(alloc, &fail),
+    }
 }
 
 /// Each row is what a source is, and the source.
