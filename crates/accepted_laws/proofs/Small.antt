@@ -1,24 +1,24 @@
 -- The tree of a text is small.
 use Rattle.std.proofs.Common.{◌≡◌, ℕ, ◌+◌, ◌≤◌, Bool, true, false, List, [], ◌∷◌, ◌++◌, length, refl, sym, ap, subst, arith}
-use Rattle.std.specs.Prelude.{nat_lt}
+use Rattle.std.specs.Prelude.{◌↔◌, nat_lt, None}
 use Rattle.std.proofs.Math.Logic.{∥∥₁_elim, ∥∥₁_map}
 use Rattle.std.proofs.lemmas.Bool.{ltb-true, ltb-false}
 use Rattle.std.proofs.lemmas.List.{length-append, length-map}
 use Rattle.par_tree.specs.Tree
 use Rattle.par_tree.specs.Tree.{Target, unused, block, Stmt, let_stmt, assign_stmt, put_stmt, alloc_stmt, free_stmt, if_stmt, while_stmt, call_stmt, print_stmt, par_stmt, split_stmt, Body, done, step, Func, Program}
 use Rattle.par_text.specs.Rule.{Token}
-use Rattle.par_text.specs.Form.{token_of}
-use Rattle.par_text.specs.Text.{program_spelling, program_meaning}
-use Rattle.par_text.specs.Counts.{at_start, most_functions, most_names}
+use Rattle.par_text.specs.Form.{token_of, tokens_of}
+use Rattle.par_text.specs.Text.{ProgramForm, program_spelling, program_meaning}
+use Rattle.par_text.specs.Counts.{crowded, at_start, most_functions, most_names}
 use Rattle.par_text.specs.Judging.{IsText}
 use Rattle.par_text.specs.Lexing.{longest_text}
 use Rattle.par_text.specs.Trees.{IsTreeOfText}
-use Rattle.canonical_text.proofs.Counting.{Uncrowded, uncrowded_from}
+use Rattle.canonical_text.proofs.Counting.{Uncrowded, uncrowded_from, none_crowded}
 use Rattle.canonical_text.proofs.Scans.{target_names, stmt_names, body_names}
-use Rattle.canonical_text.proofs.Limits.{func_names, ProgramCount, program_to}
+use Rattle.canonical_text.proofs.Limits.{func_names, ProgramCount, program_to, program_from}
 use Rattle.accepted_laws.specs.Laws.{EachFunction}
 use Rattle.par_tree.specs.Names.{declared_by_target, declared_in_stmt, declared_in_body, param_name, param_names, declared_in}
-use Rattle.accepted_laws.specs.Sizes.{functions_size, HasFewNames, IsSmall}
+use Rattle.accepted_laws.specs.Sizes.{functions_size, HasFewNames, IsSmall, IsWithinCounts, CountsAreOfTheTree}
 use Rattle.accepted_laws.proofs.Costs.{program_cost}
 use Rattle.accepted_laws.proofs.Pieces.{few_text_tokens}
 
@@ -70,6 +70,31 @@ few_functions n (f ∷ fs) le h = let rest = few_functions (n + 1) fs h.0.0 h.1 
 few_names : (n : ℕ) (p : Program) → ProgramCount n p → EachFunction HasFewNames p
 few_names n [] h = tt
 few_names n (f ∷ fs) h = ((let le = h.0.1 in let same = count_function f in omega (arith, le, same)), few_names (n + 1) fs h.1)
+
+-- a tree within the counts, and the counts of the tokens
+
+count_from : (n : ℕ) (p : Program) → n + length p ≤ most_functions → EachFunction HasFewNames p → ProgramCount n p
+count_from n [] le h = tt
+count_from n (f ∷ fs) le h = (((omega (arith, le)), (let few = h.0 in let same = count_function f in omega (arith, few, same))), count_from (n + 1) fs (omega (arith, le)) h.1)
+
+form_counts : (size : ℕ) (form : ProgramForm size) → (crowded (tokens_of (program_spelling size form)) ≡ None) ↔ IsWithinCounts (program_meaning size form)
+form_counts size form = (
+  λ none.
+      let count = program_to size 0 form at_start (uncrowded_from 0 at_start (tokens_of (program_spelling size form)) none) in
+      let few = few_functions 0 (program_meaning size form) (omega arith) count in
+      record { functions = omega (arith, few); names = few_names 0 (program_meaning size form) count },
+  λ within.
+      let le = within.functions in
+      none_crowded 0 at_start (tokens_of (program_spelling size form))
+      (program_from size 0 form at_start (count_from 0 (program_meaning size form) (omega (arith, le)) within.names)),
+)
+
+pub counts : CountsAreOfTheTree
+counts most ts p is =
+    let go = form_counts is.size is.form in (
+      λ none. subst (λ (x : Program). IsWithinCounts x) is.means (go.0 (subst (λ (us : List Token). crowded us ≡ None) (sym is.spelled) none)),
+      λ within. subst (λ (us : List Token). crowded us ≡ None) is.spelled (go.1 (subst (λ (x : Program). IsWithinCounts x) (sym is.means) within)),
+    )
 
 small_text : (text : List ℕ) (p : Program) → IsText text p → IsSmall p
 small_text text p t =

@@ -1,10 +1,12 @@
 -- How large a program is, and that the tree of a text is small.
-use Rattle.std.specs.Prelude.{ℕ, ◌+◌, ◌≤◌, List, [], ◌∷◌, length}
+use Rattle.std.specs.Prelude.{◌≡◌, ◌↔◌, ℕ, ◌+◌, ◌≤◌, List, [], ◌∷◌, length, None}
 use Rattle.par_tree.specs.Tree.{Stmt, let_stmt, assign_stmt, put_stmt, alloc_stmt, free_stmt, if_stmt, while_stmt, call_stmt, print_stmt, par_stmt, split_stmt, Body, done, step, Func, Program}
 use Rattle.accepted_laws.specs.Laws.{EachFunction}
 use Rattle.par_tree.specs.Names.{declared_in}
-use Rattle.par_text.specs.Counts.{most_functions, most_names}
+use Rattle.par_text.specs.Counts.{crowded, most_functions, most_names}
 use Rattle.par_text.specs.Lexing.{longest_text}
+use Rattle.par_text.specs.Rule.{Token}
+use Rattle.par_text.specs.Text.{IsProgram}
 use Rattle.par_text.specs.Trees.{IsTreeOfText}
 
 -- how many statements a statement is with those inside it, and how many stand in a list
@@ -43,3 +45,12 @@ pub record IsSmall (p : Program) : Type 0 where
 
 abbrev pub SizesAreSmall : Type 0
 SizesAreSmall = (p : Program) → IsTreeOfText p → IsSmall p
+
+-- at most so many functions, and at most so many declared names in each
+pub record IsWithinCounts (p : Program) : Type 0 where
+  pub functions : length p ≤ most_functions
+  pub names : EachFunction HasFewNames p
+
+-- None of the tokens of a program is a function or a declared name too many exactly where its tree has no more than a text may.
+abbrev pub CountsAreOfTheTree : Type 0
+CountsAreOfTheTree = (most : ℕ) (ts : List Token) (p : Program) → IsProgram most ts p → (crowded ts ≡ None) ↔ IsWithinCounts p

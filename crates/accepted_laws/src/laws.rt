@@ -1,5 +1,5 @@
 ghost use Rattle.accepted_laws.specs.Laws.{CallsAreCalls, NamesAreDeclared, MainIsThere, FunctionNamesDiffer};
-ghost use Rattle.accepted_laws.specs.Sizes.{SizesAreSmall};
+ghost use Rattle.accepted_laws.specs.Sizes.{SizesAreSmall, CountsAreOfTheTree};
 
 /// Each call names a function of the program, takes a block from it exactly where it hands one back, and
 /// passes one argument for each parameter, of the parameter's kind.
@@ -26,4 +26,9 @@ pub fn function_names_differ()
 /// 1,048,576 statements.
 pub fn sizes_are_small()
     ensures { SizesAreSmall }
+{}
+
+/// The tokens of a program have one function or one declared name too many exactly where its tree has.
+pub fn counts_are_of_the_tree()
+    ensures { CountsAreOfTheTree }
 {}

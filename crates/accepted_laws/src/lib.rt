@@ -9,5 +9,6 @@
 mod laws;
 
 pub use laws::{
-    calls_are_calls, function_names_differ, main_is_there, names_are_declared, sizes_are_small,
+    calls_are_calls, counts_are_of_the_tree, function_names_differ, main_is_there,
+    names_are_declared, sizes_are_small,
 };

@@ -39,7 +39,9 @@ fn first_refusal(alloc: Global, program: &Program) -> Result<Option<CheckError>,
 ///
 /// It is accepted exactly where it keeps the rules, and else refused with the first refusal of a walk
 /// from its first function to its last. It is to be the tree of a text, as a parser gives it, so that what
-/// the limits of a text say holds of an accepted program. It takes time of at most the size of the program times the names of a function.
+/// the limits of a text say holds of an accepted program. Its time is at most in proportion to the size of the program,
+/// times how many names a function may declare and how many constructs may be open: each name is looked for among the
+/// visible ones, and each `par` walks its branches once.
 ///
 /// # Errors
 ///
