@@ -1,30 +1,28 @@
-ghost use Rattle.std.specs.Prelude.{◌≡◌, ◌≤◌, ◌<◌, ◌-◌, ◌↔◌, ◌⊎◌, ◌≢◌, ◌%◌, length, slice_get, slice_set, IsErr, IsNone, IsTrue, IfOk, IfErr, OnOk, OnErr};
+ghost use Rattle.std.specs.Prelude.{◌≡◌, ◌≤◌, ◌<◌, ◌-◌, ◌↔◌, ◌⊎◌, ◌≢◌, ◌%◌, length, max, slice_get, slice_set, IsOk, IsErr, IsNone, IsTrue, IfOk, IfErr, OnOk, OnErr};
 ghost use Rattle.block_arena.specs.Size.{pieces_for, words_taken};
-ghost use Rattle.block_arena.specs.Content.{zeros, left_of, right_of, joined, IsCut, CanJoin};
+ghost use Rattle.block_arena.specs.Content.{left_of, right_of, joined, IsCut, CanJoin};
 
 use crate::error::{OutOfRange, SplitRefused};
-use crate::pieces::{PieceList, move_tail};
+use crate::numbers::Numbers;
 use crate::shell::Shell;
 use crate::size::{MAX_WORDS, PIECE_WORDS, pieces_for};
+use std::alloc::AllocError;
 use std::marker::Model;
 
-/// A block: a list of numbers, in pieces that came out of a pool.
+/// A block of a pool: a list of numbers, in pieces that came out of the pool.
+///
+/// A block comes from [`Pool::take`](crate::Pool::take), and from a cut or a join of such blocks.
 #[derive(Debug, Drop)]
 pub struct Block {
-    pub(crate) pieces: PieceList,
-    pub(crate) len: u32,
+    pub(crate) numbers: Numbers,
 }
 
 impl Model for Block {
-    ghost use Rattle.std.specs.Prelude.{vec_len, vec_capacity};
-    ghost use Rattle.block_arena.specs.Content.{Content, HoldsPieces};
-    ghost use Rattle.block_arena.specs.Pieces.{block_in};
+    ghost use Rattle.block_arena.specs.Content.{Content};
 
     ghost Value = { Content };
 
-    ghost view = { λ block. block_in block.pieces block.len };
-
-    ghost invariant = { λ block. HoldsPieces (vec_len block.pieces) (vec_capacity block.pieces) block.len };
+    ghost view = { λ block. block.numbers };
 }
 
 impl Block {
@@ -35,21 +33,21 @@ impl Block {
         ensures greatest { words_taken (length self.now.items) ≤ MAX_WORDS }
         ensures room { pieces_for (length self.now.items) ≤ self.now.room }
     {
-        self.len
+        self.numbers.len()
     }
 
     /// Whether the block has no numbers.
     pub fn is_empty(&self) -> bool
         ensures { IsTrue result ↔ (length self.now.items ≡ 0) }
     {
-        self.len == 0
+        self.len() == 0
     }
 
     /// How many words the block has taken from its pool.
     pub fn words(&self) -> u32
         ensures { result ≡ words_taken (length self.now.items) }
     {
-        pieces_for(self.len) * PIECE_WORDS
+        pieces_for(self.len()) * PIECE_WORDS
     }
 
     /// The number at place `i`, from 0; None exactly where `i` is not below the length.
@@ -57,11 +55,7 @@ impl Block {
         ensures value { result ≡ slice_get self.now.items i }
         ensures none { IsNone result ↔ (length self.now.items ≤ i) }
     {
-        if self.len <= i {
-            return None;
-        }
-        let piece = &self.pieces[(i / PIECE_WORDS) as usize];
-        Some(piece.get((i % PIECE_WORDS) as usize))
+        self.numbers.get(i)
     }
 
     /// Puts `value` at place `i`, from 0.
@@ -70,12 +64,7 @@ impl Block {
         ensures ok { OnOk result (self.new ≡ record self.old { items = slice_set self.old.items i value }) }
         ensures err { OnErr result (self.new ≡ self.old) }
     {
-        if self.len <= i {
-            return Err(OutOfRange);
-        }
-        let piece = &mut self.pieces[(i / PIECE_WORDS) as usize];
-        piece.set((i % PIECE_WORDS) as usize, value);
-        Ok(())
+        self.numbers.set(i, value)
     }
 
     /// Cuts the block at place `at` into the numbers before it and those from it on.
@@ -101,18 +90,30 @@ impl Block {
         ensures block_back { IfErr result (λ kept. kept.0 ≡ self) }
         ensures shell_back { IfErr result (λ kept. kept.1 ≡ shell) }
     {
-        if at % PIECE_WORDS != 0 || self.len < at {
-            return Err((self, shell, SplitRefused));
+        let Block { numbers } = self;
+        match numbers.split(at, shell) {
+            Ok((left, right)) => Ok((Block { numbers: left }, Block { numbers: right })),
+            Err((numbers, shell, refusal)) => Err((Block { numbers }, shell, refusal)),
         }
-        let Block { mut pieces, len } = self;
-        let mut rest = shell.into_list();
-        move_tail(&mut pieces, (at / PIECE_WORDS) as usize, &mut rest);
-        let left = Block { pieces, len: at };
-        let right = Block {
-            pieces: rest,
-            len: len - at,
-        };
-        Ok((left, right))
+    }
+
+    /// Gives the list of the block room for at least `pieces` pieces. The numbers stay.
+    ///
+    /// The list has no more room afterwards than it had or than was asked for; where it has the room, no memory
+    /// is needed.
+    pub fn make_room(&mut self, pieces: u32) -> Result<(), AllocError>
+        ensures ok { OnOk result (self.new ≡ record self.old { room = max self.old.room pieces }) }
+        ensures err { OnErr result (self.new ≡ self.old) }
+        ensures enough { pieces ≤ self.old.room → IsOk result }
+    {
+        self.numbers.make_room(pieces)
+    }
+
+    /// Whether `right` can be joined to `left`: the condition of [`join`](Block::join).
+    pub fn can_join(left: &Block, right: &Block) -> bool
+        ensures { IsTrue result ↔ CanJoin left.now right.now }
+    {
+        Numbers::can_join(&left.numbers, &right.numbers)
     }
 
     /// Joins two blocks to one that lies in the list of the left one. The right one's list comes back.
@@ -121,16 +122,9 @@ impl Block {
         ensures block { result.0 ≡ joined left right }
         ensures shell { result.1 ≡ right.room }
     {
-        let Block { mut pieces, len } = left;
-        let Block {
-            pieces: mut rest,
-            len: more,
-        } = right;
-        move_tail(&mut rest, 0, &mut pieces);
-        let whole = Block {
-            pieces,
-            len: len + more,
-        };
-        (whole, Shell::from_list(rest))
+        let Block { numbers: first } = left;
+        let Block { numbers: second } = right;
+        let (numbers, shell) = Numbers::join(first, second);
+        (Block { numbers }, shell)
     }
 }

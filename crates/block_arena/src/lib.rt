@@ -1,9 +1,13 @@
-//! The region of memory that all blocks of a program come from: a pool of pieces of 16 words.
+//! The region of memory that all blocks of a run come from: a pool of pieces of 16 words.
 //!
 //! A [`Pool`] makes all its pieces once. A [`Block`] is a list of numbers that lies in pieces, which it takes
-//! out of the pool and gives back to it. Pieces move and are never copied or made anew, so blocks are taken,
-//! given, cut and joined without memory: the list that holds the pieces of a block was had before, as a
-//! [`Shell`].
+//! out of the pool and gives back to it. It comes from [`Pool::take`], and from cuts and joins of such blocks,
+//! and from nothing else. Its pieces move and are never copied or made anew, so blocks are taken, given, cut and
+//! joined without memory: the list that holds the pieces of a block was had before, as a [`Shell`], or was given
+//! room by [`Block::make_room`].
+//!
+//! An [`OwnBlock`] lies in pieces of its own, which no pool counts. It is a type of its own, so that no pool
+//! takes it and none that asks for a [`Block`] gets it.
 //!
 //! The layer stands on std alone. Its theorem is the pool law:
 //!
@@ -21,7 +25,9 @@
 
 mod block;
 mod error;
+mod numbers;
 mod own;
+mod own_block;
 mod piece;
 mod pieces;
 mod pool;
@@ -30,6 +36,7 @@ mod size;
 
 pub use block::Block;
 pub use error::{Full, OutOfRange, PoolError, SplitRefused};
+pub use own_block::OwnBlock;
 pub use pool::Pool;
 pub use shell::Shell;
 pub use size::{MAX_WORDS, PIECE_WORDS, pieces_for};

@@ -5,6 +5,7 @@ ghost use Rattle.block_arena.specs.Content.{zeros};
 
 use crate::block::Block;
 use crate::error::{Full, PoolError};
+use crate::numbers::Numbers;
 use crate::pieces::{PieceList, clear_all, move_tail, new_pieces};
 use crate::shell::Shell;
 use crate::size::{MAX_WORDS, PIECE_WORDS, pieces_for};
@@ -115,7 +116,8 @@ impl Pool {
         clear_all(&mut pieces);
         self.live += asked;
         self.high = self.high.max(self.live);
-        Ok(Block { pieces, len: words })
+        let numbers = Numbers { pieces, len: words };
+        Ok(Block { numbers })
     }
 
     /// Gives a block back to the pool. Its list comes back, empty.
@@ -125,7 +127,8 @@ impl Pool {
         ensures shell { result ≡ block.room }
     {
         self.live -= u64::from(block.words());
-        let Block { mut pieces, .. } = block;
+        let Block { numbers } = block;
+        let Numbers { mut pieces, .. } = numbers;
         move_tail(&mut pieces, 0, &mut self.free);
         Shell::from_list(pieces)
     }

@@ -1,4 +1,6 @@
-use crate::{Block, Full, MAX_WORDS, OutOfRange, Pool, PoolError, Shell, SplitRefused, pieces_for};
+use crate::{
+    Block, Full, MAX_WORDS, OutOfRange, OwnBlock, Pool, PoolError, Shell, SplitRefused, pieces_for,
+};
 use std::process::Abort;
 use std::test::Fail;
 use std::thread::join;
@@ -82,26 +84,61 @@ fn cuts_and_joins(rt: HostRuntime) -> Result<(), Fail> {
         (64, 48, true),
         (64, 64, true),
         (64, 80, false),
+        (131_104, 65_552, true),
+        (131_104, 65_551, false),
     ];
     for (len, at, cut) in cases {
-        let mut pool = Pool::new(rt.alloc(), 64)?;
+        let mut pool = Pool::new(rt.alloc(), 131_104)?;
         let block = counted(&rt, &mut pool, len)?;
         let live = pool.live();
-        assert!(rt; block.len() <= 64);
-        match block.split(at, Shell::with_room(rt.alloc(), 4)?) {
+        let room = pieces_for(block.len().saturating_sub(at));
+        match block.split(at, Shell::with_room(rt.alloc(), room)?) {
             Ok((left, right)) => {
                 assert!(rt; cut, "cut {len} at {at}");
                 check(&rt, &left, 1, at);
                 check(&rt, &right, i64::from(at) + 1, len - at);
                 let (whole, shell) = Block::join(left, right);
                 check(&rt, &whole, 1, len);
-                assert_eq!(rt; (pool.live(), shell.room()), (live, 4));
+                assert_eq!(rt; (pool.live(), shell.room()), (live, room));
             }
             Err((whole, shell, SplitRefused)) => {
                 assert!(rt; !cut, "refused {len} at {at}");
                 check(&rt, &whole, 1, len);
-                assert_eq!(rt; shell.room(), 4);
+                assert_eq!(rt; shell.room(), room);
             }
+        }
+    }
+    Ok(())
+}
+
+// Two blocks with just the room that they need are joined where the left one has whole pieces, once it has room.
+#[test]
+fn room_is_made_before_a_join(rt: HostRuntime) -> Result<(), Fail> {
+    let cases = [
+        (0, 0, true, true),
+        (16, 0, true, true),
+        (16, 5, false, true),
+        (17, 5, false, false),
+        (65_552, 65_552, false, true),
+    ];
+    for (len, more, fits, whole) in cases {
+        let mut pool = Pool::new(rt.alloc(), 131_104)?;
+        let mut left = counted(&rt, &mut pool, len)?;
+        let right = counted(&rt, &mut pool, more)?;
+        assert_eq!(rt; Block::can_join(&left, &right), fits, "{more} behind {len}");
+        left.make_room(pieces_for(len).saturating_add(pieces_for(more)))?;
+        check(&rt, &left, 1, len);
+        let can = Block::can_join(&left, &right);
+        assert_eq!(rt; can, whole, "{more} behind {len}");
+        if can {
+            let (both, shell) = Block::join(left, right);
+            let last = both.len().saturating_sub(1);
+            assert_eq!(rt; (both.len(), shell.room()), (len + more, pieces_for(more)));
+            assert_eq!(rt; both.get(0) == Some(1), both.len() != 0, "at the front");
+            assert!(rt;
+                more == 0 || both.get(last) == Some(i64::from(more)),
+                "at the end"
+            );
         }
     }
     Ok(())
@@ -199,9 +236,9 @@ fn refusals_say_why(rt: HostRuntime) -> Result<(), Fail> {
 }
 
 // A block of `len` numbers in memory of its own, `first` at place 0, the next one at place 1 and so on.
-fn own(rt: &(impl Abort + AllocGlobal), first: i64, len: u16) -> Result<Block, Fail> {
+fn own(rt: &(impl Abort + AllocGlobal), first: i64, len: u16) -> Result<OwnBlock, Fail> {
     let len = u32::from(len);
-    let mut block = Block::zeros(rt.alloc(), len)?;
+    let mut block = OwnBlock::zeros(rt.alloc(), len)?;
     for i in 0..len {
         assert_eq!(rt; block.get(i), Some(0), "at {i} of {len}");
         block.set(i, first.wrapping_add(i64::from(i)))?;
@@ -209,22 +246,30 @@ fn own(rt: &(impl Abort + AllocGlobal), first: i64, len: u16) -> Result<Block, F
     Ok(block)
 }
 
+// The block is the numbers from 1 on.
+fn check_own(rt: &impl Abort, block: &OwnBlock, len: u32) {
+    assert_eq!(rt; (block.len(), block.get(len)), (len, None));
+    for i in 0..len {
+        assert_eq!(rt; block.get(i), Some(i64::from(i) + 1), "at {i}");
+    }
+}
+
 #[test]
 fn appends_blocks_of_their_own(rt: HostRuntime) -> Result<(), Fail> {
-    for left in [0u16, 5, 16, 17, 32] {
-        for right in [0u16, 1, 16, 40] {
+    for left in [0u16, 5, 16, 17, 32, 65_535] {
+        for right in [0u16, 1, 16, 40, 65_535] {
             let first = own(&rt, 1, left)?;
             let second = own(&rt, i64::from(left) + 1, right)?;
             let whole = first.append(rt.alloc(), second)?;
-            check(&rt, &whole, 1, u32::from(left) + u32::from(right));
+            check_own(&rt, &whole, u32::from(left) + u32::from(right));
         }
     }
-    let empty = Block::empty(rt.alloc()).append(rt.alloc(), Block::empty(rt.alloc()))?;
-    check(&rt, &empty, 1, 0);
+    let empty = OwnBlock::empty(rt.alloc()).append(rt.alloc(), OwnBlock::empty(rt.alloc()))?;
+    check_own(&rt, &empty, 0);
     Ok(())
 }
 
-// A block that was cut has room for its parts, so they are joined with no memory.
+// A block that was cut has room for its parts, so they are put together again with no memory.
 #[test]
 fn parts_are_appended_again(rt: HostRuntime) -> Result<(), Fail> {
     let block = own(&rt, 1, 40)?;
@@ -233,6 +278,6 @@ fn parts_are_appended_again(rt: HostRuntime) -> Result<(), Fail> {
         return Err("a block was not cut")?;
     };
     let whole = left.append(rt.alloc(), right)?;
-    check(&rt, &whole, 1, 40);
+    check_own(&rt, &whole, 40);
     Ok(())
 }

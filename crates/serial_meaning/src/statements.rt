@@ -18,9 +18,10 @@ use crate::plan::Plan;
 use dag_order::FaultKind;
 use dummy_tree::{Tree, dummies};
 use language_limits::MOST_FORKS;
+use number_operators::is_true;
 use par_tree::{Body, Expr, Name, Stmt, StmtKind};
 use serial_journal::SerialStop;
-use serial_store::{evaluate, is_true};
+use serial_store::evaluate;
 use std::alloc::Global;
 use std::slice;
 

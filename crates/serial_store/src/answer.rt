@@ -1,4 +1,4 @@
-use block_arena::Block;
+use block_arena::OwnBlock;
 
 /// What a function hands to its caller.
 #[derive(Debug, Drop)]
@@ -6,5 +6,5 @@ pub enum Answer {
     /// An integer; 0 where the function ends with no `return`.
     Number(i64),
     /// A block.
-    Items(Block),
+    Items(OwnBlock),
 }

@@ -8,10 +8,11 @@ ghost use Rattle.serial_store.specs.Shown.{store_shown, held_of};
 ghost use Rattle.serial_store.specs.Effects.{Puts};
 
 use crate::held_block::HeldBlock;
-use crate::places::{place_of_block, place_up_to};
+use crate::places::place_of_block;
 use crate::store::{MAX_BLOCKS, Store};
-use block_arena::{Block, PIECE_WORDS};
+use block_arena::{OwnBlock, PIECE_WORDS};
 use dag_order::FaultKind;
+use number_operators::place_up_to;
 use par_tree::Name;
 use std::alloc::{AllocError, Global};
 
@@ -92,7 +93,7 @@ impl<'a> Store<'a> {
     }
 
     /// A block is held under a name from now on, behind the others.
-    pub fn hold(&mut self, name: &'a Name, block: Block) -> Result<(), AllocError>
+    pub fn hold(&mut self, name: &'a Name, block: OwnBlock) -> Result<(), AllocError>
         ensures ok { OnOk result (store_shown self.new ≡ hold_block (name_tree name.now) block.items (store_shown self.old)) }
         ensures err { OnErr result (store_shown self.new ≡ store_shown self.old) }
     {
@@ -104,13 +105,13 @@ impl<'a> Store<'a> {
     }
 
     /// The block of a name is no longer held. Where none is, the answer is an empty one.
-    pub fn take(&mut self, alloc: Global, name: &Name) -> Block
+    pub fn take(&mut self, alloc: Global, name: &Name) -> OwnBlock
         ensures block { result.items ≡ block_of (store_shown self.old).blocks (name_tree name.now) }
         ensures store { store_shown self.new ≡ drop_block (name_tree name.now) (store_shown self.old) }
     {
         match place_of_block(&self.blocks, name) {
             Some(place) => self.blocks.remove(place).block,
-            None => Block::empty(alloc),
+            None => OwnBlock::empty(alloc),
         }
     }
 
@@ -120,7 +121,7 @@ impl<'a> Store<'a> {
         ensures ok { OnOk result (store_shown self.new ≡ hold_block (name_tree name.now) (replicate len (pos 0)) (store_shown self.old)) }
         ensures err { OnErr result (store_shown self.new ≡ store_shown self.old) }
     {
-        let block = Block::zeros(alloc, len)?;
+        let block = OwnBlock::zeros(alloc, len)?;
         self.hold(name, block)
     }
 

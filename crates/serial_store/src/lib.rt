@@ -25,7 +25,7 @@ mod store;
 
 pub use answer::Answer;
 pub use calls::{lend_back, pass};
-pub use expressions::{evaluate, is_true};
+pub use expressions::evaluate;
 pub use stop::Stop;
 pub use store::{MAX_BLOCKS, Store};
 

@@ -7,11 +7,11 @@ ghost use Rattle.depth_first_run.specs.Run.{cut_of, rejoin_block};
 ghost use Rattle.serial_store.specs.Shown.{store_shown};
 ghost use Rattle.serial_store.specs.Effects.{Cuts};
 
-use crate::places::place_up_to;
 use crate::stop::Stop;
 use crate::store::Store;
-use block_arena::{Block, PIECE_WORDS, Shell, pieces_for};
+use block_arena::{OwnBlock, PIECE_WORDS, Shell, pieces_for};
 use dag_order::FaultKind;
+use number_operators::place_up_to;
 use par_tree::Name;
 use std::alloc::{AllocError, Global};
 

@@ -1,6 +1,6 @@
-//! Where a name stands first in a list, and where a number stands in a block.
+//! Where a name stands first in a list.
 
-ghost use Rattle.std.specs.Prelude.{◌≡◌, ◌<◌, ◌≤◌, ℕ, pos, map, IsNone, IfSome};
+ghost use Rattle.std.specs.Prelude.{◌≡◌, map};
 ghost use Rattle.par_tree.specs.View.{name_tree};
 ghost use Rattle.serial_store.specs.Shown.{integer_name, block_name};
 ghost use Rattle.serial_store.specs.Places.{place_of};
@@ -32,16 +32,4 @@ pub(crate) fn place_of_block(blocks: &[HeldBlock], name: &Name) -> Option<usize>
         }
     }
     None
-}
-
-/// A number as a place that is no more than `most`.
-pub(crate) fn place_up_to(number: i64, most: u32) -> Option<u32>
-    ensures same { IfSome result (λ place. number ≡ pos place) }
-    ensures within { IfSome result (λ place. place ≤ most) }
-    ensures none { IsNone result → (place : ℕ) → number ≡ pos place → most < place }
-{
-    if number < 0 || i64::from(most) < number {
-        return None;
-    }
-    Some(number as u32)
 }
