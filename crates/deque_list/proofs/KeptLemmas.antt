@@ -113,7 +113,7 @@ none_everywhere (suc most) (suc n) below = none_everywhere most n (omega arith)
 pub kept_first : {T : Type 0} (order : OrderView) (table : LaneTable T) (most : ℕ) (lane : LaneView T) → 1 ≤ most → order.places ≡ first_place ∷ [] → order.most ≡ most
     → table.lanes ≡ slice_set (replicate most None) 0 (Some lane) → IsKept order table None
 kept_first {T} order table most lane some places is lanes =
-    let no_order : OrderView = record { places = []; most = most; spare = 0 } in
+    let no_order : OrderView = record { places = []; most = most } in
     let no_lanes : LaneTable T = record { lanes = replicate most None; room = 0 } in
     let none : IsKept no_order no_lanes None = record {
       differ = λ r s id at_r at_s. cc;
@@ -124,21 +124,21 @@ kept_first {T} order table most lane some places is lanes =
     } in
     kept_inserted no_order order no_lanes table None 0 first_place lane none (omega arith) (λ live. let clash = live.1 in cc) some places is lanes
 
--- what is prepared stays so where room grows
-pub still_prepared : {T : Type 0} (order order' : OrderView) (table table' : LaneTable T) (next : Option (LaneView T)) → order.spare ≤ order'.spare → table.room ≤ table'.room
-    → IsPrepared order table next → IsPrepared order' table' next
-still_prepared order order' table table' None more room prepared = tt
-still_prepared order order' table table' (Some lane) more room prepared = (prepared.0, prepared.1, omega (arith, prepared.2), omega (arith, prepared.3))
+-- what is prepared stays so where room grows and deques leave
+pub still_prepared : {T : Type 0} (order order' : OrderView) (table table' : LaneTable T) (next : Option (LaneView T)) → length order'.places ≤ length order.places → order'.most ≡ order.most
+    → table.room ≤ table'.room → IsPrepared order table next → IsPrepared order' table' next
+still_prepared order order' table table' None few most room prepared = tt
+still_prepared order order' table table' (Some lane) few most room prepared = (prepared.0, prepared.1, omega (arith, prepared.2), omega (arith, prepared.3))
 
--- the order and the table got more room
-pub kept_grown : {T : Type 0} (order order' : OrderView) (table table' : LaneTable T) (next : Option (LaneView T)) → order'.places ≡ order.places → order'.most ≡ order.most → table'.lanes ≡ table.lanes
-    → order.spare ≤ order'.spare → table.room ≤ table'.room → IsKept order table next → IsKept order' table' next
-kept_grown order order' table table' next places most lanes more room kept =
-    kept_same order order' table table' next next (ap (λ p. place_ids p) places) most lanes (still_prepared order order' table table' next more room kept.prepared) kept
+-- the table got more room
+pub kept_grown : {T : Type 0} (order : OrderView) (table table' : LaneTable T) (next : Option (LaneView T)) → table'.lanes ≡ table.lanes
+    → table.room ≤ table'.room → IsKept order table next → IsKept order table' next
+kept_grown order table table' next lanes room kept =
+    kept_same order order table table' next next refl refl lanes (still_prepared order order table table' next (omega arith) refl room kept.prepared) kept
 
 -- a lane was prepared
-pub kept_prepared : {T : Type 0} (order order' : OrderView) (table table' : LaneTable T) (next next' : Option (LaneView T)) (lane : LaneView T) → order'.places ≡ order.places → order'.most ≡ order.most
-    → table'.lanes ≡ table.lanes → next' ≡ Some lane → lane.items ≡ [] → 1 ≤ lane.spare → 1 ≤ order'.spare → 1 ≤ table'.room → IsKept order table next → IsKept order' table' next'
-kept_prepared {T} order order' table table' next next' lane places most lanes is empty spare more room kept =
-    let P : Option (LaneView T) → Type 0 = λ n. IsPrepared order' table' n in
-    kept_same order order' table table' next next' (ap (λ p. place_ids p) places) most lanes (subst P (sym is) (empty, spare, more, room)) kept
+pub kept_prepared : {T : Type 0} (order : OrderView) (table table' : LaneTable T) (next next' : Option (LaneView T)) (lane : LaneView T) → table'.lanes ≡ table.lanes → next' ≡ Some lane → lane.items ≡ []
+    → 1 ≤ lane.spare → length order.places < order.most → 1 ≤ table'.room → IsKept order table next → IsKept order table' next'
+kept_prepared {T} order table table' next next' lane lanes is empty spare few room kept =
+    let P : Option (LaneView T) → Type 0 = λ n. IsPrepared order table' n in
+    kept_same order order table table' next next' refl refl lanes (subst P (sym is) (empty, spare, few, room)) kept

@@ -12,11 +12,11 @@ use Rattle.deque_list.specs.Ids.{IsLive}
 use Rattle.deque_list.specs.Orders.{OrderView}
 use Rattle.deque_list.specs.Deques.{Deque, DequeAt, deque_ids}
 use Rattle.deque_list.specs.DequeLists.{ListView, list_view, lane_items, lane_room, room_of, deque_at, IsKept, IsPrepared, SameElsewhere}
-use Rattle.deque_list.proofs.DequeLaws.{lane_written, same_deque, same_id}
+use Rattle.deque_list.proofs.DequeLaws.{lane_written, same_deque, same_id, ids_of_deques}
 use Rattle.deque_list.proofs.ListLaws.{same_map}
 use Rattle.deque_list.proofs.RankLaws.{written_stands, same_or_other}
 use Rattle.deque_list.proofs.KeptLemmas.{kept_written}
-use Rattle.deque_list.proofs.ViewLemmas.{live_in_order}
+use Rattle.deque_list.proofs.ViewLemmas.{live_in_order, ids_shown}
 
 -- the room that is seen of a lane
 room_at : {T : Type 0} (lanes : List (Option (LaneView T))) (n : ℕ) (lane : LaneView T) → slice_get lanes n ≡ Some (Some lane) → slice_index_or (map room_of lanes) n 0 ≡ lane.spare
@@ -54,6 +54,10 @@ module _ {T : Type 0} (order : OrderView) (table : LaneTable T) (next : Option (
         | inr other ↦ same_deque table.lanes id.0 (Some new) p other
       ])
       ∙ ap (λ l. l.deques) shown
+
+  -- the ids stay
+  pub ids_after : deque_ids (map (deque_at (slice_set table.lanes id.0 (Some new))) order.places) ≡ deque_ids list.deques
+  ids_after = ids_of_deques (slice_set table.lanes id.0 (Some new)) order.places ∙ sym (ids_shown order table next list shown)
 
   -- the room of the lane, before and after
   pub room_before : lane_room list id ≡ old.spare

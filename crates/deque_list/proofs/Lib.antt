@@ -13,3 +13,4 @@ pub mod ViewLemmas
 pub mod LaneLemmas
 pub mod TopLemmas
 pub mod ChangeLemmas
+pub mod LawLemmas

@@ -7,7 +7,8 @@ use Rattle.deque_list.specs.Lanes.{LaneView}
 use Rattle.deque_list.specs.LaneTables.{LaneTable, HasLane}
 use Rattle.deque_list.specs.Ids.{IsLive, IdsDiffer, deque_id, place_ids}
 use Rattle.deque_list.specs.Orders.{OrderView}
-use Rattle.deque_list.specs.Deques.{Deque, deque_code}
+use Rattle.deque_list.specs.Deques.{Deque, deque_code, deque_ids}
+use Rattle.language_limits.specs.declared.TheConstants.{MOST_DEQUES}
 
 -- the deques from left to right, how many are allowed, whether the list takes one more deque without memory
 -- (1, else 0), and for each id how many more items its lane takes without memory
@@ -51,10 +52,10 @@ list_view order table next = record {
   rooms = map room_of table.lanes;
 }
 
--- a prepared lane is empty and has room, and so have the order and the table
+-- a prepared lane is empty and has room, and so has the table; and one more deque is allowed
 abbrev pub IsPrepared : {T : Type 0} → OrderView → LaneTable T → Option (LaneView T) → Type 0
 IsPrepared order table None = Unit {0}
-IsPrepared order table (Some lane) = (lane.items ≡ []) × (1 ≤ lane.spare) × (1 ≤ order.spare) × (1 ≤ table.room)
+IsPrepared order table (Some lane) = (lane.items ≡ []) × (1 ≤ lane.spare) × (length order.places < order.most) × (1 ≤ table.room)
 
 -- just the ids of the order have lanes
 pub record IsKept {T : Type 0} (order : OrderView) (table : LaneTable T) (next : Option (LaneView T)) : Type 0 where
@@ -63,6 +64,16 @@ pub record IsKept {T : Type 0} (order : OrderView) (table : LaneTable T) (next :
   pub free : (n : ℕ) → n < order.most → ¬ IsLive (place_ids order.places) (deque_id n) → slice_get table.lanes n ≡ Some None
   pub long : length table.lanes ≡ order.most
   pub prepared : IsPrepared order table next
+
+-- What holds of every list: the ids differ, each is below the number that is allowed, there are not more deques
+-- than that, and a deque is prepared only where one more is allowed.
+pub record IsLawfulList {T : Type 0} (list : ListView T) : Type 0 where
+  pub differ : IdsDiffer (deque_ids list.deques)
+  pub below : (id : DequeId) → IsLive (deque_ids list.deques) id → id.0 < list.most
+  pub within : length list.deques ≤ list.most
+  pub few : list.most ≤ MOST_DEQUES
+  pub at_most_one : list.spare ≤ 1
+  pub prepared : list.spare ≡ 1 → length list.deques < list.most
 
 -- the numbers beside the deques stay
 pub record SameRoom {T : Type 0} (old new : ListView T) : Type 0 where

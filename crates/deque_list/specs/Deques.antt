@@ -2,6 +2,7 @@
 use Rattle.std.specs.Prelude.{◌≡◌, ℕ, ◌≤◌, ◌⊎◌, List, length, map, Option, None, Some, slice_get, refl}
 use Rattle.std.specs.Coded.{Coded, code_by, coded×, coded_ℕ, coded_list, coded_option}
 use Rattle.deque_list.specs.declared.deque_id.DequeId.{DequeId}
+use Rattle.deque_list.specs.declared.place.Place.{Place}
 
 -- a deque's id, the worker that owns it, if any, and its items from top to bottom
 pub record Deque (T : Type 0) : Type 0 where
@@ -18,6 +19,10 @@ deque_code {T} code =
 -- the ids of the deques, from left to right
 abbrev pub deque_ids : {T : Type 0} → List (Deque T) → List DequeId
 deque_ids deques = map (λ deque. deque.id) deques
+
+-- the place of a deque: its id and its owner
+abbrev pub place_of : {T : Type 0} → Deque T → Place
+place_of deque = record { id = deque.id; owner = deque.owner }
 
 -- at this rank, from 0 at the left, stands this deque, which has this id
 abbrev pub DequeAt : {T : Type 0} → List (Deque T) → DequeId → ℕ → Deque T → Type 0

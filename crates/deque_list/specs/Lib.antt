@@ -9,3 +9,4 @@ pub mod DequeLists
 pub mod LaneTables
 pub mod TableLends
 pub mod ListLends
+pub mod Laws

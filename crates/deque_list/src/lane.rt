@@ -1,4 +1,4 @@
-ghost use Rattle.std.specs.Prelude.{◌≡◌, ◌+◌, ◌-◌, ◌≤◌, [], ◌∷◌, ◌++◌, length, take, drop, slice_get, IsOk, OnOk, IfOk, option_to_list};
+ghost use Rattle.std.specs.Prelude.{◌≡◌, ◌+◌, ◌-◌, ◌≤◌, [], ◌∷◌, ◌++◌, length, take, drop, slice_get, IsOk, OnOk, IfOk, MatchOption, option_to_list};
 ghost use Rattle.std.specs.Option.{option_copied, option_copied_mut};
 
 use std::alloc::{AllocError, Global};
@@ -69,11 +69,12 @@ impl<T> Lane<T> {
         self.items.len() as u32
     }
 
-    /// Makes room for at least one more item.
+    /// Makes room for at least one more item. Where there is room, no memory is needed.
     pub fn reserve(&mut self) -> Result<(), AllocError>
         ensures items { self.new.items ≡ self.old.items }
         ensures room { OnOk result (1 ≤ self.new.spare) }
         ensures keeps_room { self.old.spare ≤ self.new.spare }
+        ensures enough { 1 ≤ self.old.spare → IsOk result }
     {
         if self.items.len() == MAX_ITEMS {
             return Err(AllocError);
@@ -90,20 +91,20 @@ impl<T> Lane<T> {
         self.items.push_front_reserved(item);
     }
 
-    /// Takes the top item; None exactly where there is no item.
+    /// Takes the top item; None exactly where there is no item. There is room for one more then.
     pub fn pop_top(&mut self) -> Option<T>
         ensures item { result ≡ slice_get self.old.items 0 }
         ensures rest { self.new.items ≡ drop 1 self.old.items }
-        ensures keeps_room { self.old.spare ≤ self.new.spare }
+        ensures room { MatchOption result (self.new.spare ≡ self.old.spare) (λ _. self.new.spare ≡ self.old.spare + 1) }
     {
         self.items.pop_front()
     }
 
-    /// Takes the bottom item; None exactly where there is no item.
+    /// Takes the bottom item; None exactly where there is no item. There is room for one more then.
     pub fn take_bottom(&mut self) -> Option<T>
         ensures item { result ≡ slice_get self.old.items (length self.old.items - 1) }
         ensures rest { self.new.items ≡ take (length self.old.items - 1) self.old.items }
-        ensures keeps_room { self.old.spare ≤ self.new.spare }
+        ensures room { MatchOption result (self.new.spare ≡ self.old.spare) (λ _. self.new.spare ≡ self.old.spare + 1) }
     {
         self.items.pop_back()
     }

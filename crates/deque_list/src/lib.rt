@@ -6,17 +6,19 @@
 //! Locality", SPAA 1999).
 //!
 //! [`List`] is the whole: an [`Order`] of deques with their owners, and a [`Lane`] of items for each. The two
-//! parts can be used apart, where several workers hold a lane each. A call on one lane takes the same time
-//! however long the lanes are; inserting and removing a deque, and finding its rank, walks the order.
+//! parts can be used apart, where several workers hold a lane each. A call on one lane, and what is asked at a
+//! rank, takes the same time however many deques and items there are; inserting and removing a deque, and
+//! finding its rank, walks the order.
 //!
 //! The crate stands on the kit's `slab`, which stores the lanes. Its one theorem: a list is seen as a list of
-//! deques, and each call changes just the places that its contract names.
+//! deques, each call changes just the places that its contract names, and the other ids stay.
 #![tactic(auto)]
 
 mod deque_id;
 mod insert_refused;
 mod lane;
 mod lanes;
+mod laws;
 mod list;
 mod order;
 mod place;
@@ -25,8 +27,9 @@ mod search;
 pub use deque_id::DequeId;
 pub use insert_refused::InsertRefused;
 pub use lane::Lane;
+pub use laws::{inserted_then_removed, one_smallest_free, top_written};
 pub use list::List;
-pub use order::{Order, OrderRefused};
+pub use order::{Order, OrderFull};
 pub use place::Place;
 
 #[cfg(test)]

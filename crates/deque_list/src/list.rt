@@ -1,14 +1,15 @@
-ghost use Rattle.std.specs.Prelude.{◌≡◌, ◌≢◌, ℕ, ◌+◌, ◌-◌, ◌<◌, ◌≤◌, ◌↔◌, [], ◌∷◌, length, min, insert, remove, drop, take, slice_get, slice_set, Some, None, Err, IfOk, IfErr, OnOk, OnErr, MatchOption, IsTrue, IsSome, IsErrAnd};
-ghost use Rattle.std.specs.Option.{option_copied, option_copied_mut};
+ghost use Rattle.std.specs.Prelude.{◌≡◌, ◌≢◌, ℕ, ◌+◌, ◌-◌, ◌<◌, ◌≤◌, ◌↔◌, [], ◌∷◌, length, min, insert, remove, drop, take, slice_get, slice_set, Some, None, Err, IfOk, IfErr, OnOk, OnErr, MatchOption, IsTrue, IsOk, IsSome, IsErrAnd, false};
+ghost use Rattle.std.specs.Option.{option_copied, option_copied_mut, option_map};
 ghost use Rattle.deque_list.specs.Ids.{IsLive, IsSmallestFree, deque_id};
-ghost use Rattle.deque_list.specs.Deques.{Deque, DequeAt, IsReady, deque_ids};
-ghost use Rattle.deque_list.specs.DequeLists.{lane_room, SameRoom, SameElsewhere};
+ghost use Rattle.deque_list.specs.Deques.{Deque, DequeAt, IsReady, deque_ids, place_of};
+ghost use Rattle.deque_list.specs.DequeLists.{lane_room, IsLawfulList, SameRoom, SameElsewhere};
 
 use crate::deque_id::DequeId;
 use crate::insert_refused::InsertRefused;
 use crate::lane::Lane;
 use crate::lanes::Lanes;
 use crate::order::Order;
+use crate::place::Place;
 use language_limits::MOST_DEQUES;
 use std::alloc::{AllocError, Global};
 use std::marker::Model;
@@ -91,6 +92,8 @@ impl<T> List<T> {
         requires { IsLive (deque_ids self.old.deques) of }
         ensures ok { IfOk result (λ id. (rank : ℕ) (deque : Deque T) → DequeAt self.old.deques of rank deque
             → self.new.deques ≡ insert self.old.deques (rank + 1) (record { id = id; owner = Some owner; items = item ∷ [] })) }
+        ensures ids { IfOk result (λ id. (rank : ℕ) → slice_get (deque_ids self.old.deques) rank ≡ Some of
+            → deque_ids self.new.deques ≡ insert (deque_ids self.old.deques) (rank + 1) id) }
         ensures id { IfOk result (λ id. IsSmallestFree (deque_ids self.old.deques) id) }
         ensures below { IfOk result (λ id. id.0 < self.old.most) }
         ensures spent { OnOk result (self.new.spare ≡ 0) }
@@ -110,7 +113,7 @@ impl<T> List<T> {
             None => unreachable!(),
         };
         lane.push_top(item);
-        let id = self.order.insert_reserved(of, owner);
+        let id = self.order.insert_where_few(of, owner);
         self.lanes.put(id.0, lane);
         Ok(id)
     }
@@ -133,7 +136,6 @@ impl<T> List<T> {
             });
         }
         if self.next.is_none() {
-            self.order.reserve()?;
             self.lanes.reserve()?;
             let lane = Lane::with_room(self.alloc)?;
             match self.next.replace(lane) {
@@ -149,6 +151,8 @@ impl<T> List<T> {
         requires { (rank : ℕ) × (deque : Deque T) × DequeAt self.old.deques id rank deque × (deque.items ≡ []) }
         ensures deque { (rank : ℕ) (deque : Deque T) → DequeAt self.old.deques id rank deque
             → self.new.deques ≡ remove self.old.deques rank }
+        ensures ids { (rank : ℕ) → slice_get (deque_ids self.old.deques) rank ≡ Some id
+            → deque_ids self.new.deques ≡ remove (deque_ids self.old.deques) rank }
         ensures rest { SameElsewhere self.old self.new id }
     {
         self.order.remove(id);
@@ -158,7 +162,8 @@ impl<T> List<T> {
 
     /// How many deques there are.
     pub fn len(&self) -> u32
-        ensures { result ≡ length self.now.deques }
+        ensures len { result ≡ length self.now.deques }
+        ensures lawful { IsLawfulList self.now }
     {
         self.order.len()
     }
@@ -175,6 +180,14 @@ impl<T> List<T> {
         ensures { result ≡ slice_get (deque_ids self.now.deques) rank }
     {
         self.order.at(rank)
+    }
+
+    /// The deque at a rank, from 0 at the left, with its owner; None exactly where there is none. It takes the same
+    /// time however many deques there are.
+    pub fn place(&self, rank: u32) -> Option<Place>
+        ensures { result ≡ option_map place_of (slice_get self.now.deques rank) }
+    {
+        self.order.place(rank)
     }
 
     /// The rank of a deque; None exactly where it is not live.
@@ -201,6 +214,26 @@ impl<T> List<T> {
         self.order.owner(id).is_none() || 2 <= self.lanes.lane(id.0).len()
     }
 
+    /// Whether a deque stands at a rank whose bottom item may be taken. It takes the same time however many deques
+    /// there are.
+    pub fn ready_at(&self, rank: u32) -> bool
+        ensures { MatchOption (slice_get self.now.deques rank) (result ≡ false) (λ deque. IsTrue result ↔ IsReady deque) }
+    {
+        let Some(place) = self.order.place(rank) else {
+            return false;
+        };
+        place.owner.is_none() || 2 <= self.lanes.lane(place.id.0).len()
+    }
+
+    /// The lane of a deque.
+    pub fn lane(&self, id: DequeId) -> &Lane<T>
+        requires { IsLive (deque_ids self.now.deques) id }
+        ensures items { (rank : ℕ) (deque : Deque T) → DequeAt self.now.deques id rank deque → result.now.items ≡ deque.items }
+        ensures spare { result.now.spare ≡ lane_room self.now id }
+    {
+        self.lanes.lane(id.0)
+    }
+
     /// The item at a place of a deque, from 0 at the top; None exactly where there is no such item.
     pub fn item(&self, id: DequeId, place: u32) -> Option<&T>
         requires { IsLive (deque_ids self.now.deques) id }
@@ -215,6 +248,7 @@ impl<T> List<T> {
         requires { (rank : ℕ) × (deque : Deque T) × DequeAt self.old.deques id rank deque × (deque.owner ≡ None) }
         ensures deque { (rank : ℕ) (deque : Deque T) → DequeAt self.old.deques id rank deque
             → self.new.deques ≡ slice_set self.old.deques rank (record deque { owner = Some owner }) }
+        ensures ids { deque_ids self.new.deques ≡ deque_ids self.old.deques }
         ensures rest { SameRoom self.old self.new }
     {
         self.order.take_over(id, owner);
@@ -225,17 +259,19 @@ impl<T> List<T> {
         requires { IsLive (deque_ids self.old.deques) id }
         ensures deque { (rank : ℕ) (deque : Deque T) → DequeAt self.old.deques id rank deque
             → self.new.deques ≡ slice_set self.old.deques rank (record deque { owner = None }) }
+        ensures ids { deque_ids self.new.deques ≡ deque_ids self.old.deques }
         ensures rest { SameRoom self.old self.new }
     {
         self.order.give_up(id);
     }
 
-    /// Makes room for at least one more item in the lane of a deque.
+    /// Makes room for at least one more item in the lane of a deque. Where there is room, no memory is needed.
     pub fn reserve(&mut self, id: DequeId) -> Result<(), AllocError>
         requires { IsLive (deque_ids self.old.deques) id }
         ensures deques { self.new.deques ≡ self.old.deques }
         ensures room { OnOk result (1 ≤ lane_room self.new id) }
         ensures keeps_room { lane_room self.old id ≤ lane_room self.new id }
+        ensures enough { 1 ≤ lane_room self.old id → IsOk result }
         ensures rest { SameElsewhere self.old self.new id }
     {
         self.lanes.lane_mut(id.0).reserve()
@@ -247,6 +283,7 @@ impl<T> List<T> {
         requires room { 1 ≤ lane_room self.old id }
         ensures deque { (rank : ℕ) (deque : Deque T) → DequeAt self.old.deques id rank deque
             → self.new.deques ≡ slice_set self.old.deques rank (record deque { items = item ∷ deque.items }) }
+        ensures ids { deque_ids self.new.deques ≡ deque_ids self.old.deques }
         ensures room { lane_room self.new id + 1 ≡ lane_room self.old id }
         ensures rest { SameElsewhere self.old self.new id }
     {
@@ -259,7 +296,9 @@ impl<T> List<T> {
         ensures item { (rank : ℕ) (deque : Deque T) → DequeAt self.old.deques id rank deque → result ≡ slice_get deque.items 0 }
         ensures deque { (rank : ℕ) (deque : Deque T) → DequeAt self.old.deques id rank deque
             → self.new.deques ≡ slice_set self.old.deques rank (record deque { items = drop 1 deque.items }) }
-        ensures keeps_room { lane_room self.old id ≤ lane_room self.new id }
+        ensures ids { deque_ids self.new.deques ≡ deque_ids self.old.deques }
+        ensures room { MatchOption result (lane_room self.new id ≡ lane_room self.old id)
+            (λ _. lane_room self.new id ≡ lane_room self.old id + 1) }
         ensures rest { SameElsewhere self.old self.new id }
     {
         self.lanes.lane_mut(id.0).pop_top()
@@ -272,13 +311,16 @@ impl<T> List<T> {
             → result ≡ slice_get deque.items (length deque.items - 1) }
         ensures deque { (rank : ℕ) (deque : Deque T) → DequeAt self.old.deques id rank deque
             → self.new.deques ≡ slice_set self.old.deques rank (record deque { items = take (length deque.items - 1) deque.items }) }
-        ensures keeps_room { lane_room self.old id ≤ lane_room self.new id }
+        ensures ids { deque_ids self.new.deques ≡ deque_ids self.old.deques }
+        ensures room { MatchOption result (lane_room self.new id ≡ lane_room self.old id)
+            (λ _. lane_room self.new id ≡ lane_room self.old id + 1) }
         ensures rest { SameElsewhere self.old self.new id }
     {
         self.lanes.lane_mut(id.0).take_bottom()
     }
 
-    /// The top item of a deque for writing; None exactly where it has no item.
+    /// The top item of a deque for writing; None exactly where it has no item. What the list is once it was written is
+    /// told by the law [`top_written`](crate::top_written).
     pub fn top_mut(&mut self, id: DequeId) -> Option<&mut T>
         requires { IsLive (deque_ids self.old.deques) id }
         ensures* writes_back { sem 𝓛 (lends_top_item T.row self.entry id result) }

@@ -2,7 +2,7 @@ ghost use Rattle.std.specs.Prelude.{◌≡◌, ℕ, None, []};
 ghost use Rattle.deque_list.specs.Ids.{IsLive};
 ghost use Rattle.deque_list.specs.Deques.{Deque, DequeAt, deque_ids};
 
-use crate::{DequeId, InsertRefused, List};
+use crate::{DequeId, InsertRefused, List, Order, OrderFull, Place};
 use std::process::Abort;
 use std::test::Fail;
 
@@ -31,9 +31,19 @@ fn shows(rt: &impl Abort, list: &List<u32>, want: &[(u32, Option<u32>, &[u32])])
             assert_eq!(rt; list.item(id, place as u32), Some(item));
         }
         assert_eq!(rt; list.item(id, items.len() as u32), None);
-        assert_eq!(rt; list.ready(id), owner.is_none() || items.len() >= 2);
+        let ready = owner.is_none() || items.len() >= 2;
+        assert_eq!(rt;
+            (list.ready(id), list.ready_at(rank as u32)),
+            (ready, ready)
+        );
+        assert_eq!(rt; list.place(rank as u32), Some(Place { id, owner }));
+        assert_eq!(rt; list.lane(id).len() as usize, items.len());
     }
-    assert_eq!(rt; list.at(list.len()), None);
+    let len = list.len();
+    assert_eq!(rt;
+        (list.at(len), list.place(len), list.ready_at(len)),
+        (None, None, false)
+    );
 }
 
 // Inserts a deque and gives its id.
@@ -215,11 +225,71 @@ fn order_and_lane_stand_alone(rt: HostRuntime) -> Result<(), Fail> {
         Some(rank) => assert_eq!(rt; rank, 0),
         None => panic!(rt; "the deque is not live"),
     }
-    let new = order.insert_right(id, 7);
-    assert_eq!(rt; new, Ok(DequeId(1)));
+    assert_eq!(rt; order.next_id(), Some(DequeId(1)));
+    assert_eq!(rt; order_insert(&rt, &mut order, id, 7), Ok(DequeId(1)));
     assert_eq!(rt;
         (order.at(1), order.at(2), order.leftmost(3)),
         (Some(DequeId(1)), None, 2)
+    );
+    let place = Place {
+        id: DequeId(1),
+        owner: Some(7),
+    };
+    assert_eq!(rt; (order.place(1), order.place(2)), (Some(place), None));
+    Ok(())
+}
+
+// Inserts a deque into an order.
+fn order_insert(
+    rt: &impl Abort,
+    order: &mut Order,
+    of: DequeId,
+    owner: u32,
+) -> Result<DequeId, OrderFull> {
+    match order.rank(of) {
+        Some(_) => {}
+        None => panic!(rt; "the deque is not live"),
+    }
+    order.insert_right(of, owner)
+}
+
+// As many deques as a list may have, and 300 items in a lane.
+#[test]
+fn lists_and_lanes_grow(rt: HostRuntime) -> Result<(), Fail> {
+    let mut list = List::new(rt.alloc(), 0, 4_096).ok().expect(&rt, "memory");
+    for before in 0..4_095 {
+        let next = insert(&rt, &mut list, before, before + 1, before);
+        assert_eq!(rt; next, Some(DequeId(before + 1)));
+    }
+    assert_eq!(rt;
+        list.room_right(),
+        Err(InsertRefused::Full { deques: 4_096 })
+    );
+    for item in 0..299 {
+        push(&rt, &mut list, 4_095, item)?;
+    }
+    assert_eq!(rt;
+        list.place(4_095).map(|place| place.id),
+        Some(DequeId(4_095))
+    );
+    assert_eq!(rt; (list.ready_at(4_094), list.ready_at(4_095)), (false, true));
+    assert_eq!(rt; take(&rt, &mut list, 4_095), Some(4_095));
+    for left in 0..299u32 {
+        assert_eq!(rt; pop(&rt, &mut list, 4_095), Some(298 - left));
+    }
+    assert_eq!(rt; pop(&rt, &mut list, 4_095), None);
+    let list = List::new(rt.alloc(), 0, 4_096).ok().expect(&rt, "memory");
+    assert!(rt; list.len() == 1);
+    let (mut order, id, _lane) = list.into_first();
+    for before in 0..4_095 {
+        let next = DequeId(before + 1);
+        assert_eq!(rt; order.next_id(), Some(next));
+        assert_eq!(rt; order_insert(&rt, &mut order, id, before), Ok(next));
+    }
+    assert_eq!(rt; order.next_id(), None);
+    assert_eq!(rt;
+        order_insert(&rt, &mut order, id, 0),
+        Err(OrderFull { deques: 4_096 })
     );
     Ok(())
 }

@@ -1,4 +1,4 @@
-ghost use Rattle.std.specs.Prelude.{◌≡◌, ◌+◌, ◌≤◌, [], IfOk};
+ghost use Rattle.std.specs.Prelude.{◌≡◌, ◌≢◌, ◌+◌, ◌≤◌, [], IfOk};
 ghost use Rattle.bounded_list.specs.BoundedList.{entries, spare};
 ghost use Rattle.dummy_tree.specs.QuotaWords.{quota_words};
 ghost use Rattle.quota_period.specs.Charges.{IsCharge};
@@ -48,8 +48,11 @@ impl Period {
     }
 
     /// What an allocation of `words` words would do. The quota counts gross: what is released refills none.
+    ///
+    /// Words of one piece, as those of a thread's record, are never above the quota.
     pub fn charge(&self, words: u32, k: Quota) -> Charge
-        ensures { IsCharge self.now.used words (quota_words k) result }
+        ensures charge { IsCharge self.now.used words (quota_words k) result }
+        ensures piece { words ≤ 16 → result ≢ Charge.Large }
     {
         let k = k.get();
         if words > k {

@@ -1,3 +1,4 @@
 pub mod SumLaws
 pub mod BooksLemmas
 pub mod MovesLemmas
+pub mod NumbersLemmas

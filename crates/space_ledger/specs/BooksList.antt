@@ -1,5 +1,6 @@
 -- What contracts see of `Books`.
-use Rattle.std.specs.Prelude.{ℕ, List}
+use Rattle.std.specs.Prelude.{ℕ, List, min}
+use Rattle.std.specs.HashMap.{spare as map_spare}
 use Rattle.bounded_list.specs.BoundedList.{entries, spare}
 use Rattle.space_ledger.specs.declared.book.Closed.{Closed}
 use Rattle.space_ledger.specs.declared.books.Books.{Books}
@@ -8,6 +9,6 @@ use Rattle.space_ledger.specs.declared.books.Books.{Books}
 abbrev pub books_list : Books → List Closed
 books_list books = entries books.list
 
--- how many further books it takes without memory
+-- how many further books it takes without memory: room in the list, and for their numbers
 abbrev pub books_spare : Books → ℕ
-books_spare books = spare books.list
+books_spare books = min (spare books.list) (map_spare books.places)

@@ -2,3 +2,4 @@ pub mod Sums
 pub mod Counts
 pub mod MovesList
 pub mod BooksList
+pub mod Numbers

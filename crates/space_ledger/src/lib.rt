@@ -2,10 +2,11 @@
 //!
 //! The live words of a run are the sum of its moves, and its high-water mark is their greatest sum at any
 //! time. Each period, from a steal to the next, has a book of the actions that it ran. Both are kept as the
-//! run goes on, with their sums, so that no call walks them.
+//! run goes on, with their sums, so that no call walks them. A period is found by its number, and the birth of a
+//! thread by the thread's id.
 //!
 //! The crate stands on `bounded_list` and `dag_order`. Its one theorem: [`Moves::high`] is the greatest sum
-//! of a prefix of the moves, and [`Books`] counts its periods, marks and actions.
+//! of a prefix of the moves, and [`Books`] counts its periods, marks and actions and finds the periods.
 #![tactic(auto)]
 
 mod book;

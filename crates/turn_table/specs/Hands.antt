@@ -1,5 +1,6 @@
 -- What a seat holds, as plain data.
 use Rattle.std.specs.Prelude.{◌≡◌, ℕ, ◌+◌, true, false, List, [], ◌∷◌, ◌++◌, map, slice_set, if◌then◌else◌, ◌==◌, ◌⊎◌}
+use Rattle.std.specs.Borrow.{Bor}
 use mathlib.Core.Option.{some}
 use lib.ListN.{get_elem?}
 use Rattle.turn_table.specs.declared.look.Look.{Look}
@@ -25,6 +26,15 @@ module _ {V : Type 0} where
   -- the same slots, each with the value that f gives it
   abbrev pub renewed : (ℕ → V → V) → List (ℕ × V) → List (ℕ × V)
   renewed f xs = map (λ x. (x.0, f x.0 x.1)) xs
+
+  -- slots with values that are lent, as slots with these values
+  abbrev pub told : List (ℕ × Bor V) → List (ℕ × V)
+  told xs = map (λ x. (x.0, x.1.now)) xs
+
+  -- what a slot shows that showed v: the value that stands beside it here, where it is named
+  abbrev pub shown_by : List (ℕ × V) → ℕ → V → V
+  shown_by [] i v = v
+  shown_by (x ∷ xs) i v = if x.0 == i then x.1 else shown_by xs i v
 
   -- each of these slots shows its value here
   abbrev pub Shows : List V → List (ℕ × V) → Type 0

@@ -9,8 +9,9 @@
 //! The theorem: over every order of the steps of all seats the law holds between any two steps, each turn word is the number of
 //! hands that hold its slot, and none is above 1. `Turns::take`, `put_back` and `count` each leave a state in which this holds
 //! with the hand that the seat then has, and `Turns::close` tells it of the last state, whose values it gives. In return each
-//! call that steps asks that its step keep the law (`specs/Law.antt`). For laws over what is shown and noted alone the steps are
-//! proved in `proofs/NoteLaws.antt`.
+//! call that steps asks that its step keep the law (`specs/Law.antt`). For laws over what is shown, counted and noted alone the
+//! steps are proved in `proofs/NoteLaws.antt`. What the other slots of a seat show after a put back is picked, or is handed in with
+//! `Turns::put_back_showing`.
 //!
 //! What a caller picks for a call, as the note that it leaves, is the call's last type parameter (`picks`): `Keep`, a type of
 //! the caller's own, or `Brand`, for which the caller's proof picks at that very call.

@@ -2,7 +2,7 @@
 ghost use Rattle.std.specs.Prelude.{◌≡◌, ◌<◌, [], ◌∷◌, MatchResult};
 ghost use Rattle.turn_table.specs.Tables.{slot_count, IsSeatOf};
 
-use crate::{Held, Keep, Puts, TurnLaw, TurnSeat, Turns};
+use crate::{Held, Keep, TurnLaw, TurnSeat, Turns};
 
 // The numbers shown sum to the key.
 pub(crate) struct Total;
@@ -15,20 +15,9 @@ impl TurnLaw<u64> for Total {
 
     type Note = ();
 
-    ghost fact = { OverNotes (λ total shown _. sum shown ≡ total) };
+    ghost fact = { OverNotes (λ total shown _ _. sum shown ≡ total) };
 
     ghost blank = { tt };
-}
-
-// Slot 1 shows 7 from then on.
-pub(crate) struct ShowsSeven;
-
-impl Puts<u64, ()> for ShowsSeven {
-    ghost use Rattle.std.specs.Prelude.{if◌then◌else◌, ◌==◌};
-
-    ghost note = { λ _. tt };
-
-    ghost shows = { λ slot value. if slot == 1 then 7 else value };
 }
 
 pub(crate) type Row = Turns<u64, Total>;
@@ -51,14 +40,15 @@ pub(crate) fn take_both(row: &Row, seat: &mut Taker) -> Result<(u64, u64), Held>
     }
 }
 
-// Where both numbers are 5, they become 3 and 7 at once.
+// Moves 2 from slot 0 to slot 1 where it can: both change at once, as the first is put back.
 pub(crate) fn put_both(row: &Row, seat: &mut Taker, first: u64, second: u64)
     requires { IsSeatOf row.now seat.old × (seat.old.hand.holds ≡ (1, second) ∷ (0, first) ∷ []) }
     ensures { IsSeatOf row.now seat.new × (seat.new.hand.holds ≡ []) }
 {
-    if first == 5 && second == 5 {
-        row.put_back::<ShowsSeven>(seat, 0, 3);
-        row.put_back::<Keep>(seat, 1, 7);
+    if 2 <= first && second < 1_000_000 {
+        let more = second + 2;
+        row.put_back_showing::<Keep>(seat, 0, first - 2, &[(1, &more)]);
+        row.put_back::<Keep>(seat, 1, more);
     } else {
         row.put_back::<Keep>(seat, 0, first);
         row.put_back::<Keep>(seat, 1, second);

@@ -1,6 +1,6 @@
 //! Seats that count, and note how often.
-ghost use Rattle.std.specs.Prelude.{◌≡◌, ◌+◌, [], IfOk};
-ghost use Rattle.turn_table.specs.Tables.{IsSeatOf};
+ghost use Rattle.std.specs.Prelude.{◌≡◌, ◌+◌, ◌<◌, [], IfOk};
+ghost use Rattle.turn_table.specs.Tables.{slot_count, IsSeatOf};
 
 use crate::{Held, Joins, Keep, Notes, Splits, StillHeld, TurnLaw, TurnSeat, Turns};
 use std::alloc::{AllocError, Global};
@@ -13,13 +13,13 @@ struct Tallied;
 
 impl TurnLaw<u8> for Tallied {
     ghost use Rattle.std.specs.Prelude.{◌≡◌, ◌%◌, ◌^◌, sum};
-    ghost use Rattle.turn_table.specs.Notes.{notes};
+    ghost use Rattle.turn_table.specs.Notes.{OverNotes};
 
     type Key = ();
 
     type Note = u64;
 
-    ghost fact = { λ _ _ count hands. count ≡ sum (notes hands) % 2 ^ 64 };
+    ghost fact = { OverNotes (λ _ _ count notes. count ≡ sum notes % 2 ^ 64) };
 
     ghost blank = { 0 };
 }
@@ -86,11 +86,13 @@ fn count_in_two_threads<R: Threads>(
     a
 }
 
-// A row of one slot, and two seats.
-fn opened(alloc: Global) -> Result<(Row, Counter, Counter), AllocError>
-    ensures { IfOk result (λ made. IsSeatOf made.0 made.1 × (made.1.hand.holds ≡ []) × IsSeatOf made.0 made.2 × (made.2.hand.holds ≡ [])) }
+// A row of so many slots, and two seats.
+fn opened(alloc: Global, slots: u32) -> Result<(Row, Counter, Counter), AllocError>
+    requires { 0 < slots }
+    ensures { IfOk result (λ made. IsSeatOf made.0 made.1 × (made.1.hand.holds ≡ []) × IsSeatOf made.0 made.2 × (made.2.hand.holds ≡ [])
+        × (slot_count made.0 ≡ slots)) }
 {
-    let values = vec![in alloc; 9]?;
+    let values = vec![in alloc; 9; slots as usize]?;
     match Row::new::<Keep>(alloc, values, ()) {
         Ok((row, mut a)) => {
             let b = row.split_seat::<Tally>(&mut a);
@@ -102,7 +104,7 @@ fn opened(alloc: Global) -> Result<(Row, Counter, Counter), AllocError>
 
 #[test]
 fn counts_in_two_threads(rt: HostRuntime) -> Result<(), Fail> {
-    let (row, a, b) = opened(rt.alloc())?;
+    let (row, a, b) = opened(rt.alloc(), 1)?;
     let mut a = count_in_two_threads(&rt, &row, a, b, 1000);
     assert_eq!(rt; row.count::<Tally>(&mut a), 2000);
     Ok(())
@@ -110,7 +112,7 @@ fn counts_in_two_threads(rt: HostRuntime) -> Result<(), Fail> {
 
 #[test]
 fn refuses_what_is_held(rt: HostRuntime) -> Result<(), Fail> {
-    let (row, mut a, mut b) = opened(rt.alloc())?;
+    let (row, mut a, mut b) = opened(rt.alloc(), 1)?;
     let taken = row.take::<Keep>(&mut a, 0);
     let tried = row.take::<Keep>(&mut b, 0);
     assert_eq!(rt; taken, Ok(9));
@@ -120,5 +122,30 @@ fn refuses_what_is_held(rt: HostRuntime) -> Result<(), Fail> {
     if let Err(still) = closed {
         assert_eq!(rt; still, StillHeld { slot: 0 });
     }
+    Ok(())
+}
+
+// Takes the turn of a slot and gives it back.
+fn touch(row: &Row, seat: &mut Counter, i: u32) -> Result<u8, Held>
+    requires { IsSeatOf row.now seat.old × (seat.old.hand.holds ≡ []) × (i < slot_count row.now) }
+    ensures { IsSeatOf row.now seat.new × (seat.new.hand.holds ≡ []) }
+{
+    let found = row.take::<Keep>(seat, i)?;
+    row.put_back::<Keep>(seat, i, found);
+    Ok(found)
+}
+
+// A slot for each deque that a list may have, and two more.
+#[test]
+fn rows_are_wide(rt: HostRuntime) -> Result<(), Fail> {
+    let (row, mut a, _b) = opened(rt.alloc(), 4_098)?;
+    assert_eq!(rt; touch(&row, &mut a, 0), Ok(9));
+    assert_eq!(rt; touch(&row, &mut a, 4_096), Ok(9));
+    assert_eq!(rt; touch(&row, &mut a, 4_097), Ok(9));
+    assert_eq!(rt; row.count::<Tally>(&mut a), 0);
+    let Ok(values) = row.close(a) else {
+        panic!(rt; "no turn is held")
+    };
+    assert_eq!(rt; (values.len(), values.get(4_097)), (4_098, Some(&9)));
     Ok(())
 }

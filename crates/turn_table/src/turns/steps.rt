@@ -1,6 +1,6 @@
 //! The calls that step.
-ghost use Rattle.std.specs.Prelude.{◌≡◌, ◌<◌, [], MatchResult};
-ghost use Rattle.turn_table.specs.Hands.{Has, fresh, spent, noted, took, refused, counted, gave};
+ghost use Rattle.std.specs.Prelude.{◌≡◌, ℕ, ◌<◌, [], MatchResult};
+ghost use Rattle.turn_table.specs.Hands.{Has, fresh, spent, noted, took, refused, counted, gave, told, shown_by};
 ghost use Rattle.turn_table.specs.Seats.{with_hand};
 ghost use Rattle.turn_table.specs.Law.{Meets, MeetsHeld, TakeKeeps, HeldKeeps, CountKeeps, PutKeeps, SplitKeeps, JoinKeeps};
 ghost use Rattle.turn_table.specs.Tables.{key_of, slot_count, IsSeatOf};
@@ -51,6 +51,42 @@ impl<V, L: TurnLaw<V>> Turns<V, L> {
         requires slot { Has i seat.old.hand.holds }
         requires keeps { PutKeeps L.fact L.blank (key_of self.now) seat.old i value M.note M.shows }
         ensures seat { seat.new ≡ with_hand seat.old (gave M.note M.shows seat.old.hand i) }
+        ensures meets { Meets L.fact L.blank (key_of self.now) seat.new }
+    {
+        self.give::<M>(seat, i, value, &[]);
+    }
+
+    /// Puts the value into slot i as `put_back` does, where the caller has at hand what the other slots are to show: at that step
+    /// each slot that `others` names shows the value beside it, and each other one what it showed. M picks the note alone.
+    pub fn put_back_showing<M: Puts<V, L::Note>>(
+        &self,
+        seat: &mut TurnSeat<V, L>,
+        i: u32,
+        value: V,
+        others: &[(u32, &V)],
+    )
+        requires here { IsSeatOf self.now seat.old }
+        requires slot { Has i seat.old.hand.holds }
+        requires keeps { PutKeeps L.fact L.blank (key_of self.now) seat.old i value M.note (shown_by (told others.now)) }
+        ensures seat { seat.new ≡ with_hand seat.old (gave M.note (shown_by (told others.now)) seat.old.hand i) }
+        ensures meets { Meets L.fact L.blank (key_of self.now) seat.new }
+    {
+        self.give::<M>(seat, i, value, others);
+    }
+
+    // What both do, where the caller's proof says what the other slots show; it may read `_others` for that.
+    fn give<M: Puts<V, L::Note>>(
+        &self,
+        seat: &mut TurnSeat<V, L>,
+        i: u32,
+        value: V,
+        _others: &[(u32, &V)],
+    )
+        ghost shows: { ℕ → V → V }
+        requires here { IsSeatOf self.now seat.old }
+        requires slot { Has i seat.old.hand.holds }
+        requires keeps { PutKeeps L.fact L.blank (key_of self.now) seat.old i value M.note shows }
+        ensures seat { seat.new ≡ with_hand seat.old (gave M.note shows seat.old.hand i) }
         ensures meets { Meets L.fact L.blank (key_of self.now) seat.new }
     {
         let shared = &self.table.shared;

@@ -2,7 +2,7 @@
 use Rattle.std.proofs.Common.{◌∙◌, ap, sym, arith, ◌∷◌}
 use Rattle.std.specs.Prelude.{slice_set}
 use Rattle.deque_list.proofs.ViewLemmas.{lane_of_live, items_shown}
-use Rattle.deque_list.proofs.LaneLemmas.{kept_after, deques_after, room_before, room_after, rest_after}
+use Rattle.deque_list.proofs.LaneLemmas.{kept_after, deques_after, room_before, room_after, rest_after, ids_after}
 use Rattle.deque_list.proofs.list.List.push_top.Goals as goal
 
 pub lane_mut-requires : goal.lane_mut-requires
@@ -29,3 +29,6 @@ returns-clause-room g c =
 
 pub returns-clause-rest : goal.returns-clause-rest
 returns-clause-rest g c = rest_after c.self.inside.order c.self.inside.lanes c.self.inside.next c.args.self.now c.self.view_is c.args.id c.lane_mut.result.now c.push_top.new.self c.self.invariant c.requires.live c.lane_mut.ensures.value
+
+pub returns-clause-ids : goal.returns-clause-ids
+returns-clause-ids g c = ids_after c.self.inside.order c.self.inside.lanes c.self.inside.next c.args.self.now c.self.view_is c.args.id c.lane_mut.result.now c.push_top.new.self c.self.invariant c.requires.live c.lane_mut.ensures.value

@@ -26,3 +26,8 @@ returns-clause-keeps_room g c =
 
 pub returns-clause-rest : goal.returns-clause-rest
 returns-clause-rest g c = rest_after c.self.inside.order c.self.inside.lanes c.self.inside.next c.args.self.now c.self.view_is c.args.id c.lane_mut.result.now c.reserve.new.self c.self.invariant c.requires c.lane_mut.ensures.value
+
+pub returns-clause-enough : goal.returns-clause-enough
+returns-clause-enough g c =
+    let before = room_before c.self.inside.order c.self.inside.lanes c.self.inside.next c.args.self.now c.self.view_is c.args.id c.lane_mut.result.now c.reserve.new.self c.self.invariant c.requires c.lane_mut.ensures.value in
+    λ has. c.reserve.ensures.enough (omega (arith, before, has))

@@ -1,8 +1,9 @@
 -- The bottom item leaves the lane.
-use Rattle.std.proofs.Common.{◌∙◌, ap, sym, length, slice_get, arith}
+use Rattle.std.proofs.Common.{◌∙◌, ap, sym, length, slice_get, ℕ, ◌≡◌, ◌+◌, subst, MatchOption}
 use Rattle.std.specs.Prelude.{slice_set, take, ◌-◌}
 use Rattle.deque_list.proofs.ViewLemmas.{lane_of_live, items_shown}
-use Rattle.deque_list.proofs.LaneLemmas.{kept_after, deques_after, room_before, room_after, rest_after}
+use Rattle.deque_list.proofs.LaneLemmas.{kept_after, deques_after, room_before, room_after, rest_after, ids_after}
+use Rattle.deque_list.specs.DequeLists.{lane_room}
 use Rattle.deque_list.proofs.list.List.take_bottom.Goals as goal
 
 pub lane_mut-requires : goal.lane_mut-requires
@@ -20,11 +21,16 @@ returns-clause-deque g c = λ rank deque at.
     let items = c.take_bottom.ensures.rest ∙ ap (λ i. take (length i - 1) i) (sym (items_shown c.self.inside.order c.self.inside.lanes c.self.inside.next c.args.self.now c.self.view_is c.args.id rank deque c.lane_mut.result.now at c.lane_mut.ensures.value)) in
     deques_after c.self.inside.order c.self.inside.lanes c.self.inside.next c.args.self.now c.self.view_is c.args.id c.lane_mut.result.now c.take_bottom.new.self c.self.invariant c.requires c.lane_mut.ensures.value rank deque at ∙ ap (λ i. slice_set c.args.self.now.deques rank (record deque { items = i })) items
 
-pub returns-clause-keeps_room : goal.returns-clause-keeps_room
-returns-clause-keeps_room g c =
+pub returns-clause-ids : goal.returns-clause-ids
+returns-clause-ids g c = ids_after c.self.inside.order c.self.inside.lanes c.self.inside.next c.args.self.now c.self.view_is c.args.id c.lane_mut.result.now c.take_bottom.new.self c.self.invariant c.requires c.lane_mut.ensures.value
+
+pub returns-clause-room : goal.returns-clause-room
+returns-clause-room g c =
     let before = room_before c.self.inside.order c.self.inside.lanes c.self.inside.next c.args.self.now c.self.view_is c.args.id c.lane_mut.result.now c.take_bottom.new.self c.self.invariant c.requires c.lane_mut.ensures.value in
     let after = room_after c.self.inside.order c.self.inside.lanes c.self.inside.next c.args.self.now c.self.view_is c.args.id c.lane_mut.result.now c.take_bottom.new.self c.self.invariant c.requires c.lane_mut.ensures.value in
-    let kept = c.take_bottom.ensures.keeps_room in omega (arith, before, after, kept)
+    let Before : ℕ → Type 0 = λ n. MatchOption c.take_bottom.result (c.take_bottom.new.self.spare ≡ n) (λ _. c.take_bottom.new.self.spare ≡ n + 1) in
+    let After : ℕ → Type 0 = λ n. MatchOption c.take_bottom.result (n ≡ lane_room c.args.self.now c.args.id) (λ _. n ≡ lane_room c.args.self.now c.args.id + 1) in
+    subst After (sym after) (subst Before (sym before) c.take_bottom.ensures.room)
 
 pub returns-clause-rest : goal.returns-clause-rest
 returns-clause-rest g c = rest_after c.self.inside.order c.self.inside.lanes c.self.inside.next c.args.self.now c.self.view_is c.args.id c.lane_mut.result.now c.take_bottom.new.self c.self.invariant c.requires c.lane_mut.ensures.value

@@ -1,8 +1,4 @@
-use Rattle.turn_table.specs.Steps.{Fronted, Gave}
 use Rattle.turn_table.proofs.turns.Turns.put_back.Given as goal
 
-abbrev pub ghosts-load : goal.ghosts-load
-ghosts-load g a = record { then = λ _ m _ m'. Fronted a.word m m' }
-
-abbrev pub ghosts-store : goal.ghosts-store
-ghosts-store g a = record { then = λ _ m _ m'. Gave g.L.TurnLaw.fact g.L.TurnLaw.blank a.self.now.key.key.value a.self.now.table_id a.seat.now.id a.word g.M.Puts.note g.M.Puts.shows m m' }
+abbrev pub ghost-give : goal.ghost-give
+ghost-give g a = g.M.Puts.shows
