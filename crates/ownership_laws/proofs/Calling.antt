@@ -57,7 +57,7 @@ fits_items (integer x) xs e = let never : ⊥ = cc in absurd never
 fits_items (block b) xs e = tt
 
 -- the block that the target declares
-target_hit : Target → Name → ℕ
+pub target_hit : Target → Name → ℕ
 target_hit unused x = 0
 target_hit (integer y) x = 0
 target_hit (block b) x = hit b x

@@ -21,7 +21,7 @@ use Rattle.depth_first_run.specs.Middle
 use Rattle.depth_first_run.specs.Middle.{Part, statements, tree, Frame, does, answers, rejoins, answers_main, allocates, awaits, joins, frame_done, finish, Middle, middle, finished, step_with_number, step_alloc_within, step_alloc_words, step_alloc, before_all, step_branch, step_if, step_turn, step_round, step_while, step_body, step_open_call, step_call_with, step_call, step_par, step_cut, step_statement, step_first, step_frame, advance, run_start}
 use Rattle.ownership_laws.specs.Counts.{count, held_in, lent_in, held_entry, lent_entry_of}
 use Rattle.ownership_laws.specs.Needs.{needs_block, needed_by_value, needed_by_return, lent_to, end_needs}
-use Rattle.ownership_laws.specs.Points.{after_steps}
+use Rattle.thread_points.specs.Points.{after_steps}
 use Rattle.ownership_laws.proofs.Counting.{hit_true, none_counted, empty_found, owned_block, same_name}
 use Rattle.ownership_laws.proofs.Environments.{Follows, follows_take, held_at_most_one, held_the_same, lent_most}
 use Rattle.ownership_laws.proofs.Tame.{tame_all, follows_all}
@@ -31,31 +31,31 @@ use Rattle.ownership_laws.proofs.Statements.{Agrees, cut_count, parts_left}
 use Rattle.ownership_laws.proofs.Owned.{and_two, or_none, ran_within, child_agrees, parent_agrees, split_ends, split_counts, split_agrees, no_parameters, ran_run}
 use Rattle.ownership_laws.proofs.Needed.{or_cases, held_name, reads_held, needed_is_there}
 use Rattle.depth_first_run.proofs.Stepping.{run_nothing}
-use Rattle.ownership_laws.proofs.Putting.{frame_finishes, statement_finishes, statement_put, advance_put}
+use Rattle.thread_points.proofs.Putting.{frame_finishes, statement_finishes, statement_put, advance_put}
 
 -- ---- what fits
 
 -- a list of statements: it keeps the rules from an environment that says what the thread holds of its names
-data FitsBody (c : Setting) (b : Body) (s : State) : Type 0 where
+pub data FitsBody (c : Setting) (b : Body) (s : State) : Type 0 where
   body_over : s.faulted ≡ true → FitsBody c b s
   body_fits : (env after : Environment) → OwnsAll c.program b env after → Agrees (λ x. names_in_body x b) env s.store → FitsBody c b s
 
 -- the end of a function: its `return` keeps the rules from an environment that says what the thread holds, and what was
 -- lent is held
-data FitsEnd (ret : Option Ret) (params : List Param) (args : List Arg) (s : State) : Type 0 where
+pub data FitsEnd (ret : Option Ret) (params : List Param) (args : List Arg) (s : State) : Type 0 where
   end_over : s.faulted ≡ true → FitsEnd ret params args s
   end_fits : (end after : Environment) → OwnsReturn ret end after → ((y : Name) → count s.store.blocks y ≡ held_in end y) → ((y : Name) → lent_to y params args ≡ true → held_in end y ≡ 1) → FitsEnd ret params args s
 
 -- the end of a `split`: both parts are held
-data FitsParts (l r : Name) (s : State) : Type 0 where
+pub data FitsParts (l r : Name) (s : State) : Type 0 where
   parts_over : s.faulted ≡ true → FitsParts l r s
   parts_fit : count s.store.blocks l ≡ 1 → count s.store.blocks r ≡ 1 → FitsParts l r s
 
-unfoldable FitsPart : Setting → Part → State → Type 0
+unfoldable pub FitsPart : Setting → Part → State → Type 0
 FitsPart c (statements b) s = FitsBody c b s
 FitsPart c (tree shape) s = Unit {0}
 
-unfoldable FitsFrame : Setting → Frame → State → Type 0
+unfoldable pub FitsFrame : Setting → Frame → State → Type 0
 FitsFrame c (does part) s = FitsPart c part s
 FitsFrame c (answers ret params args t) s = FitsEnd ret params args s
 FitsFrame c (rejoins b l r) s = FitsParts l r s
@@ -65,11 +65,11 @@ FitsFrame c (awaits named assigned own parent) s = FitsPart c own (parent_of nam
 FitsFrame c (joins assigned child d) s = Unit {0}
 
 -- each frame fits the state that those before it come to
-unfoldable Fitting : Setting → List Frame → State → Type 0
+unfoldable pub Fitting : Setting → List Frame → State → Type 0
 Fitting c [] s = Unit {0}
 Fitting c (f ∷ fs) s = FitsFrame c f s × Fitting c fs (frame_done c f s)
 
-abbrev FitsPoint : Setting → Middle → Type 0
+abbrev pub FitsPoint : Setting → Middle → Type 0
 FitsPoint c m = Fitting c m.frames m.state
 
 -- frames that fit come before frames that fit what the former come to
@@ -124,7 +124,7 @@ turning_fits c zero line ahead s k = tt
 turning_fits c (suc left) line ahead s k = k left
 
 -- a loop: its body, and the loop again behind it
-loop_fits : (c : Setting) → OwnsFunctions c.program c.program → (line : ℕ) (e : Expr) (a : Body) (env after : Environment) (s : State) → Owns c.program line (while_stmt e a) env after
+pub loop_fits : (c : Setting) → OwnsFunctions c.program c.program → (line : ℕ) (e : Expr) (a : Body) (env after : Environment) (s : State) → Owns c.program line (while_stmt e a) env after
     → s.faulted ≡ false → Agrees (λ x. names_in_stmt x (while_stmt e a)) env s.store → FitsBody c a s × FitsBody c (step line (while_stmt e a) done) (run c a s)
 unfolding Agrees
 loop_fits c all line e a env after s h f agrees =
@@ -159,7 +159,7 @@ lent_to_as y (q ∷ qs) (lend b ∷ args) h =
     or_cases (bytes_eq q.name y) (lent_to y qs args) h (λ e. let t = hit_true q.name y e in omega (arith, t)) (λ e. let r = lent_to_as y qs args e in omega (arith, r))
 lent_to_as y (q ∷ qs) (give b ∷ args) h = lent_to_as y qs args h
 
-function_fits : (c : Setting) → OwnsFunctions c.program c.program → (env : Environment) (g : Func) (args : List Arg) (s : State) → OwnsFunction c.program g → Passes env [] g.params args
+pub function_fits : (c : Setting) → OwnsFunctions c.program c.program → (env : Environment) (g : Func) (args : List Arg) (s : State) → OwnsFunction c.program g → Passes env [] g.params args
     → s.faulted ≡ false → ((y : Name) → count s.store.blocks y ≡ taken_as g.params args y) → FitsBody c g.body s × FitsEnd g.ret g.params args (run c g.body s)
 unfolding Agrees
 function_fits c all env g args s owns passes f taken =
@@ -275,7 +275,7 @@ statement_fits c all line (split_stmt b e l r a) env after s h f agrees =
 
 -- ---- a step
 
-rest_fits : (c : Setting) → OwnsFunctions c.program c.program → (line : ℕ) (stmt : Stmt) (rest : Body) (env after : Environment) (s : State) → OwnsAll c.program (step line stmt rest) env after
+pub rest_fits : (c : Setting) → OwnsFunctions c.program c.program → (line : ℕ) (stmt : Stmt) (rest : Body) (env after : Environment) (s : State) → OwnsAll c.program (step line stmt rest) env after
     → s.faulted ≡ false → Agrees (λ x. names_in_body x (step line stmt rest)) env s.store → FitsBody c rest (run c (step line stmt done) s)
 unfolding Agrees
 rest_fits c all line stmt rest env after s h f agrees =
@@ -283,7 +283,7 @@ rest_fits c all line stmt rest env after s h f agrees =
     ran_run c all (step line stmt done) env h.0 s (h.0, h.1, refl) f (λ x n. agrees x (or_left (names_in_stmt x stmt) (names_in_body x rest) (or_none (names_in_stmt x stmt) n))) in
     body_behind c rest env h.0 after s (run c (step line stmt done) s) r.way h.2 (λ x n. agrees x (or_right (names_in_stmt x stmt) (names_in_body x rest) n))
 
-not_both : {P : Type 0} (b : Bool) → b ≡ true → b ≡ false → P
+pub not_both : {P : Type 0} (b : Bool) → b ≡ true → b ≡ false → P
 not_both true t f = let never : ⊥ = cc in absurd never
 not_both false t f = let never : ⊥ = cc in absurd never
 
@@ -335,7 +335,7 @@ main_fits c g all owns first =
     before_fits c g.body (answers_main g.ret ∷ []) (root_start c) (body_fits [] end body (λ y n. holds y))
     (end_behind g.ret [] [] [] end owns.2.2.0 (root_start c) (run c g.body (root_start c)) r.way owns.2.2.1 holds (λ y n. let never : ⊥ = cc in absurd never), tt)
 
-fits_after : (c : Setting) → Ownership c.program → (n : ℕ) → FitsPoint c (after_steps c n)
+pub fits_after : (c : Setting) → Ownership c.program → (n : ℕ) → FitsPoint c (after_steps c n)
 unfolding after_steps
 fits_after c o zero =
     let g : Func = o.main.0 in

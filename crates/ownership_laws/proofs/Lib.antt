@@ -8,6 +8,4 @@ pub mod Statements
 pub mod Calling
 pub mod Owned
 pub mod Needed
-pub mod Putting
 pub mod Fitting
-pub mod Reaching

@@ -127,7 +127,7 @@ both_held env l r x p q h =
 
 -- ---- lists of statements
 
-all_stopped : (c : Setting) (b : Body) (s : State) → s.faulted ≡ true → exec_all c (run c) b s ≡ s
+pub all_stopped : (c : Setting) (b : Body) (s : State) → s.faulted ≡ true → exec_all c (run c) b s ≡ s
 unfolding exec_all
 all_stopped c done s f = refl
 all_stopped c (step line stmt rest) s f =

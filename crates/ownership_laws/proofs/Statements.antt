@@ -132,7 +132,7 @@ ran_freeing env b s f h e =
 -- ---- a `split`
 
 -- whole pieces and the rest have the words of the whole
-whole_words : (n m q : ℕ) → n ≡ 16 * q → block_words (n + m) ≡ block_words n + block_words m
+pub whole_words : (n m q : ℕ) → n ≡ 16 * q → block_words (n + m) ≡ block_words n + block_words m
 whole_words n m q e =
     let a = cut_words (n + m) n q e (omega arith) in let b = joined_words n m in
     let d : block_words (n + m - n) ≡ block_words m = ap block_words (back n m) in omega (arith, a, b, d)
@@ -334,6 +334,28 @@ parts_left env end b l r line at s v ends cb cl cr m =
     let il = k.in_left in let ir = k.in_right in let el = k.end_left in let er = k.end_right in
     (omega (arith, ul, ml, il, el, cl, ll, rl, bl), omega (arith, ur, mr, ir, er, cr, rr, lr, br))
 
+-- the block is not held there, and its left part is as long as it was
+pub left_stays : (env end : Environment) (b l r : Name) (line at : ℕ) (s v : State) → SplitEnds env end b l r line → at ≤ length (block_of s.store.blocks b)
+    → count s.store.blocks b ≡ 1 → count s.store.blocks l ≡ 0 → count s.store.blocks r ≡ 0
+    → Moved (opened env b l r line) end (on_store (cut_block b l r at) s) v → (count v.store.blocks b ≡ 0) × (length (block_of v.store.blocks l) ≡ at)
+left_stays env end b l r line at s v ends le cb cl cr m =
+    let k = split_numbers env end b l r line ends in
+    let bs : List ℤ = block_of s.store.blocks b in
+    let lb : hit l b ≡ 0 = hit_other l b (differs env l b ends.left_new ends.seen) in
+    let rb : hit r b ≡ 0 = hit_other r b (differs env r b ends.right_new ends.seen) in
+    let bb = hit_same b in
+    let ub = cut_count b l r at s.store b cb in let mb = m.counts b in
+    let ib = k.in_block in let eb = k.end_block in
+    let vl : count v.store.blocks l ≡ 1 = (parts_left env end b l r line at s v ends cb cl cr m).0 in
+    let zl = size_none s.store.blocks l cl in
+    let sl = cut_size b l r at s.store l in
+    let wll = weigh_same l (length (take at bs)) in let wrl = weigh_other r l (length (drop at bs)) (bytes_swap l r ends.two) in
+    let wbl = weigh_other b l (length bs) (bytes_swap l b (differs env l b ends.left_new ends.seen)) in
+    let one_l = size_one v.store.blocks l (omega (arith, vl)) in
+    let kept_l = m.sizes l k.seen_left k.end_left in
+    let tl = taken_length at bs le in
+    (omega (arith, ub, mb, ib, eb, cb, bb, lb, rb), omega (arith, one_l, kept_l, sl, wll, wrl, wbl, zl, tl))
+
 cut_moved : (env end : Environment) (b l r : Name) (line : ℕ) (body : State → State) (at q : ℕ) (s : State) → SplitEnds env end b l r line → at ≡ 16 * q → at ≤ length (block_of s.store.blocks b)
     → s.faulted ≡ false → count s.store.blocks b ≡ 1 → count s.store.blocks l ≡ 0 → count s.store.blocks r ≡ 0
     → (v : State) → Moved (opened env b l r line) end (on_store (cut_block b l r at) s) v
@@ -342,34 +364,22 @@ cut_moved env end b l r line body at q s ends whole le f cb cl cr v m =
     let k = split_numbers env end b l r line ends in
     let u : State = on_store (cut_block b l r at) s in
     let bs : List ℤ = block_of s.store.blocks b in
-    let lb : hit l b ≡ 0 = hit_other l b (differs env l b ends.left_new ends.seen) in
-    let rb : hit r b ≡ 0 = hit_other r b (differs env r b ends.right_new ends.seen) in
     let lr : hit l r ≡ 0 = hit_other l r ends.two in
-    let rl_ : bytes_eq r l ≡ false = bytes_swap l r ends.two in
-    let bl_ : bytes_eq b l ≡ false = bytes_swap l b (differs env l b ends.left_new ends.seen) in
     let br_ : bytes_eq b r ≡ false = bytes_swap r b (differs env r b ends.right_new ends.seen) in
-    let bb = hit_same b in
-    let ub = cut_count b l r at s.store b cb in
-    let mb = m.counts b in
-    let ib = k.in_block in
-    let el = k.end_left in let er = k.end_right in let eb = k.end_block in
+    let er = k.end_right in
+    let left = left_stays env end b l r line at s v ends le cb cl cr m in
     let two = parts_left env end b l r line at s v ends cb cl cr m in
     let vl : count v.store.blocks l ≡ 1 = two.0 in
     let vr : count v.store.blocks r ≡ 1 = two.1 in
-    let vb : count v.store.blocks b ≡ 0 = omega (arith, ub, mb, ib, eb, cb, bb, lb, rb) in
+    let vb : count v.store.blocks b ≡ 0 = left.0 in
     let xs : List ℤ = block_of v.store.blocks l in
     let t : Store = drop_block l v.store in
     let ys : List ℤ = block_of t.blocks r in
-    -- the left part is as long as it was
-    let zl = size_none s.store.blocks l cl in let zr = size_none s.store.blocks r cr in
-    let sl = cut_size b l r at s.store l in let sr = cut_size b l r at s.store r in
-    let wll = weigh_same l (length (take at bs)) in let wrl = weigh_other r l (length (drop at bs)) rl_ in let wbl = weigh_other b l (length bs) bl_ in
+    let lx : length xs ≡ at = left.1 in
+    -- the right part is as long as it was
+    let zr = size_none s.store.blocks r cr in
+    let sr = cut_size b l r at s.store r in
     let wrr = weigh_same r (length (drop at bs)) in let wlr = weigh_other l r (length (take at bs)) ends.two in let wbr = weigh_other b r (length bs) br_ in
-    let one_l = size_one v.store.blocks l (omega (arith, vl)) in
-    let kept_l = m.sizes l k.seen_left el in
-    let tl = taken_length at bs le in
-    let lx : length xs ≡ at = omega (arith, one_l, kept_l, sl, wll, wrl, wbl, zl, tl) in
-    -- and so is the right part
     let dr = count_without v.store.blocks l r (omega (arith, vl)) in
     let one_r = size_one t.blocks r (omega (arith, dr, vr, lr)) in
     let without_r = size_without v.store.blocks l r in

@@ -5,12 +5,12 @@ use Rattle.par_tree.specs.Tree.{Name, Program, Stmt, Body, step}
 use Rattle.par_ownership.specs.Environment.{Environment}
 use Rattle.par_tree.specs.Names.{names_in_stmt, names_in_body}
 use Rattle.par_ownership.specs.Ownership.{Ownership, Owns, OwnsAll}
-use Rattle.depth_first_run.specs.States.{Setting, State, ended}
+use Rattle.depth_first_run.specs.States.{Setting, State}
 use Rattle.depth_first_run.specs.Run.{run, whole, actions_of}
 use Rattle.depth_first_run.specs.Middle.{Frame, does, statements, middle}
 use Rattle.ownership_laws.specs.Counts.{count, held_in}
 use Rattle.ownership_laws.specs.Needs.{needs_block, end_needs}
-use Rattle.ownership_laws.specs.Points.{after_steps}
+use Rattle.thread_points.specs.Points.{after_steps}
 
 -- of each name that the list writes, the thread holds as many blocks as the environment says: one or none
 abbrev pub HoldsFor : Body → Environment → State → Type 0
@@ -48,11 +48,6 @@ abbrev pub StatementsFindTheirBlocks : Type 0
 StatementsFindTheirBlocks = (p : Program) (line : ℕ) (stmt : Stmt) (env after : Environment) (s : State) → Owns p line stmt env after
     → ((x : Name) → names_in_stmt x stmt ≡ true → count s.store.blocks x ≡ held_in env x) → (x : Name) → needs_block x stmt ≡ true
     → count s.store.blocks x ≡ 1
-
--- the points of a run are those on the way to its end: after some steps nothing is left, and the whole run is the End of
--- what the thread is then
-abbrev pub PointsReachTheEnd : Type 0
-PointsReachTheEnd = (c : Setting) → (n : ℕ) × (t : State) × (after_steps c n ≡ middle [] t) × (whole c ≡ ended 0 t)
 
 -- at each point of the run of an accepted program, where a statement comes next in a thread that no fault has ended: it
 -- keeps the rules from an environment that says what the thread holds of the names of the statement. So a call finds its

@@ -1,4 +1,3 @@
 pub mod Counts
 pub mod Needs
-pub mod Points
 pub mod Laws

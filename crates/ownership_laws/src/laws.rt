@@ -1,4 +1,4 @@
-ghost use Rattle.ownership_laws.specs.Laws.{StatementsFindTheirBlocks, RunsHoldWhatTheRulesSay, NothingIsHeldAtTheEnd, LiveWordsEndAtZero, PointsReachTheEnd, EachStatementKeepsTheRules, EachStatementFindsItsBlocks, EachEndFindsItsBlocks};
+ghost use Rattle.ownership_laws.specs.Laws.{StatementsFindTheirBlocks, RunsHoldWhatTheRulesSay, NothingIsHeldAtTheEnd, LiveWordsEndAtZero, EachStatementKeepsTheRules, EachStatementFindsItsBlocks, EachEndFindsItsBlocks};
 
 /// A statement that keeps the ownership rules finds each block that it needs.
 pub fn statements_find_their_blocks()
@@ -18,11 +18,6 @@ pub fn nothing_is_held_at_the_end()
 /// All words that an accepted program takes are given back at its end.
 pub fn live_words_end_at_zero()
     ensures { LiveWordsEndAtZero }
-{}
-
-/// The points of a run are those on the way to its end.
-pub fn points_reach_the_end()
-    ensures { PointsReachTheEnd }
 {}
 
 /// At each point of the run of an accepted program the statement that comes next keeps the ownership rules from what

@@ -7,9 +7,9 @@ use Rattle.depth_first_run.specs.Run.{whole}
 use Rattle.depth_first_run.specs.Middle.{Frame, finish, middle, finished, advance, run_start, to_come}
 use Rattle.depth_first_run.proofs.Stepping.{advance_comes, beginning_comes}
 use Rattle.depth_first_run.proofs.Nearing.{advance_nears}
-use Rattle.ownership_laws.specs.Points.{after_steps}
+use Rattle.thread_points.specs.Points.{after_steps}
 
-points_come : (c : Setting) (n : ℕ) → finished c (after_steps c n) ≡ finished c (run_start c (function_of c.program main_name))
+pub points_come : (c : Setting) (n : ℕ) → finished c (after_steps c n) ≡ finished c (run_start c (function_of c.program main_name))
 unfolding after_steps
 points_come c zero = refl
 points_come c (suc n) = advance_comes c (after_steps c n) ∙ points_come c n

@@ -1,0 +1,5 @@
+pub mod Single
+pub mod Ending
+pub mod Stepping
+pub mod Reading
+pub mod Skipping
