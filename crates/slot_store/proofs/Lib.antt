@@ -1,0 +1,12 @@
+pub mod Names
+pub mod Held
+pub mod Rows
+pub mod Agreement
+pub mod Places
+pub mod Chains
+pub mod Holdings
+pub mod Parting
+pub mod Branches
+pub mod Passed
+pub mod Moving
+pub mod Lending

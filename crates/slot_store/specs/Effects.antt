@@ -1,0 +1,14 @@
+-- What calls do that may fault.
+use Rattle.std.specs.Prelude.{◌≡◌, List, ℤ, ℕ, Option, Some, None, Result, Ok, Err, slice_set}
+use Rattle.dag_order.specs.declared.fault.FaultKind.{FaultKind}
+use Rattle.dag_order.specs.declared.fault.FaultKind.TheVariants as faults
+use Rattle.par_tree.specs.Tree.{Name}
+use Rattle.depth_first_run.specs.Stores.{Store, block_of, write_block}
+use Rattle.slot_store.specs.Rows.{Entry}
+use Rattle.slot_store.specs.Agreement.{ShowsStore}
+
+-- a number is written to a place of the block b, or the place is outside the block and nothing changes
+abbrev pub Puts : List Name → (b : Name) → ℤ → Option ℕ → Store → Result (Unit {0}) FaultKind → List Entry → Type 0
+Puts names b v (Some i) store result row =
+    (result ≡ Ok tt) × ShowsStore names row (write_block b (slice_set (block_of store.blocks b) i v) store)
+Puts names b v None store result row = (result ≡ Err faults.Index) × ShowsStore names row store

@@ -1,0 +1,20 @@
+//! What a thread has printed, and its first fault, in depth-first order.
+//!
+//! A thread prints one number after another, until a fault ends its work; and behind the Join of a child all that the child left stands
+//! before what the thread did since its fork. [`Told`] keeps this in pieces that are joined in constant time, and [`Told::lines`] puts them
+//! into one list at the end.
+//!
+//! The layer stands on names of threads and lines, and on the depth-first run as a definition. Its one theorem is that what is told of the
+//! items of a run is just their lines before the first fault, and their first fault, whatever parts it was joined from.
+//!
+//! More than 4,294,967,295 lines are want of memory.
+#![tactic(auto)]
+
+mod laws;
+mod told;
+
+pub use laws::{faults_of_both, lines_of_both, quiet_items_tell_nothing};
+pub use told::{MAX_LINES, Told};
+
+#[cfg(test)]
+mod tests;
