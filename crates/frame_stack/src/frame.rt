@@ -1,0 +1,24 @@
+use crate::branch::Branch;
+use crate::list_of::ListOf;
+use dummy_tree::Tree;
+
+/// One thing that is left to a thread, by numbers of its code.
+#[derive(Clone, Copy, PartialEq, Eq, Debug)]
+pub enum Frame {
+    /// The statements of a list from the place `next` on.
+    Statements { list: ListOf, next: usize },
+    /// The loop of this node, once more.
+    Again(u32),
+    /// A tree of dummies.
+    Tree(Tree),
+    /// The end of the call of a node, behind which the function `caller` goes on.
+    Answers { node: u32, caller: u32 },
+    /// The end of the `split` of this node.
+    Rejoins(u32),
+    /// The end of `main`.
+    AnswersMain,
+    /// The allocation of `len` numbers under a slot, behind its dummies.
+    Allocates { slot: u16, len: u32 },
+    /// The Join of the newest open child.
+    Joins(Branch),
+}
