@@ -1,0 +1,11 @@
+pub mod Holding
+pub mod Steps
+pub mod Totals
+pub mod Splits
+pub mod Held
+pub mod Joining
+pub mod Forking
+pub mod Entering
+pub mod Passing
+pub mod Returning
+pub mod Returned

@@ -1,0 +1,27 @@
+//! The state of a thread: what it has beside what is left to it, and what single statements and single actions do to that.
+//!
+//! A thread has a label, counts, and a row of slots for each call that is open. It prints nothing and has no frames, and it asks a pool for
+//! nothing: blocks come from whoever took them, and go back where an action gives them back. An action is only prepared here where it needs
+//! memory (`prepare_fork`, `prepare_dummies`), and done by a call of its own that needs none. A fault is such an action: the call that finds
+//! it answers it and leaves the thread as it was, and `fault` does it.
+//!
+//! Stands on the rows of slots (`slot_store`), the node table and the depth-first run as a definition. Its one theorem is that each call
+//! leads from a state of the depth-first run to the state to which the definition's own function leads, for every state that the thread is in
+//! (`IsState`); that a call gives just the words back to the pool that the definition says; and that want of memory leaves the thread in its
+//! state. What must stand in the rows before a call is a condition of it, and is never tested.
+#![tactic(auto)]
+
+mod blocks;
+mod calls;
+mod ends;
+mod fork_room;
+mod forks;
+mod joins;
+mod simple;
+mod state;
+mod stop;
+mod words;
+
+pub use fork_room::ForkRoom;
+pub use state::ThreadState;
+pub use stop::Stop;
