@@ -1,0 +1,82 @@
+-- The end of a `split`, as the next frame.
+use Rattle.std.proofs.Common.{◌≡◌, ℕ, Bool, true, false, List, [], ◌∷◌, ◌++◌, Option, Some, None, refl, sym, ◌∙◌, ap, subst, append-nil}
+use Rattle.std.specs.Prelude.{map}
+use Rattle.par_tree.specs.Tree.{Name, Func}
+use Rattle.depth_first_run.specs.Stores.{Store}
+use Rattle.depth_first_run.specs.States.{Setting, State, skip_if, unless_faulted}
+use Rattle.depth_first_run.specs.Run.{on_store, rejoin_block}
+use Rattle.depth_first_run.specs.Middle as middles
+use Rattle.depth_first_run.specs.Middle.{middle, rejoins, step_frame}
+use Rattle.node_table.specs.Names.{slot_names, name_at}
+use Rattle.node_table.specs.Table as tables
+use Rattle.node_table.specs.Table.{Table, Kind, split_node}
+use Rattle.frame_stack.specs.declared.frame.Frame.{Frame}
+use Rattle.frame_stack.specs.declared.frame.Frame.TheVariants.{Rejoins}
+use Rattle.frame_stack.specs.Frames.{AreFrames, IsFrame, IsSplitNode, frames_shown}
+use Rattle.thread_steps.proofs.Firsts.{none_runs}
+use Rattle.frame_stack.specs.Lists.{kind_at}
+use Rattle.thread_state.specs.States.{IsState}
+use Rattle.thread_state.specs.declared.state.ThreadState.{ThreadState}
+use Rattle.thread_steps.specs.Stands.{InState}
+use Rattle.thread_steps.specs.Steps.{StepsBy}
+use Rattle.thread_steps.specs.declared.stepped.Stepped.{Stepped}
+use Rattle.thread_steps.specs.declared.done.Done.TheVariants.{Silent}
+
+abbrev block_in : Option Kind → ℕ
+block_in (Some (split_node s c l r x)) = s
+block_in other = 0
+
+abbrev left_in : Option Kind → ℕ
+left_in (Some (split_node s c l r x)) = l
+left_in other = 0
+
+abbrev right_in : Option Kind → ℕ
+right_in (Some (split_node s c l r x)) = r
+right_in other = 0
+
+quiet_items : (b : Bool) (f : Store → Store) (s : State) → State.items (skip_if b (on_store f) s) ≡ s.items
+quiet_items true f s = refl
+quiet_items false f s = refl
+
+pub same_items : (f : Store → Store) (s : State) → State.items (unless_faulted (on_store f) s) ≡ s.items
+unfolding unless_faulted
+same_items f s = quiet_items s.faulted f s
+
+-- the slots of a `split` have the names of its block and its parts
+renamed : (contexts : List (List Name)) (u : ThreadState) (b l r x y z : Name) (s : State) → x ≡ b → y ≡ l → z ≡ r
+    → IsState contexts u (unless_faulted (on_store (rejoin_block x y z)) s) → IsState contexts u (unless_faulted (on_store (rejoin_block b l r)) s)
+renamed contexts u b l r x y z s p q w is =
+    subst (λ (n : Name). IsState contexts u (unless_faulted (on_store (rejoin_block n l r)) s)) p
+    (subst (λ (n : Name). IsState contexts u (unless_faulted (on_store (rejoin_block x n r)) s)) q
+    (subst (λ (n : Name). IsState contexts u (unless_faulted (on_store (rejoin_block x y n)) s)) w is))
+
+pub rejoin_comes : (c : Setting) (t : Table) (g : Func) (gs : List Func) (u : ThreadState) (xs : List Frame) (fs : List middles.Frame) (s : State) (f : middles.Frame) (st : Stepped) (b l r : Name) (n slot : ℕ) (at : tables.Expr) (left right : ℕ) (body : List ℕ)
+    → st ≡ record { rest = None; done = Silent None None } → f ≡ rejoins b l r → IsSplitNode t (slot_names g) n b l r → kind_at t n ≡ Some (split_node slot at left right body)
+    → AreFrames c.program t (g ∷ gs) xs fs
+    → IsState (map slot_names (g ∷ gs)) u (unless_faulted (on_store (rejoin_block (name_at (slot_names g) slot) (name_at (slot_names g) left) (name_at (slot_names g) right))) s)
+    → StepsBy c t (g ∷ gs) u (frames_shown st.rest ++ xs) fs s f (step_frame c f fs s) st.done
+rejoin_comes c t g gs u xs fs s f st b l r n slot at left right body e is node there frames state =
+    let names = slot_names g in
+    let same : Some (split_node slot at left right body) ≡ Some (split_node node.block node.at node.left node.right node.body) = sym there ∙ node.there in
+    let whole : name_at names slot ≡ b = ap (λ (o : Option Kind). name_at names (block_in o)) same ∙ node.whole.reads in
+    let first : name_at names left ≡ l = ap (λ (o : Option Kind). name_at names (left_in o)) same ∙ node.first.reads in
+    let second : name_at names right ≡ r = ap (λ (o : Option Kind). name_at names (right_in o)) same ∙ node.rest.reads in
+    subst (λ (x : Stepped). StepsBy c t (g ∷ gs) u (frames_shown x.rest ++ xs) fs s f (step_frame c f fs s) x.done) (sym e)
+    (subst (λ (y : middles.Frame). StepsBy c t (g ∷ gs) u xs fs s y (step_frame c y fs s) (Silent None None)) (sym is) (
+      g ∷ gs,
+      frames,
+      renamed (map slot_names (g ∷ gs)) u b l r (name_at names slot) (name_at names left) (name_at names right) s whole first second state,
+      [],
+      same_items (rejoin_block b l r) s ∙ sym (append-nil s.items),
+      record { no_action = refl; no_line = refl; no_fault = refl },
+    ))
+
+pub rejoin_at : (c : Setting) (t : Table) (gs : List Func) (u v : ThreadState) (xs : List Frame) (fs : List middles.Frame) (s : State) (f : middles.Frame) (st : Stepped) (n slot : ℕ) (at : tables.Expr) (left right : ℕ) (body : List ℕ)
+    → st ≡ record { rest = None; done = Silent None None } → IsFrame c.program t gs (Rejoins n) f → kind_at t n ≡ Some (split_node slot at left right body)
+    → AreFrames c.program t gs xs fs → InState gs u s
+    → ((contexts : List (List Name)) (names : List Name) (q : State) → IsState (names ∷ contexts) u q
+    → IsState (names ∷ contexts) v (unless_faulted (on_store (rejoin_block (name_at names slot) (name_at names left) (name_at names right))) q))
+    → StepsBy c t gs v (frames_shown st.rest ++ xs) fs s f (step_frame c f fs s) st.done
+rejoin_at c t [] u v xs fs s f st n slot at left right body e frame there frames is goes = absurd (none_runs c.program t xs fs frames)
+rejoin_at c t (g ∷ gs) u v xs fs s f st n slot at left right body e frame there frames is goes =
+    rejoin_comes c t g gs v xs fs s f st frame.0 frame.1 frame.2 n slot at left right body e frame.3 frame.4 there frames (goes (map slot_names gs) (slot_names g) s is)

@@ -1,0 +1,7 @@
+pub mod Coming
+pub mod Which
+pub mod Knowing
+pub mod Arms
+pub mod Firsts
+pub mod Trees
+pub mod Ends
