@@ -1,6 +1,5 @@
 //! Calls of the program over streams in memory.
 mod checks;
-mod examples;
 mod peaks;
 mod plays;
 mod streams;

@@ -6,6 +6,8 @@
 #![tactic(auto)]
 
 #[cfg(test)]
+mod fault_numbers;
+#[cfg(test)]
 mod printing;
 #[cfg(test)]
 mod read_back;

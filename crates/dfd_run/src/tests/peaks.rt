@@ -293,56 +293,6 @@ fn one_action_more_than_the_limit_is_refused(rt: HostRuntime) -> Result<(), Fail
     Ok(())
 }
 
-/// A sum of 65,536 numbers by halves: its allocation of 16 quotas stands behind a tree of 16 dummies.
-const SUM: &str = "fn fill(use b, base) {
-  let n = len(b);
-  if n <= 1024 {
-    let i = 0;
-    while i < n { b[i] = base + i; i = i + 1; }
-  } else {
-    let h = n / 2;
-    split b at h into l, r {
-      par { call fill(use l, base); } and { call fill(use r, base + h); }
-    }
-  }
-}
-fn sum(use b) {
-  let n = len(b);
-  let s = 0;
-  if n <= 1024 {
-    let i = 0;
-    while i < n { s = s + b[i]; i = i + 1; }
-  } else {
-    let h = n / 2;
-    let t = 0;
-    split b at h into l, r {
-      par { call s = sum(use l); } and { call t = sum(use r); }
-    }
-    s = s + t;
-  }
-  return s;
-}
-fn main() {
-  alloc b = 65536;
-  call fill(use b, 0);
-  let s = 0;
-  call s = sum(use b);
-  print s;
-  free b;
-}
-";
-
-#[test]
-fn a_sum_by_halves(rt: HostRuntime) -> Result<(), Fail> {
-    let (status, written) = call_text(rt.alloc(), &["peak"], SUM)?;
-    assert_eq!(rt; status, Status::Done);
-    assert_eq!(rt;
-        written.as_slice(),
-        b"2147450880\n--\nend done\nactions 442\npeak 65632\n".as_slice()
-    );
-    Ok(())
-}
-
 #[test]
 fn a_source_may_be_too_long(rt: HostRuntime) -> Result<(), Fail> {
     let (status, written) = call(rt.alloc(), &["peak"], padded(rt.alloc(), "", 1_048_577)?)?;
