@@ -1,10 +1,15 @@
 #!/usr/bin/env bash
-# Measures what an action of a depth-first run costs: it makes programs of four kinds with 10,000 to 4,000,000 actions,
-# runs `./dfd peak` on each, and prints the seconds, the nanoseconds an action, and the most memory that was in use.
-# The time holds the start of the process and the reading of the source. Where GNU time is missing, no memory is told.
-# A run on one's own program: docs/benchmark.sh FILE
+# Measures what an action costs: it makes programs of four kinds with 10,000 to 4,000,000 actions, and runs each depth-first
+# (`peak`) and by 1, 4 and 64 workers (`play`), by the program and by the reference. It prints the nanoseconds an action of
+# both, how many times as long the program takes, and the most memory that the program had in use.
+# The time holds the start of the process and the reading of the source. Where GNU time is missing, no memory is told; where
+# the program cannot play a source yet, a dash stands.
+# A run on one's own program: docs/benchmark.sh FILE. Fewer sizes: MOST=100000 docs/benchmark.sh
+# The program is `./dfd`; that of another place: DFD=FILE docs/benchmark.sh
 set -u
 top="$(cd "$(dirname "$(readlink -f "$0")")/.." && pwd)"
+product="${DFD:-$top/dfd}"
+reference="$top/reference/out/reference"
 work="$(mktemp -d)"
 trap 'rm -rf "$work"' EXIT
 
@@ -27,49 +32,67 @@ calls='par { call work(i); } and { call work(i); }'
 
 clock() { date +%s%N; }
 
-# Runs a source, and sets seconds, actions and memory.
-measure() {
-    local start end status
+# Runs a command on a source, and sets nanoseconds and memory. Its text is in `$work/out`.
+measure() { # SOURCE COMMAND..
+    local source="$1" start end
+    shift
+    memory="-"
     if [ -n "$gnu_time" ]; then
         start="$(clock)"
-        "$gnu_time" -f %M -o "$work/memory" "$top/dfd" peak --k 16 --steps 4000000 < "$1" > "$work/out" 2> "$work/err"
-        status=$?
+        "$gnu_time" -f %M -o "$work/memory" "$@" < "$source" > "$work/out" 2> "$work/err"
         end="$(clock)"
         memory="$(($(tail -n 1 "$work/memory") / 1024)) MB"
     else
         start="$(clock)"
-        "$top/dfd" peak --k 16 --steps 4000000 < "$1" > "$work/out" 2> "$work/err"
-        status=$?
+        "$@" < "$source" > "$work/out" 2> "$work/err"
         end="$(clock)"
-        memory="-"
     fi
     nanoseconds=$((end - start))
-    actions="$(sed -n 's/^actions //p' "$work/out")"
-    if [ -z "$actions" ]; then
-        echo "benchmark: status $status $(head -n 1 "$work/out") $(head -n 1 "$work/err")" >&2
-        exit 1
-    fi
 }
 
-report() { # NAME FILE
-    measure "$2"
-    printf '%-10s %9d %6d.%03d %10d %10s\n' "$1" "$actions" \
-        $((nanoseconds / 1000000000)) $((nanoseconds / 1000000 % 1000)) $((nanoseconds / actions)) "$memory"
+# Whether the text that was written is the report of a run.
+is_report() { grep -q '^end ' "$work/out"; }
+
+# One line: a command of the program beside the same one of the reference. `peak` comes first, and tells the actions.
+compare() { # NAME SOURCE WORDS..
+    local name="$1" source="$2" of_reference of_product="-" ratio="-" used="-"
+    shift 2
+    measure "$source" "$reference" "$@" --k 16 --steps 4000000
+    is_report || { echo "benchmark: $name: $(head -n 1 "$work/out")" >&2; exit 1; }
+    of_reference="$nanoseconds"
+    [ "$1" = peak ] && actions="$(sed -n 's/^actions //p' "$work/out")"
+    measure "$source" "$product" "$@" --k 16 --steps 4000000
+    if is_report; then
+        of_product=$((nanoseconds / actions))
+        ratio="$((nanoseconds / of_reference)).$((nanoseconds * 10 / of_reference % 10))"
+        used="$memory"
+    fi
+    printf '%-10s %-12s %9d %8s %10d %7s %9s\n' \
+        "$name" "${*:1:3}" "$actions" "$of_product" $((of_reference / actions)) "$ratio" "$used"
+}
+
+report() { # NAME SOURCE
+    compare "$1" "$2" peak
+    for workers in 1 4 64; do
+        compare "$1" "$2" play --p "$workers" --arena 67108864
+    done
 }
 
 gnu_time="$(type -P time || true)"
 if [ -n "$gnu_time" ] && ! "$gnu_time" -f %M -o "$work/memory" true 2> /dev/null; then
     gnu_time=""
 fi
+"$top/reference/build" || exit 1
 # The first run builds the program, where it has to be built.
-echo 'fn main() { }' | "$top/dfd" peak > /dev/null || exit 1
+echo 'fn main() { }' | "$product" peak > /dev/null || exit 1
 
-printf '%-10s %9s %10s %10s %10s\n' program actions seconds "ns/action" memory
+printf '%-10s %-12s %9s %8s %10s %7s %9s\n' program command actions dfd reference ratio memory
 if [ $# -gt 0 ]; then
     report "$(basename "$1")" "$1"
     exit 0
 fi
 for most in 10000 100000 1000000 4000000; do
+    [ "$most" -le "${MOST:-4000000}" ] || continue
     for kind in "forks 3" "blocks 4" "dummies 7" "calls 3"; do
         set -- $kind
         parts=4

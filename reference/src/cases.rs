@@ -1,0 +1,178 @@
+//! Random cases: the words of a command and a source, by kinds.
+
+use crate::author::{program, Style};
+use crate::edges::edge;
+use crate::edits::{break_form, break_rule, lay_out};
+use crate::random::Random;
+use crate::tiny::tiny;
+
+pub struct Case {
+    pub kind: &'static str,
+    pub words: Vec<String>,
+    pub source: Vec<u8>,
+}
+
+pub const KINDS: [&str; 9] = ["good", "faulty", "blocks", "deep", "ill-formed", "ill-typed", "tiny", "prints", "words"];
+
+/// The case of a number. The same number gives the same case.
+pub fn case(number: u64) -> Case {
+    let mut random = Random(number.wrapping_mul(0x2545_f491_4f6c_dd1d));
+    let kind = KINDS[(number % KINDS.len() as u64) as usize];
+    let source = source_of(&mut random, kind);
+    let words = if kind == "words" { any_words(&mut random) } else { words_of(&mut random, kind) };
+    Case { kind, words, source }
+}
+
+fn source_of(random: &mut Random, kind: &str) -> Vec<u8> {
+    let text = match kind {
+        "good" => sized_program(random, false, false),
+        "faulty" => sized_program(random, true, true),
+        "deep" => edge(random),
+        "prints" => prints(random),
+        "tiny" => tiny(random),
+        "ill-formed" => {
+            let text = any_program(random, 14);
+            return break_form(random, &text);
+        }
+        "ill-typed" if random.once_in(2) => careless_program(random),
+        "ill-typed" => {
+            let text = any_program(random, 24);
+            break_rule(random, &text)
+        }
+        "words" => any_program(random, 6),
+        _ => sized_program(random, true, false),
+    };
+    if random.once_in(3) {
+        lay_out(random, &text).into_bytes()
+    } else {
+        text.into_bytes()
+    }
+}
+
+fn style(statements: u64, has_blocks: bool, is_faulty: bool) -> Style {
+    Style { has_blocks, is_faulty, careless: 0, statements }
+}
+
+fn careless_program(random: &mut Random) -> String {
+    let careless = *random.pick(&[4, 10, 25]);
+    let statements = random.between(2, 40);
+    program(random, Style { has_blocks: true, is_faulty: false, careless, statements })
+}
+
+fn sized_program(random: &mut Random, has_blocks: bool, is_faulty: bool) -> String {
+    let statements = random_size(random);
+    program(random, style(statements, has_blocks, is_faulty))
+}
+
+fn random_size(random: &mut Random) -> u64 {
+    if random.once_in(3) {
+        random.between(20, 120)
+    } else {
+        random.between(1, 30)
+    }
+}
+
+fn any_program(random: &mut Random, most: u64) -> String {
+    if random.once_in(12) {
+        return edge(random);
+    }
+    let statements = random.between(1, most);
+    let has_blocks = !random.once_in(4);
+    program(random, style(statements, has_blocks, false))
+}
+
+/// A program that only prints numbers and forks.
+fn prints(random: &mut Random) -> String {
+    let mut text = String::from("fn main() {\n");
+    print_list(random, &mut text, 0);
+    text + "}\n"
+}
+
+fn print_list(random: &mut Random, text: &mut String, level: u64) {
+    for _ in 0..random.below(4) {
+        if level < 8 && random.once_in(2) {
+            text.push_str("par {\n");
+            print_list(random, text, level + 1);
+            text.push_str("} and {\n");
+            print_list(random, text, level + 1);
+            text.push_str("}\n");
+        } else {
+            text.push_str(&format!("print {};\n", random.below(1_000)));
+        }
+    }
+}
+
+fn words_of(random: &mut Random, kind: &str) -> Vec<String> {
+    let is_checked = matches!(kind, "ill-formed" | "ill-typed" | "tiny");
+    let command = match random.below(8) {
+        0 if !is_checked => "check",
+        1..=5 if is_checked => "check",
+        6 | 7 if kind == "prints" => "play",
+        7 if is_checked => "play",
+        _ => "peak",
+    };
+    let mut words = vec![command.to_string()];
+    if command != "check" && random.once_in(2) {
+        let most = *random.pick(&[1, 1, 2, 4, 16, 256, 65_536]);
+        words.extend(option("k", 16 * random.between(1, most)));
+    }
+    if command == "peak" && random.once_in(5) {
+        words.extend(option("steps", random.between(1, 200)));
+    }
+    if command == "play" && random.once_in(2) {
+        words.extend(option("p", random.between(1, 64)));
+    }
+    words
+}
+
+fn option(name: &str, value: u64) -> Vec<String> {
+    vec![format!("--{name}"), value.to_string()]
+}
+
+const ANY_NAMES: [&str; 12] = ["k", "k", "k", "steps", "steps", "p", "K", "", "kk", "ste", "check", "-k"];
+const ANY_VALUES: [&str; 24] = [
+    "16",
+    "32",
+    "4096",
+    "016",
+    "1048576",
+    "1048592",
+    "0",
+    "1",
+    "24",
+    "",
+    "-16",
+    "+16",
+    "16.0",
+    "4000000",
+    "4000001",
+    "00000000000000000016",
+    "000000000000000000016",
+    "18446744073709551616",
+    "18446744073709551632",
+    "x",
+    " 16",
+    "16 ",
+    "=16",
+    "1",
+];
+
+/// Words that may be a command or none.
+fn any_words(random: &mut Random) -> Vec<String> {
+    let command = *random.pick(&["check", "check", "peak", "peak", "peak", "peak", "Peak", "", "--k", "help", "--", "pea"]);
+    let mut words = vec![command.to_string()];
+    for _ in 0..random.below(4) {
+        let (name, value) = (*random.pick(&ANY_NAMES), *random.pick(&ANY_VALUES));
+        match random.below(8) {
+            0 => words.push(format!("--{name}")),
+            1 => words.push(value.to_string()),
+            2..=4 => words.push(format!("--{name}={value}")),
+            _ => words.extend([format!("--{name}"), value.to_string()]),
+        }
+    }
+    if random.once_in(24) {
+        Vec::new()
+    } else {
+        words
+    }
+}

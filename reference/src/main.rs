@@ -1,0 +1,60 @@
+//! A second implementation of the language and of its scheduler, to compare the program with. It is written for being
+//! read: where it could be faster or shorter of words, it is not.
+
+mod author;
+mod canonical;
+mod cases;
+mod choices;
+mod command;
+mod compare;
+mod depth_first;
+mod edges;
+mod edits;
+mod evaluate;
+mod machine;
+mod mentions;
+mod ownership;
+mod parse;
+mod random;
+mod resolve;
+mod rows;
+mod selfcheck;
+mod smaller;
+mod stealing;
+mod thread;
+mod tiny;
+mod tokens;
+mod tree;
+mod words;
+mod world;
+
+use command::{answer, command_of, serve, Answer, READ_FAULT};
+use std::io::{Read, Write};
+use std::process::ExitCode;
+
+fn main() -> ExitCode {
+    let words: Vec<String> = std::env::args_os().skip(1).map(|word| word.to_string_lossy().into_owned()).collect();
+    match words.first().map(String::as_str) {
+        Some("rows") => ExitCode::from(rows::rows()),
+        Some("compare") => ExitCode::from(compare::compare(&words[1..])),
+        _ => write_out(&run(&words)),
+    }
+}
+
+fn run(words: &[String]) -> Answer {
+    let command = match command_of(words) {
+        Ok(command) => command,
+        Err(refusal) => return refusal,
+    };
+    let mut source = Vec::new();
+    match std::io::stdin().take(tokens::MOST_BYTES as u64 + 1).read_to_end(&mut source) {
+        Ok(_) => serve(&command, &source),
+        Err(_) => answer(2, READ_FAULT),
+    }
+}
+
+fn write_out(answer: &Answer) -> ExitCode {
+    let mut out = std::io::stdout();
+    let written = out.write_all(answer.text.as_bytes()).and_then(|()| out.flush());
+    ExitCode::from(if written.is_ok() { answer.status as u8 } else { 3 })
+}

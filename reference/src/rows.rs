@@ -1,0 +1,209 @@
+//! Worked rows: what a command has to answer to a source, and what runs by given words of choice come to. The answers were
+//! worked out by hand from the rules, and not by this program.
+
+use crate::choices::{Listed, Pcg};
+use crate::command::{accepted, answer_to, play_answer};
+use crate::machine::{play, Rules};
+use crate::resolve::resolve;
+
+/// A row: its name, the words, the source, the status, and the text, in which a slash marks the end of a line.
+struct Row(&'static str, &'static str, &'static str, i32, &'static str);
+
+const SMALL: &str = "fn main() { alloc b = 20; b[3] = 7; print b[3]; free b; }";
+const TWO_BLOCKS: &str = "fn main() { par { alloc a = 16; free a; } and { alloc b = 16; free b; } }";
+const LARGE: &str = "fn main() { alloc b = 40; free b; }";
+const THREE_LINES: &str = "fn main() { par { print 1; } and { print 2; } print 3; }";
+const ONE_PIECE: &str = "fn main() { alloc b = 16; free b; }";
+const SEVENTEEN: &str = "fn main() { alloc b = 17; free b; }";
+const EMPTY_BLOCK: &str = "fn main() { alloc z = 0; print len(z); print z[0]; free z; }";
+const TWO_FAULTS: &str = "fn main() {\n  par { print 1 / 0; }\n  and { print 2 % 0; }\n}\n";
+const CUT: &str = "fn main() { alloc b = 40; split b at 24 into l, r { print len(l); print len(r); } free b; }";
+const CUT_AT_32: &str = "fn main() { alloc b = 40; split b at 32 into l, r { print len(l); print len(r); } free b; }";
+const HANDED_BACK: &str =
+    "fn mk(n) { alloc b = n; b[0] = 5; return own b; } fn main() { call own x = mk(20); print x[0]; free x; }";
+const MANY_ACTIONS: &str = "fn main() { let i = 0; while i < 999999 { alloc a = 0; free a; alloc b = 0; free b; i = i + 1; } \
+     par { } and { } }";
+const HALVES: &str = include_str!("../../examples/halves.dfd");
+const USAGE: &str = "usage: dfd play|run|peak|check|make [options]/";
+const LARGE_TEXT: &str = "--/end done/periods 7/ahead 2/high 48/";
+
+const ROWS: &[Row] = &[
+    Row("a small block", "play --k 64 --p 1", SMALL, 0, "7/--/end done/periods 1/ahead 0/high 32/"),
+    Row("an empty source", "play", "", 4, "syntax Expected at 0/"),
+    Row("a fork that fills the quota", "play --k 16 --p 1", TWO_BLOCKS, 0, "--/end done/periods 3/ahead 1/high 32/"),
+    Row("one piece over the quota", "play --k 32 --p 1", TWO_BLOCKS, 0, "--/end done/periods 2/ahead 0/high 32/"),
+    Row("just the quota", "play --k 48 --p 1", TWO_BLOCKS, 0, "--/end done/periods 1/ahead 0/high 32/"),
+    Row("a tree of three dummies", "play --k 16 --p 1", LARGE, 0, LARGE_TEXT),
+    Row("a value with a leading zero", "play --k=016 --p 1", LARGE, 0, LARGE_TEXT),
+    Row("one piece", "play --k 16 --p 1", ONE_PIECE, 0, "--/end done/periods 1/ahead 0/high 16/"),
+    Row("two dummies", "play --k 16 --p 1", SEVENTEEN, 0, "--/end done/periods 4/ahead 1/high 32/"),
+    Row("an empty block", "play --p 1", EMPTY_BLOCK, 6, "0/--/end fault Index line 1/periods 1/ahead 0/high 0/"),
+    Row("a full arena", "play --k 16 --p 1 --arena 32", LARGE, 8, "stop ArenaFull live 0 asked 48/"),
+    Row(
+        "a block in both branches",
+        "check",
+        "fn main() {\n  alloc b = 16;\n  par { b[0] = 1; } and { b[1] = 2; }\n  free b;\n}\n",
+        5,
+        "check SharedBlock line 3 name b/",
+    ),
+    Row(
+        "a block freed in one arm",
+        "check",
+        "fn main() {\n  alloc b = 16;\n  if 1 { free b; } else { }\n}\n",
+        5,
+        "check ArmsDiffer line 3 name b/",
+    ),
+    Row("a block that is kept", "check", "fn main() { alloc b = 16; }", 5, "check NotFreed line 1 name b/"),
+    Row("two faults", "play --p 1", TWO_FAULTS, 6, "--/end fault Divide line 2/periods 1/ahead 0/high 16/"),
+    Row("a cut within a piece", "play --k 64 --p 1", CUT, 6, "--/end fault Split line 1/periods 1/ahead 0/high 48/"),
+    Row("a cut between pieces", "play --k 64 --p 1", CUT_AT_32, 0, "32/8/--/end done/periods 1/ahead 0/high 48/"),
+    Row("a text that is cut", "play", "fn main() { par { print 1; }", 4, "syntax Expected at 28/"),
+    Row("just enough steps", "play --k 64 --p 1 --steps 3", SMALL, 0, "7/--/end done/periods 1/ahead 0/high 32/"),
+    Row("a step too few", "play --k 64 --p 1 --steps 2", SMALL, 7, "stop StepsSpent limit 2/"),
+    Row("four million actions", "play --p 1", MANY_ACTIONS, 0, "--/end done/periods 1/ahead 0/high 16/"),
+    Row("one action more", "play --p 1 --steps 3999999", MANY_ACTIONS, 7, "stop StepsSpent limit 3999999/"),
+    Row("a sum by halves", "peak", HALVES, 0, "2147450880/--/end done/actions 442/peak 65632/"),
+    Row("two deques allowed", "play --k 16 --p 1 --deques 2", LARGE, 9, "stop DequesFull deques 2/"),
+    Row("no words", "", LARGE, 1, USAGE),
+    Row("half a piece", "play --k 24", LARGE, 1, USAGE),
+    Row("no workers", "play --p 0", LARGE, 1, USAGE),
+    Row("65 workers", "play --p 65", LARGE, 1, USAGE),
+    Row("an option twice", "play --k 16 --k 16", LARGE, 1, USAGE),
+    Row("a lone mark", "play --", LARGE, 1, USAGE),
+    Row("an option of another command", "check --k 16", LARGE, 1, USAGE),
+    Row("a nameless option", "play --=16", LARGE, 1, USAGE),
+    Row("an option without digits", "play --k=", LARGE, 1, USAGE),
+    Row("21 digits", "play --k 000000000000000000016", LARGE, 1, USAGE),
+    Row("the canonical text", "check", SMALL, 0, "fn main() {/  alloc b = 20;/  b[3] = 7;/  print b[3];/  free b;/}/"),
+    Row("an empty program", "play --p 1", "fn main() { }", 0, "--/end done/periods 1/ahead 0/high 0/"),
+    Row("lines in order", "play --k 16 --p 1", THREE_LINES, 0, "1/2/3/--/end done/periods 1/ahead 0/high 16/"),
+    Row("a sum", "play --p 1", "fn main() { print 1 + 1; }", 0, "2/--/end done/periods 1/ahead 0/high 0/"),
+    Row("a block handed back", "play --k 64 --p 1", HANDED_BACK, 0, "5/--/end done/periods 1/ahead 0/high 32/"),
+    Row(
+        "a block handed back to none",
+        "check",
+        "fn mk() { alloc b = 1; return own b; } fn main() { call mk(); }",
+        5,
+        "check WrongKind line 1 name mk/",
+    ),
+    Row(
+        "a lent block handed back",
+        "check",
+        "fn f(use b) { return own b; } fn main() { }",
+        5,
+        "check FreesLent line 1 name b/",
+    ),
+    Row("a main that hands back", "check", "fn main() { alloc b = 1; return own b; }", 5, "check NoMain line 1 name main/"),
+    Row(
+        "a declaration names",
+        "check",
+        "fn main() { let x = 0; par { let x = 1; } and { x = 2; } }",
+        5,
+        "check SharedInt line 1 name x/",
+    ),
+    Row(
+        "an operand after a fault",
+        "peak",
+        "fn main() { alloc z = 1; print 1 / 0 * z[9]; free z; }",
+        6,
+        "--/end fault Divide line 1/actions 3/peak 16/",
+    ),
+];
+
+/// A row of the machine: its name, the source, the quota, the workers, the arena, the words of choice, and the text.
+struct Drawn(&'static str, &'static str, u64, usize, u64, &'static [u64], &'static str);
+
+const ARENA: u64 = 1_048_576;
+
+const DRAWN: &[Drawn] = &[
+    Drawn(
+        "a root that is stolen and waits",
+        THREE_LINES,
+        16,
+        2,
+        ARENA,
+        &[0, 0, 0, 1, 0, 1, 0, 0, 0],
+        "1/2/3/--/end done/periods 2/ahead 1/high 16/",
+    ),
+    Drawn(
+        "two blocks at once",
+        TWO_BLOCKS,
+        32,
+        2,
+        ARENA,
+        &[0, 0, 0, 1, 0, 0, 1, 1, 1, 0, 0, 0, 0],
+        "--/end done/periods 2/ahead 1/high 48/",
+    ),
+    Drawn(
+        "two blocks at once in a small arena",
+        TWO_BLOCKS,
+        32,
+        2,
+        32,
+        &[0, 0, 0, 1, 0, 0, 1, 1, 1, 0, 0, 0, 0],
+        "stop ArenaFull live 32 asked 16/",
+    ),
+    Drawn(
+        "a fault that is first in time only",
+        TWO_FAULTS,
+        4_096,
+        2,
+        ARENA,
+        &[0, 0, 0, 1, 0, 1, 1, 0, 0, 0, 0],
+        "--/end fault Divide line 2/periods 2/ahead 1/high 16/",
+    ),
+];
+
+/// The first outputs of the generator of state 42 and stream 54, as they are published with it.
+const PUBLISHED: [u32; 6] = [0xa15c_02b7, 0x7b47_f409, 0xba1d_3330, 0x83d2_f293, 0xbfa4_784b, 0xcbed_606e];
+
+/// The first 64 bits of the generator of seed 0, as the tests of rand_pcg state them.
+const OF_SEED_0: u64 = 18_195_738_587_432_868_099;
+
+/// Prints each row with `right` or `WRONG`. The answer is the exit status: 0 where all are right.
+pub fn rows() -> u8 {
+    let mut tally = Tally { right: 0, wrong: 0 };
+    for Row(name, words, source, status, text) in ROWS {
+        let words: Vec<String> = words.split_whitespace().map(String::from).collect();
+        let got = answer_to(&words, source.as_bytes());
+        tally.tell(name, &format!("{status} {text}"), &format!("{} {}", got.status, got.text.replace('\n', "/")));
+    }
+    for row in DRAWN {
+        tally.tell(row.0, row.6, &drawn(row));
+    }
+    let too_long = answer_to(&["check".to_string()], &[b' '; 1_048_577]);
+    tally.tell("a source that is too long", "syntax TooLong at 1048576\n", &too_long.text);
+    let mut pcg = Pcg::new(42, 54);
+    tally.tell("the published outputs", &format!("{PUBLISHED:?}"), &format!("{:?}", [(); 6].map(|()| pcg.next_u32())));
+    let mut seeded = Pcg::from_seed(0);
+    let first = u64::from(seeded.next_u32()) | u64::from(seeded.next_u32()) << 32;
+    tally.tell("the published output of seed 0", &OF_SEED_0.to_string(), &first.to_string());
+    println!("rows: {} right, {} wrong", tally.right, tally.wrong);
+    u8::from(tally.wrong > 0)
+}
+
+fn drawn(row: &Drawn) -> String {
+    let Drawn(_, source, quota, workers, arena, words, _) = *row;
+    let rules = Rules { quota, workers, arena, steps: 4_000_000, deques: 4_096 };
+    match accepted(source.as_bytes()) {
+        Err(refusal) => refusal.text,
+        Ok(program) => play_answer(play(&resolve(&program), rules, &mut Listed(words)), rules).text.replace('\n', "/"),
+    }
+}
+
+struct Tally {
+    right: u32,
+    wrong: u32,
+}
+
+impl Tally {
+    fn tell(&mut self, name: &str, due: &str, got: &str) {
+        if due == got {
+            self.right += 1;
+            println!("right: {name}");
+        } else {
+            self.wrong += 1;
+            println!("WRONG: {name}: due is {due}; it is {got}");
+        }
+    }
+}

@@ -1,0 +1,43 @@
+//! What the reference's own runs by workers have to keep: they print what the depth-first run prints, and their words in use
+//! are at most its peak and twice the quota for each period ahead.
+
+use crate::choices::Pcg;
+use crate::depth_first::{depth_first, PeakReport};
+use crate::machine::{play, Rules};
+use crate::random::Random;
+use crate::resolve::resolve;
+use crate::stealing::steal;
+use crate::thread::Code;
+use crate::tree::Program;
+
+const STEPS: u64 = 200_000;
+const ARENA: u64 = 1 << 40;
+
+/// The promise that a run breaks, or none.
+pub fn broken_promise(program: &Program<String>, number: u64) -> Option<String> {
+    let mut random = Random(number);
+    let code = resolve(program);
+    let quota = 16 * *random.pick(&[1, 1, 2, 3, 4, 16, 256]);
+    let serial = depth_first(&code, quota, STEPS)?;
+    let workers = random.between(1, 64) as usize;
+    let rules = Rules { quota, workers, arena: ARENA, steps: STEPS, deques: usize::MAX };
+    broken_by_play(&code, rules, &serial, random.word()).or_else(|| broken_by_theft(&code, rules, &serial, random.word()))
+}
+
+fn broken_by_play(code: &Code, rules: Rules, serial: &PeakReport, seed: u64) -> Option<String> {
+    let Ok(played) = play(code, rules, &mut Pcg::from_seed(seed)) else {
+        return Some("a run by workers stops where the depth-first run does not".to_string());
+    };
+    if (&played.lines, played.finish) != (&serial.lines, serial.finish) {
+        return Some("a run by workers prints something else than the depth-first run".to_string());
+    }
+    let bound = serial.peak + 2 * rules.quota * played.ahead;
+    (played.high > bound).then(|| format!("{} words are in use, above the bound of {bound}", played.high))
+}
+
+fn broken_by_theft(code: &Code, rules: Rules, serial: &PeakReport, seed: u64) -> Option<String> {
+    match steal(code, rules.workers, STEPS, &mut Pcg::from_seed(seed)) {
+        Ok(stolen) if (&stolen.lines, stolen.finish) == (&serial.lines, serial.finish) => None,
+        _ => Some("plain work stealing prints something else than the depth-first run".to_string()),
+    }
+}

@@ -1,0 +1,73 @@
+//! The command line.
+
+use std::collections::HashMap;
+
+#[derive(Clone, Debug, PartialEq, Eq)]
+pub struct Command {
+    pub name: &'static str,
+    numbers: HashMap<&'static str, u64>,
+}
+
+struct Rule {
+    name: &'static str,
+    least: u64,
+    most: u64,
+    factor: u64,
+    default: u64,
+}
+
+const fn rule(name: &'static str, least: u64, most: u64, factor: u64, default: u64) -> Rule {
+    Rule { name, least, most, factor, default }
+}
+
+const RULES: [Rule; 6] = [
+    rule("k", 16, 1_048_576, 16, 4_096),
+    rule("p", 1, 64, 1, 4),
+    rule("arena", 16, 67_108_864, 16, 1_048_576),
+    rule("steps", 1, 4_000_000, 1, 4_000_000),
+    rule("deques", 1, 4_096, 1, 4_096),
+    rule("seed", 0, u64::MAX, 1, 1),
+];
+
+const COMMANDS: [(&str, &[&str]); 4] = [
+    ("check", &[]),
+    ("peak", &["k", "steps"]),
+    ("play", &["k", "p", "arena", "steps", "deques", "seed"]),
+    ("steal", &["p", "steps", "seed"]),
+];
+
+const MOST_DIGITS: usize = 20;
+
+impl Command {
+    /// The number of an option, as it was given or by default.
+    pub fn number(&self, name: &str) -> u64 {
+        let default = RULES.iter().find(|rule| rule.name == name).map_or(0, |rule| rule.default);
+        self.numbers.get(name).copied().unwrap_or(default)
+    }
+}
+
+/// The command that the words give, or none.
+pub fn read_words(words: &[String]) -> Option<Command> {
+    let (first, rest) = words.split_first()?;
+    let (name, options) = COMMANDS.iter().find(|(name, _)| name == first)?;
+    let mut numbers = HashMap::new();
+    let mut rest = rest.iter();
+    while let Some(word) = rest.next() {
+        let item = word.strip_prefix("--")?;
+        let (option, value) = match item.split_once('=') {
+            Some(pair) => pair,
+            None => (item, rest.next()?.as_str()),
+        };
+        let rule = RULES.iter().find(|rule| rule.name == option && options.contains(&rule.name))?;
+        if numbers.insert(rule.name, number(value, rule)?).is_some() {
+            return None;
+        }
+    }
+    Some(Command { name, numbers })
+}
+
+fn number(text: &str, rule: &Rule) -> Option<u64> {
+    let is_number = (1..=MOST_DIGITS).contains(&text.len()) && text.bytes().all(|byte| byte.is_ascii_digit());
+    let value = if is_number { text.parse::<u64>().ok()? } else { return None };
+    ((rule.least..=rule.most).contains(&value) && value % rule.factor == 0).then_some(value)
+}
