@@ -3,12 +3,15 @@
 use crate::canonical::canonical_text;
 use crate::choices::Pcg;
 use crate::depth_first::{depth_first, PeakReport};
+use crate::in_threads;
 use crate::machine::{play, PlayReport, Rules, Stop};
+use crate::made::made_source;
 use crate::ownership::check;
 use crate::parse::parse;
 use crate::resolve::resolve;
 use crate::stealing::{steal, StealReport};
 use crate::thread::Code;
+use crate::trace::trace;
 use crate::tree::Program;
 use crate::words::{read_words, Command};
 use crate::world::Finish;
@@ -33,7 +36,24 @@ pub fn command_of(words: &[String]) -> Result<Command, Answer> {
 }
 
 pub fn answer_to(words: &[String], source: &[u8]) -> Answer {
-    command_of(words).map_or_else(|refusal| refusal, |command| serve(&command, source))
+    match command_of(words) {
+        Err(refusal) => refusal,
+        Ok(command) if command.name == "make" => make(&command),
+        Ok(command) => serve(&command, source),
+    }
+}
+
+/// Plays the made source. It reads nothing.
+pub fn make(command: &Command) -> Answer {
+    let source = made_source(command.groups);
+    match accepted(source.as_bytes()) {
+        Err(refusal) => refusal,
+        Ok(program) => {
+            let rules = rules_of(command);
+            let played = play(&resolve(&program), rules, &mut Pcg::from_seed(command.number("seed")));
+            played.map_or_else(|stop| stop_answer(stop, rules), |report| summary_answer(source.len(), &report))
+        }
+    }
 }
 
 pub fn accepted(source: &[u8]) -> Result<Program<String>, Answer> {
@@ -42,6 +62,7 @@ pub fn accepted(source: &[u8]) -> Result<Program<String>, Answer> {
     Ok(program)
 }
 
+/// Serves a command that reads a source.
 pub fn serve(command: &Command, source: &[u8]) -> Answer {
     match accepted(source) {
         Err(refusal) => refusal,
@@ -51,19 +72,21 @@ pub fn serve(command: &Command, source: &[u8]) -> Answer {
 }
 
 fn run(command: &Command, code: &Code) -> Answer {
-    let number = |name| command.number(name);
-    let steps = number("steps");
+    let (rules, seed) = (rules_of(command), command.number("seed"));
+    let mut choices = Pcg::from_seed(seed);
     match command.name {
-        "peak" => peak_answer(depth_first(code, number("k"), steps), steps),
+        "peak" => peak_answer(depth_first(code, rules.quota, rules.steps), rules),
         "steal" => {
-            let stolen = steal(code, number("p") as usize, steps, &mut Pcg::from_seed(number("seed")));
-            stolen.map_or_else(|stop| stop_answer(stop, steps, 0), steal_answer)
+            let stolen = steal(code, rules.workers, rules.steps, &mut choices);
+            stolen.map_or_else(|stop| stop_answer(stop, rules), steal_answer)
         }
-        _ => {
-            let rules = rules_of(command);
-            let played = play(code, rules, &mut Pcg::from_seed(number("seed")));
-            play_answer(played, rules)
+        "run" => play_answer(in_threads::run(code, rules, seed), rules),
+        "trace" => {
+            let mut events = String::new();
+            let Answer { status, text } = play_answer(trace(code, rules, &mut choices, &mut events), rules);
+            answer(status, events + &text)
         }
+        _ => play_answer(play(code, rules, &mut choices), rules),
     }
 }
 
@@ -79,7 +102,7 @@ pub fn rules_of(command: &Command) -> Rules {
 
 pub fn play_answer(played: Result<PlayReport, Stop>, rules: Rules) -> Answer {
     match played {
-        Err(stop) => stop_answer(stop, rules.steps, rules.deques),
+        Err(stop) => stop_answer(stop, rules),
         Ok(report) => {
             let numbers = [("periods", report.periods), ("ahead", report.ahead), ("high", report.high)];
             report_answer(&report.lines, report.finish, &numbers)
@@ -87,9 +110,9 @@ pub fn play_answer(played: Result<PlayReport, Stop>, rules: Rules) -> Answer {
     }
 }
 
-fn peak_answer(report: Option<PeakReport>, steps: u64) -> Answer {
+fn peak_answer(report: Option<PeakReport>, rules: Rules) -> Answer {
     match report {
-        None => stop_answer(Stop::StepsSpent, steps, 0),
+        None => stop_answer(Stop::StepsSpent, rules),
         Some(it) => report_answer(&it.lines, it.finish, &[("actions", it.actions), ("peak", it.peak)]),
     }
 }
@@ -98,12 +121,26 @@ fn steal_answer(it: StealReport) -> Answer {
     report_answer(&it.lines, it.finish, &[("actions", it.actions), ("steals", it.steals), ("high", it.high)])
 }
 
-fn stop_answer(stop: Stop, steps: u64, deques: usize) -> Answer {
+fn stop_answer(stop: Stop, rules: Rules) -> Answer {
     match stop {
-        Stop::StepsSpent => answer(7, format!("stop StepsSpent limit {steps}\n")),
+        Stop::StepsSpent => answer(7, format!("stop StepsSpent limit {}\n", rules.steps)),
         Stop::ArenaFull { live, asked } => answer(8, format!("stop ArenaFull live {live} asked {asked}\n")),
-        Stop::DequesFull => answer(9, format!("stop DequesFull deques {deques}\n")),
+        Stop::DequesFull => answer(9, format!("stop DequesFull deques {}\n", rules.deques)),
     }
+}
+
+/// What `make` tells of its run: the lines are counted and added up.
+fn summary_answer(bytes: usize, it: &PlayReport) -> Answer {
+    let total = it.lines.iter().fold(0_i64, |sum, line| sum.wrapping_add(*line));
+    let text = format!(
+        "bytes {bytes}\nlines {}\ntotal {total}\nactions {}\nperiods {}\nahead {}\nhigh {}\n",
+        it.lines.len(),
+        it.actions,
+        it.periods,
+        it.ahead,
+        it.high
+    );
+    answer(0, text)
 }
 
 fn report_answer(lines: &[i64], finish: Finish, numbers: &[(&str, u64)]) -> Answer {

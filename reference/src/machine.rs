@@ -5,6 +5,7 @@ use crate::thread::{Code, Next};
 use crate::world::{Done, Finish, World};
 use std::collections::HashMap;
 
+/// A run has at most so many words in use, actions and deques.
 #[derive(Clone, Copy)]
 pub struct Rules {
     pub quota: u64,
@@ -24,17 +25,42 @@ pub enum Stop {
 pub struct PlayReport {
     pub lines: Vec<i64>,
     pub finish: Finish,
+    pub actions: u64,
     pub periods: u64,
     pub ahead: u64,
     pub high: u64,
 }
 
-struct Deque {
-    owner: Option<usize>,
+pub struct Deque {
+    /// No other deque of the run has this number.
+    pub id: u64,
+    pub owner: Option<usize>,
     /// From the bottom to the top.
-    threads: Vec<usize>,
-    /// What the period of the owner has used of the quota.
+    pub threads: Vec<usize>,
+    /// The last period that began in this deque.
+    period: u64,
+    /// What this period has used of the quota.
     used: u64,
+}
+
+/// What happened: who did it, in which period, in which deque, and by which thread.
+pub struct Event<'a> {
+    pub worker: usize,
+    pub period: u64,
+    pub deque: u64,
+    pub thread: usize,
+    pub what: What<'a>,
+}
+
+pub enum What<'a> {
+    /// The thread was stolen from this deque.
+    Stole(u64),
+    /// The thread forked this child.
+    Forked(usize),
+    /// The thread did another action.
+    Did(Next<'a>),
+    GaveUp,
+    Suspended,
 }
 
 impl Deque {
@@ -43,11 +69,11 @@ impl Deque {
     }
 }
 
-struct Machine<'a> {
+pub struct Machine<'a> {
     rules: Rules,
-    world: World<'a>,
+    pub world: World<'a>,
     /// From left to right.
-    deques: Vec<Deque>,
+    pub deques: Vec<Deque>,
     /// Where in the list the deque of each worker stands; none while it is idle.
     places: Vec<Option<usize>>,
     /// The thread that waits for a child, by the child.
@@ -59,19 +85,18 @@ struct Machine<'a> {
 /// Runs a program by the words of choice, and gives its report or the stop.
 pub fn play(code: &Code, rules: Rules, choices: &mut impl Choices) -> Result<PlayReport, Stop> {
     let mut machine = Machine::new(code, rules);
-    while !machine.deques.is_empty() {
+    while !machine.has_ended() {
         machine.turn(choices)?;
     }
-    let (lines, finish) = machine.world.lines_and_finish();
-    Ok(PlayReport { lines, finish, periods: machine.periods, ahead: machine.ahead, high: machine.world.high })
+    Ok(machine.report())
 }
 
 impl<'a> Machine<'a> {
-    fn new(code: &'a Code, rules: Rules) -> Self {
+    pub fn new(code: &'a Code, rules: Rules) -> Self {
         Machine {
             rules,
             world: World::new(code, rules.quota),
-            deques: vec![Deque { owner: None, threads: vec![0], used: 0 }],
+            deques: vec![Deque { id: 0, owner: None, threads: vec![0], period: 0, used: 0 }],
             places: vec![None; rules.workers],
             waiting: HashMap::new(),
             periods: 0,
@@ -79,24 +104,48 @@ impl<'a> Machine<'a> {
         }
     }
 
+    pub fn has_ended(&self) -> bool {
+        self.deques.is_empty()
+    }
+
+    pub fn report(&self) -> PlayReport {
+        let (lines, finish) = self.world.lines_and_finish();
+        let World { actions, high, .. } = self.world;
+        PlayReport { lines, finish, actions, periods: self.periods, ahead: self.ahead, high }
+    }
+
     fn leftmost(&self) -> usize {
         self.rules.workers.min(self.deques.len())
     }
 
+    fn is_any_ready(&self) -> bool {
+        self.deques[..self.leftmost()].iter().any(Deque::is_ready)
+    }
+
+    /// An owner can always move, and an idle worker where there is something to steal.
+    pub fn can_move(&self, worker: usize) -> bool {
+        self.places[worker].is_some() || self.is_any_ready()
+    }
+
     /// The first of the workers from this word on that can move does its event.
-    fn turn(&mut self, choices: &mut impl Choices) -> Result<(), Stop> {
+    pub fn turn(&mut self, choices: &mut impl Choices) -> Result<Event<'a>, Stop> {
         let word = choices.word();
-        let is_any_ready = self.deques[..self.leftmost()].iter().any(Deque::is_ready);
+        let is_any_ready = self.is_any_ready();
         let worker = around(word, self.rules.workers)
             .find(|worker| is_any_ready || self.places[*worker].is_some())
             .expect("there is always a worker that can move");
+        self.step(worker, choices)
+    }
+
+    /// A worker that can move does its event.
+    pub fn step(&mut self, worker: usize, choices: &mut impl Choices) -> Result<Event<'a>, Stop> {
         match self.places[worker] {
             Some(place) => self.act(worker, place),
             None => self.steal(worker, choices.word()),
         }
     }
 
-    fn steal(&mut self, worker: usize, word: u64) -> Result<(), Stop> {
+    fn steal(&mut self, worker: usize, word: u64) -> Result<Event<'a>, Stop> {
         let victim = around(word, self.leftmost())
             .find(|place| self.deques[*place].is_ready())
             .expect("an idle worker moves only where a deque is ready");
@@ -104,19 +153,20 @@ impl<'a> Machine<'a> {
         if !is_taken_over && self.deques.len() == self.rules.deques {
             return Err(Stop::DequesFull);
         }
+        self.periods += 1;
+        let from = self.deques[victim].id;
         let thread = self.deques[victim].threads.remove(0);
-        let place = if is_taken_over {
+        let (place, id) = if is_taken_over {
             self.deques.remove(victim);
-            victim
+            (victim, from)
         } else {
             self.move_places(victim + 1, 1);
-            victim + 1
+            (victim + 1, self.periods)
         };
-        self.deques.insert(place, Deque { owner: Some(worker), threads: vec![thread], used: 0 });
+        self.deques.insert(place, Deque { id, owner: Some(worker), threads: vec![thread], period: self.periods, used: 0 });
         self.places[worker] = Some(place);
-        self.periods += 1;
         self.ahead += u64::from(place > 0);
-        Ok(())
+        Ok(Event { worker, period: self.periods, deque: id, thread, what: What::Stole(from) })
     }
 
     /// The deques from this place on move by one to the right or to the left.
@@ -138,25 +188,30 @@ impl<'a> Machine<'a> {
         self.move_places(place + 1, -1);
     }
 
-    fn act(&mut self, worker: usize, place: usize) -> Result<(), Stop> {
+    fn act(&mut self, worker: usize, place: usize) -> Result<Event<'a>, Stop> {
+        let Deque { id, period, .. } = self.deques[place];
         let thread = *self.deques[place].threads.last().expect("no deque is empty");
+        let what = self.do_next(thread, worker, place)?;
+        Ok(Event { worker, period, deque: id, thread, what })
+    }
+
+    fn do_next(&mut self, thread: usize, worker: usize, place: usize) -> Result<What<'a>, Stop> {
         let next = self.world.next(thread);
         if let Next::Join(child) = next {
             if !self.world.has_ended(child) {
                 self.suspend(worker, place, child);
-                return Ok(());
+                return Ok(What::Suspended);
             }
         }
         let asked = World::asked(next);
         let charged = self.charge(next, asked);
         if self.deques[place].used + charged > self.rules.quota {
             self.give_up(worker, place);
-            return Ok(());
+            return Ok(What::GaveUp);
         }
         self.refuse(next, asked)?;
         self.deques[place].used += charged;
-        self.after(next, thread, worker, place);
-        Ok(())
+        Ok(self.after(next, thread, worker, place))
     }
 
     fn suspend(&mut self, worker: usize, place: usize, child: usize) {
@@ -189,13 +244,17 @@ impl<'a> Machine<'a> {
         }
     }
 
-    fn after(&mut self, next: Next, thread: usize, worker: usize, place: usize) {
+    fn after(&mut self, next: Next<'a>, thread: usize, worker: usize, place: usize) -> What<'a> {
         match self.world.act(thread) {
-            Done::Forked(child) => self.deques[place].threads.push(child),
+            Done::Forked(child) => {
+                self.deques[place].threads.push(child);
+                return What::Forked(child);
+            }
             Done::Ended => self.ended(thread, worker, place),
             Done::Other if matches!(next, Next::Dummy) => self.give_up(worker, place),
             Done::Other => {}
         }
+        What::Did(next)
     }
 
     fn ended(&mut self, thread: usize, worker: usize, place: usize) {

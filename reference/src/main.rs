@@ -11,7 +11,9 @@ mod depth_first;
 mod edges;
 mod edits;
 mod evaluate;
+mod in_threads;
 mod machine;
+mod made;
 mod mentions;
 mod ownership;
 mod parse;
@@ -24,11 +26,12 @@ mod stealing;
 mod thread;
 mod tiny;
 mod tokens;
+mod trace;
 mod tree;
 mod words;
 mod world;
 
-use command::{answer, command_of, serve, Answer, READ_FAULT};
+use command::{answer, command_of, make, serve, Answer, READ_FAULT};
 use std::io::{Read, Write};
 use std::process::ExitCode;
 
@@ -46,6 +49,9 @@ fn run(words: &[String]) -> Answer {
         Ok(command) => command,
         Err(refusal) => return refusal,
     };
+    if command.name == "make" {
+        return make(&command);
+    }
     let mut source = Vec::new();
     match std::io::stdin().take(tokens::MOST_BYTES as u64 + 1).read_to_end(&mut source) {
         Ok(_) => serve(&command, &source),

@@ -2,7 +2,7 @@
 //! worked out by hand from the rules, and not by this program.
 
 use crate::choices::{Listed, Pcg};
-use crate::command::{accepted, answer_to, play_answer};
+use crate::command::{accepted, answer_to, play_answer, Answer};
 use crate::machine::{play, Rules};
 use crate::resolve::resolve;
 
@@ -26,6 +26,29 @@ const MANY_ACTIONS: &str = "fn main() { let i = 0; while i < 999999 { alloc a = 
 const HALVES: &str = include_str!("../../examples/halves.dfd");
 const USAGE: &str = "usage: dfd play|run|peak|check|make [options]/";
 const LARGE_TEXT: &str = "--/end done/periods 7/ahead 2/high 48/";
+/// Each event of the run of `LARGE` by one worker with a quota of 16: worker, period, deque, thread, action, words, deques.
+const LARGE_EVENTS: &str = "event worker period deque thread action words | deque:owner:threads from the top ../\
+    1 0 1 0 [] steal:0 0 | 0:0:[]/\
+    2 0 1 0 [] fork:[1] 16 | 0:0:[1][]/\
+    3 0 1 0 [1] give-up 16 | 0:-:[1][]/\
+    4 0 2 2 [] steal:0 16 | 0:-:[1] 2:0:[]/\
+    5 0 2 2 [] dummy 16 | 0:-:[1] 2:-:[]/\
+    6 0 3 0 [1] steal:0 16 | 0:0:[1] 2:-:[]/\
+    7 0 3 0 [1] fork:[1,1] 32 | 0:0:[1,1][1] 2:-:[]/\
+    8 0 3 0 [1,1] dummy 32 | 0:-:[1,1][1] 2:-:[]/\
+    9 0 4 4 [1] steal:0 32 | 0:-:[1,1] 4:0:[1] 2:-:[]/\
+    10 0 4 4 [1] dummy 32 | 0:-:[1,1] 4:-:[1] 2:-:[]/\
+    11 0 5 0 [1,1] steal:0 32 | 0:0:[1,1] 4:-:[1] 2:-:[]/\
+    12 0 5 0 [1,1] end 16 | 4:-:[1] 2:-:[]/\
+    13 0 6 4 [1] steal:4 16 | 4:0:[1] 2:-:[]/\
+    14 0 6 4 [1] join:[1,1] 16 | 4:0:[1] 2:-:[]/\
+    15 0 6 4 [1] end 0 | 2:-:[]/\
+    16 0 7 2 [] steal:2 0 | 2:0:[]/\
+    17 0 7 2 [] join:[1] 0 | 2:0:[]/\
+    18 0 7 2 [] alloc:48 48 | 2:0:[]/\
+    19 0 7 2 [] release 0 | 2:0:[]/\
+    20 0 7 2 [] end 0 |/\
+    --/end done/periods 7/ahead 2/high 48/";
 
 const ROWS: &[Row] = &[
     Row("a small block", "play --k 64 --p 1", SMALL, 0, "7/--/end done/periods 1/ahead 0/high 32/"),
@@ -108,6 +131,15 @@ const ROWS: &[Row] = &[
         6,
         "--/end fault Divide line 1/actions 3/peak 16/",
     ),
+    Row("each event of a tree of three dummies", "trace --k 16 --p 1", LARGE, 0, LARGE_EVENTS),
+    Row("lines in order, in threads", "run --p 1", THREE_LINES, 0, "1/2/3/--/end done/periods 1/ahead 0/high 16/"),
+    Row("a made source", "make 1 --p 1", "", 0, "bytes 139/lines 2/total 0/actions 8/periods 1/ahead 0/high 32/"),
+    Row("a size with a leading zero", "make --p=1 01", "", 0, "bytes 139/lines 2/total 0/actions 8/periods 1/ahead 0/high 32/"),
+    Row("a made source, a step too few", "make 1 --steps 7", "", 7, "stop StepsSpent limit 7/"),
+    Row("no size", "make", "", 1, USAGE),
+    Row("two sizes", "make 1 2", "", 1, USAGE),
+    Row("a size that is too large", "make 8001", "", 1, USAGE),
+    Row("a size where none belongs", "play 1", SMALL, 1, USAGE),
 ];
 
 /// A row of the machine: its name, the source, the quota, the workers, the arena, the words of choice, and the text.
@@ -164,15 +196,16 @@ const OF_SEED_0: u64 = 18_195_738_587_432_868_099;
 pub fn rows() -> u8 {
     let mut tally = Tally { right: 0, wrong: 0 };
     for Row(name, words, source, status, text) in ROWS {
-        let words: Vec<String> = words.split_whitespace().map(String::from).collect();
-        let got = answer_to(&words, source.as_bytes());
+        let got = answered(words, source.as_bytes());
         tally.tell(name, &format!("{status} {text}"), &format!("{} {}", got.status, got.text.replace('\n', "/")));
     }
     for row in DRAWN {
         tally.tell(row.0, row.6, &drawn(row));
     }
-    let too_long = answer_to(&["check".to_string()], &[b' '; 1_048_577]);
+    let too_long = answered("check", &[b' '; 1_048_577]);
     tally.tell("a source that is too long", "syntax TooLong at 1048576\n", &too_long.text);
+    tally.tell("a thousand groups", "lines 2000 total 999000 actions 7001", &thousand_groups());
+    tally.tell("a sum by halves, in threads", "2147450880, within the bound", &halves_in_threads());
     let mut pcg = Pcg::new(42, 54);
     tally.tell("the published outputs", &format!("{PUBLISHED:?}"), &format!("{:?}", [(); 6].map(|()| pcg.next_u32())));
     let mut seeded = Pcg::from_seed(0);
@@ -180,6 +213,25 @@ pub fn rows() -> u8 {
     tally.tell("the published output of seed 0", &OF_SEED_0.to_string(), &first.to_string());
     println!("rows: {} right, {} wrong", tally.right, tally.wrong);
     u8::from(tally.wrong > 0)
+}
+
+fn answered(words: &str, source: &[u8]) -> Answer {
+    let words: Vec<String> = words.split_whitespace().map(String::from).collect();
+    answer_to(&words, source)
+}
+
+/// The second, third and fourth line of the summary.
+fn thousand_groups() -> String {
+    let text = answered("make 1000", b"").text;
+    text.lines().skip(1).take(3).collect::<Vec<_>>().join(" ")
+}
+
+/// The first line, and whether the block and a record block were live at once, within the peak and 2K for each period ahead.
+fn halves_in_threads() -> String {
+    let text = answered("run --p 8", HALVES.as_bytes()).text;
+    let number = |name: &str| text.lines().find_map(|line| line.strip_prefix(name)?.parse::<u64>().ok()).unwrap_or(0);
+    let is_within = (65_552..=65_632 + 8_192 * number("ahead ")).contains(&number("high "));
+    format!("{}, {} the bound", text.lines().next().unwrap_or(""), if is_within { "within" } else { "beyond" })
 }
 
 fn drawn(row: &Drawn) -> String {

@@ -6,6 +6,8 @@ use std::collections::HashMap;
 pub struct Command {
     pub name: &'static str,
     numbers: HashMap<&'static str, u64>,
+    /// The plain word of `make`: how many groups the made source has.
+    pub groups: u64,
 }
 
 struct Rule {
@@ -29,10 +31,18 @@ const RULES: [Rule; 6] = [
     rule("seed", 0, u64::MAX, 1, 1),
 ];
 
-const COMMANDS: [(&str, &[&str]); 4] = [
+const GROUPS: Rule = rule("groups", 1, 8_000, 1, 0);
+
+/// The options of the commands that run the machine.
+const OF_MACHINE: &[&str] = &["k", "p", "arena", "steps", "deques", "seed"];
+
+const COMMANDS: [(&str, &[&str]); 7] = [
     ("check", &[]),
     ("peak", &["k", "steps"]),
-    ("play", &["k", "p", "arena", "steps", "deques", "seed"]),
+    ("play", OF_MACHINE),
+    ("run", OF_MACHINE),
+    ("make", OF_MACHINE),
+    ("trace", OF_MACHINE),
     ("steal", &["p", "steps", "seed"]),
 ];
 
@@ -50,10 +60,13 @@ impl Command {
 pub fn read_words(words: &[String]) -> Option<Command> {
     let (first, rest) = words.split_first()?;
     let (name, options) = COMMANDS.iter().find(|(name, _)| name == first)?;
-    let mut numbers = HashMap::new();
+    let (mut numbers, mut groups) = (HashMap::new(), Vec::new());
     let mut rest = rest.iter();
     while let Some(word) = rest.next() {
-        let item = word.strip_prefix("--")?;
+        let Some(item) = word.strip_prefix("--") else {
+            groups.push(number(word, &GROUPS)?);
+            continue;
+        };
         let (option, value) = match item.split_once('=') {
             Some(pair) => pair,
             None => (item, rest.next()?.as_str()),
@@ -63,7 +76,8 @@ pub fn read_words(words: &[String]) -> Option<Command> {
             return None;
         }
     }
-    Some(Command { name, numbers })
+    let plain_words = usize::from(*name == "make");
+    (groups.len() == plain_words).then(|| Command { name, numbers, groups: groups.first().copied().unwrap_or(0) })
 }
 
 fn number(text: &str, rule: &Rule) -> Option<u64> {
