@@ -1,4 +1,5 @@
-//! Random cases: the words of a command and a source, by kinds.
+//! Random cases: the words of a command and a source, by kinds. There are two series: one of what the program can do on a
+//! whole source of every kind, and one of the machine.
 
 use crate::author::{program, Style};
 use crate::edges::edge;
@@ -13,6 +14,7 @@ pub struct Case {
 }
 
 pub const KINDS: [&str; 9] = ["good", "faulty", "blocks", "deep", "ill-formed", "ill-typed", "tiny", "prints", "words"];
+pub const KINDS_OF_MACHINE: [&str; 5] = ["played", "in threads", "made", "printed", "words of the machine"];
 
 /// The case of a number. The same number gives the same case.
 pub fn case(number: u64) -> Case {
@@ -20,6 +22,25 @@ pub fn case(number: u64) -> Case {
     let kind = KINDS[(number % KINDS.len() as u64) as usize];
     let source = source_of(&mut random, kind);
     let words = if kind == "words" { any_words(&mut random) } else { words_of(&mut random, kind) };
+    Case { kind, words, source }
+}
+
+/// The case of a number that has the machine run: `play` with all its options, `run` and `make`.
+pub fn machine_case(number: u64) -> Case {
+    let mut random = Random(number.wrapping_mul(0x9e6c_63d0_876a_68de));
+    let kind = KINDS_OF_MACHINE[(number % KINDS_OF_MACHINE.len() as u64) as usize];
+    let source = match kind {
+        "made" => Vec::new(),
+        "printed" => source_of(&mut random, "prints"),
+        _ => {
+            let of_source = *random.pick(&["good", "faulty", "blocks", "deep", "tiny"]);
+            source_of(&mut random, of_source)
+        }
+    };
+    let words = match kind {
+        "words of the machine" => any_words_of(&mut random, &["play", "play", "run", "make", "make", "Play", "--p", "plays"]),
+        _ => machine_words(&mut random, kind),
+    };
     Case { kind, words, source }
 }
 
@@ -125,6 +146,45 @@ fn words_of(random: &mut Random, kind: &str) -> Vec<String> {
     words
 }
 
+/// A run in threads gets no limits: which of them it meets may hang on the order of its events.
+fn machine_words(random: &mut Random, kind: &str) -> Vec<String> {
+    let command = *random.pick(match kind {
+        "in threads" => &["run"],
+        "made" => &["make"],
+        _ => &["play"],
+    });
+    let mut options = machine_options(random, kind != "in threads");
+    if kind == "made" {
+        let most = *random.pick(&[1, 4, 70, 200, 200, 200, 1_000]);
+        let at = random.below(options.len() as u64 + 1) as usize;
+        options.insert(at, vec![random.between(1, most).to_string()]);
+    }
+    [vec![command.to_string()], options.concat()].concat()
+}
+
+fn machine_options(random: &mut Random, has_limits: bool) -> Vec<Vec<String>> {
+    let mut options = Vec::new();
+    let mut put = |random: &mut Random, name, one_in, value| {
+        if random.once_in(one_in) {
+            let at = random.below(options.len() as u64 + 1) as usize;
+            options.insert(at, option(name, value));
+        }
+    };
+    let most = *random.pick(&[1, 1, 2, 4, 16, 256]);
+    let (quota, workers) = (16 * random.between(1, most), random.between(1, 64));
+    let seed = random.word() >> random.below(64);
+    put(random, "k", 1, quota);
+    put(random, "p", 1, workers);
+    put(random, "seed", 2, seed);
+    if has_limits {
+        let (arena, steps, deques) = (16 * random.between(1, 200), random.between(1, 200), random.between(1, 8));
+        put(random, "arena", 6, arena);
+        put(random, "steps", 6, steps);
+        put(random, "deques", 6, deques);
+    }
+    options
+}
+
 fn option(name: &str, value: u64) -> Vec<String> {
     vec![format!("--{name}"), value.to_string()]
 }
@@ -159,10 +219,22 @@ const ANY_VALUES: [&str; 24] = [
 
 /// Words that may be a command or none.
 fn any_words(random: &mut Random) -> Vec<String> {
-    let command = *random.pick(&["check", "check", "peak", "peak", "peak", "peak", "Peak", "", "--k", "help", "--", "pea"]);
+    let commands = ["check", "check", "peak", "peak", "peak", "peak", "Peak", "", "--k", "help", "--", "pea"];
+    words_like(random, &commands, &ANY_NAMES)
+}
+
+/// The same of the commands that run the machine, with all its options.
+fn any_words_of(random: &mut Random, commands: &[&str]) -> Vec<String> {
+    let mut names = ANY_NAMES.to_vec();
+    names.extend(["p", "p", "arena", "seed", "seed", "deques", "n", "groups"]);
+    words_like(random, commands, &names)
+}
+
+fn words_like(random: &mut Random, commands: &[&str], names: &[&str]) -> Vec<String> {
+    let command = *random.pick(commands);
     let mut words = vec![command.to_string()];
     for _ in 0..random.below(4) {
-        let (name, value) = (*random.pick(&ANY_NAMES), *random.pick(&ANY_VALUES));
+        let (name, value) = (*random.pick(names), *random.pick(&ANY_VALUES));
         match random.below(8) {
             0 => words.push(format!("--{name}")),
             1 => words.push(value.to_string()),

@@ -1,7 +1,9 @@
 //! Runs the program and the reference on random cases, and prints where they differ with the smallest source that shows it.
 
-use crate::cases::{case, Case, KINDS};
-use crate::command::{accepted, answer_to, Answer};
+use crate::cases::{case, machine_case, Case, KINDS, KINDS_OF_MACHINE};
+use crate::command::{accepted, answer_to, command_of, Answer, USAGE};
+use crate::depth_first::depth_first;
+use crate::resolve::resolve;
 use crate::selfcheck;
 use crate::smaller::smallest;
 use std::collections::BTreeMap;
@@ -19,6 +21,9 @@ struct Plan {
 
 const MOST_DIFFERENCES: u64 = 10;
 const SHOWN_BYTES: usize = 400;
+/// One number in so many has a case of the machine too.
+const MACHINE_ONE_IN: u64 = 4;
+const NOT_YET: &str = "syntax NotYet at 0\n";
 
 /// The exit status: 0 where nothing differs, 1 where something does, 2 where the words are wrong.
 pub fn compare(words: &[String]) -> u8 {
@@ -33,8 +38,13 @@ pub fn compare(words: &[String]) -> u8 {
     std::panic::set_hook(Box::new(|_| {}));
     let (began, mut tally) = (Instant::now(), Tally::default());
     for number in plan.from..plan.from + plan.count {
-        one_case(&plan, number, &mut tally);
-        if tally.differences == MOST_DIFFERENCES {
+        let case = case(number);
+        one_case(&plan, number, &case, &mut tally);
+        check_own_runs(number, &case, &mut tally);
+        if number.is_multiple_of(MACHINE_ONE_IN) {
+            one_case(&plan, number, &machine_case(number), &mut tally);
+        }
+        if tally.differences >= MOST_DIFFERENCES {
             println!("compare: stopped at {MOST_DIFFERENCES} differences");
             break;
         }
@@ -64,45 +74,64 @@ struct Tally {
     /// By what is answered: a refusal, a fault, a stop, or that the work was done.
     answers: BTreeMap<String, u64>,
     not_yet: u64,
+    left_open: u64,
     played: u64,
     differences: u64,
 }
 
 impl Tally {
+    fn compared_of(&self, kinds: &[&str]) -> u64 {
+        self.compared.iter().filter(|((kind, _, _), _)| kinds.contains(kind)).map(|(_, count)| count).sum()
+    }
+
     fn print(&self, seconds: u64) {
-        for kind in KINDS {
-            let of_kind = self.compared.iter().filter(|((it, _, _), _)| *it == kind);
+        for kind in KINDS.iter().chain(&KINDS_OF_MACHINE) {
+            let of_kind = self.compared.iter().filter(|((it, _, _), _)| it == kind);
             let counts: Vec<String> =
                 of_kind.map(|((_, command, status), count)| format!("{command} with status {status}: {count}")).collect();
             println!("{kind}: {}", counts.join(", "));
         }
         let answers: Vec<String> = self.answers.iter().map(|(answer, count)| format!("{answer} {count}")).collect();
         println!("answers: {}", answers.join(", "));
-        let compared: u64 = self.compared.values().sum();
         println!(
-            "compare: {compared} cases, {} differences, {seconds} s; {} programs that the program cannot play yet; \
-             {} runs by the reference's own workers, all within the bound where nothing differs",
-            self.differences, self.not_yet, self.played
+            "compare: {} cases, and {} of the machine, {} differences, {seconds} s; {} runs that the program does not have yet; \
+             {} runs in threads whose end hangs on the order of events; {} programs run by the reference's own workers, \
+             all within the bound where nothing differs",
+            self.compared_of(&KINDS),
+            self.compared_of(&KINDS_OF_MACHINE),
+            self.differences,
+            self.not_yet,
+            self.left_open,
+            self.played
         );
     }
 }
 
-fn one_case(plan: &Plan, number: u64, tally: &mut Tally) {
-    let case = case(number);
+enum Verdict {
+    Same,
+    Different,
+    /// The program does not have what was asked for yet.
+    NotYet,
+    /// The order in which threads came decides.
+    Open,
+}
+
+fn one_case(plan: &Plan, number: u64, case: &Case, tally: &mut Tally) {
     let got = product_answer(&plan.product, &case.words, &case.source);
     let due = reference_answer(&case.words, &case.source);
-    if is_not_yet(&case.words, &got) {
-        tally.not_yet += 1;
-    } else if !agree(&case.words, &due, &got) {
-        tally.differences += 1;
-        tell_difference(plan, number, &case);
-    } else {
-        let command = case.words.first().cloned().unwrap_or_default();
-        let command = if got.status == 1 { "words".to_string() } else { command };
-        *tally.compared.entry((case.kind, command, got.status)).or_default() += 1;
-        *tally.answers.entry(word_of(&due)).or_default() += 1;
+    match verdict(&case.words, &case.source, &due, &got) {
+        Verdict::NotYet => tally.not_yet += 1,
+        Verdict::Open => tally.left_open += 1,
+        Verdict::Different => {
+            tally.differences += 1;
+            tell_difference(plan, number, case);
+        }
+        Verdict::Same => {
+            let command = if got.status == 1 { "words" } else { command_name(&case.words) };
+            *tally.compared.entry((case.kind, command.to_string(), got.status)).or_default() += 1;
+            *tally.answers.entry(word_of(&due)).or_default() += 1;
+        }
     }
-    check_own_runs(number, &case, tally);
 }
 
 /// The word of a refusal, a fault or a stop.
@@ -157,25 +186,69 @@ fn product_answer(product: &str, words: &[String], source: &[u8]) -> Answer {
     run().unwrap_or_else(|error| Answer { status: -3, text: error.to_string() })
 }
 
-fn is_play(words: &[String]) -> bool {
-    words.first().is_some_and(|word| word == "play")
+fn command_name(words: &[String]) -> &str {
+    words.first().map_or("", String::as_str)
 }
 
-/// Whether the program is one that the workers of the product cannot run today.
+fn verdict(words: &[String], source: &[u8], due: &Answer, got: &Answer) -> Verdict {
+    let hangs_on_order = |it: &Answer| command_name(words) == "run" && matches!(it.status, 8 | 9);
+    if agree(words, source, due, got) {
+        Verdict::Same
+    } else if is_not_yet(words, got) {
+        Verdict::NotYet
+    } else if hangs_on_order(due) || hangs_on_order(got) {
+        Verdict::Open
+    } else {
+        Verdict::Different
+    }
+}
+
+/// Whether the words or the program are such as the product does not run today: the commands `run` and `make`, `play` with
+/// options beyond the quota and the workers, and `play` of more than prints and forks.
 fn is_not_yet(words: &[String], got: &Answer) -> bool {
-    is_play(words) && got.status == 4 && got.text == "syntax NotYet at 0\n"
+    let is_of_today = |word: &String| !word.starts_with("--") || word.starts_with("--k") || word.starts_with("--p");
+    let is_unknown = got.status == 1 && got.text == USAGE;
+    match command_name(words) {
+        "play" => got.status == 4 && got.text == NOT_YET || is_unknown && !words.iter().all(is_of_today),
+        "run" | "make" => is_unknown,
+        _ => false,
+    }
 }
 
-/// The report of `play` may end behind the finish, and else must be the same to the byte.
-fn agree(words: &[String], due: &Answer, got: &Answer) -> bool {
-    let is_report = is_play(words) && (due.status == 0 || due.status == 6);
-    let is_front = is_report && due.text.starts_with(&got.text) && due.text[got.text.len()..].starts_with("periods ");
-    due.status == got.status && (due.text == got.text || is_front)
+/// Answers are the same to the byte. But the report of `play` may end behind the finish; and of a run in threads the numbers
+/// behind the finish hang on the order of its events, and have to be within the bound.
+fn agree(words: &[String], source: &[u8], due: &Answer, got: &Answer) -> bool {
+    if due.status != got.status || due.text == got.text {
+        return due.status == got.status;
+    }
+    let is_report = due.status == 0 || due.status == 6;
+    match command_name(words) {
+        "play" => is_report && got.text == front(&due.text),
+        "run" => is_report && front(&got.text) == front(&due.text) && is_within_bound(words, source, &got.text),
+        _ => false,
+    }
+}
+
+/// A report up to its finish.
+fn front(text: &str) -> &str {
+    text.split("periods ").next().unwrap_or("")
+}
+
+/// Whether a report tells at most the peak and twice the quota for each period ahead.
+fn is_within_bound(words: &[String], source: &[u8], text: &str) -> bool {
+    let (Ok(command), Ok(program)) = (command_of(words), accepted(source)) else { return false };
+    let quota = command.number("k");
+    let Some(serial) = depth_first(&resolve(&program), quota, command.number("steps")) else { return false };
+    let number = |name: &str| text.lines().find_map(|line| line.strip_prefix(name)?.parse::<u64>().ok());
+    match (number("periods "), number("ahead "), number("high ")) {
+        (Some(periods), Some(ahead), Some(high)) => ahead <= periods && high <= serial.peak + 2 * quota * ahead,
+        _ => text == front(text),
+    }
 }
 
 fn differ(plan: &Plan, words: &[String], source: &[u8]) -> bool {
     let got = product_answer(&plan.product, words, source);
-    !is_not_yet(words, &got) && !agree(words, &reference_answer(words, source), &got)
+    matches!(verdict(words, source, &reference_answer(words, source), &got), Verdict::Different)
 }
 
 fn shown(text: &str) -> String {

@@ -1,9 +1,10 @@
-//! What the reference's own runs by workers have to keep: they print what the depth-first run prints, and their words in use
-//! are at most its peak and twice the quota for each period ahead.
+//! What the reference's own runs by workers have to keep, one event at a time and in threads: they print what the depth-first
+//! run prints, and their words in use are at most its peak and twice the quota for each period ahead.
 
 use crate::choices::Pcg;
 use crate::depth_first::{depth_first, PeakReport};
-use crate::machine::{play, Rules};
+use crate::in_threads;
+use crate::machine::{play, PlayReport, Rules, Stop};
 use crate::random::Random;
 use crate::resolve::resolve;
 use crate::stealing::steal;
@@ -21,11 +22,14 @@ pub fn broken_promise(program: &Program<String>, number: u64) -> Option<String> 
     let serial = depth_first(&code, quota, STEPS)?;
     let workers = random.between(1, 64) as usize;
     let rules = Rules { quota, workers, arena: ARENA, steps: STEPS, deques: usize::MAX };
-    broken_by_play(&code, rules, &serial, random.word()).or_else(|| broken_by_theft(&code, rules, &serial, random.word()))
+    let played = play(&code, rules, &mut Pcg::from_seed(random.word()));
+    broken_by_workers(played, rules, &serial)
+        .or_else(|| broken_by_theft(&code, rules, &serial, random.word()))
+        .or_else(|| broken_by_workers(in_threads::run(&code, rules, number), rules, &serial))
 }
 
-fn broken_by_play(code: &Code, rules: Rules, serial: &PeakReport, seed: u64) -> Option<String> {
-    let Ok(played) = play(code, rules, &mut Pcg::from_seed(seed)) else {
+fn broken_by_workers(played: Result<PlayReport, Stop>, rules: Rules, serial: &PeakReport) -> Option<String> {
+    let Ok(played) = played else {
         return Some("a run by workers stops where the depth-first run does not".to_string());
     };
     if (&played.lines, played.finish) != (&serial.lines, serial.finish) {
