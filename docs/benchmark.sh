@@ -1,7 +1,8 @@
 #!/usr/bin/env bash
-# Measures what an action costs: it makes programs of four kinds with 10,000 to 4,000,000 actions, and runs each depth-first
-# (`peak`) and by 1, 4 and 64 workers (`play`), by the program and by the reference. It prints the nanoseconds an action of
-# both, how many times as long the program takes, and the most memory that the program had in use.
+# Measures what an action costs: it makes programs of four kinds with 10,000 to 4,000,000 actions, and of a fifth one that only
+# prints and forks with as many as a source has room for. It runs each depth-first (`peak`) and by 1, 4 and 64 workers
+# (`play`), by the program and by the reference. It prints the nanoseconds an action of both, how many times as long the program
+# takes, and the most memory that the program had in use.
 # The time holds the start of the process and the reading of the source. Where GNU time is missing, no memory is told; where
 # the program cannot play a source yet, a dash stands.
 # A run on one's own program: docs/benchmark.sh FILE. Fewer sizes: MOST=100000 docs/benchmark.sh
@@ -24,6 +25,16 @@ loop_of() { # PARTS ROUNDS BODY
     done
     echo "}"
 }
+
+# Prints and forks alone, in `main`: 3 actions and 34 bytes a round.
+flat_of() { # ROUNDS
+    echo "fn main() {"
+    for _ in $(seq "$1"); do
+        echo "par { print 1; } and { print 2; }"
+    done
+    echo "}"
+}
+most_flat_rounds=30000
 
 forks='par { } and { }'
 blocks='alloc a = 16; free a; alloc b = 16; free b;'
@@ -62,6 +73,8 @@ compare() { # NAME SOURCE WORDS..
     of_reference="$nanoseconds"
     [ "$1" = peak ] && actions="$(sed -n 's/^actions //p' "$work/out")"
     measure "$source" "$product" "$@" --k 16 --steps 4000000
+    # The program may have no limits for `play` yet.
+    is_report || measure "$source" "$product" "${@:1:3}" --k 16
     if is_report; then
         of_product=$((nanoseconds / actions))
         ratio="$((nanoseconds / of_reference)).$((nanoseconds * 10 / of_reference % 10))"
@@ -93,6 +106,11 @@ if [ $# -gt 0 ]; then
 fi
 for most in 10000 100000 1000000 4000000; do
     [ "$most" -le "${MOST:-4000000}" ] || continue
+    flat_rounds=$((most / 3 < most_flat_rounds ? most / 3 : most_flat_rounds))
+    if [ "$most" -le 100000 ]; then
+        flat_of "$flat_rounds" > "$work/source"
+        report prints "$work/source"
+    fi
     for kind in "forks 3" "blocks 4" "dummies 7" "calls 3"; do
         set -- $kind
         parts=4
