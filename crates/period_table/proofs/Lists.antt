@@ -1,12 +1,12 @@
 -- Lists of periods with one that comes, changes, or goes to the closed ones.
-use Rattle.std.proofs.Common.{◌≡◌, ◌≢◌, ℕ, zero, suc, ◌+◌, ◌<◌, ◌≤◌, ◌⊎◌, List, [], ◌∷◌, ◌++◌, length, map, inl, inr, refl, sym, ap, subst, ◌∙◌, arith, append_assoc, append-nil}
-use Rattle.std.specs.Prelude.{Option, None, Some, slice_get, slice_set}
+use Rattle.std.proofs.Common.{◌≡◌, ◌≢◌, ℕ, zero, suc, ◌+◌, ◌≤◌, ◌⊎◌, List, [], ◌∷◌, ◌++◌, map, inl, inr, refl, sym, ap, subst, ◌∙◌, arith, append_assoc}
+use Rattle.std.specs.Prelude.{Option, Some, slice_get, slice_set}
 use Rattle.std.proofs.lemmas.List.{map-append}
 use Rattle.std.proofs.lemmas.Option.{same_Some, none-some}
 use Rattle.lawful_books.specs.Lists.{Among, Each, Differ}
-use Rattle.lawful_books.proofs.Lists.{each_from, each_among, each_join, each_left, each_right, among_left, among_right, among_middle, among_wider, among_here, differ_at, differ_without}
+use Rattle.lawful_books.proofs.Lists.{each_from, each_among, each_join, each_left, each_right, among_middle, among_wider, among_here, differ_at, differ_without}
 use Rattle.space_ledger.specs.declared.book.Closed.{Closed}
-use Rattle.period_books.specs.Periods.{Period, Adds, Replaces, closed_shown, open_shown}
+use Rattle.period_books.specs.Periods.{Period, Adds, Replaces, closed_shown}
 use Rattle.period_table.specs.declared.seat.Seat.{Seat}
 use Rattle.period_table.specs.Numbers.{period_of_seat, open_periods, all_periods, NumbersDiffer, NumbersWithin}
 use Rattle.period_table.specs.Laws.{ReplacedTwice}

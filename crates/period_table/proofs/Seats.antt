@@ -1,19 +1,15 @@
 -- What becomes of the periods of a table where one seat changes.
-use Rattle.std.proofs.Common.{◌≡◌, ◌≢◌, ℕ, zero, suc, ◌+◌, ◌<◌, ◌≤◌, ◌⊎◌, List, [], ◌∷◌, ◌++◌, length, map, inl, inr, refl, sym, ap, subst, ◌∙◌, arith, append_assoc, append-nil, true≢false}
-use Rattle.std.specs.Prelude.{Option, None, Some, is_some, slice_get, slice_set, Result, Ok, Err, OnOk}
+use Rattle.std.proofs.Common.{◌≡◌, ◌≢◌, ℕ, zero, suc, ◌+◌, ◌<◌, ◌≤◌, List, [], ◌∷◌, ◌++◌, length, map, inl, inr, refl, sym, ap, subst, ◌∙◌, arith, append_assoc}
+use Rattle.std.specs.Prelude.{Option, None, Some, slice_get, slice_set, Result, Ok, Err, OnOk}
 use Rattle.std.proofs.lemmas.List.{map-append}
-use Rattle.std.proofs.lemmas.Option.{same_Some, none-some, slice_get_past}
-use Rattle.std.proofs.lemmas.Bool.{cases_eq, cases_lt}
-use Rattle.dag_order.specs.declared.action_id.ActionId.{ActionId}
-use Rattle.dag_order.specs.declared.birth.Birth.{Birth}
-use Rattle.deque_list.specs.declared.deque_id.DequeId.{DequeId}
+use Rattle.std.proofs.lemmas.Option.{same_Some, none-some}
+use Rattle.std.proofs.lemmas.Bool.{cases_eq}
 use Rattle.space_ledger.specs.declared.book.Closed.{Closed}
-use Rattle.quota_period.specs.declared.period.Period.{Period as OpenPeriod}
 use Rattle.period_books.specs.Periods.{Period, Adds, Replaces, closed_shown, open_shown}
 use Rattle.period_table.specs.declared.seat.Seat.{Seat}
 use Rattle.period_table.specs.Numbers.{period_of_seat, open_periods, all_periods, NumbersDiffer, NumbersWithin}
 use Rattle.bounded_list.specs.BoundedList.{spare}
-use Rattle.period_table.specs.Tables.{seat_in, shown_of, deque_of, noted, shut, HasRoomFor}
+use Rattle.period_table.specs.Tables.{seat_in, shown_of, deque_of, HasRoomFor}
 use Rattle.period_table.proofs.Lists.{cut_table, cut_seat, changed, changed_differ, changed_within, added_differ, added_within, adds, moved, moved_differ, moved_within, set_same, set_other}
 
 -- a seat that is there

@@ -15,3 +15,6 @@ mod table;
 pub use laws::replaced_twice;
 pub use seat::Seat;
 pub use table::PeriodTable;
+
+#[cfg(test)]
+mod tests;

@@ -1,10 +1,7 @@
-use Rattle.std.proofs.Common.{rules, ◌≡◌, ◌≢◌, ◌≤◌, ◌<◌, ◌+◌, [], ℕ, None, Some, length, List, ◌∷◌, ◌++◌, slice_set, refl, sym, ap, subst, ◌∙◌, arith, Bor, MutBor}
+use Rattle.std.proofs.Common.{◌≡◌, None, Some, ap, ◌∙◌}
 use Rattle.std.specs.Prelude.{slice_get}
-use Rattle.space_ledger.specs.BooksList.{books_list, books_spare}
-use Rattle.period_books.specs.Periods.{Period as AnyPeriod, Adds, Replaces, open_shown}
-use Rattle.period_table.specs.declared.seat.Seat.{Seat}
-use Rattle.period_table.specs.Tables.{periods_of, seat_in, seat_at, deque_at, period_at, HasRoom, noted, shut, births_shown}
-use Rattle.period_table.proofs.Seats.{there_is, some_seat, some_shown, seat_within, seat_set, seat_elsewhere, begun_differ, begun_within, begun_adds, changed_seat_differ, changed_seat_within, changed_seat, same_seat, closed_differ, closed_within, closed_replaces}
+use Rattle.space_ledger.specs.BooksList.{books_list}
+use Rattle.period_table.proofs.Seats.{there_is, seat_set, seat_elsewhere, begun_differ, begun_within, begun_adds}
 use Rattle.period_table.proofs.table.PeriodTable.begin.Goals as goal
 
 pub invariant_of-self : goal.invariant_of-self

@@ -1,4 +1,4 @@
-use Rattle.std.proofs.Common.{◌≡◌, ℕ, length}
+use Rattle.std.proofs.Common.{◌≡◌, length}
 use Rattle.period_table.proofs.Seats.{AllNone}
 use Rattle.period_table.proofs.table.PeriodTable.new.Given as goal
 

@@ -1,12 +1,12 @@
-use Rattle.std.proofs.Common.{rules, ◌≡◌, ◌≢◌, ◌≤◌, ◌<◌, ◌+◌, [], ℕ, None, Some, length, List, ◌∷◌, ◌++◌, slice_set, refl, sym, ap, subst, ◌∙◌, arith, Bor, MutBor, Option}
+use Rattle.std.proofs.Common.{◌≡◌, ◌≤◌, ◌+◌, None, Some, length, slice_set, refl, sym, ap, subst, ◌∙◌, arith}
 use Rattle.std.specs.Prelude.{slice_get}
 use Rattle.bounded_list.specs.BoundedList.{spare}
-use Rattle.space_ledger.specs.BooksList.{books_list, books_spare}
-use Rattle.period_books.specs.Periods.{Period as AnyPeriod, Adds, Replaces, open_shown, closed_shown}
+use Rattle.space_ledger.specs.BooksList.{books_list}
+use Rattle.period_books.specs.Periods.{Period as AnyPeriod, Replaces, open_shown}
 use Rattle.period_table.specs.declared.seat.Seat.{Seat}
 use Rattle.period_table.specs.Numbers.{all_periods, NumbersDiffer, NumbersWithin}
-use Rattle.period_table.specs.Tables.{periods_of, seat_in, seat_at, deque_of, deque_at, shown_of, period_at, HasRoom, HasRoomFor, noted, shut, births_shown}
-use Rattle.period_table.proofs.Seats.{there_is, some_seat, some_shown, seat_within, seat_set, seat_elsewhere, begun_differ, begun_within, begun_adds, changed_seat_differ, changed_seat_within, changed_seat, same_seat, closed_differ, closed_within, closed_replaces, set_twice, as_long, room_seat, one_seat, deque_stays}
+use Rattle.period_table.specs.Tables.{periods_of, seat_in, seat_at, deque_of, shown_of, noted, births_shown}
+use Rattle.period_table.proofs.Seats.{some_seat, some_shown, seat_within, seat_set, seat_elsewhere, changed_seat_differ, changed_seat_within, changed_seat, set_twice, as_long, room_seat, one_seat, deque_stays}
 use Rattle.period_table.proofs.table.PeriodTable.note.Goals as goal
 
 pub take_seat-seat-requires : goal.take_seat-seat-requires
