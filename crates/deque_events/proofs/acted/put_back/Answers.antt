@@ -1,0 +1,16 @@
+use Rattle.std.proofs.Common.{rules, ◌≡◌, ◌≤◌, ◌+◌, ℕ, List, [], ◌∷◌, Some, refl, sym, ap, subst, ◌∙◌, arith}
+use Rattle.deque_events.proofs.Putting.{live, pushed, back_alone, back_joined, back_dummy, back_forked}
+use Rattle.deque_events.proofs.acted.put_back.Goals as goal
+
+pub push_top-requires-clause-live : goal.push_top-requires-clause-live
+push_top-requires-clause-live g c = live c.requires.stands.1
+
+pub returns-clause-alone : goal.returns-clause-alone
+returns-clause-alone g c items shown waiting results k l period was place stands is did =
+    back_alone items c.args.list.now c.args.table.now c.push_top.new.self c.note.new.self c.args.top c.args.name c.args.words c.push_top.ensures.deque c.note.ensures.periods
+    shown waiting results k l period was place stands is did
+
+pub returns-clause-joins : goal.returns-clause-joins
+returns-clause-joins g c items shown waiting results k l period was place stands is did =
+    back_joined items c.args.list.now c.args.table.now c.push_top.new.self c.note.new.self c.args.top c.args.name c.args.words c.push_top.ensures.deque c.note.ensures.periods
+    shown waiting results k l period was place stands is did

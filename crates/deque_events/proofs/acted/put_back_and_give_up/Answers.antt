@@ -1,0 +1,24 @@
+use Rattle.std.proofs.Common.{rules, ◌≡◌, ◌≤◌, ◌+◌, ℕ, List, [], ◌∷◌, Some, refl, sym, ap, subst, ◌∙◌, arith}
+use Rattle.period_books.specs.Periods.{open_shown}
+use Rattle.period_table.specs.Tables.{seat_at, shown_of}
+use Rattle.period_table.proofs.Seats.{room_seat}
+use Rattle.deque_events.proofs.Putting.{live, pushed, back_alone, back_joined, back_dummy, back_forked}
+use Rattle.deque_events.proofs.acted.put_back_and_give_up.Goals as goal
+
+pub push_top-requires-clause-live : goal.push_top-requires-clause-live
+push_top-requires-clause-live g c = live c.requires.stands.1
+
+pub give_up-requires : goal.give_up-requires
+give_up-requires g c = live (pushed c.requires.stands.1 c.push_top.new.self c.args.top c.push_top.ensures.deque)
+
+pub close-requires-clause-seat : goal.close-requires-clause-seat
+close-requires-clause-seat g c =
+    let found = room_seat (seat_at c.args.table.now c.args.worker) c.requires.table.in_period in
+    (_, c.note.ensures.shown (open_shown c.args.worker found.0.period) (ap (shown_of c.args.worker) found.1))
+
+pub returns : goal.returns
+returns g c = record {
+  dummy = λ items shown waiting results k l period was place stands is did.
+      back_dummy items c.args.list.now c.args.table.now c.give_up.new.self c.close.new.self c.args.top c.args.name c.push_top.new.self c.note.new.self c.push_top.ensures.deque c.give_up.ensures.deque c.note.ensures.periods c.note.ensures.shown c.close.ensures.periods
+      shown waiting results k l period was place stands is did;
+}

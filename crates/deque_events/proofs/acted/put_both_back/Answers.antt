@@ -1,0 +1,16 @@
+use Rattle.std.proofs.Common.{rules, ◌≡◌, ◌≤◌, ◌+◌, ℕ, List, [], ◌∷◌, Some, refl, sym, ap, subst, ◌∙◌, arith}
+use Rattle.deque_events.proofs.Putting.{live, pushed, back_alone, back_joined, back_dummy, back_forked}
+use Rattle.deque_events.proofs.acted.put_both_back.Goals as goal
+
+pub push_top-requires-clause-live : goal.push_top-requires-clause-live
+push_top-requires-clause-live g c = live c.requires.stands.1
+
+pub push_top-requires-2-clause-live : goal.push_top-requires-2-clause-live
+push_top-requires-2-clause-live g c = live (pushed c.requires.stands.1 c.push_top.new.self c.args.top c.push_top.ensures.deque)
+
+pub returns : goal.returns
+returns g c = record {
+  forks = λ items shown waiting results k l period was place stands is did.
+      back_forked items c.args.list.now c.args.table.now c.push_top-2.new.self c.note.new.self c.args.top c.args.child c.args.name c.args.ordinal c.push_top.new.self c.push_top.ensures.deque c.push_top-2.ensures.deque c.note.ensures.periods
+      shown waiting results k l period was place stands is did;
+}

@@ -1,0 +1,7 @@
+use Rattle.std.proofs.Common.{rules, ◌≡◌, ◌≤◌, ◌+◌, ℕ, List, [], ◌∷◌, Some, refl, sym, ap, subst, ◌∙◌, arith}
+use Rattle.deque_events.proofs.Putting.{at_rank, here, live, pushed}
+use Rattle.deque_events.proofs.Leaving.{gave_up, suspended, left_empty, woken, ended_above}
+use Rattle.deque_events.proofs.left.end_above.Goals as goal
+
+pub returns : goal.returns
+returns g c = ended_above c.args.list.now c.args.table.now c.note.new.self c.args.name c.note.ensures.periods

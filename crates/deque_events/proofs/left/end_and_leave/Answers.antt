@@ -1,0 +1,18 @@
+use Rattle.std.proofs.Common.{rules, ◌≡◌, ◌≤◌, ◌+◌, ℕ, List, [], ◌∷◌, Some, refl, sym, ap, subst, ◌∙◌, arith}
+use Rattle.period_books.specs.Periods.{open_shown}
+use Rattle.period_table.specs.Tables.{seat_at, shown_of}
+use Rattle.period_table.proofs.Seats.{room_seat}
+use Rattle.deque_events.proofs.Putting.{at_rank, here, live, pushed}
+use Rattle.deque_events.proofs.Leaving.{gave_up, suspended, left_empty, woken, ended_above}
+use Rattle.deque_events.proofs.left.end_and_leave.Goals as goal
+
+pub remove-requires : goal.remove-requires
+remove-requires g c = (_, here c.requires.stands, at_rank c.requires.stands, refl)
+
+pub close-requires-clause-seat : goal.close-requires-clause-seat
+close-requires-clause-seat g c =
+    let found = room_seat (seat_at c.args.table.now c.args.worker) c.requires.table.in_period in
+    (_, c.note.ensures.shown (open_shown c.args.worker found.0.period) (ap (shown_of c.args.worker) found.1))
+
+pub returns : goal.returns
+returns g c = left_empty c.args.list.now c.args.table.now c.remove.new.self c.close.new.self c.args.name c.note.new.self c.remove.ensures.deque c.note.ensures.periods c.note.ensures.shown c.close.ensures.periods

@@ -1,0 +1,67 @@
+//! Thefts: how an idle worker comes to a deque.
+
+ghost use Rattle.std.specs.Prelude.{◌≡◌, ◌<◌, ◌+◌, ◌∷◌, ◌++◌, [], ℕ, List as AnyList, Option, None, Some, true, length};
+ghost use Rattle.bounded_list.specs.BoundedList.{entries};
+ghost use Rattle.period_table.specs.Tables.{seat_at};
+ghost use Rattle.deque_events.specs.Shown.{Holds};
+ghost use Rattle.deque_events.specs.Events.{StoleBeside, TookOver};
+
+use deque_list::{DequeId, List};
+use period_table::PeriodTable;
+use quota_period::Period;
+
+/// A worker takes the bottom thread of a deque that keeps other threads into a new deque directly to the right of it; the answer is the new
+/// deque. The period is new, has the next number, and is marked, since there is a deque to the left.
+pub fn steal_beside<T: Drop>(
+    list: &mut List<T>,
+    table: &mut PeriodTable,
+    worker: u32,
+    victim: DequeId,
+    period: Period,
+) -> DequeId
+    requires victim { (owner : Option ℕ) × (first : T) × (others : AnyList T) × (bottom : T)
+        × Holds list.old victim owner (first ∷ (others ++ bottom ∷ [])) }
+    requires room { list.old.spare ≡ 1 }
+    requires few_deques { length list.old.deques < list.old.most }
+    requires within { worker < length table.old.seats.items }
+    requires idle { seat_at table.old worker ≡ None }
+    requires few { table.old.begun < 4294967295 }
+    requires number { period.number ≡ table.old.begun + 1 }
+    requires marked { period.ahead ≡ true }
+    requires unused { period.used ≡ 0 }
+    requires ran_nothing { entries period.book ≡ [] }
+    requires bore_none { entries period.births ≡ [] }
+    ensures { StoleBeside worker victim list.old table.old list.new table.new result }
+{
+    let Some(bottom) = list.take_bottom(victim) else {
+        unreachable!();
+    };
+    let Ok(id) = list.insert_right(victim, bottom, worker) else {
+        unreachable!();
+    };
+    table.begin(worker as usize, id, period);
+    id
+}
+
+/// A worker takes a deque over that has no owner and holds one thread. The period is new, has the next number, and is marked where there is a
+/// deque to the left.
+pub fn take_over<T>(
+    list: &mut List<T>,
+    table: &mut PeriodTable,
+    worker: u32,
+    victim: DequeId,
+    period: Period,
+)
+    requires victim { (thread : T) × Holds list.old victim None (thread ∷ []) }
+    requires within { worker < length table.old.seats.items }
+    requires idle { seat_at table.old worker ≡ None }
+    requires few { table.old.begun < 4294967295 }
+    requires number { period.number ≡ table.old.begun + 1 }
+    requires unused { period.used ≡ 0 }
+    requires ran_nothing { entries period.book ≡ [] }
+    requires bore_none { entries period.births ≡ [] }
+    ensures { TookOver worker victim list.old table.old list.new table.new period.ahead }
+{
+    list.take_over(victim, worker);
+    table.begin(worker as usize, victim, period);
+}

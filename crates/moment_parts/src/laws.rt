@@ -1,0 +1,33 @@
+ghost use Rattle.std.specs.Prelude.{ℕ};
+ghost use Rattle.deque_machine.specs.Runs.{InEachSetting};
+ghost use Rattle.moment_parts.specs.Laws.{RootIsTheOpening, ActionsAreEvents, GiveUpsAreEvents, HandingOverIsNoEvent, TheftsAreEvents, WaitsAreEvents};
+
+/// A root that has done nothing, alone in a deque without an owner, is the opening moment.
+pub fn root_is_the_opening()
+    ensures { InEachSetting RootIsTheOpening }
+{}
+
+/// An action of a worker's top thread is an event of the machine.
+pub fn actions_are_events()
+    ensures { InEachSetting ActionsAreEvents }
+{}
+
+/// So is a deque that is given up.
+pub fn give_ups_are_events()
+    ensures { InEachSetting GiveUpsAreEvents }
+{}
+
+/// So is a thread that begins to wait.
+pub fn waits_are_events()
+    ensures { InEachSetting WaitsAreEvents }
+{}
+
+/// So is a theft.
+pub fn thefts_are_events()
+    ensures { InEachSetting TheftsAreEvents }
+{}
+
+/// A kept result that is handed to its parent changes no moment.
+pub fn handing_over_is_no_event()
+    ensures { InEachSetting HandingOverIsNoEvent }
+{}

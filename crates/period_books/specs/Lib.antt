@@ -1,0 +1,4 @@
+pub mod Periods
+pub mod Names
+pub mod Telling
+pub mod Laws
