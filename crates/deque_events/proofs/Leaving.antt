@@ -1,23 +1,22 @@
 -- What a thread that ended, or that waits, and a deque that is given up are on the parts.
-use Rattle.std.proofs.Common.{◌≡◌, ◌≢◌, ℕ, zero, suc, ◌+◌, ◌≤◌, Option, List, [], ◌∷◌, ◌++◌, length, map, refl, sym, ap, subst, ◌∙◌, arith, append-nil}
-use Rattle.std.specs.Prelude.{None, Some, slice_get, slice_set, remove, false}
+use Rattle.std.proofs.Common.{◌≡◌, ℕ, List, [], ◌∷◌, ◌++◌, length, map, refl, sym, ap, subst, ◌∙◌}
+use Rattle.std.specs.Prelude.{None, Some, slice_set, remove}
 use Rattle.std.proofs.lemmas.List.{map-append}
 use Rattle.dag_order.specs.declared.action_id.ActionId.{ActionId}
 use Rattle.deque_list.specs.declared.deque_id.DequeId.{DequeId}
 use Rattle.deque_list.specs.Deques.{Deque, DequeAt}
 use Rattle.deque_list.specs.DequeLists.{ListView}
-use Rattle.depth_first_list.specs.Actions.{ends, joins, Action}
+use Rattle.depth_first_list.specs.Actions.{ends, Action}
 use Rattle.depth_first_list.specs.Facts.{words_at}
-use Rattle.lawful_books.specs.Lists.{Among, Each}
 use Rattle.lawful_books.specs.Books.{charge, charge_at}
 use Rattle.period_books.specs.Periods.{Period, Replaces}
 use Rattle.period_table.specs.declared.table.PeriodTable.{PeriodTable}
 use Rattle.period_table.specs.Tables.{periods_of, period_at, noted, shut}
 use Rattle.period_table.proofs.Lists.{replaced_twice}
 use Rattle.moment_parts.specs.Parts as parts
-use Rattle.moment_parts.specs.Events.{IsNextOf, Works, Shuts, Does, GivesUp, Suspends, ends_above, ends_and_wakes, ends_and_leaves, gives_up_deque, suspends_top}
-use Rattle.deque_events.specs.Shown.{deque_shown, parts_of, Stands, parts_under}
-use Rattle.deque_events.specs.Events.{DidEnd, EndsAbove, EndsAndWakes, EndsAndLeaves, GaveUp, Suspended}
+use Rattle.moment_parts.specs.Events.{IsNextOf, Does, GivesUp, Suspends, ends_above, ends_and_wakes, ends_and_leaves, gives_up_deque, suspends_top}
+use Rattle.deque_events.specs.Shown.{deque_shown, Stands, parts_under}
+use Rattle.deque_events.specs.Events.{EndsAbove, EndsAndWakes, EndsAndLeaves, GaveUp, Suspended}
 use Rattle.deque_events.proofs.Putting.{at_rank, here, pushed, given_up, shown_middle, works, notes, notes_closed}
 
 -- an End takes nothing of the quota

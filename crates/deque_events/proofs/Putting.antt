@@ -1,5 +1,5 @@
 -- A list with the worker's deque in the middle, and what a thread that goes back is on the parts.
-use Rattle.std.proofs.Common.{◌≡◌, ◌≢◌, ℕ, zero, suc, ◌+◌, ◌≤◌, Option, List, [], ◌∷◌, ◌++◌, length, map, refl, sym, ap, subst, ◌∙◌, arith, append-nil}
+use Rattle.std.proofs.Common.{◌≡◌, ℕ, ◌+◌, List, [], ◌∷◌, ◌++◌, length, map, refl, sym, ap, subst, ◌∙◌}
 use Rattle.std.specs.Prelude.{None, Some, slice_get, slice_set}
 use Rattle.std.proofs.lemmas.List.{map-append}
 use Rattle.std.proofs.lemmas.Option.{none-some, slice_get-map}
@@ -12,14 +12,14 @@ use Rattle.deque_list.specs.DequeLists.{ListView}
 use Rattle.depth_first_list.specs.Actions.{Action}
 use Rattle.lawful_books.specs.Lists.{Among}
 use Rattle.lawful_books.specs.Books.{charge_at}
-use Rattle.period_books.specs.Periods.{Period, Replaces, open_shown}
+use Rattle.period_books.specs.Periods.{Period, Replaces}
 use Rattle.period_books.proofs.Sorting.{get_middle}
 use Rattle.period_table.specs.declared.table.PeriodTable.{PeriodTable}
-use Rattle.period_table.specs.Tables.{periods_of, period_at, seat_at, noted, shut, births_shown}
+use Rattle.period_table.specs.Tables.{periods_of, period_at, seat_at, noted, shut}
 use Rattle.period_table.proofs.Seats.{some_shown}
 use Rattle.period_table.proofs.Lists.{replaced_twice}
 use Rattle.moment_parts.specs.Parts as parts
-use Rattle.moment_parts.specs.Events.{Works, Notes, name_of, Does, does_alone, runs_dummy, joins_newest, forks_child, deques_with}
+use Rattle.moment_parts.specs.Events.{Works, Notes, name_of, Does, does_alone, runs_dummy, joins_newest, forks_child}
 use Rattle.deque_events.specs.Shown.{deque_shown, parts_of, Stands, parts_under}
 use Rattle.deque_events.specs.Events.{DidAlone, DidDummy, DidJoin, DidFork}
 

@@ -1,6 +1,6 @@
 -- What a theft is on the parts.
-use Rattle.std.proofs.Common.{◌≡◌, ◌≢◌, ℕ, zero, suc, ◌+◌, ◌-◌, ◌<◌, ◌≤◌, Bool, Option, List, [], ◌∷◌, ◌++◌, length, map, take, drop, inl, inr, refl, sym, ap, subst, ◌∙◌, arith, true}
-use Rattle.std.specs.Prelude.{None, Some, slice_get, slice_set, insert, nat_lt, ◌↔◌}
+use Rattle.std.proofs.Common.{◌≡◌, ◌≢◌, ℕ, suc, ◌+◌, ◌-◌, ◌<◌, Bool, Option, List, [], ◌∷◌, ◌++◌, length, map, take, drop, refl, sym, ap, subst, ◌∙◌, arith, true}
+use Rattle.std.specs.Prelude.{Some, slice_get, slice_set, insert, nat_lt, ◌↔◌}
 use Rattle.deque_list.specs.declared.insert_refused.InsertRefused.{InsertRefused}
 use Rattle.deque_list.specs.declared.insert_refused.InsertRefused.TheVariants as refusals
 use Rattle.std.proofs.lemmas.List.{map-append, length-append, length-map}
@@ -8,13 +8,13 @@ use Rattle.std.proofs.lemmas.Option.{slice_get-map}
 use Rattle.std.specs.Option.{option_map}
 use Rattle.bounded_list.specs.BoundedList.{entries}
 use Rattle.deque_list.specs.declared.deque_id.DequeId.{DequeId}
-use Rattle.deque_list.specs.Ids.{IsLive, IsSmallestFree}
+use Rattle.deque_list.specs.Ids.{IsLive}
 use Rattle.deque_list.specs.Deques.{Deque, DequeAt, deque_ids}
 use Rattle.deque_list.specs.DequeLists.{ListView}
-use Rattle.lawful_books.specs.Lists.{Among, Each}
-use Rattle.lawful_books.proofs.Lists.{each_from, each_among}
+use Rattle.lawful_books.specs.Lists.{Each}
+use Rattle.lawful_books.proofs.Lists.{each_from}
 use Rattle.quota_period.specs.declared.period.Period.{Period as OpenPeriod}
-use Rattle.period_books.specs.Periods.{Period, Adds, open_shown}
+use Rattle.period_books.specs.Periods.{Adds, open_shown}
 use Rattle.period_books.proofs.Sorting.{get_middle}
 use Rattle.period_table.specs.declared.table.PeriodTable.{PeriodTable}
 use Rattle.period_table.specs.Tables.{periods_of}
@@ -22,7 +22,7 @@ use Rattle.period_table.proofs.Lists.{place_of_among}
 use Rattle.moment_parts.specs.Parts as parts
 use Rattle.moment_parts.specs.Events.{Begins, Steals, steals_beside, takes_over}
 use Rattle.deque_events.specs.Shown.{deque_shown, parts_of, Holds}
-use Rattle.deque_events.specs.Events.{Stole, StoleBeside, TookOver}
+use Rattle.deque_events.specs.Events.{StoleBeside, TookOver}
 use Rattle.deque_events.proofs.Putting.{set_middle}
 
 module _ {X : Type 0} where

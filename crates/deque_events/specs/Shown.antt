@@ -3,7 +3,6 @@ use Rattle.std.specs.Prelude.{◌≡◌, ℕ, Option, Some, List, ◌∷◌, ◌
 use Rattle.deque_list.specs.declared.deque_id.DequeId.{DequeId}
 use Rattle.deque_list.specs.Deques.{Deque}
 use Rattle.deque_list.specs.DequeLists.{ListView}
-use Rattle.period_books.specs.Periods.{Period}
 use Rattle.period_table.specs.declared.table.PeriodTable.{PeriodTable}
 use Rattle.period_table.specs.Tables.{periods_of}
 use Rattle.moment_parts.specs.Parts as parts

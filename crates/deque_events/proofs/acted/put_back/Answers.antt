@@ -1,5 +1,4 @@
-use Rattle.std.proofs.Common.{rules, ◌≡◌, ◌≤◌, ◌+◌, ℕ, List, [], ◌∷◌, Some, refl, sym, ap, subst, ◌∙◌, arith}
-use Rattle.deque_events.proofs.Putting.{live, pushed, back_alone, back_joined, back_dummy, back_forked}
+use Rattle.deque_events.proofs.Putting.{live, back_alone, back_joined}
 use Rattle.deque_events.proofs.acted.put_back.Goals as goal
 
 pub push_top-requires-clause-live : goal.push_top-requires-clause-live

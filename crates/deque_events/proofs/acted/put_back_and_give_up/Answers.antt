@@ -1,8 +1,8 @@
-use Rattle.std.proofs.Common.{rules, ◌≡◌, ◌≤◌, ◌+◌, ℕ, List, [], ◌∷◌, Some, refl, sym, ap, subst, ◌∙◌, arith}
+use Rattle.std.proofs.Common.{ap}
 use Rattle.period_books.specs.Periods.{open_shown}
 use Rattle.period_table.specs.Tables.{seat_at, shown_of}
 use Rattle.period_table.proofs.Seats.{room_seat}
-use Rattle.deque_events.proofs.Putting.{live, pushed, back_alone, back_joined, back_dummy, back_forked}
+use Rattle.deque_events.proofs.Putting.{live, pushed, back_dummy}
 use Rattle.deque_events.proofs.acted.put_back_and_give_up.Goals as goal
 
 pub push_top-requires-clause-live : goal.push_top-requires-clause-live

@@ -1,6 +1,4 @@
-use Rattle.std.proofs.Common.{rules, ◌≡◌, ◌≤◌, ◌+◌, ℕ, List, [], ◌∷◌, Some, refl, sym, ap, subst, ◌∙◌, arith}
-use Rattle.deque_events.proofs.Putting.{at_rank, here, live, pushed}
-use Rattle.deque_events.proofs.Leaving.{gave_up, suspended, left_empty, woken, ended_above}
+use Rattle.deque_events.proofs.Leaving.{ended_above}
 use Rattle.deque_events.proofs.left.end_above.Goals as goal
 
 pub returns : goal.returns

@@ -1,9 +1,9 @@
-use Rattle.std.proofs.Common.{rules, ◌≡◌, ◌≤◌, ◌+◌, ℕ, List, [], ◌∷◌, Some, refl, sym, ap, subst, ◌∙◌, arith}
+use Rattle.std.proofs.Common.{refl, ap}
 use Rattle.period_books.specs.Periods.{open_shown}
 use Rattle.period_table.specs.Tables.{seat_at, shown_of}
 use Rattle.period_table.proofs.Seats.{room_seat}
-use Rattle.deque_events.proofs.Putting.{at_rank, here, live, pushed}
-use Rattle.deque_events.proofs.Leaving.{gave_up, suspended, left_empty, woken, ended_above}
+use Rattle.deque_events.proofs.Putting.{at_rank, here}
+use Rattle.deque_events.proofs.Leaving.{left_empty}
 use Rattle.deque_events.proofs.left.end_and_leave.Goals as goal
 
 pub remove-requires : goal.remove-requires

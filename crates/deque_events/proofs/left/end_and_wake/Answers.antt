@@ -1,6 +1,5 @@
-use Rattle.std.proofs.Common.{rules, ◌≡◌, ◌≤◌, ◌+◌, ℕ, List, [], ◌∷◌, Some, refl, sym, ap, subst, ◌∙◌, arith}
-use Rattle.deque_events.proofs.Putting.{at_rank, here, live, pushed}
-use Rattle.deque_events.proofs.Leaving.{gave_up, suspended, left_empty, woken, ended_above}
+use Rattle.deque_events.proofs.Putting.{live}
+use Rattle.deque_events.proofs.Leaving.{woken}
 use Rattle.deque_events.proofs.left.end_and_wake.Goals as goal
 
 pub push_top-requires-clause-live : goal.push_top-requires-clause-live

@@ -1,6 +1,6 @@
-use Rattle.std.proofs.Common.{rules, ◌≡◌, ◌≤◌, ◌+◌, ℕ, List, [], ◌∷◌, Some, refl, sym, ap, subst, ◌∙◌, arith}
-use Rattle.deque_events.proofs.Putting.{at_rank, here, live, pushed}
-use Rattle.deque_events.proofs.Leaving.{gave_up, suspended, left_empty, woken, ended_above}
+use Rattle.std.proofs.Common.{refl}
+use Rattle.deque_events.proofs.Putting.{at_rank, here}
+use Rattle.deque_events.proofs.Leaving.{suspended}
 use Rattle.deque_events.proofs.left.suspend.Goals as goal
 
 pub remove-requires : goal.remove-requires

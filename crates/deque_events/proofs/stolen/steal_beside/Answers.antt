@@ -1,10 +1,10 @@
-use Rattle.std.proofs.Common.{rules, ◌≡◌, ◌≤◌, ◌+◌, ℕ, List, [], ◌∷◌, ◌++◌, Some, refl, sym, ap, subst, ◌∙◌, arith, length}
+use Rattle.std.proofs.Common.{[], ◌∷◌, ◌++◌, sym, ap, subst, ◌∙◌, arith, length}
 use Rattle.std.specs.Prelude.{slice_get}
 use Rattle.std.proofs.lemmas.Option.{none-some}
 use Rattle.deque_list.specs.Ids.{IsLive}
 use Rattle.period_books.proofs.Sorting.{get_middle}
 use Rattle.period_table.proofs.Seats.{as_long}
-use Rattle.deque_events.proofs.Stealing.{held, rank_of, is_live, last_place, never_refused, stole_beside, took_over}
+use Rattle.deque_events.proofs.Stealing.{held, rank_of, is_live, last_place, never_refused, stole_beside}
 use Rattle.deque_events.proofs.stolen.steal_beside.Goals as goal
 
 pub take_bottom-requires : goal.take_bottom-requires

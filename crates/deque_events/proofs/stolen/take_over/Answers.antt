@@ -1,9 +1,5 @@
-use Rattle.std.proofs.Common.{rules, ◌≡◌, ◌≤◌, ◌+◌, ℕ, List, [], ◌∷◌, Some, refl, sym, ap, subst, ◌∙◌, arith, length}
-use Rattle.std.specs.Prelude.{slice_get}
-use Rattle.std.proofs.lemmas.Option.{none-some}
-use Rattle.deque_list.specs.Ids.{IsLive}
-use Rattle.period_books.proofs.Sorting.{get_middle}
-use Rattle.deque_events.proofs.Stealing.{held, rank_of, is_live, last_place, never_refused, stole_beside, took_over}
+use Rattle.std.proofs.Common.{refl, length}
+use Rattle.deque_events.proofs.Stealing.{held, rank_of, took_over}
 use Rattle.deque_events.proofs.stolen.take_over.Goals as goal
 
 pub take_over-requires : goal.take_over-requires
