@@ -1,9 +1,9 @@
 -- The turns of a word, once round, and what a deque tells of itself.
-use Rattle.std.proofs.Common.{◌≡◌, ◌≢◌, ℕ, zero, suc, ◌+◌, ◌-◌, ◌*◌, ◌/◌, ◌%◌, ◌<◌, ◌≤◌, ◌⊎◌, Bool, true, false, List, inl, inr, refl, sym, ap, subst, ◌∙◌, arith, mod-lt, true≢false}
+use Rattle.std.proofs.Common.{◌≡◌, ℕ, ◌+◌, ◌-◌, ◌*◌, ◌/◌, ◌%◌, ◌<◌, Bool, true, false, List, inl, inr, refl, sym, ap, subst, ◌∙◌, arith, mod-lt, true≢false}
 use Rattle.std.specs.Prelude.{Option, None, Some, slice_get, MatchOption, IsTrue, ◌↔◌}
 use Rattle.std.proofs.lemmas.Bool.{cases_lt}
 use Rattle.std.proofs.lemmas.Option.{same_Some, none-some}
-use Rattle.std.proofs.Math.Nat.{div-add-mod, add-mul-mod_self_left, mul-add, mod-eq_of_lt}
+use Rattle.std.proofs.Math.Nat.{div-add-mod, add-mul-mod_self_left, mod-eq_of_lt}
 use Rattle.deque_list.specs.Deques.{Deque, IsReady}
 use Rattle.deque_machine.specs.Play.{IsFirst}
 use Rattle.turn_choice.specs.Choices.{IsReadyAt}

@@ -1,7 +1,6 @@
 -- Who moves, and whom a thief robs.
-use Rattle.std.specs.Prelude.{◌≡◌, ℕ, ◌<◌, ◌⊎◌, Bool, true, Option, Some, min, length, List, slice_get}
+use Rattle.std.specs.Prelude.{◌≡◌, ℕ, ◌<◌, ◌⊎◌, Bool, true, Some, min, length, List, slice_get}
 use Rattle.deque_list.specs.Deques.{Deque, IsReady}
-use Rattle.deque_list.specs.DequeLists.{ListView}
 use Rattle.period_table.specs.declared.table.PeriodTable.{PeriodTable}
 use Rattle.period_table.specs.declared.seat.Seat.{Seat}
 use Rattle.period_table.specs.Tables.{seat_at}

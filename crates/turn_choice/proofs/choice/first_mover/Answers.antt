@@ -1,9 +1,6 @@
-use Rattle.std.proofs.Common.{◌≡◌, ◌+◌, ◌%◌, ◌<◌, ◌≤◌, ℕ, Bool, true, false, Some, refl, sym, ap, subst, ◌∙◌, arith, length, inl, inr, true≢false}
-use Rattle.std.specs.Prelude.{slice_get, min}
-use Rattle.std.proofs.lemmas.Bool.{cases_lt}
-use Rattle.deque_machine.specs.Play.{IsFirst}
-use Rattle.turn_choice.specs.Choices.{IsReadyAt, reach_of, SomeReady, CanMove}
-use Rattle.turn_choice.proofs.Turns.{rest_first, none_passes, first_is, one_more_fails, told_ready, told_not_ready}
+use Rattle.std.proofs.Common.{sym, ◌∙◌, arith, true≢false}
+use Rattle.turn_choice.specs.Choices.{CanMove}
+use Rattle.turn_choice.proofs.Turns.{none_passes, first_is, one_more_fails}
 use Rattle.turn_choice.proofs.choice.first_mover.Goals as goal
 
 pub returns-then-can_move : goal.returns-then-can_move
