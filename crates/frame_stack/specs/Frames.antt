@@ -13,7 +13,7 @@ use Rattle.node_table.specs.Names.{slot_names, IsSlot}
 use Rattle.node_table.specs.Reading.{IsTarget, AreArgs, AreSlots}
 use Rattle.node_table.specs.Table.{Kind, call_node, both_node, split_node, Node, Function, Table}
 use Rattle.node_table.specs.Table as tables
-use Rattle.node_table.specs.Programs.{IsStmt, IsBody, IsFunc, function_names, is_assigned_in}
+use Rattle.node_table.specs.Programs.{IsStmt, IsBody, IsFunc, function_names, is_named_in, is_assigned_in}
 use Rattle.frame_stack.specs.declared.branch.Branch.{Branch}
 use Rattle.frame_stack.specs.declared.branch.Branch.TheVariants.{Par, Dummies}
 use Rattle.frame_stack.specs.declared.frame.Frame.{Frame}
@@ -78,7 +78,7 @@ pub record IsSplitNode (t : Table) (names : List Name) (n : ℕ) (b l r : Name) 
   pub first : IsSlot names left l
   pub rest : IsSlot names right r
 
--- what the first branch of a `par` assigns to, in the slots of the function; a dummy assigns to nothing
+-- what the first branch of a `par` takes with it and assigns to, in the slots of the function; a dummy takes nothing and assigns to nothing
 pub record IsParNode (p : Program) (t : Table) (names : List Name) (n : ℕ) (a b : Tree.Body) : Type 0 where
   pub left : List ℕ
   pub right : List ℕ
@@ -87,6 +87,7 @@ pub record IsParNode (p : Program) (t : Table) (names : List Name) (n : ℕ) (a 
   pub there : kind_at t n ≡ Some (both_node left right blocks assigned)
   pub first : AreStatements p t names left a
   pub second : AreStatements p t names right b
+  pub takes : AreSlots names blocks (filter (is_named_in a) names)
   pub assigns : AreSlots names assigned (filter (is_assigned_in a) names)
 
 abbrev pub IsJoinOf : Program → Table → List Name → Branch → (Name → Bool) → Type 0

@@ -58,9 +58,15 @@ fn kind(code: &Code, node: u32) -> Option<&NodeKind>
 
 /// The number of the statement at a place of a list, from 0; None exactly where the list has no such place.
 pub fn number_at(code: &Code, list: ListOf, place: usize) -> Option<u32>
-    ensures { result ≡ slice_get (numbers_of (code_shown code.now) list) place }
+    ensures number { result ≡ slice_get (numbers_of (code_shown code.now) list) place }
+    ensures below { IfSome result (λ _. place < 18446744073709551615) }
 {
-    numbers(code, list).get(place).copied()
+    let numbers = numbers(code, list);
+    if place < numbers.len() {
+        Some(numbers[place])
+    } else {
+        None
+    }
 }
 
 /// The frame for the statements of a list from a place on; None exactly where there are none.

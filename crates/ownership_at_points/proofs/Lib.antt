@@ -3,3 +3,5 @@ pub mod Ending
 pub mod Stepping
 pub mod Reading
 pub mod Skipping
+pub mod Taking
+pub mod Keeping

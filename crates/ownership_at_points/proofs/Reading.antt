@@ -88,7 +88,7 @@ or_this : Func → Option Func → Func
 or_this g None = g
 or_this g (Some h) = h
 
-same_function : (g h : Func) (o : Option Func) → o ≡ Some g → o ≡ Some h → g ≡ h
+pub same_function : (g h : Func) (o : Option Func) → o ≡ Some g → o ≡ Some h → g ≡ h
 unfolding or_this
 same_function g h o p q = ap (or_this g) (sym p ∙ q)
 

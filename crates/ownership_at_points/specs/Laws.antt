@@ -2,12 +2,12 @@
 use Rattle.std.specs.Prelude.{◌≡◌, ℕ, ◌+◌, ◌≤◌, Bool, true, false, List, [], ◌∷◌, ◌++◌, length, ◌⊎◌, ℤ, Option, Some}
 use Rattle.std.specs.Str.{bytes_eq}
 use Rattle.par_tree.specs.Tree.{Name, Expr, Arg, Target, Stmt, call_stmt, split_stmt, Body, step, Param, Ret, Func}
-use Rattle.par_ownership.specs.Ownership.{Ownership, function_of}
+use Rattle.par_ownership.specs.Ownership.{Ownership, function_of, takes_answer, hands_back}
 use Rattle.depth_first_run.specs.Stores.{block_of, block_words}
-use Rattle.depth_first_run.specs.States.{Setting, State, Item}
+use Rattle.depth_first_run.specs.States.{Setting, State, Item, holdings}
 use Rattle.depth_first_run.specs.Run.{cut_of, cut_block, on_store, run}
 use Rattle.depth_first_run.specs.Middle.{Frame, does, statements, answers, rejoins, answers_main, joins}
-use Rattle.thread_points.specs.Points.{Each, IsPlain, IsAt, marked}
+use Rattle.thread_points.specs.Points.{Each, IsPlain, IsAt, step_of, marked}
 use Rattle.thread_points.specs.Threads.{IsThread}
 use Rattle.ownership_laws.specs.Counts.{count}
 use Rattle.ownership_at_points.specs.Holdings.{OneEach, taken_under, puts_block, frame_puts, IsOfAllocation, EndsCall, EndsSplit}
@@ -78,6 +78,18 @@ JoinsMeetNone = (c : Setting) → Ownership c.program
     → (assigned : Name → Bool) (child : ℕ) (d : State) (own : List Frame) (s : State)
     → IsAt c (joins assigned child d ∷ own) s → s.faulted ≡ false → d.faulted ≡ false
     → (x : Name) → count s.store.blocks x + count d.store.blocks x ≤ 1
+
+-- the target of a call takes what its function hands back: it is a block exactly where the `return` hands one out
+abbrev pub CallsTakeTheirAnswers : Type 0
+CallsTakeTheirAnswers = (c : Setting) → Ownership c.program
+    → (ret : Option Ret) (params : List Param) (args : List Arg) (t : Target) (own : List Frame) (s : State)
+    → IsAt c (answers ret params args t ∷ own) s → takes_answer t (hands_back ret) ≡ true
+
+-- a step that puts plain frames and does no action keeps the words that its thread holds, and ends its work by no fault
+abbrev pub QuietStepsKeepTheWords : Type 0
+QuietStepsKeepTheWords = (c : Setting) → Ownership c.program → (f : Frame) (own : List Frame) (s : State) → IsAt c (f ∷ own) s
+    → IsPlain f → Each IsPlain (step_of c f s).frames → State.done (step_of c f s).state ≡ s.done
+    → (State.faulted (step_of c f s).state ≡ s.faulted) × (holdings (step_of c f s).state ≡ holdings s)
 
 -- the dummies of an allocation, and the allocation behind them, are done by a thread that no fault ended
 abbrev pub AllocationsRunWithoutFault : Type 0

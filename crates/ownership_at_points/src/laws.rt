@@ -1,4 +1,4 @@
-ghost use Rattle.ownership_at_points.specs.Laws.{EachNameHasOneBlock, StatementsPutWhereNoneIs, PartsAreApart, ParametersAreApart, FramesPutWhereNoneIs, CallsEndWithWhatGoesBack, MainEndsWithNothing, SplitBodiesKeepTheCut, SplitsEndInWholePieces, JoinsMeetNone, AllocationsRunWithoutFault, FaultedThreadsSkip};
+ghost use Rattle.ownership_at_points.specs.Laws.{EachNameHasOneBlock, StatementsPutWhereNoneIs, PartsAreApart, ParametersAreApart, FramesPutWhereNoneIs, CallsEndWithWhatGoesBack, MainEndsWithNothing, SplitBodiesKeepTheCut, SplitsEndInWholePieces, JoinsMeetNone, CallsTakeTheirAnswers, QuietStepsKeepTheWords, AllocationsRunWithoutFault, FaultedThreadsSkip};
 
 /// At each point of a thread there is of each name at most one block.
 pub fn each_name_has_one_block()
@@ -48,6 +48,16 @@ pub fn splits_end_in_whole_pieces()
 /// The blocks that a child brings back meet none under their names.
 pub fn joins_meet_none()
     ensures { JoinsMeetNone }
+{}
+
+/// The target of a call takes what its function hands back.
+pub fn calls_take_their_answers()
+    ensures { CallsTakeTheirAnswers }
+{}
+
+/// A step that does no action keeps the words that its thread holds.
+pub fn quiet_steps_keep_the_words()
+    ensures { QuietStepsKeepTheWords }
 {}
 
 /// The dummies of an allocation, and the allocation behind them, are done by a thread that no fault ended.

@@ -343,7 +343,7 @@ lent_back_count over before (q ∷ qs) (lend b ∷ args) callee caller x p =
 lent_back_count over before (q ∷ qs) (give b ∷ args) callee caller x p = lent_back_count over (before ++ give b ∷ []) qs args callee caller x p.1
 
 -- a name that is not held: nothing is dropped
-without_less : (hs : List Held) (b x : Name) (n : ℕ) → count hs x ≤ hit b x + n → count (without hs b) x ≤ n
+pub without_less : (hs : List Held) (b x : Name) (n : ℕ) → count hs x ≤ hit b x + n → count (without hs b) x ≤ n
 unfolding count
 without_less [] b x n le = omega arith
 without_less (h ∷ hs) b x n le = by (without_less hs b x) (bytes_eq h.name b) refl

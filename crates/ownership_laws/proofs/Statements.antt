@@ -271,7 +271,7 @@ taken_length at xs le = let t = length-take at xs in omega (arith, t, le)
 dropped_length : (at : ℕ) (xs : List ℤ) → length (drop at xs) ≡ length xs - at
 dropped_length at xs = length-drop at xs
 
-cut_exact : (b l r : Name) (at q : ℕ) (s : Store) → at ≡ 16 * q → at ≤ length (block_of s.blocks b) → held_words (cut_block b l r at s).blocks ≡ held_words s.blocks
+pub cut_exact : (b l r : Name) (at q : ℕ) (s : Store) → at ≡ 16 * q → at ≤ length (block_of s.blocks b) → held_words (cut_block b l r at s).blocks ≡ held_words s.blocks
 cut_exact b l r at q s whole le =
     let xs : List ℤ = block_of s.blocks b in
     let t : Store = drop_block b s in
@@ -286,7 +286,7 @@ cut_exact b l r at q s whole le =
     sum : (a n : ℕ) → a ≤ n → a + (n - a) ≡ n
     sum a n le = omega (arith, le)
 
-rejoin_exact : (b l r : Name) (q : ℕ) (s : Store) → length (block_of s.blocks l) ≡ 16 * q → held_words (rejoin_block b l r s).blocks ≡ held_words s.blocks
+pub rejoin_exact : (b l r : Name) (q : ℕ) (s : Store) → length (block_of s.blocks l) ≡ 16 * q → held_words (rejoin_block b l r s).blocks ≡ held_words s.blocks
 rejoin_exact b l r q s whole =
     let xs : List ℤ = block_of s.blocks l in
     let t : Store = drop_block l s in

@@ -62,6 +62,7 @@ par_node p t names n x y blocks assigned stmt there h = record {
   there = there;
   first = (n + 1, h.firsts);
   second = (n + 1, h.seconds);
+  takes = h.named;
   assigns = h.assigns;
 }
 

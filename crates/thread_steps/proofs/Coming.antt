@@ -151,7 +151,7 @@ pub settled_silent : (c : Setting) (t : Table) (g : Func) (gs : List Func) (u : 
     → IsState (map slot_names (g ∷ gs)) u (with_number line o f s)
     → Comes c t (g ∷ gs) u xs fs s (middle fs (with_number line o f s)) (Silent None None)
 unfolding with_number
-settled_silent c t g gs u xs fs line (Ok v) f s frames going same is = (g ∷ gs, frames, is, same v is)
+settled_silent c t g gs u xs fs line (Ok v) f s frames going same is = (frames, is, same v is)
 settled_silent c t g gs u xs fs line (Err kind) f s frames going same is = absurd (never_faulted (map slot_names (g ∷ gs)) u kind line s going is)
 
 -- a number is put in a block, so the place is in the block
@@ -199,7 +199,7 @@ pub cut_comes : (c : Setting) (t : Table) (g : Func) (gs : List Func) (u : Threa
     → u.faulted ≡ false → AreFrames c.program t (g ∷ gs) (frames_shown first ++ (Rejoins n ∷ xs)) (before_all a (rejoins b l r ∷ fs))
     → IsState (map slot_names (g ∷ gs)) u (cut_in_place line b l r place s)
     → Comes c t (g ∷ gs) u xs fs s (step_cut line b l r a place fs s) (Silent first (Some (Rejoins n)))
-cut_comes c t g gs u xs fs line b l r a (Some at) s first n going frames is = (g ∷ gs, frames, is, refl)
+cut_comes c t g gs u xs fs line b l r a (Some at) s first n going frames is = (frames, is, refl)
 cut_comes c t g gs u xs fs line b l r a None s first n going frames is = absurd (never_faulted (map slot_names (g ∷ gs)) u faults.Split line s going is)
 
 pub cut_fails : (contexts : List (List Name)) (u : ThreadState) (fs : List middles.Frame) (line : ℕ) (kind : FaultKind) (b l r : Name) (a : Body) (place : Option ℕ) (s : State)

@@ -1,7 +1,13 @@
 -- The end of a `split`, as the next frame.
-use Rattle.std.proofs.Common.{◌≡◌, ℕ, Bool, true, false, List, [], ◌∷◌, ◌++◌, Option, Some, None, refl, sym, ◌∙◌, ap, subst, append-nil}
+use Rattle.frame_stack.specs.Measure.{frames_cost, turn_cost}
+use Rattle.thread_steps.specs.Costs.{done_cost}
+use Rattle.std.proofs.Common.{◌≡◌, ◌≤◌, ◌+◌, ◌*◌, arith, ℕ, Bool, true, false, List, [], ◌∷◌, ◌++◌, Option, Some, None, refl, sym, ◌∙◌, ap, subst, append-nil, Vec, Global}
 use Rattle.std.specs.Prelude.{map}
-use Rattle.par_tree.specs.Tree.{Name, Func}
+use Rattle.par_tree.specs.Tree.{Name, Func, Program}
+use Rattle.node_table.specs.Shown.{kind_shown}
+use Rattle.node_table.specs.declared.code_expr.CodeExpr.{CodeExpr}
+use Rattle.node_table.specs.declared.node_kind.NodeKind.{NodeKind}
+use Rattle.node_table.specs.declared.node_kind.NodeKind.TheVariants as k
 use Rattle.depth_first_run.specs.Stores.{Store}
 use Rattle.depth_first_run.specs.States.{Setting, State, skip_if, unless_faulted}
 use Rattle.depth_first_run.specs.Run.{on_store, rejoin_block}
@@ -21,6 +27,11 @@ use Rattle.thread_steps.specs.Stands.{InState}
 use Rattle.thread_steps.specs.Steps.{StepsBy}
 use Rattle.thread_steps.specs.declared.stepped.Stepped.{Stepped}
 use Rattle.thread_steps.specs.declared.done.Done.TheVariants.{Silent}
+
+-- the node is a `split`
+abbrev pub IsSplitKind : Option Kind → Type 0
+IsSplitKind (Some (split_node s c l r x)) = Unit {0}
+IsSplitKind other = ⊥
 
 abbrev block_in : Option Kind → ℕ
 block_in (Some (split_node s c l r x)) = s
@@ -63,7 +74,6 @@ rejoin_comes c t g gs u xs fs s f st b l r n slot at left right body e is node t
     let second : name_at names right ≡ r = ap (λ (o : Option Kind). name_at names (right_in o)) same ∙ node.rest.reads in
     subst (λ (x : Stepped). StepsBy c t (g ∷ gs) u (frames_shown x.rest ++ xs) fs s f (step_frame c f fs s) x.done) (sym e)
     (subst (λ (y : middles.Frame). StepsBy c t (g ∷ gs) u xs fs s y (step_frame c y fs s) (Silent None None)) (sym is) (
-      g ∷ gs,
       frames,
       renamed (map slot_names (g ∷ gs)) u b l r (name_at names slot) (name_at names left) (name_at names right) s whole first second state,
       [],
@@ -80,3 +90,29 @@ pub rejoin_at : (c : Setting) (t : Table) (gs : List Func) (u v : ThreadState) (
 rejoin_at c t [] u v xs fs s f st n slot at left right body e frame there frames is goes = absurd (none_runs c.program t xs fs frames)
 rejoin_at c t (g ∷ gs) u v xs fs s f st n slot at left right body e frame there frames is goes =
     rejoin_comes c t g gs v xs fs s f st frame.0 frame.1 frame.2 n slot at left right body e frame.3 frame.4 there frames (goes (map slot_names gs) (slot_names g) s is)
+
+-- a node that is no `split` has no end of one
+no_end : (o : Option Kind) (slot : ℕ) (at : tables.Expr) (left right : ℕ) (body : List ℕ) → o ≡ Some (split_node slot at left right body) → IsSplitKind o
+no_end o slot at left right body e = subst IsSplitKind (sym e) tt
+
+pub never_split : (i : NodeKind) → ((s : ℕ) (e : CodeExpr) (l r : ℕ) (v : Vec ℕ Global) → i ≡ k.Split s e l r v → ⊥) → IsSplitKind (Some (kind_shown i)) → ⊥
+never_split (k.Split s e l r v) other h = other s e l r v refl
+never_split (k.Let s e) other h = h
+never_split (k.Assign s e) other h = h
+never_split (k.Put s e d) other h = h
+never_split (k.Alloc s e) other h = h
+never_split (k.Free s) other h = h
+never_split (k.If e a b) other h = h
+never_split (k.While e a) other h = h
+never_split (k.Call u f args) other h = h
+never_split (k.Print e) other h = h
+never_split (k.Both a b d e) other h = h
+
+pub split_there : (p : Program) (t : Table) (gs : List Func) (n : ℕ) (f : middles.Frame) → IsFrame p t gs (Rejoins n) f → IsSplitKind (kind_at t n)
+split_there p t gs n f frame = no_end (kind_at t n) frame.4.block frame.4.at frame.4.left frame.4.right frame.4.body frame.4.there
+
+-- what is skipped leaves less
+pub skipped_cost : (t : Table) (turns : ℕ) (st : Stepped) → st ≡ record { rest = None; done = Silent None None }
+    → turns * turn_cost t + (done_cost t st.done + frames_cost t (frames_shown st.rest)) + 1 ≤ turns * turn_cost t + 1
+skipped_cost t turns st e =
+    subst (λ (x : Stepped). turns * turn_cost t + (done_cost t x.done + frames_cost t (frames_shown x.rest)) + 1 ≤ turns * turn_cost t + 1) (sym e) (omega arith)

@@ -24,7 +24,7 @@ use Rattle.thread_steps.specs.Steps.{Knowing, IsQuiet, IsActionOf, StepsBy}
 use Rattle.thread_steps.specs.declared.ready.Ready.{Ready}
 use Rattle.thread_steps.specs.declared.ready.Ready.TheVariants.{Fork, Join, Alloc, Release, Dummy, Fault, End}
 use Rattle.thread_steps.specs.declared.done.Done.{Done}
-use Rattle.thread_steps.specs.declared.done.Done.TheVariants.{Silent, Prints, Calls, Acts}
+use Rattle.thread_steps.specs.declared.done.Done.TheVariants.{Silent, Prints, Acts}
 use Rattle.frame_stack.specs.Measure.{frames_cost, list_cost, node_cost, turn_cost}
 use Rattle.frame_stack.proofs.Costs.{rest_costs}
 use Rattle.thread_steps.specs.Costs.{done_cost}
@@ -85,9 +85,8 @@ again_meaning t k n u on h = go h.functions h.frame h.frames h.in_state
 taken : (c : Setting) (t : Table) (g : Func) (gs : List Func) (u : ThreadState) (xs : List Frame) (fs behind : List middles.Frame) (s : State) (line : ℕ) (stmt : Stmt) (rest : Body) (m : Middle) (d : Done)
     → Comes c t (g ∷ gs) u xs behind (with_item (began line) s) m d → StepsBy c t (g ∷ gs) u xs fs s (does (statements (step line stmt rest))) m d
 taken c t g gs u xs fs behind s line stmt rest m (Silent first next) h =
-    (h.0, h.1, h.2, began line ∷ [], h.3, record { no_action = refl; no_line = refl; no_fault = refl })
+    (h.0, h.1, began line ∷ [], h.2, record { no_action = refl; no_line = refl; no_fault = refl })
 taken c t g gs u xs fs behind s line stmt rest m (Prints v) h = (h.0, h.1, h.2 ∙ append_assoc s.items (began line ∷ []) (printed v ∷ []))
-taken c t g gs u xs fs behind s line stmt rest m (Calls n) h = (items_aside (map slot_names (g ∷ gs)) u (with_item (began line) s) s.items h.0, behind, h.1)
 taken c t g gs u xs fs behind s line stmt rest m (Acts ready) h = (items_aside (map slot_names (g ∷ gs)) u (with_item (began line) s) s.items h.0, go ready h.1)
   where
     go : (r : Ready) → IsAction c t (g ∷ gs) u xs behind (with_item (began line) s) m r → IsActionOf c t (g ∷ gs) u xs fs s (does (statements (step line stmt rest))) m r
@@ -96,7 +95,7 @@ taken c t g gs u xs fs behind s line stmt rest m (Acts ready) h = (items_aside (
     go (Alloc slot len shell) e = (behind, e)
     go (Release slot words) e = (behind, e)
     go Dummy e = (behind, e)
-    go (Fault x) e = (g ∷ gs, e.0, e.1)
+    go (Fault x) e = e
     go End e = absurd e
 
 -- a statement where a thread stands, with the mark that it began
@@ -156,7 +155,7 @@ quiet_none = record { no_action = refl; no_line = refl; no_fault = refl }
 -- a frame that does nothing
 pub nothing_comes : (c : Setting) (t : Table) (gs : List Func) (u : ThreadState) (xs : List Frame) (fs : List middles.Frame) (s : State) (f : middles.Frame) → AreFrames c.program t gs xs fs → InState gs u s
     → middle fs s ≡ step_frame c f fs s → StepsBy c t gs u xs fs s f (step_frame c f fs s) (Silent None None)
-nothing_comes c t gs u xs fs s f frames is same = subst (λ (m : Middle). StepsBy c t gs u xs fs s f m (Silent None None)) same (gs, frames, is, [], sym (append-nil s.items), quiet_none)
+nothing_comes c t gs u xs fs s f frames is same = subst (λ (m : Middle). StepsBy c t gs u xs fs s f m (Silent None None)) same (frames, is, [], sym (append-nil s.items), quiet_none)
 
 pub skipped : (c : Setting) (b : Body) (f : middles.Frame) (fs : List middles.Frame) (s : State) → f ≡ does (statements b) → s.faulted ≡ true → middle fs s ≡ step_frame c f fs s
 skipped c b f fs s is over = go b is

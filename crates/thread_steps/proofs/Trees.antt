@@ -58,6 +58,7 @@ fork_comes c t gs u xs fs s f st child own e is frames state =
           behind = frames;
           taken = refl;
           joined = refl;
+          work_of = tt;
           of_child = refl;
           of_parent = refl;
         },

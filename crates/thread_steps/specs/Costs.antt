@@ -9,13 +9,12 @@ use Rattle.thread_steps.specs.declared.stepped.Stepped.{Stepped}
 use Rattle.frame_stack.specs.Lists.{numbers_of}
 use Rattle.frame_stack.specs.declared.list_of.ListOf.TheVariants.{Round}
 use Rattle.thread_steps.specs.declared.done.Done.{Done}
-use Rattle.thread_steps.specs.declared.done.Done.TheVariants.{Silent, Prints, Calls, Acts}
+use Rattle.thread_steps.specs.declared.done.Done.TheVariants.{Silent, Prints, Acts}
 
 -- what the frames count that it puts
 abbrev pub done_cost : Table → Done → ℕ
 done_cost t (Silent first next) = frames_cost t (frames_shown first) + frames_cost t (frames_shown next)
 done_cost t (Prints v) = 0
-done_cost t (Calls n) = 0
 done_cost t (Acts ready) = 0
 
 -- they count no more than so much, where there is enough memory

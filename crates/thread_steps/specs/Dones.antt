@@ -4,19 +4,19 @@ use Rattle.dag_order.specs.declared.fault.FaultKind.{FaultKind}
 use Rattle.std.specs.declared.alloc.AllocError.{AllocError}
 use Rattle.depth_first_list.specs.Actions as actions
 use Rattle.par_tree.specs.Tree
-use Rattle.par_tree.specs.Tree.{Name, Func, Target, Arg, call_stmt}
-use Rattle.par_ownership.specs.Ownership.{function_of}
+use Rattle.par_tree.specs.Tree.{Name, Func}
 use Rattle.depth_first_run.specs.Stores.{block_of, block_words}
 use Rattle.depth_first_run.specs.States.{Setting, State, printed, with_action, with_fault}
 use Rattle.depth_first_run.specs.Run.{free_block, names_in, no_name}
 use Rattle.depth_first_run.specs.Middle as middles
-use Rattle.depth_first_run.specs.Middle.{Middle, allocated, step_fork, step_call, does}
+use Rattle.depth_first_run.specs.Middle.{Middle, allocated, step_fork, does}
 use Rattle.node_table.specs.Names.{IsSlot}
 use Rattle.node_table.specs.Table.{Table}
 use Rattle.frame_stack.specs.declared.branch.Branch.{Branch}
 use Rattle.frame_stack.specs.declared.branch.Branch.TheVariants.{Par, Dummies}
 use Rattle.frame_stack.specs.declared.frame.Frame.{Frame}
-use Rattle.frame_stack.specs.Frames.{AreFrames, IsFrame, IsJoinOf, IsParNode, IsNode, names_now, frames_shown}
+use Rattle.frame_stack.specs.declared.frame.Frame.TheVariants.{Tree as DummyTree}
+use Rattle.frame_stack.specs.Frames.{AreFrames, IsFrame, IsJoinOf, IsParNode, names_now, frames_shown}
 use Rattle.block_arena.specs.Size.{pieces_for}
 use Rattle.slot_store.specs.Rows.{HasBlock, HasNone}
 use Rattle.thread_state.specs.States.{own_row}
@@ -26,7 +26,7 @@ use Rattle.thread_steps.specs.declared.ready.Ready.{Ready}
 use Rattle.thread_steps.specs.declared.ready.Ready.TheVariants.{Fork, Join, Alloc, Release, Dummy, Fault, End}
 use Rattle.thread_steps.specs.declared.ready.Forking.{Forking}
 use Rattle.thread_steps.specs.declared.done.Done.{Done}
-use Rattle.thread_steps.specs.declared.done.Done.TheVariants.{Silent, Prints, Calls, Acts}
+use Rattle.thread_steps.specs.declared.done.Done.TheVariants.{Silent, Prints, Acts}
 
 -- an allocation of len numbers under the name of a slot, which has no block
 pub record IsAlloc (gs : List Func) (u : ThreadState) (slot len : ℕ) (s after : State) : Type 0 where
@@ -49,6 +49,12 @@ abbrev pub IsTakenBy : Setting → Table → List Func → Branch → (Name → 
 IsTakenBy c t gs (Par n) named = (a : Tree.Body) × (b : Tree.Body) × (named ≡ names_in a) × IsParNode c.program t (names_now gs) n a b
 IsTakenBy c t gs Dummies named = named ≡ no_name
 
+-- a child that runs dummies begins with a tree of them
+abbrev pub IsWorkOf : Branch → Frame → Type 0
+IsWorkOf (Par n) work = Unit {0}
+IsWorkOf Dummies (DummyTree shape) = Unit {0}
+IsWorkOf Dummies work = ⊥
+
 -- a Fork: what the child and its parent do, with the names that pass and the integers that come back
 pub record IsFork (c : Setting) (t : Table) (gs : List Func) (xs : List Frame) (fs : List middles.Frame) (s : State) (m : Middle)
     (forking : Forking) : Type 0 where
@@ -60,6 +66,7 @@ pub record IsFork (c : Setting) (t : Table) (gs : List Func) (xs : List Frame) (
   pub behind : AreFrames c.program t gs xs fs
   pub taken : IsTakenBy c t gs forking.branch named
   pub joined : IsJoinOf c.program t (names_now gs) forking.branch assigned
+  pub work_of : IsWorkOf forking.branch forking.work
   pub of_child : IsFrame c.program t gs forking.work (does work)
   pub of_parent : IsFrame c.program t gs forking.own (does mine)
 
@@ -74,25 +81,13 @@ IsAction c t gs u xs fs s m Dummy = AreFrames c.program t gs xs m.frames × (m.s
 IsAction c t gs u xs fs s m (Fault fault) = AreFrames c.program t gs xs m.frames × (m.state ≡ with_fault fault.kind fault.line s)
 IsAction c t gs u xs fs s m End = ⊥
 
--- the call of a node, which would lead from the state s to m
-pub record IsCall (c : Setting) (t : Table) (gs : List Func) (xs : List Frame) (fs : List middles.Frame) (s : State) (m : Middle)
-    (n : ℕ) : Type 0 where
-  pub line : ℕ
-  pub target : Target
-  pub callee : Name
-  pub args : List Arg
-  pub node : IsNode c.program t (names_now gs) n line (call_stmt target callee args)
-  pub does : m ≡ step_call c line target args (function_of c.program callee) fs s
-  pub behind : AreFrames c.program t gs xs fs
-
--- What a step comes to, which leads from the state s, with fs behind it, to m. A silent step may open a call or close one.
+-- What a step comes to, which leads from the state s, with fs behind it, to m. No call is opened or closed.
 abbrev pub Comes : Setting → Table → List Func → ThreadState → List Frame → List middles.Frame → State → Middle → Done → Type 0
 Comes c t gs u xs fs s m (Silent first next) =
-    (hs : List Func) × AreFrames c.program t hs (frames_shown first ++ (frames_shown next ++ xs)) m.frames
-    × InState hs u m.state × (m.state.items ≡ s.items)
+    AreFrames c.program t gs (frames_shown first ++ (frames_shown next ++ xs)) m.frames
+    × InState gs u m.state × (m.state.items ≡ s.items)
 Comes c t gs u xs fs s m (Prints v) =
     AreFrames c.program t gs xs m.frames × InState gs u m.state × (m.state.items ≡ s.items ++ printed v ∷ [])
-Comes c t gs u xs fs s m (Calls n) = InState gs u s × IsCall c t gs xs fs s m n
 Comes c t gs u xs fs s m (Acts ready) = InState gs u s × IsAction c t gs u xs fs s m ready
 
 -- where a thread stands, a step leads to what the depth-first run does there

@@ -5,3 +5,4 @@ pub mod Costs
 pub mod Meanings
 pub mod Steps
 pub mod Rejoining
+pub mod Calling

@@ -9,16 +9,15 @@ use Rattle.depth_first_run.specs.Middle.{Middle, step_frame}
 use Rattle.node_table.specs.Table.{Table}
 use Rattle.thread_points.specs.Points.{IsAt, mark_of, marked}
 use Rattle.frame_stack.specs.declared.frame.Frame.{Frame}
-use Rattle.frame_stack.specs.declared.frame.Frame.TheVariants.{Joins}
 use Rattle.frame_stack.specs.Frames.{AreFrames, IsFrame, functions_behind, frames_shown}
 use Rattle.thread_state.specs.declared.state.ThreadState.{ThreadState}
 use Rattle.thread_steps.specs.Settings.{IsSettingOf}
 use Rattle.thread_steps.specs.Stands.{InState}
-use Rattle.thread_steps.specs.Dones.{IsAction, IsCall}
+use Rattle.thread_steps.specs.Dones.{IsAction}
 use Rattle.thread_steps.specs.declared.ready.Ready.{Ready}
 use Rattle.thread_steps.specs.declared.ready.Ready.TheVariants.{Fork, Join, Alloc, Release, Dummy, Fault, End}
 use Rattle.thread_steps.specs.declared.done.Done.{Done}
-use Rattle.thread_steps.specs.declared.done.Done.TheVariants.{Silent, Prints, Calls, Acts}
+use Rattle.thread_steps.specs.declared.done.Done.TheVariants.{Silent, Prints, Acts}
 use Rattle.thread_steps.specs.declared.stepped.Stepped.{Stepped}
 
 -- the frame x is the next one of a thread at a point of the run of an accepted program, with xs behind it
@@ -44,11 +43,10 @@ pub record IsQuiet (items : List Item) : Type 0 where
   pub no_line : lines_of items ≡ []
   pub no_fault : first_fault items ≡ None
 
--- The action that a frame comes to, which leads to m. A Join is left to the frame itself; a fault closes calls, so the functions behind it
--- are others where it comes at the end of a call.
+-- The action that a frame comes to, which leads to m. A Join is no step of another frame than its own.
 abbrev pub IsActionOf : Setting → Table → List Func → ThreadState → List Frame → List middles.Frame → State → middles.Frame → Middle
     → Ready → Type 0
-IsActionOf c t gs u xs fs s f m (Join branch) = IsFrame c.program t gs (Joins branch) f × AreFrames c.program t gs xs fs
+IsActionOf c t gs u xs fs s f m (Join branch) = ⊥
 IsActionOf c t gs u xs fs s f m (Fork x) = (behind : List middles.Frame) × IsAction c t gs u xs behind (marked f s) m (Fork x)
 IsActionOf c t gs u xs fs s f m (Alloc slot len shell) =
     (behind : List middles.Frame) × IsAction c t gs u xs behind (marked f s) m (Alloc slot len shell)
@@ -56,18 +54,17 @@ IsActionOf c t gs u xs fs s f m (Release slot words) =
     (behind : List middles.Frame) × IsAction c t gs u xs behind (marked f s) m (Release slot words)
 IsActionOf c t gs u xs fs s f m Dummy = (behind : List middles.Frame) × IsAction c t gs u xs behind (marked f s) m Dummy
 IsActionOf c t gs u xs fs s f m (Fault x) =
-    (hs : List Func) × AreFrames c.program t hs xs m.frames × (m.state ≡ with_fault x.kind x.line (marked f s))
+    AreFrames c.program t gs xs m.frames × (m.state ≡ with_fault x.kind x.line (marked f s))
 IsActionOf c t gs u xs fs s f m End = ⊥
 
 -- what the frame f comes to in the state s, where fs and xs are behind it
 abbrev pub StepsBy : Setting → Table → List Func → ThreadState → List Frame → List middles.Frame → State → middles.Frame → Middle → Done
     → Type 0
 StepsBy c t gs u xs fs s f m (Silent first next) =
-    (hs : List Func) × AreFrames c.program t hs (frames_shown first ++ (frames_shown next ++ xs)) m.frames × InState hs u m.state
+    AreFrames c.program t gs (frames_shown first ++ (frames_shown next ++ xs)) m.frames × InState gs u m.state
     × (new : List Item) × (m.state.items ≡ s.items ++ new) × IsQuiet new
 StepsBy c t gs u xs fs s f m (Prints v) =
     AreFrames c.program t gs xs m.frames × InState gs u m.state × (m.state.items ≡ s.items ++ (mark_of f ++ printed v ∷ []))
-StepsBy c t gs u xs fs s f m (Calls n) = InState gs u s × (behind : List middles.Frame) × IsCall c t gs xs behind (marked f s) m n
 StepsBy c t gs u xs fs s f m (Acts ready) = InState gs u s × IsActionOf c t gs u xs fs s f m ready
 
 -- a frame leads to what the depth-first run does there, or there is not enough memory, and the thread is as it was

@@ -11,8 +11,6 @@ pub enum Done {
     },
     /// It prints a number, and does no action.
     Prints(i64),
-    /// It is the call of the node of this number, which is not begun.
-    Calls(u32),
     /// It is an action, which is not done yet.
     Acts(Ready),
 }

@@ -46,14 +46,6 @@ pub fn dummies(tree: Tree) -> Stepped
     }
 }
 
-/// The Join of the newest open child.
-pub fn joins(branch: Branch) -> Stepped
-    ensures meaning { (t : Table) (k : ℕ) (u : ThreadState) → Steps t k u (Frame.Joins branch) (Ok result) u }
-    ensures cost { (t : Table) (turns : ℕ) → StepsLess t (Frame.Joins branch) turns turns (Ok result) }
-{
-    acts(Ready::Join(branch))
-}
-
 /// An allocation of `len` numbers behind its dummies.
 ///
 /// # Errors

@@ -1,6 +1,6 @@
 //! Lists of statements and loops, one statement at a time.
 
-ghost use Rattle.std.specs.Prelude.{◌≡◌, ◌≤◌, ◌<◌, ℕ, length, Some, slice_get};
+ghost use Rattle.std.specs.Prelude.{◌≡◌, ◌≤◌, ◌<◌, ℕ, length, false, Some, slice_get};
 ghost use Rattle.par_tree.specs.Tree.{Func, Stmt};
 ghost use Rattle.node_table.specs.Names.{slot_names};
 ghost use Rattle.node_table.specs.Codes.{code_shown};
@@ -8,6 +8,8 @@ ghost use Rattle.dummy_tree.specs.QuotaWords.{quota_words};
 ghost use Rattle.depth_first_run.specs.States.{Setting};
 ghost use Rattle.depth_first_run.specs.Middle.{step_statement};
 ghost use Rattle.frame_stack.specs.Frames.{IsNode};
+ghost use Rattle.frame_stack.specs.Lists.{kind_at};
+ghost use Rattle.thread_steps.specs.Calling.{IsNoCall, BeginsWithNoCall};
 ghost use Rattle.thread_steps.specs.Costs.{LeavesLess, StepsLess};
 ghost use Rattle.thread_steps.specs.Dones.{LeadsOrWants};
 ghost use Rattle.thread_steps.specs.Meanings.{IsMeant};
@@ -35,7 +37,7 @@ pub(crate) fn skip() -> Stepped
     }
 }
 
-/// The statement of a number.
+/// The statement of a number, which is no call.
 ///
 /// # Errors
 ///
@@ -47,7 +49,8 @@ fn numbered(
     k: Quota,
     number: u32,
 ) -> Result<Done, AllocError>
-    requires { IsMeant (code_shown code.now) (quota_words k) number state.old }
+    requires meant { IsMeant (code_shown code.now) (quota_words k) number state.old }
+    requires no_call { IsNoCall (kind_at (code_shown code.now) number) }
     ensures meaning { (c : Setting) (g : Func) (line : ℕ) (stmt : Stmt)
         → IsNode c.program (code_shown code.now) (slot_names g) number line stmt
         → LeadsOrWants (code_shown code.now) (quota_words k) c g state.old result state.new (step_statement c line stmt) }
@@ -59,7 +62,7 @@ fn numbered(
     statement(state, alloc, code, k, number, node)
 }
 
-/// The first statement of a list from a place on, which a thread that a fault ended skips with the others.
+/// The first statement of a list from a place on, which a thread that a fault ended skips with the others. It is no call.
 ///
 /// # Errors
 ///
@@ -72,7 +75,8 @@ pub fn first_of(
     list: ListOf,
     next: usize,
 ) -> Result<Stepped, AllocError>
-    requires { IsKnown (code_shown code.now) (quota_words k) state.old (Frame.Statements list next) }
+    requires known { IsKnown (code_shown code.now) (quota_words k) state.old (Frame.Statements list next) }
+    requires no_call { state.old.faulted ≡ false → BeginsWithNoCall (code_shown code.now) list next }
     ensures meaning { Steps (code_shown code.now) (quota_words k) state.old (Frame.Statements list next) result state.new }
     ensures cost { StepsLess (code_shown code.now) (Frame.Statements list next) state.old.turns state.new.turns result }
 {
@@ -82,9 +86,6 @@ pub fn first_of(
     let Some(number) = number_at(code, list, next) else {
         return Ok(skip());
     };
-    if next == usize::MAX {
-        return Err(AllocError);
-    }
     let rest = frame_from(code, list, next + 1);
     match numbered(state, alloc, code, k, number) {
         Ok(done) => Ok(Stepped { rest, done }),
@@ -92,7 +93,7 @@ pub fn first_of(
     }
 }
 
-/// A loop that comes again, which a thread that a fault ended skips.
+/// A loop that comes again, which a thread that a fault ended skips. It is no call.
 ///
 /// # Errors
 ///
@@ -104,7 +105,8 @@ pub fn again(
     k: Quota,
     number: u32,
 ) -> Result<Stepped, AllocError>
-    requires { IsKnown (code_shown code.now) (quota_words k) state.old (Frame.Again number) }
+    requires known { IsKnown (code_shown code.now) (quota_words k) state.old (Frame.Again number) }
+    requires no_call { state.old.faulted ≡ false → IsNoCall (kind_at (code_shown code.now) number) }
     ensures meaning { Steps (code_shown code.now) (quota_words k) state.old (Frame.Again number) result state.new }
     ensures cost { StepsLess (code_shown code.now) (Frame.Again number) state.old.turns state.new.turns result }
 {

@@ -10,6 +10,8 @@ ghost use Rattle.dummy_tree.specs.QuotaWords.{quota_words};
 ghost use Rattle.depth_first_run.specs.States.{Setting};
 ghost use Rattle.depth_first_run.specs.Middle.{step_statement};
 ghost use Rattle.frame_stack.specs.Frames.{IsNode};
+ghost use Rattle.frame_stack.specs.Lists.{kind_at};
+ghost use Rattle.thread_steps.specs.Calling.{IsNoCall};
 ghost use Rattle.thread_steps.specs.Costs.{LeavesLess};
 ghost use Rattle.thread_steps.specs.Dones.{LeadsOrWants};
 ghost use Rattle.thread_steps.specs.Meanings.{IsMeant};
@@ -23,7 +25,7 @@ use node_table::{Code, Node, NodeKind};
 use std::alloc::{AllocError, Global};
 use thread_state::ThreadState;
 
-/// One statement of a thread that no fault has ended: the node of this number.
+/// One statement of a thread that no fault has ended: the node of this number, which is no call.
 ///
 /// # Errors
 ///
@@ -38,6 +40,7 @@ pub(crate) fn statement(
 ) -> Result<Done, AllocError>
     requires there { slice_get (tables.Table.nodes (code_shown code.now)) number ≡ Some (node_shown node.now) }
     requires meant { IsMeant (code_shown code.now) (quota_words k) number state.old }
+    requires no_call { IsNoCall (kind_at (code_shown code.now) number) }
     ensures meaning { (c : Setting) (g : Func) (line : ℕ) (stmt : Stmt)
         → IsNode c.program (code_shown code.now) (slot_names g) number line stmt
         → LeadsOrWants (code_shown code.now) (quota_words k) c g state.old result state.new (step_statement c line stmt) }
@@ -56,7 +59,7 @@ pub(crate) fn statement(
         NodeKind::Free { name } => Ok(free(state, *name)),
         NodeKind::If { cond, .. } => Ok(choose(state, code, number, line, cond)),
         NodeKind::While { cond, .. } => Ok(repeat(state, code, number, line, cond)),
-        NodeKind::Call { .. } => Ok(Done::Calls(number)),
+        NodeKind::Call { .. } => unreachable!(),
         NodeKind::Print { value } => Ok(print(state, line, value)),
         NodeKind::Both { .. } => Ok(both(state, number, line)),
         NodeKind::Split {

@@ -39,4 +39,4 @@ returns-in-Some-clause-meaning c = λ t setting g b slot gs xs fs s at.
     ap shape_of (leaves ∙ c.dummies.ensures.dummies) ∙ ap (λ (w : ℕ). tree_for k w) same ∙ ap (λ (q : ℕ). tree_for q words) (sym quota) in
     at_point setting t (g ∷ gs) c.args.state.now xs fs s (middle (does (tree shape) ∷ allocates b c.args.len ∷ fs) s) (step_alloc_words setting c.args.line b (Some c.args.len) fs s) (Silent (Some (Tree c.in-Some.tree)) (Some (Allocates c.args.slot c.args.len)))
     (allocated_later setting c.args.line b c.args.len shape fs s (omega (arith, many, quota)) for_words)
-    (g ∷ gs, (refl, ((b, refl, slot), at.frames)), at.state, refl)
+    ((refl, ((b, refl, slot), at.frames)), at.state, refl)

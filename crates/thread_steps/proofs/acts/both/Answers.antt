@@ -23,6 +23,7 @@ returns-then-len-lt-MOST_FORKS-clause-meaning c = λ t k setting g a b node gs x
         behind = at.frames;
         taken = (a, b, refl, node);
         joined = (a, b, refl, node);
+        work_of = tt;
         of_child = (a, refl, left_branch setting.program t (slot_names g) c.args.number a b node);
         of_parent = (b, refl, right_branch setting.program t (slot_names g) c.args.number a b node);
       },

@@ -23,7 +23,7 @@ returns-in-Ok-clause-meaning c = λ k setting g e a body again gs xs fs s at.
     at_point setting (code_shown c.args.code.now) (g ∷ gs) c.turn.new.self xs fs s (middle (before_all a (before_all loop fs)) (record s { turns = left }))
     (step_turn s.turns line (before_all a (before_all loop fs)) fs s) (Silent c.frame_from.result (Some (Again c.args.number)))
     (one_turn line (before_all a (before_all loop fs)) fs s left some)
-    (g ∷ gs, c.frame_from.ensures.frames setting.program (g ∷ gs) a (Again c.args.number ∷ xs) (before_all loop fs) body ((loop, refl, again), at.frames), is, refl)
+    (c.frame_from.ensures.frames setting.program (g ∷ gs) a (Again c.args.number ∷ xs) (before_all loop fs) body ((loop, refl, again), at.frames), is, refl)
 
 pub returns-in-Err-clause-meaning : goal.returns-in-Err-clause-meaning
 returns-in-Err-clause-meaning c = λ k setting g e a body again gs xs fs s at.

@@ -30,4 +30,4 @@ returns-else-is_true-clause-meaning c = λ k setting g e a read body again gs xs
     let number : Ok v ≡ value s.store e = ap Ok (to_z-of_z w64 c.in-Ok.value fits) ∙ c.in-Ok.ensures (map slot_names gs) (slot_names g) s e at.state read in
     at_point setting (code_shown c.args.code.now) (g ∷ gs) c.args.state.now xs fs s (middle fs s) (step_with_number line (value s.store e) (step_while line e a) fs s) (Silent None None)
     (ap (λ b. step_round b line e a fs s) c.if-is_true.ensures ∙ number_is line v (value s.store e) (step_while line e a) fs s number)
-    (g ∷ gs, at.frames, at.state, refl)
+    (at.frames, at.state, refl)

@@ -14,8 +14,8 @@ returns-then-is_faulted-clause-meaning c = λ setting gs f xs fs s of_table fram
     subst (λ (x : Stepped). StepsBy setting (code_shown c.args.code.now) gs c.args.state.now (frames_shown x.rest ++ xs) fs s f (step_frame setting f fs s) x.done) (sym c.skip.ensures)
     (nothing_comes setting (code_shown c.args.code.now) gs c.args.state.now xs fs s f frames is (skipped setting frame.0 f fs s frame.1 (sym is.faulted ∙ sym c.is_faulted.ensures ∙ c.if-is_faulted.true)))
 
-pub numbered-requires : goal.numbered-requires
-numbered-requires c = ∥∥₁_map c.requires (again_meaning (code_shown c.args.code.now) (quota_words c.args.k) c.args.number c.args.state.now (sym c.is_faulted.ensures ∙ c.if-is_faulted.false))
+pub numbered-requires-clause-meant : goal.numbered-requires-clause-meant
+numbered-requires-clause-meant c = ∥∥₁_map c.requires.known (again_meaning (code_shown c.args.code.now) (quota_words c.args.k) c.args.number c.args.state.now (sym c.is_faulted.ensures ∙ c.if-is_faulted.false))
 
 pub returns-in-Ok-clause-meaning : goal.returns-in-Ok-clause-meaning
 returns-in-Ok-clause-meaning c = λ setting gs f xs fs s of_table frame frames is.

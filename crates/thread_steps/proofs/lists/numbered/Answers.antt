@@ -10,7 +10,7 @@ use Rattle.node_table.specs.Table as tables
 use Rattle.thread_steps.proofs.lists.numbered.Goals as goal
 
 pub unreachable-requires : goal.unreachable-requires
-unreachable-requires c = ∥∥₁_elim c.requires (λ x y. absurd x) (λ m.
+unreachable-requires c = ∥∥₁_elim c.requires.meant (λ x y. absurd x) (λ m.
     let none : slice_get (tables.Table.nodes (code_shown c.args.code.now)) c.args.number ≡ None =
     slice_get-map node_shown (nodes_of c.args.code.now) c.args.number ∙ ap (λ (o : Option Node). option_map node_shown o) (sym c.in_default.ensures) in
     let some = m.node.there in

@@ -1,18 +1,16 @@
-use Rattle.std.proofs.Common.{◌+◌, Some, Ok, refl, ap, subst, arith}
+use Rattle.std.proofs.Common.{◌+◌, Option, Some, Ok, refl, ap, subst, arith}
 use Rattle.dummy_tree.specs.QuotaWords.{quota_words}
-use Rattle.par_tree.specs.Tree.{Stmt, let_stmt, assign_stmt, put_stmt, alloc_stmt, free_stmt, if_stmt, while_stmt, print_stmt, par_stmt, split_stmt}
+use Rattle.par_tree.specs.Tree.{let_stmt, assign_stmt, put_stmt, alloc_stmt, free_stmt, if_stmt, while_stmt, print_stmt, par_stmt, split_stmt}
 use Rattle.node_table.specs.Names.{slot_names}
 use Rattle.node_table.specs.Table.{Table, Kind, call_node, let_node, assign_node, put_node, alloc_node, free_node, if_node, while_node, print_node, both_node, split_node}
 use Rattle.node_table.specs.Programs.{function_names}
 use Rattle.node_table.specs.Shown.{kind_shown, node_shown, expr_shown, target_shown, args_shown}
 use Rattle.node_table.specs.Codes.{code_shown}
-use Rattle.depth_first_run.specs.Middle.{step_statement}
-use Rattle.frame_stack.specs.Frames.{IsNode}
-use Rattle.thread_steps.specs.declared.done.Done.TheVariants.{Calls}
+use Rattle.thread_steps.specs.Calling.{IsNoCall}
 use Rattle.frame_stack.specs.Lists.{numbers_of}
 use Rattle.frame_stack.specs.Measure.{list_cost, node_cost}
 use Rattle.frame_stack.specs.declared.list_of.ListOf.TheVariants.{Then, Other, Inside}
-use Rattle.thread_steps.proofs.Which.{of_let, of_assign, of_put, of_alloc, of_free, of_if, of_while, of_print, of_call, of_both, of_split}
+use Rattle.thread_steps.proofs.Which.{of_let, of_assign, of_put, of_alloc, of_free, of_if, of_while, of_print, of_both, of_split}
 use Rattle.thread_steps.proofs.Knowing.{is_stmt, is_kind, runs_on, let_within, assign_within, put_within, alloc_none, free_has, covered, can_cut}
 use Rattle.thread_steps.proofs.Arms.{kind_there, known, then_list, other_list, round_list, inside_list, loop_list, par_node, split_at, quiet_cost, covers_at, loop_cost, result_cost, if_covers, round_covers, inside_covers}
 use Rattle.thread_steps.proofs.statements.statement.Goals as goal
@@ -258,26 +256,7 @@ returns-in-Split-clause-cost c =
     (covers_at t c.args.number (node_shown c.args.node.now) (Some i) there c.requires.there covers) in
     result_cost t c.args.number c.args.state.now.turns c.split.new.state.turns c.split.result (1 + list_cost (node_cost t) (numbers_of t (Inside c.args.number))) c.split.ensures.turns c.split.ensures.cost at
 
-pub returns-in-Call-clause-meaning : goal.returns-in-Call-clause-meaning
-returns-in-Call-clause-meaning c = λ setting g line stmt node gs xs fs s at.
-    let t : Table = (code_shown c.args.code.now) in
-    let names = slot_names g in
+pub unreachable-requires : goal.unreachable-requires
+unreachable-requires c =
     let i : Kind = call_node (target_shown c.in-Call.target) c.in-Call.func (args_shown c.in-Call.args.items) in
-    let h = of_call t.nodes (function_names setting.program) names stmt (c.args.number + 1) (target_shown c.in-Call.target) c.in-Call.func (args_shown c.in-Call.args.items) (is_kind setting.program t names c.args.number line stmt (node_shown c.args.node.now) i node c.requires.there (ap kind_shown c.in-Call.is)) in (
-      at.state,
-      record {
-        line = line;
-        target = h.target;
-        callee = h.name;
-        args = h.args;
-        node = subst (λ (y : Stmt). IsNode setting.program t names c.args.number line y) h.is node;
-        does = ap (λ (y : Stmt). step_statement setting line y fs s) h.is;
-        behind = at.frames;
-      },
-    )
-
-pub returns-in-Call-clause-cost : goal.returns-in-Call-clause-cost
-returns-in-Call-clause-cost c =
-    let t : Table = (code_shown c.args.code.now) in
-    let covers = covered t (quota_words c.args.k) c.args.number c.args.state.now (node_shown c.args.node.now) c.requires.meant c.requires.there in
-    quiet_cost t c.args.number c.args.state.now.turns c.args.state.now.turns (Calls c.args.number) 0 refl (omega arith) (omega (arith, covers))
+    subst (λ (o : Option Kind). IsNoCall o) (kind_there (code_shown c.args.code.now) c.args.number (node_shown c.args.node.now) i c.requires.there (ap kind_shown c.in-Call.is)) c.requires.no_call

@@ -1,0 +1,202 @@
+-- The functions of the open children of a thread are kept by a step that opens no call and closes none.
+use Rattle.std.proofs.Common.{◌≡◌, ℕ, zero, suc, ◌+◌, List, [], ◌∷◌, ◌++◌, length, Result, Ok, Err, Option, Some, None, refl, sym, ◌∙◌, ap, subst, arith, append_assoc}
+use Rattle.std.specs.Prelude.{map, IfOk, OnOk}
+use Rattle.std.specs.declared.alloc.AllocError.{AllocError}
+use Rattle.std.proofs.Math.Logic.{∥∥₁_elim}
+use denote.Struct.Props.{props}
+use Rattle.par_tree.specs.Tree.{Program, Func}
+use Rattle.depth_first_run.specs.States.{Setting, State}
+use Rattle.depth_first_run.specs.Middle as middles
+use Rattle.depth_first_run.specs.Middle.{does, tree, Part, statements, answers, rejoins, answers_main, allocates, joins, Middle, step_frame, step_fork}
+use Rattle.node_table.specs.Table.{Table}
+use Rattle.thread_points.specs.Points.{IsOwn, IsAt}
+use Rattle.thread_points.specs.Threads.{open_children}
+use Rattle.frame_stack.specs.declared.frame.Frame.{Frame}
+use Rattle.frame_stack.specs.declared.frame.Frame.TheVariants.{Statements, Again, Tree as DummyTree, Answers, Rejoins, AnswersMain, Allocates, Joins}
+use Rattle.frame_stack.specs.Frames.{AreFrames, functions_behind, frames_shown, IsOne}
+use Rattle.thread_state.specs.declared.state.ThreadState.{ThreadState}
+use Rattle.thread_steps.specs.Steps.{StepsBy, Steps, IsActionOf}
+use Rattle.thread_steps.specs.declared.ready.Ready.{Ready}
+use Rattle.thread_steps.specs.declared.ready.Ready.TheVariants.{Fork, Join, Alloc, Release, Dummy, Fault, End}
+use Rattle.thread_steps.specs.declared.done.Done.{Done}
+use Rattle.thread_steps.specs.declared.done.Done.TheVariants.{Silent, Prints, Acts}
+use Rattle.thread_steps.specs.declared.stepped.Stepped.{Stepped}
+use Rattle.thread_run.specs.declared.run.ThreadRun.{ThreadRun}
+use Rattle.thread_run.specs.Functions.{functions_of, frames_of, frames_before}
+use Rattle.thread_run.specs.Stepping.{frames_with, ready_of, KnowingAt, IsKnownAt, frames_left, KeepsFunctions}
+use Rattle.thread_run.proofs.Threads.{children_same}
+
+-- how many calls end in some frames, and how many children are joined
+abbrev ends_in : List Frame → ℕ
+ends_in [] = 0
+ends_in (Statements list next ∷ xs) = ends_in xs
+ends_in (Again n ∷ xs) = ends_in xs
+ends_in (DummyTree shape ∷ xs) = ends_in xs
+ends_in (Answers n caller ∷ xs) = 1 + ends_in xs
+ends_in (Rejoins n ∷ xs) = ends_in xs
+ends_in (AnswersMain ∷ xs) = ends_in xs
+ends_in (Allocates slot len ∷ xs) = ends_in xs
+ends_in (Joins branch ∷ xs) = ends_in xs
+
+abbrev joins_in : List Frame → ℕ
+joins_in [] = 0
+joins_in (Statements list next ∷ xs) = joins_in xs
+joins_in (Again n ∷ xs) = joins_in xs
+joins_in (DummyTree shape ∷ xs) = joins_in xs
+joins_in (Answers n caller ∷ xs) = joins_in xs
+joins_in (Rejoins n ∷ xs) = joins_in xs
+joins_in (AnswersMain ∷ xs) = joins_in xs
+joins_in (Allocates slot len ∷ xs) = joins_in xs
+joins_in (Joins branch ∷ xs) = 1 + joins_in xs
+
+ends_more : (xs ys : List Frame) → ends_in (xs ++ ys) ≡ ends_in xs + ends_in ys
+ends_more [] ys = omega arith
+ends_more (Statements list next ∷ xs) ys = ends_more xs ys
+ends_more (Again n ∷ xs) ys = ends_more xs ys
+ends_more (DummyTree shape ∷ xs) ys = ends_more xs ys
+ends_more (Answers n caller ∷ xs) ys = let r = ends_more xs ys in omega (arith, r)
+ends_more (Rejoins n ∷ xs) ys = ends_more xs ys
+ends_more (AnswersMain ∷ xs) ys = ends_more xs ys
+ends_more (Allocates slot len ∷ xs) ys = ends_more xs ys
+ends_more (Joins branch ∷ xs) ys = ends_more xs ys
+
+joins_more : (xs ys : List Frame) → joins_in (xs ++ ys) ≡ joins_in xs + joins_in ys
+joins_more [] ys = omega arith
+joins_more (Statements list next ∷ xs) ys = joins_more xs ys
+joins_more (Again n ∷ xs) ys = joins_more xs ys
+joins_more (DummyTree shape ∷ xs) ys = joins_more xs ys
+joins_more (Answers n caller ∷ xs) ys = joins_more xs ys
+joins_more (Rejoins n ∷ xs) ys = joins_more xs ys
+joins_more (AnswersMain ∷ xs) ys = joins_more xs ys
+joins_more (Allocates slot len ∷ xs) ys = joins_more xs ys
+joins_more (Joins branch ∷ xs) ys = let r = joins_more xs ys in omega (arith, r)
+
+-- each open call ends once, but the outermost
+one_open : (gs : List Func) → IsOne gs → length gs ≡ 1
+one_open [] h = absurd h
+one_open (g ∷ []) h = refl
+one_open (g ∷ h ∷ gs) k = absurd k
+
+ends_open : (p : Program) (t : Table) (gs : List Func) (xs : List Frame) (fs : List middles.Frame) → AreFrames p t gs xs fs → length gs ≡ 1 + ends_in xs
+ends_open p t gs [] [] h = one_open gs h
+ends_open p t gs [] (f ∷ fs) h = absurd h
+ends_open p t gs (x ∷ xs) [] h = absurd h
+ends_open p t gs (Statements list next ∷ xs) (f ∷ fs) h = ends_open p t gs xs fs h.1
+ends_open p t gs (Again n ∷ xs) (f ∷ fs) h = ends_open p t gs xs fs h.1
+ends_open p t gs (DummyTree shape ∷ xs) (f ∷ fs) h = ends_open p t gs xs fs h.1
+ends_open p t [] (Answers n caller ∷ xs) (f ∷ fs) h = absurd h.0
+ends_open p t (g ∷ gs) (Answers n caller ∷ xs) (f ∷ fs) h = let r = ends_open p t gs xs fs h.1 in omega (arith, r)
+ends_open p t gs (Rejoins n ∷ xs) (f ∷ fs) h = ends_open p t gs xs fs h.1
+ends_open p t gs (AnswersMain ∷ xs) (f ∷ fs) h = ends_open p t gs xs fs h.1
+ends_open p t gs (Allocates slot len ∷ xs) (f ∷ fs) h = ends_open p t gs xs fs h.1
+ends_open p t gs (Joins branch ∷ xs) (f ∷ fs) h = ends_open p t gs xs fs h.1
+
+-- each open child is joined once
+none_more : (f : middles.Frame) (g : middles.Frame) (fs : List middles.Frame) (n : ℕ) → f ≡ g → n ≡ length (open_children fs) → length (open_children (g ∷ fs)) ≡ length (open_children fs) → n ≡ length (open_children (f ∷ fs))
+none_more f g fs n e same quiet = same ∙ sym quiet ∙ ap (λ (x : middles.Frame). length (open_children (x ∷ fs))) (sym e)
+
+joins_open : (p : Program) (t : Table) (gs : List Func) (xs : List Frame) (fs : List middles.Frame) → AreFrames p t gs xs fs → joins_in xs ≡ length (open_children fs)
+joins_open p t gs [] [] h = refl
+joins_open p t gs [] (f ∷ fs) h = absurd h
+joins_open p t gs (x ∷ xs) [] h = absurd h
+joins_open p t gs (Statements list next ∷ xs) (f ∷ fs) h = none_more f (does (statements h.0.0)) fs (joins_in xs) h.0.1 (joins_open p t gs xs fs h.1) refl
+joins_open p t gs (Again n ∷ xs) (f ∷ fs) h = none_more f (does (statements h.0.0)) fs (joins_in xs) h.0.1 (joins_open p t gs xs fs h.1) refl
+joins_open p t gs (DummyTree shape ∷ xs) (f ∷ fs) h = none_more f _ fs (joins_in xs) h.0 (joins_open p t gs xs fs h.1) refl
+joins_open p t [] (Answers n caller ∷ xs) (f ∷ fs) h = absurd h.0
+joins_open p t (g ∷ []) (Answers n caller ∷ xs) (f ∷ fs) h = absurd h.0
+joins_open p t (g ∷ k ∷ gs) (Answers n caller ∷ xs) (f ∷ fs) h = none_more f (answers g.ret g.params h.0.0 h.0.1) fs (joins_in xs) h.0.2 (joins_open p t (k ∷ gs) xs fs h.1) refl
+joins_open p t gs (Rejoins n ∷ xs) (f ∷ fs) h = none_more f (rejoins h.0.0 h.0.1 h.0.2) fs (joins_in xs) h.0.3 (joins_open p t gs xs fs h.1) refl
+joins_open p t [] (AnswersMain ∷ xs) (f ∷ fs) h = absurd h.0
+joins_open p t (g ∷ gs) (AnswersMain ∷ xs) (f ∷ fs) h = none_more f (answers_main g.ret) fs (joins_in xs) h.0.0 (joins_open p t (g ∷ gs) xs fs h.1) refl
+joins_open p t gs (Allocates slot len ∷ xs) (f ∷ fs) h = none_more f (allocates h.0.0 len) fs (joins_in xs) h.0.1 (joins_open p t gs xs fs h.1) refl
+joins_open p t gs (Joins branch ∷ xs) (f ∷ fs) h =
+    let r = joins_open p t gs xs fs h.1 in
+    let e : length (open_children (f ∷ fs)) ≡ 1 + length (open_children fs) = ap (λ (x : middles.Frame). length (open_children (x ∷ fs))) h.0.3 ∙ omega arith in
+    omega (arith, r, e)
+
+-- frames with neither tell no function
+skipped : (func : Option ℕ) (ys xs : List Frame) → ends_in ys ≡ 0 → joins_in ys ≡ 0 → functions_of func (ys ++ xs) ≡ functions_of func xs
+skipped func [] xs e j = refl
+skipped func (Statements list next ∷ ys) xs e j = skipped func ys xs e j
+skipped func (Again n ∷ ys) xs e j = skipped func ys xs e j
+skipped func (DummyTree shape ∷ ys) xs e j = skipped func ys xs e j
+skipped func (Answers n caller ∷ ys) xs e j = absurd (omega (arith, e))
+skipped func (Rejoins n ∷ ys) xs e j = skipped func ys xs e j
+skipped func (AnswersMain ∷ ys) xs e j = skipped func ys xs e j
+skipped func (Allocates slot len ∷ ys) xs e j = skipped func ys xs e j
+skipped func (Joins branch ∷ ys) xs e j = absurd (omega (arith, j))
+
+-- so what is put before frames with the same functions and as many open children tells none
+same_functions : (p : Program) (t : Table) (gs : List Func) (func : Option ℕ) (ys xs : List Frame) (es fs : List middles.Frame) → AreFrames p t gs (ys ++ xs) es → AreFrames p t gs xs fs
+    → open_children es ≡ open_children fs → functions_of func (ys ++ xs) ≡ functions_of func xs
+same_functions p t gs func ys xs es fs all behind children =
+    let a = ends_open p t gs (ys ++ xs) es all in let b = ends_open p t gs xs fs behind in let c = ends_more ys xs in
+    let d = joins_open p t gs (ys ++ xs) es all in let e = joins_open p t gs xs fs behind in let f = joins_more ys xs in
+    let g : length (open_children es) ≡ length (open_children fs) = ap (λ os. length os) children in
+    skipped func ys xs (omega (arith, a, b, c)) (omega (arith, d, e, f, g))
+
+-- ---- one step
+
+-- lists of numbers and none, told as numbers: so they are the same in one way at most
+numbered : Option ℕ → ℕ
+numbered None = 0
+numbered (Some n) = suc n
+
+back : ℕ → Option ℕ
+back zero = None
+back (suc n) = Some n
+
+back_again : (xs : List (Option ℕ)) → map back (map numbered xs) ≡ xs
+unfolding back numbered
+back_again [] = refl
+back_again (None ∷ xs) = ap (λ (ys : List (Option ℕ)). None ∷ ys) (back_again xs)
+back_again (Some n ∷ xs) = ap (λ (ys : List (Option ℕ)). Some n ∷ ys) (back_again xs)
+
+same_lists : (xs ys : List (Option ℕ)) → map numbered xs ≡ map numbered ys → xs ≡ ys
+same_lists xs ys e = sym (back_again xs) ∙ ap (map back) e ∙ back_again ys
+
+module _ (c : Setting) (t : Table) (gs : List Func) (u : ThreadState) (func : Option ℕ) (rest : Option Frame) (xs : List Frame) (f : middles.Frame) (fs : List middles.Frame) (s : State) (own : IsOwn f) (behind : AreFrames c.program t gs xs fs) where
+  children : open_children (step_frame c f fs s).frames ≡ open_children fs
+  children = children_same c f fs s own
+
+  acting : (ready : Ready) → IsActionOf c t gs u (frames_shown rest ++ xs) fs s f (step_frame c f fs s) ready → functions_of func (frames_before ready (frames_shown rest ++ xs)) ≡ functions_of func xs
+  acting (Fork x) h =
+      let same : open_children h.0 ≡ open_children fs = sym (ap (λ (p : Middle). open_children p.frames) h.1.forks) ∙ children in
+      same_functions c.program t gs func (frames_shown rest) xs h.0 fs h.1.behind behind same
+  acting (Join branch) h = absurd h
+  acting (Alloc slot len shell) h = same_functions c.program t gs func (frames_shown rest) xs (step_frame c f fs s).frames fs h.1.0 behind children
+  acting (Release slot words) h = same_functions c.program t gs func (frames_shown rest) xs (step_frame c f fs s).frames fs h.1.0 behind children
+  acting Dummy h = same_functions c.program t gs func (frames_shown rest) xs (step_frame c f fs s).frames fs h.1.0 behind children
+  acting (Fault x) h = same_functions c.program t gs func (frames_shown rest) xs (step_frame c f fs s).frames fs h.0 behind children
+  acting End h = absurd h
+
+  by_done : (d : Done) → StepsBy c t gs u (frames_shown rest ++ xs) fs s f (step_frame c f fs s) d → functions_of func (frames_left (ready_of d) (frames_with d (frames_shown rest ++ xs))) ≡ functions_of func xs
+  by_done (Silent first next) h =
+      let three : List Frame = (frames_shown first ++ frames_shown next) ++ frames_shown rest in
+      let all : three ++ xs ≡ frames_shown first ++ (frames_shown next ++ (frames_shown rest ++ xs)) =
+      append_assoc (frames_shown first ++ frames_shown next) (frames_shown rest) xs ∙ append_assoc (frames_shown first) (frames_shown next) (frames_shown rest ++ xs) in
+      ap (λ (ys : List Frame). functions_of func ys) (sym all)
+      ∙ same_functions c.program t gs func three xs (step_frame c f fs s).frames fs (subst (λ (ys : List Frame). AreFrames c.program t gs ys (step_frame c f fs s).frames) (sym all) h.0) behind children
+  by_done (Prints v) h = same_functions c.program t gs func (frames_shown rest) xs (step_frame c f fs s).frames fs h.0 behind children
+  by_done (Acts ready) h = acting ready h.1
+
+pub follow_functions : (t : Table) (k : ℕ) (before after : ThreadRun) (u : ThreadState) (x : Frame) (stepped : Stepped) (result : Result (Option Ready) AllocError)
+    → IsKnownAt t k before x → ((gs : List Func) → functions_behind x gs ≡ gs) → ((func : Option ℕ) (xs : List Frame) → functions_of func (x ∷ xs) ≡ functions_of func xs)
+    → Steps t k before.state x (Ok stepped) u → after.func ≡ before.func → IfOk result (λ o. o ≡ ready_of stepped.done)
+    → OnOk result (frames_of after ≡ frames_with stepped.done (frames_shown stepped.rest ++ frames_of before))
+    → KeepsFunctions before x result after
+follow_functions t k before after u x stepped (Err e) known behind none steps same_func answer left = tt
+follow_functions t k before after u x stepped (Ok o) known behind none steps same_func answer left =
+    same_lists (functions_of after.func (frames_left o (frames_of after))) (functions_of before.func (x ∷ frames_of before))
+    (∥∥₁_elim known (search props) (λ m. ap (map numbered) (by m m.own m.frames m.thread.at_point)))
+  where
+    by : (m : KnowingAt t k before x) → (own : List middles.Frame) → AreFrames m.setting.program t m.functions (x ∷ frames_of before) own → IsAt m.setting own m.at
+        → functions_of after.func (frames_left o (frames_of after)) ≡ functions_of before.func (x ∷ frames_of before)
+    by m [] frames at = absurd frames
+    by m (f ∷ fs) frames at =
+        let h = steps m.setting m.functions f (frames_of before) fs m.at m.of_table frames.0 frames.1 m.state in
+        let same : AreFrames m.setting.program t m.functions (frames_of before) fs = subst (λ (hs : List Func). AreFrames m.setting.program t hs (frames_of before) fs) (behind m.functions) frames.1 in
+        let kept = by_done m.setting t m.functions u after.func stepped.rest (frames_of before) f fs m.at at.all_own.0 same stepped.done h in
+        ap (λ (r : Option Ready). functions_of after.func (frames_left r (frames_of after))) answer
+        ∙ ap (λ (ys : List Frame). functions_of after.func (frames_left (ready_of stepped.done) ys)) left
+        ∙ kept ∙ ap (λ (n : Option ℕ). functions_of n (frames_of before)) same_func ∙ sym (none before.func (frames_of before))

@@ -1,0 +1,13 @@
+pub mod Beginning
+pub mod Knowing
+pub mod Returning
+pub mod Threads
+pub mod Following
+pub mod Kept
+pub mod OneProof
+pub mod SlotLists
+pub mod CanCalls
+pub mod FirstCalls
+pub mod CanEnds
+pub mod Outcomes
+pub mod OnTheWay

@@ -1,0 +1,4 @@
+pub mod Going
+pub mod Functions
+pub mod Stepping
+pub mod Calling

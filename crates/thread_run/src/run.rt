@@ -1,0 +1,56 @@
+ghost use Rattle.std.specs.Prelude.{◌≡◌, ◌≤◌, IfOk};
+ghost use Rattle.block_arena.specs.declared.size.TheConstants.{MAX_WORDS};
+ghost use Rattle.dummy_tree.specs.QuotaWords.{quota_words};
+ghost use Rattle.node_table.specs.Codes.{code_shown};
+ghost use Rattle.thread_state.specs.States.{words_held};
+
+use dummy_tree::Quota;
+use frame_stack::Frame;
+use node_table::Code;
+use std::alloc::{AllocError, Global};
+use thread_output::Told;
+use thread_state::ThreadState;
+use thread_steps::Ready;
+
+/// What a thread runs: the function that it is in, its slots, what is left to it, and what it has printed since its newest open fork.
+#[derive(Drop)]
+pub struct ThreadRun {
+    /// The number of the function whose statements come next; None in a thread that runs a tree of dummies.
+    pub func: Option<u32>,
+    /// Its label, its counts and its slots.
+    pub state: ThreadState,
+    /// What is left to it, the next one last.
+    pub frames: Vec<Frame>,
+    /// What it printed since its newest open fork, and its first fault since then.
+    pub told: Told,
+}
+
+impl ThreadRun {
+    ghost use Rattle.thread_run.specs.Going.{IsKnown, Advances};
+    ghost use Rattle.thread_run.specs.Functions.{functions_of, frames_of, frames_before};
+
+    /// Runs up to the next action, which the answer tells with the memory that it needs. The action is not done.
+    ///
+    /// # Errors
+    ///
+    /// There is not enough memory. The thread may be in the middle of its way, and is of no further use but to give its blocks back.
+    pub fn advance(&mut self, alloc: Global, code: &Code, k: Quota) -> Result<Ready, AllocError>
+        requires known { IsKnown (code_shown code.now) (quota_words k) self.old }
+        requires fits { words_held self.old.state ≤ MAX_WORDS }
+        ensures meaning { Advances (code_shown code.now) (quota_words k) self.old result self.new }
+        ensures functions { IfOk result (λ ready. functions_of self.new.func (frames_before ready (frames_of self.new))
+            ≡ functions_of self.old.func (frames_of self.old)) }
+        ensures label { self.new.state.label ≡ self.old.state.label }
+        ensures done { self.new.state.done ≡ self.old.state.done }
+        ensures forks { self.new.state.forks ≡ self.old.state.forks }
+        ensures faulted { self.new.state.faulted ≡ self.old.state.faulted }
+        ensures words { words_held self.new.state ≡ words_held self.old.state }
+    {
+        'steps: while let Some(frame) = self.frames.pop() {
+            if let Some(ready) = self.go_on(alloc, code, k, frame)? {
+                return Ok(ready);
+            }
+        }
+        Ok(Ready::End)
+    }
+}
