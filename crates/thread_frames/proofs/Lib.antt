@@ -1,0 +1,15 @@
+pub mod Placed
+pub mod Acting
+pub mod Doing
+pub mod Faulting
+pub mod Newest
+pub mod Telling
+pub mod Advancing
+pub mod Listing
+pub mod Places
+pub mod Delivering
+pub mod Ending
+pub mod Sets
+pub mod Forking
+pub mod Joining
+pub mod Beginning

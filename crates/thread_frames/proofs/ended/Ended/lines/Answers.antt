@@ -1,0 +1,10 @@
+use Rattle.std.proofs.Math.Logic.{∥∥₁_elim}
+use Rattle.thread_frames.proofs.Sets.{lines_fact}
+use Rattle.depth_first_run.specs.States.{State}
+use Rattle.depth_first_run.specs.Run.{whole}
+use Rattle.thread_frames.proofs.Telling.{whole_told}
+use Rattle.thread_frames.proofs.ended.Ended.lines.Goals as goal
+
+pub returns : goal.returns
+returns c = λ t k is root setting of.
+    ∥∥₁_elim (is.at setting of) (lines_fact c.lines.result _) (λ h. c.lines.ensures (State.items (whole setting)) (whole_told setting t c.args.self.now h root))

@@ -1,0 +1,14 @@
+use Rattle.std.proofs.Common.{◌-◌, length, ◌∙◌, ap}
+use Rattle.std.specs.Prelude.{slice_get}
+use Rattle.thread_frames.specs.Views.{result_of}
+use Rattle.thread_frames.proofs.Newest.{newest_last}
+use Rattle.thread_frames.proofs.joins.newest_result.Goals as goal
+
+pub returns-in-Some : goal.returns-in-Some
+returns-in-Some c =
+    c.as_ref.ensures.value
+    ∙ ap result_of (c.in-Some.ensures.value ∙ ap (λ xs. slice_get xs (length xs - 1)) c.deref.ensures.value ∙ newest_last c.args.children.now.items)
+
+pub returns-in-None : goal.returns-in-None
+returns-in-None c =
+    ap result_of (c.in-None.ensures.value ∙ ap (λ xs. slice_get xs (length xs - 1)) c.deref.ensures.value ∙ newest_last c.args.children.now.items)

@@ -1,0 +1,9 @@
+pub mod Views
+pub mod Memory
+pub mod Children
+pub mod Slots
+pub mod Preparing
+pub mod Forking
+pub mod Joining
+pub mod Points
+pub mod Actions

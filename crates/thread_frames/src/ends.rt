@@ -1,0 +1,132 @@
+//! The End of a thread, and what is left of it.
+
+ghost use Rattle.std.specs.Prelude.{◌≡◌, ◌≤◌, ◌<◌, ◌+◌, ℕ, [], IfOk};
+ghost use Rattle.block_arena.specs.Region.{with_given};
+ghost use Rattle.bounded_list.specs.BoundedList.{entries};
+ghost use Rattle.depth_first_run.specs.States.{Setting, State};
+ghost use Rattle.depth_first_run.specs.Run.{whole, lines_of, first_fault};
+ghost use Rattle.node_table.specs.Table.{Table};
+ghost use Rattle.thread_output.specs.Telling.{fault_of};
+ghost use Rattle.thread_points.specs.Points.{words_at_end};
+ghost use Rattle.thread_steps.specs.Settings.{IsSettingOf};
+ghost use Rattle.thread_frames.specs.Views.{recorded, brought, all_brought};
+
+use crate::ended::Ended;
+use crate::open_child::OpenChild;
+use crate::thread::Thread;
+use block_arena::{Block, Pool};
+use dag_order::{FaultAt, Lines};
+use std::alloc::{AllocError, Global};
+
+impl Thread {
+    ghost use Rattle.thread_frames.specs.Views.{next_of, label_of, done_of, thread_words, ended_words, ended_label};
+    ghost use Rattle.thread_frames.specs.Points.{IsAtPoint, IsPlaced, IsResult};
+    ghost use Rattle.thread_frames.specs.Actions.{IsEnd};
+
+    /// Does the End that is prepared: the record block goes back to the pool, and what is left is the result of the thread.
+    pub fn end(self, pool: &mut Pool) -> Ended
+        requires placed { IsPlaced self }
+        requires next { IsEnd (next_of self) }
+        requires count { done_of self < 4294967295 }
+        requires live { words_at_end (label_of self) ≤ pool.old.live }
+        ensures id { result.id ≡ self.id }
+        ensures parent { result.parent ≡ self.parent }
+        ensures func { result.func ≡ self.func }
+        ensures label { ended_label result ≡ label_of self }
+        ensures words { ended_words result + words_at_end (label_of self) ≡ thread_words self }
+        ensures pool { pool.new ≡ with_given pool.old (words_at_end (label_of self)) }
+        ensures result { (t : Table) (k : ℕ) → IsAtPoint t k self → IsResult t k result }
+    {
+        let Thread {
+            id,
+            parent,
+            func,
+            mut run,
+            record_block,
+            ..
+        } = self;
+        give_record(record_block, pool);
+        run.state.count_action();
+        Ended {
+            id,
+            parent,
+            func,
+            state: run.state,
+            told: run.told,
+        }
+    }
+
+    /// All blocks of the thread go back to the pool, its record block and those of delivered results among them, and it is no more.
+    pub fn drop_into(self, pool: &mut Pool)
+        requires { thread_words self ≤ pool.old.live }
+        ensures { pool.new ≡ with_given pool.old (thread_words self) }
+    {
+        let Thread {
+            run,
+            children,
+            record_block,
+            ..
+        } = self;
+        run.state.give_all(pool);
+        give_record(record_block, pool);
+        give_results(children, pool);
+    }
+}
+
+impl Ended {
+    ghost use Rattle.thread_frames.specs.Views.{ended_label};
+    ghost use Rattle.thread_frames.specs.Points.{IsResult};
+
+    /// The lines that the thread printed, and those that its children printed, in depth-first order up to the first fault. Those of the
+    /// root are the lines of the whole run.
+    ///
+    /// # Errors
+    ///
+    /// There is not enough memory.
+    pub fn lines(&self, alloc: Global) -> Result<Lines, AllocError>
+        ensures { (t : Table) (k : ℕ) → IsResult t k self.now → ended_label self.now ≡ [] → (c : Setting) → IsSettingOf t k c
+            → IfOk result (λ lines. entries lines ≡ lines_of (State.items (whole c))) }
+    {
+        self.told.lines(alloc)
+    }
+
+    /// The first fault that the thread or one of its children met; None exactly where they met none. That of the root is the first fault of
+    /// the whole run.
+    pub fn fault(&self) -> Option<FaultAt>
+        ensures value { result ≡ fault_of self.now.told }
+        ensures root { (t : Table) (k : ℕ) → IsResult t k self.now → ended_label self.now ≡ [] → (c : Setting) → IsSettingOf t k c
+            → result ≡ first_fault (State.items (whole c)) }
+    {
+        self.told.fault()
+    }
+}
+
+/// A record block goes back to the pool, where there is one.
+fn give_record(block: Option<Block>, pool: &mut Pool)
+    requires { recorded block ≤ pool.old.live }
+    ensures { pool.new ≡ with_given pool.old (recorded block) }
+{
+    if let Some(block) = block {
+        let _shell = pool.give(block);
+    }
+}
+
+/// The blocks of the results of delivered children go back to the pool.
+fn give_results(children: Vec<OpenChild>, pool: &mut Pool)
+    requires { all_brought children.items ≤ pool.old.live }
+    ensures { pool.new ≡ with_given pool.old (all_brought children.items) }
+{
+    for child in children {
+        give_result(child.ended, pool);
+    }
+}
+
+/// The blocks of a result go back to the pool, where there is one.
+fn give_result(ended: Option<Ended>, pool: &mut Pool)
+    requires { brought ended ≤ pool.old.live }
+    ensures { pool.new ≡ with_given pool.old (brought ended) }
+{
+    if let Some(ended) = ended {
+        ended.state.give_all(pool);
+    }
+}
