@@ -42,7 +42,7 @@ impl Placed for Thread {
 }
 
 impl Thread {
-    ghost use Rattle.thread_frames.specs.Views.{children_of, next_of, label_of, done_of, thread_words};
+    ghost use Rattle.thread_frames.specs.Views.{children_of, next_of, label_of, done_of, forks_of, thread_words};
     ghost use Rattle.thread_frames.specs.Points.{IsAtPoint};
     ghost use Rattle.thread_frames.specs.Actions.{IsStill, IsOfTheList, JoinsNewest};
 
@@ -65,6 +65,14 @@ impl Thread {
         ensures { result ≡ done_of self.now }
     {
         self.run.state.done()
+    }
+
+    /// How many forks it has done.
+    pub fn forks(&self) -> u32
+        ensures value { result ≡ forks_of self.now }
+        ensures counted { forks_of self.now ≤ done_of self.now }
+    {
+        self.run.state.forks()
     }
 
     /// The root of a program before its first statement.

@@ -1,0 +1,9 @@
+use Rattle.thread_parts.specs.Shown.{thread_shown}
+use Rattle.thread_events.proofs.Acting.{fault_did}
+use Rattle.thread_events.proofs.acts.fault.Goals as goal
+
+pub returns-clause-acts : goal.returns-clause-acts
+returns-clause-acts c fault setting k is items waiting results stands period period_is given =
+    c.put_back.ensures.alone items thread_shown waiting results k _ period (thread_shown c.args.top) is.place stands period_is
+    (fault_did setting k c.args.top c.do_fault.new.self c.name_of-name.result c.name_of-name.ensures.by c.name_of-name.ensures.index c.do_fault.ensures.acted period
+    fault _ is c.do_fault.ensures.words is.words)

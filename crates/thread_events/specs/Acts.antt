@@ -1,0 +1,72 @@
+-- What a call does, for each program of which the thread does the next action.
+use Rattle.std.specs.Prelude.{◌≡◌, ◌≢◌, ℕ, ◌+◌, ◌≤◌, List, [], ◌∷◌, ◌++◌, Some}
+use Rattle.deque_list.specs.declared.deque_id.DequeId.{DequeId}
+use Rattle.deque_list.specs.DequeLists.{ListView}
+use Rattle.depth_first_list.specs.Actions.{allocates, record_words}
+use Rattle.lawful_books.specs.Lists.{Each}
+use Rattle.depth_first_list.specs.Facts.{words_at}
+use Rattle.depth_first_run.specs.States.{Setting}
+use Rattle.lawful_books.specs.Books.{charge}
+use Rattle.period_books.specs.Periods.{Period}
+use Rattle.period_table.specs.declared.table.PeriodTable.{PeriodTable}
+use Rattle.period_table.specs.Tables.{period_at}
+use Rattle.moment_parts.specs.Parts as parts
+use Rattle.moment_parts.specs.Events.{MayDo, Does}
+use Rattle.thread_points.specs.Points.{list_of}
+use Rattle.thread_frames.specs.Actions.{IsOfTheList}
+use Rattle.thread_frames.specs.declared.ended.Ended.{Ended}
+use Rattle.thread_frames.specs.declared.next.Next.{Next}
+use Rattle.thread_frames.specs.declared.next.Next.TheVariants as nexts
+use Rattle.thread_frames.specs.declared.thread.Thread.{Thread}
+use Rattle.thread_parts.specs.Shown.{thread_shown, result_shown}
+use Rattle.deque_events.specs.Shown.{parts_of, Stands, parts_under}
+
+-- The top thread of the worker's deque, which was taken out, does its next action. With the thread on top as it was, the parts become those
+-- of the list and the table behind the call by what the machine does, where the period and the words of the action are such.
+abbrev pub ActsBy : Next → (worker : ℕ) → DequeId → Thread → ListView Thread → PeriodTable → ListView Thread → PeriodTable
+    → (ℕ → Period → ℕ → Type 0) → Type 0
+ActsBy next worker id top before table after behind Where =
+    (c : Setting) (k : ℕ) (is : IsOfTheList c top next) (items : List Thread) (waiting : List parts.Thread) (results : List parts.Result)
+    (stands : Stands before worker id items) (period : Period) → period_at table worker ≡ Some period
+    → Where k period (words_at (list_of c) (IsOfTheList.place is))
+    → Does k (list_of c) (parts_under thread_shown waiting results stands table (thread_shown top)) worker (IsOfTheList.place is)
+    (parts_of thread_shown waiting results after behind)
+
+-- an Alloc may come, and takes so many words of the quota
+abbrev pub AllocIsCharged : (charged : ℕ) → ℕ → Period → ℕ → Type 0
+AllocIsCharged charged k period words = MayDo k period.used allocates words × (charged ≡ charge k allocates words)
+
+-- nothing is asked
+abbrev pub Always : ℕ → Period → ℕ → Type 0
+Always k period words = Unit {0}
+
+-- a Fork is within the quota
+abbrev pub ForkFits : ℕ → Period → ℕ → Type 0
+ForkFits k period words = period.used + record_words ≤ k
+
+-- The top thread ends, and its result is kept: with its parent directly below;
+abbrev pub EndsAboveBy : (worker : ℕ) → DequeId → Thread → ListView Thread → PeriodTable → PeriodTable → Ended → Type 0
+EndsAboveBy worker id top list table behind ended =
+    (c : Setting) (k : ℕ) (is : IsOfTheList c top nexts.End) (parent : Thread) (below : List Thread) (waiting : List parts.Thread)
+    (results : List parts.Result) (stands : Stands list worker id (parent ∷ below)) (period : Period) → period_at table worker ≡ Some period
+    → Does k (list_of c) (parts_under thread_shown waiting results stands table (thread_shown top)) worker (IsOfTheList.place is)
+    (parts_of thread_shown waiting (result_shown ended ∷ results) list behind)
+
+-- alone in its deque, where its parent waited for it and takes its place;
+abbrev pub EndsAndWakesBy : (worker : ℕ) → DequeId → Thread → Thread → ListView Thread → PeriodTable → ListView Thread → PeriodTable → Ended
+    → Type 0
+EndsAndWakesBy worker id top parent before table after behind ended =
+    (c : Setting) (k : ℕ) (is : IsOfTheList c top nexts.End) (front back : List parts.Thread) (results : List parts.Result)
+    (newest : parts.Child) (older : List parts.Child) (stands : Stands before worker id []) (period : Period)
+    → period_at table worker ≡ Some period → parts.Thread.children (thread_shown parent) ≡ newest ∷ older → newest.id ≡ top.id
+    → Does k (list_of c) (parts_under thread_shown (front ++ thread_shown parent ∷ back) results stands table (thread_shown top)) worker
+    (IsOfTheList.place is) (parts_of thread_shown (front ++ back) (result_shown ended ∷ results) after behind)
+
+-- or alone in its deque, where nobody waits for it
+abbrev pub EndsAndLeavesBy : (worker : ℕ) → DequeId → Thread → ListView Thread → PeriodTable → ListView Thread → PeriodTable → Ended → Type 0
+EndsAndLeavesBy worker id top before table after behind ended =
+    (c : Setting) (k : ℕ) (is : IsOfTheList c top nexts.End) (waiting : List parts.Thread) (results : List parts.Result)
+    (stands : Stands before worker id []) (period : Period) → period_at table worker ≡ Some period
+    → Each (λ x. (newest : parts.Child) (older : List parts.Child) → x.children ≡ newest ∷ older → top.parent ≡ Some x.id → newest.id ≢ top.id) waiting
+    → Does k (list_of c) (parts_under thread_shown waiting results stands table (thread_shown top)) worker (IsOfTheList.place is)
+    (parts_of thread_shown waiting (result_shown ended ∷ results) after behind)

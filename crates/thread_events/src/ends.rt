@@ -1,0 +1,97 @@
+ghost use Rattle.std.specs.Prelude.{◌≡◌, ◌≤◌, ◌<◌, ℕ, [], Some};
+ghost use Rattle.block_arena.specs.Region.{with_given};
+ghost use Rattle.deque_list.specs.DequeLists.{lane_room};
+ghost use Rattle.node_table.specs.Table.{Table};
+ghost use Rattle.period_books.specs.Periods.{Period};
+ghost use Rattle.period_table.specs.Tables.{HasRoom, period_at};
+ghost use Rattle.thread_points.specs.Points.{words_at_end};
+ghost use Rattle.thread_frames.specs.Actions.{IsEnd};
+ghost use Rattle.thread_frames.specs.Points.{IsAtPoint, IsPlaced, IsResult};
+ghost use Rattle.thread_frames.specs.Views.{next_of, done_of, label_of};
+ghost use Rattle.deque_events.specs.Shown.{Stands};
+ghost use Rattle.thread_events.specs.Acts.{EndsAboveBy, EndsAndWakesBy, EndsAndLeavesBy};
+
+use crate::acts::name_of;
+use block_arena::Pool;
+use deque_list::{DequeId, List};
+use period_table::PeriodTable;
+use thread_frames::{Ended, Thread};
+
+/// Does the End of a thread whose parent stands directly below, and runs next in the same period.
+pub fn end_above(
+    list: &List<Thread>,
+    table: &mut PeriodTable,
+    pool: &mut Pool,
+    worker: usize,
+    deque: DequeId,
+    top: Thread,
+) -> Ended
+    requires placed { IsPlaced top }
+    requires next { IsEnd (next_of top) }
+    requires count { done_of top < 4294967295 }
+    requires live { words_at_end (label_of top) ≤ pool.old.live }
+    requires table { HasRoom table.old worker }
+    requires fits { (p : Period) → period_at table.old worker ≡ Some p → p.used ≤ 1048576 }
+    ensures acts { EndsAboveBy worker deque top list.now table.old table.new result }
+    ensures pool { pool.new ≡ with_given pool.old (words_at_end (label_of top)) }
+    ensures result { (t : Table) (k : ℕ) → IsAtPoint t k top → IsResult t k result }
+{
+    let name = name_of(&top);
+    let ended = top.end(pool);
+    deque_events::end_above(list, table, worker, deque, name);
+    ended
+}
+
+/// Does the End of a thread that is alone in its deque, and whose parent, which waited for it, takes its place.
+pub fn end_and_wake(
+    list: &mut List<Thread>,
+    table: &mut PeriodTable,
+    pool: &mut Pool,
+    worker: usize,
+    deque: DequeId,
+    top: Thread,
+    parent: Thread,
+) -> Ended
+    requires placed { IsPlaced top }
+    requires next { IsEnd (next_of top) }
+    requires count { done_of top < 4294967295 }
+    requires live { words_at_end (label_of top) ≤ pool.old.live }
+    requires stands { Stands list.old worker deque [] }
+    requires room { 1 ≤ lane_room list.old deque }
+    requires table { HasRoom table.old worker }
+    requires fits { (p : Period) → period_at table.old worker ≡ Some p → p.used ≤ 1048576 }
+    ensures acts { EndsAndWakesBy worker deque top parent list.old table.old list.new table.new result }
+    ensures pool { pool.new ≡ with_given pool.old (words_at_end (label_of top)) }
+    ensures result { (t : Table) (k : ℕ) → IsAtPoint t k top → IsResult t k result }
+{
+    let name = name_of(&top);
+    let ended = top.end(pool);
+    deque_events::end_and_wake(list, table, worker, deque, parent, name);
+    ended
+}
+
+/// Does the End of a thread that is alone in its deque and for which nobody waits: the deque leaves the list, and the period ends.
+pub fn end_and_leave(
+    list: &mut List<Thread>,
+    table: &mut PeriodTable,
+    pool: &mut Pool,
+    worker: usize,
+    deque: DequeId,
+    top: Thread,
+) -> Ended
+    requires placed { IsPlaced top }
+    requires next { IsEnd (next_of top) }
+    requires count { done_of top < 4294967295 }
+    requires live { words_at_end (label_of top) ≤ pool.old.live }
+    requires stands { Stands list.old worker deque [] }
+    requires table { HasRoom table.old worker }
+    requires fits { (p : Period) → period_at table.old worker ≡ Some p → p.used ≤ 1048576 }
+    ensures acts { EndsAndLeavesBy worker deque top list.old table.old list.new table.new result }
+    ensures pool { pool.new ≡ with_given pool.old (words_at_end (label_of top)) }
+    ensures result { (t : Table) (k : ℕ) → IsAtPoint t k top → IsResult t k result }
+{
+    let name = name_of(&top);
+    let ended = top.end(pool);
+    deque_events::end_and_leave(list, table, worker, deque, name);
+    ended
+}

@@ -1,0 +1,77 @@
+ghost use Rattle.std.specs.Prelude.{◌≡◌, ◌≤◌, ◌<◌, ◌+◌, ◌↔◌, ℕ, List as AnyList, Some, IsErr, IfErr, OnOk, OnErr, length};
+ghost use Rattle.block_arena.specs.Region.{with_taken};
+ghost use Rattle.depth_first_list.specs.Actions.{record_words};
+ghost use Rattle.deque_list.specs.DequeLists.{lane_room};
+ghost use Rattle.period_books.specs.Periods.{Period};
+ghost use Rattle.period_table.specs.Tables.{HasRoom, period_at};
+ghost use Rattle.thread_frames.specs.Actions.{IsFork};
+ghost use Rattle.thread_frames.specs.Points.{IsPlaced};
+ghost use Rattle.thread_frames.specs.Views.{next_of, done_of};
+ghost use Rattle.thread_frames.specs.declared.next.Next.TheVariants as nexts;
+ghost use Rattle.deque_events.specs.Shown.{Stands};
+ghost use Rattle.thread_events.specs.Acts.{ActsBy, ForkFits};
+
+use crate::acts::name_of;
+use block_arena::Pool;
+use dag_order::ThreadId;
+use deque_events::put_both_back;
+use deque_list::{DequeId, List};
+use period_table::PeriodTable;
+use thread_frames::{ArenaFull, Thread};
+
+/// The id of the thread that the period of a worker forks next.
+fn next_id(table: &PeriodTable, worker: usize) -> ThreadId
+    requires { (p : Period) × (period_at table.now worker ≡ Some p) }
+    ensures { (p : Period) → period_at table.now worker ≡ Some p
+        → result ≡ record { period = p.number; nth = length p.born } }
+{
+    let Some(seat) = table.seat(worker) else {
+        unreachable!();
+    };
+    ThreadId {
+        period: seat.period.number,
+        nth: seat.period.births.len(),
+    }
+}
+
+/// Does a Fork: the child stands on top of its parent.
+///
+/// # Errors
+///
+/// The thread comes back with [`ArenaFull`], exactly where a record block does not fit beside the words that are out. Nothing is changed.
+pub fn fork(
+    list: &mut List<Thread>,
+    table: &mut PeriodTable,
+    pool: &mut Pool,
+    worker: usize,
+    deque: DequeId,
+    top: Thread,
+) -> Result<(), (Thread, ArenaFull)>
+    requires placed { IsPlaced top }
+    requires next { IsFork (next_of top) }
+    requires count { done_of top < 4294967295 }
+    requires stands { (items : AnyList Thread) × Stands list.old worker deque items }
+    requires room { 2 ≤ lane_room list.old deque }
+    requires table { HasRoom table.old worker }
+    requires period { (p : Period) × (period_at table.old worker ≡ Some p) }
+    requires fits { (p : Period) → period_at table.old worker ≡ Some p → p.used + 16 ≤ 1048576 }
+    ensures full { IsErr result ↔ (pool.old.capacity < pool.old.live + record_words) }
+    ensures refused { IfErr result (λ e. (e.0 ≡ top) × (e.1 ≡ record { live = pool.old.live; asked = record_words })) }
+    ensures same_list { OnErr result (list.new ≡ list.old) }
+    ensures same_table { OnErr result (table.new ≡ table.old) }
+    ensures same_pool { OnErr result (pool.new ≡ pool.old) }
+    ensures acts { OnOk result (ActsBy nexts.Fork worker deque top list.old table.old list.new table.new ForkFits) }
+    ensures pool { OnOk result (pool.new ≡ with_taken pool.old record_words) }
+{
+    let name = name_of(&top);
+    let ordinal = top.forks() + 1;
+    let id = next_id(table, worker);
+    let mut top = top;
+    match top.do_fork(id, pool) {
+        Ok(child) => {
+            put_both_back(list, table, worker, deque, top, child, name, ordinal);
+            Ok(())
+        }
+        Err(full) => Err((top, full)),
+    }
+}
