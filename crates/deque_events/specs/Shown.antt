@@ -1,8 +1,8 @@
 -- The parts that a list of deques and a table of periods are, beside those that wait and the results that are kept.
-use Rattle.std.specs.Prelude.{◌≡◌, ℕ, Option, Some, List, ◌∷◌, ◌++◌, map}
+use Rattle.std.specs.Prelude.{◌≡◌, ℕ, Option, Some, List, ◌∷◌, ◌++◌, map, slice_set}
 use Rattle.deque_list.specs.declared.deque_id.DequeId.{DequeId}
-use Rattle.deque_list.specs.Deques.{Deque}
-use Rattle.deque_list.specs.DequeLists.{ListView}
+use Rattle.deque_list.specs.Deques.{Deque, DequeAt}
+use Rattle.deque_list.specs.DequeLists.{ListView, SameElsewhere}
 use Rattle.period_table.specs.declared.table.PeriodTable.{PeriodTable}
 use Rattle.period_table.specs.Tables.{periods_of}
 use Rattle.moment_parts.specs.Parts as parts
@@ -42,3 +42,13 @@ parts_under shown waiting results {list} {worker} {id} {items} stands table top 
   results = results;
   periods = periods_of table;
 }
+
+-- the deque has this item on top of those that it had, and the memory of every other lane is as it was
+abbrev pub PutsOnTop : {T : Type 0} → ListView T → ListView T → DequeId → T → Type 0
+PutsOnTop {T} before after id top =
+    ((rank : ℕ) (deque : Deque T) → DequeAt before.deques id rank deque
+    → after.deques ≡ slice_set before.deques rank (record deque { items = top ∷ deque.items })) × SameElsewhere before after id
+
+-- the deque has both, the child on top
+abbrev pub PutsBothOnTop : {T : Type 0} → ListView T → ListView T → DequeId → T → T → Type 0
+PutsBothOnTop {T} before after id top child = (between : ListView T) × PutsOnTop before between id top × PutsOnTop between after id child

@@ -4,7 +4,7 @@ ghost use Rattle.std.specs.Prelude.{◌≡◌, ◌≤◌, ◌+◌, ℕ, List as 
 ghost use Rattle.deque_list.specs.DequeLists.{lane_room};
 ghost use Rattle.period_books.specs.Periods.{Period};
 ghost use Rattle.period_table.specs.Tables.{HasRoom, period_at};
-ghost use Rattle.deque_events.specs.Shown.{Stands};
+ghost use Rattle.deque_events.specs.Shown.{Stands, PutsOnTop, PutsBothOnTop};
 ghost use Rattle.deque_events.specs.Events.{BecomesBy, DidAlone, DidDummy, DidJoin, DidFork};
 
 use dag_order::{ActionId, Birth};
@@ -29,6 +29,7 @@ pub fn put_back<T>(
         (λ shown k l period was place. DidAlone k l period was (shown top) name words place) }
     ensures joins { (items : AnyList T) → BecomesBy worker deque items list.old table.old list.new table.new
         (λ shown k l period was place. DidJoin k l was (shown top) name words place) }
+    ensures back { PutsOnTop list.old list.new deque top }
 {
     list.push_top(deque, top);
     table.note(worker, name, words, None);
@@ -73,6 +74,7 @@ pub fn put_both_back<T>(
     requires fits { (p : Period) → period_at table.old worker ≡ Some p → p.used + 16 ≤ 1048576 }
     ensures forks { (items : AnyList T) → BecomesBy worker deque items list.old table.old list.new table.new
         (λ shown k l period was place. DidFork k l period was (shown top) (shown child) name 16 place ordinal) }
+    ensures back { PutsBothOnTop list.old list.new deque top child }
 {
     list.push_top(deque, top);
     list.push_top(deque, child);

@@ -18,8 +18,10 @@ use Rattle.thread_frames.specs.declared.ended.Ended.{Ended}
 use Rattle.thread_frames.specs.declared.next.Next.{Next}
 use Rattle.thread_frames.specs.declared.next.Next.TheVariants as nexts
 use Rattle.thread_frames.specs.declared.thread.Thread.{Thread}
+use Rattle.node_table.specs.Table.{Table}
+use Rattle.thread_frames.specs.Points.{IsAtPoint}
 use Rattle.thread_parts.specs.Shown.{thread_shown, result_shown}
-use Rattle.deque_events.specs.Shown.{parts_of, Stands, parts_under}
+use Rattle.deque_events.specs.Shown.{parts_of, Stands, parts_under, PutsOnTop, PutsBothOnTop}
 
 -- The top thread of the worker's deque, which was taken out, does its next action. With the thread on top as it was, the parts become those
 -- of the list and the table behind the call by what the machine does, where the period and the words of the action are such.
@@ -70,3 +72,16 @@ EndsAndLeavesBy worker id top before table after behind ended =
     → Each (λ x. (newest : parts.Child) (older : List parts.Child) → x.children ≡ newest ∷ older → top.parent ≡ Some x.id → newest.id ≢ top.id) waiting
     → Does k (list_of c) (parts_under thread_shown waiting results stands table (thread_shown top)) worker (IsOfTheList.place is)
     (parts_of thread_shown waiting (result_shown ended ∷ results) after behind)
+
+-- whoever was at its point is so behind the action
+abbrev pub StaysAtPoint : Thread → Thread → Type 0
+StaysAtPoint top behind = (t : Table) (k : ℕ) → IsAtPoint t k top → IsAtPoint t k behind
+
+-- the thread goes back on top, at its next point, and nobody else has moved
+abbrev pub GoesBack : ListView Thread → ListView Thread → DequeId → Thread → Type 0
+GoesBack before after id top = (behind : Thread) × PutsOnTop before after id behind × StaysAtPoint top behind
+
+-- the same with a child above it, which is at its point too
+abbrev pub GoesBackWithChild : ListView Thread → ListView Thread → DequeId → Thread → Type 0
+GoesBackWithChild before after id top =
+    (behind : Thread) × ((child : Thread) × PutsBothOnTop before after id behind child × StaysAtPoint top behind × StaysAtPoint top child)

@@ -13,3 +13,6 @@ pub returns-clause-joins : goal.returns-clause-joins
 returns-clause-joins g c items shown waiting results k l period was place stands is did =
     back_joined items c.args.list.now c.args.table.now c.push_top.new.self c.note.new.self c.args.top c.args.name c.args.words c.push_top.ensures.deque c.note.ensures.periods
     shown waiting results k l period was place stands is did
+
+pub returns-clause-back : goal.returns-clause-back
+returns-clause-back g c = (c.push_top.ensures.deque, c.push_top.ensures.rest)

@@ -12,4 +12,5 @@ returns g c = record {
   forks = λ items shown waiting results k l period was place stands is did.
       back_forked items c.args.list.now c.args.table.now c.push_top-2.new.self c.note.new.self c.args.top c.args.child c.args.name c.args.ordinal c.push_top.new.self c.push_top.ensures.deque c.push_top-2.ensures.deque c.note.ensures.periods
       shown waiting results k l period was place stands is did;
+  back = (c.push_top.new.self, (c.push_top.ensures.deque, c.push_top.ensures.rest), (c.push_top-2.ensures.deque, c.push_top-2.ensures.rest));
 }

@@ -7,3 +7,6 @@ returns-clause-acts c fault setting k is items waiting results stands period per
     c.put_back.ensures.alone items thread_shown waiting results k _ period (thread_shown c.args.top) is.place stands period_is
     (fault_did setting k c.args.top c.do_fault.new.self c.name_of-name.result c.name_of-name.ensures.by c.name_of-name.ensures.index c.do_fault.ensures.acted period
     fault _ is c.do_fault.ensures.words is.words)
+
+pub returns-clause-back : goal.returns-clause-back
+returns-clause-back c = (c.do_fault.new.self, c.put_back.ensures.back, c.do_fault.ensures.point)

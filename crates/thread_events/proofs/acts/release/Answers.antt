@@ -7,3 +7,6 @@ returns-clause-acts c setting k is items waiting results stands period period_is
     c.put_back.ensures.alone items thread_shown waiting results k _ period (thread_shown c.args.top) is.place stands period_is
     (release_did setting k c.args.top c.do_release.new.self c.name_of-name.result c.name_of-name.ensures.by c.name_of-name.ensures.index c.do_release.ensures.acted period
     _ is c.do_release.ensures.words)
+
+pub returns-clause-back : goal.returns-clause-back
+returns-clause-back c = (c.do_release.new.self, c.put_back.ensures.back, c.do_release.ensures.point)
