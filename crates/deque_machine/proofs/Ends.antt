@@ -2,21 +2,23 @@
 use Rattle.std.proofs.Common.{◌≡◌, ℕ, suc, ◌+◌, ◌*◌, ◌≤◌, ◌<◌, ◌⊎◌, List, [], ◌∷◌, ◌++◌, length, inl, inr, refl, sym, ap, subst, ◌∙◌, arith, length-append, cond, nat_lt, nat_le, Bool, true, false}
 use Rattle.std.specs.Prelude.{Option, None, Some}
 use Rattle.std.proofs.lemmas.Bool.{cases_lt, lt-ltb, leb-true}
+use Rattle.dag_order.specs.LabelOrder.{fork_of}
 use Rattle.depth_first_list.specs.Actions.{Deed, forks, joins, allocates, releases, dummy, faults, ends, record_words}
 use Rattle.depth_first_list.specs.Runs.{IsDepthFirst}
-use Rattle.depth_first_list.specs.Facts.{label_at, deed_at, words_at}
+use Rattle.depth_first_list.specs.Facts.{label_at, deed_at, words_at, IsDone}
 use Rattle.lawful_books.specs.Lists.{Among, Each, Differ, total, times, one_if_same}
 use Rattle.lawful_books.specs.Books.{Book, booked, charge, charge_at, charged}
 use Rattle.lawful_books.specs.Lawful.{LawfulBooks, book_of}
-use Rattle.lawful_books.proofs.Lists.{total_append, each_from, times_among, among_times, one_cases, one_same, same_head, same_tail, each_join}
+use Rattle.lawful_books.proofs.Lists.{among_middle, each_map, total_append, each_from, times_among, among_times, one_cases, one_same, same_head, same_tail, each_join}
 use Rattle.lawful_books.proofs.Keeping.{booked_append, begun_same, times_append}
 use Rattle.lawful_books.proofs.Whole.{few_places}
 use Rattle.deque_machine.specs.Moments.{Deque, Waiting, Moment, opening, done_at, waiting_threads, open_for, one_if_open, one_if_worker}
 use Rattle.deque_machine.specs.Machine.{Setting, Event, gives_up, Owns, books_with, books_closed, new_book, May, steals_beside, takes_over, forks_child, joins_child, allocates_within, allocates_above, releases_words, meets_fault, runs_dummy, ends_above_parent, ends_and_wakes, ends_and_leaves, suspends_top, gives_deque_up}
 use Rattle.deque_machine.specs.LawfulOrder.{Waits, IsLawful}
 use Rattle.deque_machine.specs.Runs.{Pair, Reaches}
-use Rattle.deque_machine.specs.Play.{IsForced, NoneFree, RunsEnd}
+use Rattle.deque_machine.specs.Play.{IsForced, NoneFree, RunsEnd, RunsAreShort}
 use Rattle.deque_machine.proofs.Kept.{kept, opening_is_lawful}
+use Rattle.deque_machine.proofs.LiveThreads.{fork_is_done}
 use Rattle.deque_machine.proofs.Reached.{lawful_along}
 
 -- 1 for an open period
@@ -71,6 +73,27 @@ owners_times w (book ∷ books) = by_owner book.owner (owners_times w books)
     by_owner : (owner : Option ℕ) → times w (owners books) ≡ open_for w books → times w (with_owner owner (owners books)) ≡ one_if_worker w owner + open_for w books
     by_owner None rest = omega (arith, rest)
     by_owner (Some v) rest = omega (arith, rest)
+
+-- an element of a list, cut out
+cut_among : {X : Type 0} → (x : X) (xs : List X) → Among x xs → (left right : List X) × (xs ≡ left ++ x ∷ right)
+cut_among x [] there = absurd there
+cut_among x (y ∷ xs) there = elim there [
+  | inl same ↦ ([], xs, ap (λ t. t ∷ xs) (sym same))
+  | inr later ↦ let cut = cut_among x xs later in (y ∷ cut.0, cut.1, ap (λ t. y ∷ t) cut.2)
+]
+
+-- different elements of a list are no more than it has
+few_among : {X : Type 0} → (xs ys : List X) → Differ xs → Each (λ x. Among x ys) xs → length xs ≤ length ys
+few_among [] ys differ all = omega arith
+few_among (x ∷ xs) ys differ all =
+    let cut = cut_among x ys all.0 in
+    let rest = few_among xs (cut.0 ++ cut.1) differ.1 (each_map (λ z. Among z ys) (λ z. Among z (cut.0 ++ cut.1)) xs
+    (λ z there among. elim (among_middle z cut.0 x cut.1 (subst (λ t. Among z t) cut.2 among)) [
+      | inl same ↦ absurd (differ.0 (subst (λ t. Among t xs) same there))
+      | inr beside ↦ beside
+    ]) all.1) in
+    let whole : length ys ≡ length (cut.0 ++ x ∷ cut.1) = ap length cut.2 in
+    let a = length-append cut.0 (x ∷ cut.1) in let b = length-append cut.0 cut.1 in omega (arith, rest, whole, a, b)
 
 module _ (s : Setting) where
   is_busy : Book → ℕ
@@ -293,6 +316,54 @@ module _ (s : Setting) where
       let sum = length-append (booked m.books) ws in
       let same = as_many (done_at m) m.waiting (lawful.order).waits in omega (arith, few, sum, same)
 
+  -- the Forks of the children that are waited for
+  module _ (list : IsDepthFirst s.quota s.list) (done : ℕ → ℕ) (closed : IsDone s.list done) where
+    fork_waited : (w : Waiting) → Waits s.list done w → (f : ℕ) × (f < length s.list) × (label_at s.list f ≡ w.thread) × (deed_at s.list f ≡ forks w.child) × (0 < done f)
+    fork_waited w waits = fork_is_done s.quota s.list list done closed (fork_of w.thread w.child) w.thread [] w.child waits.child_live refl
+
+    forks_waited : (ws : List Waiting) → Each (Waits s.list done) ws → List ℕ
+    forks_waited [] all = []
+    forks_waited (w ∷ ws) all = (fork_waited w all.0).0 ∷ forks_waited ws all.1
+
+    as_many_forks : (ws : List Waiting) (all : Each (Waits s.list done) ws) → length (forks_waited ws all) ≡ length ws
+    unfolding forks_waited
+    as_many_forks [] all = refl
+    as_many_forks (w ∷ ws) all = ap suc (as_many_forks ws all.1)
+
+    forks_are_done : (ws : List Waiting) (all : Each (Waits s.list done) ws) → Each (λ i. 0 < done i) (forks_waited ws all)
+    unfolding forks_waited
+    forks_are_done [] all = tt
+    forks_are_done (w ∷ ws) all = ((fork_waited w all.0).4, forks_are_done ws all.1)
+
+    forked_by : (ws : List Waiting) (all : Each (Waits s.list done) ws) (i : ℕ) → Among i (forks_waited ws all) → Among (label_at s.list i) (waiting_threads ws)
+    unfolding forks_waited
+    forked_by [] all i there = absurd there
+    forked_by (w ∷ ws) all i there = elim there [
+      | inl same ↦ inl (ap (λ t. label_at s.list t) same ∙ (fork_waited w all.0).2)
+      | inr later ↦ inr (forked_by ws all.1 i later)
+    ]
+
+    forks_differ : (ws : List Waiting) (all : Each (Waits s.list done) ws) → Differ (waiting_threads ws) → Differ (forks_waited ws all)
+    unfolding forks_waited
+    forks_differ [] all apart = tt
+    forks_differ (w ∷ ws) all apart = (
+      λ there. apart.0 (subst (λ t. Among t (waiting_threads ws)) (fork_waited w all.0).2 (forked_by ws all.1 (fork_waited w all.0).0 there)),
+      forks_differ ws all.1 apart.1,
+    )
+
+  -- so at most as many threads wait as actions are done
+  few_wait : IsDepthFirst s.quota s.list → (m : Moment) → IsLawful s m → length m.waiting ≤ acts m.books
+  unfolding acts
+  few_wait list m lawful =
+      let books : LawfulBooks s.quota s.list m.books = (lawful.periods).lawful in
+      let waits : Each (Waits s.list (done_at m)) m.waiting = (lawful.order).waits in
+      let same = as_many_forks list (done_at m) books.first_actions m.waiting waits in
+      let few = few_among (forks_waited list (done_at m) books.first_actions m.waiting waits) (booked m.books)
+      (forks_differ list (done_at m) books.first_actions m.waiting waits (lawful.order).wait_once)
+      (each_map (λ i. 0 < done_at m i) (λ i. Among i (booked m.books)) (forks_waited list (done_at m) books.first_actions m.waiting waits)
+      (λ i there did. among_times i (booked m.books) did) (forks_are_done list (done_at m) books.first_actions m.waiting waits)) in
+      omega (arith, same, few)
+
   -- there are at most as many open periods as workers
   few_open : (m : Moment) → IsLawful s m → opens m.books ≤ s.workers
   unfolding opens
@@ -313,6 +384,19 @@ module _ (s : Setting) where
         let few = done_and_waited m lawful in
         let open_ones = few_open m lawful in
         omega (arith, rises, few, open_ones)
+
+module _ (s : Setting) (fork : record_words ≤ s.quota) (list : IsDepthFirst s.quota s.list) where
+  events_by_done : (run : List Pair) (m : Moment) (reaches : Reaches s opening run m) → NoneFree s opening run m reaches → length run ≤ 5 * length (booked m.books) + s.workers
+  unfolding opens busies acts
+  events_by_done run m reaches free =
+      let lawful : IsLawful s m = lawful_along s list run opening m (opening_is_lawful s list) reaches in
+      let rises = rises_along s fork list run opening m reaches (opening_is_lawful s list) free in
+      let few = few_wait s list m lawful in
+      let open_ones = few_open s m lawful in
+      omega (arith, rises, few, open_ones)
+
+pub runs_are_short : (s : Setting) → 0 < s.quota → IsDepthFirst s.quota s.list → RunsAreShort s
+runs_are_short s some list fork run m reaches free = events_by_done s fork list run m reaches free
 
 pub runs_end : (s : Setting) → 0 < s.quota → IsDepthFirst s.quota s.list → RunsEnd s
 runs_end s some list fork run m reaches free = events_at_most s fork list run m reaches free

@@ -160,6 +160,11 @@ abbrev pub RunsEnd : Setting → Type 0
 RunsEnd s = record_words ≤ s.quota → (run : List Pair) (m : Moment) (reaches : Reaches s opening run m) →
     NoneFree s opening run m reaches → length run ≤ 3 * length s.list + s.workers
 
+-- and at each moment it has had at most five events for each action that is done, and one for each worker
+abbrev pub RunsAreShort : Setting → Type 0
+RunsAreShort s = record_words ≤ s.quota → (run : List Pair) (m : Moment) (reaches : Reaches s opening run m) →
+    NoneFree s opening run m reaches → length run ≤ 5 * length (booked m.books) + s.workers
+
 -- what an action takes never fills an arena with room for all that the list takes
 abbrev pub ArenaNeverFills : Setting → Type 0
 ArenaNeverFills s = (run : List Pair) (m after : Moment) (worker place : ℕ) → Reaches s opening run m → May s m worker (does place) after

@@ -1,4 +1,4 @@
-ghost use Rattle.deque_machine.specs.Play.{RunsEnd, ArenaNeverFills, DequesAtMost, SomebodysTurn, WantedMayCome, PlaysAreRuns, PlaysEnd, PlaysFinish};
+ghost use Rattle.deque_machine.specs.Play.{RunsEnd, RunsAreShort, ArenaNeverFills, DequesAtMost, SomebodysTurn, WantedMayCome, PlaysAreRuns, PlaysEnd, PlaysFinish};
 ghost use Rattle.deque_machine.specs.Runs.{InEachSetting, OpeningIsLawful, EventsKeepLawful, ReachedIsLawful, BoundAlways, AheadIsMarked, MovesAreLive, MarkedBound, ArenaRefuses, EndedDidAll};
 
 /// The opening moment has lawful order, lawful books and begun ahead.
@@ -51,6 +51,11 @@ pub fn ended_did_all()
 /// list, and one for each worker.
 pub fn runs_end()
     ensures { InEachSetting RunsEnd }
+{}
+
+/// At each moment such a run has had at most five events for each action that is done, and one for each worker.
+pub fn runs_are_short()
+    ensures { InEachSetting RunsAreShort }
 {}
 
 /// An arena with room for all words that the list takes never fills.
