@@ -15,7 +15,7 @@ use Rattle.period_table.specs.Tables.{periods_of, period_at, noted, shut}
 use Rattle.period_table.proofs.Lists.{replaced_twice}
 use Rattle.moment_parts.specs.Parts as parts
 use Rattle.moment_parts.specs.Events.{IsNextOf, Does, GivesUp, Suspends, ends_above, ends_and_wakes, ends_and_leaves, gives_up_deque, suspends_top}
-use Rattle.deque_events.specs.Shown.{deque_shown, Stands, parts_under}
+use Rattle.deque_events.specs.Shown.{deque_shown, Stands, Becomes, parts_under}
 use Rattle.deque_events.specs.Events.{EndsAbove, EndsAndWakes, EndsAndLeaves, GaveUp, Suspended}
 use Rattle.deque_events.proofs.Putting.{at_rank, here, pushed, given_up, shown_middle, works, notes, notes_closed}
 
@@ -34,6 +34,10 @@ module _ {T : Type 0} {worker : ℕ} {id : DequeId} (before : ListView T) (table
       → next.deques ≡ stands.left ++ stands.right
   left_out stands clause = clause (length stands.left) (here stands) (at_rank stands) ∙ ap (λ ds. remove ds (length stands.left)) stands.deques_are
       ∙ remove_middle stands.left (here stands) stands.right
+
+  pub gone : (stands : Stands before worker id []) → ((rank : ℕ) (deque : Deque T) → DequeAt before.deques id rank deque → next.deques ≡ remove before.deques rank)
+      → next.most ≡ before.most → Becomes stands next []
+  gone stands clause most = record { deques = left_out stands clause; most = most }
 
   pub gave_up : (items : List T) (top : T) (mid : ListView T)
       → ((rank : ℕ) (deque : Deque T) → DequeAt before.deques id rank deque → mid.deques ≡ slice_set before.deques rank (record deque { items = top ∷ deque.items }))

@@ -1,3 +1,4 @@
 pub mod Putting
 pub mod Leaving
 pub mod Stealing
+pub mod Seating

@@ -20,7 +20,7 @@ use Rattle.period_table.proofs.Seats.{some_shown}
 use Rattle.period_table.proofs.Lists.{replaced_twice}
 use Rattle.moment_parts.specs.Parts as parts
 use Rattle.moment_parts.specs.Events.{Works, Notes, name_of, Does, does_alone, runs_dummy, joins_newest, forks_child}
-use Rattle.deque_events.specs.Shown.{deque_shown, parts_of, Stands, parts_under}
+use Rattle.deque_events.specs.Shown.{deque_shown, deque_with, parts_of, Stands, Becomes, parts_under}
 use Rattle.deque_events.specs.Events.{DidAlone, DidDummy, DidJoin, DidFork}
 
 module _ {X : Type 0} where
@@ -59,6 +59,25 @@ module _ {T : Type 0} where
       clause (length stands.left) (here stands) (at_rank stands)
       ∙ ap (λ ds. slice_set ds (length stands.left) (record { id = id; owner = None; items = items })) stands.deques_are
       ∙ set_middle stands.left (here stands) (record { id = id; owner = None; items = items }) stands.right
+
+  -- what the deque has become, with one item more, with two, and with one and without an owner
+  pub one_back : {list : ListView T} {worker : ℕ} {id : DequeId} {items : List T} (stands : Stands list worker id items) (next : ListView T) (item : T)
+      → ((rank : ℕ) (deque : Deque T) → DequeAt list.deques id rank deque → next.deques ≡ slice_set list.deques rank (record deque { items = item ∷ deque.items }))
+      → next.most ≡ list.most → Becomes stands next (deque_with id (Some worker) (item ∷ items) ∷ [])
+  one_back stands next item push most = record { deques = (pushed stands next item push).deques_are; most = most }
+
+  pub both_back : {list : ListView T} {worker : ℕ} {id : DequeId} {items : List T} (stands : Stands list worker id items) (mid next : ListView T) (item child : T)
+      → ((rank : ℕ) (deque : Deque T) → DequeAt list.deques id rank deque → mid.deques ≡ slice_set list.deques rank (record deque { items = item ∷ deque.items }))
+      → ((rank : ℕ) (deque : Deque T) → DequeAt mid.deques id rank deque → next.deques ≡ slice_set mid.deques rank (record deque { items = child ∷ deque.items }))
+      → mid.most ≡ list.most → next.most ≡ mid.most → Becomes stands next (deque_with id (Some worker) (child ∷ item ∷ items) ∷ [])
+  both_back stands mid next item child push push_child most most_next =
+      record { deques = (pushed (pushed stands mid item push) next child push_child).deques_are; most = most_next ∙ most }
+
+  pub back_unowned : {list : ListView T} {worker : ℕ} {id : DequeId} {items : List T} (stands : Stands list worker id items) (mid next : ListView T) (item : T)
+      → ((rank : ℕ) (deque : Deque T) → DequeAt list.deques id rank deque → mid.deques ≡ slice_set list.deques rank (record deque { items = item ∷ deque.items }))
+      → ((rank : ℕ) (deque : Deque T) → DequeAt mid.deques id rank deque → next.deques ≡ slice_set mid.deques rank (record deque { owner = None }))
+      → mid.most ≡ list.most → next.most ≡ mid.most → Becomes stands next (deque_with id None (item ∷ items) ∷ [])
+  back_unowned stands mid next item push give most most_next = record { deques = given_up (pushed stands mid item push) next give; most = most_next ∙ most }
 
   -- what a list with a deque in the middle shows
   pub shown_middle : (shown : T → parts.Thread) (left right : List (Deque T)) (d : Deque T)

@@ -1,10 +1,10 @@
 -- What a theft is on the parts.
 use Rattle.std.proofs.Common.{◌≡◌, ◌≢◌, ℕ, suc, ◌+◌, ◌-◌, ◌<◌, Bool, Option, List, [], ◌∷◌, ◌++◌, length, map, take, drop, refl, sym, ap, subst, ◌∙◌, arith, true}
-use Rattle.std.specs.Prelude.{Some, slice_get, slice_set, insert, nat_lt, ◌↔◌}
+use Rattle.std.specs.Prelude.{None, Some, slice_get, slice_set, insert, nat_lt, ◌↔◌}
 use Rattle.deque_list.specs.declared.insert_refused.InsertRefused.{InsertRefused}
 use Rattle.deque_list.specs.declared.insert_refused.InsertRefused.TheVariants as refusals
 use Rattle.std.proofs.lemmas.List.{map-append, length-append, length-map}
-use Rattle.std.proofs.lemmas.Option.{slice_get-map}
+use Rattle.std.proofs.lemmas.Option.{slice_get-map, same_Some}
 use Rattle.std.specs.Option.{option_map}
 use Rattle.bounded_list.specs.BoundedList.{entries}
 use Rattle.deque_list.specs.declared.deque_id.DequeId.{DequeId}
@@ -21,7 +21,7 @@ use Rattle.period_table.specs.Tables.{periods_of}
 use Rattle.period_table.proofs.Lists.{place_of_among}
 use Rattle.moment_parts.specs.Parts as parts
 use Rattle.moment_parts.specs.Events.{Begins, Steals, steals_beside, takes_over}
-use Rattle.deque_events.specs.Shown.{deque_shown, parts_of, Holds}
+use Rattle.deque_events.specs.Shown.{deque_shown, parts_of, deque_with, Holds, Becomes}
 use Rattle.deque_events.specs.Events.{StoleBeside, TookOver}
 use Rattle.deque_events.proofs.Putting.{set_middle}
 
@@ -57,6 +57,52 @@ module _ {T : Type 0} {list : ListView T} {id : DequeId} {owner : Option ℕ} {i
 
   pub is_live : IsLive (deque_ids list.deques) id
   is_live = (length holds.left, slice_get-map (λ d. Deque.id d) list.deques (length holds.left) ∙ ap (option_map (λ d. Deque.id d)) rank_of.0)
+
+-- a deque gives its bottom item away, and a deque with this item comes to the right of it
+module _ {T : Type 0} {before : ListView T} {victim : DequeId} (owner : Option ℕ) (first : T) (others : List T) (bottom : T)
+    (holds : Holds before victim owner (first ∷ (others ++ bottom ∷ []))) where
+  abbrev kept : Deque T
+  kept = deque_with victim owner (first ∷ others)
+
+  bottom_is : (taken : T) → ((rank : ℕ) (deque : Deque T) → DequeAt before.deques victim rank deque → Some taken ≡ slice_get deque.items (length deque.items - 1)) → taken ≡ bottom
+  bottom_is taken item = same_Some taken bottom (item (length holds.left) (held holds) (rank_of holds)
+      ∙ ap (slice_get (first ∷ (others ++ bottom ∷ []))) (last_place (first ∷ others) bottom) ∙ get_middle (first ∷ others) bottom [])
+
+  without_bottom : (mid : ListView T)
+      → ((rank : ℕ) (deque : Deque T) → DequeAt before.deques victim rank deque → mid.deques ≡ slice_set before.deques rank (record deque { items = take (length deque.items - 1) deque.items }))
+      → mid.deques ≡ holds.left ++ kept ∷ holds.right
+  without_bottom mid cut = cut (length holds.left) (held holds) (rank_of holds)
+      ∙ ap (λ ds. slice_set ds (length holds.left) (deque_with victim owner (take (length (first ∷ (others ++ bottom ∷ [])) - 1) (first ∷ (others ++ bottom ∷ []))))) holds.deques_are
+      ∙ set_middle holds.left (held holds) (deque_with victim owner (take (length (first ∷ (others ++ bottom ∷ [])) - 1) (first ∷ (others ++ bottom ∷ [])))) holds.right
+      ∙ ap (λ is. holds.left ++ deque_with victim owner is ∷ holds.right)
+      (ap (λ n. take n (first ∷ (others ++ bottom ∷ []))) (last_place (first ∷ others) bottom) ∙ take_left (first ∷ others) (bottom ∷ []))
+
+  pub put_beside : (worker : ℕ) (mid next : ListView T) (taken : T) (new : DequeId)
+      → ((rank : ℕ) (deque : Deque T) → DequeAt before.deques victim rank deque → Some taken ≡ slice_get deque.items (length deque.items - 1))
+      → ((rank : ℕ) (deque : Deque T) → DequeAt before.deques victim rank deque → mid.deques ≡ slice_set before.deques rank (record deque { items = take (length deque.items - 1) deque.items }))
+      → ((rank : ℕ) (deque : Deque T) → DequeAt mid.deques victim rank deque → next.deques ≡ insert mid.deques (rank + 1) (record { id = new; owner = Some worker; items = taken ∷ [] }))
+      → next.most ≡ before.most
+      → Becomes holds next (deque_with victim owner (first ∷ others) ∷ deque_with new (Some worker) (bottom ∷ []) ∷ [])
+  put_beside worker mid next taken new item cut put most =
+      let middle = without_bottom mid cut in
+      record {
+        deques = put (length holds.left) kept (ap (λ ds. slice_get ds (length holds.left)) middle ∙ get_middle holds.left kept holds.right, refl)
+            ∙ ap (λ ds. insert ds (length holds.left + 1) (deque_with new (Some worker) (taken ∷ []))) middle
+            ∙ insert_behind holds.left kept (deque_with new (Some worker) (taken ∷ [])) holds.right
+            ∙ ap (λ t. holds.left ++ kept ∷ deque_with new (Some worker) (t ∷ []) ∷ holds.right) (bottom_is taken item);
+        most = most;
+      }
+
+-- a deque has an owner from now on
+pub owned : {T : Type 0} {before : ListView T} {victim : DequeId} (worker : ℕ) (next : ListView T) (thread : T)
+    → ((rank : ℕ) (deque : Deque T) → DequeAt before.deques victim rank deque → next.deques ≡ slice_set before.deques rank (record deque { owner = Some worker }))
+    → next.most ≡ before.most → (holds : Holds before victim None (thread ∷ [])) → Becomes holds next (deque_with victim (Some worker) (thread ∷ []) ∷ [])
+owned {T} {before} {victim} worker next thread take most holds = record {
+  deques = take (length holds.left) (held holds) (rank_of holds)
+      ∙ ap (λ ds. slice_set ds (length holds.left) (deque_with victim (Some worker) (thread ∷ []))) holds.deques_are
+      ∙ set_middle holds.left (held holds) (deque_with victim (Some worker) (thread ∷ [])) holds.right;
+  most = most;
+}
 
 -- with room for one more deque no refusal comes
 pub never_refused : {T : Type 0} (list : ListView T) (refused : InsertRefused) → list.spare ≡ 1 → length list.deques < list.most
@@ -98,13 +144,12 @@ begins_as worker parts_before period table after ahead are adds number marked un
 module _ {T : Type 0} (worker : ℕ) (victim : DequeId) (before : ListView T) (table : PeriodTable) (next : ListView T) (after : PeriodTable) (period : OpenPeriod)
     (adds : Adds (periods_of table) (open_shown worker period) (periods_of after)) (number : period.number ≡ table.begun + 1) (unused : period.used ≡ 0)
     (none : entries period.book ≡ []) (born : entries period.births ≡ []) where
-  pub stole_beside : (mid : ListView T) (taken : T) (new : DequeId) → period.ahead ≡ true
-      → ((rank : ℕ) (deque : Deque T) → DequeAt before.deques victim rank deque → Some taken ≡ slice_get deque.items (length deque.items - 1))
-      → ((rank : ℕ) (deque : Deque T) → DequeAt before.deques victim rank deque → mid.deques ≡ slice_set before.deques rank (record deque { items = take (length deque.items - 1) deque.items }))
-      → ((rank : ℕ) (deque : Deque T) → DequeAt mid.deques victim rank deque → next.deques ≡ insert mid.deques (rank + 1) (record { id = new; owner = Some worker; items = taken ∷ [] }))
+  pub stole_beside : (new : DequeId) → period.ahead ≡ true
+      → ((owner : Option ℕ) (first : T) (others : List T) (bottom : T) (holds : Holds before victim owner (first ∷ (others ++ bottom ∷ [])))
+      → Becomes holds next (deque_with victim owner (first ∷ others) ∷ deque_with new (Some worker) (bottom ∷ []) ∷ []))
       → (¬ IsLive (deque_ids before.deques) new)
       → StoleBeside worker victim before table next after new
-  stole_beside mid taken new marked item cut put free owner first others bottom holds shown waiting results workers below unowned reach =
+  stole_beside new marked become free owner first others bottom holds shown waiting results workers below unowned reach =
       subst (λ n. Steals workers table.begun (parts_of shown waiting results before table) worker n new.0 (parts_of shown waiting results next after)) many
       (subst (λ ds. Steals workers table.begun (parts_of shown waiting results before table) worker (length left) new.0
       (record { deques = ds; waiting = waiting; results = results; periods = periods_of after })) (sym shown_next)
@@ -123,38 +168,21 @@ module _ {T : Type 0} (worker : ℕ) (victim : DequeId) (before : ListView T) (t
       many : length left ≡ length holds.left
       many = length-map holds.left (deque_shown shown)
 
-      kept : Deque T
-      kept = record { id = victim; owner = owner; items = first ∷ others }
+      remaining : Deque T
+      remaining = deque_with victim owner (first ∷ others)
 
       thiefs : Deque T
-      thiefs = record { id = new; owner = Some worker; items = bottom ∷ [] }
+      thiefs = deque_with new (Some worker) (bottom ∷ [])
 
       shown_before : map (deque_shown shown) before.deques ≡ left ++ deque_shown shown (held holds) ∷ right
       shown_before = ap (map (deque_shown shown)) holds.deques_are ∙ map-append (deque_shown shown) holds.left (held holds ∷ holds.right)
 
-      taken_is : taken ≡ bottom
-      taken_is = Rattle.std.proofs.lemmas.Option.same_Some taken bottom (item (length holds.left) (held holds) (rank_of holds)
-          ∙ ap (slice_get (first ∷ (others ++ bottom ∷ []))) (last_place (first ∷ others) bottom) ∙ get_middle (first ∷ others) bottom [])
+      shown_next : map (deque_shown shown) next.deques ≡ left ++ deque_shown shown remaining ∷ deque_shown shown thiefs ∷ right
+      shown_next = ap (map (deque_shown shown)) (become owner first others bottom holds).deques ∙ map-append (deque_shown shown) holds.left (remaining ∷ thiefs ∷ holds.right)
 
-      middle : mid.deques ≡ holds.left ++ kept ∷ holds.right
-      middle = cut (length holds.left) (held holds) (rank_of holds)
-          ∙ ap (λ ds. slice_set ds (length holds.left) (record { id = victim; owner = owner; items = take (length (first ∷ (others ++ bottom ∷ [])) - 1) (first ∷ (others ++ bottom ∷ [])) })) holds.deques_are
-          ∙ set_middle holds.left (held holds) (record { id = victim; owner = owner; items = take (length (first ∷ (others ++ bottom ∷ [])) - 1) (first ∷ (others ++ bottom ∷ [])) }) holds.right
-          ∙ ap (λ is. holds.left ++ record { id = victim; owner = owner; items = is } ∷ holds.right)
-          (ap (λ n. take n (first ∷ (others ++ bottom ∷ []))) (last_place (first ∷ others) bottom) ∙ take_left (first ∷ others) (bottom ∷ []))
-
-      behind : next.deques ≡ holds.left ++ kept ∷ thiefs ∷ holds.right
-      behind = put (length holds.left) kept (ap (λ ds. slice_get ds (length holds.left)) middle ∙ get_middle holds.left kept holds.right, refl)
-          ∙ ap (λ ds. insert ds (length holds.left + 1) (record { id = new; owner = Some worker; items = taken ∷ [] })) middle
-          ∙ insert_behind holds.left kept (record { id = new; owner = Some worker; items = taken ∷ [] }) holds.right
-          ∙ ap (λ t. holds.left ++ kept ∷ record { id = new; owner = Some worker; items = t ∷ [] } ∷ holds.right) taken_is
-
-      shown_next : map (deque_shown shown) next.deques ≡ left ++ deque_shown shown kept ∷ deque_shown shown thiefs ∷ right
-      shown_next = ap (map (deque_shown shown)) behind ∙ map-append (deque_shown shown) holds.left (kept ∷ thiefs ∷ holds.right)
-
-  pub took_over : ((rank : ℕ) (deque : Deque T) → DequeAt before.deques victim rank deque → next.deques ≡ slice_set before.deques rank (record deque { owner = Some worker }))
+  pub took_over : ((thread : T) (holds : Holds before victim None (thread ∷ [])) → Becomes holds next (deque_with victim (Some worker) (thread ∷ []) ∷ []))
       → TookOver worker victim before table next after period.ahead
-  took_over take thread holds ahead shown waiting results workers below unowned reach =
+  took_over become thread holds ahead shown waiting results workers below unowned reach =
       subst (λ n. Steals workers table.begun (parts_of shown waiting results before table) worker n victim.0 (parts_of shown waiting results next after)) many
       (subst (λ ds. Steals workers table.begun (parts_of shown waiting results before table) worker (length left) victim.0
       (record { deques = ds; waiting = waiting; results = results; periods = periods_of after })) (sym shown_next)
@@ -171,12 +199,10 @@ module _ {T : Type 0} (worker : ℕ) (victim : DequeId) (before : ListView T) (t
       many = length-map holds.left (deque_shown shown)
 
       mine : Deque T
-      mine = record { id = victim; owner = Some worker; items = thread ∷ [] }
+      mine = deque_with victim (Some worker) (thread ∷ [])
 
       shown_before : map (deque_shown shown) before.deques ≡ left ++ deque_shown shown (held holds) ∷ right
       shown_before = ap (map (deque_shown shown)) holds.deques_are ∙ map-append (deque_shown shown) holds.left (held holds ∷ holds.right)
 
       shown_next : map (deque_shown shown) next.deques ≡ left ++ deque_shown shown mine ∷ right
-      shown_next = ap (map (deque_shown shown)) (take (length holds.left) (held holds) (rank_of holds)
-          ∙ ap (λ ds. slice_set ds (length holds.left) mine) holds.deques_are ∙ set_middle holds.left (held holds) mine holds.right)
-          ∙ map-append (deque_shown shown) holds.left (mine ∷ holds.right)
+      shown_next = ap (map (deque_shown shown)) (become thread holds).deques ∙ map-append (deque_shown shown) holds.left (mine ∷ holds.right)

@@ -1,8 +1,8 @@
 -- The parts that a list of deques and a table of periods are, beside those that wait and the results that are kept.
-use Rattle.std.specs.Prelude.{◌≡◌, ℕ, Option, Some, List, ◌∷◌, ◌++◌, map, slice_set}
+use Rattle.std.specs.Prelude.{◌≡◌, ℕ, Option, Some, List, ◌∷◌, ◌++◌, map}
 use Rattle.deque_list.specs.declared.deque_id.DequeId.{DequeId}
-use Rattle.deque_list.specs.Deques.{Deque, DequeAt}
-use Rattle.deque_list.specs.DequeLists.{ListView, SameElsewhere}
+use Rattle.deque_list.specs.Deques.{Deque}
+use Rattle.deque_list.specs.DequeLists.{ListView}
 use Rattle.period_table.specs.declared.table.PeriodTable.{PeriodTable}
 use Rattle.period_table.specs.Tables.{periods_of}
 use Rattle.moment_parts.specs.Parts as parts
@@ -20,21 +20,29 @@ parts_of shown waiting results list table = record {
   periods = periods_of table;
 }
 
+-- a deque with its owner, or none, and its items
+abbrev pub deque_with : {T : Type 0} → DequeId → Option ℕ → List T → Deque T
+deque_with id owner items = record { id = id; owner = owner; items = items }
+
 -- a deque with an owner, or none, and the items that it has, in the middle of a list
 pub record Holds {T : Type 0} (list : ListView T) (id : DequeId) (owner : Option ℕ) (items : List T) : Type 0 where
   pub left : List (Deque T)
   pub right : List (Deque T)
-  pub deques_are : list.deques ≡ left ++ record { id = id; owner = owner; items = items } ∷ right
+  pub deques_are : list.deques ≡ left ++ deque_with id owner items ∷ right
 
 -- the deque of a worker, with the items that it has, in the middle of a list
-pub record Stands {T : Type 0} (list : ListView T) (worker : ℕ) (id : DequeId) (items : List T) : Type 0 where
-  pub left : List (Deque T)
-  pub right : List (Deque T)
-  pub deques_are : list.deques ≡ left ++ record { id = id; owner = Some worker; items = items } ∷ right
+abbrev pub Stands : {T : Type 0} → ListView T → (worker : ℕ) → DequeId → List T → Type 0
+Stands list worker id items = Holds list id (Some worker) items
+
+-- the deque in the middle has become these, the others are as they were, and as many deques are allowed
+pub record Becomes {T : Type 0} {before : ListView T} {id : DequeId} {owner : Option ℕ} {items : List T}
+    (holds : Holds before id owner items) (after : ListView T) (middle : List (Deque T)) : Type 0 where
+  pub deques : after.deques ≡ holds.left ++ (middle ++ holds.right)
+  pub most : after.most ≡ before.most
 
 -- the parts in which the worker's deque has another thread on top of its items
-abbrev pub parts_under : {T : Type 0} → (T → parts.Thread) → List parts.Thread → List parts.Result → {list : ListView T} {worker : ℕ} {id : DequeId} {items : List T}
-    → Stands list worker id items → PeriodTable → parts.Thread → parts.Parts
+abbrev pub parts_under : {T : Type 0} → (T → parts.Thread) → List parts.Thread → List parts.Result
+    → {list : ListView T} {worker : ℕ} {id : DequeId} {items : List T} → Stands list worker id items → PeriodTable → parts.Thread → parts.Parts
 parts_under shown waiting results {list} {worker} {id} {items} stands table top = record {
   deques = map (deque_shown shown) stands.left ++ record { id = id.0; owner = Some worker; threads = top ∷ map shown items }
       ∷ map (deque_shown shown) stands.right;
@@ -42,13 +50,3 @@ parts_under shown waiting results {list} {worker} {id} {items} stands table top 
   results = results;
   periods = periods_of table;
 }
-
--- the deque has this item on top of those that it had, and the memory of every other lane is as it was
-abbrev pub PutsOnTop : {T : Type 0} → ListView T → ListView T → DequeId → T → Type 0
-PutsOnTop {T} before after id top =
-    ((rank : ℕ) (deque : Deque T) → DequeAt before.deques id rank deque
-    → after.deques ≡ slice_set before.deques rank (record deque { items = top ∷ deque.items })) × SameElsewhere before after id
-
--- the deque has both, the child on top
-abbrev pub PutsBothOnTop : {T : Type 0} → ListView T → ListView T → DequeId → T → T → Type 0
-PutsBothOnTop {T} before after id top child = (between : ListView T) × PutsOnTop before between id top × PutsOnTop between after id child

@@ -1,10 +1,11 @@
 //! Behind an action the top thread goes back on top of its deque.
 
-ghost use Rattle.std.specs.Prelude.{◌≡◌, ◌≤◌, ◌+◌, ℕ, List as AnyList, [], ◌∷◌, Some};
+ghost use Rattle.std.specs.Prelude.{◌≡◌, ◌≤◌, ◌+◌, ℕ, List as AnyList, [], ◌∷◌, None, Some};
 ghost use Rattle.deque_list.specs.DequeLists.{lane_room};
 ghost use Rattle.period_books.specs.Periods.{Period};
 ghost use Rattle.period_table.specs.Tables.{HasRoom, period_at};
-ghost use Rattle.deque_events.specs.Shown.{Stands, PutsOnTop, PutsBothOnTop};
+ghost use Rattle.deque_events.specs.Shown.{Stands, Becomes, deque_with};
+ghost use Rattle.deque_events.specs.Seats.{KeepsSeats, LeavesSeat};
 ghost use Rattle.deque_events.specs.Events.{BecomesBy, DidAlone, DidDummy, DidJoin, DidFork};
 
 use dag_order::{ActionId, Birth};
@@ -29,7 +30,9 @@ pub fn put_back<T>(
         (λ shown k l period was place. DidAlone k l period was (shown top) name words place) }
     ensures joins { (items : AnyList T) → BecomesBy worker deque items list.old table.old list.new table.new
         (λ shown k l period was place. DidJoin k l was (shown top) name words place) }
-    ensures back { PutsOnTop list.old list.new deque top }
+    ensures deques { (items : AnyList T) (stands : Stands list.old worker deque items)
+        → Becomes stands list.new (deque_with deque (Some worker) (top ∷ items) ∷ []) }
+    ensures seats { KeepsSeats table.old table.new }
 {
     list.push_top(deque, top);
     table.note(worker, name, words, None);
@@ -50,6 +53,9 @@ pub fn put_back_and_give_up<T>(
     requires fits { (p : Period) → period_at table.old worker ≡ Some p → p.used ≤ 1048576 }
     ensures dummy { (items : AnyList T) → BecomesBy worker deque items list.old table.old list.new table.new
         (λ shown k l period was place. DidDummy k l was (shown top) name 0 place) }
+    ensures deques { (items : AnyList T) (stands : Stands list.old worker deque items)
+        → Becomes stands list.new (deque_with deque None (top ∷ items) ∷ []) }
+    ensures seats { LeavesSeat worker table.old table.new }
 {
     list.push_top(deque, top);
     list.give_up(deque);
@@ -74,7 +80,9 @@ pub fn put_both_back<T>(
     requires fits { (p : Period) → period_at table.old worker ≡ Some p → p.used + 16 ≤ 1048576 }
     ensures forks { (items : AnyList T) → BecomesBy worker deque items list.old table.old list.new table.new
         (λ shown k l period was place. DidFork k l period was (shown top) (shown child) name 16 place ordinal) }
-    ensures back { PutsBothOnTop list.old list.new deque top child }
+    ensures deques { (items : AnyList T) (stands : Stands list.old worker deque items)
+        → Becomes stands list.new (deque_with deque (Some worker) (child ∷ top ∷ items) ∷ []) }
+    ensures seats { KeepsSeats table.old table.new }
 {
     list.push_top(deque, top);
     list.push_top(deque, child);

@@ -1,11 +1,12 @@
 //! How a worker leaves its deque, or a thread its place.
 
-ghost use Rattle.std.specs.Prelude.{◌≡◌, ◌≤◌, ◌+◌, ℕ, List as AnyList, [], ◌∷◌, Some};
+ghost use Rattle.std.specs.Prelude.{◌≡◌, ◌≤◌, ◌+◌, ℕ, List as AnyList, [], ◌∷◌, None, Some};
 ghost use Rattle.deque_list.specs.DequeLists.{lane_room};
 ghost use Rattle.period_books.specs.Periods.{Period};
 ghost use Rattle.space_ledger.specs.BooksList.{books_spare};
 ghost use Rattle.period_table.specs.Tables.{HasRoom, period_at};
-ghost use Rattle.deque_events.specs.Shown.{Stands};
+ghost use Rattle.deque_events.specs.Shown.{Stands, Becomes, deque_with};
+ghost use Rattle.deque_events.specs.Seats.{KeepsSeats, LeavesSeat};
 ghost use Rattle.deque_events.specs.Events.{EndsAbove, EndsAndWakes, EndsAndLeaves, GaveUp, Suspended};
 
 use dag_order::ActionId;
@@ -24,7 +25,10 @@ pub fn give_up<T>(
     requires room { 1 ≤ lane_room list.old deque }
     requires period { (p : Period) × (period_at table.old worker ≡ Some p) }
     requires books { 1 ≤ books_spare table.old.books }
-    ensures { (items : AnyList T) → GaveUp worker deque items list.old table.old list.new table.new top }
+    ensures gives_up { (items : AnyList T) → GaveUp worker deque items list.old table.old list.new table.new top }
+    ensures deques { (items : AnyList T) (stands : Stands list.old worker deque items)
+        → Becomes stands list.new (deque_with deque None (top ∷ items) ∷ []) }
+    ensures seats { LeavesSeat worker table.old table.new }
 {
     list.push_top(deque, top);
     list.give_up(deque);
@@ -36,7 +40,9 @@ pub fn suspend<T>(list: &mut List<T>, table: &mut PeriodTable, worker: usize, de
     requires stands { Stands list.old worker deque [] }
     requires period { (p : Period) × (period_at table.old worker ≡ Some p) }
     requires books { 1 ≤ books_spare table.old.books }
-    ensures { Suspended worker deque list.old table.old list.new table.new }
+    ensures suspends { Suspended worker deque list.old table.old list.new table.new }
+    ensures deques { (stands : Stands list.old worker deque []) → Becomes stands list.new [] }
+    ensures seats { LeavesSeat worker table.old table.new }
 {
     list.remove(deque);
     table.close(worker);
@@ -52,7 +58,8 @@ pub fn end_above<T>(
 )
     requires table { HasRoom table.old worker }
     requires fits { (p : Period) → period_at table.old worker ≡ Some p → p.used ≤ 1048576 }
-    ensures { EndsAbove worker deque list.now table.old table.new name }
+    ensures ends { EndsAbove worker deque list.now table.old table.new name }
+    ensures seats { KeepsSeats table.old table.new }
 {
     table.note(worker, name, 0, None);
 }
@@ -70,7 +77,10 @@ pub fn end_and_wake<T>(
     requires room { 1 ≤ lane_room list.old deque }
     requires table { HasRoom table.old worker }
     requires fits { (p : Period) → period_at table.old worker ≡ Some p → p.used ≤ 1048576 }
-    ensures { EndsAndWakes worker deque list.old table.old list.new table.new name parent }
+    ensures ends { EndsAndWakes worker deque list.old table.old list.new table.new name parent }
+    ensures deques { (stands : Stands list.old worker deque [])
+        → Becomes stands list.new (deque_with deque (Some worker) (parent ∷ []) ∷ []) }
+    ensures seats { KeepsSeats table.old table.new }
 {
     list.push_top(deque, parent);
     table.note(worker, name, 0, None);
@@ -87,7 +97,9 @@ pub fn end_and_leave<T>(
     requires stands { Stands list.old worker deque [] }
     requires table { HasRoom table.old worker }
     requires fits { (p : Period) → period_at table.old worker ≡ Some p → p.used ≤ 1048576 }
-    ensures { EndsAndLeaves worker deque list.old table.old list.new table.new name }
+    ensures ends { EndsAndLeaves worker deque list.old table.old list.new table.new name }
+    ensures deques { (stands : Stands list.old worker deque []) → Becomes stands list.new [] }
+    ensures seats { LeavesSeat worker table.old table.new }
 {
     list.remove(deque);
     table.note(worker, name, 0, None);

@@ -5,7 +5,8 @@
 //! knows how a thread runs.
 //!
 //! It stands on the list (`deque_list`), the periods (`period_table`) and the parts that they show (`moment_parts`). Its one theorem: each
-//! call does on the parts what the event of its action does.
+//! call does on the parts what the event of its action does. Beside it each call tells which deques stand in the list behind it, and which
+//! deque each worker has.
 #![tactic(auto)]
 
 mod acted;

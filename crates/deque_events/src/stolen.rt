@@ -3,7 +3,10 @@
 ghost use Rattle.std.specs.Prelude.{◌≡◌, ◌<◌, ◌+◌, ◌∷◌, ◌++◌, [], ℕ, List as AnyList, Option, None, Some, true, length};
 ghost use Rattle.bounded_list.specs.BoundedList.{entries};
 ghost use Rattle.period_table.specs.Tables.{seat_at};
-ghost use Rattle.deque_events.specs.Shown.{Holds};
+ghost use Rattle.deque_list.specs.Ids.{IsSmallestFree};
+ghost use Rattle.deque_list.specs.Deques.{deque_ids};
+ghost use Rattle.deque_events.specs.Shown.{Holds, Becomes, deque_with};
+ghost use Rattle.deque_events.specs.Seats.{TakesSeat};
 ghost use Rattle.deque_events.specs.Events.{StoleBeside, TookOver};
 
 use deque_list::{DequeId, List};
@@ -31,7 +34,12 @@ pub fn steal_beside<T: Drop>(
     requires unused { period.used ≡ 0 }
     requires ran_nothing { entries period.book ≡ [] }
     requires bore_none { entries period.births ≡ [] }
-    ensures { StoleBeside worker victim list.old table.old list.new table.new result }
+    ensures steals { StoleBeside worker victim list.old table.old list.new table.new result }
+    ensures deques { (owner : Option ℕ) (first : T) (others : AnyList T) (bottom : T)
+        (holds : Holds list.old victim owner (first ∷ (others ++ bottom ∷ [])))
+        → Becomes holds list.new (deque_with victim owner (first ∷ others) ∷ deque_with result (Some worker) (bottom ∷ []) ∷ []) }
+    ensures seats { TakesSeat worker result table.old table.new }
+    ensures id { IsSmallestFree (deque_ids list.old.deques) result }
 {
     let Some(bottom) = list.take_bottom(victim) else {
         unreachable!();
@@ -60,7 +68,10 @@ pub fn take_over<T>(
     requires unused { period.used ≡ 0 }
     requires ran_nothing { entries period.book ≡ [] }
     requires bore_none { entries period.births ≡ [] }
-    ensures { TookOver worker victim list.old table.old list.new table.new period.ahead }
+    ensures steals { TookOver worker victim list.old table.old list.new table.new period.ahead }
+    ensures deques { (thread : T) (holds : Holds list.old victim None (thread ∷ []))
+        → Becomes holds list.new (deque_with victim (Some worker) (thread ∷ []) ∷ []) }
+    ensures seats { TakesSeat worker victim table.old table.new }
 {
     list.take_over(victim, worker);
     table.begin(worker as usize, victim, period);

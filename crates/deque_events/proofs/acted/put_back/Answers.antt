@@ -1,4 +1,4 @@
-use Rattle.deque_events.proofs.Putting.{live, back_alone, back_joined}
+use Rattle.deque_events.proofs.Putting.{live, one_back, back_alone, back_joined}
 use Rattle.deque_events.proofs.acted.put_back.Goals as goal
 
 pub push_top-requires-clause-live : goal.push_top-requires-clause-live
@@ -14,5 +14,8 @@ returns-clause-joins g c items shown waiting results k l period was place stands
     back_joined items c.args.list.now c.args.table.now c.push_top.new.self c.note.new.self c.args.top c.args.name c.args.words c.push_top.ensures.deque c.note.ensures.periods
     shown waiting results k l period was place stands is did
 
-pub returns-clause-back : goal.returns-clause-back
-returns-clause-back g c = (c.push_top.ensures.deque, c.push_top.ensures.rest)
+pub returns-clause-deques : goal.returns-clause-deques
+returns-clause-deques g c items stands = one_back stands c.push_top.new.self c.args.top c.push_top.ensures.deque c.push_top.ensures.rest.most
+
+pub returns-clause-seats : goal.returns-clause-seats
+returns-clause-seats g c = record { deques = c.note.ensures.deques; begun = c.note.ensures.begun; workers = c.note.ensures.workers }

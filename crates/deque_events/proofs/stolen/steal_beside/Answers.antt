@@ -1,10 +1,11 @@
 use Rattle.std.proofs.Common.{[], ◌∷◌, ◌++◌, sym, ap, subst, ◌∙◌, arith, length}
 use Rattle.std.specs.Prelude.{slice_get}
 use Rattle.std.proofs.lemmas.Option.{none-some}
-use Rattle.deque_list.specs.Ids.{IsLive}
+use Rattle.deque_list.specs.Ids.{IsLive, IsSmallestFree}
 use Rattle.period_books.proofs.Sorting.{get_middle}
 use Rattle.period_table.proofs.Seats.{as_long}
-use Rattle.deque_events.proofs.Stealing.{held, rank_of, is_live, last_place, never_refused, stole_beside}
+use Rattle.deque_events.proofs.Stealing.{held, rank_of, is_live, last_place, never_refused, put_beside, stole_beside}
+use Rattle.deque_events.proofs.Seating.{taken_by_begin}
 use Rattle.deque_events.proofs.stolen.steal_beside.Goals as goal
 
 pub take_bottom-requires : goal.take_bottom-requires
@@ -28,9 +29,22 @@ unreachable-requires-in_default-insert_right g c =
     never_refused c.take_bottom.new.self c.in_default-insert_right.field-0.1 (c.in-Some.ensures.rest.spare ∙ c.requires.room) (omega (arith, many, most, few))
     c.in_default-insert_right.ensures.full c.in_default-insert_right.ensures.prepared
 
-pub returns : goal.returns
-returns g c =
+pub returns-clause-deques : goal.returns-clause-deques
+returns-clause-deques g c owner first others bottom holds =
+    put_beside owner first others bottom holds c.args.worker c.take_bottom.new.self c.insert_right.new.self c.in-Some.bottom c.in-Ok.id
+    c.in-Some.ensures.item c.in-Some.ensures.deque c.in-Ok.ensures.ok (c.in-Ok.ensures.most ∙ c.in-Some.ensures.rest.most)
+
+pub returns-clause-steals : goal.returns-clause-steals
+returns-clause-steals g c =
     stole_beside c.args.worker c.args.victim c.args.list.now c.args.table.now c.insert_right.new.self c.begin.new.self c.args.period c.begin.ensures.periods c.requires.number c.requires.unused
-    c.requires.ran_nothing c.requires.bore_none c.take_bottom.new.self c.in-Some.bottom c.in-Ok.id c.requires.marked
-    c.in-Some.ensures.item c.in-Some.ensures.deque c.in-Ok.ensures.ok
+    c.requires.ran_nothing c.requires.bore_none c.in-Ok.id c.requires.marked
+    (λ owner first others bottom holds. put_beside owner first others bottom holds c.args.worker c.take_bottom.new.self c.insert_right.new.self c.in-Some.bottom c.in-Ok.id
+    c.in-Some.ensures.item c.in-Some.ensures.deque c.in-Ok.ensures.ok (c.in-Ok.ensures.most ∙ c.in-Some.ensures.rest.most))
     (subst (λ ids. ¬ IsLive ids c.in-Ok.id) c.in-Some.ensures.ids c.in-Ok.ensures.id.0)
+
+pub returns-clause-seats : goal.returns-clause-seats
+returns-clause-seats g c =
+    taken_by_begin c.args.worker c.args.table.now c.begin.new.self c.begin.ensures.others c.begin.ensures.workers c.in-Ok.id c.args.period c.begin.ensures.seat c.begin.ensures.begun
+
+pub returns-clause-id : goal.returns-clause-id
+returns-clause-id g c = subst (λ ids. IsSmallestFree ids c.in-Ok.id) c.in-Some.ensures.ids c.in-Ok.ensures.id
