@@ -1,5 +1,5 @@
 -- What a call does, for each program of which the thread does the next action.
-use Rattle.std.specs.Prelude.{◌≡◌, ◌≢◌, ℕ, ◌+◌, ◌≤◌, List, [], ◌∷◌, ◌++◌, Some}
+use Rattle.std.specs.Prelude.{◌≡◌, ◌≢◌, ℕ, ◌+◌, ◌≤◌, List, [], ◌∷◌, ◌++◌, None, Some}
 use Rattle.deque_list.specs.declared.deque_id.DequeId.{DequeId}
 use Rattle.deque_list.specs.DequeLists.{ListView}
 use Rattle.depth_first_list.specs.Actions.{allocates, record_words}
@@ -21,7 +21,7 @@ use Rattle.thread_frames.specs.declared.thread.Thread.{Thread}
 use Rattle.node_table.specs.Table.{Table}
 use Rattle.thread_frames.specs.Points.{IsAtPoint}
 use Rattle.thread_parts.specs.Shown.{thread_shown, result_shown}
-use Rattle.deque_events.specs.Shown.{parts_of, Stands, parts_under, PutsOnTop, PutsBothOnTop}
+use Rattle.deque_events.specs.Shown.{deque_with, parts_of, Stands, Becomes, parts_under}
 
 -- The top thread of the worker's deque, which was taken out, does its next action. With the thread on top as it was, the parts become those
 -- of the list and the table behind the call by what the machine does, where the period and the words of the action are such.
@@ -78,10 +78,19 @@ abbrev pub StaysAtPoint : Thread → Thread → Type 0
 StaysAtPoint top behind = (t : Table) (k : ℕ) → IsAtPoint t k top → IsAtPoint t k behind
 
 -- the thread goes back on top, at its next point, and nobody else has moved
-abbrev pub GoesBack : ListView Thread → ListView Thread → DequeId → Thread → Type 0
-GoesBack before after id top = (behind : Thread) × PutsOnTop before after id behind × StaysAtPoint top behind
+abbrev pub GoesBack : (worker : ℕ) → DequeId → Thread → ListView Thread → ListView Thread → Type 0
+GoesBack worker id top before after =
+    (behind : Thread) × ((items : List Thread) (stands : Stands before worker id items)
+    → Becomes stands after (deque_with id (Some worker) (behind ∷ items) ∷ [])) × StaysAtPoint top behind
 
--- the same with a child above it, which is at its point too
-abbrev pub GoesBackWithChild : ListView Thread → ListView Thread → DequeId → Thread → Type 0
-GoesBackWithChild before after id top =
-    (behind : Thread) × ((child : Thread) × PutsBothOnTop before after id behind child × StaysAtPoint top behind × StaysAtPoint top child)
+-- the same, and its deque stays without an owner
+abbrev pub GoesBackUnowned : (worker : ℕ) → DequeId → Thread → ListView Thread → ListView Thread → Type 0
+GoesBackUnowned worker id top before after =
+    (behind : Thread) × ((items : List Thread) (stands : Stands before worker id items)
+    → Becomes stands after (deque_with id None (behind ∷ items) ∷ [])) × StaysAtPoint top behind
+
+-- the same with its owner and a child above it, which is at its point too
+abbrev pub GoesBackWithChild : (worker : ℕ) → DequeId → Thread → ListView Thread → ListView Thread → Type 0
+GoesBackWithChild worker id top before after =
+    (behind : Thread) × ((child : Thread) × ((items : List Thread) (stands : Stands before worker id items)
+    → Becomes stands after (deque_with id (Some worker) (child ∷ behind ∷ items) ∷ [])) × StaysAtPoint top behind × StaysAtPoint top child)

@@ -10,7 +10,8 @@ ghost use Rattle.thread_frames.specs.declared.next.Next.TheVariants as nexts;
 ghost use Rattle.dag_order.specs.declared.fault.FaultAt.{FaultAt};
 ghost use Rattle.dag_order.specs.declared.thread_id.ThreadId.{ThreadId};
 ghost use Rattle.deque_events.specs.Shown.{Stands};
-ghost use Rattle.thread_events.specs.Acts.{ActsBy, AllocIsCharged, Always, GoesBack};
+ghost use Rattle.deque_events.specs.Seats.{KeepsSeats, LeavesSeat};
+ghost use Rattle.thread_events.specs.Acts.{ActsBy, AllocIsCharged, Always, GoesBack, GoesBackUnowned};
 
 use block_arena::Pool;
 use dag_order::ActionId;
@@ -58,7 +59,8 @@ pub fn alloc(
     ensures same_pool { OnErr result (pool.new ≡ pool.old) }
     ensures acts { OnOk result (ActsBy (nexts.Alloc (words_asked (next_of top))) worker deque top list.old table.old list.new table.new
         (AllocIsCharged charge)) }
-    ensures back { OnOk result (GoesBack list.old list.new deque top) }
+    ensures back { OnOk result (GoesBack worker deque top list.old list.new) }
+    ensures seats { OnOk result (KeepsSeats table.old table.new) }
     ensures pool { OnOk result (pool.new ≡ with_taken pool.old (words_asked (next_of top))) }
 {
     let name = name_of(&top);
@@ -90,7 +92,8 @@ pub fn release(
     requires table { HasRoom table.old worker }
     requires fits { (p : Period) → period_at table.old worker ≡ Some p → p.used ≤ 1048576 }
     ensures acts { ActsBy (nexts.Release (words_asked (next_of top))) worker deque top list.old table.old list.new table.new Always }
-    ensures back { GoesBack list.old list.new deque top }
+    ensures back { GoesBack worker deque top list.old list.new }
+    ensures seats { KeepsSeats table.old table.new }
     ensures pool { pool.new ≡ with_given pool.old (words_asked (next_of top)) }
 {
     let name = name_of(&top);
@@ -115,6 +118,8 @@ pub fn dummy(
     requires table { HasRoom table.old worker }
     requires fits { (p : Period) → period_at table.old worker ≡ Some p → p.used ≤ 1048576 }
     ensures acts { ActsBy nexts.Dummy worker deque top list.old table.old list.new table.new Always }
+    ensures back { GoesBackUnowned worker deque top list.old list.new }
+    ensures seats { LeavesSeat worker table.old table.new }
 {
     let name = name_of(&top);
     let mut top = top;
@@ -140,7 +145,8 @@ pub fn fault(
     requires table { HasRoom table.old worker }
     requires fits { (p : Period) → period_at table.old worker ≡ Some p → p.used ≤ 1048576 }
     ensures acts { (at : FaultAt) → ActsBy (nexts.Fault at) worker deque top list.old table.old list.new table.new Always }
-    ensures back { GoesBack list.old list.new deque top }
+    ensures back { GoesBack worker deque top list.old list.new }
+    ensures seats { KeepsSeats table.old table.new }
     ensures pool { pool.new ≡ with_given pool.old (held_by top) }
 {
     let name = name_of(&top);
@@ -169,7 +175,8 @@ pub fn join(
     requires fits { (p : Period) → period_at table.old worker ≡ Some p → p.used ≤ 1048576 }
     ensures acts { (child : ThreadId) → ActsBy (nexts.Join child) worker deque top list.old table.old list.new table.new Always }
     ensures words { result ≡ join_words_of top }
-    ensures back { GoesBack list.old list.new deque top }
+    ensures back { GoesBack worker deque top list.old list.new }
+    ensures seats { KeepsSeats table.old table.new }
     ensures pool { pool.new ≡ with_given pool.old (join_words_of top) }
 {
     let name = name_of(&top);

@@ -1,4 +1,4 @@
-ghost use Rattle.std.specs.Prelude.{◌≡◌, ◌≤◌, ◌<◌, ℕ, [], Some};
+ghost use Rattle.std.specs.Prelude.{◌≡◌, ◌≤◌, ◌<◌, ◌∷◌, ℕ, [], Some};
 ghost use Rattle.block_arena.specs.Region.{with_given};
 ghost use Rattle.deque_list.specs.DequeLists.{lane_room};
 ghost use Rattle.node_table.specs.Table.{Table};
@@ -7,8 +7,9 @@ ghost use Rattle.period_table.specs.Tables.{HasRoom, period_at};
 ghost use Rattle.thread_points.specs.Points.{words_at_end};
 ghost use Rattle.thread_frames.specs.Actions.{IsEnd};
 ghost use Rattle.thread_frames.specs.Points.{IsAtPoint, IsPlaced, IsResult};
-ghost use Rattle.thread_frames.specs.Views.{next_of, done_of, label_of};
-ghost use Rattle.deque_events.specs.Shown.{Stands};
+ghost use Rattle.thread_frames.specs.Views.{next_of, done_of, label_of, ended_label};
+ghost use Rattle.deque_events.specs.Shown.{Stands, Becomes, deque_with};
+ghost use Rattle.deque_events.specs.Seats.{KeepsSeats, LeavesSeat};
 ghost use Rattle.thread_events.specs.Acts.{EndsAboveBy, EndsAndWakesBy, EndsAndLeavesBy};
 
 use crate::acts::name_of;
@@ -33,6 +34,9 @@ pub fn end_above(
     requires table { HasRoom table.old worker }
     requires fits { (p : Period) → period_at table.old worker ≡ Some p → p.used ≤ 1048576 }
     ensures acts { EndsAboveBy worker deque top list.now table.old table.new result }
+    ensures seats { KeepsSeats table.old table.new }
+    ensures id { result.id ≡ top.id }
+    ensures label { ended_label result ≡ label_of top }
     ensures pool { pool.new ≡ with_given pool.old (words_at_end (label_of top)) }
     ensures result { (t : Table) (k : ℕ) → IsAtPoint t k top → IsResult t k result }
 {
@@ -61,6 +65,11 @@ pub fn end_and_wake(
     requires table { HasRoom table.old worker }
     requires fits { (p : Period) → period_at table.old worker ≡ Some p → p.used ≤ 1048576 }
     ensures acts { EndsAndWakesBy worker deque top parent list.old table.old list.new table.new result }
+    ensures deques { (stands : Stands list.old worker deque [])
+        → Becomes stands list.new (deque_with deque (Some worker) (parent ∷ []) ∷ []) }
+    ensures seats { KeepsSeats table.old table.new }
+    ensures id { result.id ≡ top.id }
+    ensures label { ended_label result ≡ label_of top }
     ensures pool { pool.new ≡ with_given pool.old (words_at_end (label_of top)) }
     ensures result { (t : Table) (k : ℕ) → IsAtPoint t k top → IsResult t k result }
 {
@@ -87,6 +96,10 @@ pub fn end_and_leave(
     requires table { HasRoom table.old worker }
     requires fits { (p : Period) → period_at table.old worker ≡ Some p → p.used ≤ 1048576 }
     ensures acts { EndsAndLeavesBy worker deque top list.old table.old list.new table.new result }
+    ensures deques { (stands : Stands list.old worker deque []) → Becomes stands list.new [] }
+    ensures seats { LeavesSeat worker table.old table.new }
+    ensures id { result.id ≡ top.id }
+    ensures label { ended_label result ≡ label_of top }
     ensures pool { pool.new ≡ with_given pool.old (words_at_end (label_of top)) }
     ensures result { (t : Table) (k : ℕ) → IsAtPoint t k top → IsResult t k result }
 {

@@ -9,6 +9,7 @@ ghost use Rattle.thread_frames.specs.Points.{IsPlaced};
 ghost use Rattle.thread_frames.specs.Views.{next_of, done_of};
 ghost use Rattle.thread_frames.specs.declared.next.Next.TheVariants as nexts;
 ghost use Rattle.deque_events.specs.Shown.{Stands};
+ghost use Rattle.deque_events.specs.Seats.{KeepsSeats};
 ghost use Rattle.thread_events.specs.Acts.{ActsBy, ForkFits, GoesBackWithChild};
 
 use crate::acts::name_of;
@@ -61,7 +62,8 @@ pub fn fork(
     ensures same_table { OnErr result (table.new ≡ table.old) }
     ensures same_pool { OnErr result (pool.new ≡ pool.old) }
     ensures acts { OnOk result (ActsBy nexts.Fork worker deque top list.old table.old list.new table.new ForkFits) }
-    ensures back { OnOk result (GoesBackWithChild list.old list.new deque top) }
+    ensures back { OnOk result (GoesBackWithChild worker deque top list.old list.new) }
+    ensures seats { OnOk result (KeepsSeats table.old table.new) }
     ensures pool { OnOk result (pool.new ≡ with_taken pool.old record_words) }
 {
     let name = name_of(&top);

@@ -5,7 +5,8 @@
 //! caller's.
 //!
 //! It stands on threads (`thread_frames`, `thread_parts`) and on what an event does to the list and the periods (`deque_events`). Its one
-//! theorem: each call does on the parts what the machine does with this action, for each program that the thread is of.
+//! theorem: each call does on the parts what the machine does with this action, for each program that the thread is of. Beside it each call
+//! tells which deques stand in the list behind it, and which deque each worker has.
 #![tactic(auto)]
 
 mod acts;

@@ -9,4 +9,4 @@ returns-in-Ok-clause-acts c setting k is items waiting results stands period per
     _ c.args.charge is c.in-Ok.ensures.words given.0 given.1)
 
 pub returns-in-Ok-clause-back : goal.returns-in-Ok-clause-back
-returns-in-Ok-clause-back c = (c.do_alloc.new.self, c.put_back.ensures.back, c.do_alloc.ensures.point)
+returns-in-Ok-clause-back c = (c.do_alloc.new.self, c.put_back.ensures.deques, c.do_alloc.ensures.point)

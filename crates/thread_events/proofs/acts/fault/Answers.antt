@@ -9,4 +9,4 @@ returns-clause-acts c fault setting k is items waiting results stands period per
     fault _ is c.do_fault.ensures.words is.words)
 
 pub returns-clause-back : goal.returns-clause-back
-returns-clause-back c = (c.do_fault.new.self, c.put_back.ensures.back, c.do_fault.ensures.point)
+returns-clause-back c = (c.do_fault.new.self, c.put_back.ensures.deques, c.do_fault.ensures.point)

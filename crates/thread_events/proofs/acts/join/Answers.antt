@@ -9,4 +9,4 @@ returns-clause-acts c child setting k is items waiting results stands period per
     c.requires.delivered c.do_join-words.ensures.words child is)
 
 pub returns-clause-back : goal.returns-clause-back
-returns-clause-back c = (c.do_join-words.new.self, c.put_back.ensures.back, c.do_join-words.ensures.point)
+returns-clause-back c = (c.do_join-words.new.self, c.put_back.ensures.deques, c.do_join-words.ensures.point)

@@ -9,4 +9,4 @@ returns-clause-acts c setting k is items waiting results stands period period_is
     _ is c.do_release.ensures.words)
 
 pub returns-clause-back : goal.returns-clause-back
-returns-clause-back c = (c.do_release.new.self, c.put_back.ensures.back, c.do_release.ensures.point)
+returns-clause-back c = (c.do_release.new.self, c.put_back.ensures.deques, c.do_release.ensures.point)

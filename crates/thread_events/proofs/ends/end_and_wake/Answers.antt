@@ -5,5 +5,5 @@ use Rattle.thread_events.proofs.ends.end_and_wake.Goals as goal
 
 pub returns-clause-acts : goal.returns-clause-acts
 returns-clause-acts c setting k is front back results newest older stands period period_is children newest_is =
-    c.end_and_wake.ensures thread_shown _ front back results k _ period (thread_shown c.args.top) is.place (result_shown c.end-ended.result) newest older stands period_is
+    c.end_and_wake.ensures.ends thread_shown _ front back results k _ period (thread_shown c.args.top) is.place (result_shown c.end-ended.result) newest older stands period_is
     (end_did setting c.args.top c.end-ended.result c.name_of-name.result c.name_of-name.ensures.by c.name_of-name.ensures.index c.end-ended.ensures.id c.end-ended.ensures.func c.end-ended.ensures.label c.end-ended.ensures.words is) refl children newest_is

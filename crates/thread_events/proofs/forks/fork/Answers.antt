@@ -11,4 +11,4 @@ returns-in-Ok-clause-acts c setting k is items waiting results stands period per
 
 pub returns-in-Ok-clause-back : goal.returns-in-Ok-clause-back
 returns-in-Ok-clause-back c =
-    (c.do_fork.new.self, (c.in-Ok.child, c.put_both_back.ensures.back, c.do_fork.ensures.point, c.in-Ok.ensures.child))
+    (c.do_fork.new.self, (c.in-Ok.child, c.put_both_back.ensures.deques, c.do_fork.ensures.point, c.in-Ok.ensures.child))
