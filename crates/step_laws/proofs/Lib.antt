@@ -1,0 +1,5 @@
+pub mod Going
+pub mod Told
+pub mod Ending
+pub mod Reordered
+pub mod Ready

@@ -1,0 +1,5 @@
+pub mod Steps
+pub mod Wanted
+pub mod Results
+pub mod Orders
+pub mod Readiness

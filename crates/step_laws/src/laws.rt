@@ -1,0 +1,89 @@
+ghost use Rattle.std.specs.Prelude.{ℕ, List};
+ghost use Rattle.depth_first_list.specs.Actions.{Action};
+ghost use Rattle.deque_machine.specs.Machine.{Setting};
+ghost use Rattle.deque_machine.specs.Runs.{InEachSetting};
+ghost use Rattle.step_laws.specs.Steps.{RunsGoOn, MovesGoOn, ActionsAreAdded, OthersAddNone};
+ghost use Rattle.step_laws.specs.Wanted.{ComingIsWanted, WaitIsWanted, GiveUpIsForced};
+ghost use Rattle.step_laws.specs.Results.{RootEndsOnce, RootLeavesItsResult, OthersEndNothing};
+ghost use Rattle.step_laws.specs.Orders.{OrderIsOfNoAccount};
+ghost use Rattle.step_laws.specs.Readiness.{ReadyIsShown, FirstIsShown, SomeReadyIsShown, IdsAreShown, OwnersAreShown};
+
+/// A run goes on with each event that may come at the moment that it reaches.
+pub fn runs_go_on()
+    ensures { (s : Setting) → RunsGoOn s }
+{}
+
+/// Its moves are those before, and behind them that of the last event, if it is one.
+pub fn moves_go_on()
+    ensures { (l : List Action) → MovesGoOn l }
+{}
+
+/// With an action one more stands in the books, no period begins, and the words in use rise by its weight.
+pub fn actions_are_added()
+    ensures { (s : Setting) → ActionsAreAdded s }
+{}
+
+/// With other events nothing is added to what is done, and only a theft begins a period.
+pub fn others_add_none()
+    ensures { (s : Setting) → OthersAddNone s }
+{}
+
+/// An action that may come is what the rules want of the worker.
+pub fn coming_is_wanted()
+    ensures { (s : Setting) → ComingIsWanted s }
+{}
+
+/// So is a wait.
+pub fn wait_is_wanted()
+    ensures { (s : Setting) → WaitIsWanted s }
+{}
+
+/// A worker has to give its deque up where the next action of its top thread takes more of the quota than its period has left.
+pub fn give_up_is_forced()
+    ensures { InEachSetting GiveUpIsForced }
+{}
+
+/// An action comes only where the root has not ended.
+pub fn root_ends_once()
+    ensures { InEachSetting RootEndsOnce }
+{}
+
+/// Behind the action with which the root ends its result is kept.
+pub fn root_leaves_its_result()
+    ensures { InEachSetting RootLeavesItsResult }
+{}
+
+/// With an event that is no action no thread ends.
+pub fn others_end_nothing()
+    ensures { (s : Setting) → OthersEndNothing s }
+{}
+
+/// The order of the waiting threads and of the results is of no account.
+pub fn order_is_of_no_account()
+    ensures { (k : ℕ) (l : List Action) → OrderIsOfNoAccount k l }
+{}
+
+/// A deque has a thread to steal where that of the moment has, whatever the items are.
+pub fn ready_is_shown<T>()
+    ensures { ReadyIsShown T }
+{}
+
+/// So the first that has one, in reach and as a word picks it, is the same.
+pub fn first_is_shown<T>()
+    ensures { FirstIsShown T }
+{}
+
+/// And some deque in reach has one where that of the moment has.
+pub fn some_ready_is_shown<T>()
+    ensures { SomeReadyIsShown T }
+{}
+
+/// The smallest free id is free at the moment, and each smaller one has a deque.
+pub fn ids_are_shown<T>()
+    ensures { IdsAreShown T }
+{}
+
+/// A worker owns no deque of the moment where it owns none of the list.
+pub fn owners_are_shown<T>()
+    ensures { OwnersAreShown T }
+{}
