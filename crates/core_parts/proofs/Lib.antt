@@ -1,0 +1,10 @@
+pub mod Ids
+pub mod Lists
+pub mod Newest
+pub mod Owners
+pub mod Going
+pub mod Leaving
+pub mod Still
+pub mod AtTop
+pub mod Joining
+pub mod Bounds

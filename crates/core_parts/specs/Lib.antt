@@ -1,0 +1,4 @@
+pub mod Held
+pub mod Moves
+pub mod Moments
+pub mod Outcomes

@@ -1,0 +1,19 @@
+-- Which actions the moves are of.
+use Rattle.std.specs.Prelude.{◌≡◌, List, [], ◌∷◌}
+use Rattle.space_ledger.specs.declared.moved.Moved.{Moved}
+use Rattle.depth_first_list.specs.Actions.{Action, weight}
+use Rattle.period_books.specs.Periods.{Period}
+use Rattle.period_books.specs.Names.{HasLabel}
+
+-- a move is named for an action, and changes the words by its weight
+pub record IsMoveOf (periods : List Period) (moved : Moved) (action : Action) : Type 0 where
+  pub by : HasLabel periods moved.by.by action.label
+  pub index : action.index ≡ moved.by.index
+  pub change : moved.change ≡ weight action
+
+-- and so one after another
+abbrev pub AreMovesOf : List Period → List Moved → List Action → Type 0
+AreMovesOf periods [] [] = Unit {0}
+AreMovesOf periods [] (action ∷ actions) = ⊥
+AreMovesOf periods (moved ∷ moves) [] = ⊥
+AreMovesOf periods (moved ∷ moves) (action ∷ actions) = IsMoveOf periods moved action × AreMovesOf periods moves actions

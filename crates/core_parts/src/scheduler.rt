@@ -1,0 +1,25 @@
+use block_arena::Pool;
+use deque_list::List;
+use period_table::PeriodTable;
+use space_ledger::Moves;
+use thread_frames::{Ended, Thread};
+use thread_map::ThreadMap;
+
+/// What a run by workers holds between two events.
+#[derive(Drop)]
+pub struct Scheduler {
+    /// The deques, with the threads that are ready or run.
+    pub list: List<Thread>,
+    /// The threads that wait, each under the id of the child that it waits for.
+    pub waiting: ThreadMap<Thread>,
+    /// The results of ended threads that are not joined, each under the id of its thread.
+    pub results: ThreadMap<Ended>,
+    /// The periods.
+    pub table: PeriodTable,
+    /// The words.
+    pub pool: Pool,
+    /// By how much each action changed the words that are out.
+    pub moves: Moves,
+    /// How many actions were done.
+    pub done: u32,
+}
