@@ -1,0 +1,273 @@
+-- What the End of a top thread comes to.
+use Rattle.std.proofs.Common.{◌≡◌, ◌≢◌, ℕ, ◌<◌, List, [], ◌∷◌, map, length, refl, sym, ap, subst, ◌∙◌, arith, true≢false}
+use Rattle.std.specs.Prelude.{Bool, true, false, not, nat_lt, IsTrue, ◌↔◌, None, Some}
+use Rattle.std.proofs.lemmas.Bool.{lt-ltb}
+use Rattle.std.specs.List.Sorted.{IsPermutation}
+use Rattle.std.proofs.lemmas.List.Sorted.{IsPermutation-refl, IsPermutation-map, IsPermutation-trans}
+use Rattle.dag_order.specs.declared.thread_id.ThreadId.{ThreadId}
+use Rattle.deque_list.specs.declared.deque_id.DequeId.{DequeId}
+use Rattle.deque_list.specs.Deques.{Deque}
+use Rattle.deque_list.specs.DequeLists.{ListView}
+use Rattle.depth_first_list.specs.Facts.{words_at}
+use Rattle.depth_first_run.specs.States.{Setting}
+use Rattle.lawful_books.specs.Lists.{Each}
+use Rattle.lawful_books.proofs.Lists.{each_at, same_head, cons_is_not_nil}
+use Rattle.space_ledger.specs.declared.moved.Moved.{Moved}
+use Rattle.node_table.specs.Table.{Table}
+use Rattle.period_books.specs.Periods.{Period}
+use Rattle.period_table.specs.Tables.{period_at}
+use Rattle.moment_parts.specs.Parts as parts
+use Rattle.moment_parts.specs.Events.{Does}
+use Rattle.thread_map.specs.Kept.{kept_under}
+use Rattle.thread_points.specs.Points.{list_of}
+use Rattle.thread_frames.specs.Actions.{IsOfTheList}
+use Rattle.thread_frames.specs.declared.next.Next.TheVariants as nexts
+use Rattle.thread_frames.specs.declared.thread.Thread.{Thread}
+use Rattle.thread_frames.specs.declared.ended.Ended.{Ended}
+use Rattle.thread_frames.specs.Points.{IsAtPoint, IsResult}
+use Rattle.thread_parts.specs.Shown.{thread_shown, result_shown}
+use Rattle.deque_events.specs.Shown.{deque_shown, deque_with, parts_of, Stands, Becomes, parts_under}
+use Rattle.deque_events.specs.Seats.{KeepsSeats, LeavesSeat}
+use Rattle.thread_events.specs.Acts.{Always, EndsAboveBy, EndsAndWakesBy, EndsAndLeavesBy}
+use Rattle.core_parts.specs.declared.scheduler.Scheduler.{Scheduler}
+use Rattle.core_parts.specs.Held.{Held, held, held_under, parts_in, waiting_shown, result_kept, AreSame, IsReordered, OwnersSit, OwnsNone, IsInOrder, WaitsUnder, IsUnderItsId, AreAtPoints, AreResults}
+use Rattle.core_parts.proofs.Lists.{each_moved, none_found}
+use Rattle.owner_steps.specs.Acts.{Acted}
+use Rattle.owner_steps.proofs.Places.{keep_sitting, leave_sitting, points_change, under_is}
+use Rattle.owner_steps.proofs.Acting.{as_it_is}
+
+-- what is held once the result is kept
+abbrev pub with_result : Scheduler → ThreadId → Ended → Held
+with_result s id ended = record (held s) { results = (id, ended) ∷ s.results.entries }
+
+-- with the waiting threads in another order
+in_order_of : (h : Held) (waiting : List (ThreadId × Thread)) → IsPermutation h.waiting waiting → IsReordered h (record h { waiting = waiting })
+in_order_of h waiting moved = record {
+  deques = refl;
+  waiting = moved;
+  results = IsPermutation-refl h.results;
+  periods = refl;
+  seats = λ w. refl;
+  begun = refl;
+  live = refl;
+  moves = refl;
+  done = refl;
+}
+
+module _ (worker : ℕ) (id : DequeId) (top : Thread) (before after : Scheduler) (ended : Ended) (its_id : Ended.id ended ≡ Thread.id top) (results : after.results ≡ before.results)
+    (is_result : (t : Table) (k : ℕ) → IsAtPoint t k top → IsResult t k ended) where
+  -- the results are in order, and results
+  under_ids : Each IsUnderItsId before.results.entries → Each IsUnderItsId ((Thread.id top, ended) ∷ after.results.entries)
+  under_ids all = (its_id, subst (λ r. Each IsUnderItsId r.entries) (sym results) all)
+
+  all_results : (t : Table) (k : ℕ) (items : List Thread) (stands : Stands before.list worker id items) → AreAtPoints t k (held_under before stands top)
+      → AreResults t k (held before) → AreResults t k (with_result after (Thread.id top) ended)
+  all_results t k items stands are all = (
+    is_result t k (each_at (λ d. Each (IsAtPoint t k) (Deque.items d)) stands.left (deque_with id (Some worker) (top ∷ items)) stands.right are.in_deques).0,
+    subst (λ r. Each (λ e. IsResult t k e.1) r.entries) (sym results) all,
+  )
+
+  -- with the parent directly below
+  module _ (list : after.list ≡ before.list) (waiting : after.waiting ≡ before.waiting)
+      (lane : (items : List Thread) (stands : Stands before.list worker id items) → 0 < length items)
+      (acts : EndsAboveBy worker id top before.list before.table after.table ended) (seats : KeepsSeats before.table after.table) where
+    above_does : (items : List Thread) (stands : Stands before.list worker id items) (c : Setting) (k : ℕ) (is : IsOfTheList c top nexts.End) (period : Period)
+        → period_at before.table worker ≡ Some period
+        → Does k (list_of c) (parts_under thread_shown (map waiting_shown before.waiting.entries) (map result_kept before.results.entries) stands before.table (thread_shown top)) worker (IsOfTheList.place is)
+        (parts_of thread_shown (map waiting_shown before.waiting.entries) (result_shown ended ∷ map result_kept before.results.entries) before.list after.table)
+    above_does items stands c k is period period_is = by_items items stands (lane items stands)
+      where
+        by_items : (items : List Thread) (stands : Stands before.list worker id items) → 0 < length items
+            → Does k (list_of c) (parts_under thread_shown (map waiting_shown before.waiting.entries) (map result_kept before.results.entries) stands before.table (thread_shown top)) worker (IsOfTheList.place is)
+            (parts_of thread_shown (map waiting_shown before.waiting.entries) (result_shown ended ∷ map result_kept before.results.entries) before.list after.table)
+        by_items [] stands some = absurd (omega (arith, some))
+        by_items (parent ∷ below) stands some = acts c k is parent below (map waiting_shown before.waiting.entries) (map result_kept before.results.entries) stands period period_is
+
+    pub above_acted : Acted nexts.End Always worker id top before (with_result after (Thread.id top) ended)
+    above_acted = record {
+      does = λ items stands o c k is period period_is given. (
+        held_under before stands top,
+        as_it_is (held_under before stands top),
+        parts_of thread_shown (map waiting_shown before.waiting.entries) (result_shown ended ∷ map result_kept before.results.entries) before.list after.table,
+        subst (λ p. Does k (list_of c) p worker (IsOfTheList.place is)
+            (parts_of thread_shown (map waiting_shown before.waiting.entries) (result_shown ended ∷ map result_kept before.results.entries) before.list after.table)) (under_is before stands top)
+            (above_does items stands c k is period period_is),
+        record {
+          deques = ap (λ l. map (deque_shown thread_shown) (ListView.deques l)) list;
+          waiting = subst (λ w. IsPermutation (map waiting_shown before.waiting.entries) (map waiting_shown w.entries)) (sym waiting) (IsPermutation-refl (map waiting_shown before.waiting.entries));
+          results = subst (λ r. IsPermutation (result_shown ended ∷ map result_kept before.results.entries) (result_shown ended ∷ map result_kept r.entries)) (sym results)
+              (IsPermutation-refl (result_shown ended ∷ map result_kept before.results.entries));
+          periods = refl;
+        },
+      );
+      begun = seats.begun;
+      in_order = λ items stands none o. record {
+        owners = subst (OwnersSit after.table) (sym (ap (λ l. ListView.deques l) list ∙ stands.deques_are))
+            (keep_sitting before.table after.table worker id (top ∷ items) stands.left stands.right o.owners seats items);
+        waiting = subst (λ w. Each WaitsUnder w.entries) (sym waiting) o.waiting;
+        results = under_ids o.results;
+      };
+      points = λ t k items stands are. record {
+        in_deques = subst (Each (λ d. Each (IsAtPoint t k) (Deque.items d))) (sym (ap (λ l. ListView.deques l) list ∙ stands.deques_are))
+            (points_change t k stands.left stands.right (deque_with id (Some worker) items ∷ []) (deque_with id (Some worker) (top ∷ items)) are.in_deques
+            ((each_at (λ d. Each (IsAtPoint t k) (Deque.items d)) stands.left (deque_with id (Some worker) (top ∷ items)) stands.right are.in_deques).1, tt));
+        waiting = subst (λ w. Each (λ e. IsAtPoint t k e.1) w.entries) (sym waiting) are.waiting;
+      };
+      results = all_results;
+    }
+
+  -- alone in its deque
+  module _ (alone : (items : List Thread) → Stands before.list worker id items → items ≡ []) where
+    only : (P : (items : List Thread) → Stands before.list worker id items → Type 0) → ((stands : Stands before.list worker id []) → P [] stands)
+        → (items : List Thread) (stands : Stands before.list worker id items) → P items stands
+    only P f [] stands = f stands
+    only P f (x ∷ xs) stands = absurd (cons_is_not_nil x xs (alone (x ∷ xs) stands))
+
+    -- where the parent waited under its id
+    module _ (parent : Thread) (taken : IsPermutation before.waiting.entries ((Thread.id top, parent) ∷ after.waiting.entries))
+        (acts : EndsAndWakesBy worker id top parent before.list before.table after.list after.table ended)
+        (becomes : (stands : Stands before.list worker id []) → Becomes stands after.list (deque_with id (Some worker) (parent ∷ []) ∷ []))
+        (seats : KeepsSeats before.table after.table) where
+      wakes_does : (stands : Stands before.list worker id []) → IsInOrder (held_under before stands top) → (c : Setting) (k : ℕ) (is : IsOfTheList c top nexts.End) (period : Period)
+          → period_at before.table worker ≡ Some period
+          → (one : Held) × IsReordered (held_under before stands top) one
+          × (next : parts.Parts) × Does k (list_of c) (parts_in one) worker (IsOfTheList.place is) next × AreSame next (parts_in (with_result after (Thread.id top) ended))
+      wakes_does stands o c k is period period_is =
+          let moved = each_moved WaitsUnder before.waiting.entries ((Thread.id top, parent) ∷ after.waiting.entries) taken o.waiting in
+          let its = moved.0 in
+          let rest : List parts.Thread = map waiting_shown after.waiting.entries in (
+            record (held_under before stands top) { waiting = (Thread.id top, parent) ∷ after.waiting.entries },
+            in_order_of (held_under before stands top) ((Thread.id top, parent) ∷ after.waiting.entries) taken,
+            parts_of thread_shown rest (result_shown ended ∷ map result_kept before.results.entries) after.list after.table,
+            subst (λ ds. Does k (list_of c) (record { deques = ds; waiting = thread_shown parent ∷ rest; results = map result_kept before.results.entries; periods = Rattle.period_table.specs.Tables.periods_of before.table }) worker (IsOfTheList.place is)
+                (parts_of thread_shown rest (result_shown ended ∷ map result_kept before.results.entries) after.list after.table))
+                (ap (λ p. parts.Parts.deques p) (under_is before stands top))
+                (acts c k is [] rest (map result_kept before.results.entries) its.0 its.1 stands period period_is its.2 its.3),
+            record {
+              deques = refl;
+              waiting = IsPermutation-refl rest;
+              results = subst (λ r. IsPermutation (result_shown ended ∷ map result_kept before.results.entries) (result_shown ended ∷ map result_kept r.entries)) (sym results)
+                  (IsPermutation-refl (result_shown ended ∷ map result_kept before.results.entries));
+              periods = refl;
+            },
+          )
+
+      wakes_owners : (stands : Stands before.list worker id []) → IsInOrder (held_under before stands top) → OwnersSit after.table after.list.deques
+      wakes_owners stands o = subst (OwnersSit after.table) (sym (becomes stands).deques)
+          (keep_sitting before.table after.table worker id (top ∷ []) stands.left stands.right o.owners seats (parent ∷ []))
+
+      moved_order : (o : Each WaitsUnder before.waiting.entries) → Each WaitsUnder after.waiting.entries
+      moved_order o = (each_moved WaitsUnder before.waiting.entries ((Thread.id top, parent) ∷ after.waiting.entries) taken o).1
+
+      moved_points : (t : Table) (k : ℕ) → Each (λ e. IsAtPoint t k e.1) before.waiting.entries → IsAtPoint t k parent × Each (λ e. IsAtPoint t k e.1) after.waiting.entries
+      moved_points t k are = each_moved (λ e. IsAtPoint t k e.1) before.waiting.entries ((Thread.id top, parent) ∷ after.waiting.entries) taken are
+
+      wakes_points : (t : Table) (k : ℕ) (stands : Stands before.list worker id []) → AreAtPoints t k (held_under before stands top) → Each (λ d. Each (IsAtPoint t k) (Deque.items d)) after.list.deques
+      wakes_points t k stands are = subst (Each (λ d. Each (IsAtPoint t k) (Deque.items d))) (sym (becomes stands).deques)
+          (points_change t k stands.left stands.right (deque_with id (Some worker) (parent ∷ []) ∷ []) (deque_with id (Some worker) (top ∷ [])) are.in_deques
+          (((moved_points t k are.waiting).0, tt), tt))
+
+      pub wakes_acted : Acted nexts.End Always worker id top before (with_result after (Thread.id top) ended)
+      wakes_acted = record {
+        does = only (λ items stands. IsInOrder (held_under before stands top) → (c : Setting) (k : ℕ) (is : IsOfTheList c top nexts.End) (period : Period)
+            → period_at before.table worker ≡ Some period → Always k period (words_at (list_of c) (IsOfTheList.place is))
+            → (one : Held) × IsReordered (held_under before stands top) one
+            × (next : parts.Parts) × Does k (list_of c) (parts_in one) worker (IsOfTheList.place is) next × AreSame next (parts_in (with_result after (Thread.id top) ended)))
+            (λ stands o c k is period period_is given. wakes_does stands o c k is period period_is);
+        begun = seats.begun;
+        in_order = only (λ items stands. OwnsNone worker stands.left stands.right → IsInOrder (held_under before stands top) → IsInOrder (with_result after (Thread.id top) ended))
+            (λ stands none o. record { owners = wakes_owners stands o; waiting = moved_order o.waiting; results = under_ids o.results });
+        points = λ t k. only (λ items stands. AreAtPoints t k (held_under before stands top) → AreAtPoints t k (with_result after (Thread.id top) ended))
+            (λ stands are. record { in_deques = wakes_points t k stands are; waiting = (moved_points t k are.waiting).1 });
+        results = all_results;
+      }
+
+    -- where nobody waited
+    module _ (waiting : after.waiting.entries ≡ before.waiting.entries) (nobody : kept_under before.waiting (Thread.id top) ≡ None)
+        (acts : EndsAndLeavesBy worker id top before.list before.table after.list after.table ended)
+        (becomes : (stands : Stands before.list worker id []) → Becomes stands after.list []) (seats : LeavesSeat worker before.table after.table) where
+      -- nobody waits for it
+      unawaited : (entries : List (ThreadId × Thread)) → Each WaitsUnder entries → Each (λ e. e.0 ≢ Thread.id top) entries
+          → Each (λ x. (newest : parts.Child) (older : List parts.Child) → x.children ≡ newest ∷ older → Thread.parent top ≡ Some x.id → newest.id ≢ Thread.id top) (map waiting_shown entries)
+      unawaited [] under others = tt
+      unawaited (e ∷ entries) under others = (
+        λ newest older children parent is. others.0 (sym (under.0).3 ∙ ap (λ x. parts.Child.id x) (same_head (under.0).0 newest (under.0).1 older (sym (under.0).2 ∙ children)) ∙ is),
+        unawaited entries under.1 others.1,
+      )
+
+      leaves_does : (stands : Stands before.list worker id []) → IsInOrder (held_under before stands top) → (c : Setting) (k : ℕ) (is : IsOfTheList c top nexts.End) (period : Period)
+          → period_at before.table worker ≡ Some period
+          → (one : Held) × IsReordered (held_under before stands top) one
+          × (next : parts.Parts) × Does k (list_of c) (parts_in one) worker (IsOfTheList.place is) next × AreSame next (parts_in (with_result after (Thread.id top) ended))
+      leaves_does stands o c k is period period_is = (
+        held_under before stands top,
+        as_it_is (held_under before stands top),
+        parts_of thread_shown (map waiting_shown before.waiting.entries) (result_shown ended ∷ map result_kept before.results.entries) after.list after.table,
+        subst (λ p. Does k (list_of c) p worker (IsOfTheList.place is)
+            (parts_of thread_shown (map waiting_shown before.waiting.entries) (result_shown ended ∷ map result_kept before.results.entries) after.list after.table)) (under_is before stands top)
+            (acts c k is (map waiting_shown before.waiting.entries) (map result_kept before.results.entries) stands period period_is
+            (unawaited before.waiting.entries o.waiting (none_found (Thread.id top) before.waiting.entries nobody))),
+        record {
+          deques = refl;
+          waiting = subst (λ w. IsPermutation (map waiting_shown before.waiting.entries) (map waiting_shown w)) (sym waiting) (IsPermutation-refl (map waiting_shown before.waiting.entries));
+          results = subst (λ r. IsPermutation (result_shown ended ∷ map result_kept before.results.entries) (result_shown ended ∷ map result_kept r.entries)) (sym results)
+              (IsPermutation-refl (result_shown ended ∷ map result_kept before.results.entries));
+          periods = refl;
+        },
+      )
+
+      pub leaves_acted : Acted nexts.End Always worker id top before (with_result after (Thread.id top) ended)
+      leaves_acted = record {
+        does = only (λ items stands. IsInOrder (held_under before stands top) → (c : Setting) (k : ℕ) (is : IsOfTheList c top nexts.End) (period : Period)
+            → period_at before.table worker ≡ Some period → Always k period (words_at (list_of c) (IsOfTheList.place is))
+            → (one : Held) × IsReordered (held_under before stands top) one
+            × (next : parts.Parts) × Does k (list_of c) (parts_in one) worker (IsOfTheList.place is) next × AreSame next (parts_in (with_result after (Thread.id top) ended)))
+            (λ stands o c k is period period_is given. leaves_does stands o c k is period period_is);
+        begun = seats.begun;
+        in_order = only (λ items stands. OwnsNone worker stands.left stands.right → IsInOrder (held_under before stands top) → IsInOrder (with_result after (Thread.id top) ended))
+            (λ stands none o. record {
+              owners = subst (OwnersSit after.table) (sym (becomes stands).deques)
+                  (leave_sitting before.table after.table worker id (top ∷ []) stands.left stands.right o.owners seats none [] tt);
+              waiting = subst (Each WaitsUnder) (sym waiting) o.waiting;
+              results = under_ids o.results;
+            });
+        points = λ t k. only (λ items stands. AreAtPoints t k (held_under before stands top) → AreAtPoints t k (with_result after (Thread.id top) ended))
+            (λ stands are. record {
+              in_deques = subst (Each (λ d. Each (IsAtPoint t k) (Deque.items d))) (sym (becomes stands).deques)
+                  (points_change t k stands.left stands.right [] (deque_with id (Some worker) (top ∷ [])) are.in_deques tt);
+              waiting = subst (Each (λ e. IsAtPoint t k e.1)) (sym waiting) are.waiting;
+            });
+        results = all_results;
+      }
+
+-- the results in another order, with other counts
+pub acted_moved : (worker : ℕ) (id : DequeId) (top : Thread) (before : Scheduler) (after : Held) (results : List (ThreadId × Ended)) (moves : List Moved) (done : ℕ)
+    → IsPermutation after.results results → Acted nexts.End Always worker id top before after
+    → Acted nexts.End Always worker id top before (record after { results = results; moves = moves; done = done })
+acted_moved worker id top before after results moves done moved a = record {
+  does = λ items stands o c k is period period_is given.
+      let d = a.does items stands o c k is period period_is given in (
+        d.0,
+        d.1,
+        d.2,
+        d.3,
+        record {
+          deques = d.4.deques;
+          waiting = d.4.waiting;
+          results = IsPermutation-trans (parts.Parts.results d.2) (map result_kept after.results) (map result_kept results) d.4.results (IsPermutation-map result_kept after.results results moved);
+          periods = d.4.periods;
+        },
+      );
+  begun = a.begun;
+  in_order = λ items stands none o. let was = a.in_order items stands none o in
+      record { owners = was.owners; waiting = was.waiting; results = each_moved IsUnderItsId after.results results moved was.results };
+  points = λ t k items stands are. let was = a.points t k items stands are in record { in_deques = was.in_deques; waiting = was.waiting };
+  results = λ t k items stands are all. each_moved (λ e. IsResult t k e.1) after.results results moved (a.results t k items stands are all);
+}
+
+-- a thread with a label was forked
+pub forked_is : (b : Bool) (label : List ℕ) → IsTrue b ↔ (label ≡ []) → not b ≡ nat_lt 0 (length label)
+forked_is true [] is = refl
+forked_is false [] is = absurd (true≢false (sym (is.1 refl)))
+forked_is true (x ∷ xs) is = absurd (cons_is_not_nil x xs (is.0 refl))
+forked_is false (x ∷ xs) is = sym (lt-ltb 0 (length (x ∷ xs)) (omega arith))

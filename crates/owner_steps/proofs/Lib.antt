@@ -1,0 +1,7 @@
+pub mod Places
+pub mod Acting
+pub mod Ending
+pub mod Leaving
+pub mod Owning
+pub mod TakingIn
+pub mod Taking

@@ -1,0 +1,23 @@
+-- How the End of a top thread leaves its place.
+use Rattle.std.specs.Prelude.{◌≡◌, ℕ, ◌∷◌}
+use Rattle.deque_list.specs.declared.deque_id.DequeId.{DequeId}
+use Rattle.thread_points.specs.Points.{words_at_end}
+use Rattle.block_arena.specs.Region.{with_given}
+use Rattle.thread_frames.specs.declared.ended.Ended.{Ended}
+use Rattle.thread_frames.specs.declared.thread.Thread.{Thread}
+use Rattle.thread_frames.specs.declared.next.Next.TheVariants as nexts
+use Rattle.thread_frames.specs.Views.{label_of}
+use Rattle.thread_events.specs.Acts.{Always}
+use Rattle.core_parts.specs.declared.scheduler.Scheduler.{Scheduler}
+use Rattle.core_parts.specs.Held.{held}
+use Rattle.core_parts.specs.Moments.{SameTerms}
+use Rattle.owner_steps.specs.Acts.{Acted}
+
+-- a top thread ended with this result: once it is kept, the thread has done its End
+pub record LeavesBy (worker : ℕ) (id : DequeId) (top : Thread) (before after : Scheduler) (ended : Ended) : Type 0 where
+  pub acted : Acted nexts.End Always worker id top before (record (held after) { results = (Thread.id top, ended) ∷ after.results.entries })
+  pub same_results : after.results ≡ before.results
+  pub same_moves : after.moves ≡ before.moves
+  pub same_done : after.done ≡ before.done
+  pub pool : after.pool ≡ with_given before.pool (words_at_end (label_of top))
+  pub terms : SameTerms before after

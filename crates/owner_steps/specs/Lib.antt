@@ -1,0 +1,7 @@
+pub mod Memory
+pub mod Acts
+pub mod Ends
+pub mod Leaves
+pub mod Results
+pub mod Refusals
+pub mod Steps

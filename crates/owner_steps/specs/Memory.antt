@@ -1,0 +1,57 @@
+-- What is asked for before an event, and what an action of a top thread needs.
+use Rattle.std.specs.Prelude.{◌≡◌, ◌≤◌, ◌<◌, ℕ, Some, List, pos}
+use Rattle.deque_list.specs.declared.deque_id.DequeId.{DequeId}
+use Rattle.deque_list.specs.DequeLists.{lane_room}
+use Rattle.space_ledger.specs.MovesList.{moves_list, moves_spare}
+use Rattle.space_ledger.specs.Sums.{total_change}
+use Rattle.period_books.specs.Periods.{Period}
+use Rattle.period_table.specs.Tables.{HasRoom, period_at}
+use Rattle.thread_points.specs.Points.{words_at_end}
+use Rattle.thread_frames.specs.declared.next.Next.{Next}
+use Rattle.thread_frames.specs.declared.next.Next.TheVariants.{Fork, Join, Alloc, Release, Dummy, Fault, End}
+use Rattle.thread_frames.specs.declared.thread.Thread.{Thread}
+use Rattle.thread_frames.specs.Points.{IsPlaced}
+use Rattle.thread_frames.specs.Views.{next_of, done_of, held_by, label_of}
+use Rattle.deque_events.specs.Shown.{Stands}
+use Rattle.core_parts.specs.declared.scheduler.Scheduler.{Scheduler}
+
+-- the memory that an event of a worker may take: room for so many threads in its lane, for an action and a birth in its period and for
+-- closing it, for a move, for a waiting thread and for a result
+pub record HasMemory (threads : ℕ) (s : Scheduler) (worker : ℕ) (id : DequeId) : Type 0 where
+  pub lane : threads ≤ lane_room s.list id
+  pub table : HasRoom s.table worker
+  pub moves : 1 ≤ moves_spare s.moves
+  pub waiting : 1 ≤ s.waiting.spare
+  pub results : 1 ≤ s.results.spare
+
+-- A thread that was taken from the top of a worker's deque may do its next action: this is `next`, it is at its point, there is memory for
+-- two threads more in the lane, and its count of actions is not at its end.
+pub record CanAct (s : Scheduler) (worker : ℕ) (id : DequeId) (top : Thread) (next : Next) : Type 0 where
+  pub placed : IsPlaced top
+  pub is_next : next_of top ≡ Some next
+  pub few : done_of top < 4294967295
+  pub stands : (items : List Thread) × Stands s.list worker id items
+  pub memory : HasMemory 2 s worker id
+  pub sum : total_change (moves_list s.moves) ≡ pos s.pool.live
+  pub period : (p : Period) × (period_at s.table worker ≡ Some p)
+  pub used : (p : Period) → period_at s.table worker ≡ Some p → p.used ≤ 1048576
+
+-- an action that takes no words, and is no Join
+abbrev pub IsPlain : Next → Type 0
+IsPlain Fork = ⊥
+IsPlain (Join child) = ⊥
+IsPlain (Alloc words) = ⊥
+IsPlain (Release words) = Unit {0}
+IsPlain Dummy = Unit {0}
+IsPlain (Fault fault) = Unit {0}
+IsPlain End = Unit {0}
+
+-- the words that it gives back
+abbrev pub words_given : Thread → Next → ℕ
+words_given top Fork = 0
+words_given top (Join child) = 0
+words_given top (Alloc words) = 0
+words_given top (Release words) = words
+words_given top Dummy = 0
+words_given top (Fault fault) = held_by top
+words_given top End = words_at_end (label_of top)

@@ -1,0 +1,32 @@
+-- A kept result that comes to the thread that joins its child.
+use Rattle.std.specs.Prelude.{◌≡◌, ◌≤◌, ◌+◌, ℕ, Some, ◌∷◌}
+use Rattle.std.specs.List.Sorted.{IsPermutation}
+use Rattle.dag_order.specs.declared.thread_id.ThreadId.{ThreadId}
+use Rattle.node_table.specs.Table.{Table}
+use Rattle.thread_map.specs.Kept.{Kept, kept_under}
+use Rattle.thread_frames.specs.Actions.{IsSame}
+use Rattle.thread_frames.specs.Children.{IsAwaited, with_delivered}
+use Rattle.thread_frames.specs.Points.{IsAtPoint, IsResult}
+use Rattle.thread_frames.specs.Views.{children_of, done_of, forks_of, label_of, next_of, thread_words, ended_words}
+use Rattle.thread_frames.specs.declared.ended.Ended.{Ended}
+use Rattle.thread_frames.specs.declared.thread.Thread.{Thread}
+
+-- a result is kept under the id of a child, and a thread waits for it
+pub record IsToCome (results : Kept Ended) (top : Thread) (child : ThreadId) : Type 0 where
+  pub ended : Ended
+  pub kept : kept_under results child ≡ Some ended
+  pub awaited : IsAwaited (label_of top) ended (children_of top)
+
+-- it came to the thread, which stays at its point
+pub record HasCome (before after : Kept Ended) (top now : Thread) (child : ThreadId) : Type 0 where
+  pub ended : Ended
+  pub kept : kept_under before child ≡ Some ended
+  pub results : IsPermutation before.entries ((child, ended) ∷ after.entries)
+  pub room : before.spare ≤ after.spare
+  pub same : IsSame top now
+  pub done : done_of now ≡ done_of top
+  pub forks : forks_of now ≡ forks_of top
+  pub children : children_of now ≡ with_delivered ended.id (children_of top)
+  pub next : next_of now ≡ next_of top
+  pub words : thread_words now ≡ thread_words top + ended_words ended
+  pub point : (t : Table) (k : ℕ) → IsAtPoint t k top → IsResult t k ended → IsAtPoint t k now

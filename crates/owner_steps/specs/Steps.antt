@@ -1,0 +1,44 @@
+-- What a step of a worker needs, and what it comes to.
+use Rattle.std.specs.Prelude.{◌<◌, ℕ, List, Result}
+use Rattle.deque_list.specs.declared.deque_id.DequeId.{DequeId}
+use Rattle.depth_first_run.specs.States.{Setting}
+use Rattle.deque_machine.specs.Moments.{Moment}
+use Rattle.deque_machine.specs.Runs.{Pair}
+use Rattle.node_table.specs.Table.{Table}
+use Rattle.thread_steps.specs.Settings.{IsSettingOf}
+use Rattle.thread_frames.specs.Actions.{IsOfTheList, JoinsNewest}
+use Rattle.thread_frames.specs.Views.{children_of}
+use Rattle.thread_frames.specs.declared.next.Next.{Next}
+use Rattle.thread_frames.specs.declared.thread.Thread.{Thread}
+use Rattle.deque_events.specs.Shown.{Stands}
+use Rattle.core_parts.specs.declared.event.Event.{Event}
+use Rattle.core_parts.specs.declared.stop.Stop.{Stop}
+use Rattle.core_parts.specs.declared.scheduler.Scheduler.{Scheduler}
+use Rattle.core_parts.specs.Held.{Held, held, held_under}
+use Rattle.core_parts.specs.Moments.{IsSound, CanGoOn, StandsAt, SameTerms, terms_of}
+use Rattle.core_parts.specs.Outcomes.{StepsTo}
+use Rattle.owner_steps.specs.Memory.{CanAct}
+
+-- A thread that was taken from the top of a worker's deque is before its next action, and with it on top all is sound and can go on.
+pub record IsBeforeAction (t : Table) (k limit : ℕ) (s : Scheduler) (worker : ℕ) (id : DequeId) (top : Thread) (next : Next) : Type 0 where
+  pub can : CanAct s worker id top next
+  pub limited : limit < 4294967295
+  pub sound : (items : List Thread) (stands : Stands s.list worker id items) → IsSound t k (terms_of s limit) (held_under s stands top)
+  pub points : (items : List Thread) (stands : Stands s.list worker id items) → CanGoOn t k (held_under s stands top)
+  pub of_the_list : (c : Setting) → IsSettingOf t k c → ∥ IsOfTheList c top next ∥₁
+  pub newest : JoinsNewest next (children_of top)
+
+-- Of what was held a step of the worker has made what is held after: it is sound and can go on; and whatever the program, at whatever
+-- moment it began, with whatever word, it comes to this.
+pub record Comes (t : Table) (k limit worker : ℕ) (before : Held) (earlier after : Scheduler) (result : Result Event Stop) : Type 0 where
+  pub sound : IsSound t k (terms_of after limit) (held after)
+  pub points : CanGoOn t k (held after)
+  pub steps : (c : Setting) → IsSettingOf t k c → (run : List Pair) (m : Moment) (word : ℕ) → StandsAt c (terms_of after limit) before run m
+      → StepsTo c (terms_of after limit) (held after) worker word run m result
+  pub terms : SameTerms earlier after
+
+-- the same where the top thread was taken out before
+abbrev pub ComesUnder : Table → (k limit worker : ℕ) → DequeId → Thread → (before after : Scheduler) → Result Event Stop → Type 0
+ComesUnder t k limit worker id top before after result =
+    (items : List Thread) (stands : Stands before.list worker id items)
+    → Comes t k limit worker (held_under before stands top) before after result
