@@ -1,0 +1,6 @@
+pub mod Robbing
+pub mod Victims
+pub mod Wanting
+pub mod Stepping
+pub mod Turns
+pub mod Filled

@@ -1,0 +1,169 @@
+ghost use Rattle.std.specs.Prelude.{◌≡◌, ◌≢◌, ◌≤◌, ◌<◌, ◌+◌, ◌∷◌, ◌++◌, ◌↔◌, [], ℕ, List as AnyList, Option as AnyOption, None, Ok, length, slice_get};
+ghost use Rattle.depth_first_run.specs.States.{Setting};
+ghost use Rattle.deque_machine.specs.Moments.{Moment};
+ghost use Rattle.deque_machine.specs.Runs.{Pair};
+ghost use Rattle.node_table.specs.Table.{Table};
+ghost use Rattle.thread_steps.specs.Settings.{IsSettingOf};
+ghost use Rattle.period_table.specs.Tables.{seat_at};
+ghost use Rattle.deque_events.specs.Shown.{Holds};
+ghost use Rattle.turn_choice.specs.Choices.{SomeReady, IsReadyAt};
+ghost use Rattle.core_parts.specs.Held.{held};
+ghost use Rattle.core_parts.specs.Moments.{IsSound, CanGoOn, SameTerms, StandsAt, terms_of};
+ghost use Rattle.thief_steps.specs.Thefts.{Thieves, StepsBy};
+
+use core_parts::{Event, Scheduler, Stop};
+use deque_list::{DequeId, InsertRefused};
+use quota_period::Period;
+use std::alloc::Global;
+use thread_frames::Thread;
+use turn_choice::first_ready;
+
+/// A thief takes the bottom thread of a deque that keeps others into a new deque to the right of it.
+///
+/// # Errors
+///
+/// No further deque is allowed, or there is not enough memory. No deque and no period has changed.
+fn steal_beside(
+    scheduler: &mut Scheduler,
+    alloc: Global,
+    worker: u32,
+    victim: DequeId,
+) -> Result<Event, Stop>
+    requires victim { (owner : AnyOption ℕ) × (first : Thread) × (others : AnyList Thread) × (bottom : Thread)
+        × Holds scheduler.old.list victim owner (first ∷ (others ++ bottom ∷ [])) }
+    requires within { worker < length scheduler.old.table.seats.items }
+    requires idle { seat_at scheduler.old.table worker ≡ None }
+    ensures { (owner : AnyOption ℕ) (first : Thread) (others : AnyList Thread) (bottom : Thread)
+        (holds : Holds scheduler.old.list victim owner (first ∷ (others ++ bottom ∷ [])))
+        → Thieves worker (length (Holds.left holds)) scheduler.old scheduler.new result }
+{
+    if scheduler.table.begun() == u32::MAX {
+        return Err(Stop::OutOfMemory);
+    }
+    match scheduler.list.room_right() {
+        Ok(()) => {}
+        Err(InsertRefused::Full { deques }) => return Err(Stop::DequesFull { deques }),
+        Err(InsertRefused::OutOfMemory) => return Err(Stop::OutOfMemory),
+    }
+    let number = scheduler.table.begun() + 1;
+    let Ok(period) = Period::start(alloc, number, true) else {
+        return Err(Stop::OutOfMemory);
+    };
+    let deque = deque_events::steal_beside(
+        &mut scheduler.list,
+        &mut scheduler.table,
+        worker,
+        victim,
+        period,
+    );
+    Ok(Event::Stole {
+        deque,
+        period: number,
+    })
+}
+
+/// A thief takes a deque over that has no owner and one thread, at a place from 0 at the left.
+///
+/// # Errors
+///
+/// There is not enough memory. No deque and no period has changed.
+fn take_over(
+    scheduler: &mut Scheduler,
+    alloc: Global,
+    worker: u32,
+    victim: DequeId,
+    place: u32,
+) -> Result<Event, Stop>
+    requires victim { (thread : Thread) × (holds : Holds scheduler.old.list victim None (thread ∷ []))
+        × (length (Holds.left holds) ≡ place) }
+    requires within { worker < length scheduler.old.table.seats.items }
+    requires idle { seat_at scheduler.old.table worker ≡ None }
+    ensures { Thieves worker place scheduler.old scheduler.new result }
+{
+    if scheduler.table.begun() == u32::MAX {
+        return Err(Stop::OutOfMemory);
+    }
+    let number = scheduler.table.begun() + 1;
+    let Ok(period) = Period::start(alloc, number, place > 0) else {
+        return Err(Stop::OutOfMemory);
+    };
+    deque_events::take_over(
+        &mut scheduler.list,
+        &mut scheduler.table,
+        worker,
+        victim,
+        period,
+    );
+    Ok(Event::Stole {
+        deque: victim,
+        period: number,
+    })
+}
+
+/// A thief takes the bottom thread of the deque at a place, from 0 at the left, that has a thread to steal.
+///
+/// # Errors
+///
+/// No further deque is allowed, or there is not enough memory. No deque and no period has changed.
+fn steal_at(
+    scheduler: &mut Scheduler,
+    alloc: Global,
+    worker: u32,
+    place: u32,
+) -> Result<Event, Stop>
+    requires ready { IsReadyAt scheduler.old.list.deques place }
+    requires within { worker < length scheduler.old.table.seats.items }
+    requires idle { seat_at scheduler.old.table worker ≡ None }
+    requires sound { (t : Table) × (k : ℕ) × (limit : ℕ) × IsSound t k (terms_of scheduler.old limit) (held scheduler.old) }
+    ensures { Thieves worker place scheduler.old scheduler.new result }
+{
+    let Some(victim) = scheduler.list.place(place) else {
+        unreachable!();
+    };
+    let threads = scheduler.list.lane(victim.id).len();
+    if 2 <= threads {
+        return steal_beside(scheduler, alloc, worker, victim.id);
+    }
+    if threads == 0 {
+        // No deque of a run is without threads.
+        unreachable!();
+    }
+    take_over(scheduler, alloc, worker, victim.id, place)
+}
+
+/// The step of an idle worker: it steals from the first deque in reach that has a thread to steal, as a word picks it. None comes exactly
+/// where none has.
+///
+/// # Errors
+///
+/// What stops the theft; then all stands where it stood.
+pub fn step_of_thief(
+    scheduler: &mut Scheduler,
+    alloc: Global,
+    workers: u32,
+    worker: u32,
+    word: u64,
+) -> Result<Option<Event>, Stop>
+    requires workers { workers ≡ length scheduler.old.table.seats.items }
+    requires within { worker < workers }
+    requires idle { seat_at scheduler.old.table worker ≡ None }
+    requires sound { (t : Table) × (k : ℕ) × (limit : ℕ) × IsSound t k (terms_of scheduler.old limit) (held scheduler.old) }
+    ensures nothing { (result ≡ Ok None) ↔ ¬ SomeReady workers scheduler.old.list.deques }
+    ensures still { result ≡ Ok None → scheduler.new ≡ scheduler.old }
+    ensures sound { (t : Table) (k limit : ℕ) → IsSound t k (terms_of scheduler.old limit) (held scheduler.old)
+        → IsSound t k (terms_of scheduler.new limit) (held scheduler.new) }
+    ensures points { (t : Table) (k : ℕ) → CanGoOn t k (held scheduler.old) → CanGoOn t k (held scheduler.new) }
+    ensures steps { (t : Table) (k limit : ℕ) → IsSound t k (terms_of scheduler.old limit) (held scheduler.old)
+        → (c : Setting) → IsSettingOf t k c
+        → (run : AnyList Pair) (m : Moment) → StandsAt c (terms_of scheduler.old limit) (held scheduler.old) run m
+        → StepsBy c (terms_of scheduler.old limit) (held scheduler.new) worker word run m result }
+    ensures terms { SameTerms scheduler.old scheduler.new }
+{
+    let Some(place) = first_ready(&scheduler.list, workers, word) else {
+        return Ok(None);
+    };
+    match steal_at(scheduler, alloc, worker, place) {
+        Ok(event) => Ok(Some(event)),
+        Err(stop) => Err(stop),
+    }
+}
