@@ -1,0 +1,9 @@
+pub mod Told
+pub mod Seats
+pub mod Roots
+pub mod Going
+pub mod Turns
+pub mod Openings
+pub mod Picking
+pub mod Taking
+pub mod Underway

@@ -1,0 +1,7 @@
+pub mod Begun
+pub mod Ends
+pub mod Running
+pub mod Steps
+pub mod Cores
+pub mod ListChoices
+pub mod Plays

@@ -1,0 +1,25 @@
+//! The core of a scheduler: a run of a program by workers on one thread, one event at a time.
+//!
+//! The ready threads stand in a list of deques, after DFDeques(K) (G. Narlikar, "Scheduling Threads for Low Space Requirement and Good
+//! Locality", SPAA 1999). A worker that owns a deque lets its top thread do its next action, or wait, or gives the deque up where the
+//! quota of its period is spent; an idle one steals. A [`Core`] holds the run, [`Core::step`] lets one worker do one event, and [`play`]
+//! lets the words of a [`Choices`] pick who moves and from whom a thief steals, until the run ends.
+//!
+//! It stands on the step of a worker that owns a deque (`owner_steps`), on that of an idle one (`thief_steps`), and on what a scheduler
+//! holds at a moment (`core_parts`). Its one theorem: whatever the program, what the core holds stands at a moment of a run of the
+//! machine; each step is the event that the rules of play want of the worker, or meets the stop that they name; and a run that finishes
+//! has the fault and the lines of the depth-first run.
+#![tactic(auto)]
+
+mod begun;
+mod choices;
+mod ends;
+mod events;
+mod player;
+mod run;
+mod run_end;
+
+pub use choices::{Choices, ListChoices};
+pub use player::play;
+pub use run::Core;
+pub use run_end::{OutputFail, RunEnd, Stepped};
