@@ -4,6 +4,7 @@ pub mod Roots
 pub mod Going
 pub mod Turns
 pub mod Openings
+pub mod Marks
 pub mod Picking
 pub mod Taking
 pub mod Underway

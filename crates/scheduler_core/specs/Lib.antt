@@ -1,5 +1,6 @@
 pub mod Begun
 pub mod Ends
+pub mod Marks
 pub mod Running
 pub mod Steps
 pub mod Cores

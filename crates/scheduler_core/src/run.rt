@@ -5,8 +5,9 @@ ghost use Rattle.dag_order.specs.declared.finish.Finish.{Finish as AnyFinish};
 ghost use Rattle.depth_first_run.specs.States.{Setting, State};
 ghost use Rattle.depth_first_run.specs.Run.{whole, lines_of};
 ghost use Rattle.deque_machine.specs.Moments.{Moment, opening, live_at};
+ghost use Rattle.lawful_books.specs.Books.{periods_marked};
 ghost use Rattle.deque_machine.specs.Play as play;
-ghost use Rattle.deque_machine.specs.Runs.{Pair};
+ghost use Rattle.deque_machine.specs.Runs.{Pair, high_water_mark};
 ghost use Rattle.dummy_tree.specs.QuotaWords.{quota_words};
 ghost use Rattle.node_table.specs.Codes.{code_shown};
 ghost use Rattle.period_table.specs.Tables.{seat_at};
@@ -17,6 +18,7 @@ ghost use Rattle.core_parts.specs.Moments.{IsSound, CanGoOn, terms_of, machine_o
 ghost use Rattle.scheduler_core.specs.declared.run_end.OutputFail.TheVariants as fails;
 ghost use Rattle.scheduler_core.specs.declared.run_end.Stepped.TheVariants as steps;
 ghost use Rattle.scheduler_core.specs.Begun.{given_terms};
+ghost use Rattle.scheduler_core.specs.Marks.{ahead_in, open_ahead};
 ghost use Rattle.scheduler_core.specs.Running.{IsSomewhere};
 ghost use Rattle.scheduler_core.specs.Steps.{IsTold};
 
@@ -31,7 +33,7 @@ use deque_list::List;
 use dummy_tree::Quota;
 use language_limits::{MOST_ACTIONS, MOST_DEQUES, MOST_WORKERS};
 use node_table::Code;
-use period_table::Seat;
+use period_table::{PeriodTable, Seat};
 use quota_period::Period;
 use space_ledger::{Books, Moves};
 use std::alloc::{AllocError, Global};
@@ -79,6 +81,28 @@ fn is_finish(end: RunEnd) -> bool
         RunEnd::Finished(_) => true,
         RunEnd::Stopped(_) => false,
     }
+}
+
+/// Whether the period of a seat is marked ahead.
+fn ahead_in(seat: Option<&Seat>) -> bool
+    ensures { result ≡ ahead_in (option_copied seat.entry) }
+{
+    match seat {
+        None => false,
+        Some(seat) => seat.period.ahead,
+    }
+}
+
+/// How many open periods of a table are marked ahead.
+fn open_ahead(table: &PeriodTable) -> u32
+    requires { length table.now.seats.items ≤ 64 }
+    ensures { result ≡ open_ahead table.now.seats.items }
+{
+    let mut ahead = 0;
+    'seats: for worker in 0..table.workers() {
+        ahead += u32::from(ahead_in(table.seat(worker)));
+    }
+    ahead
 }
 
 impl Core {
@@ -304,6 +328,30 @@ impl Core {
         ensures { result.now ≡ self.now.scheduler.table.books }
     {
         self.scheduler.table.books()
+    }
+
+    /// How many periods were begun, open ones among them.
+    pub fn periods(&self) -> u32
+        ensures { (c : Setting) (run : AnyList Pair) (m : Moment) → IsAt c self.now run m → result ≡ length m.books }
+    {
+        self.scheduler.table.begun()
+    }
+
+    /// How many of them are marked ahead: at their beginning a deque stood to the left of theirs.
+    pub fn ahead(&self) -> u32
+        ensures { (c : Setting) (run : AnyList Pair) (m : Moment) → IsAt c self.now run m → result ≡ periods_marked m.books }
+    {
+        // No more are marked than there are, so the sum fits.
+        let _periods = self.scheduler.table.begun();
+        self.books().ahead() + open_ahead(&self.scheduler.table)
+    }
+
+    /// The greatest number of words that were in use at once.
+    pub fn high(&self) -> u64
+        ensures { (c : Setting) (run : AnyList Pair) (m : Moment) → IsAt c self.now run m
+            → pos result ≡ high_water_mark (list_of c) run }
+    {
+        self.scheduler.moves.high() as u64
     }
 
     /// The deque and the period of a worker; None exactly where it is idle.
