@@ -1,5 +1,5 @@
--- From the options to the command, and back.
-use Rattle.std.proofs.Common.{◌≡◌, ◌≢◌, ℕ, true, false, List, [], ◌∷◌, ◌++◌, length, get_or, drop, append_assoc, append-nil, ap, sym, ◌∙◌, refl, subst, arith}
+-- From the items to the command, and back.
+use Rattle.std.proofs.Common.{◌≡◌, ◌≢◌, ◌≤◌, ℕ, Bool, true, false, List, [], ◌∷◌, ◌++◌, length, get_or, drop, append_assoc, append-nil, ap, sym, ◌∙◌, refl, subst, arith}
 use Rattle.std.specs.Prelude.{nat_eq, codes, Option, Some, None, unwrap_or, if◌then◌else◌}
 use Rattle.std.specs.List.{flat_map}
 use Rattle.std.proofs.lemmas.Grind.{flat_map-append}
@@ -8,13 +8,14 @@ use Rattle.std.specs.declared.string.String.{String}
 use Rattle.std.specs.declared.alloc.Global.{Global}
 use Rattle.command_line.specs.declared.command.Command.{Command}
 use Rattle.command_line.specs.declared.command_kind.CommandKind.{CommandKind}
-use Rattle.command_line.specs.declared.command_kind.CommandKind.TheVariants.{Play, Peak, Check}
-use Rattle.command_line.specs.declared.options.Options.{Options}
+use Rattle.command_line.specs.declared.command_kind.CommandKind.TheVariants.{Play, Peak, Check, Make}
+use Rattle.command_line.specs.declared.numbers.Numbers.{Numbers}
 use Rattle.command_line.specs.declared.setting.Setting.{Setting}
-use Rattle.command_line.specs.declared.setting.Setting.TheVariants.{Quota, Workers, Steps}
-use Rattle.command_line.specs.Words.{words_of, kind_word, Item, spelled, values_of, InRange, Sets, AllHad, number_of, IsCommand}
-use Rattle.command_line.specs.Reading.{slot, or_default, NoItem, IsNext, Seen, MaySet, MayFit, MoreFit, NoneFit, AreOptions, NoOptions, AreRead}
-use Rattle.command_line.proofs.Items.{item_of, one_item, some_word, goes_on}
+use Rattle.command_line.specs.declared.setting.Setting.TheVariants.{Quota, Workers, Arena, Steps, Deques, Seed}
+use Rattle.made_source.specs.declared.TheConstants.{MOST_GROUPS}
+use Rattle.command_line.specs.Words.{words_of, kind_word, Item, spelled, values_of, plain_of, wants_groups, rule_of, InRange, TellsGroups, Sets, SetsGroups, AllHad, number_of, IsCommand}
+use Rattle.command_line.specs.Reading.{slot, or_default, no_numbers, Seen, SeenGroups, MaySet, MaySetGroups, MayFit, GoesOn, NoneGoesOn, AreItems, NoItems, AreRead}
+use Rattle.command_line.proofs.Items.{some_word, goes_on, ArePlain, plain_if_may, plain_if_seen}
 
 -- a test of words has told that there are some
 pub some_words : (words : List (String Global)) → false ≡ nat_eq (length words) 0 → words_of words ≢ []
@@ -25,63 +26,55 @@ some_words [] e none = no e
 some_words (w ∷ words) e none = omega (arith, ap (λ (l : List (List ℕ)). length l) none)
 
 -- nothing was read
-pub none_read : (kind : CommandKind) (words : List (List ℕ)) → AreRead kind words words (record { quota = None; workers = None; steps = None })
-none_read kind words = record { items = []; written = refl; fit = record { had = tt; seen = none } }
+pub none_read : (kind : CommandKind) (words : List (List ℕ)) → AreRead kind words words no_numbers
+none_read kind words = record { items = []; written = refl; fit = record { had = tt; seen = none; groups = tt } }
   where
-    none : (s : Setting) → Seen s [] (slot (record { quota = None; workers = None; steps = None }) s)
+    none : (s : Setting) → Seen s [] (slot no_numbers s)
     none Quota = tt
     none Workers = tt
+    none Arena = tt
     none Steps = tt
+    none Deques = tt
+    none Seed = tt
 
--- an option more was read
+-- an item more was read
 pub one_read :
-    (kind : CommandKind) (words rest after : List (List ℕ)) (options more : Options) (s : Setting) (v : List ℕ) → AreRead kind words rest options →
-    IsNext rest s v after → MoreFit kind options s v more → AreRead kind words after more
-one_read kind words rest after options more s v read next fits =
-    let item = item_of s v next.0 in record {
-      items = read.items ++ item ∷ [];
-      written =
-          read.written
-          ∙ ap (λ (l : List (List ℕ)). flat_map spelled read.items ++ l) next.1
-          ∙ sym (append_assoc (flat_map spelled read.items) (spelled item) after)
-          ∙ ap (λ (l : List (List ℕ)). l ++ after)
-          (ap (λ (l : List (List ℕ)). flat_map spelled read.items ++ l) (sym (append-nil (spelled item))) ∙ sym (flat_map-append spelled read.items (item ∷ [])));
-      fit = fits read.items next.0 read.fit;
-    }
+    (kind : CommandKind) (words rest after : List (List ℕ)) (numbers more : Numbers) → AreRead kind words rest numbers →
+    GoesOn kind numbers rest more after → AreRead kind words after more
+one_read kind words rest after numbers more read next = record {
+  items = read.items ++ next.item ∷ [];
+  written =
+      read.written
+      ∙ ap (λ (l : List (List ℕ)). flat_map spelled read.items ++ l) next.written
+      ∙ sym (append_assoc (flat_map spelled read.items) (spelled next.item) after)
+      ∙ ap (λ (l : List (List ℕ)). l ++ after)
+      (ap (λ (l : List (List ℕ)). flat_map spelled read.items ++ l) (sym (append-nil (spelled next.item)))
+      ∙ sym (flat_map-append spelled read.items (next.item ∷ [])));
+  fit = next.fit read.items read.fit;
+}
 
 -- what was read to the end
-pub all_read : (kind : CommandKind) (words rest : List (List ℕ)) (options : Options) → AreRead kind words rest options → rest ≡ [] → AreOptions kind words options
-all_read kind words rest options read none = record {
+pub all_read : (kind : CommandKind) (words rest : List (List ℕ)) (numbers : Numbers) → AreRead kind words rest numbers → rest ≡ [] →
+    AreItems kind words numbers
+all_read kind words rest numbers read none = record {
   items = read.items;
   written = read.written ∙ ap (λ (l : List (List ℕ)). flat_map spelled read.items ++ l) none ∙ append-nil (flat_map spelled read.items);
   fit = read.fit;
 }
 
--- words that do not go on with an option
-pub no_options_item :
-    (kind : CommandKind) (words rest : List (List ℕ)) (options : Options) → AreRead kind words rest options → rest ≢ [] → NoItem rest → NoOptions kind words
-no_options_item kind words rest options read some none items e may =
-    let more = goes_on read.items items rest (sym e ∙ read.written) in
-    by_tail more.0 more.1.1
-  where
-    by_tail : (tail : List Item) → rest ≡ flat_map spelled tail → ⊥
-    by_tail [] e = some e
-    by_tail (t ∷ tail) e = none t (flat_map spelled tail) e
-
--- words that go on with an option that does not fit
-pub no_options_fit :
-    (kind : CommandKind) (words rest after : List (List ℕ)) (options : Options) (s : Setting) (v : List ℕ) → AreRead kind words rest options →
-    IsNext rest s v after → NoneFit kind options s v → NoOptions kind words
-no_options_fit kind words rest after options s v read next none items e may =
-    let more = goes_on read.items items rest (sym e ∙ read.written) in
+-- words with which no command goes on
+pub no_items :
+    (kind : CommandKind) (words rest : List (List ℕ)) (numbers : Numbers) → AreRead kind words rest numbers → rest ≢ [] →
+    NoneGoesOn kind numbers rest → NoItems kind words
+no_items kind words rest numbers read some none items e may =
+    let wanted = wants_groups kind in
+    let more = goes_on read.items items rest (plain_if_seen wanted read.items numbers.groups read.fit.groups)
+    (plain_if_may wanted items may.groups) (sym e ∙ read.written) in
     by_tail more.0 more.1.0 more.1.1
   where
     by_tail : (tail : List Item) → items ≡ read.items ++ tail → rest ≡ flat_map spelled tail → ⊥
-    by_tail [] are e = some_word s v next.0 after (sym e ∙ next.1)
-    by_tail (t ∷ tail) are e =
-        let one = one_item t.setting s t.value v t.joined next.0 (flat_map spelled tail) after (sym e ∙ next.1) in
-        none read.items tail next.0 read.fit
-        (subst (λ (l : List Item). MayFit kind l) (are ∙ ap (λ (x : Item). read.items ++ x ∷ tail) one.0) may)
+    by_tail [] are e = some e
+    by_tail (t ∷ tail) are e = none read.items tail t read.fit e (subst (λ (l : List Item). MayFit kind l) are may)
 
 -- the kinds have different words
 abbrev kind_of : List ℕ → Option CommandKind
@@ -89,12 +82,14 @@ kind_of word =
     if bytes_eq word (codes "play") then Some Play
     else if bytes_eq word (codes "peak") then Some Peak
     else if bytes_eq word (codes "check") then Some Check
+    else if bytes_eq word (codes "make") then Some Make
     else None
 
 kind_back : (kind : CommandKind) → kind_of (kind_word kind) ≡ Some kind
 kind_back Play = refl
 kind_back Peak = refl
 kind_back Check = refl
+kind_back Make = refl
 
 kind_one : (a b : CommandKind) → kind_word a ≡ kind_word b → a ≡ b
 kind_one a b e = ap (λ (o : Option CommandKind). unwrap_or o a) (sym (kind_back a) ∙ ap kind_of e ∙ kind_back b)
@@ -124,9 +119,44 @@ sets_one s [] m n a b = a ∙ sym b
 sets_one s (v ∷ []) m n a b = a.2 ∙ sym b.2
 sets_one s (v ∷ w ∷ vs) m n a b = absurd a
 
--- the words of a command begin with its word, and the others are its options
+-- what sets the groups may set them
+may_set_groups : (wanted : Bool) (words : List (List ℕ)) (n : ℕ) → SetsGroups wanted words n → MaySetGroups wanted words
+may_set_groups true [] n sets = absurd sets
+may_set_groups true (w ∷ []) n sets =
+    (refl, (sets.0, subst (λ (m : ℕ). 1 ≤ m) sets.3 sets.1, subst (λ (m : ℕ). m ≤ MOST_GROUPS) sets.3 sets.2, refl))
+may_set_groups true (w ∷ x ∷ words) n sets = absurd sets
+may_set_groups false [] n sets = tt
+may_set_groups false (w ∷ words) n sets = absurd sets
+
+none_some : (n : ℕ) → let nothing : Option ℕ = None in nothing ≡ Some n → ⊥
+none_some n e = cc
+
+none_wanted : false ≡ true → ⊥
+none_wanted e = cc
+
+seen_sets_groups :
+    (wanted : Bool) (words : List (List ℕ)) (o : Option ℕ) (n : ℕ) → SeenGroups wanted words o → (if wanted then o else Some 0) ≡ Some n →
+    SetsGroups wanted words n
+seen_sets_groups true [] None n seen e = absurd (none_some n e)
+seen_sets_groups true [] (Some m) n seen e = absurd seen
+seen_sets_groups true (w ∷ []) None n seen e = absurd seen
+seen_sets_groups true (w ∷ []) (Some m) n seen e = subst (λ (k : ℕ). TellsGroups w k) (ap (λ (o : Option ℕ). unwrap_or o 0) e) seen.1
+seen_sets_groups true (w ∷ x ∷ words) o n seen e = absurd seen
+seen_sets_groups false [] o n seen e = sym (ap (λ (o : Option ℕ). unwrap_or o 0) e)
+seen_sets_groups false (w ∷ []) None n seen e = absurd seen
+seen_sets_groups false (w ∷ []) (Some m) n seen e = absurd (none_wanted seen.0)
+seen_sets_groups false (w ∷ x ∷ words) o n seen e = absurd seen
+
+sets_groups_one : (wanted : Bool) (words : List (List ℕ)) (m n : ℕ) → SetsGroups wanted words m → SetsGroups wanted words n → m ≡ n
+sets_groups_one true [] m n a b = absurd a
+sets_groups_one true (w ∷ []) m n a b = a.3 ∙ sym b.3
+sets_groups_one true (w ∷ x ∷ words) m n a b = absurd a
+sets_groups_one false [] m n a b = a ∙ sym b
+sets_groups_one false (w ∷ words) m n a b = absurd a
+
+-- the words of a command begin with its word, and the others are its items
 pub no_command :
-    (words rest : List (List ℕ)) (word : List ℕ) (kind : CommandKind) → words ≡ word ∷ rest → word ≡ kind_word kind → NoOptions kind rest →
+    (words rest : List (List ℕ)) (word : List ℕ) (kind : CommandKind) → words ≡ word ∷ rest → word ≡ kind_word kind → NoItems kind rest →
     (command : Command) → ¬ IsCommand words command
 no_command words rest word kind are is none command c =
     let e = sym are ∙ c.written in
@@ -135,6 +165,8 @@ no_command words rest word kind are is none command c =
     (record {
       had = subst (λ (k : CommandKind). AllHad k c.items) (sym same) c.had;
       may = λ s. may_set s (values_of s c.items) (number_of command s) (c.sets s);
+      groups = subst (λ (k : CommandKind). MaySetGroups (wants_groups k) (plain_of c.items)) (sym same)
+          (may_set_groups (wants_groups command.kind) (plain_of c.items) command.groups c.groups);
     })
 
 pub no_kind :
@@ -146,36 +178,129 @@ pub no_word : (words : List (List ℕ)) → words ≡ [] → (command : Command)
 no_word words none command c = omega (arith, ap (λ (l : List (List ℕ)). length l) (sym none ∙ c.written))
 
 pub a_command :
-    (words rest : List (List ℕ)) (word : List ℕ) (kind : CommandKind) (options : Options) (k p steps : ℕ) → words ≡ word ∷ rest → word ≡ kind_word kind →
-    AreOptions kind rest options → k ≡ or_default Quota options.quota → p ≡ or_default Workers options.workers → steps ≡ or_default Steps options.steps →
-    IsCommand words (record { kind = kind; k = k; p = p; steps = steps })
-a_command words rest word kind options k p steps are is read k_is p_is steps_is = record {
+    (words rest : List (List ℕ)) (word : List ℕ) (command : Command) (numbers : Numbers) → words ≡ word ∷ rest →
+    word ≡ kind_word command.kind → AreItems command.kind rest numbers → command.k ≡ or_default Quota numbers.quota →
+    command.p ≡ or_default Workers numbers.workers → command.arena ≡ or_default Arena numbers.arena →
+    command.steps ≡ or_default Steps numbers.steps → command.deques ≡ or_default Deques numbers.deques →
+    command.seed ≡ or_default Seed numbers.seed →
+    (if wants_groups command.kind then numbers.groups else Some 0) ≡ Some command.groups → IsCommand words command
+a_command words rest word command numbers are is read k p arena steps deques seed groups = record {
   items = read.items;
-  written = are ∙ ap (λ (w : List ℕ). w ∷ rest) is ∙ ap (λ (l : List (List ℕ)). kind_word kind ∷ l) read.written;
+  written =
+      are
+      ∙ ap (λ (w : List ℕ). w ∷ rest) is
+      ∙ ap (λ (l : List (List ℕ)). kind_word command.kind ∷ l) read.written;
   had = read.fit.had;
-  sets = sets;
+  sets = λ s. subst (λ (n : ℕ). Sets s (values_of s read.items) n) (sym (number s))
+      (seen_sets s (values_of s read.items) (slot numbers s) (read.fit.seen s));
+  groups = seen_sets_groups (wants_groups command.kind) (plain_of read.items) numbers.groups command.groups read.fit.groups groups;
 }
   where
-    at : (s : Setting) (n : ℕ) → n ≡ or_default s (slot options s) → Sets s (values_of s read.items) n
-    at s n e = subst (λ (m : ℕ). Sets s (values_of s read.items) m) (sym e) (seen_sets s (values_of s read.items) (slot options s) (read.fit.seen s))
+    number : (s : Setting) → number_of command s ≡ or_default s (slot numbers s)
+    number Quota = k
+    number Workers = p
+    number Arena = arena
+    number Steps = steps
+    number Deques = deques
+    number Seed = seed
 
-    sets : (s : Setting) → Sets s (values_of s read.items) (number_of (record { kind = kind; k = k; p = p; steps = steps }) s)
-    sets Quota = at Quota k k_is
-    sets Workers = at Workers p p_is
-    sets Steps = at Steps steps steps_is
+-- a default is a number that the option may have
+default_in_range : (s : Setting) → InRange s (rule_of s).default
+default_in_range Quota = search (arith)
+default_in_range Workers = search (arith)
+default_in_range Arena = search (arith)
+default_in_range Steps = search (arith)
+default_in_range Deques = search (arith)
+default_in_range Seed = search (arith)
+
+-- what sets an option is a number that it may have
+pub sets_in_range : (s : Setting) (vs : List (List ℕ)) (n : ℕ) → Sets s vs n → InRange s n
+sets_in_range s [] n sets = subst (λ (m : ℕ). InRange s m) (sym sets) (default_in_range s)
+sets_in_range s (v ∷ []) n sets = sets.1
+sets_in_range s (v ∷ w ∷ vs) n sets = absurd sets
+
+-- the number of an option is one that it may have
+pub in_range :
+    (kind : CommandKind) (words : List (List ℕ)) (numbers : Numbers) (s : Setting) → AreItems kind words numbers →
+    InRange s (or_default s (slot numbers s))
+in_range kind words numbers s read =
+    sets_in_range s (values_of s read.items) (or_default s (slot numbers s))
+    (seen_sets s (values_of s read.items) (slot numbers s) (read.fit.seen s))
+
+-- the groups of a command that wants some
+pub groups_in_range :
+    (words : List (List ℕ)) (command : Command) → IsCommand words command → wants_groups command.kind ≡ true →
+    (1 ≤ command.groups) × (command.groups ≤ MOST_GROUPS)
+groups_in_range words command c wants =
+    by_words (plain_of c.items) (subst (λ (wanted : Bool). SetsGroups wanted (plain_of c.items) command.groups) wants c.groups)
+  where
+    by_words : (plain_words : List (List ℕ)) → SetsGroups true plain_words command.groups →
+        (1 ≤ command.groups) × (command.groups ≤ MOST_GROUPS)
+    by_words [] sets = absurd sets
+    by_words (w ∷ []) sets = (sets.1, sets.2)
+    by_words (w ∷ x ∷ plain_words) sets = absurd sets
+
+-- the items of a command are read in one way
+plain_in_command : (words : List (List ℕ)) (command : Command) (c : IsCommand words command) → ArePlain c.items
+plain_in_command words command c =
+    plain_if_may (wants_groups command.kind) c.items
+    (may_set_groups (wants_groups command.kind) (plain_of c.items) command.groups c.groups)
+
+same_items : (xs ys : List Item) → ArePlain xs → ArePlain ys → flat_map spelled ys ≡ flat_map spelled xs → ys ≡ xs
+same_items xs ys p q e =
+    let more = goes_on xs ys [] p q (e ∙ sym (append-nil (flat_map spelled xs))) in
+    nothing more.0 more.1.0 more.1.1
+  where
+    nothing : (tail : List Item) → ys ≡ xs ++ tail → [] ≡ flat_map spelled tail → ys ≡ xs
+    nothing [] are e = are ∙ append-nil xs
+    nothing (t ∷ tail) are e = absurd (some_word t (flat_map spelled tail) e)
+
+-- the number of groups is missing
+pub no_groups :
+    (words rest : List (List ℕ)) (word : List ℕ) (kind : CommandKind) (numbers : Numbers) → words ≡ word ∷ rest → word ≡ kind_word kind →
+    AreItems kind rest numbers → (if wants_groups kind then numbers.groups else Some 0) ≡ None → (command : Command) →
+    ¬ IsCommand words command
+no_groups words rest word kind numbers are is read missing command c =
+    let e = sym are ∙ c.written in
+    let kinds : kind ≡ command.kind = kind_one kind command.kind (sym is ∙ first_word _ _ _ _ e) in
+    let items : c.items ≡ read.items =
+    same_items read.items c.items (plain_if_seen (wants_groups kind) read.items numbers.groups read.fit.groups)
+    (plain_in_command words command c) (sym (other_words _ _ _ _ e) ∙ read.written) in
+    let sets : SetsGroups (wants_groups kind) (plain_of read.items) command.groups =
+    subst (λ (k : CommandKind). SetsGroups (wants_groups k) (plain_of read.items) command.groups) (sym kinds)
+    (subst (λ (l : List Item). SetsGroups (wants_groups command.kind) (plain_of l) command.groups) items c.groups) in
+    none (wants_groups kind) (plain_of read.items) numbers.groups missing read.fit.groups sets
+  where
+    none :
+        (wanted : Bool) (plain_words : List (List ℕ)) (o : Option ℕ) → (if wanted then o else Some 0) ≡ None →
+        SeenGroups wanted plain_words o → SetsGroups wanted plain_words command.groups → ⊥
+    none true [] o missing seen sets = sets
+    none true (w ∷ []) None missing seen sets = seen
+    none true (w ∷ []) (Some n) missing seen sets = none_some n (sym missing)
+    none true (w ∷ x ∷ plain_words) o missing seen sets = sets
+    none false plain_words o missing seen sets = none_some 0 (sym missing)
 
 -- words are at most one command
 pub one_command : (words : List (List ℕ)) (a b : Command) → IsCommand words a → IsCommand words b → b ≡ a
 one_command words a b is_a is_b =
     let e = sym is_b.written ∙ is_a.written in
     let kinds : b.kind ≡ a.kind = kind_one b.kind a.kind (first_word _ _ _ _ e) in
-    let more = goes_on is_a.items is_b.items [] (other_words _ _ _ _ e ∙ sym (append-nil (flat_map spelled is_a.items))) in
-    let items : is_b.items ≡ is_a.items = nothing more.0 more.1.0 more.1.1 in
+    let items : is_b.items ≡ is_a.items =
+    same_items is_a.items is_b.items (plain_in_command words a is_a) (plain_in_command words b is_b) (other_words _ _ _ _ e) in
     let same : (s : Setting) → number_of b s ≡ number_of a s =
     λ s. sets_one s (values_of s is_a.items) (number_of b s) (number_of a s)
     (subst (λ (l : List Item). Sets s (values_of s l) (number_of b s)) items (is_b.sets s)) (is_a.sets s) in
-    λ i. record { kind = kinds i; k = same Quota i; p = same Workers i; steps = same Steps i }
-  where
-    nothing : (tail : List Item) → is_b.items ≡ is_a.items ++ tail → [] ≡ flat_map spelled tail → is_b.items ≡ is_a.items
-    nothing [] are e = are ∙ append-nil is_a.items
-    nothing (t ∷ tail) are e = absurd (some_word t.setting t.value t.joined (flat_map spelled tail) e)
+    let groups : b.groups ≡ a.groups =
+    sets_groups_one (wants_groups a.kind) (plain_of is_a.items) b.groups a.groups
+    (subst (λ (k : CommandKind). SetsGroups (wants_groups k) (plain_of is_a.items) b.groups) kinds
+    (subst (λ (l : List Item). SetsGroups (wants_groups b.kind) (plain_of l) b.groups) items is_b.groups)) is_a.groups in
+    λ i. record {
+      kind = kinds i;
+      k = same Quota i;
+      p = same Workers i;
+      arena = same Arena i;
+      steps = same Steps i;
+      deques = same Deques i;
+      seed = same Seed i;
+      groups = groups i;
+    }

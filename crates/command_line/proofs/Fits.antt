@@ -5,27 +5,36 @@ use Rattle.std.specs.Str.Parse.{digits_value}
 use Rattle.std.proofs.lemmas.Slice.Eq.{bytes_eq-Decides}
 use Rattle.std.proofs.lemmas.Bool.Decides.{nat_tests}
 use Rattle.command_line.specs.declared.command_kind.CommandKind.{CommandKind}
-use Rattle.command_line.specs.declared.options.Options.{Options}
+use Rattle.command_line.specs.declared.numbers.Numbers.{Numbers}
 use Rattle.command_line.specs.declared.setting.Setting.{Setting}
-use Rattle.command_line.specs.declared.setting.Setting.TheVariants.{Quota, Workers, Steps}
-use Rattle.command_line.specs.Words.{Item, name_of, has, is_same, values_of, Gives, AllHad}
-use Rattle.command_line.specs.Reading.{slot, IsWith, Seen, MaySet, MoreFit, NoneFit}
-use Rattle.command_line.proofs.Items.{item_of, name_one}
+use Rattle.command_line.specs.declared.setting.Setting.TheVariants.{Quota, Workers, Arena, Steps, Deques, Seed}
+use Rattle.command_line.specs.Words.{Item, option, plain, name_of, has, wants_groups, is_same, values_of, plain_of, Gives, TellsGroups, AllHad}
+use Rattle.command_line.specs.Reading.{slot, IsWith, Seen, SeenGroups, MaySet, MaySetGroups, MayFit, MoreFit, NoneFit, MoreTell, NoneTell}
+use Rattle.command_line.proofs.Items.{name_one}
 
 pub values_of-append : (s : Setting) (xs ys : List Item) → values_of s (xs ++ ys) ≡ values_of s xs ++ values_of s ys
 values_of-append s [] ys = refl
-values_of-append s (x ∷ xs) ys = step (is_same x.setting s) (values_of-append s xs ys)
+values_of-append s (plain w ∷ xs) ys = values_of-append s xs ys
+values_of-append s (option t v b ∷ xs) ys = step (is_same t s) (values_of-append s xs ys)
   where
     step : (same : Bool) → values_of s (xs ++ ys) ≡ values_of s xs ++ values_of s ys →
-        (if same then x.value ∷ values_of s (xs ++ ys) else values_of s (xs ++ ys)) ≡
-        (if same then x.value ∷ values_of s xs else values_of s xs) ++ values_of s ys
-    step true more = ap (λ (l : List (List ℕ)). x.value ∷ l) more
+        (if same then v ∷ values_of s (xs ++ ys) else values_of s (xs ++ ys)) ≡
+        (if same then v ∷ values_of s xs else values_of s xs) ++ values_of s ys
+    step true more = ap (λ (l : List (List ℕ)). v ∷ l) more
     step false more = more
+
+plain_of-append : (xs ys : List Item) → plain_of (xs ++ ys) ≡ plain_of xs ++ plain_of ys
+plain_of-append [] ys = refl
+plain_of-append (option s v b ∷ xs) ys = plain_of-append xs ys
+plain_of-append (plain w ∷ xs) ys = ap (λ (l : List (List ℕ)). w ∷ l) (plain_of-append xs ys)
 
 same_self : (s : Setting) → is_same s s ≡ true
 same_self Quota = refl
 same_self Workers = refl
+same_self Arena = refl
 same_self Steps = refl
+same_self Deques = refl
+same_self Seed = refl
 
 same_is : (s t : Setting) → is_same s t ≡ true → s ≡ t
 same_is s t same =
@@ -35,24 +44,28 @@ same_is s t same =
 -- the values where an item stands among others
 values_at :
     (s : Setting) (items more : List Item) (v : List ℕ) (b : Bool) →
-    values_of s (items ++ item_of s v b ∷ more) ≡ values_of s items ++ v ∷ values_of s more
+    values_of s (items ++ option s v b ∷ more) ≡ values_of s items ++ v ∷ values_of s more
 values_at s items more v b =
-    values_of-append s items (item_of s v b ∷ more)
+    values_of-append s items (option s v b ∷ more)
     ∙ ap (λ (same : Bool). values_of s items ++ (if same then v ∷ values_of s more else values_of s more)) (same_self s)
 
 -- which options a command has
-had_at : (kind : CommandKind) (items more : List Item) (item : Item) → AllHad kind (items ++ item ∷ more) → has kind item.setting ≡ true
-had_at kind [] more item had = had.0
-had_at kind (i ∷ items) more item had = had_at kind items more item had.1
+had_at :
+    (kind : CommandKind) (items more : List Item) (s : Setting) (v : List ℕ) (b : Bool) → AllHad kind (items ++ option s v b ∷ more) →
+    has kind s ≡ true
+had_at kind [] more s v b had = had.0
+had_at kind (option t w d ∷ items) more s v b had = had_at kind items more s v b had.1
+had_at kind (plain w ∷ items) more s v b had = had_at kind items more s v b had
 
-had_snoc : (kind : CommandKind) (items : List Item) (item : Item) → AllHad kind items → has kind item.setting ≡ true → AllHad kind (items ++ item ∷ [])
-had_snoc kind [] item had this = (this, tt)
-had_snoc kind (i ∷ items) item had this = (had.0, had_snoc kind items item had.1 this)
+had_both : (kind : CommandKind) (xs ys : List Item) → AllHad kind xs → AllHad kind ys → AllHad kind (xs ++ ys)
+had_both kind [] ys had this = this
+had_both kind (option t w d ∷ xs) ys had this = (had.0, had_both kind xs ys had.1 this)
+had_both kind (plain w ∷ xs) ys had this = had_both kind xs ys had this
 
 -- the command has no such option
-pub not_had : (kind : CommandKind) (options : Options) (s : Setting) (v : List ℕ) → has kind s ≡ false → NoneFit kind options s v
-not_had kind options s v none items more joined fit may =
-    no (sym none ∙ had_at kind items more (item_of s v joined) may.had)
+pub not_had : (kind : CommandKind) (numbers : Numbers) (s : Setting) (v : List ℕ) → has kind s ≡ false → NoneFit kind numbers s v
+not_had kind numbers s v none items more joined fit may =
+    no (sym none ∙ had_at kind items more s v joined may.had)
   where
     no : false ≡ true → ⊥
     no e = cc
@@ -63,9 +76,9 @@ given_twice s [] more v n seen may = seen
 given_twice s (w ∷ []) more v n seen may = may
 given_twice s (w ∷ x ∷ vs) more v n seen may = seen
 
-pub twice : (kind : CommandKind) (options : Options) (s : Setting) (v : List ℕ) → is_some (slot options s) ≡ true → NoneFit kind options s v
-twice kind options s v given items more joined fit may =
-    by_slot (slot options s) given (fit.seen s)
+pub twice : (kind : CommandKind) (numbers : Numbers) (s : Setting) (v : List ℕ) → is_some (slot numbers s) ≡ true → NoneFit kind numbers s v
+twice kind numbers s v given items more joined fit may =
+    by_slot (slot numbers s) given (fit.seen s)
   where
     by_slot : (o : Option ℕ) → is_some o ≡ true → Seen s (values_of s items) o → ⊥
     by_slot None given seen = cc
@@ -80,11 +93,15 @@ one_value s (w ∷ []) more v may = absurd may
 one_value s (w ∷ x ∷ vs) more v may = absurd may
 
 pub not_given :
-    (kind : CommandKind) (options : Options) (s : Setting) (v : List ℕ) → ((n : ℕ) → ¬ Gives s v n) → NoneFit kind options s v
-not_given kind options s v none items more joined fit may =
+    (kind : CommandKind) (numbers : Numbers) (s : Setting) (v : List ℕ) → ((n : ℕ) → ¬ Gives s v n) → NoneFit kind numbers s v
+not_given kind numbers s v none items more joined fit may =
     none (digits_value 10 v)
     (one_value s (values_of s items) (values_of s more) v
     (subst (λ (l : List (List ℕ)). MaySet s l) (values_at s items more v joined) (may.may s)))
+
+not_some : (o : Option ℕ) → is_some o ≡ false → o ≡ None
+not_some None e = refl
+not_some (Some n) e = cc
 
 -- the option was not given, and has the value now
 seen_more :
@@ -100,17 +117,87 @@ seen_more t true vs v n o seen fresh gives =
     fill (w ∷ x ∷ vs) seen = absurd seen
 
 pub one_more :
-    (kind : CommandKind) (options after : Options) (s : Setting) (v : List ℕ) (n : ℕ) → has kind s ≡ true → is_some (slot options s) ≡ false →
-    Gives s v n → IsWith options s n after → MoreFit kind options s v after
-one_more kind options after s v n had fresh gives is items joined fit = record {
-  had = had_snoc kind items (item_of s v joined) fit.had had;
-  seen = λ t. subst (λ (o : Option ℕ). Seen t (values_of t (items ++ item_of s v joined ∷ [])) o) (sym (is t))
-      (subst (λ (l : List (List ℕ)). Seen t l (if is_same s t then Some n else slot options t)) (sym (values_of-append t items (item_of s v joined ∷ [])))
-      (seen_more t (is_same s t) (values_of t items) v n (slot options t) (fit.seen t)
-      (λ same. subst (λ (u : Setting). slot options u ≡ None) (same_is s t same) (empty (slot options s) fresh))
+    (kind : CommandKind) (numbers after : Numbers) (s : Setting) (v : List ℕ) (n : ℕ) → has kind s ≡ true →
+    is_some (slot numbers s) ≡ false → Gives s v n → IsWith numbers s n after → after.groups ≡ numbers.groups →
+    MoreFit kind numbers s v after
+one_more kind numbers after s v n had fresh gives is kept items joined fit = record {
+  had = had_both kind items (option s v joined ∷ []) fit.had (had, tt);
+  seen = λ t. subst (λ (o : Option ℕ). Seen t (values_of t (items ++ option s v joined ∷ [])) o) (sym (is t))
+      (subst (λ (l : List (List ℕ)). Seen t l (if is_same s t then Some n else slot numbers t))
+      (sym (values_of-append t items (option s v joined ∷ [])))
+      (seen_more t (is_same s t) (values_of t items) v n (slot numbers t) (fit.seen t)
+      (λ same. subst (λ (u : Setting). slot numbers u ≡ None) (same_is s t same) (not_some (slot numbers s) fresh))
       (λ same. subst (λ (u : Setting). Gives u v n) (same_is s t same) gives)));
+  groups = subst (λ (o : Option ℕ). SeenGroups (wants_groups kind) (plain_of (items ++ option s v joined ∷ [])) o) (sym kept)
+      (subst (λ (l : List (List ℕ)). SeenGroups (wants_groups kind) l numbers.groups) (sym same_words) fit.groups);
 }
   where
-    empty : (o : Option ℕ) → is_some o ≡ false → o ≡ None
-    empty None e = refl
-    empty (Some n) e = cc
+    same_words : plain_of (items ++ option s v joined ∷ []) ≡ plain_of items
+    same_words = plain_of-append items (option s v joined ∷ []) ∙ append-nil (plain_of items)
+
+-- a plain word among others is the only one
+only_word :
+    (wanted : Bool) (words more : List (List ℕ)) (word : List ℕ) → MaySetGroups wanted (words ++ word ∷ more) →
+    (words ≡ []) × (wanted ≡ true) × TellsGroups word (digits_value 10 word)
+only_word wanted [] [] word may = (refl, may.0, may.1)
+only_word wanted [] (x ∷ more) word may = absurd may
+only_word wanted (w ∷ []) more word may = absurd may
+only_word wanted (w ∷ x ∷ words) more word may = absurd may
+
+pub only_plain :
+    (kind : CommandKind) (items more : List Item) (word : List ℕ) → MayFit kind (items ++ plain word ∷ more) →
+    (plain_of items ≡ []) × (wants_groups kind ≡ true) × TellsGroups word (digits_value 10 word)
+only_plain kind items more word may =
+    only_word (wants_groups kind) (plain_of items) (plain_of more) word
+    (subst (λ (l : List (List ℕ)). MaySetGroups (wants_groups kind) l) (plain_of-append items (plain word ∷ more)) may.groups)
+
+-- the command wants no groups
+pub not_wanted : (kind : CommandKind) (numbers : Numbers) (word : List ℕ) → wants_groups kind ≡ false → NoneTell kind numbers word
+not_wanted kind numbers word none items more fit may = no (sym none ∙ (only_plain kind items more word may).1)
+  where
+    no : false ≡ true → ⊥
+    no e = cc
+
+-- the groups were told before
+pub told_twice : (kind : CommandKind) (numbers : Numbers) (word : List ℕ) → is_some numbers.groups ≡ true → NoneTell kind numbers word
+told_twice kind numbers word told items more fit may =
+    by_groups numbers.groups told
+    (subst (λ (l : List (List ℕ)). SeenGroups (wants_groups kind) l numbers.groups) (only_plain kind items more word may).0 fit.groups)
+  where
+    by_groups : (o : Option ℕ) → is_some o ≡ true → SeenGroups (wants_groups kind) [] o → ⊥
+    by_groups None told seen = cc
+    by_groups (Some n) told seen = seen
+
+-- the word tells none
+pub not_told : (kind : CommandKind) (numbers : Numbers) (word : List ℕ) → ((n : ℕ) → ¬ TellsGroups word n) → NoneTell kind numbers word
+not_told kind numbers word none items more fit may = none (digits_value 10 word) (only_plain kind items more word may).2
+
+-- the groups were not told, and are told now
+pub groups_told :
+    (kind : CommandKind) (numbers : Numbers) (word : List ℕ) (n : ℕ) → wants_groups kind ≡ true → is_some numbers.groups ≡ false →
+    TellsGroups word n → MoreTell kind numbers word (record numbers { groups = Some n })
+groups_told kind numbers word n wanted fresh tells items fit = record {
+  had = had_both kind items (plain word ∷ []) fit.had tt;
+  seen = λ t. subst (λ (o : Option ℕ). Seen t (values_of t (items ++ plain word ∷ [])) o) (sym (same_slot t))
+      (subst (λ (l : List (List ℕ)). Seen t l (slot numbers t)) (sym (same_values t)) (fit.seen t));
+  groups = subst (λ (l : List (List ℕ)). SeenGroups (wants_groups kind) l (Some n)) (sym (plain_of-append items (plain word ∷ [])))
+      (fill (plain_of items)
+      (subst (λ (o : Option ℕ). SeenGroups (wants_groups kind) (plain_of items) o) (not_some numbers.groups fresh) fit.groups));
+}
+  where
+    same_slot : (t : Setting) → slot (record numbers { groups = Some n }) t ≡ slot numbers t
+    same_slot Quota = refl
+    same_slot Workers = refl
+    same_slot Arena = refl
+    same_slot Steps = refl
+    same_slot Deques = refl
+    same_slot Seed = refl
+
+    same_values : (t : Setting) → values_of t (items ++ plain word ∷ []) ≡ values_of t items
+    same_values t = values_of-append t items (plain word ∷ []) ∙ append-nil (values_of t items)
+
+    fill : (words : List (List ℕ)) → SeenGroups (wants_groups kind) words None →
+        SeenGroups (wants_groups kind) (words ++ word ∷ []) (Some n)
+    fill [] seen = (wanted, tells)
+    fill (w ∷ []) seen = absurd seen
+    fill (w ∷ x ∷ words) seen = absurd seen

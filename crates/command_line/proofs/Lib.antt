@@ -1,3 +1,4 @@
 pub mod Items
 pub mod Fits
+pub mod Turns
 pub mod Commands

@@ -1,34 +1,40 @@
 -- What the reading of the words finds on the way.
-use Rattle.std.specs.Prelude.{◌≡◌, ℕ, Bool, if◌then◌else◌, List, [], ◌∷◌, ◌++◌, Option, None, Some, unwrap_or}
+use Rattle.std.specs.Prelude.{◌≡◌, ℕ, Bool, true, if◌then◌else◌, List, [], ◌∷◌, ◌++◌, Option, None, Some, unwrap_or}
 use Rattle.std.specs.List.{flat_map}
 use Rattle.std.specs.Str.Parse.{digits_value}
 use Rattle.command_line.specs.declared.command_kind.CommandKind.{CommandKind}
-use Rattle.command_line.specs.declared.options.Options.{Options}
+use Rattle.command_line.specs.declared.numbers.Numbers.{Numbers}
 use Rattle.command_line.specs.declared.setting.Setting.{Setting}
-use Rattle.command_line.specs.declared.setting.Setting.TheVariants.{Quota, Workers, Steps}
-use Rattle.command_line.specs.Words.{Item, spelled, is_same, values_of, rule_of, Gives, AllHad}
+use Rattle.command_line.specs.declared.setting.Setting.TheVariants.{Quota, Workers, Arena, Steps, Deques, Seed}
+use Rattle.command_line.specs.Words.{Item, option, plain, spelled, is_same, values_of, plain_of, rule_of, Gives, TellsGroups, wants_groups, AllHad}
 
 -- the words do not begin with an option
-abbrev pub NoItem : List (List ℕ) → Type 0
-NoItem words = (item : Item) (more : List (List ℕ)) → ¬ (words ≡ spelled item ++ more)
+abbrev pub NoOption : List (List ℕ) → Type 0
+NoOption words = (s : Setting) (v : List ℕ) (joined : Bool) (more : List (List ℕ)) → ¬ (words ≡ spelled (option s v joined) ++ more)
 
 -- the words begin with an option and its value, in one word or in two, and go on with others
 abbrev pub IsNext : List (List ℕ) → Setting → List ℕ → List (List ℕ) → Type 0
-IsNext words s v more =
-    (joined : Bool) × (words ≡ spelled (record { setting = s; value = v; joined = joined }) ++ more)
+IsNext words s v more = (joined : Bool) × (words ≡ spelled (option s v joined) ++ more)
 
 -- the number that was given to an option
-abbrev pub slot : Options → Setting → Option ℕ
-slot options Quota = options.quota
-slot options Workers = options.workers
-slot options Steps = options.steps
+abbrev pub slot : Numbers → Setting → Option ℕ
+slot numbers Quota = numbers.quota
+slot numbers Workers = numbers.workers
+slot numbers Arena = numbers.arena
+slot numbers Steps = numbers.steps
+slot numbers Deques = numbers.deques
+slot numbers Seed = numbers.seed
 
 -- or its default
 abbrev pub or_default : Setting → Option ℕ → ℕ
 or_default s o = unwrap_or o (rule_of s).default
 
+-- nothing was given
+abbrev pub no_numbers : Numbers
+no_numbers = record { quota = None; workers = None; arena = None; steps = None; deques = None; seed = None; groups = None }
+
 -- one option has a number now, and the others are as before
-abbrev pub IsWith : Options → Setting → ℕ → Options → Type 0
+abbrev pub IsWith : Numbers → Setting → ℕ → Numbers → Type 0
 IsWith before s n after = (t : Setting) → slot after t ≡ (if is_same s t then Some n else slot before t)
 
 -- the values of an option are one that gives this number, or none where there is no number
@@ -39,46 +45,80 @@ Seen s (value ∷ []) None = ⊥
 Seen s (value ∷ []) (Some n) = Gives s value n
 Seen s (value ∷ again ∷ values) o = ⊥
 
+-- the plain words are one that tells this number of groups, where groups are wanted, or none where there is no number
+abbrev pub SeenGroups : (wanted : Bool) → List (List ℕ) → Option ℕ → Type 0
+SeenGroups wanted [] None = Unit {0}
+SeenGroups wanted [] (Some n) = ⊥
+SeenGroups wanted (word ∷ []) None = ⊥
+SeenGroups wanted (word ∷ []) (Some n) = (wanted ≡ true) × TellsGroups word n
+SeenGroups wanted (word ∷ again ∷ words) o = ⊥
+
 -- the values of an option may be those of a command
 abbrev pub MaySet : Setting → List (List ℕ) → Type 0
 MaySet s [] = Unit {0}
 MaySet s (value ∷ []) = Gives s value (digits_value 10 value)
 MaySet s (value ∷ again ∷ values) = ⊥
 
--- the items give these numbers to the options of a command
-pub record Fit (kind : CommandKind) (items : List Item) (options : Options) : Type 0 where
+-- the plain words may be those of a command
+abbrev pub MaySetGroups : (wanted : Bool) → List (List ℕ) → Type 0
+MaySetGroups wanted [] = Unit {0}
+MaySetGroups wanted (word ∷ []) = (wanted ≡ true) × TellsGroups word (digits_value 10 word)
+MaySetGroups wanted (word ∷ again ∷ words) = ⊥
+
+-- the items give these numbers to a command
+pub record Fit (kind : CommandKind) (items : List Item) (numbers : Numbers) : Type 0 where
   pub had : AllHad kind items
-  pub seen : (s : Setting) → Seen s (values_of s items) (slot options s)
+  pub seen : (s : Setting) → Seen s (values_of s items) (slot numbers s)
+  pub groups : SeenGroups (wants_groups kind) (plain_of items) numbers.groups
 
 -- the items may be those of a command
 pub record MayFit (kind : CommandKind) (items : List Item) : Type 0 where
   pub had : AllHad kind items
   pub may : (s : Setting) → MaySet s (values_of s items)
+  pub groups : MaySetGroups (wants_groups kind) (plain_of items)
 
--- with one item more the numbers are these
-abbrev pub MoreFit : CommandKind → Options → Setting → List ℕ → Options → Type 0
+-- with one option more the numbers are these
+abbrev pub MoreFit : CommandKind → Numbers → Setting → List ℕ → Numbers → Type 0
 MoreFit kind before s v after =
-    (items : List Item) (joined : Bool) → Fit kind items before
-    → Fit kind (items ++ record { setting = s; value = v; joined = joined } ∷ []) after
+    (items : List Item) (joined : Bool) → Fit kind items before → Fit kind (items ++ option s v joined ∷ []) after
 
--- no command has one item more, and further ones
-abbrev pub NoneFit : CommandKind → Options → Setting → List ℕ → Type 0
+-- no command has one option more, and further items
+abbrev pub NoneFit : CommandKind → Numbers → Setting → List ℕ → Type 0
 NoneFit kind before s v =
-    (items more : List Item) (joined : Bool) → Fit kind items before
-    → ¬ MayFit kind (items ++ record { setting = s; value = v; joined = joined } ∷ more)
+    (items more : List Item) (joined : Bool) → Fit kind items before → ¬ MayFit kind (items ++ option s v joined ∷ more)
 
--- the words are options of a command with these numbers
-pub record AreOptions (kind : CommandKind) (words : List (List ℕ)) (options : Options) : Type 0 where
+-- with one plain word more the numbers are these
+abbrev pub MoreTell : CommandKind → Numbers → List ℕ → Numbers → Type 0
+MoreTell kind before word after = (items : List Item) → Fit kind items before → Fit kind (items ++ plain word ∷ []) after
+
+-- no command has one plain word more, and further items
+abbrev pub NoneTell : CommandKind → Numbers → List ℕ → Type 0
+NoneTell kind before word = (items more : List Item) → Fit kind items before → ¬ MayFit kind (items ++ plain word ∷ more)
+
+-- the words begin with an item, with which the numbers are these, and go on with the rest
+pub record GoesOn (kind : CommandKind) (before : Numbers) (words : List (List ℕ)) (after : Numbers) (rest : List (List ℕ)) : Type 0 where
+  pub item : Item
+  pub written : words ≡ spelled item ++ rest
+  pub fit : (items : List Item) → Fit kind items before → Fit kind (items ++ item ∷ []) after
+
+-- no command goes on with these words
+abbrev pub NoneGoesOn : CommandKind → Numbers → List (List ℕ) → Type 0
+NoneGoesOn kind before words =
+    (items more : List Item) (item : Item) → Fit kind items before → words ≡ spelled item ++ flat_map spelled more →
+    ¬ MayFit kind (items ++ item ∷ more)
+
+-- the words are items of a command with these numbers
+pub record AreItems (kind : CommandKind) (words : List (List ℕ)) (numbers : Numbers) : Type 0 where
   pub items : List Item
   pub written : words ≡ flat_map spelled items
-  pub fit : Fit kind items options
+  pub fit : Fit kind items numbers
 
--- the words are no options of a command
-abbrev pub NoOptions : CommandKind → List (List ℕ) → Type 0
-NoOptions kind words = (items : List Item) → words ≡ flat_map spelled items → ¬ MayFit kind items
+-- the words are no items of a command
+abbrev pub NoItems : CommandKind → List (List ℕ) → Type 0
+NoItems kind words = (items : List Item) → words ≡ flat_map spelled items → ¬ MayFit kind items
 
 -- the words begin with items that give these numbers, and go on with the rest
-pub record AreRead (kind : CommandKind) (words rest : List (List ℕ)) (options : Options) : Type 0 where
+pub record AreRead (kind : CommandKind) (words rest : List (List ℕ)) (numbers : Numbers) : Type 0 where
   pub items : List Item
   pub written : words ≡ flat_map spelled items ++ rest
-  pub fit : Fit kind items options
+  pub fit : Fit kind items numbers

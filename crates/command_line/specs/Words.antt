@@ -6,13 +6,15 @@ use Rattle.std.specs.Str.Parse.{IsNumeral, digits_value}
 use Rattle.std.specs.String.{string_bytes}
 use Rattle.std.specs.declared.string.String.{String}
 use Rattle.std.specs.declared.alloc.Global.{Global}
-use Rattle.language_limits.specs.declared.TheConstants.{GREATEST_QUOTA, LEAST_QUOTA, MOST_ACTIONS, MOST_WORKERS}
+use Rattle.language_limits.specs.declared.TheConstants.{GREATEST_QUOTA, LEAST_QUOTA, MOST_ACTIONS, MOST_DEQUES, MOST_WORDS, MOST_WORKERS}
+use Rattle.made_source.specs.declared.TheConstants.{MOST_GROUPS}
 use Rattle.command_line.specs.declared.command.Command.{Command}
 use Rattle.command_line.specs.declared.command_kind.CommandKind.{CommandKind}
-use Rattle.command_line.specs.declared.command_kind.CommandKind.TheVariants.{Play, Peak, Check}
+use Rattle.command_line.specs.declared.command_kind.CommandKind.TheVariants.{Play, Peak, Check, Make}
 use Rattle.command_line.specs.declared.rule.Rule.{Rule}
+use Rattle.command_line.specs.declared.rule.TheConstants.{GREATEST_SEED}
 use Rattle.command_line.specs.declared.setting.Setting.{Setting}
-use Rattle.command_line.specs.declared.setting.Setting.TheVariants.{Quota, Workers, Steps}
+use Rattle.command_line.specs.declared.setting.Setting.TheVariants.{Quota, Workers, Arena, Steps, Deques, Seed}
 
 -- the bytes of each word
 abbrev pub words_of : List (String Global) → List (List ℕ)
@@ -23,40 +25,55 @@ abbrev pub kind_word : CommandKind → List ℕ
 kind_word Play = codes "play"
 kind_word Peak = codes "peak"
 kind_word Check = codes "check"
+kind_word Make = codes "make"
 
 -- the name of an option, without its `--`
 abbrev pub name_of : Setting → List ℕ
 name_of Quota = codes "k"
 name_of Workers = codes "p"
+name_of Arena = codes "arena"
 name_of Steps = codes "steps"
+name_of Deques = codes "deques"
+name_of Seed = codes "seed"
 
--- the numbers that it may have, and its default
+-- the numbers that it may have, and its default; the words of a quota and of an arena are whole pieces
 abbrev pub rule_of : Setting → Rule
 rule_of Quota = record { least = LEAST_QUOTA; most = GREATEST_QUOTA; unit = LEAST_QUOTA; default = 4096 }
 rule_of Workers = record { least = 1; most = MOST_WORKERS; unit = 1; default = 4 }
+rule_of Arena = record { least = LEAST_QUOTA; most = MOST_WORDS; unit = LEAST_QUOTA; default = 1048576 }
 rule_of Steps = record { least = 1; most = MOST_ACTIONS; unit = 1; default = MOST_ACTIONS }
+rule_of Deques = record { least = 1; most = MOST_DEQUES; unit = 1; default = MOST_DEQUES }
+rule_of Seed = record { least = 0; most = GREATEST_SEED; unit = 1; default = 1 }
 
 -- whether a command has an option
 abbrev pub has : CommandKind → Setting → Bool
-has Play Quota = true
-has Play Workers = true
-has Play Steps = false
+has Play s = true
 has Peak Quota = true
 has Peak Workers = false
+has Peak Arena = false
 has Peak Steps = true
+has Peak Deques = false
+has Peak Seed = false
 has Check s = false
+has Make s = true
 
--- an option as the words write it, with its value: in one word, or in two
-pub record Item : Type 0 where
-  pub setting : Setting
-  pub value : List ℕ
-  pub joined : Bool
+-- whether a command wants a plain word, its number of groups
+abbrev pub wants_groups : CommandKind → Bool
+wants_groups Play = false
+wants_groups Peak = false
+wants_groups Check = false
+wants_groups Make = true
 
--- its words: `--name=value`, or `--name` and `value`
+-- what stands behind the word of a command: an option with its value, joined in one word or in two; or a plain word
+pub data Item : Type 0 where
+  option : (setting : Setting) (value : List ℕ) (joined : Bool) → Item
+  plain : (word : List ℕ) → Item
+
+-- its words: `--name=value`, or `--name` and `value`, or the plain word
 abbrev pub spelled : Item → List (List ℕ)
-spelled item =
-    if item.joined then (codes "--" ++ (name_of item.setting ++ (codes "=" ++ item.value))) ∷ []
-    else (codes "--" ++ name_of item.setting) ∷ item.value ∷ []
+spelled (option s value true) = (codes "--" ++ (name_of s ++ (codes "=" ++ value))) ∷ []
+spelled (option s value false) = (codes "--" ++ name_of s) ∷ value ∷ []
+spelled (plain word) = word ∷ []
 
 -- whether two options are the same one
 abbrev pub is_same : Setting → Setting → Bool
@@ -65,7 +82,14 @@ is_same s t = bytes_eq (name_of s) (name_of t)
 -- the values that the items give to an option
 abbrev pub values_of : Setting → List Item → List (List ℕ)
 values_of s [] = []
-values_of s (item ∷ items) = if is_same item.setting s then item.value ∷ values_of s items else values_of s items
+values_of s (option t value joined ∷ items) = if is_same t s then value ∷ values_of s items else values_of s items
+values_of s (plain word ∷ items) = values_of s items
+
+-- the plain words among the items
+abbrev pub plain_of : List Item → List (List ℕ)
+plain_of [] = []
+plain_of (option s value joined ∷ items) = plain_of items
+plain_of (plain word ∷ items) = word ∷ plain_of items
 
 -- a value: 1 to 20 decimal digits
 abbrev pub IsValue : List ℕ → Type 0
@@ -85,20 +109,38 @@ Sets s [] n = n ≡ (rule_of s).default
 Sets s (value ∷ []) n = Gives s value n
 Sets s (value ∷ again ∷ values) n = ⊥
 
+-- a plain word tells this number of groups: it is a value like those of options, and so no word that begins with `--`
+abbrev pub TellsGroups : List ℕ → ℕ → Type 0
+TellsGroups word n = IsValue word × (1 ≤ n) × (n ≤ MOST_GROUPS) × (n ≡ digits_value 10 word)
+
+-- the groups of a command that wants some are what its one plain word tells; another command has no plain word, and 0 groups
+abbrev pub SetsGroups : (wanted : Bool) → (plain_words : List (List ℕ)) → ℕ → Type 0
+SetsGroups true [] n = ⊥
+SetsGroups true (word ∷ []) n = TellsGroups word n
+SetsGroups true (word ∷ again ∷ words) n = ⊥
+SetsGroups false [] n = n ≡ 0
+SetsGroups false (word ∷ words) n = ⊥
+
 -- the command has each of the options
 abbrev pub AllHad : CommandKind → List Item → Type 0
 AllHad kind [] = Unit {0}
-AllHad kind (item ∷ items) = (has kind item.setting ≡ true) × AllHad kind items
+AllHad kind (option s value joined ∷ items) = (has kind s ≡ true) × AllHad kind items
+AllHad kind (plain word ∷ items) = AllHad kind items
 
 -- the number of an option in a command
 abbrev pub number_of : Command → Setting → ℕ
 number_of command Quota = command.k
 number_of command Workers = command.p
+number_of command Arena = command.arena
 number_of command Steps = command.steps
+number_of command Deques = command.deques
+number_of command Seed = command.seed
 
--- the words are this command: its word, and then options that it has, in any order, each at most once
+-- the words are this command: its word, and behind it, in any order, options that it has, each at most once, and its number
+-- of groups where it wants one
 pub record IsCommand (words : List (List ℕ)) (command : Command) : Type 0 where
   pub items : List Item
   pub written : words ≡ kind_word command.kind ∷ flat_map spelled items
   pub had : AllHad command.kind items
   pub sets : (s : Setting) → Sets s (values_of s items) (number_of command s)
+  pub groups : SetsGroups (wants_groups command.kind) (plain_of items) command.groups

@@ -1,5 +1,5 @@
 ghost use Rattle.std.specs.Prelude.{◌≡◌, MatchOption};
-ghost use Rattle.command_line.specs.Words.{kind_word, has};
+ghost use Rattle.command_line.specs.Words.{kind_word, has, wants_groups};
 ghost use Rattle.command_line.specs.declared.command_kind.CommandKind.{CommandKind};
 
 use crate::setting::Setting;
@@ -13,6 +13,8 @@ pub enum CommandKind {
     Peak,
     /// `check`: a program is checked, and its text is written in one layout.
     Check,
+    /// `make`: a made source is run by the scheduler, and what it came to is written in numbers.
+    Make,
 }
 
 impl CommandKind {
@@ -26,6 +28,8 @@ impl CommandKind {
             Some(CommandKind::Peak)
         } else if word == b"check".as_slice() {
             Some(CommandKind::Check)
+        } else if word == b"make".as_slice() {
+            Some(CommandKind::Make)
         } else {
             None
         }
@@ -36,9 +40,16 @@ impl CommandKind {
         ensures { result ≡ has self setting }
     {
         match self {
-            CommandKind::Play => matches!(setting, Setting::Quota | Setting::Workers),
+            CommandKind::Play | CommandKind::Make => true,
             CommandKind::Peak => matches!(setting, Setting::Quota | Setting::Steps),
             CommandKind::Check => false,
         }
+    }
+
+    /// Whether the command wants a plain word, its number of groups.
+    pub fn wants_groups(self) -> bool
+        ensures { result ≡ wants_groups self }
+    {
+        matches!(self, CommandKind::Make)
     }
 }

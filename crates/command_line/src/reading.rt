@@ -1,30 +1,42 @@
 ghost use Rattle.std.specs.Prelude.{◌≡◌, MatchOption, IfSome};
 ghost use Rattle.command_line.specs.Words.{words_of, IsCommand};
-ghost use Rattle.command_line.specs.Reading.{AreOptions, NoOptions};
+ghost use Rattle.command_line.specs.Reading.{AreItems, NoItems, GoesOn, NoneGoesOn};
 ghost use Rattle.command_line.specs.declared.command.Command.{Command};
 
 use crate::command::Command;
 use crate::command_kind::CommandKind;
 use crate::item::next_option;
-use crate::options::Options;
+use crate::numbers::Numbers;
 use crate::setting::Setting;
+use byte_cuts::behind;
 
-/// The numbers that the words behind a command give to its options.
-fn read_options(kind: CommandKind, words: &[String]) -> Option<Options>
-    ensures { MatchOption result (NoOptions kind (words_of words.now)) (λ options. AreOptions kind (words_of words.now) options) }
+/// The numbers with the item that comes next, and the words behind it.
+fn read_item(kind: CommandKind, numbers: Numbers, words: &[String]) -> Option<(Numbers, &[String])>
+    ensures { MatchOption result (NoneGoesOn kind numbers (words_of words.now))
+        (λ next. GoesOn kind numbers (words_of words.now) next.0 (words_of next.1.now)) }
 {
-    let mut options = Options {
-        quota: None,
-        workers: None,
-        steps: None,
+    let (word, after) = words.split_first()?;
+    let Some(_) = behind(word.as_bytes(), b"--") else {
+        let more = numbers.more_groups(kind, word.as_bytes())?;
+        return Some((more, after));
     };
+    let (setting, value, after) = next_option(words)?;
+    let more = numbers.more(kind, setting, value)?;
+    Some((more, after))
+}
+
+/// The numbers that the words behind a command give.
+fn read_items(kind: CommandKind, words: &[String]) -> Option<Numbers>
+    ensures { MatchOption result (NoItems kind (words_of words.now)) (λ numbers. AreItems kind (words_of words.now) numbers) }
+{
+    let mut numbers = Numbers::none();
     let mut rest = words;
-    'options: while !rest.is_empty() {
-        let (setting, value, after) = next_option(rest)?;
-        options = options.more(kind, setting, value)?;
+    'items: while !rest.is_empty() {
+        let (more, after) = read_item(kind, numbers, rest)?;
+        numbers = more;
         rest = after;
     }
-    Some(options)
+    Some(numbers)
 }
 
 /// The command that the words of a command line are, without the program's own name. None exactly where they are none.
@@ -35,11 +47,16 @@ pub fn read_words(words: &[String]) -> Option<Command>
 {
     let (first, rest) = words.split_first()?;
     let kind = CommandKind::named(first.as_bytes())?;
-    let options = read_options(kind, rest)?;
+    let numbers = read_items(kind, rest)?;
+    let groups = numbers.groups_of(kind)?;
     Some(Command {
         kind,
-        k: options.number(Setting::Quota),
-        p: options.number(Setting::Workers),
-        steps: options.number(Setting::Steps),
+        k: numbers.short_number(Setting::Quota),
+        p: numbers.short_number(Setting::Workers),
+        arena: numbers.short_number(Setting::Arena),
+        steps: numbers.short_number(Setting::Steps),
+        deques: numbers.short_number(Setting::Deques),
+        seed: numbers.number(Setting::Seed),
+        groups,
     })
 }

@@ -1,25 +1,29 @@
 ghost use Rattle.std.specs.Prelude.{◌≡◌};
 
+/// The greatest seed: each number of 64 bits is a seed.
+pub const GREATEST_SEED: u64 = u64::MAX;
+
 /// The numbers that an option may have.
 #[derive(Clone, Copy, PartialEq, Eq, Debug)]
 pub struct Rule {
-    pub least: u32,
-    pub most: u32,
+    pub least: u64,
+    pub most: u64,
     /// The number of which each is a multiple.
-    pub unit: u32,
+    pub unit: u64,
     /// The number where the option is not given.
-    pub default: u32,
+    pub default: u64,
 }
 
 impl Rule {
-    pub fn new(least: u32, most: u32, unit: u32, default: u32) -> Rule
+    /// The rule of an option whose numbers have 32 bits.
+    pub fn short(least: u32, most: u32, unit: u32, default: u32) -> Rule
         ensures { result ≡ record { least = least; most = most; unit = unit; default = default } }
     {
         Rule {
-            least,
-            most,
-            unit,
-            default,
+            least: u64::from(least),
+            most: u64::from(most),
+            unit: u64::from(unit),
+            default: u64::from(default),
         }
     }
 }

@@ -2,8 +2,10 @@ ghost use Rattle.std.specs.Prelude.{◌≡◌, MatchOption};
 ghost use Rattle.command_line.specs.Words.{name_of, rule_of};
 ghost use Rattle.command_line.specs.declared.setting.Setting.{Setting};
 
-use crate::rule::Rule;
-use language_limits::{GREATEST_QUOTA, LEAST_QUOTA, MOST_ACTIONS, MOST_WORKERS};
+use crate::rule::{GREATEST_SEED, Rule};
+use language_limits::{
+    GREATEST_QUOTA, LEAST_QUOTA, MOST_ACTIONS, MOST_DEQUES, MOST_WORDS, MOST_WORKERS,
+};
 
 /// An option of a command.
 #[derive(Clone, Copy, PartialEq, Eq, Debug)]
@@ -12,8 +14,14 @@ pub enum Setting {
     Quota,
     /// `--p`: the number of workers.
     Workers,
+    /// `--arena`: the limit of words.
+    Arena,
     /// `--steps`: the limit of actions.
     Steps,
+    /// `--deques`: the limit of deques.
+    Deques,
+    /// `--seed`: what the draws of the workers begin with.
+    Seed,
 }
 
 impl Setting {
@@ -25,21 +33,35 @@ impl Setting {
             Some(Setting::Quota)
         } else if name == b"p".as_slice() {
             Some(Setting::Workers)
+        } else if name == b"arena".as_slice() {
+            Some(Setting::Arena)
         } else if name == b"steps".as_slice() {
             Some(Setting::Steps)
+        } else if name == b"deques".as_slice() {
+            Some(Setting::Deques)
+        } else if name == b"seed".as_slice() {
+            Some(Setting::Seed)
         } else {
             None
         }
     }
 
-    /// The numbers that the option may have.
+    /// The numbers that the option may have. The words of a quota and of an arena are whole pieces.
     pub fn rule(self) -> Rule
         ensures { result ≡ rule_of self }
     {
         match self {
-            Setting::Quota => Rule::new(LEAST_QUOTA, GREATEST_QUOTA, LEAST_QUOTA, 4_096),
-            Setting::Workers => Rule::new(1, MOST_WORKERS, 1, 4),
-            Setting::Steps => Rule::new(1, MOST_ACTIONS, 1, MOST_ACTIONS),
+            Setting::Quota => Rule::short(LEAST_QUOTA, GREATEST_QUOTA, LEAST_QUOTA, 4_096),
+            Setting::Workers => Rule::short(1, MOST_WORKERS, 1, 4),
+            Setting::Arena => Rule::short(LEAST_QUOTA, MOST_WORDS, LEAST_QUOTA, 1_048_576),
+            Setting::Steps => Rule::short(1, MOST_ACTIONS, 1, MOST_ACTIONS),
+            Setting::Deques => Rule::short(1, MOST_DEQUES, 1, MOST_DEQUES),
+            Setting::Seed => Rule {
+                least: 0,
+                most: GREATEST_SEED,
+                unit: 1,
+                default: 1,
+            },
         }
     }
 }

@@ -1,8 +1,9 @@
 ghost use Rattle.std.specs.Prelude.{◌≡◌, ℕ, ◌<◌, ◌^◌, MatchOption, SomeIff};
 ghost use Rattle.std.specs.Str.Parse.{digits_value};
-ghost use Rattle.command_line.specs.Words.{IsValue, InRange, Gives};
+ghost use Rattle.command_line.specs.Words.{IsValue, InRange, Gives, TellsGroups};
 
 use crate::setting::Setting;
+use made_source::MOST_GROUPS;
 
 /// The most digits of a value.
 const MAX_DIGITS: usize = 20;
@@ -21,15 +22,23 @@ fn number(value: &[u8]) -> Option<u64>
 }
 
 /// The number that a value gives to an option, where the option may have it.
-pub fn number_for(setting: Setting, value: &[u8]) -> Option<u32>
+pub fn number_for(setting: Setting, value: &[u8]) -> Option<u64>
     ensures { MatchOption result ((n : ℕ) → ¬ Gives setting value.now n) (λ n. Gives setting value.now n) }
 {
     let rule = setting.rule();
     let number = number(value)?;
-    if number < u64::from(rule.least)
-        || number > u64::from(rule.most)
-        || number % u64::from(rule.unit) != 0
-    {
+    if number < rule.least || number > rule.most || number % rule.unit != 0 {
+        return None;
+    }
+    Some(number)
+}
+
+/// How many groups a plain word tells: 1 to 8,000.
+pub fn groups_in(word: &[u8]) -> Option<u32>
+    ensures { MatchOption result ((n : ℕ) → ¬ TellsGroups word.now n) (λ n. TellsGroups word.now n) }
+{
+    let number = number(word)?;
+    if number < 1 || number > u64::from(MOST_GROUPS) {
         return None;
     }
     Some(number as u32)

@@ -1,7 +1,7 @@
 use Rattle.std.proofs.Common.{◌∙◌, ap, sym}
 use Rattle.std.specs.Option.{is_some}
 use Rattle.command_line.proofs.Fits.{not_had, twice, not_given, one_more}
-use Rattle.command_line.proofs.options.Options.more.Goals as goal
+use Rattle.command_line.proofs.numbers.Numbers.more.Goals as goal
 
 pub returns-then-not-has : goal.returns-then-not-has
 returns-then-not-has c = not_had c.args.kind c.args.self c.args.setting c.args.value.now (sym c.if-not-has.ensures)
@@ -17,4 +17,4 @@ returns-in_err-number c = rw c.from_residual.ensures
 pub returns : goal.returns
 returns c =
     one_more c.args.kind c.args.self c.with.result c.args.setting c.args.value.now c.in_ok-number.number (sym c.if-not-has.ensures)
-    (ap is_some (sym c.given.ensures) ∙ sym c.if-is_some.ensures) c.in_ok-number.ensures c.with.ensures
+    (ap is_some (sym c.given.ensures) ∙ sym c.if-is_some.ensures) c.in_ok-number.ensures c.with.ensures.option c.with.ensures.groups
