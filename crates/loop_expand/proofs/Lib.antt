@@ -1,0 +1,11 @@
+pub mod Scans
+pub mod Others
+pub mod Finding
+pub mod Nesting
+pub mod Elements
+pub mod WholeLoops
+pub mod FirstNames
+pub mod Expansions
+pub mod Answered
+pub mod TokenPlaces
+pub mod LoopPlaces

@@ -1,0 +1,10 @@
+pub mod Runs
+pub mod Loops
+pub mod Texts
+pub mod Expansion
+pub mod Reading
+pub mod Gives
+pub mod View
+pub mod Found
+pub mod Answers
+pub mod Refusals
