@@ -1,0 +1,4 @@
+pub mod Listing
+pub mod DequeLabels
+pub mod Naming
+pub mod Prefixes

@@ -1,0 +1,84 @@
+//! The books of a core, by the places of the actions in the depth-first list.
+
+ghost use Rattle.std.specs.Prelude.{◌≡◌, List as AnyList, IfOk, map};
+ghost use Rattle.std.specs.List.{AllZip};
+ghost use Rattle.bounded_list.specs.BoundedList.{entries};
+ghost use Rattle.depth_first_run.specs.States.{Setting};
+ghost use Rattle.deque_machine.specs.Moments.{Moment};
+ghost use Rattle.deque_machine.specs.Runs.{Pair};
+ghost use Rattle.lawful_books.specs.Lists.{Each};
+ghost use Rattle.dfd_core.specs.Cores.{IsAt};
+ghost use Rattle.prefix_laws.specs.Listing.{births_behind, books_behind};
+ghost use Rattle.prefix_laws.specs.Naming.{ArePlaced, IsKnown};
+ghost use Rattle.prefix_laws.specs.Prefixes.{IsSerialOf, TellsRun, ran_of, places_behind};
+
+use crate::names::{Name, name_of, names_in, place_of};
+use crate::numbered::in_order;
+use bounded_list::BoundedList;
+use dag_order::Births;
+use dfd_core::Core;
+use serial_journal::Serial;
+use space_ledger::Book;
+use std::alloc::{AllocError, Global};
+
+/// What a period ran, by the places of the actions in the depth-first list.
+pub(crate) type Places = BoundedList<u32>;
+
+/// The places of the actions of a book.
+fn places_of(
+    alloc: Global,
+    births: &[&Births],
+    names: &BoundedList<Name>,
+    book: &Book,
+) -> Result<Places, AllocError>
+    requires { Each (IsKnown (births_behind births.now) (entries names.now)) (entries book.now) }
+    ensures { IfOk result (λ places. ArePlaced (births_behind births.now) (entries names.now) (entries book.now) (entries places)) }
+{
+    let mut places = BoundedList::new(alloc);
+    'actions: for rank in 0..book.len() {
+        let Some(id) = book.at(rank) else {
+            unreachable!();
+        };
+        let name = name_of(alloc, births, *id)?;
+        places.reserve()?;
+        places.add(place_of(names, &name));
+    }
+    Ok(places)
+}
+
+/// The places of the actions of books, one book after another.
+fn all_places(
+    alloc: Global,
+    births: &[&Births],
+    names: &BoundedList<Name>,
+    books: &[&Book],
+) -> Result<BoundedList<Places>, AllocError>
+    requires { Each (Each (IsKnown (births_behind births.now) (entries names.now))) (books_behind books.now) }
+    ensures { IfOk result (λ all. AllZip (ArePlaced (births_behind births.now) (entries names.now)) (books_behind books.now)
+        (places_behind (entries all))) }
+{
+    let mut all = BoundedList::new(alloc);
+    'books: for rank in 0..books.len() {
+        let places = places_of(alloc, births, names, books[rank])?;
+        all.reserve()?;
+        all.add(places);
+    }
+    Ok(all)
+}
+
+/// What each period ran, closed or open, in the order of their numbers.
+///
+/// Each action that was done is looked for among all actions of the depth-first run.
+pub(crate) fn booked(
+    alloc: Global,
+    core: &Core,
+    serial: &Serial,
+) -> Result<BoundedList<Places>, AllocError>
+    requires { IsSerialOf core.now serial.now }
+    ensures { (c : Setting) (run : AnyList Pair) (m : Moment) → IsAt c core.now run m → TellsRun c serial.now
+        → IfOk result (λ all. places_behind (entries all) ≡ map ran_of m.books) }
+{
+    let periods = in_order(alloc, core)?;
+    let names = names_in(alloc, serial)?;
+    all_places(alloc, &periods.births, &names, &periods.books)
+}
