@@ -4,9 +4,9 @@
 use accepted_source::accept;
 use block_arena::Pool;
 use dag_order::Finish;
+use dfd_core::{Core, ListChoices, OutputFail, RunEnd, Stepped, play};
 use dummy_tree::Quota;
 use frame_code::lower;
-use scheduler_core::{Core, ListChoices, OutputFail, RunEnd, Stepped, play};
 use std::alloc::{AllocError, Global};
 use std::fmt::Write;
 use std::process::Abort;

@@ -20,4 +20,6 @@ mod runs;
 #[cfg(test)]
 mod tables;
 #[cfg(test)]
+mod texts;
+#[cfg(test)]
 mod traces;

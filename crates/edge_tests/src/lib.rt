@@ -1,0 +1,11 @@
+//! Tests of the edge of the program: its words, its streams and its texts.
+//!
+//! This crate has no code but tests. It stands on the crates that it tests, each of which is so proved but once. It has no theorem.
+#![tactic(auto)]
+
+#[cfg(test)]
+mod byte_streams_calls;
+#[cfg(test)]
+mod command_line_calls;
+#[cfg(test)]
+mod run_report_calls;

@@ -1,0 +1,393 @@
+use block_arena::{Block, Pool, Shell, pieces_for};
+use dag_order::FaultKind;
+use node_table::{CodeArg, CodeExpr, CodeLink, CodeRet, CodeRetValue, CodeTarget};
+use par_tree::{ChainOp, CmpOp};
+use slot_store::{Answer, Slots, evaluate, lend_back, pass};
+use std::process::Abort;
+use std::test::Fail;
+
+// The functions below test what a call needs, and then make it.
+
+fn new(rt: &(impl Abort + AllocGlobal), count: u16) -> Result<Slots, Fail> {
+    Ok(Slots::new(rt.alloc(), count)?)
+}
+
+fn set(rt: &impl Abort, slots: &mut Slots, slot: u16, value: i64) {
+    assert!(rt; usize::from(slot) < slots.count());
+    slots.set_integer(slot, value);
+}
+
+fn hold(rt: &impl Abort, slots: &mut Slots, slot: u16, block: Block) {
+    assert!(rt; usize::from(slot) < slots.count());
+    assert!(rt; !slots.has_block(slot));
+    slots.hold(slot, block);
+}
+
+fn take(rt: &impl Abort, slots: &mut Slots, slot: u16) -> Block {
+    assert!(rt; usize::from(slot) < slots.count());
+    assert!(rt; slots.has_block(slot));
+    slots.take(slot)
+}
+
+fn put(
+    rt: &impl Abort,
+    slots: &mut Slots,
+    slot: u16,
+    place: i64,
+    value: i64,
+) -> Result<(), FaultKind> {
+    assert!(rt; usize::from(slot) < slots.count());
+    slots.put(slot, place, value)
+}
+
+fn give_all(rt: &impl Abort, slots: Slots, pool: &mut Pool) {
+    assert!(rt; slots.held_words() <= pool.live());
+    slots.give_all(pool);
+}
+
+// A block of `len` numbers: 1 at place 0, 2 at place 1 and so on.
+fn counted(rt: &(impl Abort + AllocGlobal), pool: &mut Pool, len: u32) -> Result<Block, Fail> {
+    let shell = Shell::with_room(rt.alloc(), pieces_for(len))?;
+    let mut block = pool.take(len, shell)?;
+    for place in 0..len {
+        block.set(place, i64::from(place) + 1)?;
+    }
+    Ok(block)
+}
+
+fn fill(
+    rt: &(impl Abort + AllocGlobal),
+    slots: &mut Slots,
+    pool: &mut Pool,
+    slot: u16,
+    len: u32,
+) -> Result<(), Fail> {
+    let block = counted(rt, pool, len)?;
+    hold(rt, slots, slot, block);
+    Ok(())
+}
+
+fn chain(
+    rt: &impl AllocGlobal,
+    left: CodeExpr,
+    op: ChainOp,
+    right: CodeExpr,
+) -> Result<CodeExpr, Fail> {
+    let mut rest = Vec::new(rt.alloc());
+    rest.push(CodeLink { op, operand: right })?;
+    Ok(CodeExpr::Chain {
+        first: Box::new(rt.alloc(), left)?,
+        rest,
+    })
+}
+
+fn get(rt: &impl AllocGlobal, slot: u16, place: CodeExpr) -> Result<CodeExpr, Fail> {
+    Ok(CodeExpr::Get(slot, Box::new(rt.alloc(), place)?))
+}
+
+// The expression gives this over the slots.
+fn gives(rt: &impl Abort, slots: &Slots, expr: CodeExpr, want: Result<i64, FaultKind>) {
+    let told = evaluate(slots, &expr);
+    assert_eq!(rt; told, want);
+}
+
+#[test]
+fn expressions_read_slots(rt: HostRuntime) -> Result<(), Fail> {
+    let mut pool = Pool::new(rt.alloc(), 32)?;
+    let mut slots = new(&rt, 2)?;
+    set(&rt, &mut slots, 0, 19);
+    fill(&rt, &mut slots, &mut pool, 1, 20)?;
+    gives(&rt, &slots, CodeExpr::Num(-7), Ok(-7));
+    gives(&rt, &slots, CodeExpr::Len(1), Ok(20));
+    gives(
+        &rt,
+        &slots,
+        CodeExpr::Neg(Box::new(rt.alloc(), CodeExpr::Var(0))?),
+        Ok(-19),
+    );
+    let last = get(&rt, 1, CodeExpr::Var(0))?;
+    gives(
+        &rt,
+        &slots,
+        chain(&rt, last, ChainOp::Mul, CodeExpr::Num(3))?,
+        Ok(60),
+    );
+    let rest = chain(&rt, CodeExpr::Var(0), ChainOp::Rem, CodeExpr::Var(5))?;
+    gives(&rt, &slots, rest, Err(FaultKind::Divide));
+    gives(
+        &rt,
+        &slots,
+        get(&rt, 1, CodeExpr::Len(1))?,
+        Err(FaultKind::Index),
+    );
+    gives(
+        &rt,
+        &slots,
+        get(&rt, 0, CodeExpr::Num(0))?,
+        Err(FaultKind::Index),
+    );
+    let below = CodeExpr::Cmp {
+        op: CmpOp::Lt,
+        left: Box::new(rt.alloc(), CodeExpr::Var(0))?,
+        right: Box::new(rt.alloc(), CodeExpr::Len(1))?,
+    };
+    gives(&rt, &slots, below, Ok(1));
+    Ok(())
+}
+
+#[test]
+fn numbers_are_put_into_blocks(rt: HostRuntime) -> Result<(), Fail> {
+    let mut pool = Pool::new(rt.alloc(), 32)?;
+    let mut slots = new(&rt, 2)?;
+    fill(&rt, &mut slots, &mut pool, 1, 20)?;
+    // the slot, the place, and whether it is one of the block
+    for (slot, place, there) in [
+        (1, 0, true),
+        (1, 19, true),
+        (1, 20, false),
+        (1, -1, false),
+        (0, 0, false),
+    ] {
+        let done = put(&rt, &mut slots, slot, place, 5);
+        assert_eq!(rt; done.is_ok(), there, "at {place} of {slot}");
+        assert_eq!(rt;
+            slots.element(slot, place).ok(),
+            if there { Some(5) } else { None }
+        );
+    }
+    assert_eq!(rt;
+        (slots.element(1, 1), slots.held_words(), pool.live()),
+        (Ok(2), 32, 32)
+    );
+    let block = take(&rt, &mut slots, 1);
+    assert_eq!(rt;
+        (block.len(), slots.has_block(1), slots.length(1)),
+        (20, false, 0)
+    );
+    Ok(())
+}
+
+// The block of slot 0 is cut at a place into slots 1 and 2.
+fn cut(rt: &(impl Abort + AllocGlobal), slots: &mut Slots, at: i64) -> Result<(), Fail> {
+    let place = slots.cut_place(0, at).ok_or("no place")?;
+    assert!(rt; slots.count() == 3);
+    assert!(rt; slots.has_block(0));
+    assert!(rt; !slots.has_block(1));
+    assert!(rt; !slots.has_block(2));
+    slots.cut(rt.alloc(), 0, place, 1, 2)?;
+    Ok(())
+}
+
+// The parts in slots 1 and 2 are one block in slot 0 again.
+fn rejoin(rt: &impl Abort, slots: &mut Slots) -> Result<(), Fail> {
+    assert!(rt; slots.count() == 3);
+    assert!(rt; !slots.has_block(0));
+    assert!(rt; slots.has_block(1));
+    assert!(rt; slots.has_block(2));
+    assert!(rt; slots.length(1) % 16 == 0);
+    assert!(rt; slots.length(1) <= 64);
+    assert!(rt; slots.length(2) <= 64);
+    slots.rejoin(0, 1, 2)?;
+    Ok(())
+}
+
+#[test]
+fn blocks_are_cut_and_joined(rt: HostRuntime) -> Result<(), Fail> {
+    // the length of the block, the place, and the lengths of the parts
+    for (len, at, left, right) in [
+        (40u32, 0, 0, 40),
+        (40, 16, 16, 24),
+        (40, 32, 32, 8),
+        (48, 48, 48, 0),
+        (0, 0, 0, 0),
+    ] {
+        let mut pool = Pool::new(rt.alloc(), 64)?;
+        let mut slots = new(&rt, 3)?;
+        fill(&rt, &mut slots, &mut pool, 0, len)?;
+        assert_eq!(rt;
+            (slots.cut_place(0, 8), slots.cut_place(0, 64)),
+            (None, None)
+        );
+        cut(&rt, &mut slots, at)?;
+        assert_eq!(rt;
+            (slots.has_block(0), slots.length(1), slots.length(2)),
+            (false, left, right)
+        );
+        assert_eq!(rt; slots.held_words(), pool.live());
+        rejoin(&rt, &mut slots)?;
+        assert_eq!(rt;
+            (slots.length(0), slots.has_block(1), slots.has_block(2)),
+            (len, false, false)
+        );
+        for place in 0..len {
+            let place = i64::from(place);
+            assert_eq!(rt; slots.element(0, place), Ok(place + 1));
+        }
+    }
+    Ok(())
+}
+
+// The child of a fork whose branch names slots 0 and 2 of four.
+fn fork(rt: &(impl Abort + AllocGlobal), slots: &mut Slots) -> Result<Slots, Fail> {
+    assert!(rt; slots.count() == 4);
+    Ok(slots.part(rt.alloc(), &[0, 2])?)
+}
+
+// The Join of a child whose branch assigned to slot 3 of four.
+fn join(rt: &impl Abort, slots: &mut Slots, child: Slots) {
+    assert!(rt; slots.count() == 4);
+    assert!(rt; child.count() == 4);
+    assert!(rt; slots.is_apart(&child));
+    slots.take_in(child, &[3]);
+}
+
+#[test]
+fn a_child_takes_the_blocks_of_its_branch(rt: HostRuntime) -> Result<(), Fail> {
+    let mut pool = Pool::new(rt.alloc(), 64)?;
+    let mut slots = new(&rt, 4)?;
+    set(&rt, &mut slots, 0, 7);
+    fill(&rt, &mut slots, &mut pool, 1, 16)?;
+    fill(&rt, &mut slots, &mut pool, 2, 20)?;
+    let mut child = fork(&rt, &mut slots)?;
+    assert_eq!(rt;
+        (child.integer(0), child.has_block(1), child.length(2)),
+        (7, false, 20)
+    );
+    assert_eq!(rt;
+        (slots.integer(0), slots.length(1), slots.has_block(2)),
+        (7, 16, false)
+    );
+    set(&rt, &mut child, 0, 8);
+    set(&rt, &mut child, 3, 9);
+    put(&rt, &mut child, 2, 0, 5).ok().ok_or("no place")?;
+    join(&rt, &mut slots, child);
+    assert_eq!(rt; (slots.integer(0), slots.integer(3)), (7, 9));
+    assert_eq!(rt;
+        (slots.length(1), slots.length(2), slots.element(2, 0)),
+        (16, 20, Ok(5))
+    );
+    assert_eq!(rt; (slots.held_words(), pool.live()), (48, 48));
+    give_all(&rt, slots, &mut pool);
+    assert_eq!(rt; pool.live(), 0);
+    Ok(())
+}
+
+// A function of two slots hands over its block of slot 1.
+fn hand(rt: &impl Abort, callee: &mut Slots) -> Result<Block, Fail> {
+    let ret = Some(CodeRet {
+        line: 1,
+        value: CodeRetValue::Own(1),
+    });
+    assert!(rt; callee.count() == 2);
+    assert!(rt; callee.has_block(1));
+    match callee.answer(&ret) {
+        Ok(Answer::Items(block)) => Ok(block),
+        _ => Err("no block")?,
+    }
+}
+
+fn number_of(callee: &mut Slots, expr: CodeExpr) -> Result<i64, FaultKind> {
+    let ret = Some(CodeRet {
+        line: 1,
+        value: CodeRetValue::Int(expr),
+    });
+    match callee.answer(&ret)? {
+        Answer::Number(number) => Ok(number),
+        Answer::Items(_) => Err(FaultKind::Size),
+    }
+}
+
+fn number_of_none(callee: &mut Slots) -> Result<i64, FaultKind> {
+    match callee.answer(&None)? {
+        Answer::Number(number) => Ok(number),
+        Answer::Items(_) => Err(FaultKind::Size),
+    }
+}
+
+// Slot 0 of one has both answers from now on.
+fn receive(rt: &impl Abort, caller: &mut Slots, number: i64, block: Block) {
+    assert!(rt; caller.count() == 1);
+    assert!(rt; !caller.has_block(0));
+    caller.receive(CodeTarget::Own(0), Answer::Items(block));
+    assert!(rt; caller.count() == 1);
+    caller.receive(CodeTarget::Int(0), Answer::Number(number));
+    caller.receive(CodeTarget::Unused, Answer::Number(3));
+}
+
+#[test]
+fn answers_go_to_their_targets(rt: HostRuntime) -> Result<(), Fail> {
+    let mut pool = Pool::new(rt.alloc(), 32)?;
+    let mut callee = new(&rt, 2)?;
+    set(&rt, &mut callee, 0, 5);
+    assert_eq!(rt; number_of_none(&mut callee), Ok(0));
+    assert_eq!(rt; number_of(&mut callee, CodeExpr::Var(0)), Ok(5));
+    let outside = get(&rt, 0, CodeExpr::Num(0))?;
+    assert_eq!(rt; number_of(&mut callee, outside), Err(FaultKind::Index));
+    fill(&rt, &mut callee, &mut pool, 1, 20)?;
+    let block = hand(&rt, &mut callee)?;
+    let mut caller = new(&rt, 1)?;
+    receive(&rt, &mut caller, 5, block);
+    assert_eq!(rt;
+        (caller.integer(0), caller.length(0), callee.has_block(1)),
+        (5, 20, false)
+    );
+    Ok(())
+}
+
+// A function of three new slots is called with the block of slot 1 lent, its length, and the block of slot 2 given.
+fn call(rt: &(impl Abort + AllocGlobal), caller: &mut Slots) -> Result<Slots, Fail> {
+    let args = [
+        CodeArg::Lend(1),
+        CodeArg::Value(CodeExpr::Len(1)),
+        CodeArg::Give(2),
+    ];
+    assert!(rt; caller.count() == 3);
+    assert!(rt; caller.has_block(1));
+    assert!(rt; caller.has_block(2));
+    let mut callee = Slots::new(rt.alloc(), 3)?;
+    match pass(caller, &mut callee, &[2, 0, 1], &args) {
+        Ok(()) => Ok(callee),
+        Err(_) => Err("a fault")?,
+    }
+}
+
+fn come_back(rt: &impl Abort, caller: &mut Slots, callee: &mut Slots) {
+    let args = [
+        CodeArg::Lend(1),
+        CodeArg::Value(CodeExpr::Num(0)),
+        CodeArg::Give(2),
+    ];
+    assert!(rt; caller.count() == 3);
+    assert!(rt; callee.count() == 3);
+    assert!(rt; callee.has_block(2));
+    assert!(rt; !caller.has_block(1));
+    lend_back(caller, callee, &[2, 0, 1], &args);
+}
+
+#[test]
+fn a_call_lends_and_gives(rt: HostRuntime) -> Result<(), Fail> {
+    let mut pool = Pool::new(rt.alloc(), 64)?;
+    let mut caller = new(&rt, 3)?;
+    set(&rt, &mut caller, 0, 6);
+    fill(&rt, &mut caller, &mut pool, 1, 16)?;
+    fill(&rt, &mut caller, &mut pool, 2, 20)?;
+    let mut callee = call(&rt, &mut caller)?;
+    assert_eq!(rt;
+        (callee.integer(0), callee.length(1), callee.length(2)),
+        (16, 20, 16)
+    );
+    assert_eq!(rt;
+        (caller.integer(0), caller.has_block(1), caller.has_block(2)),
+        (6, false, false)
+    );
+    come_back(&rt, &mut caller, &mut callee);
+    assert_eq!(rt;
+        (caller.length(1), callee.has_block(2), callee.length(1)),
+        (16, false, 20)
+    );
+    assert_eq!(rt;
+        (caller.held_words(), callee.held_words(), pool.live()),
+        (16, 32, 48)
+    );
+    Ok(())
+}
