@@ -40,6 +40,3 @@ pub use own_block::OwnBlock;
 pub use pool::Pool;
 pub use shell::Shell;
 pub use size::{MAX_WORDS, PIECE_WORDS, pieces_for};
-
-#[cfg(test)]
-mod tests;

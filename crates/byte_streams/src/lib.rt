@@ -40,6 +40,3 @@ pub use source::{Source, SourceFailed};
 pub use standard::{StdinSource, StdoutSink};
 pub use writer_sink::WriterSink;
 pub use writing::write_text;
-
-#[cfg(test)]
-mod tests;

@@ -31,6 +31,3 @@ pub use laws::{inserted_then_removed, one_smallest_free, top_written};
 pub use list::List;
 pub use order::{Order, OrderFull};
 pub use place::Place;
-
-#[cfg(test)]
-mod tests;

@@ -1,149 +1,143 @@
--- Some worker can always move, and a turn leaves fewer turns to come.
-use Rattle.std.proofs.Common.{◌≡◌, ◌≢◌, ℕ, ◌<◌, ◌+◌, ◌%◌, List, [], ◌∷◌, ◌++◌, length, Option, Some, None, Bool, false, true, not, Ok, refl, sym, subst, arith, inl, inr, ◌↔◌}
-use Rattle.std.specs.Prelude.{All, IsTrue}
-use Rattle.std.specs.Option.{is_some}
-use Rattle.std.proofs.lemmas.Nat.{mod_below}
-use Rattle.std.proofs.lemmas.Bool.{cases_lt}
-use Rattle.std.proofs.Math.Nat.{mod-eq_of_lt}
-use Rattle.std.proofs.lemmas.List.Elements.{All-head, All-tail}
-use Rattle.dfd_core.specs.declared.deque.Deque.{Deque}
-use Rattle.dfd_core.specs.declared.moment.Act.TheVariants as act
-use Rattle.dfd_core.specs.declared.run.Core.{Core}
+-- Who can move at the moment at which a core is.
+use Rattle.std.proofs.Common.{◌≡◌, ◌↔◌, ℕ, ◌≤◌, ◌<◌, List, ◌∷◌, ◌++◌, inl, inr, refl, sym, ap, subst, ◌∙◌, arith}
+use Rattle.std.proofs.Math.Logic.{∥∥₁_elim}
+use Rattle.std.specs.Prelude.{Option, None, Some, Bool, IsTrue, cond, Result, Ok}
+use Rattle.std.proofs.lemmas.Bool.{cases_lt, eq-eqb, ne_eqb}
+use Rattle.std.proofs.lemmas.Option.{none-some}
+use Rattle.depth_first_list.specs.Actions.{record_words}
+use Rattle.depth_first_run.specs.States.{Setting}
+use Rattle.deque_list.specs.Deques.{Deque}
+use Rattle.lawful_books.specs.Books.{Book}
+use Rattle.lawful_books.specs.Lists.{total}
+use Rattle.lawful_books.proofs.Lists.{total_middle, each_among}
+use Rattle.deque_machine.specs.Moments.{Moment, owned_by, open_for, one_if_open}
+use Rattle.deque_machine.specs.LawfulOrder.{IsLawful}
+use Rattle.deque_machine.specs.Play as play
+use Rattle.deque_machine.specs.Play.{words_drawn}
+use Rattle.deque_machine.specs.Runs.{Pair}
+use Rattle.period_books.specs.Periods.{Period, open_shown}
+use Rattle.period_books.proofs.Changes.{each_has_its_book}
+use Rattle.period_table.specs.declared.seat.Seat.{Seat}
+use Rattle.period_table.specs.Tables.{seat_at, deque_at, deque_of, shown_of, periods_of}
+use Rattle.thread_points.specs.Points.{list_of}
+use Rattle.thread_parts.specs.Shown.{thread_shown}
+use Rattle.step_laws.proofs.Ready.{some_ready_is_shown}
+use Rattle.turn_choice.specs.Choices.{SomeReady, CanMove}
+use Rattle.node_table.specs.Table.{Table}
+use Rattle.core_parts.specs.declared.event.Event.{Event}
+use Rattle.core_parts.specs.declared.stop.Stop.{Stop}
+use Rattle.core_parts.specs.Held.{Held, IsInOrder}
+use Rattle.core_parts.specs.Moments.{Terms, IsSound, StandsAt, machine_of}
+use Rattle.core_parts.proofs.AtTop.{period_is_there}
+use Rattle.core_parts.proofs.Going.{lawful_at}
+use Rattle.core_parts.proofs.Owners.{own_here, own_one, owned_shown, owner_there}
 use Rattle.dfd_core.specs.declared.run_end.RunEnd.{RunEnd}
+use Rattle.dfd_core.specs.declared.run_end.RunEnd.TheVariants.{Finished, Stopped}
 use Rattle.dfd_core.specs.declared.run_end.Stepped.{Stepped}
-use Rattle.dfd_core.specs.declared.run_end.Stepped.TheVariants.{Stole, Acted, Suspended, Nothing, Over}
-use Rattle.dfd_core.specs.Machine.{At}
-use Rattle.dfd_core.specs.Finds.{FindsOwned, FindsVictim, IsVictim, in_reach}
-use Rattle.dfd_core.specs.Lawful.{events_left}
-use Rattle.dfd_core.specs.Sound.{IsSound}
-use Rattle.dfd_core.specs.Core.{CanMove, OwnsAt, IsIdle, IsStep, workers_of, end_of}
-use Rattle.dfd_core.specs.Play.{turns_left}
-use Rattle.dfd_core.proofs.Steps.{never}
-use Rattle.dfd_core.proofs.Owners.{unowned, some_move, round_reaches, FirstIsReady}
-use Rattle.dfd_core.proofs.Measure.{falls_steals, falls_acts}
+use Rattle.dfd_core.specs.declared.run_end.Stepped.TheVariants.{Stole, Acted, Suspended, GaveUp, Nothing, Over}
+use Rattle.dfd_core.specs.Running.{IsAtMoment}
+use Rattle.dfd_core.specs.Steps.{IsTold}
+use Rattle.dfd_core.proofs.Told.{some_or_none, ok_or_err}
 
-pub all_between : (P : Deque → Type 0) (left : List Deque) (deque : Deque) (right : List Deque) → All P (left ++ deque ∷ right) → P deque
-all_between P [] deque right all = All-head P deque right all
-all_between P (d ∷ left) deque right all = all_between P left deque right (All-tail P d (left ++ deque ∷ right) all)
+module _ (c : Setting) (terms : Terms) (quota : record_words ≤ c.quota) (h : Held) (run : List Pair) (m : Moment) (at : StandsAt c terms h run m) (worker : ℕ) where
+  lawful : IsLawful (machine_of c terms) m
+  lawful = lawful_at c terms quota run m at.reaches
 
-pub all_at : (P : Deque → Type 0) (place : ℕ) (deques : List Deque) (deque : Deque) → At place deques deque → All P deques → P deque
-all_at P place deques deque stands all = all_between P stands.left deque stands.right (subst (All P) stands.is all)
+  -- who has a seat owns a deque
+  pub seat_owns : (seat : Seat) → seat_at h.table worker ≡ Some seat → 0 < owned_by worker m.deques
+  seat_owns seat is =
+      let p : Period = open_shown worker seat.period in
+      let book = each_has_its_book c.quota (list_of c) (periods_of h.table) m.books p at.shows.books (period_is_there h.table worker p (ap (shown_of worker) is)) in
+      let one : one_if_open worker book.book ≡ 1 = own_one worker (Book.owner book.book) book.is_book.owner in
+      let sum = total_middle (one_if_open worker) book.older book.book book.newer in
+      let opened : open_for worker m.books ≡ open_for worker (book.older ++ book.book ∷ book.newer) = ap (open_for worker) book.books_are in
+      let each = lawful.periods.one_each worker in omega (arith, one, sum, opened, each)
 
--- an owner is not idle
-pub owner_not_idle : (worker place : ℕ) (core : Core) → OwnsAt worker place core → ¬ IsIdle worker core
-owner_not_idle worker place core owns idle =
-    all_at (λ deque. deque.owner ≢ Some worker) place core.moment.deques.items owns.deque owns.stands idle owns.owner
+  -- and who has none owns none
+  pub idle_owns_none : ∥ IsInOrder h ∥₁ → seat_at h.table worker ≡ None → 0 < owned_by worker m.deques → ⊥
+  idle_owns_none ordered idle some = ∥∥₁_elim ordered (λ x y. absurd x) (λ o.
+      let same : owned_by worker m.deques ≡ total (own_here worker) h.deques = ap (owned_by worker) at.shows.deques ∙ owned_shown worker h.deques in
+      let found = owner_there worker h.deques (omega (arith, same, some)) in
+      let sits = each_among (λ d. (w : ℕ) → Deque.owner d ≡ Some w → deque_at h.table w ≡ Some (Deque.id d)) found.0 h.deques o.owners found.1 worker found.2 in
+      none-some (Deque.id found.0) (sym (ap deque_of idle) ∙ sits))
 
--- whether there is a victim does not hang on the word
-pub same_victims :
-    (deques : List Deque) (workers one other place : ℕ) → FindsVictim deques workers one None → ¬ IsVictim deques workers other place
-same_victims deques workers one other place none victim =
-    let less : place < in_reach deques workers = below_reach deques workers other place victim in
-    let try = round_reaches one (in_reach deques workers) place less in
-    none try.0 try.1 victim.deque (rw try.2 victim.stands) victim.ready
-  where
-    below_reach : (deques : List Deque) (workers word place : ℕ) → IsVictim deques workers word place → place < in_reach deques workers
-    below_reach deques workers word place victim =
-        rw victim.place_is (mod_below (word + victim.tries) (in_reach deques workers) (omega (arith, victim.within)))
+  -- how many words its turn draws
+  pub idle_draws : ∥ IsInOrder h ∥₁ → seat_at h.table worker ≡ None → words_drawn m worker ≡ 2
+  idle_draws ordered idle = ap (λ b. cond b 2 1) (eq-eqb (owned_by worker m.deques) 0 (elim (cases_lt 0 (owned_by worker m.deques)) [
+    | inl some ↦ absurd (idle_owns_none ordered idle some)
+    | inr none ↦ omega (arith, none)
+  ]))
 
--- what the scan for a deque and the one for a victim say of a worker
-pub can_move_is :
-    (worker : ℕ) (core : Core) (victim : Option ℕ) → end_of core ≡ None → IsIdle worker core →
-    FindsVictim core.moment.deques.items core.workers 0 victim → IsTrue (is_some victim) ↔ CanMove worker core
-can_move_is worker core (Some place) going idle found = (λ is. (going, inr (place, found)), λ can. refl)
-can_move_is worker core None going idle found = (
-  λ is. (let none : ⊥ = cc in absurd none),
-  λ can. absurd (elim can.1 [
-    | inl owns ↦ owner_not_idle worker owns.0 core owns.1 idle
-    | inr victim ↦ same_victims core.moment.deques.items core.workers 0 0 victim.0 found victim.1
-  ]),
-)
+  pub owner_draws : (seat : Seat) → seat_at h.table worker ≡ Some seat → words_drawn m worker ≡ 1
+  owner_draws seat is = let some = seat_owns seat is in ap (λ b. cond b 2 1) (ne_eqb (owned_by worker m.deques) 0 (λ none. absurd (omega (arith, some, none))))
 
-pub some_behind : (left right : List Deque) (deque : Deque) → 0 < length (left ++ deque ∷ right)
-some_behind [] right deque = omega arith
-some_behind (d ∷ left) right deque = omega arith
+  module _ (ordered : ∥ IsInOrder h ∥₁) where
+    -- a worker cannot move where it is idle and nothing in reach is ready
+    pub cannot_move : ((seat_at h.table worker ≡ None) × (¬ SomeReady terms.workers h.deques)) ↔ ¬ play.CanMove (machine_of c terms) m worker
+    cannot_move = (
+      λ idle can. elim can [
+        | inl owns ↦ idle_owns_none ordered idle.0 owns
+        | inr ready ↦ idle.1 ((some_ready_is_shown (machine_of c terms) thread_shown h.deques m at.shows.deques).1 ready)
+      ],
+      λ cannot. (no_seat (seat_at h.table worker) refl cannot, λ some. cannot (inr ((some_ready_is_shown (machine_of c terms) thread_shown h.deques m at.shows.deques).0 some))),
+    )
+      where
+        no_seat : (seat : Option Seat) → seat_at h.table worker ≡ seat → ¬ play.CanMove (machine_of c terms) m worker → seat ≡ None
+        no_seat None is cannot = refl
+        no_seat (Some seat) is cannot = absurd (cannot (inl (seat_owns seat is)))
 
-pub first_is_victim : (deques : List Deque) (workers : ℕ) → FirstIsReady deques → 0 < workers → IsVictim deques workers 0 0
-first_is_victim deques workers first some =
-    let long : 0 < length deques = rw first.stands.is (some_behind first.stands.left first.stands.right first.deque) in
-    let wide : 0 < in_reach deques workers = omega (arith, long, some) in
-    record {
-      tries = 0;
-      within = wide;
-      place_is = sym (mod-eq_of_lt wide);
-      deque = first.deque;
-      stands = first.stands;
-      ready = first.ready;
-      earlier = λ try less. (let none : ⊥ = omega (arith, less) in absurd none);
-    }
+    -- whether it can is what its seat tells, and whether something is ready
+    pub can_move_is : (some_ready : Bool) → (IsTrue some_ready ↔ SomeReady terms.workers h.deques)
+        → CanMove h.table some_ready worker ↔ play.CanMove (machine_of c terms) m worker
+    can_move_is some_ready ready = (
+      λ can. elim can [
+        | inl seat ↦ inl (seat_owns seat.0 seat.1)
+        | inr some ↦ inr ((some_ready_is_shown (machine_of c terms) thread_shown h.deques m at.shows.deques).0 (ready.0 some))
+      ],
+      λ can. elim can [
+        | inl owns ↦ a_seat (seat_at h.table worker) refl owns
+        | inr some ↦ inr (ready.1 ((some_ready_is_shown (machine_of c terms) thread_shown h.deques m at.shows.deques).1 some))
+      ],
+    )
+      where
+        a_seat : (seat : Option Seat) → seat_at h.table worker ≡ seat → 0 < owned_by worker m.deques → CanMove h.table some_ready worker
+        a_seat None is owns = absurd (idle_owns_none ordered is owns)
+        a_seat (Some seat) is owns = inl (seat, is)
 
--- not all the workers are stuck
-pub none_stuck :
-    (core : Core) (word : ℕ) → IsSound core.workers core.moment core.end → end_of core ≡ None →
-    ¬ ((try : ℕ) → try < core.workers → ¬ CanMove ((word + try) % core.workers) core)
-none_stuck core word sound going stuck =
-    never core.workers core.moment (subst (IsSound core.workers core.moment) going sound) (λ main runs.
-    elim (some_move core.workers core.moment runs.lawful) [
-      | inl owned ↦
-          (let try = round_reaches word core.workers owned.worker owned.inside in
-          stuck try.0 try.1 (going, inl (0, record { deque = owned.deque; stands = owned.stands; owner = rw try.2 owned.owner })))
-      | inr ready ↦
-          (let try = round_reaches word core.workers 0 sound.some in
-          stuck try.0 try.1 (going, inr (0, first_is_victim core.moment.deques.items core.workers ready sound.some)))
-    ])
+-- so at the moment at which a core is
+cannot_move_at : (t : Table) (k : ℕ) (terms : Terms) (h : Held) → IsSound t k terms h → (end : Option RunEnd) (c : Setting) (run : List Pair) (m : Moment)
+    → IsAtMoment t k terms h end c run m → (worker : ℕ)
+    → ((seat_at h.table worker ≡ None) × (¬ SomeReady terms.workers h.deques)) ↔ ¬ play.CanMove (machine_of c terms) m worker
+cannot_move_at t k terms h sound end c run m at worker =
+    let covers = sound.quota in let same = at.setting.quota in
+    cannot_move c terms (omega (arith, covers, same)) h run m at.stands worker sound.in_order
 
-pub falls_to :
-    (old new : Core) → workers_of new ≡ workers_of old → end_of old ≡ None → end_of new ≡ None →
-    events_left old.workers new.moment < events_left old.workers old.moment → turns_left new < turns_left old
-falls_to old new same before after less = rw before (rw after (rw same (omega (arith, less))))
+-- a step answers that nothing can be done where the event tells it
+pub nothing_told : (stepped : Stepped) (result : Result (Option Event) Stop) → IsTold stepped result → result ≡ Ok None → stepped ≡ Nothing
+nothing_told (Stole deque period) result told is = absurd (some_or_none _ (sym told ∙ is))
+nothing_told (Acted id) result told is = absurd (some_or_none _ (sym told ∙ is))
+nothing_told (Suspended id) result told is = absurd (some_or_none _ (sym told ∙ is))
+nothing_told (GaveUp deque) result told is = absurd (some_or_none _ (sym told ∙ is))
+nothing_told Nothing result told is = refl
+nothing_told (Over (Finished finish)) result told is = absurd told
+nothing_told (Over (Stopped stop)) result told is = absurd (ok_or_err _ _ (sym is ∙ told))
 
-pub falls_to_end : (old new : Core) (end : RunEnd) → end_of old ≡ None → end_of new ≡ Some end → turns_left new < turns_left old
-falls_to_end old new end before after = rw before (rw after (omega arith))
+pub nothing_behind : (t : Table) (k : ℕ) (terms : Terms) (h : Held) → IsSound t k terms h → (end : Option RunEnd) (c : Setting) (run : List Pair) (m : Moment)
+    → IsAtMoment t k terms h end c run m → (worker : ℕ) (stepped : Stepped) (result : Result (Option Event) Stop) → IsTold stepped result
+    → ((result ≡ Ok None) ↔ ((seat_at h.table worker ≡ None) × (¬ SomeReady terms.workers h.deques)))
+    → (stepped ≡ Nothing) ↔ ¬ play.CanMove (machine_of c terms) m worker
+nothing_behind t k terms h sound end c run m at worker stepped result told nothing =
+    let cannot = cannot_move_at t k terms h sound end c run m at worker in (
+      λ is. cannot.0 (nothing.0 (subst (λ s. IsTold s result) is told)),
+      λ no. nothing_told stepped result told (nothing.1 (cannot.1 no)),
+    )
 
-pub turn_falls :
-    (old new : Core) (mover word : ℕ) (stepped : Stepped) → mover < workers_of old → workers_of new ≡ workers_of old →
-    CanMove mover old → IsStep mover word old new stepped → turns_left new < turns_left old
-turn_falls old new mover word Stole less same can step =
-    falls_to old new same step.0 step.1
-    (falls_steals old.workers mover step.3.0 old.moment new.moment less (unowned old.moment.deques.items mover step.2) step.3.2)
-turn_falls old new mover word Acted less same can step = elim step.1.2 [
-  | inl goes ↦ falls_to old new same step.0 goes.0 (falls_acts old.workers step.1.0 old.moment new.moment (Ok act.Acted) goes.1)
-  | inr ends ↦ falls_to_end old new _ step.0 ends.0
-]
-turn_falls old new mover word Suspended less same can step =
-    falls_to old new same step.0 step.1 (falls_acts old.workers step.2.0 old.moment new.moment (Ok act.Suspended) step.2.2)
-turn_falls old new mover word Nothing less same can step = absurd (elim can.1 [
-  | inl owns ↦ owner_not_idle mover owns.0 old owns.1 step.1
-  | inr victim ↦ same_victims old.moment.deques.items old.workers word 0 victim.0 step.2 victim.1
-])
-turn_falls old new mover word (Over end) less same can step = falls_to_end old new end can.0 step.0
-
-pub none_is : {X : Type 0} (found : Option X) → is_some found ≡ false → found ≡ None
-none_is None is = refl
-none_is (Some x) is = (let none : ⊥ = cc in absurd none)
-
-pub idle_is :
-    (worker : ℕ) (deques : List Deque) (found : Option ℕ) (answer : Bool) → FindsOwned deques worker found → is_some found ≡ not answer →
-    IsTrue answer ↔ All (λ deque. deque.owner ≢ Some worker) deques
-idle_is worker deques None true found says = (λ is. found, λ idle. refl)
-idle_is worker deques None false found says = (let none : ⊥ = cc in absurd none)
-idle_is worker deques (Some place) true found says = (let none : ⊥ = cc in absurd none)
-idle_is worker deques (Some place) false found says =
-    (λ is. (let none : ⊥ = cc in absurd none), λ idle. absurd (all_at (λ deque. deque.owner ≢ Some worker) place deques found.0 found.1 idle found.2))
-
--- those that were tried, with the next one
-pub none_so_far :
-    (core : Core) (word tries : ℕ) → ((try : ℕ) → try < tries → ¬ CanMove ((word + try) % core.workers) core) →
-    ¬ CanMove ((word + tries) % core.workers) core → (try : ℕ) → try < tries + 1 → ¬ CanMove ((word + try) % core.workers) core
-none_so_far core word tries earlier next = λ try less. elim (cases_lt try tries) [
-  | inl before ↦ earlier try before
-  | inr behind ↦ (let same : try ≡ tries = omega (arith, less, behind) in rw same next)
-]
-
-pub more_to_try :
-    (core : Core) (word tries : ℕ) → IsSound core.workers core.moment core.end → end_of core ≡ None →
-    ((try : ℕ) → try < tries + 1 → ¬ CanMove ((word + try) % core.workers) core) → tries + 1 < core.workers
-more_to_try core word tries sound going none = elim (cases_lt (tries + 1) core.workers) [
-  | inl less ↦ less
-  | inr all ↦ absurd (none_stuck core word sound going (λ try less. none try (omega (arith, less, all))))
-]
+pub can_move_at : (t : Table) (k : ℕ) (terms : Terms) (h : Held) → IsSound t k terms h → (end : Option RunEnd) → end ≡ None → (c : Setting) (run : List Pair) (m : Moment)
+    → IsAtMoment t k terms h end c run m → (worker : ℕ) (some_ready result : Bool) → (IsTrue some_ready ↔ SomeReady terms.workers h.deques)
+    → (IsTrue result ↔ CanMove h.table some_ready worker) → IsTrue result ↔ ((end ≡ None) × play.CanMove (machine_of c terms) m worker)
+can_move_at t k terms h sound end none c run m at worker some_ready result ready tells =
+    let covers = sound.quota in let same = at.setting.quota in
+    let is = can_move_is c terms (omega (arith, covers, same)) h run m at.stands worker sound.in_order some_ready ready in (
+      λ can. (none, is.0 (tells.0 can)),
+      λ can. tells.1 (is.1 can.1),
+    )

@@ -1,10 +1,8 @@
-pub mod Task
-pub mod Thread
-pub mod Deque
-pub mod Machine
+pub mod Begun
+pub mod Ends
+pub mod Marks
+pub mod Running
+pub mod Steps
+pub mod Cores
 pub mod ListChoices
-pub mod Finds
-pub mod Lawful
-pub mod Sound
-pub mod Core
-pub mod Play
+pub mod Plays

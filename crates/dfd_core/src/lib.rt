@@ -1,34 +1,25 @@
-//! The scheduler: a program run by some workers, one event at a time.
+//! The core of a scheduler: a run of a program by workers on one thread, one event at a time.
 //!
-//! The ready threads stand in a list of deques, after DFDeques (G. Narlikar, "Scheduling Threads for Low Space
-//! Requirement and Good Locality", SPAA 1999). A worker that owns a deque does the next action of its top thread: a
-//! fork puts the child on top of its parent, the end of a thread uncovers its parent, and a join takes in the lines of
-//! a child. An idle worker steals the bottom thread of one of the leftmost deques, and puts it into a deque of its own
-//! to the right of the victim's.
+//! The ready threads stand in a list of deques, after DFDeques(K) (G. Narlikar, "Scheduling Threads for Low Space Requirement and Good
+//! Locality", SPAA 1999). A worker that owns a deque lets its top thread do its next action, or wait, or gives the deque up where the
+//! quota of its period is spent; an idle one steals. A [`Core`] holds the run, [`Core::step`] lets one worker do one event, and [`play`]
+//! lets the words of a [`Choices`] pick who moves and from whom a thief steals, until the run ends.
 //!
-//! A [`Core`] holds the run. [`Core::step`] lets one worker do one event, and [`play`] lets the words of a [`Choices`]
-//! pick who moves, and from whom a thief steals, until the run ends.
-//!
-//! The layer stands on the statements of `print_program`, which say what a program prints. Its one theorem: whatever
-//! workers move, in whatever order and with whatever victims, a run that finishes has printed just the numbers of the
-//! program in the order of the text, which is that of the depth-first run (`print_runs`). Each step is an event of the machine of
-//! `specs/Machine.antt`, some worker can move until the run ends, and only so many events can come as `events_left` of `specs/Lawful.antt`
-//! says.
+//! It stands on the step of a worker that owns a deque (`owner_steps`), on that of an idle one (`thief_steps`), and on what a scheduler
+//! holds at a moment (`core_parts`). Its one theorem: whatever the program, what the core holds stands at a moment of a run of the
+//! machine; each step is the event that the rules of play want of the worker, or meets the stop that they name; and a run that finishes
+//! has the fault and the lines of the depth-first run.
 #![tactic(auto)]
 
+mod begun;
 mod choices;
-mod deque;
-mod moment;
+mod ends;
+mod events;
 mod player;
 mod run;
 mod run_end;
-mod scheduler;
-mod thread;
 
 pub use choices::{Choices, ListChoices};
 pub use player::play;
 pub use run::Core;
-pub use run_end::{OutputFail, RunEnd, Stepped, Stop};
-
-#[cfg(test)]
-mod tests;
+pub use run_end::{OutputFail, RunEnd, Stepped};

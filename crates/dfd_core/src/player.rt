@@ -1,38 +1,51 @@
-ghost use Rattle.std.specs.Prelude.{◌≡◌, ◌<◌, ℕ, None, Some};
-ghost use Rattle.print_program.specs.Tree.{Statements};
-ghost use Rattle.dfd_core.specs.Core.{IsRunOf, end_of};
-ghost use Rattle.dfd_core.specs.Play.{IsTurn, Plays, turns_left};
+ghost use Rattle.std.specs.Prelude.{◌≡◌, ◌+◌, ◌*◌, List as AnyList, None, Some};
+ghost use Rattle.depth_first_run.specs.States.{Setting};
+ghost use Rattle.deque_machine.specs.Moments.{Moment};
+ghost use Rattle.deque_machine.specs.Runs.{Pair};
+ghost use Rattle.dfd_core.specs.Cores.{IsAt, SameSetting, end_of, terms_at, workers_of};
+ghost use Rattle.dfd_core.specs.Plays.{TakesTurn, PlaysTo};
 
 use crate::choices::Choices;
 use crate::run::Core;
 use crate::run_end::RunEnd;
 
-/// Lets the workers run to the end, in the order that the words pick. A first word picks who moves, and an idle mover
-/// draws a second one for its theft.
-pub fn play<C: Choices>(core: &mut Core, choices: &mut C) -> RunEnd
-    ensures end { end_of core.new ≡ Some result }
-    ensures played { Plays (C.coming choices.old) core.old core.new }
-    ensures run { (main : Statements) → IsRunOf main core.old → IsRunOf main core.new }
+/// Lets one worker move. A first word picks who, and an idle one draws a second word for its theft.
+fn turn<C: Choices>(core: &mut Core, choices: &mut C)
+    requires { end_of core.old ≡ None }
+    ensures turn { TakesTurn (C.coming choices.old) (C.coming choices.new) core.old core.new }
+    ensures setting { SameSetting core.old core.new }
 {
-    'turns: loop {
-        if let Some(end) = core.end() {
-            return end;
-        }
-        turn(core, choices);
+    let worker = core.mover(choices.word());
+    if core.is_idle(worker) {
+        core.step(worker, choices.word());
+    } else {
+        core.step(worker, 0);
     }
 }
 
-fn turn<C: Choices>(core: &mut Core, choices: &mut C)
-    requires { end_of core.old ≡ None }
-    ensures turn { IsTurn (C.coming choices.old) (C.coming choices.new) core.old core.new }
-    ensures run { (main : Statements) → IsRunOf main core.old → IsRunOf main core.new }
-    ensures falls { turns_left core.new < turns_left core.old }
+/// More turns than a run of play can have.
+fn most_turns(core: &Core) -> u64
+    ensures { result ≡ 5 * (terms_at core.now).limits.actions + workers_of core.now + 1 }
 {
-    let mover = core.find_mover(choices.word());
-    let word = if core.is_idle(mover) {
-        choices.word()
-    } else {
-        0
-    };
-    core.step(mover, word);
+    5 * u64::from(core.limit()) + u64::from(core.workers()) + 1
+}
+
+/// Lets the workers run to the end, in the order that the words pick. A run that has ended stays as it is.
+pub fn play<C: Choices>(core: &mut Core, choices: &mut C) -> RunEnd
+    ensures end { end_of core.new ≡ Some result }
+    ensures kept { (end : RunEnd) → end_of core.old ≡ Some end → (result ≡ end) × (core.new ≡ core.old) }
+    ensures played { end_of core.old ≡ None → (c : Setting) (run : AnyList Pair) (m : Moment) → IsAt c core.old run m
+        → PlaysTo c (terms_at core.old) (C.coming choices.old) core.new run m result }
+    ensures setting { SameSetting core.old core.new }
+{
+    if let Some(end) = core.end() {
+        return end;
+    }
+    for _ in 0..most_turns(core) {
+        turn(core, choices);
+        if let Some(end) = core.end() {
+            return end;
+        }
+    }
+    unreachable!()
 }

@@ -1,112 +1,222 @@
-ghost use Rattle.std.specs.Prelude.{◌≡◌, ◌↔◌, ◌<◌, ◌≤◌, ◌+◌, ℕ, None, Some, IfOk, IsTrue, IsErrOf};
+ghost use Rattle.std.specs.Prelude.{◌≡◌, ◌<◌, ◌≤◌, ◌↔◌, List as AnyList, [], None, Some, Ok, Err, IfOk, IsTrue, length, pos};
+ghost use Rattle.std.specs.Option.{option_copied, option_map};
 ghost use Rattle.bounded_list.specs.BoundedList.{entries};
-ghost use Rattle.print_program.specs.TextOrder.{lines_of};
-ghost use Rattle.print_program.specs.Tree.{Statements};
-ghost use Rattle.dfd_core.specs.Sound.{IsSound};
-ghost use Rattle.dfd_core.specs.declared.run_end.OutputFail.TheVariants.{NotFinished};
+ghost use Rattle.dag_order.specs.declared.finish.Finish.{Finish as AnyFinish};
+ghost use Rattle.depth_first_run.specs.States.{Setting, State};
+ghost use Rattle.depth_first_run.specs.Run.{whole, lines_of};
+ghost use Rattle.deque_machine.specs.Moments.{Moment, opening, live_at};
+ghost use Rattle.lawful_books.specs.Books.{booked, periods_marked};
+ghost use Rattle.deque_machine.specs.Play as play;
+ghost use Rattle.deque_machine.specs.Runs.{Pair, high_water_mark};
+ghost use Rattle.dummy_tree.specs.QuotaWords.{quota_words};
+ghost use Rattle.node_table.specs.Codes.{code_shown};
+ghost use Rattle.period_table.specs.Tables.{seat_at};
+ghost use Rattle.thread_points.specs.Points.{list_of};
+ghost use Rattle.thread_steps.specs.Settings.{IsSettingOf};
+ghost use Rattle.core_parts.specs.Held.{held};
+ghost use Rattle.core_parts.specs.Moments.{IsSound, CanGoOn, terms_of, machine_of};
+ghost use Rattle.dfd_core.specs.declared.run_end.OutputFail.TheVariants as fails;
+ghost use Rattle.dfd_core.specs.declared.run_end.Stepped.TheVariants as steps;
+ghost use Rattle.dfd_core.specs.Begun.{given_terms};
+ghost use Rattle.dfd_core.specs.Marks.{ahead_in, open_ahead};
+ghost use Rattle.dfd_core.specs.Running.{IsSomewhere};
+ghost use Rattle.dfd_core.specs.Steps.{IsTold};
 
-use crate::moment::{Act, Moment, ROOT};
-use crate::run_end::{OutputFail, RunEnd, Stepped, Stop};
-use crate::scheduler::{find_owned, find_victim, turned};
-use crate::thread::Thread;
-use bounded_list::BoundedList;
-use dag_order::{Finish, Lines};
-use print_program::Program;
+use crate::begun::scheduler_of;
+use crate::ends::end_told;
+use crate::events::event_of;
+use crate::run_end::{OutputFail, RunEnd, Stepped};
+use block_arena::Pool;
+use core_parts::{Event, Scheduler};
+use dag_order::{Lines, ThreadId};
+use deque_list::List;
+use dummy_tree::Quota;
+use language_limits::{MOST_ACTIONS, MOST_DEQUES, MOST_WORKERS};
+use node_table::Code;
+use period_table::{PeriodTable, Seat};
+use quota_period::Period;
+use space_ledger::{Books, Moves};
 use std::alloc::{AllocError, Global};
+use thread_frames::Thread;
+use turn_choice::{first_mover, some_ready};
 
 /// A run of a program by some workers, one event at a time.
 #[derive(Drop)]
 pub struct Core {
-    moment: Moment,
-    workers: u32,
-    end: Option<RunEnd>,
-    /// The lines of the root, once the run has finished.
-    lines: Vec<i64>,
-    ghost sound: { IsSound workers moment end },
+    pub(crate) scheduler: Scheduler,
+    pub(crate) code: Code,
+    pub(crate) k: Quota,
+    /// How many actions it may do.
+    pub(crate) limit: u32,
+    /// How many deques it may have.
+    pub(crate) most: u32,
+    pub(crate) alloc: Global,
+    pub(crate) end: Option<RunEnd>,
+    pub ghost sound: { IsSound (code_shown code) (quota_words k) (terms_of scheduler limit) (held scheduler) },
+    pub ghost points: { end ≡ None → CanGoOn (code_shown code) (quota_words k) (held scheduler) },
+    pub ghost somewhere: { IsSomewhere (code_shown code) (quota_words k) (terms_of scheduler limit) (held scheduler) end },
+    pub ghost few: { limit < 4294967295 },
+    pub ghost most_is: { most ≡ scheduler.list.most },
+    pub ghost some_workers: { 1 ≤ length scheduler.table.seats.items },
+    pub ghost few_workers: { length scheduler.table.seats.items ≤ 64 },
+}
+
+/// What a step answers that did an event.
+fn told(event: Event) -> Stepped
+    ensures { IsTold result (Ok (Some event)) }
+{
+    match event {
+        Event::Stole { deque, period } => Stepped::Stole { deque, period },
+        Event::Acted(id) => Stepped::Acted(id),
+        Event::Suspended(id) => Stepped::Suspended(id),
+        Event::GaveUp(deque) => Stepped::GaveUp(deque),
+    }
+}
+
+/// Whether a run that ended so came to the end of its root.
+fn is_finish(end: RunEnd) -> bool
+    ensures { IsTrue result ↔ ((finish : AnyFinish) × (end ≡ RunEnd.Finished finish)) }
+{
+    match end {
+        RunEnd::Finished(_) => true,
+        RunEnd::Stopped(_) => false,
+    }
+}
+
+/// Whether the period of a seat is marked ahead.
+fn ahead_in(seat: Option<&Seat>) -> bool
+    ensures { result ≡ ahead_in (option_copied seat.entry) }
+{
+    match seat {
+        None => false,
+        Some(seat) => seat.period.ahead,
+    }
+}
+
+/// How many open periods of a table are marked ahead.
+fn open_ahead(table: &PeriodTable) -> u32
+    requires { length table.now.seats.items ≤ 64 }
+    ensures { result ≡ open_ahead table.now.seats.items }
+{
+    let mut ahead = 0;
+    'seats: for worker in 0..table.workers() {
+        ahead += u32::from(ahead_in(table.seat(worker)));
+    }
+    ahead
 }
 
 impl Core {
-    ghost use Rattle.dfd_core.specs.Core.{IsRunOf, IsStep, CanMove, OwnsAt, IsIdle, HasFinished, workers_of, end_of};
-    ghost use Rattle.dfd_core.specs.Play.{IsMover};
+    ghost use Rattle.dfd_core.specs.Cores.{IsAt, Steps, SameSetting, HasFinished};
+    ghost use Rattle.dfd_core.specs.Cores.{end_of, terms_at, workers_of, period_of, words_of_turn};
 
-    /// The run of the program by so many workers, at its start: one deque without an owner holds the root, and all
-    /// workers are idle.
-    pub fn new(alloc: Global, program: Program, workers: u32) -> Result<Core, AllocError>
-        requires { 0 < workers }
-        ensures run { IfOk result (λ core. IsRunOf program.main core) }
-        ensures workers { IfOk result (λ core. workers_of core ≡ workers) }
+    /// The run of a program by so many workers, at its start: one deque without an owner holds the root, and all workers are idle.
+    /// It may do `limit` actions and have `most` deques.
+    ///
+    /// # Errors
+    ///
+    /// There is not enough memory.
+    pub fn new(
+        alloc: Global,
+        code: Code,
+        k: Quota,
+        workers: u32,
+        pool: Pool,
+        limit: u32,
+        most: u32,
+    ) -> Result<Core, AllocError>
+        requires workers { (1 ≤ workers) × (workers ≤ MOST_WORKERS) }
+        requires limit { (1 ≤ limit) × (limit ≤ MOST_ACTIONS) }
+        requires most { (1 ≤ most) × (most ≤ MOST_DEQUES) }
+        requires pool { pool.live ≡ 0 }
+        ensures opening { IfOk result (λ core. (c : Setting) → IsSettingOf (code_shown code) (quota_words k) c → IsAt c core [] opening) }
         ensures going { IfOk result (λ core. end_of core ≡ None) }
+        ensures code { IfOk result (λ core. core.code ≡ code) }
+        ensures quota { IfOk result (λ core. core.k ≡ k) }
+        ensures terms { IfOk result (λ core. terms_at core ≡ given_terms workers pool.capacity limit most) }
     {
-        let root = Thread::new(alloc, ROOT, program.main)?;
-        let moment = Moment::new(alloc, root)?;
-        let lines = Vec::new(alloc);
+        let scheduler = scheduler_of(alloc, &code, workers, pool, most)?;
         Ok(Core {
-            moment,
-            workers,
+            scheduler,
+            code,
+            k,
+            limit,
+            most,
+            alloc,
             end: None,
-            lines,
         })
     }
 
-    /// Lets the worker do one event. An idle worker steals, and the word decides which deque it tries first; the owner of
-    /// a deque does the next action of its top thread.
+    /// Lets the worker do one event. An idle worker steals, and the word picks from whom; the owner of a deque lets its top thread do its
+    /// next action, or wait, or gives the deque up. A run that has ended stays as it is.
     pub fn step(&mut self, worker: u32, word: u64) -> Stepped
         requires { worker < workers_of self.old }
-        ensures event { IsStep worker word self.old self.new result }
-        ensures run { (main : Statements) → IsRunOf main self.old → IsRunOf main self.new }
-        ensures workers { workers_of self.new ≡ workers_of self.old }
+        ensures kept { (end : RunEnd) → end_of self.old ≡ Some end → (result ≡ steps.Over end) × (self.new ≡ self.old) }
+        ensures steps { end_of self.old ≡ None → (c : Setting) (run : AnyList Pair) (m : Moment) → IsAt c self.old run m
+            → Steps c self.new worker word run m result }
+        ensures nothing { end_of self.old ≡ None → (c : Setting) (run : AnyList Pair) (m : Moment) → IsAt c self.old run m
+            → (result ≡ steps.Nothing) ↔ ¬ play.CanMove (machine_of c (terms_at self.old)) m worker }
+        ensures still { result ≡ steps.Nothing → self.new.scheduler ≡ self.old.scheduler }
+        ensures over { (end : RunEnd) → result ≡ steps.Over end → end_of self.new ≡ Some end }
+        ensures setting { SameSetting self.old self.new }
     {
         if let Some(end) = self.end {
             return Stepped::Over(end);
         }
-        match find_owned(&self.moment.deques, worker) {
-            Some(place) => self.act(worker, place),
-            None => self.steal(worker, word),
-        }
-    }
-
-    fn act(&mut self, worker: u32, place: usize) -> Stepped
-        requires going { end_of self.old ≡ None }
-        requires owner { OwnsAt worker place self.old }
-        ensures event { (word : ℕ) → IsStep worker word self.old self.new result }
-        ensures run { (main : Statements) → IsRunOf main self.old → IsRunOf main self.new }
-        ensures workers { workers_of self.new ≡ workers_of self.old }
-    {
-        match self.moment.act(place) {
-            Ok(Act::Acted) => Stepped::Acted,
-            Ok(Act::Suspended) => Stepped::Suspended,
-            Ok(Act::Finished(lines)) => {
-                self.lines = lines;
-                self.end = Some(RunEnd::Finished(Finish::Done));
-                Stepped::Acted
+        match event_of(
+            &mut self.scheduler,
+            self.alloc,
+            &self.code,
+            self.k,
+            self.limit,
+            worker,
+            word,
+        ) {
+            Ok(None) => Stepped::Nothing,
+            Ok(Some(event)) => {
+                self.end = end_told(&self.scheduler.results);
+                told(event)
             }
-            Err(_) => {
-                let end = RunEnd::Stopped(Stop::OutOfMemory);
+            Err(stop) => {
+                let end = RunEnd::Stopped(stop);
                 self.end = Some(end);
                 Stepped::Over(end)
             }
         }
     }
 
-    fn steal(&mut self, worker: u32, word: u64) -> Stepped
-        requires going { end_of self.old ≡ None }
-        requires known { worker < workers_of self.old }
-        requires idle { IsIdle worker self.old }
-        ensures event { IsStep worker word self.old self.new result }
-        ensures run { (main : Statements) → IsRunOf main self.old → IsRunOf main self.new }
-        ensures workers { workers_of self.new ≡ workers_of self.old }
+    /// Whether a step of the worker would do an event, or meet a stop.
+    pub fn can_move(&self, worker: u32) -> bool
+        ensures { (c : Setting) (run : AnyList Pair) (m : Moment) → IsAt c self.now run m
+            → IsTrue result ↔ ((end_of self.now ≡ None) × play.CanMove (machine_of c (terms_at self.now)) m worker) }
     {
-        let Some(place) = find_victim(&self.moment.deques, self.workers, word) else {
-            return Stepped::Nothing;
-        };
-        match self.moment.steal(worker, place) {
-            Ok(()) => Stepped::Stole,
-            Err(_) => {
-                let end = RunEnd::Stopped(Stop::OutOfMemory);
-                self.end = Some(end);
-                Stepped::Over(end)
-            }
+        if self.end.is_some() {
+            return false;
         }
+        let is_ready = some_ready(&self.scheduler.list, self.workers());
+        turn_choice::can_move(&self.scheduler.table, is_ready, worker)
+    }
+
+    /// The worker that moves next, picked by a word: the first that can.
+    pub(crate) fn mover(&self, word: u64) -> u32
+        requires { end_of self.now ≡ None }
+        ensures below { result < workers_of self.now }
+        ensures first { (c : Setting) (run : AnyList Pair) (m : Moment) → IsAt c self.now run m
+            → play.IsFirst (workers_of self.now) word (play.CanMove (machine_of c (terms_at self.now)) m) result }
+    {
+        let workers = self.workers();
+        let is_ready = some_ready(&self.scheduler.list, workers);
+        match first_mover(&self.scheduler.table, is_ready, workers, word) {
+            Some(worker) => worker,
+            None => unreachable!(),
+        }
+    }
+
+    /// Whether a worker is idle: then its turn draws a second word.
+    pub(crate) fn is_idle(&self, worker: u32) -> bool
+        ensures { (c : Setting) (run : AnyList Pair) (m : Moment) → IsAt c self.now run m
+            → play.words_drawn m worker ≡ words_of_turn result }
+    {
+        self.scheduler.table.seat(worker as usize).is_none()
     }
 
     /// How the run ended; None exactly while it goes on.
@@ -116,63 +226,155 @@ impl Core {
         self.end
     }
 
-    /// How many workers the run has.
-    pub fn workers(&self) -> u32
-        ensures { result ≡ workers_of self.now }
+    /// Whether the root came to its end.
+    pub fn has_finished(&self) -> bool
+        ensures { IsTrue result ↔ HasFinished self.now }
     {
-        self.workers
-    }
-
-    /// Whether a step of the worker would do an event.
-    pub fn can_move(&self, worker: u32) -> bool
-        requires { worker < workers_of self.now }
-        ensures { IsTrue result ↔ CanMove worker self.now }
-    {
-        if self.end.is_some() {
-            return false;
-        }
-        match find_owned(&self.moment.deques, worker) {
-            Some(_) => true,
-            None => find_victim(&self.moment.deques, self.workers, 0).is_some(),
+        match self.end {
+            None => false,
+            Some(end) => is_finish(end),
         }
     }
 
-    /// Whether the worker owns no deque.
-    pub fn is_idle(&self, worker: u32) -> bool
-        ensures { IsTrue result ↔ IsIdle worker self.now }
+    /// The lines that the program printed up to the first fault, once the run has finished: those of the depth-first run.
+    ///
+    /// # Errors
+    ///
+    /// The run has not finished, or there is not enough memory.
+    pub fn output(&self) -> Result<Lines, OutputFail>
+        ensures unfinished { (result ≡ Err fails.NotFinished) ↔ ¬ HasFinished self.now }
+        ensures lines { (c : Setting) → IsSettingOf (code_shown self.now.code) (quota_words self.now.k) c
+            → IfOk result (λ lines. entries lines ≡ lines_of (State.items (whole c))) }
     {
-        find_owned(&self.moment.deques, worker).is_none()
-    }
-
-    /// The worker that the word lets move: the first of `word`, `word + 1` and so on, round the workers, that can move.
-    pub fn find_mover(&self, word: u64) -> u32
-        requires { end_of self.now ≡ None }
-        ensures mover { IsMover word result self.now }
-        ensures known { result < workers_of self.now }
-    {
-        let size = self.workers as usize;
-        let mut tries = 0;
-        let mut worker = turned(word, tries, size) as u32;
-        'tries: while !self.can_move(worker) {
-            tries += 1;
-            worker = turned(word, tries, size) as u32;
-        }
-        worker
-    }
-
-    /// The lines that the program printed, once the run has finished.
-    pub fn output(&self, alloc: Global) -> Result<Lines, OutputFail>
-        ensures lines { (main : Statements) → IsRunOf main self.now → IfOk result (λ lines. entries lines ≡ lines_of main) }
-        ensures unfinished { IsErrOf result NotFinished ↔ ¬ HasFinished self.now }
-    {
-        let Some(RunEnd::Finished(_)) = self.end else {
+        if !self.has_finished() {
             return Err(OutputFail::NotFinished);
-        };
-        let mut lines = BoundedList::new(alloc);
-        for line in &self.lines {
-            lines.reserve()?;
-            lines.add(*line);
         }
-        Ok(lines)
+        let Some(ended) = self.scheduler.results.get(ThreadId::ROOT) else {
+            unreachable!();
+        };
+        match ended.lines(self.alloc) {
+            Ok(lines) => Ok(lines),
+            Err(_) => Err(OutputFail::OutOfMemory),
+        }
+    }
+
+    /// The program.
+    pub fn code(&self) -> &Code
+        ensures { result.now ≡ self.now.code }
+    {
+        &self.code
+    }
+
+    /// The words that a worker may allocate between two steals.
+    pub fn quota(&self) -> Quota
+        ensures { result ≡ self.now.k }
+    {
+        self.k
+    }
+
+    /// How many workers there are.
+    pub fn workers(&self) -> u32
+        ensures value { result ≡ workers_of self.now }
+        ensures some { 1 ≤ result }
+    {
+        self.scheduler.table.workers() as u32
+    }
+
+    /// How many actions the run may do.
+    pub fn limit(&self) -> u32
+        ensures { result ≡ (terms_at self.now).limits.actions }
+    {
+        self.limit
+    }
+
+    /// How many deques the run may have.
+    pub fn most(&self) -> u32
+        ensures { result ≡ (terms_at self.now).limits.deques }
+    {
+        self.most
+    }
+
+    /// How many words there are.
+    pub fn capacity(&self) -> u64
+        ensures { result ≡ (terms_at self.now).limits.capacity }
+    {
+        self.scheduler.pool.capacity()
+    }
+
+    /// How many words are out in blocks: those that are in use at the moment at which the core is.
+    pub fn live(&self) -> u64
+        ensures value { result ≡ self.now.scheduler.pool.live }
+        ensures moment { (c : Setting) (run : AnyList Pair) (m : Moment) → IsAt c self.now run m → pos result ≡ live_at (list_of c) m }
+    {
+        self.scheduler.pool.live()
+    }
+
+    /// How many actions were done.
+    pub fn actions(&self) -> u32
+        ensures { (c : Setting) (run : AnyList Pair) (m : Moment) → IsAt c self.now run m → result ≡ length (booked m.books) }
+    {
+        self.scheduler.done
+    }
+
+    /// The deques, with the threads that are ready or run.
+    pub fn list(&self) -> &List<Thread>
+        ensures { result.now ≡ self.now.scheduler.list }
+    {
+        &self.scheduler.list
+    }
+
+    /// By how much each action changed the words that are out.
+    pub fn moves(&self) -> &Moves
+        ensures { result.now ≡ self.now.scheduler.moves }
+    {
+        &self.scheduler.moves
+    }
+
+    /// The closed periods.
+    pub fn books(&self) -> &Books
+        ensures { result.now ≡ self.now.scheduler.table.books }
+    {
+        self.scheduler.table.books()
+    }
+
+    /// How many periods were begun, open ones among them.
+    pub fn periods(&self) -> u32
+        ensures { (c : Setting) (run : AnyList Pair) (m : Moment) → IsAt c self.now run m → result ≡ length m.books }
+    {
+        self.scheduler.table.begun()
+    }
+
+    /// How many of them are marked ahead: at their beginning a deque stood to the left of theirs.
+    pub fn ahead(&self) -> u32
+        ensures { (c : Setting) (run : AnyList Pair) (m : Moment) → IsAt c self.now run m → result ≡ periods_marked m.books }
+    {
+        // No more are marked than there are, so the sum fits.
+        let _periods = self.scheduler.table.begun();
+        self.books().ahead() + open_ahead(&self.scheduler.table)
+    }
+
+    /// The greatest number of words that were in use at once.
+    pub fn high(&self) -> u64
+        ensures { (c : Setting) (run : AnyList Pair) (m : Moment) → IsAt c self.now run m
+            → pos result ≡ high_water_mark (list_of c) run }
+    {
+        self.scheduler.moves.high() as u64
+    }
+
+    /// The deque and the period of a worker; None exactly where it is idle.
+    pub fn seat(&self, worker: u32) -> Option<&Seat>
+        ensures { option_copied result ≡ seat_at self.now.scheduler.table worker }
+    {
+        self.scheduler.table.seat(worker as usize)
+    }
+
+    /// The period of a worker; None exactly where it is idle.
+    pub fn period(&self, worker: u32) -> Option<&Period>
+        ensures { option_copied result ≡ option_map period_of (seat_at self.now.scheduler.table worker) }
+    {
+        match self.seat(worker) {
+            Some(seat) => Some(&seat.period),
+            None => None,
+        }
     }
 }

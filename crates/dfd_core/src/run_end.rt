@@ -1,12 +1,6 @@
-use dag_order::Finish;
-use std::alloc::AllocError;
-
-/// Why a run stopped before its end.
-#[derive(Clone, Copy, PartialEq, Eq, Debug)]
-pub enum Stop {
-    /// There was no memory for an event.
-    OutOfMemory,
-}
+use core_parts::Stop;
+use dag_order::{ActionId, Finish, ThreadId};
+use deque_list::DequeId;
 
 /// How a run ended.
 #[derive(Clone, Copy, PartialEq, Eq, Debug)]
@@ -19,15 +13,17 @@ pub enum RunEnd {
 /// What a step did.
 #[derive(Clone, Copy, PartialEq, Eq, Debug)]
 pub enum Stepped {
-    /// The worker was idle, and stole a thread.
-    Stole,
-    /// The worker did the next action of its top thread.
-    Acted,
-    /// The top thread joins a child that has not ended. It waits, and the worker is idle.
-    Suspended,
+    /// The worker was idle, stole a thread, and owns this deque from now on, in the period of this number.
+    Stole { deque: DequeId, period: u32 },
+    /// Its top thread did this action.
+    Acted(ActionId),
+    /// Its top thread, of this id, waits for a child, and the worker is idle.
+    Suspended(ThreadId),
+    /// It left this deque in the list without an owner, and is idle.
+    GaveUp(DequeId),
     /// The worker is idle, and no thread in its reach is ready. Nothing changed.
     Nothing,
-    /// The run has ended, or this step found a stop.
+    /// The run has ended, or this step met a stop.
     Over(RunEnd),
 }
 
@@ -38,15 +34,4 @@ pub enum OutputFail {
     NotFinished,
     /// There was no memory for the lines.
     OutOfMemory,
-}
-
-impl From<AllocError> for OutputFail {
-    ghost use Rattle.std.specs.Prelude.{◌≡◌};
-    ghost use Rattle.dfd_core.specs.declared.run_end.OutputFail.TheVariants.{OutOfMemory};
-
-    ghost from_gives = { λ _ fail. fail ≡ OutOfMemory };
-
-    fn from(_: AllocError) -> OutputFail {
-        OutputFail::OutOfMemory
-    }
 }

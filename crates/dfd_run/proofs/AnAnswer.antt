@@ -1,35 +1,40 @@
 -- A command has an answer to the bytes of a source.
-use Rattle.std.proofs.Common.{◌≡◌, ℕ, ℤ, pos, negsuc, ◌≤◌, ◌<◌, length, arith, Bool, true, false, List, Option, Some, None, inl, inr, sym, refl}
+use Rattle.std.proofs.Common.{◌≡◌, ℕ, ℤ, pos, negsuc, ◌≤◌, length, arith, Bool, true, false, List, Option, Some, None, ap, sym, refl}
 use Rattle.std.specs.Prelude.{nat_le, ◌≤ℤ◌}
 use Rattle.std.proofs.lemmas.Int.{ints}
 use borrow.Author.Tests.{leb-true, leb-false}
 use Rattle.canonical_text.specs.Canonical.{canonical}
+use Rattle.command_line.specs.declared.command.Command.{Command}
 use Rattle.command_line.specs.declared.command_kind.CommandKind.{CommandKind}
-use Rattle.command_line.specs.declared.command_kind.CommandKind.TheVariants.{Play, Peak, Check as Checks}
+use Rattle.command_line.specs.declared.command_kind.CommandKind.TheVariants.{Play, Peak, Check as Checks, Make}
 use Rattle.dag_order.specs.declared.fault.FaultAt.{FaultAt}
+use Rattle.command_line.specs.declared.setting.Setting.TheVariants.{Quota, Workers}
 use Rattle.depth_first_list.specs.Actions.{peak}
 use Rattle.depth_first_list.proofs.Peak.{peak_is_highest}
-use Rattle.depth_first_run.specs.States.{Item}
+use Rattle.depth_first_run.proofs.Built.{whole_is_depth_first}
+use Rattle.depth_first_run.specs.States.{Item, Setting}
 use Rattle.depth_first_run.specs.Run.{whole, actions_of, first_fault, lines_of}
 use Rattle.serial_journal.specs.Telling.{finish_of}
 use Rattle.serial_meaning.specs.Settings.{setting_of}
+use Rattle.deque_machine.proofs.Playing.{plays_end}
+use Rattle.deque_machine.specs.Moments.{Moment}
+use Rattle.deque_machine.specs.Play.{Ending, finished, stopped, arena_full, steps_spent, deques_full}
+use Rattle.deque_machine.specs.Runs.{Pair, moves, high_water_mark}
+use Rattle.thread_points.specs.Points.{list_of}
 use Rattle.par_ownership.specs.Ownership.{Ownership}
 use Rattle.par_ownership.specs.Walk.{Refusal, program_refusal}
 use Rattle.par_ownership.proofs.Law.{tells_program}
-use Rattle.par_text.specs.Judging.{IsText, IsRefused, Verdict, Judges, tree, refusal}
+use Rattle.par_text.specs.Judging.{IsText, Verdict, Judges, tree, refusal}
 use Rattle.par_text.proofs.Verdicts.{has_verdict}
 use Rattle.par_tree.specs.Tree.{Program}
-use Rattle.print_program.specs.Tree.{Statements}
-use Rattle.print_program.specs.TextOrder.{lines_of as text_lines}
-use Rattle.print_form.specs.Printing.{printing}
 use Rattle.run_report.specs.Texts.{peak_text}
-use Rattle.dfd_run.specs.Answer.{SourceGives, CheckMakes, PlayGives, KindGives}
-use Rattle.dfd_run.specs.Messages.{syntax_text, check_text, not_yet_text, spent_text}
-use Rattle.dfd_run.specs.Peak.{RunText, RunMakes, PeakMakes}
-use Rattle.dfd_run.specs.Play.{PrintsDone, outcome_text, PlayMakes}
-use Rattle.dfd_run.proofs.Plays.{prints}
+use Rattle.dfd_run.specs.Answer.{SourceGives, CheckMakes, KindMakes, BytesGive, HasRanges}
+use Rattle.dfd_run.specs.Messages.{syntax_text, check_text, spent_text, arena_text, deques_text}
+use Rattle.dfd_run.specs.Make.{MakeMakes, Summarizes}
+use Rattle.dfd_run.specs.Peak.{RunText, PeakMakes, finish_status}
+use Rattle.dfd_run.specs.Play.{IsPlay, TellsPlay, Reports, PlayMakes, play_setting, play_terms, play_machine, seeded_words}
 use Rattle.dfd_run.specs.declared.status.Status.{Status}
-use Rattle.dfd_run.specs.declared.status.Status.TheVariants.{Done, Usage, ReadFault, WriteFault, Syntax, Check, UserFault, StepsSpent, OutOfMemory}
+use Rattle.dfd_run.specs.declared.status.Status.TheVariants.{Done, Syntax, Check, UserFault, StepsSpent, ArenaFull, DequesFull}
 
 abbrev Some_answer : (Status → List ℕ → Type 0) → Type 0
 Some_answer gives = (s : Status) × ((t : List ℕ) × gives s t)
@@ -90,19 +95,52 @@ peak_answer k limit bytes =
     source_answer (PeakMakes k limit) bytes
     (λ p is own. peak_by_limit k limit bytes p is own (nat_le (length (actions_of (whole (setting_of p k)).items)) limit) refl)
 
--- `play`
-play_by_form :
-    (k : ℕ) (bytes : List ℕ) (p : Program) → IsText bytes p → (o : Option Statements) → printing p ≡ o → Some_answer (PlayGives k bytes)
-play_by_form k bytes p is None e = (Syntax, (not_yet_text, inl (p, (is, (e, refl)))))
-play_by_form k bytes p is (Some main) e =
-    let run : PrintsDone (whole (setting_of p k)).items (text_lines main) = prints main (text_lines main) refl p k e in
-    (Done, (outcome_text (whole (setting_of p k)).items, (p, (is, ((main, e), (run.0, refl))))))
+-- `play` and `make`: something is told of each run
+number_of_words : (c : Setting) (run : List Pair) → (n : ℕ) × (pos n ≡ high_water_mark (list_of c) run)
+number_of_words c run = number_of (high_water_mark (list_of c) run) ((peak_is_highest (moves (list_of c) run)).never_above 0)
 
-play_by_verdict : (k : ℕ) (bytes : List ℕ) (v : Verdict) → Judges bytes v → Some_answer (PlayGives k bytes)
-play_by_verdict k bytes (refusal e) r = (Syntax, (syntax_text e, inr (e, (r, refl))))
-play_by_verdict k bytes (tree p) is = play_by_form k bytes p is (printing p) refl
+some_report : (c : Setting) (run : List Pair) (last : Moment) → (t : List ℕ) × Reports c run last t
+some_report c run last = let high = number_of_words c run in (_, (high.0, (high.1, refl)))
 
-pub an_answer : (kind : CommandKind) (k limit : ℕ) (bytes : List ℕ) → Some_answer (KindGives kind k limit bytes)
-an_answer Play k limit bytes = let v = has_verdict bytes in play_by_verdict k bytes v.0 v.1
-an_answer Peak k limit bytes = peak_answer k limit bytes
-an_answer Checks k limit bytes = check_answer bytes
+some_summary : (bytes : ℕ) (c : Setting) (run : List Pair) (last : Moment) → (t : List ℕ) × Summarizes bytes c run last t
+some_summary bytes c run last = let high = number_of_words c run in (_, (high.0, (high.1, refl)))
+
+module _ (tells : Setting → List Pair → Moment → List ℕ → Type 0)
+    (some : (c : Setting) (run : List Pair) (last : Moment) → (t : List ℕ) × tells c run last t)
+    (command : Command) (ranges : HasRanges command) (bytes : List ℕ) (p : Program) (is : IsText bytes p) (own : Ownership p) where
+  by_fault : (run : List Pair) (last : Moment) → IsPlay command p run last finished →
+      (o : Option FaultAt) → first_fault (whole (play_setting command p)).items ≡ o → Some_answer (SourceGives (TellsPlay tells command) bytes)
+  by_fault run last plays None e =
+      let t = some (play_setting command p) run last in
+      (Done, (t.0, (p, (is, (own, ∣ (run, last, finished, plays, (sym (ap (λ f. finish_status (finish_of f)) e), t.1)) ∣₁)))))
+  by_fault run last plays (Some fault) e =
+      let t = some (play_setting command p) run last in
+      (UserFault, (t.0, (p, (is, (own, ∣ (run, last, finished, plays, (sym (ap (λ f. finish_status (finish_of f)) e), t.1)) ∣₁)))))
+
+  by_ending : (run : List Pair) (last : Moment) (ending : Ending) → IsPlay command p run last ending →
+      Some_answer (SourceGives (TellsPlay tells command) bytes)
+  by_ending run last finished plays = by_fault run last plays (first_fault (whole (play_setting command p)).items) refl
+  by_ending run last (stopped (arena_full live asked)) plays =
+      (ArenaFull, (arena_text live asked, (p, (is, (own, ∣ (run, last, stopped (arena_full live asked), plays, (refl, refl)) ∣₁)))))
+  by_ending run last (stopped (steps_spent limit)) plays =
+      (StepsSpent, (spent_text limit, (p, (is, (own, ∣ (run, last, stopped (steps_spent limit), plays, (refl, refl)) ∣₁)))))
+  by_ending run last (stopped (deques_full deques)) plays =
+      (DequesFull, (deques_text deques, (p, (is, (own, ∣ (run, last, stopped (deques_full deques), plays, (refl, refl)) ∣₁)))))
+
+  play_made : Some_answer (SourceGives (TellsPlay tells command) bytes)
+  play_made =
+      let played = plays_end (play_machine command p) (omega (arith, (ranges.numbers Quota).0)) (whole_is_depth_first (play_setting command p))
+      (omega (arith, (ranges.numbers Quota).0)) (omega (arith, (ranges.numbers Workers).0)) (play_terms command).limits
+      (seeded_words command.seed) in
+      by_ending played.0 played.1 played.2 played.3
+
+kind_answer : (kind : CommandKind) (command : Command) → HasRanges command → (bytes : List ℕ) →
+    Some_answer (SourceGives (KindMakes kind command bytes) bytes)
+kind_answer Play command ranges bytes = source_answer (PlayMakes command) bytes (play_made Reports some_report command ranges bytes)
+kind_answer Peak command ranges bytes = peak_answer command.k command.steps bytes
+kind_answer Checks command ranges bytes = check_answer bytes
+kind_answer Make command ranges bytes =
+    source_answer (MakeMakes command bytes) bytes (play_made (Summarizes (length bytes)) (some_summary (length bytes)) command ranges bytes)
+
+pub an_answer : (command : Command) (bytes : List ℕ) → HasRanges command → Some_answer (BytesGive command bytes)
+an_answer command bytes ranges = kind_answer command.kind command ranges bytes

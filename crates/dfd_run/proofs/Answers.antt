@@ -1,23 +1,35 @@
 -- The answer of a command is the answer of its call, and a front of an answer's text ends a call at a fault.
-use Rattle.std.proofs.Common.{ℕ, ◌<◌, List, [], ◌∷◌, take, Option, arith, refl, sym, subst}
+use Rattle.std.proofs.Common.{◌≡◌, ℕ, ◌≤◌, List, length, take, Option, ap, refl, sym, subst}
+use Rattle.std.proofs.Math.Logic.{∥∥₁_elim}
 use Rattle.std.proofs.lemmas.Result.{IfOk-weaker}
 use Rattle.std.specs.Prelude.{Result, Err, IfOk}
 use Rattle.std.specs.declared.alloc.AllocError.{AllocError}
 use Rattle.accepted_source.specs.Sources.{ReadsSource}
 use Rattle.accepted_source.specs.declared.source_fail.SourceFail.{SourceFail}
-use Rattle.command_line.specs.Words.{IsCommand, Sets, InRange, rule_of, number_of, values_of}
+use Rattle.command_line.specs.Words.{IsCommand, number_of, values_of, wants_groups}
+use Rattle.command_line.proofs.Commands.{sets_in_range, groups_in_range}
 use Rattle.command_line.specs.declared.command.Command.{Command}
 use Rattle.command_line.specs.declared.command_kind.CommandKind.{CommandKind}
-use Rattle.command_line.specs.declared.command_kind.CommandKind.TheVariants.{Play, Peak, Check as Checks}
-use Rattle.command_line.specs.declared.setting.Setting.{Setting}
-use Rattle.command_line.specs.declared.setting.Setting.TheVariants.{Quota, Workers, Steps}
+use Rattle.command_line.specs.declared.command_kind.CommandKind.TheVariants.{Play, Peak, Check as Checks, Make}
+use Rattle.dag_order.specs.declared.finish.Finish.{Finish}
+use Rattle.dag_order.specs.declared.finish.Finish.TheVariants.{Done as EndDone, Faulted}
+use Rattle.depth_first_run.specs.States.{Setting as RunSetting}
+use Rattle.deque_machine.specs.Moments.{Moment}
+use Rattle.deque_machine.specs.Play.{Stop, arena_full, steps_spent, deques_full, Ending, finished, stopped}
+use Rattle.deque_machine.specs.Runs.{Pair}
+use Rattle.dfd_core.specs.Ends.{finish_of_run}
+use Rattle.made_source.specs.declared.TheConstants.{MOST_GROUPS}
 use Rattle.par_tree.specs.Tree.{Program}
-use Rattle.dfd_run.specs.Answer.{RefusalGives, SourceGives, KindGives, CommandGives, CallGives, Ends, HasRanges}
+use Rattle.dfd_run.specs.Counts.{Counts}
+use Rattle.dfd_run.specs.Make.{Summarizes, source_of}
+use Rattle.dfd_run.specs.Peak.{finish_status}
+use Rattle.dfd_run.specs.Play.{TellsPlay, TellsEnding, Reports, play_setting, stop_status}
+use Rattle.dfd_run.specs.Answer.{RefusalGives, SourceGives, KindMakes, BytesGive, ReadGives, KindAnswers, CommandGives, CallGives, Ends, HasRanges}
 use Rattle.byte_streams.specs.Sink.{Takes}
 use Rattle.byte_streams.specs.Source.{IsRead}
 use Rattle.dfd_run.specs.declared.answer.Answer.{Answer}
 use Rattle.dfd_run.specs.declared.status.Status.{Status}
-use Rattle.dfd_run.specs.declared.status.Status.TheVariants.{Done, Usage, ReadFault, WriteFault, Syntax, Check, UserFault, StepsSpent, OutOfMemory}
+use Rattle.dfd_run.specs.declared.status.Status.TheVariants.{Done, Usage, ReadFault, WriteFault, Syntax, Check, UserFault, StepsSpent, ArenaFull, DequesFull, OutOfMemory}
 
 -- a refusal is the answer of each command that reads a program that keeps the rules
 pub source_of_refusal :
@@ -31,6 +43,8 @@ source_of_refusal makes bytes Syntax text gives = gives
 source_of_refusal makes bytes Check text gives = gives
 source_of_refusal makes bytes UserFault text gives = absurd gives
 source_of_refusal makes bytes StepsSpent text gives = absurd gives
+source_of_refusal makes bytes ArenaFull text gives = absurd gives
+source_of_refusal makes bytes DequesFull text gives = absurd gives
 source_of_refusal makes bytes OutOfMemory text gives = absurd gives
 
 pub refused_source :
@@ -41,33 +55,163 @@ pub refused_source :
 refused_source makes bytes fail result reads gives =
     IfOk-weaker result _ _ (λ answer refuses. source_of_refusal makes bytes answer.status answer.text.items (refuses bytes reads)) gives
 
--- what is made of bytes is no fault of the source
-no_read_fault : (kind : CommandKind) (k limit : ℕ) (bytes text : List ℕ) → ¬ KindGives kind k limit bytes ReadFault text
-no_read_fault Play k limit bytes text gives = gives
-no_read_fault Peak k limit bytes text gives = gives.1.1.1
-no_read_fault Checks k limit bytes text gives = gives.1.1.1
+-- the statuses of a run
+abbrev IsOfARun : Status → Type 0
+IsOfARun Done = Unit {0}
+IsOfARun Usage = ⊥
+IsOfARun ReadFault = ⊥
+IsOfARun WriteFault = ⊥
+IsOfARun Syntax = ⊥
+IsOfARun Check = ⊥
+IsOfARun UserFault = Unit {0}
+IsOfARun StepsSpent = Unit {0}
+IsOfARun ArenaFull = Unit {0}
+IsOfARun DequesFull = Unit {0}
+IsOfARun OutOfMemory = ⊥
 
--- and no usage line
-no_usage : (kind : CommandKind) (k limit : ℕ) (bytes text : List ℕ) → ¬ KindGives kind k limit bytes Usage text
-no_usage Play k limit bytes text gives = gives
-no_usage Peak k limit bytes text gives = gives.1.1.1
-no_usage Checks k limit bytes text gives = gives.1.1.1
+of_finish : (finish : Finish) → IsOfARun (finish_status finish)
+of_finish EndDone = tt
+of_finish (Faulted at) = tt
 
--- what a command makes of the bytes that it read is what it answers
-pub command_of_kind :
+of_stop : (stop : Stop) → IsOfARun (stop_status stop)
+of_stop (arena_full live asked) = tt
+of_stop (steps_spent limit) = tt
+of_stop (deques_full deques) = tt
+
+of_play : (tells : List Pair → Moment → List ℕ → Type 0) (c : RunSetting) (run : List Pair) (last : Moment) (ending : Ending)
+    (status : Status) (text : List ℕ) → TellsEnding tells c run last ending status text → IsOfARun status
+of_play tells c run last finished status text told = subst IsOfARun (sym told.0) (of_finish (finish_of_run c))
+of_play tells c run last (stopped stop) status text told = subst IsOfARun (sym told.0) (of_stop stop)
+
+pub not_of_a_play : (tells : RunSetting → List Pair → Moment → List ℕ → Type 0) (command : Command) (p : Program) (status : Status)
+    (text : List ℕ) → ¬ IsOfARun status → ¬ TellsPlay tells command p status text
+not_of_a_play tells command p status text not makes =
+    ∥∥₁_elim makes (λ x y. absurd x)
+    (λ w. not (of_play (tells (play_setting command p)) (play_setting command p) w.0 w.1 w.2 status text w.4))
+
+-- the statuses that no bytes bring about
+abbrev pub IsOfNoBytes : Status → Type 0
+IsOfNoBytes Done = ⊥
+IsOfNoBytes Usage = Unit {0}
+IsOfNoBytes ReadFault = Unit {0}
+IsOfNoBytes WriteFault = Unit {0}
+IsOfNoBytes Syntax = ⊥
+IsOfNoBytes Check = ⊥
+IsOfNoBytes UserFault = ⊥
+IsOfNoBytes StepsSpent = ⊥
+IsOfNoBytes ArenaFull = ⊥
+IsOfNoBytes DequesFull = ⊥
+IsOfNoBytes OutOfMemory = Unit {0}
+
+not_given : (kind : CommandKind) (command : Command) (bytes text : List ℕ) (status : Status) → IsOfNoBytes status →
+    ¬ SourceGives (KindMakes kind command bytes) bytes status text
+not_given kind command bytes text Done none gives = absurd none
+not_given Play command bytes text Usage none gives = not_of_a_play Reports command gives.0 Usage text (λ is. is) gives.1.1.1
+not_given Peak command bytes text Usage none gives = gives.1.1.1
+not_given Checks command bytes text Usage none gives = gives.1.1.1
+not_given Make command bytes text Usage none gives =
+    not_of_a_play (Summarizes (length bytes)) command gives.0 Usage text (λ is. is) gives.1.1.1
+not_given Play command bytes text ReadFault none gives = not_of_a_play Reports command gives.0 ReadFault text (λ is. is) gives.1.1.1
+not_given Peak command bytes text ReadFault none gives = gives.1.1.1
+not_given Checks command bytes text ReadFault none gives = gives.1.1.1
+not_given Make command bytes text ReadFault none gives =
+    not_of_a_play (Summarizes (length bytes)) command gives.0 ReadFault text (λ is. is) gives.1.1.1
+not_given Play command bytes text WriteFault none gives = not_of_a_play Reports command gives.0 WriteFault text (λ is. is) gives.1.1.1
+not_given Peak command bytes text WriteFault none gives = gives.1.1.1
+not_given Checks command bytes text WriteFault none gives = gives.1.1.1
+not_given Make command bytes text WriteFault none gives =
+    not_of_a_play (Summarizes (length bytes)) command gives.0 WriteFault text (λ is. is) gives.1.1.1
+not_given kind command bytes text Syntax none gives = absurd none
+not_given kind command bytes text Check none gives = absurd none
+not_given kind command bytes text UserFault none gives = absurd none
+not_given kind command bytes text StepsSpent none gives = absurd none
+not_given kind command bytes text ArenaFull none gives = absurd none
+not_given kind command bytes text DequesFull none gives = absurd none
+not_given Play command bytes text OutOfMemory none gives = not_of_a_play Reports command gives.0 OutOfMemory text (λ is. is) gives.1.1.1
+not_given Peak command bytes text OutOfMemory none gives = gives.1.1.1
+not_given Checks command bytes text OutOfMemory none gives = gives.1.1.1
+not_given Make command bytes text OutOfMemory none gives =
+    not_of_a_play (Summarizes (length bytes)) command gives.0 OutOfMemory text (λ is. is) gives.1.1.1
+
+-- what is made of bytes ends a call with its text
+pub ends_at_text : (command : Command) (bytes : List ℕ) (taken taken' : Option (List ℕ)) (status : Status) (text : List ℕ) →
+    BytesGive command bytes status text → Takes taken taken' text → Ends (BytesGive command bytes) taken taken' status
+ends_at_text command bytes taken taken' Done text gives takes = (text, (gives, takes))
+ends_at_text command bytes taken taken' Usage text gives takes = (text, (gives, takes))
+ends_at_text command bytes taken taken' ReadFault text gives takes = (text, (gives, takes))
+ends_at_text command bytes taken taken' WriteFault text gives takes = absurd (not_given command.kind command bytes text WriteFault tt gives)
+ends_at_text command bytes taken taken' Syntax text gives takes = (text, (gives, takes))
+ends_at_text command bytes taken taken' Check text gives takes = (text, (gives, takes))
+ends_at_text command bytes taken taken' UserFault text gives takes = (text, (gives, takes))
+ends_at_text command bytes taken taken' StepsSpent text gives takes = (text, (gives, takes))
+ends_at_text command bytes taken taken' ArenaFull text gives takes = (text, (gives, takes))
+ends_at_text command bytes taken taken' DequesFull text gives takes = (text, (gives, takes))
+ends_at_text command bytes taken taken' OutOfMemory text gives takes = tt
+
+-- it is no want of memory
+pub has_memory : (command : Command) (bytes : List ℕ) (status : Status) (text : List ℕ) → BytesGive command bytes status text →
+    status ≡ OutOfMemory → ⊥
+has_memory command bytes status text gives is =
+    not_given command.kind command bytes text OutOfMemory tt (subst (λ (s : Status). BytesGive command bytes s text) is gives)
+
+-- and no fault of a stream
+pub counts_none : (command : Command) (bytes : List ℕ) (status : Status) (text : List ℕ) → BytesGive command bytes status text →
+    (reads writes writes' : ℕ) → writes' ≡ writes → Counts status reads reads writes writes'
+counts_none command bytes Done text gives reads writes writes' same = (refl, same)
+counts_none command bytes Usage text gives reads writes writes' same = (refl, same)
+counts_none command bytes ReadFault text gives reads writes writes' same =
+    absurd (not_given command.kind command bytes text ReadFault tt gives)
+counts_none command bytes WriteFault text gives reads writes writes' same =
+    absurd (not_given command.kind command bytes text WriteFault tt gives)
+counts_none command bytes Syntax text gives reads writes writes' same = (refl, same)
+counts_none command bytes Check text gives reads writes writes' same = (refl, same)
+counts_none command bytes UserFault text gives reads writes writes' same = (refl, same)
+counts_none command bytes StepsSpent text gives reads writes writes' same = (refl, same)
+counts_none command bytes ArenaFull text gives reads writes writes' same = (refl, same)
+counts_none command bytes DequesFull text gives reads writes writes' same = (refl, same)
+counts_none command bytes OutOfMemory text gives reads writes writes' same = (refl, same)
+
+-- what a command makes of the bytes that it read is what it answers where it reads
+pub read_of_kind :
     (command : Command) (failed : Type 0) (left left' : Option (List ℕ)) (bytes : List ℕ) (status : Status) (text : List ℕ) →
-    IsRead left left' bytes → KindGives command.kind command.k command.steps bytes status text →
-    CommandGives command failed left left' status text
-command_of_kind command failed left left' bytes Done text read gives = (bytes, (read, gives))
-command_of_kind command failed left left' bytes Usage text read gives = (bytes, (read, gives))
-command_of_kind command failed left left' bytes ReadFault text read gives =
-    absurd (no_read_fault command.kind command.k command.steps bytes text gives)
-command_of_kind command failed left left' bytes WriteFault text read gives = (bytes, (read, gives))
-command_of_kind command failed left left' bytes Syntax text read gives = (bytes, (read, gives))
-command_of_kind command failed left left' bytes Check text read gives = (bytes, (read, gives))
-command_of_kind command failed left left' bytes UserFault text read gives = (bytes, (read, gives))
-command_of_kind command failed left left' bytes StepsSpent text read gives = (bytes, (read, gives))
-command_of_kind command failed left left' bytes OutOfMemory text read gives = (bytes, (read, gives))
+    IsRead left left' bytes → BytesGive command bytes status text →
+    ReadGives command failed left left' status text
+read_of_kind command failed left left' bytes Done text read gives = (bytes, (read, gives))
+read_of_kind command failed left left' bytes Usage text read gives = (bytes, (read, gives))
+read_of_kind command failed left left' bytes ReadFault text read gives =
+    absurd (not_given command.kind command bytes text ReadFault tt gives)
+read_of_kind command failed left left' bytes WriteFault text read gives = (bytes, (read, gives))
+read_of_kind command failed left left' bytes Syntax text read gives = (bytes, (read, gives))
+read_of_kind command failed left left' bytes Check text read gives = (bytes, (read, gives))
+read_of_kind command failed left left' bytes UserFault text read gives = (bytes, (read, gives))
+read_of_kind command failed left left' bytes StepsSpent text read gives = (bytes, (read, gives))
+read_of_kind command failed left left' bytes ArenaFull text read gives = (bytes, (read, gives))
+read_of_kind command failed left left' bytes DequesFull text read gives = (bytes, (read, gives))
+read_of_kind command failed left left' bytes OutOfMemory text read gives = (bytes, (read, gives))
+
+-- and a command that is not `make` reads
+pub command_of_read :
+    (kind : CommandKind) (command : Command) (failed : Type 0) (left left' : Option (List ℕ)) → ¬ (kind ≡ Make) →
+    (status : Status) (text : List ℕ) → ReadGives command failed left left' status text → KindAnswers kind command failed left left' status text
+command_of_read Play command failed left left' reads status text gives = gives
+command_of_read Peak command failed left left' reads status text gives = gives
+command_of_read Checks command failed left left' reads status text gives = gives
+command_of_read Make command failed left left' reads status text gives = absurd (reads refl)
+
+-- `make` answers what it makes of its made source
+pub command_of_made :
+    (kind : CommandKind) (command : Command) (failed : Type 0) (left left' : Option (List ℕ)) → kind ≡ Make →
+    (status : Status) (text : List ℕ) → BytesGive command (source_of command) status text → KindAnswers kind command failed left left' status text
+command_of_made kind command failed left left' made status text gives =
+    subst (λ (k : CommandKind). KindAnswers k command failed left left' status text) (sym made) gives
+
+-- no usage line is an answer of a command
+no_usage : (kind : CommandKind) (command : Command) (failed : Type 0) (left left' : Option (List ℕ)) (text : List ℕ) →
+    ¬ KindAnswers kind command failed left left' Usage text
+no_usage Play command failed left left' text gives = not_given command.kind command gives.0 text Usage tt gives.1.1
+no_usage Peak command failed left left' text gives = not_given command.kind command gives.0 text Usage tt gives.1.1
+no_usage Checks command failed left left' text gives = not_given command.kind command gives.0 text Usage tt gives.1.1
+no_usage Make command failed left left' text gives = not_given command.kind command (source_of command) text Usage tt gives
 
 -- what a command gives is what its call gives
 pub call_of_command :
@@ -75,13 +219,15 @@ pub call_of_command :
     (status : Status) (text : List ℕ) → CommandGives command failed left left' status text → CallGives words failed left left' status text
 call_of_command words command failed left left' is Done text gives = (command, (is, gives))
 call_of_command words command failed left left' is Usage text gives =
-    absurd (no_usage command.kind command.k command.steps gives.0 text gives.1.1)
+    absurd (no_usage command.kind command failed left left' text gives)
 call_of_command words command failed left left' is ReadFault text gives = (command, (is, gives))
 call_of_command words command failed left left' is WriteFault text gives = (command, (is, gives))
 call_of_command words command failed left left' is Syntax text gives = (command, (is, gives))
 call_of_command words command failed left left' is Check text gives = (command, (is, gives))
 call_of_command words command failed left left' is UserFault text gives = (command, (is, gives))
 call_of_command words command failed left left' is StepsSpent text gives = (command, (is, gives))
+call_of_command words command failed left left' is ArenaFull text gives = (command, (is, gives))
+call_of_command words command failed left left' is DequesFull text gives = (command, (is, gives))
 call_of_command words command failed left left' is OutOfMemory text gives = (command, (is, gives))
 
 pub ends_at_fault :
@@ -102,22 +248,17 @@ ends_more gives gives' taken taken' Syntax more ends = (ends.0, (more Syntax end
 ends_more gives gives' taken taken' Check more ends = (ends.0, (more Check ends.0 ends.1.0, ends.1.1))
 ends_more gives gives' taken taken' UserFault more ends = (ends.0, (more UserFault ends.0 ends.1.0, ends.1.1))
 ends_more gives gives' taken taken' StepsSpent more ends = (ends.0, (more StepsSpent ends.0 ends.1.0, ends.1.1))
+ends_more gives gives' taken taken' ArenaFull more ends = (ends.0, (more ArenaFull ends.0 ends.1.0, ends.1.1))
+ends_more gives gives' taken taken' DequesFull more ends = (ends.0, (more DequesFull ends.0 ends.1.0, ends.1.1))
 ends_more gives gives' taken taken' OutOfMemory more ends = tt
-
-default_in_range : (s : Setting) → InRange s (rule_of s).default
-default_in_range Quota = (omega arith, omega arith, refl)
-default_in_range Workers = (omega arith, omega arith, refl)
-default_in_range Steps = (omega arith, omega arith, refl)
-
-sets_in_range : (s : Setting) (values : List (List ℕ)) (n : ℕ) → Sets s values n → InRange s n
-sets_in_range s [] n sets = subst (InRange s) (sym sets) (default_in_range s)
-sets_in_range s (value ∷ []) n sets = sets.1
-sets_in_range s (value ∷ again ∷ values) n sets = absurd sets
 
 -- the numbers of a command that words are
 pub command_ranges : (words : List (List ℕ)) (command : Command) → IsCommand words command → HasRanges command
-command_ranges words command is s = sets_in_range s (values_of s is.items) (number_of command s) (is.sets s)
+command_ranges words command is = record {
+  numbers = λ s. sets_in_range s (values_of s is.items) (number_of command s) (is.sets s);
+  groups = groups_in_range words command is;
+}
 
--- there is a worker
-pub has_worker : (command : Command) → HasRanges command → 0 < command.p
-has_worker command ranges = (ranges Workers).0
+-- and `make` has groups
+pub made_groups : (command : Command) → HasRanges command → command.kind ≡ Make → (1 ≤ command.groups) × (command.groups ≤ MOST_GROUPS)
+made_groups command ranges made = ranges.groups (ap wants_groups made)

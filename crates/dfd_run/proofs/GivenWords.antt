@@ -1,5 +1,5 @@
 -- The words of the command line, and the number of want of memory.
-use Rattle.std.proofs.Common.{◌≡◌, ℕ, List, [], ◌∷◌, drop, length, Option, Some, None, ap, sym, ◌∙◌, refl, subst, arith}
+use Rattle.std.proofs.Common.{◌≡◌, ℕ, List, [], ◌∷◌, drop, Option, Some, None, ap, sym, ◌∙◌, refl, subst, arith}
 use Rattle.std.proofs.lemmas.List.{nil_from_length}
 use Rattle.std.specs.Prelude.{Ok, Err}
 use Rattle.std.specs.Vec.Iter.{into_iter_items, into_iter_steps}
@@ -12,7 +12,7 @@ use Rattle.dfd_run.specs.Answer.{CallGives, Ends}
 use Rattle.dfd_run.specs.Program.{Given, words_given, AreNoWords}
 use Rattle.dfd_run.specs.Status.{code_of}
 use Rattle.dfd_run.specs.declared.status.Status.{Status}
-use Rattle.dfd_run.specs.declared.status.Status.TheVariants.{Done, Usage, ReadFault, WriteFault, Syntax, Check, UserFault, StepsSpent, OutOfMemory}
+use Rattle.dfd_run.specs.declared.status.Status.TheVariants.{Done, Usage, ReadFault, WriteFault, Syntax, Check, UserFault, StepsSpent, ArenaFull, DequesFull, OutOfMemory}
 
 -- what is left behind the first word
 pub behind_first :
@@ -34,6 +34,8 @@ code_of_memory Syntax e = absurd (omega (arith, e))
 code_of_memory Check e = absurd (omega (arith, e))
 code_of_memory UserFault e = absurd (omega (arith, e))
 code_of_memory StepsSpent e = absurd (omega (arith, e))
+code_of_memory ArenaFull e = absurd (omega (arith, e))
+code_of_memory DequesFull e = absurd (omega (arith, e))
 code_of_memory OutOfMemory e = refl
 
 abbrev IsNil : List (List ℕ) → Type 0

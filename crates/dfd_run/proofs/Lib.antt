@@ -4,3 +4,5 @@ pub mod AnAnswer
 pub mod Peaks
 pub mod Plays
 pub mod GivenWords
+pub mod Headline
+pub mod Sums

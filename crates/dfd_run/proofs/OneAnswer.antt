@@ -1,13 +1,24 @@
 -- A command has one answer to the bytes of a source.
-use Rattle.std.proofs.Common.{◌≡◌, ℕ, ℤ, pos, negsuc, ◌≤◌, ◌<◌, length, arith, List, Option, Some, None, inl, inr, ap, sym, ◌∙◌, refl, subst}
+use Rattle.std.proofs.Common.{◌≡◌, ℕ, ℤ, pos, negsuc, ◌≤◌, ◌<◌, length, arith, List, [], ◌∷◌, get_or, Option, Some, None, ap, sym, ◌∙◌, refl, subst}
+use Rattle.std.proofs.Math.Logic.{∥∥₁_elim}
+use denote.Struct.Props.{props}
 use Rattle.canonical_text.specs.Canonical.{canonical}
+use Rattle.command_line.specs.declared.command.Command.{Command}
 use Rattle.command_line.specs.declared.command_kind.CommandKind.{CommandKind}
-use Rattle.command_line.specs.declared.command_kind.CommandKind.TheVariants.{Play, Peak, Check as Checks}
+use Rattle.command_line.specs.declared.command_kind.CommandKind.TheVariants.{Play, Peak, Check as Checks, Make}
 use Rattle.dag_order.specs.declared.fault.FaultAt.{FaultAt}
-use Rattle.depth_first_run.specs.States.{Item}
+use Rattle.command_line.specs.declared.setting.Setting.TheVariants.{Quota as QuotaSetting}
+use Rattle.depth_first_run.proofs.Built.{whole_is_depth_first}
+use Rattle.depth_first_run.specs.States.{Item, Setting}
 use Rattle.depth_first_run.specs.Run.{whole, actions_of, first_fault, lines_of}
 use Rattle.serial_journal.specs.Telling.{finish_of}
 use Rattle.serial_meaning.specs.Settings.{setting_of}
+use Rattle.deque_machine.specs.Moments.{Moment}
+use Rattle.deque_machine.specs.Play.{Ending, finished, stopped}
+use Rattle.deque_machine.specs.Runs.{Pair}
+use Rattle.dfd_core.specs.Ends.{finish_of_run}
+use Rattle.lawful_books.specs.Books.{booked, periods_marked}
+use Rattle.machine_replay.proofs.OnePlay.{one_play}
 use Rattle.par_ownership.specs.Ownership.{Ownership}
 use Rattle.par_ownership.specs.Walk.{Refusal, program_refusal}
 use Rattle.par_ownership.proofs.Law.{tells_program}
@@ -15,15 +26,15 @@ use Rattle.par_text.specs.Judging.{IsText, IsRefused, Verdict, tree, refusal}
 use Rattle.par_text.proofs.Verdicts.{one_verdict}
 use Rattle.par_text.specs.declared.syntax_error.SyntaxError.{SyntaxError}
 use Rattle.par_tree.specs.Tree.{Program}
-use Rattle.print_program.specs.Tree.{Statements}
-use Rattle.print_form.specs.Printing.{printing}
-use Rattle.run_report.specs.Texts.{peak_text}
-use Rattle.dfd_run.specs.Answer.{SourceGives, CheckMakes, PlayGives, KindGives}
-use Rattle.dfd_run.specs.Messages.{syntax_text, check_text, not_yet_text, spent_text}
+use Rattle.run_report.specs.Texts.{peak_text, report_text, summary_text}
+use Rattle.dfd_run.specs.Answer.{SourceGives, CheckMakes, KindMakes, BytesGive, HasRanges}
+use Rattle.dfd_run.specs.Messages.{syntax_text, check_text, spent_text}
+use Rattle.dfd_run.specs.Make.{Summarizes, sum_of}
 use Rattle.dfd_run.specs.Peak.{RunText, RunMakes, PeakMakes}
-use Rattle.dfd_run.specs.Play.{outcome_text, PlayMakes}
+use Rattle.dfd_run.specs.Play.{IsPlay, TellsPlay, TellsEnding, Reports, play_setting, play_terms, play_machine, seeded_words}
+use Rattle.dfd_run.specs.Status.{code_of}
 use Rattle.dfd_run.specs.declared.status.Status.{Status}
-use Rattle.dfd_run.specs.declared.status.Status.TheVariants.{Done, Usage, ReadFault, WriteFault, Syntax, Check, UserFault, StepsSpent, OutOfMemory}
+use Rattle.dfd_run.specs.declared.status.Status.TheVariants.{Done, Usage, ReadFault, WriteFault, Syntax, Check, UserFault, StepsSpent, ArenaFull, DequesFull, OutOfMemory}
 
 abbrev program_in : Program → Verdict → Program
 program_in default (tree p) = p
@@ -72,6 +83,8 @@ way_of makes bytes Syntax t g = refused g.0 g.1.0 refl g.1.1
 way_of makes bytes Check t g = broken g.0 g.1.0 g.1.1.0 g.1.1.1.0 refl g.1.1.1.1
 way_of makes bytes UserFault t g = made_of makes bytes UserFault t g
 way_of makes bytes StepsSpent t g = made_of makes bytes StepsSpent t g
+way_of makes bytes ArenaFull t g = made_of makes bytes ArenaFull t g
+way_of makes bytes DequesFull t g = made_of makes bytes DequesFull t g
 way_of makes bytes OutOfMemory t g = made_of makes bytes OutOfMemory t g
 
 no_refusal : (p : Program) (r : Refusal) → program_refusal p ≡ None → program_refusal p ≡ Some r → ⊥
@@ -121,6 +134,8 @@ is_done p Syntax t m = absurd m
 is_done p Check t m = absurd m
 is_done p UserFault t m = absurd m
 is_done p StepsSpent t m = absurd m
+is_done p ArenaFull t m = absurd m
+is_done p DequesFull t m = absurd m
 is_done p OutOfMemory t m = absurd m
 
 one_check : IsOne CheckMakes
@@ -129,61 +144,93 @@ one_check p s s' t t' m m' =
     let d' = is_done p s' t' m' in
     (d.0 ∙ sym d'.0, d.1 ∙ sym d'.1)
 
--- `play`
-abbrev played_status : Option Statements → Status
-played_status None = Syntax
-played_status (Some main) = Done
+-- `play`: two statuses of one number are one
+abbrev with_code : ℕ → Status
+with_code code = get_or
+    (Done ∷ Usage ∷ ReadFault ∷ WriteFault ∷ Syntax ∷ Check ∷ UserFault ∷ StepsSpent ∷ ArenaFull ∷ DequesFull ∷ OutOfMemory ∷ []) code Done
 
-abbrev played_text : List Item → Option Statements → List ℕ
-played_text items None = not_yet_text
-played_text items (Some main) = outcome_text items
+code_back : (s : Status) → with_code (code_of s) ≡ s
+code_back Done = refl
+code_back Usage = refl
+code_back ReadFault = refl
+code_back WriteFault = refl
+code_back Syntax = refl
+code_back Check = refl
+code_back UserFault = refl
+code_back StepsSpent = refl
+code_back ArenaFull = refl
+code_back DequesFull = refl
+code_back OutOfMemory = refl
 
-is_played :
-    (k : ℕ) (p : Program) (s : Status) (t : List ℕ) → PlayMakes k p s t →
-    Same s (played_status (printing p)) t (played_text (whole (setting_of p k)).items (printing p))
-is_played k p Done t m =
-    (sym (ap played_status m.0.1), m.1.1 ∙ sym (ap (played_text (whole (setting_of p k)).items) m.0.1))
-is_played k p Usage t m = absurd m
-is_played k p ReadFault t m = absurd m
-is_played k p WriteFault t m = absurd m
-is_played k p Syntax t m =
-    (sym (ap played_status m.0), m.1 ∙ sym (ap (played_text (whole (setting_of p k)).items) m.0))
-is_played k p Check t m = absurd m
-is_played k p UserFault t m = absurd m
-is_played k p StepsSpent t m = absurd m
-is_played k p OutOfMemory t m = absurd m
+pub same_status : (s s' : Status) → code_of s ≡ code_of s' → s ≡ s'
+same_status s s' same = sym (code_back s) ∙ ap with_code same ∙ code_back s'
 
-one_play : (k : ℕ) → IsOne (PlayMakes k)
-one_play k p s s' t t' m m' =
-    let d = is_played k p s t m in
-    let d' = is_played k p s' t' m' in
-    (d.0 ∙ sym d'.0, d.1 ∙ sym d'.1)
+abbrev size_of : ℤ → ℕ
+size_of (pos n) = n
+size_of (negsuc n) = n
 
--- an answer of `play` is a refusal of the bytes, or made of their program
-data PlayWay (k : ℕ) (bytes : List ℕ) (s : Status) (t : List ℕ) : Type 0 where
-  unread : (e : SyntaxError) → IsRefused bytes e → s ≡ Syntax → t ≡ syntax_text e → PlayWay k bytes s t
-  played : (p : Program) → IsText bytes p → PlayMakes k p s t → PlayWay k bytes s t
+-- one thing is told of a play
+one_ending : (tells : List Pair → Moment → List ℕ → Type 0) →
+    ((run : List Pair) (last : Moment) (t t' : List ℕ) → tells run last t → tells run last t' → t ≡ t') →
+    (c : Setting) (run : List Pair) (last : Moment) (ending : Ending) (s s' : Status) (t t' : List ℕ) →
+    TellsEnding tells c run last ending s t → TellsEnding tells c run last ending s' t' → Same s s' t t'
+one_ending tells one c run last finished s s' t t' told told' = (told.0 ∙ sym told'.0, one run last t t' told.1 told'.1)
+one_ending tells one c run last (stopped stop) s s' t t' told told' = (told.0 ∙ sym told'.0, told.1 ∙ sym told'.1)
 
-play_way_of : (k : ℕ) (bytes : List ℕ) (s : Status) (t : List ℕ) → PlayGives k bytes s t → PlayWay k bytes s t
-play_way_of k bytes Done t g = played g.0 g.1.0 g.1.1
-play_way_of k bytes Usage t g = absurd g
-play_way_of k bytes ReadFault t g = absurd g
-play_way_of k bytes WriteFault t g = absurd g
-play_way_of k bytes Syntax t (inl g) = played g.0 g.1.0 g.1.1
-play_way_of k bytes Syntax t (inr g) = unread g.0 g.1.0 refl g.1.1
-play_way_of k bytes Check t g = absurd g
-play_way_of k bytes UserFault t g = absurd g
-play_way_of k bytes StepsSpent t g = absurd g
-play_way_of k bytes OutOfMemory t g = absurd g
+one_report : (c : Setting) (run : List Pair) (last : Moment) (t t' : List ℕ) → Reports c run last t → Reports c run last t' → t ≡ t'
+one_report c run last t t' told told' =
+    let same : told.0 ≡ told'.0 = ap size_of (told.1.0 ∙ sym told'.1.0) in
+    told.1.1
+    ∙ ap (λ (n : ℕ). report_text (record {
+      lines = lines_of (whole c).items;
+      finish = finish_of_run c;
+      periods = length last.books;
+      ahead = periods_marked last.books;
+      high = n;
+    })) same
+    ∙ sym told'.1.1
 
-one_play_way :
-    (k : ℕ) (bytes : List ℕ) (s s' : Status) (t t' : List ℕ) → PlayWay k bytes s t → PlayWay k bytes s' t' → Same s s' t t'
-one_play_way k bytes s s' t t' (unread e is a b) (unread e' is' a' b') =
-    (a ∙ sym a', b ∙ ap syntax_text (one_error bytes e e' is is') ∙ sym b')
-one_play_way k bytes s s' t t' (unread e is a b) (played p is' m) = absurd (not_both bytes p e is' is)
-one_play_way k bytes s s' t t' (played p is m) (unread e is' a' b') = absurd (not_both bytes p e is is')
-one_play_way k bytes s s' t t' (played p is m) (played q is' m') =
-    one_play k p s s' t t' m (subst (λ (o : Program). PlayMakes k o s' t') (one_program bytes q p is' is) m')
+one_summary : (bytes : ℕ) (c : Setting) (run : List Pair) (last : Moment) (t t' : List ℕ) → Summarizes bytes c run last t →
+    Summarizes bytes c run last t' → t ≡ t'
+one_summary bytes c run last t t' told told' =
+    let same : told.0 ≡ told'.0 = ap size_of (told.1.0 ∙ sym told'.1.0) in
+    told.1.1
+    ∙ ap (λ (n : ℕ). summary_text (record {
+      bytes = bytes;
+      lines = length (lines_of (whole c).items);
+      total = sum_of (lines_of (whole c).items);
+      actions = length (booked last.books);
+      periods = length last.books;
+      ahead = periods_marked last.books;
+      high = n;
+    })) same
+    ∙ sym told'.1.1
+
+module _ (tells : Setting → List Pair → Moment → List ℕ → Type 0)
+    (one : (c : Setting) (run : List Pair) (last : Moment) (t t' : List ℕ) → tells c run last t → tells c run last t' → t ≡ t')
+    (command : Command) (ranges : HasRanges command) (p : Program) where
+  some_quota : 0 < command.k
+  some_quota = omega (arith, (ranges.numbers QuotaSetting).0)
+
+  same_told : (s s' : Status) (t t' : List ℕ) (run run' : List Pair) (last last' : Moment) (ending ending' : Ending) →
+      IsPlay command p run last ending → TellsEnding (tells (play_setting command p)) (play_setting command p) run last ending s t →
+      IsPlay command p run' last' ending' → TellsEnding (tells (play_setting command p)) (play_setting command p) run' last' ending' s' t' →
+      Same s s' t t'
+  same_told s s' t t' run run' last last' ending ending' plays told plays' told' =
+      let same = one_play (play_machine command p) some_quota (whole_is_depth_first (play_setting command p)) (play_terms command).limits
+      (seeded_words command.seed) run run' last last' ending ending' plays plays' in
+      one_ending (tells (play_setting command p)) (one (play_setting command p)) (play_setting command p) run last ending s s' t t' told
+      (subst (λ r. TellsEnding (tells (play_setting command p)) (play_setting command p) r last ending s' t') (sym same.0)
+      (subst (λ l. TellsEnding (tells (play_setting command p)) (play_setting command p) run' l ending s' t') (sym same.1)
+      (subst (λ e. TellsEnding (tells (play_setting command p)) (play_setting command p) run' last' e s' t') (sym same.2) told')))
+
+  one_play_answer : (s s' : Status) (t t' : List ℕ) → TellsPlay tells command p s t → TellsPlay tells command p s' t' → Same s s' t t'
+  one_play_answer s s' t t' makes makes' = (
+    same_status s s' (∥∥₁_elim makes (search props) (λ w. ∥∥₁_elim makes' (search props) (λ w'.
+        ap code_of (same_told s s' t t' w.0 w'.0 w.1 w'.1 w.2 w'.2 w.3 w.4 w'.3 w'.4).0))),
+    ∥∥₁_elim makes (search props) (λ w. ∥∥₁_elim makes' (search props) (λ w'.
+        (same_told s s' t t' w.0 w'.0 w.1 w'.1 w.2 w'.2 w.3 w.4 w'.3 w'.4).1)),
+  )
 
 -- `peak`
 abbrev fault_status : Option FaultAt → Status
@@ -204,11 +251,9 @@ run_way_of items limit Syntax t m = absurd m
 run_way_of items limit Check t m = absurd m
 run_way_of items limit UserFault t m = within m.0 (sym (ap fault_status m.1.0.1)) m.1.1
 run_way_of items limit StepsSpent t m = beyond m.0 refl m.1
+run_way_of items limit ArenaFull t m = absurd m
+run_way_of items limit DequesFull t m = absurd m
 run_way_of items limit OutOfMemory t m = absurd m
-
-abbrev size_of : ℤ → ℕ
-size_of (pos n) = n
-size_of (negsuc n) = n
 
 one_text : (items : List Item) (t t' : List ℕ) → RunText items t → RunText items t' → t ≡ t'
 one_text items t t' a b =
@@ -227,10 +272,14 @@ one_peak k limit p s s' t t' m m' =
     let items = (whole (setting_of p k)).items in
     one_run_way items limit s s' t t' (run_way_of items limit s t m) (run_way_of items limit s' t' m')
 
+one_kind : (kind : CommandKind) (command : Command) → HasRanges command → (bytes : List ℕ) → IsOne (KindMakes kind command bytes)
+one_kind Play command ranges bytes = one_play_answer Reports one_report command ranges
+one_kind Peak command ranges bytes = one_peak command.k command.steps
+one_kind Checks command ranges bytes = one_check
+one_kind Make command ranges bytes = one_play_answer (Summarizes (length bytes)) (one_summary (length bytes)) command ranges
+
 pub one_answer :
-    (kind : CommandKind) (k limit : ℕ) (bytes : List ℕ) (s s' : Status) (t t' : List ℕ) →
-    KindGives kind k limit bytes s t → KindGives kind k limit bytes s' t' → Same s s' t t'
-one_answer Play k limit bytes s s' t t' g g' =
-    one_play_way k bytes s s' t t' (play_way_of k bytes s t g) (play_way_of k bytes s' t' g')
-one_answer Peak k limit bytes s s' t t' g g' = one_source (PeakMakes k limit) (one_peak k limit) bytes s s' t t' g g'
-one_answer Checks k limit bytes s s' t t' g g' = one_source CheckMakes one_check bytes s s' t t' g g'
+    (command : Command) (bytes : List ℕ) (s s' : Status) (t t' : List ℕ) → HasRanges command →
+    BytesGive command bytes s t → BytesGive command bytes s' t' → Same s s' t t'
+one_answer command bytes s s' t t' ranges g g' =
+    one_source (KindMakes command.kind command bytes) (one_kind command.kind command ranges bytes) bytes s s' t t' g g'

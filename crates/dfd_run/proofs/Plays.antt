@@ -1,72 +1,104 @@
--- What the workers print of a program of prints and forks is the answer of `play`: its depth-first run prints the same.
-use Rattle.std.proofs.Common.{◌≡◌, ℕ, ℤ, List, Option, Some, inl, arith, ap, sym, ◌∙◌}
-use Rattle.std.proofs.lemmas.Result.{IfOk-weaker}
-use Rattle.std.specs.Prelude.{Result, IfOk}
+-- What the play of the core comes to is told as the play of the program.
+use Rattle.std.proofs.Common.{◌≡◌, ℕ, ℤ, List, [], Some, pos, Result, Ok, Err, IfOk, refl, sym, ap, ◌∙◌}
+use Rattle.std.proofs.Math.Logic.{∥∥₁_map}
 use Rattle.std.specs.declared.alloc.AllocError.{AllocError}
-use Rattle.dag_order.specs.declared.finish.Finish.TheVariants.{Done as EndDone}
-use Rattle.dag_order.specs.declared.fault.FaultAt.{FaultAt}
-use Rattle.depth_first_run.specs.States.{Item}
-use Rattle.depth_first_run.specs.Run.{whole}
-use Rattle.depth_first_run.specs.Run.{lines_of as items_lines}
+use Rattle.command_line.specs.declared.command.Command.{Command}
+use Rattle.core_parts.specs.declared.stop.Stop.{Stop}
+use Rattle.core_parts.specs.declared.stop.Stop.TheVariants.{ArenaFull, DequesFull, StepsSpent, OutOfMemory}
+use Rattle.dag_order.specs.declared.finish.Finish.{Finish}
+use Rattle.depth_first_run.specs.States.{Setting}
+use Rattle.deque_machine.specs.Moments.{Moment, opening}
+use Rattle.deque_machine.specs.Play.{finished, stopped, arena_full, steps_spent, deques_full}
+use Rattle.deque_machine.specs.Runs.{Pair}
+use Rattle.dfd_core.specs.Cores.{IsAt, end_of}
+use Rattle.dfd_core.specs.Plays.{PlaysTo}
+use Rattle.dfd_core.specs.declared.run.Core.{Core}
+use Rattle.dfd_core.specs.declared.run_end.RunEnd.TheVariants.{Finished, Stopped}
+use Rattle.node_table.specs.Programs.{IsTableOf}
+use Rattle.node_table.specs.Table.{Table}
+use Rattle.par_ownership.specs.Ownership.{Ownership}
 use Rattle.par_text.specs.Judging.{IsText}
 use Rattle.par_tree.specs.Tree.{Program}
-use Rattle.print_form.specs.Printing.{printing}
-use Rattle.print_program.specs.Tree.{Statements}
-use Rattle.print_program.specs.TextOrder.{lines_of}
-use Rattle.print_runs.specs.Laws.{PrintsInTextOrder}
-use Rattle.print_runs.proofs.Printed.{small_prints}
-use Rattle.serial_journal.specs.Telling.{finish_of}
-use Rattle.run_report.specs.Texts.{text_of, outcome_lines}
-use Rattle.serial_meaning.specs.Settings.{setting_of}
-use Rattle.dfd_run.specs.Play.{PrintsDone, DoneMakes, PlayMakes}
-use Rattle.dfd_run.specs.Answer.{PlayGives}
+use Rattle.run_report.specs.Texts.{report_text, summary_text}
+use Rattle.thread_steps.specs.Settings.{IsSettingOf}
+use Rattle.dfd_run.specs.Answer.{SourceGives}
+use Rattle.dfd_run.specs.Peak.{finish_status}
+use Rattle.dfd_run.specs.Play.{TellsPlay, play_setting, play_terms, seeded_words}
+use Rattle.dfd_run.specs.Stops.{TellsStop}
 use Rattle.dfd_run.specs.declared.answer.Answer.{Answer}
 use Rattle.dfd_run.specs.declared.status.Status.{Status}
-use Rattle.dfd_run.specs.declared.status.Status.TheVariants.{Done, Usage, ReadFault, WriteFault, Syntax, Check, UserFault, StepsSpent, OutOfMemory}
+use Rattle.dfd_run.specs.declared.status.Status.TheVariants.{Done, Usage, ReadFault, WriteFault, Syntax, Check, UserFault, StepsSpent as LimitSpent, ArenaFull as ArenaStatus, DequesFull as DequesStatus, OutOfMemory as NoMemory}
+use Rattle.dfd_run.proofs.Answers.{not_of_a_play}
 
--- what the workers print in the order of the text is what the depth-first run prints
-pub prints :
-    (main : Statements) (lines : List ℤ) → lines ≡ lines_of main →
-    (p : Program) (k : ℕ) → printing p ≡ Some main → PrintsDone (whole (setting_of p k)).items lines
-prints main lines is p k small =
-    let run : PrintsInTextOrder (setting_of p k) main = small_prints (setting_of p k) main small (omega arith) in
-    (run.no_fault, is ∙ sym run.lines)
+-- a table of the program with the quota of the command is of its setting
+pub setting_of_table : (command : Command) (p : Program) (t : Table) (k : ℕ) → Ownership p → IsTableOf p t → k ≡ command.k →
+    IsSettingOf t k (play_setting command p)
+setting_of_table command p t k owned table quota =
+    record { owned = owned; table = table; quota = sym quota; calls = refl; turns = refl; forks = refl }
 
-done_makes :
-    (items : List Item) (lines : List ℤ) (text : List ℕ) → PrintsDone items lines →
-    text ≡ text_of (outcome_lines lines EndDone) → DoneMakes items text
-done_makes items lines text done is = (
-  done.0,
-  is
-      ∙ ap (λ (l : List ℤ). text_of (outcome_lines l EndDone)) done.1
-      ∙ ap (λ (o : Option FaultAt). text_of (outcome_lines (items_lines items) (finish_of o))) (sym done.0),
-)
+pub finished_makes : (tells : Setting → List Pair → Moment → List ℕ → Type 0) (command : Command) (p : Program) (after : Core) (finish : Finish) (status : Status) (text : List ℕ) →
+    PlaysTo (play_setting command p) (play_terms command) (seeded_words command.seed) after [] opening (Finished finish) →
+    end_of after ≡ Some (Finished finish) → status ≡ finish_status finish →
+    ((c : Setting) (run : List Pair) (m : Moment) → IsAt c after run m → tells c run m text) → TellsPlay tells command p status text
+finished_makes tells command p after finish status text plays end is reports =
+    ∥∥₁_map plays (λ w. (w.0, w.1, finished, w.2, (is ∙ ap finish_status (w.3.finished finish end).1, reports _ w.0 w.1 w.3)))
 
-pub plays :
-    (p : Program) (main : Statements) (lines : List ℤ) (text : List ℕ) → printing p ≡ Some main →
-    ((q : Program) (k : ℕ) → printing q ≡ Some main → PrintsDone (whole (setting_of q k)).items lines) →
-    text ≡ text_of (outcome_lines lines EndDone) → (k : ℕ) → PlayMakes k p Done text
-plays p main lines text small run is k =
-    ((main, small), done_makes (whole (setting_of p k)).items lines text (run p k small) is)
+pub stopped_makes : (tells : Setting → List Pair → Moment → List ℕ → Type 0) (command : Command) (p : Program) (after : Core) (stop : Stop) (status : Status) (text : List ℕ) →
+    PlaysTo (play_setting command p) (play_terms command) (seeded_words command.seed) after [] opening (Stopped stop) →
+    TellsStop stop status text → TellsPlay tells command p status text
+stopped_makes tells command p after (ArenaFull live asked) status text plays told =
+    ∥∥₁_map plays (λ w. (w.0, w.1, stopped (arena_full (pos live) asked), w.2, told))
+stopped_makes tells command p after (DequesFull deques) status text plays told =
+    ∥∥₁_map plays (λ w. (w.0, w.1, stopped (deques_full deques), w.2, told))
+stopped_makes tells command p after (StepsSpent limit) status text plays told =
+    ∥∥₁_map plays (λ w. (w.0, w.1, stopped (steps_spent limit), w.2, told))
+stopped_makes tells command p after OutOfMemory status text plays told = absurd told
 
 -- what is made of the program of the bytes is made of the bytes
-play_of_program :
-    (k : ℕ) (bytes : List ℕ) (p : Program) (status : Status) (text : List ℕ) → IsText bytes p →
-    PlayMakes k p status text → PlayGives k bytes status text
-play_of_program k bytes p Done text is makes = (p, (is, makes))
-play_of_program k bytes p Usage text is makes = absurd makes
-play_of_program k bytes p ReadFault text is makes = absurd makes
-play_of_program k bytes p WriteFault text is makes = absurd makes
-play_of_program k bytes p Syntax text is makes = inl (p, (is, makes))
-play_of_program k bytes p Check text is makes = absurd makes
-play_of_program k bytes p UserFault text is makes = absurd makes
-play_of_program k bytes p StepsSpent text is makes = absurd makes
-play_of_program k bytes p OutOfMemory text is makes = absurd makes
+pub source_of_play : (tells : Setting → List Pair → Moment → List ℕ → Type 0) (command : Command) (bytes : List ℕ) (p : Program) (status : Status) (text : List ℕ) → IsText bytes p → Ownership p →
+    TellsPlay tells command p status text → SourceGives (TellsPlay tells command) bytes status text
+source_of_play tells command bytes p Done text is own makes = (p, (is, (own, makes)))
+source_of_play tells command bytes p Usage text is own makes = (p, (is, (own, makes)))
+source_of_play tells command bytes p ReadFault text is own makes = (p, (is, (own, makes)))
+source_of_play tells command bytes p WriteFault text is own makes = (p, (is, (own, makes)))
+source_of_play tells command bytes p Syntax text is own makes = absurd (not_of_a_play tells command p Syntax text (λ no. no) makes)
+source_of_play tells command bytes p Check text is own makes = absurd (not_of_a_play tells command p Check text (λ no. no) makes)
+source_of_play tells command bytes p UserFault text is own makes = (p, (is, (own, makes)))
+source_of_play tells command bytes p LimitSpent text is own makes = (p, (is, (own, makes)))
+source_of_play tells command bytes p ArenaStatus text is own makes = (p, (is, (own, makes)))
+source_of_play tells command bytes p DequesStatus text is own makes = (p, (is, (own, makes)))
+source_of_play tells command bytes p NoMemory text is own makes = (p, (is, (own, makes)))
 
-pub played_source :
-    (bytes : List ℕ) (p : Program) (result : Result Answer AllocError) → IsText bytes p →
-    IfOk result (λ answer. (k : ℕ) → PlayMakes k p answer.status answer.text.items) →
-    IfOk result (λ answer. (k : ℕ) → PlayGives k bytes answer.status answer.text.items)
-played_source bytes p result is makes =
-    IfOk-weaker result _ _
-    (λ answer made k. play_of_program k bytes p answer.status answer.text.items is (made k)) makes
+-- the report of equal parts
+pub same_report : (lines lines' : List ℤ) (finish finish' : Finish) (periods periods' ahead ahead' high : ℕ) → lines ≡ lines' →
+    finish ≡ finish' → periods ≡ periods' → ahead ≡ ahead' →
+    report_text (record { lines = lines; finish = finish; periods = periods; ahead = ahead; high = high })
+    ≡ report_text (record { lines = lines'; finish = finish'; periods = periods'; ahead = ahead'; high = high })
+same_report lines lines' finish finish' periods periods' ahead ahead' high same_lines same_finish same_periods same_ahead =
+    ap (λ x. report_text (record { lines = x; finish = finish; periods = periods; ahead = ahead; high = high })) same_lines
+    ∙ ap (λ x. report_text (record { lines = lines'; finish = x; periods = periods; ahead = ahead; high = high })) same_finish
+    ∙ ap (λ x. report_text (record { lines = lines'; finish = finish'; periods = x; ahead = ahead; high = high })) same_periods
+    ∙ ap (λ x. report_text (record { lines = lines'; finish = finish'; periods = periods'; ahead = x; high = high })) same_ahead
+
+-- the summary of equal parts
+pub same_summary : (bytes lines lines' : ℕ) (total total' : ℤ) (actions actions' periods periods' ahead ahead' high : ℕ) → lines ≡ lines' →
+    total ≡ total' → actions ≡ actions' → periods ≡ periods' → ahead ≡ ahead' →
+    summary_text (record { bytes = bytes; lines = lines; total = total; actions = actions; periods = periods; ahead = ahead; high = high })
+    ≡ summary_text (record { bytes = bytes; lines = lines'; total = total'; actions = actions'; periods = periods'; ahead = ahead'; high = high })
+same_summary bytes lines lines' total total' actions actions' periods periods' ahead ahead' high is_lines is_total is_actions is_periods is_ahead =
+    ap (λ x. summary_text (record { bytes = bytes; lines = x; total = total; actions = actions; periods = periods; ahead = ahead; high = high }))
+    is_lines
+    ∙ ap (λ x. summary_text (record { bytes = bytes; lines = lines'; total = x; actions = actions; periods = periods; ahead = ahead; high = high }))
+    is_total
+    ∙ ap (λ x. summary_text (record { bytes = bytes; lines = lines'; total = total'; actions = x; periods = periods; ahead = ahead; high = high }))
+    is_actions
+    ∙ ap (λ x. summary_text (record { bytes = bytes; lines = lines'; total = total'; actions = actions'; periods = x; ahead = ahead; high = high }))
+    is_periods
+    ∙ ap (λ x. summary_text (record { bytes = bytes; lines = lines'; total = total'; actions = actions'; periods = periods'; ahead = x; high = high }))
+    is_ahead
+
+-- two facts of one answer
+pub both_ok : (result : Result Answer AllocError) (P Q R : Answer → Type 0) → IfOk result P → IfOk result Q →
+    ((answer : Answer) → P answer → Q answer → R answer) → IfOk result R
+both_ok (Ok answer) P Q R p q both = both answer p q
+both_ok (Err error) P Q R p q both = tt

@@ -1,16 +1,18 @@
 -- What a call of the program answers, and why.
-use Rattle.std.specs.Prelude.{◌≡◌, ℕ, List, Option, Some, ◌⊎◌, take}
+use Rattle.std.specs.Prelude.{◌≡◌, ℕ, ◌≤◌, true, List, Option, Some, take}
 use Rattle.canonical_text.specs.Canonical.{canonical}
-use Rattle.command_line.specs.Words.{IsCommand, InRange, number_of}
+use Rattle.command_line.specs.Words.{IsCommand, InRange, number_of, wants_groups}
 use Rattle.command_line.specs.declared.command.Command.{Command}
 use Rattle.command_line.specs.declared.command_kind.CommandKind.{CommandKind}
-use Rattle.command_line.specs.declared.command_kind.CommandKind.TheVariants.{Play, Peak, Check as Checks}
+use Rattle.command_line.specs.declared.command_kind.CommandKind.TheVariants.{Play, Peak, Check as Checks, Make}
 use Rattle.command_line.specs.declared.setting.Setting.{Setting}
+use Rattle.made_source.specs.declared.TheConstants.{MOST_GROUPS}
 use Rattle.par_ownership.specs.Ownership.{Ownership}
 use Rattle.par_ownership.specs.Walk.{Refusal, program_refusal}
 use Rattle.par_text.specs.Judging.{IsText, IsRefused}
 use Rattle.par_text.specs.declared.syntax_error.SyntaxError.{SyntaxError}
 use Rattle.par_tree.specs.Tree.{Program}
+use Rattle.dfd_run.specs.Make.{MakeMakes, source_of}
 use Rattle.dfd_run.specs.Peak.{PeakMakes}
 use Rattle.dfd_run.specs.Play.{PlayMakes}
 use Rattle.dfd_run.specs.Messages.{usage_text, read_fault_text, syntax_text, check_text}
@@ -46,33 +48,42 @@ abbrev pub CheckMakes : Program → Status → List ℕ → Type 0
 CheckMakes p Done text = text ≡ canonical p
 CheckMakes p status text = ⊥
 
--- the bytes are the text of a program, of which `play` makes this
-abbrev pub PlayTextGives : (k : ℕ) → List ℕ → Status → List ℕ → Type 0
-PlayTextGives k bytes status text = (p : Program) × (IsText bytes p × PlayMakes k p status text)
-
--- what the command `play` makes of the bytes of a source: what it makes of their program, or, where they are no text,
--- the refusal
-abbrev pub PlayGives : (k : ℕ) → List ℕ → Status → List ℕ → Type 0
-PlayGives k bytes Done text = PlayTextGives k bytes Done text
-PlayGives k bytes Syntax text = PlayTextGives k bytes Syntax text ⊎ SyntaxGives bytes text
-PlayGives k bytes status text = ⊥
+-- what a command of a kind makes of the program of some bytes
+abbrev pub KindMakes : CommandKind → Command → (bytes : List ℕ) → Program → Status → List ℕ → Type 0
+KindMakes Play command bytes = PlayMakes command
+KindMakes Peak command bytes = PeakMakes command.k command.steps
+KindMakes Checks command bytes = CheckMakes
+KindMakes Make command bytes = MakeMakes command bytes
 
 -- what a command makes of the bytes of a source
-abbrev pub KindGives : CommandKind → (k limit : ℕ) → List ℕ → Status → List ℕ → Type 0
-KindGives Play k limit = PlayGives k
-KindGives Peak k limit = SourceGives (PeakMakes k limit)
-KindGives Checks k limit = SourceGives CheckMakes
+abbrev pub BytesGive : Command → (bytes : List ℕ) → Status → List ℕ → Type 0
+BytesGive command bytes = SourceGives (KindMakes command.kind command bytes) bytes
 
 -- what a command answers that reads its source: where the source failed, just this, else what it makes of the bytes
 -- that it read
-abbrev pub CommandGives : Command → (failed : Type 0) → (left left' : Option (List ℕ)) → Status → List ℕ → Type 0
-CommandGives command failed left left' ReadFault text = failed × (text ≡ read_fault_text)
-CommandGives command failed left left' status text =
-    (bytes : List ℕ) × (IsRead left left' bytes × KindGives command.kind command.k command.steps bytes status text)
+abbrev pub ReadGives : Command → (failed : Type 0) → (left left' : Option (List ℕ)) → Status → List ℕ → Type 0
+ReadGives command failed left left' ReadFault text = failed × (text ≡ read_fault_text)
+ReadGives command failed left left' status text =
+    (bytes : List ℕ) × (IsRead left left' bytes × BytesGive command bytes status text)
 
--- the numbers of a command are those that its options may have
-abbrev pub HasRanges : Command → Type 0
-HasRanges command = (s : Setting) → InRange s (number_of command s)
+-- what a command answers: `make` reads nothing, and answers what it makes of its made source
+abbrev pub KindAnswers : CommandKind → Command → (failed : Type 0) → (left left' : Option (List ℕ)) → Status → List ℕ → Type 0
+KindAnswers Play command failed left left' = ReadGives command failed left left'
+KindAnswers Peak command failed left left' = ReadGives command failed left left'
+KindAnswers Checks command failed left left' = ReadGives command failed left left'
+KindAnswers Make command failed left left' = BytesGive command (source_of command)
+
+abbrev pub CommandGives : Command → (failed : Type 0) → (left left' : Option (List ℕ)) → Status → List ℕ → Type 0
+CommandGives command = KindAnswers command.kind command
+
+-- the numbers of a command are those that its options may have, and where it wants groups it has 1 to 8,000
+pub record HasRanges (command : Command) : Type 0 where
+  pub numbers : (s : Setting) → InRange s (number_of command s)
+  pub groups : wants_groups command.kind ≡ true → (1 ≤ command.groups) × (command.groups ≤ MOST_GROUPS)
+
+-- the words are a command that reads nothing
+abbrev pub ReadsNothing : List (List ℕ) → Type 0
+ReadsNothing words = (command : Command) × IsCommand words command × (command.kind ≡ Make)
 
 -- the words are a command
 abbrev pub IsSomeCommand : List (List ℕ) → Type 0

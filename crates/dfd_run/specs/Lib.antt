@@ -1,9 +1,12 @@
 pub mod Answer
 pub mod Counts
+pub mod Headline
 pub mod Laws
+pub mod Make
 pub mod Messages
 pub mod PcgChoices
 pub mod Peak
 pub mod Play
 pub mod Program
 pub mod Status
+pub mod Stops

@@ -1,6 +1,6 @@
 -- The texts of one line, each of which says why there is no result.
-use Rattle.std.specs.Prelude.{ℕ, List, ◌++◌, codes}
-use Rattle.std.specs.Fmt.{decimal}
+use Rattle.std.specs.Prelude.{ℕ, ℤ, List, ◌++◌, codes}
+use Rattle.std.specs.Fmt.{decimal, signed_decimal}
 use Rattle.par_ownership.specs.Walk.{Refusal}
 use Rattle.par_ownership.specs.declared.check_kind.CheckKind.{CheckKind}
 use Rattle.par_ownership.specs.declared.check_kind.CheckKind.TheVariants.{UnknownName, Redefined, WrongKind, WrongCount, SharedBlock, SharedInt, Gone, NotFreed, ArmsDiffer, FreesLent, NoMain}
@@ -31,10 +31,6 @@ syntax_word TooMany = codes "TooMany"
 abbrev pub syntax_text : SyntaxError → List ℕ
 syntax_text refusal = line (codes "syntax " ++ syntax_word refusal.kind ++ codes " at " ++ decimal refusal.at)
 
--- the program is no program of prints and forks, and cannot be played yet
-abbrev pub not_yet_text : List ℕ
-not_yet_text = line (codes "syntax NotYet at 0")
-
 -- the word for a refusal of a program
 abbrev pub check_word : CheckKind → List ℕ
 check_word UnknownName = codes "UnknownName"
@@ -53,6 +49,14 @@ check_word NoMain = codes "NoMain"
 abbrev pub check_text : Refusal → List ℕ
 check_text r = line (codes "check " ++ check_word r.kind ++ codes " line " ++ decimal r.line ++ codes " name " ++ r.name)
 
--- the run has more actions than the limit
+-- one more action than the limit allows would be done
 abbrev pub spent_text : ℕ → List ℕ
 spent_text limit = line (codes "stop StepsSpent limit " ++ decimal limit)
+
+-- the words that an action asks for do not fit beside those that are in use
+abbrev pub arena_text : (live : ℤ) → (asked : ℕ) → List ℕ
+arena_text live asked = line (codes "stop ArenaFull live " ++ signed_decimal live ++ codes " asked " ++ decimal asked)
+
+-- a theft would make one deque more than there may be
+abbrev pub deques_text : ℕ → List ℕ
+deques_text deques = line (codes "stop DequesFull deques " ++ decimal deques)

@@ -1,36 +1,86 @@
 -- What the command `play` makes of a program.
-use Rattle.std.specs.Prelude.{◌≡◌, ℕ, List, ℤ, None, Some}
-use Rattle.depth_first_run.specs.States.{Item}
-use Rattle.depth_first_run.specs.Run.{whole, first_fault, lines_of}
+use Rattle.std.specs.Prelude.{◌≡◌, ℕ, List, length, pos}
+use Rattle.rand_core.specs.Pcg32Seed.{pcg32_seed}
+use Rattle.rand_pcg.specs.Pcg.{pcg32_of_seed}
+use Rattle.command_line.specs.declared.command.Command.{Command}
+use Rattle.core_parts.specs.Moments.{Terms, machine_of}
+use Rattle.depth_first_run.specs.States.{Setting}
+use Rattle.depth_first_run.specs.Run.{whole, lines_of}
+use Rattle.deque_machine.specs.Machine as machine
+use Rattle.deque_machine.specs.Moments.{Moment, opening}
+use Rattle.deque_machine.specs.Play.{Stop, arena_full, steps_spent, deques_full, Ending, finished, stopped, Plays}
+use Rattle.deque_machine.specs.Runs.{Pair, high_water_mark}
+use Rattle.dfd_core.specs.Begun.{given_terms}
+use Rattle.dfd_core.specs.Ends.{finish_of_run}
+use Rattle.lawful_books.specs.Books.{periods_marked}
 use Rattle.par_tree.specs.Tree.{Program}
-use Rattle.print_form.specs.Printing.{printing}
-use Rattle.print_program.specs.Tree.{Statements}
-use Rattle.serial_journal.specs.Telling.{finish_of}
-use Rattle.run_report.specs.Texts.{text_of, outcome_lines}
+use Rattle.run_report.specs.Texts.{report_text}
 use Rattle.serial_meaning.specs.Settings.{setting_of}
-use Rattle.dfd_run.specs.Messages.{not_yet_text}
+use Rattle.thread_points.specs.Points.{list_of}
+use Rattle.dfd_run.specs.Messages.{spent_text, arena_text, deques_text}
+use Rattle.dfd_run.specs.Peak.{finish_status}
+use Rattle.dfd_run.specs.PcgChoices.{coming_output}
 use Rattle.dfd_run.specs.declared.status.Status.{Status}
-use Rattle.dfd_run.specs.declared.status.Status.TheVariants.{Done, Syntax}
+use Rattle.dfd_run.specs.declared.status.Status.TheVariants.{StepsSpent, ArenaFull, DequesFull}
 
--- a program of prints of plain numbers and forks, which the workers can run today
-abbrev pub CanPlay : Program → Type 0
-CanPlay p = (main : Statements) × (printing p ≡ Some main)
+-- the words that pick who moves and whom a thief robs: the outputs of the generator that a number seeds
+abbrev pub seeded_words : (seed : ℕ) → ℕ → ℕ
+seeded_words seed = coming_output (record { generator = pcg32_of_seed (pcg32_seed 16 seed) })
 
--- what is told of a run that left these items: the numbers printed before its first fault, and how it finished
-abbrev pub outcome_text : List Item → List ℕ
-outcome_text items = text_of (outcome_lines (lines_of items) (finish_of (first_fault items)))
+-- the workers of a command, and its limits of words, actions and deques
+abbrev pub play_terms : Command → Terms
+play_terms command = given_terms command.p command.arena command.steps command.deques
 
--- a run that left these items has no fault, and printed these lines
-abbrev pub PrintsDone : List Item → List ℤ → Type 0
-PrintsDone items lines = (first_fault items ≡ None) × (lines ≡ lines_of items)
+-- a program with the quota of a command
+abbrev pub play_setting : Command → Program → Setting
+play_setting command p = setting_of p command.k
 
--- what is told of a run that left these items and has no fault
-abbrev pub DoneMakes : List Item → List ℕ → Type 0
-DoneMakes items text = (first_fault items ≡ None) × (text ≡ outcome_text items)
+-- the machine that plays it: its depth-first list, the quota and the workers
+abbrev pub play_machine : Command → Program → machine.Setting
+play_machine command p = machine_of (play_setting command p) (play_terms command)
 
--- what is made of a program: what its depth-first run with the quota k prints and comes to, or, where the workers
--- cannot run it yet, the word that says so
-abbrev pub PlayMakes : (k : ℕ) → Program → Status → List ℕ → Type 0
-PlayMakes k p Done text = CanPlay p × DoneMakes (whole (setting_of p k)).items text
-PlayMakes k p Syntax text = (printing p ≡ None) × (text ≡ not_yet_text)
-PlayMakes k p status text = ⊥
+-- The play of a program by these workers, with these words: from the opening on the events of the run come, one after the other, up to a
+-- last moment and an ending.
+abbrev pub IsPlay : Command → Program → List Pair → Moment → Ending → Type 0
+IsPlay command p run last ending =
+    Plays (play_machine command p) (play_terms command).limits (seeded_words command.seed) 0 opening run last ending
+
+-- The report of a run with this last moment: the lines and the finish of the depth-first run, how many periods were begun and how many of
+-- them were marked ahead, and the high-water mark of the run.
+abbrev pub Reports : Setting → List Pair → Moment → List ℕ → Type 0
+Reports c run last text =
+    (high : ℕ) × ((pos high ≡ high_water_mark (list_of c) run) ×
+    (text ≡ report_text (record {
+      lines = lines_of (whole c).items;
+      finish = finish_of_run c;
+      periods = length last.books;
+      ahead = periods_marked last.books;
+      high = high;
+    })))
+
+-- the status of a play that was stopped, and its line
+abbrev pub stop_status : Stop → Status
+stop_status (arena_full live asked) = ArenaFull
+stop_status (steps_spent limit) = StepsSpent
+stop_status (deques_full deques) = DequesFull
+
+abbrev pub stop_text : Stop → List ℕ
+stop_text (arena_full live asked) = arena_text live asked
+stop_text (steps_spent limit) = spent_text limit
+stop_text (deques_full deques) = deques_text deques
+
+-- What is told of a play with this ending: of one that ended what is to be told of its run, with a status by the fault of the depth-first
+-- run; and of one that was stopped the line of the stop.
+abbrev pub TellsEnding : (tells : List Pair → Moment → List ℕ → Type 0) → Setting → List Pair → Moment → Ending → Status → List ℕ → Type 0
+TellsEnding tells c run last finished status text = (status ≡ finish_status (finish_of_run c)) × tells run last text
+TellsEnding tells c run last (stopped stop) status text = (status ≡ stop_status stop) × (text ≡ stop_text stop)
+
+-- the play of a program comes to some ending, and this is told of it
+abbrev pub TellsPlay : (tells : Setting → List Pair → Moment → List ℕ → Type 0) → Command → Program → Status → List ℕ → Type 0
+TellsPlay tells command p status text =
+    ∥ ((run : List Pair) × (last : Moment) × (ending : Ending) × IsPlay command p run last ending
+    × TellsEnding (tells (play_setting command p)) (play_setting command p) run last ending status text) ∥₁
+
+-- what `play` makes of a program: a report of its play
+abbrev pub PlayMakes : Command → Program → Status → List ℕ → Type 0
+PlayMakes = TellsPlay Reports

@@ -1,7 +1,9 @@
-ghost use Rattle.std.specs.Prelude.{◌≡◌, ℕ};
+ghost use Rattle.std.specs.Prelude.{◌≡◌, ◌≤◌, ◌⊎◌, ℕ};
 ghost use Rattle.command_line.specs.Words.{words_of};
-ghost use Rattle.dfd_run.specs.Answer.{KindGives, CommandGives, CallGives, Ends, HasRanges, IsSomeCommand, NoCommand};
+ghost use Rattle.command_line.specs.declared.command_kind.CommandKind.TheVariants.{Make};
+ghost use Rattle.dfd_run.specs.Answer.{BytesGive, ReadGives, CommandGives, CallGives, Ends, HasRanges, IsSomeCommand, NoCommand, ReadsNothing};
 ghost use Rattle.dfd_run.specs.Counts.{Counts};
+ghost use Rattle.dfd_run.specs.Make.{source_of};
 ghost use Rattle.byte_streams.specs.Faults.{Rose};
 ghost use Rattle.dfd_run.specs.declared.status.Status.TheVariants.{OutOfMemory};
 
@@ -9,13 +11,14 @@ use crate::kinds::answer_to;
 use crate::messages::{READ_FAULT, USAGE};
 use crate::status::Status;
 use byte_streams::{ReadFail, Sink, SinkFailed, Source, read_source, write_text};
-use command_line::{Command, read_words};
+use command_line::{Command, CommandKind, read_words};
+use made_source::{MOST_GROUPS, made_source};
 use std::alloc::Global;
 
 /// Does the command with the bytes of its source, and writes what it makes of them.
 fn serve_bytes<W: Sink>(alloc: Global, command: &Command, bytes: &[u8], sink: &mut W) -> Status
     requires { HasRanges command.now }
-    ensures ends { Ends (KindGives command.now.kind command.now.k command.now.steps bytes.now)
+    ensures ends { Ends (BytesGive command.now bytes.now)
         (W.taken sink.old) (W.taken sink.new) result }
     ensures no_memory { result ≡ OutOfMemory → sink.new ≡ sink.old }
     ensures counts { (reads : ℕ) → Counts result reads reads (W.faults sink.old) (W.faults sink.new) }
@@ -29,11 +32,22 @@ fn serve_bytes<W: Sink>(alloc: Global, command: &Command, bytes: &[u8], sink: &m
     }
 }
 
-/// Does what [`dfd`] does for words that are this command.
-///
-/// The order is: the reading, the program, its run, the writing. The text is made whole before its first byte is
-/// written. A fault of the source is told without memory, so want of memory never stands for it.
-pub fn serve<S: Source, W: Sink>(
+/// Does the command with a made source, and writes what it makes of it.
+fn serve_made<W: Sink>(alloc: Global, command: &Command, sink: &mut W) -> Status
+    requires ranges { HasRanges command.now }
+    requires groups { (1 ≤ command.now.groups) × (command.now.groups ≤ MOST_GROUPS) }
+    ensures ends { Ends (BytesGive command.now (source_of command.now)) (W.taken sink.old) (W.taken sink.new) result }
+    ensures no_memory { result ≡ OutOfMemory → sink.new ≡ sink.old }
+    ensures counts { (reads : ℕ) → Counts result reads reads (W.faults sink.old) (W.faults sink.new) }
+{
+    let Ok(bytes) = made_source(alloc, command.groups) else {
+        return Status::OutOfMemory;
+    };
+    serve_bytes(alloc, command, &bytes, sink)
+}
+
+/// Reads the source, does the command with its bytes, and writes what it makes of them.
+fn serve_read<S: Source, W: Sink>(
     alloc: Global,
     command: &Command,
     source: &mut S,
@@ -41,7 +55,7 @@ pub fn serve<S: Source, W: Sink>(
 ) -> Status
     requires { HasRanges command.now }
     ensures ends { Ends
-        (CommandGives command.now (Rose (S.faults source.old) (S.faults source.new)) (S.left source.old) (S.left source.new))
+        (ReadGives command.now (Rose (S.faults source.old) (S.faults source.new)) (S.left source.old) (S.left source.new))
         (W.taken sink.old) (W.taken sink.new) result }
     ensures no_memory { result ≡ OutOfMemory → sink.new ≡ sink.old }
     ensures counts { Counts result (S.faults source.old) (S.faults source.new) (W.faults sink.old) (W.faults sink.new) }
@@ -53,6 +67,30 @@ pub fn serve<S: Source, W: Sink>(
             Err(SinkFailed) => Status::WriteFault,
         },
         Err(ReadFail::OutOfMemory) => Status::OutOfMemory,
+    }
+}
+
+/// Does what [`dfd`] does for words that are this command.
+///
+/// The order is: the reading, the program, its run, the writing. The text is made whole before its first byte is
+/// written. A fault of the source is told without memory, so want of memory never stands for it. `make` reads nothing.
+pub fn serve<S: Source, W: Sink>(
+    alloc: Global,
+    command: &Command,
+    source: &mut S,
+    sink: &mut W,
+) -> Status
+    requires { HasRanges command.now }
+    ensures ends { Ends
+        (CommandGives command.now (Rose (S.faults source.old) (S.faults source.new)) (S.left source.old) (S.left source.new))
+        (W.taken sink.old) (W.taken sink.new) result }
+    ensures no_memory { result ≡ OutOfMemory → sink.new ≡ sink.old }
+    ensures unread { command.now.kind ≡ Make → source.new ≡ source.old }
+    ensures counts { Counts result (S.faults source.old) (S.faults source.new) (W.faults sink.old) (W.faults sink.new) }
+{
+    match command.kind {
+        CommandKind::Make => serve_made(alloc, command, sink),
+        _ => serve_read(alloc, command, source, sink),
     }
 }
 
@@ -70,7 +108,7 @@ pub fn dfd<S: Source, W: Sink>(
         (CallGives (words_of words.now) (Rose (S.faults source.old) (S.faults source.new)) (S.left source.old) (S.left source.new))
         (W.taken sink.old) (W.taken sink.new) result }
     ensures no_memory { result ≡ OutOfMemory → IsSomeCommand (words_of words.now) × (sink.new ≡ sink.old) }
-    ensures unread { NoCommand (words_of words.now) → source.new ≡ source.old }
+    ensures unread { NoCommand (words_of words.now) ⊎ ReadsNothing (words_of words.now) → source.new ≡ source.old }
     ensures counts { Counts result (S.faults source.old) (S.faults source.new) (W.faults sink.old) (W.faults sink.new) }
 {
     let Some(command) = read_words(words) else {

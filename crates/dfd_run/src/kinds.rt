@@ -1,8 +1,9 @@
 ghost use Rattle.std.specs.Prelude.{IfOk};
-ghost use Rattle.dfd_run.specs.Answer.{KindGives, HasRanges};
+ghost use Rattle.dfd_run.specs.Answer.{BytesGive, HasRanges};
 
 use crate::answer::Answer;
 use crate::checking::check;
+use crate::making::make;
 use crate::peaking::peak;
 use crate::playing::play;
 use command_line::{Command, CommandKind};
@@ -11,11 +12,12 @@ use std::alloc::{AllocError, Global};
 /// What a command makes of the bytes of a source.
 pub fn answer_to(alloc: Global, command: &Command, bytes: &[u8]) -> Result<Answer, AllocError>
     requires { HasRanges command.now }
-    ensures { IfOk result (λ answer. KindGives command.now.kind command.now.k command.now.steps bytes.now answer.status answer.text.items) }
+    ensures { IfOk result (λ answer. BytesGive command.now bytes.now answer.status answer.text.items) }
 {
     match command.kind {
-        CommandKind::Play => play(alloc, command.p, bytes),
+        CommandKind::Play => play(alloc, command, bytes),
         CommandKind::Peak => peak(alloc, command.k, command.steps, bytes),
         CommandKind::Check => check(alloc, bytes),
+        CommandKind::Make => make(alloc, command, bytes),
     }
 }

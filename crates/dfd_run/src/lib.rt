@@ -1,29 +1,32 @@
 //! What the program does, over any source and any sink.
 //!
-//! [`dfd`] takes the words of the command line, reads its program from a [`Source`] and writes its text to a [`Sink`],
-//! whose kinds and contracts are those of `byte_streams`.
+//! [`dfd`] takes the words of the command line, reads its program from a [`Source`] (`make` writes its own, by `made_source`)
+//! and writes its text to a [`Sink`]. The kinds and contracts of both are those of `byte_streams`.
 //!
 //! The layer stands on `command_line`, which says which words are a command; on `accepted_source`, which reads bytes as
 //! a program that keeps the rules of ownership or says why not; on `canonical_text` and `par_print`, the text of a program
-//! in one layout; on `serial_meaning`, the depth-first run of a program, and `run_report`, the texts of runs; and on
-//! `print_form` and `dfd_core`, which play the programs that only print and fork. `play` refuses a
-//! program of another form by the word `NotYet`. The one theorem of the layer is the contract of `dfd`, and of
+//! in one layout; on `serial_meaning`, the depth-first run of a program; on `frame_code`, its table of nodes, and `dfd_core`, by which
+//! workers play it; and on `run_report`, the texts of runs. The one theorem of the layer is the contract of `dfd`, and of
 //! [`serve`], which does what `dfd` does for a command: the status and the text that the sink took are those that
 //! `CallGives` of `specs/Answer.antt` gives for the words and the bytes read, and each fault has its cause.
+//! The laws of `specs/Headline.antt` say what holds of each play.
 //! [`a_command_has_an_answer`] and [`a_command_has_one_answer`] say that these are a function of the command and the bytes.
 #![tactic(auto)]
 
 mod answer;
 mod call;
 mod checking;
+mod finishing;
 mod kinds;
 mod laws;
+mod making;
 mod messages;
 mod pcg_choices;
 mod peaking;
 mod playing;
 mod program;
 mod refusal;
+mod running;
 mod status;
 
 pub use byte_streams::{
@@ -32,10 +35,10 @@ pub use byte_streams::{
 };
 pub use call::{dfd, serve};
 pub use command_line::{Command, CommandKind, read_words};
-pub use laws::{a_command_has_an_answer, a_command_has_one_answer};
+pub use laws::{
+    a_command_has_an_answer, a_command_has_one_answer, arenas_stop_late, moments_are_bounded,
+    plays_with_room_finish, reports_are_bounded, summaries_are_bounded,
+};
 pub use pcg_choices::PcgChoices;
 pub use program::exit_code;
 pub use status::Status;
-
-#[cfg(test)]
-mod tests;

@@ -1,8 +1,8 @@
 //! The texts of one line, each of which says why there is no result.
 
-ghost use Rattle.std.specs.Prelude.{◌≡◌, IfOk};
+ghost use Rattle.std.specs.Prelude.{◌≡◌, IfOk, pos};
 ghost use Rattle.block_check.specs.Checked.{error_shown};
-ghost use Rattle.dfd_run.specs.Messages.{syntax_word, syntax_text, not_yet_text, check_word, check_text, spent_text};
+ghost use Rattle.dfd_run.specs.Messages.{syntax_word, syntax_text, check_word, check_text, spent_text, arena_text, deques_text};
 
 use block_check::{CheckError, CheckKind};
 use par_syntax::{SyntaxError, SyntaxKind};
@@ -13,8 +13,6 @@ pub const USAGE: &str = "usage: dfd play|run|peak|check|make [options]\n";
 
 /// The line of a source that failed.
 pub const READ_FAULT: &str = "read fault\n";
-
-const NOT_YET: &str = "syntax NotYet at 0\n";
 
 /// The word for a refusal of a text.
 fn syntax_word(kind: SyntaxKind) -> &'static str
@@ -37,13 +35,6 @@ pub fn syntax_text(alloc: Global, refusal: SyntaxError) -> Result<Vec<u8>, Alloc
 {
     let line = format!(in alloc; "syntax {} at {}\n", syntax_word(refusal.kind), refusal.at)?;
     Ok(line.into_bytes())
-}
-
-/// The line of a program that is no program of prints and forks: such a program cannot be played yet.
-pub fn not_yet_text(alloc: Global) -> Result<Vec<u8>, AllocError>
-    ensures { IfOk result (λ text. text.items ≡ not_yet_text) }
-{
-    Vec::from_slice(alloc, NOT_YET.as_bytes())
 }
 
 /// The word for a refusal of a program.
@@ -77,10 +68,26 @@ pub fn check_text(alloc: Global, refusal: &CheckError) -> Result<Vec<u8>, AllocE
     Ok(text)
 }
 
-/// The line of a run that has more actions than the limit.
+/// The line of a run that would do one more action than the limit allows.
 pub fn spent_text(alloc: Global, limit: u32) -> Result<Vec<u8>, AllocError>
     ensures { IfOk result (λ text. text.items ≡ spent_text limit) }
 {
     let line = format!(in alloc; "stop StepsSpent limit {limit}\n")?;
+    Ok(line.into_bytes())
+}
+
+/// The line of a run whose next action asks for more words than are left beside the `live` ones that are in use.
+pub fn arena_text(alloc: Global, live: u64, asked: u64) -> Result<Vec<u8>, AllocError>
+    ensures { IfOk result (λ text. text.items ≡ arena_text (pos live) asked) }
+{
+    let line = format!(in alloc; "stop ArenaFull live {live} asked {asked}\n")?;
+    Ok(line.into_bytes())
+}
+
+/// The line of a run in which a theft would make one deque more than there may be.
+pub fn deques_text(alloc: Global, deques: u32) -> Result<Vec<u8>, AllocError>
+    ensures { IfOk result (λ text. text.items ≡ deques_text deques) }
+{
+    let line = format!(in alloc; "stop DequesFull deques {deques}\n")?;
     Ok(line.into_bytes())
 }

@@ -10,26 +10,16 @@ ghost use Rattle.dfd_run.specs.Answer.{SourceGives};
 ghost use Rattle.dfd_run.specs.Peak.{finish_status, RunMakes, PeakMakes};
 
 use crate::answer::Answer;
+use crate::finishing::finish_status;
 use crate::messages::spent_text;
 use crate::refusal::refusal_answer;
 use crate::status::Status;
 use accepted_source::accept;
 use block_check::Checked;
-use dag_order::Finish;
 use dummy_tree::Quota;
 use run_report::{PeakReport, peak_text};
 use serial_meaning::{Serial, SerialStop, depth_first};
 use std::alloc::{AllocError, Global};
-
-/// The status of a run that finished so.
-fn finish_status(finish: Finish) -> Status
-    ensures { result ≡ finish_status finish }
-{
-    match finish {
-        Finish::Done => Status::Done,
-        Finish::Faulted(_) => Status::UserFault,
-    }
-}
 
 /// The answer of a run within its limit.
 fn run_answer(alloc: Global, run: Serial) -> Result<Answer, AllocError>

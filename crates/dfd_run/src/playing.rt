@@ -1,78 +1,69 @@
-ghost use Rattle.std.specs.Prelude.{◌≡◌, ◌<◌, ℕ, Some, IfOk};
-ghost use Rattle.bounded_list.specs.BoundedList.{entries};
+ghost use Rattle.std.specs.Prelude.{◌≡◌, IfOk, Some, List as AnyList};
+ghost use Rattle.block_check.specs.Checked.{program_of};
+ghost use Rattle.depth_first_run.specs.States.{Setting};
+ghost use Rattle.deque_machine.specs.Moments.{Moment};
+ghost use Rattle.deque_machine.specs.Runs.{Pair};
+ghost use Rattle.dfd_core.specs.Cores.{IsAt, end_of};
+ghost use Rattle.dfd_core.specs.declared.run_end.RunEnd.TheVariants.{Finished};
+ghost use Rattle.par_ownership.specs.Ownership.{Ownership};
 ghost use Rattle.par_tree.specs.View.{program_tree};
-ghost use Rattle.par_tree.specs.Tree.{Program as ProgramTree};
-ghost use Rattle.depth_first_run.specs.Run.{whole};
-ghost use Rattle.print_form.specs.Printing.{printing};
-ghost use Rattle.serial_meaning.specs.Settings.{setting_of};
-ghost use Rattle.dfd_run.specs.Answer.{PlayGives};
-ghost use Rattle.dfd_run.specs.Play.{PlayMakes, PrintsDone};
+ghost use Rattle.dfd_run.specs.Answer.{HasRanges, SourceGives};
+ghost use Rattle.dfd_run.specs.Peak.{finish_status};
+ghost use Rattle.dfd_run.specs.Play.{PlayMakes, Reports};
 
 use crate::answer::Answer;
-use crate::messages::{not_yet_text, syntax_text};
-use crate::pcg_choices::PcgChoices;
-use crate::status::Status;
-use dag_order::{Finish, Lines};
-use dfd_core::Core;
-use par_syntax::{ParseFail, parse};
-use print_form::printing;
-use print_program::Program;
-use run_report::outcome_text;
+use crate::finishing::finish_status;
+use crate::refusal::refusal_answer;
+use crate::running::{lines_of, run_program, stop_answer};
+use accepted_source::accept;
+use block_check::Checked;
+use command_line::Command;
+use dag_order::Finish;
+use dfd_core::{Core, RunEnd};
+use run_report::{Report, report_text};
 use std::alloc::{AllocError, Global};
 
-/// The seed of the words that pick who moves and whom a thief robs.
-const SEED: u64 = 1;
-
-/// What the workers print when they run the program: the lines of its depth-first run, whatever the quota.
-fn run(alloc: Global, workers: u32, program: Program) -> Result<Lines, AllocError>
-    requires { 0 < workers }
-    ensures { IfOk result (λ lines. (p : ProgramTree) (k : ℕ) → printing p ≡ Some program.main
-        → PrintsDone (whole (setting_of p k)).items (entries lines)) }
+/// The report of a run that has finished.
+fn report_answer(alloc: Global, core: &Core, finish: Finish) -> Result<Answer, AllocError>
+    requires { end_of core.now ≡ Some (Finished finish) }
+    ensures status { IfOk result (λ answer. answer.status ≡ finish_status finish) }
+    ensures text { IfOk result (λ answer. (c : Setting) (run : AnyList Pair) (m : Moment) → IsAt c core.now run m
+        → Reports c run m answer.text.items) }
 {
-    let mut core = Core::new(alloc, program, workers)?;
-    let mut choices = PcgChoices::new(SEED);
-    dfd_core::play(&mut core, &mut choices);
-    core.output(alloc).map_err(|_| AllocError)
-}
-
-/// Runs a program of prints and forks, and reports it; a program of another form cannot run yet.
-fn play_program(
-    alloc: Global,
-    workers: u32,
-    program: &par_tree::Program,
-) -> Result<Answer, AllocError>
-    requires { 0 < workers }
-    ensures { IfOk result (λ answer. (k : ℕ) → PlayMakes k (program_tree program.now) answer.status answer.text.items) }
-{
-    let Some(small) = printing(alloc, program)? else {
-        let text = not_yet_text(alloc)?;
-        return Ok(Answer {
-            status: Status::Syntax,
-            text,
-        });
+    let report = Report {
+        lines: lines_of(core)?,
+        finish,
+        periods: core.periods(),
+        ahead: core.ahead(),
+        high: core.high(),
     };
-    let printed = run(alloc, workers, small)?;
-    let text = outcome_text(alloc, &printed, Finish::Done)?;
+    let text = report_text(alloc, &report)?;
     Ok(Answer {
-        status: Status::Done,
-        text: text.into_bytes(),
+        status: finish_status(finish),
+        text,
     })
 }
 
-/// Runs the program whose text these bytes are and reports it, or says why and where they are no text.
-pub fn play(alloc: Global, workers: u32, bytes: &[u8]) -> Result<Answer, AllocError>
-    requires { 0 < workers }
-    ensures { IfOk result (λ answer. (k : ℕ) → PlayGives k bytes.now answer.status answer.text.items) }
+/// Lets the workers of a command run a program, and reports the run.
+fn play_program(alloc: Global, command: &Command, program: Checked) -> Result<Answer, AllocError>
+    requires ranges { HasRanges command.now }
+    requires owned { Ownership (program_tree (program_of program)) }
+    ensures { IfOk result (λ answer. PlayMakes command.now (program_tree (program_of program)) answer.status answer.text.items) }
 {
-    match parse(alloc, bytes) {
-        Ok(program) => play_program(alloc, workers, &program),
-        Err(ParseFail::Refused(refusal)) => {
-            let text = syntax_text(alloc, refusal)?;
-            Ok(Answer {
-                status: Status::Syntax,
-                text,
-            })
-        }
-        Err(ParseFail::OutOfMemory) => Err(AllocError),
+    let (core, end) = run_program(alloc, command, program)?;
+    match end {
+        RunEnd::Finished(finish) => report_answer(alloc, &core, finish),
+        RunEnd::Stopped(stop) => stop_answer(alloc, stop),
+    }
+}
+
+/// What workers make of the program whose text these bytes are, or why and where they are refused.
+pub fn play(alloc: Global, command: &Command, bytes: &[u8]) -> Result<Answer, AllocError>
+    requires { HasRanges command.now }
+    ensures { IfOk result (λ answer. SourceGives (PlayMakes command.now) bytes.now answer.status answer.text.items) }
+{
+    match accept(alloc, bytes) {
+        Ok(program) => play_program(alloc, command, program),
+        Err(fail) => refusal_answer(alloc, fail),
     }
 }

@@ -9,14 +9,18 @@ pub enum Status {
     ReadFault,
     /// The sink failed, and has taken a front of the text.
     WriteFault,
-    /// The bytes of the source are no text, or their program cannot be played yet.
+    /// The bytes of the source are no text.
     Syntax,
     /// The program of the source breaks a rule of ownership.
     Check,
     /// The program ran to its end with a fault.
     UserFault,
-    /// The run has more actions than the limit allows.
+    /// One more action than the limit allows would be done.
     StepsSpent,
+    /// The words that an action asks for do not fit the arena.
+    ArenaFull,
+    /// A theft would make one deque more than the limit allows.
+    DequesFull,
     /// There was no memory. Nothing was written.
     OutOfMemory,
 }
@@ -38,6 +42,8 @@ impl Status {
             Status::Check => 5,
             Status::UserFault => 6,
             Status::StepsSpent => 7,
+            Status::ArenaFull => 8,
+            Status::DequesFull => 9,
             Status::OutOfMemory => 10,
         }
     }

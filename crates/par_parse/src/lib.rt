@@ -19,6 +19,3 @@ mod words;
 pub use par_lex::ParseFail;
 pub use par_text::{SyntaxError, SyntaxKind};
 pub use parser::parse;
-
-#[cfg(test)]
-mod tests;

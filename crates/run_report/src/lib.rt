@@ -30,6 +30,3 @@ pub use read_fail::ReadFail;
 pub use reading::read_report;
 pub use report::{Report, report_text};
 pub use summary::{Summary, summary_text};
-
-#[cfg(test)]
-mod tests;

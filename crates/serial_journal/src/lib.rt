@@ -18,6 +18,3 @@ pub use action::{Action, Actions};
 pub use journal::Journal;
 pub use serial::Serial;
 pub use serial_stop::SerialStop;
-
-#[cfg(test)]
-mod tests;

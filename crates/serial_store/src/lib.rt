@@ -28,6 +28,3 @@ pub use calls::{lend_back, pass};
 pub use expressions::evaluate;
 pub use stop::Stop;
 pub use store::{MAX_BLOCKS, Store};
-
-#[cfg(test)]
-mod tests;

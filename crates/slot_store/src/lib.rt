@@ -36,6 +36,3 @@ pub use laws::{
 pub use passing::pass;
 pub use returning::lend_back;
 pub use slots::Slots;
-
-#[cfg(test)]
-mod tests;

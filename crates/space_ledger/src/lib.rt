@@ -18,6 +18,3 @@ pub use book::{Book, Closed};
 pub use books::Books;
 pub use moved::Moved;
 pub use moves::Moves;
-
-#[cfg(test)]
-mod tests;

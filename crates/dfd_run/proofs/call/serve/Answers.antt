@@ -1,21 +1,27 @@
 use Rattle.byte_streams.specs.Faults.{Rose}
-use Rattle.byte_streams.specs.Source.{IsRead}
-use Rattle.dfd_run.proofs.Answers.{command_of_kind, ends_at_fault, ends_more}
-use Rattle.dfd_run.specs.Answer.{KindGives}
-use Rattle.dfd_run.specs.declared.status.Status.TheVariants.{ReadFault}
+use Rattle.dfd_run.proofs.Answers.{command_of_read, command_of_made, ends_more}
+use Rattle.dfd_run.specs.Answer.{BytesGive, ReadGives, CommandGives}
+use Rattle.dfd_run.specs.Make.{source_of}
 use Rattle.dfd_run.proofs.call.serve.Goals as goal
 
-pub returns-in-Ok-clause-ends : goal.returns-in-Ok-clause-ends
-returns-in-Ok-clause-ends g c =
+pub returns-in-Make-clause-ends : goal.returns-in-Make-clause-ends
+returns-in-Make-clause-ends g c =
     let command = c.args.command.now in
     let left = g.S.Source.left c.args.source.now in
-    let left' = g.S.Source.left c.read_source.new.source in
-    let failed = Rose (g.S.Source.faults c.args.source.now) (g.S.Source.faults c.read_source.new.source) in
-    let read : IsRead left left' c.deref.result.now = rw c.deref.ensures.value c.in-Ok.ensures.read in
-    ends_more (KindGives command.kind command.k command.steps c.deref.result.now) _ _ _ _
-    (λ status text gives. command_of_kind command failed left left' c.deref.result.now status text read gives) c.serve_bytes.ensures.ends
+    let failed = Rose (g.S.Source.faults c.args.source.now) (g.S.Source.faults c.args.source.now) in
+    ends_more (BytesGive command (source_of command)) (CommandGives command failed left left) _ _ _
+    (λ status text gives. command_of_made command.kind command failed left left c.in-Make.is status text gives) c.serve_made.ensures.ends
 
-pub returns-in-Err-clause-ends : goal.returns-in-Err-clause-ends
-returns-in-Err-clause-ends g c =
-    ends_at_fault _ _ _ ReadFault c.as_bytes.result.now
-    (rw c.in-Err-Fault.field-0-is at c.in-Err-Fault.ensures.cause, c.as_bytes.ensures.value) c.in-Err.ensures.front
+pub returns-in_default : goal.returns-in_default
+returns-in_default g c =
+    let command = c.args.command.now in
+    let left = g.S.Source.left c.args.source.now in
+    let left' = g.S.Source.left c.serve_read.new.source in
+    let failed = Rose (g.S.Source.faults c.args.source.now) (g.S.Source.faults c.serve_read.new.source) in record {
+      ends = ends_more (ReadGives command failed left left') (CommandGives command failed left left') _ _ _
+          (λ status text gives. command_of_read command.kind command failed left left' c.in_default.not-Make status text gives)
+          c.serve_read.ensures.ends;
+      no_memory = c.serve_read.ensures.no_memory;
+      unread = λ made. absurd (c.in_default.not-Make made);
+      counts = c.serve_read.ensures.counts;
+    }

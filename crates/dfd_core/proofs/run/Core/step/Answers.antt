@@ -1,17 +1,112 @@
-use Rattle.std.proofs.Common.{List}
-use Rattle.dfd_core.specs.declared.deque.Deque.{Deque}
-use Rattle.dfd_core.specs.Machine.{At}
+use Rattle.std.proofs.Common.{Some, Ok, refl, sym, ap, subst, ◌∙◌, arith}
+use Rattle.std.proofs.lemmas.Option.{none-some}
+use Rattle.core_parts.specs.Held.{held}
+use Rattle.core_parts.specs.Moments.{Terms}
+use Rattle.dfd_core.specs.Steps.{IsTold, end_behind}
+use Rattle.dfd_core.proofs.Told.{ok_or_err, some_or_none}
+use Rattle.dfd_core.proofs.Roots.{root_result}
+use Rattle.dfd_core.proofs.Going.{somewhere_behind, comes_behind}
+use Rattle.dfd_core.proofs.Turns.{nothing_behind}
 use Rattle.dfd_core.proofs.run.Core.step.Goals as goal
-use Rattle.std.proofs.Common.{subst}
 
-pub act-requires-clause-owner : goal.act-requires-clause-owner
-act-requires-clause-owner c =
-    let found = c.in-Some-find_owned.ensures in
+pub invariant_of-self : goal.invariant_of-self
+invariant_of-self c =
+    let is = c.in-Ok-None.is ∙ ap Ok c.in-Ok-None.field-0-is in
+    let workers = ap (λ (x : Terms). x.workers) (c.event_of.ensures.terms 0) in
+    let some = c.args.self.now.some_workers in let few = c.args.self.now.few_workers in
     record {
-      deque = found.0;
-      stands = subst (λ (deques : List Deque). At c.in-Some-find_owned.place deques found.0) c.deref.ensures.value found.1;
-      owner = found.2;
+      sound = c.event_of.ensures.sound;
+      points = λ none. c.event_of.ensures.points (λ bad. ok_or_err _ _ (sym is ∙ bad));
+      somewhere = somewhere_behind _ _ _ _ _ _ _ _ c.event_of.ensures.sound (c.event_of.ensures.terms c.args.self.now.limit) c.in_default.is c.args.worker c.args.word c.event_of.result
+          c.event_of.ensures.steps (c.in_default.is ∙ sym (ap (λ r. end_behind r (root_result (held c.event_of.new.scheduler))) is)) c.args.self.now.somewhere;
+      few = c.args.self.now.few;
+      most_is = c.args.self.now.most_is ∙ sym (ap (λ (x : Terms). x.limits.deques) (c.event_of.ensures.terms 0));
+      some_workers = omega (arith, workers, some);
+      few_workers = omega (arith, workers, few);
     }
 
-pub returns-in-Some-find_owned-clause-event : goal.returns-in-Some-find_owned-clause-event
-returns-in-Some-find_owned-clause-event c = c.act.ensures.event c.args.word
+pub invariant_of-self-in-Ok-Some : goal.invariant_of-self-in-Ok-Some
+invariant_of-self-in-Ok-Some c =
+    let is = c.in-Ok-Some.is ∙ ap Ok c.in-Ok-Some.field-0-is in
+    let workers = ap (λ (x : Terms). x.workers) (c.event_of.ensures.terms 0) in
+    let some = c.args.self.now.some_workers in let few = c.args.self.now.few_workers in
+    record {
+      sound = c.event_of.ensures.sound;
+      points = λ none. c.event_of.ensures.points (λ bad. ok_or_err _ _ (sym is ∙ bad));
+      somewhere = somewhere_behind _ _ _ _ _ _ _ _ c.event_of.ensures.sound (c.event_of.ensures.terms c.args.self.now.limit) c.in_default.is c.args.worker c.args.word c.event_of.result
+          c.event_of.ensures.steps (c.end_told-self.ensures ∙ sym (ap (λ r. end_behind r (root_result (held c.event_of.new.scheduler))) is)) c.args.self.now.somewhere;
+      few = c.args.self.now.few;
+      most_is = c.args.self.now.most_is ∙ sym (ap (λ (x : Terms). x.limits.deques) (c.event_of.ensures.terms 0));
+      some_workers = omega (arith, workers, some);
+      few_workers = omega (arith, workers, few);
+    }
+
+pub invariant_of-self-in-Err : goal.invariant_of-self-in-Err
+invariant_of-self-in-Err c =
+    let workers = ap (λ (x : Terms). x.workers) (c.event_of.ensures.terms 0) in
+    let some = c.args.self.now.some_workers in let few = c.args.self.now.few_workers in
+    record {
+      sound = c.event_of.ensures.sound;
+      points = λ none. absurd (none-some _ (sym none));
+      somewhere = somewhere_behind _ _ _ _ _ _ _ _ c.event_of.ensures.sound (c.event_of.ensures.terms c.args.self.now.limit) c.in_default.is c.args.worker c.args.word c.event_of.result
+          c.event_of.ensures.steps (sym (ap (λ r. end_behind r (root_result (held c.event_of.new.scheduler))) c.in-Err.is)) c.args.self.now.somewhere;
+      few = c.args.self.now.few;
+      most_is = c.args.self.now.most_is ∙ sym (ap (λ (x : Terms). x.limits.deques) (c.event_of.ensures.terms 0));
+      some_workers = omega (arith, workers, some);
+      few_workers = omega (arith, workers, few);
+    }
+
+pub returns-in-Ok-None-clause-steps : goal.returns-in-Ok-None-clause-steps
+returns-in-Ok-None-clause-steps c = λ none s run m at.
+    let is = c.in-Ok-None.is ∙ ap Ok c.in-Ok-None.field-0-is in (
+      c.event_of.result,
+      is,
+      comes_behind _ _ _ _ _ _ _ _ c.event_of.ensures.sound (c.event_of.ensures.terms c.args.self.now.limit) none c.args.worker c.args.word c.event_of.result
+          c.event_of.ensures.steps (none ∙ sym (ap (λ r. end_behind r (root_result (held c.event_of.new.scheduler))) is)) s run m at,
+    )
+
+pub returns-in-Ok-None-clause-nothing : goal.returns-in-Ok-None-clause-nothing
+returns-in-Ok-None-clause-nothing c = λ none s run m at.
+    let is = c.in-Ok-None.is ∙ ap Ok c.in-Ok-None.field-0-is in
+    nothing_behind _ _ _ _ c.args.self.now.sound c.args.self.now.end s run m at c.args.worker _ c.event_of.result is c.event_of.ensures.nothing
+
+pub returns-in-Ok-None-clause-setting : goal.returns-in-Ok-None-clause-setting
+returns-in-Ok-None-clause-setting c = (refl, refl, c.event_of.ensures.terms c.args.self.now.limit)
+
+pub returns-in-Ok-Some-clause-steps : goal.returns-in-Ok-Some-clause-steps
+returns-in-Ok-Some-clause-steps c = λ none s run m at.
+    let is = c.in-Ok-Some.is ∙ ap Ok c.in-Ok-Some.field-0-is in (
+      c.event_of.result,
+      subst (IsTold c.told.result) (sym is) c.told.ensures,
+      comes_behind _ _ _ _ _ _ _ _ c.event_of.ensures.sound (c.event_of.ensures.terms c.args.self.now.limit) none c.args.worker c.args.word c.event_of.result
+          c.event_of.ensures.steps (c.end_told-self.ensures ∙ sym (ap (λ r. end_behind r (root_result (held c.event_of.new.scheduler))) is)) s run m at,
+    )
+
+pub returns-in-Ok-Some-clause-nothing : goal.returns-in-Ok-Some-clause-nothing
+returns-in-Ok-Some-clause-nothing c = λ none s run m at.
+    let is = c.in-Ok-Some.is ∙ ap Ok c.in-Ok-Some.field-0-is in
+    nothing_behind _ _ _ _ c.args.self.now.sound c.args.self.now.end s run m at c.args.worker c.told.result c.event_of.result (subst (IsTold c.told.result) (sym is) c.told.ensures) c.event_of.ensures.nothing
+
+pub returns-in-Ok-Some-clause-setting : goal.returns-in-Ok-Some-clause-setting
+returns-in-Ok-Some-clause-setting c = (refl, refl, c.event_of.ensures.terms c.args.self.now.limit)
+
+pub returns-in-Err-clause-steps : goal.returns-in-Err-clause-steps
+returns-in-Err-clause-steps c = λ none s run m at. (
+  c.event_of.result,
+  c.in-Err.is,
+  comes_behind _ _ _ _ _ _ _ _ c.event_of.ensures.sound (c.event_of.ensures.terms c.args.self.now.limit) none c.args.worker c.args.word c.event_of.result
+      c.event_of.ensures.steps (sym (ap (λ r. end_behind r (root_result (held c.event_of.new.scheduler))) c.in-Err.is)) s run m at,
+)
+
+pub returns-in-Err-clause-nothing : goal.returns-in-Err-clause-nothing
+returns-in-Err-clause-nothing c = λ none s run m at.
+    nothing_behind _ _ _ _ c.args.self.now.sound c.args.self.now.end s run m at c.args.worker _ c.event_of.result c.in-Err.is c.event_of.ensures.nothing
+
+pub returns-in-Err-clause-setting : goal.returns-in-Err-clause-setting
+returns-in-Err-clause-setting c = (refl, refl, c.event_of.ensures.terms c.args.self.now.limit)
+
+pub returns-in-Ok-None-clause-still : goal.returns-in-Ok-None-clause-still
+returns-in-Ok-None-clause-still c = λ nothing. c.event_of.ensures.still (c.in-Ok-None.is ∙ ap Ok c.in-Ok-None.field-0-is)
+
+pub returns-in-Ok-Some-clause-still : goal.returns-in-Ok-Some-clause-still
+returns-in-Ok-Some-clause-still c = λ nothing. absurd (some_or_none _ (subst (λ s. IsTold s (Ok (Some c.in-Ok-Some.event))) nothing c.told.ensures))

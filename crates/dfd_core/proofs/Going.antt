@@ -1,0 +1,190 @@
+-- How a core goes on by an event, or stays.
+use Rattle.std.proofs.Common.{◌≡◌, ℕ, ◌≤◌, List, [], ◌∷◌, ◌++◌, length, inl, inr, refl, sym, ap, subst, ◌∙◌, arith}
+use Rattle.std.proofs.Math.Logic.{∥∥₁_elim, ∥∥₁_map, ∥∥₁_prop}
+use Rattle.std.specs.Prelude.{Option, None, Some, Result, Ok, Err, pos}
+use Rattle.std.proofs.lemmas.Bool.{cases_lt}
+use Rattle.std.proofs.lemmas.Option.{none-some, same_Some}
+use Rattle.dag_order.specs.declared.finish.Finish.{Finish}
+use Rattle.depth_first_run.specs.States.{Setting}
+use Rattle.lawful_books.specs.Books.{booked}
+use Rattle.deque_machine.specs.Moments.{Moment}
+use Rattle.deque_machine.specs.Machine as machine
+use Rattle.deque_machine.specs.Machine.{Event, steals, does, suspends, gives_up, May, HasEnded}
+use Rattle.deque_machine.specs.Play as play
+use Rattle.deque_machine.specs.Play.{Limits, IsForced, NoneFree, Wants, a_theft, a_give_up, a_wait, an_action, Meets, no_words, no_steps}
+use Rattle.deque_machine.specs.Runs.{Pair, Reaches}
+use Rattle.node_table.specs.Table.{Table}
+use Rattle.step_laws.proofs.Told.{actions_are_added, others_add_none}
+use Rattle.thread_steps.specs.Settings.{IsSettingOf}
+use Rattle.core_parts.specs.declared.event.Event.{Event as Told}
+use Rattle.core_parts.specs.declared.stop.Stop.{Stop}
+use Rattle.core_parts.specs.declared.stop.Stop.TheVariants.{ArenaFull, DequesFull, StepsSpent, OutOfMemory}
+use Rattle.core_parts.specs.Held.{Held}
+use Rattle.core_parts.specs.Moments.{Terms, IsSound, StandsAt, machine_of}
+use Rattle.core_parts.specs.Outcomes as parts
+use Rattle.core_parts.specs.Outcomes.{StepsTo}
+use Rattle.thief_steps.specs.Thefts.{StepsBy as EventBy}
+use Rattle.dfd_core.specs.declared.run_end.RunEnd.{RunEnd}
+use Rattle.dfd_core.specs.declared.run_end.RunEnd.TheVariants.{Finished, Stopped}
+use Rattle.dfd_core.specs.Ends.{finish_of_run, end_of_root}
+use Rattle.dfd_core.specs.Running.{IsAtMoment, IsSomewhere, KeepsEnd}
+use Rattle.dfd_core.specs.Steps.{GoesOn, Stops, Comes, end_behind}
+use Rattle.dfd_core.proofs.Roots.{root_result, end_is_kept}
+
+IsGiveUp : Event → Type 0
+IsGiveUp (steals place id) = ⊥
+IsGiveUp (does place) = ⊥
+IsGiveUp suspends = ⊥
+IsGiveUp gives_up = Unit {0}
+
+-- a give up that the rules want is not free
+forced_of : (s : machine.Setting) (m : Moment) (worker word : ℕ) (event : Event) → Wants s m worker word event → event ≡ gives_up → IsForced s m worker
+unfolding IsGiveUp
+forced_of s m worker word event (a_theft place id idle first named) is = absurd (subst IsGiveUp (sym is) tt)
+forced_of s m worker word event (a_give_up forced) is = forced
+forced_of s m worker word event (a_wait o place child at none) is = absurd (subst IsGiveUp (sym is) tt)
+forced_of s m worker word event (an_action o place next has fits) is = absurd (subst IsGiveUp (sym is) tt)
+
+-- one event more at the end of a run
+one_more : (s : machine.Setting) (run : List Pair) (first m next : Moment) (pair : Pair) (reaches : Reaches s first run m) → NoneFree s first run m reaches
+    → May s m pair.worker pair.event next → (pair.event ≡ gives_up → IsForced s m pair.worker)
+    → (longer : Reaches s first (run ++ pair ∷ []) next) × NoneFree s first (run ++ pair ∷ []) next longer
+one_more s [] first m next pair reaches free may forced =
+    ((next, subst (λ x. May s x pair.worker pair.event next) (sym reaches) may, refl), (λ is. subst (λ x. IsForced s x pair.worker) (sym reaches) (forced is), tt))
+one_more s (done ∷ run) first m next pair reaches free may forced =
+    let rest = one_more s run reaches.0 m next pair reaches.2 free.1 may forced in
+    ((reaches.0, reaches.1, rest.0), (free.0, rest.1))
+
+-- no event makes more actions than may be done
+few_done : (s : machine.Setting) (limits : Limits) (m next : Moment) (worker : ℕ) (event : Event) → May s m worker event next
+    → ((stop : play.Stop) → ¬ Meets s limits m event stop) → length (booked m.books) ≤ limits.actions → length (booked next.books) ≤ limits.actions
+few_done s limits m next worker (does place) may free few =
+    let added = (actions_are_added s m next worker place may).booked in
+    elim (cases_lt (length (booked m.books)) limits.actions) [
+      | inl less ↦ omega (arith, added, less)
+      | inr spent ↦ absurd (free _ (no_steps place (λ fills. free _ (no_words place fills)) (omega (arith, spent))))
+    ]
+few_done s limits m next worker suspends may free few = let added = ((others_add_none s m next worker).0 may).booked in omega (arith, added, few)
+few_done s limits m next worker gives_up may free few = let added = ((others_add_none s m next worker).1 may).booked in omega (arith, added, few)
+few_done s limits m next worker (steals place id) may free few = let added = ((others_add_none s m next worker).2 place id may).booked in omega (arith, added, few)
+
+-- a run in which nothing was kept is where it was, with a stop too
+pub stays_at : (t : Table) (k : ℕ) (terms : Terms) (before after : Held) (c : Setting) (run : List Pair) (m : Moment) (stop : Stop)
+    → IsAtMoment t k terms before None c run m → StandsAt c terms after run m → IsAtMoment t k terms after (Some (Stopped stop)) c run m
+stays_at t k terms before after c run m stop at stands = record {
+  setting = at.setting;
+  stands = stands;
+  reaches = at.reaches;
+  none_free = at.none_free;
+  within = at.within;
+  going = λ none. absurd (none-some _ (sym none));
+  finished = λ finish is. absurd (apart finish (same_Some _ _ is));
+}
+  where
+    is_stop : RunEnd → Type 0
+    is_stop (Finished finish) = ⊥
+    is_stop (Stopped stop) = Unit {0}
+
+    apart : (finish : Finish) → Stopped stop ≡ Finished finish → ⊥
+    apart finish same = subst is_stop same tt
+
+module _ (t : Table) (k : ℕ) (terms : Terms) (before after : Held) (sound : IsSound t k terms after) (c : Setting) (run : List Pair) (m : Moment)
+    (at : IsAtMoment t k terms before None c run m) (worker word : ℕ) where
+  -- what is kept behind an event
+  kept : (next : Moment) (later : List Pair) → StandsAt c terms after later next → KeepsEnd c terms (end_of_root (root_result after)) next
+  kept next later stands = end_is_kept t k terms after sound c at.setting later next stands
+
+  goes_on : (told : Told) → parts.GoesOn c terms after worker word run m told → GoesOn t k terms after (end_of_root (root_result after)) c worker word run m told
+  goes_on told g =
+      let pair : Pair = record { worker = worker; event = g.event } in
+      let ends = kept g.next (run ++ pair ∷ []) g.stands in
+      let more = one_more (machine_of c terms) run Rattle.deque_machine.specs.Moments.opening m g.next pair at.reaches at.none_free g.may
+      (forced_of (machine_of c terms) m worker word g.event g.wants) in
+      record {
+        event = g.event;
+        next = g.next;
+        wants = g.wants;
+        free = g.free;
+        may = g.may;
+        tells = g.tells;
+        is_at = record {
+          setting = at.setting;
+          stands = g.stands;
+          reaches = more.0;
+          none_free = more.1;
+          within = few_done (machine_of c terms) terms.limits m g.next worker g.event g.may g.free at.within;
+          going = λ none. elim ends [ inl going ↦ going.0 | inr over ↦ absurd (none-some _ (sym none ∙ over.1)) ];
+          finished = λ finish is. elim ends [
+            | inl going ↦ absurd (none-some _ (sym going.1 ∙ is))
+            | inr over ↦ (over.0, same_finish finish (finish_of_run c) (same_Some _ _ (sym is ∙ over.1)))
+          ];
+        };
+        keeps_end = ends;
+      }
+    where
+      finish_in : Finish → RunEnd → Finish
+      finish_in other (Finished finish) = finish
+      finish_in other (Stopped stop) = other
+
+      same_finish : (a b : Finish) → Finished a ≡ Finished b → a ≡ b
+      same_finish a b same = ap (finish_in a) same
+
+  stops : (stop : Stop) (met : play.Stop) → parts.Stops c terms after worker word run m met
+      → Stops t k terms after (Some (Stopped stop)) c worker word run m met
+  stops stop met s = record { event = s.event; wants = s.wants; meets = s.meets; is_at = stays_at t k terms before after c run m stop at s.stands }
+
+  pub comes : (result : Result (Option Told) Stop) → EventBy c terms after worker word run m result
+      → Comes t k terms after (end_behind result (root_result after)) c worker word run m result
+  comes (Ok None) by = record {
+    setting = at.setting;
+    stands = by;
+    reaches = at.reaches;
+    none_free = at.none_free;
+    within = at.within;
+    going = at.going;
+    finished = at.finished;
+  }
+  comes (Ok (Some told)) by = ∥∥₁_map by (goes_on told)
+  comes (Err (ArenaFull live asked)) by = ∥∥₁_map by (stops (ArenaFull live asked) (play.arena_full (pos live) asked))
+  comes (Err (DequesFull deques)) by = ∥∥₁_map by (stops (DequesFull deques) (play.deques_full deques))
+  comes (Err (StepsSpent limit)) by = ∥∥₁_map by (stops (StepsSpent limit) (play.steps_spent limit))
+  comes (Err OutOfMemory) by = stays_at t k terms before after c run m OutOfMemory at by
+
+-- wherever it comes to, what is held is somewhere
+found : (t : Table) (k : ℕ) (terms : Terms) (after : Held) (end : Option RunEnd) (c : Setting) (worker word : ℕ) (run : List Pair) (m : Moment)
+    (result : Result (Option Told) Stop) → Comes t k terms after end c worker word run m result
+    → ∥ ((run : List Pair) × (m : Moment) × IsAtMoment t k terms after end c run m) ∥₁
+found t k terms after end c worker word run m (Ok None) came = ∣ (run, m, came) ∣₁
+found t k terms after end c worker word run m (Ok (Some told)) came = ∥∥₁_map came (λ g. (_, g.next, g.is_at))
+found t k terms after end c worker word run m (Err (ArenaFull live asked)) came = ∥∥₁_map came (λ s. (run, m, s.is_at))
+found t k terms after end c worker word run m (Err (DequesFull deques)) came = ∥∥₁_map came (λ s. (run, m, s.is_at))
+found t k terms after end c worker word run m (Err (StepsSpent limit)) came = ∥∥₁_map came (λ s. (run, m, s.is_at))
+found t k terms after end c worker word run m (Err OutOfMemory) came = ∣ (run, m, came) ∣₁
+
+pub somewhere_on : (t : Table) (k : ℕ) (terms : Terms) (before after : Held) → IsSound t k terms after → IsSomewhere t k terms before None
+    → (worker word : ℕ) (result : Result (Option Told) Stop)
+    → ((c : Setting) → IsSettingOf t k c → (run : List Pair) (m : Moment) → StandsAt c terms before run m → EventBy c terms after worker word run m result)
+    → IsSomewhere t k terms after (end_behind result (root_result after))
+somewhere_on t k terms before after sound was worker word result by c of = ∥∥₁_elim (was c of) ∥∥₁_prop (λ w.
+    found t k terms after (end_behind result (root_result after)) c worker word w.0 w.1 result
+    (comes t k terms before after sound c w.0 w.1 w.2 worker word result (by c of w.0 w.1 w.2.stands)))
+
+-- ---- behind a step that was begun while no end was kept
+
+module _ (t : Table) (k : ℕ) (terms later_terms : Terms) (before after : Held) (end later_end : Option RunEnd) (sound : IsSound t k later_terms after)
+    (same : later_terms ≡ terms) (none : end ≡ None) (worker word : ℕ) (result : Result (Option Told) Stop)
+    (by : (c : Setting) → IsSettingOf t k c → (run : List Pair) (m : Moment) → StandsAt c terms before run m → EventBy c terms after worker word run m result)
+    (later_is : later_end ≡ end_behind result (root_result after)) where
+  sound_still : IsSound t k terms after
+  sound_still = subst (λ x. IsSound t k x after) same sound
+
+  pub somewhere_behind : IsSomewhere t k terms before end → IsSomewhere t k later_terms after later_end
+  somewhere_behind was = subst (λ x. IsSomewhere t k x after later_end) (sym same) (subst (IsSomewhere t k terms after) (sym later_is)
+      (somewhere_on t k terms before after sound_still (subst (IsSomewhere t k terms before) none was) worker word result by))
+
+  pub comes_behind : (c : Setting) (run : List Pair) (m : Moment) → IsAtMoment t k terms before end c run m
+      → Comes t k later_terms after later_end c worker word run m result
+  comes_behind c run m was =
+      let at = subst (λ e. IsAtMoment t k terms before e c run m) none was in
+      subst (λ x. Comes t k x after later_end c worker word run m result) (sym same) (subst (λ e. Comes t k terms after e c worker word run m result) (sym later_is)
+      (comes t k terms before after sound_still c run m at worker word result (by c at.setting run m at.stands)))

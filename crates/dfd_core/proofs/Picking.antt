@@ -1,0 +1,73 @@
+-- Who moves next, and how many words are drawn for it.
+use Rattle.std.proofs.Common.{◌≡◌, ◌↔◌, ℕ, ◌+◌, ◌≤◌, ◌<◌, List, sym, subst, arith, Bor}
+use Rattle.std.proofs.Math.Logic.{∥∥₁_elim}
+use Rattle.std.proofs.Math.Nat.{mod-lt}
+use Rattle.std.specs.Prelude.{Option, None, Some, Bool, true, false, is_some, not, IsTrue}
+use Rattle.std.specs.Option.{option_copied}
+use Rattle.std.proofs.lemmas.Bool.{false≢true, true≢false}
+use Rattle.depth_first_run.specs.States.{Setting}
+use Rattle.deque_machine.specs.Moments.{Moment}
+use Rattle.deque_machine.specs.Play as play
+use Rattle.deque_machine.specs.Play.{IsFirst, words_drawn}
+use Rattle.deque_machine.specs.Runs.{Pair}
+use Rattle.deque_machine.proofs.Playing.{somebodys_turn}
+use Rattle.depth_first_run.proofs.Built.{whole_is_depth_first}
+use Rattle.node_table.specs.Table.{Table}
+use Rattle.period_table.specs.declared.seat.Seat.{Seat}
+use Rattle.period_table.specs.Tables.{seat_at}
+use Rattle.turn_choice.specs.Choices.{SomeReady, CanMove}
+use Rattle.core_parts.specs.Held.{Held}
+use Rattle.core_parts.specs.Moments.{Terms, IsSound, machine_of}
+use Rattle.core_parts.proofs.Going.{lawful_at}
+use Rattle.dfd_core.specs.declared.run_end.RunEnd.{RunEnd}
+use Rattle.dfd_core.specs.Cores.{words_of_turn}
+use Rattle.dfd_core.specs.Running.{IsAtMoment, IsSomewhere}
+use Rattle.dfd_core.proofs.Turns.{can_move_is, idle_draws, owner_draws}
+
+-- who passes may be told by what passes as well
+first_by : (n word : ℕ) (P Q : ℕ → Type 0) (x : ℕ) → ((i : ℕ) → P i ↔ Q i) → IsFirst n word P x → IsFirst n word Q x
+first_by n word P Q x same first = record {
+  turns = first.turns;
+  few = first.few;
+  is = first.is;
+  passes = (same x).0 first.passes;
+  none_before = λ e before passes. first.none_before e before ((same _).1 passes);
+}
+
+-- who is picked is one of them
+pub first_below : (n word : ℕ) (P : ℕ → Type 0) (x : ℕ) → IsFirst n word P x → x < n
+first_below n word P x first = let few = first.few in
+    subst (λ y. y < n) (sym first.is) (mod-lt (word + first.turns) (let some : 0 < n = omega (arith, few) in some))
+
+module _ (t : Table) (k : ℕ) (terms : Terms) (h : Held) (sound : IsSound t k terms h) (end : Option RunEnd) where
+  -- the first that can move by what the table tells is the first that can move at the moment
+  pub first_at : (c : Setting) (run : List Pair) (m : Moment) → IsAtMoment t k terms h end c run m → (some_ready : Bool)
+      → (IsTrue some_ready ↔ SomeReady terms.workers h.deques) → (word worker : ℕ) → IsFirst terms.workers word (CanMove h.table some_ready) worker
+      → IsFirst terms.workers word (play.CanMove (machine_of c terms) m) worker
+  first_at c run m at some_ready ready word worker first =
+      let covers = sound.quota in let same = at.setting.quota in
+      first_by terms.workers word (CanMove h.table some_ready) (play.CanMove (machine_of c terms) m) worker
+      (λ w. can_move_is c terms (omega (arith, covers, same)) h run m at.stands w sound.in_order some_ready ready) first
+
+  -- while no end is kept somebody can move
+  pub somebody_can : IsSomewhere t k terms h end → end ≡ None → 1 ≤ terms.workers → (some_ready : Bool) → (IsTrue some_ready ↔ SomeReady terms.workers h.deques)
+      → ((worker : ℕ) → worker < terms.workers → ¬ CanMove h.table some_ready worker) → ⊥
+  somebody_can somewhere none some some_ready ready nobody = ∥∥₁_elim sound.of_program (λ x y. absurd x) (λ p.
+      ∥∥₁_elim (somewhere p.0 p.1) (λ x y. absurd x) (λ w.
+      let covers = sound.quota in let same = p.1.quota in
+      let turn = somebodys_turn (machine_of p.0 terms) (omega (arith, covers, same)) (whole_is_depth_first p.0) (λ i. i) 0 w.1
+      (lawful_at p.0 terms (omega (arith, covers, same)) w.0 w.1 w.2.stands.reaches) (omega (arith, some)) (w.2.going none) in
+      nobody turn.0.worker (first_below terms.workers 0 (play.CanMove (machine_of p.0 terms) w.1) turn.0.worker turn.1.first)
+      ((can_move_is p.0 terms (omega (arith, covers, same)) h w.0 w.1 w.2.stands turn.0.worker sound.in_order some_ready ready).1 turn.1.first.passes)))
+
+  -- how many words the turn of a worker draws
+  pub draws_at : (c : Setting) (run : List Pair) (m : Moment) → IsAtMoment t k terms h end c run m → (worker : ℕ) (seat : Option (Bor Seat)) (idle : Bool)
+      → is_some seat ≡ not idle → option_copied seat ≡ seat_at h.table worker → words_drawn m worker ≡ words_of_turn idle
+  draws_at c run m at worker None true is copied =
+      let covers = sound.quota in let same = at.setting.quota in
+      idle_draws c terms (omega (arith, covers, same)) h run m at.stands worker sound.in_order (sym copied)
+  draws_at c run m at worker None false is copied = absurd (false≢true is)
+  draws_at c run m at worker (Some seat) true is copied = absurd (true≢false is)
+  draws_at c run m at worker (Some seat) false is copied =
+      let covers = sound.quota in let same = at.setting.quota in
+      owner_draws c terms (omega (arith, covers, same)) h run m at.stands worker seat.now (sym copied)

@@ -1,0 +1,175 @@
+-- A play that is under way.
+use Rattle.std.proofs.Common.{◌≡◌, ℕ, ◌+◌, ◌*◌, ◌≤◌, List, [], ◌∷◌, ◌++◌, length, refl, sym, ap, subst, ◌∙◌, arith, append-nil, length-append, append_assoc}
+use Rattle.std.proofs.Math.Logic.{∥∥₁_elim, ∥∥₁_map, ∥∥₁_prop}
+use Rattle.std.specs.Prelude.{None, Some, pos}
+use Rattle.dag_order.specs.declared.finish.Finish.{Finish}
+use Rattle.dummy_tree.specs.QuotaWords.{quota_words}
+use Rattle.depth_first_list.specs.Actions.{record_words}
+use Rattle.depth_first_run.specs.States.{Setting}
+use Rattle.depth_first_run.proofs.Built.{whole_is_depth_first}
+use Rattle.deque_machine.specs.Moments.{Moment}
+use Rattle.deque_machine.specs.Machine as machine
+use Rattle.deque_machine.specs.Machine.{May, HasEnded}
+use Rattle.deque_machine.specs.Play as play
+use Rattle.deque_machine.specs.Play.{IsFirst, CanMove, Wants, Turn, Plays, is_over, is_stopped, goes_on, words_drawn}
+use Rattle.deque_machine.specs.Runs.{Pair, Reaches}
+use Rattle.deque_machine.proofs.Ends.{runs_are_short}
+use Rattle.node_table.specs.Codes.{code_shown}
+use Rattle.thread_steps.specs.Settings.{IsSettingOf}
+use Rattle.core_parts.specs.declared.stop.Stop.TheVariants.{ArenaFull, DequesFull, StepsSpent, OutOfMemory}
+use Rattle.core_parts.specs.Moments.{Terms, machine_of}
+use Rattle.dfd_core.specs.declared.run.Core.{Core}
+use Rattle.dfd_core.specs.declared.run_end.RunEnd.{RunEnd}
+use Rattle.dfd_core.specs.declared.run_end.RunEnd.TheVariants.{Finished, Stopped}
+use Rattle.dfd_core.specs.Cores.{IsAt, SameSetting, end_of, terms_at, workers_of}
+use Rattle.dfd_core.specs.Plays.{TurnGoesOn, TurnStops, TurnsTo, TakesTurn, PlaysTo}
+
+-- The core has come from the moment m of a run to a later one, with so many words, and what is played from there is played from m.
+pub record Along (c : Setting) (terms : Terms) (words : ℕ → ℕ) (drawn : ℕ) (now : Core) (run : List Pair) (m : Moment) : Type 0 where
+  pub later : List Pair
+  pub last : Moment
+  pub reaches : Reaches (machine_of c terms) m later last
+  pub extends : (rest : List Pair) (end : Moment) (ending : play.Ending) → Plays (machine_of c terms) terms.limits words drawn last rest end ending
+      → Plays (machine_of c terms) terms.limits words 0 m (later ++ rest) end ending
+  pub is_at : IsAt c now (run ++ later) last
+
+-- No end is kept. Of the words so many were drawn, and the coming ones are those behind. A run to the core's moment has at least so many events.
+pub record IsUnderWay (words coming : ℕ → ℕ) (start now : Core) (events : ℕ) : Type 0 where
+  pub going : end_of now ≡ None
+  pub drawn : ℕ
+  pub coming_is : (i : ℕ) → coming i ≡ words (drawn + i)
+  pub setting : SameSetting start now
+  pub along : (c : Setting) (run : List Pair) (m : Moment) → IsAt c start run m → ∥ Along c (terms_at start) words drawn now run m ∥₁
+  pub many : (c : Setting) → IsSettingOf (code_shown now.code) (quota_words now.k) c
+      → ∥ ((run : List Pair) × (m : Moment) × IsAt c now run m × (events ≤ length run)) ∥₁
+
+pub begins : (words : ℕ → ℕ) (start : Core) → end_of start ≡ None → IsUnderWay words words start start 0
+begins words start none = record {
+  going = none;
+  drawn = 0;
+  coming_is = λ i. ap words (omega arith);
+  setting = (refl, refl, refl);
+  along = λ c run m at. ∣ record {
+    later = [];
+    last = m;
+    reaches = refl;
+    extends = λ rest end ending plays. plays;
+    is_at = subst (λ r. IsAt c start r m) (sym (append-nil run)) at;
+  } ∣₁;
+  many = λ c of. ∥∥₁_map (start.somewhere c of) (λ w. (w.0, w.1, w.2, omega arith));
+}
+
+reach_more : (s : machine.Setting) (later : List Pair) (first last next : Moment) (pair : Pair) → Reaches s first later last
+    → May s last pair.worker pair.event next → Reaches s first (later ++ pair ∷ []) next
+reach_more s [] first last next pair reaches may = (next, subst (λ x. May s x pair.worker pair.event next) (sym reaches) may, refl)
+reach_more s (done ∷ later) first last next pair reaches may = (reaches.0, reaches.1, reach_more s later reaches.0 last next pair reaches.2 may)
+
+-- a turn by the coming words is one behind the words that were drawn
+turn_behind : (s : machine.Setting) (words coming : ℕ → ℕ) (drawn : ℕ) → ((i : ℕ) → coming i ≡ words (drawn + i)) → (m : Moment) (pair : Pair)
+    → Turn s coming 0 m pair → Turn s words drawn m pair
+turn_behind s words coming drawn is m pair turn = record {
+  not_over = turn.not_over;
+  first = subst (λ w. IsFirst s.workers w (CanMove s m) pair.worker) (is 0 ∙ ap words (omega arith)) turn.first;
+  wants = subst (λ w. Wants s m pair.worker w pair.event) (is 1 ∙ ap words (omega arith)) turn.wants;
+}
+
+module _ (c : Setting) (terms : Terms) (words coming : ℕ → ℕ) (drawn more : ℕ) (coming_is : (i : ℕ) → coming i ≡ words (drawn + i)) (now after : Core)
+    (run : List Pair) (m : Moment) (a : Along c terms words drawn now run m) where
+  -- one turn further
+  further : TurnGoesOn c terms coming more after (run ++ a.later) a.last → Along c terms words (drawn + more) after run m
+  further g = record {
+    later = a.later ++ g.pair ∷ [];
+    last = g.next;
+    reaches = reach_more (machine_of c terms) a.later m a.last g.next g.pair a.reaches g.may;
+    extends = λ rest end ending plays. subst (λ r. Plays (machine_of c terms) terms.limits words 0 m r end ending) (sym (append_assoc a.later (g.pair ∷ []) rest))
+        (a.extends (g.pair ∷ rest) end ending (goes_on drawn a.last g.next end g.pair rest ending
+        (turn_behind (machine_of c terms) words coming drawn coming_is a.last g.pair g.turn) g.free g.may
+        (subst (λ n. Plays (machine_of c terms) terms.limits words (drawn + n) g.next rest end ending) g.draws plays)));
+    is_at = subst (λ r. IsAt c after r g.next) (append_assoc run a.later (g.pair ∷ [])) g.is_at;
+  }
+
+  -- or to a stop
+  stopped_at : (stop : play.Stop) → TurnStops c terms coming after (run ++ a.later) a.last stop
+      → (later : List Pair) × (last : Moment) × Plays (machine_of c terms) terms.limits words 0 m later last (play.stopped stop) × IsAt c after (run ++ later) last
+  stopped_at stop s = (
+    a.later,
+    a.last,
+    subst (λ r. Plays (machine_of c terms) terms.limits words 0 m r a.last (play.stopped stop)) (append-nil a.later)
+        (a.extends [] a.last (play.stopped stop) (is_stopped drawn a.last s.pair stop (turn_behind (machine_of c terms) words coming drawn coming_is a.last s.pair s.turn) s.meets)),
+    s.is_at,
+  )
+
+  -- or to the end
+  ended_at : (same : terms_at after ≡ terms) (finish : Finish) → end_of after ≡ Some (Finished finish) → TurnGoesOn c terms coming more after (run ++ a.later) a.last
+      → (later : List Pair) × (last : Moment) × Plays (machine_of c terms) terms.limits words 0 m later last play.finished × IsAt c after (run ++ later) last
+  ended_at same finish is g =
+      let b = further g in
+      let has = subst (λ x. HasEnded (machine_of c x) b.last []) same (b.is_at.finished finish is).0 in (
+        b.later,
+        b.last,
+        subst (λ r. Plays (machine_of c terms) terms.limits words 0 m r b.last play.finished) (append-nil b.later)
+            (b.extends [] b.last play.finished (is_over (drawn + more) b.last has)),
+        b.is_at,
+      )
+
+  pub plays_to : (same : terms_at after ≡ terms) (end : RunEnd) → end_of after ≡ Some end → TurnsTo c terms coming more after (run ++ a.later) a.last (Some end)
+      → PlaysTo c terms words after run m end
+  plays_to same (Finished finish) is turns = ∥∥₁_map turns (ended_at same finish is)
+  plays_to same (Stopped (ArenaFull live asked)) is turns = ∥∥₁_map turns (stopped_at (play.arena_full (pos live) asked))
+  plays_to same (Stopped (DequesFull deques)) is turns = ∥∥₁_map turns (stopped_at (play.deques_full deques))
+  plays_to same (Stopped (StepsSpent limit)) is turns = ∥∥₁_map turns (stopped_at (play.steps_spent limit))
+  plays_to same (Stopped OutOfMemory) is turns = ∣ (a.later, a.last, a.reaches, turns) ∣₁
+
+plays_to_prop : (c : Setting) (terms : Terms) (words : ℕ → ℕ) (after : Core) (run : List Pair) (m : Moment) (end : RunEnd)
+    → IsProp (PlaysTo c terms words after run m end)
+plays_to_prop c terms words after run m (Finished finish) = ∥∥₁_prop
+plays_to_prop c terms words after run m (Stopped (ArenaFull live asked)) = ∥∥₁_prop
+plays_to_prop c terms words after run m (Stopped (DequesFull deques)) = ∥∥₁_prop
+plays_to_prop c terms words after run m (Stopped (StepsSpent limit)) = ∥∥₁_prop
+plays_to_prop c terms words after run m (Stopped OutOfMemory) = ∥∥₁_prop
+
+same_setting : (a b c : Core) → SameSetting a b → SameSetting b c → SameSetting a c
+same_setting a b c first second = (second.0 ∙ first.0, second.1 ∙ first.1, second.2 ∙ first.2)
+
+module _ (words coming later : ℕ → ℕ) (start now after : Core) (events : ℕ) (u : IsUnderWay words coming start now events)
+    (turn : TakesTurn coming later now after) (setting : SameSetting now after) where
+  -- the turn by the terms of the start
+  turns_from : (c : Setting) (run : List Pair) (m : Moment) → IsAt c now run m → TurnsTo c (terms_at start) coming turn.drawn after run m (end_of after)
+  turns_from c run m at = subst (λ x. TurnsTo c x coming turn.drawn after run m (end_of after)) u.setting.2 (turn.turns c run m at)
+
+  pub goes_on_by : end_of after ≡ None → IsUnderWay words later start after (events + 1)
+  goes_on_by none = record {
+    going = none;
+    drawn = u.drawn + turn.drawn;
+    coming_is = λ i. turn.later_is i ∙ u.coming_is (turn.drawn + i) ∙ ap words (omega arith);
+    setting = same_setting start now after u.setting setting;
+    along = λ c run m at. ∥∥₁_elim (u.along c run m at) ∥∥₁_prop (λ a.
+        ∥∥₁_map (subst (TurnsTo c (terms_at start) coming turn.drawn after (run ++ a.later) a.last) none (turns_from c (run ++ a.later) a.last a.is_at))
+        (further c (terms_at start) words coming u.drawn turn.drawn u.coming_is now after run m a));
+    many = λ c of. ∥∥₁_elim (u.many c (subst (λ k. IsSettingOf (code_shown now.code) (quota_words k) c) setting.1
+        (subst (λ t. IsSettingOf (code_shown t) (quota_words after.k) c) setting.0 of))) ∥∥₁_prop (λ w.
+        ∥∥₁_map (subst (TurnsTo c (terms_at start) coming turn.drawn after w.0 w.1) none (turns_from c w.0 w.1 w.2))
+        (λ g. let size = length-append w.0 (g.pair ∷ []) in let many = w.3 in (w.0 ++ g.pair ∷ [], g.next, g.is_at, omega (arith, size, many))));
+  }
+
+  pub ends_by : (end : RunEnd) → end_of after ≡ Some end → (c : Setting) (run : List Pair) (m : Moment) → IsAt c start run m
+      → PlaysTo c (terms_at start) words after run m end
+  ends_by end is c run m at = ∥∥₁_elim (u.along c run m at) (plays_to_prop c (terms_at start) words after run m end) (λ a.
+      plays_to c (terms_at start) words coming u.drawn turn.drawn u.coming_is now after run m a (setting.2 ∙ u.setting.2) end is
+      (subst (TurnsTo c (terms_at start) coming turn.drawn after (run ++ a.later) a.last) is (turns_from c (run ++ a.later) a.last a.is_at)))
+
+  pub setting_by : SameSetting start after
+  setting_by = same_setting start now after u.setting setting
+
+-- no run of play has so many events
+pub too_many : (words coming : ℕ → ℕ) (start now : Core) (events : ℕ) → IsUnderWay words coming start now events
+    → 5 * (terms_at start).limits.actions + workers_of start + 1 ≤ events → ⊥
+too_many words coming start now events u many = ∥∥₁_elim now.sound.of_program (λ x y. absurd x) (λ p.
+    ∥∥₁_elim (u.many p.0 p.1) (λ x y. absurd x) (λ w.
+    let covers = now.sound.quota in let same = p.1.quota in
+    let fork : record_words ≤ p.0.quota = omega (arith, covers, same) in
+    let short = runs_are_short (machine_of p.0 (terms_at now)) (omega (arith, fork)) (whole_is_depth_first p.0) fork w.0 w.1 w.2.reaches w.2.none_free in
+    let within = w.2.within in let size = w.3 in
+    let actions = ap (λ (x : Terms). x.limits.actions) u.setting.2 in
+    let workers = ap (λ (x : Terms). x.workers) u.setting.2 in
+    absurd (omega (arith, short, within, size, actions, workers, many))))

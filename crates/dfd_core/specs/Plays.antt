@@ -1,0 +1,70 @@
+-- What one turn comes to, and a play.
+use Rattle.std.specs.Prelude.{◌≡◌, ℕ, ◌+◌, Option, None, Some, List, [], ◌∷◌, ◌++◌, pos}
+use Rattle.depth_first_run.specs.States.{Setting}
+use Rattle.deque_machine.specs.Moments.{Moment}
+use Rattle.deque_machine.specs.Machine.{May}
+use Rattle.deque_machine.specs.Play as play
+use Rattle.deque_machine.specs.Play.{Turn, Meets, words_drawn}
+use Rattle.deque_machine.specs.Runs.{Pair, Reaches}
+use Rattle.core_parts.specs.declared.stop.Stop.TheVariants.{ArenaFull, DequesFull, StepsSpent, OutOfMemory}
+use Rattle.core_parts.specs.Moments.{Terms, machine_of}
+use Rattle.dfd_core.specs.declared.run.Core.{Core}
+use Rattle.dfd_core.specs.declared.run_end.RunEnd.{RunEnd}
+use Rattle.dfd_core.specs.declared.run_end.RunEnd.TheVariants.{Finished, Stopped}
+use Rattle.dfd_core.specs.Cores.{IsAt, terms_at, end_of}
+
+-- At the moment m of a run it is the turn of a worker, as the coming words pick it, and nothing stops its event. So many words were drawn,
+-- and now the core is at the moment of the run with this event more.
+pub record TurnGoesOn (c : Setting) (terms : Terms) (words : ℕ → ℕ) (drawn : ℕ) (after : Core) (run : List Pair) (m : Moment) : Type 0 where
+  pub pair : Pair
+  pub next : Moment
+  pub turn : Turn (machine_of c terms) words 0 m pair
+  pub free : (stop : play.Stop) → ¬ Meets (machine_of c terms) terms.limits m pair.event stop
+  pub may : May (machine_of c terms) m pair.worker pair.event next
+  pub draws : drawn ≡ words_drawn m pair.worker
+  pub is_at : IsAt c after (run ++ pair ∷ []) next
+
+-- its event meets this stop, and the core is where it was
+pub record TurnStops (c : Setting) (terms : Terms) (words : ℕ → ℕ) (after : Core) (run : List Pair) (m : Moment) (stop : play.Stop)
+    : Type 0 where
+  pub pair : Pair
+  pub turn : Turn (machine_of c terms) words 0 m pair
+  pub meets : Meets (machine_of c terms) terms.limits m pair.event stop
+  pub is_at : IsAt c after run m
+
+-- what a turn comes to, by the end that is kept behind it
+abbrev pub TurnsTo : Setting → Terms → (words : ℕ → ℕ) → (drawn : ℕ) → (after : Core) → List Pair → Moment → Option RunEnd → Type 0
+TurnsTo c terms words drawn after run m None = ∥ TurnGoesOn c terms words drawn after run m ∥₁
+TurnsTo c terms words drawn after run m (Some (Finished finish)) = ∥ TurnGoesOn c terms words drawn after run m ∥₁
+TurnsTo c terms words drawn after run m (Some (Stopped (ArenaFull live asked))) =
+    ∥ TurnStops c terms words after run m (play.arena_full (pos live) asked) ∥₁
+TurnsTo c terms words drawn after run m (Some (Stopped (DequesFull deques))) =
+    ∥ TurnStops c terms words after run m (play.deques_full deques) ∥₁
+TurnsTo c terms words drawn after run m (Some (Stopped (StepsSpent limit))) =
+    ∥ TurnStops c terms words after run m (play.steps_spent limit) ∥₁
+TurnsTo c terms words drawn after run m (Some (Stopped OutOfMemory)) = IsAt c after run m
+
+-- One turn: so many words were drawn of the coming ones, and at each moment of a run at which the core may be it comes to this.
+pub record TakesTurn (words later : ℕ → ℕ) (before after : Core) : Type 0 where
+  pub drawn : ℕ
+  pub later_is : (i : ℕ) → later i ≡ words (drawn + i)
+  pub turns : (c : Setting) (run : List Pair) (m : Moment) → IsAt c before run m
+      → TurnsTo c (terms_at before) words drawn after run m (end_of after)
+
+-- the play from a moment of a run on, up to this ending, and the core at its last moment
+abbrev pub PlaysUpTo : Setting → Terms → (words : ℕ → ℕ) → (after : Core) → List Pair → Moment → play.Ending → Type 0
+PlaysUpTo c terms words after run m ending =
+    ∥ ((later : List Pair) × (last : Moment) × play.Plays (machine_of c terms) terms.limits words 0 m later last ending
+    × IsAt c after (run ++ later) last) ∥₁
+
+-- what a play comes to, by its end; where memory is wanting it comes to a moment of the machine
+abbrev pub PlaysTo : Setting → Terms → (words : ℕ → ℕ) → (after : Core) → List Pair → Moment → RunEnd → Type 0
+PlaysTo c terms words after run m (Finished finish) = PlaysUpTo c terms words after run m play.finished
+PlaysTo c terms words after run m (Stopped (ArenaFull live asked)) =
+    PlaysUpTo c terms words after run m (play.stopped (play.arena_full (pos live) asked))
+PlaysTo c terms words after run m (Stopped (DequesFull deques)) =
+    PlaysUpTo c terms words after run m (play.stopped (play.deques_full deques))
+PlaysTo c terms words after run m (Stopped (StepsSpent limit)) =
+    PlaysUpTo c terms words after run m (play.stopped (play.steps_spent limit))
+PlaysTo c terms words after run m (Stopped OutOfMemory) =
+    ∥ ((later : List Pair) × (last : Moment) × Reaches (machine_of c terms) m later last × IsAt c after (run ++ later) last) ∥₁

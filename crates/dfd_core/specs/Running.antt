@@ -1,0 +1,39 @@
+-- At which moment of a run of play a core is.
+use Rattle.std.specs.Prelude.{◌≡◌, ℕ, ◌≤◌, ◌⊎◌, Option, None, Some, List, [], length}
+use Rattle.dag_order.specs.declared.finish.Finish.{Finish}
+use Rattle.depth_first_run.specs.States.{Setting}
+use Rattle.lawful_books.specs.Books.{booked}
+use Rattle.deque_machine.specs.Moments.{Moment, opening}
+use Rattle.deque_machine.specs.Machine.{HasEnded}
+use Rattle.deque_machine.specs.Play.{NoneFree}
+use Rattle.deque_machine.specs.Runs.{Pair, Reaches}
+use Rattle.node_table.specs.Table.{Table}
+use Rattle.thread_steps.specs.Settings.{IsSettingOf}
+use Rattle.core_parts.specs.Held.{Held}
+use Rattle.core_parts.specs.Moments.{Terms, machine_of, StandsAt}
+use Rattle.dfd_core.specs.declared.run_end.RunEnd.{RunEnd}
+use Rattle.dfd_core.specs.declared.run_end.RunEnd.TheVariants.{Finished}
+use Rattle.dfd_core.specs.Ends.{finish_of_run}
+
+-- What is held stands at the moment to which a run of a program of this table leads, in which no give up is free and no more actions are
+-- done than may be. While no end is kept the root has not ended; a kept finish is that of the depth-first run, and the root has ended.
+pub record IsAtMoment (t : Table) (k : ℕ) (terms : Terms) (h : Held) (end : Option RunEnd) (c : Setting) (run : List Pair) (m : Moment)
+    : Type 0 where
+  pub setting : IsSettingOf t k c
+  pub stands : StandsAt c terms h run m
+  pub reaches : Reaches (machine_of c terms) opening run m
+  pub none_free : NoneFree (machine_of c terms) opening run m reaches
+  pub within : length (booked m.books) ≤ terms.limits.actions
+  pub going : end ≡ None → ¬ HasEnded (machine_of c terms) m []
+  pub finished : (finish : Finish) → end ≡ Some (Finished finish) → HasEnded (machine_of c terms) m [] × (finish ≡ finish_of_run c)
+
+-- whichever program it is that the table is of, it is so at the moment of some run
+abbrev pub IsSomewhere : Table → ℕ → Terms → Held → Option RunEnd → Type 0
+IsSomewhere t k terms h end =
+    (c : Setting) → IsSettingOf t k c → ∥ ((run : List Pair) × (m : Moment) × IsAtMoment t k terms h end c run m) ∥₁
+
+-- where the root has ended its finish is kept, and else nothing
+abbrev pub KeepsEnd : Setting → Terms → Option RunEnd → Moment → Type 0
+KeepsEnd c terms end m =
+    ((¬ HasEnded (machine_of c terms) m []) × (end ≡ None))
+    ⊎ (HasEnded (machine_of c terms) m [] × (end ≡ Some (Finished (finish_of_run c))))

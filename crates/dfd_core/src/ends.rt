@@ -1,0 +1,32 @@
+//! How a run ends with its root.
+
+ghost use Rattle.std.specs.Prelude.{◌≡◌};
+ghost use Rattle.dag_order.specs.Births.{root};
+ghost use Rattle.thread_map.specs.Kept.{kept_under};
+ghost use Rattle.dfd_core.specs.Ends.{end_of_root};
+ghost use Rattle.serial_journal.specs.Telling.{finish_of};
+
+use crate::run_end::RunEnd;
+use dag_order::{FaultAt, Finish, ThreadId};
+use thread_frames::Ended;
+use thread_map::ThreadMap;
+
+/// How a run with this first fault finishes.
+fn finish_with(fault: Option<FaultAt>) -> Finish
+    ensures { result ≡ finish_of fault }
+{
+    match fault {
+        None => Finish::Done,
+        Some(at) => Finish::Faulted(at),
+    }
+}
+
+/// The end that the result of the root tells; None exactly where it is not kept.
+pub(crate) fn end_told(results: &ThreadMap<Ended>) -> Option<RunEnd>
+    ensures { result ≡ end_of_root (kept_under results.now root) }
+{
+    match results.get(ThreadId::ROOT) {
+        None => None,
+        Some(ended) => Some(RunEnd::Finished(finish_with(ended.fault()))),
+    }
+}

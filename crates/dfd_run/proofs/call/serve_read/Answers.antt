@@ -1,0 +1,21 @@
+use Rattle.byte_streams.specs.Faults.{Rose}
+use Rattle.byte_streams.specs.Source.{IsRead}
+use Rattle.dfd_run.proofs.Answers.{read_of_kind, ends_at_fault, ends_more}
+use Rattle.dfd_run.specs.Answer.{BytesGive}
+use Rattle.dfd_run.specs.declared.status.Status.TheVariants.{ReadFault}
+use Rattle.dfd_run.proofs.call.serve_read.Goals as goal
+
+pub returns-in-Ok-clause-ends : goal.returns-in-Ok-clause-ends
+returns-in-Ok-clause-ends g c =
+    let command = c.args.command.now in
+    let left = g.S.Source.left c.args.source.now in
+    let left' = g.S.Source.left c.read_source.new.source in
+    let failed = Rose (g.S.Source.faults c.args.source.now) (g.S.Source.faults c.read_source.new.source) in
+    let read : IsRead left left' c.deref.result.now = rw c.deref.ensures.value c.in-Ok.ensures.read in
+    ends_more (BytesGive command c.deref.result.now) _ _ _ _
+    (λ status text gives. read_of_kind command failed left left' c.deref.result.now status text read gives) c.serve_bytes.ensures.ends
+
+pub returns-in-Err-clause-ends : goal.returns-in-Err-clause-ends
+returns-in-Err-clause-ends g c =
+    ends_at_fault _ _ _ ReadFault c.as_bytes.result.now
+    (rw c.in-Err-Fault.field-0-is at c.in-Err-Fault.ensures.cause, c.as_bytes.ensures.value) c.in-Err.ensures.front

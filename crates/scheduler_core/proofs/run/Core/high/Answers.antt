@@ -1,5 +1,0 @@
-use Rattle.scheduler_core.proofs.Marks.{high_at}
-use Rattle.scheduler_core.proofs.run.Core.high.Goals as goal
-
-pub returns : goal.returns
-returns c = λ s run m at. high_at _ _ _ _ c.args.self.now.end s run m at c.high.result c.high.ensures.high c.high.ensures.greatest (record { sfits = c.high.type_inv })
