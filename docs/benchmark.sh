@@ -3,8 +3,7 @@
 # prints and forks with as many as a source has room for. It runs each depth-first (`peak`) and by 1, 4 and 64 workers
 # (`play`), by the program and by the reference. It prints the nanoseconds an action of both, how many times as long the program
 # takes, and the most memory that the program had in use.
-# The time holds the start of the process and the reading of the source. Where GNU time is missing, no memory is told; where
-# the program cannot play a source yet, a dash stands.
+# The time holds the start of the process and the reading of the source. Where GNU time is missing, no memory is told.
 # A run on one's own program: docs/benchmark.sh FILE. Fewer sizes: MOST=100000 docs/benchmark.sh
 # The program is `./dfd`; that of another place: DFD=FILE docs/benchmark.sh
 set -u
@@ -66,20 +65,17 @@ is_report() { grep -q '^end ' "$work/out"; }
 
 # One line: a command of the program beside the same one of the reference. `peak` comes first, and tells the actions.
 compare() { # NAME SOURCE WORDS..
-    local name="$1" source="$2" of_reference of_product="-" ratio="-" used="-"
+    local name="$1" source="$2" of_reference of_product ratio used
     shift 2
     measure "$source" "$reference" "$@" --k 16 --steps 4000000
     is_report || { echo "benchmark: $name: $(head -n 1 "$work/out")" >&2; exit 1; }
     of_reference="$nanoseconds"
     [ "$1" = peak ] && actions="$(sed -n 's/^actions //p' "$work/out")"
     measure "$source" "$product" "$@" --k 16 --steps 4000000
-    # The program may have no limits for `play` yet.
-    is_report || measure "$source" "$product" "${@:1:3}" --k 16
-    if is_report; then
-        of_product=$((nanoseconds / actions))
-        ratio="$((nanoseconds / of_reference)).$((nanoseconds * 10 / of_reference % 10))"
-        used="$memory"
-    fi
+    is_report || { echo "benchmark: $name: $(head -n 1 "$work/out")" >&2; exit 1; }
+    of_product=$((nanoseconds / actions))
+    ratio="$((nanoseconds / of_reference)).$((nanoseconds * 10 / of_reference % 10))"
+    used="$memory"
     printf '%-10s %-12s %9d %8s %10d %7s %9s\n' \
         "$name" "${*:1:3}" "$actions" "$of_product" $((of_reference / actions)) "$ratio" "$used"
 }

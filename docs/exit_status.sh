@@ -42,10 +42,15 @@ run 'no words' 1 "$usage" "$small"
 run 'a word that is no command' 1 "$usage" "$small" run
 run 'a word that is not UTF-8' 1 "$usage" "$small" check $'\xff'
 run 'a cut text' 4 'syntax Expected at 11' 'fn main() {' check
-run 'a program that cannot be played' 4 'syntax NotYet at 0' 'fn main() { let x = 1; }' play
 run 'a broken rule' 5 'check UnknownName line 1 name b' 'fn main() { free b; }' check
 run 'a fault of the run' 6 -- 'fn main() { print 1 / 0; }' peak
+run 'a fault of a play' 6 -- 'fn main() { print 1 / 0; }' play
 run 'a spent limit' 7 'stop StepsSpent limit 1' 'fn main() { par { } and { } }' peak --steps 1
+run 'a spent limit of a play' 7 'stop StepsSpent limit 1' 'fn main() { par { } and { } }' play --steps 1
+run 'a full arena' 8 'stop ArenaFull live 0 asked 48' 'fn main() { alloc b = 40; free b; }' play --p 1 --arena 32
+run 'a made source' 0 'bytes 139' '' make 1
+run 'no groups' 1 "$usage" '' make 0
+run 'no further deque' 9 'stop DequesFull deques 2' 'fn main() { alloc b = 40; free b; }' play --k 16 --p 1 --deques 2
 
 # The standard input cannot be read.
 "$program" check <&- > "$work/out"

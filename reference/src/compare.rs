@@ -23,7 +23,6 @@ const MOST_DIFFERENCES: u64 = 10;
 const SHOWN_BYTES: usize = 400;
 /// One number in so many has a case of the machine too.
 const MACHINE_ONE_IN: u64 = 4;
-const NOT_YET: &str = "syntax NotYet at 0\n";
 
 /// The exit status: 0 where nothing differs, 1 where something does, 2 where the words are wrong.
 pub fn compare(words: &[String]) -> u8 {
@@ -203,27 +202,20 @@ fn verdict(words: &[String], source: &[u8], due: &Answer, got: &Answer) -> Verdi
     }
 }
 
-/// Whether the words or the program are such as the product does not run today: the commands `run` and `make`, `play` with
-/// options beyond the quota and the workers, and `play` of more than prints and forks.
+/// Whether the words are such as the product does not know today: the command `run`.
 fn is_not_yet(words: &[String], got: &Answer) -> bool {
-    let is_of_today = |word: &String| !word.starts_with("--") || word.starts_with("--k") || word.starts_with("--p");
     let is_unknown = got.status == 1 && got.text == USAGE;
-    match command_name(words) {
-        "play" => got.status == 4 && got.text == NOT_YET || is_unknown && !words.iter().all(is_of_today),
-        "run" | "make" => is_unknown,
-        _ => false,
-    }
+    command_name(words) == "run" && is_unknown
 }
 
-/// Answers are the same to the byte. But the report of `play` may end behind the finish; and of a run in threads the numbers
-/// behind the finish hang on the order of its events, and have to be within the bound.
+/// Answers are the same to the byte. But of a run in threads the numbers behind the finish hang on the order of its events, and
+/// have to be within the bound.
 fn agree(words: &[String], source: &[u8], due: &Answer, got: &Answer) -> bool {
     if due.status != got.status || due.text == got.text {
         return due.status == got.status;
     }
     let is_report = due.status == 0 || due.status == 6;
     match command_name(words) {
-        "play" => is_report && got.text == front(&due.text),
         "run" => is_report && front(&got.text) == front(&due.text) && is_within_bound(words, source, &got.text),
         _ => false,
     }
