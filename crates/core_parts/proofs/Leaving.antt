@@ -28,7 +28,7 @@ use Rattle.step_laws.proofs.Told.{others_add_none, wait_is_wanted, give_up_is_fo
 use Rattle.core_parts.specs.declared.event.Event.TheVariants.{Stole, Suspended, GaveUp}
 use Rattle.core_parts.specs.Held.{Held, parts_in, AreSame}
 use Rattle.core_parts.specs.Moments.{Terms, machine_of, StandsAt}
-use Rattle.core_parts.specs.Outcomes.{GoesOn, tells_wait, tells_give_up, tells_theft}
+use Rattle.core_parts.specs.Outcomes.{GoesOn, GivesDequeUp, tells_wait, tells_give_up, tells_theft}
 use Rattle.core_parts.proofs.Going.{lawful_at, idle_stands}
 
 -- labels stay where a period is closed, and where one begins
@@ -86,22 +86,32 @@ module _ (c : Setting) (terms : Terms) (quota : record_words ≤ c.quota) (h aft
   gives_up_free : (stop : play.Stop) → Meets s terms.limits m machine.gives_up stop → ⊥
   gives_up_free stop meets = elim meets [ ]
 
-  pub gave_up_goes_on : (word : ℕ) (next : Parts) → GivesUp (parts_in h) worker next → AreSame next (parts_in after) → IsIdle h after 0
-      → (o : Works (parts_in h) worker) (place : ℕ) (deed : Deed) → IsNextOf (list_of c) o.top place deed → c.quota < o.period.used + charge_at c.quota (list_of c) place
-      → (id : DequeId) → o.id ≡ id.0 → GoesOn c terms after worker word run m (GaveUp id)
-  gave_up_goes_on word next gives same idle o place deed is_next no_room id is =
+  pub gave_up : (next : Parts) → GivesUp (parts_in h) worker next → AreSame next (parts_in after) → IsIdle h after 0
+      → (o : Works (parts_in h) worker) (id : DequeId) → o.id ≡ id.0 → GivesDequeUp c terms after worker run m id
+  gave_up next gives same idle o id is =
       let comes : Comes s m worker machine.gives_up next = give_ups_are_events s some_quota (whole_is_depth_first c) m (parts_in h) worker next lawful at.shows gives in
       record {
-        event = machine.gives_up;
         next = comes.0;
-        wants = a_give_up (give_up_is_forced s some_quota (whole_is_depth_first c) m (parts_in h) worker place deed lawful at.shows o is_next no_room);
-        free = gives_up_free;
         may = comes.1;
         stands = idle_stands c terms quota h after run m at worker machine.gives_up refl 0 next same (give_up_keeps_results (parts_in h) worker next gives) comes.0 comes.1 comes.2
             ((others_add_none s m comes.0 worker).1 comes.1) idle.live idle.moves idle.done idle.begun
             (give_up_keeps_labels c.quota (list_of c) (parts_in h) worker next m.books at.shows.books gives);
         tells = tells_give_up (own s (whole_is_depth_first c) m lawful (parts_in h) at.shows worker o) id is;
       }
+
+  -- a give up that is forced is the event that the rules want
+  pub gave_up_goes_on : (word : ℕ) (o : Works (parts_in h) worker) (place : ℕ) (deed : Deed) → IsNextOf (list_of c) o.top place deed
+      → c.quota < o.period.used + charge_at c.quota (list_of c) place → (id : DequeId) → GivesDequeUp c terms after worker run m id
+      → GoesOn c terms after worker word run m (GaveUp id)
+  gave_up_goes_on word o place deed is_next no_room id gave = record {
+    event = machine.gives_up;
+    next = gave.next;
+    wants = a_give_up (give_up_is_forced s some_quota (whole_is_depth_first c) m (parts_in h) worker place deed lawful at.shows o is_next no_room);
+    free = gives_up_free;
+    may = gave.may;
+    stands = gave.stands;
+    tells = gave.tells;
+  }
 
   waits_free : (stop : play.Stop) → Meets s terms.limits m machine.suspends stop → ⊥
   waits_free stop meets = elim meets [ ]

@@ -1,5 +1,5 @@
 -- What a scheduler holds, and the parts of the machine's laws that it is.
-use Rattle.std.specs.Prelude.{◌≡◌, ◌≢◌, ℕ, List, [], ◌∷◌, ◌++◌, map, Some}
+use Rattle.std.specs.Prelude.{◌≡◌, ◌≢◌, ℕ, List, ◌∷◌, ◌++◌, map, Some}
 use Rattle.std.specs.List.Sorted.{IsPermutation}
 use Rattle.dag_order.specs.declared.thread_id.ThreadId.{ThreadId}
 use Rattle.deque_list.specs.declared.deque_id.DequeId.{DequeId}

@@ -42,6 +42,14 @@ pub record GoesOn (c : Setting) (terms : Terms) (after : Held) (worker word : �
   pub stands : StandsAt c terms after (run ++ record { worker = worker; event = event } ∷ []) next
   pub tells : Tells (list_of c) (periods_of after.table) m worker event told
 
+-- At the moment m of a run the worker gives up this deque, which it may at any time, and now all stands at the moment of the run with
+-- this event more.
+pub record GivesDequeUp (c : Setting) (terms : Terms) (after : Held) (worker : ℕ) (run : List Pair) (m : Moment) (id : DequeId) : Type 0 where
+  pub next : Moment
+  pub may : May (machine_of c terms) m worker machine.gives_up next
+  pub stands : StandsAt c terms after (run ++ record { worker = worker; event = machine.gives_up } ∷ []) next
+  pub tells : Tells (list_of c) (periods_of after.table) m worker machine.gives_up (GaveUp id)
+
 -- The event that they want meets this stop, and all stands where it stood.
 pub record Stops (c : Setting) (terms : Terms) (after : Held) (worker word : ℕ) (run : List Pair) (m : Moment) (stop : play.Stop)
     : Type 0 where

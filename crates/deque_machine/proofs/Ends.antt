@@ -43,6 +43,12 @@ busy_most (Some w) c = by_test (nat_lt 0 c)
     by_test true = omega arith
     by_test false = omega arith
 
+-- a busy period is open
+busy_within : (owner : Option ℕ) (c : ℕ) → busy_by owner c ≤ one_if_some owner
+unfolding busy_by one_if_some
+busy_within None c = omega arith
+busy_within (Some w) c = busy_most (Some w) c
+
 busy_some : (owner : Option ℕ) (w c : ℕ) → owner ≡ Some w → 0 < c → busy_by owner c ≡ 1
 unfolding busy_by
 busy_some owner w c is some = ap (λ o. busy_by o c) is ∙ ap (λ b. cond b 1 0) (lt-ltb 0 c some)
@@ -385,18 +391,28 @@ module _ (s : Setting) where
         let open_ones = few_open m lawful in
         omega (arith, rises, few, open_ones)
 
-module _ (s : Setting) (fork : record_words ≤ s.quota) (list : IsDepthFirst s.quota s.list) where
-  events_by_done : (run : List Pair) (m : Moment) (reaches : Reaches s opening run m) → NoneFree s opening run m reaches → length run ≤ 5 * length (booked m.books) + s.workers
-  unfolding opens busies acts
-  events_by_done run m reaches free =
-      let lawful : IsLawful s m = lawful_along s list run opening m (opening_is_lawful s list) reaches in
-      let rises = rises_along s fork list run opening m reaches (opening_is_lawful s list) free in
-      let few = few_wait s list m lawful in
-      let open_ones = few_open s m lawful in
-      omega (arith, rises, few, open_ones)
+module _ (s : Setting) where
+  -- so at most as many are busy as are open
+  few_busy : (books : List Book) → busies s books ≤ opens s books
+  unfolding busies opens is_busy is_open
+  few_busy [] = omega arith
+  few_busy (book ∷ books) =
+      let here = busy_within book.owner (charged s.quota s.list book.ran) in let rest = few_busy books in omega (arith, here, rest)
+
+  events_by_done : (fork : record_words ≤ s.quota) (list : IsDepthFirst s.quota s.list) (run : List Pair) (first last : Moment) (reaches : Reaches s first run last)
+      → IsLawful s first → NoneFree s first run last reaches → length run ≤ 5 * length (booked last.books) + 2 * s.workers
+  unfolding acts
+  events_by_done fork list run first last reaches lawful free =
+      let later : IsLawful s last = lawful_along s list run first last lawful reaches in
+      let rises = rises_along s fork list run first last reaches lawful free in
+      let few = few_wait s list last later in
+      let open_ones = few_open s last later in
+      let opened = few_open s first lawful in
+      let busy = few_busy first.books in
+      omega (arith, rises, few, open_ones, opened, busy)
 
 pub runs_are_short : (s : Setting) → 0 < s.quota → IsDepthFirst s.quota s.list → RunsAreShort s
-runs_are_short s some list fork run m reaches free = events_by_done s fork list run m reaches free
+runs_are_short s some list fork first last run reaches lawful free = events_by_done s fork list run first last reaches lawful free
 
 pub runs_end : (s : Setting) → 0 < s.quota → IsDepthFirst s.quota s.list → RunsEnd s
 runs_end s some list fork run m reaches free = events_at_most s fork list run m reaches free

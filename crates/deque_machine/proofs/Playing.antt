@@ -32,7 +32,7 @@ IsGiveUp suspends = ⊥
 IsGiveUp gives_up = Unit {0}
 
 -- a give up that the rules want is not free
-forced_of : (s : Setting) (m : Moment) (worker word : ℕ) (event : Event) → Wants s m worker word event → event ≡ gives_up → IsForced s m worker
+pub forced_of : (s : Setting) (m : Moment) (worker word : ℕ) (event : Event) → Wants s m worker word event → event ≡ gives_up → IsForced s m worker
 unfolding IsGiveUp
 forced_of s m worker word event (a_theft place id idle first named) is = absurd (subst IsGiveUp (sym is) tt)
 forced_of s m worker word event (a_give_up forced) is = forced
@@ -52,7 +52,7 @@ pub plays_are_runs : (s : Setting) → 0 < s.quota → IsDepthFirst s.quota s.li
 plays_are_runs s some list limits words run last ending plays = are_runs s limits words 0 opening run last ending plays
 
 -- one event more at the end of a run
-one_more_event : (s : Setting) (run : List Pair) (first m next : Moment) (pair : Pair) (reaches : Reaches s first run m) → NoneFree s first run m reaches
+pub one_more_event : (s : Setting) (run : List Pair) (first m next : Moment) (pair : Pair) (reaches : Reaches s first run m) → NoneFree s first run m reaches
     → May s m pair.worker pair.event next → (pair.event ≡ gives_up → IsForced s m pair.worker)
     → (longer : Reaches s first (run ++ pair ∷ []) next) × NoneFree s first (run ++ pair ∷ []) next longer
 one_more_event s [] first m next pair reaches free may forced =

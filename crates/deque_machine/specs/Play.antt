@@ -160,10 +160,11 @@ abbrev pub RunsEnd : Setting → Type 0
 RunsEnd s = record_words ≤ s.quota → (run : List Pair) (m : Moment) (reaches : Reaches s opening run m) →
     NoneFree s opening run m reaches → length run ≤ 3 * length s.list + s.workers
 
--- and at each moment it has had at most five events for each action that is done, and one for each worker
+-- and from a lawful moment on, however it was reached, such a run has at most five events for each action that is done at its end, and
+-- two for each worker
 abbrev pub RunsAreShort : Setting → Type 0
-RunsAreShort s = record_words ≤ s.quota → (run : List Pair) (m : Moment) (reaches : Reaches s opening run m) →
-    NoneFree s opening run m reaches → length run ≤ 5 * length (booked m.books) + s.workers
+RunsAreShort s = record_words ≤ s.quota → (first last : Moment) (run : List Pair) (reaches : Reaches s first run last) → IsLawful s first →
+    NoneFree s first run last reaches → length run ≤ 5 * length (booked last.books) + 2 * s.workers
 
 -- what an action takes never fills an arena with room for all that the list takes
 abbrev pub ArenaNeverFills : Setting → Type 0

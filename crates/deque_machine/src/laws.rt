@@ -53,7 +53,8 @@ pub fn runs_end()
     ensures { InEachSetting RunsEnd }
 {}
 
-/// At each moment such a run has had at most five events for each action that is done, and one for each worker.
+/// From a lawful moment on, however it was reached, such a run has at most five events for each action that is done at its end, and two
+/// for each worker.
 pub fn runs_are_short()
     ensures { InEachSetting RunsAreShort }
 {}

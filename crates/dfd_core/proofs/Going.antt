@@ -1,5 +1,5 @@
 -- How a core goes on by an event, or stays.
-use Rattle.std.proofs.Common.{◌≡◌, ℕ, ◌≤◌, List, [], ◌∷◌, ◌++◌, length, inl, inr, refl, sym, ap, subst, ◌∙◌, arith}
+use Rattle.std.proofs.Common.{◌≡◌, ℕ, ◌≤◌, List, [], ◌∷◌, ◌++◌, length, inl, inr, sym, ap, subst, ◌∙◌, arith}
 use Rattle.std.proofs.Math.Logic.{∥∥₁_elim, ∥∥₁_map, ∥∥₁_prop}
 use Rattle.std.specs.Prelude.{Option, None, Some, Result, Ok, Err, pos}
 use Rattle.std.proofs.lemmas.Bool.{cases_lt}
@@ -12,7 +12,7 @@ use Rattle.deque_machine.specs.Machine as machine
 use Rattle.deque_machine.specs.Machine.{Event, steals, does, suspends, gives_up, May, HasEnded}
 use Rattle.deque_machine.specs.Play as play
 use Rattle.deque_machine.specs.Play.{Limits, IsForced, NoneFree, Wants, a_theft, a_give_up, a_wait, an_action, Meets, no_words, no_steps}
-use Rattle.deque_machine.specs.Runs.{Pair, Reaches}
+use Rattle.deque_machine.specs.Runs.{Pair}
 use Rattle.node_table.specs.Table.{Table}
 use Rattle.step_laws.proofs.Told.{actions_are_added, others_add_none}
 use Rattle.thread_steps.specs.Settings.{IsSettingOf}
@@ -30,30 +30,6 @@ use Rattle.dfd_core.specs.Ends.{finish_of_run, end_of_root}
 use Rattle.dfd_core.specs.Running.{IsAtMoment, IsSomewhere, KeepsEnd}
 use Rattle.dfd_core.specs.Steps.{GoesOn, Stops, Comes, end_behind}
 use Rattle.dfd_core.proofs.Roots.{root_result, end_is_kept}
-
-IsGiveUp : Event → Type 0
-IsGiveUp (steals place id) = ⊥
-IsGiveUp (does place) = ⊥
-IsGiveUp suspends = ⊥
-IsGiveUp gives_up = Unit {0}
-
--- a give up that the rules want is not free
-forced_of : (s : machine.Setting) (m : Moment) (worker word : ℕ) (event : Event) → Wants s m worker word event → event ≡ gives_up → IsForced s m worker
-unfolding IsGiveUp
-forced_of s m worker word event (a_theft place id idle first named) is = absurd (subst IsGiveUp (sym is) tt)
-forced_of s m worker word event (a_give_up forced) is = forced
-forced_of s m worker word event (a_wait o place child at none) is = absurd (subst IsGiveUp (sym is) tt)
-forced_of s m worker word event (an_action o place next has fits) is = absurd (subst IsGiveUp (sym is) tt)
-
--- one event more at the end of a run
-one_more : (s : machine.Setting) (run : List Pair) (first m next : Moment) (pair : Pair) (reaches : Reaches s first run m) → NoneFree s first run m reaches
-    → May s m pair.worker pair.event next → (pair.event ≡ gives_up → IsForced s m pair.worker)
-    → (longer : Reaches s first (run ++ pair ∷ []) next) × NoneFree s first (run ++ pair ∷ []) next longer
-one_more s [] first m next pair reaches free may forced =
-    ((next, subst (λ x. May s x pair.worker pair.event next) (sym reaches) may, refl), (λ is. subst (λ x. IsForced s x pair.worker) (sym reaches) (forced is), tt))
-one_more s (done ∷ run) first m next pair reaches free may forced =
-    let rest = one_more s run reaches.0 m next pair reaches.2 free.1 may forced in
-    ((reaches.0, reaches.1, rest.0), (free.0, rest.1))
 
 -- no event makes more actions than may be done
 few_done : (s : machine.Setting) (limits : Limits) (m next : Moment) (worker : ℕ) (event : Event) → May s m worker event next
@@ -74,8 +50,6 @@ pub stays_at : (t : Table) (k : ℕ) (terms : Terms) (before after : Held) (c : 
 stays_at t k terms before after c run m stop at stands = record {
   setting = at.setting;
   stands = stands;
-  reaches = at.reaches;
-  none_free = at.none_free;
   within = at.within;
   going = λ none. absurd (none-some _ (sym none));
   finished = λ finish is. absurd (apart finish (same_Some _ _ is));
@@ -98,8 +72,6 @@ module _ (t : Table) (k : ℕ) (terms : Terms) (before after : Held) (sound : Is
   goes_on told g =
       let pair : Pair = record { worker = worker; event = g.event } in
       let ends = kept g.next (run ++ pair ∷ []) g.stands in
-      let more = one_more (machine_of c terms) run Rattle.deque_machine.specs.Moments.opening m g.next pair at.reaches at.none_free g.may
-      (forced_of (machine_of c terms) m worker word g.event g.wants) in
       record {
         event = g.event;
         next = g.next;
@@ -110,8 +82,6 @@ module _ (t : Table) (k : ℕ) (terms : Terms) (before after : Held) (sound : Is
         is_at = record {
           setting = at.setting;
           stands = g.stands;
-          reaches = more.0;
-          none_free = more.1;
           within = few_done (machine_of c terms) terms.limits m g.next worker g.event g.may g.free at.within;
           going = λ none. elim ends [ inl going ↦ going.0 | inr over ↦ absurd (none-some _ (sym none ∙ over.1)) ];
           finished = λ finish is. elim ends [
@@ -138,8 +108,6 @@ module _ (t : Table) (k : ℕ) (terms : Terms) (before after : Held) (sound : Is
   comes (Ok None) by = record {
     setting = at.setting;
     stands = by;
-    reaches = at.reaches;
-    none_free = at.none_free;
     within = at.within;
     going = at.going;
     finished = at.finished;

@@ -2,6 +2,8 @@ pub mod Told
 pub mod Seats
 pub mod Roots
 pub mod Going
+pub mod GivingUp
+pub mod Apart
 pub mod Turns
 pub mod Openings
 pub mod Marks

@@ -3,7 +3,6 @@ use Rattle.std.proofs.Common.{◌≡◌, ℕ, Fits, w32, zero, suc, ◌+◌, ◌
 use Rattle.std.proofs.Math.Logic.{∥∥₁_elim}
 use Rattle.std.proofs.lemmas.List.{map-append}
 use Rattle.std.proofs.lemmas.List.Recursion.{is_count_by}
-use Rattle.std.proofs.lemmas.Option.{none-some}
 use Rattle.std.specs.Prelude.{Option, None, Some, cond, slice_get, count_by}
 use Rattle.std.proofs.Common.{ℤ, SFits, pos, negsuc, ◌≤ℤ◌, to_z, of_z, w64}
 use Rattle.std.proofs.lemmas.Int.{to_z-of_z, ints}
@@ -24,9 +23,9 @@ use Rattle.core_parts.specs.Moves.{AreMovesOf}
 use Rattle.dfd_core.specs.declared.run_end.RunEnd.{RunEnd}
 use Rattle.dfd_core.specs.Running.{IsAtMoment, IsSomewhere}
 use Rattle.depth_first_list.specs.Actions.{Action}
-use Rattle.lawful_books.specs.Lists.{Among, Each, Differ, total}
+use Rattle.lawful_books.specs.Lists.{Among, Differ, total}
 use Rattle.lawful_books.specs.Books.{Book, periods_marked}
-use Rattle.lawful_books.proofs.Lists.{total_append, total_middle, each_among, each_from, among_middle, among_wider, among_here, differ_at, differ_without}
+use Rattle.lawful_books.proofs.Lists.{total_append, total_middle, each_among, among_middle, among_wider, differ_at, differ_without}
 use Rattle.deque_machine.specs.Moments.{Moment}
 use Rattle.space_ledger.specs.declared.book.Closed.{Closed}
 use Rattle.space_ledger.specs.Counts.{is_ahead}
@@ -35,7 +34,7 @@ use Rattle.period_books.specs.Periods.{Period, InOrder, closed_shown}
 use Rattle.period_books.specs.Telling.{AreBooks, Tell}
 use Rattle.period_table.specs.declared.seat.Seat.{Seat}
 use Rattle.period_table.specs.declared.table.PeriodTable.{PeriodTable}
-use Rattle.period_table.specs.Numbers.{open_periods, period_of_seat, NumbersDiffer}
+use Rattle.period_table.specs.Numbers.{open_periods, NumbersDiffer}
 use Rattle.period_table.specs.Tables.{periods_of, seat_in}
 use Rattle.period_table.proofs.Lists.{to_differ, among_of_place}
 use Rattle.dfd_core.specs.Marks.{ahead_in, one_if_ahead, open_ahead}

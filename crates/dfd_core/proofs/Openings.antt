@@ -59,8 +59,6 @@ module _ (t : Table) (k : ℕ) (terms : Terms) (h : Held) (x : Thread) (b : IsBe
     opening_is_at = record {
       setting = of;
       stands = stands;
-      reaches = refl;
-      none_free = tt;
       within = omega arith;
       going = λ none. none_ended;
       finished = λ finish is. absurd (none-some _ is);

@@ -3,45 +3,46 @@ use Rattle.std.proofs.Common.{◌≡◌, ℕ, ◌+◌, ◌*◌, ◌≤◌, List,
 use Rattle.std.proofs.Math.Logic.{∥∥₁_elim, ∥∥₁_map, ∥∥₁_prop}
 use Rattle.std.specs.Prelude.{None, Some, pos}
 use Rattle.dag_order.specs.declared.finish.Finish.{Finish}
-use Rattle.dummy_tree.specs.QuotaWords.{quota_words}
 use Rattle.depth_first_list.specs.Actions.{record_words}
 use Rattle.depth_first_run.specs.States.{Setting}
 use Rattle.depth_first_run.proofs.Built.{whole_is_depth_first}
 use Rattle.deque_machine.specs.Moments.{Moment}
 use Rattle.deque_machine.specs.Machine as machine
-use Rattle.deque_machine.specs.Machine.{May, HasEnded}
+use Rattle.deque_machine.specs.Machine.{HasEnded}
 use Rattle.deque_machine.specs.Play as play
-use Rattle.deque_machine.specs.Play.{IsFirst, CanMove, Wants, Turn, Plays, is_over, is_stopped, goes_on, words_drawn}
+use Rattle.deque_machine.specs.Play.{IsFirst, CanMove, NoneFree, Wants, Turn, Plays, is_over, is_stopped, goes_on, words_drawn}
 use Rattle.deque_machine.specs.Runs.{Pair, Reaches}
 use Rattle.deque_machine.proofs.Ends.{runs_are_short}
-use Rattle.node_table.specs.Codes.{code_shown}
-use Rattle.thread_steps.specs.Settings.{IsSettingOf}
+use Rattle.deque_machine.proofs.Playing.{forced_of, one_more_event}
 use Rattle.core_parts.specs.declared.stop.Stop.TheVariants.{ArenaFull, DequesFull, StepsSpent, OutOfMemory}
 use Rattle.core_parts.specs.Moments.{Terms, machine_of}
+use Rattle.core_parts.proofs.Going.{lawful_at}
 use Rattle.dfd_core.specs.declared.run.Core.{Core}
 use Rattle.dfd_core.specs.declared.run_end.RunEnd.{RunEnd}
 use Rattle.dfd_core.specs.declared.run_end.RunEnd.TheVariants.{Finished, Stopped}
 use Rattle.dfd_core.specs.Cores.{IsAt, SameSetting, end_of, terms_at, workers_of}
 use Rattle.dfd_core.specs.Plays.{TurnGoesOn, TurnStops, TurnsTo, TakesTurn, PlaysTo}
 
--- The core has come from the moment m of a run to a later one, with so many words, and what is played from there is played from m.
-pub record Along (c : Setting) (terms : Terms) (words : ℕ → ℕ) (drawn : ℕ) (now : Core) (run : List Pair) (m : Moment) : Type 0 where
+-- The core has come from the moment m of a run to a later one, with so many words and at least so many events, of which no give up is
+-- free, and what is played from there is played from m.
+pub record Along (c : Setting) (terms : Terms) (words : ℕ → ℕ) (drawn events : ℕ) (now : Core) (run : List Pair) (m : Moment) : Type 0 where
   pub later : List Pair
   pub last : Moment
   pub reaches : Reaches (machine_of c terms) m later last
+  pub none_free : NoneFree (machine_of c terms) m later last reaches
+  pub many : events ≤ length later
   pub extends : (rest : List Pair) (end : Moment) (ending : play.Ending) → Plays (machine_of c terms) terms.limits words drawn last rest end ending
       → Plays (machine_of c terms) terms.limits words 0 m (later ++ rest) end ending
   pub is_at : IsAt c now (run ++ later) last
 
--- No end is kept. Of the words so many were drawn, and the coming ones are those behind. A run to the core's moment has at least so many events.
+-- No end is kept. Of the words so many were drawn, and the coming ones are those behind. Since the start there were at least so many
+-- events.
 pub record IsUnderWay (words coming : ℕ → ℕ) (start now : Core) (events : ℕ) : Type 0 where
   pub going : end_of now ≡ None
   pub drawn : ℕ
   pub coming_is : (i : ℕ) → coming i ≡ words (drawn + i)
   pub setting : SameSetting start now
-  pub along : (c : Setting) (run : List Pair) (m : Moment) → IsAt c start run m → ∥ Along c (terms_at start) words drawn now run m ∥₁
-  pub many : (c : Setting) → IsSettingOf (code_shown now.code) (quota_words now.k) c
-      → ∥ ((run : List Pair) × (m : Moment) × IsAt c now run m × (events ≤ length run)) ∥₁
+  pub along : (c : Setting) (run : List Pair) (m : Moment) → IsAt c start run m → ∥ Along c (terms_at start) words drawn events now run m ∥₁
 
 pub begins : (words : ℕ → ℕ) (start : Core) → end_of start ≡ None → IsUnderWay words words start start 0
 begins words start none = record {
@@ -53,16 +54,12 @@ begins words start none = record {
     later = [];
     last = m;
     reaches = refl;
+    none_free = tt;
+    many = omega arith;
     extends = λ rest end ending plays. plays;
     is_at = subst (λ r. IsAt c start r m) (sym (append-nil run)) at;
   } ∣₁;
-  many = λ c of. ∥∥₁_map (start.somewhere c of) (λ w. (w.0, w.1, w.2, omega arith));
 }
-
-reach_more : (s : machine.Setting) (later : List Pair) (first last next : Moment) (pair : Pair) → Reaches s first later last
-    → May s last pair.worker pair.event next → Reaches s first (later ++ pair ∷ []) next
-reach_more s [] first last next pair reaches may = (next, subst (λ x. May s x pair.worker pair.event next) (sym reaches) may, refl)
-reach_more s (done ∷ later) first last next pair reaches may = (reaches.0, reaches.1, reach_more s later reaches.0 last next pair reaches.2 may)
 
 -- a turn by the coming words is one behind the words that were drawn
 turn_behind : (s : machine.Setting) (words coming : ℕ → ℕ) (drawn : ℕ) → ((i : ℕ) → coming i ≡ words (drawn + i)) → (m : Moment) (pair : Pair)
@@ -73,14 +70,22 @@ turn_behind s words coming drawn is m pair turn = record {
   wants = subst (λ w. Wants s m pair.worker w pair.event) (is 1 ∙ ap words (omega arith)) turn.wants;
 }
 
-module _ (c : Setting) (terms : Terms) (words coming : ℕ → ℕ) (drawn more : ℕ) (coming_is : (i : ℕ) → coming i ≡ words (drawn + i)) (now after : Core)
-    (run : List Pair) (m : Moment) (a : Along c terms words drawn now run m) where
+module _ (c : Setting) (terms : Terms) (words coming : ℕ → ℕ) (drawn more events : ℕ) (coming_is : (i : ℕ) → coming i ≡ words (drawn + i)) (now after : Core)
+    (run : List Pair) (m : Moment) (a : Along c terms words drawn events now run m) where
+  -- one event more
+  longer : (g : TurnGoesOn c terms coming more after (run ++ a.later) a.last)
+      → (reaches : Reaches (machine_of c terms) m (a.later ++ g.pair ∷ []) g.next) × NoneFree (machine_of c terms) m (a.later ++ g.pair ∷ []) g.next reaches
+  longer g = one_more_event (machine_of c terms) a.later m a.last g.next g.pair a.reaches a.none_free g.may
+      (forced_of (machine_of c terms) a.last g.pair.worker (coming 1) g.pair.event g.turn.wants)
+
   -- one turn further
-  further : TurnGoesOn c terms coming more after (run ++ a.later) a.last → Along c terms words (drawn + more) after run m
+  further : TurnGoesOn c terms coming more after (run ++ a.later) a.last → Along c terms words (drawn + more) (events + 1) after run m
   further g = record {
     later = a.later ++ g.pair ∷ [];
     last = g.next;
-    reaches = reach_more (machine_of c terms) a.later m a.last g.next g.pair a.reaches g.may;
+    reaches = (longer g).0;
+    none_free = (longer g).1;
+    many = let size = length-append a.later (g.pair ∷ []) in let had = a.many in omega (arith, size, had);
     extends = λ rest end ending plays. subst (λ r. Plays (machine_of c terms) terms.limits words 0 m r end ending) (sym (append_assoc a.later (g.pair ∷ []) rest))
         (a.extends (g.pair ∷ rest) end ending (goes_on drawn a.last g.next end g.pair rest ending
         (turn_behind (machine_of c terms) words coming drawn coming_is a.last g.pair g.turn) g.free g.may
@@ -145,31 +150,27 @@ module _ (words coming later : ℕ → ℕ) (start now after : Core) (events : �
     setting = same_setting start now after u.setting setting;
     along = λ c run m at. ∥∥₁_elim (u.along c run m at) ∥∥₁_prop (λ a.
         ∥∥₁_map (subst (TurnsTo c (terms_at start) coming turn.drawn after (run ++ a.later) a.last) none (turns_from c (run ++ a.later) a.last a.is_at))
-        (further c (terms_at start) words coming u.drawn turn.drawn u.coming_is now after run m a));
-    many = λ c of. ∥∥₁_elim (u.many c (subst (λ k. IsSettingOf (code_shown now.code) (quota_words k) c) setting.1
-        (subst (λ t. IsSettingOf (code_shown t) (quota_words after.k) c) setting.0 of))) ∥∥₁_prop (λ w.
-        ∥∥₁_map (subst (TurnsTo c (terms_at start) coming turn.drawn after w.0 w.1) none (turns_from c w.0 w.1 w.2))
-        (λ g. let size = length-append w.0 (g.pair ∷ []) in let many = w.3 in (w.0 ++ g.pair ∷ [], g.next, g.is_at, omega (arith, size, many))));
+        (further c (terms_at start) words coming u.drawn turn.drawn events u.coming_is now after run m a));
   }
 
   pub ends_by : (end : RunEnd) → end_of after ≡ Some end → (c : Setting) (run : List Pair) (m : Moment) → IsAt c start run m
       → PlaysTo c (terms_at start) words after run m end
   ends_by end is c run m at = ∥∥₁_elim (u.along c run m at) (plays_to_prop c (terms_at start) words after run m end) (λ a.
-      plays_to c (terms_at start) words coming u.drawn turn.drawn u.coming_is now after run m a (setting.2 ∙ u.setting.2) end is
+      plays_to c (terms_at start) words coming u.drawn turn.drawn events u.coming_is now after run m a (setting.2 ∙ u.setting.2) end is
       (subst (TurnsTo c (terms_at start) coming turn.drawn after (run ++ a.later) a.last) is (turns_from c (run ++ a.later) a.last a.is_at)))
 
   pub setting_by : SameSetting start after
   setting_by = same_setting start now after u.setting setting
 
--- no run of play has so many events
+-- no play has so many events
 pub too_many : (words coming : ℕ → ℕ) (start now : Core) (events : ℕ) → IsUnderWay words coming start now events
-    → 5 * (terms_at start).limits.actions + workers_of start + 1 ≤ events → ⊥
-too_many words coming start now events u many = ∥∥₁_elim now.sound.of_program (λ x y. absurd x) (λ p.
-    ∥∥₁_elim (u.many p.0 p.1) (λ x y. absurd x) (λ w.
-    let covers = now.sound.quota in let same = p.1.quota in
+    → 5 * (terms_at start).limits.actions + 2 * workers_of start + 1 ≤ events → ⊥
+too_many words coming start now events u many = ∥∥₁_elim start.sound.of_program (λ x y. absurd x) (λ p.
+    ∥∥₁_elim (start.somewhere p.0 p.1) (λ x y. absurd x) (λ w. ∥∥₁_elim (u.along p.0 w.0 w.1 w.2) (λ x y. absurd x) (λ a.
+    let covers = start.sound.quota in let same = p.1.quota in
     let fork : record_words ≤ p.0.quota = omega (arith, covers, same) in
-    let short = runs_are_short (machine_of p.0 (terms_at now)) (omega (arith, fork)) (whole_is_depth_first p.0) fork w.0 w.1 w.2.reaches w.2.none_free in
-    let within = w.2.within in let size = w.3 in
+    let short = runs_are_short (machine_of p.0 (terms_at start)) (omega (arith, fork)) (whole_is_depth_first p.0) fork w.1 a.last a.later a.reaches
+    (lawful_at p.0 (terms_at start) fork w.0 w.1 w.2.stands.reaches) a.none_free in
+    let within = a.is_at.within in let size = a.many in
     let actions = ap (λ (x : Terms). x.limits.actions) u.setting.2 in
-    let workers = ap (λ (x : Terms). x.workers) u.setting.2 in
-    absurd (omega (arith, short, within, size, actions, workers, many))))
+    absurd (omega (arith, short, within, size, actions, many)))))

@@ -2,6 +2,7 @@
 use Rattle.std.specs.Prelude.{◌≡◌, ℕ, Bool, cond, Option, Some, List, length, Result}
 use Rattle.dag_order.specs.declared.finish.Finish.{Finish}
 use Rattle.depth_first_run.specs.States.{Setting}
+use Rattle.deque_list.specs.declared.deque_id.DequeId.{DequeId}
 use Rattle.deque_machine.specs.Moments.{Moment}
 use Rattle.deque_machine.specs.Runs.{Pair}
 use Rattle.dummy_tree.specs.QuotaWords.{quota_words}
@@ -18,6 +19,7 @@ use Rattle.dfd_core.specs.declared.run_end.RunEnd.TheVariants.{Finished}
 use Rattle.dfd_core.specs.declared.run_end.Stepped.{Stepped}
 use Rattle.dfd_core.specs.Running.{IsAtMoment}
 use Rattle.dfd_core.specs.Steps.{Comes, IsTold}
+use Rattle.dfd_core.specs.GiveUps as give_ups
 
 -- how its run ended, if it has
 abbrev pub end_of : Core → Option RunEnd
@@ -43,6 +45,11 @@ abbrev pub Steps : Setting → (after : Core) → (worker word : ℕ) → List P
 Steps c after worker word run m stepped =
     (result : Result (Option Event) Stop) × IsTold stepped result
     × Comes (code_shown after.code) (quota_words after.k) (terms_at after) (held after.scheduler) after.end c worker word run m result
+
+-- what a give up has made of it, that was begun at a moment of a run
+abbrev pub GivesUp : {E : Type 0} → Setting → (after : Core) → (worker : ℕ) → List Pair → Moment → Result DequeId E → Type 0
+GivesUp c after worker run m result =
+    give_ups.GivesUp (code_shown after.code) (quota_words after.k) (terms_at after) (held after.scheduler) after.end c worker run m result
 
 -- a run by the same terms
 abbrev pub SameSetting : Core → Core → Type 0

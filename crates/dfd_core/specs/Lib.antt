@@ -3,6 +3,8 @@ pub mod Ends
 pub mod Marks
 pub mod Running
 pub mod Steps
+pub mod GiveUps
 pub mod Cores
 pub mod ListChoices
 pub mod Plays
+pub mod Parts

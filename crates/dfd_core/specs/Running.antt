@@ -3,10 +3,9 @@ use Rattle.std.specs.Prelude.{◌≡◌, ℕ, ◌≤◌, ◌⊎◌, Option, None
 use Rattle.dag_order.specs.declared.finish.Finish.{Finish}
 use Rattle.depth_first_run.specs.States.{Setting}
 use Rattle.lawful_books.specs.Books.{booked}
-use Rattle.deque_machine.specs.Moments.{Moment, opening}
+use Rattle.deque_machine.specs.Moments.{Moment}
 use Rattle.deque_machine.specs.Machine.{HasEnded}
-use Rattle.deque_machine.specs.Play.{NoneFree}
-use Rattle.deque_machine.specs.Runs.{Pair, Reaches}
+use Rattle.deque_machine.specs.Runs.{Pair}
 use Rattle.node_table.specs.Table.{Table}
 use Rattle.thread_steps.specs.Settings.{IsSettingOf}
 use Rattle.core_parts.specs.Held.{Held}
@@ -21,8 +20,6 @@ pub record IsAtMoment (t : Table) (k : ℕ) (terms : Terms) (h : Held) (end : Op
     : Type 0 where
   pub setting : IsSettingOf t k c
   pub stands : StandsAt c terms h run m
-  pub reaches : Reaches (machine_of c terms) opening run m
-  pub none_free : NoneFree (machine_of c terms) opening run m reaches
   pub within : length (booked m.books) ≤ terms.limits.actions
   pub going : end ≡ None → ¬ HasEnded (machine_of c terms) m []
   pub finished : (finish : Finish) → end ≡ Some (Finished finish) → HasEnded (machine_of c terms) m [] × (finish ≡ finish_of_run c)

@@ -1,12 +1,14 @@
 //! How a run ends with its root.
 
-ghost use Rattle.std.specs.Prelude.{◌≡◌};
+ghost use Rattle.std.specs.Prelude.{◌≡◌, Some};
 ghost use Rattle.dag_order.specs.Births.{root};
 ghost use Rattle.thread_map.specs.Kept.{kept_under};
 ghost use Rattle.dfd_core.specs.Ends.{end_of_root};
+ghost use Rattle.dfd_core.specs.GiveUps.{end_without_memory};
 ghost use Rattle.serial_journal.specs.Telling.{finish_of};
 
 use crate::run_end::RunEnd;
+use core_parts::Stop;
 use dag_order::{FaultAt, Finish, ThreadId};
 use thread_frames::Ended;
 use thread_map::ThreadMap;
@@ -28,5 +30,15 @@ pub(crate) fn end_told(results: &ThreadMap<Ended>) -> Option<RunEnd>
     match results.get(ThreadId::ROOT) {
         None => None,
         Some(ended) => Some(RunEnd::Finished(finish_with(ended.fault()))),
+    }
+}
+
+/// The end of a run that found no memory: a kept end is never replaced.
+pub(crate) fn end_without_memory(kept: Option<RunEnd>) -> RunEnd
+    ensures { Some result ≡ end_without_memory kept }
+{
+    match kept {
+        Some(end) => end,
+        None => RunEnd::Stopped(Stop::OutOfMemory),
     }
 }

@@ -15,11 +15,13 @@ mod begun;
 mod choices;
 mod ends;
 mod events;
+mod parts;
 mod player;
 mod run;
 mod run_end;
 
 pub use choices::{Choices, ListChoices};
+pub use parts::{CoreEnd, CoreParts};
 pub use player::play;
 pub use run::Core;
 pub use run_end::{OutputFail, RunEnd, Stepped};

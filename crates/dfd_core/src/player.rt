@@ -23,11 +23,11 @@ fn turn<C: Choices>(core: &mut Core, choices: &mut C)
     }
 }
 
-/// More turns than a run of play can have.
+/// More turns than a play can have, from whatever moment on.
 fn most_turns(core: &Core) -> u64
-    ensures { result ≡ 5 * (terms_at core.now).limits.actions + workers_of core.now + 1 }
+    ensures { result ≡ 5 * (terms_at core.now).limits.actions + 2 * workers_of core.now + 1 }
 {
-    5 * u64::from(core.limit()) + u64::from(core.workers()) + 1
+    5 * u64::from(core.limit()) + 2 * u64::from(core.workers()) + 1
 }
 
 /// Lets the workers run to the end, in the order that the words pick. A run that has ended stays as it is.

@@ -4,13 +4,14 @@ ghost use Rattle.bounded_list.specs.BoundedList.{entries};
 ghost use Rattle.dag_order.specs.declared.finish.Finish.{Finish as AnyFinish};
 ghost use Rattle.depth_first_run.specs.States.{Setting, State};
 ghost use Rattle.depth_first_run.specs.Run.{whole, lines_of};
+ghost use Rattle.deque_list.specs.declared.deque_id.DequeId.{DequeId as AnyDequeId};
 ghost use Rattle.deque_machine.specs.Moments.{Moment, opening, live_at};
 ghost use Rattle.lawful_books.specs.Books.{booked, periods_marked};
 ghost use Rattle.deque_machine.specs.Play as play;
 ghost use Rattle.deque_machine.specs.Runs.{Pair, high_water_mark};
 ghost use Rattle.dummy_tree.specs.QuotaWords.{quota_words};
 ghost use Rattle.node_table.specs.Codes.{code_shown};
-ghost use Rattle.period_table.specs.Tables.{seat_at};
+ghost use Rattle.period_table.specs.Tables.{deque_at, seat_at};
 ghost use Rattle.thread_points.specs.Points.{list_of};
 ghost use Rattle.thread_steps.specs.Settings.{IsSettingOf};
 ghost use Rattle.core_parts.specs.Held.{held};
@@ -18,21 +19,23 @@ ghost use Rattle.core_parts.specs.Moments.{IsSound, CanGoOn, terms_of, machine_o
 ghost use Rattle.dfd_core.specs.declared.run_end.OutputFail.TheVariants as fails;
 ghost use Rattle.dfd_core.specs.declared.run_end.Stepped.TheVariants as steps;
 ghost use Rattle.dfd_core.specs.Begun.{given_terms};
+ghost use Rattle.dfd_core.specs.GiveUps.{end_behind_give_up};
 ghost use Rattle.dfd_core.specs.Marks.{ahead_in, open_ahead};
 ghost use Rattle.dfd_core.specs.Running.{IsSomewhere};
 ghost use Rattle.dfd_core.specs.Steps.{IsTold};
 
 use crate::begun::scheduler_of;
-use crate::ends::end_told;
+use crate::ends::{end_told, end_without_memory};
 use crate::events::event_of;
 use crate::run_end::{OutputFail, RunEnd, Stepped};
 use block_arena::Pool;
 use core_parts::{Event, Scheduler};
 use dag_order::{Lines, ThreadId};
-use deque_list::List;
+use deque_list::{DequeId, List};
 use dummy_tree::Quota;
 use language_limits::{MOST_ACTIONS, MOST_DEQUES, MOST_WORKERS};
 use node_table::Code;
+use owner_steps::give_up_deque;
 use period_table::{PeriodTable, Seat};
 use quota_period::Period;
 use space_ledger::{Books, Moves};
@@ -106,7 +109,7 @@ fn open_ahead(table: &PeriodTable) -> u32
 }
 
 impl Core {
-    ghost use Rattle.dfd_core.specs.Cores.{IsAt, Steps, SameSetting, HasFinished};
+    ghost use Rattle.dfd_core.specs.Cores.{IsAt, Steps, GivesUp, SameSetting, HasFinished};
     ghost use Rattle.dfd_core.specs.Cores.{end_of, terms_at, workers_of, period_of, words_of_turn};
 
     /// The run of a program by so many workers, at its start: one deque without an owner holds the root, and all workers are idle.
@@ -180,6 +183,27 @@ impl Core {
                 let end = RunEnd::Stopped(stop);
                 self.end = Some(end);
                 Stepped::Over(end)
+            }
+        }
+    }
+
+    /// Lets the owner of a deque give it up, which it may at any time, also where the run has ended.
+    ///
+    /// # Errors
+    ///
+    /// There is not enough memory. The run stays where it is, and has ended so, unless it had ended before.
+    pub fn give_up(&mut self, worker: u32) -> Result<DequeId, AllocError>
+        requires { (id : AnyDequeId) × (deque_at self.old.scheduler.table worker ≡ Some id) }
+        ensures gives { (c : Setting) (run : AnyList Pair) (m : Moment) → IsAt c self.old run m → GivesUp c self.new worker run m result }
+        ensures deque { IfOk result (λ id. deque_at self.old.scheduler.table worker ≡ Some id) }
+        ensures end { end_of self.new ≡ end_behind_give_up result (end_of self.old) }
+        ensures setting { SameSetting self.old self.new }
+    {
+        match give_up_deque(&mut self.scheduler, worker as usize) {
+            Ok(deque) => Ok(deque),
+            Err(error) => {
+                self.end = Some(end_without_memory(self.end));
+                Err(error)
             }
         }
     }

@@ -41,9 +41,9 @@ use Rattle.core_parts.specs.declared.stop.Stop.{Stop}
 use Rattle.core_parts.specs.declared.stop.Stop.TheVariants.{ArenaFull, DequesFull, StepsSpent, OutOfMemory}
 use Rattle.core_parts.specs.Held.{Held, held, held_under, parts_in, OwnsNone, IsInOrder, AreAtPoints, AreResults}
 use Rattle.core_parts.specs.Moments.{Terms, terms_of, SameTerms, machine_of, StandsAt, IsSound, CanGoOn}
-use Rattle.core_parts.specs.Outcomes.{GoesOn, StepsTo}
+use Rattle.core_parts.specs.Outcomes.{GoesOn, GivesDequeUp, StepsTo}
 use Rattle.core_parts.proofs.Going.{made, acted_goes_on, lawful_at, sum_is}
-use Rattle.core_parts.proofs.Leaving.{gave_up_goes_on}
+use Rattle.core_parts.proofs.Leaving.{gave_up, gave_up_goes_on}
 use Rattle.core_parts.proofs.Still.{reordered_stands}
 use Rattle.core_parts.proofs.Bounds.{join_within, release_within, end_within}
 use Rattle.core_parts.proofs.AtTop.{words_within, not_kept, named, next_at_top, owns_none, its_period, period_there, used_within}
@@ -76,13 +76,32 @@ quota_is t k c of enough = subst (λ n. record_words ≤ n) (sym of.quota) enoug
 
 -- what all stands on stays
 module _ (t : Table) (k limit : ℕ) (s : Scheduler) {worker : ℕ} {id : DequeId} {items : List Thread} (stands : Stands s.list worker id items) (top : Thread)
-    (sound : IsSound t k (terms_of s limit) (held_under s stands top)) (points : CanGoOn t k (held_under s stands top)) where
+    (sound : IsSound t k (terms_of s limit) (held_under s stands top)) where
   -- none of the other deques is the worker's
   order_after : (after : Held) → (OwnsNone worker stands.left stands.right → IsInOrder (held_under s stands top) → ∥ IsInOrder after ∥₁) → ∥ IsInOrder after ∥₁
   order_after after f = ∥∥₁_elim sound.of_program ∥∥₁_prop (λ p. ∥∥₁_elim (sound.somewhere p.0 p.1) ∥∥₁_prop (λ a.
       ∥∥₁_elim sound.in_order ∥∥₁_prop (λ o. f (owns_none s stands top p.0 (terms_of s limit) (quota_is t k p.0 p.1 sound.quota) a.0 a.1 a.2) o)))
 
-  module _ (after : Scheduler) (terms : SameTerms s after) where
+  -- all is sound that stands at the moment of some run
+  sound_after : (after : Scheduler) → SameTerms s after
+      → (OwnsNone worker stands.left stands.right → IsInOrder (held_under s stands top) → ∥ IsInOrder (held after) ∥₁) → ∥ AreResults t k (held after) ∥₁
+      → ((c : Setting) → IsSettingOf t k c → (run : List Pair) (m : Moment) → StandsAt c (terms_of s limit) (held_under s stands top) run m
+      → ∥ ((later : List Pair) × (next : Moment) × StandsAt c (terms_of s limit) (held after) later next) ∥₁)
+      → IsSound t k (terms_of after limit) (held after)
+  sound_after after terms in_order results goes =
+      let somewhere : (c : Setting) → IsSettingOf t k c → ∥ ((run : List Pair) × (m : Moment) × StandsAt c (terms_of s limit) (held after) run m) ∥₁ =
+      λ c of. ∥∥₁_elim (sound.somewhere c of) ∥∥₁_prop (λ a. goes c of a.0 a.1 a.2) in
+      subst (λ x. IsSound t k x (held after)) (sym (terms limit)) (record {
+        of_program = sound.of_program;
+        quota = sound.quota;
+        in_order = order_after (held after) in_order;
+        sum = ∥∥₁_elim sound.of_program (search props) (λ p. ∥∥₁_elim (somewhere p.0 p.1) (search props) (λ a.
+            sum_is p.0 (terms_of s limit) (quota_is t k p.0 p.1 sound.quota) (held after) a.0 a.1 a.2));
+        results = results;
+        somewhere = somewhere;
+      })
+
+  module _ (points : CanGoOn t k (held_under s stands top)) (after : Scheduler) (terms : SameTerms s after) where
     at_before : (c : Setting) (run : List Pair) (m : Moment) → StandsAt c (terms_of after limit) (held_under s stands top) run m → StandsAt c (terms_of s limit) (held_under s stands top) run m
     at_before c run m at = subst (λ x. StandsAt c x (held_under s stands top) run m) (terms limit) at
 
@@ -93,27 +112,13 @@ module _ (t : Table) (k limit : ℕ) (s : Scheduler) {worker : ℕ} {id : DequeI
         → ((c : Setting) → IsSettingOf t k c → (run : List Pair) (m : Moment) (word : ℕ) → StandsAt c (terms_of s limit) (held_under s stands top) run m
         → ∥ GoesOn c (terms_of s limit) (held after) worker word run m told ∥₁)
         → Comes t k limit worker (held_under s stands top) s after (Ok told)
-    comes_in told in_order at_points results goes =
-        let goes_after : (c : Setting) → IsSettingOf t k c → (run : List Pair) (m : Moment) (word : ℕ) → StandsAt c (terms_of after limit) (held_under s stands top) run m
-        → ∥ GoesOn c (terms_of after limit) (held after) worker word run m told ∥₁ =
-        λ c of run m word at. subst (λ x. ∥ GoesOn c x (held after) worker word run m told ∥₁) (sym (terms limit)) (goes c of run m word (at_before c run m at)) in
-        let somewhere : (c : Setting) → IsSettingOf t k c → ∥ ((run : List Pair) × (m : Moment) × StandsAt c (terms_of after limit) (held after) run m) ∥₁ =
-        λ c of. ∥∥₁_elim (sound.somewhere c of) ∥∥₁_prop (λ a. ∥∥₁_map
-        (goes_after c of a.0 a.1 0 (subst (λ x. StandsAt c x (held_under s stands top) a.0 a.1) (sym (terms limit)) a.2)) (λ g. (_, g.next, g.stands))) in
-        record {
-          sound = record {
-            of_program = sound.of_program;
-            quota = sound.quota;
-            in_order = order_after (held after) in_order;
-            sum = ∥∥₁_elim sound.of_program (search props) (λ p. ∥∥₁_elim (somewhere p.0 p.1) (search props) (λ a.
-                sum_is p.0 (terms_of after limit) (quota_is t k p.0 p.1 sound.quota) (held after) a.0 a.1 a.2));
-            results = ∥∥₁_elim points ∥∥₁_prop (λ p. ∥∥₁_map sound.results (λ r. results p r));
-            somewhere = somewhere;
-          };
-          points = ∥∥₁_map points at_points;
-          steps = λ c of run m word at. goes_after c of run m word at;
-          terms = terms;
-        }
+    comes_in told in_order at_points results goes = record {
+      sound = sound_after after terms in_order (∥∥₁_elim points ∥∥₁_prop (λ p. ∥∥₁_map sound.results (λ r. results p r)))
+          (λ c of run m at. ∥∥₁_map (goes c of run m 0 at) (λ g. (_, g.next, g.stands)));
+      points = ∥∥₁_map points at_points;
+      steps = λ c of run m word at. subst (λ x. ∥ GoesOn c x (held after) worker word run m told ∥₁) (sym (terms limit)) (goes c of run m word (at_before c run m at));
+      terms = terms;
+    }
 
     pub comes_by : (told : Event) → (OwnsNone worker stands.left stands.right → IsInOrder (held_under s stands top) → IsInOrder (held after))
         → (AreAtPoints t k (held_under s stands top) → AreAtPoints t k (held after))
@@ -135,6 +140,33 @@ module _ (t : Table) (k limit : ℕ) (s : Scheduler) {worker : ℕ} {id : DequeI
           (subst (λ x. StepsTo c x (held_under s stands top) worker word run m (Err stop)) (sym (terms limit)) (stopped c of run m word (at_before c run m at)));
       terms = terms;
     }
+
+-- ---- the deque was given up
+
+module _ (t : Table) (k limit : ℕ) (s : Scheduler) {worker : ℕ} {id : DequeId} {items : List Thread} (stands : Stands s.list worker id items) (top : Thread)
+    (sound : IsSound t k (terms_of s limit) (held_under s stands top)) (after : Scheduler) (leaves : LeavesDeque worker id top s after) where
+  pub gave_up_at : (c : Setting) → IsSettingOf t k c → IsInOrder (held_under s stands top) → (run : List Pair) (m : Moment)
+      → StandsAt c (terms_of s limit) (held_under s stands top) run m → GivesDequeUp c (terms_of s limit) (held after) worker run m id
+  gave_up_at c of o run m at =
+      let period = its_period s stands top o in
+      gave_up c (terms_of s limit) (quota_is t k c of sound.quota) (held_under s stands top) (held after) run m at worker (parts_in (held after))
+      (leaves.gives_up items stands period.0 period.1) (the_same (parts_in (held after)))
+      (record { live = ap (λ r. r.live) leaves.same.pool; moves = ap moves_list leaves.same.moves; done = leaves.same.done; begun = leaves.begun ∙ none_more s.table.begun })
+      (period_there s stands top period.0 period.1) id refl
+    where
+      none_more : (n : ℕ) → n ≡ n + 0
+      none_more n = omega arith
+
+  pub gave_up_gives : (c : Setting) → IsSettingOf t k c → (run : List Pair) (m : Moment) → StandsAt c (terms_of s limit) (held_under s stands top) run m
+      → ∥ GivesDequeUp c (terms_of s limit) (held after) worker run m id ∥₁
+  gave_up_gives c of run m at = ∥∥₁_map sound.in_order (λ o. gave_up_at c of o run m at)
+
+  pub gave_up_results : AreResults t k (held s) → AreResults t k (held after)
+  gave_up_results r = subst (λ rs. Each (λ e. IsResult t k e.1) rs.entries) (sym leaves.same.results) r
+
+  pub gave_up_sound : IsSound t k (terms_of after limit) (held after)
+  gave_up_sound = sound_after t k limit s stands top sound after leaves.same.terms (λ none o. ∣ leaves.in_order items stands none o ∣₁) (∥∥₁_map sound.results gave_up_results)
+      (λ c of run m at. ∥∥₁_map (gave_up_gives c of run m at) (λ g. (_, g.next, g.stands)))
 
 -- ---- an action
 
@@ -265,26 +297,22 @@ module _ (t : Table) (k limit : ℕ) (s : Scheduler) {worker : ℕ} {id : DequeI
           } ∣₁)
           by_stop c of run m word at OutOfMemory refused = absurd refused
 
-  -- ---- the deque was given up
+  -- ---- the deque was given up, since the quota covers no more
   pub gave_up_comes : (after : Scheduler) → LeavesDeque worker id top s after
       → ((c : Setting) → IsSettingOf t k c → (i : IsOfTheList c top next) → (period : Period) → period_at s.table worker ≡ Some period
       → c.quota < period.used + charge c.quota (deed_of top next) (words_at (list_of c) i.place))
       → Comes t k limit worker before s after (Ok (events.GaveUp id))
   gave_up_comes after leaves over = comes_by t k limit s stands top (b.sound items stands) (b.points items stands) after leaves.same.terms (events.GaveUp id)
       (λ none o. leaves.in_order items stands none o) (λ p. leaves.points t k items stands p)
-      (λ p r. subst (λ rs. Each (λ e. IsResult t k e.1) rs.entries) (sym leaves.same.results) r)
+      (λ p r. gave_up_results t k limit s stands top (b.sound items stands) after leaves r)
       (λ c of run m word at. known c of (λ x.
       let i = x.action in
       let period = its_period s stands top x.order in
-      let quota = quota_is t k c of (b.sound items stands).quota in
       let same : ◌≡◌ {A = ℕ} (charge_at c.quota (list_of c) i.place) (charge c.quota (deed_of top next) (words_at (list_of c) i.place)) = ap (λ d. charge c.quota d (words_at (list_of c) i.place)) i.deed in
       let more = over c of i period.0 period.1 in
-      ∣ gave_up_goes_on c now quota before (held after) run m at worker word (parts_in (held after)) (leaves.gives_up items stands period.0 period.1) (the_same (parts_in (held after)))
-      (record { live = ap (λ r. r.live) leaves.same.pool; moves = ap moves_list leaves.same.moves; done = leaves.same.done; begun = leaves.begun ∙ none_more s.table.begun })
-      (period_there s stands top period.0 period.1) i.place (deed_of top next) (next_actions_stand c top next i) (omega (arith, same, more)) id refl ∣₁))
-    where
-      none_more : (n : ℕ) → n ≡ n + 0
-      none_more n = omega arith
+      ∣ gave_up_goes_on c now (quota_is t k c of (b.sound items stands).quota) before (held after) run m at worker word
+      (period_there s stands top period.0 period.1) i.place (deed_of top next) (next_actions_stand c top next i) (omega (arith, same, more)) id
+      (gave_up_at t k limit s stands top (b.sound items stands) after leaves c of x.order run m at) ∣₁))
 
 -- ---- a thread waits
 

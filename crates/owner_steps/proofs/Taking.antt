@@ -2,7 +2,7 @@
 use Rattle.std.proofs.Common.{◌≡◌, ◌≢◌, ℕ, ◌<◌, ◌≤◌, List, [], ◌∷◌, ◌++◌, length, refl, sym, ap, subst, ◌∙◌, arith}
 use denote.Struct.Props.{props}
 use Rattle.std.proofs.Math.Logic.{∥∥₁_elim, ∥∥₁_map}
-use Rattle.std.specs.Prelude.{Some, slice_get, slice_set, drop}
+use Rattle.std.specs.Prelude.{Some, Result, slice_get, slice_set, drop}
 use Rattle.deque_list.specs.declared.deque_id.DequeId.{DequeId}
 use Rattle.deque_list.specs.Deques.{Deque, DequeAt}
 use Rattle.deque_list.specs.DequeLists.{ListView}
@@ -13,10 +13,12 @@ use Rattle.thread_frames.specs.declared.thread.Thread.{Thread}
 use Rattle.thread_frames.specs.Points.{IsAtPoint}
 use Rattle.deque_events.specs.Shown.{deque_with, Stands}
 use Rattle.deque_events.proofs.Putting.{at_rank, here, set_middle}
+use Rattle.core_parts.specs.declared.event.Event.{Event}
 use Rattle.core_parts.specs.declared.scheduler.Scheduler.{Scheduler}
+use Rattle.core_parts.specs.declared.stop.Stop.{Stop}
 use Rattle.core_parts.specs.Held.{held, held_under, OwnsNone}
 use Rattle.core_parts.specs.Moments.{terms_of, SameTerms, StandsAt, IsSound, CanGoOn}
-use Rattle.core_parts.proofs.Still.{reordered_sound, reordered_points, reordered_stands, still_sound, still_points}
+use Rattle.core_parts.proofs.Still.{reordered_sound, reordered_points, reordered_stands, still_sound, still_points, still_stands}
 use Rattle.core_parts.specs.Held.{IsReordered}
 use Rattle.depth_first_run.specs.States.{Setting}
 use Rattle.deque_machine.specs.Moments.{Moment}
@@ -30,7 +32,8 @@ use Rattle.thread_frames.specs.declared.next.Next.{Next}
 use Rattle.thread_frames.proofs.Placed.{placed_of}
 use Rattle.thread_steps.specs.Settings.{IsSettingOf}
 use Rattle.owner_steps.specs.Memory.{HasMemory}
-use Rattle.owner_steps.specs.Steps.{IsBeforeAction}
+use Rattle.owner_steps.specs.Tops.{TakesTop}
+use Rattle.owner_steps.specs.Steps.{IsBeforeAction, Comes}
 use Rattle.core_parts.proofs.AtTop.{owns_none, words_within, used_within}
 use Rattle.core_parts.proofs.Bounds.{point_one, seat_deque}
 use Rattle.owner_steps.proofs.Owning.{quota_is}
@@ -96,35 +99,46 @@ module _ (t : Table) (k limit : ℕ) (s : Scheduler) {worker : ℕ} {id : DequeI
   points_each points others its = subst (CanGoOn t k) (same_under s stands its top none_here) points
 
 -- a worker's seat, in which its top thread is taken out behind a call that changed only memory
-module _ (t : Table) (k limit : ℕ) (s first : Scheduler) (list : ListView Thread) {worker : ℕ} {id : DequeId} {top : Thread} {items : List Thread} (stands : Stands s.list worker id (top ∷ items))
+module _ (s first : Scheduler) (list : ListView Thread) {worker : ℕ} {id : DequeId} {top : Thread} {items : List Thread} (stands : Stands s.list worker id (top ∷ items))
     (same : IsReordered (held s) (held first)) (terms : SameTerms s first)
     (pop : (rank : ℕ) (deque : Deque Thread) → DequeAt first.list.deques id rank deque → list.deques ≡ slice_set first.list.deques rank (record deque { items = drop 1 deque.items }))
     (most : list.most ≡ first.list.most) where
-  abbrev pub taken : Scheduler
+  abbrev taken : Scheduler
   taken = record first { list = list }
 
-  abbrev pub first_stands : Stands first.list worker id (top ∷ items)
+  abbrev first_stands : Stands first.list worker id (top ∷ items)
   first_stands = record { left = stands.left; right = stands.right; deques_are = same.deques ∙ stands.deques_are }
 
-  abbrev pub taken_stands : Stands taken.list worker id items
+  abbrev taken_stands : Stands taken.list worker id items
   taken_stands = popped first_stands pop
 
   under_was : held_under taken taken_stands top ≡ held first
   under_was = ap (λ ds. record (held first) { deques = ds }) (sym first_stands.deques_are)
 
-  pub taken_terms : SameTerms s taken
-  taken_terms actions = (λ i. record (terms_of first actions) { limits = record { capacity = first.pool.capacity; actions = actions; deques = most i } }) ∙ terms actions
+  pub takes_top : deque_at s.table worker ≡ Some id → (p : Period) → period_at first.table worker ≡ Some p → HasMemory 2 (record first { list = list }) worker id
+      → TakesTop worker id top s (record first { list = list })
+  takes_top seat p period memory = record {
+    seat = seat;
+    items = items;
+    stands = taken_stands;
+    same = subst (IsReordered (held s)) (sym under_was) same;
+    period = (p, period);
+    memory = memory;
+    terms = λ actions. (λ i. record (terms_of first actions) { limits = record { capacity = first.pool.capacity; actions = actions; deques = most i } }) ∙ terms actions;
+  }
 
-  pub taken_sound : IsSound t k (terms_of s limit) (held s) → IsSound t k (terms_of taken limit) (held_under taken taken_stands top)
-  taken_sound sound = subst (λ x. IsSound t k x (held_under taken taken_stands top)) (sym (taken_terms limit))
-      (subst (IsSound t k (terms_of s limit)) (sym under_was) (reordered_sound t k (terms_of s limit) (held s) (held first) same sound))
+-- with the top thread on its deque all is sound and can go on as before it was taken out, and stands where it stood
+module _ (t : Table) (k limit : ℕ) (s taken : Scheduler) (worker : ℕ) (id : DequeId) (top : Thread) (takes : TakesTop worker id top s taken) where
+  pub taken_sound : IsSound t k (terms_of s limit) (held s) → IsSound t k (terms_of taken limit) (held_under taken takes.stands top)
+  taken_sound sound = subst (λ x. IsSound t k x (held_under taken takes.stands top)) (sym (takes.terms limit))
+      (reordered_sound t k (terms_of s limit) (held s) (held_under taken takes.stands top) takes.same sound)
 
-  pub taken_points : CanGoOn t k (held s) → CanGoOn t k (held_under taken taken_stands top)
-  taken_points points = subst (CanGoOn t k) (sym under_was) (∥∥₁_map points (reordered_points t k (held s) (held first) same))
+  pub taken_points : CanGoOn t k (held s) → CanGoOn t k (held_under taken takes.stands top)
+  taken_points points = ∥∥₁_map points (reordered_points t k (held s) (held_under taken takes.stands top) takes.same)
 
-  pub taken_at : (c : Setting) (run : List Pair) (m : Moment) → StandsAt c (terms_of s limit) (held s) run m → StandsAt c (terms_of taken limit) (held_under taken taken_stands top) run m
-  taken_at c run m at = subst (λ x. StandsAt c x (held_under taken taken_stands top) run m) (sym (taken_terms limit))
-      (subst (λ h. StandsAt c (terms_of s limit) h run m) (sym under_was) (reordered_stands c (terms_of s limit) (held s) (held first) run m same at))
+  pub taken_at : (c : Setting) (run : List Pair) (m : Moment) → StandsAt c (terms_of s limit) (held s) run m → StandsAt c (terms_of taken limit) (held_under taken takes.stands top) run m
+  taken_at c run m at = subst (λ x. StandsAt c x (held_under taken takes.stands top) run m) (sym (takes.terms limit))
+      (reordered_stands c (terms_of s limit) (held s) (held_under taken takes.stands top) run m takes.same at)
 
 -- the thread that is on top is at its point, and its words are out
 module _ (t : Table) (k limit : ℕ) (s : Scheduler) {worker : ℕ} {id : DequeId} {items : List Thread} (stands : Stands s.list worker id items) (top : Thread)
@@ -153,27 +167,41 @@ taken_out t k limit s first worker id top sound seat same item =
     (its.1, subst (λ x. Stands s.list worker id (x ∷ its.1)) top_is its.2)
 
 -- the thread that was taken out and went on is before its next action
-pub is_before : (t : Table) (k limit : ℕ) → k ≤ 1048576 → limit < 4294967295 → (s : Scheduler) {worker : ℕ} {id : DequeId} {items : List Thread} (stands : Stands s.list worker id items)
-    (top now : Thread) (next : Next) → IsStill top now → IsSound t k (terms_of s limit) (held_under s stands top) → CanGoOn t k (held_under s stands top) → IsAtPoint t k now
-    → next_of now ≡ Some next → done_of now < 4294967295 → HasMemory 2 s worker id → (p : Period) → period_at s.table worker ≡ Some p
-    → ((c : Setting) → IsSettingOf t k c → ∥ IsOfTheList c now next ∥₁) → JoinsNewest next (children_of now) → IsBeforeAction t k limit s worker id now next
-is_before t k limit most limited s stands top now next still sound points point is_next few memory p period of_the_list newest =
-    let later = still_sound s stands top now still t k (terms_of s limit) sound in
-    let went = ∥∥₁_map points (still_points s stands top now still t k point) in
+pub is_before : (t : Table) (k limit : ℕ) → k ≤ 1048576 → limit < 4294967295 → (s taken : Scheduler) (worker : ℕ) (id : DequeId) (top now : Thread) (next : Next)
+    (takes : TakesTop worker id top s taken) → IsSound t k (terms_of s limit) (held s) → CanGoOn t k (held s) → IsStill top now → IsAtPoint t k now
+    → next_of now ≡ Some next → done_of now < 4294967295
+    → ((c : Setting) → IsSettingOf t k c → ∥ IsOfTheList c now next ∥₁) → JoinsNewest next (children_of now) → IsBeforeAction t k limit taken worker id now next
+is_before t k limit most limited s taken worker id top now next takes sound points still point is_next few of_the_list newest =
+    let stands : Stands taken.list worker id takes.items = takes.stands in
+    let under = taken_sound t k limit s taken worker id top takes sound in
+    let later = still_sound taken stands top now still t k (terms_of taken limit) under in
+    let went = ∥∥₁_map (taken_points t k limit s taken worker id top takes points) (still_points taken stands top now still t k point) in
     record {
       can = record {
         placed = placed_of t k now point;
         is_next = is_next;
         few = few;
         stands = (_, stands);
-        memory = memory;
+        memory = takes.memory;
         sum = later.sum;
-        period = (p, period);
-        used = λ q is. let used = used_at_top t k limit s stands top sound q is in omega (arith, used, most);
+        period = takes.period;
+        used = λ q is. let used = used_at_top t k limit taken stands top under q is in omega (arith, used, most);
       };
       limited = limited;
-      sound = λ others its. sound_each t k limit s stands now later others its;
-      points = λ others its. points_each t k limit s stands now later went others its;
+      sound = λ others its. sound_each t k limit taken stands now later others its;
+      points = λ others its. points_each t k limit taken stands now later went others its;
       of_the_list = of_the_list;
       newest = newest;
     }
+
+-- what its step comes to, comes of what was held before it was taken out
+pub comes_of_taken : (t : Table) (k limit : ℕ) (s taken after : Scheduler) (worker : ℕ) (id : DequeId) (top now : Thread) (takes : TakesTop worker id top s taken) → IsStill top now
+    → (result : Result Event Stop) → Comes t k limit worker (held_under taken takes.stands now) taken after result → Comes t k limit worker (held s) s after result
+comes_of_taken t k limit s taken after worker id top now takes still result comes = record {
+  sound = comes.sound;
+  points = comes.points;
+  steps = λ c of run m word at. comes.steps c of run m word (subst (λ x. StandsAt c x (held_under taken takes.stands now) run m) (sym (comes.terms limit))
+      (still_stands taken takes.stands top now still c (terms_of taken limit) run m (taken_at t k limit s taken worker id top takes c run m
+      (subst (λ x. StandsAt c x (held s) run m) (comes.terms limit ∙ takes.terms limit) at))));
+  terms = λ actions. comes.terms actions ∙ takes.terms actions;
+}

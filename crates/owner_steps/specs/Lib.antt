@@ -1,4 +1,5 @@
 pub mod Memory
+pub mod Tops
 pub mod Acts
 pub mod Ends
 pub mod Leaves

@@ -1,5 +1,5 @@
 -- What a step of a worker needs, and what it comes to.
-use Rattle.std.specs.Prelude.{◌<◌, ℕ, List, Result}
+use Rattle.std.specs.Prelude.{◌<◌, ℕ, List, Result, Ok, Err}
 use Rattle.deque_list.specs.declared.deque_id.DequeId.{DequeId}
 use Rattle.depth_first_run.specs.States.{Setting}
 use Rattle.deque_machine.specs.Moments.{Moment}
@@ -15,8 +15,8 @@ use Rattle.core_parts.specs.declared.event.Event.{Event}
 use Rattle.core_parts.specs.declared.stop.Stop.{Stop}
 use Rattle.core_parts.specs.declared.scheduler.Scheduler.{Scheduler}
 use Rattle.core_parts.specs.Held.{Held, held, held_under}
-use Rattle.core_parts.specs.Moments.{IsSound, CanGoOn, StandsAt, SameTerms, terms_of}
-use Rattle.core_parts.specs.Outcomes.{StepsTo}
+use Rattle.core_parts.specs.Moments.{Terms, IsSound, CanGoOn, StandsAt, SameTerms, terms_of}
+use Rattle.core_parts.specs.Outcomes.{StepsTo, GivesDequeUp}
 use Rattle.owner_steps.specs.Memory.{CanAct}
 
 -- A thread that was taken from the top of a worker's deque is before its next action, and with it on top all is sound and can go on.
@@ -42,3 +42,9 @@ abbrev pub ComesUnder : Table → (k limit worker : ℕ) → DequeId → Thread 
 ComesUnder t k limit worker id top before after result =
     (items : List Thread) (stands : Stands before.list worker id items)
     → Comes t k limit worker (held_under before stands top) before after result
+
+-- What it comes to that a worker gives its deque up, at each moment of a run at which it may begin; where memory is wanting, all stands
+-- where it stood.
+abbrev pub GivesUpOrStays : {E : Type 0} → Setting → Terms → (after : Held) → (worker : ℕ) → List Pair → Moment → Result DequeId E → Type 0
+GivesUpOrStays c terms after worker run m (Ok id) = ∥ GivesDequeUp c terms after worker run m id ∥₁
+GivesUpOrStays c terms after worker run m (Err none) = StandsAt c terms after run m

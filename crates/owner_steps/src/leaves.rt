@@ -1,19 +1,29 @@
 //! How a worker leaves its deque without an action.
 
-ghost use Rattle.std.specs.Prelude.{◌≡◌, ◌≤◌, ℕ, Some, None, [], List as AnyList};
+ghost use Rattle.std.specs.Prelude.{◌≡◌, ◌≤◌, ℕ, Some, None, [], List as AnyList, IfOk};
 ghost use Rattle.space_ledger.specs.BooksList.{books_spare};
 ghost use Rattle.deque_list.specs.DequeLists.{lane_room};
 ghost use Rattle.period_books.specs.Periods.{Period};
-ghost use Rattle.period_table.specs.Tables.{period_at};
+ghost use Rattle.period_table.specs.Tables.{period_at, deque_at};
 ghost use Rattle.thread_map.specs.Kept.{kept_under};
 ghost use Rattle.deque_events.specs.Shown.{Stands};
 ghost use Rattle.core_parts.specs.declared.event.Event.TheVariants as events;
+ghost use Rattle.core_parts.specs.Held.{held};
+ghost use Rattle.core_parts.specs.Moments.{IsSound, CanGoOn, SameTerms, StandsAt, terms_of};
+ghost use Rattle.depth_first_run.specs.States.{Setting};
+ghost use Rattle.deque_machine.specs.Moments.{Moment};
+ghost use Rattle.deque_machine.specs.Runs.{Pair};
+ghost use Rattle.node_table.specs.Table.{Table};
+ghost use Rattle.thread_steps.specs.Settings.{IsSettingOf};
 ghost use Rattle.owner_steps.specs.Memory.{HasMemory};
 ghost use Rattle.owner_steps.specs.Leaves.{LeavesDeque, LeavesList};
+ghost use Rattle.owner_steps.specs.Steps.{GivesUpOrStays};
 
+use crate::tops::take_top;
 use core_parts::{Event, Scheduler};
 use dag_order::ThreadId;
 use deque_list::DequeId;
+use std::alloc::AllocError;
 use thread_frames::Thread;
 
 /// A worker gives its deque up: the top thread goes back, the deque stays without an owner, and the period ends.
@@ -58,4 +68,27 @@ pub(crate) fn suspend(
     deque_events::suspend(&mut scheduler.list, &mut scheduler.table, worker, deque);
     scheduler.waiting.put(child, top);
     Event::Suspended(id)
+}
+
+/// A worker gives its deque up, which it may at any time.
+///
+/// # Errors
+///
+/// There is not enough memory; then all stands where it stood.
+pub fn give_up_deque(scheduler: &mut Scheduler, worker: usize) -> Result<DequeId, AllocError>
+    requires sound { (t : Table) × (k : ℕ) × (limit : ℕ) × IsSound t k (terms_of scheduler.old limit) (held scheduler.old) }
+    requires owner { (id : DequeId) × (deque_at scheduler.old.table worker ≡ Some id) }
+    ensures deque { IfOk result (λ id. deque_at scheduler.old.table worker ≡ Some id) }
+    ensures sound { (t : Table) (k limit : ℕ) → IsSound t k (terms_of scheduler.old limit) (held scheduler.old)
+        → IsSound t k (terms_of scheduler.new limit) (held scheduler.new) }
+    ensures points { (t : Table) (k : ℕ) → CanGoOn t k (held scheduler.old) → CanGoOn t k (held scheduler.new) }
+    ensures gives { (t : Table) (k limit : ℕ) → IsSound t k (terms_of scheduler.old limit) (held scheduler.old)
+        → (c : Setting) → IsSettingOf t k c → (run : AnyList Pair) (m : Moment)
+        → StandsAt c (terms_of scheduler.old limit) (held scheduler.old) run m
+        → GivesUpOrStays c (terms_of scheduler.old limit) (held scheduler.new) worker run m result }
+    ensures terms { SameTerms scheduler.old scheduler.new }
+{
+    let (deque, top) = take_top(scheduler, worker)?;
+    give_up(scheduler, worker, deque, top);
+    Ok(deque)
 }

@@ -14,5 +14,7 @@ mod leaves;
 mod owner;
 mod refusals;
 mod results;
+mod tops;
 
+pub use leaves::give_up_deque;
 pub use owner::step_of_owner;

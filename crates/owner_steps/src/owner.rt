@@ -32,8 +32,9 @@ ghost use Rattle.owner_steps.specs.Steps.{IsBeforeAction, Comes, ComesUnder};
 use crate::acts::{allocate, dummy, fault, fork, join, release};
 use crate::ends::end;
 use crate::leaves::{give_up, suspend};
-use crate::refusals::{put_back, test_action};
+use crate::refusals::test_action;
 use crate::results::hand_over;
+use crate::tops::{put_back, take_top};
 use block_arena::Pool;
 use core_parts::{Event, Scheduler, Stop};
 use dag_order::{ActionId, ThreadId};
@@ -44,26 +45,6 @@ use period_table::PeriodTable;
 use quota_period::Charge;
 use std::alloc::{AllocError, Global};
 use thread_frames::{Ended, Next, Thread};
-
-/// Takes the memory that an event of a worker with this deque may need.
-///
-/// # Errors
-///
-/// There is not enough memory. Only memory has changed.
-fn reserve(scheduler: &mut Scheduler, worker: usize, deque: DequeId) -> Result<(), AllocError>
-    requires live { IsLive (deque_ids scheduler.old.list.deques) deque }
-    requires period { (p : AnyPeriod) × (period_at scheduler.old.table worker ≡ Some p) }
-    ensures same { IsReordered (held scheduler.old) (held scheduler.new) }
-    ensures periods { (w : ℕ) → period_at scheduler.new.table w ≡ period_at scheduler.old.table w }
-    ensures terms { SameTerms scheduler.old scheduler.new }
-    ensures room { OnOk result (HasMemory 1 scheduler.new worker deque) }
-{
-    scheduler.list.reserve(deque)?;
-    scheduler.table.reserve(worker)?;
-    scheduler.moves.reserve()?;
-    scheduler.waiting.reserve()?;
-    scheduler.results.reserve()
-}
 
 /// What an action does to a worker's period which takes so many words.
 fn charge_of(table: &PeriodTable, worker: usize, words: u32, k: Quota) -> Charge
@@ -356,15 +337,8 @@ pub fn step_of_owner(
         → StepsTo c (terms_of scheduler.old limit) (held scheduler.new) worker word run m result }
     ensures terms { SameTerms scheduler.old scheduler.new }
 {
-    let deque = match scheduler.table.seat(worker) {
-        Some(seat) => seat.deque,
-        None => unreachable!(),
-    };
-    let Ok(()) = reserve(scheduler, worker, deque) else {
+    let Ok((deque, mut top)) = take_top(scheduler, worker) else {
         return Err(Stop::OutOfMemory);
-    };
-    let Some(mut top) = scheduler.list.pop_top(deque) else {
-        unreachable!();
     };
     match advance(&mut top, &scheduler.pool, alloc, code, k) {
         Ok(next) => go_on(scheduler, k, limit, worker, deque, top, next),

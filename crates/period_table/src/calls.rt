@@ -59,6 +59,13 @@ impl PeriodTable {
         &self.books
     }
 
+    /// The closed periods, of a table that is done with.
+    pub fn into_books(self) -> Books
+        ensures { result ≡ self.books }
+    {
+        self.books
+    }
+
     /// The seat of a worker; None exactly where it is idle.
     pub fn seat(&self, worker: usize) -> Option<&Seat>
         ensures { option_copied result ≡ seat_at self.now worker }

@@ -15,7 +15,7 @@ use crate::ended::Ended;
 use crate::open_child::OpenChild;
 use crate::thread::Thread;
 use block_arena::{Block, Pool};
-use dag_order::{FaultAt, Lines};
+use dag_order::{FaultAt, Lines, ThreadId};
 use std::alloc::{AllocError, Global};
 
 impl Thread {
@@ -76,6 +76,13 @@ impl Thread {
 impl Ended {
     ghost use Rattle.thread_frames.specs.Views.{ended_label};
     ghost use Rattle.thread_frames.specs.Points.{IsResult};
+
+    /// The id of the thread.
+    pub fn id(&self) -> ThreadId
+        ensures { result ≡ self.now.id }
+    {
+        self.id
+    }
 
     /// The lines that the thread printed, and those that its children printed, in depth-first order up to the first fault. Those of the
     /// root are the lines of the whole run.

@@ -27,5 +27,5 @@ loop-preserved g c =
 pub unreachable-requires : goal.unreachable-requires
 unreachable-requires g c =
     let most = c.most_turns-end.ensures in let test = c.loop-test.false in
-    let many : 5 * (terms_at c.args.core.now).limits.actions + workers_of c.args.core.now + 1 ≤ c.loop.counter = omega (arith, most, test) in
+    let many : 5 * (terms_at c.args.core.now).limits.actions + 2 * workers_of c.args.core.now + 1 ≤ c.loop.counter = omega (arith, most, test) in
     too_many (g.C.Choices.coming c.args.choices.now) (g.C.Choices.coming c.loop.choices) c.args.core.now c.loop.core c.loop.counter c.loop.invariant many

@@ -1,6 +1,6 @@
 use Rattle.std.proofs.Common.{refl}
 use Rattle.std.proofs.lemmas.List.Sorted.{IsPermutation-refl}
-use Rattle.owner_steps.proofs.owner.reserve.Goals as goal
+use Rattle.owner_steps.proofs.tops.reserve.Goals as goal
 
 pub returns-in_err-reserve-4-clause-same : goal.returns-in_err-reserve-4-clause-same
 returns-in_err-reserve-4-clause-same c = record {

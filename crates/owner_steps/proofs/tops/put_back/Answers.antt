@@ -1,7 +1,7 @@
 use Rattle.std.proofs.Common.{ap}
 use Rattle.core_parts.specs.Held.{held}
 use Rattle.deque_events.proofs.Putting.{live, pushed}
-use Rattle.owner_steps.proofs.refusals.put_back.Goals as goal
+use Rattle.owner_steps.proofs.tops.put_back.Goals as goal
 
 pub push_top-requires-clause-live : goal.push_top-requires-clause-live
 push_top-requires-clause-live c = live c.requires.stands.1

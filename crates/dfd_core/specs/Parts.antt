@@ -1,0 +1,44 @@
+-- What is left of a core that is taken apart.
+use Rattle.std.specs.Prelude.{◌≡◌, ℕ, Option, None, List, [], ◌∷◌}
+use Rattle.dag_order.specs.Births.{root}
+use Rattle.deque_machine.specs.Moments.{opening}
+use Rattle.depth_first_run.specs.States.{Setting}
+use Rattle.dummy_tree.specs.QuotaWords.{quota_words}
+use Rattle.node_table.specs.Codes.{code_shown}
+use Rattle.node_table.specs.Table.{Table}
+use Rattle.period_table.specs.Tables.{seat_at}
+use Rattle.thread_map.specs.Kept.{kept_under}
+use Rattle.thread_steps.specs.Settings.{IsSettingOf}
+use Rattle.thread_frames.specs.declared.ended.Ended.{Ended}
+use Rattle.thread_frames.specs.declared.thread.Thread.{Thread}
+use Rattle.thread_frames.specs.Points.{IsAtPoint, IsResult}
+use Rattle.thread_frames.specs.Views.{label_of, ended_label}
+use Rattle.dfd_core.specs.declared.run.Core.{Core}
+use Rattle.dfd_core.specs.declared.run_end.RunEnd.{RunEnd}
+use Rattle.dfd_core.specs.declared.run_end.RunEnd.TheVariants.{Finished, Stopped}
+use Rattle.dfd_core.specs.Cores.{IsAt, end_of}
+
+-- no worker owns a deque
+abbrev pub AreAllIdle : Core → Type 0
+AreAllIdle core = (worker : ℕ) → seat_at core.scheduler.table worker ≡ None
+
+-- the result of the root, where a run came to its end; a stopped run has none
+abbrev pub root_behind : RunEnd → Option Ended → Option Ended
+root_behind (Finished finish) kept = kept
+root_behind (Stopped stop) kept = None
+
+abbrev pub root_result : Core → RunEnd → Option Ended
+root_result core end = root_behind end (kept_under core.scheduler.results root)
+
+-- a result of the root of the whole run of a program
+abbrev pub IsOfWholeRun : Table → ℕ → Ended → Type 0
+IsOfWholeRun t k ended = ∥ IsResult t k ended ∥₁ × (ended_label ended ≡ [])
+
+-- whatever its program, the core has done no step, and its run has not ended
+abbrev pub IsFresh : Core → Type 0
+IsFresh core = (end_of core ≡ None)
+    × ((c : Setting) → IsSettingOf (code_shown core.code) (quota_words core.k) c → IsAt c core [] opening)
+
+-- a lane with the root alone, before its first action
+abbrev pub IsRootAlone : Table → ℕ → List Thread → Type 0
+IsRootAlone t k items = (thread : Thread) × (items ≡ thread ∷ []) × (Thread.id thread ≡ root) × (label_of thread ≡ []) × ∥ IsAtPoint t k thread ∥₁
