@@ -29,7 +29,7 @@ run() { # NAME STATUS LINE SOURCE WORDS..
     compare "$name" "$status" "$line" "${PIPESTATUS[1]}"
 }
 
-usage='usage: dfd play|run|peak|check|make [options]'
+usage='usage: dfd play|run|peak|check|make|loops|expand [options]'
 small='fn main() { print 7; }'
 
 # The first run builds `./dfd`, where it has to be built.
@@ -49,6 +49,9 @@ run 'a spent limit' 7 'stop StepsSpent limit 1' 'fn main() { par { } and { } }' 
 run 'a spent limit of a play' 7 'stop StepsSpent limit 1' 'fn main() { par { } and { } }' play --steps 1
 run 'a full arena' 8 'stop ArenaFull live 0 asked 48' 'fn main() { alloc b = 40; free b; }' play --p 1 --arena 32
 run 'a made source' 0 'bytes 139' '' make 1
+run 'a parallel loop' 0 1 'fn f(i) { return i; } fn main() { let x = 0; par call x = f(1 into 2); print x; }' loops
+run 'a loop that is written out' 0 'call x = __sum0((1), (2) - (1));' 'par call x = f(1 into 2);' expand
+run 'no loop' 4 'syntax BadLoop at 0' 'par call x = f(1);' expand
 run 'no groups' 1 "$usage" '' make 0
 run 'no further deque' 9 'stop DequesFull deques 2' 'fn main() { alloc b = 40; free b; }' play --k 16 --p 1 --deques 2
 

@@ -17,7 +17,7 @@ use crate::words::{read_words, Command};
 use crate::world::Finish;
 use std::fmt::Write;
 
-pub const USAGE: &str = "usage: dfd play|run|peak|check|make [options]\n";
+pub const USAGE: &str = "usage: dfd play|run|peak|check|make|loops|expand [options]\n";
 pub const READ_FAULT: &str = "read fault\n";
 
 #[derive(Clone, Debug, PartialEq, Eq)]

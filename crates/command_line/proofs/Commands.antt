@@ -8,7 +8,7 @@ use Rattle.std.specs.declared.string.String.{String}
 use Rattle.std.specs.declared.alloc.Global.{Global}
 use Rattle.command_line.specs.declared.command.Command.{Command}
 use Rattle.command_line.specs.declared.command_kind.CommandKind.{CommandKind}
-use Rattle.command_line.specs.declared.command_kind.CommandKind.TheVariants.{Play, Peak, Check, Make}
+use Rattle.command_line.specs.declared.command_kind.CommandKind.TheVariants.{Play, Peak, Check, Make, Loops, Expand}
 use Rattle.command_line.specs.declared.numbers.Numbers.{Numbers}
 use Rattle.command_line.specs.declared.setting.Setting.{Setting}
 use Rattle.command_line.specs.declared.setting.Setting.TheVariants.{Quota, Workers, Arena, Steps, Deques, Seed}
@@ -83,6 +83,8 @@ kind_of word =
     else if bytes_eq word (codes "peak") then Some Peak
     else if bytes_eq word (codes "check") then Some Check
     else if bytes_eq word (codes "make") then Some Make
+    else if bytes_eq word (codes "loops") then Some Loops
+    else if bytes_eq word (codes "expand") then Some Expand
     else None
 
 kind_back : (kind : CommandKind) → kind_of (kind_word kind) ≡ Some kind
@@ -90,6 +92,8 @@ kind_back Play = refl
 kind_back Peak = refl
 kind_back Check = refl
 kind_back Make = refl
+kind_back Loops = refl
+kind_back Expand = refl
 
 kind_one : (a b : CommandKind) → kind_word a ≡ kind_word b → a ≡ b
 kind_one a b e = ap (λ (o : Option CommandKind). unwrap_or o a) (sym (kind_back a) ∙ ap kind_of e ∙ kind_back b)

@@ -10,7 +10,7 @@ use Rattle.language_limits.specs.declared.TheConstants.{GREATEST_QUOTA, LEAST_QU
 use Rattle.made_source.specs.declared.TheConstants.{MOST_GROUPS}
 use Rattle.command_line.specs.declared.command.Command.{Command}
 use Rattle.command_line.specs.declared.command_kind.CommandKind.{CommandKind}
-use Rattle.command_line.specs.declared.command_kind.CommandKind.TheVariants.{Play, Peak, Check, Make}
+use Rattle.command_line.specs.declared.command_kind.CommandKind.TheVariants.{Play, Peak, Check, Make, Loops, Expand}
 use Rattle.command_line.specs.declared.rule.Rule.{Rule}
 use Rattle.command_line.specs.declared.rule.TheConstants.{GREATEST_SEED}
 use Rattle.command_line.specs.declared.setting.Setting.{Setting}
@@ -26,6 +26,8 @@ kind_word Play = codes "play"
 kind_word Peak = codes "peak"
 kind_word Check = codes "check"
 kind_word Make = codes "make"
+kind_word Loops = codes "loops"
+kind_word Expand = codes "expand"
 
 -- the name of an option, without its `--`
 abbrev pub name_of : Setting → List ℕ
@@ -56,6 +58,8 @@ has Peak Deques = false
 has Peak Seed = false
 has Check s = false
 has Make s = true
+has Loops s = true
+has Expand s = false
 
 -- whether a command wants a plain word, its number of groups
 abbrev pub wants_groups : CommandKind → Bool
@@ -63,6 +67,8 @@ wants_groups Play = false
 wants_groups Peak = false
 wants_groups Check = false
 wants_groups Make = true
+wants_groups Loops = false
+wants_groups Expand = false
 
 -- what stands behind the word of a command: an option with its value, joined in one word or in two; or a plain word
 pub data Item : Type 0 where

@@ -15,6 +15,10 @@ pub enum CommandKind {
     Check,
     /// `make`: a made source is run by the scheduler, and what it came to is written in numbers.
     Make,
+    /// `loops`: parallel loops are written out, and the program is run as by `play`.
+    Loops,
+    /// `expand`: parallel loops are written out, and the text is written.
+    Expand,
 }
 
 impl CommandKind {
@@ -30,6 +34,10 @@ impl CommandKind {
             Some(CommandKind::Check)
         } else if word == b"make".as_slice() {
             Some(CommandKind::Make)
+        } else if word == b"loops".as_slice() {
+            Some(CommandKind::Loops)
+        } else if word == b"expand".as_slice() {
+            Some(CommandKind::Expand)
         } else {
             None
         }
@@ -40,9 +48,9 @@ impl CommandKind {
         ensures { result ≡ has self setting }
     {
         match self {
-            CommandKind::Play | CommandKind::Make => true,
+            CommandKind::Play | CommandKind::Make | CommandKind::Loops => true,
             CommandKind::Peak => matches!(setting, Setting::Quota | Setting::Steps),
-            CommandKind::Check => false,
+            CommandKind::Check | CommandKind::Expand => false,
         }
     }
 

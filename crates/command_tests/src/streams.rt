@@ -68,7 +68,7 @@ fn failing_sinks_took_a_front(rt: HostRuntime) -> Result<(), Fail> {
 /// A source of 10 bytes a call that fails at each of its calls in turn, and a sink of 7 bytes a call that does.
 #[test]
 fn each_call_of_a_stream_may_fail(rt: HostRuntime) -> Result<(), Fail> {
-    let table: [(&str, &str, u32, Status, &str, u32); 8] = [
+    let table: [(&str, &str, u32, Status, &str, u32); 11] = [
         ("check", BLOCK, 7, Status::Done, CANONICAL, 10),
         (
             "check",
@@ -97,6 +97,23 @@ fn each_call_of_a_stream_may_fail(rt: HostRuntime) -> Result<(), Fail> {
         ),
         (
             "peak",
+            "fn main() {",
+            3,
+            Status::Syntax,
+            "syntax Expected at 11\n",
+            4,
+        ),
+        ("expand", BLOCK, 7, Status::Done, BLOCK, 9),
+        (
+            "expand",
+            "fn main() { par call",
+            3,
+            Status::Syntax,
+            "syntax BadLoop at 12\n",
+            3,
+        ),
+        (
+            "loops",
             "fn main() {",
             3,
             Status::Syntax,

@@ -3,7 +3,7 @@ use crate::calls::{SMALL, all_answer_so, answers_so};
 use dfd_run::Status;
 use std::test::Fail;
 
-const USAGE: &str = "usage: dfd play|run|peak|check|make [options]~";
+const USAGE: &str = "usage: dfd play|run|peak|check|make|loops|expand [options]~";
 
 /// Words that are no command, a line each; the first line is empty.
 const NO_COMMANDS: &str = "
@@ -38,7 +38,13 @@ peak --
 peak 1
 check --k 16
 check --
-check check";
+check check
+loops --k 24
+loops 1
+Loops
+expand --k 16
+expand --
+expand expand";
 
 #[test]
 fn words_that_are_no_command(rt: HostRuntime) -> Result<(), Fail> {
@@ -60,6 +66,9 @@ fn main() { par { print 1; } and { print 2; } print 3; }
 @peak --steps=4000000 --k 1048576|0|1~2~3~--~end done~actions 4~peak 16~|\
 fn main() { par { print 1; } and { print 2; } print 3; }
 @peak|0|1~2~3~--~end done~actions 4~peak 16~|fn main() { par { print 1; } and { print 2; } print 3; }
+@loops --seed 18446744073709551615 --deques=1 --steps 4 --arena=16 --p 1|0|1~2~3~--~end done~periods 1~ahead 0~high 16~|\
+fn main() { par { print 1; } and { print 2; } print 3; }
+@expand|0|fn main() { par { print 1; } and { print 2; } print 3; }|fn main() { par { print 1; } and { print 2; } print 3; }
 @check|0|fn main() {~  par {~    print 1;~  } and {~    print 2;~  }~  print 3;~}~|\
 fn main() { par { print 1; } and { print 2; } print 3; }";
 

@@ -1,12 +1,12 @@
 -- A command has an answer to the bytes of a source.
-use Rattle.std.proofs.Common.{◌≡◌, ℕ, ℤ, pos, negsuc, ◌≤◌, length, arith, Bool, true, false, List, Option, Some, None, ap, sym, refl}
-use Rattle.std.specs.Prelude.{nat_le, ◌≤ℤ◌}
+use Rattle.std.proofs.Common.{◌≡◌, ℕ, ℤ, pos, negsuc, ◌≤◌, length, arith, Bool, true, false, List, Option, Some, None, ap, sym, refl, subst}
+use Rattle.std.specs.Prelude.{nat_le, ◌≤ℤ◌, Result, Ok, Err}
 use Rattle.std.proofs.lemmas.Int.{ints}
 use borrow.Author.Tests.{leb-true, leb-false}
 use Rattle.canonical_text.specs.Canonical.{canonical}
 use Rattle.command_line.specs.declared.command.Command.{Command}
 use Rattle.command_line.specs.declared.command_kind.CommandKind.{CommandKind}
-use Rattle.command_line.specs.declared.command_kind.CommandKind.TheVariants.{Play, Peak, Check as Checks, Make}
+use Rattle.command_line.specs.declared.command_kind.CommandKind.TheVariants.{Play, Peak, Check as Checks, Make, Loops, Expand}
 use Rattle.dag_order.specs.declared.fault.FaultAt.{FaultAt}
 use Rattle.command_line.specs.declared.setting.Setting.TheVariants.{Quota, Workers}
 use Rattle.depth_first_list.specs.Actions.{peak}
@@ -16,6 +16,10 @@ use Rattle.depth_first_run.specs.States.{Item, Setting}
 use Rattle.depth_first_run.specs.Run.{whole, actions_of, first_fault, lines_of}
 use Rattle.serial_journal.specs.Telling.{finish_of}
 use Rattle.serial_meaning.specs.Settings.{setting_of}
+use Rattle.loop_expand.specs.Expansion.{LexedExpand, Expands}
+use Rattle.loop_expand.specs.declared.expand_fail.ExpandFail.{ExpandFail}
+use Rattle.loop_expand.specs.declared.expand_fail.ExpandFail.TheVariants.{Refused, BadLoop, NameTaken, OutOfMemory as NoMemory}
+use Rattle.loop_expand.proofs.Answered.{has_answer}
 use Rattle.deque_machine.proofs.Playing.{plays_end}
 use Rattle.deque_machine.specs.Moments.{Moment}
 use Rattle.deque_machine.specs.Play.{Ending, finished, stopped, arena_full, steps_spent, deques_full}
@@ -25,11 +29,13 @@ use Rattle.par_ownership.specs.Ownership.{Ownership}
 use Rattle.par_ownership.specs.Walk.{Refusal, program_refusal}
 use Rattle.par_ownership.proofs.Law.{tells_program}
 use Rattle.par_text.specs.Judging.{IsText, Verdict, Judges, tree, refusal}
+use Rattle.par_text.specs.Lexing.{Lexed, text_tokens}
 use Rattle.par_text.proofs.Verdicts.{has_verdict}
 use Rattle.par_tree.specs.Tree.{Program}
 use Rattle.run_report.specs.Texts.{peak_text}
-use Rattle.dfd_run.specs.Answer.{SourceGives, CheckMakes, KindMakes, BytesGive, HasRanges}
-use Rattle.dfd_run.specs.Messages.{syntax_text, check_text, spent_text, arena_text, deques_text}
+use Rattle.dfd_run.specs.Answer.{SourceGives, CheckMakes, KindGives, BytesGive, HasRanges}
+use Rattle.dfd_run.specs.Expanding.{ExpansionGives, ExpandMakes}
+use Rattle.dfd_run.specs.Messages.{syntax_text, bad_loop_text, name_taken_text, check_text, spent_text, arena_text, deques_text}
 use Rattle.dfd_run.specs.Make.{MakeMakes, Summarizes}
 use Rattle.dfd_run.specs.Peak.{RunText, PeakMakes, finish_status}
 use Rattle.dfd_run.specs.Play.{IsPlay, TellsPlay, Reports, PlayMakes, play_setting, play_terms, play_machine, seeded_words}
@@ -134,13 +140,44 @@ module _ (tells : Setting → List Pair → Moment → List ℕ → Type 0)
       (seeded_words command.seed) in
       by_ending played.0 played.1 played.2 played.3
 
-kind_answer : (kind : CommandKind) (command : Command) → HasRanges command → (bytes : List ℕ) →
-    Some_answer (SourceGives (KindMakes kind command bytes) bytes)
-kind_answer Play command ranges bytes = source_answer (PlayMakes command) bytes (play_made Reports some_report command ranges bytes)
+-- `loops` and `expand`: bytes have an expansion, or a refusal with a line
+no_want : (bytes : List ℕ) → ¬ Expands bytes (Err NoMemory)
+no_want bytes = by_tokens (text_tokens bytes)
+  where
+    IsWant : Result (List ℕ) ExpandFail → Type 0
+    IsWant (Ok expanded) = ⊥
+    IsWant (Err (Refused e)) = ⊥
+    IsWant (Err (BadLoop at)) = ⊥
+    IsWant (Err (NameTaken at)) = ⊥
+    IsWant (Err NoMemory) = Unit {0}
+
+    by_tokens : (l : Lexed) → ¬ LexedExpand bytes l (Err NoMemory)
+    by_tokens (Ok ts) is = is
+    by_tokens (Err e) is = subst IsWant is tt
+
+expansion_answer :
+    (makes : List ℕ → Status → List ℕ → Type 0) → ((expanded : List ℕ) → Some_answer (makes expanded)) → (bytes : List ℕ) →
+    Some_answer (ExpansionGives makes bytes)
+expansion_answer makes some bytes = let a = has_answer bytes in by_answer a.0 a.1
+  where
+    by_answer : (answer : Result (List ℕ) ExpandFail) → Expands bytes answer → Some_answer (ExpansionGives makes bytes)
+    by_answer (Ok expanded) is = let made = some expanded in (made.0, (made.1.0, (Ok expanded, is, made.1.1)))
+    by_answer (Err (Refused e)) is = (Syntax, (syntax_text e, (Err (Refused e), is, (refl, refl))))
+    by_answer (Err (BadLoop at)) is = (Syntax, (bad_loop_text at, (Err (BadLoop at), is, (refl, refl))))
+    by_answer (Err (NameTaken at)) is = (Syntax, (name_taken_text at, (Err (NameTaken at), is, (refl, refl))))
+    by_answer (Err NoMemory) is = absurd (no_want bytes is)
+
+play_answer : (command : Command) → HasRanges command → (bytes : List ℕ) → Some_answer (SourceGives (PlayMakes command) bytes)
+play_answer command ranges bytes = source_answer (PlayMakes command) bytes (play_made Reports some_report command ranges bytes)
+
+kind_answer : (kind : CommandKind) (command : Command) → HasRanges command → (bytes : List ℕ) → Some_answer (KindGives kind command bytes)
+kind_answer Play command ranges bytes = play_answer command ranges bytes
 kind_answer Peak command ranges bytes = peak_answer command.k command.steps bytes
 kind_answer Checks command ranges bytes = check_answer bytes
 kind_answer Make command ranges bytes =
     source_answer (MakeMakes command bytes) bytes (play_made (Summarizes (length bytes)) (some_summary (length bytes)) command ranges bytes)
+kind_answer Loops command ranges bytes = expansion_answer (SourceGives (PlayMakes command)) (play_answer command ranges) bytes
+kind_answer Expand command ranges bytes = expansion_answer ExpandMakes (λ expanded. (Done, (expanded, (refl, refl)))) bytes
 
 pub an_answer : (command : Command) (bytes : List ℕ) → HasRanges command → Some_answer (BytesGive command bytes)
 an_answer command bytes ranges = kind_answer command.kind command ranges bytes

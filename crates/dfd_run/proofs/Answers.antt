@@ -2,7 +2,7 @@
 use Rattle.std.proofs.Common.{◌≡◌, ℕ, ◌≤◌, List, length, take, Option, ap, refl, sym, subst}
 use Rattle.std.proofs.Math.Logic.{∥∥₁_elim}
 use Rattle.std.proofs.lemmas.Result.{IfOk-weaker}
-use Rattle.std.specs.Prelude.{Result, Err, IfOk}
+use Rattle.std.specs.Prelude.{Result, Ok, Err, IfOk}
 use Rattle.std.specs.declared.alloc.AllocError.{AllocError}
 use Rattle.accepted_source.specs.Sources.{ReadsSource}
 use Rattle.accepted_source.specs.declared.source_fail.SourceFail.{SourceFail}
@@ -10,7 +10,7 @@ use Rattle.command_line.specs.Words.{IsCommand, number_of, values_of, wants_grou
 use Rattle.command_line.proofs.Commands.{sets_in_range, groups_in_range}
 use Rattle.command_line.specs.declared.command.Command.{Command}
 use Rattle.command_line.specs.declared.command_kind.CommandKind.{CommandKind}
-use Rattle.command_line.specs.declared.command_kind.CommandKind.TheVariants.{Play, Peak, Check as Checks, Make}
+use Rattle.command_line.specs.declared.command_kind.CommandKind.TheVariants.{Play, Peak, Check as Checks, Make, Loops, Expand}
 use Rattle.dag_order.specs.declared.finish.Finish.{Finish}
 use Rattle.dag_order.specs.declared.finish.Finish.TheVariants.{Done as EndDone, Faulted}
 use Rattle.depth_first_run.specs.States.{Setting as RunSetting}
@@ -18,13 +18,15 @@ use Rattle.deque_machine.specs.Moments.{Moment}
 use Rattle.deque_machine.specs.Play.{Stop, arena_full, steps_spent, deques_full, Ending, finished, stopped}
 use Rattle.deque_machine.specs.Runs.{Pair}
 use Rattle.dfd_core.specs.Ends.{finish_of_run}
+use Rattle.loop_expand.specs.declared.expand_fail.ExpandFail.{ExpandFail}
 use Rattle.made_source.specs.declared.TheConstants.{MOST_GROUPS}
 use Rattle.par_tree.specs.Tree.{Program}
 use Rattle.dfd_run.specs.Counts.{Counts}
+use Rattle.dfd_run.specs.Expanding.{OfExpansion, ExpandMakes}
 use Rattle.dfd_run.specs.Make.{Summarizes, source_of}
-use Rattle.dfd_run.specs.Peak.{finish_status}
-use Rattle.dfd_run.specs.Play.{TellsPlay, TellsEnding, Reports, play_setting, stop_status}
-use Rattle.dfd_run.specs.Answer.{RefusalGives, SourceGives, KindMakes, BytesGive, ReadGives, KindAnswers, CommandGives, CallGives, Ends, HasRanges}
+use Rattle.dfd_run.specs.Peak.{PeakMakes, finish_status}
+use Rattle.dfd_run.specs.Play.{TellsPlay, TellsEnding, Reports, PlayMakes, play_setting, stop_status}
+use Rattle.dfd_run.specs.Answer.{RefusalGives, SourceGives, CheckMakes, KindGives, BytesGive, ReadGives, KindAnswers, CommandGives, CallGives, Ends, HasRanges}
 use Rattle.byte_streams.specs.Sink.{Takes}
 use Rattle.byte_streams.specs.Source.{IsRead}
 use Rattle.dfd_run.specs.declared.answer.Answer.{Answer}
@@ -103,35 +105,89 @@ IsOfNoBytes ArenaFull = ⊥
 IsOfNoBytes DequesFull = ⊥
 IsOfNoBytes OutOfMemory = Unit {0}
 
+-- and that no run has
+not_of_a_run : (status : Status) → IsOfNoBytes status → ¬ IsOfARun status
+not_of_a_run Done none = absurd none
+not_of_a_run Usage none = λ is. is
+not_of_a_run ReadFault none = λ is. is
+not_of_a_run WriteFault none = λ is. is
+not_of_a_run Syntax none = absurd none
+not_of_a_run Check none = absurd none
+not_of_a_run UserFault none = absurd none
+not_of_a_run StepsSpent none = absurd none
+not_of_a_run ArenaFull none = absurd none
+not_of_a_run DequesFull none = absurd none
+not_of_a_run OutOfMemory none = λ is. is
+
+-- nor bytes whose program brings none about
+not_of_a_source :
+    (makes : Program → Status → List ℕ → Type 0) (bytes text : List ℕ) →
+    ((p : Program) (status : Status) → IsOfNoBytes status → ¬ makes p status text) → (status : Status) → IsOfNoBytes status →
+    ¬ SourceGives makes bytes status text
+not_of_a_source makes bytes text not Done none gives = absurd none
+not_of_a_source makes bytes text not Usage none gives = not gives.0 Usage tt gives.1.1.1
+not_of_a_source makes bytes text not ReadFault none gives = not gives.0 ReadFault tt gives.1.1.1
+not_of_a_source makes bytes text not WriteFault none gives = not gives.0 WriteFault tt gives.1.1.1
+not_of_a_source makes bytes text not Syntax none gives = absurd none
+not_of_a_source makes bytes text not Check none gives = absurd none
+not_of_a_source makes bytes text not UserFault none gives = absurd none
+not_of_a_source makes bytes text not StepsSpent none gives = absurd none
+not_of_a_source makes bytes text not ArenaFull none gives = absurd none
+not_of_a_source makes bytes text not DequesFull none gives = absurd none
+not_of_a_source makes bytes text not OutOfMemory none gives = not gives.0 OutOfMemory tt gives.1.1.1
+
+not_of_a_played_source :
+    (tells : RunSetting → List Pair → Moment → List ℕ → Type 0) (command : Command) (bytes text : List ℕ) (status : Status) →
+    IsOfNoBytes status → ¬ SourceGives (TellsPlay tells command) bytes status text
+not_of_a_played_source tells command bytes text status none =
+    not_of_a_source (TellsPlay tells command) bytes text
+    (λ p s no. not_of_a_play tells command p s text (not_of_a_run s no)) status none
+
+not_of_a_peak : (k limit : ℕ) (text : List ℕ) (p : Program) (status : Status) → IsOfNoBytes status → ¬ PeakMakes k limit p status text
+not_of_a_peak k limit text p Done none = absurd none
+not_of_a_peak k limit text p Usage none = λ makes. makes
+not_of_a_peak k limit text p ReadFault none = λ makes. makes
+not_of_a_peak k limit text p WriteFault none = λ makes. makes
+not_of_a_peak k limit text p Syntax none = absurd none
+not_of_a_peak k limit text p Check none = absurd none
+not_of_a_peak k limit text p UserFault none = absurd none
+not_of_a_peak k limit text p StepsSpent none = absurd none
+not_of_a_peak k limit text p ArenaFull none = absurd none
+not_of_a_peak k limit text p DequesFull none = absurd none
+not_of_a_peak k limit text p OutOfMemory none = λ makes. makes
+
+not_of_a_check : (text : List ℕ) (p : Program) (status : Status) → IsOfNoBytes status → ¬ CheckMakes p status text
+not_of_a_check text p Done none = absurd none
+not_of_a_check text p Usage none = λ makes. makes
+not_of_a_check text p ReadFault none = λ makes. makes
+not_of_a_check text p WriteFault none = λ makes. makes
+not_of_a_check text p Syntax none = λ makes. makes
+not_of_a_check text p Check none = λ makes. makes
+not_of_a_check text p UserFault none = λ makes. makes
+not_of_a_check text p StepsSpent none = λ makes. makes
+not_of_a_check text p ArenaFull none = λ makes. makes
+not_of_a_check text p DequesFull none = λ makes. makes
+not_of_a_check text p OutOfMemory none = λ makes. makes
+
+not_of_an_expansion :
+    (makes : List ℕ → Status → List ℕ → Type 0) (text : List ℕ) (status : Status) → IsOfNoBytes status →
+    ((expanded : List ℕ) → ¬ makes expanded status text) → (answer : Result (List ℕ) ExpandFail) → ¬ OfExpansion makes answer status text
+not_of_an_expansion makes text status none not (Ok expanded) gives = not expanded gives
+not_of_an_expansion makes text status none not (Err fail) gives = subst IsOfNoBytes gives.0 none
+
 not_given : (kind : CommandKind) (command : Command) (bytes text : List ℕ) (status : Status) → IsOfNoBytes status →
-    ¬ SourceGives (KindMakes kind command bytes) bytes status text
-not_given kind command bytes text Done none gives = absurd none
-not_given Play command bytes text Usage none gives = not_of_a_play Reports command gives.0 Usage text (λ is. is) gives.1.1.1
-not_given Peak command bytes text Usage none gives = gives.1.1.1
-not_given Checks command bytes text Usage none gives = gives.1.1.1
-not_given Make command bytes text Usage none gives =
-    not_of_a_play (Summarizes (length bytes)) command gives.0 Usage text (λ is. is) gives.1.1.1
-not_given Play command bytes text ReadFault none gives = not_of_a_play Reports command gives.0 ReadFault text (λ is. is) gives.1.1.1
-not_given Peak command bytes text ReadFault none gives = gives.1.1.1
-not_given Checks command bytes text ReadFault none gives = gives.1.1.1
-not_given Make command bytes text ReadFault none gives =
-    not_of_a_play (Summarizes (length bytes)) command gives.0 ReadFault text (λ is. is) gives.1.1.1
-not_given Play command bytes text WriteFault none gives = not_of_a_play Reports command gives.0 WriteFault text (λ is. is) gives.1.1.1
-not_given Peak command bytes text WriteFault none gives = gives.1.1.1
-not_given Checks command bytes text WriteFault none gives = gives.1.1.1
-not_given Make command bytes text WriteFault none gives =
-    not_of_a_play (Summarizes (length bytes)) command gives.0 WriteFault text (λ is. is) gives.1.1.1
-not_given kind command bytes text Syntax none gives = absurd none
-not_given kind command bytes text Check none gives = absurd none
-not_given kind command bytes text UserFault none gives = absurd none
-not_given kind command bytes text StepsSpent none gives = absurd none
-not_given kind command bytes text ArenaFull none gives = absurd none
-not_given kind command bytes text DequesFull none gives = absurd none
-not_given Play command bytes text OutOfMemory none gives = not_of_a_play Reports command gives.0 OutOfMemory text (λ is. is) gives.1.1.1
-not_given Peak command bytes text OutOfMemory none gives = gives.1.1.1
-not_given Checks command bytes text OutOfMemory none gives = gives.1.1.1
-not_given Make command bytes text OutOfMemory none gives =
-    not_of_a_play (Summarizes (length bytes)) command gives.0 OutOfMemory text (λ is. is) gives.1.1.1
+    ¬ KindGives kind command bytes status text
+not_given Play command bytes text status none gives = not_of_a_played_source Reports command bytes text status none gives
+not_given Peak command bytes text status none gives =
+    not_of_a_source (PeakMakes command.k command.steps) bytes text (not_of_a_peak command.k command.steps text) status none gives
+not_given Checks command bytes text status none gives = not_of_a_source CheckMakes bytes text (not_of_a_check text) status none gives
+not_given Make command bytes text status none gives =
+    not_of_a_played_source (Summarizes (length bytes)) command bytes text status none gives
+not_given Loops command bytes text status none gives =
+    not_of_an_expansion (SourceGives (PlayMakes command)) text status none
+    (λ expanded. not_of_a_played_source Reports command expanded text status none) gives.0 gives.2
+not_given Expand command bytes text status none gives =
+    not_of_an_expansion ExpandMakes text status none (λ expanded made. subst IsOfNoBytes made.0 none) gives.0 gives.2
 
 -- what is made of bytes ends a call with its text
 pub ends_at_text : (command : Command) (bytes : List ℕ) (taken taken' : Option (List ℕ)) (status : Status) (text : List ℕ) →
@@ -197,6 +253,8 @@ command_of_read Play command failed left left' reads status text gives = gives
 command_of_read Peak command failed left left' reads status text gives = gives
 command_of_read Checks command failed left left' reads status text gives = gives
 command_of_read Make command failed left left' reads status text gives = absurd (reads refl)
+command_of_read Loops command failed left left' reads status text gives = gives
+command_of_read Expand command failed left left' reads status text gives = gives
 
 -- `make` answers what it makes of its made source
 pub command_of_made :
@@ -212,6 +270,8 @@ no_usage Play command failed left left' text gives = not_given command.kind comm
 no_usage Peak command failed left left' text gives = not_given command.kind command gives.0 text Usage tt gives.1.1
 no_usage Checks command failed left left' text gives = not_given command.kind command gives.0 text Usage tt gives.1.1
 no_usage Make command failed left left' text gives = not_given command.kind command (source_of command) text Usage tt gives
+no_usage Loops command failed left left' text gives = not_given command.kind command gives.0 text Usage tt gives.1.1
+no_usage Expand command failed left left' text gives = not_given command.kind command gives.0 text Usage tt gives.1.1
 
 -- what a command gives is what its call gives
 pub call_of_command :

@@ -3,6 +3,7 @@ pub mod OneAnswer
 pub mod AnAnswer
 pub mod Peaks
 pub mod Plays
+pub mod Expansions
 pub mod GivenWords
 pub mod Headline
 pub mod Sums

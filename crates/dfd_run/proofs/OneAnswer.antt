@@ -1,11 +1,12 @@
 -- A command has one answer to the bytes of a source.
 use Rattle.std.proofs.Common.{◌≡◌, ℕ, ℤ, pos, negsuc, ◌≤◌, ◌<◌, length, arith, List, [], ◌∷◌, get_or, Option, Some, None, ap, sym, ◌∙◌, refl, subst}
+use Rattle.std.specs.Prelude.{Result, Ok, Err}
 use Rattle.std.proofs.Math.Logic.{∥∥₁_elim}
 use denote.Struct.Props.{props}
 use Rattle.canonical_text.specs.Canonical.{canonical}
 use Rattle.command_line.specs.declared.command.Command.{Command}
 use Rattle.command_line.specs.declared.command_kind.CommandKind.{CommandKind}
-use Rattle.command_line.specs.declared.command_kind.CommandKind.TheVariants.{Play, Peak, Check as Checks, Make}
+use Rattle.command_line.specs.declared.command_kind.CommandKind.TheVariants.{Play, Peak, Check as Checks, Make, Loops, Expand}
 use Rattle.dag_order.specs.declared.fault.FaultAt.{FaultAt}
 use Rattle.command_line.specs.declared.setting.Setting.TheVariants.{Quota as QuotaSetting}
 use Rattle.depth_first_run.proofs.Built.{whole_is_depth_first}
@@ -18,6 +19,9 @@ use Rattle.deque_machine.specs.Play.{Ending, finished, stopped}
 use Rattle.deque_machine.specs.Runs.{Pair}
 use Rattle.dfd_core.specs.Ends.{finish_of_run}
 use Rattle.lawful_books.specs.Books.{booked, periods_marked}
+use Rattle.loop_expand.specs.declared.expand_fail.ExpandFail.{ExpandFail}
+use Rattle.loop_expand.specs.declared.expand_fail.ExpandFail.TheVariants.{Refused, BadLoop, NameTaken, OutOfMemory as NoMemory}
+use Rattle.loop_expand.proofs.Answered.{one_answer as a_text_has_one_answer}
 use Rattle.machine_replay.proofs.OnePlay.{one_play}
 use Rattle.par_ownership.specs.Ownership.{Ownership}
 use Rattle.par_ownership.specs.Walk.{Refusal, program_refusal}
@@ -27,11 +31,12 @@ use Rattle.par_text.proofs.Verdicts.{one_verdict}
 use Rattle.par_text.specs.declared.syntax_error.SyntaxError.{SyntaxError}
 use Rattle.par_tree.specs.Tree.{Program}
 use Rattle.run_report.specs.Texts.{peak_text, report_text, summary_text}
-use Rattle.dfd_run.specs.Answer.{SourceGives, CheckMakes, KindMakes, BytesGive, HasRanges}
+use Rattle.dfd_run.specs.Answer.{SourceGives, CheckMakes, KindGives, BytesGive, HasRanges}
+use Rattle.dfd_run.specs.Expanding.{TellsExpandFail, OfExpansion, ExpansionGives, ExpandMakes}
 use Rattle.dfd_run.specs.Messages.{syntax_text, check_text, spent_text}
-use Rattle.dfd_run.specs.Make.{Summarizes, sum_of}
+use Rattle.dfd_run.specs.Make.{MakeMakes, Summarizes, sum_of}
 use Rattle.dfd_run.specs.Peak.{RunText, RunMakes, PeakMakes}
-use Rattle.dfd_run.specs.Play.{IsPlay, TellsPlay, TellsEnding, Reports, play_setting, play_terms, play_machine, seeded_words}
+use Rattle.dfd_run.specs.Play.{IsPlay, TellsPlay, TellsEnding, Reports, PlayMakes, play_setting, play_terms, play_machine, seeded_words}
 use Rattle.dfd_run.specs.Status.{code_of}
 use Rattle.dfd_run.specs.declared.status.Status.{Status}
 use Rattle.dfd_run.specs.declared.status.Status.TheVariants.{Done, Usage, ReadFault, WriteFault, Syntax, Check, UserFault, StepsSpent, ArenaFull, DequesFull, OutOfMemory}
@@ -272,14 +277,41 @@ one_peak k limit p s s' t t' m m' =
     let items = (whole (setting_of p k)).items in
     one_run_way items limit s s' t t' (run_way_of items limit s t m) (run_way_of items limit s' t' m')
 
-one_kind : (kind : CommandKind) (command : Command) → HasRanges command → (bytes : List ℕ) → IsOne (KindMakes kind command bytes)
-one_kind Play command ranges bytes = one_play_answer Reports one_report command ranges
-one_kind Peak command ranges bytes = one_peak command.k command.steps
-one_kind Checks command ranges bytes = one_check
-one_kind Make command ranges bytes = one_play_answer (Summarizes (length bytes)) (one_summary (length bytes)) command ranges
+-- `loops` and `expand`: a refusal has one line, and bytes have one expansion or one refusal
+one_line : (fail : ExpandFail) (t t' : List ℕ) → TellsExpandFail fail t → TellsExpandFail fail t' → t ≡ t'
+one_line (Refused e) t t' told told' = told ∙ sym told'
+one_line (BadLoop at) t t' told told' = told ∙ sym told'
+one_line (NameTaken at) t t' told told' = told ∙ sym told'
+one_line NoMemory t t' told told' = absurd told
+
+pub one_expansion :
+    (makes : List ℕ → Status → List ℕ → Type 0) (bytes : List ℕ) (s s' : Status) (t t' : List ℕ) →
+    ((expanded : List ℕ) → makes expanded s t → makes expanded s' t' → Same s s' t t') →
+    ExpansionGives makes bytes s t → ExpansionGives makes bytes s' t' → Same s s' t t'
+one_expansion makes bytes s s' t t' one g g' =
+    by_answer g.0 g.2 (subst (λ a. OfExpansion makes a s' t') (a_text_has_one_answer bytes g'.0 g.0 g'.1 g.1) g'.2)
+  where
+    by_answer : (answer : Result (List ℕ) ExpandFail) → OfExpansion makes answer s t → OfExpansion makes answer s' t' → Same s s' t t'
+    by_answer (Ok expanded) m m' = one expanded m m'
+    by_answer (Err fail) told told' = (told.0 ∙ sym told'.0, one_line fail t t' told.1 told'.1)
+
+one_kind : (kind : CommandKind) (command : Command) → HasRanges command → (bytes : List ℕ) (s s' : Status) (t t' : List ℕ) →
+    KindGives kind command bytes s t → KindGives kind command bytes s' t' → Same s s' t t'
+one_kind Play command ranges bytes s s' t t' =
+    one_source (PlayMakes command) (one_play_answer Reports one_report command ranges) bytes s s' t t'
+one_kind Peak command ranges bytes s s' t t' =
+    one_source (PeakMakes command.k command.steps) (one_peak command.k command.steps) bytes s s' t t'
+one_kind Checks command ranges bytes s s' t t' = one_source CheckMakes one_check bytes s s' t t'
+one_kind Make command ranges bytes s s' t t' =
+    one_source (MakeMakes command bytes) (one_play_answer (Summarizes (length bytes)) (one_summary (length bytes)) command ranges) bytes
+    s s' t t'
+one_kind Loops command ranges bytes s s' t t' =
+    one_expansion (SourceGives (PlayMakes command)) bytes s s' t t'
+    (λ expanded. one_source (PlayMakes command) (one_play_answer Reports one_report command ranges) expanded s s' t t')
+one_kind Expand command ranges bytes s s' t t' =
+    one_expansion ExpandMakes bytes s s' t t' (λ expanded m m'. (m.0 ∙ sym m'.0, m.1 ∙ sym m'.1))
 
 pub one_answer :
     (command : Command) (bytes : List ℕ) (s s' : Status) (t t' : List ℕ) → HasRanges command →
     BytesGive command bytes s t → BytesGive command bytes s' t' → Same s s' t t'
-one_answer command bytes s s' t t' ranges g g' =
-    one_source (KindMakes command.kind command bytes) (one_kind command.kind command ranges bytes) bytes s s' t t' g g'
+one_answer command bytes s s' t t' ranges = one_kind command.kind command ranges bytes s s' t t'

@@ -4,7 +4,7 @@ use Rattle.canonical_text.specs.Canonical.{canonical}
 use Rattle.command_line.specs.Words.{IsCommand, InRange, number_of, wants_groups}
 use Rattle.command_line.specs.declared.command.Command.{Command}
 use Rattle.command_line.specs.declared.command_kind.CommandKind.{CommandKind}
-use Rattle.command_line.specs.declared.command_kind.CommandKind.TheVariants.{Play, Peak, Check as Checks, Make}
+use Rattle.command_line.specs.declared.command_kind.CommandKind.TheVariants.{Play, Peak, Check as Checks, Make, Loops, Expand}
 use Rattle.command_line.specs.declared.setting.Setting.{Setting}
 use Rattle.made_source.specs.declared.TheConstants.{MOST_GROUPS}
 use Rattle.par_ownership.specs.Ownership.{Ownership}
@@ -12,6 +12,7 @@ use Rattle.par_ownership.specs.Walk.{Refusal, program_refusal}
 use Rattle.par_text.specs.Judging.{IsText, IsRefused}
 use Rattle.par_text.specs.declared.syntax_error.SyntaxError.{SyntaxError}
 use Rattle.par_tree.specs.Tree.{Program}
+use Rattle.dfd_run.specs.Expanding.{ExpansionGives, ExpandMakes}
 use Rattle.dfd_run.specs.Make.{MakeMakes, source_of}
 use Rattle.dfd_run.specs.Peak.{PeakMakes}
 use Rattle.dfd_run.specs.Play.{PlayMakes}
@@ -48,16 +49,18 @@ abbrev pub CheckMakes : Program → Status → List ℕ → Type 0
 CheckMakes p Done text = text ≡ canonical p
 CheckMakes p status text = ⊥
 
--- what a command of a kind makes of the program of some bytes
-abbrev pub KindMakes : CommandKind → Command → (bytes : List ℕ) → Program → Status → List ℕ → Type 0
-KindMakes Play command bytes = PlayMakes command
-KindMakes Peak command bytes = PeakMakes command.k command.steps
-KindMakes Checks command bytes = CheckMakes
-KindMakes Make command bytes = MakeMakes command bytes
+-- What a command of a kind makes of the bytes of a source: `loops` what `play` makes of their expansion; and `expand` reads no program.
+abbrev pub KindGives : CommandKind → Command → (bytes : List ℕ) → Status → List ℕ → Type 0
+KindGives Play command bytes = SourceGives (PlayMakes command) bytes
+KindGives Peak command bytes = SourceGives (PeakMakes command.k command.steps) bytes
+KindGives Checks command bytes = SourceGives CheckMakes bytes
+KindGives Make command bytes = SourceGives (MakeMakes command bytes) bytes
+KindGives Loops command bytes = ExpansionGives (SourceGives (PlayMakes command)) bytes
+KindGives Expand command bytes = ExpansionGives ExpandMakes bytes
 
 -- what a command makes of the bytes of a source
 abbrev pub BytesGive : Command → (bytes : List ℕ) → Status → List ℕ → Type 0
-BytesGive command bytes = SourceGives (KindMakes command.kind command bytes) bytes
+BytesGive command = KindGives command.kind command
 
 -- what a command answers that reads its source: where the source failed, just this, else what it makes of the bytes
 -- that it read
@@ -72,6 +75,8 @@ KindAnswers Play command failed left left' = ReadGives command failed left left'
 KindAnswers Peak command failed left left' = ReadGives command failed left left'
 KindAnswers Checks command failed left left' = ReadGives command failed left left'
 KindAnswers Make command failed left left' = BytesGive command (source_of command)
+KindAnswers Loops command failed left left' = ReadGives command failed left left'
+KindAnswers Expand command failed left left' = ReadGives command failed left left'
 
 abbrev pub CommandGives : Command → (failed : Type 0) → (left left' : Option (List ℕ)) → Status → List ℕ → Type 0
 CommandGives command = KindAnswers command.kind command

@@ -1,6 +1,8 @@
 -- What a caller may use.
-use Rattle.std.specs.Prelude.{◌≡◌, ℕ, List}
+use Rattle.std.specs.Prelude.{◌≡◌, ◌↔◌, ℕ, List, Ok}
 use Rattle.command_line.specs.declared.command.Command.{Command}
+use Rattle.command_line.specs.declared.command_kind.CommandKind.TheVariants.{Play, Loops}
+use Rattle.loop_expand.specs.Expansion.{Expands}
 use Rattle.dfd_run.specs.Answer.{BytesGive, HasRanges}
 use Rattle.dfd_run.specs.declared.status.Status.{Status}
 
@@ -13,3 +15,9 @@ OneAnswer =
 -- a command has an answer to the bytes of a source
 abbrev pub AnAnswer : Type 0
 AnAnswer = (command : Command) (bytes : List ℕ) → HasRanges command → (s : Status) × ((t : List ℕ) × BytesGive command bytes s t)
+
+-- where the bytes have an expansion, `loops` answers what `play` with the same numbers answers to it
+abbrev pub LoopsArePlays : Type 0
+LoopsArePlays =
+    (command : Command) (bytes expanded : List ℕ) → Expands bytes (Ok expanded) → (s : Status) (t : List ℕ) →
+    BytesGive (record command { kind = Loops }) bytes s t ↔ BytesGive (record command { kind = Play }) expanded s t

@@ -1,5 +1,6 @@
 pub mod Answer
 pub mod Counts
+pub mod Expanding
 pub mod Headline
 pub mod Laws
 pub mod Make

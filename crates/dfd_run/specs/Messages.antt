@@ -11,7 +11,7 @@ use Rattle.run_report.specs.Texts.{line}
 
 -- the words are no command
 abbrev pub usage_text : List ℕ
-usage_text = line (codes "usage: dfd play|run|peak|check|make [options]")
+usage_text = line (codes "usage: dfd play|run|peak|check|make|loops|expand [options]")
 
 -- the source failed
 abbrev pub read_fault_text : List ℕ
@@ -30,6 +30,14 @@ syntax_word TooMany = codes "TooMany"
 -- the bytes are no text: the refusal and its byte
 abbrev pub syntax_text : SyntaxError → List ℕ
 syntax_text refusal = line (codes "syntax " ++ syntax_word refusal.kind ++ codes " at " ++ decimal refusal.at)
+
+-- a `par call` begins no loop: the byte of its `par`
+abbrev pub bad_loop_text : ℕ → List ℕ
+bad_loop_text at = line (codes "syntax BadLoop at " ++ decimal at)
+
+-- a name is the one of a helper of a loop: its byte
+abbrev pub name_taken_text : ℕ → List ℕ
+name_taken_text at = line (codes "syntax NameTaken at " ++ decimal at)
 
 -- the word for a refusal of a program
 abbrev pub check_word : CheckKind → List ℕ

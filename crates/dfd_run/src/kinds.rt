@@ -3,6 +3,7 @@ ghost use Rattle.dfd_run.specs.Answer.{BytesGive, HasRanges};
 
 use crate::answer::Answer;
 use crate::checking::check;
+use crate::expanding::{expand, loops};
 use crate::making::make;
 use crate::peaking::peak;
 use crate::playing::play;
@@ -19,5 +20,7 @@ pub fn answer_to(alloc: Global, command: &Command, bytes: &[u8]) -> Result<Answe
         CommandKind::Peak => peak(alloc, command.k, command.steps, bytes),
         CommandKind::Check => check(alloc, bytes),
         CommandKind::Make => make(alloc, command, bytes),
+        CommandKind::Loops => loops(alloc, command, bytes),
+        CommandKind::Expand => expand(alloc, bytes),
     }
 }

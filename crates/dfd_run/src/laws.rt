@@ -1,5 +1,5 @@
 ghost use Rattle.dfd_run.specs.Headline.{ArenasStopLate, MomentsAreBounded, PlaysWithRoomFinish, ReportsAreBounded, SummariesAreBounded};
-ghost use Rattle.dfd_run.specs.Laws.{AnAnswer, OneAnswer};
+ghost use Rattle.dfd_run.specs.Laws.{AnAnswer, LoopsArePlays, OneAnswer};
 
 /// The status and the text of a command are a function of the command and of the bytes that it reads.
 pub fn a_command_has_one_answer()
@@ -9,6 +9,12 @@ pub fn a_command_has_one_answer()
 /// A command has an answer to whatever bytes it reads: where streams do not fail and there is memory, one comes.
 pub fn a_command_has_an_answer()
     ensures { AnAnswer }
+{}
+
+/// `loops` does what `play` with the same numbers does with the expansion of the bytes, where they have one. So what the laws below say of
+/// plays of a program holds for it, of the program of the expansion.
+pub fn loops_are_plays()
+    ensures { LoopsArePlays }
 {}
 
 /// At each moment of each play of a command the words in use are at most the depth-first peak, and two quotas for each period that by then

@@ -6,16 +6,17 @@
 //! The layer stands on `command_line`, which says which words are a command; on `accepted_source`, which reads bytes as
 //! a program that keeps the rules of ownership or says why not; on `canonical_text` and `par_print`, the text of a program
 //! in one layout; on `serial_meaning`, the depth-first run of a program; on `frame_code`, its table of nodes, and `dfd_core`, by which
-//! workers play it; and on `run_report`, the texts of runs. The one theorem of the layer is the contract of `dfd`, and of
-//! [`serve`], which does what `dfd` does for a command: the status and the text that the sink took are those that
-//! `CallGives` of `specs/Answer.antt` gives for the words and the bytes read, and each fault has its cause.
-//! The laws of `specs/Headline.antt` say what holds of each play.
+//! workers play it; on `loop_expand`, which writes parallel loops out before a program is read; and on `run_report`, the texts of runs. The
+//! one theorem of the layer is the contract of `dfd`, and of [`serve`], which does what `dfd` does for a command: the status and the text
+//! that the sink took are those that `CallGives` of `specs/Answer.antt` gives for the words and the bytes read, and each fault has its cause.
+//! The laws of `specs/Headline.antt` say what holds of each play, and [`loops_are_plays`] that `loops` is one, of the expansion.
 //! [`a_command_has_an_answer`] and [`a_command_has_one_answer`] say that these are a function of the command and the bytes.
 #![tactic(auto)]
 
 mod answer;
 mod call;
 mod checking;
+mod expanding;
 mod finishing;
 mod kinds;
 mod laws;
@@ -36,8 +37,8 @@ pub use byte_streams::{
 pub use call::{dfd, serve};
 pub use command_line::{Command, CommandKind, read_words};
 pub use laws::{
-    a_command_has_an_answer, a_command_has_one_answer, arenas_stop_late, moments_are_bounded,
-    plays_with_room_finish, reports_are_bounded, summaries_are_bounded,
+    a_command_has_an_answer, a_command_has_one_answer, arenas_stop_late, loops_are_plays,
+    moments_are_bounded, plays_with_room_finish, reports_are_bounded, summaries_are_bounded,
 };
 pub use pcg_choices::PcgChoices;
 pub use program::exit_code;

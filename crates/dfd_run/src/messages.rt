@@ -2,14 +2,15 @@
 
 ghost use Rattle.std.specs.Prelude.{◌≡◌, IfOk, pos};
 ghost use Rattle.block_check.specs.Checked.{error_shown};
-ghost use Rattle.dfd_run.specs.Messages.{syntax_word, syntax_text, check_word, check_text, spent_text, arena_text, deques_text};
+ghost use Rattle.dfd_run.specs.Messages.{syntax_word, syntax_text, bad_loop_text, name_taken_text, check_word, check_text};
+ghost use Rattle.dfd_run.specs.Messages.{spent_text, arena_text, deques_text};
 
 use block_check::{CheckError, CheckKind};
 use par_syntax::{SyntaxError, SyntaxKind};
 use std::alloc::{AllocError, Global};
 
 /// The line of words that are no command.
-pub const USAGE: &str = "usage: dfd play|run|peak|check|make [options]\n";
+pub const USAGE: &str = "usage: dfd play|run|peak|check|make|loops|expand [options]\n";
 
 /// The line of a source that failed.
 pub const READ_FAULT: &str = "read fault\n";
@@ -34,6 +35,22 @@ pub fn syntax_text(alloc: Global, refusal: SyntaxError) -> Result<Vec<u8>, Alloc
     ensures { IfOk result (λ text. text.items ≡ syntax_text refusal) }
 {
     let line = format!(in alloc; "syntax {} at {}\n", syntax_word(refusal.kind), refusal.at)?;
+    Ok(line.into_bytes())
+}
+
+/// The line of a text with a `par call` that begins no loop: the byte of its `par`.
+pub fn bad_loop_text(alloc: Global, at: u32) -> Result<Vec<u8>, AllocError>
+    ensures { IfOk result (λ text. text.items ≡ bad_loop_text at) }
+{
+    let line = format!(in alloc; "syntax BadLoop at {at}\n")?;
+    Ok(line.into_bytes())
+}
+
+/// The line of a text with a name that the helper of one of its loops has: the byte of the name.
+pub fn name_taken_text(alloc: Global, at: u32) -> Result<Vec<u8>, AllocError>
+    ensures { IfOk result (λ text. text.items ≡ name_taken_text at) }
+{
+    let line = format!(in alloc; "syntax NameTaken at {at}\n")?;
     Ok(line.into_bytes())
 }
 

@@ -23,6 +23,13 @@ fn play(k: u32, p: u32, arena: u32, steps: u32, deques: u32, seed: u64) -> Comma
     }
 }
 
+fn loops(k: u32, p: u32, arena: u32, steps: u32, deques: u32, seed: u64) -> Command {
+    Command {
+        kind: CommandKind::Loops,
+        ..play(k, p, arena, steps, deques, seed)
+    }
+}
+
 /// The other options stand at their defaults.
 fn make(groups: u32, k: u32, p: u32, seed: u64) -> Command {
     Command {
@@ -53,7 +60,7 @@ fn without_workers(kind: CommandKind, k: u32, steps: u32) -> Command {
 
 #[test]
 fn commands(rt: HostRuntime) -> Result<(), Fail> {
-    let rows: [(&str, Command); 26] = [
+    let rows: [(&str, Command); 31] = [
         ("play", play(4_096, 4, 1_048_576, 4_000_000, 4_096, 1)),
         (
             "play --k=016 --p 1",
@@ -134,6 +141,23 @@ fn commands(rt: HostRuntime) -> Result<(), Fail> {
             "make --k 16 --p 16 00000000000000000016",
             make(16, 16, 16, 1),
         ),
+        ("loops", loops(4_096, 4, 1_048_576, 4_000_000, 4_096, 1)),
+        (
+            "loops --k=016 --p 1",
+            loops(16, 1, 1_048_576, 4_000_000, 4_096, 1),
+        ),
+        (
+            "loops --seed 7 --deques=3 --steps 9 --arena=48 --p 2 --k=32",
+            loops(32, 2, 48, 9, 3, 7),
+        ),
+        (
+            "loops --steps 4000000 --seed=0",
+            loops(4_096, 4, 1_048_576, 4_000_000, 4_096, 0),
+        ),
+        (
+            "expand",
+            without_workers(CommandKind::Expand, 4_096, 4_000_000),
+        ),
     ];
     for (line, due) in &rows {
         let words = words(rt.alloc(), *line)?;
@@ -144,7 +168,7 @@ fn commands(rt: HostRuntime) -> Result<(), Fail> {
 
 #[test]
 fn words_that_are_no_command(rt: HostRuntime) -> Result<(), Fail> {
-    let rows: [&str; 62] = [
+    let rows: [&str; 71] = [
         "",
         "play --k 24",
         "play --k 0",
@@ -204,6 +228,15 @@ fn words_that_are_no_command(rt: HostRuntime) -> Result<(), Fail> {
         "make 000000000000000000001",
         "play 1",
         "check 1",
+        "loops 1",
+        "loops loops",
+        "loops --k 24",
+        "loops --p 65",
+        "loops --seed 1 --seed 1",
+        "expand --k 16",
+        "expand --",
+        "expand 1",
+        "loop",
         "run",
         "Play",
         "--k 16 play",

@@ -6,6 +6,12 @@
 #![tactic(auto)]
 
 #[cfg(test)]
+mod give_ups;
+#[cfg(test)]
+mod listed;
+#[cfg(test)]
 mod plays;
 #[cfg(test)]
 mod prefixes;
+#[cfg(test)]
+mod replays;

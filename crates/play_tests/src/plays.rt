@@ -159,6 +159,19 @@ fn plays_come_to_what_the_rules_say(rt: HostRuntime) -> Result<(), Fail> {
     play_so(&rt, rt.alloc(), PLAYS)
 }
 
+/// Writes down what a step did.
+pub(crate) fn tell_step(text: &mut String, stepped: Stepped) -> Result<(), Fail> {
+    match stepped {
+        Stepped::Stole { deque, period } => write!(text, "steals {} {period}, ", deque.0)?,
+        Stepped::Acted(id) => write!(text, "{}.{} does {}, ", id.by.period, id.by.nth, id.index)?,
+        Stepped::Suspended(id) => write!(text, "{}.{} waits, ", id.period, id.nth)?,
+        Stepped::GaveUp(deque) => write!(text, "gives {} up, ", deque.0)?,
+        Stepped::Nothing => text.push_str("nothing, ")?,
+        Stepped::Over(_) => text.push_str("over, ")?,
+    }
+    Ok(())
+}
+
 /// Two workers, step by step: the second one steals the root while the first one runs the child that it forked, and has to wait.
 #[test]
 fn steps_are_told_one_by_one(rt: HostRuntime) -> Result<(), Fail> {
@@ -174,18 +187,7 @@ fn steps_are_told_one_by_one(rt: HostRuntime) -> Result<(), Fail> {
     let mut text = String::new(rt.alloc());
     for worker in [1, 0, 1, 0, 0, 1, 1, 1] {
         if worker < core.workers() {
-            match core.step(worker, 0) {
-                Stepped::Stole { deque, period } => write!(text, "steals {} {period}, ", deque.0)?,
-                Stepped::Acted(id) => write!(
-                    text,
-                    "{}.{} does {}, ",
-                    id.by.period, id.by.nth, id.index
-                )?,
-                Stepped::Suspended(id) => write!(text, "{}.{} waits, ", id.period, id.nth)?,
-                Stepped::GaveUp(deque) => write!(text, "gives {} up, ", deque.0)?,
-                Stepped::Nothing => text.push_str("nothing, ")?,
-                Stepped::Over(_) => text.push_str("over, ")?,
-            }
+            tell_step(&mut text, core.step(worker, 0))?;
         }
     }
     assert_eq!(rt;
@@ -234,15 +236,19 @@ fn leaves(depth, first) {
 fn main() { call leaves(4, 1); }
 ";
 
-/// As many words as are asked for that look random: each is the one before it, multiplied and moved (D. Knuth, MMIX), without the half of
-/// its bits that changes least.
+/// The word behind a word, in a row that looks random: the word is multiplied and moved (D. Knuth, MMIX). The low half of its bits changes
+/// least.
+pub(crate) fn next_word(word: u64) -> u64 {
+    word.wrapping_mul(6_364_136_223_846_793_005)
+        .wrapping_add(1_442_695_040_888_963_407)
+}
+
+/// As many words as are asked for that look random, each without the half of its bits that changes least.
 fn scattered_words(alloc: Global, many: u32) -> Result<ListChoices, AllocError> {
     let mut words = Vec::new(alloc);
     let mut word = 1u64;
     for _ in 0..many {
-        word = word
-            .wrapping_mul(6_364_136_223_846_793_005)
-            .wrapping_add(1_442_695_040_888_963_407);
+        word = next_word(word);
         words.push(word >> 32)?;
     }
     Ok(ListChoices::new(words))

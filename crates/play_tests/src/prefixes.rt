@@ -15,9 +15,14 @@ use std::fmt::Write;
 use std::process::Abort;
 use std::test::Fail;
 
-/// The core of a run of a text, and its depth-first run. A number that is out of its range, and a text that is no accepted program, count as
-/// want of memory.
-fn begun(alloc: Global, text: &str, k: u32, workers: u32) -> Result<(Core, Serial), AllocError>
+/// The core of a run of a text, and its depth-first run. A number that is out of its range, and a text that is no accepted program, count
+/// as want of memory.
+pub(crate) fn begun(
+    alloc: Global,
+    text: &str,
+    k: u32,
+    workers: u32,
+) -> Result<(Core, Serial), AllocError>
     ensures { IfOk result (λ both. IsSerialOf both.0 both.1) }
 {
     let Some(k) = Quota::new(k) else {

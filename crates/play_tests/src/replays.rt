@@ -1,0 +1,525 @@
+//! Plays replayed by the program of the machine of deques: each event is a case of the machine, and behind each the core holds what the
+//! machine's moment has.
+
+use crate::listed::{Listed, label_of};
+use crate::plays::next_word;
+use crate::prefixes::begun;
+use dag_order::{ActionId, Births, Kind, Label};
+use dfd_core::{Core, RunEnd, Stepped};
+use machine_replay::runs::{opening, replay, step};
+use machine_replay::{Event, Moment, Pair};
+use serial_meaning::Serial;
+use space_ledger::Book;
+use std::alloc::{AllocError, Global};
+use std::fmt::Write;
+use std::process::Abort;
+use std::test::Fail;
+
+/// More turns than these plays have.
+const TURNS: u32 = 5_000;
+
+/// A program that is played, and what its play is compared with.
+#[derive(Drop)]
+struct Play<'a> {
+    text: &'a str,
+    serial: Serial,
+    listed: Listed,
+    k: u32,
+    workers: u32,
+}
+
+/// A period of a core, closed or open.
+#[derive(Drop)]
+struct Numbered<'a> {
+    ahead: bool,
+    owner: Option<u32>,
+    book: &'a Book,
+    births: &'a Births,
+}
+
+/// The period of a number.
+fn period_of(core: &Core, number: u32) -> Result<Numbered<'_>, Fail> {
+    if let Some(closed) = core.books().by_number(number) {
+        return Ok(Numbered {
+            ahead: closed.ahead,
+            owner: None,
+            book: &closed.book,
+            births: &closed.births,
+        });
+    }
+    for worker in 0..core.workers() {
+        if let Some(period) = core.period(worker) {
+            if period.number == number {
+                return Ok(Numbered {
+                    ahead: period.ahead,
+                    owner: Some(worker),
+                    book: &period.book,
+                    births: &period.births,
+                });
+            }
+        }
+    }
+    Err(Fail::new("a number without a period"))
+}
+
+/// The births of all periods, in the order of their numbers.
+fn births_in(alloc: Global, core: &Core) -> Result<Vec<&Births>, Fail> {
+    let mut births = Vec::new(alloc);
+    for before in 0..core.periods() {
+        births.push(period_of(core, before + 1)?.births)?;
+    }
+    Ok(births)
+}
+
+/// The place of an action of a core in the depth-first list.
+fn place_of(alloc: Global, births: &[&Births], listed: &Listed, id: ActionId) -> Result<u32, Fail> {
+    let label = label_of(alloc, births, id.by)?;
+    listed.place_of(&label, id.index)
+}
+
+/// Writes a deque: its id, its owner, and the labels of its threads from top to bottom.
+fn tell_deque(
+    text: &mut String,
+    id: u32,
+    owner: Option<u32>,
+    threads: &[Label],
+) -> Result<(), AllocError> {
+    write!(text, "{id} {owner:?}:")?;
+    for label in threads {
+        write!(text, " {:?}", label.ordinals())?;
+    }
+    text.push_str("; ")
+}
+
+/// Writes a book: its mark, the worker that it is open for, and the places of what it ran.
+fn tell_book(
+    text: &mut String,
+    ahead: bool,
+    owner: Option<u32>,
+    ran: &[u32],
+) -> Result<(), AllocError> {
+    write!(text, "{ahead} {owner:?} {ran:?}; ")
+}
+
+/// The labels of the threads of a deque of a core.
+fn labels_in(
+    alloc: Global,
+    core: &Core,
+    births: &[&Births],
+    rank: u32,
+) -> Result<Vec<Label>, Fail> {
+    let mut labels = Vec::new(alloc);
+    if let Some(id) = core.list().at(rank) {
+        let lane = core.list().lane(id);
+        for place in 0..lane.len() {
+            if let Some(thread) = lane.item(place) {
+                labels.push(label_of(alloc, births, thread.id())?)?;
+            }
+        }
+    }
+    Ok(labels)
+}
+
+/// Writes the deques of a core; the answer is how many threads stand in them.
+fn tell_deques(
+    alloc: Global,
+    text: &mut String,
+    core: &Core,
+    births: &[&Births],
+) -> Result<u64, Fail> {
+    let mut threads = 0u64;
+    for rank in 0..core.list().len() {
+        if let Some(place) = core.list().place(rank) {
+            let labels = labels_in(alloc, core, births, rank)?;
+            tell_deque(text, place.id.0, place.owner, &labels)?;
+            threads = threads.saturating_add(labels.len() as u64);
+        }
+    }
+    Ok(threads)
+}
+
+/// The places of the actions of a book of a core.
+fn places_in(
+    alloc: Global,
+    births: &[&Births],
+    listed: &Listed,
+    book: &Book,
+) -> Result<Vec<u32>, Fail> {
+    let mut places = Vec::new(alloc);
+    for id in book.as_slice() {
+        places.push(place_of(alloc, births, listed, *id)?)?;
+    }
+    Ok(places)
+}
+
+/// How many of these places are Ends.
+fn ends_at(serial: &Serial, places: &[u32]) -> u64 {
+    let mut ends = 0u64;
+    for place in places {
+        if let Some(action) = serial.actions.at(*place) {
+            if action.kind == Kind::End {
+                ends = ends.saturating_add(1);
+            }
+        }
+    }
+    ends
+}
+
+/// Writes the books of a core; the answer is how many threads were begun without an End.
+fn tell_books(
+    alloc: Global,
+    text: &mut String,
+    core: &Core,
+    births: &[&Births],
+    play: &Play,
+) -> Result<u64, Fail> {
+    let mut begun = 1u64;
+    let mut ended = 0u64;
+    for before in 0..core.periods() {
+        let period = period_of(core, before + 1)?;
+        let places = places_in(alloc, births, &play.listed, period.book)?;
+        tell_book(text, period.ahead, period.owner, &places)?;
+        begun = begun.saturating_add(u64::from(period.births.len()));
+        ended = ended.saturating_add(ends_at(&play.serial, &places));
+    }
+    Ok(begun.saturating_sub(ended))
+}
+
+/// What a core holds: its deques, its books, how many threads wait, its live words, and how many periods are marked.
+fn told_of_core(alloc: Global, core: &Core, play: &Play) -> Result<String, Fail> {
+    let births = births_in(alloc, core)?;
+    let mut text = String::new(alloc);
+    let standing = tell_deques(alloc, &mut text, core, &births)?;
+    let going = tell_books(alloc, &mut text, core, &births, play)?;
+    write!(
+        text,
+        "waiting {}, live {}, actions {}, ahead {}",
+        going.saturating_sub(standing),
+        core.live(),
+        core.actions(),
+        core.ahead()
+    )?;
+    Ok(text)
+}
+
+/// By how much the words that are out rise with the actions at these places.
+fn change_at(serial: &Serial, places: &[u32]) -> i64 {
+    let mut change = 0i64;
+    for place in places {
+        if let Some(action) = serial.actions.at(*place) {
+            change = change.saturating_add(action.change);
+        }
+    }
+    change
+}
+
+/// Writes the books of a moment, and behind them its waiting threads, and what its books come to.
+fn tell_rest(text: &mut String, moment: &Moment, serial: &Serial) -> Result<(), AllocError> {
+    let mut live = 0i64;
+    let mut actions = 0u64;
+    let mut ahead = 0u64;
+    for book in moment.books() {
+        tell_book(text, book.is_ahead(), book.owner(), book.ran())?;
+        live = live.saturating_add(change_at(serial, book.ran()));
+        actions = actions.saturating_add(book.ran().len() as u64);
+        ahead = ahead.saturating_add(u64::from(book.is_ahead()));
+    }
+    write!(
+        text,
+        "waiting {}, live {live}, actions {actions}, ahead {ahead}",
+        moment.waiting().len()
+    )
+}
+
+/// What a moment of the machine has.
+fn told_of_moment(alloc: Global, moment: &Moment, serial: &Serial) -> Result<String, AllocError> {
+    let mut text = String::new(alloc);
+    for deque in moment.deques() {
+        tell_deque(&mut text, deque.id(), deque.owner(), deque.threads())?;
+    }
+    tell_rest(&mut text, moment, serial)?;
+    Ok(text)
+}
+
+/// The place of the deque that a thief robs, picked by a word: of the leftmost deques, as many as there are workers, the first from which a
+/// thread can be taken, the tries beginning at the word and going once round.
+fn robbed(moment: &Moment, workers: u32, word: u64) -> Option<u32> {
+    let reach = workers.min(u32::try_from(moment.deques().len()).ok()?);
+    for turn in 0..reach {
+        let picked = word
+            .wrapping_add(u64::from(turn))
+            .checked_rem(u64::from(reach))?;
+        let place = u32::try_from(picked).ok()?;
+        let deque = moment.deques().get(place as usize)?;
+        if deque.owner().is_none() || 2 <= deque.threads().len() {
+            return Some(place);
+        }
+    }
+    None
+}
+
+/// What a step did, as the machine says it.
+fn event_of(
+    alloc: Global,
+    core: &Core,
+    moment: &Moment,
+    play: &Play,
+    word: u64,
+    stepped: Stepped,
+) -> Result<Event, Fail> {
+    match stepped {
+        Stepped::Stole { deque, .. } => match robbed(moment, play.workers, word) {
+            Some(place) => Ok(Event::Steals { place, id: deque.0 }),
+            None => Err(Fail::new("a theft from nobody")),
+        },
+        Stepped::Acted(id) => {
+            let births = births_in(alloc, core)?;
+            Ok(Event::Does(place_of(alloc, &births, &play.listed, id)?))
+        }
+        Stepped::Suspended(_) => Ok(Event::Suspends),
+        Stepped::GaveUp(_) => Ok(Event::GivesUp),
+        Stepped::Nothing => Err(Fail::new("a worker that cannot move")),
+        Stepped::Over(_) => Err(Fail::new("a stop")),
+    }
+}
+
+/// The first worker that can move, from the one that a word picks on.
+fn mover(core: &Core, word: u64) -> Option<u32> {
+    let workers = u64::from(core.workers());
+    for turn in 0..core.workers() {
+        let picked = word.wrapping_add(u64::from(turn)).checked_rem(workers)?;
+        let worker = u32::try_from(picked).ok()?;
+        if core.can_move(worker) {
+            return Some(worker);
+        }
+    }
+    None
+}
+
+/// One turn of a play: a worker moves, and so does the machine.
+fn turn(
+    rt: &impl Abort,
+    alloc: Global,
+    core: &mut Core,
+    play: &Play,
+    moment: Moment,
+    worker: u32,
+    word: u64,
+) -> Result<(Pair, Moment), Fail> {
+    if core.workers() <= worker {
+        return Err(Fail::new("no such worker"));
+    }
+    let stepped = core.step(worker, word);
+    let event = event_of(alloc, core, &moment, play, word, stepped)?;
+    let pair = Pair { worker, event };
+    if 1_000_000 < play.listed.actions.len() {
+        return Err(Fail::new("a list too long"));
+    }
+    let next = step(
+        alloc,
+        &play.listed.actions,
+        u64::from(play.k),
+        play.workers,
+        moment,
+        pair,
+    )?;
+    let Some(next) = next else {
+        assert!(rt;
+            false,
+            "{pair:?} is no case of the machine, quota {}: {}",
+            play.k, play.text
+        );
+        return Err(Fail::new("a pair that is no case of the machine"));
+    };
+    let told = told_of_core(alloc, core, play)?;
+    let want = told_of_moment(alloc, &next, &play.serial)?;
+    assert_eq!(rt;
+        told.as_str(),
+        want.as_str(),
+        "behind {pair:?}, quota {}: {}",
+        play.k,
+        play.text
+    );
+    Ok((pair, next))
+}
+
+/// Plays to the end, and gives the pairs of the play and the moment that they lead to.
+fn play_on(
+    rt: &impl Abort,
+    alloc: Global,
+    core: &mut Core,
+    play: &Play,
+    seed: u64,
+) -> Result<(Vec<Pair>, Moment), Fail> {
+    let mut moment = opening(alloc)?;
+    let mut pairs = Vec::new(alloc);
+    let mut word = seed;
+    for _ in 0..TURNS {
+        word = next_word(word);
+        let Some(worker) = mover(core, word >> 32) else {
+            return Ok((pairs, moment));
+        };
+        word = next_word(word);
+        let (pair, next) = turn(rt, alloc, core, play, moment, worker, word >> 32)?;
+        pairs.push(pair)?;
+        moment = next;
+    }
+    Err(Fail::new("a play without an end"))
+}
+
+/// The moment that all these pairs lead to from the opening one.
+fn replayed(alloc: Global, play: &Play, pairs: &[Pair]) -> Result<Moment, Fail> {
+    if 1_000_000 < play.listed.actions.len() || 1_000_000 < pairs.len() {
+        return Err(Fail::new("a play too long"));
+    }
+    let answer = replay(
+        alloc,
+        &play.listed.actions,
+        u64::from(play.k),
+        play.workers,
+        pairs,
+    )?;
+    match answer {
+        Ok(moment) => Ok(moment),
+        Err(_) => Err(Fail::new("a pair that is no case of the machine")),
+    }
+}
+
+/// The core of a run of a text, and its depth-first run. It hands no clause on, since each goal of its callers would carry it.
+fn core_and_serial(
+    alloc: Global,
+    text: &str,
+    k: u32,
+    workers: u32,
+) -> Result<(Core, Serial), AllocError> {
+    begun(alloc, text, k, workers)
+}
+
+/// A program as it is played, and its core.
+fn play_of<'a>(
+    alloc: Global,
+    text: &'a str,
+    k: u32,
+    workers: u32,
+) -> Result<(Core, Play<'a>), Fail> {
+    let (core, serial) = core_and_serial(alloc, text, k, workers)?;
+    let listed = Listed::of(alloc, &serial)?;
+    Ok((
+        core,
+        Play {
+            text,
+            serial,
+            listed,
+            k,
+            workers,
+        },
+    ))
+}
+
+/// The end of a play is that of the depth-first run, and all its pairs together lead to the moment that they lead to one by one.
+fn compare_end(
+    rt: &impl Abort,
+    alloc: Global,
+    core: &Core,
+    play: &Play,
+    pairs: &[Pair],
+    last: &Moment,
+) -> Result<(), Fail> {
+    let finish = RunEnd::Finished(play.serial.finish);
+    assert!(rt;
+        core.end() == Some(finish),
+        "{:?}: {}",
+        core.end(),
+        play.text
+    );
+    assert_eq!(rt; core.actions(), play.serial.actions.len(), "{}", play.text);
+    let again = replayed(alloc, play, pairs)?;
+    let told = told_of_moment(alloc, &again, &play.serial)?;
+    let want = told_of_moment(alloc, last, &play.serial)?;
+    assert_eq!(rt; told.as_str(), want.as_str(), "{}", play.text);
+    Ok(())
+}
+
+/// Plays a program with the words of a seed. The play goes with the machine from the opening to the end.
+fn follow(
+    rt: &impl Abort,
+    alloc: Global,
+    text: &str,
+    k: u32,
+    workers: u32,
+    seed: u64,
+) -> Result<(), Fail> {
+    let (mut core, play) = play_of(alloc, text, k, workers)?;
+    let (pairs, last) = play_on(rt, alloc, &mut core, &play, seed)?;
+    compare_end(rt, alloc, &core, &play, &pairs, &last)
+}
+
+/// Each program is played with each of these quotas.
+fn follow_all(
+    rt: &impl Abort,
+    alloc: Global,
+    programs: &str,
+    workers: u32,
+    seed: u64,
+) -> Result<(), Fail> {
+    for text in programs.split('@') {
+        let text = text.trim();
+        if text.is_empty() {
+            continue;
+        }
+        for k in [16, 32, 48, 4_096] {
+            follow(rt, alloc, text, k, workers, seed)?;
+        }
+    }
+    Ok(())
+}
+
+/// Forks inside forks, Allocs above the quota with their dummies, faults with open children, blocks that go to a child and come back, and
+/// cuts.
+const PROGRAMS: &str = "
+@ fn main() { print 1; }
+@ fn main() { par { print 1; } and { print 2; } print 3; }
+@ fn main() { alloc b = 40; b[3] = 7; print b[3]; free b; }
+@ fn main() { par { par { alloc a = 16; free a; } and { print 1; } } and { par { print 2; } and { alloc b = 20; free b; } } }
+@ fn main() { par { alloc a = 33; free a; alloc b = 16; free b; } and { par { alloc c = 40; free c; } and { alloc d = 1; free d; } } }
+@ fn main() { alloc a = 16; par { par { print 1 / 0; } and { } print 1; } and { a[0] = 2; print a[0]; } free a; }
+@
+fn main() {
+  alloc a = 16; alloc b = 4; alloc c = 5; alloc d = 1;
+  par { a[0] = 1; b[0] = 1; } and {
+    par { c[0] = 1; } and { d[0] = 1 % 0; }
+    print 1;
+  }
+  print 2;
+  free a; free b; free c; free d;
+}
+@
+fn main() {
+  alloc b = 40;
+  split b at 32 into l, r {
+    par { l[31] = 1; print l[31]; } and { par { r[7] = 2; } and { alloc s = 17; free s; } print r[7]; }
+  }
+  print b[31] + b[39];
+  free b;
+}
+@
+fn mk() { alloc b = 1; par { } and { } return own b; }
+fn f() { call own b = mk(); free b; }
+fn main() { par { par { alloc a = 16; free a; } and { } } and { call f(); } }
+@
+fn leaves(depth, first) {
+  if depth == 0 { alloc b = 20; b[3] = first; print b[3]; free b; }
+  else { par { call leaves(depth - 1, first * 2); } and { call leaves(depth - 1, first * 2 + 1); } }
+}
+fn main() { call leaves(2, 1); }
+";
+
+#[test]
+fn plays_are_runs_of_the_machine(rt: HostRuntime) -> Result<(), Fail> {
+    for workers in [1, 2, 3, 4, 64] {
+        for seed in [1, 2] {
+            follow_all(&rt, rt.alloc(), PROGRAMS, workers, seed)?;
+        }
+    }
+    Ok(())
+}
