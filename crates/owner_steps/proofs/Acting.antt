@@ -1,5 +1,5 @@
 -- What an action comes to, out of what the calls below tell.
-use Rattle.std.proofs.Common.{◌≡◌, ℕ, ◌+◌, ◌-◌, ◌≤◌, List, [], ◌∷◌, ◌++◌, map, length, refl, sym, ap, subst, ◌∙◌, arith, true≢false}
+use Rattle.std.proofs.Common.{◌≡◌, ℕ, ◌+◌, ◌-◌, ◌≤◌, List, [], ◌∷◌, map, length, refl, sym, ap, subst, ◌∙◌, arith, true≢false}
 use Rattle.std.proofs.lemmas.Int.{ints}
 use Rattle.std.specs.Prelude.{Bool, IsTrue, is_some, Option, None, Some, pos, neg_ℤ, ◌+ℤ◌}
 use Rattle.std.proofs.lemmas.List.Sorted.{IsPermutation-refl}
@@ -17,7 +17,7 @@ use Rattle.moment_parts.specs.Events.{Does}
 use Rattle.thread_points.specs.Points.{list_of}
 use Rattle.thread_frames.specs.Actions.{IsOfTheList, TellsWords, TellsJoin, deed_of, is_there}
 use Rattle.thread_frames.specs.declared.open_child.OpenChild.{OpenChild}
-use Rattle.thread_frames.specs.Views.{label_of, done_of, children_of, child_shown, newest, result_of, released_by, join_words_of}
+use Rattle.thread_frames.specs.Views.{label_of, children_of, child_shown, newest, result_of, released_by, join_words_of}
 use Rattle.thread_frames.specs.declared.next.Next.{Next}
 use Rattle.thread_frames.specs.declared.thread.Thread.{Thread}
 use Rattle.thread_frames.specs.declared.ended.Ended.{Ended}
@@ -29,11 +29,9 @@ use Rattle.thread_events.specs.Acts.{ActsBy, GoesBack, GoesBackUnowned, GoesBack
 use Rattle.core_parts.specs.declared.scheduler.Scheduler.{Scheduler}
 use Rattle.core_parts.specs.Held.{Held, held, held_under, parts_in, waiting_shown, result_kept, AreSame, IsReordered, OwnersSit, OwnsNone, IsInOrder, AreAtPoints, AreResults}
 use Rattle.core_parts.specs.Moments.{terms_of}
-use Rattle.dag_order.specs.declared.action_id.ActionId.{ActionId}
 use Rattle.depth_first_list.specs.Actions.{weight_of}
 use Rattle.deque_machine.specs.Runs.{moves_words}
-use Rattle.space_ledger.specs.MovesList.{moves_list}
-use Rattle.owner_steps.specs.Acts.{Acted, Acts, noted, change}
+use Rattle.owner_steps.specs.Acts.{Acted, Performs}
 use Rattle.owner_steps.proofs.Places.{keep_sitting, leave_sitting, points_change, under_is}
 
 -- the very same parts
@@ -161,23 +159,19 @@ same_terms before after actions workers capacity most = λ i. record {
   limits = record { capacity = capacity i; actions = actions; deques = most i };
 }
 
--- an action that was counted and noted, with so many words
-pub acts_of : (next : Next) (Where : ℕ → Period → ℕ → Type 0) (worker : ℕ) (id : DequeId) (top : Thread) (before after : Scheduler) (name : ActionId)
-    → Acted next Where worker id top before (held after) → name.by ≡ Thread.id top → name.index ≡ done_of top → after.done ≡ before.done + 1
-    → (words : ℕ) → ((w : ℕ) → TellsWords top next w → w ≡ words) → pos after.pool.live ≡ pos before.pool.live +ℤ weight_of (deed_of top next) words
-    → (is_move : Bool) (was now : ℕ) → moves_list after.moves ≡ moves_list before.moves ++ noted is_move name (change was now)
-    → is_move ≡ moves_words (deed_of top next) (label_of top) words → was ≡ before.pool.live → now ≡ after.pool.live
+-- an action that was done, with so many words
+pub performs_of : (next : Next) (Where : ℕ → Period → ℕ → Type 0) (worker : ℕ) (id : DequeId) (top : Thread) (before after : Scheduler)
+    → Acted next Where worker id top before (held after) → (words : ℕ) → ((w : ℕ) → TellsWords top next w → w ≡ words)
+    → pos after.pool.live ≡ pos before.pool.live +ℤ weight_of (deed_of top next) words
+    → (moved : Bool) → moved ≡ moves_words (deed_of top next) (label_of top) words → after.moves ≡ before.moves → after.done ≡ before.done
     → length after.table.seats.items ≡ length before.table.seats.items → after.pool.capacity ≡ before.pool.capacity → after.list.most ≡ before.list.most
-    → Acts next Where worker id top before after name
-acts_of next Where worker id top before after name acted by index done words tells live is_move was now moved is was_is now_is workers capacity most = record {
+    → Performs next Where worker id top before after moved
+performs_of next Where worker id top before after acted words tells live moved is moves done workers capacity most = record {
   acted = acted;
-  by = by;
-  index = index;
-  done = done;
   live = λ w told. live ∙ ap (λ n. pos before.pool.live +ℤ weight_of (deed_of top next) n) (sym (tells w told));
-  moves = λ w told. moved ∙ ap (λ b. moves_list before.moves ++ noted b name (change was now)) (is ∙ ap (moves_words (deed_of top next) (label_of top)) (sym (tells w told)))
-      ∙ ap (λ n. moves_list before.moves ++ noted (moves_words (deed_of top next) (label_of top) w) name (change n now)) was_is
-      ∙ ap (λ n. moves_list before.moves ++ noted (moves_words (deed_of top next) (label_of top) w) name (change before.pool.live n)) now_is;
+  moved_words = λ w told. is ∙ ap (moves_words (deed_of top next) (label_of top)) (sym (tells w told));
+  moves = moves;
+  done = done;
   terms = λ actions. same_terms before after actions workers capacity most;
 }
 

@@ -21,6 +21,7 @@ use Rattle.moment_parts.specs.Events.{Does}
 use Rattle.thread_map.specs.Kept.{kept_under}
 use Rattle.thread_points.specs.Points.{list_of}
 use Rattle.thread_frames.specs.Actions.{IsOfTheList}
+use Rattle.thread_frames.specs.declared.next.Next.{Next}
 use Rattle.thread_frames.specs.declared.next.Next.TheVariants as nexts
 use Rattle.thread_frames.specs.declared.thread.Thread.{Thread}
 use Rattle.thread_frames.specs.declared.ended.Ended.{Ended}
@@ -241,10 +242,10 @@ module _ (worker : ℕ) (id : DequeId) (top : Thread) (before after : Scheduler)
       }
 
 -- the results in another order, with other counts
-pub acted_moved : (worker : ℕ) (id : DequeId) (top : Thread) (before : Scheduler) (after : Held) (results : List (ThreadId × Ended)) (moves : List Moved) (done : ℕ)
-    → IsPermutation after.results results → Acted nexts.End Always worker id top before after
-    → Acted nexts.End Always worker id top before (record after { results = results; moves = moves; done = done })
-acted_moved worker id top before after results moves done moved a = record {
+pub acted_moved : (next : Next) (Where : ℕ → Period → ℕ → Type 0) (worker : ℕ) (id : DequeId) (top : Thread) (before : Scheduler) (after : Held)
+    (results : List (ThreadId × Ended)) (moves : List Moved) (done : ℕ) → IsPermutation after.results results → Acted next Where worker id top before after
+    → Acted next Where worker id top before (record after { results = results; moves = moves; done = done })
+acted_moved next Where worker id top before after results moves done moved a = record {
   does = λ items stands o c k is period period_is given.
       let d = a.does items stands o c k is period period_is given in (
         d.0,

@@ -3,5 +3,6 @@ pub mod Acting
 pub mod Ending
 pub mod Leaving
 pub mod Owning
+pub mod Deciding
 pub mod TakingIn
 pub mod Taking

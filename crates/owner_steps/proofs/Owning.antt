@@ -3,7 +3,7 @@ use Rattle.std.proofs.Common.{◌≡◌, ◌≢◌, ℕ, ◌+◌, ◌≤◌, ◌
 use denote.Struct.Props.{props}
 use Rattle.std.proofs.Math.Logic.{∥∥₁_elim, ∥∥₁_map, ∥∥₁_prop}
 use Rattle.std.proofs.lemmas.Int.{ints}
-use Rattle.std.specs.Prelude.{IsTrue, IsSome, ◌↔◌, Bool, true, false, Option, None, Some, ℤ, pos, ◌+ℤ◌, ◌-ℤ◌, ◌<ℤ◌, Ok, Err, cond, nat_le}
+use Rattle.std.specs.Prelude.{IsSome, Bool, true, false, Option, None, Some, ℤ, pos, ◌+ℤ◌, ◌-ℤ◌, ◌<ℤ◌, Ok, Err, cond, nat_le}
 use Rattle.dag_order.specs.declared.action_id.ActionId.{ActionId}
 use Rattle.dag_order.specs.LabelOrder.{fork_of}
 use Rattle.deque_list.specs.declared.deque_id.DequeId.{DequeId}
@@ -30,7 +30,7 @@ use Rattle.moment_parts.proofs.Placing.{own}
 use Rattle.thread_points.specs.Points.{list_of}
 use Rattle.thread_steps.specs.Settings.{IsSettingOf}
 use Rattle.thread_frames.specs.Actions.{IsOfTheList, deed_of, TellsWords}
-use Rattle.thread_frames.specs.Views.{label_of, children_of, next_of, thread_words, join_words_of}
+use Rattle.thread_frames.specs.Views.{label_of, children_of, thread_words, join_words_of}
 use Rattle.thread_frames.specs.declared.next.Next.{Next}
 use Rattle.thread_frames.specs.declared.thread.Thread.{Thread}
 use Rattle.deque_events.specs.Shown.{Stands}
@@ -45,7 +45,7 @@ use Rattle.core_parts.specs.Outcomes.{GoesOn, GivesDequeUp, StepsTo}
 use Rattle.core_parts.proofs.Going.{made, acted_goes_on, lawful_at, sum_is}
 use Rattle.core_parts.proofs.Leaving.{gave_up, gave_up_goes_on}
 use Rattle.core_parts.proofs.Still.{reordered_stands}
-use Rattle.core_parts.proofs.Bounds.{join_within, release_within, end_within}
+use Rattle.core_parts.proofs.Bounds.{join_within}
 use Rattle.core_parts.proofs.AtTop.{words_within, not_kept, named, next_at_top, owns_none, its_period, period_there, used_within}
 use Rattle.std.proofs.lemmas.List.{nil_from_length}
 use Rattle.std.proofs.lemmas.Option.{none-some}
@@ -54,7 +54,7 @@ use Rattle.lawful_books.specs.Lists.{Each}
 use Rattle.lawful_books.proofs.Lists.{cons_is_not_nil}
 use Rattle.thread_map.specs.Kept.{kept_under}
 use Rattle.thread_frames.specs.Children.{is_delivered}
-use Rattle.thread_frames.specs.Points.{IsResult, IsPlaced}
+use Rattle.thread_frames.specs.Points.{IsResult}
 use Rattle.thread_frames.specs.declared.next.Next.TheVariants as nexts
 use Rattle.thread_parts.proofs.Threads.{next_actions_stand}
 use Rattle.core_parts.specs.Held.{WaitsUnder}
@@ -67,7 +67,6 @@ use Rattle.thread_events.specs.Acts.{AllocIsCharged}
 use Rattle.owner_steps.specs.Acts.{Acts, noted, change}
 use Rattle.owner_steps.specs.Steps.{IsBeforeAction, Comes}
 use Rattle.owner_steps.specs.Refusals.{Refuses}
-use Rattle.owner_steps.specs.Memory.{IsPlain, words_given}
 use Rattle.thread_frames.specs.declared.ended.Ended.{Ended}
 
 -- the quota of the program
@@ -405,46 +404,6 @@ module _ (t : Table) (k limit : ℕ) (s : Scheduler) {worker : ℕ} {id : DequeI
       above_is_false : (a b : ℕ) → b < a → nat_le a b ≡ false
       above_is_false a b above = lt-leb a b above
 
--- ---- the plain actions
-
--- they take no words, charge nothing and join no child
-pub plain_takes : (top : Thread) (next : Next) → IsPlain next → (words : ℕ) → TellsWords top next words → taken_by (deed_of top next) words ≡ 0
-plain_takes top nexts.Fork plain words told = absurd plain
-plain_takes top (nexts.Join child) plain words told = absurd plain
-plain_takes top (nexts.Alloc asked) plain words told = absurd plain
-plain_takes top (nexts.Release given) plain words told = refl
-plain_takes top nexts.Dummy plain words told = refl
-plain_takes top (nexts.Fault fault) plain words told = refl
-plain_takes top nexts.End plain words told = refl
-
-pub plain_charges : (top : Thread) (next : Next) → IsPlain next → (k words : ℕ) → charge k (deed_of top next) words ≡ 0
-plain_charges top nexts.Fork plain k words = absurd plain
-plain_charges top (nexts.Join child) plain k words = absurd plain
-plain_charges top (nexts.Alloc asked) plain k words = absurd plain
-plain_charges top (nexts.Release given) plain k words = refl
-plain_charges top nexts.Dummy plain k words = refl
-plain_charges top (nexts.Fault fault) plain k words = refl
-plain_charges top nexts.End plain k words = refl
-
-pub plain_is_no_join : (top : Thread) (next : Next) → IsPlain next → is_join (deed_of top next) ≡ false
-plain_is_no_join top nexts.Fork plain = absurd plain
-plain_is_no_join top (nexts.Join child) plain = absurd plain
-plain_is_no_join top (nexts.Alloc asked) plain = absurd plain
-plain_is_no_join top (nexts.Release given) plain = refl
-plain_is_no_join top nexts.Dummy plain = refl
-plain_is_no_join top (nexts.Fault fault) plain = refl
-plain_is_no_join top nexts.End plain = refl
-
--- what they give back is within the words that are out
-pub plain_gives : (live : ℕ) (top : Thread) (next : Next) → IsPlain next → IsPlaced top → next_of top ≡ Some next → thread_words top ≤ live → words_given top next ≤ live
-plain_gives live top nexts.Fork plain placed is out = absurd plain
-plain_gives live top (nexts.Join child) plain placed is out = absurd plain
-plain_gives live top (nexts.Alloc asked) plain placed is out = absurd plain
-plain_gives live top (nexts.Release given) plain placed is out = let few = release_within top given placed is in omega (arith, few, out)
-plain_gives live top nexts.Dummy plain placed is out = omega arith
-plain_gives live top (nexts.Fault fault) plain placed is out = omega (arith, out)
-plain_gives live top nexts.End plain placed is out = let few = end_within top placed in omega (arith, few, out)
-
 module _ (t : Table) (k limit : ℕ) (s : Scheduler) {worker : ℕ} {id : DequeId} {items : List Thread} (stands : Stands s.list worker id items) (top : Thread) (next : Next)
     (b : IsBeforeAction t k limit s worker id top next) where
   -- no result is kept under the id of the thread
@@ -457,19 +416,10 @@ module _ (t : Table) (k limit : ℕ) (s : Scheduler) {worker : ℕ} {id : DequeI
           ∥∥₁_elim (b.of_the_list p.0 p.1) (λ x y. absurd x) (λ i. ∥∥₁_elim (b.sound items stands).in_order (λ x y. absurd x) (λ o.
           none-some x (sym (not_kept s stands top p.0 (terms_of s limit) (quota_is t k p.0 p.1 (b.sound items stands).quota) a.0 a.1 a.2 next i o) ∙ is))))))
 
-  -- a plain action leaves the period within its quota
-  pub plain_within : IsPlain next → (c : Setting) → IsSettingOf t k c → (period : Period) → period_at s.table worker ≡ Some period → (words : ℕ)
-      → period.used + charge c.quota (deed_of top next) words ≤ c.quota
-  plain_within plain c of period is words = let used = used_within_quota t k limit s stands top next b c of period is in let none = plain_charges top next plain c.quota words in omega (arith, used, none)
-
--- whether something is there
+-- what is there
 pub some_there : {A : Type 0} (o : Option A) → IsSome o → (x : A) × (o ≡ Some x)
 some_there None there = absurd (true≢false (sym there))
 some_there (Some x) there = (x, refl)
-
-pub none_there : {A : Type 0} (o : Option A) (b : Bool) → IsTrue b ↔ IsSome o → b ≡ false → o ≡ None
-none_there None b is other = refl
-none_there (Some x) b is other = absurd (true≢false (sym (is.1 refl) ∙ other))
 
 -- a fact of a deque with nothing below its top
 pub only_empty : (s : Scheduler) {worker : ℕ} {id : DequeId} (P : (items : List Thread) → Stands s.list worker id items → Type 0) → ((stands : Stands s.list worker id []) → P [] stands)

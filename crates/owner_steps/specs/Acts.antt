@@ -16,9 +16,11 @@ use Rattle.moment_parts.specs.Events.{Does}
 use Rattle.thread_points.specs.Points.{list_of}
 use Rattle.thread_frames.specs.Actions.{IsOfTheList, deed_of, TellsWords}
 use Rattle.thread_frames.specs.declared.next.Next.{Next}
+use Rattle.thread_frames.specs.declared.next.Next.TheVariants.{Fork, Join, Alloc, Release, Dummy, Fault, End}
 use Rattle.thread_frames.specs.declared.thread.Thread.{Thread}
 use Rattle.thread_frames.specs.Views.{label_of, done_of}
 use Rattle.deque_events.specs.Shown.{Stands}
+use Rattle.thread_events.specs.Acts.{AllocIsCharged, ForkFits, Always}
 use Rattle.core_parts.specs.declared.scheduler.Scheduler.{Scheduler}
 use Rattle.core_parts.specs.Held.{Held, held, held_under, parts_in, AreSame, IsReordered, OwnsNone, IsInOrder, AreAtPoints, AreResults}
 use Rattle.core_parts.specs.Moments.{SameTerms}
@@ -49,6 +51,26 @@ pub record Acted (next : Next) (Where : ℕ → Period → ℕ → Type 0) (work
       → AreAtPoints t k (held_under before stands top) → AreAtPoints t k after
   pub results : (t : Table) (k : ℕ) (items : List Thread) (stands : Stands before.list worker id items)
       → AreAtPoints t k (held_under before stands top) → AreResults t k (held before) → AreResults t k after
+
+-- what an action asks of the period and the quota, where an Alloc uses so many words of it
+abbrev pub IsCharged : (charge : ℕ) → Next → ℕ → Period → ℕ → Type 0
+IsCharged charge Fork k period words = ForkFits k period words
+IsCharged charge (Join child) k period words = Always k period words
+IsCharged charge (Alloc asked) k period words = AllocIsCharged charge k period words
+IsCharged charge (Release given) k period words = Always k period words
+IsCharged charge Dummy k period words = Always k period words
+IsCharged charge (Fault fault) k period words = Always k period words
+IsCharged charge End k period words = Always k period words
+
+-- it did it with its words, and the answer is whether it is a move; it is not counted or noted yet
+pub record Performs (next : Next) (Where : ℕ → Period → ℕ → Type 0) (worker : ℕ) (id : DequeId) (top : Thread) (before after : Scheduler)
+    (moved : Bool) : Type 0 where
+  pub acted : Acted next Where worker id top before (held after)
+  pub live : (words : ℕ) → TellsWords top next words → pos after.pool.live ≡ pos before.pool.live +ℤ weight_of (deed_of top next) words
+  pub moved_words : (words : ℕ) → TellsWords top next words → moved ≡ moves_words (deed_of top next) (label_of top) words
+  pub moves : after.moves ≡ before.moves
+  pub done : after.done ≡ before.done
+  pub terms : SameTerms before after
 
 -- and it is counted under this name, and noted where it is a move
 pub record Acts (next : Next) (Where : ℕ → Period → ℕ → Type 0) (worker : ℕ) (id : DequeId) (top : Thread) (before after : Scheduler)

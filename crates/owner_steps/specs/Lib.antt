@@ -6,3 +6,4 @@ pub mod Leaves
 pub mod Results
 pub mod Refusals
 pub mod Steps
+pub mod Decisions

@@ -1,17 +1,20 @@
 -- What is asked for before an event, and what an action of a top thread needs.
-use Rattle.std.specs.Prelude.{◌≡◌, ◌≤◌, ◌<◌, ℕ, Some, List, pos}
+use Rattle.std.specs.Prelude.{◌≡◌, ◌≤◌, ◌<◌, ◌+◌, ℕ, Some, None, List, pos, IsTrue}
 use Rattle.deque_list.specs.declared.deque_id.DequeId.{DequeId}
 use Rattle.deque_list.specs.DequeLists.{lane_room}
+use Rattle.depth_first_list.specs.Actions.{record_words}
 use Rattle.space_ledger.specs.MovesList.{moves_list, moves_spare}
 use Rattle.space_ledger.specs.Sums.{total_change}
 use Rattle.period_books.specs.Periods.{Period}
 use Rattle.period_table.specs.Tables.{HasRoom, period_at}
 use Rattle.thread_points.specs.Points.{words_at_end}
+use Rattle.thread_map.specs.Kept.{kept_under}
+use Rattle.thread_frames.specs.Actions.{is_there}
 use Rattle.thread_frames.specs.declared.next.Next.{Next}
 use Rattle.thread_frames.specs.declared.next.Next.TheVariants.{Fork, Join, Alloc, Release, Dummy, Fault, End}
 use Rattle.thread_frames.specs.declared.thread.Thread.{Thread}
 use Rattle.thread_frames.specs.Points.{IsPlaced}
-use Rattle.thread_frames.specs.Views.{next_of, done_of, held_by, label_of}
+use Rattle.thread_frames.specs.Views.{next_of, done_of, held_by, label_of, children_of, newest, join_words_of}
 use Rattle.deque_events.specs.Shown.{Stands}
 use Rattle.core_parts.specs.declared.scheduler.Scheduler.{Scheduler}
 
@@ -36,22 +39,25 @@ pub record CanAct (s : Scheduler) (worker : ℕ) (id : DequeId) (top : Thread) (
   pub period : (p : Period) × (period_at s.table worker ≡ Some p)
   pub used : (p : Period) → period_at s.table worker ≡ Some p → p.used ≤ 1048576
 
--- an action that takes no words, and is no Join
-abbrev pub IsPlain : Next → Type 0
-IsPlain Fork = ⊥
-IsPlain (Join child) = ⊥
-IsPlain (Alloc words) = ⊥
-IsPlain (Release words) = Unit {0}
-IsPlain Dummy = Unit {0}
-IsPlain (Fault fault) = Unit {0}
-IsPlain End = Unit {0}
+-- What the action asks for besides: its words fit the arena, or are out; an Alloc, which uses so many words of the quota, and a Fork leave
+-- the period with what may be counted; the result of the child that is joined was delivered; and no result is kept of a thread that ends.
+abbrev pub MayAct : (charge : ℕ) → Scheduler → ℕ → Thread → Next → Type 0
+MayAct charge s worker top Fork =
+    ((p : Period) → period_at s.table worker ≡ Some p → p.used + record_words ≤ 1048576) × (s.pool.live + record_words ≤ s.pool.capacity)
+MayAct charge s worker top (Join child) = IsTrue (is_there (newest (children_of top))) × (join_words_of top ≤ s.pool.live)
+MayAct charge s worker top (Alloc words) =
+    ((p : Period) → period_at s.table worker ≡ Some p → p.used + charge ≤ 1048576) × (s.pool.live + words ≤ s.pool.capacity)
+MayAct charge s worker top (Release words) = words ≤ s.pool.live
+MayAct charge s worker top Dummy = Unit {0}
+MayAct charge s worker top (Fault fault) = held_by top ≤ s.pool.live
+MayAct charge s worker top End = (words_at_end (label_of top) ≤ s.pool.live) × (kept_under s.results (Thread.id top) ≡ None)
 
--- the words that it gives back
-abbrev pub words_given : Thread → Next → ℕ
-words_given top Fork = 0
-words_given top (Join child) = 0
-words_given top (Alloc words) = 0
-words_given top (Release words) = words
-words_given top Dummy = 0
-words_given top (Fault fault) = held_by top
-words_given top End = words_at_end (label_of top)
+-- the words that an action takes
+abbrev pub words_asked : Next → ℕ
+words_asked Fork = record_words
+words_asked (Join child) = 0
+words_asked (Alloc words) = words
+words_asked (Release words) = 0
+words_asked Dummy = 0
+words_asked (Fault fault) = 0
+words_asked End = 0

@@ -1,14 +1,16 @@
 -- A kept result that comes to the thread that joins its child.
-use Rattle.std.specs.Prelude.{◌≡◌, ◌≤◌, ◌+◌, ℕ, Some, ◌∷◌}
+use Rattle.std.specs.Prelude.{◌≡◌, ◌⊎◌, ◌≤◌, ◌+◌, ℕ, true, false, Some, ◌∷◌}
 use Rattle.std.specs.List.Sorted.{IsPermutation}
 use Rattle.dag_order.specs.declared.thread_id.ThreadId.{ThreadId}
 use Rattle.node_table.specs.Table.{Table}
 use Rattle.thread_map.specs.Kept.{Kept, kept_under}
 use Rattle.thread_frames.specs.Actions.{IsSame}
-use Rattle.thread_frames.specs.Children.{IsAwaited, with_delivered}
+use Rattle.thread_frames.specs.Children.{IsAwaited, is_delivered, with_delivered}
 use Rattle.thread_frames.specs.Points.{IsAtPoint, IsResult}
 use Rattle.thread_frames.specs.Views.{children_of, done_of, forks_of, label_of, next_of, thread_words, ended_words}
 use Rattle.thread_frames.specs.declared.ended.Ended.{Ended}
+use Rattle.thread_frames.specs.declared.next.Next.{Next}
+use Rattle.thread_frames.specs.declared.next.Next.TheVariants.{Fork, Join, Alloc, Release, Dummy, Fault, End}
 use Rattle.thread_frames.specs.declared.thread.Thread.{Thread}
 
 -- a result is kept under the id of a child, and a thread waits for it
@@ -30,3 +32,19 @@ pub record HasCome (before after : Kept Ended) (top now : Thread) (child : Threa
   pub next : next_of now ≡ next_of top
   pub words : thread_words now ≡ thread_words top + ended_words ended
   pub point : (t : Table) (k : ℕ) → IsAtPoint t k top → IsResult t k ended → IsAtPoint t k now
+
+-- nothing has come
+abbrev pub NoneComes : Kept Ended → Kept Ended → Thread → Thread → Type 0
+NoneComes before after top now = (after ≡ before) × (now ≡ top)
+
+-- the result of the child that is joined was delivered before, or has come now
+abbrev pub TakesResult : Next → (before after : Kept Ended) → (top now : Thread) → Type 0
+TakesResult Fork before after top now = NoneComes before after top now
+TakesResult (Join child) before after top now =
+    ((is_delivered child (children_of top) ≡ true) × NoneComes before after top now)
+    ⊎ ((is_delivered child (children_of top) ≡ false) × HasCome before after top now child)
+TakesResult (Alloc words) before after top now = NoneComes before after top now
+TakesResult (Release words) before after top now = NoneComes before after top now
+TakesResult Dummy before after top now = NoneComes before after top now
+TakesResult (Fault fault) before after top now = NoneComes before after top now
+TakesResult End before after top now = NoneComes before after top now

@@ -1,28 +1,23 @@
 //! The actions of a worker's top thread, counted and noted.
 
-ghost use Rattle.std.specs.Prelude.{◌≡◌, ◌≤◌, ◌<◌, ◌+◌, ◌++◌, ℕ, Some, IsTrue, pos};
+ghost use Rattle.std.specs.Prelude.{◌≡◌, ◌≤◌, ◌<◌, ◌+◌, ◌++◌, pos};
 ghost use Rattle.space_ledger.specs.MovesList.{moves_list, moves_spare};
 ghost use Rattle.space_ledger.specs.Sums.{total_change};
-ghost use Rattle.depth_first_list.specs.Actions.{record_words};
-ghost use Rattle.dag_order.specs.declared.fault.FaultAt.{FaultAt as AnyFault};
-ghost use Rattle.dag_order.specs.declared.thread_id.ThreadId.{ThreadId as AnyId};
-ghost use Rattle.period_books.specs.Periods.{Period};
-ghost use Rattle.period_table.specs.Tables.{period_at};
-ghost use Rattle.thread_frames.specs.Actions.{is_there};
-ghost use Rattle.thread_frames.specs.Views.{children_of, done_of, held_by, join_words_of, newest};
+ghost use Rattle.thread_frames.specs.Views.{done_of};
 ghost use Rattle.thread_frames.specs.declared.next.Next.TheVariants as nexts;
 ghost use Rattle.thread_events.specs.Acts.{AllocIsCharged, ForkFits, Always};
-ghost use Rattle.owner_steps.specs.Memory.{CanAct};
-ghost use Rattle.owner_steps.specs.Acts.{Acts, change, noted};
+ghost use Rattle.owner_steps.specs.Memory.{CanAct, MayAct};
+ghost use Rattle.owner_steps.specs.Acts.{Acts, Performs, IsCharged, change, noted};
 
+use crate::ends::end;
 use core_parts::Scheduler;
 use dag_order::{ActionId, FaultAt, ThreadId};
 use deque_list::DequeId;
 use space_ledger::{Moved, Moves};
-use thread_frames::Thread;
+use thread_frames::{Next, Thread};
 
 /// The name of the next action of a thread.
-pub(crate) fn name_of(thread: &Thread) -> ActionId
+fn name_of(thread: &Thread) -> ActionId
     ensures by { result.by ≡ thread.now.id }
     ensures index { result.index ≡ done_of thread.now }
 {
@@ -33,14 +28,7 @@ pub(crate) fn name_of(thread: &Thread) -> ActionId
 }
 
 /// Counts an action, and notes by how much it changed the words that are out, where it is a move.
-pub(crate) fn count(
-    moves: &mut Moves,
-    done: &mut u32,
-    name: ActionId,
-    before: u64,
-    after: u64,
-    is_move: bool,
-)
+fn count(moves: &mut Moves, done: &mut u32, name: ActionId, before: u64, after: u64, is_move: bool)
     requires room { 1 ≤ moves_spare moves.old }
     requires few { done.old < 4294967295 }
     requires sum { total_change (moves_list moves.old) ≡ pos before }
@@ -58,23 +46,73 @@ pub(crate) fn count(
     *done += 1;
 }
 
-/// Does an Alloc, which takes `charge` words of the quota.
-pub(crate) fn allocate(
+/// Does the next action of the top thread, which uses `charge` words of the quota where it is an Alloc. It is counted, and noted where it is
+/// a move. The answer is its name.
+pub(crate) fn act(
+    scheduler: &mut Scheduler,
+    worker: usize,
+    deque: DequeId,
+    top: Thread,
+    next: Next,
+    charge: u32,
+) -> ActionId
+    requires can { CanAct scheduler.old worker deque top next }
+    requires counted { scheduler.old.done < 4294967295 }
+    requires may { MayAct charge scheduler.old worker top next }
+    ensures { Acts next (IsCharged charge next) worker deque top scheduler.old scheduler.new result }
+{
+    let name = name_of(&top);
+    let before = scheduler.pool.live();
+    let is_move = perform(scheduler, worker, deque, top, next, charge);
+    let after = scheduler.pool.live();
+    count(
+        &mut scheduler.moves,
+        &mut scheduler.done,
+        name,
+        before,
+        after,
+        is_move,
+    );
+    name
+}
+
+/// Does the next action of the top thread; the answer is whether it is a move.
+fn perform(
+    scheduler: &mut Scheduler,
+    worker: usize,
+    deque: DequeId,
+    top: Thread,
+    next: Next,
+    charge: u32,
+) -> bool
+    requires can { CanAct scheduler.old worker deque top next }
+    requires may { MayAct charge scheduler.old worker top next }
+    ensures { Performs next (IsCharged charge next) worker deque top scheduler.old scheduler.new result }
+{
+    match next {
+        Next::Fork => fork(scheduler, worker, deque, top),
+        Next::Join { child } => join(scheduler, worker, deque, top, child),
+        Next::Alloc { words } => allocate(scheduler, worker, deque, top, words, charge),
+        Next::Release { words } => release(scheduler, worker, deque, top, words),
+        Next::Dummy => dummy(scheduler, worker, deque, top),
+        Next::Fault(at) => fault(scheduler, worker, deque, top, at),
+        Next::End => end(scheduler, worker, deque, top),
+    }
+}
+
+/// Does an Alloc, which uses `charge` words of the quota.
+fn allocate(
     scheduler: &mut Scheduler,
     worker: usize,
     deque: DequeId,
     top: Thread,
     words: u32,
     charge: u32,
-) -> ActionId
+) -> bool
     requires can { CanAct scheduler.old worker deque top (nexts.Alloc words) }
-    requires counted { scheduler.old.done < 4294967295 }
-    requires charged { (p : Period) → period_at scheduler.old.table worker ≡ Some p → p.used + charge ≤ 1048576 }
-    requires fits { scheduler.old.pool.live + words ≤ scheduler.old.pool.capacity }
-    ensures { Acts (nexts.Alloc words) (AllocIsCharged charge) worker deque top scheduler.old scheduler.new result }
+    requires may { MayAct charge scheduler.old worker top (nexts.Alloc words) }
+    ensures { Performs (nexts.Alloc words) (AllocIsCharged charge) worker deque top scheduler.old scheduler.new result }
 {
-    let name = name_of(&top);
-    let before = scheduler.pool.live();
     let Ok(()) = thread_events::alloc(
         &mut scheduler.list,
         &mut scheduler.table,
@@ -86,33 +124,15 @@ pub(crate) fn allocate(
     ) else {
         unreachable!();
     };
-    let after = scheduler.pool.live();
-    count(
-        &mut scheduler.moves,
-        &mut scheduler.done,
-        name,
-        before,
-        after,
-        true,
-    );
-    name
+    true
 }
 
 /// Does a Fork.
-pub(crate) fn fork(
-    scheduler: &mut Scheduler,
-    worker: usize,
-    deque: DequeId,
-    top: Thread,
-) -> ActionId
+fn fork(scheduler: &mut Scheduler, worker: usize, deque: DequeId, top: Thread) -> bool
     requires can { CanAct scheduler.old worker deque top nexts.Fork }
-    requires counted { scheduler.old.done < 4294967295 }
-    requires charged { (p : Period) → period_at scheduler.old.table worker ≡ Some p → p.used + 16 ≤ 1048576 }
-    requires fits { scheduler.old.pool.live + record_words ≤ scheduler.old.pool.capacity }
-    ensures { Acts nexts.Fork ForkFits worker deque top scheduler.old scheduler.new result }
+    requires may { MayAct 0 scheduler.old worker top nexts.Fork }
+    ensures { Performs nexts.Fork ForkFits worker deque top scheduler.old scheduler.new result }
 {
-    let name = name_of(&top);
-    let before = scheduler.pool.live();
     let Ok(()) = thread_events::fork(
         &mut scheduler.list,
         &mut scheduler.table,
@@ -123,33 +143,21 @@ pub(crate) fn fork(
     ) else {
         unreachable!();
     };
-    let after = scheduler.pool.live();
-    count(
-        &mut scheduler.moves,
-        &mut scheduler.done,
-        name,
-        before,
-        after,
-        true,
-    );
-    name
+    true
 }
 
 /// Does a Release.
-pub(crate) fn release(
+fn release(
     scheduler: &mut Scheduler,
     worker: usize,
     deque: DequeId,
     top: Thread,
     words: u32,
-) -> ActionId
+) -> bool
     requires can { CanAct scheduler.old worker deque top (nexts.Release words) }
-    requires counted { scheduler.old.done < 4294967295 }
-    requires gives { words ≤ scheduler.old.pool.live }
-    ensures { Acts (nexts.Release words) Always worker deque top scheduler.old scheduler.new result }
+    requires may { MayAct 0 scheduler.old worker top (nexts.Release words) }
+    ensures { Performs (nexts.Release words) Always worker deque top scheduler.old scheduler.new result }
 {
-    let name = name_of(&top);
-    let before = scheduler.pool.live();
     thread_events::release(
         &mut scheduler.list,
         &mut scheduler.table,
@@ -158,33 +166,15 @@ pub(crate) fn release(
         deque,
         top,
     );
-    let after = scheduler.pool.live();
-    count(
-        &mut scheduler.moves,
-        &mut scheduler.done,
-        name,
-        before,
-        after,
-        true,
-    );
-    name
+    true
 }
 
 /// Does a fault.
-pub(crate) fn fault(
-    scheduler: &mut Scheduler,
-    worker: usize,
-    deque: DequeId,
-    top: Thread,
-    at: FaultAt,
-) -> ActionId
+fn fault(scheduler: &mut Scheduler, worker: usize, deque: DequeId, top: Thread, at: FaultAt) -> bool
     requires can { CanAct scheduler.old worker deque top (nexts.Fault at) }
-    requires counted { scheduler.old.done < 4294967295 }
-    requires gives { held_by top ≤ scheduler.old.pool.live }
-    ensures { Acts (nexts.Fault at) Always worker deque top scheduler.old scheduler.new result }
+    requires may { MayAct 0 scheduler.old worker top (nexts.Fault at) }
+    ensures { Performs (nexts.Fault at) Always worker deque top scheduler.old scheduler.new result }
 {
-    let name = name_of(&top);
-    let before = scheduler.pool.live();
     thread_events::fault(
         &mut scheduler.list,
         &mut scheduler.table,
@@ -193,31 +183,14 @@ pub(crate) fn fault(
         deque,
         top,
     );
-    let after = scheduler.pool.live();
-    count(
-        &mut scheduler.moves,
-        &mut scheduler.done,
-        name,
-        before,
-        after,
-        true,
-    );
-    name
+    true
 }
 
 /// Does a Dummy, with which the worker leaves its deque.
-pub(crate) fn dummy(
-    scheduler: &mut Scheduler,
-    worker: usize,
-    deque: DequeId,
-    top: Thread,
-) -> ActionId
+fn dummy(scheduler: &mut Scheduler, worker: usize, deque: DequeId, top: Thread) -> bool
     requires can { CanAct scheduler.old worker deque top nexts.Dummy }
-    requires counted { scheduler.old.done < 4294967295 }
-    ensures { Acts nexts.Dummy Always worker deque top scheduler.old scheduler.new result }
+    ensures { Performs nexts.Dummy Always worker deque top scheduler.old scheduler.new result }
 {
-    let name = name_of(&top);
-    let live = scheduler.pool.live();
     thread_events::dummy(
         &mut scheduler.list,
         &mut scheduler.table,
@@ -225,33 +198,21 @@ pub(crate) fn dummy(
         deque,
         top,
     );
-    count(
-        &mut scheduler.moves,
-        &mut scheduler.done,
-        name,
-        live,
-        live,
-        false,
-    );
-    name
+    false
 }
 
 /// Does the Join of the newest open child, whose result was delivered.
-pub(crate) fn join(
+fn join(
     scheduler: &mut Scheduler,
     worker: usize,
     deque: DequeId,
     top: Thread,
     child: ThreadId,
-) -> ActionId
+) -> bool
     requires can { CanAct scheduler.old worker deque top (nexts.Join child) }
-    requires counted { scheduler.old.done < 4294967295 }
-    requires delivered { IsTrue (is_there (newest (children_of top))) }
-    requires gives { join_words_of top ≤ scheduler.old.pool.live }
-    ensures { Acts (nexts.Join child) Always worker deque top scheduler.old scheduler.new result }
+    requires may { MayAct 0 scheduler.old worker top (nexts.Join child) }
+    ensures { Performs (nexts.Join child) Always worker deque top scheduler.old scheduler.new result }
 {
-    let name = name_of(&top);
-    let before = scheduler.pool.live();
     let words = thread_events::join(
         &mut scheduler.list,
         &mut scheduler.table,
@@ -260,14 +221,5 @@ pub(crate) fn join(
         deque,
         top,
     );
-    let after = scheduler.pool.live();
-    count(
-        &mut scheduler.moves,
-        &mut scheduler.done,
-        name,
-        before,
-        after,
-        words > 0,
-    );
-    name
+    words > 0
 }

@@ -1,46 +1,31 @@
 //! The End of a worker's top thread.
 
-ghost use Rattle.std.specs.Prelude.{◌≡◌, ◌≤◌, ◌<◌, None};
+ghost use Rattle.std.specs.Prelude.{◌≤◌};
 ghost use Rattle.thread_points.specs.Points.{words_at_end};
 ghost use Rattle.thread_frames.specs.Views.{label_of};
 ghost use Rattle.thread_frames.specs.declared.next.Next.TheVariants as nexts;
 ghost use Rattle.thread_events.specs.Acts.{Always};
-ghost use Rattle.thread_map.specs.Kept.{kept_under};
-ghost use Rattle.owner_steps.specs.Memory.{CanAct};
-ghost use Rattle.owner_steps.specs.Acts.{Acts};
+ghost use Rattle.owner_steps.specs.Memory.{CanAct, MayAct};
+ghost use Rattle.owner_steps.specs.Acts.{Performs};
 ghost use Rattle.owner_steps.specs.Ends.{LeavesBy};
 
-use crate::acts::{count, name_of};
 use core_parts::Scheduler;
-use dag_order::{ActionId, Placed};
+use dag_order::Placed;
 use deque_list::DequeId;
 use thread_frames::{Ended, Thread};
 
-/// Does the End of a thread. Its result is kept for its Join. Its parent runs next where it stands directly below, or where it waits for
-/// this child; else the worker leaves.
-pub(crate) fn end(scheduler: &mut Scheduler, worker: usize, deque: DequeId, top: Thread) -> ActionId
+/// Does the End of a thread, which is a move where the thread has a record block. Its result is kept for its Join. Its parent runs next where
+/// it stands directly below, or where it waits for this child; else the worker leaves.
+pub(crate) fn end(scheduler: &mut Scheduler, worker: usize, deque: DequeId, top: Thread) -> bool
     requires can { CanAct scheduler.old worker deque top nexts.End }
-    requires counted { scheduler.old.done < 4294967295 }
-    requires gives { words_at_end (label_of top) ≤ scheduler.old.pool.live }
-    requires none { kept_under scheduler.old.results top.id ≡ None }
-    ensures { Acts nexts.End Always worker deque top scheduler.old scheduler.new result }
+    requires may { MayAct 0 scheduler.old worker top nexts.End }
+    ensures { Performs nexts.End Always worker deque top scheduler.old scheduler.new result }
 {
-    let name = name_of(&top);
     let id = top.id();
     let is_forked = !top.label().is_empty();
-    let before = scheduler.pool.live();
     let ended = leave(scheduler, worker, deque, top);
     scheduler.results.put(id, ended);
-    let after = scheduler.pool.live();
-    count(
-        &mut scheduler.moves,
-        &mut scheduler.done,
-        name,
-        before,
-        after,
-        is_forked,
-    );
-    name
+    is_forked
 }
 
 /// The thread leaves its place; the answer is its result.

@@ -9,6 +9,7 @@
 #![tactic(auto)]
 
 mod acts;
+mod decisions;
 mod ends;
 mod leaves;
 mod owner;

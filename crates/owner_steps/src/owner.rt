@@ -1,262 +1,76 @@
 //! The step of a worker that owns a deque.
 
-ghost use Rattle.std.specs.Prelude.{◌≡◌, ◌≢◌, ◌≤◌, ◌<◌, ◌+◌, ℕ, List as AnyList, Some, None, true, false, OnOk, IfOk, Err};
+ghost use Rattle.std.specs.Prelude.{◌≡◌, ◌≢◌, ◌≤◌, ◌<◌, ℕ, List as AnyList, Some, OnOk, IfOk, Err};
 ghost use Rattle.dummy_tree.specs.QuotaWords.{quota_words};
-ghost use Rattle.deque_list.specs.Ids.{IsLive};
-ghost use Rattle.deque_list.specs.Deques.{deque_ids};
 ghost use Rattle.node_table.specs.Codes.{code_shown};
 ghost use Rattle.node_table.specs.Table.{Table};
-ghost use Rattle.period_books.specs.Periods.{Period as AnyPeriod};
-ghost use Rattle.period_table.specs.Tables.{period_at, deque_at};
-ghost use Rattle.quota_period.specs.Charges.{IsCharge};
-ghost use Rattle.thread_frames.specs.declared.next.Next.TheVariants as nexts;
+ghost use Rattle.period_table.specs.Tables.{deque_at};
 ghost use Rattle.core_parts.specs.declared.stop.Stop.TheVariants as stops;
-ghost use Rattle.core_parts.specs.Held.{held, IsReordered};
+ghost use Rattle.core_parts.specs.Held.{held};
 ghost use Rattle.core_parts.specs.Moments.{IsSound, CanGoOn, SameTerms, terms_of};
 ghost use Rattle.depth_first_run.specs.States.{Setting};
 ghost use Rattle.deque_machine.specs.Moments.{Moment};
 ghost use Rattle.deque_machine.specs.Runs.{Pair};
 ghost use Rattle.thread_steps.specs.Settings.{IsSettingOf};
-ghost use Rattle.thread_map.specs.Kept.{kept_under};
-ghost use Rattle.thread_events.specs.Acts.{AllocIsCharged, Always};
-ghost use Rattle.thread_frames.specs.Children.{is_delivered};
 ghost use Rattle.thread_frames.specs.Actions.{IsOfTheList, IsStill, JoinsNewest};
 ghost use Rattle.thread_frames.specs.Points.{IsAtPoint};
 ghost use Rattle.thread_frames.specs.Views.{children_of, done_of, next_of, thread_words};
 ghost use Rattle.core_parts.specs.Moments.{StandsAt};
 ghost use Rattle.core_parts.specs.Outcomes.{StepsTo};
-ghost use Rattle.owner_steps.specs.Acts.{Acts};
-ghost use Rattle.owner_steps.specs.Memory.{CanAct, HasMemory, IsPlain, words_given};
-ghost use Rattle.owner_steps.specs.Steps.{IsBeforeAction, Comes, ComesUnder};
+ghost use Rattle.owner_steps.specs.Decisions.{Decides};
+ghost use Rattle.owner_steps.specs.declared.decisions.Decision.TheVariants as decisions;
+ghost use Rattle.owner_steps.specs.Memory.{words_asked};
+ghost use Rattle.owner_steps.specs.Steps.{IsBeforeAction, ComesUnder};
 
-use crate::acts::{allocate, dummy, fault, fork, join, release};
-use crate::ends::end;
+use crate::acts::act;
+use crate::decisions::{Decision, decide};
 use crate::leaves::{give_up, suspend};
 use crate::refusals::test_action;
-use crate::results::hand_over;
+use crate::results::take_result;
 use crate::tops::{put_back, take_top};
-use block_arena::Pool;
+use block_arena::{PIECE_WORDS, Pool};
 use core_parts::{Event, Scheduler, Stop};
-use dag_order::{ActionId, ThreadId};
 use deque_list::DequeId;
 use dummy_tree::Quota;
 use node_table::Code;
-use period_table::PeriodTable;
-use quota_period::Charge;
 use std::alloc::{AllocError, Global};
-use thread_frames::{Ended, Next, Thread};
+use thread_frames::{Next, Thread};
 
-/// What an action does to a worker's period which takes so many words.
-fn charge_of(table: &PeriodTable, worker: usize, words: u32, k: Quota) -> Charge
-    requires { (p : AnyPeriod) × (period_at table.now worker ≡ Some p) }
-    ensures charge { (p : AnyPeriod) → period_at table.now worker ≡ Some p → IsCharge p.used words (quota_words k) result }
-    ensures piece { words ≤ 16 → result ≡ Charge.Large → ⊥ }
+/// The words that an action takes.
+fn words_taken(next: Next) -> u32
+    ensures { result ≡ words_asked next }
 {
-    let Some(seat) = table.seat(worker) else {
-        unreachable!();
-    };
-    seat.period.charge(words, k)
-}
-
-/// The top thread does a Fork, or meets a stop.
-fn fork_or_stop(
-    scheduler: &mut Scheduler,
-    k: Quota,
-    limit: u32,
-    worker: usize,
-    deque: DequeId,
-    top: Thread,
-) -> Result<Event, Stop>
-    requires ready { (t : Table) × IsBeforeAction t (quota_words k) limit scheduler.old worker deque top nexts.Fork }
-    requires charged { (p : AnyPeriod) → period_at scheduler.old.table worker ≡ Some p → p.used + 16 ≤ quota_words k }
-    ensures { (t : Table) → IsBeforeAction t (quota_words k) limit scheduler.old worker deque top nexts.Fork
-        → ComesUnder t (quota_words k) limit worker deque top scheduler.old scheduler.new result }
-{
-    if let Err(stop) = test_action(scheduler, limit, 16) {
-        put_back(scheduler, worker, deque, top);
-        return Err(stop);
-    }
-    Ok(Event::Acted(fork(scheduler, worker, deque, top)))
-}
-
-/// The top thread comes to a Fork.
-fn fork_or_leave(
-    scheduler: &mut Scheduler,
-    k: Quota,
-    limit: u32,
-    worker: usize,
-    deque: DequeId,
-    top: Thread,
-) -> Result<Event, Stop>
-    requires ready { (t : Table) × IsBeforeAction t (quota_words k) limit scheduler.old worker deque top nexts.Fork }
-    ensures { (t : Table) → IsBeforeAction t (quota_words k) limit scheduler.old worker deque top nexts.Fork
-        → ComesUnder t (quota_words k) limit worker deque top scheduler.old scheduler.new result }
-{
-    match charge_of(&scheduler.table, worker, 16, k) {
-        Charge::Fits => fork_or_stop(scheduler, k, limit, worker, deque, top),
-        Charge::Ends => Ok(give_up(scheduler, worker, deque, top)),
-        Charge::Large => unreachable!(),
+    match next {
+        Next::Fork => PIECE_WORDS,
+        Next::Alloc { words } => words,
+        _ => 0,
     }
 }
 
-/// The top thread does an Alloc of so many words, `charge` of which the quota covers, or meets a stop.
-fn allocate_or_stop(
+/// The top thread does its next action, which uses `charge` words of the quota where it is an Alloc, or meets a stop.
+fn act_or_stop(
     scheduler: &mut Scheduler,
     k: Quota,
     limit: u32,
     worker: usize,
     deque: DequeId,
     top: Thread,
-    words: u32,
+    next: Next,
     charge: u32,
 ) -> Result<Event, Stop>
-    requires ready { (t : Table) × IsBeforeAction t (quota_words k) limit scheduler.old worker deque top (nexts.Alloc words) }
-    requires charged { (p : AnyPeriod) → period_at scheduler.old.table worker ≡ Some p → AllocIsCharged charge (quota_words k) p words }
-    ensures { (t : Table) → IsBeforeAction t (quota_words k) limit scheduler.old worker deque top (nexts.Alloc words)
+    requires ready { (t : Table) × IsBeforeAction t (quota_words k) limit scheduler.old worker deque top next }
+    requires decides { Decides scheduler.old worker (quota_words k) top next (decisions.Act charge) }
+    requires bounded { quota_words k ≤ 1048576 }
+    ensures { (t : Table) → IsBeforeAction t (quota_words k) limit scheduler.old worker deque top next
         → ComesUnder t (quota_words k) limit worker deque top scheduler.old scheduler.new result }
 {
-    if let Err(stop) = test_action(scheduler, limit, u64::from(words)) {
-        put_back(scheduler, worker, deque, top);
-        return Err(stop);
-    }
-    Ok(Event::Acted(allocate(scheduler, worker, deque, top, words, charge)))
-}
-
-/// The top thread comes to an Alloc of so many words.
-fn allocate_or_leave(
-    scheduler: &mut Scheduler,
-    k: Quota,
-    limit: u32,
-    worker: usize,
-    deque: DequeId,
-    top: Thread,
-    words: u32,
-) -> Result<Event, Stop>
-    requires ready { (t : Table) × IsBeforeAction t (quota_words k) limit scheduler.old worker deque top (nexts.Alloc words) }
-    ensures { (t : Table) → IsBeforeAction t (quota_words k) limit scheduler.old worker deque top (nexts.Alloc words)
-        → ComesUnder t (quota_words k) limit worker deque top scheduler.old scheduler.new result }
-{
-    match charge_of(&scheduler.table, worker, words, k) {
-        Charge::Fits => allocate_or_stop(scheduler, k, limit, worker, deque, top, words, words),
-        Charge::Ends => Ok(give_up(scheduler, worker, deque, top)),
-        Charge::Large => allocate_or_stop(scheduler, k, limit, worker, deque, top, words, 0),
-    }
-}
-
-/// The top thread joins its newest child, whose result was delivered, or meets a stop.
-fn join_or_stop(
-    scheduler: &mut Scheduler,
-    k: Quota,
-    limit: u32,
-    worker: usize,
-    deque: DequeId,
-    top: Thread,
-    child: ThreadId,
-) -> Result<Event, Stop>
-    requires ready { (t : Table) × IsBeforeAction t (quota_words k) limit scheduler.old worker deque top (nexts.Join child) }
-    requires delivered { is_delivered child (children_of top) ≡ true }
-    ensures { (t : Table) → IsBeforeAction t (quota_words k) limit scheduler.old worker deque top (nexts.Join child)
-        → ComesUnder t (quota_words k) limit worker deque top scheduler.old scheduler.new result }
-{
-    if let Err(stop) = test_action(scheduler, limit, 0) {
-        put_back(scheduler, worker, deque, top);
-        return Err(stop);
-    }
-    Ok(Event::Acted(join(scheduler, worker, deque, top, child)))
-}
-
-/// The top thread joins its newest child, whose result is kept, or meets a stop.
-fn take_in_or_stop(
-    scheduler: &mut Scheduler,
-    k: Quota,
-    limit: u32,
-    worker: usize,
-    deque: DequeId,
-    top: Thread,
-    child: ThreadId,
-) -> Result<Event, Stop>
-    requires ready { (t : Table) × IsBeforeAction t (quota_words k) limit scheduler.old worker deque top (nexts.Join child) }
-    requires missing { is_delivered child (children_of top) ≡ false }
-    requires kept { (ended : Ended) × (kept_under scheduler.old.results child ≡ Some ended) }
-    ensures { (t : Table) → IsBeforeAction t (quota_words k) limit scheduler.old worker deque top (nexts.Join child)
-        → ComesUnder t (quota_words k) limit worker deque top scheduler.old scheduler.new result }
-{
-    if let Err(stop) = test_action(scheduler, limit, 0) {
+    if let Err(stop) = test_action(scheduler, limit, u64::from(words_taken(next))) {
         put_back(scheduler, worker, deque, top);
         return Err(stop);
     }
     let mut top = top;
-    hand_over(&mut scheduler.results, &mut top, child);
-    Ok(Event::Acted(join(scheduler, worker, deque, top, child)))
-}
-
-/// The top thread comes to a Join: it waits where its child has not ended.
-fn join_or_wait(
-    scheduler: &mut Scheduler,
-    k: Quota,
-    limit: u32,
-    worker: usize,
-    deque: DequeId,
-    top: Thread,
-    child: ThreadId,
-) -> Result<Event, Stop>
-    requires ready { (t : Table) × IsBeforeAction t (quota_words k) limit scheduler.old worker deque top (nexts.Join child) }
-    ensures { (t : Table) → IsBeforeAction t (quota_words k) limit scheduler.old worker deque top (nexts.Join child)
-        → ComesUnder t (quota_words k) limit worker deque top scheduler.old scheduler.new result }
-{
-    if top.delivered(child) {
-        return join_or_stop(scheduler, k, limit, worker, deque, top, child);
-    }
-    if scheduler.results.has(child) {
-        return take_in_or_stop(scheduler, k, limit, worker, deque, top, child);
-    }
-    Ok(suspend(scheduler, worker, deque, top, child))
-}
-
-/// Does an action that takes no words, and is no Join.
-fn do_plain(
-    scheduler: &mut Scheduler,
-    worker: usize,
-    deque: DequeId,
-    top: Thread,
-    next: Next,
-) -> ActionId
-    requires can { CanAct scheduler.old worker deque top next }
-    requires counted { scheduler.old.done < 4294967295 }
-    requires plain { IsPlain next }
-    requires gives { words_given top next ≤ scheduler.old.pool.live }
-    requires none { next ≡ Next.End → kept_under scheduler.old.results top.id ≡ None }
-    ensures { Acts next Always worker deque top scheduler.old scheduler.new result }
-{
-    match next {
-        Next::Release { words } => release(scheduler, worker, deque, top, words),
-        Next::Fault(at) => fault(scheduler, worker, deque, top, at),
-        Next::Dummy => dummy(scheduler, worker, deque, top),
-        Next::End => end(scheduler, worker, deque, top),
-        _ => unreachable!(),
-    }
-}
-
-/// The top thread comes to such an action.
-fn do_plain_or_stop(
-    scheduler: &mut Scheduler,
-    k: Quota,
-    limit: u32,
-    worker: usize,
-    deque: DequeId,
-    top: Thread,
-    next: Next,
-) -> Result<Event, Stop>
-    requires ready { (t : Table) × IsBeforeAction t (quota_words k) limit scheduler.old worker deque top next }
-    requires plain { IsPlain next }
-    ensures { (t : Table) → IsBeforeAction t (quota_words k) limit scheduler.old worker deque top next
-        → ComesUnder t (quota_words k) limit worker deque top scheduler.old scheduler.new result }
-{
-    if let Err(stop) = test_action(scheduler, limit, 0) {
-        put_back(scheduler, worker, deque, top);
-        return Err(stop);
-    }
-    Ok(Event::Acted(do_plain(scheduler, worker, deque, top, next)))
+    take_result(&mut scheduler.results, &mut top, next);
+    Ok(Event::Acted(act(scheduler, worker, deque, top, next, charge)))
 }
 
 /// The top thread comes to its next action.
@@ -273,13 +87,12 @@ fn go_on(
     ensures { (t : Table) → IsBeforeAction t (quota_words k) limit scheduler.old worker deque top next
         → ComesUnder t (quota_words k) limit worker deque top scheduler.old scheduler.new result }
 {
-    match next {
-        Next::Fork => fork_or_leave(scheduler, k, limit, worker, deque, top),
-        Next::Alloc { words } => {
-            allocate_or_leave(scheduler, k, limit, worker, deque, top, words)
+    match decide(scheduler, worker, &top, next, k) {
+        Decision::Act { charge } => {
+            act_or_stop(scheduler, k, limit, worker, deque, top, next, charge)
         }
-        Next::Join { child } => join_or_wait(scheduler, k, limit, worker, deque, top, child),
-        _ => do_plain_or_stop(scheduler, k, limit, worker, deque, top, next),
+        Decision::GiveUp => Ok(give_up(scheduler, worker, deque, top)),
+        Decision::Wait { child } => Ok(suspend(scheduler, worker, deque, top, child)),
     }
 }
 

@@ -1,5 +1,5 @@
 -- A Fork: the points of the child and of its parent.
-use Rattle.std.proofs.Common.{◌≡◌, ℕ, suc, ◌+◌, Bool, false, List, [], ◌∷◌, ◌++◌, map, filter, length, pos, Option, Some, None, Vec, refl, sym, ◌∙◌, ap, subst, arith, inl, inr}
+use Rattle.std.proofs.Common.{◌≡◌, ℕ, suc, ◌+◌, Bool, false, List, [], ◌∷◌, ◌++◌, map, filter, length, pos, Option, Some, None, Vec, Box, refl, sym, ◌∙◌, ap, subst, arith, inl, inr}
 use Rattle.std.specs.Prelude.{reverse, ◌⊎◌}
 use Rattle.std.proofs.Math.Logic.{∥∥₁_elim}
 use denote.Struct.Props.{props}
@@ -393,7 +393,7 @@ by_functions : {P : Type 0} (c : Setting) (t : Table) (run : ThreadRun) (forking
 by_functions c t run forking [] own s part b f = absurd b.next.runs
 by_functions c t run forking (g ∷ gs) own s part b f = f g gs b.next b.state b.tells
 
-pub is_fork : (children : List OpenChild) (p : Prepared) → IsFork (told_as children p) → (forking : Forking) × (room : ChildRoom) × (p ≡ Fork forking room)
+pub is_fork : (children : List OpenChild) (p : Prepared) → IsFork (told_as children p) → (forking : Forking) × (room : Box ChildRoom Global) × (p ≡ Fork forking room)
 is_fork children Nothing h = absurd h
 is_fork children (Fork forking room) h = (forking, room, refl)
 is_fork children (Join branch assigned) h = absurd h
@@ -403,29 +403,29 @@ is_fork children Dummy h = absurd h
 is_fork children (Fault fault) h = absurd h
 is_fork children End h = absurd h
 
-module _ (c : Setting) (t : Table) (func : Option ℕ) (run : ThreadRun) (children : List OpenChild) (block : Option Content) (forking : Forking) (room : ChildRoom)
+module _ (c : Setting) (t : Table) (func : Option ℕ) (run : ThreadRun) (children : List OpenChild) (block : Option Content) (forking : Forking) (room : Box ChildRoom Global)
     (owned : Ownership c.program) (turns : c.most_turns ≡ MOST_TURNS) (a : At c t func run children block (Fork forking room)) where
   pub running : run.state.faulted ≡ false
   running = by_functions c t run forking a.functions a.own a.at a.part a.stands.0 (λ g gs by is tells.
       is.faulted ∙ fork_going c t func run children block forking g gs a.own a.at a.part a.older owned turns a.point by is tells a.children a.run_in a.record_block)
 
-  pub slots_fit : (slots : List ℕ) → slots ≡ room.named.items → FitsSlots (length (own_row run.state)) slots
+  pub slots_fit : (slots : List ℕ) → slots ≡ room.value.named.items → FitsSlots (length (own_row run.state)) slots
   slots_fit slots e = by_functions c t run forking a.functions a.own a.at a.part a.stands.0 (λ g gs by is tells.
       fits c t func run children block forking g gs a.own a.at a.part a.older owned turns a.point by is tells a.children a.run_in a.record_block slots (e ∙ a.stands.1))
 
-  pub states_of : (slots : List ℕ) (after child : ThreadState) → slots ≡ room.named.items → ForksState forking.branch slots run.state after child → States run.state after child
+  pub states_of : (slots : List ℕ) (after child : ThreadState) → slots ≡ room.value.named.items → ForksState forking.branch slots run.state after child → States run.state after child
   states_of slots after child e forks = by_functions c t run forking a.functions a.own a.at a.part a.stands.0 (λ g gs by is tells.
       counted c t func run children block forking g gs a.own a.at a.part a.older owned turns a.point by is tells a.children a.run_in a.record_block slots after child
       (e ∙ a.stands.1) forks)
 
-  pub child_at : (slots : List ℕ) (after child : ThreadState) (fs : Vec OwnFrame Global) (told : Told) (new : Content) → slots ≡ room.named.items
+  pub child_at : (slots : List ℕ) (after child : ThreadState) (fs : Vec OwnFrame Global) (told : Told) (new : Content) → slots ≡ room.value.named.items
       → ForksState forking.branch slots run.state after child → fs.items ≡ forking.work ∷ [] → Tells told [] → recorded (Some new) ≡ record_words
       → At c t (forked_in forking.branch run.func) (record { func = forked_in forking.branch run.func; state = child; frames = fs; told = told }) [] (Some new) Nothing
   child_at slots after child fs told new e forks items nothing words = by_functions c t run forking a.functions a.own a.at a.part a.stands.0 (λ g gs by is tells.
       child_is c t func run children block forking g gs a.own a.at a.part a.older owned turns a.point by is tells a.children a.run_in a.record_block slots after child fs told new
       (e ∙ a.stands.1) forks items nothing words)
 
-  pub parent_at : (slots : List ℕ) (after child : ThreadState) (fs : Vec OwnFrame Global) (told : Told) (x : OpenChild) → slots ≡ room.named.items
+  pub parent_at : (slots : List ℕ) (after child : ThreadState) (fs : Vec OwnFrame Global) (told : Told) (x : OpenChild) → slots ≡ room.value.named.items
       → ForksState forking.branch slots run.state after child → fs.items ≡ (run.frames.items ++ Joins forking.branch ∷ []) ++ forking.own ∷ [] → Tells told []
       → x.ordinal ≡ after.forks → x.func ≡ forked_in forking.branch run.func → x.before ≡ run.told → x.ended ≡ None
       → At c t func (record { func = run.func; state = after; frames = fs; told = told }) (children ++ x ∷ []) block Nothing

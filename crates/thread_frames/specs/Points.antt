@@ -66,8 +66,8 @@ AreChildren c t label (o ∷ os) (before ∷ older) (x ∷ xs) = IsChild c t lab
 abbrev pub Stands : Setting → Table → List Func → ThreadRun → Prepared → List middles.Frame → State → List Item → Type 0
 Stands c t gs run Nothing own s part = IsGoing c t gs run own s part
 Stands c t gs run (Fork forking room) own s part =
-    IsBefore c t gs run (ready.Fork forking) own s part × (room.named.items ≡ taken_slots t forking.branch)
-    × RoomFits run.state forking.branch room.room
+    IsBefore c t gs run (ready.Fork forking) own s part × (room.value.named.items ≡ taken_slots t forking.branch)
+    × RoomFits run.state forking.branch room.value.room
 Stands c t gs run (Join branch assigned) own s part =
     IsBefore c t gs run (ready.Join branch) own s part × (assigned.items ≡ assigned_slots t branch)
 Stands c t gs run (Alloc slot len words shell) own s part =

@@ -58,7 +58,7 @@ impl Thread {
             shell,
             mut frames,
             named,
-        } = room;
+        } = Box::into_inner(room);
         let Ok(block) = pool.take(PIECE_WORDS, shell) else {
             unreachable!();
         };

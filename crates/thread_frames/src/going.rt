@@ -247,7 +247,8 @@ fn prepared_for(
 {
     match ready {
         Ready::Fork(forking) => {
-            let room = child_room(state, alloc, code, forking.branch)?;
+            let child = child_room(state, alloc, code, forking.branch)?;
+            let room = Box::new(alloc, child)?;
             Ok(Prepared::Fork { forking, room })
         }
         Ready::Join(branch) => {

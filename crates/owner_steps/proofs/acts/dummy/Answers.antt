@@ -3,17 +3,15 @@ use Rattle.std.specs.Prelude.{false}
 use Rattle.thread_frames.specs.declared.next.Next.TheVariants.{Dummy}
 use Rattle.thread_events.specs.Acts.{Always}
 use Rattle.core_parts.specs.declared.scheduler.Scheduler.{Scheduler}
-use Rattle.owner_steps.proofs.Acting.{acts_of, unowned_acted, no_change}
+use Rattle.owner_steps.proofs.Acting.{performs_of, unowned_acted, no_change}
 use Rattle.owner_steps.proofs.acts.dummy.Goals as goal
 
 pub returns : goal.returns
 returns c =
     let before : Scheduler = c.args.scheduler.now in
-    let after : Scheduler = record before { list = c.dummy.new.list; table = c.dummy.new.table; moves = c.count.new.moves; done = c.count.new.done } in
-    acts_of Dummy Always c.args.worker c.args.deque c.args.top before after c.name_of-name.result
+    let after : Scheduler = record before { list = c.dummy.new.list; table = c.dummy.new.table } in
+    performs_of Dummy Always c.args.worker c.args.deque c.args.top before after
     (unowned_acted Dummy Always c.args.worker c.args.deque c.args.top before after c.dummy.ensures.acts
     (record { waiting = refl; results = refl }) c.dummy.ensures.back c.dummy.ensures.seats)
-    c.name_of-name.ensures.by c.name_of-name.ensures.index c.count.ensures.done
-    0 (λ w told. told) (no_change before.pool.live)
-    false c.live-live.result c.live-live.result c.count.ensures.moves refl c.live-live.ensures.value c.live-live.ensures.value
+    0 (λ w told. told) (no_change before.pool.live) false refl refl refl
     c.dummy.ensures.seats.workers refl (c.dummy.ensures.back.1 c.requires.can.stands.0 c.requires.can.stands.1).most

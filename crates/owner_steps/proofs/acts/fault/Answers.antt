@@ -4,18 +4,17 @@ use Rattle.thread_frames.specs.declared.next.Next.TheVariants.{Fault}
 use Rattle.thread_frames.specs.Views.{held_by}
 use Rattle.thread_events.specs.Acts.{Always}
 use Rattle.core_parts.specs.declared.scheduler.Scheduler.{Scheduler}
-use Rattle.owner_steps.proofs.Acting.{acts_of, back_acted, given_change}
+use Rattle.owner_steps.proofs.Acting.{performs_of, back_acted, given_change}
 use Rattle.owner_steps.proofs.acts.fault.Goals as goal
 
 pub returns : goal.returns
 returns c =
     let before : Scheduler = c.args.scheduler.now in
-    let after : Scheduler = record before { list = c.fault.new.list; table = c.fault.new.table; pool = c.fault.new.pool; moves = c.count.new.moves; done = c.count.new.done } in
-    acts_of (Fault c.args.at) Always c.args.worker c.args.deque c.args.top before after c.name_of-name.result
+    let after : Scheduler = record before { list = c.fault.new.list; table = c.fault.new.table; pool = c.fault.new.pool } in
+    performs_of (Fault c.args.at) Always c.args.worker c.args.deque c.args.top before after
     (back_acted (Fault c.args.at) Always c.args.worker c.args.deque c.args.top before after (c.fault.ensures.acts c.args.at)
     (record { waiting = refl; results = refl }) c.fault.ensures.back c.fault.ensures.seats)
-    c.name_of-name.ensures.by c.name_of-name.ensures.index c.count.ensures.done
     (held_by c.args.top) (λ w told. told)
-    (ap (λ r. pos r.live) c.fault.ensures.pool ∙ given_change before.pool.live (held_by c.args.top) c.requires.gives)
-    true c.live-before.result c.live-after.result c.count.ensures.moves refl c.live-before.ensures.value c.live-after.ensures.value
+    (ap (λ r. pos r.live) c.fault.ensures.pool ∙ given_change before.pool.live (held_by c.args.top) c.requires.may)
+    true refl refl refl
     c.fault.ensures.seats.workers (ap (λ r. r.capacity) c.fault.ensures.pool) (c.fault.ensures.back.1 c.requires.can.stands.0 c.requires.can.stands.1).most

@@ -6,6 +6,8 @@ use Rattle.thread_state.specs.States.{own_row, words_held}
 use Rattle.thread_output.specs.Telling.{Tells}
 use Rattle.thread_frames.specs.Views.{Child, child_shown, told_as, all_brought, recorded}
 use Rattle.thread_frames.specs.Points.{At}
+use Rattle.thread_frames.specs.Memory.{RoomFits}
+use Rattle.thread_frames.specs.declared.child_room.ChildRoom.{ChildRoom}
 use Rattle.thread_frames.specs.declared.open_child.OpenChild.{OpenChild}
 use Rattle.thread_frames.specs.declared.prepared.Prepared.TheVariants.{Fork, Nothing}
 use Rattle.thread_frames.proofs.Sets.{room_had, fits_had}
@@ -25,9 +27,10 @@ pub fork_state-state-requires-clause-room : goal.fork_state-state-requires-claus
 fork_state-state-requires-clause-room c =
     let b = c.args.self.now in
     let is = sym c.replace.ensures.value ∙ c.in-Fork.is in
-    room_had b.run.state c.in-Fork.forking.branch c.in-Fork.room.room (placed_gives b ∥∥₁_prop c.requires.placed (λ t k setting of x.
+    room_had b.run.state c.in-Fork.forking.branch c.into_inner-room.result.room (placed_gives b ∥∥₁_prop c.requires.placed (λ t k setting of x.
     (let a : At setting t b.func b.run b.children.items b.record_block (Fork c.in-Fork.forking c.in-Fork.room) =
-    prepared_as setting t b.func b.run b.children.items b.record_block _ b.prepared (sym is) x in ∣ a.stands.2 ∣₁)))
+    prepared_as setting t b.func b.run b.children.items b.record_block _ b.prepared (sym is) x in
+    ∣ subst (λ (x : ChildRoom). RoomFits b.run.state c.in-Fork.forking.branch x.room) (sym c.into_inner-room.ensures) a.stands.2 ∣₁)))
 
 pub fork_state-state-requires-clause-within : goal.fork_state-state-requires-clause-within
 fork_state-state-requires-clause-within c =
@@ -35,7 +38,7 @@ fork_state-state-requires-clause-within c =
     let is = sym c.replace.ensures.value ∙ c.in-Fork.is in
     fits_had (length (own_row b.run.state)) c.deref.result.now (placed_gives b ∥∥₁_prop c.requires.placed (λ t k setting of x.
     ∣ slots_fit setting t b.func b.run b.children.items b.record_block c.in-Fork.forking c.in-Fork.room of.owned of.turns
-    (prepared_as setting t b.func b.run b.children.items b.record_block _ b.prepared (sym is) x) c.deref.result.now c.deref.ensures.value ∣₁))
+    (prepared_as setting t b.func b.run b.children.items b.record_block _ b.prepared (sym is) x) c.deref.result.now (c.deref.ensures.value ∙ ap (λ (x : ChildRoom). x.named.items) c.into_inner-room.ensures) ∣₁))
 
 pub returns-clause-point : goal.returns-clause-point
 returns-clause-point c = λ t k.
@@ -53,7 +56,7 @@ returns-clause-point c = λ t k.
     refl refl c.push_reserved-3.ensures.items refl c.replace.ensures.after
     (parent_at setting t b.func b.run b.children.items b.record_block c.in-Fork.forking c.in-Fork.room of.owned of.turns
     (prepared_as setting t b.func b.run b.children.items b.record_block _ b.prepared (sym is) x) c.deref.result.now c.fork_state-state.new.state c.fork_state-state.result
-    c.push_reserved-2.new.self c.replace-before.new.dest kid c.deref.ensures.value c.fork_state-state.ensures
+    c.push_reserved-2.new.self c.replace-before.new.dest kid (c.deref.ensures.value ∙ ap (λ (x : ChildRoom). x.named.items) c.into_inner-room.ensures) c.fork_state-state.ensures
     (c.push_reserved-2.ensures.items ∙ ap (λ ys. ys ++ c.in-Fork.forking.own ∷ []) c.push_reserved.ensures.items)
     (subst (λ y. Tells y []) (sym c.replace-before.ensures.after) c.new.ensures.items)
     c.forks.ensures.value c.forked_in-func.ensures c.replace-before.ensures.value refl))
@@ -71,8 +74,8 @@ returns-clause-child c = λ t k at.
           c.child.ensures.children c.child.ensures.block c.child.ensures.prepared
           (child_at setting t b.func b.run b.children.items b.record_block c.in-Fork.forking c.in-Fork.room of.owned of.turns
           (prepared_as setting t b.func b.run b.children.items b.record_block _ b.prepared (sym is) x) c.deref.result.now c.fork_state-state.new.state c.fork_state-state.result
-          c.push_reserved-4.new.self c.new-2.result c.in-Ok.block c.deref.ensures.value c.fork_state-state.ensures
-          (c.push_reserved-4.ensures.items ∙ ap (λ ys. ys ++ c.in-Fork.forking.work ∷ []) c.in-Fork.room.none)
+          c.push_reserved-4.new.self c.new-2.result c.in-Ok.block (c.deref.ensures.value ∙ ap (λ (x : ChildRoom). x.named.items) c.into_inner-room.ensures) c.fork_state-state.ensures
+          (c.push_reserved-4.ensures.items ∙ ap (λ ys. ys ++ c.in-Fork.forking.work ∷ []) c.into_inner-room.result.none)
           c.new-2.ensures.items (record_is c.in-Ok.block _ c.in-Ok.ensures.block)));
     }
 
@@ -91,7 +94,7 @@ returns-clause-forked c =
     let st : States b.run.state new c.fork_state-state.result = states_had b.run.state new c.fork_state-state.result (placed_gives b ∥∥₁_prop c.requires.placed (λ t k setting of x.
     ∣ states_of setting t b.func b.run b.children.items b.record_block c.in-Fork.forking c.in-Fork.room of.owned of.turns
     (prepared_as setting t b.func b.run b.children.items b.record_block _ b.prepared (sym is) x) c.deref.result.now new c.fork_state-state.result
-    c.deref.ensures.value c.fork_state-state.ensures ∣₁)) in
+    (c.deref.ensures.value ∙ ap (λ (x : ChildRoom). x.named.items) c.into_inner-room.ensures) c.fork_state-state.ensures ∣₁)) in
     let child_run = c.child.ensures.run in
     record {
       same = record { id = refl; parent = refl; func = refl; label = st.label };
