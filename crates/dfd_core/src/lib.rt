@@ -3,7 +3,9 @@
 //! The ready threads stand in a list of deques, after DFDeques(K) (G. Narlikar, "Scheduling Threads for Low Space Requirement and Good
 //! Locality", SPAA 1999). A worker that owns a deque lets its top thread do its next action, or wait, or gives the deque up where the
 //! quota of its period is spent; an idle one steals. A [`Core`] holds the run, [`Core::step`] lets one worker do one event, and [`play`]
-//! lets the words of a [`Choices`] pick who moves and from whom a thief steals, until the run ends.
+//! lets the words of a [`Choices`] pick who moves and from whom a thief steals, until the run ends. [`Core::give_up`] lets a worker leave
+//! its deque at any other time, too; [`Core::into_end`] and [`Core::into_parts`] take a core apart, behind its end and before its first
+//! event.
 //!
 //! It stands on the step of a worker that owns a deque (`owner_steps`), on that of an idle one (`thief_steps`), and on what a scheduler
 //! holds at a moment (`core_parts`). Its one theorem: whatever the program, what the core holds stands at a moment of a run of the
