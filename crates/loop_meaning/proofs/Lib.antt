@@ -1,0 +1,12 @@
+pub mod Worked
+pub mod Faulting
+pub mod Readings
+pub mod Wrapping
+pub mod Arguments
+pub mod Bodies
+pub mod Loops
+pub mod Halving
+pub mod Plain
+pub mod Growing
+pub mod Logarithm
+pub mod Beginning

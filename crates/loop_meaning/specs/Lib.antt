@@ -1,0 +1,3 @@
+pub mod HelperTrees
+pub mod PlainLoop
+pub mod Laws
