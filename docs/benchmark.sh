@@ -4,6 +4,8 @@
 # (`play`), by the program and by the reference. It prints the nanoseconds an action of both, how many times as long the program
 # takes, and the most memory that the program had in use.
 # The time holds the start of the process and the reading of the source. Where GNU time is missing, no memory is told.
+# COUNT=instructions docs/benchmark.sh counts instructions by valgrind in place of nanoseconds, some fifty times slower: the numbers are
+# the same on each run, whatever else the machine does. The arena is then the default one, since a great one costs at the start.
 # A run on one's own program: docs/benchmark.sh FILE. Fewer sizes: MOST=100000 docs/benchmark.sh
 # The program is `./dfd`; that of another place: DFD=FILE docs/benchmark.sh
 set -u
@@ -42,11 +44,19 @@ calls='par { call work(i); } and { call work(i); }'
 
 clock() { date +%s%N; }
 
-# Runs a command on a source, and sets nanoseconds and memory. Its text is in `$work/out`.
+arena=(--arena 67108864)
+[ "${COUNT:-}" = instructions ] && arena=()
+
+# Runs a command on a source, and sets cost (nanoseconds, or instructions) and memory. Its text is in `$work/out`.
 measure() { # SOURCE COMMAND..
     local source="$1" start end
     shift
     memory="-"
+    if [ "${COUNT:-}" = instructions ]; then
+        valgrind --tool=callgrind --callgrind-out-file=/dev/null "$@" < "$source" > "$work/out" 2> "$work/err"
+        cost="$(sed -n 's/^.*Collected : //p' "$work/err")"
+        return
+    fi
     if [ -n "$gnu_time" ]; then
         start="$(clock)"
         "$gnu_time" -f %M -o "$work/memory" "$@" < "$source" > "$work/out" 2> "$work/err"
@@ -57,7 +67,7 @@ measure() { # SOURCE COMMAND..
         "$@" < "$source" > "$work/out" 2> "$work/err"
         end="$(clock)"
     fi
-    nanoseconds=$((end - start))
+    cost=$((end - start))
 }
 
 # Whether the text that was written is the report of a run.
@@ -69,12 +79,12 @@ compare() { # NAME SOURCE WORDS..
     shift 2
     measure "$source" "$reference" "$@" --k 16 --steps 4000000
     is_report || { echo "benchmark: $name: $(head -n 1 "$work/out")" >&2; exit 1; }
-    of_reference="$nanoseconds"
+    of_reference="$cost"
     [ "$1" = peak ] && actions="$(sed -n 's/^actions //p' "$work/out")"
     measure "$source" "$product" "$@" --k 16 --steps 4000000
     is_report || { echo "benchmark: $name: $(head -n 1 "$work/out")" >&2; exit 1; }
-    of_product=$((nanoseconds / actions))
-    ratio="$((nanoseconds / of_reference)).$((nanoseconds * 10 / of_reference % 10))"
+    of_product=$((cost / actions))
+    ratio="$((cost / of_reference)).$((cost * 10 / of_reference % 10))"
     used="$memory"
     printf '%-10s %-12s %9d %8s %10d %7s %9s\n' \
         "$name" "${*:1:3}" "$actions" "$of_product" $((of_reference / actions)) "$ratio" "$used"
@@ -83,7 +93,7 @@ compare() { # NAME SOURCE WORDS..
 report() { # NAME SOURCE
     compare "$1" "$2" peak
     for workers in 1 4 64; do
-        compare "$1" "$2" play --p "$workers" --arena 67108864
+        compare "$1" "$2" play --p "$workers" ${arena[@]+"${arena[@]}"}
     done
 }
 
