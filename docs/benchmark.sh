@@ -5,7 +5,8 @@
 # takes, and the most memory that the program had in use.
 # The time holds the start of the process and the reading of the source. Where GNU time is missing, no memory is told.
 # COUNT=instructions docs/benchmark.sh counts instructions by valgrind in place of nanoseconds, some fifty times slower: the numbers are
-# the same on each run, whatever else the machine does. The arena is then the default one, since a great one costs at the start.
+# the same on each run, whatever else the machine does. The arena is the default one: its pieces are made at the start, and those of the
+# greatest arena, which has 64 times as many, take half a second and 610 MB.
 # A run on one's own program: docs/benchmark.sh FILE. Fewer sizes: MOST=100000 docs/benchmark.sh
 # The program is `./dfd`; that of another place: DFD=FILE docs/benchmark.sh
 set -u
@@ -43,9 +44,6 @@ dummies='alloc a = 32; free a;'
 calls='par { call work(i); } and { call work(i); }'
 
 clock() { date +%s%N; }
-
-arena=(--arena 67108864)
-[ "${COUNT:-}" = instructions ] && arena=()
 
 # Runs a command on a source, and sets cost (nanoseconds, or instructions) and memory. Its text is in `$work/out`.
 measure() { # SOURCE COMMAND..
@@ -93,7 +91,7 @@ compare() { # NAME SOURCE WORDS..
 report() { # NAME SOURCE
     compare "$1" "$2" peak
     for workers in 1 4 64; do
-        compare "$1" "$2" play --p "$workers" ${arena[@]+"${arena[@]}"}
+        compare "$1" "$2" play --p "$workers"
     done
 }
 

@@ -35,7 +35,7 @@ use Rattle.core_parts.specs.Moments.{terms_of, machine_of, StandsAt}
 use Rattle.core_parts.proofs.Bounds.{release_within, end_within}
 use Rattle.owner_steps.specs.Acts.{IsCharged}
 use Rattle.owner_steps.specs.Decisions.{Decides}
-use Rattle.owner_steps.specs.Memory.{MayAct, words_asked}
+use Rattle.owner_steps.specs.Memory.{MayAct, words_taken_by}
 use Rattle.owner_steps.specs.Results.{TakesResult, IsToCome}
 use Rattle.owner_steps.specs.Steps.{IsBeforeAction, Comes}
 use Rattle.owner_steps.specs.declared.decisions.Decision.TheVariants as decisions
@@ -43,7 +43,7 @@ use Rattle.owner_steps.proofs.Owning.{Known, used_within_quota, alloc_within, jo
 use Rattle.owner_steps.proofs.TakingIn.{joined_ended, delivered_is, can_come, before_later, now_there, taken_in_comes}
 
 -- the words that are asked are those that the action takes
-pub asked_is : (top : Thread) (next : Next) (words : ℕ) → TellsWords top next words → taken_by (deed_of top next) words ≡ words_asked next
+pub asked_is : (top : Thread) (next : Next) (words : ℕ) → TellsWords top next words → taken_by (deed_of top next) words ≡ words_taken_by next
 asked_is top Fork words told = told
 asked_is top (Join child) words told = refl
 asked_is top (Alloc asked) words told = told
@@ -132,7 +132,7 @@ module _ (t : Table) (k limit : ℕ) (s : Scheduler) {worker : ℕ} {id : DequeI
   pub may_act : (next : Next) (b : IsBeforeAction t k limit s worker id top next) (used : ℕ) → ((words : ℕ) → next ≡ Alloc words → (period : Period)
       → period_at s.table worker ≡ Some period → AllocIsCharged used k period words)
       → (next ≡ Fork → (period : Period) → period_at s.table worker ≡ Some period → period.used + record_words ≤ k)
-      → k ≤ 1048576 → s.pool.live + words_asked next ≤ s.pool.capacity
+      → k ≤ 1048576 → s.pool.live + words_taken_by next ≤ s.pool.capacity
       → ((child : ThreadId) → next ≡ Join child → IsTrue (is_there (newest (children_of top)))) → MayAct used s worker top next
   may_act Fork b used alloc fork bounded fits there = ((λ period is. let within = fork refl period is in omega (arith, within, bounded)), fits)
   may_act (Join child) b used alloc fork bounded fits there = (there child refl, joins_within t k limit s stands top (Join child) b)

@@ -53,11 +53,11 @@ MayAct charge s worker top (Fault fault) = held_by top ≤ s.pool.live
 MayAct charge s worker top End = (words_at_end (label_of top) ≤ s.pool.live) × (kept_under s.results (Thread.id top) ≡ None)
 
 -- the words that an action takes
-abbrev pub words_asked : Next → ℕ
-words_asked Fork = record_words
-words_asked (Join child) = 0
-words_asked (Alloc words) = words
-words_asked (Release words) = 0
-words_asked Dummy = 0
-words_asked (Fault fault) = 0
-words_asked End = 0
+abbrev pub words_taken_by : Next → ℕ
+words_taken_by Fork = record_words
+words_taken_by (Join child) = 0
+words_taken_by (Alloc words) = words
+words_taken_by (Release words) = 0
+words_taken_by Dummy = 0
+words_taken_by (Fault fault) = 0
+words_taken_by End = 0

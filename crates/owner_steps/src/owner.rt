@@ -19,7 +19,7 @@ ghost use Rattle.core_parts.specs.Moments.{StandsAt};
 ghost use Rattle.core_parts.specs.Outcomes.{StepsTo};
 ghost use Rattle.owner_steps.specs.Decisions.{Decides};
 ghost use Rattle.owner_steps.specs.declared.decisions.Decision.TheVariants as decisions;
-ghost use Rattle.owner_steps.specs.Memory.{words_asked};
+ghost use Rattle.owner_steps.specs.Memory.{words_taken_by};
 ghost use Rattle.owner_steps.specs.Steps.{IsBeforeAction, ComesUnder};
 
 use crate::acts::act;
@@ -38,7 +38,7 @@ use thread_frames::{Next, Thread};
 
 /// The words that an action takes.
 fn words_taken(next: Next) -> u32
-    ensures { result ≡ words_asked next }
+    ensures { result ≡ words_taken_by next }
 {
     match next {
         Next::Fork => PIECE_WORDS,

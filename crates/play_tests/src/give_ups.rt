@@ -1,42 +1,14 @@
 //! A deque that its owner gives up, and what is left of a core that is taken apart.
 
-ghost use Rattle.std.specs.Prelude.{IfOk};
-ghost use Rattle.dfd_core.specs.Parts.{IsFresh};
-
-use crate::plays::tell_step;
-use accepted_source::accept;
-use block_arena::Pool;
+use crate::plays::{core_of, tell_step};
 use dag_order::Finish;
 use dfd_core::{Core, RunEnd};
-use dummy_tree::Quota;
-use frame_code::lower;
-use std::alloc::{AllocError, Global};
 use std::fmt::Write;
 use std::process::Abort;
 use std::test::Fail;
 
 /// Two children, of which the first one is forked.
 const TWO: &str = "fn main() { par { print 1; } and { print 2; } print 3; }";
-
-/// The run of a text by so many workers, before its first step. A text that is no accepted program counts as want of memory.
-fn fresh(alloc: Global, text: &str, workers: u32) -> Result<Core, AllocError>
-    ensures { IfOk result IsFresh }
-{
-    let Ok(program) = accept(alloc, text.as_bytes()) else {
-        return Err(AllocError);
-    };
-    let code = lower(alloc, program)?;
-    let Some(k) = Quota::new(16) else {
-        return Err(AllocError);
-    };
-    let Ok(pool) = Pool::new(alloc, 1_024) else {
-        return Err(AllocError);
-    };
-    if workers < 1 || 64 < workers {
-        return Err(AllocError);
-    }
-    Core::new(alloc, code, k, workers, pool, 100, 4_096)
-}
 
 /// Lets the first worker do one event, and writes it down.
 fn let_step(core: &mut Core, text: &mut String) -> Result<(), Fail> {
@@ -84,7 +56,7 @@ fn tell_rest(core: Core, text: &mut String) -> Result<(), Fail> {
 /// A worker forks and gives its deque up. Then it steals the root, which has to wait, and after that the child.
 #[test]
 fn an_owner_gives_its_deque_up(rt: HostRuntime) -> Result<(), Fail> {
-    let mut core = fresh(rt.alloc(), TWO, 1)?;
+    let mut core = core_of(rt.alloc(), TWO, 16, 1, 1_024, 100, 4_096)?;
     let mut text = String::new(rt.alloc());
     let_step(&mut core, &mut text)?;
     let_step(&mut core, &mut text)?;
@@ -104,7 +76,7 @@ fn an_owner_gives_its_deque_up(rt: HostRuntime) -> Result<(), Fail> {
 /// A run before its first step has one deque, which holds the root alone, and all words are in the pool.
 #[test]
 fn a_run_is_taken_apart(rt: HostRuntime) -> Result<(), Fail> {
-    let parts = fresh(rt.alloc(), TWO, 3)?.into_parts();
+    let parts = core_of(rt.alloc(), TWO, 16, 3, 1_024, 100, 4_096)?.into_parts();
     assert_eq!(rt; parts.order.len(), 1);
     assert_eq!(rt; parts.order.at(0), Some(parts.first));
     assert_eq!(rt; parts.order.owner(parts.first), None);

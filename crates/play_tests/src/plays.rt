@@ -1,6 +1,9 @@
 //! Plays of whole programs by workers, with the words that pick who moves and whom a thief robs. `reference/` comes to the same for each
 //! row of one worker.
 
+ghost use Rattle.std.specs.Prelude.{IfOk};
+ghost use Rattle.dfd_core.specs.Parts.{IsFresh};
+
 use accepted_source::accept;
 use block_arena::Pool;
 use dag_order::Finish;
@@ -12,8 +15,9 @@ use std::fmt::Write;
 use std::process::Abort;
 use std::test::Fail;
 
-/// The core of a run of a text. Numbers that are out of their ranges, and a text that is no accepted program, count as want of memory.
-fn core_of(
+/// The core of a run of a text, before its first step. Numbers that are out of their ranges, and a text that is no accepted program, count as
+/// want of memory.
+pub(crate) fn core_of(
     alloc: Global,
     text: &str,
     k: u32,
@@ -21,7 +25,9 @@ fn core_of(
     arena: u32,
     limit: u32,
     most: u32,
-) -> Result<Core, AllocError> {
+) -> Result<Core, AllocError>
+    ensures { IfOk result IsFresh }
+{
     let Ok(program) = accept(alloc, text.as_bytes()) else {
         return Err(AllocError);
     };

@@ -4,7 +4,7 @@ use Rattle.dummy_tree.specs.QuotaWords.{quota_words}
 use Rattle.core_parts.specs.declared.event.Event.TheVariants.{Acted}
 use Rattle.core_parts.specs.declared.scheduler.Scheduler.{Scheduler}
 use Rattle.owner_steps.specs.Acts.{IsCharged}
-use Rattle.owner_steps.specs.Memory.{words_asked}
+use Rattle.owner_steps.specs.Memory.{words_taken_by}
 use Rattle.owner_steps.specs.Refusals.{Refuses}
 use Rattle.owner_steps.proofs.Owning.{refused_comes, acted_comes}
 use Rattle.owner_steps.proofs.Deciding.{asked_is, charged_within, is_charged, ended_before, may_act, may_come, alloc_charged, fork_charged, before_taken, there_taken, comes_taken}
@@ -14,7 +14,7 @@ pub returns-in-Err : goal.returns-in-Err
 returns-in-Err c t b items stands =
     let before : Scheduler = c.args.scheduler.now in
     let k = quota_words c.args.k in
-    refused_comes t k c.args.limit before stands c.args.top c.args.next b (words_asked c.args.next) (asked_is c.args.top c.args.next)
+    refused_comes t k c.args.limit before stands c.args.top c.args.next b (words_taken_by c.args.next) (asked_is c.args.top c.args.next)
     (charged_within t k c.args.limit before stands c.args.top c.args.next b c.args.charge c.requires.decides)
     (ended_before t k c.args.limit before stands c.args.top c.args.next b c.args.charge c.requires.decides)
     c.in-Err.stop c.put_back.new.scheduler (subst (λ n. Refuses before c.args.limit n c.in-Err.stop) (c.from.ensures ∙ c.words_taken.ensures) c.in-Err.ensures.refused)
@@ -52,7 +52,7 @@ returns c t b items stands =
     let k = quota_words c.args.k in
     let now = before_taken t k c.args.limit before c.args.worker c.args.deque c.args.top c.args.next b c.take_result.new.results c.take_result.new.top c.take_result.ensures in
     comes_taken t k c.args.limit before stands c.args.top c.args.next b c.take_result.new.results c.take_result.new.top c.take_result.ensures c.act.new.scheduler (Acted c.act.result)
-    (acted_comes t k c.args.limit later stands c.take_result.new.top c.args.next now (words_asked c.args.next) (asked_is c.take_result.new.top c.args.next)
+    (acted_comes t k c.args.limit later stands c.take_result.new.top c.args.next now (words_taken_by c.args.next) (asked_is c.take_result.new.top c.args.next)
     (IsCharged c.args.charge c.args.next) c.act.new.scheduler c.act.result c.act.ensures
     (is_charged t k c.args.limit later stands c.take_result.new.top c.args.next now c.args.charge
     (alloc_charged t k c.args.limit before stands c.args.top c.args.next c.args.charge c.requires.decides)

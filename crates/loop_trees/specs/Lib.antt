@@ -1,0 +1,3 @@
+pub mod HelperFunctions
+pub mod LoopCalls
+pub mod Laws
