@@ -1,0 +1,30 @@
+-- What a caller may use: in the program of an expansion each loop of the text means the plain loop.
+use Rattle.std.specs.Prelude.{◌≡◌, ℕ, false, List, ◌∷◌, ◌++◌, length, Ok}
+use Rattle.par_tree.specs.Tree.{Stmt}
+use Rattle.par_text.specs.Judging.{IsText}
+use Rattle.par_ownership.specs.Ownership.{Ownership}
+use Rattle.depth_first_run.specs.States.{Setting, State}
+use Rattle.loop_expand.specs.Loops.{Loop}
+use Rattle.loop_expand.specs.Expansion.{Expands}
+use Rattle.loop_trees.specs.LoopCalls.{IsCall}
+use Rattle.loop_trees.specs.Laws.{IsExpansionOf}
+use Rattle.loop_laws.specs.Meaning.{HoldsRange, MeansPlain, StaysLow}
+
+-- Where a text has an expansion, and this is accepted: its program has the loops of the text, each with its call and its helper, and each
+-- statement that is the call of a loop means the plain loop, in whatever state a run comes to it.
+abbrev pub WrittenOutLoopsArePlain : Type 0
+WrittenOutLoopsArePlain =
+    (text bytes : List ℕ) (c : Setting) → Expands text (Ok bytes) → IsText bytes c.program → Ownership c.program
+    → (x : IsExpansionOf text c.program)
+    × ((before : List Loop) (l : Loop) (behind : List Loop) → x.loops ≡ before ++ l ∷ behind
+    → (line : ℕ) (stmt : Stmt) (s : State) → IsCall text (length before) l stmt → s.faulted ≡ false → HoldsRange text l.range s.store
+    → MeansPlain text c line l stmt s)
+
+-- And each call of a loop over numbers stays within the words of one round and the records of few threads.
+abbrev pub WrittenOutLoopsStayLow : Type 0
+WrittenOutLoopsStayLow =
+    (text bytes : List ℕ) (c : Setting) → Expands text (Ok bytes) → IsText bytes c.program → Ownership c.program
+    → (x : IsExpansionOf text c.program)
+    × ((before : List Loop) (l : Loop) (behind : List Loop) → x.loops ≡ before ++ l ∷ behind
+    → (line : ℕ) (stmt : Stmt) (s : State) → IsCall text (length before) l stmt → s.faulted ≡ false
+    → StaysLow text l.range c line l stmt s)
