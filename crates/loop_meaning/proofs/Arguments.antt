@@ -2,7 +2,7 @@
 use Rattle.std.specs.Prelude.{◌≡◌, ℕ, zero, suc, Bool, true, false, if◌then◌else◌, List, [], ◌∷◌, ◌++◌, map, length, ℤ, Result, Ok, Err, Some, None, refl}
 use Rattle.std.specs.Str.{bytes_eq}
 use Rattle.std.specs.List.{find}
-use Rattle.std.proofs.Common.{sym, ◌∙◌, ap, subst}
+use Rattle.std.proofs.Common.{sym, ◌∙◌, ap, arith, subst}
 use Rattle.std.proofs.lemmas.List.{map-append}
 use Rattle.std.specs.Fmt.{decimal}
 use Rattle.dag_order.specs.declared.fault.FaultKind.{FaultKind}
@@ -12,7 +12,7 @@ use Rattle.par_tree.specs.Names.{param_names}
 use Rattle.par_ownership.specs.Environment.{Entry, Environment, has_name, with_entry, param_entry}
 use Rattle.par_ownership.specs.Ownership.{Ownership, OwnsParams, function_of}
 use Rattle.depth_first_run.specs.Stores.{Store, Held, nothing, no_integers, updated}
-use Rattle.depth_first_run.specs.Values.{value}
+use Rattle.depth_first_run.specs.Values.{Outcome, value}
 use Rattle.depth_first_run.specs.Calls.{Passing, pass_integer, pass_value, passed, all_passed, lent_back}
 use Rattle.ownership_laws.proofs.Counting.{name_same, bytes_swap}
 use Rattle.ownership_laws.proofs.Passing.{function_owned}
@@ -40,10 +40,10 @@ put (q ∷ qs) (v ∷ vs) integers = put qs vs (updated q v integers)
 abbrev pub numbers_passed : List Name → List ℤ → Store → Passing
 numbers_passed names vs s = record { callee = record { integers = put names vs no_integers; blocks = [] }; caller = s }
 
-abbrev with_integers : (Name → ℤ) → Passing → Passing
+abbrev pub with_integers : (Name → ℤ) → Passing → Passing
 with_integers integers h = record { callee = record { integers = integers; blocks = h.callee.blocks }; caller = h.caller }
 
-passed_is : (s : Store) (qs : List Param) (args : List Arg) (vs : List ℤ) (h : Passing) → HaveNumbers s args vs
+pub passed_is : (s : Store) (qs : List Param) (args : List Arg) (vs : List ℤ) (h : Passing) → HaveNumbers s args vs
     → passed s qs args h ≡ Ok (with_integers (put (param_names qs) vs h.callee.integers) h)
 unfolding passed put HaveNumbers
 passed_is s [] args vs h k = refl
@@ -101,6 +101,35 @@ expressions_have s (x ∷ es) vs e = by (value s x) refl (numbers_of s es) refl 
     by (Ok v) a (Ok ws) b k h = subst (λ us. HaveNumbers s (Tree.value x ∷ map Tree.value es) us) (same_numbers (v ∷ ws) vs h) (a, k ws b)
     by (Ok v) a (Err kind) b k h = let never : ⊥ = cc in absurd never
     by (Err kind) a r b k h = let never : ⊥ = cc in absurd never
+
+-- ---- a fault of an expression
+
+-- a fault in one kind of result is a fault in another
+as_passing : Result (List ℤ) FaultKind → Result Passing FaultKind
+as_passing (Ok vs) = Ok record { callee = nothing; caller = nothing }
+as_passing (Err kind) = Err kind
+
+same_kind : (one other : FaultKind) → ◌≡◌ {A = Result (List ℤ) FaultKind} (Err one) (Err other) → ◌≡◌ {A = Result Passing FaultKind} (Err one) (Err other)
+unfolding as_passing
+same_kind one other e = ap as_passing e
+
+-- the first fault of the arguments is that of the call
+pub fault_passed : (s : Store) (qs : List Param) (es : List Expr) (h : Passing) (kind : FaultKind) → length qs ≡ length es → numbers_of s es ≡ Err kind
+    → passed s qs (map Tree.value es) h ≡ Err kind
+unfolding passed numbers_of
+fault_passed s qs [] h kind l e = let never : ⊥ = cc in absurd never
+fault_passed s [] (x ∷ es) h kind l e = let never : ⊥ = cc in absurd never
+fault_passed s (q ∷ qs) (x ∷ es) h kind l e = by (value s x) refl (numbers_of s es) refl (λ g. fault_passed s qs es g kind (shorter (length qs) (length es) l)) e
+  where
+    shorter : (m n : ℕ) → suc m ≡ suc n → m ≡ n
+    shorter m n k = omega (arith, k)
+
+    by : (o : Outcome) → value s x ≡ o → (r : Result (List ℤ) FaultKind) → numbers_of s es ≡ r
+        → ((g : Passing) → numbers_of s es ≡ Err kind → passed s qs (map Tree.value es) g ≡ Err kind) → in_front o r ≡ Err kind
+        → pass_value q.name (value s x) h (passed s qs (map Tree.value es)) ≡ Err kind
+    by (Err other) a r b k i = ap (λ o. pass_value q.name o h (passed s qs (map Tree.value es))) a ∙ same_kind other kind i
+    by (Ok v) a (Ok ws) b k i = let never : ⊥ = cc in absurd never
+    by (Ok v) a (Err other) b k i = ap (λ o. pass_value q.name o h (passed s qs (map Tree.value es))) a ∙ k (pass_integer q.name v h) (b ∙ i)
 
 -- ---- names that differ
 
@@ -173,17 +202,20 @@ params_differ line (x ∷ names) env after o =
     let l = each_last env e names r.0 in
     (one_more_differs env x names o.0 l.0, (l.1, r.1))
 
+pub integers_differ : (line : ℕ) (names : List Name) (env after : Environment) → OwnsParams line (map integer_param names) env after → AllDiffer names
+integers_differ line names env after o = (params_differ line names env after o).1
+
 pub parameters_differ : (p : Program) (f : Name) (g : Func) (names : List Name) → function_of p f ≡ Some g → Ownership p
     → g.params ≡ map integer_param names → AllDiffer names
 parameters_differ p f g names is o e =
     let owns = function_owned p p f g is o.functions in
-    (params_differ g.line names [] owns.0 (subst (λ qs. OwnsParams g.line qs [] owns.0) e owns.1)).1
+    integers_differ g.line names [] owns.0 (subst (λ qs. OwnsParams g.line qs [] owns.0) e owns.1)
 
 pub integer_params : (names : List Name) → param_names (map integer_param names) ≡ names
 integer_params [] = refl
 integer_params (x ∷ names) = ap (λ (xs : List Name). x ∷ xs) (integer_params names)
 
--- an integer whose name does not begin as those of the further parameters is none of them
+-- an integer whose name does not begin as those of the further numbers is none of them
 pub beside_further : (x : Name) → ((digits : List ℕ) → bytes_eq x (99 ∷ digits) ≡ false) → (k : ℕ) (v : ℤ) (integers : Name → ℤ)
     → map (updated x v integers) (further_names k) ≡ map integers (further_names k)
 beside_further x d zero v integers = refl

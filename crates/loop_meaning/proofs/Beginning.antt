@@ -1,7 +1,7 @@
 -- A loop whose sum begins with 0.
-use Rattle.std.specs.Prelude.{◌≡◌, ℕ, zero, suc, ◌≤◌, Bool, true, false, List, [], ◌∷◌, map, length, drop, ℤ, pos, FitsSigned, Some, refl}
+use Rattle.std.specs.Prelude.{◌≡◌, ℕ, zero, suc, ◌≤◌, false, List, ◌∷◌, map, length, drop, ℤ, pos, FitsSigned, Some, refl}
 use Rattle.std.specs.Int.{w64, int_wrapping_add}
-use Rattle.std.proofs.Common.{sym, ◌∙◌, ap, arith, subst, append-nil}
+use Rattle.std.proofs.Common.{sym, ◌∙◌, ap, arith, subst}
 use Rattle.par_tree.specs.Tree.{Name, integer, Func, call_stmt}
 use Rattle.par_tree.specs.Names.{param_names}
 use Rattle.par_ownership.specs.Ownership.{function_of, hands_back}
@@ -10,7 +10,6 @@ use Rattle.depth_first_run.specs.States.{Setting, State, Item, unless_faulted}
 use Rattle.depth_first_run.specs.Calls.{lent_back}
 use Rattle.depth_first_run.specs.Run.{set_integer, open_call, run}
 use Rattle.run_outcomes.specs.Outcomes.{added, KeepsLimits}
-use Rattle.run_outcomes.proofs.Lists.{added_is}
 use Rattle.run_outcomes.proofs.Concluding.{same_answer}
 use Rattle.loop_meaning.specs.PlainLoop.{constant, call_for, add_call, next_number, add_calls, sum_calls}
 use Rattle.loop_meaning.specs.Laws.{SumsMayBeginAtZero}
@@ -18,15 +17,10 @@ use Rattle.loop_meaning.proofs.Faulting.{unless_faulted_tells, statement_told}
 use Rattle.loop_meaning.proofs.Readings.{ReadTheSame, read_by_marks, Longer, longer, longer_by, limits_split}
 use Rattle.loop_meaning.proofs.Wrapping.{nothing_added}
 use Rattle.loop_meaning.proofs.Arguments.{numbers_passed, nothing_lent, constants_have}
-use Rattle.loop_meaning.proofs.Bodies.{skipped_none, skipped_all, call_opens}
+use Rattle.loop_meaning.proofs.Bodies.{call_opens}
 use Rattle.loop_meaning.proofs.Loops.{written_twice, read_back, after, taken_up, taken_up_items, taken_up_store, add_calls_told}
-use Rattle.loop_meaning.proofs.Halving.{read_nothing, read_at, both_read, own_store}
-
--- two ways come to the same: the same is read, a fault ends both or none, and where none does the same store is left
-record SameWay (s u t v : State) : Type 0 where
-  pub reading : ReadTheSame (added s u) (added t v)
-  pub faulted : u.faulted ≡ v.faulted
-  pub left : u.faulted ≡ false → u.store ≡ v.store
+use Rattle.loop_meaning.proofs.TwoRuns.{read_at, silent_same, both_silent, SameRuns, same_runs_on}
+use Rattle.loop_meaning.proofs.Halving.{own_store}
 
 module _ (c : Setting) (line : ℕ) (f x : Name) (g : Func) (is_f : function_of c.program f ≡ Some g) (number_back : hands_back g.ret ≡ false) where
   abbrev calls_f : List ℤ → State → State
@@ -66,43 +60,12 @@ module _ (c : Setting) (line : ℕ) (f x : Name) (g : Func) (is_f : function_of 
   call_longer : (ws : List ℤ) (s : State) → Longer s (calls_f ws s)
   call_longer ws s = longer s (calls_f ws s) (statement_told c line (call_stmt (integer x) f (map constant ws)) s)
 
+  adds_longer : (vs : List ℤ) (lo : ℤ) (m : ℕ) (u : State) → Longer u (add_calls c line f x vs lo m u)
+  adds_longer vs lo m u = longer u (add_calls c line f x vs lo m u) (add_calls_told c line f x vs m lo u)
+
   others_longer : (vs : List ℤ) (lo : ℤ) (m : ℕ) (u : State) → Longer u (unless_faulted (add_calls c line f x vs lo m) u)
   others_longer vs lo m u =
       longer u (unless_faulted (add_calls c line f x vs lo m) u) (unless_faulted_tells (add_calls c line f x vs lo m) u (add_calls_told c line f x vs m lo u))
-
-  -- a way that goes on with the others
-  goes_on : (vs : List ℤ) (lo : ℤ) (m : ℕ) (s t u v : State) → Longer s u → Longer t v → SameWay s u t v
-      → (u.faulted ≡ false → v.faulted ≡ false → u.store ≡ v.store → KeepsLimits (added u (add_calls c line f x vs lo m u)) → KeepsLimits (added v (add_calls c line f x vs lo m v))
-      → SameWay u (add_calls c line f x vs lo m u) v (add_calls c line f x vs lo m v))
-      → KeepsLimits (added s (unless_faulted (add_calls c line f x vs lo m) u)) → KeepsLimits (added t (unless_faulted (add_calls c line f x vs lo m) v))
-      → SameWay s (unless_faulted (add_calls c line f x vs lo m) u) t (unless_faulted (add_calls c line f x vs lo m) v)
-  goes_on vs lo m s t u v su tv w rest ks kt = by u.faulted refl
-    where
-      others : State → State
-      others z = add_calls c line f x vs lo m z
-
-      at : (u' v' : State) → unless_faulted (add_calls c line f x vs lo m) u ≡ u' → unless_faulted (add_calls c line f x vs lo m) v ≡ v' → SameWay s u' t v'
-          → SameWay s (unless_faulted (add_calls c line f x vs lo m) u) t (unless_faulted (add_calls c line f x vs lo m) v)
-      at u' v' p q same =
-          subst (λ (z : State). SameWay s z t (unless_faulted (add_calls c line f x vs lo m) v)) (sym p) (subst (λ (z : State). SameWay s u' t z) (sym q) same)
-
-      by : (b : Bool) → u.faulted ≡ b → SameWay s (unless_faulted (add_calls c line f x vs lo m) u) t (unless_faulted (add_calls c line f x vs lo m) v)
-      by true e = at u v (skipped_all (add_calls c line f x vs lo m) u e) (skipped_all (add_calls c line f x vs lo m) v (sym w.faulted ∙ e)) w
-      by false e =
-          let e' : v.faulted ≡ false = sym w.faulted ∙ e in
-          let p = skipped_none (add_calls c line f x vs lo m) u e in
-          let q = skipped_none (add_calls c line f x vs lo m) v e' in
-          let uo : Longer u (add_calls c line f x vs lo m u) = longer u (add_calls c line f x vs lo m u) (add_calls_told c line f x vs m lo u) in
-          let vo : Longer v (add_calls c line f x vs lo m v) = longer v (add_calls c line f x vs lo m v) (add_calls_told c line f x vs m lo v) in
-          let k = limits_split s u (add_calls c line f x vs lo m u) su uo (subst (λ (z : State). KeepsLimits (added s z)) p ks) in
-          let k' = limits_split t v (add_calls c line f x vs lo m v) tv vo (subst (λ (z : State). KeepsLimits (added t z)) q kt) in
-          let r = rest e e' (w.left e) k.1 k'.1 in
-          at (add_calls c line f x vs lo m u) (add_calls c line f x vs lo m v) p q
-          (record {
-            reading = both_read s u (add_calls c line f x vs lo m u) t v (add_calls c line f x vs lo m v) su uo tv vo w.reading r.reading;
-            faulted = r.faulted;
-            left = r.left;
-          })
 
   call_items : (ws : List ℤ) (s : State) → ((add_call c line f x ws s).items ≡ (calls_f ws s).items) × ((add_call c line f x ws s).faulted ≡ (calls_f ws s).faulted)
   unfolding taken_up
@@ -121,7 +84,7 @@ module _ (c : Setting) (line : ℕ) (f x : Name) (g : Func) (is_f : function_of 
 
   -- two calls whose answers are added
   same_add : (ws : List ℤ) (s t : State) → s.faulted ≡ false → t.faulted ≡ false → s.store ≡ t.store → KeepsLimits (added s (add_call c line f x ws s)) → KeepsLimits (added t (add_call c line f x ws t))
-      → SameWay s (add_call c line f x ws s) t (add_call c line f x ws t)
+      → SameRuns s (add_call c line f x ws s) t (add_call c line f x ws t)
   same_add ws s t sf tf same ks kt =
       let w = same_call ws s t sf tf (subst (λ (is : List Item). KeepsLimits is) (call_added ws s) ks) (subst (λ (is : List Item). KeepsLimits is) (call_added ws t) kt) in
       record {
@@ -135,24 +98,25 @@ module _ (c : Setting) (line : ℕ) (f x : Name) (g : Func) (is_f : function_of 
       }
 
   same_adds : (vs : List ℤ) (m : ℕ) (lo : ℤ) (s t : State) → s.faulted ≡ false → t.faulted ≡ false → s.store ≡ t.store
-      → KeepsLimits (added s (add_calls c line f x vs lo m s)) → KeepsLimits (added t (add_calls c line f x vs lo m t)) → SameWay s (add_calls c line f x vs lo m s) t (add_calls c line f x vs lo m t)
+      → KeepsLimits (added s (add_calls c line f x vs lo m s)) → KeepsLimits (added t (add_calls c line f x vs lo m t)) → SameRuns s (add_calls c line f x vs lo m s) t (add_calls c line f x vs lo m t)
   same_adds vs zero lo s t sf tf same ks kt = record {
-    reading = read_at (added s s) [] (added t t) [] (added_is s s [] (sym (append-nil s.items))) (added_is t t [] (sym (append-nil t.items))) read_nothing;
+    reading = both_silent s t s t (silent_same s s refl) (silent_same t t refl);
     faulted = sf ∙ sym tf;
     left = λ z. same;
   }
   same_adds vs (suc m) lo s t sf tf same ks kt =
       let u : State = add_call c line f x (lo ∷ vs) s in
       let v : State = add_call c line f x (lo ∷ vs) t in
+      let others : State → State = add_calls c line f x vs (next_number lo) m in
       let k = limits_split s u (unless_faulted (add_calls c line f x vs (next_number lo) m) u) (add_longer (lo ∷ vs) s) (others_longer vs (next_number lo) m u) ks in
       let k' = limits_split t v (unless_faulted (add_calls c line f x vs (next_number lo) m) v) (add_longer (lo ∷ vs) t) (others_longer vs (next_number lo) m v) kt in
-      goes_on vs (next_number lo) m s t u v (add_longer (lo ∷ vs) s) (add_longer (lo ∷ vs) t) (same_add (lo ∷ vs) s t sf tf same k.0 k'.0)
+      same_runs_on others others s t u v (add_longer (lo ∷ vs) s) (add_longer (lo ∷ vs) t) (adds_longer vs (next_number lo) m u) (adds_longer vs (next_number lo) m v) (same_add (lo ∷ vs) s t sf tf same k.0 k'.0)
       (λ uf vf e ku kv. same_adds vs m (next_number lo) u v uf vf e ku kv) ks kt
 
   -- the first answer, added to 0
   same_first : (ws : List ℤ) (s : State) → s.faulted ≡ false → FitsSigned w64 ((calls_f ws s).store.integers x)
       → KeepsLimits (added s (add_call c line f x ws (set_integer x (pos 0) s))) → KeepsLimits (added s (calls_f ws s))
-      → SameWay (set_integer x (pos 0) s) (add_call c line f x ws (set_integer x (pos 0) s)) s (calls_f ws s)
+      → SameRuns (set_integer x (pos 0) s) (add_call c line f x ws (set_integer x (pos 0) s)) s (calls_f ws s)
   same_first ws s sf fits ks kt =
       let t : State = set_integer x (pos 0) s in
       let w = same_call ws t s sf sf (subst (λ (is : List Item). KeepsLimits is) (call_added ws t) ks) kt in
@@ -170,7 +134,7 @@ module _ (c : Setting) (line : ℕ) (f x : Name) (g : Func) (is_f : function_of 
 
   sums_same : (vs : List ℤ) (n : ℕ) (lo : ℤ) (s : State) → s.faulted ≡ false → (1 ≤ n → FitsSigned w64 ((calls_f (lo ∷ vs) s).store.integers x))
       → KeepsLimits (added s (add_calls c line f x vs lo n (set_integer x (pos 0) s))) → KeepsLimits (added s (sum_calls c line f x vs lo n s))
-      → SameWay (set_integer x (pos 0) s) (add_calls c line f x vs lo n (set_integer x (pos 0) s)) s (sum_calls c line f x vs lo n s)
+      → SameRuns (set_integer x (pos 0) s) (add_calls c line f x vs lo n (set_integer x (pos 0) s)) s (sum_calls c line f x vs lo n s)
   sums_same vs zero lo s sf fits ks kt = record {
     reading = record { lines = refl; fault = refl };
     faulted = refl;
@@ -180,9 +144,10 @@ module _ (c : Setting) (line : ℕ) (f x : Name) (g : Func) (is_f : function_of 
       let t : State = set_integer x (pos 0) s in
       let u : State = add_call c line f x (lo ∷ vs) t in
       let v : State = calls_f (lo ∷ vs) s in
+      let others : State → State = add_calls c line f x vs (next_number lo) n in
       let k = limits_split t u (unless_faulted (add_calls c line f x vs (next_number lo) n) u) (add_longer (lo ∷ vs) t) (others_longer vs (next_number lo) n u) ks in
       let k' = limits_split s v (unless_faulted (add_calls c line f x vs (next_number lo) n) v) (call_longer (lo ∷ vs) s) (others_longer vs (next_number lo) n v) kt in
-      goes_on vs (next_number lo) n t s u v (add_longer (lo ∷ vs) t) (call_longer (lo ∷ vs) s) (same_first (lo ∷ vs) s sf (fits (omega arith)) k.0 k'.0)
+      same_runs_on others others t s u v (add_longer (lo ∷ vs) t) (call_longer (lo ∷ vs) s) (adds_longer vs (next_number lo) n u) (adds_longer vs (next_number lo) n v) (same_first (lo ∷ vs) s sf (fits (omega arith)) k.0 k'.0)
       (λ uf vf e ku kv. same_adds vs n (next_number lo) u v uf vf e ku kv) ks kt
 
 pub sums_begin : SumsMayBeginAtZero

@@ -240,7 +240,7 @@ half_had : (s : Store) (m : ℕ) → m < 2 ^ 63 → s.integers count_name ≡ po
 unfolding halved value chained operated
 half_had s m small e = ap (λ v. and_then (and_then (ok (pos 2)) (operated over v)) (chained s last)) e ∙ ap ok (half_is m small)
 
-zero_had : (s : Store) → value s (num (pos 0)) ≡ Ok (pos 0)
+pub zero_had : (s : Store) → value s (num (pos 0)) ≡ Ok (pos 0)
 unfolding value
 zero_had s = refl
 

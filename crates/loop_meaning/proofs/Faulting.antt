@@ -35,7 +35,7 @@ or_true : (b : Bool) → (b || true) ≡ true
 or_true true = refl
 or_true false = refl
 
-or_assoc : (a b d : Bool) → ((a || b) || d) ≡ (a || (b || d))
+pub or_assoc : (a b d : Bool) → ((a || b) || d) ≡ (a || (b || d))
 or_assoc true b d = refl
 or_assoc false b d = refl
 
@@ -232,7 +232,7 @@ end_call_tells : (callers : List Store) (params : List Param) (args : List Arg) 
 end_call_tells [] params args t a s = tells_same s
 end_call_tells (caller ∷ callers) params args t a s = storing_tells s _ refl refl
 
-pub returned_tells : (params : List Param) (args : List Arg) (t : Target) (a : Answer) (s : State) → Tells s (returned params args t a s)
+returned_tells : (params : List Param) (args : List Arg) (t : Target) (a : Answer) (s : State) → Tells s (returned params args t a s)
 unfolding returned
 returned_tells params args t a s = end_call_tells s.callers params args t a s
 
@@ -242,10 +242,15 @@ return_tells line (hands b) next s k =
     let u : State = record s { store = drop_block b s.store } in
     tells_trans s u (with_return line (hands b) next s) (storing_tells s u refl refl) (k _ u)
 
-pub answer_tells : (r : Option Ret) (next : Answer → State → State) (s : State) → ((a : Answer) (u : State) → Tells u (next a u)) → Tells s (with_answer r next s)
+answer_tells : (r : Option Ret) (next : Answer → State → State) (s : State) → ((a : Answer) (u : State) → Tells u (next a u)) → Tells s (with_answer r next s)
 unfolding with_answer
 answer_tells None next s k = k _ s
 answer_tells (Some r) next s k = return_tells r.line r.value next s k
+
+-- the end of a call, unless a fault ended its body
+pub call_end_told : (g : Func) (args : List Arg) (t : Target) (s : State) → Tells s (unless_faulted (with_answer g.ret (returned g.params args t)) s)
+call_end_told g args t s =
+    unless_faulted_tells (with_answer g.ret (returned g.params args t)) s (answer_tells g.ret (returned g.params args t) s (λ a u. returned_tells g.params args t a u))
 
 unfoldable pub TellsAll : (Body → State → State) → Type 0
 TellsAll more = (b : Body) (s : State) → Tells s (more b s)
@@ -256,8 +261,7 @@ run_callee_tells more k t args g h s =
     let u : State = entered h s in let v : State = more g.body u in
     let f : State → State = with_answer g.ret (returned g.params args t) in
     tells_trans s u (run_callee more t args g h s) (storing_tells s u refl refl)
-    (tells_trans u v (unless_faulted f v) (k g.body u)
-    (unless_faulted_tells f v (answer_tells g.ret (returned g.params args t) v (λ a w. returned_tells g.params args t a w))))
+    (tells_trans u v (unless_faulted f v) (k g.body u) (call_end_told g args t v))
 
 open_call_tells : (c : Setting) (more : Body → State → State) → TellsAll more → (line : ℕ) (t : Target) (args : List Arg) (g : Func) (h : Passing) (s : State)
     → Tells s (open_call c more line t args g h s)

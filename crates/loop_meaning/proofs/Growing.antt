@@ -13,11 +13,10 @@ use Rattle.par_ownership.specs.Environment.{Environment, integer_entry, with_ent
 use Rattle.par_ownership.specs.Ownership.{Ownership, IsFresh, OwnsAll, OwnsParams, OwnsFunction, function_of, hands_back}
 use Rattle.depth_first_run.specs.Stores.{Store, held_words, stored_words, those_named}
 use Rattle.depth_first_run.specs.Values.{value}
-use Rattle.depth_first_run.specs.States.{Setting, State, Item, began, acted, with_item, with_action, skip_if, unless_faulted, with_number, child_of, parent_of, ended, joined, given_back, holdings}
+use Rattle.depth_first_run.specs.States.{Setting, State, Item, began, acted, with_item, with_action, skip_if, unless_faulted, with_number, child_of, ended, given_back, holdings}
 use Rattle.depth_first_run.specs.Calls.{end_call, with_answer, returned}
 use Rattle.depth_first_run.specs.Calls as passing
 use Rattle.depth_first_run.specs.Run.{set_integer, actions_of, names_in, assigns_in, open_call, exec_all, run}
-use Rattle.depth_first_run.proofs.Covered.{actions_append}
 use Rattle.depth_first_run.proofs.Fixed.{run_fixed}
 use Rattle.ownership_laws.specs.Counts.{count, held_in, held_entry}
 use Rattle.ownership_laws.specs.Laws.{HoldsFor, HasStopped, GoesOn}
@@ -26,15 +25,17 @@ use Rattle.ownership_laws.proofs.Tame.{held_with_integer}
 use Rattle.ownership_laws.proofs.Passing.{function_owned}
 use Rattle.ownership_laws.proofs.Owned.{holds_rules}
 use Rattle.run_outcomes.specs.Outcomes.{added, KeepsLimits, TakesIntegers}
-use Rattle.run_outcomes.proofs.Lists.{added_is, peaks_append, live_under_peak}
+use Rattle.run_outcomes.proofs.Lists.{peaks_append, live_under_peak}
 use Rattle.run_outcomes.proofs.Concluding.{same_call_peak}
 use Rattle.run_outcomes.proofs.Weighing.{all_given_back, changed_by_weights}
 use Rattle.loop_meaning.specs.HelperTrees.{integer_param, pass_on, further_names, further_arguments, low_name, count_name, sum_of_all, half_name, sum_of_rest, alone, sum_with, difference, add_rest, numbers_helper}
 use Rattle.loop_meaning.specs.PlainLoop.{constant, next_number, number_of_round}
 use Rattle.loop_meaning.proofs.Faulting.{joined_items, call_told}
-use Rattle.loop_meaning.proofs.Readings.{Longer, longer, longer_by, longer_trans, added_split, limits_split}
+use Rattle.loop_meaning.proofs.Readings.{Longer, longer, longer_by, longer_trans, limits_split}
 use Rattle.loop_meaning.proofs.Arguments.{numbers_passed, AllDiffer}
 use Rattle.loop_meaning.proofs.Bodies.{only_statement, statement_skipped, assign_done, begun, first_half}
+use Rattle.loop_meaning.proofs.TwoRuns.{actions_split, quiet_front, quiet_back, actions_are}
+use Rattle.loop_meaning.proofs.Branches.{parent_begins, both_joined}
 use Rattle.loop_meaning.proofs.Loops.{together, together_is}
 use Rattle.loop_meaning.proofs.Halving.{sum_value, one_run, halved}
 
@@ -46,19 +47,6 @@ peak_least (a ∷ xs) = most (weight a +ℤ peak xs)
   where
     most : (z : ℤ) → pos 0 ≤ℤ int_max (pos 0) z
     most z = omega (arith, ints, clamps)
-
-quiet_front : (s t u : State) → Longer s t → Longer t u → actions_of (added s t) ≡ [] → actions_of (added s u) ≡ actions_of (added t u)
-quiet_front s t u l m e =
-    ap actions_of (added_split s t u l m) ∙ actions_append (added s t) (added t u) ∙ ap (λ (xs : List Action). xs ++ actions_of (added t u)) e
-
-actions_split : (s t u : State) → Longer s t → Longer t u → actions_of (added s u) ≡ actions_of (added s t) ++ actions_of (added t u)
-actions_split s t u l m = ap actions_of (added_split s t u l m) ∙ actions_append (added s t) (added t u)
-
-quiet_back : (s t u : State) → Longer s t → Longer t u → actions_of (added t u) ≡ [] → actions_of (added s u) ≡ actions_of (added s t)
-quiet_back s t u l m e = actions_split s t u l m ∙ ap (λ (xs : List Action). actions_of (added s t) ++ xs) e ∙ append-nil (actions_of (added s t))
-
-actions_are : (s t : State) (new : List Item) → t.items ≡ s.items ++ new → actions_of (added s t) ≡ actions_of new
-actions_are s t new e = ap actions_of (added_is s t new e)
 
 -- a Fork, the child, its End, the own part and the Join
 forked_peak : (fork end join : Action) (xs ys : List Action) → weight fork ≡ pos record_words → weight end ≡ neg_ℤ (pos record_words) → weight join ≤ℤ pos 0
@@ -222,13 +210,13 @@ module _ (c : Setting) (sum f : Name) (k line at_line : ℕ) (x : Name) (vs : Li
   first_done lo j p = helper_call line sum_of_all arguments_of_first lo (pos (suc (j / 2))) (first_child p)
 
   abbrev second_parent : ℤ → ℕ → State → State
-  second_parent lo j p = begun line (parent_of (names_in first_branch) (ended record_words (first_done lo j p)).items p)
+  second_parent lo j p = parent_begins line (names_in first_branch) (first_done lo j p) p
 
   abbrev second_done : ℤ → ℕ → State → State
   second_done lo j p = helper_call line sum_of_rest arguments_of_second (number_of_round lo (suc (j / 2))) (pos (suc (suc j) - suc (j / 2))) (second_parent lo j p)
 
   abbrev halves_joined : ℤ → ℕ → State → State
-  halves_joined lo j p = joined (assigns_in first_branch) (suc p.forks) (ended record_words (first_done lo j p)) (second_done lo j p)
+  halves_joined lo j p = both_joined (assigns_in first_branch) p (first_done lo j p) (second_done lo j p)
 
   -- the words of the child are given back, also where a fault ends it
   child_even : (lo : ℤ) (j : ℕ) (p : State) → p.store.blocks ≡ [] → exec_all c (run c) first_branch (child_start p) ≡ first_done lo j p

@@ -1,103 +1,32 @@
 -- The call of a helper comes to what the calls of the plain loop come to.
-use Rattle.std.specs.Prelude.{◌≡◌, ℕ, zero, suc, ◌-◌, ◌/◌, ◌<◌, ◌≤◌, ◌^◌, ◌||◌, Bool, true, false, List, [], ◌∷◌, ◌++◌, map, length, drop, ℤ, pos, Ok, Some, refl}
+use Rattle.std.specs.Prelude.{◌≡◌, ℕ, zero, suc, ◌-◌, ◌/◌, ◌<◌, ◌≤◌, ◌^◌, ◌||◌, Bool, true, false, List, [], ◌∷◌, map, length, drop, ℤ, pos, Ok, Some, refl}
 use Rattle.std.specs.Int.{w64, int_wrapping_add, int_wrapping_sub}
-use Rattle.std.proofs.Common.{sym, ◌∙◌, ap, arith, subst, append_assoc, append-nil, length-append}
-use Rattle.depth_first_list.specs.Actions as actions
-use Rattle.depth_first_list.specs.Actions.{Action, Deed, record_words}
+use Rattle.std.proofs.Common.{sym, ◌∙◌, ap, arith, subst, length-append}
 use Rattle.par_tree.specs.Tree
 use Rattle.par_tree.specs.Tree.{Name, Expr, num, var, equal, above, Arg, Stmt, call_stmt, par_stmt, Body, Func, integer}
 use Rattle.par_tree.specs.Names.{param_names}
 use Rattle.par_ownership.specs.Ownership.{function_of, hands_back}
 use Rattle.depth_first_run.specs.Stores.{Store, no_integers, updated, with_integer}
 use Rattle.depth_first_run.specs.Values.{value, chained, operated, compared}
-use Rattle.depth_first_run.specs.States.{Setting, State, Item, began, next_action, with_action, unless_faulted, child_of, parent_of, ended, given_back, taken_integers, with_result, joined, own_part_then_join, fork_join}
+use Rattle.depth_first_run.specs.States.{Setting, State, Item, began, unless_faulted, child_of, parent_of, taken_integers, joined}
 use Rattle.depth_first_run.specs.Calls.{lent_back, entered, with_answer, returned}
-use Rattle.depth_first_run.specs.Run.{set_integer, lines_of, first_fault, actions_of, names_in, assigns_in, open_call, exec, exec_all, run}
+use Rattle.depth_first_run.specs.Run.{set_integer, names_in, assigns_in, open_call, exec, exec_all, run}
 use Rattle.depth_first_run.proofs.Fixed.{run_fixed}
-use Rattle.depth_first_run.proofs.Covered.{actions_append}
 use Rattle.run_outcomes.specs.Outcomes.{added, KeepsLimits}
-use Rattle.run_outcomes.proofs.Lists.{added_is}
 use Rattle.run_outcomes.proofs.Concluding.{same_answer}
 use Rattle.loop_meaning.specs.HelperTrees.{pass_on, further_name, further_names, further_arguments, low_name, count_name, sum_of_all, half_name, sum_of_rest, alone, sum_with, difference, add_rest, numbers_body, numbers_helper}
 use Rattle.loop_meaning.specs.PlainLoop.{constant, add_calls, sum_calls, number_of_round}
-use Rattle.loop_meaning.proofs.Faulting.{Tells, has_fault, unless_faulted_tells, answer_tells, returned_tells, joined_items, joined_faulted, call_told, statements_told, statement_told}
-use Rattle.loop_meaning.proofs.Readings.{ReadTheSame, read_append, read_front, read_trans, read_faults, read_by_marks, Longer, longer, longer_by, longer_trans, added_split, limits_split, faulted_is}
+use Rattle.loop_meaning.proofs.Faulting.{call_end_told, Tells, unless_faulted_tells, call_told, statements_told, statement_told}
+use Rattle.loop_meaning.proofs.Readings.{ReadTheSame, read_by_marks, Longer, longer, longer_trans, limits_split}
 use Rattle.loop_meaning.proofs.Wrapping.{number_of_round_is, rest_is, not_one, above_one}
 use Rattle.loop_meaning.proofs.Arguments.{HaveNumbers, put, numbers_passed, nothing_lent, constants_have, passed_on_have, AllDiffer, put_read, integer_params}
-use Rattle.loop_meaning.proofs.Bodies.{skipped_none, skipped_all, only_statement, statement_skipped, assign_done, depth_kept, call_runs, call_opens, helper_ends, HasParameters, beside_sum, beside_half, beside_rest, begun, behind_first, body_of_one, body_of_none, before_par, first_half, second_half, body_of_more}
+use Rattle.loop_meaning.proofs.Bodies.{skipped_none, skipped_all, only_statement, statement_skipped, assign_done, call_runs, call_opens, helper_ends, HasParameters, beside_sum, beside_half, beside_rest, begun, behind_first, body_of_one, body_of_none, before_par, first_half, second_half, body_of_more}
+use Rattle.std.proofs.lemmas.Bool.{or_left, or_right}
+use Rattle.loop_meaning.proofs.TwoRuns.{both_faulted, read_at, no_fault, mark_unread, Silent, silent_same, silent_item, Marked, marked_silent, marked_same, marked_more, silent_longer, silent_added, silent_before, silent_behind}
+use Rattle.loop_meaning.proofs.Branches.{child_begins, child_ended, parent_begins, both_joined, end_of_child, par_done, joint_silent, joint_faulted, joint_store, branches_keep, child_read, parent_read, branches_read}
 use Rattle.loop_meaning.proofs.Loops.{calls, after, taken_up, one_call, taken_up_items, taken_up_store, after_both, calls_cut, add_calls_told, calls_told}
 
 -- ---- small facts
-
-abbrev pub read_nothing : ReadTheSame [] []
-read_nothing = record { lines = refl; fault = refl }
-
-pub read_at : (xs xs' ys ys' : List Item) → xs ≡ xs' → ys ≡ ys' → ReadTheSame xs' ys' → ReadTheSame xs ys
-read_at xs xs' ys ys' e e' r = record { lines = ap lines_of e ∙ r.lines ∙ sym (ap lines_of e'); fault = ap first_fault e ∙ r.fault ∙ sym (ap first_fault e') }
-
--- more items, of which nothing is read
-abbrev pub Silent : State → State → Type 0
-Silent s t = (new : List Item) × (t.items ≡ s.items ++ new) × ReadTheSame new []
-
-pub silent_same : (s t : State) → t.items ≡ s.items → Silent s t
-silent_same s t e = ([], e ∙ sym (append-nil s.items), read_nothing)
-
-silent_item : (s t u : State) (i : Item) → ReadTheSame (i ∷ []) [] → u.items ≡ t.items ++ i ∷ [] → Silent s t → Silent s u
-silent_item s t u i r e l =
-    (l.0 ++ i ∷ [], e ∙ ap (λ (is : List Item). is ++ i ∷ []) l.1 ∙ append_assoc s.items l.0 (i ∷ []), read_append l.0 [] (i ∷ []) [] l.2 r)
-
--- more marks of statements that begin
-abbrev pub Marked : State → State → Type 0
-Marked s t = (new : List Item) × (t.items ≡ s.items ++ new) × ReadTheSame new [] × (actions_of new ≡ [])
-
-marked_silent : (s t : State) → Marked s t → Silent s t
-marked_silent s t m = (m.0, m.1, m.2)
-
-pub marked_same : (s t : State) → t.items ≡ s.items → Marked s t
-marked_same s t e = ([], e ∙ sym (append-nil s.items), read_nothing, refl)
-
-pub marked_more : (line : ℕ) (s t u : State) → u.items ≡ t.items ++ began line ∷ [] → Marked s t → Marked s u
-marked_more line s t u e m = (
-  m.0 ++ began line ∷ [],
-  e ∙ ap (λ (is : List Item). is ++ began line ∷ []) m.1 ∙ append_assoc s.items m.0 (began line ∷ []),
-  read_append m.0 [] (began line ∷ []) [] m.2 (record { lines = refl; fault = refl }),
-  actions_append m.0 (began line ∷ []) ∙ ap (λ (xs : List Action). xs ++ []) m.3,
-)
-
-silent_longer : (s t : State) → Silent s t → Longer s t
-silent_longer s t l = longer_by s t l.0 l.1
-
-silent_added : (s t : State) → Silent s t → ReadTheSame (added s t) []
-silent_added s t l = read_at (added s t) l.0 [] [] (added_is s t l.0 l.1) refl l.2
-
-silent_before : (s t u : State) (ys : List Item) → Silent s t → Longer t u → ReadTheSame (added t u) ys → ReadTheSame (added s u) ys
-silent_before s t u ys l m r =
-    read_at (added s u) (added s t ++ added t u) ys ys (added_split s t u (silent_longer s t l) m) refl (read_append (added s t) [] (added t u) ys (silent_added s t l) r)
-
-silent_behind : (s t u : State) (ys : List Item) → Longer s t → Silent t u → ReadTheSame (added s t) ys → ReadTheSame (added s u) ys
-silent_behind s t u ys l m r =
-    read_at (added s u) (added s t ++ added t u) ys (ys ++ []) (added_split s t u l (silent_longer t u m)) (sym (append-nil ys)) (read_append (added s t) ys (added t u) [] r (silent_added t u m))
-
-fault_behind : (s t u : State) (ys : List Item) → Longer s t → Longer t u → has_fault (added s t) ≡ true → ReadTheSame (added s t) ys → ReadTheSame (added s u) ys
-fault_behind s t u ys l m e r =
-    read_at (added s u) (added s t ++ added t u) ys ys (added_split s t u l m) refl (read_trans (added s t ++ added t u) (added s t) ys (read_front (added s t) (added t u) e) r)
-
-pub both_read : (s t u s' t' u' : State) → Longer s t → Longer t u → Longer s' t' → Longer t' u' → ReadTheSame (added s t) (added s' t') → ReadTheSame (added t u) (added t' u')
-    → ReadTheSame (added s u) (added s' u')
-both_read s t u s' t' u' l m l' m' r r' =
-    read_at (added s u) (added s t ++ added t u) (added s' u') (added s' t' ++ added t' u') (added_split s t u l m) (added_split s' t' u' l' m')
-    (read_append (added s t) (added s' t') (added t u) (added t' u') r r')
-
-no_fault : {A : Type 0} (b : Bool) → b ≡ true → b ≡ false → A
-no_fault b e f = let no : true ≡ false = sym e ∙ f in let never : ⊥ = cc in absurd never
-
-or_right : (a b : Bool) → b ≡ true → (a || b) ≡ true
-or_right true b e = refl
-or_right false b e = e
-
-or_left : (a b : Bool) → a ≡ true → (a || b) ≡ true
-or_left true b e = refl
-or_left false b e = let never : ⊥ = cc in absurd never
 
 -- the answer of a call that is read back, and a store to which nothing was lent
 answer_read : (y : Name) (v : ℤ) (r other s : Store) → r ≡ with_integer sum_of_all v other → with_integer y (r.integers sum_of_all) s ≡ with_integer y v s
@@ -135,16 +64,6 @@ same_tail : (v w : ℤ) (vs ws : List ℤ) → v ∷ vs ≡ w ∷ ws → vs ≡ 
 unfolding tail_of
 same_tail v w vs ws e = ap tail_of e
 
--- what is read of two integers behind a Join that no fault ended
-joined_integers : (assigned : Name → Bool) (child : ℕ) (d s : State) → s.faulted ≡ false → d.faulted ≡ false
-    → ((joined assigned child d s).store.integers ≡ taken_integers assigned d.store.integers s.store.integers) × ((joined assigned child d s).callers ≡ s.callers)
-unfolding joined with_action
-joined_integers assigned child d s f g =
-    let t : State = with_action (actions.joins child) (given_back s.faulted d.faulted d s) s in (
-      ap (λ b. (with_result b d.faulted assigned d t).store.integers) f ∙ ap (λ b. (with_result false b assigned d t).store.integers) g,
-      ap (λ b. (with_result b d.faulted assigned d t).callers) f ∙ ap (λ b. (with_result false b assigned d t).callers) g,
-    )
-
 module _ (c : Setting) (sum f : Name) (k line at_line : ℕ) (x : Name) (vs : List ℤ) (g : Func)
     (is_f : function_of c.program f ≡ Some g) (number_back : hands_back g.ret ≡ false) (is_sum : function_of c.program sum ≡ Some (numbers_helper sum f k line))
     (many : length vs ≡ k) (differ : AllDiffer (low_name ∷ count_name ∷ further_names k)) where
@@ -159,9 +78,7 @@ module _ (c : Setting) (sum f : Name) (k line at_line : ℕ) (x : Name) (vs : Li
   helper_end y args s = unless_faulted (with_answer helper.ret (returned helper.params args (integer y))) s
 
   end_told : (y : Name) (args : List Arg) (s : State) → Tells s (helper_end y args s)
-  end_told y args s =
-      unless_faulted_tells (with_answer helper.ret (returned helper.params args (integer y))) s
-      (answer_tells helper.ret (returned helper.params args (integer y)) s (λ a u. returned_tells helper.params args (integer y) a u))
+  end_told y args s = call_end_told helper args (integer y) s
 
   -- the state in which the body of a helper begins
   record Begins (lo n : ℤ) (s e : State) : Type 0 where
@@ -184,7 +101,7 @@ module _ (c : Setting) (sum f : Name) (k line at_line : ℕ) (x : Name) (vs : Li
       by : (t : Bool) → r.faulted ≡ t → Ends y s r (helper_end y args r)
       by true e =
           let same = skipped_all (with_answer helper.ret (returned helper.params args (integer y))) r e in
-          record { items = ap (λ (u : State). u.items) same; faulted = ap (λ (u : State). u.faulted) same; left = λ g. absurd (let no : true ≡ false = sym e ∙ g in let never : ⊥ = cc in never) }
+          record { items = ap (λ (u : State). u.items) same; faulted = ap (λ (u : State). u.faulted) same; left = λ g. no_fault r.faulted e g }
       by false e =
           let same = helper_ends sum f k line y args at ws s.store s.callers r e (callers e) have in
           record { items = ap (λ (u : State). u.items) same; faulted = ap (λ (u : State). u.faulted) same; left = λ g. (ap (λ (u : State). u.store) same, ap (λ (u : State). u.callers) same) }
@@ -319,18 +236,12 @@ module _ (c : Setting) (sum f : Name) (k line at_line : ℕ) (x : Name) (vs : Li
 
   -- ---- both halves
 
-  -- the child, its parent, and the thread behind the Join
+  -- the child and its parent, and what follows the Join
   abbrev first_begins : (Name → Bool) → State → State
-  first_begins named p = begun line (child_of c named p)
-
-  abbrev child_ended : State → State
-  child_ended d = ended record_words d
+  first_begins named p = child_begins c line named p
 
   abbrev second_begins : (Name → Bool) → State → State → State
-  second_begins named d p = begun line (parent_of named (child_ended d).items p)
-
-  abbrev both_joined : (Name → Bool) → State → State → State → State
-  both_joined assigned p d q = joined assigned (suc p.forks) (child_ended d) q
+  second_begins named d p = parent_begins line named d p
 
   abbrev sum_added : State → State
   sum_added s = exec_all c (run c) (alone line add_rest) s
@@ -338,16 +249,6 @@ module _ (c : Setting) (sum f : Name) (k line at_line : ℕ) (x : Name) (vs : Li
   -- what the Join takes of two integers
   abbrev Takes : (Name → Bool) → Type 0
   Takes assigned = (a b : Name → ℤ) → (taken_integers assigned a b sum_of_all ≡ a sum_of_all) × (taken_integers assigned a b sum_of_rest ≡ b sum_of_rest)
-
-  end_of_child : (d : State) → ((child_ended d).faulted ≡ d.faulted) × ((child_ended d).store ≡ d.store) × ((child_ended d).items ≡ d.items ++ next_action actions.ends record_words d ∷ [])
-  unfolding ended with_action
-  end_of_child d = (refl, refl, refl)
-
-  of_mark : ReadTheSame (began line ∷ []) []
-  of_mark = record { lines = refl; fault = refl }
-
-  of_action : (deed : Deed) (words : ℕ) (s : State) → ReadTheSame (next_action deed words s ∷ []) []
-  of_action deed words s = record { lines = refl; fault = refl }
 
   module _ (b : Bool) (y : Name) (args : List Arg) (at : Store) (ws : List ℤ) (named assigned : Name → Bool) (others : State → State) (s t p d q w : State)
       (have : HaveNumbers at args ws) (tf : t.faulted ≡ false) (pf : p.faulted ≡ false) (waits : p.callers ≡ s.store ∷ s.callers) (l : Silent s p) (takes : Takes assigned)
@@ -366,41 +267,11 @@ module _ (c : Setting) (sum f : Name) (k line at_line : ℕ) (x : Name) (vs : Li
     abbrev end_state : State
     end_state = helper_end y args (sum_added joint)
 
-    to_child : Silent s child
-    to_child =
-        silent_item s (child_of c named p) child (began line) of_mark refl
-        (silent_item s p (child_of c named p) (next_action (actions.forks (suc p.forks)) record_words p) (of_action (actions.forks (suc p.forks)) record_words p) refl l)
-
-    to_parent : Silent d parent
-    to_parent =
-        silent_item d (child_ended d) parent (began line) of_mark refl
-        (silent_item d d (child_ended d) (next_action actions.ends record_words d) (of_action actions.ends record_words d) (end_of_child d).2 (silent_same d d refl))
-
-    abbrev join_item : Item
-    join_item = next_action (actions.joins (suc p.forks)) (given_back q.faulted (child_ended d).faulted (child_ended d) q) q
-
     to_joint : Silent q joint
-    to_joint =
-        silent_item q q joint join_item (of_action (actions.joins (suc p.forks)) (given_back q.faulted (child_ended d).faulted (child_ended d) q) q)
-        (joined_items assigned (suc p.forks) (child_ended d) q) (silent_same q q refl)
+    to_joint = joint_silent assigned p d q
 
     joint_end : Longer joint end_state
     joint_end = longer_trans joint (sum_added joint) end_state (longer joint (sum_added joint) (statements_told c (alone line add_rest) joint)) (longer (sum_added joint) end_state (end_told y args (sum_added joint)))
-
-    q_end : Longer q end_state
-    q_end = longer_trans q joint end_state (silent_longer q joint to_joint) joint_end
-
-    parent_end : Longer parent end_state
-    parent_end = longer_trans parent q end_state (longer parent q told_q) q_end
-
-    d_end : Longer d end_state
-    d_end = longer_trans d parent end_state (silent_longer d parent to_parent) parent_end
-
-    child_end : Longer child end_state
-    child_end = longer_trans child d end_state (longer child d told_d) d_end
-
-    joint_faulted : joint.faulted ≡ (q.faulted || d.faulted)
-    joint_faulted = joined_faulted assigned (suc p.forks) (child_ended d) q ∙ ap (λ e. q.faulted || e) (end_of_child d).0
 
     -- a fault of a half ends the call
     ended_by : joint.faulted ≡ true → end_state ≡ joint
@@ -409,35 +280,26 @@ module _ (c : Setting) (sum f : Name) (k line at_line : ℕ) (x : Name) (vs : Li
         ap (λ (z : State). helper_end y args z) skip ∙ skipped_all (with_answer helper.ret (returned helper.params args (integer y))) joint e
 
     module _ (ks : KeepsLimits (added s end_state)) (kt : KeepsLimits (added t (unless_faulted others w))) where
-      kept_child : KeepsLimits (added child d) × KeepsLimits (added parent q)
-      kept_child =
-          let k1 = limits_split s child end_state (silent_longer s child to_child) child_end ks in
-          let k2 = limits_split child d end_state (longer child d told_d) d_end k1.1 in
-          let k3 = limits_split d parent end_state (silent_longer d parent to_parent) parent_end k2.1 in
-          let k4 = limits_split parent q end_state (longer parent q told_q) q_end k3.1 in
-          (k2.0, k4.0)
+      kept_branches : KeepsLimits (added child d) × KeepsLimits (added parent q)
+      kept_branches = branches_keep c line named assigned s p d q end_state l told_d told_q joint_end ks
 
       kept_w : KeepsLimits (added t w)
       kept_w = (limits_split t w (unless_faulted others w) (longer t w told_w) (longer w (unless_faulted others w) (unless_faulted_tells others w told_others)) kt).0
 
       sum_first : SameSum b sum_of_all child d t w
-      sum_first = first kept_child.0 kept_w
-
-      d_faulted : d.faulted ≡ has_fault (added child d)
-      d_faulted = faulted_is child d told_d refl
+      sum_first = first kept_branches.0 kept_w
 
       w_faulted : w.faulted ≡ d.faulted
-      w_faulted = faulted_is t w told_w tf ∙ sym (read_faults (added child d) (added t w) sum_first.reading) ∙ sym d_faulted
+      w_faulted = sym (both_faulted child t d w told_d told_w refl tf sum_first.reading)
 
       -- the first half faulted
       first_over : d.faulted ≡ true → SameSum b y s end_state t (unless_faulted others w)
       first_over e =
-          let j : joint.faulted ≡ true = joint_faulted ∙ or_right q.faulted d.faulted e in
+          let j : joint.faulted ≡ true = joint_faulted assigned p d q ∙ or_right q.faulted d.faulted e in
           let u = ended_by j in
           subst (λ (z : State). SameSum b y s end_state t z) (sym (skipped_all others w (w_faulted ∙ e)))
           (record {
-            reading = silent_before s child end_state (added t w) to_child child_end
-                (fault_behind child d end_state (added t w) (longer child d told_d) d_end (sym d_faulted ∙ e) sum_first.reading);
+            reading = child_read c line named assigned s p d q end_state l told_d told_q joint_end e (added t w) sum_first.reading;
             left = λ z. no_fault end_state.faulted (ap (λ (v : State). v.faulted) u ∙ j) z;
           })
 
@@ -449,25 +311,20 @@ module _ (c : Setting) (sum f : Name) (k line at_line : ℕ) (x : Name) (vs : Li
         kept_others = (limits_split t w (others w) (longer t w told_w) (longer w (others w) told_others) (subst (λ (z : State). KeepsLimits (added t z)) going kt)).1
 
         sum_second : SameSum false sum_of_rest parent q w (others w)
-        sum_second = second (w_faulted ∙ df) kept_child.1 kept_others
-
-        q_faulted : q.faulted ≡ has_fault (added parent q)
-        q_faulted = faulted_is parent q told_q pf
+        sum_second = second (w_faulted ∙ df) kept_branches.1 kept_others
 
         -- what is read of both halves
         whole_read : ReadTheSame (added parent end_state) (added w (others w)) → ReadTheSame (added s end_state) (added t (others w))
         whole_read r =
-            silent_before s child end_state (added t (others w)) to_child child_end
-            (both_read child d end_state t w (others w) (longer child d told_d) d_end (longer t w told_w) (longer w (others w) told_others) sum_first.reading
-            (silent_before d parent end_state (added w (others w)) to_parent parent_end r))
+            branches_read c line named assigned s p d q end_state l told_d told_q joint_end t w (others w) (longer t w told_w) (longer w (others w) told_others) sum_first.reading r
 
         -- the second half faulted
         second_over : q.faulted ≡ true → SameSum b y s end_state t (others w)
         second_over e =
-            let j : joint.faulted ≡ true = joint_faulted ∙ or_left q.faulted d.faulted e in
+            let j : joint.faulted ≡ true = joint_faulted assigned p d q ∙ or_left q.faulted d.faulted e in
             let u = ended_by j in
             record {
-              reading = whole_read (fault_behind parent q end_state (added w (others w)) (longer parent q told_q) q_end (sym q_faulted ∙ e) sum_second.reading);
+              reading = whole_read (parent_read c line named assigned s p d q end_state l told_d told_q joint_end pf e (added w (others w)) sum_second.reading);
               left = λ z. no_fault end_state.faulted (ap (λ (v : State). v.faulted) u ∙ j) z;
             }
 
@@ -476,14 +333,14 @@ module _ (c : Setting) (sum f : Name) (k line at_line : ℕ) (x : Name) (vs : Li
         both_done qf =
             let one = sum_first.left df in
             let two = sum_second.left qf in
-            let j : joint.faulted ≡ false = joint_faulted ∙ (λ i. qf i || df i) in
-            let taken = joined_integers assigned (suc p.forks) (child_ended d) q qf ((end_of_child d).0 ∙ df) in
+            let j : joint.faulted ≡ false = joint_faulted assigned p d q ∙ (λ i. qf i || df i) in
+            let taken = joint_store assigned p d q qf df in
             let own : Name → ℤ = q.store.integers in
             let all_is : joint.store.integers sum_of_all ≡ one.0 =
-            ap (λ (m : Name → ℤ). m sum_of_all) taken.0 ∙ (takes (child_ended d).store.integers own).0
+            ap (λ (st : Store). st.integers sum_of_all) taken.0 ∙ (takes (child_ended d).store.integers own).0
             ∙ ap (λ (st : Store). st.integers sum_of_all) ((end_of_child d).1 ∙ one.1) in
             let rest_is : joint.store.integers sum_of_rest ≡ two.0 =
-            ap (λ (m : Name → ℤ). m sum_of_rest) taken.0 ∙ (takes (child_ended d).store.integers own).1
+            ap (λ (st : Store). st.integers sum_of_rest) taken.0 ∙ (takes (child_ended d).store.integers own).1
             ∙ ap (λ (st : Store). st.integers sum_of_rest) two.1 in
             let v : ℤ = int_wrapping_add w64 one.0 two.0 in
             let summed : sum_added joint ≡ set_integer sum_of_all v (begun line joint) =
@@ -493,7 +350,7 @@ module _ (c : Setting) (sum f : Name) (k line at_line : ℕ) (x : Name) (vs : Li
             let ends : Ends y s (sum_added joint) end_state = ends_so y args at ws s (sum_added joint) have (λ z. callers) in
             let e = ends.left (ap (λ (z : State). z.faulted) summed ∙ j) in
             let silent : Silent q end_state =
-            silent_item q joint end_state (began line) of_mark (ends.items ∙ ap (λ (z : State). z.items) summed) to_joint in
+            silent_item q joint end_state (began line) (mark_unread line) (ends.items ∙ ap (λ (z : State). z.items) summed) to_joint in
             record {
               reading = whole_read (silent_behind parent q end_state (added w (others w)) (longer parent q told_q) silent sum_second.reading);
               left = λ z. (
@@ -517,13 +374,6 @@ module _ (c : Setting) (sum f : Name) (k line at_line : ℕ) (x : Name) (vs : Li
           by : (r : Bool) → d.faulted ≡ r → SameSum b y s end_state t (unless_faulted others w)
           by true e = first_over e
           by false e = subst (λ (z : State). SameSum b y s end_state t z) (sym (going e)) (second_half_read e)
-
-  par_done : (a b : Body) (p : State) → KeepsLimits (added p (exec c (run c) line (par_stmt a b) p))
-      → exec c (run c) line (par_stmt a b) p
-      ≡ joined (assigns_in a) (suc p.forks) (child_ended (exec_all c (run c) a (child_of c (names_in a) p)))
-      (exec_all c (run c) b (parent_of (names_in a) (child_ended (exec_all c (run c) a (child_of c (names_in a) p))).items p))
-  unfolding exec fork_join own_part_then_join
-  par_done a b p kept = depth_kept (length p.label) c.most_forks line (fork_join c (names_in a) (assigns_in a) (exec_all c (run c) a) (exec_all c (run c) b)) p kept
 
   first_arguments : (s : Store) (lo n h : ℤ) → HasParameters k lo n vs s.integers → s.integers half_name ≡ h
       → HaveNumbers s (pass_on low_name ∷ pass_on half_name ∷ further_arguments k) (lo ∷ h ∷ vs)
@@ -627,7 +477,7 @@ module _ (c : Setting) (sum f : Name) (k line at_line : ℕ) (x : Name) (vs : Li
       only_statement c line (second_half sum k) (parent_of named (child_ended d).items p) r.1.faulted
       ∙ call_opens c line (integer sum_of_rest) sum arguments_of_second helper (number_of_round lo half ∷ pos rest ∷ vs) parent is_sum have2 in
       let forked_is : forked ≡ halves_joined lo j p =
-      par_done first_branch second_branch p kf.0
+      par_done c line first_branch second_branch p kf.0
       ∙ ap (λ (z : State). joined (assigns_in first_branch) (suc p.forks) (child_ended z) (exec_all c (run c) second_branch (parent_of named (child_ended z).items p))) d_is
       ∙ ap (λ (z : State). joined (assigns_in first_branch) (suc p.forks) (child_ended d) z) q_is in (
         p,

@@ -4,6 +4,8 @@ pub mod Readings
 pub mod Wrapping
 pub mod Arguments
 pub mod Bodies
+pub mod TwoRuns
+pub mod Branches
 pub mod Loops
 pub mod Halving
 pub mod Plain

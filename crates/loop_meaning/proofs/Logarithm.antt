@@ -17,7 +17,8 @@ use Rattle.loop_meaning.specs.Laws.{PrefixSumsGrowByTheLogarithm}
 use Rattle.loop_meaning.proofs.Wrapping.{count_small}
 use Rattle.loop_meaning.proofs.Arguments.{numbers_passed, expressions_have, constants_have, parameters_differ}
 use Rattle.loop_meaning.proofs.Bodies.{call_opens}
-use Rattle.loop_meaning.proofs.Plain.{passed_numbers, length_numbers, not_true}
+use Rattle.std.proofs.lemmas.Bool.{not-true}
+use Rattle.loop_meaning.proofs.Plain.{passed_numbers, length_numbers}
 use Rattle.loop_meaning.proofs.Growing.{Rounds, Grows, all_grow}
 
 is_positive : (z : ℤ) → 1 ≤ positive_part z → z ≡ pos (positive_part z)
@@ -41,7 +42,7 @@ prefix_sums c sum f k helper_line own is line x e1 e2 cs s as_many sf lo hi vs p
     let alone : ℤ → State = λ v. open_call c (run c) line (integer x) (map constant (v ∷ vs)) g (numbers_passed (param_names g.params) (v ∷ vs) s.store) s in
     let one : (v : ℤ) → call_for c line f x (v ∷ vs) s ≡ alone v = λ v. call_opens c line (integer x) f (map constant (v ∷ vs)) g (v ∷ vs) s called.1 (constants_have s.store (v ∷ vs)) in
     subst (λ (z : State). peak (actions_of (added s z)) ≤ℤ (w +ℤ pos (record_words * logarithm))) (sym is_call)
-    (all_grow c sum f k helper_line line x vs g called.1 (not_true (hands_back g.ret) called.2) is (length_numbers s.store cs vs e ∙ as_many)
+    (all_grow c sum f k helper_line line x vs g called.1 (not-true (hands_back g.ret) called.2) is (length_numbers s.store cs vs e ∙ as_many)
     (parameters_differ c.program sum helper (low_name ∷ count_name ∷ further_names k) is own refl) own s sf w n n (omega arith) some (count_small lo hi)
     logarithm lo line x (map Tree.value expressions) s sf lt
     (λ j below. subst (λ (z : State). KeepsLimits (added s z) × (peak (actions_of (added s z)) ≤ℤ w)) (one (number_of_round lo j)) (rounds j below))

@@ -1,7 +1,8 @@
 -- The call by which a loop is written out means the plain loop.
-use Rattle.std.specs.Prelude.{◌≡◌, ℕ, zero, suc, ◌<◌, ◌≤◌, ◌^◌, Bool, true, false, not, List, [], ◌∷◌, map, length, ℤ, pos, negsuc, Result, Ok, Err, Some, refl}
+use Rattle.std.specs.Prelude.{◌≡◌, ℕ, zero, suc, ◌<◌, ◌≤◌, ◌^◌, true, false, List, [], ◌∷◌, map, length, ℤ, pos, negsuc, Result, Ok, Err, Some, refl}
 use Rattle.std.specs.Int.{w64, int_wrapping_sub}
 use Rattle.std.proofs.Common.{sym, ◌∙◌, ap, arith, subst, append-nil}
+use Rattle.std.proofs.lemmas.Bool.{not-true}
 use Rattle.std.proofs.lemmas.List.{length-map}
 use Rattle.dag_order.specs.declared.fault.FaultKind.{FaultKind}
 use Rattle.par_tree.specs.Tree
@@ -11,7 +12,6 @@ use Rattle.par_ownership.specs.Ownership.{function_of, hands_back}
 use Rattle.depth_first_run.specs.Stores.{Store, nothing}
 use Rattle.depth_first_run.specs.Values.{Outcome, and_then, value, chained, operated, compared}
 use Rattle.depth_first_run.specs.States.{Setting, State, with_fault, with_number}
-use Rattle.depth_first_run.specs.Calls.{Passing, pass_integer, pass_value, passed}
 use Rattle.depth_first_run.specs.Run.{set_integer, lines_of, first_fault, open_call, call_with, call_function, exec, run}
 use Rattle.run_outcomes.specs.Outcomes.{added, KeepsLimits}
 use Rattle.run_outcomes.proofs.Lists.{added_is}
@@ -21,40 +21,13 @@ use Rattle.loop_meaning.specs.PlainLoop.{sum_calls, positive_part, count_between
 use Rattle.loop_meaning.specs.Laws.{NumbersLoopsArePlain}
 use Rattle.loop_meaning.proofs.Faulting.{call_told}
 use Rattle.loop_meaning.proofs.Loops.{calls, after, calls_told}
-use Rattle.loop_meaning.proofs.Readings.{read_faults, faulted_is}
 use Rattle.loop_meaning.proofs.Wrapping.{count_small}
-use Rattle.loop_meaning.proofs.Arguments.{HaveNumbers, numbers_passed, expressions_have, AllDiffer, parameters_differ}
+use Rattle.loop_meaning.proofs.Arguments.{HaveNumbers, numbers_passed, expressions_have, fault_passed, AllDiffer, parameters_differ}
 use Rattle.loop_meaning.proofs.Bodies.{call_opens}
+use Rattle.loop_meaning.proofs.TwoRuns.{both_faulted, one_meaning, means_at}
 use Rattle.loop_meaning.proofs.Halving.{further_length, loop_of_some, loop_of_none}
 
 -- ---- a fault of an expression
-
--- a fault in one kind of result is a fault in another
-as_passing : Result (List ℤ) FaultKind → Result Passing FaultKind
-as_passing (Ok vs) = Ok record { callee = nothing; caller = nothing }
-as_passing (Err kind) = Err kind
-
-same_kind : (one other : FaultKind) → ◌≡◌ {A = Result (List ℤ) FaultKind} (Err one) (Err other) → ◌≡◌ {A = Result Passing FaultKind} (Err one) (Err other)
-unfolding as_passing
-same_kind one other e = ap as_passing e
-
--- the first fault of the arguments is that of the call
-fault_passed : (s : Store) (qs : List Param) (es : List Expr) (h : Passing) (kind : FaultKind) → length qs ≡ length es → numbers_of s es ≡ Err kind
-    → passed s qs (map Tree.value es) h ≡ Err kind
-unfolding passed numbers_of
-fault_passed s qs [] h kind l e = let never : ⊥ = cc in absurd never
-fault_passed s [] (x ∷ es) h kind l e = let never : ⊥ = cc in absurd never
-fault_passed s (q ∷ qs) (x ∷ es) h kind l e = by (value s x) refl (numbers_of s es) refl (λ g. fault_passed s qs es g kind (shorter (length qs) (length es) l)) e
-  where
-    shorter : (m n : ℕ) → suc m ≡ suc n → m ≡ n
-    shorter m n k = omega (arith, k)
-
-    by : (o : Outcome) → value s x ≡ o → (r : Result (List ℤ) FaultKind) → numbers_of s es ≡ r
-        → ((g : Passing) → numbers_of s es ≡ Err kind → passed s qs (map Tree.value es) g ≡ Err kind) → in_front o r ≡ Err kind
-        → pass_value q.name (value s x) h (passed s qs (map Tree.value es)) ≡ Err kind
-    by (Err other) a r b k i = ap (λ o. pass_value q.name o h (passed s qs (map Tree.value es))) a ∙ same_kind other kind i
-    by (Ok v) a (Ok ws) b k i = let never : ⊥ = cc in absurd never
-    by (Ok v) a (Err other) b k i = ap (λ o. pass_value q.name o h (passed s qs (map Tree.value es))) a ∙ k (pass_integer q.name v h) (b ∙ i)
 
 fault_called : (c : Setting) (line : ℕ) (x f : Name) (es : List Expr) (g : Func) (kind : FaultKind) (s : State) → function_of c.program f ≡ Some g
     → length g.params ≡ length es → numbers_of s.store es ≡ Err kind → exec c (run c) line (call_stmt (integer x) f (map Tree.value es)) s ≡ with_fault kind line s
@@ -81,24 +54,6 @@ unfolding numbers_of
 passed_numbers s e1 e2 cs lo hi r p q e = λ i. in_front (p i) (in_front (difference_is s e1 e2 lo hi p q i) (e i))
 
 -- ---- the loop
-
-same_way : (s t u v : State) → t ≡ v → u ≡ v → MeansTheSame s t u
-same_way s t u v p q =
-    let e : t ≡ u = p ∙ sym q in
-    record {
-      lines = ap (λ (z : State). lines_of (added s z)) e;
-      fault = ap (λ (z : State). first_fault (added s z)) e;
-      faulted = ap (λ (z : State). z.faulted) e;
-      store = λ z. ap (λ (w : State). w.store) e;
-    }
-
-means_at : (s t u t' u' : State) → t ≡ t' → u ≡ u' → MeansTheSame s t' u' → MeansTheSame s t u
-means_at s t u t' u' p q m =
-    subst (λ (z : State). MeansTheSame s z u) (sym p) (subst (λ (z : State). MeansTheSame s t' z) (sym q) m)
-
-pub not_true : (b : Bool) → not b ≡ true → b ≡ false
-not_true false e = refl
-not_true true e = let never : ⊥ = cc in absurd never
 
 numbers_or : Result (List ℤ) FaultKind → List ℤ
 numbers_or (Ok vs) = vs
@@ -150,8 +105,7 @@ module _ (c : Setting) (sum f : Name) (k helper_line line : ℕ) (x : Name) (g :
       record {
         lines = r.reading.lines;
         fault = r.reading.fault;
-        faulted = faulted_is s u (call_told c line (integer x) args helper h s) sf ∙ read_faults (added s u) (added s w) r.reading
-            ∙ sym (faulted_is s w (calls_told c line f x vs true n lo s) sf);
+        faulted = both_faulted s s u w (call_told c line (integer x) args helper h s) (calls_told c line f x vs true n lo s) sf sf r.reading;
         store = λ z. let l = r.left z in l.1 ∙ sym l.2;
       }
 
@@ -179,7 +133,7 @@ module _ (c : Setting) (sum f : Name) (k helper_line line : ℕ) (x : Name) (g :
 
     -- a fault of an expression is the fault of both
     fault_means : (kind : FaultKind) → numbers_of s.store expressions ≡ Err kind → plain ≡ with_fault kind line s → MeansTheSame s written plain
-    fault_means kind e p = same_way s written plain (with_fault kind line s) (fault_called c line x sum expressions helper kind s is_sum as_many_parameters e) p
+    fault_means kind e p = one_meaning s written plain (with_fault kind line s) (fault_called c line x sum expressions helper kind s is_sum as_many_parameters e) p
 
     first_fault_means : (kind : FaultKind) → value s.store e1 ≡ Err kind → MeansTheSame s written plain
     unfolding numbers_of with_number
@@ -233,5 +187,5 @@ numbers_loops c sum f k helper_line own is line x e1 e2 cs s as_many sf ku kw =
     let helper : Func = numbers_helper sum f k helper_line in
     let owns = function_owned c.program c.program sum helper is own.functions in
     let called = owns.2.1.2.1.1.1.1.1 in
-    loop_means c sum f k helper_line line x called.0 called.1 (not_true (hands_back called.0.ret) called.2) is
+    loop_means c sum f k helper_line line x called.0 called.1 (not-true (hands_back called.0.ret) called.2) is
     (parameters_differ c.program sum helper (low_name ∷ count_name ∷ further_names k) is own refl) s sf e1 e2 cs as_many ku kw

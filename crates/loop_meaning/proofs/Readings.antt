@@ -108,7 +108,7 @@ read_by_marks xs ys e = record {
 limits_append : (xs ys : List Item) → KeepsLimits (xs ++ ys) → KeepsLimits xs × KeepsLimits ys
 limits_append xs ys k = (limits_front xs ys k, limits_back xs ys k)
 
--- limits that are kept by a list that is known are kept by its parts
+-- the limits that what was added keeps are kept by a list that is known to be it
 pub limits_of : (s t : State) (new : List Item) → t.items ≡ s.items ++ new → KeepsLimits (added s t) → KeepsLimits new
 limits_of s t new e k = subst (λ (is : List Item). KeepsLimits is) (added_is s t new e) k
 
@@ -126,13 +126,13 @@ longer_by s t new e = record { new = new; items = e }
 pub longer_trans : (s t u : State) → Longer s t → Longer t u → Longer s u
 longer_trans s t u p q = record { new = p.new ++ q.new; items = q.items ∙ ap (λ (is : List Item). is ++ q.new) p.items ∙ append_assoc s.items p.new q.new }
 
--- what was added on a way of two parts
+-- what two runs add, one behind the other
 pub added_split : (s t u : State) → Longer s t → Longer t u → added s u ≡ added s t ++ added t u
 added_split s t u p q =
     added_is s u (p.new ++ q.new) (q.items ∙ ap (λ (is : List Item). is ++ q.new) p.items ∙ append_assoc s.items p.new q.new)
     ∙ (λ i. sym (added_is s t p.new p.items) i ++ sym (added_is t u q.new q.items) i)
 
--- where a way keeps the limits, its first part does, and its second part
+-- where two runs, one behind the other, keep the limits, the first does, and the second
 pub limits_split : (s t u : State) → Longer s t → Longer t u → KeepsLimits (added s u) → KeepsLimits (added s t) × KeepsLimits (added t u)
 limits_split s t u p q k = limits_append (added s t) (added t u) (subst (λ (is : List Item). KeepsLimits is) (added_split s t u p q) k)
 

@@ -12,7 +12,7 @@ use Rattle.loop_meaning.specs.HelperTrees.{numbers_helper}
 use Rattle.loop_meaning.specs.PlainLoop.{call_for, add_calls, sum_calls, count_between, numbers_of, plain_loop, written_out, MeansTheSame, RoundsTakeAtMost}
 
 -- In a program that keeps the rules of ownership, where `sum` is the helper of a loop over numbers that calls f: the call
--- by which the loop is written out means the plain loop, unless one of both meets a limit.
+-- by which the loop is written out means the plain loop, unless one of the two meets a limit.
 abbrev pub NumbersLoopsArePlain : Type 0
 NumbersLoopsArePlain =
     (c : Setting) (sum f : Name) (k helper_line : ℕ) → Ownership c.program → function_of c.program sum ≡ Some (numbers_helper sum f k helper_line)

@@ -20,7 +20,7 @@ constant v = Tree.value (num v)
 abbrev pub call_for : Setting → ℕ → (f x : Name) → List ℤ → State → State
 call_for c line f x vs s = exec c (run c) line (call_stmt (integer x) f (map constant vs)) s
 
--- the number v is added to the integer x, and their sum wraps
+-- the number v is added to the integer x; the sum wraps
 abbrev pub add_to : Name → ℤ → State → State
 add_to x v s = set_integer x (int_wrapping_add w64 v (s.store.integers x)) s
 
@@ -28,7 +28,7 @@ add_to x v s = set_integer x (int_wrapping_add w64 v (s.store.integers x)) s
 abbrev pub add_call : Setting → ℕ → (f x : Name) → List ℤ → State → State
 add_call c line f x vs s = unless_faulted (add_to x (s.store.integers x)) (call_for c line f x vs s)
 
--- the number behind another
+-- the next number, which wraps
 abbrev pub next_number : ℤ → ℤ
 next_number lo = int_wrapping_add w64 lo (pos 1)
 
@@ -67,19 +67,21 @@ unfoldable pub numbers_of : Store → List Expr → Result (List ℤ) FaultKind
 numbers_of s [] = Ok []
 numbers_of s (e ∷ es) = in_front (value s e) (numbers_of s es)
 
--- the loop whose bounds and further numbers are known; one whose first bound is known; and the loop with the line of its
--- statement: x becomes the sum of the answers of f for the numbers from e1 to e2, which does not count, and the further
--- numbers, where all expressions are evaluated before the first call
+-- the loop over the numbers from lo up to before hi, with further numbers or the fault of their expressions
 abbrev pub loop_with : Setting → ℕ → (f x : Name) → (lo hi : ℤ) → Result (List ℤ) FaultKind → State → State
 loop_with c line f x lo hi (Ok vs) s = sum_calls c line f x vs lo (count_between lo hi) s
 loop_with c line f x lo hi (Err kind) s = with_fault kind line s
 
+-- the same loop, where the further numbers are evaluated
 abbrev pub loop_between : Setting → ℕ → (f x : Name) → List Expr → (lo hi : ℤ) → State → State
 loop_between c line f x cs lo hi s = loop_with c line f x lo hi (numbers_of s.store cs) s
 
+-- the loop from lo on, where its end and then the further numbers are evaluated
 abbrev pub loop_from : Setting → ℕ → (f x : Name) → Expr → List Expr → ℤ → State → State
 loop_from c line f x e2 cs lo s = with_number line (value s.store e2) (loop_between c line f x cs lo) s
 
+-- The loop with the line of its statement: x becomes the sum of the answers of f for each number from e1 up to before e2
+-- and the further numbers cs. All expressions are evaluated, in order, before the first call.
 abbrev pub plain_loop : Setting → ℕ → (f x : Name) → (e1 e2 : Expr) → List Expr → State → State
 plain_loop c line f x e1 e2 cs s = with_number line (value s.store e1) (loop_from c line f x e2 cs) s
 
@@ -88,8 +90,8 @@ abbrev pub written_out : Setting → ℕ → (sum x : Name) → (e1 e2 : Expr) �
 written_out c line sum x e1 e2 cs s =
     exec c (run c) line (call_stmt (integer x) sum (Tree.value e1 ∷ Tree.value (difference e2 e1) ∷ map Tree.value cs)) s
 
--- Two ways from s mean the same: they print the same lines, their first fault is the same, a fault ends both or none, and
--- where none does they leave the same store.
+-- Two runs from s, to t and to u, mean the same: they print the same lines, their first fault is the same, a fault ends
+-- both or none, and where none does they leave the same store.
 pub record MeansTheSame (s t u : State) : Type 0 where
   pub lines : lines_of (added s t) ≡ lines_of (added s u)
   pub fault : first_fault (added s t) ≡ first_fault (added s u)

@@ -1,4 +1,4 @@
--- The parts of a block do not depend on how many rounds there may be, and are the block.
+-- The parts of a block do not depend on how many cuts there may be, and are the block.
 use Rattle.std.specs.Prelude.{◌≡◌, ℕ, zero, suc, ◌-◌, ◌%◌, ◌<◌, ◌≤◌, ◌&&◌, nat_eq, nat_le, Bool, true, false, if◌then◌else◌, List, [], ◌∷◌, ◌++◌, length, ℤ, pos, Some, None, refl}
 use Rattle.std.proofs.Common.{sym, ◌∙◌, ap, arith, append-nil, append_assoc}
 use Rattle.std.proofs.lemmas.Bool.{leb-true, leb-false, le-leb, lt-leb}
@@ -37,24 +37,24 @@ half_may_be_cut items le =
     let whole : nat_eq (h % 16) 0 ≡ true = ap (λ m. nat_eq m 0) (half_whole n) in
     λ i. if within i && whole i then Some h else None
 
--- ---- rounds
+-- ---- cuts one within another
 
-pub one_part : (rounds most : ℕ) (items : List ℤ) → length items ≤ most → parts_within rounds most items ≡ items ∷ []
+pub one_part : (cuts most : ℕ) (items : List ℤ) → length items ≤ most → parts_within cuts most items ≡ items ∷ []
 unfolding parts_within
 one_part zero most items le = refl
-one_part (suc rounds) most items le =
-    ap (λ t. if t then items ∷ [] else parts_within rounds most (left_half items) ++ parts_within rounds most (right_half items)) (le-leb (length items) most le)
+one_part (suc cuts) most items le =
+    ap (λ t. if t then items ∷ [] else parts_within cuts most (left_half items) ++ parts_within cuts most (right_half items)) (le-leb (length items) most le)
 
-pub two_halves : (rounds most : ℕ) (items : List ℤ) → most < length items
-    → parts_within (suc rounds) most items ≡ parts_within rounds most (left_half items) ++ parts_within rounds most (right_half items)
+pub two_halves : (cuts most : ℕ) (items : List ℤ) → most < length items
+    → parts_within (suc cuts) most items ≡ parts_within cuts most (left_half items) ++ parts_within cuts most (right_half items)
 unfolding parts_within
-two_halves rounds most items more =
-    ap (λ t. if t then items ∷ [] else parts_within rounds most (left_half items) ++ parts_within rounds most (right_half items)) (lt-leb (length items) most more)
+two_halves cuts most items more =
+    ap (λ t. if t then items ∷ [] else parts_within cuts most (left_half items) ++ parts_within cuts most (right_half items)) (lt-leb (length items) most more)
 
-more_rounds : (m n most : ℕ) (items : List ℤ) → 16 ≤ most → length items ≤ m → length items ≤ n → parts_within m most items ≡ parts_within n most items
-more_rounds zero n most items big lm ln = one_part zero most items (omega (arith, big, lm)) ∙ sym (one_part n most items (omega (arith, big, lm)))
-more_rounds (suc m) zero most items big lm ln = one_part (suc m) most items (omega (arith, big, ln)) ∙ sym (one_part zero most items (omega (arith, big, ln)))
-more_rounds (suc m) (suc n) most items big lm ln = by (nat_le (length items) most) refl (more_rounds m n most (left_half items) big) (more_rounds m n most (right_half items) big)
+more_cuts : (m n most : ℕ) (items : List ℤ) → 16 ≤ most → length items ≤ m → length items ≤ n → parts_within m most items ≡ parts_within n most items
+more_cuts zero n most items big lm ln = one_part zero most items (omega (arith, big, lm)) ∙ sym (one_part n most items (omega (arith, big, lm)))
+more_cuts (suc m) zero most items big lm ln = one_part (suc m) most items (omega (arith, big, ln)) ∙ sym (one_part zero most items (omega (arith, big, ln)))
+more_cuts (suc m) (suc n) most items big lm ln = by (nat_le (length items) most) refl (more_cuts m n most (left_half items) big) (more_cuts m n most (right_half items) big)
   where
     by : (t : Bool) → nat_le (length items) most ≡ t
         → (length (left_half items) ≤ m → length (left_half items) ≤ n → parts_within m most (left_half items) ≡ parts_within n most (left_half items))
@@ -86,8 +86,8 @@ halved most items big more = by (length items) refl
         let less = half_less (length items) le in
         let some = half_some (length items) le in
         ap (λ m. parts_within m most items) e ∙ two_halves n most items more
-        ∙ (λ i. more_rounds n (length (left_half items)) most (left_half items) big (omega (arith, l, less, e)) (omega arith) i
-        ++ more_rounds n (length (right_half items)) most (right_half items) big (omega (arith, r, some, le, e)) (omega arith) i)
+        ∙ (λ i. more_cuts n (length (left_half items)) most (left_half items) big (omega (arith, l, less, e)) (omega arith) i
+        ++ more_cuts n (length (right_half items)) most (right_half items) big (omega (arith, r, some, le, e)) (omega arith) i)
 
 -- no part is longer than a part may be
 abbrev Fits : ℕ → List ℤ → Type 0
@@ -96,19 +96,19 @@ Fits most part = length part ≤ most
 one_fits : (most : ℕ) (items : List ℤ) → length items ≤ most → All (Fits most) (items ∷ [])
 one_fits most items le = All-cons (Fits most) items [] le (All-nil (Fits most))
 
-pub parts_fit : (rounds most : ℕ) (items : List ℤ) → 16 ≤ most → length items ≤ rounds → All (Fits most) (parts_within rounds most items)
+pub parts_fit : (cuts most : ℕ) (items : List ℤ) → 16 ≤ most → length items ≤ cuts → All (Fits most) (parts_within cuts most items)
 parts_fit zero most items big fits =
     let le : length items ≤ most = omega (arith, fits) in
     All-same (Fits most) (parts_within zero most items) (items ∷ []) (one_part zero most items le) (one_fits most items le)
-parts_fit (suc rounds) most items big fits = by (nat_le (length items) most) refl (parts_fit rounds most (left_half items) big) (parts_fit rounds most (right_half items) big)
+parts_fit (suc cuts) most items big fits = by (nat_le (length items) most) refl (parts_fit cuts most (left_half items) big) (parts_fit cuts most (right_half items) big)
   where
     by : (t : Bool) → nat_le (length items) most ≡ t
-        → (length (left_half items) ≤ rounds → All (Fits most) (parts_within rounds most (left_half items)))
-        → (length (right_half items) ≤ rounds → All (Fits most) (parts_within rounds most (right_half items)))
-        → All (Fits most) (parts_within (suc rounds) most items)
+        → (length (left_half items) ≤ cuts → All (Fits most) (parts_within cuts most (left_half items)))
+        → (length (right_half items) ≤ cuts → All (Fits most) (parts_within cuts most (right_half items)))
+        → All (Fits most) (parts_within (suc cuts) most items)
     by true e left right =
         let le : length items ≤ most = leb-true (length items) most e in
-        All-same (Fits most) (parts_within (suc rounds) most items) (items ∷ []) (one_part (suc rounds) most items le) (one_fits most items le)
+        All-same (Fits most) (parts_within (suc cuts) most items) (items ∷ []) (one_part (suc cuts) most items le) (one_fits most items le)
     by false e left right =
         let more : most < length items = leb-false (length items) most e in
         let le : 17 ≤ length items = omega (arith, big, more) in
@@ -116,25 +116,25 @@ parts_fit (suc rounds) most items big fits = by (nat_le (length items) most) ref
         let r = right_length items in
         let less = half_less (length items) le in
         let some = half_some (length items) le in
-        let lefts : List (List ℤ) = parts_within rounds most (left_half items) in
-        let rights : List (List ℤ) = parts_within rounds most (right_half items) in
-        All-same (Fits most) (parts_within (suc rounds) most items) (lefts ++ rights) (two_halves rounds most items more)
+        let lefts : List (List ℤ) = parts_within cuts most (left_half items) in
+        let rights : List (List ℤ) = parts_within cuts most (right_half items) in
+        All-same (Fits most) (parts_within (suc cuts) most items) (lefts ++ rights) (two_halves cuts most items more)
         (All-append (Fits most) lefts rights (left (omega (arith, l, less, fits))) (right (omega (arith, r, some, le, fits))))
 
 -- there is a part
-pub first_part : (rounds most : ℕ) (items : List ℤ) → (part : List ℤ) × (parts : List (List ℤ)) × (parts_within rounds most items ≡ part ∷ parts)
+pub first_part : (cuts most : ℕ) (items : List ℤ) → (part : List ℤ) × (parts : List (List ℤ)) × (parts_within cuts most items ≡ part ∷ parts)
 unfolding parts_within
 first_part zero most items = (items, [], refl)
-first_part (suc rounds) most items = by (nat_le (length items) most) refl (first_part rounds most (left_half items))
+first_part (suc cuts) most items = by (nat_le (length items) most) refl (first_part cuts most (left_half items))
   where
     by : (t : Bool) → nat_le (length items) most ≡ t
-        → ((part : List ℤ) × (parts : List (List ℤ)) × (parts_within rounds most (left_half items) ≡ part ∷ parts))
-        → (part : List ℤ) × (parts : List (List ℤ)) × (parts_within (suc rounds) most items ≡ part ∷ parts)
-    by true e left = (items, [], one_part (suc rounds) most items (leb-true (length items) most e))
+        → ((part : List ℤ) × (parts : List (List ℤ)) × (parts_within cuts most (left_half items) ≡ part ∷ parts))
+        → (part : List ℤ) × (parts : List (List ℤ)) × (parts_within (suc cuts) most items ≡ part ∷ parts)
+    by true e left = (items, [], one_part (suc cuts) most items (leb-true (length items) most e))
     by false e left = (
       left.0,
-      left.1 ++ parts_within rounds most (right_half items),
-      two_halves rounds most items (leb-false (length items) most e) ∙ ap (λ (ps : List (List ℤ)). ps ++ parts_within rounds most (right_half items)) left.2,
+      left.1 ++ parts_within cuts most (right_half items),
+      two_halves cuts most items (leb-false (length items) most e) ∙ ap (λ (ps : List (List ℤ)). ps ++ parts_within cuts most (right_half items)) left.2,
     )
 
 -- ---- the block
@@ -149,9 +149,9 @@ joined_if true items left right l r = append-nil items
 joined_if false items left right l r =
     joined_append left right ∙ (λ i. l i ++ r i) ∙ take-append-drop (half_of (length items)) items
 
-pub joined_within : (rounds most : ℕ) (items : List ℤ) → joined_parts (parts_within rounds most items) ≡ items
+pub joined_within : (cuts most : ℕ) (items : List ℤ) → joined_parts (parts_within cuts most items) ≡ items
 unfolding parts_within
 joined_within zero most items = append-nil items
-joined_within (suc rounds) most items =
-    joined_if (nat_le (length items) most) items (parts_within rounds most (left_half items)) (parts_within rounds most (right_half items))
-    (joined_within rounds most (left_half items)) (joined_within rounds most (right_half items))
+joined_within (suc cuts) most items =
+    joined_if (nat_le (length items) most) items (parts_within cuts most (left_half items)) (parts_within cuts most (right_half items))
+    (joined_within cuts most (left_half items)) (joined_within cuts most (right_half items))

@@ -4,8 +4,6 @@ use Rattle.std.specs.Int.{w64, int_wrapping_add}
 use Rattle.std.specs.Str.{bytes_eq}
 use Rattle.std.proofs.Common.{sym, ◌∙◌, ap, arith, subst, append_assoc}
 use Rattle.std.proofs.lemmas.Bool.{leb-true, leb-false, le-leb, or_left, or_right}
-use Rattle.depth_first_list.specs.Actions as actions
-use Rattle.depth_first_list.specs.Actions.{Deed, record_words}
 use Rattle.par_tree.specs.Tree
 use Rattle.par_tree.specs.Tree.{Name, Expr, var, Arg, lend, Param, Stmt, par_stmt, Body, Func, integer}
 use Rattle.par_tree.specs.Names.{names_in_args, param_names}
@@ -23,19 +21,20 @@ use Rattle.run_outcomes.specs.Outcomes.{added, KeepsLimits}
 use Rattle.run_outcomes.proofs.Concluding.{same_answer}
 use Rattle.loop_meaning.specs.HelperTrees.{integer_param, pass_on, further_name, further_names, further_arguments, block_name, left_name, right_name, count_name, sum_of_all, half_name, sum_of_rest, alone, sum_with, add_rest, parts_body, parts_helper}
 use Rattle.loop_meaning.specs.PlainLoop.{constant}
-use Rattle.loop_meaning.proofs.Faulting.{Tells, has_fault, unless_faulted_tells, answer_tells, returned_tells, joined_items, joined_faulted, call_told, statements_told, statement_told}
-use Rattle.loop_meaning.proofs.Readings.{ReadTheSame, read_faults, read_by_marks, Longer, longer, longer_trans, limits_split, faulted_is}
+use Rattle.loop_meaning.proofs.Faulting.{call_end_told, Tells, or_assoc, unless_faulted_tells, call_told, statements_told, statement_told}
+use Rattle.loop_meaning.proofs.Readings.{ReadTheSame, read_by_marks, Longer, longer, longer_trans, limits_split}
 use Rattle.loop_meaning.proofs.Arguments.{HaveNumbers, put, constants_have, passed_on_have, AllDiffer, put_read, integer_params, beside_further}
-use Rattle.loop_meaning.proofs.Bodies.{skipped_none, skipped_all, only_statement, statement_skipped, assign_done, depth_kept, call_runs, begun}
+use Rattle.loop_meaning.proofs.Bodies.{skipped_none, skipped_all, only_statement, statement_skipped, assign_done, call_runs, begun}
 use Rattle.loop_meaning.proofs.Loops.{after, taken_up, taken_up_items, taken_up_store, after_both}
-use Rattle.loop_meaning.proofs.Halving.{read_at, Silent, silent_same, both_read, sum_value, further_length}
+use Rattle.loop_meaning.proofs.TwoRuns.{both_faulted, read_at, no_fault, mark_unread, Silent, silent_same, silent_item, silent_begun, silent_longer, silent_before, silent_behind}
+use Rattle.loop_meaning.proofs.Branches.{child_begins, child_ended, parent_begins, both_joined, end_of_child, par_done, joint_silent, joint_faulted, joint_store, branches_keep, child_read, parent_read, branches_read}
+use Rattle.loop_meaning.proofs.Halving.{sum_value, further_length}
 use Rattle.part_loop_meaning.specs.Parts.{half_of, left_half, right_half, parts_within}
 use Rattle.part_loop_meaning.specs.PartsLoop.{hold_again}
 use Rattle.part_loop_meaning.proofs.Cutting.{half_less, half_some, left_length, right_length, one_part, two_halves, first_part}
 use Rattle.part_loop_meaning.proofs.Blocks.{NoOther, again_read, again_twice, again_alone, block_passed, block_lent, call_opens_on}
 use Rattle.part_loop_meaning.proofs.Through.{Reached, reached, onward, onward_goes, onward_state, next, next_faulted, next_goes, next_told, on_store_told, through, through_one, through_both, through_told}
 use Rattle.part_loop_meaning.proofs.PartsBodies.{inside, before_test, before_split, before_par, left_call, right_call, both_calls, body_of_part, body_of_halves}
-use Rattle.part_loop_meaning.proofs.Silence.{silent_item, silent_longer, silent_before, silent_behind, fault_behind, no_fault}
 
 -- ---- small facts
 
@@ -51,10 +50,6 @@ after_beside x true b items before v = refl
 after_beside x false b items before v = refl
 
 -- the right part is not named in the call on the left one
-or_assoc : (a b d : Bool) → ((a || b) || d) ≡ (a || (b || d))
-or_assoc true b d = refl
-or_assoc false b d = refl
-
 args_named : (x : Name) (ms ns : List Name) → names_in_args x (map pass_on (ms ++ ns)) ≡ (names_in_args x (map pass_on ms) || names_in_args x (map pass_on ns))
 args_named x [] ns = refl
 args_named x (m ∷ ms) ns =
@@ -66,26 +61,6 @@ right_beside_further (suc k) = args_named right_name (further_names k) (further_
 
 right_not_named : (sum : Name) (k line : ℕ) → names_in (alone line (left_call sum k)) right_name ≡ false
 right_not_named sum k line = ap (λ t. t || false) (right_beside_further k)
-
--- what is left behind a Join that no fault ended
-joined_store : (assigned : Name → Bool) (child : ℕ) (d s : State) → s.faulted ≡ false → d.faulted ≡ false
-    → ((joined assigned child d s).store ≡ record { integers = taken_integers assigned d.store.integers s.store.integers; blocks = s.store.blocks ++ d.store.blocks })
-    × ((joined assigned child d s).callers ≡ s.callers)
-unfolding joined with_action
-joined_store assigned child d s f g =
-    let t : State = with_action (actions.joins child) (given_back s.faulted d.faulted d s) s in (
-      ap (λ b. (with_result b d.faulted assigned d t).store) f ∙ ap (λ b. (with_result false b assigned d t).store) g,
-      ap (λ b. (with_result b d.faulted assigned d t).callers) f ∙ ap (λ b. (with_result false b assigned d t).callers) g,
-    )
-
-of_mark : (line : ℕ) → ReadTheSame (began line ∷ []) []
-of_mark line = record { lines = refl; fault = refl }
-
-of_action : (deed : Deed) (words : ℕ) (s : State) → ReadTheSame (next_action deed words s ∷ []) []
-of_action deed words s = record { lines = refl; fault = refl }
-
-silent_begun : (line : ℕ) (s t : State) → Silent s t → Silent s (begun line t)
-silent_begun line s t l = silent_item s t (begun line t) (began line) (of_mark line) refl l
 
 -- another store is of no account
 silent_stored : (s t : State) (st : Store) → Silent s t → Silent s (record t { store = st })
@@ -127,9 +102,7 @@ module _ (c : Setting) (sum f : Name) (most k line at_line : ℕ) (x b : Name) (
   helper_end y name args s = unless_faulted (with_answer helper.ret (returned helper.params (lend name ∷ args) (integer y))) s
 
   end_told : (y name : Name) (args : List Arg) (s : State) → Tells s (helper_end y name args s)
-  end_told y name args s =
-      unless_faulted_tells (with_answer helper.ret (returned helper.params (lend name ∷ args) (integer y))) s
-      (answer_tells helper.ret (returned helper.params (lend name ∷ args) (integer y)) s (λ a u. returned_tells helper.params (lend name ∷ args) (integer y) a u))
+  end_told y name args s = call_end_told helper (lend name ∷ args) (integer y) s
 
   -- the state in which the body of a helper begins
   abbrev entry : Name → List ℤ → ℕ → State → State
@@ -191,11 +164,11 @@ module _ (c : Setting) (sum f : Name) (most k line at_line : ℕ) (x b : Name) (
   calls_through first parts before t = through c at_line f x b vs first parts before t
 
   Claim : ℕ → Type 0
-  Claim rounds = (items : List ℤ) → length items ≤ rounds → length items < 2 ^ 63
+  Claim cuts = (items : List ℤ) → length items ≤ cuts → length items < 2 ^ 63
       → (first : Bool) (before : List ℤ) (l : ℕ) (y name : Name) (args : List Arg) (at : Store) (s t : State) → HaveNumbers at args vs → NoOther b t.store
       → s.faulted ≡ false → t.faulted ≡ false
-      → KeepsLimits (added s (helper_call l y name args items s)) → KeepsLimits (added t (calls_through first (parts_within rounds most items) before t).state)
-      → SameSum first before y name s (helper_call l y name args items s) t (calls_through first (parts_within rounds most items) before t)
+      → KeepsLimits (added s (helper_call l y name args items s)) → KeepsLimits (added t (calls_through first (parts_within cuts most items) before t).state)
+      → SameSum first before y name s (helper_call l y name args items s) t (calls_through first (parts_within cuts most items) before t)
 
   -- ---- one part
 
@@ -305,18 +278,12 @@ module _ (c : Setting) (sum f : Name) (most k line at_line : ℕ) (x b : Name) (
 
   -- ---- both halves
 
-  -- the child, its parent, and the thread behind the Join
+  -- the child and its parent
   abbrev left_begins : (Name → Bool) → State → State
-  left_begins named p = begun line (child_of c named p)
-
-  abbrev child_ended : State → State
-  child_ended d = ended record_words d
+  left_begins named p = child_begins c line named p
 
   abbrev right_begins : (Name → Bool) → State → State → State
-  right_begins named d p = begun line (parent_of named (child_ended d).items p)
-
-  abbrev both_joined : (Name → Bool) → State → State → State → State
-  both_joined assigned p d e = joined assigned (suc p.forks) (child_ended d) e
+  right_begins named d p = parent_begins line named d p
 
   -- behind the Join, where no fault came: the block is one again, and the sums are added
   abbrev one_again : State → State
@@ -331,10 +298,6 @@ module _ (c : Setting) (sum f : Name) (most k line at_line : ℕ) (x b : Name) (
   -- what the Join takes of two integers
   abbrev Takes : (Name → Bool) → Type 0
   Takes assigned = (m n : Name → ℤ) → (taken_integers assigned m n sum_of_all ≡ m sum_of_all) × (taken_integers assigned m n sum_of_rest ≡ n sum_of_rest)
-
-  end_of_child : (d : State) → ((child_ended d).faulted ≡ d.faulted) × ((child_ended d).store ≡ d.store) × ((child_ended d).items ≡ d.items ++ next_action actions.ends record_words d ∷ [])
-  unfolding ended with_action
-  end_of_child d = (refl, refl, refl)
 
   module _ (first : Bool) (before : List ℤ) (y name : Name) (args : List Arg) (at : Store) (named assigned : Name → Bool) (lefts rights : List ℤ)
       (others : List ℤ → State → Reached) (s t p d e : State) (w : Reached)
@@ -358,42 +321,14 @@ module _ (c : Setting) (sum f : Name) (most k line at_line : ℕ) (x b : Name) (
     abbrev end_state : State
     end_state = helper_end y name args (sum_added (unless_cut joint))
 
-    to_child : Silent s child
-    to_child =
-        silent_begun line s (child_of c named p)
-        (silent_item s p (child_of c named p) (next_action (actions.forks (suc p.forks)) record_words p) (of_action (actions.forks (suc p.forks)) record_words p) refl l)
-
-    to_parent : Silent d parent
-    to_parent =
-        silent_item d (child_ended d) parent (began line) (of_mark line) refl
-        (silent_item d d (child_ended d) (next_action actions.ends record_words d) (of_action actions.ends record_words d) (end_of_child d).2 (silent_same d d refl))
-
     to_joint : Silent e joint
-    to_joint =
-        let words : ℕ = given_back e.faulted (child_ended d).faulted (child_ended d) e in
-        silent_item e e joint (next_action (actions.joins (suc p.forks)) words e) (of_action (actions.joins (suc p.forks)) words e)
-        (joined_items assigned (suc p.forks) (child_ended d) e) (silent_same e e refl)
+    to_joint = joint_silent assigned p d e
 
     joint_end : Longer joint end_state
     joint_end =
         let u : State = unless_cut joint in
         longer_trans joint u end_state (longer joint u (unless_faulted_tells one_again joint (on_store_told (rejoin_block block_name left_name right_name) joint)))
         (longer_trans u (sum_added u) end_state (longer u (sum_added u) (statements_told c (alone line add_rest) u)) (longer (sum_added u) end_state (end_told y name args (sum_added u))))
-
-    e_end : Longer e end_state
-    e_end = longer_trans e joint end_state (silent_longer e joint to_joint) joint_end
-
-    parent_end : Longer parent end_state
-    parent_end = longer_trans parent e end_state (longer parent e told_e) e_end
-
-    d_end : Longer d end_state
-    d_end = longer_trans d parent end_state (silent_longer d parent to_parent) parent_end
-
-    child_end : Longer child end_state
-    child_end = longer_trans child d end_state (longer child d told_d) d_end
-
-    joint_faulted : joint.faulted ≡ (e.faulted || d.faulted)
-    joint_faulted = joined_faulted assigned (suc p.forks) (child_ended d) e ∙ ap (λ z. e.faulted || z) (end_of_child d).0
 
     -- a fault of a half ends the call
     ended_by : joint.faulted ≡ true → end_state ≡ joint
@@ -403,35 +338,26 @@ module _ (c : Setting) (sum f : Name) (most k line at_line : ℕ) (x b : Name) (
         ∙ skipped_all (with_answer helper.ret (returned helper.params (lend name ∷ args) (integer y))) joint z
 
     module _ (ks : KeepsLimits (added s end_state)) (kt : KeepsLimits (added t (next others w).state)) where
-      kept_child : KeepsLimits (added child d) × KeepsLimits (added parent e)
-      kept_child =
-          let k1 = limits_split s child end_state (silent_longer s child to_child) child_end ks in
-          let k2 = limits_split child d end_state (longer child d told_d) d_end k1.1 in
-          let k3 = limits_split d parent end_state (silent_longer d parent to_parent) parent_end k2.1 in
-          let k4 = limits_split parent e end_state (longer parent e told_e) e_end k3.1 in
-          (k2.0, k4.0)
+      kept_branches : KeepsLimits (added child d) × KeepsLimits (added parent e)
+      kept_branches = branches_keep c line named assigned s p d e end_state l told_d told_e joint_end ks
 
       kept_w : KeepsLimits (added t w.state)
       kept_w = (limits_split t w.state (next others w).state (longer t w.state told_w) (longer w.state (next others w).state (next_told others w told_others)) kt).0
 
       sum_left : SameSum first before sum_of_all left_name child d t w
-      sum_left = left kept_child.0 kept_w
-
-      d_faulted : d.faulted ≡ has_fault (added child d)
-      d_faulted = faulted_is child d told_d refl
+      sum_left = left kept_branches.0 kept_w
 
       w_faulted : w.state.faulted ≡ d.faulted
-      w_faulted = faulted_is t w.state told_w tf ∙ sym (read_faults (added child d) (added t w.state) sum_left.reading) ∙ sym d_faulted
+      w_faulted = sym (both_faulted child t d w.state told_d told_w refl tf sum_left.reading)
 
       -- the left half faulted
       left_over : d.faulted ≡ true → SameSum first before y name s end_state t (next others w)
       left_over z =
-          let j : joint.faulted ≡ true = joint_faulted ∙ or_right e.faulted d.faulted z in
+          let j : joint.faulted ≡ true = joint_faulted assigned p d e ∙ or_right e.faulted d.faulted z in
           let u = ended_by j in
           subst (λ (r : Reached). SameSum first before y name s end_state t r) (sym (next_faulted others w (w_faulted ∙ z)))
           (record {
-            reading = silent_before s child end_state (added t w.state) to_child child_end
-                (fault_behind child d end_state (added t w.state) (longer child d told_d) d_end (sym d_faulted ∙ z) sum_left.reading);
+            reading = child_read c line named assigned s p d e end_state l told_d told_e joint_end z (added t w.state) sum_left.reading;
             left = λ going. no_fault end_state.faulted (ap (λ (v : State). v.faulted) u ∙ j) going;
           })
 
@@ -451,25 +377,21 @@ module _ (c : Setting) (sum f : Name) (most k line at_line : ℕ) (x b : Name) (
         none_w = ap (λ (st : Store). Counts.count (without st.blocks b) b) left_answers.plain ∙ again_alone b left_answers.last_part t.store none
 
         sum_right : SameSum false w.become sum_of_rest right_name parent e w.state end_of_plain
-        sum_right = right (w_faulted ∙ df) none_w kept_child.1 kept_others
-
-        e_faulted : e.faulted ≡ has_fault (added parent e)
-        e_faulted = faulted_is parent e told_e pf
+        sum_right = right (w_faulted ∙ df) none_w kept_branches.1 kept_others
 
         -- what is read of both halves
         whole_read : ReadTheSame (added parent end_state) (added w.state end_of_plain.state) → ReadTheSame (added s end_state) (added t end_of_plain.state)
         whole_read r =
-            silent_before s child end_state (added t end_of_plain.state) to_child child_end
-            (both_read child d end_state t w.state end_of_plain.state (longer child d told_d) d_end (longer t w.state told_w) (longer w.state end_of_plain.state told_others) sum_left.reading
-            (silent_before d parent end_state (added w.state end_of_plain.state) to_parent parent_end r))
+            branches_read c line named assigned s p d e end_state l told_d told_e joint_end t w.state end_of_plain.state (longer t w.state told_w)
+            (longer w.state end_of_plain.state told_others) sum_left.reading r
 
         -- the right half faulted
         right_over : e.faulted ≡ true → SameSum first before y name s end_state t end_of_plain
         right_over z =
-            let j : joint.faulted ≡ true = joint_faulted ∙ or_left e.faulted d.faulted z in
+            let j : joint.faulted ≡ true = joint_faulted assigned p d e ∙ or_left e.faulted d.faulted z in
             let u = ended_by j in
             record {
-              reading = whole_read (fault_behind parent e end_state (added w.state end_of_plain.state) (longer parent e told_e) e_end (sym e_faulted ∙ z) sum_right.reading);
+              reading = whole_read (parent_read c line named assigned s p d e end_state l told_d told_e joint_end pf z (added w.state end_of_plain.state) sum_right.reading);
               left = λ going. no_fault end_state.faulted (ap (λ (v : State). v.faulted) u ∙ j) going;
             }
 
@@ -478,8 +400,8 @@ module _ (c : Setting) (sum f : Name) (most k line at_line : ℕ) (x b : Name) (
         both_done ef =
             let one = left_answers in
             let two = sum_right.left ef in
-            let j : joint.faulted ≡ false = joint_faulted ∙ (λ i. ef i || df i) in
-            let taken = joined_store assigned (suc p.forks) (child_ended d) e ef ((end_of_child d).0 ∙ df) in
+            let j : joint.faulted ≡ false = joint_faulted assigned p d e ∙ (λ i. ef i || df i) in
+            let taken = joint_store assigned p d e ef df in
             let mine : Name → ℤ = e.store.integers in
             let all_is : joint.store.integers sum_of_all ≡ one.total =
             ap (λ (st : Store). st.integers sum_of_all) taken.0 ∙ (takes (child_ended d).store.integers mine).0
@@ -503,7 +425,7 @@ module _ (c : Setting) (sum f : Name) (most k line at_line : ℕ) (x b : Name) (
             let ends : Ends y name s (sum_added (unless_cut joint)) end_state = ends_so y name args at s (sum_added (unless_cut joint)) have (λ going. callers) in
             let last = ends.left (ap (λ (u : State). u.faulted) summed ∙ j) in
             let silent : Silent e end_state =
-            silent_item e joint end_state (began line) (of_mark line) (ends.items ∙ ap (λ (u : State). u.items) summed) to_joint in
+            silent_item e joint end_state (began line) (mark_unread line) (ends.items ∙ ap (λ (u : State). u.items) summed) to_joint in
             let first_store : Store = hold_again b one.last_part t.store in
             let first_is : w.state.store ≡ with_integer x (after x first first_store one.total) first_store =
             one.plain ∙ ap (λ n. with_integer x n first_store) (after_beside x first b one.last_part t.store one.total) in
@@ -539,20 +461,13 @@ module _ (c : Setting) (sum f : Name) (most k line at_line : ℕ) (x b : Name) (
           by true z = left_over z
           by false z = subst (λ (r : Reached). SameSum first before y name s end_state t r) (sym (next_goes others w (w_faulted ∙ z))) (right_half_read z)
 
-  par_done : (a a' : Body) (p : State) → KeepsLimits (added p (exec c (run c) line (par_stmt a a') p))
-      → exec c (run c) line (par_stmt a a') p
-      ≡ joined (assigns_in a) (suc p.forks) (child_ended (exec_all c (run c) a (child_of c (names_in a) p)))
-      (exec_all c (run c) a' (parent_of (names_in a) (child_ended (exec_all c (run c) a (child_of c (names_in a) p))).items p))
-  unfolding exec fork_join own_part_then_join
-  par_done a a' p kept = depth_kept (length p.label) c.most_forks line (fork_join c (names_in a) (assigns_in a) (exec_all c (run c) a) (exec_all c (run c) a')) p kept
-
-  claim_halves : (rounds : ℕ) → Claim rounds → (items : List ℤ) → nat_le (length items) most ≡ false → length items ≤ suc rounds → length items < 2 ^ 63
+  claim_halves : (cuts : ℕ) → Claim cuts → (items : List ℤ) → nat_le (length items) most ≡ false → length items ≤ suc cuts → length items < 2 ^ 63
       → (first : Bool) (before : List ℤ) (l : ℕ) (y name : Name) (args : List Arg) (at : Store) (s t : State) → HaveNumbers at args vs → NoOther b t.store
       → s.faulted ≡ false → t.faulted ≡ false
-      → KeepsLimits (added s (helper_call l y name args items s)) → KeepsLimits (added t (calls_through first (parts_within (suc rounds) most items) before t).state)
-      → SameSum first before y name s (helper_call l y name args items s) t (calls_through first (parts_within (suc rounds) most items) before t)
+      → KeepsLimits (added s (helper_call l y name args items s)) → KeepsLimits (added t (calls_through first (parts_within (suc cuts) most items) before t).state)
+      → SameSum first before y name s (helper_call l y name args items s) t (calls_through first (parts_within (suc cuts) most items) before t)
   unfolding Claim
-  claim_halves rounds rec items long fits small first before l y name args at s t have none sf tf ks kt =
+  claim_halves cuts rec items long fits small first before l y name args at s t have none sf tf ks kt =
       let more : most < length items = leb-false (length items) most long in
       let enough : 17 ≤ length items = omega (arith, big, more) in
       let ll = left_length items enough in
@@ -622,21 +537,21 @@ module _ (c : Setting) (sum f : Name) (most k line at_line : ℕ) (x b : Name) (
       ∙ call_opens_on c line (integer sum_of_rest) sum right_name (further_arguments k) helper lent_block integer_params_of vs parent is_sum refl (further_have parent.store has)
       ∙ ap (λ (hs : List Held). helper_call line sum_of_rest right_name (further_arguments k) (block_of hs right_name) parent) parent_holds in
       let forked_is : forked ≡ both_joined assigned p d e =
-      par_done a a' p kf.0
+      par_done c line a a' p kf.0
       ∙ ap (λ (z : State). joined assigned (suc p.forks) (child_ended z) (exec_all c (run c) a' (parent_of named (child_ended z).items p))) d_is
       ∙ ap (λ (z : State). joined assigned (suc p.forks) (child_ended d) z) e_is in
       let u : helper_call l y name args items s ≡ joining (both_joined assigned p d e) = u1 ∙ ap joining forked_is in
       -- the plain calls
-      let left_parts : List (List ℤ) = parts_within rounds most lefts in
-      let right_parts : List (List ℤ) = parts_within rounds most rights in
+      let left_parts : List (List ℤ) = parts_within cuts most lefts in
+      let right_parts : List (List ℤ) = parts_within cuts most rights in
       let others : List ℤ → State → Reached = calls_through false right_parts in
       let w : Reached = calls_through first left_parts before t in
-      let some_part = first_part rounds most lefts in
-      let cut : calls_through first (parts_within (suc rounds) most items) before t ≡ next others w =
-      ap (λ (ps : List (List ℤ)). calls_through first ps before t) (two_halves rounds most items more ∙ ap (λ (ps : List (List ℤ)). ps ++ right_parts) some_part.2)
+      let some_part = first_part cuts most lefts in
+      let cut : calls_through first (parts_within (suc cuts) most items) before t ≡ next others w =
+      ap (λ (ps : List (List ℤ)). calls_through first ps before t) (two_halves cuts most items more ∙ ap (λ (ps : List (List ℤ)). ps ++ right_parts) some_part.2)
       ∙ through_both c at_line f x b vs first some_part.0 some_part.1 right_parts before t
       ∙ ap (λ (ps : List (List ℤ)). next others (calls_through first ps before t)) (sym some_part.2) in
-      subst (λ (z : State). SameSum first before y name s z t (calls_through first (parts_within (suc rounds) most items) before t)) (sym u)
+      subst (λ (z : State). SameSum first before y name s z t (calls_through first (parts_within (suc cuts) most items) before t)) (sym u)
       (subst (λ (z : Reached). SameSum first before y name s (joining (both_joined assigned p d e)) t z) (sym cut)
       (halves_so first before y name args at named assigned lefts rights others s t p d e w have none tf sf refl s7 child_holds parent_holds (λ f1 f2. (refl, refl))
       (call_told c line (integer sum_of_all) (lend left_name ∷ further_arguments k) helper (block_passed left_name lefts block_name (param_names integer_params_of) vs child.store) child)
@@ -646,28 +561,28 @@ module _ (c : Setting) (sum f : Name) (most k line at_line : ℕ) (x b : Name) (
       (λ wf nw k1 k2. rec rights (omega (arith, rl, some, enough, fits)) (omega (arith, rl, small)) false w.become line sum_of_rest right_name (further_arguments k) parent.store parent w.state (further_have parent.store has) nw sf wf k1 k2)
       (subst (λ (z : State). KeepsLimits (added s z)) u ks) (subst (λ (z : Reached). KeepsLimits (added t z.state)) cut kt)))
 
-  claim_short : (rounds : ℕ) (items : List ℤ) → nat_le (length items) most ≡ true
+  claim_short : (cuts : ℕ) (items : List ℤ) → nat_le (length items) most ≡ true
       → (first : Bool) (before : List ℤ) (l : ℕ) (y name : Name) (args : List Arg) (at : Store) (s t : State) → HaveNumbers at args vs → NoOther b t.store
       → s.faulted ≡ false → t.faulted ≡ false
-      → KeepsLimits (added s (helper_call l y name args items s)) → KeepsLimits (added t (calls_through first (parts_within rounds most items) before t).state)
-      → SameSum first before y name s (helper_call l y name args items s) t (calls_through first (parts_within rounds most items) before t)
-  claim_short rounds items short first before l y name args at s t have none sf tf ks kt =
-      let one : parts_within rounds most items ≡ items ∷ [] = one_part rounds most items (leb-true (length items) most short) in
+      → KeepsLimits (added s (helper_call l y name args items s)) → KeepsLimits (added t (calls_through first (parts_within cuts most items) before t).state)
+      → SameSum first before y name s (helper_call l y name args items s) t (calls_through first (parts_within cuts most items) before t)
+  claim_short cuts items short first before l y name args at s t have none sf tf ks kt =
+      let one : parts_within cuts most items ≡ items ∷ [] = one_part cuts most items (leb-true (length items) most short) in
       subst (λ (ps : List (List ℤ)). SameSum first before y name s (helper_call l y name args items s) t (calls_through first ps before t)) (sym one)
       (claim_part first before items l y name args at s t short have none sf tf ks
       (subst (λ (ps : List (List ℤ)). KeepsLimits (added t (calls_through first ps before t).state)) one kt))
 
-  all_claims : (rounds : ℕ) → Claim rounds
+  all_claims : (cuts : ℕ) → Claim cuts
   unfolding Claim
   all_claims zero items fits small first before l y name args at s t have none sf tf ks kt =
       claim_short zero items (le-leb (length items) most (omega (arith, fits))) first before l y name args at s t have none sf tf ks kt
-  all_claims (suc rounds) items fits small first before l y name args at s t have none sf tf ks kt =
-      by (nat_le (length items) most) refl (all_claims rounds)
+  all_claims (suc cuts) items fits small first before l y name args at s t have none sf tf ks kt =
+      by (nat_le (length items) most) refl (all_claims cuts)
     where
-      by : (z : Bool) → nat_le (length items) most ≡ z → Claim rounds
-          → SameSum first before y name s (helper_call l y name args items s) t (calls_through first (parts_within (suc rounds) most items) before t)
-      by true short rec = claim_short (suc rounds) items short first before l y name args at s t have none sf tf ks kt
-      by false long rec = claim_halves rounds rec items long fits small first before l y name args at s t have none sf tf ks kt
+      by : (z : Bool) → nat_le (length items) most ≡ z → Claim cuts
+          → SameSum first before y name s (helper_call l y name args items s) t (calls_through first (parts_within (suc cuts) most items) before t)
+      by true short rec = claim_short (suc cuts) items short first before l y name args at s t have none sf tf ks kt
+      by false long rec = claim_halves cuts rec items long fits small first before l y name args at s t have none sf tf ks kt
 
   -- the call of a helper on a block, and the plain calls on its parts
   pub loop_of_parts : (items : List ℤ) → length items < 2 ^ 63 → (y name : Name) (l : ℕ) (args : List Arg) (at : Store) (s t : State) → HaveNumbers at args vs → NoOther b t.store

@@ -3,7 +3,6 @@ pub mod Worked
 pub mod Blocks
 pub mod Through
 pub mod PartsBodies
-pub mod Silence
 pub mod HalvedBlocks
 pub mod PlainParts
 pub mod PartsBeginning

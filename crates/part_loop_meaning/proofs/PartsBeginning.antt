@@ -1,5 +1,5 @@
 -- A loop over parts whose sum begins with 0.
-use Rattle.std.specs.Prelude.{◌≡◌, ℕ, Bool, true, false, List, [], ◌∷◌, ◌++◌, map, length, drop, ℤ, pos, FitsSigned, Some, refl}
+use Rattle.std.specs.Prelude.{◌≡◌, ℕ, false, List, [], ◌∷◌, ◌++◌, map, length, drop, ℤ, pos, FitsSigned, Some, refl}
 use Rattle.std.specs.Int.{w64, int_wrapping_add}
 use Rattle.std.proofs.Common.{sym, ◌∙◌, ap, arith, subst}
 use Rattle.par_tree.specs.Tree.{Name, Param, integer, lend, Func}
@@ -16,24 +16,12 @@ use Rattle.loop_meaning.proofs.Faulting.{Tells, tells_trans, unless_faulted_tell
 use Rattle.loop_meaning.proofs.Readings.{ReadTheSame, read_by_marks, Longer, longer, limits_split}
 use Rattle.loop_meaning.proofs.Wrapping.{nothing_added}
 use Rattle.loop_meaning.proofs.Arguments.{constants_have}
-use Rattle.loop_meaning.proofs.Bodies.{skipped_none, skipped_all}
 use Rattle.loop_meaning.proofs.Loops.{written_twice, read_back, after, taken_up, taken_up_items, taken_up_store}
-use Rattle.loop_meaning.proofs.Halving.{read_at, both_read, Silent, silent_same}
+use Rattle.loop_meaning.proofs.TwoRuns.{read_at, Silent, silent_same, both_silent, SameRuns, same_runs_on}
 use Rattle.part_loop_meaning.specs.PartsLoop.{hold_again, call_on, add_call_on, behind_part, add_calls_on, sum_calls_on}
 use Rattle.part_loop_meaning.specs.Laws.{SumsOfPartsMayBeginAtZero}
 use Rattle.part_loop_meaning.proofs.Blocks.{block_passed, block_lent, call_opens_on}
-use Rattle.part_loop_meaning.proofs.Silence.{silent_added}
 use Rattle.part_loop_meaning.proofs.Through.{on_store_told, call_on_told, part_told}
-
--- two ways come to the same: the same is read, a fault ends both or none, and where none does the same store is left
-record SameWay (s u t v : State) : Type 0 where
-  pub reading : ReadTheSame (added s u) (added t v)
-  pub faulted : u.faulted ≡ v.faulted
-  pub left : u.faulted ≡ false → u.store ≡ v.store
-
-nothing_read : (s t u v : State) → Silent s u → Silent t v → ReadTheSame (added s u) (added t v)
-nothing_read s t u v l m =
-    let r = silent_added s u l in let r' = silent_added t v m in record { lines = r.lines ∙ sym r'.lines; fault = r.fault ∙ sym r'.fault }
 
 module _ (c : Setting) (line : ℕ) (f x b : Name) (vs : List ℤ) (g : Func) (q : Param) (qs : List Param)
     (is_f : function_of c.program f ≡ Some g) (lends : g.params ≡ q ∷ qs) (number_back : hands_back g.ret ≡ false) where
@@ -133,40 +121,24 @@ module _ (c : Setting) (line : ℕ) (f x b : Name) (vs : List ℤ) (g : Func) (q
       unless_faulted_tells (behind_part b m (add_calls_on c line f x b vs parts)) u (others_told parts (m ++ block_of u.store.blocks b) u)
 
   -- a way that goes on with the other parts
-  goes_on : (parts : List (List ℤ)) (m : List ℤ) (s t u v : State) → Longer s u → Longer t v → SameWay s u t v
+  goes_on : (parts : List (List ℤ)) (m : List ℤ) (s t u v : State) → Longer s u → Longer t v → SameRuns s u t v
       → ((n : List ℤ) → u.faulted ≡ false → v.faulted ≡ false → u.store ≡ v.store → KeepsLimits (added u (others parts n u)) → KeepsLimits (added v (others parts n v))
-      → SameWay u (others parts n u) v (others parts n v))
-      → KeepsLimits (added s (behind parts m u)) → KeepsLimits (added t (behind parts m v)) → SameWay s (behind parts m u) t (behind parts m v)
-  goes_on parts m s t u v su tv w rest ks kt = by u.faulted refl
-    where
-      at : (u' v' : State) → behind parts m u ≡ u' → behind parts m v ≡ v' → SameWay s u' t v' → SameWay s (behind parts m u) t (behind parts m v)
-      at u' v' p r same = subst (λ (z : State). SameWay s z t (behind parts m v)) (sym p) (subst (λ (z : State). SameWay s u' t z) (sym r) same)
-
-      by : (z : Bool) → u.faulted ≡ z → SameWay s (behind parts m u) t (behind parts m v)
-      by true e =
-          at u v (skipped_all (behind_part b m (add_calls_on c line f x b vs parts)) u e) (skipped_all (behind_part b m (add_calls_on c line f x b vs parts)) v (sym w.faulted ∙ e)) w
-      by false e =
-          let e' : v.faulted ≡ false = sym w.faulted ∙ e in
-          let same : u.store ≡ v.store = w.left e in
-          let n : List ℤ = m ++ block_of u.store.blocks b in
-          let p : behind parts m u ≡ others parts n u = skipped_none (behind_part b m (add_calls_on c line f x b vs parts)) u e in
-          let r : behind parts m v ≡ others parts n v =
-          skipped_none (behind_part b m (add_calls_on c line f x b vs parts)) v e' ∙ ap (λ (st : Store). others parts (m ++ block_of st.blocks b) v) (sym same) in
-          let uo : Longer u (others parts n u) = longer u (others parts n u) (others_told parts n u) in
-          let vo : Longer v (others parts n v) = longer v (others parts n v) (others_told parts n v) in
-          let k = limits_split s u (others parts n u) su uo (subst (λ (z : State). KeepsLimits (added s z)) p ks) in
-          let k' = limits_split t v (others parts n v) tv vo (subst (λ (z : State). KeepsLimits (added t z)) r kt) in
-          let on = rest n e e' same k.1 k'.1 in
-          at (others parts n u) (others parts n v) p r
-          (record {
-            reading = both_read s u (others parts n u) t v (others parts n v) su uo tv vo w.reading on.reading;
-            faulted = on.faulted;
-            left = on.left;
-          })
+      → SameRuns u (others parts n u) v (others parts n v))
+      → KeepsLimits (added s (behind parts m u)) → KeepsLimits (added t (behind parts m v)) → SameRuns s (behind parts m u) t (behind parts m v)
+  goes_on parts m s t u v su tv w rest ks kt =
+      let n : List ℤ = m ++ block_of u.store.blocks b in
+      let n' : List ℤ = m ++ block_of v.store.blocks b in
+      let more : State → State = behind_part b m (add_calls_on c line f x b vs parts) in
+      same_runs_on more more s t u v su tv (longer u (others parts n u) (others_told parts n u)) (longer v (others parts n' v) (others_told parts n' v)) w
+      (λ uf vf same ku kv.
+      let e : n' ≡ n = ap (λ (st : Store). m ++ block_of st.blocks b) (sym same) in
+      subst (λ (l : List ℤ). SameRuns u (others parts n u) v (others parts l v)) (sym e)
+      (rest n uf vf same ku (subst (λ (l : List ℤ). KeepsLimits (added v (others parts l v))) e kv)))
+      ks kt
 
   -- two calls whose answers are added
   same_add : (part : List ℤ) (s t : State) → s.faulted ≡ false → t.faulted ≡ false → s.store ≡ t.store
-      → KeepsLimits (added s (added_call part s)) → KeepsLimits (added t (added_call part t)) → SameWay s (added_call part s) t (added_call part t)
+      → KeepsLimits (added s (added_call part s)) → KeepsLimits (added t (added_call part t)) → SameRuns s (added_call part s) t (added_call part t)
   same_add part s t sf tf same ks kt =
       let w = same_call part s t (ap (λ (st : Store). st.blocks) same) sf tf
       (subst (λ (is : List Item). KeepsLimits is) (call_added part s) ks) (subst (λ (is : List Item). KeepsLimits is) (call_added part t) kt) in
@@ -182,13 +154,13 @@ module _ (c : Setting) (line : ℕ) (f x b : Name) (vs : List ℤ) (g : Func) (q
       }
 
   same_adds : (parts : List (List ℤ)) (m : List ℤ) (s t : State) → s.faulted ≡ false → t.faulted ≡ false → s.store ≡ t.store
-      → KeepsLimits (added s (others parts m s)) → KeepsLimits (added t (others parts m t)) → SameWay s (others parts m s) t (others parts m t)
+      → KeepsLimits (added s (others parts m s)) → KeepsLimits (added t (others parts m t)) → SameRuns s (others parts m s) t (others parts m t)
   unfolding add_calls_on
   same_adds [] m s t sf tf same ks kt =
       let ls : Silent s (others [] m s) = silent_same s (others [] m s) refl in
       let lt : Silent t (others [] m t) = silent_same t (others [] m t) refl in
       record {
-        reading = nothing_read s t (others [] m s) (others [] m t) ls lt;
+        reading = both_silent s t (others [] m s) (others [] m t) ls lt;
         faulted = sf ∙ sym tf;
         left = λ z. ap (λ (st : Store). hold_again b m st) same;
       }
@@ -204,7 +176,7 @@ module _ (c : Setting) (line : ℕ) (f x b : Name) (vs : List ℤ) (g : Func) (q
   -- the first answer, added to 0
   same_first : (part : List ℤ) (s : State) → s.faulted ≡ false → FitsSigned w64 ((called part s).store.integers x)
       → KeepsLimits (added s (added_call part (set_integer x (pos 0) s))) → KeepsLimits (added s (called part s))
-      → SameWay (set_integer x (pos 0) s) (added_call part (set_integer x (pos 0) s)) s (called part s)
+      → SameRuns (set_integer x (pos 0) s) (added_call part (set_integer x (pos 0) s)) s (called part s)
   same_first part s sf fits ks kt =
       let t : State = set_integer x (pos 0) s in
       let w = same_call part t s refl sf sf (subst (λ (is : List Item). KeepsLimits is) (call_added part t) ks) kt in
@@ -223,7 +195,7 @@ module _ (c : Setting) (line : ℕ) (f x b : Name) (vs : List ℤ) (g : Func) (q
 
   sums_same : (part : List ℤ) (parts : List (List ℤ)) (s : State) → s.faulted ≡ false → FitsSigned w64 ((called part s).store.integers x)
       → KeepsLimits (added s (others (part ∷ parts) [] (set_integer x (pos 0) s))) → KeepsLimits (added s (sum_calls_on c line f x b vs (part ∷ parts) s))
-      → SameWay (set_integer x (pos 0) s) (others (part ∷ parts) [] (set_integer x (pos 0) s)) s (sum_calls_on c line f x b vs (part ∷ parts) s)
+      → SameRuns (set_integer x (pos 0) s) (others (part ∷ parts) [] (set_integer x (pos 0) s)) s (sum_calls_on c line f x b vs (part ∷ parts) s)
   unfolding add_calls_on
   sums_same part parts s sf fits ks kt =
       let t : State = set_integer x (pos 0) s in

@@ -8,9 +8,9 @@ use Rattle.depth_first_run.specs.Stores.{Store, block_of}
 use Rattle.depth_first_run.specs.Values.{Outcome, value, chained, operated, compared, truth}
 use Rattle.depth_first_run.specs.States.{Setting, State, unless_faulted, with_number}
 use Rattle.depth_first_run.specs.Run.{on_store, set_integer, cut_of, cut_block, rejoin_block, split_in_place, split_block, exec, exec_all, run}
-use Rattle.loop_meaning.specs.HelperTrees.{block_name, left_name, right_name, count_name, sum_of_all, half_name, sum_of_rest, alone, call_of, add_rest, half_in_pieces, both_parts, parts_body}
+use Rattle.loop_meaning.specs.HelperTrees.{block_name, left_name, right_name, count_name, sum_of_all, half_name, sum_of_rest, alone, call_of, add_rest, half_in_pieces, both_halves_of_block, parts_body}
 use Rattle.loop_meaning.proofs.Wrapping.{half_is}
-use Rattle.loop_meaning.proofs.Bodies.{first_statement, only_statement, let_done, if_done, begun}
+use Rattle.loop_meaning.proofs.Bodies.{first_statement, only_statement, let_done, if_done, begun, zero_had}
 use Rattle.part_loop_meaning.specs.Parts.{half_of}
 use Rattle.part_loop_meaning.proofs.Cutting.{half_may_be_cut}
 
@@ -60,7 +60,7 @@ abbrev pub call_of_part : Name → ℕ → Stmt
 call_of_part f k = call_of sum_of_all f k (lend block_name ∷ [])
 
 abbrev tested : (sum f : Name) → ℕ → ℕ → ℕ → Stmt
-tested sum f most k line = if_stmt (cmp at_most (var count_name) (num (pos most))) (alone line (call_of_part f k)) (both_parts sum k line)
+tested sum f most k line = if_stmt (cmp at_most (var count_name) (num (pos most))) (alone line (call_of_part f k)) (both_halves_of_block sum k line)
 
 -- the state before the `split`, and before the `par` in it, where each has begun
 abbrev pub before_split : ℕ → List ℤ → State → State
@@ -84,10 +84,6 @@ both_calls sum k line = par_stmt (alone line (left_call sum k)) (alone line (rig
 length_had : (s : State) (integers : Name → ℤ) (items : List ℤ) → value (inside s integers items).store (len_of block_name) ≡ Ok (pos (length items))
 unfolding value
 length_had s integers items = refl
-
-zero_had : (s : Store) → value s (num (pos 0)) ≡ Ok (pos 0)
-unfolding value
-zero_had s = refl
 
 name_had : (s : Store) (x : Name) (v : ℤ) → s.integers x ≡ v → value s (var x) ≡ Ok v
 unfolding value
@@ -118,7 +114,7 @@ pub body_of_part : (c : Setting) (sum f : Name) (most k line : ℕ) (integers : 
 body_of_part c sum f most k line integers items s e short =
     let t : State = before_test line items (inside s integers items) in
     body_begins c sum f most k line integers items s e
-    ∙ if_done c line (cmp at_most (var count_name) (num (pos most))) (alone line (call_of_part f k)) (both_parts sum k line) (pos 1) t (length_tested t.store most (length items) true refl short)
+    ∙ if_done c line (cmp at_most (var count_name) (num (pos most))) (alone line (call_of_part f k)) (both_halves_of_block sum k line) (pos 1) t (length_tested t.store most (length items) true refl short)
     ∙ only_statement c line (call_of_part f k) t e
 
 split_done : (c : Setting) (line : ℕ) (b h l r : Name) (a : Body) (n : ℕ) (s : State) → s.store.integers h ≡ pos n → cut_of (block_of s.store.blocks b) (pos n) ≡ Some n
@@ -143,7 +139,7 @@ body_of_halves c sum f most k line integers items s e long many small =
     let w : State = set_integer sum_of_rest (pos 0) (begun line u) in
     let cut : State = on_store (cut_block block_name left_name right_name h) (begun line w) in
     body_begins c sum f most k line integers items s e
-    ∙ if_done c line (cmp at_most (var count_name) (num (pos most))) (alone line (call_of_part f k)) (both_parts sum k line) (pos 0) t (length_tested t.store most (length items) false refl long)
+    ∙ if_done c line (cmp at_most (var count_name) (num (pos most))) (alone line (call_of_part f k)) (both_halves_of_block sum k line) (pos 0) t (length_tested t.store most (length items) false refl long)
     ∙ first_statement c line (let_stmt half_name half_in_pieces) (step line (let_stmt sum_of_rest (num (pos 0))) rest) t e
     ∙ ap (λ z. exec_all c (run c) (step line (let_stmt sum_of_rest (num (pos 0))) rest) z) (let_done c line half_name half_in_pieces (pos h) (begun line t) (half_had (begun line t).store (length items) small refl))
     ∙ first_statement c line (let_stmt sum_of_rest (num (pos 0))) rest u e

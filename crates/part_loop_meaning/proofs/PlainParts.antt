@@ -8,27 +8,28 @@ use Rattle.language_limits.specs.declared.TheConstants.{LONGEST_BLOCK}
 use Rattle.par_tree.specs.Tree
 use Rattle.par_tree.specs.Tree.{Name, Expr, Arg, lend, call_stmt, integer, Param, Func}
 use Rattle.par_tree.specs.Names.{param_names}
-use Rattle.par_ownership.specs.Environment.{Environment}
+use Rattle.par_ownership.specs.Environment.{Environment, with_entry, param_entry}
 use Rattle.par_ownership.specs.Ownership.{Passes, function_of, hands_back}
 use Rattle.depth_first_run.specs.Stores.{Store, block_of, with_integer}
 use Rattle.depth_first_run.specs.States.{Setting, State, Item, with_fault}
-use Rattle.depth_first_run.specs.Run.{on_store, lines_of, first_fault, open_call, run}
+use Rattle.depth_first_run.specs.Run.{on_store, open_call, run}
 use Rattle.run_outcomes.specs.Outcomes.{added, KeepsLimits}
 use Rattle.ownership_laws.proofs.Passing.{function_owned}
 use Rattle.loop_meaning.specs.HelperTrees.{integer_param, further_names, block_name, parts_helper}
 use Rattle.loop_meaning.specs.PlainLoop.{numbers_of, MeansTheSame}
 use Rattle.loop_meaning.proofs.Faulting.{Tells, tells_trans, unless_faulted_tells, call_told}
-use Rattle.loop_meaning.proofs.Readings.{ReadTheSame, read_faults, longer, limits_split, faulted_is}
-use Rattle.loop_meaning.proofs.Arguments.{HaveNumbers, expressions_have, AllDiffer}
+use Rattle.loop_meaning.proofs.Readings.{ReadTheSame, longer, limits_split}
+use Rattle.loop_meaning.proofs.Arguments.{HaveNumbers, expressions_have, AllDiffer, integers_differ}
 use Rattle.loop_meaning.proofs.Bodies.{skipped_none, skipped_all}
 use Rattle.loop_meaning.proofs.Loops.{after}
-use Rattle.loop_meaning.proofs.Halving.{read_at, further_length}
+use Rattle.loop_meaning.proofs.TwoRuns.{both_faulted, read_at, one_meaning, means_at}
+use Rattle.loop_meaning.proofs.Halving.{further_length}
 use Rattle.loop_meaning.proofs.Plain.{length_numbers}
 use Rattle.part_loop_meaning.specs.Parts.{parts_of}
 use Rattle.part_loop_meaning.specs.PartsLoop.{hold_again, sum_calls_on, parts_loop_with, plain_parts_loop, written_out_on}
 use Rattle.part_loop_meaning.specs.Laws.{PartsLoopsArePlain}
 use Rattle.part_loop_meaning.proofs.Cutting.{first_part}
-use Rattle.part_loop_meaning.proofs.Blocks.{NoOther, one_held, again_twice, block_passed, call_opens_on, fault_called_on, integers_differ}
+use Rattle.part_loop_meaning.proofs.Blocks.{NoOther, one_held, again_twice, block_passed, call_opens_on, fault_called_on}
 use Rattle.part_loop_meaning.proofs.Through.{Reached, finish, on_store_told, through, sum_through, through_told}
 use Rattle.part_loop_meaning.proofs.HalvedBlocks.{loop_of_parts}
 
@@ -36,20 +37,6 @@ use Rattle.part_loop_meaning.proofs.HalvedBlocks.{loop_of_parts}
 first_param : (env : Environment) (b : Name) (args : List Arg) (ps : List Param) → Passes env [] ps (lend b ∷ args) → (q : Param) × (qs : List Param) × (ps ≡ q ∷ qs)
 first_param env b args [] h = absurd h
 first_param env b args (q ∷ qs) h = (q, qs, refl)
-
-same_way : (s t u v : State) → t ≡ v → u ≡ v → MeansTheSame s t u
-same_way s t u v p q =
-    let e : t ≡ u = p ∙ sym q in
-    record {
-      lines = ap (λ (z : State). lines_of (added s z)) e;
-      fault = ap (λ (z : State). first_fault (added s z)) e;
-      faulted = ap (λ (z : State). z.faulted) e;
-      store = λ z. ap (λ (w : State). w.store) e;
-    }
-
-means_at : (s t u t' u' : State) → t ≡ t' → u ≡ u' → MeansTheSame s t' u' → MeansTheSame s t u
-means_at s t u t' u' p q m =
-    subst (λ (z : State). MeansTheSame s z u) (sym p) (subst (λ (z : State). MeansTheSame s t' z) (sym q) m)
 
 -- the end of the loop leaves no item
 finish_items : (b : Name) (r : Reached) → ((finish b r).items ≡ r.state.items) × ((finish b r).faulted ≡ r.state.faulted)
@@ -89,7 +76,7 @@ module _ (c : Setting) (sum f : Name) (most k helper_line line : ℕ) (x b : Nam
   fault_means : (kind : FaultKind) → numbers_of s.store cs ≡ Err kind → MeansTheSame s written plain
   fault_means kind e =
       let many : length integer_params ≡ length cs = let a = length-map (further_names k) integer_param in let l = further_length k in omega (arith, a, l, as_many) in
-      same_way s written plain (with_fault kind line s)
+      one_meaning s written plain (with_fault kind line s)
       (fault_called_on c line (integer x) sum b cs helper (record { name = block_name; kind = Tree.lent }) integer_params kind s is_sum refl many e)
       (ap (λ r. parts_loop_with c line f most x b r s) e)
 
@@ -117,8 +104,8 @@ module _ (c : Setting) (sum f : Name) (most k helper_line line : ℕ) (x b : Nam
       let reading : ReadTheSame (added s u) (added s w) =
       read_at (added s u) (added s u) (added s w) (added s r.state) refl (ap (λ (is : List Item). drop (length s.items) is) ends.0) same.reading in
       let faults : u.faulted ≡ w.faulted =
-      faulted_is s u (call_told c line (integer x) (lend b ∷ map Tree.value cs) helper (block_passed b items block_name (param_names integer_params) vs s.store) s) sf
-      ∙ read_faults (added s u) (added s w) reading ∙ sym (faulted_is s w (tells_trans s r.state w told_r told_end) sf) in
+      both_faulted s s u w (call_told c line (integer x) (lend b ∷ map Tree.value cs) helper (block_passed b items block_name (param_names integer_params) vs s.store) s)
+      (tells_trans s r.state w told_r told_end) sf sf reading in
       record {
         lines = reading.lines;
         fault = reading.fault;
@@ -154,5 +141,5 @@ parts_loops c sum f most k helper_line own is big line x b cs s as_many sf one s
     let lends = first_param _ block_name _ called.0.params called.3 in
     let longest : LONGEST_BLOCK ≡ 1048576 = refl in
     loop_means c sum f most k helper_line line x b called.0 lends.0 lends.1 called.1 lends.2 (not-true (hands_back called.0.ret) called.2) is big
-    (integers_differ helper_line (record { name = block_name; kind = Tree.lent }) (further_names k) owns.0 owns.1)
+    (integers_differ helper_line (further_names k) (with_entry [] (param_entry (record { name = block_name; kind = Tree.lent }) helper_line)) owns.0 owns.1.1)
     cs as_many s sf (one_held b s.store one) (omega (arith, short, longest)) ku kw

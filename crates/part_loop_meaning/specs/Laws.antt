@@ -33,7 +33,8 @@ abbrev pub PartsAreShort : Type 0
 PartsAreShort = (most : ℕ) (items : List ℤ) → 16 ≤ most → All (λ (part : List ℤ). length part ≤ most) (parts_of most items)
 
 -- In a program that keeps the rules of ownership, where `sum` is the helper of a loop over parts that calls f: the call by
--- which the loop is written out means the plain loop, where one block of the name is held, unless one of both meets a limit.
+-- which the loop is written out means the plain loop, where one block of the name is held, unless one of the two meets a
+-- limit.
 abbrev pub PartsLoopsArePlain : Type 0
 PartsLoopsArePlain =
     (c : Setting) (sum f : Name) (most k helper_line : ℕ) → Ownership c.program → function_of c.program sum ≡ Some (parts_helper sum f most k helper_line)

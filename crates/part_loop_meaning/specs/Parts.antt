@@ -1,10 +1,11 @@
 -- The parts into which a block is cut.
 use Rattle.std.specs.Prelude.{ℕ, zero, suc, ◌+◌, ◌*◌, ◌/◌, nat_le, if◌then◌else◌, List, [], ◌∷◌, ◌++◌, length, take, drop, ℤ}
 
--- half of so many words, in whole pieces of 16
+-- half of so many words, rounded up to a multiple of 16
 abbrev pub half_of : ℕ → ℕ
 half_of n = (n / 2 + 15) / 16 * 16
 
+-- the two halves of a block
 abbrev pub left_half : List ℤ → List ℤ
 left_half items = take (half_of (length items)) items
 
@@ -12,13 +13,13 @@ abbrev pub right_half : List ℤ → List ℤ
 right_half items = drop (half_of (length items)) items
 
 -- A block of at most so many words is its one part; the parts of a longer one are those of its left half, and then those
--- of its right half. It is cut in as many rounds at most.
-unfoldable pub parts_within : (rounds most : ℕ) → List ℤ → List (List ℤ)
+-- of its right half. No more than so many cuts are made one within another.
+unfoldable pub parts_within : (cuts most : ℕ) → List ℤ → List (List ℤ)
 parts_within zero most items = items ∷ []
-parts_within (suc rounds) most items =
-    if nat_le (length items) most then items ∷ [] else parts_within rounds most (left_half items) ++ parts_within rounds most (right_half items)
+parts_within (suc cuts) most items =
+    if nat_le (length items) most then items ∷ [] else parts_within cuts most (left_half items) ++ parts_within cuts most (right_half items)
 
--- the parts of a block: there are never more rounds than it has words
+-- the parts of a block: never more cuts are made one within another than it has words
 abbrev pub parts_of : (most : ℕ) → List ℤ → List (List ℤ)
 parts_of most items = parts_within (length items) most items
 

@@ -22,8 +22,8 @@ call_on c line f x b vs part s = exec c (run c) line (call_stmt (integer x) f (l
 abbrev pub add_call_on : Setting → ℕ → (f x b : Name) → List ℤ → (part : List ℤ) → State → State
 add_call_on c line f x b vs part s = unless_faulted (add_to x (s.store.integers x)) (call_on c line f x b vs part s)
 
--- what comes behind a call on a part: it is told what the parts so far have become, those before the call and the one that
--- the block b now holds
+-- what comes behind a call on a part, by what the parts up to this one have become: those before it, and the one that the
+-- block b now holds
 abbrev pub behind_part : Name → (before : List ℤ) → (List ℤ → State → State) → State → State
 behind_part b before others s = others (before ++ block_of s.store.blocks b) s
 
@@ -40,13 +40,13 @@ sum_calls_on c line f x b vs [] s = set_integer x (pos 0) s
 sum_calls_on c line f x b vs (part ∷ parts) s =
     unless_faulted (behind_part b [] (add_calls_on c line f x b vs parts)) (call_on c line f x b vs part s)
 
--- the loop whose further numbers are known; and the loop with the line of its statement: x becomes the sum of the answers
--- of f on the parts of at most so many words of the block b, with further numbers, whose expressions are evaluated before
--- the first call
+-- the loop over the parts of at most so many words of the block b, with further numbers or the fault of their expressions
 abbrev pub parts_loop_with : Setting → ℕ → (f : Name) → (most : ℕ) → (x b : Name) → Result (List ℤ) FaultKind → State → State
 parts_loop_with c line f most x b (Ok vs) s = sum_calls_on c line f x b vs (parts_of most (block_of s.store.blocks b)) s
 parts_loop_with c line f most x b (Err kind) s = with_fault kind line s
 
+-- The loop with the line of its statement: x becomes the sum of the answers of f on the parts of at most so many words of
+-- the block b, with the further numbers cs, which are evaluated before the first call.
 abbrev pub plain_parts_loop : Setting → ℕ → (f : Name) → (most : ℕ) → (x b : Name) → List Expr → State → State
 plain_parts_loop c line f most x b cs s = parts_loop_with c line f most x b (numbers_of s.store cs) s
 
