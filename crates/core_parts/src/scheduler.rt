@@ -1,4 +1,5 @@
 use block_arena::Pool;
+use boxed::Boxed;
 use deque_list::List;
 use period_table::PeriodTable;
 use space_ledger::Moves;
@@ -9,9 +10,11 @@ use thread_map::ThreadMap;
 #[derive(Drop)]
 pub struct Scheduler {
     /// The deques, with the threads that are ready or run.
-    pub list: List<Thread>,
+    pub list: List<Boxed<Thread>>,
     /// The threads that wait, each under the id of the child that it waits for.
-    pub waiting: ThreadMap<Thread>,
+    pub waiting: ThreadMap<Boxed<Thread>>,
+    /// A place for the thread that is forked next, where there is one. What is in it is of no account.
+    pub place: Option<Boxed<Thread>>,
     /// The results of ended threads that are not joined, each under the id of its thread.
     pub results: ThreadMap<Ended>,
     /// The periods.

@@ -8,6 +8,7 @@ ghost use Rattle.core_parts.specs.Moments.{terms_of};
 ghost use Rattle.dfd_core.specs.Begun.{IsBegun, deques_with, given_terms};
 
 use block_arena::Pool;
+use boxed::Boxed;
 use core_parts::Scheduler;
 use deque_list::List;
 use language_limits::MOST_DEQUES;
@@ -19,7 +20,11 @@ use thread_frames::Thread;
 use thread_map::ThreadMap;
 
 /// The root in a deque without an owner.
-fn list_with(alloc: Global, root: Thread, most: u32) -> Result<List<Thread>, AllocError>
+fn list_with(
+    alloc: Global,
+    root: Boxed<Thread>,
+    most: u32,
+) -> Result<List<Boxed<Thread>>, AllocError>
     requires { (1 ≤ most) × (most ≤ MOST_DEQUES) }
     ensures deques { IfOk result (λ list. list.deques ≡ deques_with root) }
     ensures most { IfOk result (λ list. list.most ≡ most) }
@@ -43,12 +48,14 @@ pub(crate) fn scheduler_of(
     ensures begun { IfOk result (λ scheduler. (root : AnyThread) × IsBegun (code_shown code.now) (held scheduler) root) }
     ensures terms { (limit : ℕ) → IfOk result (λ scheduler. terms_of scheduler limit ≡ given_terms workers pool.capacity limit most) }
 {
-    let root = Thread::root(alloc, code)?;
+    let thread = Thread::root(alloc, code)?;
+    let root = Boxed::new(alloc, thread)?;
     let list = list_with(alloc, root, most)?;
     let table = PeriodTable::new(alloc, workers)?;
     Ok(Scheduler {
         list,
         waiting: ThreadMap::new(alloc),
+        place: None,
         results: ThreadMap::new(alloc),
         table,
         pool,

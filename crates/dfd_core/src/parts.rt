@@ -10,6 +10,7 @@ ghost use Rattle.dfd_core.specs.Parts.{AreAllIdle, IsFresh, IsOfWholeRun, IsRoot
 use crate::run::Core;
 use crate::run_end::RunEnd;
 use block_arena::Pool;
+use boxed::Boxed;
 use dag_order::ThreadId;
 use deque_list::{DequeId, Lane, Order};
 use dummy_tree::Quota;
@@ -46,7 +47,7 @@ pub struct CoreParts {
     /// This deque.
     pub first: DequeId,
     /// Its lane, with the root alone.
-    pub lane: Lane<Thread>,
+    pub lane: Lane<Boxed<Thread>>,
     pub pool: Pool,
 }
 

@@ -29,6 +29,7 @@ use crate::ends::{end_told, end_without_memory};
 use crate::events::event_of;
 use crate::run_end::{OutputFail, RunEnd, Stepped};
 use block_arena::Pool;
+use boxed::Boxed;
 use core_parts::{Event, Scheduler};
 use dag_order::{Lines, ThreadId};
 use deque_list::{DequeId, List};
@@ -199,7 +200,7 @@ impl Core {
         ensures end { end_of self.new ≡ end_behind_give_up result (end_of self.old) }
         ensures setting { SameSetting self.old self.new }
     {
-        match give_up_deque(&mut self.scheduler, worker as usize) {
+        match give_up_deque(&mut self.scheduler, self.alloc, worker as usize) {
             Ok(deque) => Ok(deque),
             Err(error) => {
                 self.end = Some(end_without_memory(self.end));
@@ -341,7 +342,7 @@ impl Core {
     }
 
     /// The deques, with the threads that are ready or run.
-    pub fn list(&self) -> &List<Thread>
+    pub fn list(&self) -> &List<Boxed<Thread>>
         ensures { result.now ≡ self.now.scheduler.list }
     {
         &self.scheduler.list

@@ -156,6 +156,7 @@ before_later t k limit s worker id top child b missing results now come =
           table = b.can.memory.table;
           moves = b.can.memory.moves;
           waiting = b.can.memory.waiting;
+          place = b.can.memory.place;
           results = let some = b.can.memory.results in let room = come.room in omega (arith, some, room);
         };
         sum = b.can.sum;

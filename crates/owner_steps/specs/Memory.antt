@@ -1,5 +1,5 @@
 -- What is asked for before an event, and what an action of a top thread needs.
-use Rattle.std.specs.Prelude.{◌≡◌, ◌≤◌, ◌<◌, ◌+◌, ℕ, Some, None, List, pos, IsTrue}
+use Rattle.std.specs.Prelude.{◌≡◌, ◌≤◌, ◌<◌, ◌+◌, ℕ, Some, None, List, pos, IsTrue, IsSome}
 use Rattle.deque_list.specs.declared.deque_id.DequeId.{DequeId}
 use Rattle.deque_list.specs.DequeLists.{lane_room}
 use Rattle.depth_first_list.specs.Actions.{record_words}
@@ -19,13 +19,14 @@ use Rattle.deque_events.specs.Shown.{Stands}
 use Rattle.core_parts.specs.declared.scheduler.Scheduler.{Scheduler}
 
 -- the memory that an event of a worker may take: room for so many threads in its lane, for an action and a birth in its period and for
--- closing it, for a move, for a waiting thread and for a result
+-- closing it, for a move, for a waiting thread and for a result, and a place for a child
 pub record HasMemory (threads : ℕ) (s : Scheduler) (worker : ℕ) (id : DequeId) : Type 0 where
   pub lane : threads ≤ lane_room s.list id
   pub table : HasRoom s.table worker
   pub moves : 1 ≤ moves_spare s.moves
   pub waiting : 1 ≤ s.waiting.spare
   pub results : 1 ≤ s.results.spare
+  pub place : IsSome s.place
 
 -- A thread that was taken from the top of a worker's deque may do its next action: this is `next`, it is at its point, there is memory for
 -- two threads more in the lane, and its count of actions is not at its end.

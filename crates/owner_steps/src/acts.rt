@@ -10,22 +10,12 @@ ghost use Rattle.owner_steps.specs.Memory.{CanAct, MayAct};
 ghost use Rattle.owner_steps.specs.Acts.{Acts, Performs, IsCharged, change, noted};
 
 use crate::ends::end;
+use boxed::Boxed;
 use core_parts::Scheduler;
 use dag_order::{ActionId, FaultAt, ThreadId};
 use deque_list::DequeId;
 use space_ledger::{Moved, Moves};
 use thread_frames::{Next, Thread};
-
-/// The name of the next action of a thread.
-fn name_of(thread: &Thread) -> ActionId
-    ensures by { result.by ≡ thread.now.id }
-    ensures index { result.index ≡ done_of thread.now }
-{
-    ActionId {
-        by: thread.id(),
-        index: thread.done(),
-    }
-}
 
 /// Counts an action, and notes by how much it changed the words that are out, where it is a move.
 fn count(moves: &mut Moves, done: &mut u32, name: ActionId, before: u64, after: u64, is_move: bool)
@@ -52,7 +42,7 @@ pub(crate) fn act(
     scheduler: &mut Scheduler,
     worker: usize,
     deque: DequeId,
-    top: Thread,
+    top: Boxed<Thread>,
     next: Next,
     charge: u32,
 ) -> ActionId
@@ -61,7 +51,7 @@ pub(crate) fn act(
     requires may { MayAct charge scheduler.old worker top next }
     ensures { Acts next (IsCharged charge next) worker deque top scheduler.old scheduler.new result }
 {
-    let name = name_of(&top);
+    let name = thread_events::name_of(&top);
     let before = scheduler.pool.live();
     let is_move = perform(scheduler, worker, deque, top, next, charge);
     let after = scheduler.pool.live();
@@ -81,7 +71,7 @@ fn perform(
     scheduler: &mut Scheduler,
     worker: usize,
     deque: DequeId,
-    top: Thread,
+    top: Boxed<Thread>,
     next: Next,
     charge: u32,
 ) -> bool
@@ -105,7 +95,7 @@ fn allocate(
     scheduler: &mut Scheduler,
     worker: usize,
     deque: DequeId,
-    top: Thread,
+    top: Boxed<Thread>,
     words: u32,
     charge: u32,
 ) -> bool
@@ -128,11 +118,14 @@ fn allocate(
 }
 
 /// Does a Fork.
-fn fork(scheduler: &mut Scheduler, worker: usize, deque: DequeId, top: Thread) -> bool
+fn fork(scheduler: &mut Scheduler, worker: usize, deque: DequeId, top: Boxed<Thread>) -> bool
     requires can { CanAct scheduler.old worker deque top nexts.Fork }
     requires may { MayAct 0 scheduler.old worker top nexts.Fork }
     ensures { Performs nexts.Fork ForkFits worker deque top scheduler.old scheduler.new result }
 {
+    let Some(place) = scheduler.place.take() else {
+        unreachable!();
+    };
     let Ok(()) = thread_events::fork(
         &mut scheduler.list,
         &mut scheduler.table,
@@ -140,6 +133,7 @@ fn fork(scheduler: &mut Scheduler, worker: usize, deque: DequeId, top: Thread) -
         worker,
         deque,
         top,
+        place,
     ) else {
         unreachable!();
     };
@@ -151,7 +145,7 @@ fn release(
     scheduler: &mut Scheduler,
     worker: usize,
     deque: DequeId,
-    top: Thread,
+    top: Boxed<Thread>,
     words: u32,
 ) -> bool
     requires can { CanAct scheduler.old worker deque top (nexts.Release words) }
@@ -170,7 +164,13 @@ fn release(
 }
 
 /// Does a fault.
-fn fault(scheduler: &mut Scheduler, worker: usize, deque: DequeId, top: Thread, at: FaultAt) -> bool
+fn fault(
+    scheduler: &mut Scheduler,
+    worker: usize,
+    deque: DequeId,
+    top: Boxed<Thread>,
+    at: FaultAt,
+) -> bool
     requires can { CanAct scheduler.old worker deque top (nexts.Fault at) }
     requires may { MayAct 0 scheduler.old worker top (nexts.Fault at) }
     ensures { Performs (nexts.Fault at) Always worker deque top scheduler.old scheduler.new result }
@@ -187,7 +187,7 @@ fn fault(scheduler: &mut Scheduler, worker: usize, deque: DequeId, top: Thread, 
 }
 
 /// Does a Dummy, with which the worker leaves its deque.
-fn dummy(scheduler: &mut Scheduler, worker: usize, deque: DequeId, top: Thread) -> bool
+fn dummy(scheduler: &mut Scheduler, worker: usize, deque: DequeId, top: Boxed<Thread>) -> bool
     requires can { CanAct scheduler.old worker deque top nexts.Dummy }
     ensures { Performs nexts.Dummy Always worker deque top scheduler.old scheduler.new result }
 {
@@ -206,7 +206,7 @@ fn join(
     scheduler: &mut Scheduler,
     worker: usize,
     deque: DequeId,
-    top: Thread,
+    top: Boxed<Thread>,
     child: ThreadId,
 ) -> bool
     requires can { CanAct scheduler.old worker deque top (nexts.Join child) }

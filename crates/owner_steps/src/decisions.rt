@@ -8,6 +8,7 @@ ghost use Rattle.quota_period.specs.Charges.{IsCharge};
 ghost use Rattle.owner_steps.specs.Decisions.{Decides, DecidesByChild, UsesQuota};
 
 use block_arena::PIECE_WORDS;
+use boxed::Boxed;
 use core_parts::Scheduler;
 use dag_order::ThreadId;
 use dummy_tree::Quota;
@@ -30,7 +31,7 @@ pub(crate) enum Decision {
 pub(crate) fn decide(
     scheduler: &Scheduler,
     worker: usize,
-    top: &Thread,
+    top: &Boxed<Thread>,
     next: Next,
     k: Quota,
 ) -> Decision
@@ -70,10 +71,10 @@ fn by_quota(table: &PeriodTable, worker: usize, words: u32, k: Quota) -> Decisio
 }
 
 /// The Join of a child: it is done where the result of the child is there.
-fn by_child(scheduler: &Scheduler, top: &Thread, child: ThreadId) -> Decision
+fn by_child(scheduler: &Scheduler, top: &Boxed<Thread>, child: ThreadId) -> Decision
     ensures { DecidesByChild scheduler.now.results top.now child result }
 {
-    if top.delivered(child) {
+    if top.get().delivered(child) {
         return Decision::Act { charge: 0 };
     }
     if scheduler.results.has(child) {

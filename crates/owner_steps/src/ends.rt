@@ -9,6 +9,7 @@ ghost use Rattle.owner_steps.specs.Memory.{CanAct, MayAct};
 ghost use Rattle.owner_steps.specs.Acts.{Performs};
 ghost use Rattle.owner_steps.specs.Ends.{LeavesBy};
 
+use boxed::Boxed;
 use core_parts::Scheduler;
 use dag_order::Placed;
 use deque_list::DequeId;
@@ -16,20 +17,25 @@ use thread_frames::{Ended, Thread};
 
 /// Does the End of a thread, which is a move where the thread has a record block. Its result is kept for its Join. Its parent runs next where
 /// it stands directly below, or where it waits for this child; else the worker leaves.
-pub(crate) fn end(scheduler: &mut Scheduler, worker: usize, deque: DequeId, top: Thread) -> bool
+pub(crate) fn end(
+    scheduler: &mut Scheduler,
+    worker: usize,
+    deque: DequeId,
+    top: Boxed<Thread>,
+) -> bool
     requires can { CanAct scheduler.old worker deque top nexts.End }
     requires may { MayAct 0 scheduler.old worker top nexts.End }
     ensures { Performs nexts.End Always worker deque top scheduler.old scheduler.new result }
 {
-    let id = top.id();
-    let is_forked = !top.label().is_empty();
+    let id = top.get().id();
+    let is_forked = !top.get().label().is_empty();
     let ended = leave(scheduler, worker, deque, top);
     scheduler.results.put(id, ended);
     is_forked
 }
 
 /// The thread leaves its place; the answer is its result.
-fn leave(scheduler: &mut Scheduler, worker: usize, deque: DequeId, top: Thread) -> Ended
+fn leave(scheduler: &mut Scheduler, worker: usize, deque: DequeId, top: Boxed<Thread>) -> Ended
     requires can { CanAct scheduler.old worker deque top nexts.End }
     requires gives { words_at_end (label_of top) ≤ scheduler.old.pool.live }
     ensures { LeavesBy worker deque top scheduler.old scheduler.new result }
@@ -44,7 +50,7 @@ fn leave(scheduler: &mut Scheduler, worker: usize, deque: DequeId, top: Thread) 
             top,
         );
     }
-    match scheduler.waiting.take(top.id()) {
+    match scheduler.waiting.take(top.get().id()) {
         Some(parent) => thread_events::end_and_wake(
             &mut scheduler.list,
             &mut scheduler.table,

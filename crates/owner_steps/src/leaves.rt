@@ -20,10 +20,11 @@ ghost use Rattle.owner_steps.specs.Leaves.{LeavesDeque, LeavesList};
 ghost use Rattle.owner_steps.specs.Steps.{GivesUpOrStays};
 
 use crate::tops::take_top;
+use boxed::Boxed;
 use core_parts::{Event, Scheduler};
 use dag_order::ThreadId;
 use deque_list::DequeId;
-use std::alloc::AllocError;
+use std::alloc::{AllocError, Global};
 use thread_frames::Thread;
 
 /// A worker gives its deque up: the top thread goes back, the deque stays without an owner, and the period ends.
@@ -31,7 +32,7 @@ pub(crate) fn give_up(
     scheduler: &mut Scheduler,
     worker: usize,
     deque: DequeId,
-    top: Thread,
+    top: Boxed<Thread>,
 ) -> Event
     requires stands { (items : AnyList Thread) × Stands scheduler.old.list worker deque items }
     requires memory { HasMemory 2 scheduler.old worker deque }
@@ -54,7 +55,7 @@ pub(crate) fn suspend(
     scheduler: &mut Scheduler,
     worker: usize,
     deque: DequeId,
-    top: Thread,
+    top: Boxed<Thread>,
     child: ThreadId,
 ) -> Event
     requires stands { Stands scheduler.old.list worker deque [] }
@@ -64,7 +65,7 @@ pub(crate) fn suspend(
     ensures leaves { LeavesList worker deque top child scheduler.old scheduler.new }
     ensures told { result ≡ events.Suspended top.id }
 {
-    let id = top.id();
+    let id = top.get().id();
     deque_events::suspend(&mut scheduler.list, &mut scheduler.table, worker, deque);
     scheduler.waiting.put(child, top);
     Event::Suspended(id)
@@ -75,7 +76,11 @@ pub(crate) fn suspend(
 /// # Errors
 ///
 /// There is not enough memory; then all stands where it stood.
-pub fn give_up_deque(scheduler: &mut Scheduler, worker: usize) -> Result<DequeId, AllocError>
+pub fn give_up_deque(
+    scheduler: &mut Scheduler,
+    alloc: Global,
+    worker: usize,
+) -> Result<DequeId, AllocError>
     requires sound { (t : Table) × (k : ℕ) × (limit : ℕ) × IsSound t k (terms_of scheduler.old limit) (held scheduler.old) }
     requires owner { (id : DequeId) × (deque_at scheduler.old.table worker ≡ Some id) }
     ensures deque { IfOk result (λ id. deque_at scheduler.old.table worker ≡ Some id) }
@@ -88,7 +93,7 @@ pub fn give_up_deque(scheduler: &mut Scheduler, worker: usize) -> Result<DequeId
         → GivesUpOrStays c (terms_of scheduler.old limit) (held scheduler.new) worker run m result }
     ensures terms { SameTerms scheduler.old scheduler.new }
 {
-    let (deque, top) = take_top(scheduler, worker)?;
+    let (deque, top) = take_top(scheduler, alloc, worker)?;
     give_up(scheduler, worker, deque, top);
     Ok(deque)
 }

@@ -29,6 +29,7 @@ use crate::refusals::test_action;
 use crate::results::take_result;
 use crate::tops::{put_back, take_top};
 use block_arena::{PIECE_WORDS, Pool};
+use boxed::Boxed;
 use core_parts::{Event, Scheduler, Stop};
 use deque_list::DequeId;
 use dummy_tree::Quota;
@@ -54,7 +55,7 @@ fn act_or_stop(
     limit: u32,
     worker: usize,
     deque: DequeId,
-    top: Thread,
+    top: Boxed<Thread>,
     next: Next,
     charge: u32,
 ) -> Result<Event, Stop>
@@ -80,7 +81,7 @@ fn go_on(
     limit: u32,
     worker: usize,
     deque: DequeId,
-    top: Thread,
+    top: Boxed<Thread>,
     next: Next,
 ) -> Result<Event, Stop>
     requires ready { (t : Table) × IsBeforeAction t (quota_words k) limit scheduler.old worker deque top next }
@@ -102,7 +103,7 @@ fn go_on(
 ///
 /// There is not enough memory, or its count of actions is at its end.
 fn advance(
-    top: &mut Thread,
+    top: &mut Boxed<Thread>,
     pool: &Pool,
     alloc: Global,
     code: &Code,
@@ -120,10 +121,10 @@ fn advance(
 {
     // A pool says that no more words are out than it may have.
     let _live = pool.live();
-    if top.done() == u32::MAX {
+    if top.get().done() == u32::MAX {
         return Err(AllocError);
     }
-    top.advance(alloc, code, k)
+    top.get_mut().advance(alloc, code, k)
 }
 
 /// The step of a worker that owns a deque: its top thread does its next action, or waits, or the worker gives the deque up.
@@ -150,7 +151,7 @@ pub fn step_of_owner(
         → StepsTo c (terms_of scheduler.old limit) (held scheduler.new) worker word run m result }
     ensures terms { SameTerms scheduler.old scheduler.new }
 {
-    let Ok((deque, mut top)) = take_top(scheduler, worker) else {
+    let Ok((deque, mut top)) = take_top(scheduler, alloc, worker) else {
         return Err(Stop::OutOfMemory);
     };
     match advance(&mut top, &scheduler.pool, alloc, code, k) {

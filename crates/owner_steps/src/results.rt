@@ -6,29 +6,30 @@ ghost use Rattle.thread_frames.specs.Views.{children_of};
 ghost use Rattle.thread_frames.specs.declared.next.Next.TheVariants as nexts;
 ghost use Rattle.owner_steps.specs.Results.{IsToCome, HasCome, TakesResult};
 
+use boxed::Boxed;
 use dag_order::ThreadId;
 use thread_frames::{Ended, Next, Thread};
 use thread_map::ThreadMap;
 
 /// The kept result of a child comes to the thread that joins it.
-fn hand_over(results: &mut ThreadMap<Ended>, top: &mut Thread, child: ThreadId)
+fn hand_over(results: &mut ThreadMap<Ended>, top: &mut Boxed<Thread>, child: ThreadId)
     requires { IsToCome results.old top.old child }
     ensures { HasCome results.old results.new top.old top.new child }
 {
     let Some(ended) = results.take(child) else {
         unreachable!();
     };
-    top.deliver(ended);
+    top.get_mut().deliver(ended);
 }
 
 /// The result of the child that a thread joins comes to it, where it was not delivered; before other actions nothing comes.
-pub(crate) fn take_result(results: &mut ThreadMap<Ended>, top: &mut Thread, next: Next)
+pub(crate) fn take_result(results: &mut ThreadMap<Ended>, top: &mut Boxed<Thread>, next: Next)
     requires { (child : ThreadId) → next ≡ nexts.Join child → is_delivered child (children_of top.old) ≡ false
         → IsToCome results.old top.old child }
     ensures { TakesResult next results.old results.new top.old top.new }
 {
     if let Next::Join { child } = next {
-        if !top.delivered(child) {
+        if !top.get().delivered(child) {
             hand_over(results, top, child);
         }
     }

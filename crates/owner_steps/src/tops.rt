@@ -1,6 +1,6 @@
 //! The top thread of a worker's deque is taken out for an event, and put back.
 
-ghost use Rattle.std.specs.Prelude.{◌≡◌, ◌≤◌, ◌∷◌, ℕ, List as AnyList, Some, OnOk, IfOk, OnErr};
+ghost use Rattle.std.specs.Prelude.{◌≡◌, ◌≤◌, ◌∷◌, ℕ, List as AnyList, Some, OnOk, IfOk, OnErr, IsSome};
 ghost use Rattle.deque_list.specs.DequeLists.{lane_room};
 ghost use Rattle.deque_list.specs.Deques.{deque_ids};
 ghost use Rattle.deque_list.specs.Ids.{IsLive};
@@ -13,17 +13,38 @@ ghost use Rattle.core_parts.specs.Moments.{IsSound, SameTerms, terms_of};
 ghost use Rattle.owner_steps.specs.Memory.{HasMemory};
 ghost use Rattle.owner_steps.specs.Tops.{TakesTop};
 
+use boxed::Boxed;
 use core_parts::Scheduler;
 use deque_list::DequeId;
-use std::alloc::AllocError;
+use std::alloc::{AllocError, Global};
 use thread_frames::Thread;
+
+/// Makes a place for the thread that is forked next, where there is none.
+///
+/// # Errors
+///
+/// There is not enough memory.
+fn reserve_place(place: &mut Option<Boxed<Thread>>, alloc: Global) -> Result<(), AllocError>
+    ensures { OnOk result (IsSome place.new) }
+{
+    if place.is_none() {
+        let blank = Thread::blank(alloc)?;
+        *place = Some(Boxed::new(alloc, blank)?);
+    }
+    Ok(())
+}
 
 /// Takes the memory that an event of a worker with this deque may need.
 ///
 /// # Errors
 ///
 /// There is not enough memory. Only memory has changed.
-fn reserve(scheduler: &mut Scheduler, worker: usize, deque: DequeId) -> Result<(), AllocError>
+fn reserve(
+    scheduler: &mut Scheduler,
+    alloc: Global,
+    worker: usize,
+    deque: DequeId,
+) -> Result<(), AllocError>
     requires live { IsLive (deque_ids scheduler.old.list.deques) deque }
     requires period { (p : AnyPeriod) × (period_at scheduler.old.table worker ≡ Some p) }
     ensures same { IsReordered (held scheduler.old) (held scheduler.new) }
@@ -35,7 +56,8 @@ fn reserve(scheduler: &mut Scheduler, worker: usize, deque: DequeId) -> Result<(
     scheduler.table.reserve(worker)?;
     scheduler.moves.reserve()?;
     scheduler.waiting.reserve()?;
-    scheduler.results.reserve()
+    scheduler.results.reserve()?;
+    reserve_place(&mut scheduler.place, alloc)
 }
 
 /// Takes the memory that the event of a worker may need, and then the top thread out of its deque.
@@ -45,8 +67,9 @@ fn reserve(scheduler: &mut Scheduler, worker: usize, deque: DequeId) -> Result<(
 /// There is not enough memory. Only memory has changed.
 pub(crate) fn take_top(
     scheduler: &mut Scheduler,
+    alloc: Global,
     worker: usize,
-) -> Result<(DequeId, Thread), AllocError>
+) -> Result<(DequeId, Boxed<Thread>), AllocError>
     requires sound { (t : Table) × (k : ℕ) × (limit : ℕ) × IsSound t k (terms_of scheduler.old limit) (held scheduler.old) }
     requires owner { (id : DequeId) × (deque_at scheduler.old.table worker ≡ Some id) }
     ensures takes { IfOk result (λ taken. TakesTop worker taken.0 taken.1 scheduler.old scheduler.new) }
@@ -57,7 +80,7 @@ pub(crate) fn take_top(
         Some(seat) => seat.deque,
         None => unreachable!(),
     };
-    reserve(scheduler, worker, deque)?;
+    reserve(scheduler, alloc, worker, deque)?;
     let Some(top) = scheduler.list.pop_top(deque) else {
         unreachable!();
     };
@@ -65,7 +88,7 @@ pub(crate) fn take_top(
 }
 
 /// A thread that was taken out goes back on top of its deque.
-pub(crate) fn put_back(scheduler: &mut Scheduler, worker: usize, deque: DequeId, top: Thread)
+pub(crate) fn put_back(scheduler: &mut Scheduler, worker: usize, deque: DequeId, top: Boxed<Thread>)
     requires stands { (items : AnyList Thread) × Stands scheduler.old.list worker deque items }
     requires room { 1 ≤ lane_room scheduler.old.list deque }
     ensures held { (items : AnyList Thread) (stands : Stands scheduler.old.list worker deque items)

@@ -113,7 +113,7 @@ fn labels_in(
         let lane = core.list().lane(id);
         for place in 0..lane.len() {
             if let Some(thread) = lane.item(place) {
-                labels.push(label_of(alloc, births, thread.id())?)?;
+                labels.push(label_of(alloc, births, thread.get().id())?)?;
             }
         }
     }

@@ -13,6 +13,7 @@ ghost use Rattle.prefix_laws.specs.DequeLabels.{AreLabelled, labels_in};
 
 use crate::labels::label_of;
 use crate::numbered::in_order;
+use boxed::Boxed;
 use dag_order::{Births, Label};
 use deque_list::{Lane, List};
 use dfd_core::Core;
@@ -23,7 +24,7 @@ use thread_frames::Thread;
 fn add_labels(
     alloc: Global,
     births: &[&Births],
-    lane: &Lane<Thread>,
+    lane: &Lane<Boxed<Thread>>,
     labels: &mut Vec<Label>,
 ) -> Result<(), AllocError>
     requires { AreLabelled (births_behind births.now) lane.now.items }
@@ -33,7 +34,7 @@ fn add_labels(
         let Some(thread) = lane.item(place) else {
             unreachable!();
         };
-        labels.push(label_of(alloc, births, thread.id())?)?;
+        labels.push(label_of(alloc, births, thread.get().id())?)?;
     }
     Ok(())
 }
@@ -42,7 +43,7 @@ fn add_labels(
 fn labels_in(
     alloc: Global,
     births: &[&Births],
-    list: &List<Thread>,
+    list: &List<Boxed<Thread>>,
 ) -> Result<Vec<Label>, AllocError>
     requires { Each (λ deque. AreLabelled (births_behind births.now) deque.items) list.now.deques }
     ensures { IfOk result (λ labels. labels.items ≡ labels_in list.now.deques) }

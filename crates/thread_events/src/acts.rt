@@ -7,6 +7,7 @@ ghost use Rattle.thread_frames.specs.Actions.{IsAlloc, IsRelease, IsDummy, IsFau
 ghost use Rattle.thread_frames.specs.Points.{IsPlaced};
 ghost use Rattle.thread_frames.specs.Views.{children_of, next_of, words_asked, done_of, held_by, join_words_of, newest};
 ghost use Rattle.thread_frames.specs.declared.next.Next.TheVariants as nexts;
+ghost use Rattle.thread_frames.specs.declared.thread.Thread.{Thread as AnyThread};
 ghost use Rattle.dag_order.specs.declared.fault.FaultAt.{FaultAt};
 ghost use Rattle.dag_order.specs.declared.thread_id.ThreadId.{ThreadId};
 ghost use Rattle.deque_events.specs.Shown.{Stands};
@@ -14,6 +15,7 @@ ghost use Rattle.deque_events.specs.Seats.{KeepsSeats, LeavesSeat};
 ghost use Rattle.thread_events.specs.Acts.{ActsBy, AllocIsCharged, Always, GoesBack, GoesBackUnowned};
 
 use block_arena::Pool;
+use boxed::Boxed;
 use dag_order::ActionId;
 use deque_events::{put_back, put_back_and_give_up};
 use deque_list::{DequeId, List};
@@ -21,13 +23,13 @@ use period_table::PeriodTable;
 use thread_frames::{ArenaFull, Thread};
 
 /// The name of the next action of a thread.
-pub(crate) fn name_of(thread: &Thread) -> ActionId
-    ensures by { result.by ≡ thread.now.id }
+pub fn name_of(thread: &Boxed<Thread>) -> ActionId
+    ensures by { result.by ≡ AnyThread.id thread.now }
     ensures index { result.index ≡ done_of thread.now }
 {
     ActionId {
-        by: thread.id(),
-        index: thread.done(),
+        by: thread.get().id(),
+        index: thread.get().done(),
     }
 }
 
@@ -37,14 +39,14 @@ pub(crate) fn name_of(thread: &Thread) -> ActionId
 ///
 /// The thread comes back with [`ArenaFull`], exactly where its words do not fit beside those that are out. Nothing is changed.
 pub fn alloc(
-    list: &mut List<Thread>,
+    list: &mut List<Boxed<Thread>>,
     table: &mut PeriodTable,
     pool: &mut Pool,
     worker: usize,
     deque: DequeId,
-    top: Thread,
+    top: Boxed<Thread>,
     charge: u32,
-) -> Result<(), (Thread, ArenaFull)>
+) -> Result<(), (Boxed<Thread>, ArenaFull)>
     requires placed { IsPlaced top }
     requires next { IsAlloc (next_of top) }
     requires count { done_of top < 4294967295 }
@@ -65,7 +67,7 @@ pub fn alloc(
 {
     let name = name_of(&top);
     let mut top = top;
-    match top.do_alloc(pool) {
+    match top.get_mut().do_alloc(pool) {
         Ok(()) => {
             put_back(list, table, worker, deque, top, name, charge);
             Ok(())
@@ -76,12 +78,12 @@ pub fn alloc(
 
 /// Does a Release.
 pub fn release(
-    list: &mut List<Thread>,
+    list: &mut List<Boxed<Thread>>,
     table: &mut PeriodTable,
     pool: &mut Pool,
     worker: usize,
     deque: DequeId,
-    top: Thread,
+    top: Boxed<Thread>,
 )
     requires placed { IsPlaced top }
     requires next { IsRelease (next_of top) }
@@ -98,17 +100,17 @@ pub fn release(
 {
     let name = name_of(&top);
     let mut top = top;
-    top.do_release(pool);
+    top.get_mut().do_release(pool);
     put_back(list, table, worker, deque, top, name, 0);
 }
 
 /// Does a Dummy, with which the period ends: the deque stays without an owner.
 pub fn dummy(
-    list: &mut List<Thread>,
+    list: &mut List<Boxed<Thread>>,
     table: &mut PeriodTable,
     worker: usize,
     deque: DequeId,
-    top: Thread,
+    top: Boxed<Thread>,
 )
     requires placed { IsPlaced top }
     requires next { IsDummy (next_of top) }
@@ -123,18 +125,18 @@ pub fn dummy(
 {
     let name = name_of(&top);
     let mut top = top;
-    top.do_dummy();
+    top.get_mut().do_dummy();
     put_back_and_give_up(list, table, worker, deque, top, name);
 }
 
 /// Does a fault: all blocks of the thread go back but its record block.
 pub fn fault(
-    list: &mut List<Thread>,
+    list: &mut List<Boxed<Thread>>,
     table: &mut PeriodTable,
     pool: &mut Pool,
     worker: usize,
     deque: DequeId,
-    top: Thread,
+    top: Boxed<Thread>,
 )
     requires placed { IsPlaced top }
     requires next { IsFault (next_of top) }
@@ -151,18 +153,18 @@ pub fn fault(
 {
     let name = name_of(&top);
     let mut top = top;
-    top.do_fault(pool);
+    top.get_mut().do_fault(pool);
     put_back(list, table, worker, deque, top, name, 0);
 }
 
 /// Does the Join of the newest open child, whose result was delivered; the answer is the words that it gives back.
 pub fn join(
-    list: &mut List<Thread>,
+    list: &mut List<Boxed<Thread>>,
     table: &mut PeriodTable,
     pool: &mut Pool,
     worker: usize,
     deque: DequeId,
-    top: Thread,
+    top: Boxed<Thread>,
 ) -> u64
     requires placed { IsPlaced top }
     requires next { IsJoin (next_of top) }
@@ -181,7 +183,7 @@ pub fn join(
 {
     let name = name_of(&top);
     let mut top = top;
-    let words = top.do_join(pool);
+    let words = top.get_mut().do_join(pool);
     put_back(list, table, worker, deque, top, name, 0);
     words
 }

@@ -14,18 +14,19 @@ ghost use Rattle.thread_events.specs.Acts.{EndsAboveBy, EndsAndWakesBy, EndsAndL
 
 use crate::acts::name_of;
 use block_arena::Pool;
+use boxed::Boxed;
 use deque_list::{DequeId, List};
 use period_table::PeriodTable;
 use thread_frames::{Ended, Thread};
 
 /// Does the End of a thread whose parent stands directly below, and runs next in the same period.
 pub fn end_above(
-    list: &List<Thread>,
+    list: &List<Boxed<Thread>>,
     table: &mut PeriodTable,
     pool: &mut Pool,
     worker: usize,
     deque: DequeId,
-    top: Thread,
+    top: Boxed<Thread>,
 ) -> Ended
     requires placed { IsPlaced top }
     requires next { IsEnd (next_of top) }
@@ -41,20 +42,20 @@ pub fn end_above(
     ensures result { (t : Table) (k : ℕ) → IsAtPoint t k top → IsResult t k result }
 {
     let name = name_of(&top);
-    let ended = top.end(pool);
+    let ended = top.into_inner().end(pool);
     deque_events::end_above(list, table, worker, deque, name);
     ended
 }
 
 /// Does the End of a thread that is alone in its deque, and whose parent, which waited for it, takes its place.
 pub fn end_and_wake(
-    list: &mut List<Thread>,
+    list: &mut List<Boxed<Thread>>,
     table: &mut PeriodTable,
     pool: &mut Pool,
     worker: usize,
     deque: DequeId,
-    top: Thread,
-    parent: Thread,
+    top: Boxed<Thread>,
+    parent: Boxed<Thread>,
 ) -> Ended
     requires placed { IsPlaced top }
     requires next { IsEnd (next_of top) }
@@ -74,19 +75,19 @@ pub fn end_and_wake(
     ensures result { (t : Table) (k : ℕ) → IsAtPoint t k top → IsResult t k result }
 {
     let name = name_of(&top);
-    let ended = top.end(pool);
+    let ended = top.into_inner().end(pool);
     deque_events::end_and_wake(list, table, worker, deque, parent, name);
     ended
 }
 
 /// Does the End of a thread that is alone in its deque and for which nobody waits: the deque leaves the list, and the period ends.
 pub fn end_and_leave(
-    list: &mut List<Thread>,
+    list: &mut List<Boxed<Thread>>,
     table: &mut PeriodTable,
     pool: &mut Pool,
     worker: usize,
     deque: DequeId,
-    top: Thread,
+    top: Boxed<Thread>,
 ) -> Ended
     requires placed { IsPlaced top }
     requires next { IsEnd (next_of top) }
@@ -104,7 +105,7 @@ pub fn end_and_leave(
     ensures result { (t : Table) (k : ℕ) → IsAtPoint t k top → IsResult t k result }
 {
     let name = name_of(&top);
-    let ended = top.end(pool);
+    let ended = top.into_inner().end(pool);
     deque_events::end_and_leave(list, table, worker, deque, name);
     ended
 }

@@ -14,6 +14,7 @@ ghost use Rattle.thread_events.specs.Acts.{ActsBy, ForkFits, GoesBackWithChild};
 
 use crate::acts::name_of;
 use block_arena::Pool;
+use boxed::Boxed;
 use dag_order::ThreadId;
 use deque_events::put_both_back;
 use deque_list::{DequeId, List};
@@ -35,19 +36,20 @@ fn next_id(table: &PeriodTable, worker: usize) -> ThreadId
     }
 }
 
-/// Does a Fork: the child stands on top of its parent.
+/// Does a Fork: the child comes to a place on the heap, whatever was there, and stands on top of its parent.
 ///
 /// # Errors
 ///
 /// The thread comes back with [`ArenaFull`], exactly where a record block does not fit beside the words that are out. Nothing is changed.
 pub fn fork(
-    list: &mut List<Thread>,
+    list: &mut List<Boxed<Thread>>,
     table: &mut PeriodTable,
     pool: &mut Pool,
     worker: usize,
     deque: DequeId,
-    top: Thread,
-) -> Result<(), (Thread, ArenaFull)>
+    top: Boxed<Thread>,
+    place: Boxed<Thread>,
+) -> Result<(), (Boxed<Thread>, ArenaFull)>
     requires placed { IsPlaced top }
     requires next { IsFork (next_of top) }
     requires count { done_of top < 4294967295 }
@@ -67,11 +69,12 @@ pub fn fork(
     ensures pool { OnOk result (pool.new ≡ with_taken pool.old record_words) }
 {
     let name = name_of(&top);
-    let ordinal = top.forks() + 1;
+    let ordinal = top.get().forks() + 1;
     let id = next_id(table, worker);
     let mut top = top;
-    match top.do_fork(id, pool) {
+    match top.get_mut().do_fork(id, pool) {
         Ok(child) => {
+            let child = place.put(child);
             put_both_back(list, table, worker, deque, top, child, name, ordinal);
             Ok(())
         }

@@ -13,6 +13,6 @@ mod acts;
 mod ends;
 mod forks;
 
-pub use acts::{alloc, dummy, fault, join, release};
+pub use acts::{alloc, dummy, fault, join, name_of, release};
 pub use ends::{end_above, end_and_leave, end_and_wake};
 pub use forks::fork;

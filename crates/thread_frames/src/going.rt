@@ -103,6 +103,32 @@ impl Thread {
         })
     }
 
+    /// A thread that runs nothing: what stands in a place for a child before it is forked. What else it has is of no account.
+    ///
+    /// # Errors
+    ///
+    /// There is not enough memory.
+    pub fn blank(alloc: Global) -> Result<Thread, AllocError>
+        ensures children { IfOk result (λ thread. children_of thread ≡ []) }
+        ensures next { IfOk result (λ thread. next_of thread ≡ None) }
+    {
+        let run = ThreadRun {
+            func: None,
+            state: ThreadState::root(alloc, 0)?,
+            frames: Vec::new(alloc),
+            told: Told::new(alloc),
+        };
+        Ok(Thread {
+            id: ThreadId::ROOT,
+            parent: None,
+            func: None,
+            run,
+            children: Vec::new(alloc),
+            record_block: None,
+            prepared: Prepared::Nothing,
+        })
+    }
+
     /// Runs up to the next action, takes the memory that it needs, and tells it. It is not done. Called again before the action is done, it
     /// tells the same and changes nothing.
     ///

@@ -10,7 +10,7 @@ use Rattle.owner_steps.proofs.acts.fork.Goals as goal
 pub returns : goal.returns
 returns c =
     let before : Scheduler = c.args.scheduler.now in
-    let after : Scheduler = record before { list = c.fork.new.list; table = c.fork.new.table; pool = c.fork.new.pool } in
+    let after : Scheduler = record before { list = c.fork.new.list; table = c.fork.new.table; pool = c.fork.new.pool; place = c.take.new.self } in
     performs_of Fork ForkFits c.args.worker c.args.deque c.args.top before after
     (forked_acted Fork ForkFits c.args.worker c.args.deque c.args.top before after c.in-Ok.ensures.acts
     (record { waiting = refl; results = refl }) c.in-Ok.ensures.back c.in-Ok.ensures.seats)

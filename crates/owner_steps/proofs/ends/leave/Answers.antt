@@ -50,7 +50,7 @@ returns-in-Some c =
     let its : Stands before.list c.args.worker c.args.deque [] = subst (Stands before.list c.args.worker c.args.deque) (alone c.requires.can.stands.0 c.requires.can.stands.1) c.requires.can.stands.1 in
     record {
       acted = wakes_acted c.args.worker c.args.deque c.args.top before after c.end_and_wake.result c.end_and_wake.ensures.id refl c.end_and_wake.ensures.result alone
-          c.in-Some.parent (subst (λ x. IsPermutation before.waiting.entries ((x, c.in-Some.parent) ∷ after.waiting.entries)) c.id.ensures c.in-Some.ensures.entries) c.end_and_wake.ensures.acts c.end_and_wake.ensures.deques c.end_and_wake.ensures.seats;
+          c.in-Some.parent (subst (λ x. IsPermutation before.waiting.entries ((x, c.in-Some.parent) ∷ after.waiting.entries)) (c.id.ensures ∙ ap (λ (x : Thread). x.id) c.get.ensures) c.in-Some.ensures.entries) c.end_and_wake.ensures.acts c.end_and_wake.ensures.deques c.end_and_wake.ensures.seats;
       same_results = refl;
       same_moves = refl;
       same_done = refl;
@@ -68,7 +68,7 @@ returns-in-None c =
     let its : Stands before.list c.args.worker c.args.deque [] = subst (Stands before.list c.args.worker c.args.deque) (alone c.requires.can.stands.0 c.requires.can.stands.1) c.requires.can.stands.1 in
     record {
       acted = leaves_acted c.args.worker c.args.deque c.args.top before after c.end_and_leave.result c.end_and_leave.ensures.id refl c.end_and_leave.ensures.result alone
-          c.in-None.ensures.none (ap (kept_under before.waiting) (sym c.id.ensures) ∙ sym c.in-None.ensures.value) c.end_and_leave.ensures.acts c.end_and_leave.ensures.deques c.end_and_leave.ensures.seats;
+          c.in-None.ensures.none (ap (kept_under before.waiting) (ap (λ (x : Thread). x.id) (sym c.get.ensures) ∙ sym c.id.ensures) ∙ sym c.in-None.ensures.value) c.end_and_leave.ensures.acts c.end_and_leave.ensures.deques c.end_and_leave.ensures.seats;
       same_results = refl;
       same_moves = refl;
       same_done = refl;

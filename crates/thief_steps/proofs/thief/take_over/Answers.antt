@@ -10,6 +10,7 @@ returns c =
     (record {
       list = c.take_over.new.list;
       waiting = c.args.scheduler.now.waiting;
+      place = c.args.scheduler.now.place;
       results = c.args.scheduler.now.results;
       table = c.take_over.new.table;
       pool = c.args.scheduler.now.pool;

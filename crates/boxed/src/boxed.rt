@@ -1,0 +1,68 @@
+ghost use Rattle.std.specs.Prelude.{◌≡◌, IfOk};
+
+use std::alloc::{AllocError, Global};
+use std::marker::Model;
+
+/// A value on the heap. Contracts see the value.
+#[derive(Drop)]
+pub struct Boxed<T> {
+    cell: Box<T>,
+}
+
+impl<T> Model for Boxed<T> {
+    ghost Value = { T };
+
+    ghost coded = { T.code };
+
+    ghost view = { λ boxed. boxed.cell.value };
+}
+
+impl<T> Boxed<T> {
+    ghost use Rattle.std.specs.Borrow.{sem};
+    ghost use Rattle.boxed.specs.Lends.{lends_value};
+
+    /// The value.
+    pub fn get(&self) -> &T
+        ensures { result.now ≡ self.now }
+    {
+        &self.cell
+    }
+
+    /// The value for writing.
+    pub fn get_mut(&mut self) -> &mut T
+        ensures* writes_back { sem 𝓛 (lends_value T.row self.entry result) }
+        ensures value { result.now ≡ self.old }
+    {
+        self.cell.as_mut()
+    }
+
+    /// The value, with which its place on the heap is given back.
+    pub fn into_inner(self) -> T
+        ensures { result ≡ self }
+    {
+        Box::into_inner(self.cell)
+    }
+}
+
+impl<T: Drop> Boxed<T> {
+    /// A value on the heap.
+    ///
+    /// # Errors
+    ///
+    /// There is not enough memory.
+    pub fn new(alloc: Global, value: T) -> Result<Boxed<T>, AllocError>
+        ensures { IfOk result (λ boxed. boxed ≡ value) }
+    {
+        let cell = Box::new(alloc, value)?;
+        Ok(Boxed { cell })
+    }
+
+    /// Another value in the same place, which takes no memory. The value that was there is no more.
+    pub fn put(self, value: T) -> Boxed<T>
+        ensures { result ≡ value }
+    {
+        let mut cell = self.cell;
+        *cell = value;
+        Boxed { cell }
+    }
+}
