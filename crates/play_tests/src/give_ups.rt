@@ -49,7 +49,7 @@ fn rest_of(core: Core) -> Result<CoreEnd, Fail> {
 }
 
 /// Writes down what is left of a run.
-fn tell_rest(text: &mut String, rest: &CoreEnd) -> Result<(), AllocError> {
+fn tell_rest(text: &mut String, rest: &CoreEnd) -> Result<(), Fail> {
     let finished = rest.end == RunEnd::Finished(Finish::Done);
     write!(
         text,
@@ -58,7 +58,14 @@ fn tell_rest(text: &mut String, rest: &CoreEnd) -> Result<(), AllocError> {
         rest.books.ahead(),
         rest.moves.high(),
         rest.root.is_some()
-    )
+    )?;
+    Ok(())
+}
+
+/// Takes a run apart that has ended, and writes down what is left of it.
+fn tell_end(text: &mut String, core: Core) -> Result<(), Fail> {
+    let rest = rest_of(core)?;
+    tell_rest(text, &rest)
 }
 
 /// Two steps, after which the deque is given up, and seven steps to the end.
@@ -72,13 +79,11 @@ fn tell_steps(core: &mut Core, text: &mut String) -> Result<(), Fail> {
     Ok(())
 }
 
-/// A run of one worker behind its last step, and what it did.
+/// The core of a run of one worker behind its last step. What it did is written down.
 fn ended(alloc: Global, text: &mut String) -> Result<Core, Fail> {
     let mut core = core_of(alloc, TWO, 16, 1, 1_024, 100, 4_096)?;
-    match tell_steps(&mut core, text) {
-        Ok(()) => Ok(core),
-        Err(wrong) => Err(wrong),
-    }
+    tell_steps(&mut core, text)?;
+    Ok(core)
 }
 
 /// A worker forks and gives its deque up. Then it steals the root, which has to wait, and after that the child.
@@ -86,8 +91,7 @@ fn ended(alloc: Global, text: &mut String) -> Result<Core, Fail> {
 fn an_owner_gives_its_deque_up(rt: HostRuntime) -> Result<(), Fail> {
     let mut text = String::new(rt.alloc());
     let core = ended(rt.alloc(), &mut text)?;
-    let rest = rest_of(core)?;
-    tell_rest(&mut text, &rest)?;
+    tell_end(&mut text, core)?;
     assert_eq!(rt;
         text.as_str(),
         "steals 0 1, 0.0 does 0, gives 0 up, steals 1 2, 0.0 waits, steals 0 3, 1.0 does 0, 0.0 does 1, 0.0 does 2, over, \

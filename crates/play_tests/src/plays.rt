@@ -283,9 +283,10 @@ fn is_unfinished(core: &Core) -> bool {
     matches!(core.output(), Err(OutputFail::NotFinished))
 }
 
-/// A run that is played has this end, and keeps it in a further step.
-fn keep_end(rt: &impl Abort, core: &mut Core, mut choices: ListChoices) -> Result<(), Fail> {
+/// A run that is played comes to its end, and keeps it in a further step.
+fn keep_end(rt: &impl Abort, alloc: Global, core: &mut Core) -> Result<(), Fail> {
     assert!(rt; is_unfinished(core));
+    let mut choices = words_of(alloc, "0")?;
     let end = play_to_end(core, &mut choices);
     assert_eq!(rt; end, RunEnd::Finished(Finish::Done));
     let stepped = step_of(core, 0, 5)?;
@@ -297,7 +298,6 @@ fn keep_end(rt: &impl Abort, core: &mut Core, mut choices: ListChoices) -> Resul
 /// Before the end there is no output, and behind it every step tells the end.
 #[test]
 fn an_end_is_kept(rt: HostRuntime) -> Result<(), Fail> {
-    let choices = words_of(rt.alloc(), "0")?;
     let mut core = core_of(
         rt.alloc(),
         "fn main() { print 7; }",
@@ -307,7 +307,7 @@ fn an_end_is_kept(rt: HostRuntime) -> Result<(), Fail> {
         100,
         4_096,
     )?;
-    keep_end(&rt, &mut core, choices)
+    keep_end(&rt, rt.alloc(), &mut core)
 }
 
 /// A tree of 16 leaves, each of which has a block while it prints its number.
@@ -368,9 +368,10 @@ fn any_workers_print_the_same(rt: HostRuntime) -> Result<(), AllocError> {
     Ok(())
 }
 
-/// Writes down how a run ended: its stop, or the most words that were out at once.
-fn tell_end(text: &mut String, core: &Core, end: RunEnd) -> Result<(), AllocError> {
-    match end {
+/// Plays a run to its end, and writes down its stop or the most words that were out at once.
+fn tell_end(alloc: Global, text: &mut String, core: &mut Core) -> Result<(), AllocError> {
+    let mut choices = words_of(alloc, "")?;
+    match play_to_end(core, &mut choices) {
         RunEnd::Finished(_) => write!(text, "{}; ", core.moves().high()),
         RunEnd::Stopped(stop) => write!(text, "{stop:?}; "),
     }
@@ -384,10 +385,8 @@ fn tell_leaves(
     arena: u32,
     most: u32,
 ) -> Result<(), AllocError> {
-    let mut choices = words_of(alloc, "")?;
     let mut core = core_of(alloc, LEAVES, k, 1, arena, 4_000_000, most)?;
-    let end = play_to_end(&mut core, &mut choices);
-    tell_end(text, &core, end)
+    tell_end(alloc, text, &mut core)
 }
 
 /// At each size of the arena below the most words that one worker needs, which are four record blocks and a leaf, the play stops at the
