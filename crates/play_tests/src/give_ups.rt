@@ -1,6 +1,6 @@
 //! A deque that its owner gives up, and what is left of a core that is taken apart.
 
-use crate::plays::{core_of, fresh_core, step_of, tell_step};
+use crate::plays::{core_of, step_of, tell_step};
 use dag_order::Finish;
 use dfd_core::{Core, CoreEnd, CoreParts, RunEnd};
 use std::alloc::{AllocError, Global};
@@ -31,25 +31,17 @@ fn give_up(core: &mut Core) -> Result<u32, Fail> {
     Ok(deque.0)
 }
 
-/// The first worker gives its deque up, and this is written down.
-fn tell_give_up(core: &mut Core, text: &mut String) -> Result<(), Fail> {
-    let deque = give_up(core)?;
-    write!(text, "gives {deque} up, ")?;
-    Ok(())
-}
-
 /// What is left of a run that has ended.
-fn rest_of(core: Core) -> Result<CoreEnd, Fail> {
-    if core.are_all_idle() {
-        if let Some(_end) = core.end() {
-            return Ok(core.into_end());
-        }
-    }
-    Err(Fail::new("it goes on, or somebody owns a deque"))
+fn rest_of(rt: &impl Abort, core: Core) -> CoreEnd {
+    let Some(_end) = core.end() else {
+        panic!(rt; "it goes on");
+    };
+    assert!(rt; core.are_all_idle(), "somebody owns a deque");
+    core.into_end()
 }
 
 /// Writes down what is left of a run.
-fn tell_rest(text: &mut String, rest: &CoreEnd) -> Result<(), Fail> {
+fn tell_rest(text: &mut String, rest: &CoreEnd) -> Result<(), AllocError> {
     let finished = rest.end == RunEnd::Finished(Finish::Done);
     write!(
         text,
@@ -58,13 +50,12 @@ fn tell_rest(text: &mut String, rest: &CoreEnd) -> Result<(), Fail> {
         rest.books.ahead(),
         rest.moves.high(),
         rest.root.is_some()
-    )?;
-    Ok(())
+    )
 }
 
 /// Takes a run apart that has ended, and writes down what is left of it.
-fn tell_end(text: &mut String, core: Core) -> Result<(), Fail> {
-    let rest = rest_of(core)?;
+fn tell_end(rt: &impl Abort, text: &mut String, core: Core) -> Result<(), AllocError> {
+    let rest = rest_of(rt, core);
     tell_rest(text, &rest)
 }
 
@@ -72,7 +63,8 @@ fn tell_end(text: &mut String, core: Core) -> Result<(), Fail> {
 fn tell_steps(core: &mut Core, text: &mut String) -> Result<(), Fail> {
     let_step(core, text)?;
     let_step(core, text)?;
-    tell_give_up(core, text)?;
+    let deque = give_up(core)?;
+    write!(text, "gives {deque} up, ")?;
     for _ in 0..7 {
         let_step(core, text)?;
     }
@@ -91,7 +83,7 @@ fn ended(alloc: Global, text: &mut String) -> Result<Core, Fail> {
 fn an_owner_gives_its_deque_up(rt: HostRuntime) -> Result<(), Fail> {
     let mut text = String::new(rt.alloc());
     let core = ended(rt.alloc(), &mut text)?;
-    tell_end(&mut text, core)?;
+    tell_end(&rt, &mut text, core)?;
     assert_eq!(rt;
         text.as_str(),
         "steals 0 1, 0.0 does 0, gives 0 up, steals 1 2, 0.0 waits, steals 0 3, 1.0 does 0, 0.0 does 1, 0.0 does 2, over, \
@@ -119,7 +111,7 @@ fn check_numbers(rt: &impl Abort, parts: &CoreParts) {
 /// A run before its first step has one deque, which holds the root alone, and all words are in the pool.
 #[test]
 fn a_run_is_taken_apart(rt: HostRuntime) -> Result<(), AllocError> {
-    let parts = fresh_core(rt.alloc(), TWO, 16, 3, 1_024, 100, 4_096)?.into_parts();
+    let parts = core_of(rt.alloc(), TWO, 16, 3, 1_024, 100, 4_096)?.into_parts();
     check_deques(&rt, &parts);
     check_numbers(&rt, &parts);
     Ok(())

@@ -6,7 +6,7 @@ ghost use Rattle.dfd_core.specs.Parts.{IsFresh};
 
 use accepted_source::accept;
 use block_arena::Pool;
-use dag_order::{ActionId, Finish};
+use dag_order::Finish;
 use dfd_core::{Core, ListChoices, OutputFail, RunEnd, Stepped, play};
 use dummy_tree::Quota;
 use frame_code::lower;
@@ -17,7 +17,7 @@ use std::test::Fail;
 
 /// The core of a run of a text, before its first step. Numbers that are out of their ranges, and a text that is no accepted program, count as
 /// want of memory.
-pub(crate) fn fresh_core(
+pub(crate) fn core_of(
     alloc: Global,
     text: &str,
     k: u32,
@@ -46,8 +46,19 @@ pub(crate) fn fresh_core(
     Core::new(alloc, code, k, workers, pool, limit, most)
 }
 
-/// The core of a run of a text, before its first step. It hands no clause on, since each goal of its callers would carry it.
-pub(crate) fn core_of(
+/// A run of a program. It is let go by a call, so that the steps of that are proved once, and not at each exit of what owns a core.
+pub(crate) struct Run {
+    pub core: Core,
+}
+
+impl Drop for Run {
+    fn drop(self) {
+        let Run { core: _core } = self;
+    }
+}
+
+/// The run of a text, before its first step. It hands no clause on, since each goal of its callers would carry it.
+pub(crate) fn run_of(
     alloc: Global,
     text: &str,
     k: u32,
@@ -55,19 +66,20 @@ pub(crate) fn core_of(
     arena: u32,
     limit: u32,
     most: u32,
-) -> Result<Core, AllocError> {
-    fresh_core(alloc, text, k, workers, arena, limit, most)
+) -> Result<Run, AllocError> {
+    let core = core_of(alloc, text, k, workers, arena, limit, most)?;
+    Ok(Run { core })
 }
 
-/// The core of a run with the numbers of a row: the quota, the workers, the words of the arena, the actions and the deques.
-fn core_of_row(alloc: Global, numbers: &str, text: &str) -> Result<Core, AllocError> {
+/// The run with the numbers of a row: the quota, the workers, the words of the arena, the actions and the deques.
+fn run_of_row(alloc: Global, numbers: &str, text: &str) -> Result<Run, AllocError> {
     let mut all = [0u32; 5];
     for (place, word) in numbers.split_whitespace().enumerate() {
         if place < 5 {
             all[place] = word.parse::<u32>().unwrap_or(0);
         }
     }
-    core_of(alloc, text, all[0], all[1], all[2], all[3], all[4])
+    run_of(alloc, text, all[0], all[1], all[2], all[3], all[4])
 }
 
 /// The words of a row, one digit each.
@@ -84,7 +96,7 @@ fn text_of(part: &str) -> &str {
     part.strip_prefix(' ').unwrap_or(part).trim_end()
 }
 
-/// Plays a run to its end. It hands no clause on, as `core_of`.
+/// Plays a run to its end. It hands no clause on, as `run_of`.
 fn play_to_end(core: &mut Core, choices: &mut ListChoices) -> RunEnd {
     play(core, choices)
 }
@@ -139,9 +151,9 @@ fn told(alloc: Global, core: &Core, end: RunEnd) -> Result<String, AllocError> {
 }
 
 /// Plays a run to its end, and tells what the play came to.
-fn played(alloc: Global, mut core: Core, mut choices: ListChoices) -> Result<String, AllocError> {
-    let end = play_to_end(&mut core, &mut choices);
-    told(alloc, &core, end)
+fn played(alloc: Global, core: &mut Core, mut choices: ListChoices) -> Result<String, AllocError> {
+    let end = play_to_end(core, &mut choices);
+    told(alloc, core, end)
 }
 
 /// A row of a table: the quota, the workers, the words of the arena, the most actions and the most deques; the words of choice; what the
@@ -168,8 +180,8 @@ fn row_of(row: &str) -> Option<Row<'_>> {
 /// The play of a row comes to what the row says.
 fn play_row(rt: &impl Abort, alloc: Global, row: &Row) -> Result<(), AllocError> {
     let choices = words_of(alloc, row.digits)?;
-    let core = core_of_row(alloc, row.numbers, row.text)?;
-    let got = played(alloc, core, choices)?;
+    let mut run = run_of_row(alloc, row.numbers, row.text)?;
+    let got = played(alloc, &mut run.core, choices)?;
     assert_eq!(rt; got.as_str(), row.want, "{}", row.text);
     Ok(())
 }
@@ -222,16 +234,11 @@ fn plays_come_to_what_the_rules_say(rt: HostRuntime) -> Result<(), AllocError> {
     play_so(&rt, rt.alloc(), PLAYS)
 }
 
-/// Writes down what a thread did.
-fn tell_action(text: &mut String, id: ActionId) -> Result<(), AllocError> {
-    write!(text, "{}.{} does {}, ", id.by.period, id.by.nth, id.index)
-}
-
 /// Writes down what a step did.
 pub(crate) fn tell_step(text: &mut String, stepped: Stepped) -> Result<(), AllocError> {
     match stepped {
         Stepped::Stole { deque, period } => write!(text, "steals {} {period}, ", deque.0),
-        Stepped::Acted(id) => tell_action(text, id),
+        Stepped::Acted(id) => write!(text, "{}.{} does {}, ", id.by.period, id.by.nth, id.index),
         Stepped::Suspended(id) => write!(text, "{}.{} waits, ", id.period, id.nth),
         Stepped::GaveUp(deque) => write!(text, "gives {} up, ", deque.0),
         Stepped::Nothing => text.push_str("nothing, "),
@@ -239,7 +246,7 @@ pub(crate) fn tell_step(text: &mut String, stepped: Stepped) -> Result<(), Alloc
     }
 }
 
-/// Lets a worker do one event. It hands no clause on, as `core_of`.
+/// Lets a worker do one event. It hands no clause on, as `run_of`.
 pub(crate) fn step_of(core: &mut Core, worker: u32, word: u64) -> Result<Stepped, Fail> {
     if core.workers() <= worker {
         return Err(Fail::new("no such worker"));
@@ -259,8 +266,8 @@ fn told_steps(alloc: Global, core: &mut Core, workers: &[u32]) -> Result<String,
 
 /// What two workers do that move in this order.
 fn told_of_two(alloc: Global, text: &str, workers: &[u32]) -> Result<String, Fail> {
-    let mut core = core_of(alloc, text, 16, 2, 1_024, 100, 4_096)?;
-    told_steps(alloc, &mut core, workers)
+    let mut run = run_of(alloc, text, 16, 2, 1_024, 100, 4_096)?;
+    told_steps(alloc, &mut run.core, workers)
 }
 
 /// Two workers, step by step: the second one steals the root while the first one runs the child that it forked, and has to wait.
@@ -298,7 +305,7 @@ fn keep_end(rt: &impl Abort, alloc: Global, core: &mut Core) -> Result<(), Fail>
 /// Before the end there is no output, and behind it every step tells the end.
 #[test]
 fn an_end_is_kept(rt: HostRuntime) -> Result<(), Fail> {
-    let mut core = core_of(
+    let mut run = run_of(
         rt.alloc(),
         "fn main() { print 7; }",
         16,
@@ -307,7 +314,7 @@ fn an_end_is_kept(rt: HostRuntime) -> Result<(), Fail> {
         100,
         4_096,
     )?;
-    keep_end(&rt, rt.alloc(), &mut core)
+    keep_end(&rt, rt.alloc(), &mut run.core)
 }
 
 /// A tree of 16 leaves, each of which has a block while it prints its number.
@@ -348,8 +355,8 @@ fn scattered_words(alloc: Global, many: u32) -> Result<ListChoices, AllocError> 
 fn print_leaves(rt: &impl Abort, alloc: Global, workers: u32, k: u32) -> Result<(), AllocError> {
     let want = "done, prints 16 17 18 19 20 21 22 23 24 25 26 27 28 29 30 31, ";
     let choices = scattered_words(alloc, 2_000)?;
-    let core = core_of(alloc, LEAVES, k, workers, 1_048_576, 4_000_000, 4_096)?;
-    let got = played(alloc, core, choices)?;
+    let mut run = run_of(alloc, LEAVES, k, workers, 1_048_576, 4_000_000, 4_096)?;
+    let got = played(alloc, &mut run.core, choices)?;
     assert!(rt;
         got.as_str().starts_with(want),
         "{got} at {workers} workers, quota {k}"
@@ -385,8 +392,8 @@ fn tell_leaves(
     arena: u32,
     most: u32,
 ) -> Result<(), AllocError> {
-    let mut core = core_of(alloc, LEAVES, k, 1, arena, 4_000_000, most)?;
-    tell_end(alloc, text, &mut core)
+    let mut run = run_of(alloc, LEAVES, k, 1, arena, 4_000_000, most)?;
+    tell_end(alloc, text, &mut run.core)
 }
 
 /// At each size of the arena below the most words that one worker needs, which are four record blocks and a leaf, the play stops at the

@@ -14,15 +14,25 @@ use std::alloc::{AllocError, Global};
 use std::fmt::Write;
 use std::process::Abort;
 
+/// A core, and the depth-first run that it is compared with. Both are let go by a call, as a `Run`.
+pub(crate) struct Compared {
+    pub core: Core,
+    pub serial: Serial,
+}
+
+impl Drop for Compared {
+    fn drop(self) {
+        let Compared {
+            core: _core,
+            serial: _serial,
+        } = self;
+    }
+}
+
 /// The core of a run of a text, and its depth-first run. A number that is out of its range, and a text that is no accepted program, count
 /// as want of memory.
-pub(crate) fn begun(
-    alloc: Global,
-    text: &str,
-    k: u32,
-    workers: u32,
-) -> Result<(Core, Serial), AllocError>
-    ensures { IfOk result (λ both. IsSerialOf both.0 both.1) }
+pub(crate) fn begun(alloc: Global, text: &str, k: u32, workers: u32) -> Result<Compared, AllocError>
+    ensures { IfOk result (λ both. IsSerialOf both.core both.serial) }
 {
     let Some(k) = Quota::new(k) else {
         return Err(AllocError);
@@ -41,7 +51,7 @@ pub(crate) fn begun(
         return Err(AllocError);
     }
     let core = Core::new(alloc, code, k, workers, pool, 1_000, 64)?;
-    Ok((core, serial))
+    Ok(Compared { core, serial })
 }
 
 /// Lets workers move, one a digit. A worker that steals robs the first deque that it can.
@@ -134,9 +144,9 @@ fn shown(alloc: Global, core: &Core, serial: &Serial) -> Result<String, AllocErr
 
 /// What the core of a row shows behind the moves of the row.
 fn shown_behind(alloc: Global, row: &Row) -> Result<String, AllocError> {
-    let (mut core, serial) = begun(alloc, row.text, row.k, row.workers)?;
-    let_move(&mut core, &serial, row.moves);
-    shown(alloc, &core, &serial)
+    let mut both = begun(alloc, row.text, row.k, row.workers)?;
+    let_move(&mut both.core, &both.serial, row.moves);
+    shown(alloc, &both.core, &both.serial)
 }
 
 /// The core of a row shows what the row says.

@@ -3,7 +3,7 @@
 
 use crate::listed::{Listed, label_of};
 use crate::plays::{next_word, step_of};
-use crate::prefixes::begun;
+use crate::prefixes::{Compared, begun};
 use dag_order::{ActionId, Births, Kind, Label};
 use dfd_core::{Core, RunEnd, Stepped};
 use machine_replay::runs::{opening, replay, step};
@@ -300,7 +300,7 @@ fn mover(core: &Core, word: u64) -> Option<u32> {
     None
 }
 
-/// What the machine makes of a pair: the next moment, or None where the pair is no case of it. It hands no clause on, as `core_of`.
+/// What the machine makes of a pair: the next moment, or None where the pair is no case of it. It hands no clause on, as `run_of`.
 fn machine_step(
     alloc: Global,
     play: &Play,
@@ -429,7 +429,7 @@ fn core_and_serial(
     text: &str,
     k: u32,
     workers: u32,
-) -> Result<(Core, Serial), AllocError> {
+) -> Result<Compared, AllocError> {
     begun(alloc, text, k, workers)
 }
 
@@ -508,8 +508,8 @@ fn follow(
     workers: u32,
     seed: u64,
 ) -> Result<(), Fail> {
-    let (mut core, serial) = core_and_serial(alloc, text, k, workers)?;
-    follow_core(rt, alloc, &mut core, &serial, text, k, seed)
+    let mut both = core_and_serial(alloc, text, k, workers)?;
+    follow_core(rt, alloc, &mut both.core, &both.serial, text, k, seed)
 }
 
 /// Each program is played with each of these quotas.
