@@ -254,32 +254,25 @@ pub(crate) fn step_of(core: &mut Core, worker: u32, word: u64) -> Result<Stepped
     Ok(core.step(worker, word))
 }
 
-/// Lets workers do events, one after another, and tells what they did.
-fn told_steps(alloc: Global, core: &mut Core, workers: &[u32]) -> Result<String, Fail> {
-    let mut text = String::new(alloc);
-    for worker in workers {
-        let stepped = step_of(core, *worker, 0)?;
-        tell_step(&mut text, stepped)?;
-    }
-    Ok(text)
-}
-
-/// What two workers do that move in this order.
-fn told_of_two(alloc: Global, text: &str, workers: &[u32]) -> Result<String, Fail> {
-    let mut run = run_of(alloc, text, 16, 2, 1_024, 100, 4_096)?;
-    told_steps(alloc, &mut run.core, workers)
-}
-
 /// Two workers, step by step: the second one steals the root while the first one runs the child that it forked, and has to wait.
 #[test]
 fn steps_are_told_one_by_one(rt: HostRuntime) -> Result<(), Fail> {
-    let told = told_of_two(
+    let mut run = run_of(
         rt.alloc(),
         "fn main() { par { print 1; } and { print 2; } print 3; }",
-        &[1, 0, 1, 0, 0, 1, 1, 1],
+        16,
+        2,
+        1_024,
+        100,
+        4_096,
     )?;
+    let mut text = String::new(rt.alloc());
+    for worker in [1, 0, 1, 0, 0, 1, 1, 1] {
+        let stepped = step_of(&mut run.core, worker, 0)?;
+        tell_step(&mut text, stepped)?;
+    }
     assert_eq!(rt;
-        told.as_str(),
+        text.as_str(),
         "steals 0 1, nothing, 0.0 does 0, steals 1 2, 0.0 waits, 1.0 does 0, 0.0 does 1, 0.0 does 2, "
     );
     Ok(())
@@ -288,18 +281,6 @@ fn steps_are_told_one_by_one(rt: HostRuntime) -> Result<(), Fail> {
 /// Whether a core has no output since its run goes on.
 fn is_unfinished(core: &Core) -> bool {
     matches!(core.output(), Err(OutputFail::NotFinished))
-}
-
-/// A run that is played comes to its end, and keeps it in a further step.
-fn keep_end(rt: &impl Abort, alloc: Global, core: &mut Core) -> Result<(), Fail> {
-    assert!(rt; is_unfinished(core));
-    let mut choices = words_of(alloc, "0")?;
-    let end = play_to_end(core, &mut choices);
-    assert_eq!(rt; end, RunEnd::Finished(Finish::Done));
-    let stepped = step_of(core, 0, 5)?;
-    assert_eq!(rt; stepped, Stepped::Over(end));
-    assert!(rt; !core.can_move(0));
-    Ok(())
 }
 
 /// Before the end there is no output, and behind it every step tells the end.
@@ -314,7 +295,14 @@ fn an_end_is_kept(rt: HostRuntime) -> Result<(), Fail> {
         100,
         4_096,
     )?;
-    keep_end(&rt, rt.alloc(), &mut run.core)
+    assert!(rt; is_unfinished(&run.core));
+    let mut choices = words_of(rt.alloc(), "0")?;
+    let end = play_to_end(&mut run.core, &mut choices);
+    assert_eq!(rt; end, RunEnd::Finished(Finish::Done));
+    let stepped = step_of(&mut run.core, 0, 5)?;
+    assert_eq!(rt; stepped, Stepped::Over(end));
+    assert!(rt; !run.core.can_move(0));
+    Ok(())
 }
 
 /// A tree of 16 leaves, each of which has a block while it prints its number.
@@ -375,16 +363,8 @@ fn any_workers_print_the_same(rt: HostRuntime) -> Result<(), AllocError> {
     Ok(())
 }
 
-/// Plays a run to its end, and writes down its stop or the most words that were out at once.
-fn tell_end(alloc: Global, text: &mut String, core: &mut Core) -> Result<(), AllocError> {
-    let mut choices = words_of(alloc, "")?;
-    match play_to_end(core, &mut choices) {
-        RunEnd::Finished(_) => write!(text, "{}; ", core.moves().high()),
-        RunEnd::Stopped(stop) => write!(text, "{stop:?}; "),
-    }
-}
-
-/// Lets one worker play the tree of leaves with this quota, these words of the arena and so many deques, and writes down how that ends.
+/// Lets one worker play the tree of leaves with this quota, these words of the arena and so many deques, and writes down the stop or the
+/// most words that were out at once.
 fn tell_leaves(
     alloc: Global,
     text: &mut String,
@@ -393,7 +373,11 @@ fn tell_leaves(
     most: u32,
 ) -> Result<(), AllocError> {
     let mut run = run_of(alloc, LEAVES, k, 1, arena, 4_000_000, most)?;
-    tell_end(alloc, text, &mut run.core)
+    let mut choices = words_of(alloc, "")?;
+    match play_to_end(&mut run.core, &mut choices) {
+        RunEnd::Finished(_) => write!(text, "{}; ", run.core.moves().high()),
+        RunEnd::Stopped(stop) => write!(text, "{stop:?}; "),
+    }
 }
 
 /// At each size of the arena below the most words that one worker needs, which are four record blocks and a leaf, the play stops at the

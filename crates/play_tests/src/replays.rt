@@ -466,7 +466,7 @@ fn compare_last(
     Ok(())
 }
 
-/// Plays a program to the end, with the words of a seed. The play goes with the machine from the opening to the end.
+/// Plays to the end with the words of a seed. The play goes with the machine from the opening to the end.
 fn play_through(
     rt: &impl Abort,
     alloc: Global,
@@ -479,26 +479,6 @@ fn play_through(
     compare_last(rt, alloc, play, &pairs, &last)
 }
 
-/// Plays a core beside its depth-first run.
-fn follow_core(
-    rt: &impl Abort,
-    alloc: Global,
-    core: &mut Core,
-    serial: &Serial,
-    text: &str,
-    k: u32,
-    seed: u64,
-) -> Result<(), Fail> {
-    let play = Play {
-        text,
-        serial,
-        listed: Listed::of(alloc, serial)?,
-        k,
-        workers: core.workers(),
-    };
-    play_through(rt, alloc, core, &play, seed)
-}
-
 /// Plays a program with the words of a seed.
 fn follow(
     rt: &impl Abort,
@@ -509,7 +489,15 @@ fn follow(
     seed: u64,
 ) -> Result<(), Fail> {
     let mut both = core_and_serial(alloc, text, k, workers)?;
-    follow_core(rt, alloc, &mut both.core, &both.serial, text, k, seed)
+    let listed = Listed::of(alloc, &both.serial)?;
+    let play = Play {
+        text,
+        serial: &both.serial,
+        listed,
+        k,
+        workers,
+    };
+    play_through(rt, alloc, &mut both.core, &play, seed)
 }
 
 /// Each program is played with each of these quotas.
