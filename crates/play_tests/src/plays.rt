@@ -46,15 +46,40 @@ pub(crate) fn core_of(
     Core::new(alloc, code, k, workers, pool, limit, most)
 }
 
-/// The core of a run with the numbers of a row: the quota, the workers, the words of the arena, the actions and the deques.
-fn core_of_row(alloc: Global, numbers: &str, text: &str) -> Result<Core, AllocError> {
+/// A run of a program. It is let go by a call, so that the steps of that are proved once, and not at each exit of what owns a core.
+pub(crate) struct Run {
+    pub core: Core,
+}
+
+impl Drop for Run {
+    fn drop(self) {
+        let Run { core: _core } = self;
+    }
+}
+
+/// The run of a text, before its first step. It hands no clause on, since each goal of its callers would carry it.
+pub(crate) fn run_of(
+    alloc: Global,
+    text: &str,
+    k: u32,
+    workers: u32,
+    arena: u32,
+    limit: u32,
+    most: u32,
+) -> Result<Run, AllocError> {
+    let core = core_of(alloc, text, k, workers, arena, limit, most)?;
+    Ok(Run { core })
+}
+
+/// The run with the numbers of a row: the quota, the workers, the words of the arena, the actions and the deques.
+fn run_of_row(alloc: Global, numbers: &str, text: &str) -> Result<Run, AllocError> {
     let mut all = [0u32; 5];
     for (place, word) in numbers.split_whitespace().enumerate() {
         if place < 5 {
             all[place] = word.parse::<u32>().unwrap_or(0);
         }
     }
-    core_of(alloc, text, all[0], all[1], all[2], all[3], all[4])
+    run_of(alloc, text, all[0], all[1], all[2], all[3], all[4])
 }
 
 /// The words of a row, one digit each.
@@ -66,62 +91,106 @@ fn words_of(alloc: Global, digits: &str) -> Result<ListChoices, AllocError> {
     Ok(ListChoices::new(words))
 }
 
-/// What a play came to: the stop that it met, or how it finished, what it printed, its periods, those of them that were begun ahead, and
-/// the most words that were out at once.
-fn told(alloc: Global, core: &Core, end: RunEnd) -> Result<String, Fail> {
-    let mut text = String::new(alloc);
-    match end {
-        RunEnd::Stopped(stop) => {
-            write!(text, "{stop:?}")?;
-            return Ok(text);
-        }
-        RunEnd::Finished(Finish::Done) => text.push_str("done, prints")?,
-        RunEnd::Finished(Finish::Faulted(at)) => write!(
-            text,
-            "{:?} at {}, prints",
-            at.kind, at.line
-        )?,
+/// The text in the last part of a row, without the blank in front of it and the end of the row.
+fn text_of(part: &str) -> &str {
+    part.strip_prefix(' ').unwrap_or(part).trim_end()
+}
+
+/// Plays a run to its end. It hands no clause on, as `run_of`.
+fn play_to_end(core: &mut Core, choices: &mut ListChoices) -> RunEnd {
+    play(core, choices)
+}
+
+/// Writes how a run finished, in front of what it printed.
+fn tell_finish(text: &mut String, finish: Finish) -> Result<(), AllocError> {
+    match finish {
+        Finish::Done => text.push_str("done, prints"),
+        Finish::Faulted(at) => write!(text, "{:?} at {}, prints", at.kind, at.line),
     }
+}
+
+/// Writes the lines that a run printed.
+fn tell_lines(text: &mut String, lines: &[i64]) -> Result<(), AllocError> {
+    for line in lines {
+        write!(text, " {line}")?;
+    }
+    Ok(())
+}
+
+/// Writes what a run printed.
+fn tell_output(text: &mut String, core: &Core) -> Result<(), AllocError> {
     match core.output() {
-        Ok(lines) => {
-            for line in lines.as_slice() {
-                write!(text, " {line}")?;
-            }
-        }
-        Err(_) => text.push_str(" nothing")?,
+        Ok(lines) => tell_lines(text, lines.as_slice()),
+        Err(_) => text.push_str(" nothing"),
     }
+}
+
+/// Writes the periods of a run, those of them that were begun ahead, and the most words that were out at once.
+fn tell_counts(text: &mut String, core: &Core) -> Result<(), AllocError> {
     write!(
         text,
         ", periods {}, ahead {}, high {}",
         core.books().periods(),
         core.books().ahead(),
         core.moves().high()
-    )?;
+    )
+}
+
+/// What a play came to: the stop that it met, or how it finished, what it printed, and its counts.
+fn told(alloc: Global, core: &Core, end: RunEnd) -> Result<String, AllocError> {
+    let mut text = String::new(alloc);
+    match end {
+        RunEnd::Stopped(stop) => write!(text, "{stop:?}")?,
+        RunEnd::Finished(finish) => {
+            tell_finish(&mut text, finish)?;
+            tell_output(&mut text, core)?;
+            tell_counts(&mut text, core)?;
+        }
+    }
     Ok(text)
 }
 
-/// The text in the last part of a row, without the blank in front of it and the end of the row.
-fn text_of(part: &str) -> &str {
-    part.strip_prefix(' ').unwrap_or(part).trim_end()
+/// Plays a run to its end, and tells what the play came to.
+fn played(alloc: Global, core: &mut Core, mut choices: ListChoices) -> Result<String, AllocError> {
+    let end = play_to_end(core, &mut choices);
+    told(alloc, core, end)
 }
 
-/// Each row is the quota, the workers, the words of the arena, the most actions and the most deques; the words of choice; what the play
-/// comes to; and the program.
-fn play_so(rt: &impl Abort, alloc: Global, rows: &str) -> Result<(), Fail> {
+/// A row of a table: the quota, the workers, the words of the arena, the most actions and the most deques; the words of choice; what the
+/// play comes to; and the program.
+#[derive(Drop)]
+struct Row<'a> {
+    numbers: &'a str,
+    digits: &'a str,
+    want: &'a str,
+    text: &'a str,
+}
+
+/// The parts of a row; None in front of the first row.
+fn row_of(row: &str) -> Option<Row<'_>> {
+    let mut parts = row.split('|');
+    Some(Row {
+        numbers: parts.next()?,
+        digits: parts.next()?,
+        want: parts.next()?.trim(),
+        text: text_of(parts.next()?),
+    })
+}
+
+/// The play of a row comes to what the row says.
+fn play_row(rt: &impl Abort, alloc: Global, row: &Row) -> Result<(), AllocError> {
+    let choices = words_of(alloc, row.digits)?;
+    let mut run = run_of_row(alloc, row.numbers, row.text)?;
+    let got = played(alloc, &mut run.core, choices)?;
+    assert_eq!(rt; got.as_str(), row.want, "{}", row.text);
+    Ok(())
+}
+
+/// Plays each row of a table.
+fn play_so(rt: &impl Abort, alloc: Global, rows: &str) -> Result<(), AllocError> {
     for row in rows.split('@') {
-        let mut parts = row.split('|');
-        if let (Some(numbers), Some(digits), Some(want), Some(rest)) = (
-            parts.next(),
-            parts.next(),
-            parts.next(),
-            parts.next(),
-        ) {
-            let text = text_of(rest);
-            let mut core = core_of_row(alloc, numbers, text)?;
-            let mut choices = words_of(alloc, digits)?;
-            let end = play(&mut core, &mut choices);
-            let got = told(alloc, &core, end)?;
-            assert_eq!(rt; got.as_str(), want.trim(), "{text}");
+        if let Some(row) = row_of(row) {
+            play_row(rt, alloc, &row)?;
         }
     }
     Ok(())
@@ -161,27 +230,34 @@ fn main() {
 ";
 
 #[test]
-fn plays_come_to_what_the_rules_say(rt: HostRuntime) -> Result<(), Fail> {
+fn plays_come_to_what_the_rules_say(rt: HostRuntime) -> Result<(), AllocError> {
     play_so(&rt, rt.alloc(), PLAYS)
 }
 
 /// Writes down what a step did.
-pub(crate) fn tell_step(text: &mut String, stepped: Stepped) -> Result<(), Fail> {
+pub(crate) fn tell_step(text: &mut String, stepped: Stepped) -> Result<(), AllocError> {
     match stepped {
-        Stepped::Stole { deque, period } => write!(text, "steals {} {period}, ", deque.0)?,
-        Stepped::Acted(id) => write!(text, "{}.{} does {}, ", id.by.period, id.by.nth, id.index)?,
-        Stepped::Suspended(id) => write!(text, "{}.{} waits, ", id.period, id.nth)?,
-        Stepped::GaveUp(deque) => write!(text, "gives {} up, ", deque.0)?,
-        Stepped::Nothing => text.push_str("nothing, ")?,
-        Stepped::Over(_) => text.push_str("over, ")?,
+        Stepped::Stole { deque, period } => write!(text, "steals {} {period}, ", deque.0),
+        Stepped::Acted(id) => write!(text, "{}.{} does {}, ", id.by.period, id.by.nth, id.index),
+        Stepped::Suspended(id) => write!(text, "{}.{} waits, ", id.period, id.nth),
+        Stepped::GaveUp(deque) => write!(text, "gives {} up, ", deque.0),
+        Stepped::Nothing => text.push_str("nothing, "),
+        Stepped::Over(_) => text.push_str("over, "),
     }
-    Ok(())
+}
+
+/// Lets a worker do one event. It hands no clause on, as `run_of`.
+pub(crate) fn step_of(core: &mut Core, worker: u32, word: u64) -> Result<Stepped, Fail> {
+    if core.workers() <= worker {
+        return Err(Fail::new("no such worker"));
+    }
+    Ok(core.step(worker, word))
 }
 
 /// Two workers, step by step: the second one steals the root while the first one runs the child that it forked, and has to wait.
 #[test]
 fn steps_are_told_one_by_one(rt: HostRuntime) -> Result<(), Fail> {
-    let mut core = core_of(
+    let mut run = run_of(
         rt.alloc(),
         "fn main() { par { print 1; } and { print 2; } print 3; }",
         16,
@@ -192,9 +268,8 @@ fn steps_are_told_one_by_one(rt: HostRuntime) -> Result<(), Fail> {
     )?;
     let mut text = String::new(rt.alloc());
     for worker in [1, 0, 1, 0, 0, 1, 1, 1] {
-        if worker < core.workers() {
-            tell_step(&mut text, core.step(worker, 0))?;
-        }
+        let stepped = step_of(&mut run.core, worker, 0)?;
+        tell_step(&mut text, stepped)?;
     }
     assert_eq!(rt;
         text.as_str(),
@@ -203,10 +278,15 @@ fn steps_are_told_one_by_one(rt: HostRuntime) -> Result<(), Fail> {
     Ok(())
 }
 
+/// Whether a core has no output since its run goes on.
+fn is_unfinished(core: &Core) -> bool {
+    matches!(core.output(), Err(OutputFail::NotFinished))
+}
+
 /// Before the end there is no output, and behind it every step tells the end.
 #[test]
 fn an_end_is_kept(rt: HostRuntime) -> Result<(), Fail> {
-    let mut core = core_of(
+    let mut run = run_of(
         rt.alloc(),
         "fn main() { print 7; }",
         16,
@@ -215,14 +295,13 @@ fn an_end_is_kept(rt: HostRuntime) -> Result<(), Fail> {
         100,
         4_096,
     )?;
-    assert!(rt; matches!(core.output(), Err(OutputFail::NotFinished)));
+    assert!(rt; is_unfinished(&run.core));
     let mut choices = words_of(rt.alloc(), "0")?;
-    let end = play(&mut core, &mut choices);
+    let end = play_to_end(&mut run.core, &mut choices);
     assert_eq!(rt; end, RunEnd::Finished(Finish::Done));
-    if 0 < core.workers() {
-        assert_eq!(rt; core.step(0, 5), Stepped::Over(end));
-        assert!(rt; !core.can_move(0));
-    }
+    let stepped = step_of(&mut run.core, 0, 5)?;
+    assert_eq!(rt; stepped, Stepped::Over(end));
+    assert!(rt; !run.core.can_move(0));
     Ok(())
 }
 
@@ -260,48 +339,58 @@ fn scattered_words(alloc: Global, many: u32) -> Result<ListChoices, AllocError> 
     Ok(ListChoices::new(words))
 }
 
+/// So many workers with this quota print all leaves in their order.
+fn print_leaves(rt: &impl Abort, alloc: Global, workers: u32, k: u32) -> Result<(), AllocError> {
+    let want = "done, prints 16 17 18 19 20 21 22 23 24 25 26 27 28 29 30 31, ";
+    let choices = scattered_words(alloc, 2_000)?;
+    let mut run = run_of(alloc, LEAVES, k, workers, 1_048_576, 4_000_000, 4_096)?;
+    let got = played(alloc, &mut run.core, choices)?;
+    assert!(rt;
+        got.as_str().starts_with(want),
+        "{got} at {workers} workers, quota {k}"
+    );
+    Ok(())
+}
+
 /// However many workers there are, and whatever the quota, all leaves are printed in their order.
 #[test]
-fn any_workers_print_the_same(rt: HostRuntime) -> Result<(), Fail> {
-    let want = "done, prints 16 17 18 19 20 21 22 23 24 25 26 27 28 29 30 31, ";
+fn any_workers_print_the_same(rt: HostRuntime) -> Result<(), AllocError> {
     for workers in [1, 2, 7, 64] {
         for k in [16, 64] {
-            let mut core = core_of(rt.alloc(), LEAVES, k, workers, 1_048_576, 4_000_000, 4_096)?;
-            let mut choices = scattered_words(rt.alloc(), 2_000)?;
-            let end = play(&mut core, &mut choices);
-            let got = told(rt.alloc(), &core, end)?;
-            assert!(rt;
-                got.as_str().starts_with(want),
-                "{got} at {workers} workers, quota {k}"
-            );
+            print_leaves(&rt, rt.alloc(), workers, k)?;
         }
     }
     Ok(())
 }
 
-/// Plays a run to its end, and writes down its stop or the most words that were out at once.
-fn tell_end(alloc: Global, text: &mut String, mut core: Core) -> Result<(), Fail> {
+/// Lets one worker play the tree of leaves with this quota, these words of the arena and so many deques, and writes down the stop or the
+/// most words that were out at once.
+fn tell_leaves(
+    alloc: Global,
+    text: &mut String,
+    k: u32,
+    arena: u32,
+    most: u32,
+) -> Result<(), AllocError> {
+    let mut run = run_of(alloc, LEAVES, k, 1, arena, 4_000_000, most)?;
     let mut choices = words_of(alloc, "")?;
-    match play(&mut core, &mut choices) {
-        RunEnd::Finished(_) => write!(text, "{}; ", core.moves().high())?,
-        RunEnd::Stopped(stop) => write!(text, "{stop:?}; ")?,
+    match play_to_end(&mut run.core, &mut choices) {
+        RunEnd::Finished(_) => write!(text, "{}; ", run.core.moves().high()),
+        RunEnd::Stopped(stop) => write!(text, "{stop:?}; "),
     }
-    Ok(())
 }
 
 /// At each size of the arena below the most words that one worker needs, which are four record blocks and a leaf, the play stops at the
 /// full arena, and from there on it finishes; and so with the number of deques. The numbers were
 /// read off a run of this scheduler, and `reference/` comes to all of them.
 #[test]
-fn a_play_stops_where_room_is_wanting(rt: HostRuntime) -> Result<(), Fail> {
+fn a_play_stops_where_room_is_wanting(rt: HostRuntime) -> Result<(), AllocError> {
     let mut text = String::new(rt.alloc());
     for arena in [16, 32, 48, 64, 80, 96, 112] {
-        let core = core_of(rt.alloc(), LEAVES, 4_096, 1, arena, 4_000_000, 4_096)?;
-        tell_end(rt.alloc(), &mut text, core)?;
+        tell_leaves(rt.alloc(), &mut text, 4_096, arena, 4_096)?;
     }
-    for most in [1, 2, 3, 4, 5, 6, 7, 8, 9, 10, 11, 12] {
-        let core = core_of(rt.alloc(), LEAVES, 16, 1, 1_048_576, 4_000_000, most)?;
-        tell_end(rt.alloc(), &mut text, core)?;
+    for most in 1..13 {
+        tell_leaves(rt.alloc(), &mut text, 16, 1_048_576, most)?;
     }
     assert_eq!(rt;
         text.as_str(),

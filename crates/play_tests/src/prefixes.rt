@@ -13,17 +13,26 @@ use serial_meaning::{Serial, depth_first};
 use std::alloc::{AllocError, Global};
 use std::fmt::Write;
 use std::process::Abort;
-use std::test::Fail;
+
+/// A core, and the depth-first run that it is compared with. Both are let go by a call, as a `Run`.
+pub(crate) struct Compared {
+    pub core: Core,
+    pub serial: Serial,
+}
+
+impl Drop for Compared {
+    fn drop(self) {
+        let Compared {
+            core: _core,
+            serial: _serial,
+        } = self;
+    }
+}
 
 /// The core of a run of a text, and its depth-first run. A number that is out of its range, and a text that is no accepted program, count
 /// as want of memory.
-pub(crate) fn begun(
-    alloc: Global,
-    text: &str,
-    k: u32,
-    workers: u32,
-) -> Result<(Core, Serial), AllocError>
-    ensures { IfOk result (λ both. IsSerialOf both.0 both.1) }
+pub(crate) fn begun(alloc: Global, text: &str, k: u32, workers: u32) -> Result<Compared, AllocError>
+    ensures { IfOk result (λ both. IsSerialOf both.core both.serial) }
 {
     let Some(k) = Quota::new(k) else {
         return Err(AllocError);
@@ -42,7 +51,7 @@ pub(crate) fn begun(
         return Err(AllocError);
     }
     let core = Core::new(alloc, code, k, workers, pool, 1_000, 64)?;
-    Ok((core, serial))
+    Ok(Compared { core, serial })
 }
 
 /// Lets workers move, one a digit. A worker that steals robs the first deque that it can.
@@ -58,24 +67,51 @@ fn let_move(core: &mut Core, serial: &Serial, workers: &str)
     }
 }
 
-/// The labels of the threads in the deques, and what stands of the space bound.
-fn shown(alloc: Global, core: &Core, serial: &Serial) -> Result<String, Fail>
-    requires { IsSerialOf core.now serial.now }
-{
-    let mut text = String::new(alloc);
+/// Writes the labels of the threads in the deques.
+fn tell_labels(alloc: Global, text: &mut String, core: &Core) -> Result<(), AllocError> {
     let labels = leaves(alloc, core)?;
     for label in &labels {
         write!(text, "{:?} ", label.ordinals())?;
     }
-    let prefix = prefix_split(alloc, core, serial)?;
-    let ahead = ahead_now(alloc, core, serial)?;
-    let margin = bound_margin(alloc, core, serial)?;
+    Ok(())
+}
+
+/// What stands of the space bound.
+#[derive(Drop)]
+struct Bound {
+    prefix: u32,
+    ahead: u32,
+    margin: u64,
+}
+
+/// What stands of the space bound in a core.
+fn bound_of(alloc: Global, core: &Core, serial: &Serial) -> Result<Bound, AllocError>
+    requires { IsSerialOf core.now serial.now }
+{
+    Ok(Bound {
+        prefix: prefix_split(alloc, core, serial)?,
+        ahead: ahead_now(alloc, core, serial)?,
+        margin: bound_margin(alloc, core, serial)?,
+    })
+}
+
+/// Writes what stands of the space bound, and the words that are out.
+fn tell_bound(text: &mut String, bound: &Bound, live: u64) -> Result<(), AllocError> {
     write!(
         text,
-        "prefix {prefix}, ahead {ahead}, live {}, margin {margin}",
-        core.live()
-    )?;
-    Ok(text)
+        "prefix {}, ahead {}, live {live}, margin {}",
+        bound.prefix, bound.ahead, bound.margin
+    )
+}
+
+/// A row of a table: the quota; the workers; the workers that move, one after another; what the core shows then; and the program.
+#[derive(Drop)]
+struct Row<'a> {
+    k: u32,
+    workers: u32,
+    moves: &'a str,
+    want: &'a str,
+    text: &'a str,
 }
 
 /// The number in a part of a row.
@@ -83,21 +119,48 @@ fn number(part: &str) -> u32 {
     part.trim().parse::<u32>().unwrap_or(0)
 }
 
-/// Each row is the quota; the workers; the workers that move, one after another; what the core shows then; and the program.
-fn shows_so(rt: &impl Abort, alloc: Global, rows: &str) -> Result<(), Fail> {
+/// The parts of a row; None in front of the first row.
+fn row_of(row: &str) -> Option<Row<'_>> {
+    let mut parts = row.split('|');
+    Some(Row {
+        k: number(parts.next()?),
+        workers: number(parts.next()?),
+        moves: parts.next()?,
+        want: parts.next()?.trim(),
+        text: parts.next()?.trim(),
+    })
+}
+
+/// What a core shows: the labels of the threads in its deques, what stands of the space bound, and the words that are out.
+fn shown(alloc: Global, core: &Core, serial: &Serial) -> Result<String, AllocError>
+    requires { IsSerialOf core.now serial.now }
+{
+    let bound = bound_of(alloc, core, serial)?;
+    let mut text = String::new(alloc);
+    tell_labels(alloc, &mut text, core)?;
+    tell_bound(&mut text, &bound, core.live())?;
+    Ok(text)
+}
+
+/// What the core of a row shows behind the moves of the row.
+fn shown_behind(alloc: Global, row: &Row) -> Result<String, AllocError> {
+    let mut both = begun(alloc, row.text, row.k, row.workers)?;
+    let_move(&mut both.core, &both.serial, row.moves);
+    shown(alloc, &both.core, &both.serial)
+}
+
+/// The core of a row shows what the row says.
+fn show_row(rt: &impl Abort, alloc: Global, row: &Row) -> Result<(), AllocError> {
+    let got = shown_behind(alloc, row)?;
+    assert_eq!(rt; got.as_str(), row.want, "{}", row.text);
+    Ok(())
+}
+
+/// The core of each row of a table shows what the row says.
+fn show_so(rt: &impl Abort, alloc: Global, rows: &str) -> Result<(), AllocError> {
     for row in rows.split('@') {
-        let mut parts = row.split('|');
-        if let (Some(k), Some(workers), Some(moves), Some(want), Some(text)) = (
-            parts.next(),
-            parts.next(),
-            parts.next(),
-            parts.next(),
-            parts.next(),
-        ) {
-            let (mut core, serial) = begun(alloc, text.trim(), number(k), number(workers))?;
-            let_move(&mut core, &serial, moves);
-            let got = shown(alloc, &core, &serial)?;
-            assert_eq!(rt; got.as_str(), want.trim(), "{text}");
+        if let Some(row) = row_of(row) {
+            show_row(rt, alloc, &row)?;
         }
     }
     Ok(())
@@ -111,6 +174,6 @@ const MOMENTS: &str = "
 ";
 
 #[test]
-fn cores_show_their_laws(rt: HostRuntime) -> Result<(), Fail> {
-    shows_so(&rt, rt.alloc(), MOMENTS)
+fn cores_show_their_laws(rt: HostRuntime) -> Result<(), AllocError> {
+    show_so(&rt, rt.alloc(), MOMENTS)
 }

@@ -2,8 +2,8 @@
 //! machine's moment has.
 
 use crate::listed::{Listed, label_of};
-use crate::plays::next_word;
-use crate::prefixes::begun;
+use crate::plays::{next_word, step_of};
+use crate::prefixes::{Compared, begun};
 use dag_order::{ActionId, Births, Kind, Label};
 use dfd_core::{Core, RunEnd, Stepped};
 use machine_replay::runs::{opening, replay, step};
@@ -22,7 +22,7 @@ const TURNS: u32 = 5_000;
 #[derive(Drop)]
 struct Play<'a> {
     text: &'a str,
-    serial: Serial,
+    serial: &'a Serial,
     listed: Listed,
     k: u32,
     workers: u32,
@@ -180,9 +180,20 @@ fn tell_books(
         let places = places_in(alloc, births, &play.listed, period.book)?;
         tell_book(text, period.ahead, period.owner, &places)?;
         begun = begun.saturating_add(u64::from(period.births.len()));
-        ended = ended.saturating_add(ends_at(&play.serial, &places));
+        ended = ended.saturating_add(ends_at(play.serial, &places));
     }
     Ok(begun.saturating_sub(ended))
+}
+
+/// Writes how many threads wait, and what a core counts.
+fn tell_counts_of(text: &mut String, core: &Core, waiting: u64) -> Result<(), AllocError> {
+    write!(
+        text,
+        "waiting {waiting}, live {}, actions {}, ahead {}",
+        core.live(),
+        core.actions(),
+        core.ahead()
+    )
 }
 
 /// What a core holds: its deques, its books, how many threads wait, its live words, and how many periods are marked.
@@ -191,14 +202,7 @@ fn told_of_core(alloc: Global, core: &Core, play: &Play) -> Result<String, Fail>
     let mut text = String::new(alloc);
     let standing = tell_deques(alloc, &mut text, core, &births)?;
     let going = tell_books(alloc, &mut text, core, &births, play)?;
-    write!(
-        text,
-        "waiting {}, live {}, actions {}, ahead {}",
-        going.saturating_sub(standing),
-        core.live(),
-        core.actions(),
-        core.ahead()
-    )?;
+    tell_counts_of(&mut text, core, going.saturating_sub(standing))?;
     Ok(text)
 }
 
@@ -296,22 +300,13 @@ fn mover(core: &Core, word: u64) -> Option<u32> {
     None
 }
 
-/// One turn of a play: a worker moves, and so does the machine.
-fn turn(
-    rt: &impl Abort,
+/// What the machine makes of a pair: the next moment, or None where the pair is no case of it. It hands no clause on, as `run_of`.
+fn machine_step(
     alloc: Global,
-    core: &mut Core,
     play: &Play,
     moment: Moment,
-    worker: u32,
-    word: u64,
-) -> Result<(Pair, Moment), Fail> {
-    if core.workers() <= worker {
-        return Err(Fail::new("no such worker"));
-    }
-    let stepped = core.step(worker, word);
-    let event = event_of(alloc, core, &moment, play, word, stepped)?;
-    let pair = Pair { worker, event };
+    pair: Pair,
+) -> Result<Option<Moment>, Fail> {
     if 1_000_000 < play.listed.actions.len() {
         return Err(Fail::new("a list too long"));
     }
@@ -323,16 +318,41 @@ fn turn(
         moment,
         pair,
     )?;
-    let Some(next) = next else {
-        assert!(rt;
-            false,
-            "{pair:?} is no case of the machine, quota {}: {}",
-            play.k, play.text
-        );
-        return Err(Fail::new("a pair that is no case of the machine"));
-    };
+    Ok(next)
+}
+
+/// The moment that a pair leads to.
+fn next_moment(
+    rt: &impl Abort,
+    alloc: Global,
+    play: &Play,
+    moment: Moment,
+    pair: Pair,
+) -> Result<Moment, Fail> {
+    match machine_step(alloc, play, moment, pair)? {
+        Some(next) => Ok(next),
+        None => {
+            assert!(rt;
+                false,
+                "{pair:?} is no case of the machine, quota {}: {}",
+                play.k, play.text
+            );
+            Err(Fail::new("a pair that is no case of the machine"))
+        }
+    }
+}
+
+/// Behind a pair a core holds what the moment has.
+fn compare_moment(
+    rt: &impl Abort,
+    alloc: Global,
+    core: &Core,
+    play: &Play,
+    next: &Moment,
+    pair: Pair,
+) -> Result<(), Fail> {
     let told = told_of_core(alloc, core, play)?;
-    let want = told_of_moment(alloc, &next, &play.serial)?;
+    let want = told_of_moment(alloc, next, play.serial)?;
     assert_eq!(rt;
         told.as_str(),
         want.as_str(),
@@ -340,6 +360,24 @@ fn turn(
         play.k,
         play.text
     );
+    Ok(())
+}
+
+/// One turn of a play: a worker moves, and so does the machine.
+fn turn(
+    rt: &impl Abort,
+    alloc: Global,
+    core: &mut Core,
+    play: &Play,
+    moment: Moment,
+    worker: u32,
+    word: u64,
+) -> Result<(Pair, Moment), Fail> {
+    let stepped = step_of(core, worker, word)?;
+    let event = event_of(alloc, core, &moment, play, word, stepped)?;
+    let pair = Pair { worker, event };
+    let next = next_moment(rt, alloc, play, moment, pair)?;
+    compare_moment(rt, alloc, core, play, &next, pair)?;
     Ok((pair, next))
 }
 
@@ -391,40 +429,12 @@ fn core_and_serial(
     text: &str,
     k: u32,
     workers: u32,
-) -> Result<(Core, Serial), AllocError> {
+) -> Result<Compared, AllocError> {
     begun(alloc, text, k, workers)
 }
 
-/// A program as it is played, and its core.
-fn play_of<'a>(
-    alloc: Global,
-    text: &'a str,
-    k: u32,
-    workers: u32,
-) -> Result<(Core, Play<'a>), Fail> {
-    let (core, serial) = core_and_serial(alloc, text, k, workers)?;
-    let listed = Listed::of(alloc, &serial)?;
-    Ok((
-        core,
-        Play {
-            text,
-            serial,
-            listed,
-            k,
-            workers,
-        },
-    ))
-}
-
-/// The end of a play is that of the depth-first run, and all its pairs together lead to the moment that they lead to one by one.
-fn compare_end(
-    rt: &impl Abort,
-    alloc: Global,
-    core: &Core,
-    play: &Play,
-    pairs: &[Pair],
-    last: &Moment,
-) -> Result<(), Fail> {
+/// The end of a play is that of the depth-first run.
+fn compare_end(rt: &impl Abort, core: &Core, play: &Play) {
     let finish = RunEnd::Finished(play.serial.finish);
     assert!(rt;
         core.end() == Some(finish),
@@ -433,14 +443,43 @@ fn compare_end(
         play.text
     );
     assert_eq!(rt; core.actions(), play.serial.actions.len(), "{}", play.text);
-    let again = replayed(alloc, play, pairs)?;
-    let told = told_of_moment(alloc, &again, &play.serial)?;
-    let want = told_of_moment(alloc, last, &play.serial)?;
+}
+
+/// What the moment has that all these pairs lead to from the opening one.
+fn told_of_replay(alloc: Global, play: &Play, pairs: &[Pair]) -> Result<String, Fail> {
+    let moment = replayed(alloc, play, pairs)?;
+    let told = told_of_moment(alloc, &moment, play.serial)?;
+    Ok(told)
+}
+
+/// All pairs of a play together lead to the moment that they lead to one by one.
+fn compare_last(
+    rt: &impl Abort,
+    alloc: Global,
+    play: &Play,
+    pairs: &[Pair],
+    last: &Moment,
+) -> Result<(), Fail> {
+    let told = told_of_replay(alloc, play, pairs)?;
+    let want = told_of_moment(alloc, last, play.serial)?;
     assert_eq!(rt; told.as_str(), want.as_str(), "{}", play.text);
     Ok(())
 }
 
-/// Plays a program with the words of a seed. The play goes with the machine from the opening to the end.
+/// Plays to the end with the words of a seed. The play goes with the machine from the opening to the end.
+fn play_through(
+    rt: &impl Abort,
+    alloc: Global,
+    core: &mut Core,
+    play: &Play,
+    seed: u64,
+) -> Result<(), Fail> {
+    let (pairs, last) = play_on(rt, alloc, core, play, seed)?;
+    compare_end(rt, core, play);
+    compare_last(rt, alloc, play, &pairs, &last)
+}
+
+/// Plays a program with the words of a seed.
 fn follow(
     rt: &impl Abort,
     alloc: Global,
@@ -449,9 +488,16 @@ fn follow(
     workers: u32,
     seed: u64,
 ) -> Result<(), Fail> {
-    let (mut core, play) = play_of(alloc, text, k, workers)?;
-    let (pairs, last) = play_on(rt, alloc, &mut core, &play, seed)?;
-    compare_end(rt, alloc, &core, &play, &pairs, &last)
+    let mut both = core_and_serial(alloc, text, k, workers)?;
+    let listed = Listed::of(alloc, &both.serial)?;
+    let play = Play {
+        text,
+        serial: &both.serial,
+        listed,
+        k,
+        workers,
+    };
+    play_through(rt, alloc, &mut both.core, &play, seed)
 }
 
 /// Each program is played with each of these quotas.
