@@ -1,7 +1,7 @@
-use Rattle.std.proofs.Common.{◌≡◌, ◌+◌, sym, ◌∙◌, ap, subst}
+use Rattle.std.proofs.Common.{◌+◌, sym, ◌∙◌, ap, subst}
 use Rattle.thread_frames.specs.Actions.{IsSame}
 use Rattle.thread_frames.specs.Children.{with_delivered}
-use Rattle.thread_frames.specs.Points.{IsAtPoint, IsResult}
+use Rattle.thread_frames.specs.Points.{IsAtPoint}
 use Rattle.thread_frames.specs.Views.{children_of, done_of, forks_of, next_of, thread_words, ended_words}
 use Rattle.thread_frames.specs.declared.thread.Thread.{Thread}
 use Rattle.owner_steps.proofs.results.hand_over.Goals as goal

@@ -1,4 +1,4 @@
-use Rattle.std.proofs.Common.{◌≡◌, ◌+◌, sym, ◌∙◌, ap, subst}
+use Rattle.std.proofs.Common.{◌+◌, sym, ◌∙◌, ap, subst}
 use Rattle.thread_parts.specs.Shown.{thread_shown}
 use Rattle.thread_frames.specs.Actions.{HasForked}
 use Rattle.thread_frames.specs.Views.{forks_of}
