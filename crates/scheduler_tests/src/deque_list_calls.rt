@@ -2,7 +2,8 @@ ghost use Rattle.std.specs.Prelude.{◌≡◌, ℕ, None, []};
 ghost use Rattle.deque_list.specs.Ids.{IsLive};
 ghost use Rattle.deque_list.specs.Deques.{Deque, DequeAt, deque_ids};
 
-use deque_list::{DequeId, InsertRefused, List, Order, OrderFull, Place};
+use deque_list::{DequeId, InsertRefused, Lane, List, Order, OrderFull, Place};
+use std::fmt::Write;
 use std::process::Abort;
 use std::test::Fail;
 
@@ -16,34 +17,75 @@ fn live(rt: &impl Abort, list: &List<u32>, id: DequeId)
     }
 }
 
-// Checks that the list shows these deques: their ids, owners and items from top to bottom.
-fn shows(rt: &impl Abort, list: &List<u32>, want: &[(u32, Option<u32>, &[u32])]) {
-    assert_eq!(rt; list.len() as usize, want.len());
-    for (rank, &(number, owner, items)) in want.iter().enumerate() {
-        let id = DequeId(number);
-        live(rt, list, id);
-        assert!(rt; rank < 4096 && items.len() < 4096);
-        assert_eq!(rt; list.at(rank as u32), Some(id));
-        assert_eq!(rt; list.rank(id), Some(rank as u32));
-        assert_eq!(rt; list.owner(id), owner);
-        for (place, item) in items.iter().enumerate() {
-            assert!(rt; place < 4096);
-            assert_eq!(rt; list.item(id, place as u32), Some(item));
-        }
-        assert_eq!(rt; list.item(id, items.len() as u32), None);
-        let ready = owner.is_none() || items.len() >= 2;
-        assert_eq!(rt;
-            (list.ready(id), list.ready_at(rank as u32)),
-            (ready, ready)
-        );
-        assert_eq!(rt; list.place(rank as u32), Some(Place { id, owner }));
-        assert_eq!(rt; list.lane(id).len() as usize, items.len());
+// Checks that what is told of a deque by its rank is what is told of it by its id.
+fn agrees(rt: &impl Abort, list: &List<u32>, rank: u32, id: DequeId) {
+    live(rt, list, id);
+    let owner = list.owner(id);
+    let items = list.lane(id).len();
+    let ready = owner.is_none() || items >= 2;
+    assert_eq!(rt;
+        (list.rank(id), list.place(rank), list.item(id, items)),
+        (Some(rank), Some(Place { id, owner }), None)
+    );
+    assert_eq!(rt; [list.ready(id), list.ready_at(rank)], [ready, ready]);
+}
+
+fn add_owner(
+    rt: &impl Abort,
+    told: &mut String,
+    list: &List<u32>,
+    id: DequeId,
+) -> Result<(), Fail> {
+    live(rt, list, id);
+    match list.owner(id) {
+        Some(owner) => write!(told, "{} of {owner}:", id.0)?,
+        None => write!(told, "{}:", id.0)?,
     }
+    Ok(())
+}
+
+fn add_items(
+    rt: &impl Abort,
+    told: &mut String,
+    list: &List<u32>,
+    id: DequeId,
+) -> Result<(), Fail> {
+    live(rt, list, id);
+    for place in 0..list.lane(id).len() {
+        match list.item(id, place) {
+            Some(item) => write!(told, " {item}")?,
+            None => return Err(Fail::new("a place of the lane has no item")),
+        }
+    }
+    told.push_str("; ")?;
+    Ok(())
+}
+
+// Each deque from left to right: its id, its owner if it has one, and its items from top to bottom.
+fn told(rt: &(impl Abort + AllocGlobal), list: &List<u32>) -> Result<String, Fail> {
+    let mut told = String::new(rt.alloc());
+    for rank in 0..list.len() {
+        match list.at(rank) {
+            Some(id) => {
+                agrees(rt, list, rank, id);
+                add_owner(rt, &mut told, list, id)?;
+                add_items(rt, &mut told, list, id)?;
+            }
+            None => return Err(Fail::new("a rank of the list has no deque")),
+        }
+    }
+    Ok(told)
+}
+
+// Checks that the list shows these deques, and nothing behind them.
+fn shows(rt: &(impl Abort + AllocGlobal), list: &List<u32>, want: &str) -> Result<(), Fail> {
+    assert_eq!(rt; told(rt, list)?.as_str(), want);
     let len = list.len();
     assert_eq!(rt;
         (list.at(len), list.place(len), list.ready_at(len)),
         (None, None, false)
     );
+    Ok(())
 }
 
 // Inserts a deque and gives its id.
@@ -83,41 +125,42 @@ fn give_up(rt: &impl Abort, list: &mut List<u32>, id: u32) {
     list.give_up(DequeId(id));
 }
 
+fn items_are_pushed(rt: &(impl Abort + AllocGlobal), list: &mut List<u32>) -> Result<(), Fail> {
+    shows(rt, list, "0: 7; ")?;
+    push(rt, list, 0, 8)?;
+    push(rt, list, 0, 9)?;
+    shows(rt, list, "0: 9 8 7; ")
+}
+
+// The bottom items of deque 0 become deques.
+fn deques_are_inserted(rt: &(impl Abort + AllocGlobal), list: &mut List<u32>) -> Result<(), Fail> {
+    assert_eq!(rt; take(rt, list, 0), Some(7));
+    assert_eq!(rt; insert(rt, list, 0, 7, 5), Some(DequeId(1)));
+    shows(rt, list, "0: 9 8; 1 of 5: 7; ")?;
+    assert_eq!(rt; take(rt, list, 0), Some(8));
+    assert_eq!(rt; insert(rt, list, 0, 8, 6), Some(DequeId(2)));
+    shows(rt, list, "0: 9; 2 of 6: 8; 1 of 5: 7; ")?;
+    assert_eq!(rt; insert(rt, list, 0, 1, 1), None);
+    Ok(())
+}
+
+fn deques_are_emptied(rt: &(impl Abort + AllocGlobal), list: &mut List<u32>) -> Result<(), Fail> {
+    push(rt, list, 1, 4)?;
+    give_up(rt, list, 2);
+    shows(rt, list, "0: 9; 2: 8; 1 of 5: 4 7; ")?;
+    assert_eq!(rt; pop(rt, list, 1), Some(4));
+    assert_eq!(rt; pop(rt, list, 0), Some(9));
+    assert_eq!(rt; [pop(rt, list, 0), take(rt, list, 0)], [None, None]);
+    shows(rt, list, "0:; 2: 8; 1 of 5: 7; ")
+}
+
 #[test]
 fn calls_change_their_deque_alone(rt: HostRuntime) -> Result<(), Fail> {
     let mut list = List::new(rt.alloc(), 7, 3).ok().expect(&rt, "memory");
-    shows(&rt, &list, &[(0, None, &[7])]);
-    push(&rt, &mut list, 0, 8)?;
-    push(&rt, &mut list, 0, 9)?;
-    shows(&rt, &list, &[(0, None, &[9, 8, 7])]);
-    assert_eq!(rt; take(&rt, &mut list, 0), Some(7));
-    assert_eq!(rt; insert(&rt, &mut list, 0, 7, 5), Some(DequeId(1)));
-    shows(&rt, &list, &[(0, None, &[9, 8]), (1, Some(5), &[7])]);
-    assert_eq!(rt; take(&rt, &mut list, 0), Some(8));
-    assert_eq!(rt; insert(&rt, &mut list, 0, 8, 6), Some(DequeId(2)));
-    shows(
-        &rt,
-        &list,
-        &[(0, None, &[9]), (2, Some(6), &[8]), (1, Some(5), &[7])],
-    );
-    assert_eq!(rt; insert(&rt, &mut list, 0, 1, 1), None);
-    push(&rt, &mut list, 1, 4)?;
-    give_up(&rt, &mut list, 2);
-    shows(
-        &rt,
-        &list,
-        &[(0, None, &[9]), (2, None, &[8]), (1, Some(5), &[4, 7])],
-    );
-    assert_eq!(rt; pop(&rt, &mut list, 1), Some(4));
-    assert_eq!(rt; pop(&rt, &mut list, 0), Some(9));
-    assert_eq!(rt; pop(&rt, &mut list, 0), None);
-    assert_eq!(rt; take(&rt, &mut list, 0), None);
-    shows(
-        &rt,
-        &list,
-        &[(0, None, &[]), (2, None, &[8]), (1, Some(5), &[7])],
-    );
-    assert_eq!(rt; (list.leftmost(2), list.leftmost(9)), (2, 3));
+    items_are_pushed(&rt, &mut list)?;
+    deques_are_inserted(&rt, &mut list)?;
+    deques_are_emptied(&rt, &mut list)?;
+    assert_eq!(rt; [list.leftmost(2), list.leftmost(9)], [2, 3]);
     Ok(())
 }
 
@@ -141,45 +184,39 @@ fn take_over(rt: &impl Abort, list: &mut List<u32>, id: u32, owner: u32) {
     list.take_over(DequeId(id), owner);
 }
 
-#[test]
-fn ids_come_back_smallest_first(rt: HostRuntime) {
-    let mut list = List::new(rt.alloc(), 0, 4).ok().expect(&rt, "memory");
+fn three_are_inserted(rt: &(impl Abort + AllocGlobal), list: &mut List<u32>) -> Result<(), Fail> {
     for n in 1..4 {
-        assert_eq!(rt; insert(&rt, &mut list, 0, n, n), Some(DequeId(n)));
+        assert_eq!(rt; insert(rt, list, 0, n, n), Some(DequeId(n)));
     }
-    shows(
-        &rt,
-        &list,
-        &[
-            (0, None, &[0]),
-            (3, Some(3), &[3]),
-            (2, Some(2), &[2]),
-            (1, Some(1), &[1]),
-        ],
-    );
-    assert_eq!(rt; pop(&rt, &mut list, 2), Some(2));
-    remove(&rt, &mut list, 2);
-    assert_eq!(rt; pop(&rt, &mut list, 0), Some(0));
-    remove(&rt, &mut list, 0);
+    shows(rt, list, "0: 0; 3 of 3: 3; 2 of 2: 2; 1 of 1: 1; ")
+}
+
+fn two_are_removed(rt: &(impl Abort + AllocGlobal), list: &mut List<u32>) -> Result<(), Fail> {
+    assert_eq!(rt; pop(rt, list, 2), Some(2));
+    remove(rt, list, 2);
+    assert_eq!(rt; pop(rt, list, 0), Some(0));
+    remove(rt, list, 0);
     assert_eq!(rt; list.rank(DequeId(0)), None);
-    shows(&rt, &list, &[(3, Some(3), &[3]), (1, Some(1), &[1])]);
-    assert_eq!(rt; insert(&rt, &mut list, 3, 5, 9), Some(DequeId(0)));
-    assert_eq!(rt; insert(&rt, &mut list, 1, 6, 8), Some(DequeId(2)));
-    give_up(&rt, &mut list, 0);
-    take_over(&rt, &mut list, 0, 4);
-    if let Some(top) = top_of(&rt, &mut list, 0) {
+    shows(rt, list, "3 of 3: 3; 1 of 1: 1; ")
+}
+
+fn their_ids_come_back(rt: &(impl Abort + AllocGlobal), list: &mut List<u32>) -> Result<(), Fail> {
+    assert_eq!(rt; insert(rt, list, 3, 5, 9), Some(DequeId(0)));
+    assert_eq!(rt; insert(rt, list, 1, 6, 8), Some(DequeId(2)));
+    give_up(rt, list, 0);
+    take_over(rt, list, 0, 4);
+    if let Some(top) = top_of(rt, list, 0) {
         *top = 50;
     }
-    shows(
-        &rt,
-        &list,
-        &[
-            (3, Some(3), &[3]),
-            (0, Some(4), &[50]),
-            (1, Some(1), &[1]),
-            (2, Some(8), &[6]),
-        ],
-    );
+    shows(rt, list, "3 of 3: 3; 0 of 4: 50; 1 of 1: 1; 2 of 8: 6; ")
+}
+
+#[test]
+fn ids_come_back_smallest_first(rt: HostRuntime) -> Result<(), Fail> {
+    let mut list = List::new(rt.alloc(), 0, 4).ok().expect(&rt, "memory");
+    three_are_inserted(&rt, &mut list)?;
+    two_are_removed(&rt, &mut list)?;
+    their_ids_come_back(&rt, &mut list)
 }
 
 // The top item for writing.
@@ -188,31 +225,38 @@ fn top_of<'a>(rt: &impl Abort, list: &'a mut List<u32>, id: u32) -> Option<&'a m
     list.top_mut(DequeId(id))
 }
 
+// A deque behind deque 0 is refused, with its item.
+fn one_more_is_refused(rt: &impl Abort, list: &mut List<u32>) {
+    live(rt, list, DequeId(0));
+    let refused = list.insert_right(DequeId(0), 3, 1);
+    assert_eq!(rt; refused, Err((3, InsertRefused::Full { deques: 2 })));
+}
+
 #[test]
-fn a_full_list_refuses_one_more(rt: HostRuntime) {
+fn a_full_list_refuses_one_more(rt: HostRuntime) -> Result<(), Fail> {
     let mut list = List::new(rt.alloc(), 1, 2).ok().expect(&rt, "memory");
     assert!(rt; list.room_right().is_ok());
     assert_eq!(rt; insert(&rt, &mut list, 0, 2, 0), Some(DequeId(1)));
     assert_eq!(rt; list.rank(DequeId(1)), Some(1));
     assert_eq!(rt; list.room_right(), Err(InsertRefused::Full { deques: 2 }));
-    live(&rt, &list, DequeId(0));
-    let refused = list.insert_right(DequeId(0), 3, 1);
-    assert_eq!(rt; refused, Err((3, InsertRefused::Full { deques: 2 })));
-    shows(&rt, &list, &[(0, None, &[1]), (1, Some(0), &[2])]);
+    one_more_is_refused(&rt, &mut list);
+    shows(&rt, &list, "0: 1; 1 of 0: 2; ")
 }
 
 // A value that may go to another thread.
 fn sends<T: Send>(_value: &T) {}
 
-#[test]
-fn order_and_lane_stand_alone(rt: HostRuntime) -> Result<(), Fail> {
-    let list = List::new(rt.alloc(), 1, 2).ok().expect(&rt, "memory");
+// An order of at most so many deques, its first id, and the lane of that deque.
+fn parts(rt: &(impl Abort + AllocGlobal), item: u32, most: u32) -> (Order, DequeId, Lane<u32>) {
+    assert!(rt; 1 <= most && most <= 4_096);
+    let list = List::new(rt.alloc(), item, most).ok().expect(rt, "memory");
     assert!(rt; list.len() == 1);
     sends(&list);
-    let (mut order, id, mut lane) = list.into_first();
-    assert_eq!(rt; (order.len(), order.most(), id), (1, 2, DequeId(0)));
-    sends(&order);
-    sends(&lane);
+    list.into_first()
+}
+
+// A lane of the item 1.
+fn a_lane_has_items(rt: &impl Abort, lane: &mut Lane<u32>) -> Result<(), Fail> {
     lane.reserve()?;
     lane.push_top(2);
     assert_eq!(rt; (lane.len(), lane.top()), (2, Some(&2)));
@@ -220,13 +264,17 @@ fn order_and_lane_stand_alone(rt: HostRuntime) -> Result<(), Fail> {
     if let Some(top) = lane.top_mut() {
         *top = 3;
     }
-    assert_eq!(rt; (lane.pop_top(), lane.pop_top()), (Some(3), None));
-    match order.rank(id) {
-        Some(rank) => assert_eq!(rt; rank, 0),
-        None => panic!(rt; "the deque is not live"),
-    }
-    assert_eq!(rt; order.next_id(), Some(DequeId(1)));
-    assert_eq!(rt; order_insert(&rt, &mut order, id, 7), Ok(DequeId(1)));
+    assert_eq!(rt; [lane.pop_top(), lane.pop_top()], [Some(3), None]);
+    Ok(())
+}
+
+// An order of at most two deques, which has one.
+fn an_order_has_deques(rt: &impl Abort, order: &mut Order, id: DequeId) {
+    assert_eq!(rt;
+        (order.rank(id), order.next_id()),
+        (Some(0), Some(DequeId(1)))
+    );
+    assert_eq!(rt; order_insert(rt, order, id, 7), Ok(DequeId(1)));
     assert_eq!(rt;
         (order.at(1), order.at(2), order.leftmost(3)),
         (Some(DequeId(1)), None, 2)
@@ -235,7 +283,17 @@ fn order_and_lane_stand_alone(rt: HostRuntime) -> Result<(), Fail> {
         id: DequeId(1),
         owner: Some(7),
     };
-    assert_eq!(rt; (order.place(1), order.place(2)), (Some(place), None));
+    assert_eq!(rt; [order.place(1), order.place(2)], [Some(place), None]);
+}
+
+#[test]
+fn order_and_lane_stand_alone(rt: HostRuntime) -> Result<(), Fail> {
+    let (mut order, id, mut lane) = parts(&rt, 1, 2);
+    assert_eq!(rt; (order.len(), order.most(), id), (1, 2, DequeId(0)));
+    sends(&order);
+    sends(&lane);
+    a_lane_has_items(&rt, &mut lane)?;
+    an_order_has_deques(&rt, &mut order, id);
     Ok(())
 }
 
@@ -253,43 +311,59 @@ fn order_insert(
     order.insert_right(of, owner)
 }
 
-// As many deques as a list may have, and 300 items in a lane.
-#[test]
-fn lists_and_lanes_grow(rt: HostRuntime) -> Result<(), Fail> {
-    let mut list = List::new(rt.alloc(), 0, 4_096).ok().expect(&rt, "memory");
+// As many deques as a list may have.
+fn a_list_grows(rt: &impl Abort, list: &mut List<u32>) {
     for before in 0..4_095 {
-        let next = insert(&rt, &mut list, before, before + 1, before);
+        let next = insert(rt, list, before, before + 1, before);
         assert_eq!(rt; next, Some(DequeId(before + 1)));
     }
     assert_eq!(rt;
         list.room_right(),
         Err(InsertRefused::Full { deques: 4_096 })
     );
+}
+
+// 300 items in the lane of the last deque.
+fn a_lane_grows(rt: &impl Abort, list: &mut List<u32>) -> Result<(), Fail> {
     for item in 0..299 {
-        push(&rt, &mut list, 4_095, item)?;
+        push(rt, list, 4_095, item)?;
     }
     assert_eq!(rt;
         list.place(4_095).map(|place| place.id),
         Some(DequeId(4_095))
     );
-    assert_eq!(rt; (list.ready_at(4_094), list.ready_at(4_095)), (false, true));
-    assert_eq!(rt; take(&rt, &mut list, 4_095), Some(4_095));
+    assert_eq!(rt; [list.ready_at(4_094), list.ready_at(4_095)], [false, true]);
+    Ok(())
+}
+
+fn a_lane_is_emptied(rt: &impl Abort, list: &mut List<u32>) {
+    assert_eq!(rt; take(rt, list, 4_095), Some(4_095));
     for left in 0..299u32 {
-        assert_eq!(rt; pop(&rt, &mut list, 4_095), Some(298 - left));
+        assert_eq!(rt; pop(rt, list, 4_095), Some(298 - left));
     }
-    assert_eq!(rt; pop(&rt, &mut list, 4_095), None);
-    let list = List::new(rt.alloc(), 0, 4_096).ok().expect(&rt, "memory");
-    assert!(rt; list.len() == 1);
-    let (mut order, id, _lane) = list.into_first();
+    assert_eq!(rt; pop(rt, list, 4_095), None);
+}
+
+fn an_order_grows(rt: &impl Abort, order: &mut Order, id: DequeId) {
     for before in 0..4_095 {
         let next = DequeId(before + 1);
         assert_eq!(rt; order.next_id(), Some(next));
-        assert_eq!(rt; order_insert(&rt, &mut order, id, before), Ok(next));
+        assert_eq!(rt; order_insert(rt, order, id, before), Ok(next));
     }
     assert_eq!(rt; order.next_id(), None);
     assert_eq!(rt;
-        order_insert(&rt, &mut order, id, 0),
+        order_insert(rt, order, id, 0),
         Err(OrderFull { deques: 4_096 })
     );
+}
+
+#[test]
+fn lists_and_lanes_grow(rt: HostRuntime) -> Result<(), Fail> {
+    let mut list = List::new(rt.alloc(), 0, 4_096).ok().expect(&rt, "memory");
+    a_list_grows(&rt, &mut list);
+    a_lane_grows(&rt, &mut list)?;
+    a_lane_is_emptied(&rt, &mut list);
+    let (mut order, id, _lane) = parts(&rt, 0, 4_096);
+    an_order_grows(&rt, &mut order, id);
     Ok(())
 }

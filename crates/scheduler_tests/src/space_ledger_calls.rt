@@ -2,6 +2,7 @@ use bounded_list::BoundedList;
 use dag_order::{ActionId, Birth, Births, ThreadId};
 use space_ledger::{Book, Books, Closed, Moved, Moves};
 use std::alloc::{AllocError, Global};
+use std::process::Abort;
 use std::test::Fail;
 
 const FIRST: ActionId = ActionId {
@@ -9,12 +10,38 @@ const FIRST: ActionId = ActionId {
     index: 0,
 };
 
-#[test]
-fn the_high_mark_is_the_greatest_sum_so_far(rt: HostRuntime) -> Result<(), Fail> {
-    let mut moves = Moves::new(rt.alloc());
-    assert_eq!(rt; (moves.live(), moves.high()), (0, 0));
-    // each change, and the sum and the high mark after it
-    let table: [(i32, i64, i64); 8] = [
+// The functions below make room for what they add. A caller knows nothing of what they did.
+
+fn add_move(rt: &impl Abort, moves: &mut Moves, change: i32) -> Result<(), AllocError> {
+    moves.reserve()?;
+    let sum = moves.live();
+    assert!(rt; -100_000 < sum && sum < 100_000);
+    moves.add(Moved {
+        by: FIRST,
+        change: i64::from(change),
+    });
+    Ok(())
+}
+
+fn add_closed(books: &mut Books, closed: Closed) -> Result<(), AllocError> {
+    books.reserve()?;
+    books.add(closed);
+    Ok(())
+}
+
+// A book of so many actions.
+fn book_of(alloc: Global, actions: u32) -> Result<Book, AllocError> {
+    let mut book: Book = BoundedList::new(alloc);
+    for _ in 0..actions {
+        book.reserve()?;
+        book.add(FIRST);
+    }
+    Ok(book)
+}
+
+// Each change, and the sum and the high mark after it.
+fn changes() -> [(i32, i64, i64); 8] {
+    [
         (-16, -16, 0),
         (16, 0, 0),
         (48, 48, 48),
@@ -23,14 +50,15 @@ fn the_high_mark_is_the_greatest_sum_so_far(rt: HostRuntime) -> Result<(), Fail>
         (32, 32, 48),
         (32, 64, 64),
         (-64, 0, 64),
-    ];
-    for (change, live, high) in table {
-        moves.reserve()?;
-        let sum = moves.live();
-        let change = i64::from(change);
-        assert!(rt; -1000 < sum && sum < 1000);
-        moves.add(Moved { by: FIRST, change });
-        assert_eq!(rt; (moves.live(), moves.high()), (live, high));
+    ]
+}
+
+#[test]
+fn the_high_mark_is_the_greatest_sum_so_far(rt: HostRuntime) -> Result<(), Fail> {
+    let mut moves = Moves::new(rt.alloc());
+    for (change, live, high) in changes() {
+        add_move(&rt, &mut moves, change)?;
+        assert_eq!(rt; [moves.live(), moves.high()], [live, high]);
     }
     assert_eq!(rt; moves.len(), 8);
     assert_eq!(rt; moves.at(2).map(|moved| moved.change), Some(48));
@@ -38,30 +66,37 @@ fn the_high_mark_is_the_greatest_sum_so_far(rt: HostRuntime) -> Result<(), Fail>
     Ok(())
 }
 
-#[test]
-fn books_count_periods_marks_and_actions(rt: HostRuntime) -> Result<(), Fail> {
-    let mut books = Books::new(rt.alloc());
-    // the mark and the actions of each period, and the marks and actions of all so far
-    let table = [
+// The mark and the actions of each period, and the marks and actions of all so far.
+fn periods() -> [(bool, u32, u32, u64); 4] {
+    [
         (false, 4, 0, 4),
         (true, 0, 1, 4),
         (true, 2, 2, 6),
         (false, 1, 2, 7),
-    ];
-    for (i, (ahead, actions, marked, all)) in table.into_iter().enumerate() {
-        let mut book: Book = BoundedList::new(rt.alloc());
-        for _ in 0..actions {
-            book.reserve()?;
-            book.add(FIRST);
-        }
-        books.reserve()?;
-        books.add(Closed {
-            number: 1,
-            ahead,
-            book,
-            births: BoundedList::new(rt.alloc()),
-        });
-        assert_eq!(rt; (books.ahead(), books.actions()), (marked, all), "{i}");
+    ]
+}
+
+fn add_period(
+    alloc: Global,
+    books: &mut Books,
+    ahead: bool,
+    actions: u32,
+) -> Result<(), AllocError> {
+    let closed = Closed {
+        number: 1,
+        ahead,
+        book: book_of(alloc, actions)?,
+        births: BoundedList::new(alloc),
+    };
+    add_closed(books, closed)
+}
+
+#[test]
+fn books_count_periods_marks_and_actions(rt: HostRuntime) -> Result<(), Fail> {
+    let mut books = Books::new(rt.alloc());
+    for (ahead, actions, marked, all) in periods() {
+        add_period(rt.alloc(), &mut books, ahead, actions)?;
+        assert_eq!(rt; (books.ahead(), books.actions()), (marked, all));
     }
     assert_eq!(rt; books.periods(), 4);
     assert_eq!(rt; books.at(2).map(|closed| closed.book.len()), Some(2));
@@ -69,8 +104,8 @@ fn books_count_periods_marks_and_actions(rt: HostRuntime) -> Result<(), Fail> {
     Ok(())
 }
 
-// A closed period with as many births as are asked for, whose ordinals count up.
-fn closed(alloc: Global, number: u32, ahead: bool, forks: u32) -> Result<Closed, AllocError> {
+// So many births, whose ordinals count up.
+fn births_of(alloc: Global, forks: u32) -> Result<Births, AllocError> {
     let mut births: Births = BoundedList::new(alloc);
     for ordinal in 0..forks {
         births.reserve()?;
@@ -79,23 +114,29 @@ fn closed(alloc: Global, number: u32, ahead: bool, forks: u32) -> Result<Closed,
             ordinal,
         });
     }
-    Ok(Closed {
+    Ok(births)
+}
+
+// Adds a closed period with as many births as are asked for.
+fn add_forks(
+    alloc: Global,
+    books: &mut Books,
+    number: u32,
+    ahead: bool,
+    forks: u32,
+) -> Result<(), AllocError> {
+    let closed = Closed {
         number,
         ahead,
         book: BoundedList::new(alloc),
-        births,
-    })
+        births: births_of(alloc, forks)?,
+    };
+    add_closed(books, closed)
 }
 
-#[test]
-fn periods_and_births_are_found(rt: HostRuntime) -> Result<(), Fail> {
-    let mut books = Books::new(rt.alloc());
-    // the periods' numbers and births; the second one of number 3 is not found
-    for (number, forks) in [(3, 2), (1, 0), (2, 3), (3, 9), (7, 1)] {
-        books.reserve()?;
-        books.add(closed(rt.alloc(), number, false, forks)?);
-    }
-    let table = [
+// Periods and births, and what is found.
+fn births() -> [(u32, u32, Option<u32>); 10] {
+    [
         (0, 0, None),
         (1, 0, None),
         (2, 0, Some(0)),
@@ -106,49 +147,63 @@ fn periods_and_births_are_found(rt: HostRuntime) -> Result<(), Fail> {
         (4, 0, None),
         (7, 0, Some(0)),
         (8, 0, None),
-    ];
-    for (period, nth, want) in table {
+    ]
+}
+
+fn births_are_found(rt: &impl Abort, books: &Books) {
+    for (period, nth, want) in births() {
         let birth = books.birth(ThreadId { period, nth });
         assert_eq!(rt; birth.map(|birth| birth.ordinal), want, "{nth} of {period}");
     }
-    assert_eq!(rt;
-        books.by_number(3).map(|closed| closed.births.len()),
-        Some(2)
-    );
+}
+
+#[test]
+fn periods_and_births_are_found(rt: HostRuntime) -> Result<(), Fail> {
+    let mut books = Books::new(rt.alloc());
+    // the periods' numbers and births; the second one of number 3 is not found
+    for (number, forks) in [(3, 2), (1, 0), (2, 3), (3, 9), (7, 1)] {
+        add_forks(rt.alloc(), &mut books, number, false, forks)?;
+    }
+    births_are_found(&rt, &books);
+    let births = books.by_number(3).map(|closed| closed.births.len());
+    assert_eq!(rt; births, Some(2));
     assert!(rt; books.by_number(4).is_none());
     Ok(())
 }
 
-// As many periods as a long run has, which end in another order than they began, and as many moves.
-#[test]
-fn books_and_moves_grow(rt: HostRuntime) -> Result<(), Fail> {
+// As many periods as a long run has, which end in another order than they began.
+fn many_books(rt: &(impl Abort + AllocGlobal)) -> Result<Books, Fail> {
     let mut books = Books::new(rt.alloc());
-    let mut moves = Moves::new(rt.alloc());
     for ended in 0..70_000u32 {
-        books.reserve()?;
-        books.add(closed(rt.alloc(), 70_000 - ended, ended % 2 == 0, 1)?);
-        moves.reserve()?;
-        let sum = moves.live();
-        assert!(rt; 0 <= sum && sum < 100_000);
-        moves.add(Moved {
-            by: FIRST,
-            change: 1,
-        });
+        add_forks(rt.alloc(), &mut books, 70_000 - ended, ended % 2 == 0, 1)?;
     }
-    assert_eq!(rt; (books.periods(), books.ahead()), (70_000, 35_000));
-    assert_eq!(rt; (moves.len(), moves.high()), (70_000, 70_000));
+    assert_eq!(rt; [books.periods(), books.ahead()], [70_000, 35_000]);
+    Ok(books)
+}
+
+fn numbers_are_found(rt: &impl Abort, books: &Books) {
     for number in [1, 2, 4_097, 65_537, 70_000] {
-        assert_eq!(rt;
-            books.by_number(number).map(|closed| closed.number),
-            Some(number)
-        );
+        let found = books.by_number(number).map(|closed| closed.number);
+        assert_eq!(rt; found, Some(number));
     }
     assert!(rt; books.by_number(0).is_none() && books.by_number(70_001).is_none());
-    let mut book: Book = BoundedList::new(rt.alloc());
-    for _ in 0..5_000 {
-        book.reserve()?;
-        book.add(FIRST);
+}
+
+fn moves_grow(rt: &(impl Abort + AllocGlobal)) -> Result<(), Fail> {
+    let mut moves = Moves::new(rt.alloc());
+    for _ in 0..70_000u32 {
+        add_move(rt, &mut moves, 1)?;
     }
+    assert_eq!(rt; (moves.len(), moves.high()), (70_000, 70_000));
+    Ok(())
+}
+
+#[test]
+fn books_and_moves_grow(rt: HostRuntime) -> Result<(), Fail> {
+    let books = many_books(&rt)?;
+    numbers_are_found(&rt, &books);
+    moves_grow(&rt)?;
+    let book = book_of(rt.alloc(), 5_000)?;
     assert_eq!(rt; (book.len(), book.at(4_999)), (5_000, Some(&FIRST)));
     Ok(())
 }

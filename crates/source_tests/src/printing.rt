@@ -15,15 +15,19 @@ fn canonical(alloc: Global, text: &[u8]) -> Result<Option<Vec<u8>>, AllocError> 
     }
 }
 
+/// Whether a text has this canonical text.
+fn is_canonical(alloc: Global, text: &[u8], want: &[u8]) -> Result<bool, AllocError> {
+    match canonical(alloc, text)? {
+        Some(printed) => Ok(printed.as_slice() == want),
+        None => Ok(false),
+    }
+}
+
 /// Whether a text has this canonical text, which has itself as its canonical text.
 fn prints(alloc: Global, text: &str, want: &str) -> Result<bool, AllocError> {
-    let Some(once) = canonical(alloc, text.as_bytes())? else {
-        return Ok(false);
-    };
-    let Some(twice) = canonical(alloc, want.as_bytes())? else {
-        return Ok(false);
-    };
-    Ok(once.as_slice() == want.as_bytes() && twice.as_slice() == want.as_bytes())
+    let once = is_canonical(alloc, text.as_bytes(), want.as_bytes())?;
+    let twice = is_canonical(alloc, want.as_bytes(), want.as_bytes())?;
+    Ok(once && twice)
 }
 
 /// Whether an expression is printed so.
@@ -179,10 +183,7 @@ const EXPRESSIONS: &str = "
 fn expressions(rt: HostRuntime) -> Result<(), Fail> {
     for row in EXPRESSIONS.split('@') {
         if let Some((expr, want)) = row.split_once('|') {
-            assert!(rt;
-                prints_expression(rt.alloc(), expr, text_of(want))?,
-                "{expr}"
-            );
+            is_printed(&rt, rt.alloc(), expr, text_of(want))?;
         }
     }
     Ok(())
@@ -203,6 +204,29 @@ const OPERATORS: [(&str, u8); 11] = [
     ("%", 2),
 ];
 
+/// A chain in front of an operator, bare or between parentheses.
+fn in_front(alloc: Global, inside: &str, outside: &str, bare: bool) -> Result<String, AllocError> {
+    if bare {
+        format!(in alloc; "a {inside} b {outside} c")
+    } else {
+        format!(in alloc; "(a {inside} b) {outside} c")
+    }
+}
+
+/// A chain behind an operator, bare or between parentheses.
+fn behind(alloc: Global, inside: &str, outside: &str, bare: bool) -> Result<String, AllocError> {
+    if bare {
+        format!(in alloc; "c {outside} a {inside} b")
+    } else {
+        format!(in alloc; "c {outside} (a {inside} b)")
+    }
+}
+
+fn is_printed(rt: &impl Abort, alloc: Global, expr: &str, want: &str) -> Result<(), Fail> {
+    assert!(rt; prints_expression(alloc, expr, want)?, "{expr}");
+    Ok(())
+}
+
 /// A chain inside another one stands between parentheses unless it binds more tightly.
 fn beside(
     rt: &impl Abort,
@@ -212,18 +236,11 @@ fn beside(
 ) -> Result<(), Fail> {
     let (inside, tight) = inner;
     let (outside, loose) = outer;
-    let left = format!(in alloc; "(a {inside} b) {outside} c")?;
-    let right = format!(in alloc; "c {outside} (a {inside} b)")?;
-    if tight <= loose {
-        assert!(rt; prints_expression(alloc, &left, &left)?, "{left}");
-        assert!(rt; prints_expression(alloc, &right, &right)?, "{right}");
-        return Ok(());
-    }
-    let bare = format!(in alloc; "a {inside} b {outside} c")?;
-    assert!(rt; prints_expression(alloc, &left, &bare)?, "{left}");
-    let bare = format!(in alloc; "c {outside} a {inside} b")?;
-    assert!(rt; prints_expression(alloc, &right, &bare)?, "{right}");
-    Ok(())
+    let bare = tight > loose;
+    let want = in_front(alloc, inside, outside, bare)?;
+    is_printed(rt, alloc, &in_front(alloc, inside, outside, false)?, &want)?;
+    let want = behind(alloc, inside, outside, bare)?;
+    is_printed(rt, alloc, &behind(alloc, inside, outside, false)?, &want)
 }
 
 #[test]

@@ -1,10 +1,13 @@
 //! A table read back as text, by a reader that is told the names of slots and of functions.
 
 use accepted_source::accept;
-use frame_code::{Code, CodeArg, CodeExpr, CodeRet, CodeRetValue, CodeTarget, NodeKind, lower};
+use frame_code::{
+    Code, CodeArg, CodeExpr, CodeLink, CodeRet, CodeRetValue, CodeTarget, NodeKind, lower,
+};
 use par_syntax::{ChainOp, CmpOp, print};
 use std::alloc::Global;
 use std::fmt::Write;
+use std::process::Abort;
 use std::test::Fail;
 
 /// A function's name, what stands before each of its parameters, and the names of its slots.
@@ -69,6 +72,26 @@ fn is_apart(op: ChainOp, operand: &CodeExpr) -> bool {
     }
 }
 
+fn add_length(text: &mut String, known: &Known, block: u16) -> Result<(), Fail> {
+    text.push_str("len(")?;
+    add_slot(text, known, block)?;
+    text.push_str(")")?;
+    Ok(())
+}
+
+/// Whether the first operand of a chain stands between parentheses.
+fn is_first_apart(first: &CodeExpr, rest: &[CodeLink]) -> bool {
+    match rest.first() {
+        Some(link) => is_apart(link.op, first),
+        None => false,
+    }
+}
+
+/// Whether an operand of a comparison stands between parentheses.
+fn is_comparison(operand: &CodeExpr) -> bool {
+    matches!(operand, CodeExpr::Cmp { .. })
+}
+
 /// An expression, between parentheses where it is apart.
 #[cycle(add_expression)]
 fn add_operand(text: &mut String, known: &Known, expr: &CodeExpr, apart: bool) -> Result<(), Fail> {
@@ -93,30 +116,22 @@ fn add_expression(text: &mut String, known: &Known, expr: &CodeExpr) -> Result<(
             add_expression(text, known, index)?;
             text.push_str("]")?;
         }
-        CodeExpr::Len(block) => {
-            text.push_str("len(")?;
-            add_slot(text, known, *block)?;
-            text.push_str(")")?;
-        }
+        CodeExpr::Len(block) => add_length(text, known, *block)?,
         CodeExpr::Neg(inner) => {
             text.push_str("-")?;
             add_operand(text, known, inner, is_apart(ChainOp::Mul, inner))?;
         }
         CodeExpr::Chain { first, rest } => {
-            let apart = match rest.first() {
-                Some(link) => is_apart(link.op, first),
-                None => false,
-            };
-            add_operand(text, known, first, apart)?;
+            add_operand(text, known, first, is_first_apart(first, rest))?;
             for link in rest {
                 text.push_str(operator_text(link.op))?;
                 add_operand(text, known, &link.operand, is_apart(link.op, &link.operand))?;
             }
         }
         CodeExpr::Cmp { op, left, right } => {
-            add_operand(text, known, left, matches!(**left, CodeExpr::Cmp { .. }))?;
+            add_operand(text, known, left, is_comparison(left))?;
             text.push_str(comparison_text(*op))?;
-            add_operand(text, known, right, matches!(**right, CodeExpr::Cmp { .. }))?;
+            add_operand(text, known, right, is_comparison(right))?;
         }
     }
     Ok(())
@@ -233,59 +248,107 @@ fn add_call(text: &mut String, place: &Place, func: u32, args: &[CodeArg]) -> Re
     Ok(())
 }
 
+/// `call target = name(arguments);`
+fn add_call_statement(
+    text: &mut String,
+    place: &Place,
+    target: CodeTarget,
+    func: u32,
+    args: &[CodeArg],
+) -> Result<(), Fail> {
+    text.push_str("call ")?;
+    add_target(text, place.known, target)?;
+    add_call(text, place, func, args)
+}
+
+/// `block[index] = value;`
+fn add_put(
+    text: &mut String,
+    known: &Known,
+    block: u16,
+    index: &CodeExpr,
+    value: &CodeExpr,
+) -> Result<(), Fail> {
+    add_slot(text, known, block)?;
+    text.push_str("[")?;
+    add_expression(text, known, index)?;
+    text.push_str("] = ")?;
+    add_expression(text, known, value)?;
+    text.push_str(";")?;
+    Ok(())
+}
+
+fn add_free(text: &mut String, known: &Known, block: u16) -> Result<(), Fail> {
+    text.push_str("free ")?;
+    add_slot(text, known, block)?;
+    text.push_str(";")?;
+    Ok(())
+}
+
+/// An expression between two words.
+fn add_between(
+    text: &mut String,
+    known: &Known,
+    front: &str,
+    value: &CodeExpr,
+    back: &str,
+) -> Result<(), Fail> {
+    text.push_str(front)?;
+    add_expression(text, known, value)?;
+    text.push_str(back)?;
+    Ok(())
+}
+
+/// `split block at place into left, right `
+fn add_split(
+    text: &mut String,
+    known: &Known,
+    block: u16,
+    at: &CodeExpr,
+    parts: [u16; 2],
+) -> Result<(), Fail> {
+    let [left, right] = parts;
+    text.push_str("split ")?;
+    add_slot(text, known, block)?;
+    add_between(text, known, " at ", at, " into ")?;
+    add_slot(text, known, left)?;
+    text.push_str(", ")?;
+    add_slot(text, known, right)?;
+    text.push_str(" ")?;
+    Ok(())
+}
+
 #[cycle(add_body)]
 fn add_statement(text: &mut String, place: &Place, kind: &NodeKind, left: u32) -> Result<(), Fail> {
     let known = place.known;
     match kind {
-        NodeKind::Let { name, value } => add_named(text, known, "let ", *name, value)?,
-        NodeKind::Assign { name, value } => add_named(text, known, "", *name, value)?,
-        NodeKind::Alloc { name, size } => add_named(text, known, "alloc ", *name, size)?,
+        NodeKind::Let { name, value } => add_named(text, known, "let ", *name, value),
+        NodeKind::Assign { name, value } => add_named(text, known, "", *name, value),
+        NodeKind::Alloc { name, size } => add_named(text, known, "alloc ", *name, size),
         NodeKind::Put {
             block,
             index,
             value,
-        } => {
-            add_slot(text, known, *block)?;
-            text.push_str("[")?;
-            add_expression(text, known, index)?;
-            text.push_str("] = ")?;
-            add_expression(text, known, value)?;
-            text.push_str(";")?;
-        }
-        NodeKind::Free { name } => {
-            text.push_str("free ")?;
-            add_slot(text, known, *name)?;
-            text.push_str(";")?;
-        }
-        NodeKind::Print { value } => {
-            text.push_str("print ")?;
-            add_expression(text, known, value)?;
-            text.push_str(";")?;
-        }
+        } => add_put(text, known, *block, index, value),
+        NodeKind::Free { name } => add_free(text, known, *name),
+        NodeKind::Print { value } => add_between(text, known, "print ", value, ";"),
         NodeKind::Call {
             target: receiver,
             func,
             args,
-        } => {
-            text.push_str("call ")?;
-            add_target(text, known, *receiver)?;
-            add_call(text, place, *func, args)?;
-        }
+        } => add_call_statement(text, place, *receiver, *func, args),
         NodeKind::If { cond, then, other } => {
-            text.push_str("if ")?;
-            add_expression(text, known, cond)?;
-            text.push_str(" ")?;
+            add_between(text, known, "if ", cond, " ")?;
             add_braces(text, place, then, left)?;
-            if !other.is_empty() {
-                text.push_str(" else ")?;
-                add_braces(text, place, other, left)?;
+            if other.is_empty() {
+                return Ok(());
             }
+            text.push_str(" else ")?;
+            add_braces(text, place, other, left)
         }
         NodeKind::While { cond, body } => {
-            text.push_str("while ")?;
-            add_expression(text, known, cond)?;
-            text.push_str(" ")?;
-            add_braces(text, place, body, left)?;
+            add_between(text, known, "while ", cond, " ")?;
+            add_braces(text, place, body, left)
         }
         NodeKind::Both {
             left: first,
@@ -295,7 +358,7 @@ fn add_statement(text: &mut String, place: &Place, kind: &NodeKind, left: u32) -
             text.push_str("par ")?;
             add_braces(text, place, first, left)?;
             text.push_str(" and ")?;
-            add_braces(text, place, second, left)?;
+            add_braces(text, place, second, left)
         }
         NodeKind::Split {
             block,
@@ -304,19 +367,10 @@ fn add_statement(text: &mut String, place: &Place, kind: &NodeKind, left: u32) -
             right: second,
             body,
         } => {
-            text.push_str("split ")?;
-            add_slot(text, known, *block)?;
-            text.push_str(" at ")?;
-            add_expression(text, known, at)?;
-            text.push_str(" into ")?;
-            add_slot(text, known, *first)?;
-            text.push_str(", ")?;
-            add_slot(text, known, *second)?;
-            text.push_str(" ")?;
-            add_braces(text, place, body, left)?;
+            add_split(text, known, *block, at, [*first, *second])?;
+            add_braces(text, place, body, left)
         }
     }
-    Ok(())
 }
 
 fn add_return(text: &mut String, known: &Known, ret: &CodeRet) -> Result<(), Fail> {
@@ -343,6 +397,16 @@ fn add_parameters(text: &mut String, known: &Known, params: &[u16]) -> Result<()
     Ok(())
 }
 
+/// `fn name(parameters) {`
+fn add_head(text: &mut String, known: &Known, params: &[u16]) -> Result<(), Fail> {
+    text.push_str("fn ")?;
+    text.push_str(known.name)?;
+    text.push_str("(")?;
+    add_parameters(text, known, params)?;
+    text.push_str(") {\n")?;
+    Ok(())
+}
+
 fn add_function(text: &mut String, place: &Place, number: u32) -> Result<(), Fail> {
     let Some(func) = place.code.func(number) else {
         return Err(Fail::new("a number without a function"));
@@ -350,11 +414,7 @@ fn add_function(text: &mut String, place: &Place, number: u32) -> Result<(), Fai
     if func.slots as usize != place.known.slots.len() {
         return Err(Fail::new("another number of slots"));
     }
-    text.push_str("fn ")?;
-    text.push_str(place.known.name)?;
-    text.push_str("(")?;
-    add_parameters(text, place.known, &func.params)?;
-    text.push_str(") {\n")?;
+    add_head(text, place.known, &func.params)?;
     add_body(text, place, &func.body, LEVELS - 1)?;
     if let Some(ret) = &func.ret {
         add_return(text, place.known, ret)?;
@@ -459,22 +519,30 @@ fn told<'a>() -> [Known<'a>; 4] {
     ]
 }
 
-/// The table and its copy are the text, which is canonical.
-#[test]
-fn the_table_is_the_text(rt: HostRuntime) -> Result<(), Fail> {
+/// The text is canonical, and this is its table.
+fn table(rt: &(impl Abort + AllocGlobal)) -> Result<Code, Fail> {
     let alloc = rt.alloc();
     let Ok(checked) = accept(alloc, TEXT.as_bytes()) else {
         return Err(Fail::new("the text is refused"));
     };
     let printed = print(alloc, checked.program())?;
-    assert_eq!(&rt; printed.as_slice(), TEXT.as_bytes());
-    let code = lower(alloc, checked)?;
-    let all = told();
-    let text = read_back(alloc, &code, &all)?;
-    assert_eq!(&rt; text.as_str(), TEXT);
-    let copy = code.copy(alloc)?;
-    let again = read_back(alloc, &copy, &all)?;
-    assert_eq!(&rt; again.as_str(), TEXT);
+    assert_eq!(rt; printed.as_slice(), TEXT.as_bytes());
+    Ok(lower(alloc, checked)?)
+}
+
+fn is_the_text(rt: &(impl Abort + AllocGlobal), code: &Code) -> Result<(), Fail> {
+    let text = read_back(rt.alloc(), code, &told())?;
+    assert_eq!(rt; text.as_str(), TEXT);
+    Ok(())
+}
+
+/// The table and its copy are the text.
+#[test]
+fn the_table_is_the_text(rt: HostRuntime) -> Result<(), Fail> {
+    let code = table(&rt)?;
+    is_the_text(&rt, &code)?;
+    let copy = code.copy(rt.alloc())?;
+    is_the_text(&rt, &copy)?;
     assert_eq!(&rt; copy.main(), 3);
     Ok(())
 }

@@ -1,7 +1,7 @@
 //! What sources are: accepted, or refused with the rule that is broken, the line and the name, or no text, with the place. Each answer was
 //! worked out by hand from the rules.
 
-use crate::rows::text_of;
+use crate::rows::parts_of;
 use accepted_source::{SourceFail, accept};
 use block_check::CheckError;
 use std::alloc::{AllocError, Global};
@@ -41,13 +41,18 @@ fn verdict(alloc: Global, text: &str) -> Result<String, AllocError> {
     }
 }
 
+/// A source is so.
+fn is_so(rt: &impl Abort, alloc: Global, want: &str, text: &str) -> Result<(), Fail> {
+    let told = verdict(alloc, text)?;
+    assert_eq!(rt; told.as_str(), want, "{text}");
+    Ok(())
+}
+
 /// Each row is what a source is, and the source.
 fn are_so(rt: &impl Abort, alloc: Global, rows: &str) -> Result<(), Fail> {
     for row in rows.split('@') {
-        if let Some((want, rest)) = row.split_once('|') {
-            let text = text_of(rest);
-            let told = verdict(alloc, text)?;
-            assert_eq!(rt; told.as_str(), want.trim(), "{text}");
+        if let Some((want, text)) = parts_of(row) {
+            is_so(rt, alloc, want, text)?;
         }
     }
     Ok(())

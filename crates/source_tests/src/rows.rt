@@ -4,3 +4,9 @@
 pub(crate) fn text_of(part: &str) -> &str {
     part.strip_prefix(' ').unwrap_or(part).trim_end()
 }
+
+/// What a row wants, and its text.
+pub(crate) fn parts_of(row: &str) -> Option<(&str, &str)> {
+    let (want, rest) = row.split_once('|')?;
+    Some((want.trim(), text_of(rest)))
+}

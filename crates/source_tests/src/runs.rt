@@ -1,6 +1,6 @@
 //! Depth-first runs of whole programs. What they have to give was worked out by hand from the meaning of a program.
 
-use crate::rows::text_of;
+use crate::rows::parts_of;
 use accepted_source::accept;
 use dag_order::{Birth, Finish, Kind, ThreadId};
 use dummy_tree::Quota;
@@ -62,41 +62,42 @@ fn quota_of(want: &str) -> u32 {
     }
 }
 
-/// Each row is what the run of a program gives, its quota in front, and the program.
+/// The run of a program gives this, with its quota in front.
+fn goes_so(rt: &impl Abort, alloc: Global, want: &str, text: &str) -> Result<(), Fail> {
+    let k = quota_of(want);
+    let serial = run(alloc, text, k, LIMIT).ok().ok_or("no run")?;
+    let told = outcome(alloc, k, &serial)?;
+    assert_eq!(rt; told.as_str(), want, "{text}");
+    Ok(())
+}
+
+/// Each row is what the run of a program gives, and the program.
 fn go_so(rt: &impl Abort, alloc: Global, rows: &str) -> Result<(), Fail> {
     for row in rows.split('@') {
-        if let Some((want, rest)) = row.split_once('|') {
-            let want = want.trim();
-            let text = text_of(rest);
-            let k = quota_of(want);
-            match run(alloc, text, k, LIMIT) {
-                Ok(serial) => {
-                    let told = outcome(alloc, k, &serial)?;
-                    assert_eq!(rt; told.as_str(), want, "{text}");
-                }
-                Err(_) => assert!(rt; false, "{text}"),
-            }
+        if let Some((want, text)) = parts_of(row) {
+            goes_so(rt, alloc, want, text)?;
         }
     }
     Ok(())
 }
 
+/// A run needs just as many actions as it has.
+fn stops_so(rt: &impl Abort, alloc: Global, k: u32, text: &str) -> Result<(), Fail> {
+    let serial = run(alloc, text, k, LIMIT).ok().ok_or("no run")?;
+    let actions = serial.actions.len();
+    assert!(rt; run(alloc, text, k, actions).is_ok(), "{text}");
+    assert!(rt; stops(alloc, text, k, actions.saturating_sub(1)), "{text}");
+    Ok(())
+}
+
 /// Each of these runs needs just as many actions as it has.
-fn stop_so(rt: &impl Abort, alloc: Global, rows: &str) {
+fn stop_so(rt: &impl Abort, alloc: Global, rows: &str) -> Result<(), Fail> {
     for row in rows.split('@') {
-        if let Some((want, rest)) = row.split_once('|') {
-            let text = text_of(rest);
-            let k = quota_of(want.trim());
-            match run(alloc, text, k, LIMIT) {
-                Ok(serial) => {
-                    let actions = serial.actions.len();
-                    assert!(rt; run(alloc, text, k, actions).is_ok(), "{text}");
-                    assert!(rt; stops(alloc, text, k, actions.saturating_sub(1)), "{text}");
-                }
-                Err(_) => assert!(rt; false, "{text}"),
-            }
+        if let Some((want, text)) = parts_of(row) {
+            stops_so(rt, alloc, quota_of(want), text)?;
         }
     }
+    Ok(())
 }
 
 /// Programs with several quotas, which change only dummies, to their finish, and with faults, of which the first is the finish. The last
@@ -260,8 +261,7 @@ fn main() {
 #[test]
 fn programs_run_to_their_finish(rt: HostRuntime) -> Result<(), Fail> {
     go_so(&rt, rt.alloc(), PROGRAMS)?;
-    stop_so(&rt, rt.alloc(), PROGRAMS);
-    Ok(())
+    stop_so(&rt, rt.alloc(), PROGRAMS)
 }
 
 /// What statements do to integers and blocks.
@@ -405,16 +405,21 @@ call g(1,
 2 / 0);
 ";
 
+/// The fault that a statement has.
+fn has_fault(rt: &(impl Abort + AllocGlobal), statement: &str, want: &str) -> Result<(), Fail> {
+    let text = format!(in rt.alloc();
+        "fn g(n, m) {{ }} fn main() {{ alloc b = 1; {statement} free b; }}"
+    )?;
+    let told = finish_told(rt.alloc(), &text)?;
+    assert_eq!(rt; told.as_str(), want, "{statement}");
+    Ok(())
+}
+
 #[test]
 fn statements_have_faults(rt: HostRuntime) -> Result<(), Fail> {
     for row in FAULTS.split('@') {
-        if let Some((want, rest)) = row.split_once('|') {
-            let statement = text_of(rest);
-            let text = format!(in rt.alloc();
-                "fn g(n, m) {{ }} fn main() {{ alloc b = 1; {statement} free b; }}"
-            )?;
-            let told = finish_told(rt.alloc(), &text)?;
-            assert_eq!(rt; told.as_str(), want.trim(), "{statement}");
+        if let Some((want, statement)) = parts_of(row) {
+            has_fault(&rt, statement, want)?;
         }
     }
     Ok(())
@@ -478,19 +483,20 @@ fn printed(alloc: Global, text: &str) -> Option<i64> {
     serial.output.as_slice().first().copied()
 }
 
+/// The number that an expression has.
+fn has_number(rt: &(impl Abort + AllocGlobal), expr: &str, want: Option<i64>) -> Result<(), Fail> {
+    let text = format!(in rt.alloc();
+        "fn main() {{ let g = 9223372036854775807; let m = -g - 1; print {expr}; }}"
+    )?;
+    assert_eq!(rt; printed(rt.alloc(), &text), want, "{expr}");
+    Ok(())
+}
+
 #[test]
 fn expressions_have_numbers(rt: HostRuntime) -> Result<(), Fail> {
     for row in NUMBERS.split('@') {
-        if let Some((want, rest)) = row.split_once('|') {
-            let expr = text_of(rest);
-            let text = format!(in rt.alloc();
-                "fn main() {{ let g = 9223372036854775807; let m = -g - 1; print {expr}; }}"
-            )?;
-            assert_eq!(rt;
-                printed(rt.alloc(), &text),
-                want.trim().parse::<i64>().ok(),
-                "{expr}"
-            );
+        if let Some((want, expr)) = parts_of(row) {
+            has_number(&rt, expr, want.parse::<i64>().ok())?;
         }
     }
     Ok(())
@@ -507,39 +513,59 @@ fn count(serial: &Serial, kind: Kind) -> u32 {
     count
 }
 
+/// The quota, the words of an Alloc, its dummies, and what the run of its program gives.
+fn allocs() -> [(u32, u32, u32, &'static str); 12] {
+    [
+        (16, 0, 0, "16 done, 3 actions, peak 0, prints"),
+        (16, 1, 0, "16 done, 3 actions, peak 16, prints"),
+        (16, 16, 0, "16 done, 3 actions, peak 16, prints"),
+        (16, 17, 2, "16 done, 8 actions, peak 32, prints"),
+        (16, 48, 3, "16 done, 12 actions, peak 48, prints"),
+        (
+            16,
+            1_048_576,
+            65_536,
+            "16 done, 262144 actions, peak 1048576, prints",
+        ),
+        (32, 17, 0, "32 done, 3 actions, peak 32, prints"),
+        (32, 33, 2, "32 done, 8 actions, peak 48, prints"),
+        (32, 64, 2, "32 done, 8 actions, peak 64, prints"),
+        (32, 65, 3, "32 done, 12 actions, peak 80, prints"),
+        (
+            1_048_576,
+            1_048_576,
+            0,
+            "1048576 done, 3 actions, peak 1048576, prints",
+        ),
+        (
+            1_048_560,
+            1_048_561,
+            2,
+            "1048560 done, 8 actions, peak 1048576, prints",
+        ),
+    ]
+}
+
+fn has_dummies(
+    rt: &(impl Abort + AllocGlobal),
+    k: u32,
+    words: u32,
+    dummies: u32,
+    want: &str,
+) -> Result<(), Fail> {
+    let text = format!(in rt.alloc(); "fn main() {{ alloc b = {words}; free b; }}")?;
+    let serial = run(rt.alloc(), &text, k, LIMIT).ok().ok_or("no run")?;
+    assert_eq!(rt; count(&serial, Kind::Dummy), dummies, "{k} {words}");
+    let told = outcome(rt.alloc(), k, &serial)?;
+    assert_eq!(rt; told.as_str(), want, "{words}");
+    Ok(())
+}
+
 /// Each quota of an Alloc that is larger than one quota has a dummy, and so has a part of one.
 #[test]
 fn each_quota_or_part_of_one_has_a_dummy(rt: HostRuntime) -> Result<(), Fail> {
-    let rows = [
-        (16, 0, 0, 3, 0),
-        (16, 1, 0, 3, 16),
-        (16, 16, 0, 3, 16),
-        (16, 17, 2, 8, 32),
-        (16, 48, 3, 12, 48),
-        (16, 1_048_576, 65_536, 262_144, 1_048_576),
-        (32, 17, 0, 3, 32),
-        (32, 33, 2, 8, 48),
-        (32, 64, 2, 8, 64),
-        (32, 65, 3, 12, 80),
-        (1_048_576, 1_048_576, 0, 3, 1_048_576),
-        (1_048_560, 1_048_561, 2, 8, 1_048_576),
-    ];
-    for (k, words, dummies, actions, peak) in rows {
-        let text = format!(in rt.alloc(); "fn main() {{ alloc b = {words}; free b; }}")?;
-        match run(rt.alloc(), &text, k, LIMIT) {
-            Ok(serial) => {
-                assert_eq!(rt; count(&serial, Kind::Dummy), dummies, "{k} {words}");
-                let want = format!(in rt.alloc();
-                    "{k} done, {actions} actions, peak {peak}, prints"
-                )?;
-                assert_eq!(rt;
-                    outcome(rt.alloc(), k, &serial)?.as_str(),
-                    want.as_str(),
-                    "{k} {words}"
-                );
-            }
-            Err(_) => assert!(rt; false, "{k} {words}"),
-        }
+    for (k, words, dummies, want) in allocs() {
+        has_dummies(&rt, k, words, dummies, want)?;
     }
     Ok(())
 }
@@ -558,19 +584,25 @@ fn nested(alloc: Global, forks: u32) -> Result<String, AllocError> {
     Ok(text)
 }
 
+/// The actions and the lines of a run whose first line is 5 and whose last one is 6.
+fn has_lines(rt: &impl Abort, serial: &Serial, actions: u32, lines: u32) {
+    let output = serial.output.as_slice();
+    assert_eq!(rt;
+        [serial.actions.len(), serial.output.len()],
+        [actions, lines]
+    );
+    assert_eq!(rt;
+        [output.first().copied(), output.last().copied()],
+        [Some(5), Some(6)]
+    );
+}
+
 #[test]
 fn forks_stand_above_one_another_in_a_text(rt: HostRuntime) -> Result<(), Fail> {
     for (forks, actions, lines) in [(3, 10, 4), (63, 190, 64)] {
         let text = nested(rt.alloc(), forks)?;
-        match run(rt.alloc(), &text, 16, LIMIT) {
-            Ok(serial) => {
-                assert_eq!(rt; serial.output.len(), lines);
-                assert_eq!(rt; serial.output.as_slice().first().copied(), Some(5));
-                assert_eq!(rt; serial.output.as_slice().last().copied(), Some(6));
-                assert_eq!(rt; serial.actions.len(), actions);
-            }
-            Err(_) => assert!(rt; false),
-        }
+        let serial = run(rt.alloc(), &text, 16, LIMIT).ok().ok_or("no run")?;
+        has_lines(&rt, &serial, actions, lines);
     }
     Ok(())
 }
@@ -579,12 +611,13 @@ const FOUR_MILLIONS: &str =
     "fn main() { let i = 0; while i < 999999 { alloc a = 0; free a; alloc b = 0; free b; i = i + 1; } par { } and { } }";
 
 #[test]
-fn a_run_has_as_many_actions_as_are_allowed(rt: HostRuntime) {
-    match run(rt.alloc(), FOUR_MILLIONS, 64, 4_000_000) {
-        Ok(serial) => assert_eq!(rt; serial.actions.len(), 4_000_000),
-        Err(_) => assert!(rt; false),
-    }
+fn a_run_has_as_many_actions_as_are_allowed(rt: HostRuntime) -> Result<(), Fail> {
+    let serial = run(rt.alloc(), FOUR_MILLIONS, 64, 4_000_000)
+        .ok()
+        .ok_or("no run")?;
+    assert_eq!(rt; serial.actions.len(), 4_000_000);
     assert!(rt; stops(rt.alloc(), FOUR_MILLIONS, 64, 3_999_999));
+    Ok(())
 }
 
 /// How many ordinals the longest label has that these births give; None where memory is wanting.
@@ -604,21 +637,21 @@ fn longest_label(alloc: Global, births: &[Birth]) -> Option<u32> {
     Some(longest)
 }
 
+/// A fork of 256 levels, and below it an Alloc.
+const DEEP: &str =
+    "fn f(n) { if n { par { call f(n - 1); } and { } } else { alloc b = 1048576; free b; } }
+    fn main() { call f(256); print 8; }";
+
 /// The forks of a tree of dummies have no limit of 256: an allocation of 65,536 quotas below 256 forks, whose tree has 16 forks above
 /// one another.
 #[test]
-fn dummies_may_stand_272_deep(rt: HostRuntime) {
-    let text =
-        "fn f(n) { if n { par { call f(n - 1); } and { } } else { alloc b = 1048576; free b; } }
-        fn main() { call f(256); print 8; }";
-    match run(rt.alloc(), text, 16, LIMIT) {
-        Ok(serial) => {
-            assert!(rt; serial.finish == Finish::Done);
-            assert!(rt; serial.output.as_slice() == [8].as_slice());
-            assert_eq!(rt; serial.actions.len(), 262_912);
-            assert_eq!(rt; serial.peak, 1_052_672);
-            assert!(rt; longest_label(rt.alloc(), serial.births.as_slice()) == Some(272));
-        }
-        Err(_) => assert!(rt; false),
-    }
+fn dummies_may_stand_272_deep(rt: HostRuntime) -> Result<(), Fail> {
+    let serial = run(rt.alloc(), DEEP, 16, LIMIT).ok().ok_or("no run")?;
+    let told = outcome(rt.alloc(), 16, &serial)?;
+    assert_eq!(rt;
+        told.as_str(),
+        "16 done, 262912 actions, peak 1052672, prints 8"
+    );
+    assert!(rt; longest_label(rt.alloc(), serial.births.as_slice()) == Some(272));
+    Ok(())
 }

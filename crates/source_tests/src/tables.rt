@@ -2,7 +2,7 @@
 
 use accepted_source::accept;
 use block_check::{Checked, Names};
-use frame_code::{Code, CodeArg, CodeExpr, CodeRetValue, CodeTarget, NodeKind, lower};
+use frame_code::{Code, CodeArg, CodeExpr, CodeRetValue, CodeTarget, FuncCode, NodeKind, lower};
 use std::alloc::{AllocError, Global};
 use std::fmt::Write;
 use std::process::Abort;
@@ -32,6 +32,36 @@ fn fork_told(alloc: Global, code: &Code, number: u32) -> Result<String, AllocErr
     }
 }
 
+/// A function's slots, and the nodes of its body.
+fn body_told(alloc: Global, code: &Code, number: u32) -> Result<String, AllocError> {
+    match code.func(number) {
+        Some(func) => format!(in alloc; "{} {:?}", func.slots, func.body),
+        None => format!(in alloc; "no function"),
+    }
+}
+
+fn is_fork(
+    rt: &(impl Abort + AllocGlobal),
+    code: &Code,
+    number: u32,
+    want: &str,
+) -> Result<(), AllocError> {
+    let told = fork_told(rt.alloc(), code, number)?;
+    assert_eq!(rt; told.as_str(), want);
+    Ok(())
+}
+
+fn is_body(
+    rt: &(impl Abort + AllocGlobal),
+    code: &Code,
+    number: u32,
+    want: &str,
+) -> Result<(), AllocError> {
+    let told = body_told(rt.alloc(), code, number)?;
+    assert_eq!(rt; told.as_str(), want);
+    Ok(())
+}
+
 const NESTED: &str = "fn f(use b) { let n = len(b); b[0] = n; }
     fn main() { let x = 0; alloc a = 1; let y = 0; alloc b = 1;
     par { y = 1; b[0] = 1; par { x = 2; call f(use a); } and { print b[0]; } }
@@ -41,23 +71,13 @@ const NESTED: &str = "fn f(use b) { let n = len(b); b[0] = n; }
 /// y, b and z.
 #[test]
 fn nested_branches(rt: HostRuntime) -> Result<(), Fail> {
-    let alloc = rt.alloc();
-    let code = code_of(alloc, NESTED)?;
-    assert_eq!(&rt; code.len(), 17);
-    assert_eq!(&rt; code.main(), 1);
-    let outer = fork_told(alloc, &code, 6)?;
-    assert_eq!(&rt; outer.as_str(), "[7, 8, 9] [13, 14] [0, 1, 2, 3] [0, 2]");
-    let inner = fork_told(alloc, &code, 9)?;
-    assert_eq!(&rt; inner.as_str(), "[10, 11] [12] [0, 1] [0]");
-    match code.func(1) {
-        Some(main) => {
-            assert_eq!(&rt; main.slots, 5);
-            assert_eq!(&rt; main.body.as_slice(), [2u32, 3, 4, 5, 6, 15, 16].as_slice());
-        }
-        None => assert!(rt; false),
-    }
-    assert!(rt; code.func(2).is_none());
-    assert!(rt; code.node(17).is_none());
+    let code = code_of(rt.alloc(), NESTED)?;
+    assert_eq!(&rt; [code.len(), code.main()], [17, 1]);
+    is_fork(&rt, &code, 6, "[7, 8, 9] [13, 14] [0, 1, 2, 3] [0, 2]")?;
+    is_fork(&rt, &code, 9, "[10, 11] [12] [0, 1] [0]")?;
+    is_fork(&rt, &code, 17, "no node")?;
+    is_body(&rt, &code, 1, "5 [2, 3, 4, 5, 6, 15, 16]")?;
+    is_body(&rt, &code, 2, "no function")?;
     Ok(())
 }
 
@@ -100,35 +120,42 @@ fn sets_of_nested_branches(rt: HostRuntime) -> Result<(), Fail> {
     Ok(())
 }
 
+/// Whether a node calls function 0 with the number 3, and keeps the block that comes back in slot 0.
+fn is_call(code: &Code, number: u32) -> bool {
+    match code.node(number) {
+        Some(node) => match &node.kind {
+            NodeKind::Call { target, func, args } => {
+                matches!(target, CodeTarget::Own(0)) && *func == 0 && is_three(args)
+            }
+            _ => false,
+        },
+        None => false,
+    }
+}
+
+/// Whether the only argument is the number 3.
+fn is_three(args: &[CodeArg]) -> bool {
+    args.len() == 1 && matches!(args.first(), Some(CodeArg::Value(CodeExpr::Num(3))))
+}
+
+/// Whether a function returns the block of slot 1.
+fn returns_its_block(func: &FuncCode) -> bool {
+    match &func.ret {
+        Some(ret) => matches!(&ret.value, CodeRetValue::Own(1)),
+        None => false,
+    }
+}
+
 /// A call of the first function by the second one.
 #[test]
 fn calls_and_returns(rt: HostRuntime) -> Result<(), Fail> {
     let text = "fn mk(n) { alloc b = n; return own b; }
         fn main() { call own c = mk(3); free c; }";
     let code = code_of(rt.alloc(), text)?;
-    match code.node(1) {
-        Some(node) => match &node.kind {
-            NodeKind::Call { target, func, args } => {
-                assert!(rt; matches!(target, CodeTarget::Own(0)));
-                assert_eq!(&rt; *func, 0);
-                assert_eq!(&rt; args.len(), 1);
-                assert!(rt; matches!(&args[0], CodeArg::Value(CodeExpr::Num(3))));
-            }
-            _ => assert!(rt; false),
-        },
-        None => assert!(rt; false),
-    }
-    match code.func(0) {
-        Some(mk) => {
-            assert_eq!(&rt; mk.slots, 2);
-            assert_eq!(&rt; mk.params.as_slice(), [0u16].as_slice());
-            match &mk.ret {
-                Some(ret) => assert!(rt; matches!(&ret.value, CodeRetValue::Own(1))),
-                None => assert!(rt; false),
-            }
-        }
-        None => assert!(rt; false),
-    }
+    assert!(rt; is_call(&code, 1));
+    let mk = code.func(0).ok_or("no function")?;
+    assert_eq!(&rt; (mk.slots, mk.params.as_slice()), (2, [0u16].as_slice()));
+    assert!(rt; returns_its_block(mk));
     Ok(())
 }
 
@@ -183,50 +210,62 @@ fn prints_its_number(code: &Code, number: u32) -> bool {
     }
 }
 
+/// Whether a node gives the name of slot 255 the number 255.
+fn is_last_name(code: &Code, number: u32) -> bool {
+    match code.node(number) {
+        Some(node) => matches!(
+            &node.kind,
+            NodeKind::Let {
+                name: 255,
+                value: CodeExpr::Num(255)
+            }
+        ),
+        None => false,
+    }
+}
+
 #[test]
-fn as_many_names_and_functions_as_there_may_be(rt: HostRuntime) -> Result<(), Fail> {
+fn as_many_names_as_there_may_be(rt: HostRuntime) -> Result<(), Fail> {
     let code = many_names(rt.alloc())?;
     assert_eq!(&rt; code.len(), 256);
-    match code.func(0) {
-        Some(main) => assert_eq!(&rt; main.slots, 256),
-        None => assert!(rt; false),
-    }
-    match code.node(255) {
-        Some(node) => {
-            assert!(rt;
-                matches!(
-                    &node.kind,
-                    NodeKind::Let {
-                        name: 255,
-                        value: CodeExpr::Num(255)
-                    }
-                )
-            );
-        }
-        None => assert!(rt; false),
-    }
-    let code = many_functions(rt.alloc())?;
-    assert_eq!(&rt; code.main(), 1_023);
-    assert_eq!(&rt; code.len(), 1_023);
+    assert_eq!(&rt; code.func(0).map(|main| main.slots), Some(256));
+    assert!(rt; is_last_name(&code, 255));
+    Ok(())
+}
+
+/// Each function but the last one calls the one behind it, and that one calls the first.
+fn each_calls_the_next(rt: &impl Abort, code: &Code) {
     for i in 0..1_022 {
-        assert_eq!(&rt; called(&code, i), Some(i.wrapping_add(1)));
+        assert_eq!(rt; called(code, i), Some(i.wrapping_add(1)));
     }
-    assert_eq!(&rt; called(&code, 1_022), Some(0));
+    assert_eq!(rt; called(code, 1_022), Some(0));
+}
+
+#[test]
+fn as_many_functions_as_there_may_be(rt: HostRuntime) -> Result<(), Fail> {
+    let code = many_functions(rt.alloc())?;
+    assert_eq!(&rt; [code.main(), code.len()], [1_023, 1_023]);
+    each_calls_the_next(&rt, &code);
     assert!(rt; code.func(1_023).is_some() && code.func(1_024).is_none());
     Ok(())
+}
+
+fn is_large(rt: &impl Abort, code: &Code) {
+    assert_eq!(rt; code.len(), 2_000);
+    for number in 0..2_000 {
+        assert!(rt; prints_its_number(code, number), "{number}");
+    }
 }
 
 /// A table of 2,000 nodes, its copy, and the copy of its copy.
 #[test]
 fn large_tables_are_copied(rt: HostRuntime) -> Result<(), Fail> {
     let code = many_nodes(rt.alloc(), 2_000)?;
+    is_large(&rt, &code);
     let copy = code.copy(rt.alloc())?;
+    is_large(&rt, &copy);
     let again = copy.copy(rt.alloc())?;
-    for table in [&code, &copy, &again] {
-        assert_eq!(&rt; table.len(), 2_000);
-        for number in 0..2_000 {
-            assert!(rt; prints_its_number(table, number), "{number}");
-        }
-    }
+    is_large(&rt, &again);
+    is_large(&rt, &code);
     Ok(())
 }

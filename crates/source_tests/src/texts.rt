@@ -1,7 +1,8 @@
 //! Which bytes are a text, and where others are refused.
 
-use par_syntax::{ChainOp, Expr, ParseFail, StmtKind, SyntaxKind, parse};
+use par_syntax::{ChainOp, Expr, Func, ParseFail, StmtKind, SyntaxKind, parse};
 use std::alloc::{AllocError, Global};
+use std::process::Abort;
 use std::test::Fail;
 
 /// Whether a text has a tree.
@@ -89,7 +90,8 @@ NumberTooLarge 4|x 1 99999999999999999999 $";
 fn told(alloc: Global, text: &[u8]) -> Result<String, AllocError> {
     match parse(alloc, text) {
         Err(ParseFail::Refused(error)) => format!(in alloc; "{:?} {}", error.kind, error.at),
-        _ => Ok(String::new(alloc)),
+        Err(ParseFail::OutOfMemory) => Err(AllocError),
+        Ok(_) => Ok(String::new(alloc)),
     }
 }
 
@@ -108,14 +110,17 @@ fn lines_end_in_two_ways(rt: HostRuntime) {
     assert!(rt; reads(rt.alloc(), LINES.as_bytes()));
 }
 
+fn is_told(rt: &(impl Abort + AllocGlobal), text: &[u8], want: &str) -> Result<(), Fail> {
+    let told = told(rt.alloc(), text)?;
+    assert_eq!(rt; told.as_str(), want);
+    Ok(())
+}
+
 #[test]
 fn other_bytes_are_refused(rt: HostRuntime) -> Result<(), Fail> {
     for row in REFUSED.split('\n') {
-        let mut parts = row.split('|');
-        let reason = parts.next().unwrap_or("");
-        let text = parts.next().unwrap_or("");
-        let told = told(rt.alloc(), text.as_bytes())?;
-        assert_eq!(rt; told.as_str(), reason, "at {row:?}");
+        let (reason, text) = row.split_once('|').ok_or("a row without a bar")?;
+        is_told(&rt, text.as_bytes(), reason)?;
     }
     Ok(())
 }
@@ -130,57 +135,93 @@ fn every_front(rt: HostRuntime) {
     assert!(rt; reads(rt.alloc(), text));
 }
 
+/// The front of a text, its middle, how many times that stands there, its back, and what is told of it.
+type Row = (&'static str, &'static str, u32, &'static str, &'static str);
+
+/// One of these rows.
+fn is_row_told(rt: &(impl Abort + AllocGlobal), row: Row) -> Result<(), Fail> {
+    let (front, middle, count, back, want) = row;
+    let text = repeated(
+        rt.alloc(),
+        front.as_bytes(),
+        middle.as_bytes(),
+        count,
+        back.as_bytes(),
+    )?;
+    is_told(rt, &text, want)
+}
+
+fn deep_texts() -> [Row; 7] {
+    [
+        ("fn main() { let x = ", "-", 63, "1; }", ""),
+        ("fn main() { let x = ", "-", 64, "1; }", "TooDeep 83"),
+        ("fn main() { let x = ", "- ", 500_000, "", "TooDeep 146"),
+        ("fn main() { let x = ", "(", 1_000_000, "", "TooDeep 83"),
+        ("fn main() {", "while 1{", 63, "", "Expected 515"),
+        ("fn main() {", "while 1{", 64, "", "TooDeep 522"),
+        ("fn main() {", "while 1{", 63, "call f()", "TooDeep 521"),
+    ]
+}
+
 #[test]
 fn depth(rt: HostRuntime) -> Result<(), Fail> {
-    let alloc = rt.alloc();
-    let front = b"fn main() { let x = ".as_slice();
-    let signs = repeated(alloc, front, b"-", 63, b"1; }")?;
-    assert!(rt; reads(alloc, &signs));
-    let signs = repeated(alloc, front, b"-", 64, b"1; }")?;
-    assert!(rt; refuses(alloc, &signs, SyntaxKind::TooDeep, 83));
-    let signs = repeated(alloc, front, b"- ", 500_000, b"")?;
-    assert!(rt; refuses(alloc, &signs, SyntaxKind::TooDeep, 146));
-    let groups = repeated(alloc, front, b"(", 1_000_000, b"")?;
-    assert!(rt; refuses(alloc, &groups, SyntaxKind::TooDeep, 83));
-    let bodies = repeated(alloc, b"fn main() {", b"while 1{", 63, b"")?;
-    assert!(rt; refuses(alloc, &bodies, SyntaxKind::Expected, 515));
-    let bodies = repeated(alloc, b"fn main() {", b"while 1{", 64, b"")?;
-    assert!(rt; refuses(alloc, &bodies, SyntaxKind::TooDeep, 522));
-    let call = repeated(alloc, b"fn main() {", b"while 1{", 63, b"call f()")?;
-    assert!(rt; refuses(alloc, &call, SyntaxKind::TooDeep, 521));
+    for row in deep_texts() {
+        is_row_told(&rt, row)?;
+    }
     Ok(())
+}
+
+fn large_texts() -> [Row; 8] {
+    [
+        ("", "fn f(){}", 1024, "", ""),
+        ("", "fn f(){}", 1025, "", "TooMany 8192"),
+        ("fn f(){", "let a=1;", 256, "} fn g(a){}", ""),
+        ("fn f(){", "let a=1;", 257, "}", "TooMany 2059"),
+        ("fn f(use a", ",own b", 255, "){}", ""),
+        (
+            "fn f(use a",
+            ",own b",
+            255,
+            "){call own x=f();}",
+            "TooMany 1551",
+        ),
+        ("fn f(){", "let a=1;", 256, "let ", "Expected 2059"),
+        (
+            "fn f(){",
+            "split b at 0 into l,r{}",
+            129,
+            "}",
+            "TooMany 2969",
+        ),
+    ]
 }
 
 #[test]
 fn counts(rt: HostRuntime) -> Result<(), Fail> {
-    let alloc = rt.alloc();
-    let funcs = repeated(alloc, b"", b"fn f(){}", 1024, b"")?;
-    assert!(rt; reads(alloc, &funcs));
-    let funcs = repeated(alloc, b"", b"fn f(){}", 1025, b"")?;
-    assert!(rt; refuses(alloc, &funcs, SyntaxKind::TooMany, 8192));
-    let names = repeated(alloc, b"fn f(){", b"let a=1;", 256, b"} fn g(a){}")?;
-    assert!(rt; reads(alloc, &names));
-    let names = repeated(alloc, b"fn f(){", b"let a=1;", 257, b"}")?;
-    assert!(rt; refuses(alloc, &names, SyntaxKind::TooMany, 2059));
-    let params = repeated(alloc, b"fn f(use a", b",own b", 255, b"){}")?;
-    assert!(rt; reads(alloc, &params));
-    let params = repeated(alloc, b"fn f(use a", b",own b", 255, b"){call own x=f();}")?;
-    assert!(rt; refuses(alloc, &params, SyntaxKind::TooMany, 1551));
-    let early = repeated(alloc, b"fn f(){", b"let a=1;", 256, b"let ")?;
-    assert!(rt; refuses(alloc, &early, SyntaxKind::Expected, 2059));
-    let parts = repeated(alloc, b"fn f(){", b"split b at 0 into l,r{}", 129, b"}")?;
-    assert!(rt; refuses(alloc, &parts, SyntaxKind::TooMany, 2969));
+    for row in large_texts() {
+        is_row_told(&rt, row)?;
+    }
     Ok(())
+}
+
+/// A byte or none in front of 1,048,576 blanks.
+fn blanks_behind(rt: &(impl Abort + AllocGlobal), front: &[u8], want: &str) -> Result<(), Fail> {
+    let text = repeated(rt.alloc(), front, b" ", 1_048_576, b"")?;
+    is_told(rt, &text, want)
 }
 
 #[test]
 fn length(rt: HostRuntime) -> Result<(), Fail> {
-    let alloc = rt.alloc();
-    let spaces = repeated(alloc, b"", b" ", 1_048_576, b"")?;
-    assert!(rt; refuses(alloc, &spaces, SyntaxKind::Expected, 1_048_576));
-    let spaces = repeated(alloc, b"\x80", b" ", 1_048_576, b"")?;
-    assert!(rt; refuses(alloc, &spaces, SyntaxKind::TooLong, 1_048_576));
-    Ok(())
+    blanks_behind(&rt, b"", "Expected 1048576")?;
+    blanks_behind(&rt, b"\x80", "TooLong 1048576")
+}
+
+fn is_main(rt: &impl Abort, func: &Func) {
+    assert_eq!(rt; func.name.bytes.as_slice(), b"main".as_slice());
+    assert_eq!(rt; (func.line, func.body.len()), (1, 1));
+    for stmt in &func.body {
+        assert_eq!(rt; (stmt.line, is_difference(&stmt.kind)), (2, true));
+    }
 }
 
 #[test]
@@ -189,13 +230,7 @@ fn trees(rt: HostRuntime) -> Result<(), Fail> {
     let program = parse(rt.alloc(), text).ok().ok_or("a text")?;
     assert_eq!(rt; program.funcs.len(), 1);
     for func in &program.funcs {
-        assert_eq!(rt; func.name.bytes.as_slice(), b"main".as_slice());
-        assert_eq!(rt; func.line, 1);
-        assert_eq!(rt; func.body.len(), 1);
-        for stmt in &func.body {
-            assert_eq!(rt; stmt.line, 2);
-            assert!(rt; is_difference(&stmt.kind));
-        }
+        is_main(&rt, func);
     }
     Ok(())
 }

@@ -1,11 +1,12 @@
 //! Runs action by action: names, kinds, weights and births, each worked out by hand.
 
-use crate::rows::text_of;
+use crate::rows::parts_of;
 use crate::runs::{LIMIT, run};
 use dag_order::ThreadId;
-use serial_meaning::{Serial, SerialStop};
+use serial_meaning::{Action, Serial, SerialStop};
 use std::alloc::{AllocError, Global};
 use std::fmt::Write;
+use std::process::Abort;
 use std::test::Fail;
 
 /// The number of a thread in these runs: 0 for the root, and else as the threads are born.
@@ -17,21 +18,25 @@ fn number(id: ThreadId) -> u32 {
     }
 }
 
-/// The actions of a run, each with the number of its thread, its index, its kind and its weight, and behind them the births, each with the
-/// number of the parent and which of its forks it is.
+/// Adds an action, with the number of its thread, its index, its kind and its weight.
+fn add_action(told: &mut String, action: &Action) -> Result<(), AllocError> {
+    write!(
+        told,
+        "{}.{} {:?} {}",
+        number(action.name.by),
+        action.name.index,
+        action.kind,
+        action.change
+    )
+}
+
+/// The actions of a run, and behind them the births, each with the number of the parent and which of its forks it is.
 fn trace(alloc: Global, serial: &Serial) -> Result<String, AllocError> {
     let mut told = String::new(alloc);
     let mut mark = "";
     for action in serial.actions.as_slice() {
-        let name = action.name;
-        write!(
-            told,
-            "{mark}{}.{} {:?} {}",
-            number(name.by),
-            name.index,
-            action.kind,
-            action.change
-        )?;
+        told.push_str(mark)?;
+        add_action(&mut told, action)?;
         mark = ", ";
     }
     told.push_str(";")?;
@@ -95,18 +100,19 @@ fn main() {
 }
 ";
 
+/// A program does this.
+fn goes_so(rt: &impl Abort, alloc: Global, want: &str, text: &str) -> Result<(), Fail> {
+    let serial = run(alloc, text, 16, LIMIT).ok().ok_or("no run")?;
+    let told = trace(alloc, &serial)?;
+    assert_eq!(rt; told.as_str(), want, "{text}");
+    Ok(())
+}
+
 #[test]
 fn runs_go_action_by_action(rt: HostRuntime) -> Result<(), Fail> {
     for row in TRACES.split('@') {
-        if let Some((want, rest)) = row.split_once('|') {
-            let text = text_of(rest);
-            match run(rt.alloc(), text, 16, LIMIT) {
-                Ok(serial) => {
-                    let told = trace(rt.alloc(), &serial)?;
-                    assert_eq!(rt; told.as_str(), want.trim(), "{text}");
-                }
-                Err(_) => assert!(rt; false, "{text}"),
-            }
+        if let Some((want, text)) = parts_of(row) {
+            goes_so(&rt, rt.alloc(), want, text)?;
         }
     }
     Ok(())

@@ -5,9 +5,9 @@ use std::process::Abort;
 use std::test::Fail;
 use std::thread::join;
 
-#[test]
-fn makes_pools_of_whole_pieces(rt: HostRuntime) {
-    let cases = [
+// Words, and why there is no pool of so many.
+fn sizes() -> [(u32, Option<PoolError>); 9] {
+    [
         (0, Some(PoolError::NotWhole)),
         (8, Some(PoolError::NotWhole)),
         (16, None),
@@ -17,38 +17,87 @@ fn makes_pools_of_whole_pieces(rt: HostRuntime) {
         (MAX_WORDS + 16, Some(PoolError::TooLarge)),
         (4_294_967_295, Some(PoolError::NotWhole)),
         (4_294_967_280, Some(PoolError::TooLarge)),
-    ];
-    for (words, want) in cases {
-        assert_eq!(rt; Pool::new(rt.alloc(), words).err(), want, "at {words}");
+    ]
+}
+
+#[test]
+fn makes_pools_of_whole_pieces(rt: HostRuntime) {
+    for (words, want) in sizes() {
+        assert_eq!(rt; (words, Pool::new(rt.alloc(), words).err()), (words, want));
     }
+}
+
+// The functions below test what a call needs, and then make it. A caller knows nothing of what they did.
+
+fn shell(rt: &impl AllocGlobal, room: u32) -> Result<Shell, Fail> {
+    Ok(Shell::with_room(rt.alloc(), room)?)
+}
+
+fn take(rt: &impl Abort, pool: &mut Pool, len: u32, shell: Shell) -> Result<Block, Full> {
+    assert!(rt; pieces_for(len) <= shell.room());
+    pool.take(len, shell)
+}
+
+fn give(rt: &impl Abort, pool: &mut Pool, block: Block) -> Shell {
+    assert!(rt; u64::from(block.words()) <= pool.live());
+    pool.give(block)
+}
+
+// A block of `len` zeros, with just the room that it needs.
+fn zeros(rt: &(impl Abort + AllocGlobal), pool: &mut Pool, len: u32) -> Result<Block, Fail> {
+    let shell = shell(rt, pieces_for(len))?;
+    Ok(take(rt, pool, len, shell)?)
+}
+
+// What a full pool says when it is asked for one number: the words that are out, those asked for, and the room of the shell that comes back.
+fn refusal(rt: &(impl Abort + AllocGlobal), pool: &mut Pool) -> Result<[u64; 3], Fail> {
+    match take(rt, pool, 1, shell(rt, 1)?) {
+        Ok(_) => Err("a full pool gave a block")?,
+        Err(full) => Ok([full.live, full.asked, u64::from(full.shell.room())]),
+    }
+}
+
+fn has_words(rt: &impl Abort, pool: &Pool, live: u64, high: u64) {
+    assert_eq!(rt; [pool.live(), pool.high()], [live, high]);
+}
+
+// Seventeen numbers are taken out of a pool of 32 words.
+fn take_seventeen(rt: &(impl Abort + AllocGlobal), pool: &mut Pool) -> Result<Block, Fail> {
+    let block = take(rt, pool, 17, shell(rt, 2)?)?;
+    assert_eq!(rt; (pool.capacity(), block.len(), block.words()), (32, 17, 32));
+    Ok(block)
 }
 
 #[test]
 fn takes_and_gives(rt: HostRuntime) -> Result<(), Fail> {
     let mut pool = Pool::new(rt.alloc(), 32)?;
-    let block = pool.take(17, Shell::with_room(rt.alloc(), 2)?)?;
-    assert_eq!(rt; (pool.capacity(), pool.live(), pool.high()), (32, 32, 32));
-    assert_eq!(rt; (block.len(), block.words()), (17, 32));
-    let Err(full) = pool.take(1, Shell::with_room(rt.alloc(), 1)?) else {
-        return Err("a full pool gave a block")?;
-    };
-    assert_eq!(rt; (full.live, full.asked, full.shell.room()), (32, 16, 1));
-    let shell = pool.give(block);
-    assert_eq!(rt; (pool.live(), pool.high(), shell.room()), (0, 32, 2));
-    let block = pool.take(1, shell)?;
-    assert_eq!(rt; (pool.live(), pool.high(), block.get(0)), (16, 32, Some(0)));
+    let block = take_seventeen(&rt, &mut pool)?;
+    has_words(&rt, &pool, 32, 32);
+    assert_eq!(rt; refusal(&rt, &mut pool)?, [32, 16, 1]);
+    let shell = give(&rt, &mut pool, block);
+    has_words(&rt, &pool, 0, 32);
+    assert_eq!(rt; shell.room(), 2);
+    let block = take(&rt, &mut pool, 1, shell)?;
+    has_words(&rt, &pool, 16, 32);
+    assert_eq!(rt; block.get(0), Some(0));
+    Ok(())
+}
+
+// Writes 1 at place 0, 2 at place 1 and so on over the zeros of a block.
+fn count_up(rt: &impl Abort, block: &mut Block) -> Result<(), OutOfRange> {
+    let len = block.len();
+    for i in 0..len {
+        assert_eq!(rt; (i, block.get(i)), (i, Some(0)));
+        block.set(i, i64::from(i) + 1)?;
+    }
+    assert_eq!(rt; block.set(len, 1), Err(OutOfRange));
     Ok(())
 }
 
 // A block of `len` numbers, 1 at place 0, 2 at place 1 and so on.
 fn counted(rt: &(impl Abort + AllocGlobal), pool: &mut Pool, len: u32) -> Result<Block, Fail> {
-    let shell = Shell::with_room(rt.alloc(), pieces_for(len))?;
-    let mut block = pool.take(len, shell)?;
-    for i in 0..len {
-        assert_eq!(rt; block.get(i), Some(0), "at {i} of {len}");
-        block.set(i, i64::from(i) + 1)?;
-    }
-    assert_eq!(rt; block.set(len, 1), Err(OutOfRange));
+    let mut block = zeros(rt, pool, len)?;
+    count_up(rt, &mut block)?;
     Ok(block)
 }
 
@@ -59,17 +108,14 @@ fn check(rt: &impl Abort, block: &Block, first: i64, len: u32) {
         (len, len == 0, None)
     );
     for i in 0..len {
-        assert_eq!(rt;
-            block.get(i),
-            first.checked_add(i64::from(i)),
-            "at {i} of {len}"
-        );
+        let want = first.checked_add(i64::from(i));
+        assert_eq!(rt; (i, block.get(i)), (i, want));
     }
 }
 
-#[test]
-fn cuts_and_joins(rt: HostRuntime) -> Result<(), Fail> {
-    let cases = [
+// The length of a block, a place, and whether it is cut there.
+fn cuts() -> [(u32, u32, bool); 16] {
+    [
         (0, 0, true),
         (0, 16, false),
         (16, 0, true),
@@ -86,102 +132,171 @@ fn cuts_and_joins(rt: HostRuntime) -> Result<(), Fail> {
         (64, 80, false),
         (131_104, 65_552, true),
         (131_104, 65_551, false),
-    ];
-    for (len, at, cut) in cases {
-        let mut pool = Pool::new(rt.alloc(), 131_104)?;
-        let block = counted(&rt, &mut pool, len)?;
-        let live = pool.live();
-        let room = pieces_for(block.len().saturating_sub(at));
-        match block.split(at, Shell::with_room(rt.alloc(), room)?) {
-            Ok((left, right)) => {
-                assert!(rt; cut, "cut {len} at {at}");
-                check(&rt, &left, 1, at);
-                check(&rt, &right, i64::from(at) + 1, len - at);
-                let (whole, shell) = Block::join(left, right);
-                check(&rt, &whole, 1, len);
-                assert_eq!(rt; (pool.live(), shell.room()), (live, room));
-            }
-            Err((whole, shell, SplitRefused)) => {
-                assert!(rt; !cut, "refused {len} at {at}");
-                check(&rt, &whole, 1, len);
-                assert_eq!(rt; shell.room(), room);
-            }
+    ]
+}
+
+fn join_blocks(rt: &impl Abort, left: Block, right: Block) -> (Block, Shell) {
+    assert!(rt; Block::can_join(&left, &right));
+    Block::join(left, right)
+}
+
+// The parts of a block of `len` numbers that was cut at a place, and the block that they make again. Gives the shell that is left.
+fn check_parts(rt: &impl Abort, left: Block, right: Block, at: u32, len: u32) -> Shell {
+    check(rt, &left, 1, at);
+    check(rt, &right, i64::from(at) + 1, len.saturating_sub(at));
+    let (whole, shell) = join_blocks(rt, left, right);
+    check(rt, &whole, 1, len);
+    shell
+}
+
+// Cuts a block of `len` numbers at a place, or is refused, and has the whole block in the end. Gives the shell that is left.
+fn cut(rt: &impl Abort, block: Block, at: u32, shell: Shell, can: bool) -> Shell {
+    let len = block.len();
+    assert!(rt; pieces_for(len.saturating_sub(at)) <= shell.room());
+    match block.split(at, shell) {
+        Ok((left, right)) => {
+            assert!(rt; can, "cut {len} at {at}");
+            check_parts(rt, left, right, at, len)
         }
+        Err((whole, shell, SplitRefused)) => {
+            assert!(rt; !can, "refused {len} at {at}");
+            check(rt, &whole, 1, len);
+            shell
+        }
+    }
+}
+
+fn cut_one(rt: &(impl Abort + AllocGlobal), len: u32, at: u32, can: bool) -> Result<(), Fail> {
+    let mut pool = Pool::new(rt.alloc(), 131_104)?;
+    let block = counted(rt, &mut pool, len)?;
+    assert_eq!(rt; block.len(), len);
+    let live = pool.live();
+    let room = pieces_for(len.saturating_sub(at));
+    let left = cut(rt, block, at, shell(rt, room)?, can);
+    assert_eq!(rt; (pool.live(), left.room()), (live, room));
+    Ok(())
+}
+
+#[test]
+fn cuts_and_joins(rt: HostRuntime) -> Result<(), Fail> {
+    for (len, at, can) in cuts() {
+        cut_one(&rt, len, at, can)?;
     }
     Ok(())
 }
 
-// Two blocks with just the room that they need are joined where the left one has whole pieces, once it has room.
-#[test]
-fn room_is_made_before_a_join(rt: HostRuntime) -> Result<(), Fail> {
-    let cases = [
+// Two lengths, whether the blocks are joined with just the room that they need, and whether they are once there is room.
+fn joins() -> [(u32, u32, bool, bool); 5] {
+    [
         (0, 0, true, true),
         (16, 0, true, true),
         (16, 5, false, true),
         (17, 5, false, false),
         (65_552, 65_552, false, true),
-    ];
-    for (len, more, fits, whole) in cases {
-        let mut pool = Pool::new(rt.alloc(), 131_104)?;
-        let mut left = counted(&rt, &mut pool, len)?;
-        let right = counted(&rt, &mut pool, more)?;
-        assert_eq!(rt; Block::can_join(&left, &right), fits, "{more} behind {len}");
-        left.make_room(pieces_for(len).saturating_add(pieces_for(more)))?;
-        check(&rt, &left, 1, len);
-        let can = Block::can_join(&left, &right);
-        assert_eq!(rt; can, whole, "{more} behind {len}");
-        if can {
-            let (both, shell) = Block::join(left, right);
-            let last = both.len().saturating_sub(1);
-            assert_eq!(rt; (both.len(), shell.room()), (len + more, pieces_for(more)));
-            assert_eq!(rt; both.get(0) == Some(1), both.len() != 0, "at the front");
-            assert!(rt;
-                more == 0 || both.get(last) == Some(i64::from(more)),
-                "at the end"
-            );
-        }
+    ]
+}
+
+// Two blocks that count from 1 are one block of both.
+fn check_both(rt: &impl Abort, left: Block, right: Block, len: u32, more: u32) {
+    let (both, shell) = join_blocks(rt, left, right);
+    let whole = both.len();
+    assert_eq!(rt;
+        (u64::from(whole), shell.room()),
+        (u64::from(len) + u64::from(more), pieces_for(more))
+    );
+    assert_eq!(rt; both.get(0) == Some(1), whole != 0, "at the front");
+    let last = both.get(whole.saturating_sub(1));
+    assert!(rt; more == 0 || last == Some(i64::from(more)), "at the end");
+}
+
+// Makes room for both blocks in the left one, and joins them where they can be joined.
+fn join_with_room(rt: &impl Abort, mut left: Block, right: Block, want: bool) -> Result<(), Fail> {
+    let (len, more) = (left.len(), right.len());
+    left.make_room(pieces_for(len).saturating_add(pieces_for(more)))?;
+    check(rt, &left, 1, len);
+    let can = Block::can_join(&left, &right);
+    assert_eq!(rt; can, want, "{more} behind {len}");
+    if can {
+        check_both(rt, left, right, len, more);
     }
     Ok(())
 }
 
-// Ten blocks go out, and every other one comes back. The pieces that are free then lay between others.
+fn join_one(
+    rt: &(impl Abort + AllocGlobal),
+    len: u32,
+    more: u32,
+    fits: bool,
+    want: bool,
+) -> Result<(), Fail> {
+    let mut pool = Pool::new(rt.alloc(), 131_104)?;
+    let left = counted(rt, &mut pool, len)?;
+    let right = counted(rt, &mut pool, more)?;
+    assert_eq!(rt;
+        (left.len(), right.len(), Block::can_join(&left, &right)),
+        (len, more, fits)
+    );
+    join_with_room(rt, left, right, want)
+}
+
+// Two blocks with just the room that they need are joined where the left one has whole pieces, once it has room.
 #[test]
-fn scattered_pieces_make_one_block(rt: HostRuntime) -> Result<(), Fail> {
-    let mut pool = Pool::new(rt.alloc(), 160)?;
+fn room_is_made_before_a_join(rt: HostRuntime) -> Result<(), Fail> {
+    for (len, more, fits, want) in joins() {
+        join_one(&rt, len, more, fits, want)?;
+    }
+    Ok(())
+}
+
+// Takes ten blocks out of a pool, and gives every other one back.
+fn scatter(rt: &(impl Abort + AllocGlobal), pool: &mut Pool) -> Result<Vec<Block>, Fail> {
     let mut kept = Vec::with_capacity(rt.alloc(), 10)?;
     for i in 0..10u32 {
-        let block = counted(&rt, &mut pool, 16)?;
+        let block = counted(rt, pool, 16)?;
         if i % 2 == 0 {
             kept.push(block)?;
         } else {
-            assert!(rt; u64::from(block.words()) <= pool.live());
-            let _shell = pool.give(block);
+            let _shell = give(rt, pool, block);
         }
     }
-    let block = pool.take(80, Shell::with_room(rt.alloc(), 5)?)?;
-    assert_eq!(rt; (pool.live(), pool.high(), block.words()), (160, 160, 80));
+    Ok(kept)
+}
+
+fn eighty_zeros_are_out(rt: &impl Abort, pool: &Pool, block: &Block) {
+    assert_eq!(rt;
+        [pool.live(), pool.high(), u64::from(block.words())],
+        [160, 160, 80]
+    );
     for i in 0..80 {
-        assert_eq!(rt; block.get(i), Some(0), "at {i}");
+        assert_eq!(rt; (i, block.get(i)), (i, Some(0)));
     }
+}
+
+// The pieces that are free lie between others.
+#[test]
+fn scattered_pieces_make_one_block(rt: HostRuntime) -> Result<(), Fail> {
+    let mut pool = Pool::new(rt.alloc(), 160)?;
+    let kept = scatter(&rt, &mut pool)?;
+    let block = zeros(&rt, &mut pool, 80)?;
+    eighty_zeros_are_out(&rt, &pool, &block);
     for block in kept.iter() {
         check(&rt, block, 1, 16);
     }
-    let Err(full) = pool.take(1, Shell::with_room(rt.alloc(), 1)?) else {
-        return Err("a full pool gave a block")?;
-    };
-    assert_eq!(rt; (full.live, full.asked), (160, 16));
+    assert_eq!(rt; refusal(&rt, &mut pool)?, [160, 16, 1]);
     Ok(())
 }
 
 // Takes a block of `words` words, writes its last number and gives it back.
 fn write_last(rt: &(impl Abort + AllocGlobal), pool: &mut Pool, words: u32) -> Result<(), Fail> {
-    let mut block = pool.take(words, Shell::with_room(rt.alloc(), pieces_for(words))?)?;
+    let mut block = zeros(rt, pool, words)?;
     let last = words.saturating_sub(1);
-    assert_eq!(rt; block.get(last), Some(0), "at {last}");
+    let before = block.get(last);
     block.set(last, i64::MIN)?;
-    assert_eq!(rt; block.get(last), Some(i64::MIN), "at {last}");
-    assert!(rt; u64::from(block.words()) <= pool.live());
-    let _shell = pool.give(block);
+    assert_eq!(rt;
+        (last, before, block.get(last)),
+        (last, Some(0), Some(i64::MIN))
+    );
+    let _shell = give(rt, pool, block);
     Ok(())
 }
 
@@ -192,8 +307,8 @@ fn the_greatest_pool_goes_out_whole(rt: HostRuntime) -> Result<(), Fail> {
         write_last(&rt, &mut pool, words)?;
     }
     assert_eq!(rt;
-        (pool.capacity(), pool.live(), pool.high()),
-        (67_108_864, 0, 67_108_864)
+        [pool.capacity(), pool.live(), pool.high()],
+        [67_108_864, 0, 67_108_864]
     );
     Ok(())
 }
@@ -202,30 +317,37 @@ fn the_greatest_pool_goes_out_whole(rt: HostRuntime) -> Result<(), Fail> {
 #[test]
 fn crosses_threads(rt: HostRuntime) -> Result<(), Fail> {
     let mut pool = Pool::new(rt.alloc(), 32)?;
-    let block = pool.take(16, Shell::with_room(rt.alloc(), 1)?)?;
+    let block = zeros(&rt, &mut pool, 16)?;
     let (live, number) = join(&rt, move || pool.live(), move || block.get(15));
     assert_eq!(rt; (live, number), (16, Some(0)));
     Ok(())
 }
 
-#[test]
-fn refusals_say_why(rt: HostRuntime) -> Result<(), Fail> {
-    let reasons = [
+fn reasons() -> [(PoolError, &'static str); 3] {
+    [
         (
             PoolError::NotWhole,
             "the words of the pool are no whole pieces",
         ),
         (PoolError::TooLarge, "the words of the pool are too many"),
         (PoolError::OutOfMemory, "out of memory"),
-    ];
-    for (reason, want) in reasons {
+    ]
+}
+
+#[test]
+fn no_pool_is_made_for_a_reason(rt: HostRuntime) -> Result<(), Fail> {
+    for (reason, want) in reasons() {
         assert_eq!(rt; format!(in rt.alloc(); "{reason}")?.as_str(), want);
     }
-    let shell = Shell::with_room(rt.alloc(), 0)?;
+    Ok(())
+}
+
+#[test]
+fn refusals_say_why(rt: HostRuntime) -> Result<(), Fail> {
     let full = Full {
         live: 32,
         asked: 16,
-        shell,
+        shell: shell(&rt, 0)?,
     };
     let refusals = format!(in rt.alloc(); "{full}, {OutOfRange}, {SplitRefused}")?;
     assert_eq!(rt;
@@ -235,14 +357,20 @@ fn refusals_say_why(rt: HostRuntime) -> Result<(), Fail> {
     Ok(())
 }
 
-// A block of `len` numbers in memory of its own, `first` at place 0, the next one at place 1 and so on.
-fn own(rt: &(impl Abort + AllocGlobal), first: i64, len: u16) -> Result<OwnBlock, Fail> {
-    let len = u32::from(len);
-    let mut block = OwnBlock::zeros(rt.alloc(), len)?;
-    for i in 0..len {
-        assert_eq!(rt; block.get(i), Some(0), "at {i} of {len}");
+// Writes the numbers from `first` on over the zeros of a block.
+fn count_from(rt: &impl Abort, block: &mut OwnBlock, first: i64) -> Result<(), OutOfRange> {
+    for i in 0..block.len() {
+        assert_eq!(rt; (i, block.get(i)), (i, Some(0)));
         block.set(i, first.wrapping_add(i64::from(i)))?;
     }
+    Ok(())
+}
+
+// A block of `len` numbers in memory of its own, `first` at place 0, the next one at place 1 and so on.
+fn own(rt: &(impl Abort + AllocGlobal), first: i64, len: u16) -> Result<OwnBlock, Fail> {
+    let mut block = OwnBlock::zeros(rt.alloc(), u32::from(len))?;
+    assert_eq!(rt; block.len(), u32::from(len));
+    count_from(rt, &mut block, first)?;
     Ok(block)
 }
 
@@ -250,19 +378,30 @@ fn own(rt: &(impl Abort + AllocGlobal), first: i64, len: u16) -> Result<OwnBlock
 fn check_own(rt: &impl Abort, block: &OwnBlock, len: u32) {
     assert_eq!(rt; (block.len(), block.get(len)), (len, None));
     for i in 0..len {
-        assert_eq!(rt; block.get(i), Some(i64::from(i) + 1), "at {i}");
+        assert_eq!(rt; (i, block.get(i)), (i, Some(i64::from(i) + 1)));
     }
+}
+
+// A block of `left` numbers, and one of `right` numbers that goes on where it ends, are one block.
+fn append_one(rt: &(impl Abort + AllocGlobal), left: u16, right: u16) -> Result<(), Fail> {
+    let first = own(rt, 1, left)?;
+    let second = own(rt, i64::from(left) + 1, right)?;
+    let whole = first.append(rt.alloc(), second)?;
+    check_own(rt, &whole, u32::from(left) + u32::from(right));
+    Ok(())
+}
+
+fn append_each(rt: &(impl Abort + AllocGlobal), left: u16) -> Result<(), Fail> {
+    for right in [0, 1, 16, 40, 65_535] {
+        append_one(rt, left, right)?;
+    }
+    Ok(())
 }
 
 #[test]
 fn appends_blocks_of_their_own(rt: HostRuntime) -> Result<(), Fail> {
-    for left in [0u16, 5, 16, 17, 32, 65_535] {
-        for right in [0u16, 1, 16, 40, 65_535] {
-            let first = own(&rt, 1, left)?;
-            let second = own(&rt, i64::from(left) + 1, right)?;
-            let whole = first.append(rt.alloc(), second)?;
-            check_own(&rt, &whole, u32::from(left) + u32::from(right));
-        }
+    for left in [0, 5, 16, 17, 32, 65_535] {
+        append_each(&rt, left)?;
     }
     let empty = OwnBlock::empty(rt.alloc()).append(rt.alloc(), OwnBlock::empty(rt.alloc()))?;
     check_own(&rt, &empty, 0);

@@ -45,6 +45,30 @@ fn give_all(rt: &impl Abort, slots: Slots, pool: &mut Pool) {
     slots.give_all(pool);
 }
 
+fn has_integer(rt: &impl Abort, slots: &Slots, slot: u16, want: i64) {
+    assert_eq!(rt; (slot, slots.integer(slot)), (slot, want));
+}
+
+// The slot has a block of this length, or none.
+fn has_block(rt: &impl Abort, slots: &Slots, slot: u16, want: Option<u32>) {
+    assert_eq!(rt;
+        (slot, slots.has_block(slot), slots.length(slot)),
+        (slot, want.is_some(), want.unwrap_or(0))
+    );
+}
+
+// Slots 0, 1 and 2 have these blocks.
+fn have_blocks(rt: &impl Abort, slots: &Slots, want: [Option<u32>; 3]) {
+    let [first, second, third] = want;
+    has_block(rt, slots, 0, first);
+    has_block(rt, slots, 1, second);
+    has_block(rt, slots, 2, third);
+}
+
+fn has_words(rt: &impl Abort, slots: &Slots, want: u64) {
+    assert_eq!(rt; slots.held_words(), want);
+}
+
 // A block of `len` numbers: 1 at place 0, 2 at place 1 and so on.
 fn counted(rt: &(impl Abort + AllocGlobal), pool: &mut Pool, len: u32) -> Result<Block, Fail> {
     let shell = Shell::with_room(rt.alloc(), pieces_for(len))?;
@@ -91,48 +115,78 @@ fn gives(rt: &impl Abort, slots: &Slots, expr: CodeExpr, want: Result<i64, Fault
     assert_eq!(rt; told, want);
 }
 
+// Slot 0 is 19, and slot 1 is a block of 20 numbers.
+fn filled(rt: &(impl Abort + AllocGlobal)) -> Result<Slots, Fail> {
+    let mut pool = Pool::new(rt.alloc(), 32)?;
+    let mut slots = new(rt, 2)?;
+    set(rt, &mut slots, 0, 19);
+    fill(rt, &mut slots, &mut pool, 1, 20)?;
+    Ok(slots)
+}
+
+fn negated(rt: &impl AllocGlobal, expr: CodeExpr) -> Result<CodeExpr, Fail> {
+    Ok(CodeExpr::Neg(Box::new(rt.alloc(), expr)?))
+}
+
+fn is_below(rt: &impl AllocGlobal, left: CodeExpr, right: CodeExpr) -> Result<CodeExpr, Fail> {
+    Ok(CodeExpr::Cmp {
+        op: CmpOp::Lt,
+        left: Box::new(rt.alloc(), left)?,
+        right: Box::new(rt.alloc(), right)?,
+    })
+}
+
+// A block's length, numbers, and what comes of one of them.
+fn small_expressions(rt: &(impl Abort + AllocGlobal), slots: &Slots) -> Result<(), Fail> {
+    gives(rt, slots, CodeExpr::Num(-7), Ok(-7));
+    gives(rt, slots, CodeExpr::Len(1), Ok(20));
+    gives(rt, slots, negated(rt, CodeExpr::Var(0))?, Ok(-19));
+    let below = is_below(rt, CodeExpr::Var(0), CodeExpr::Len(1))?;
+    gives(rt, slots, below, Ok(1));
+    Ok(())
+}
+
+fn chains(rt: &(impl Abort + AllocGlobal), slots: &Slots) -> Result<(), Fail> {
+    let last = get(rt, 1, CodeExpr::Var(0))?;
+    let times = chain(rt, last, ChainOp::Mul, CodeExpr::Num(3))?;
+    gives(rt, slots, times, Ok(60));
+    let rest = chain(rt, CodeExpr::Var(0), ChainOp::Rem, CodeExpr::Var(5))?;
+    gives(rt, slots, rest, Err(FaultKind::Divide));
+    Ok(())
+}
+
+fn places_outside(rt: &(impl Abort + AllocGlobal), slots: &Slots) -> Result<(), Fail> {
+    let behind = get(rt, 1, CodeExpr::Len(1))?;
+    gives(rt, slots, behind, Err(FaultKind::Index));
+    let nowhere = get(rt, 0, CodeExpr::Num(0))?;
+    gives(rt, slots, nowhere, Err(FaultKind::Index));
+    Ok(())
+}
+
 #[test]
 fn expressions_read_slots(rt: HostRuntime) -> Result<(), Fail> {
-    let mut pool = Pool::new(rt.alloc(), 32)?;
-    let mut slots = new(&rt, 2)?;
-    set(&rt, &mut slots, 0, 19);
-    fill(&rt, &mut slots, &mut pool, 1, 20)?;
-    gives(&rt, &slots, CodeExpr::Num(-7), Ok(-7));
-    gives(&rt, &slots, CodeExpr::Len(1), Ok(20));
-    gives(
-        &rt,
-        &slots,
-        CodeExpr::Neg(Box::new(rt.alloc(), CodeExpr::Var(0))?),
-        Ok(-19),
-    );
-    let last = get(&rt, 1, CodeExpr::Var(0))?;
-    gives(
-        &rt,
-        &slots,
-        chain(&rt, last, ChainOp::Mul, CodeExpr::Num(3))?,
-        Ok(60),
-    );
-    let rest = chain(&rt, CodeExpr::Var(0), ChainOp::Rem, CodeExpr::Var(5))?;
-    gives(&rt, &slots, rest, Err(FaultKind::Divide));
-    gives(
-        &rt,
-        &slots,
-        get(&rt, 1, CodeExpr::Len(1))?,
-        Err(FaultKind::Index),
-    );
-    gives(
-        &rt,
-        &slots,
-        get(&rt, 0, CodeExpr::Num(0))?,
-        Err(FaultKind::Index),
-    );
-    let below = CodeExpr::Cmp {
-        op: CmpOp::Lt,
-        left: Box::new(rt.alloc(), CodeExpr::Var(0))?,
-        right: Box::new(rt.alloc(), CodeExpr::Len(1))?,
-    };
-    gives(&rt, &slots, below, Ok(1));
-    Ok(())
+    let slots = filled(&rt)?;
+    small_expressions(&rt, &slots)?;
+    chains(&rt, &slots)?;
+    places_outside(&rt, &slots)
+}
+
+// A slot, a place, and whether it is one of the block of 20 numbers in slot 1.
+fn places() -> [(u16, i64, bool); 5] {
+    [
+        (1, 0, true),
+        (1, 19, true),
+        (1, 20, false),
+        (1, -1, false),
+        (0, 0, false),
+    ]
+}
+
+fn put_five(rt: &impl Abort, slots: &mut Slots, slot: u16, place: i64, there: bool) {
+    let done = put(rt, slots, slot, place, 5).is_ok();
+    let told = slots.element(slot, place).ok();
+    let want = if there { Some(5) } else { None };
+    assert_eq!(rt; (done, told), (there, want), "at {place} of {slot}");
 }
 
 #[test]
@@ -140,30 +194,16 @@ fn numbers_are_put_into_blocks(rt: HostRuntime) -> Result<(), Fail> {
     let mut pool = Pool::new(rt.alloc(), 32)?;
     let mut slots = new(&rt, 2)?;
     fill(&rt, &mut slots, &mut pool, 1, 20)?;
-    // the slot, the place, and whether it is one of the block
-    for (slot, place, there) in [
-        (1, 0, true),
-        (1, 19, true),
-        (1, 20, false),
-        (1, -1, false),
-        (0, 0, false),
-    ] {
-        let done = put(&rt, &mut slots, slot, place, 5);
-        assert_eq!(rt; done.is_ok(), there, "at {place} of {slot}");
-        assert_eq!(rt;
-            slots.element(slot, place).ok(),
-            if there { Some(5) } else { None }
-        );
+    for (slot, place, there) in places() {
+        put_five(&rt, &mut slots, slot, place, there);
     }
     assert_eq!(rt;
         (slots.element(1, 1), slots.held_words(), pool.live()),
         (Ok(2), 32, 32)
     );
     let block = take(&rt, &mut slots, 1);
-    assert_eq!(rt;
-        (block.len(), slots.has_block(1), slots.length(1)),
-        (20, false, 0)
-    );
+    assert_eq!(rt; block.len(), 20);
+    has_block(&rt, &slots, 1, None);
     Ok(())
 }
 
@@ -191,38 +231,51 @@ fn rejoin(rt: &impl Abort, slots: &mut Slots) -> Result<(), Fail> {
     Ok(())
 }
 
-#[test]
-fn blocks_are_cut_and_joined(rt: HostRuntime) -> Result<(), Fail> {
-    // the length of the block, the place, and the lengths of the parts
-    for (len, at, left, right) in [
-        (40u32, 0, 0, 40),
+// The length of a block, a place, and the lengths of the parts.
+fn cuts() -> [(u32, i64, u32, u32); 5] {
+    [
+        (40, 0, 0, 40),
         (40, 16, 16, 24),
         (40, 32, 32, 8),
         (48, 48, 48, 0),
         (0, 0, 0, 0),
-    ] {
-        let mut pool = Pool::new(rt.alloc(), 64)?;
-        let mut slots = new(&rt, 3)?;
-        fill(&rt, &mut slots, &mut pool, 0, len)?;
-        assert_eq!(rt;
-            (slots.cut_place(0, 8), slots.cut_place(0, 64)),
-            (None, None)
-        );
-        cut(&rt, &mut slots, at)?;
-        assert_eq!(rt;
-            (slots.has_block(0), slots.length(1), slots.length(2)),
-            (false, left, right)
-        );
-        assert_eq!(rt; slots.held_words(), pool.live());
-        rejoin(&rt, &mut slots)?;
-        assert_eq!(rt;
-            (slots.length(0), slots.has_block(1), slots.has_block(2)),
-            (len, false, false)
-        );
-        for place in 0..len {
-            let place = i64::from(place);
-            assert_eq!(rt; slots.element(0, place), Ok(place + 1));
-        }
+    ]
+}
+
+// The block of slot 0 is there as it was made.
+fn check_whole(rt: &impl Abort, slots: &Slots, len: u32) {
+    for place in 0..i64::from(len) {
+        assert_eq!(rt; (place, slots.element(0, place)), (place, Ok(place + 1)));
+    }
+}
+
+fn cut_one(
+    rt: &(impl Abort + AllocGlobal),
+    len: u32,
+    at: i64,
+    left: u32,
+    right: u32,
+) -> Result<(), Fail> {
+    let mut pool = Pool::new(rt.alloc(), 64)?;
+    let mut slots = new(rt, 3)?;
+    fill(rt, &mut slots, &mut pool, 0, len)?;
+    assert_eq!(rt;
+        [slots.cut_place(0, 8), slots.cut_place(0, 64)],
+        [None, None]
+    );
+    cut(rt, &mut slots, at)?;
+    have_blocks(rt, &slots, [None, Some(left), Some(right)]);
+    has_words(rt, &slots, pool.live());
+    rejoin(rt, &mut slots)?;
+    have_blocks(rt, &slots, [Some(len), None, None]);
+    check_whole(rt, &slots, len);
+    Ok(())
+}
+
+#[test]
+fn blocks_are_cut_and_joined(rt: HostRuntime) -> Result<(), Fail> {
+    for (len, at, left, right) in cuts() {
+        cut_one(&rt, len, at, left, right)?;
     }
     Ok(())
 }
@@ -241,32 +294,47 @@ fn join(rt: &impl Abort, slots: &mut Slots, child: Slots) {
     slots.take_in(child, &[3]);
 }
 
+// Slot 0 is 7, slot 1 a block of 16 numbers and slot 2 one of 20.
+fn parent(rt: &(impl Abort + AllocGlobal), pool: &mut Pool) -> Result<Slots, Fail> {
+    let mut slots = new(rt, 4)?;
+    set(rt, &mut slots, 0, 7);
+    fill(rt, &mut slots, pool, 1, 16)?;
+    fill(rt, &mut slots, pool, 2, 20)?;
+    Ok(slots)
+}
+
+// What the child does.
+fn branch(rt: &impl Abort, child: &mut Slots) -> Result<(), Fail> {
+    set(rt, child, 0, 8);
+    set(rt, child, 3, 9);
+    put(rt, child, 2, 0, 5).ok().ok_or("no place")?;
+    Ok(())
+}
+
+fn check_forked(rt: &impl Abort, slots: &Slots, child: &Slots) {
+    has_integer(rt, child, 0, 7);
+    have_blocks(rt, child, [None, None, Some(20)]);
+    has_integer(rt, slots, 0, 7);
+    have_blocks(rt, slots, [None, Some(16), None]);
+}
+
+fn check_joined(rt: &impl Abort, slots: &Slots, live: u64) {
+    has_integer(rt, slots, 0, 7);
+    has_integer(rt, slots, 3, 9);
+    have_blocks(rt, slots, [None, Some(16), Some(20)]);
+    has_words(rt, slots, 48);
+    assert_eq!(rt; (slots.element(2, 0), live), (Ok(5), 48));
+}
+
 #[test]
 fn a_child_takes_the_blocks_of_its_branch(rt: HostRuntime) -> Result<(), Fail> {
     let mut pool = Pool::new(rt.alloc(), 64)?;
-    let mut slots = new(&rt, 4)?;
-    set(&rt, &mut slots, 0, 7);
-    fill(&rt, &mut slots, &mut pool, 1, 16)?;
-    fill(&rt, &mut slots, &mut pool, 2, 20)?;
+    let mut slots = parent(&rt, &mut pool)?;
     let mut child = fork(&rt, &mut slots)?;
-    assert_eq!(rt;
-        (child.integer(0), child.has_block(1), child.length(2)),
-        (7, false, 20)
-    );
-    assert_eq!(rt;
-        (slots.integer(0), slots.length(1), slots.has_block(2)),
-        (7, 16, false)
-    );
-    set(&rt, &mut child, 0, 8);
-    set(&rt, &mut child, 3, 9);
-    put(&rt, &mut child, 2, 0, 5).ok().ok_or("no place")?;
+    check_forked(&rt, &slots, &child);
+    branch(&rt, &mut child)?;
     join(&rt, &mut slots, child);
-    assert_eq!(rt; (slots.integer(0), slots.integer(3)), (7, 9));
-    assert_eq!(rt;
-        (slots.length(1), slots.length(2), slots.element(2, 0)),
-        (16, 20, Ok(5))
-    );
-    assert_eq!(rt; (slots.held_words(), pool.live()), (48, 48));
+    check_joined(&rt, &slots, pool.live());
     give_all(&rt, slots, &mut pool);
     assert_eq!(rt; pool.live(), 0);
     Ok(())
@@ -314,23 +382,27 @@ fn receive(rt: &impl Abort, caller: &mut Slots, number: i64, block: Block) {
     caller.receive(CodeTarget::Unused, Answer::Number(3));
 }
 
+fn check_numbers(rt: &(impl Abort + AllocGlobal), callee: &mut Slots) -> Result<(), Fail> {
+    assert_eq!(rt; number_of_none(callee), Ok(0));
+    assert_eq!(rt; number_of(callee, CodeExpr::Var(0)), Ok(5));
+    let outside = get(rt, 0, CodeExpr::Num(0))?;
+    assert_eq!(rt; number_of(callee, outside), Err(FaultKind::Index));
+    Ok(())
+}
+
 #[test]
 fn answers_go_to_their_targets(rt: HostRuntime) -> Result<(), Fail> {
     let mut pool = Pool::new(rt.alloc(), 32)?;
     let mut callee = new(&rt, 2)?;
     set(&rt, &mut callee, 0, 5);
-    assert_eq!(rt; number_of_none(&mut callee), Ok(0));
-    assert_eq!(rt; number_of(&mut callee, CodeExpr::Var(0)), Ok(5));
-    let outside = get(&rt, 0, CodeExpr::Num(0))?;
-    assert_eq!(rt; number_of(&mut callee, outside), Err(FaultKind::Index));
+    check_numbers(&rt, &mut callee)?;
     fill(&rt, &mut callee, &mut pool, 1, 20)?;
     let block = hand(&rt, &mut callee)?;
     let mut caller = new(&rt, 1)?;
     receive(&rt, &mut caller, 5, block);
-    assert_eq!(rt;
-        (caller.integer(0), caller.length(0), callee.has_block(1)),
-        (5, 20, false)
-    );
+    has_integer(&rt, &caller, 0, 5);
+    has_block(&rt, &caller, 0, Some(20));
+    has_block(&rt, &callee, 1, None);
     Ok(())
 }
 
@@ -364,30 +436,37 @@ fn come_back(rt: &impl Abort, caller: &mut Slots, callee: &mut Slots) {
     lend_back(caller, callee, &[2, 0, 1], &args);
 }
 
+// Slot 0 is 6, slot 1 a block of 16 numbers and slot 2 one of 20.
+fn caller_of(rt: &(impl Abort + AllocGlobal), pool: &mut Pool) -> Result<Slots, Fail> {
+    let mut caller = new(rt, 3)?;
+    set(rt, &mut caller, 0, 6);
+    fill(rt, &mut caller, pool, 1, 16)?;
+    fill(rt, &mut caller, pool, 2, 20)?;
+    Ok(caller)
+}
+
+fn check_called(rt: &impl Abort, caller: &Slots, callee: &Slots) {
+    has_integer(rt, callee, 0, 16);
+    have_blocks(rt, callee, [None, Some(20), Some(16)]);
+    has_integer(rt, caller, 0, 6);
+    have_blocks(rt, caller, [None, None, None]);
+}
+
+fn check_returned(rt: &impl Abort, caller: &Slots, callee: &Slots) {
+    have_blocks(rt, caller, [None, Some(16), None]);
+    have_blocks(rt, callee, [None, Some(20), None]);
+    has_words(rt, caller, 16);
+    has_words(rt, callee, 32);
+}
+
 #[test]
 fn a_call_lends_and_gives(rt: HostRuntime) -> Result<(), Fail> {
     let mut pool = Pool::new(rt.alloc(), 64)?;
-    let mut caller = new(&rt, 3)?;
-    set(&rt, &mut caller, 0, 6);
-    fill(&rt, &mut caller, &mut pool, 1, 16)?;
-    fill(&rt, &mut caller, &mut pool, 2, 20)?;
+    let mut caller = caller_of(&rt, &mut pool)?;
     let mut callee = call(&rt, &mut caller)?;
-    assert_eq!(rt;
-        (callee.integer(0), callee.length(1), callee.length(2)),
-        (16, 20, 16)
-    );
-    assert_eq!(rt;
-        (caller.integer(0), caller.has_block(1), caller.has_block(2)),
-        (6, false, false)
-    );
+    check_called(&rt, &caller, &callee);
     come_back(&rt, &mut caller, &mut callee);
-    assert_eq!(rt;
-        (caller.length(1), callee.has_block(2), callee.length(1)),
-        (16, false, 20)
-    );
-    assert_eq!(rt;
-        (caller.held_words(), callee.held_words(), pool.live()),
-        (16, 32, 48)
-    );
+    check_returned(&rt, &caller, &callee);
+    assert_eq!(rt; pool.live(), 48);
     Ok(())
 }
