@@ -3,7 +3,7 @@
 use crate::plays::{core_of, step_of, tell_step};
 use dag_order::Finish;
 use dfd_core::{Core, CoreEnd, CoreParts, RunEnd};
-use std::alloc::AllocError;
+use std::alloc::{AllocError, Global};
 use std::fmt::Write;
 use std::process::Abort;
 use std::test::Fail;
@@ -71,12 +71,18 @@ fn tell_steps(core: &mut Core, text: &mut String) -> Result<(), Fail> {
     Ok(())
 }
 
+/// The core of a run of one worker behind its last step. What it did is written down.
+fn ended(alloc: Global, text: &mut String) -> Result<Core, Fail> {
+    let mut core = core_of(alloc, TWO, 16, 1, 1_024, 100, 4_096)?;
+    tell_steps(&mut core, text)?;
+    Ok(core)
+}
+
 /// A worker forks and gives its deque up. Then it steals the root, which has to wait, and after that the child.
 #[test]
 fn an_owner_gives_its_deque_up(rt: HostRuntime) -> Result<(), Fail> {
-    let mut core = core_of(rt.alloc(), TWO, 16, 1, 1_024, 100, 4_096)?;
     let mut text = String::new(rt.alloc());
-    tell_steps(&mut core, &mut text)?;
+    let core = ended(rt.alloc(), &mut text)?;
     tell_end(&rt, &mut text, core)?;
     assert_eq!(rt;
         text.as_str(),
