@@ -1,14 +1,13 @@
 -- The laws over what the calls of a list show.
-use Rattle.std.specs.Prelude.{◌≡◌, ◌≢◌, ℕ, zero, suc, ◌≤◌, ◌<◌, List, [], ◌∷◌, length, map, Option, Some, None, slice_get, slice_set, insert, remove, nat_eq, if◌then◌else◌, Bool, true, false, refl}
+use Rattle.std.specs.Prelude.{◌≡◌, ◌≢◌, ℕ, zero, suc, List, [], ◌∷◌, map, Option, Some, None, slice_get, slice_set, nat_eq, if◌then◌else◌, Bool, true, false, refl}
 use Rattle.std.proofs.Common.{sym, ◌∙◌, ap, inl, inr, arith}
 use Rattle.std.specs.Option.{option_map}
 use Rattle.std.proofs.lemmas.Bool.{cases_order}
 use Rattle.std.proofs.lemmas.Option.{slice_get-map, slice_get_within}
 use borrow.Author.Tests.{eqb-true, eqb-false}
 use Rattle.deque_list.specs.declared.deque_id.DequeId.{DequeId}
-use Rattle.deque_list.specs.Ids.{IdsDiffer, deque_id}
-use Rattle.deque_list.specs.Deques.{Deque, DequeAt, deque_ids}
-use Rattle.deque_list.specs.DequeLists.{ListView}
+use Rattle.deque_list.specs.Ids.{IdsDiffer}
+use Rattle.deque_list.specs.Deques.{Deque, deque_ids}
 use Rattle.deque_list.specs.ListLends.{with_top_item}
 use Rattle.deque_list.specs.Laws.{InsertedThenRemoved, OneSmallestFree, TopWritten, TopWrittenIds}
 use Rattle.deque_list.proofs.ListLaws.{same_by_rank}

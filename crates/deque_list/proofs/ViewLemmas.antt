@@ -3,7 +3,7 @@ use Rattle.std.proofs.Common.{◌≡◌, ℕ, ◌≤◌, ◌<◌, List, [], ◌�
 use Rattle.std.specs.Prelude.{slice_set, slice_index_or, is_some, true, false, IsTrue, nat_le, ◌↔◌, if◌then◌else◌}
 use borrow.Author.Tests.{leb-true}
 use Rattle.std.proofs.lemmas.Bool.{le-leb}
-use Rattle.std.proofs.lemmas.Option.{get_or_from_slice_get, slice_get-map, slice_get_within}
+use Rattle.std.proofs.lemmas.Option.{get_or_from_slice_get, slice_get-map}
 use Rattle.std.proofs.lemmas.List.{length-map}
 use Rattle.std.specs.Option.{option_map}
 use Rattle.deque_list.specs.declared.deque_id.DequeId.{DequeId}
@@ -11,7 +11,6 @@ use Rattle.deque_list.specs.declared.place.Place.{Place}
 use Rattle.deque_list.specs.Lanes.{LaneView}
 use Rattle.deque_list.specs.LaneTables.{LaneTable, HasLane}
 use Rattle.deque_list.specs.Ids.{IsLive, IdsDiffer, StandsAt, place_ids}
-use Rattle.deque_list.proofs.PlaceLaws.{ids_unwritten, id_stands}
 use Rattle.deque_list.specs.Orders.{OrderView, IsLawful}
 use Rattle.deque_list.specs.Deques.{Deque, DequeAt, IsReady, deque_ids, place_of}
 use Rattle.deque_list.specs.DequeLists.{ListView, list_view, lane_items, deque_at, IsKept, IsPrepared, IsLawfulList}

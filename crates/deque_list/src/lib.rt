@@ -23,6 +23,7 @@ mod list;
 mod order;
 mod place;
 mod search;
+mod spare_lane;
 
 pub use deque_id::DequeId;
 pub use insert_refused::InsertRefused;

@@ -10,6 +10,7 @@ use crate::lane::Lane;
 use crate::lanes::Lanes;
 use crate::order::Order;
 use crate::place::Place;
+use crate::spare_lane::SpareLane;
 use language_limits::MOST_DEQUES;
 use std::alloc::{AllocError, Global};
 use std::marker::Model;
@@ -25,6 +26,7 @@ pub struct List<T> {
     lanes: Lanes<T>,
     // An empty lane with room for an item, for the next deque.
     next: Option<Lane<T>>,
+    spare: SpareLane<T>,
     alloc: Global,
 }
 
@@ -74,6 +76,7 @@ impl<T> List<T> {
             order,
             lanes,
             next: None,
+            spare: SpareLane::none(),
             alloc,
         })
     }
@@ -137,7 +140,7 @@ impl<T> List<T> {
         }
         if self.next.is_none() {
             self.lanes.reserve()?;
-            let lane = Lane::with_room(self.alloc)?;
+            let lane = self.spare.lane(self.alloc)?;
             match self.next.replace(lane) {
                 None => {}
                 Some(_) => unreachable!(),
@@ -157,7 +160,7 @@ impl<T> List<T> {
     {
         self.order.remove(id);
         let lane = self.lanes.take(id.0);
-        lane.destroy_empty();
+        self.spare.keep(lane);
     }
 
     /// How many deques there are.

@@ -15,8 +15,8 @@ take-lane-requires g c =
     let found = place_shown c.self.inside.order c.self.inside.lanes c.self.inside.next c.args.self.now c.self.view_is c.args.id c.requires.0 c.requires.1 c.requires.2 in
     c.self.invariant.live c.args.id (c.requires.0, id_stands c.self.inside.order.places c.args.id c.requires.0 found.0 found.1)
 
-pub destroy_empty-requires : goal.destroy_empty-requires
-destroy_empty-requires g c =
+pub keep-requires : goal.keep-requires
+keep-requires g c =
     sym (items_shown c.self.inside.order c.self.inside.lanes c.self.inside.next c.args.self.now c.self.view_is c.args.id c.requires.0 c.requires.1 c.take-lane.result c.requires.2 c.take-lane.ensures.lane) ∙ c.requires.3
 
 pub invariant_of-self : goal.invariant_of-self
