@@ -1,6 +1,6 @@
 -- What becomes of the periods of a table where one seat changes.
-use Rattle.std.proofs.Common.{◌≡◌, ◌≢◌, ℕ, zero, suc, ◌+◌, ◌<◌, ◌≤◌, List, [], ◌∷◌, ◌++◌, length, map, inl, inr, refl, sym, ap, subst, ◌∙◌, arith, append_assoc}
-use Rattle.std.specs.Prelude.{Option, None, Some, slice_get, slice_set, Result, Ok, Err, OnOk}
+use Rattle.std.proofs.Common.{◌≡◌, ◌≢◌, ℕ, zero, suc, ◌+◌, ◌<◌, List, [], ◌∷◌, ◌++◌, length, map, inl, inr, refl, sym, ap, subst, ◌∙◌, arith, append_assoc}
+use Rattle.std.specs.Prelude.{Option, None, Some, slice_get, slice_set, slice_index_or, Result, Ok, Err, OnOk}
 use Rattle.std.proofs.lemmas.List.{map-append}
 use Rattle.std.proofs.lemmas.Option.{same_Some, none-some}
 use Rattle.std.proofs.lemmas.Bool.{cases_eq}
@@ -8,7 +8,6 @@ use Rattle.space_ledger.specs.declared.book.Closed.{Closed}
 use Rattle.period_books.specs.Periods.{Period, Adds, Replaces, closed_shown, open_shown}
 use Rattle.period_table.specs.declared.seat.Seat.{Seat}
 use Rattle.period_table.specs.Numbers.{period_of_seat, open_periods, all_periods, NumbersDiffer, NumbersWithin}
-use Rattle.bounded_list.specs.BoundedList.{spare}
 use Rattle.period_table.specs.Tables.{seat_in, shown_of, deque_of, HasRoomFor}
 use Rattle.period_table.proofs.Lists.{cut_table, cut_seat, changed, changed_differ, changed_within, added_differ, added_within, adds, moved, moved_differ, moved_within, set_same, set_other}
 
@@ -31,6 +30,16 @@ pub seat_within : (seats : List (Option Seat)) (w : ℕ) (seat : Seat) → slice
 seat_within [] w seat is = absurd (none-some (Some seat) is)
 seat_within (s ∷ seats) zero seat is = omega arith
 seat_within (s ∷ seats) (suc w) seat is = omega (arith, seat_within seats w seat is)
+
+index_is : {X : Type 0} (xs : List X) (i : ℕ) (x other : X) → slice_get xs i ≡ Some x → slice_index_or xs i other ≡ x
+index_is [] i x other is = absurd (none-some x is)
+index_is (y ∷ xs) zero x other is = same_Some y x is
+index_is (y ∷ xs) (suc i) x other is = index_is xs i x other is
+
+-- the seat that is read at a place is the one that stands there
+pub read_seat : (seats : List (Option Seat)) (w : ℕ) (seat found : Seat) (read : Option Seat) → slice_get seats w ≡ Some (Some seat)
+    → read ≡ slice_index_or seats w read → read ≡ Some found → found ≡ seat
+read_seat seats w seat found read is value found_is = same_Some found seat (sym found_is ∙ value ∙ index_is seats w (Some seat) read is)
 
 pub seat_set : (seats : List (Option Seat)) (w : ℕ) (s x : Option Seat) → slice_get seats w ≡ Some s → seat_in (slice_get (slice_set seats w x) w) ≡ x
 seat_set seats w s x is = ap seat_in (set_same seats w x s is)
@@ -139,9 +148,9 @@ as_long (z ∷ xs) zero x = refl
 as_long (z ∷ xs) (suc i) x = ap suc (as_long xs i x)
 
 -- a worker with room has a seat
-pub room_seat : (s : Option Seat) → HasRoomFor s → (seat : Seat) × (s ≡ Some seat) × (1 ≤ spare seat.period.book) × (1 ≤ spare seat.period.births)
-room_seat None room = absurd room
-room_seat (Some seat) room = (seat, refl, room.0, room.1)
+pub room_seat : (ready : ℕ) (s : Option Seat) → HasRoomFor ready s → (seat : Seat) × (s ≡ Some seat)
+room_seat ready None room = absurd room
+room_seat ready (Some seat) room = (seat, refl)
 
 -- the seat that is found at a place is the one that it says
 pub one_seat : (seats : List (Option Seat)) (w : ℕ) (a b : Seat) → slice_get seats w ≡ Some (Some a) → slice_get seats w ≡ Some (Some b) → a ≡ b
@@ -184,3 +193,7 @@ none_open k (s ∷ seats) all = ap (λ t. period_of_seat k t ++ open_periods (su
 pub on_ok : {X E : Type 0} (r : Result X E) {A B : Type 0} → (A → B) → OnOk r A → OnOk r B
 on_ok (Ok x) f here = f here
 on_ok (Err e) f here = tt
+
+pub both_ok : {X E : Type 0} (r : Result X E) {A B C : Type 0} → (A → B → C) → OnOk r A → OnOk r B → OnOk r C
+both_ok (Ok x) f a b = f a b
+both_ok (Err e) f a b = tt

@@ -1,6 +1,6 @@
 -- The periods of a table, and what it says of each worker.
-use Rattle.std.specs.Prelude.{ℕ, ◌≤◌, ◌+◌, Option, None, Some, List, [], ◌∷◌, ◌++◌, slice_get}
-use Rattle.bounded_list.specs.BoundedList.{spare}
+use Rattle.std.specs.Prelude.{◌≡◌, ℕ, ◌≤◌, ◌+◌, Option, None, Some, List, [], ◌∷◌, ◌++◌, slice_get, slice_set}
+use Rattle.bounded_list.specs.BoundedList.{entries, spare}
 use Rattle.dag_order.specs.declared.action_id.ActionId.{ActionId}
 use Rattle.dag_order.specs.declared.birth.Birth.{Birth}
 use Rattle.deque_list.specs.declared.deque_id.DequeId.{DequeId}
@@ -36,13 +36,19 @@ shown_of worker (Some seat) = Some (open_shown worker seat.period)
 abbrev pub period_at : PeriodTable → ℕ → Option Period
 period_at table worker = shown_of worker (seat_at table worker)
 
+-- how many more births a period takes without memory, where a list for so many is ready for its first one
+abbrev pub birth_room : List Birth → (own ready : ℕ) → ℕ
+birth_room [] own ready = ready
+birth_room (birth ∷ births) own ready = own
+
 -- the period of a worker takes one action and one birth without memory, and can be closed without memory
-abbrev pub HasRoomFor : Option Seat → Type 0
-HasRoomFor None = ⊥
-HasRoomFor (Some seat) = (1 ≤ spare seat.period.book) × (1 ≤ spare seat.period.births)
+abbrev pub HasRoomFor : (ready : ℕ) → Option Seat → Type 0
+HasRoomFor ready None = ⊥
+HasRoomFor ready (Some seat) =
+    (1 ≤ spare seat.period.book) × (1 ≤ birth_room (entries seat.period.births) (spare seat.period.births) ready)
 
 pub record HasRoom (table : PeriodTable) (worker : ℕ) : Type 0 where
-  pub in_period : HasRoomFor (seat_at table worker)
+  pub in_period : HasRoomFor (spare table.first_births) (seat_at table worker)
   pub in_books : 1 ≤ books_spare table.books
 
 -- the births that come with an action: one, or none
@@ -60,6 +66,13 @@ noted p id words births = record {
   ran = p.ran ++ id ∷ [];
   born = p.born ++ births;
 }
+
+-- the seat of a worker keeps its deque, its period is another one, and the other seats stay
+pub record ChangesSeat (seats : List (Option Seat)) (worker : ℕ) (old : Seat) (change : Period → Period) (after : List (Option Seat)) : Type 0 where
+  pub new : Seat
+  pub are : after ≡ slice_set seats worker (Some new)
+  pub deque : new.deque ≡ old.deque
+  pub shown : (w : ℕ) → open_shown w new.period ≡ change (open_shown w old.period)
 
 -- a period that is closed
 abbrev pub shut : Period → Period

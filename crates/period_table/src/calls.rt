@@ -1,12 +1,13 @@
-ghost use Rattle.std.specs.Prelude.{◌≡◌, ◌≢◌, ◌≤◌, ◌<◌, ◌+◌, [], ℕ, None, Some, IfOk, OnOk, option_copied, length, slice_get, slice_set};
+ghost use Rattle.std.specs.Prelude.{◌≡◌, ◌≢◌, ◌≤◌, ◌<◌, ◌+◌, [], ◌∷◌, ◌++◌, ℕ, None, Some, IfOk, OnOk, option_copied, length, slice_get, slice_set};
 ghost use Rattle.bounded_list.specs.BoundedList.{entries, spare};
 ghost use Rattle.space_ledger.specs.BooksList.{books_list, books_spare};
 ghost use Rattle.period_books.specs.Periods.{Period as AnyPeriod, Adds, Replaces, open_shown};
-ghost use Rattle.period_table.specs.Tables.{noted, births_shown};
+ghost use Rattle.period_table.specs.Tables.{HasRoomFor, ChangesSeat, birth_room, seat_in, noted, births_shown};
 
 use crate::seat::Seat;
 use crate::table::PeriodTable;
-use dag_order::{ActionId, Birth};
+use bounded_list::BoundedList;
+use dag_order::{ActionId, Birth, Births};
 use deque_list::DequeId;
 use quota_period::Period;
 use space_ledger::Books;
@@ -34,6 +35,7 @@ impl PeriodTable {
         Ok(PeriodTable {
             seats,
             books: Books::new(alloc),
+            first_births: BoundedList::new(alloc),
             begun: 0,
         })
     }
@@ -91,10 +93,8 @@ impl PeriodTable {
         ensures room { OnOk result (HasRoom self.new worker) }
     {
         self.books.reserve()?;
-        let mut seat = take_seat(&mut self.seats, worker);
-        let reserved = reserve_in(&mut seat.period);
-        put_seat(&mut self.seats, worker, seat);
-        reserved
+        self.first_births.reserve()?;
+        reserve_at(&mut self.seats, worker)
     }
 
     /// A period begins for an idle worker, which owns the deque from now on. Its number is the next one.
@@ -127,9 +127,14 @@ impl PeriodTable {
         ensures workers { length self.new.seats.items ≡ length self.old.seats.items }
         ensures books { self.new.books ≡ self.old.books }
     {
-        let mut seat = take_seat(&mut self.seats, worker);
-        add_to(&mut seat.period, id, words, birth);
-        put_seat(&mut self.seats, worker, seat);
+        note_at(
+            &mut self.seats,
+            &mut self.first_births,
+            worker,
+            id,
+            words,
+            birth,
+        );
     }
 
     /// Closes the period of a worker, which is idle from then on.
@@ -160,33 +165,79 @@ fn take_seat(seats: &mut Vec<Option<Seat>>, worker: usize) -> Seat
     }
 }
 
-/// A worker has a seat from now on.
-fn put_seat(seats: &mut Vec<Option<Seat>>, worker: usize, seat: Seat)
-    requires { worker < length seats.old.items }
-    ensures { seats.new.items ≡ slice_set seats.old.items worker (Some seat) }
+/// Room for an action in the period of a worker, and for a birth, where it is not the first one.
+fn reserve_at(seats: &mut Vec<Option<Seat>>, worker: usize) -> Result<(), AllocError>
+    requires { (seat : Seat) × (slice_get seats.old.items worker ≡ Some (Some seat)) }
+    ensures same { (seat : Seat) → slice_get seats.old.items worker ≡ Some (Some seat)
+        → ChangesSeat seats.old.items worker seat (λ period. period) seats.new.items }
+    ensures room { (first : ℕ) → 1 ≤ first → OnOk result (HasRoomFor first (seat_in (slice_get seats.new.items worker))) }
 {
-    seats[worker] = Some(seat);
+    match &mut seats[worker] {
+        Some(seat) => reserve_in(&mut seat.period),
+        None => unreachable!(),
+    }
 }
 
-/// Room for an action and a birth.
+/// Room for an action, and for a birth, where it is not the first one.
 fn reserve_in(period: &mut Period) -> Result<(), AllocError>
     ensures shown { (w : ℕ) → open_shown w period.new ≡ open_shown w period.old }
-    ensures room { OnOk result ((1 ≤ spare period.new.book) × (1 ≤ spare period.new.births)) }
+    ensures book { OnOk result (1 ≤ spare period.new.book) }
+    ensures births { (first : ℕ) → 1 ≤ first → OnOk result (1 ≤ birth_room (entries period.new.births) (spare period.new.births) first) }
 {
     period.book.reserve()?;
+    if period.births.is_empty() {
+        return Ok(());
+    }
     period.births.reserve()
 }
 
+/// Notes an action in the period of a worker, with the words that it takes of the quota and the birth that comes with it.
+fn note_at(
+    seats: &mut Vec<Option<Seat>>,
+    first: &mut Births,
+    worker: usize,
+    id: ActionId,
+    words: u32,
+    birth: Option<Birth>,
+)
+    requires room { HasRoomFor (spare first.old) (seat_in (slice_get seats.old.items worker)) }
+    requires none { entries first.old ≡ [] }
+    requires fits { (seat : Seat) → slice_get seats.old.items worker ≡ Some (Some seat) → seat.period.used + words ≤ 1048576 }
+    ensures notes { (seat : Seat) → slice_get seats.old.items worker ≡ Some (Some seat)
+        → ChangesSeat seats.old.items worker seat (λ period. noted period id words (births_shown birth)) seats.new.items }
+    ensures none { entries first.new ≡ [] }
+{
+    match &mut seats[worker] {
+        Some(seat) => add_to(&mut seat.period, first, id, words, birth),
+        None => unreachable!(),
+    }
+}
+
 /// An action with the words that it takes of the quota and the birth that comes with it.
-fn add_to(period: &mut Period, id: ActionId, words: u32, birth: Option<Birth>)
+fn add_to(period: &mut Period, first: &mut Births, id: ActionId, words: u32, birth: Option<Birth>)
     requires book { 1 ≤ spare period.old.book }
-    requires births { 1 ≤ spare period.old.births }
+    requires births { 1 ≤ birth_room (entries period.old.births) (spare period.old.births) (spare first.old) }
+    requires none { entries first.old ≡ [] }
     requires fits { period.old.used + words ≤ 1048576 }
-    ensures { (w : ℕ) → open_shown w period.new ≡ noted (open_shown w period.old) id words (births_shown birth) }
+    ensures notes { (w : ℕ) → open_shown w period.new ≡ noted (open_shown w period.old) id words (births_shown birth) }
+    ensures none { entries first.new ≡ [] }
 {
     period.book.add(id);
     period.note(words);
     if let Some(birth) = birth {
-        period.births.add(birth);
+        add_birth(&mut period.births, first, birth);
     }
+}
+
+/// A birth. The first one of a period comes into the list that is ready for it.
+fn add_birth(births: &mut Births, first: &mut Births, birth: Birth)
+    requires room { 1 ≤ birth_room (entries births.old) (spare births.old) (spare first.old) }
+    requires none { entries first.old ≡ [] }
+    ensures births { entries births.new ≡ entries births.old ++ birth ∷ [] }
+    ensures none { entries first.new ≡ [] }
+{
+    if births.is_empty() {
+        mem::swap(births, first);
+    }
+    births.add(birth);
 }

@@ -1,7 +1,10 @@
+ghost use Rattle.std.specs.Prelude.{◌≡◌, []};
+ghost use Rattle.bounded_list.specs.BoundedList.{entries};
 ghost use Rattle.space_ledger.specs.BooksList.{books_list};
 ghost use Rattle.period_table.specs.Numbers.{NumbersDiffer, NumbersWithin, all_periods};
 
 use crate::seat::Seat;
+use dag_order::Births;
 use space_ledger::Books;
 
 /// The periods of some workers.
@@ -9,7 +12,10 @@ use space_ledger::Books;
 pub struct PeriodTable {
     pub(crate) seats: Vec<Option<Seat>>,
     pub(crate) books: Books,
+    /// A list without births, for a period that forks for the first time: most periods fork nothing, and take no memory for births.
+    pub(crate) first_births: Births,
     pub(crate) begun: u32,
+    pub ghost no_births: { entries first_births ≡ [] },
     pub ghost numbers_differ: { NumbersDiffer (all_periods (books_list books) seats.items) },
     pub ghost numbers_within: { NumbersWithin (all_periods (books_list books) seats.items) begun },
 }

@@ -26,24 +26,22 @@ pub struct Period {
 }
 
 impl Period {
-    /// A period in which nothing is done yet, with room for a first action and a first birth.
+    /// A period in which nothing is done yet, with room for a first action.
     pub fn start(alloc: Global, number: u32, ahead: bool) -> Result<Period, AllocError>
         ensures number { IfOk result (λ period. period.number ≡ number) }
         ensures unused { IfOk result (λ period. period.used ≡ 0) }
         ensures ahead { IfOk result (λ period. period.ahead ≡ ahead) }
         ensures empty { IfOk result (λ period. (entries period.book ≡ []) × (entries period.births ≡ [])) }
-        ensures room { IfOk result (λ period. (1 ≤ spare period.book) × (1 ≤ spare period.births)) }
+        ensures room { IfOk result (λ period. 1 ≤ spare period.book) }
     {
         let mut book: Book = BoundedList::new(alloc);
         book.reserve()?;
-        let mut births: Births = BoundedList::new(alloc);
-        births.reserve()?;
         Ok(Period {
             number,
             used: 0,
             ahead,
             book,
-            births,
+            births: BoundedList::new(alloc),
         })
     }
 

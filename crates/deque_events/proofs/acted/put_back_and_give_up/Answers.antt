@@ -1,4 +1,5 @@
 use Rattle.std.proofs.Common.{ap}
+use Rattle.bounded_list.specs.BoundedList.{spare}
 use Rattle.period_books.specs.Periods.{open_shown}
 use Rattle.period_table.specs.Tables.{seat_at, shown_of}
 use Rattle.period_table.proofs.Seats.{room_seat}
@@ -14,7 +15,7 @@ give_up-requires g c = live (pushed c.requires.stands.1 c.push_top.new.self c.ar
 
 pub close-requires-clause-seat : goal.close-requires-clause-seat
 close-requires-clause-seat g c =
-    let found = room_seat (seat_at c.args.table.now c.args.worker) c.requires.table.in_period in
+    let found = room_seat (spare c.args.table.now.first_births) (seat_at c.args.table.now c.args.worker) c.requires.table.in_period in
     (_, c.note.ensures.shown (open_shown c.args.worker found.0.period) (ap (shown_of c.args.worker) found.1))
 
 pub returns-clause-dummy : goal.returns-clause-dummy

@@ -9,6 +9,7 @@ invariant_of-self c =
     let t = c.args.self.now in
     let idle : slice_get t.seats.items c.args.worker ≡ Some None = there_is t.seats.items c.args.worker c.requires.within ∙ ap Some c.requires.idle in
     record {
+      no_births = c.args.self.now.no_births;
       numbers_differ = begun_differ (books_list t.books) t.seats.items c.args.worker (record { deque = c.args.deque; period = c.args.period }) idle t.begun c.requires.number t.numbers_differ t.numbers_within;
       numbers_within = begun_within (books_list t.books) t.seats.items c.args.worker (record { deque = c.args.deque; period = c.args.period }) idle t.begun c.requires.number t.numbers_within;
     }

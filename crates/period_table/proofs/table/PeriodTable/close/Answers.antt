@@ -22,7 +22,11 @@ invariant_of-self c =
       closed_differ (books_list t.books) t.seats.items c.args.worker c.take_seat-seat.result c.take_seat-seat.ensures.seat c.close.result (ap (λ p. Rattle.space_ledger.specs.declared.book.Closed.Closed.number p) c.close.ensures) t.numbers_differ,
       closed_within (books_list t.books) t.seats.items c.args.worker c.take_seat-seat.result c.take_seat-seat.ensures.seat c.close.result (ap (λ p. Rattle.space_ledger.specs.declared.book.Closed.Closed.number p) c.close.ensures) t.begun t.numbers_within,
     )) in
-    record { numbers_differ = both.0; numbers_within = both.1 }
+    record {
+      no_births = c.args.self.now.no_births;
+      numbers_differ = both.0;
+      numbers_within = both.1;
+    }
 
 pub returns-clause-periods : goal.returns-clause-periods
 returns-clause-periods c p is =

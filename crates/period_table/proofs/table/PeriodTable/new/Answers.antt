@@ -9,6 +9,7 @@ invariant_of-result c =
     let none : all_periods (books_list c.new.result) c.loop.seats.items ≡ [] =
     ap (λ b. all_periods b c.loop.seats.items) c.new.ensures ∙ none_open 0 c.loop.seats.items c.loop.invariant.0 in
     record {
+      no_births = c.new-2.ensures;
       numbers_differ = subst NumbersDiffer (sym none) (λ i j p q p_there q_there same. absurd (Rattle.std.proofs.lemmas.Option.none-some p p_there));
       numbers_within = subst (λ ps. NumbersWithin ps 0) (sym none) (λ i p there. absurd (Rattle.std.proofs.lemmas.Option.none-some p there));
     }
