@@ -35,13 +35,6 @@ impl<T> Boxed<T> {
     {
         self.cell.as_mut()
     }
-
-    /// The value, with which its place on the heap is given back.
-    pub fn into_inner(self) -> T
-        ensures { result ≡ self }
-    {
-        Box::into_inner(self.cell)
-    }
 }
 
 impl<T: Drop> Boxed<T> {

@@ -15,6 +15,8 @@ pub struct Scheduler {
     pub waiting: ThreadMap<Boxed<Thread>>,
     /// A place for the thread that is forked next, where there is one. What is in it is of no account.
     pub place: Option<Boxed<Thread>>,
+    /// The place of a thread that has ended, where there is one, which can be the next `place`. What is in it is of no account.
+    pub used_place: Option<Boxed<Thread>>,
     /// The results of ended threads that are not joined, each under the id of its thread.
     pub results: ThreadMap<Ended>,
     /// The periods.

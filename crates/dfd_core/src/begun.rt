@@ -56,6 +56,7 @@ pub(crate) fn scheduler_of(
         list,
         waiting: ThreadMap::new(alloc),
         place: None,
+        used_place: None,
         results: ThreadMap::new(alloc),
         table,
         pool,

@@ -29,16 +29,18 @@ pub(crate) fn end(
 {
     let id = top.get().id();
     let is_forked = !top.get().label().is_empty();
-    let ended = leave(scheduler, worker, deque, top);
+    let mut top = top;
+    let ended = leave(scheduler, worker, deque, &mut top);
     scheduler.results.put(id, ended);
+    scheduler.used_place = Some(top);
     is_forked
 }
 
-/// The thread leaves its place; the answer is its result.
-fn leave(scheduler: &mut Scheduler, worker: usize, deque: DequeId, top: Boxed<Thread>) -> Ended
-    requires can { CanAct scheduler.old worker deque top nexts.End }
-    requires gives { words_at_end (label_of top) ≤ scheduler.old.pool.live }
-    ensures { LeavesBy worker deque top scheduler.old scheduler.new result }
+/// The thread leaves its deque; the answer is its result.
+fn leave(scheduler: &mut Scheduler, worker: usize, deque: DequeId, top: &mut Boxed<Thread>) -> Ended
+    requires can { CanAct scheduler.old worker deque top.old nexts.End }
+    requires gives { words_at_end (label_of top.old) ≤ scheduler.old.pool.live }
+    ensures { LeavesBy worker deque top.old scheduler.old scheduler.new result }
 {
     if scheduler.list.lane(deque).len() > 0 {
         return thread_events::end_above(

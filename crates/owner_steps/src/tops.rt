@@ -19,18 +19,25 @@ use deque_list::DequeId;
 use std::alloc::{AllocError, Global};
 use thread_frames::Thread;
 
-/// Makes a place for the thread that is forked next, where there is none.
+/// Makes a place for the thread that is forked next, where there is none: that of a thread that has ended, or a new one.
 ///
 /// # Errors
 ///
 /// There is not enough memory.
-fn reserve_place(place: &mut Option<Boxed<Thread>>, alloc: Global) -> Result<(), AllocError>
+fn reserve_place(
+    place: &mut Option<Boxed<Thread>>,
+    used: &mut Option<Boxed<Thread>>,
+    alloc: Global,
+) -> Result<(), AllocError>
     ensures { OnOk result (IsSome place.new) }
 {
-    if place.is_none() {
-        let blank = Thread::blank(alloc)?;
-        *place = Some(Boxed::new(alloc, blank)?);
+    if place.is_some() {
+        return Ok(());
     }
+    if used.is_none() {
+        *used = Some(Boxed::new(alloc, Thread::blank(alloc))?);
+    }
+    *place = used.take();
     Ok(())
 }
 
@@ -57,7 +64,7 @@ fn reserve(
     scheduler.moves.reserve()?;
     scheduler.waiting.reserve()?;
     scheduler.results.reserve()?;
-    reserve_place(&mut scheduler.place, alloc)
+    reserve_place(&mut scheduler.place, &mut scheduler.used_place, alloc)
 }
 
 /// Takes the memory that the event of a worker may need, and then the top thread out of its deque.

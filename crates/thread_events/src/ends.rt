@@ -19,63 +19,63 @@ use deque_list::{DequeId, List};
 use period_table::PeriodTable;
 use thread_frames::{Ended, Thread};
 
-/// Does the End of a thread whose parent stands directly below, and runs next in the same period.
+/// Does the End of a thread whose parent stands directly below, and runs next in the same period. A blank thread is left in its place.
 pub fn end_above(
     list: &List<Boxed<Thread>>,
     table: &mut PeriodTable,
     pool: &mut Pool,
     worker: usize,
     deque: DequeId,
-    top: Boxed<Thread>,
+    top: &mut Boxed<Thread>,
 ) -> Ended
-    requires placed { IsPlaced top }
-    requires next { IsEnd (next_of top) }
-    requires count { done_of top < 4294967295 }
-    requires live { words_at_end (label_of top) ≤ pool.old.live }
+    requires placed { IsPlaced top.old }
+    requires next { IsEnd (next_of top.old) }
+    requires count { done_of top.old < 4294967295 }
+    requires live { words_at_end (label_of top.old) ≤ pool.old.live }
     requires table { HasRoom table.old worker }
     requires fits { (p : Period) → period_at table.old worker ≡ Some p → p.used ≤ 1048576 }
-    ensures acts { EndsAboveBy worker deque top list.now table.old table.new result }
+    ensures acts { EndsAboveBy worker deque top.old list.now table.old table.new result }
     ensures seats { KeepsSeats table.old table.new }
-    ensures id { result.id ≡ top.id }
-    ensures label { ended_label result ≡ label_of top }
-    ensures pool { pool.new ≡ with_given pool.old (words_at_end (label_of top)) }
-    ensures result { (t : Table) (k : ℕ) → IsAtPoint t k top → IsResult t k result }
+    ensures id { result.id ≡ top.old.id }
+    ensures label { ended_label result ≡ label_of top.old }
+    ensures pool { pool.new ≡ with_given pool.old (words_at_end (label_of top.old)) }
+    ensures result { (t : Table) (k : ℕ) → IsAtPoint t k top.old → IsResult t k result }
 {
-    let name = name_of(&top);
-    let ended = top.into_inner().end(pool);
+    let name = name_of(top);
+    let ended = top.get_mut().take().end(pool);
     deque_events::end_above(list, table, worker, deque, name);
     ended
 }
 
-/// Does the End of a thread that is alone in its deque, and whose parent, which waited for it, takes its place.
+/// Does the End of a thread that is alone in its deque, and whose parent, which waited for it, takes its place there.
 pub fn end_and_wake(
     list: &mut List<Boxed<Thread>>,
     table: &mut PeriodTable,
     pool: &mut Pool,
     worker: usize,
     deque: DequeId,
-    top: Boxed<Thread>,
+    top: &mut Boxed<Thread>,
     parent: Boxed<Thread>,
 ) -> Ended
-    requires placed { IsPlaced top }
-    requires next { IsEnd (next_of top) }
-    requires count { done_of top < 4294967295 }
-    requires live { words_at_end (label_of top) ≤ pool.old.live }
+    requires placed { IsPlaced top.old }
+    requires next { IsEnd (next_of top.old) }
+    requires count { done_of top.old < 4294967295 }
+    requires live { words_at_end (label_of top.old) ≤ pool.old.live }
     requires stands { Stands list.old worker deque [] }
     requires room { 1 ≤ lane_room list.old deque }
     requires table { HasRoom table.old worker }
     requires fits { (p : Period) → period_at table.old worker ≡ Some p → p.used ≤ 1048576 }
-    ensures acts { EndsAndWakesBy worker deque top parent list.old table.old list.new table.new result }
+    ensures acts { EndsAndWakesBy worker deque top.old parent list.old table.old list.new table.new result }
     ensures deques { (stands : Stands list.old worker deque [])
         → Becomes stands list.new (deque_with deque (Some worker) (parent ∷ []) ∷ []) }
     ensures seats { KeepsSeats table.old table.new }
-    ensures id { result.id ≡ top.id }
-    ensures label { ended_label result ≡ label_of top }
-    ensures pool { pool.new ≡ with_given pool.old (words_at_end (label_of top)) }
-    ensures result { (t : Table) (k : ℕ) → IsAtPoint t k top → IsResult t k result }
+    ensures id { result.id ≡ top.old.id }
+    ensures label { ended_label result ≡ label_of top.old }
+    ensures pool { pool.new ≡ with_given pool.old (words_at_end (label_of top.old)) }
+    ensures result { (t : Table) (k : ℕ) → IsAtPoint t k top.old → IsResult t k result }
 {
-    let name = name_of(&top);
-    let ended = top.into_inner().end(pool);
+    let name = name_of(top);
+    let ended = top.get_mut().take().end(pool);
     deque_events::end_and_wake(list, table, worker, deque, parent, name);
     ended
 }
@@ -87,25 +87,25 @@ pub fn end_and_leave(
     pool: &mut Pool,
     worker: usize,
     deque: DequeId,
-    top: Boxed<Thread>,
+    top: &mut Boxed<Thread>,
 ) -> Ended
-    requires placed { IsPlaced top }
-    requires next { IsEnd (next_of top) }
-    requires count { done_of top < 4294967295 }
-    requires live { words_at_end (label_of top) ≤ pool.old.live }
+    requires placed { IsPlaced top.old }
+    requires next { IsEnd (next_of top.old) }
+    requires count { done_of top.old < 4294967295 }
+    requires live { words_at_end (label_of top.old) ≤ pool.old.live }
     requires stands { Stands list.old worker deque [] }
     requires table { HasRoom table.old worker }
     requires fits { (p : Period) → period_at table.old worker ≡ Some p → p.used ≤ 1048576 }
-    ensures acts { EndsAndLeavesBy worker deque top list.old table.old list.new table.new result }
+    ensures acts { EndsAndLeavesBy worker deque top.old list.old table.old list.new table.new result }
     ensures deques { (stands : Stands list.old worker deque []) → Becomes stands list.new [] }
     ensures seats { LeavesSeat worker table.old table.new }
-    ensures id { result.id ≡ top.id }
-    ensures label { ended_label result ≡ label_of top }
-    ensures pool { pool.new ≡ with_given pool.old (words_at_end (label_of top)) }
-    ensures result { (t : Table) (k : ℕ) → IsAtPoint t k top → IsResult t k result }
+    ensures id { result.id ≡ top.old.id }
+    ensures label { ended_label result ≡ label_of top.old }
+    ensures pool { pool.new ≡ with_given pool.old (words_at_end (label_of top.old)) }
+    ensures result { (t : Table) (k : ℕ) → IsAtPoint t k top.old → IsResult t k result }
 {
-    let name = name_of(&top);
-    let ended = top.into_inner().end(pool);
+    let name = name_of(top);
+    let ended = top.get_mut().take().end(pool);
     deque_events::end_and_leave(list, table, worker, deque, name);
     ended
 }

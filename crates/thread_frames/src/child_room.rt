@@ -4,6 +4,9 @@ use block_arena::Shell;
 use frame_stack::Frame;
 use thread_state::ForkRoom;
 
+/// For how many frames a child has room as it begins: most children need no more, so that their list never grows.
+pub(crate) const FRAMES_OF_A_CHILD: usize = 4;
+
 /// The memory of a child that is not yet forked: its label and row, the list of its record block, and its frames.
 #[derive(Drop)]
 pub(crate) struct ChildRoom {

@@ -15,7 +15,7 @@ ghost use Rattle.thread_frames.specs.Memory.{RoomFits, frames_put, children_put}
 ghost use Rattle.thread_frames.specs.Slots.{taken_slots as slots_taken, assigned_slots as slots_assigned};
 ghost use Rattle.thread_frames.specs.Preparing.{Prepares, BeginsMain, AreMainFrames};
 
-use crate::child_room::ChildRoom;
+use crate::child_room::{ChildRoom, FRAMES_OF_A_CHILD};
 use crate::next::Next;
 use crate::open_child::OpenChild;
 use crate::prepared::Prepared;
@@ -26,6 +26,7 @@ use dummy_tree::Quota;
 use frame_stack::{Branch, Frame, ListOf, frame_from};
 use node_table::{Code, NodeKind};
 use std::alloc::{AllocError, Global};
+use std::mem;
 use thread_output::Told;
 use thread_run::ThreadRun;
 use thread_state::ThreadState;
@@ -103,22 +104,19 @@ impl Thread {
         })
     }
 
-    /// A thread that runs nothing: what stands in a place for a child before it is forked. What else it has is of no account.
-    ///
-    /// # Errors
-    ///
-    /// There is not enough memory.
-    pub fn blank(alloc: Global) -> Result<Thread, AllocError>
-        ensures children { IfOk result (λ thread. children_of thread ≡ []) }
-        ensures next { IfOk result (λ thread. next_of thread ≡ None) }
+    /// A thread that runs nothing: what stands in a place for a child before it is forked. What else it has is of no account. It takes no
+    /// memory.
+    pub fn blank(alloc: Global) -> Thread
+        ensures children { children_of result ≡ [] }
+        ensures next { next_of result ≡ None }
     {
         let run = ThreadRun {
             func: None,
-            state: ThreadState::root(alloc, 0)?,
+            state: ThreadState::blank(alloc),
             frames: Vec::new(alloc),
             told: Told::new(alloc),
         };
-        Ok(Thread {
+        Thread {
             id: ThreadId::ROOT,
             parent: None,
             func: None,
@@ -126,7 +124,15 @@ impl Thread {
             children: Vec::new(alloc),
             record_block: None,
             prepared: Prepared::Nothing,
-        })
+        }
+    }
+
+    /// The thread, which leaves a blank one where it was, so that its place on the heap can be that of a child.
+    pub fn take(&mut self) -> Thread
+        ensures { result ≡ self.old }
+    {
+        let alloc = *self.run.frames.allocator();
+        mem::replace(self, Thread::blank(alloc))
     }
 
     /// Runs up to the next action, takes the memory that it needs, and tells it. It is not done. Called again before the action is done, it
@@ -322,7 +328,7 @@ fn child_room(
     Ok(ChildRoom {
         room,
         shell: Shell::with_room(alloc, 1)?,
-        frames: Vec::with_capacity(alloc, 1)?,
+        frames: Vec::with_capacity(alloc, FRAMES_OF_A_CHILD)?,
         named: named_slots(alloc, code, branch)?,
     })
 }

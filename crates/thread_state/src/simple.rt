@@ -44,6 +44,23 @@ impl ThreadState {
         })
     }
 
+    /// The state of a thread that runs nothing. It takes no memory.
+    pub fn blank(alloc: Global) -> ThreadState
+        ensures label { result.label ≡ [] }
+        ensures slots { own_row result ≡ [] }
+    {
+        ThreadState {
+            label: Label::root(alloc),
+            done: 0,
+            forks: 0,
+            faulted: false,
+            slots: Slots::empty(alloc),
+            callers: Vec::new(alloc),
+            calls: 1,
+            turns: MOST_TURNS,
+        }
+    }
+
     /// The number of an expression, or the fault that comes in its place.
     ///
     /// # Errors

@@ -1,5 +1,5 @@
 use Rattle.std.proofs.Common.{ap, subst, ◌∙◌, ◌≡◌}
-use Rattle.std.specs.Prelude.{not, pos, [], ◌∷◌, IsTrue, ◌↔◌}
+use Rattle.std.specs.Prelude.{not, pos, Some, [], ◌∷◌, IsTrue, ◌↔◌}
 use Rattle.std.specs.List.Sorted.{IsPermutation}
 use Rattle.space_ledger.specs.MovesList.{moves_list}
 use Rattle.thread_points.specs.Points.{words_at_end}
@@ -16,7 +16,7 @@ pub returns : goal.returns
 returns c =
     let before : Scheduler = c.args.scheduler.now in
     let between : Scheduler = c.leave-ended.new.scheduler in
-    let after : Scheduler = record between { results = c.put.new.self } in
+    let after : Scheduler = record between { results = c.put.new.self; used_place = Some c.leave-ended.new.top } in
     let left = c.leave-ended.ensures in
     performs_of End Always c.args.worker c.args.deque c.args.top before after
     (acted_moved End Always c.args.worker c.args.deque c.args.top before (with_result between c.args.top.id c.leave-ended.result) c.put.new.self.entries (moves_list between.moves) between.done

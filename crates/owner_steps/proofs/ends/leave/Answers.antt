@@ -18,7 +18,7 @@ returns-then-len-gt0 c =
     let before : Scheduler = c.args.scheduler.now in
     let after : Scheduler = record before { table = c.end_above.new.table; pool = c.end_above.new.pool } in
     record {
-      acted = above_acted c.args.worker c.args.deque c.args.top before after c.end_above.result c.end_above.ensures.id refl c.end_above.ensures.result refl refl
+      acted = above_acted c.args.worker c.args.deque c.args.top.now before after c.end_above.result c.end_above.ensures.id refl c.end_above.ensures.result refl refl
           (λ items stands. let some = c.if-len-gt0.true in let many = c.len.ensures in let same = ap length (c.lane.ensures.items _ (here stands) (at_rank stands)) in omega (arith, some, many, same))
           c.end_above.ensures.acts c.end_above.ensures.seats;
       same_results = refl;
@@ -49,7 +49,7 @@ returns-in-Some c =
     nil_from_length items (omega (arith, few, many, same)) in
     let its : Stands before.list c.args.worker c.args.deque [] = subst (Stands before.list c.args.worker c.args.deque) (alone c.requires.can.stands.0 c.requires.can.stands.1) c.requires.can.stands.1 in
     record {
-      acted = wakes_acted c.args.worker c.args.deque c.args.top before after c.end_and_wake.result c.end_and_wake.ensures.id refl c.end_and_wake.ensures.result alone
+      acted = wakes_acted c.args.worker c.args.deque c.args.top.now before after c.end_and_wake.result c.end_and_wake.ensures.id refl c.end_and_wake.ensures.result alone
           c.in-Some.parent (subst (λ x. IsPermutation before.waiting.entries ((x, c.in-Some.parent) ∷ after.waiting.entries)) (c.id.ensures ∙ ap (λ (x : Thread). x.id) c.get.ensures) c.in-Some.ensures.entries) c.end_and_wake.ensures.acts c.end_and_wake.ensures.deques c.end_and_wake.ensures.seats;
       same_results = refl;
       same_moves = refl;
@@ -67,7 +67,7 @@ returns-in-None c =
     nil_from_length items (omega (arith, few, many, same)) in
     let its : Stands before.list c.args.worker c.args.deque [] = subst (Stands before.list c.args.worker c.args.deque) (alone c.requires.can.stands.0 c.requires.can.stands.1) c.requires.can.stands.1 in
     record {
-      acted = leaves_acted c.args.worker c.args.deque c.args.top before after c.end_and_leave.result c.end_and_leave.ensures.id refl c.end_and_leave.ensures.result alone
+      acted = leaves_acted c.args.worker c.args.deque c.args.top.now before after c.end_and_leave.result c.end_and_leave.ensures.id refl c.end_and_leave.ensures.result alone
           c.in-None.ensures.none (ap (kept_under before.waiting) (ap (λ (x : Thread). x.id) (sym c.get.ensures) ∙ sym c.id.ensures) ∙ sym c.in-None.ensures.value) c.end_and_leave.ensures.acts c.end_and_leave.ensures.deques c.end_and_leave.ensures.seats;
       same_results = refl;
       same_moves = refl;

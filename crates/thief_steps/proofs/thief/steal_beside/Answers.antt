@@ -25,6 +25,7 @@ returns c owner first others bottom holds =
       list = c.steal_beside-deque.new.list;
       waiting = c.args.scheduler.now.waiting;
       place = c.args.scheduler.now.place;
+      used_place = c.args.scheduler.now.used_place;
       results = c.args.scheduler.now.results;
       table = c.steal_beside-deque.new.table;
       pool = c.args.scheduler.now.pool;

@@ -11,6 +11,7 @@ returns c =
       list = c.take_over.new.list;
       waiting = c.args.scheduler.now.waiting;
       place = c.args.scheduler.now.place;
+      used_place = c.args.scheduler.now.used_place;
       results = c.args.scheduler.now.results;
       table = c.take_over.new.table;
       pool = c.args.scheduler.now.pool;
