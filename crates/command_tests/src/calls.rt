@@ -48,32 +48,80 @@ pub fn lines_of(alloc: Global, text: &str) -> Result<Vec<u8>, AllocError> {
     Ok(all)
 }
 
+/// Does what words ask for, with streams that never fail. It hands no clause on, since each goal of its callers would carry it.
+fn done(alloc: Global, words: &[String], source: &mut CleanSource, sink: &mut CleanSink) -> Status {
+    dfd(alloc, words, source, sink)
+}
+
+/// The status of a call into a sink.
+fn call_into(
+    alloc: Global,
+    line: &str,
+    source: Vec<u8>,
+    sink: &mut CleanSink,
+) -> Result<Status, AllocError> {
+    let mut source = CleanSource::new(source);
+    let words = words_of(alloc, line)?;
+    Ok(done(alloc, &words, &mut source, sink))
+}
+
 /// The status of a call with the words of a line and the text that it writes, with streams that never fail.
 pub fn call(alloc: Global, line: &str, source: Vec<u8>) -> Result<(Status, Vec<u8>), AllocError> {
-    let words = words_of(alloc, line)?;
-    let mut source = CleanSource::new(source);
     let mut sink = CleanSink::new(alloc, ROOM)?;
-    let status = dfd(alloc, &words, &mut source, &mut sink);
+    let status = call_into(alloc, line, source, &mut sink)?;
     Ok((status, Vec::from_slice(alloc, sink.kept())?))
 }
 
-/// The same with a source that passes 10 bytes a call and fails at call `read`, and a sink that takes `most` bytes a
-/// call and fails at call `write`; a 0 is no call.
-pub fn call_failing(
+/// Where streams fail, and how many bytes the sink takes a call; a 0 is no call.
+#[derive(Clone, Copy)]
+pub struct Failing {
+    pub read: u32,
+    pub most: usize,
+    pub write: u32,
+}
+
+/// A source that passes 10 bytes a call and fails at one.
+fn source_failing(alloc: Global, source: &str, read: u32) -> Result<MemorySource, AllocError> {
+    let bytes = Vec::from_slice(alloc, source.as_bytes())?;
+    let calls = vec![in alloc; read]?;
+    Ok(MemorySource::new(bytes, 10, calls))
+}
+
+/// Does what words ask for, with streams that fail. It hands no clause on, as `done`.
+fn done_failing(
+    alloc: Global,
+    words: &[String],
+    source: &mut MemorySource,
+    sink: &mut MemorySink,
+) -> Status {
+    dfd(alloc, words, source, sink)
+}
+
+/// The status of a call into a sink, with streams that fail.
+fn call_failing_into(
     alloc: Global,
     line: &str,
     source: &str,
     read: u32,
-    most: usize,
-    write: u32,
-) -> Result<(Status, Vec<u8>), AllocError>
-    requires { 1 ≤ most }
-{
+    sink: &mut MemorySink,
+) -> Result<Status, AllocError> {
+    let mut source = source_failing(alloc, source, read)?;
     let words = words_of(alloc, line)?;
-    let bytes = Vec::from_slice(alloc, source.as_bytes())?;
-    let mut source = MemorySource::new(bytes, 10, vec![in alloc; read]?);
-    let mut sink = MemorySink::new(alloc, most, vec![in alloc; write]?);
-    let status = dfd(alloc, &words, &mut source, &mut sink);
+    Ok(done_failing(alloc, &words, &mut source, sink))
+}
+
+/// The status of a call with the words of a line and the text that it writes, with streams that fail.
+pub fn call_failing(
+    alloc: Global,
+    line: &str,
+    source: &str,
+    failing: Failing,
+) -> Result<(Status, Vec<u8>), AllocError>
+    requires { 1 ≤ failing.most }
+{
+    let calls = vec![in alloc; failing.write]?;
+    let mut sink = MemorySink::new(alloc, failing.most, calls);
+    let status = call_failing_into(alloc, line, source, failing.read, &mut sink)?;
     Ok((status, Vec::from_slice(alloc, sink.kept())?))
 }
 
@@ -84,7 +132,29 @@ pub fn padded(alloc: Global, text: &str, len: usize) -> Result<Vec<u8>, AllocErr
     Ok(bytes)
 }
 
-/// Compares a call with what is due: the number of the status, and the text, in which a `~` ends a line.
+/// A call gave what is due. Many assertions are this one, since the proof of each function spells its messages out.
+pub fn is_right(rt: &impl Abort, right: bool, line: &str, due: &str) {
+    assert!(rt; right, "at {line:?}, due is {due:?}");
+}
+
+/// Compares what a call told with what is due: the number of the status, and the text, in which a `~` ends a line.
+pub fn is_due(
+    rt: &impl Abort,
+    alloc: Global,
+    line: &str,
+    told: &(Status, Vec<u8>),
+    code: &str,
+    text: &str,
+) -> Result<(), Fail> {
+    let (status, written) = told;
+    let due = lines_of(alloc, text)?;
+    assert_eq!(rt; written.as_slice(), due.as_slice(), "at {line:?}");
+    let number = code.parse::<u8>().ok();
+    is_right(rt, number == Some(status.code()), line, code);
+    Ok(())
+}
+
+/// Compares a call with what is due, as `is_due`.
 pub fn answers_so(
     rt: &impl Abort,
     alloc: Global,
@@ -93,38 +163,31 @@ pub fn answers_so(
     text: &str,
     source: Vec<u8>,
 ) -> Result<(), Fail> {
-    let len = source.len();
-    let (status, written) = call(alloc, line, source)?;
-    let due = lines_of(alloc, text)?;
-    assert_eq!(rt;
-        code.parse::<u8>().ok(),
-        Some(status.code()),
-        "at {line:?} of {len} bytes, due is {text:?}"
-    );
-    assert_eq!(rt;
-        written.as_slice(),
-        due.as_slice(),
-        "at {line:?} of {len} bytes"
-    );
-    Ok(())
+    let told = call(alloc, line, source)?;
+    is_due(rt, alloc, line, &told, code, text)
+}
+
+/// The parts of a row of a table; those that it does not have are empty.
+pub fn parts_of(row: &str) -> [&str; 7] {
+    let mut parts = [""; 7];
+    for (place, part) in row.trim_end().split('|').enumerate() {
+        if place < 7 {
+            parts[place] = part;
+        }
+    }
+    parts
+}
+
+fn row_answers_so(rt: &impl Abort, alloc: Global, row: &str) -> Result<(), Fail> {
+    let [line, code, text, source, ..] = parts_of(row);
+    let source = Vec::from_slice(alloc, source.as_bytes())?;
+    answers_so(rt, alloc, line, code, text, source)
 }
 
 /// Compares the calls of a table. A row is the words, the number of the status, the text, and the source.
 pub fn all_answer_so(rt: &impl Abort, alloc: Global, rows: &str) -> Result<(), Fail> {
     for row in rows.split('@') {
-        let mut parts = row.split('|');
-        let line = parts.next().unwrap_or("");
-        let code = parts.next().unwrap_or("");
-        let text = parts.next().unwrap_or("");
-        let source = parts.next().unwrap_or("").trim_end();
-        answers_so(
-            rt,
-            alloc,
-            line,
-            code,
-            text,
-            Vec::from_slice(alloc, source.as_bytes())?,
-        )?;
+        row_answers_so(rt, alloc, row)?;
     }
     Ok(())
 }

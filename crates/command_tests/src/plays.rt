@@ -1,7 +1,8 @@
 //! The command `play`.
-use crate::calls::{BLOCK, LONGEST, SMALL, all_answer_so, answers_so, call, padded};
+use crate::calls::{BLOCK, LONGEST, SMALL, all_answer_so, answers_so, call, is_right, padded};
 use dfd_run::Status;
 use std::alloc::{AllocError, Global};
+use std::process::Abort;
 use std::test::Fail;
 
 /// Blocks, large allocations, give ups and thefts, by one worker.
@@ -78,41 +79,56 @@ fn nested(alloc: Global, forks: u32) -> Result<Vec<u8>, AllocError> {
     Ok(text.into_bytes())
 }
 
+fn nested_so(
+    rt: &impl Abort,
+    alloc: Global,
+    forks: u32,
+    code: &str,
+    text: &str,
+) -> Result<(), Fail> {
+    answers_so(rt, alloc, WORDS, code, text, nested(alloc, forks)?)
+}
+
+fn padded_so(
+    rt: &impl Abort,
+    alloc: Global,
+    source: &str,
+    len: usize,
+    code: &str,
+    text: &str,
+) -> Result<(), Fail> {
+    answers_so(rt, alloc, WORDS, code, text, padded(alloc, source, len)?)
+}
+
 #[test]
 fn sources_have_limits(rt: HostRuntime) -> Result<(), Fail> {
     let alloc = rt.alloc();
-    let deep = "syntax TooDeep at 330~";
-    let long = "syntax TooLong at 1048576~";
-    let report = "1~2~3~--~end done~periods 1~ahead 0~high 16~";
     let nothing = "--~end done~periods 1~ahead 0~high 48~";
-    answers_so(&rt, alloc, WORDS, "0", nothing, nested(alloc, 3)?)?;
-    answers_so(&rt, alloc, WORDS, "4", deep, nested(alloc, 64)?)?;
-    let blanks = padded(alloc, "", 1_048_576)?;
-    answers_so(
-        &rt,
-        alloc,
-        WORDS,
-        "4",
-        "syntax Expected at 1048576~",
-        blanks,
-    )?;
-    let longest = padded(alloc, SMALL, 1_048_576)?;
-    answers_so(&rt, alloc, WORDS, "0", report, longest)?;
+    nested_so(&rt, alloc, 3, "0", nothing)?;
+    nested_so(&rt, alloc, 64, "4", "syntax TooDeep at 330~")?;
+    let text = "syntax Expected at 1048576~";
+    padded_so(&rt, alloc, "", 1_048_576, "4", text)?;
+    let report = "1~2~3~--~end done~periods 1~ahead 0~high 16~";
+    padded_so(&rt, alloc, SMALL, 1_048_576, "0", report)?;
     for len in [1_048_577, 3_000_000] {
-        let source = padded(alloc, SMALL, len)?;
-        answers_so(&rt, alloc, WORDS, "4", long, source)?;
+        padded_so(&rt, alloc, SMALL, len, "4", "syntax TooLong at 1048576~")?;
     }
     Ok(())
+}
+
+/// A front of a source is refused at this place.
+fn is_cut(rt: &impl Abort, alloc: Global, front: &[u8], place: usize) -> Result<(), Fail> {
+    let text = format!(in alloc; "syntax Expected at {place}~")?;
+    let source = Vec::from_slice(alloc, front)?;
+    answers_so(rt, alloc, "play", "4", &text, source)
 }
 
 /// A front of a source is refused at its end, but where it ends inside `fn`.
 #[test]
 fn cut_sources_are_refused(rt: HostRuntime) -> Result<(), Fail> {
     for len in 0..BLOCK.len() {
-        let source = Vec::from_slice(rt.alloc(), &BLOCK.as_bytes()[..len])?;
         let place = if len == 1 { 0 } else { len };
-        let text = format!(in rt.alloc(); "syntax Expected at {place}~")?;
-        answers_so(&rt, rt.alloc(), "play", "4", &text, source)?;
+        is_cut(&rt, rt.alloc(), &BLOCK.as_bytes()[..len], place)?;
     }
     Ok(())
 }
@@ -133,15 +149,27 @@ fn forks_in_a_row(alloc: Global, forks: u32) -> Result<(Vec<u8>, Vec<u8>), Alloc
     Ok((program.into_bytes(), report.into_bytes()))
 }
 
+/// A program prints these lines with so many workers.
+fn prints_so(
+    rt: &impl Abort,
+    alloc: Global,
+    program: &[u8],
+    front: &[u8],
+    workers: u32,
+) -> Result<(), Fail> {
+    let seed = workers.saturating_mul(77);
+    let words = format!(in alloc; "play --k 16 --p {workers} --seed {seed}")?;
+    let (status, written) = call(alloc, &words, Vec::from_slice(alloc, program)?)?;
+    is_right(rt, status == Status::Done, &words, "done");
+    is_right(rt, written.starts_with(front), &words, "the same lines");
+    Ok(())
+}
+
 #[test]
 fn workers_and_seeds_do_not_change_the_lines(rt: HostRuntime) -> Result<(), Fail> {
     let (program, front) = forks_in_a_row(rt.alloc(), 30)?;
-    for workers in 1..=64u32 {
-        let words = format!(in rt.alloc(); "play --k 16 --p {workers} --seed {}", 77 * workers)?;
-        let source = Vec::from_slice(rt.alloc(), &program)?;
-        let (status, written) = call(rt.alloc(), &words, source)?;
-        assert_eq!(rt; status, Status::Done, "with {workers} workers");
-        assert!(rt; written.starts_with(&front), "with {workers} workers");
+    for workers in 1..=64 {
+        prints_so(&rt, rt.alloc(), &program, &front, workers)?;
     }
     Ok(())
 }
