@@ -7,7 +7,7 @@ use block_arena::Pool;
 use dag_order::{FaultAt, Finish};
 use dummy_tree::Quota;
 use frame_code::lower;
-use serial_meaning::{Serial, depth_first};
+use serial_meaning::depth_first;
 use std::alloc::{AllocError, Global};
 use std::process::Abort;
 use std::test::Fail;
@@ -16,9 +16,9 @@ use thread_frames::{Ended, Thread};
 /// More threads than stand inside one another in these programs.
 const DEEPEST: u32 = 100;
 
-/// A text as a program with a quota, and its depth-first run. A text that is no accepted program, and a number that is no quota, count as
-/// want of memory.
-fn begun(alloc: Global, text: &str, k: u32) -> Result<(Program, Serial), AllocError> {
+/// A text as a program with a quota, and its depth-first run, which its threads are to do in an order. A text that is no accepted program,
+/// and a number that is no quota, count as want of memory.
+fn begun(alloc: Global, text: &str, k: u32, order: Order) -> Result<(Program, Trace), AllocError> {
     let Some(k) = Quota::new(k) else {
         return Err(AllocError);
     };
@@ -28,8 +28,13 @@ fn begun(alloc: Global, text: &str, k: u32) -> Result<(Program, Serial), AllocEr
     let Ok(serial) = depth_first(alloc, &program, k, 1_000) else {
         return Err(AllocError);
     };
+    let trace = Trace {
+        serial,
+        order,
+        done: 0,
+    };
     let code = lower(alloc, program)?;
-    Ok((Program { alloc, code, k }, serial))
+    Ok((Program { alloc, code, k }, trace))
 }
 
 /// How a run with this first fault finishes.
@@ -64,20 +69,31 @@ fn compare(
     Ok(())
 }
 
+/// Runs a program by its threads. All that is large is borrowed, but for the result of the root.
+fn run_root(
+    rt: &impl Abort,
+    alloc: Global,
+    text: &str,
+    program: &Program,
+    trace: &mut Trace,
+    pool: &mut Pool,
+) -> Result<(), Fail> {
+    let root = Thread::root(alloc, &program.code)?;
+    match run_thread(program, trace, pool, root, DEEPEST) {
+        Ok(ended) => compare(rt, alloc, text, trace, &ended),
+        Err(wrong) => {
+            let (k, order) = (program.k.get(), trace.order);
+            assert!(rt; false, "{wrong:?}, quota {k}, {order:?}: {text}");
+            Ok(())
+        }
+    }
+}
+
 /// Runs a program by its threads in an order.
 fn run_so(rt: &impl Abort, alloc: Global, text: &str, k: u32, order: Order) -> Result<(), Fail> {
-    let (program, serial) = begun(alloc, text, k)?;
-    let mut trace = Trace {
-        serial,
-        order,
-        done: 0,
-    };
     let mut pool = Pool::new(alloc, 1_024)?;
-    let root = Thread::root(alloc, &program.code)?;
-    match run_thread(&program, &mut trace, &mut pool, root, DEEPEST) {
-        Ok(ended) => compare(rt, alloc, text, &trace, &ended)?,
-        Err(wrong) => assert!(rt; false, "{wrong:?}, quota {k}, {order:?}: {text}"),
-    }
+    let (program, mut trace) = begun(alloc, text, k, order)?;
+    run_root(rt, alloc, text, &program, &mut trace, &mut pool)?;
     assert_eq!(rt; pool.live(), 0, "{order:?} {text}");
     Ok(())
 }

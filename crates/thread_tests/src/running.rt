@@ -24,12 +24,21 @@ use thread_frames::{Ended, Next, Thread};
 /// More actions than a thread of these programs has.
 const ACTIONS: u32 = 1_000;
 
-/// A program that is run with a quota.
-#[derive(Drop)]
+/// A program that is run with a quota. It is let go by a call, so that the steps of that are proved once.
 pub(crate) struct Program {
     pub alloc: Global,
     pub code: Code,
     pub k: Quota,
+}
+
+impl Drop for Program {
+    fn drop(self) {
+        let Program {
+            alloc: _,
+            code: _code,
+            k: _,
+        } = self;
+    }
 }
 
 /// Runs a thread up to its next action.
@@ -150,7 +159,43 @@ fn come_to_action(
     advance(program, pool, &mut family.thread)
 }
 
-/// Runs a thread that has no children from where it is to its End, with at most so many threads inside one another.
+/// Runs a thread and its children up to its End, which is what it is about to do then.
+#[cycle(run_thread)]
+fn run_to_end(
+    program: &Program,
+    trace: &mut Trace,
+    pool: &mut Pool,
+    family: &mut Family,
+    left: u32,
+) -> Result<Coming, Wrong>
+    requires points { ArePlaced (code_shown program.now.code) (quota_words program.now.k) family.old.thread family.old.aside.items }
+    requires family { IsFamily family.old.thread family.old.aside.items family.old.above }
+    requires out { family_words family.old.thread family.old.aside.items ≤ pool.old.live }
+    ensures next { OnOk result (next_of family.new.thread ≡ Some nexts.End) }
+    ensures few { OnOk result (done_of family.new.thread < 4294967295) }
+    ensures same { OnOk result (IsSame family.old.thread family.new.thread) }
+    ensures points { OnOk result (ArePlaced (code_shown program.now.code) (quota_words program.now.k) family.new.thread
+        family.new.aside.items) }
+    ensures words { OnOk result (MovesBy pool.old.live pool.new.live (family_words family.old.thread family.old.aside.items)
+        (family_words family.new.thread family.new.aside.items)) }
+{
+    let Some(below) = left.checked_sub(1) else {
+        return Err(Wrong::TooMany);
+    };
+    'actions: for _ in 0..ACTIONS {
+        let next = come_to_action(program, trace, pool, family, below)?;
+        let coming = coming(trace, pool, &family.thread, next)?;
+        if let Next::End = next {
+            return Ok(coming);
+        }
+        act(trace, family, pool, next)?;
+        trace.note(coming, pool.live())?;
+    }
+    Err(Wrong::TooMany)
+}
+
+/// Runs a thread that has no children from where it is to its End, with at most so many threads inside one another. All but its last step
+/// borrows the thread, since each exit of what owns one spells its drop out.
 #[cycle(run_thread)]
 pub(crate) fn run_thread(
     program: &Program,
@@ -168,24 +213,13 @@ pub(crate) fn run_thread(
     ensures result { IfOk result (IsResult (code_shown program.now.code) (quota_words program.now.k)) }
     ensures words { IfOk result (λ ended. MovesBy pool.old.live pool.new.live (thread_words thread) (ended_words ended)) }
 {
-    let Some(below) = left.checked_sub(1) else {
-        return Err(Wrong::TooMany);
-    };
     let mut family = Family {
         thread,
         aside: Vec::new(program.alloc),
         above: 0,
     };
-    'actions: for _ in 0..ACTIONS {
-        let next = come_to_action(program, trace, pool, &mut family, below)?;
-        let coming = coming(trace, pool, &family.thread, next)?;
-        if let Next::End = next {
-            return end_of(trace, pool, family, coming);
-        }
-        act(trace, &mut family, pool, next)?;
-        trace.note(coming, pool.live())?;
-    }
-    Err(Wrong::TooMany)
+    let coming = run_to_end(program, trace, pool, &mut family, left)?;
+    end_of(trace, pool, family, coming)
 }
 
 /// The End of a thread, behind which no child stands aside.
@@ -209,6 +243,7 @@ fn end_of(
     if !aside.is_empty() {
         return Err(Wrong::NotJoined);
     }
+    aside.destroy_empty();
     let ended = end(thread, pool)?;
     trace.note(coming, pool.live())?;
     Ok(ended)

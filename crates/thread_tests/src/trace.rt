@@ -14,12 +14,22 @@ pub(crate) enum Order {
     ForksFirst,
 }
 
-/// The depth-first run of a program, and how many of its actions the threads have done.
-#[derive(Drop)]
+/// The depth-first run of a program, and how many of its actions the threads have done. It is let go by a call, so that the steps of that
+/// are proved once.
 pub(crate) struct Trace {
     pub serial: Serial,
     pub order: Order,
     pub done: u32,
+}
+
+impl Drop for Trace {
+    fn drop(self) {
+        let Trace {
+            serial: _serial,
+            order: _,
+            done: _,
+        } = self;
+    }
 }
 
 /// An action that a thread is about to do, and the words that are out before it.
