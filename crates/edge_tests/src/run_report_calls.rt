@@ -3,6 +3,7 @@ use run_report::{
     PeakReport, ReadFail, Report, Summary, peak_text, read_report, report_text, summary_text,
 };
 use std::alloc::{AllocError, Global};
+use std::process::Abort;
 use std::test::Fail;
 
 fn lines(alloc: Global, numbers: &[i64]) -> Result<Lines, AllocError> {
@@ -18,6 +19,22 @@ fn fault(kind: FaultKind, line: u32) -> Finish {
     Finish::Faulted(FaultAt { kind, line })
 }
 
+/// A report is written so, and read from its text.
+fn is_written_and_read(
+    rt: &impl Abort,
+    alloc: Global,
+    report: &Report,
+    due: &str,
+) -> Result<(), Fail> {
+    let text = report_text(alloc, report)?;
+    assert_eq!(rt; text.as_slice(), due.as_bytes());
+    match read_report(alloc, due.as_bytes()) {
+        Ok(read) => assert!(rt; read == *report),
+        Err(_) => assert!(rt; false, "{due}"),
+    }
+    Ok(())
+}
+
 #[test]
 fn a_report_is_written_and_read(rt: HostRuntime) -> Result<(), Fail> {
     let report = Report {
@@ -27,15 +44,9 @@ fn a_report_is_written_and_read(rt: HostRuntime) -> Result<(), Fail> {
         ahead: 0,
         high: 32,
     };
-    let text = report_text(rt.alloc(), &report)?;
-    assert_eq!(rt;
-        text.as_slice(),
-        b"7\n--\nend done\nperiods 1\nahead 0\nhigh 32\n".as_slice()
-    );
-    assert_eq!(rt; text.len(), 40);
-    let read = read_report(rt.alloc(), text.as_slice());
-    assert!(rt; read == Ok(report));
-    Ok(())
+    let due = "7\n--\nend done\nperiods 1\nahead 0\nhigh 32\n";
+    assert_eq!(rt; due.len(), 40);
+    is_written_and_read(&rt, rt.alloc(), &report, due)
 }
 
 #[test]
@@ -47,12 +58,18 @@ fn numbers_at_the_ends_of_their_types(rt: HostRuntime) -> Result<(), Fail> {
         ahead: u32::MAX,
         high: u64::MAX,
     };
-    let text = report_text(rt.alloc(), &report)?;
-    let due: &[u8] =
-        b"-9223372036854775808\n-1\n0\n9223372036854775807\n--\nend fault Turns line 4294967295\nperiods 4294967295\nahead 4294967295\nhigh 18446744073709551615\n".as_slice();
-    assert_eq!(rt; text.as_slice(), due);
-    let read = read_report(rt.alloc(), due);
-    assert!(rt; read == Ok(report));
+    is_written_and_read(
+        &rt,
+        rt.alloc(),
+        &report,
+        "-9223372036854775808\n-1\n0\n9223372036854775807\n--\nend fault Turns line 4294967295\nperiods 4294967295\nahead 4294967295\nhigh 18446744073709551615\n",
+    )
+}
+
+/// The text of a depth-first run.
+fn is_told_so(rt: &impl Abort, alloc: Global, report: &PeakReport, due: &str) -> Result<(), Fail> {
+    let text = peak_text(alloc, report)?;
+    assert_eq!(rt; text.as_slice(), due.as_bytes());
     Ok(())
 }
 
@@ -64,51 +81,50 @@ fn a_depth_first_run(rt: HostRuntime) -> Result<(), Fail> {
         actions: 442,
         peak: 65_632,
     };
-    let text = peak_text(rt.alloc(), &report)?;
-    assert_eq!(rt;
-        text.as_slice(),
-        b"2147450880\n--\nend done\nactions 442\npeak 65632\n".as_slice()
-    );
-    Ok(())
+    let due = "2147450880\n--\nend done\nactions 442\npeak 65632\n";
+    is_told_so(&rt, rt.alloc(), &report, due)
+}
+
+fn has_name(rt: &impl Abort, alloc: Global, kind: FaultKind, due: &str) -> Result<(), Fail> {
+    let report = PeakReport {
+        lines: Lines::new(alloc),
+        finish: fault(kind, 2),
+        actions: 3,
+        peak: 0,
+    };
+    is_told_so(rt, alloc, &report, due)
 }
 
 #[test]
 fn each_kind_of_fault(rt: HostRuntime) -> Result<(), Fail> {
-    let rows: [(FaultKind, &[u8]); 6] = [
+    let rows = [
         (
             FaultKind::Index,
-            b"--\nend fault Index line 2\nactions 3\npeak 0\n".as_slice(),
+            "--\nend fault Index line 2\nactions 3\npeak 0\n",
         ),
         (
             FaultKind::Divide,
-            b"--\nend fault Divide line 2\nactions 3\npeak 0\n".as_slice(),
+            "--\nend fault Divide line 2\nactions 3\npeak 0\n",
         ),
         (
             FaultKind::Size,
-            b"--\nend fault Size line 2\nactions 3\npeak 0\n".as_slice(),
+            "--\nend fault Size line 2\nactions 3\npeak 0\n",
         ),
         (
             FaultKind::Split,
-            b"--\nend fault Split line 2\nactions 3\npeak 0\n".as_slice(),
+            "--\nend fault Split line 2\nactions 3\npeak 0\n",
         ),
         (
             FaultKind::Depth,
-            b"--\nend fault Depth line 2\nactions 3\npeak 0\n".as_slice(),
+            "--\nend fault Depth line 2\nactions 3\npeak 0\n",
         ),
         (
             FaultKind::Turns,
-            b"--\nend fault Turns line 2\nactions 3\npeak 0\n".as_slice(),
+            "--\nend fault Turns line 2\nactions 3\npeak 0\n",
         ),
     ];
-    for (kind, due) in &rows {
-        let report = PeakReport {
-            lines: Lines::new(rt.alloc()),
-            finish: fault(*kind, 2),
-            actions: 3,
-            peak: 0,
-        };
-        let text = peak_text(rt.alloc(), &report)?;
-        assert_eq!(rt; text.as_slice(), *due);
+    for (kind, due) in rows {
+        has_name(&rt, rt.alloc(), kind, due)?;
     }
     Ok(())
 }
@@ -125,50 +141,53 @@ fn a_summary(rt: HostRuntime) -> Result<(), Fail> {
         high: 16,
     };
     let text = summary_text(rt.alloc(), &summary)?;
-    let due: &[u8] =
-        b"bytes 139\nlines 2\ntotal 0\nactions 8\nperiods 1\nahead 0\nhigh 16\n".as_slice();
-    assert_eq!(rt; text.as_slice(), due);
+    assert_eq!(rt;
+        text.as_slice(),
+        b"bytes 139\nlines 2\ntotal 0\nactions 8\nperiods 1\nahead 0\nhigh 16\n".as_slice()
+    );
     Ok(())
 }
 
+fn is_no_report(rt: &impl Abort, alloc: Global, place: u32, text: &str) {
+    let read = read_report(alloc, text.as_bytes());
+    assert!(rt; read == Err(ReadFail::NotReport { at: place }), "{text}");
+}
+
+/// The place at which bytes are no report, and the bytes.
+const NO_REPORTS: &str = "0|\
+@32|7\n--\nend done\nperiods 1\nahead 0\nhigh 32\
+@32|7\n--\nend done\nperiods 1\nahead 0\n\
+@40|7\n--\nend done\nperiods 1\nahead 0\nhigh 32\n\n\
+@40|7\n--\nend done\nperiods 1\nahead 0\nhigh 32\nx\
+@14|7\n--\nend done\nactions 442\npeak 65632\n\
+@0|end done\n--\n\
+@2|7\nend done\nperiods 1\nahead 0\nhigh 32\n\
+@5|7\n--\n--\n\
+@2|7\n\
+@0|7\
+@0|+7\n\
+@0|07\n\
+@2|1\n-0\n\
+@0|-\n\
+@0|\n--\n\
+@0|9223372036854775808\n\
+@3|--\nend fault Index line 4294967296\n\
+@3|--\nend fault Indexes line 1\n\
+@3|--\nend fault Index line 01\n\
+@12|--\nend done\nperiods 4294967296\n\
+@22|--\nend done\nperiods 1\nahead -1\n\
+@3|--\nend done\r\n";
+
 #[test]
-fn bytes_that_are_no_report(rt: HostRuntime) {
-    let rows: [(&[u8], u32); 23] = [
-        (b"".as_slice(), 0),
-        (
-            b"7\n--\nend done\nperiods 1\nahead 0\nhigh 32".as_slice(),
-            32,
-        ),
-        (b"7\n--\nend done\nperiods 1\nahead 0\n".as_slice(), 32),
-        (
-            b"7\n--\nend done\nperiods 1\nahead 0\nhigh 32\n\n".as_slice(),
-            40,
-        ),
-        (
-            b"7\n--\nend done\nperiods 1\nahead 0\nhigh 32\nx".as_slice(),
-            40,
-        ),
-        (b"7\n--\nend done\nactions 442\npeak 65632\n".as_slice(), 14),
-        (b"end done\n--\n".as_slice(), 0),
-        (b"7\nend done\nperiods 1\nahead 0\nhigh 32\n".as_slice(), 2),
-        (b"7\n--\n--\n".as_slice(), 5),
-        (b"7\n".as_slice(), 2),
-        (b"7".as_slice(), 0),
-        (b"+7\n".as_slice(), 0),
-        (b"07\n".as_slice(), 0),
-        (b"1\n-0\n".as_slice(), 2),
-        (b"-\n".as_slice(), 0),
-        (b"\n--\n".as_slice(), 0),
-        (b"9223372036854775808\n".as_slice(), 0),
-        (b"--\nend fault Index line 4294967296\n".as_slice(), 3),
-        (b"--\nend fault Indexes line 1\n".as_slice(), 3),
-        (b"--\nend fault Index line 01\n".as_slice(), 3),
-        (b"--\nend done\nperiods 4294967296\n".as_slice(), 12),
-        (b"--\nend done\nperiods 1\nahead -1\n".as_slice(), 22),
-        (b"--\nend done\r\n".as_slice(), 3),
-    ];
-    for (text, place) in &rows {
-        let read = read_report(rt.alloc(), *text);
-        assert!(rt; read == Err(ReadFail::NotReport { at: *place }));
+fn bytes_that_are_no_report(rt: HostRuntime) -> Result<(), Fail> {
+    for row in NO_REPORTS.split('@') {
+        let (place, text) = row.split_once('|').ok_or("no row")?;
+        is_no_report(
+            &rt,
+            rt.alloc(),
+            place.parse::<u32>().ok().ok_or("no place")?,
+            text,
+        );
     }
+    Ok(())
 }
