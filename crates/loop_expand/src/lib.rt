@@ -30,6 +30,3 @@ pub use laws::{
     a_text_has_an_answer, a_text_has_one_answer, a_text_without_loops_stays, loops_stand_apart,
     other_bytes_stay,
 };
-
-#[cfg(test)]
-mod tests;
