@@ -23,8 +23,6 @@ pub mod runs;
 mod search;
 mod seen;
 mod step;
-#[cfg(test)]
-mod tests;
 mod theft;
 
 pub use action::Action;
