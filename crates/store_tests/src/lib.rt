@@ -1,6 +1,7 @@
-//! Tests of the stores: blocks out of a pool, and the integers and blocks of threads.
+//! Tests of the stores: blocks out of a pool, the integers and blocks of threads, and rows of slots with turns.
 //!
-//! This crate has no code but tests. It stands on the crates that it tests, each of which is so proved but once. It has no theorem.
+//! This crate has no code but tests and a user of a row of turns, which the tests run and a must-fail edit changes. It stands on the crates that
+//! it tests, each of which is so proved but once. It has no theorem.
 #![tactic(auto)]
 
 #[cfg(test)]
@@ -9,3 +10,8 @@ mod block_arena_calls;
 mod serial_store_calls;
 #[cfg(test)]
 mod slot_store_calls;
+mod turn_sums;
+#[cfg(test)]
+mod turn_sums_calls;
+#[cfg(test)]
+mod turn_tallies;

@@ -10,5 +10,3 @@ mod Closing
 pub mod NoteLaws
 pub mod Left
 pub mod Standing
-mod Numbers
-mod Tallies

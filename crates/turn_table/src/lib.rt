@@ -27,9 +27,6 @@ mod place;
 mod plays;
 mod ruled;
 mod still_held;
-mod sums;
-#[cfg(test)]
-mod tests;
 mod turn_seat;
 mod turns;
 

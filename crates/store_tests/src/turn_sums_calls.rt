@@ -2,12 +2,12 @@
 ghost use Rattle.std.specs.Prelude.{◌≡◌, ◌<◌, [], sum, IfOk};
 ghost use Rattle.turn_table.specs.Tables.{key_of, slot_count, IsSeatOf};
 
-use crate::sums::{Row, Taker, put_both, put_last, take_both, take_last};
-use crate::{Held, Keep, StillHeld};
+use crate::turn_sums::{Row, Taker, put_both, put_last, take_both, take_last};
 use std::alloc::{AllocError, Global};
 use std::test::Fail;
 use std::thread;
 use std::thread::Threads;
+use turn_table::{Held, Keep, StillHeld};
 
 fn shift(row: &Row, mut seat: Taker) -> Taker
     requires { IsSeatOf row.now seat × (seat.hand.holds ≡ []) × (2 < slot_count row.now) }

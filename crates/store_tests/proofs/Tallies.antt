@@ -6,7 +6,7 @@ use Rattle.turn_table.specs.Seats.{SeatView}
 use Rattle.turn_table.specs.Law.{TakeKeeps, HeldKeeps, CountKeeps, SplitKeeps, JoinKeeps}
 use Rattle.turn_table.specs.Notes.{OverNotes}
 use Rattle.turn_table.proofs.NoteLaws.{take_quiet, held_quiet, count_noted, split_noted, join_noted}
-use Rattle.turn_table.proofs.Numbers.{sum_set}
+use Rattle.store_tests.proofs.Numbers.{sum_set}
 
 abbrev pub Seat : Type 0
 Seat = SeatView (Unit {0}) ℕ ℕ

@@ -2,11 +2,11 @@
 ghost use Rattle.std.specs.Prelude.{◌≡◌, ◌+◌, ◌<◌, [], IfOk};
 ghost use Rattle.turn_table.specs.Tables.{slot_count, IsSeatOf};
 
-use crate::{Held, Joins, Keep, Notes, Splits, StillHeld, TurnLaw, TurnSeat, Turns};
 use std::alloc::{AllocError, Global};
 use std::test::Fail;
 use std::thread;
 use std::thread::Threads;
+use turn_table::{Held, Joins, Keep, Notes, Splits, StillHeld, TurnLaw, TurnSeat, Turns};
 
 // The count word is the sum of the notes, but for whole turns of the word.
 struct Tallied;

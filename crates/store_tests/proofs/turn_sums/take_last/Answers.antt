@@ -1,7 +1,7 @@
 use Rattle.std.proofs.Common.{[], ◌∷◌, inl, refl, ap, ◌∙◌}
 use Rattle.turn_table.specs.Tables.{key_of}
-use Rattle.turn_table.proofs.Numbers.{put_same}
-use Rattle.turn_table.proofs.sums.take_last.Goals as goal
+use Rattle.store_tests.proofs.Numbers.{put_same}
+use Rattle.store_tests.proofs.turn_sums.take_last.Goals as goal
 
 pub put_back-requires-clause-keeps : goal.put_back-requires-clause-keeps
 put_back-requires-clause-keeps c = let found = c.in-Ok.found in

@@ -1,7 +1,7 @@
 use Rattle.std.proofs.Common.{[], ◌∷◌, inl, refl, ap, ◌∙◌}
-use Rattle.turn_table.proofs.Tallies.{Counts, take_keeps, held_keeps}
+use Rattle.store_tests.proofs.Tallies.{Counts, take_keeps, held_keeps}
 use Rattle.turn_table.proofs.NoteLaws.{put_quiet}
-use Rattle.turn_table.proofs.tests.tallies.touch.Goals as goal
+use Rattle.store_tests.proofs.turn_tallies.touch.Goals as goal
 
 pub take-requires-clause-keeps : goal.take-requires-clause-keeps
 take-requires-clause-keeps c = (take_keeps tt c.args.seat.now c.args.i, held_keeps tt c.args.seat.now c.args.i)

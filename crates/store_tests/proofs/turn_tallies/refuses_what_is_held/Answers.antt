@@ -1,5 +1,5 @@
-use Rattle.turn_table.proofs.Tallies.{take_keeps, held_keeps}
-use Rattle.turn_table.proofs.tests.tallies.refuses_what_is_held.Goals as goal
+use Rattle.store_tests.proofs.Tallies.{take_keeps, held_keeps}
+use Rattle.store_tests.proofs.turn_tallies.refuses_what_is_held.Goals as goal
 
 pub take-taken-requires-clause-keeps : goal.take-taken-requires-clause-keeps
 take-taken-requires-clause-keeps g c = (take_keeps tt _ 0, held_keeps tt _ 0)

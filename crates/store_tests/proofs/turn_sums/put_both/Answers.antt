@@ -1,8 +1,8 @@
 use Rattle.std.proofs.Common.{◌+◌, [], ◌∷◌, inl, inr, refl, ap, ◌∙◌}
 use Rattle.turn_table.specs.Hands.{without, renewed, shown_by}
 use Rattle.turn_table.specs.Tables.{key_of}
-use Rattle.turn_table.proofs.Numbers.{put_same, put_shifted}
-use Rattle.turn_table.proofs.sums.put_both.Goals as goal
+use Rattle.store_tests.proofs.Numbers.{put_same, put_shifted}
+use Rattle.store_tests.proofs.turn_sums.put_both.Goals as goal
 
 pub put_back_showing-requires-clause-keeps : goal.put_back_showing-requires-clause-keeps
 put_back_showing-requires-clause-keeps c = put_shifted (key_of c.args.row.now) c.args.seat.now c.args.first c.args.second c.requires.1 c.if-first-ge2.true

@@ -1,8 +1,8 @@
-//! A user of a row: slots whose numbers keep their sum. It is proved with the row, and the tests run it.
+//! A user of a row of turns: slots whose numbers keep their sum.
 ghost use Rattle.std.specs.Prelude.{◌≡◌, ◌<◌, [], ◌∷◌, MatchResult};
 ghost use Rattle.turn_table.specs.Tables.{slot_count, IsSeatOf};
 
-use crate::{Held, Keep, TurnLaw, TurnSeat, Turns};
+use turn_table::{Held, Keep, TurnLaw, TurnSeat, Turns};
 
 // The numbers shown sum to the key.
 pub(crate) struct Total;

@@ -1,3 +1,0 @@
-//! Two users of a row: slots whose numbers keep their sum, and seats that count.
-mod sums;
-mod tallies;
