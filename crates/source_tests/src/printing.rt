@@ -1,40 +1,27 @@
 //! Canonical texts. Each was worked out by hand from the rules of the form.
 
 use crate::rows::text_of;
-use par_syntax::{ParseFail, parse, print};
-use std::alloc::{AllocError, Global};
+use par_syntax::{parse, print};
+use std::alloc::Global;
 use std::process::Abort;
-use std::test::Fail;
 
-/// The canonical text of a text, if it is a text.
-fn canonical(alloc: Global, text: &[u8]) -> Result<Option<Vec<u8>>, AllocError> {
-    match parse(alloc, text) {
-        Ok(program) => Ok(Some(print(alloc, &program)?)),
-        Err(ParseFail::Refused(_)) => Ok(None),
-        Err(ParseFail::OutOfMemory) => Err(AllocError),
-    }
+/// The canonical text of a text; None where it is no text, or memory is wanting.
+fn canonical(alloc: Global, text: &str) -> Option<Vec<u8>> {
+    let program = parse(alloc, text.as_bytes()).ok()?;
+    print(alloc, &program).ok()
 }
 
 /// Whether a text has this canonical text.
-fn is_canonical(alloc: Global, text: &[u8], want: &[u8]) -> Result<bool, AllocError> {
-    match canonical(alloc, text)? {
-        Some(printed) => Ok(printed.as_slice() == want),
-        None => Ok(false),
+fn is_canonical(alloc: Global, text: &str, want: &str) -> bool {
+    match canonical(alloc, text) {
+        Some(printed) => printed.as_slice() == want.as_bytes(),
+        None => false,
     }
 }
 
 /// Whether a text has this canonical text, which has itself as its canonical text.
-fn prints(alloc: Global, text: &str, want: &str) -> Result<bool, AllocError> {
-    let once = is_canonical(alloc, text.as_bytes(), want.as_bytes())?;
-    let twice = is_canonical(alloc, want.as_bytes(), want.as_bytes())?;
-    Ok(once && twice)
-}
-
-/// Whether an expression is printed so.
-fn prints_expression(alloc: Global, expr: &str, want: &str) -> Result<bool, AllocError> {
-    let text = format!(in alloc; "fn main(){{print {expr};}}")?;
-    let wanted = format!(in alloc; "fn main() {{\n  print {want};\n}}\n")?;
-    prints(alloc, &text, &wanted)
+fn prints(alloc: Global, text: &str, want: &str) -> bool {
+    is_canonical(alloc, text, want) && is_canonical(alloc, want, want)
 }
 
 /// Texts and their canonical texts.
@@ -145,13 +132,12 @@ fn sum(use b) {
 ";
 
 #[test]
-fn texts(rt: HostRuntime) -> Result<(), Fail> {
+fn texts(rt: HostRuntime) {
     for row in TEXTS.split('@') {
         if let Some((text, want)) = row.split_once('|') {
-            assert!(rt; prints(rt.alloc(), text, want.trim_start())?, "{text}");
+            assert!(rt; prints(rt.alloc(), text, want.trim_start()), "{text}");
         }
     }
-    Ok(())
 }
 
 /// Expressions and how they are printed.
@@ -179,14 +165,20 @@ const EXPRESSIONS: &str = "
 @ a+(b+(c+d)) | a + (b + (c + d))
 ";
 
+/// An expression is printed so.
+fn is_printed(rt: &impl Abort, alloc: Global, expr: &str, want: &str) {
+    let text = format!(in alloc; "fn main(){{print {expr};}}").expect(rt, "memory");
+    let wanted = format!(in alloc; "fn main() {{\n  print {want};\n}}\n").expect(rt, "memory");
+    assert!(rt; prints(alloc, &text, &wanted), "{expr}");
+}
+
 #[test]
-fn expressions(rt: HostRuntime) -> Result<(), Fail> {
+fn expressions(rt: HostRuntime) {
     for row in EXPRESSIONS.split('@') {
         if let Some((expr, want)) = row.split_once('|') {
-            is_printed(&rt, rt.alloc(), expr, text_of(want))?;
+            is_printed(&rt, rt.alloc(), expr, text_of(want));
         }
     }
-    Ok(())
 }
 
 /// Each operator, and how tightly it binds: a comparison, a sum's, a term's.
@@ -204,51 +196,35 @@ const OPERATORS: [(&str, u8); 11] = [
     ("%", 2),
 ];
 
-/// A chain in front of an operator, bare or between parentheses.
-fn in_front(alloc: Global, inside: &str, outside: &str, bare: bool) -> Result<String, AllocError> {
-    if bare {
-        format!(in alloc; "a {inside} b {outside} c")
-    } else {
-        format!(in alloc; "(a {inside} b) {outside} c")
-    }
-}
-
-/// A chain behind an operator, bare or between parentheses.
-fn behind(alloc: Global, inside: &str, outside: &str, bare: bool) -> Result<String, AllocError> {
-    if bare {
-        format!(in alloc; "c {outside} a {inside} b")
-    } else {
-        format!(in alloc; "c {outside} (a {inside} b)")
-    }
-}
-
-fn is_printed(rt: &impl Abort, alloc: Global, expr: &str, want: &str) -> Result<(), Fail> {
-    assert!(rt; prints_expression(alloc, expr, want)?, "{expr}");
-    Ok(())
+/// A chain is printed so in front of an operator and behind it, where it stands between parentheses in the text.
+fn is_printed_beside(rt: &impl Abort, alloc: Global, outside: &str, chain: &str, want: &str) {
+    let expr = format!(in alloc; "({chain}) {outside} c").expect(rt, "memory");
+    let wanted = format!(in alloc; "{want} {outside} c").expect(rt, "memory");
+    is_printed(rt, alloc, &expr, &wanted);
+    let expr = format!(in alloc; "c {outside} ({chain})").expect(rt, "memory");
+    let wanted = format!(in alloc; "c {outside} {want}").expect(rt, "memory");
+    is_printed(rt, alloc, &expr, &wanted);
 }
 
 /// A chain inside another one stands between parentheses unless it binds more tightly.
-fn beside(
-    rt: &impl Abort,
-    alloc: Global,
-    inner: (&str, u8),
-    outer: (&str, u8),
-) -> Result<(), Fail> {
+fn beside(rt: &impl Abort, alloc: Global, inner: (&str, u8), outer: (&str, u8)) {
     let (inside, tight) = inner;
     let (outside, loose) = outer;
-    let bare = tight > loose;
-    let want = in_front(alloc, inside, outside, bare)?;
-    is_printed(rt, alloc, &in_front(alloc, inside, outside, false)?, &want)?;
-    let want = behind(alloc, inside, outside, bare)?;
-    is_printed(rt, alloc, &behind(alloc, inside, outside, false)?, &want)
+    let chain = format!(in alloc; "a {inside} b").expect(rt, "memory");
+    let apart = format!(in alloc; "({chain})").expect(rt, "memory");
+    let want = if tight > loose {
+        chain.as_str()
+    } else {
+        apart.as_str()
+    };
+    is_printed_beside(rt, alloc, outside, &chain, want);
 }
 
 #[test]
-fn operators_beside_operators(rt: HostRuntime) -> Result<(), Fail> {
+fn operators_beside_operators(rt: HostRuntime) {
     for inner in OPERATORS {
         for outer in OPERATORS {
-            beside(&rt, rt.alloc(), inner, outer)?;
+            beside(&rt, rt.alloc(), inner, outer);
         }
     }
-    Ok(())
 }

@@ -1,14 +1,17 @@
 //! A table read back as text, by a reader that is told the names of slots and of functions.
+//!
+//! What can't be read is told in the text, so that it is not the text that is wanted.
 
+use crate::rows::put;
 use accepted_source::accept;
+use block_check::Checked;
 use frame_code::{
-    Code, CodeArg, CodeExpr, CodeLink, CodeRet, CodeRetValue, CodeTarget, NodeKind, lower,
+    Code, CodeArg, CodeExpr, CodeLink, CodeRet, CodeRetValue, CodeTarget, FuncCode, NodeKind, lower,
 };
 use par_syntax::{ChainOp, CmpOp, print};
 use std::alloc::Global;
 use std::fmt::Write;
 use std::process::Abort;
-use std::test::Fail;
 
 /// A function's name, what stands before each of its parameters, and the names of its slots.
 #[derive(Drop)]
@@ -22,17 +25,18 @@ struct Known<'a> {
 const LEVELS: u32 = 8;
 
 /// A word of a list.
-fn add_word(text: &mut String, words: &[&str], number: usize) -> Result<(), Fail> {
+fn add_word(text: &mut String, words: &[&str], number: usize) {
     match words.get(number) {
-        Some(word) => text.push_str(word)?,
-        None => return Err(Fail::new("a number without a name")),
+        Some(word) => put(text, word),
+        None => put(text, "a number without a name"),
     }
-    Ok(())
 }
 
-/// The name of a slot.
-fn add_slot(text: &mut String, known: &Known, slot: u16) -> Result<(), Fail> {
-    add_word(text, known.slots, slot as usize)
+/// The name of a slot between two words.
+fn add_slot(text: &mut String, known: &Known, front: &str, slot: u16, back: &str) {
+    put(text, front);
+    add_word(text, known.slots, slot as usize);
+    put(text, back);
 }
 
 fn operator_text(op: ChainOp) -> &'static str {
@@ -72,13 +76,6 @@ fn is_apart(op: ChainOp, operand: &CodeExpr) -> bool {
     }
 }
 
-fn add_length(text: &mut String, known: &Known, block: u16) -> Result<(), Fail> {
-    text.push_str("len(")?;
-    add_slot(text, known, block)?;
-    text.push_str(")")?;
-    Ok(())
-}
-
 /// Whether the first operand of a chain stands between parentheses.
 fn is_first_apart(first: &CodeExpr, rest: &[CodeLink]) -> bool {
     match rest.first() {
@@ -92,96 +89,78 @@ fn is_comparison(operand: &CodeExpr) -> bool {
     matches!(operand, CodeExpr::Cmp { .. })
 }
 
+fn add_number(text: &mut String, number: i64) {
+    let _written = write!(text, "{number}");
+}
+
 /// An expression, between parentheses where it is apart.
 #[cycle(add_expression)]
-fn add_operand(text: &mut String, known: &Known, expr: &CodeExpr, apart: bool) -> Result<(), Fail> {
-    if apart {
-        text.push_str("(")?;
-    }
-    add_expression(text, known, expr)?;
-    if apart {
-        text.push_str(")")?;
-    }
-    Ok(())
+fn add_operand(text: &mut String, known: &Known, expr: &CodeExpr, apart: bool) {
+    put(text, if apart { "(" } else { "" });
+    add_expression(text, known, expr);
+    put(text, if apart { ")" } else { "" });
 }
 
 #[cycle(add_expression)]
-fn add_expression(text: &mut String, known: &Known, expr: &CodeExpr) -> Result<(), Fail> {
+fn add_expression(text: &mut String, known: &Known, expr: &CodeExpr) {
     match expr {
-        CodeExpr::Num(number) => write!(text, "{number}")?,
-        CodeExpr::Var(name) => add_slot(text, known, *name)?,
+        CodeExpr::Num(number) => add_number(text, *number),
+        CodeExpr::Var(name) => add_slot(text, known, "", *name, ""),
         CodeExpr::Get(block, index) => {
-            add_slot(text, known, *block)?;
-            text.push_str("[")?;
-            add_expression(text, known, index)?;
-            text.push_str("]")?;
+            add_slot(text, known, "", *block, "[");
+            add_expression(text, known, index);
+            put(text, "]");
         }
-        CodeExpr::Len(block) => add_length(text, known, *block)?,
+        CodeExpr::Len(block) => add_slot(text, known, "len(", *block, ")"),
         CodeExpr::Neg(inner) => {
-            text.push_str("-")?;
-            add_operand(text, known, inner, is_apart(ChainOp::Mul, inner))?;
+            put(text, "-");
+            add_operand(text, known, inner, is_apart(ChainOp::Mul, inner));
         }
         CodeExpr::Chain { first, rest } => {
-            add_operand(text, known, first, is_first_apart(first, rest))?;
+            add_operand(text, known, first, is_first_apart(first, rest));
             for link in rest {
-                text.push_str(operator_text(link.op))?;
-                add_operand(text, known, &link.operand, is_apart(link.op, &link.operand))?;
+                put(text, operator_text(link.op));
+                add_operand(text, known, &link.operand, is_apart(link.op, &link.operand));
             }
         }
         CodeExpr::Cmp { op, left, right } => {
-            add_operand(text, known, left, is_comparison(left))?;
-            text.push_str(comparison_text(*op))?;
-            add_operand(text, known, right, is_comparison(right))?;
+            add_operand(text, known, left, is_comparison(left));
+            put(text, comparison_text(*op));
+            add_operand(text, known, right, is_comparison(right));
         }
     }
-    Ok(())
 }
 
-fn add_argument(text: &mut String, known: &Known, arg: &CodeArg) -> Result<(), Fail> {
+fn add_argument(text: &mut String, known: &Known, arg: &CodeArg) {
     match arg {
         CodeArg::Value(expr) => add_expression(text, known, expr),
-        CodeArg::Lend(block) => {
-            text.push_str("use ")?;
-            add_slot(text, known, *block)
-        }
-        CodeArg::Give(block) => {
-            text.push_str("own ")?;
-            add_slot(text, known, *block)
-        }
+        CodeArg::Lend(block) => add_slot(text, known, "use ", *block, ""),
+        CodeArg::Give(block) => add_slot(text, known, "own ", *block, ""),
     }
 }
 
-fn add_arguments(text: &mut String, known: &Known, args: &[CodeArg]) -> Result<(), Fail> {
-    let mut first = true;
+fn add_arguments(text: &mut String, known: &Known, args: &[CodeArg]) {
+    let mut mark = "";
     for arg in args {
-        if !first {
-            text.push_str(", ")?;
-        }
-        first = false;
-        add_argument(text, known, arg)?;
+        put(text, mark);
+        add_argument(text, known, arg);
+        mark = ", ";
     }
-    Ok(())
 }
 
-fn add_target(text: &mut String, known: &Known, target: CodeTarget) -> Result<(), Fail> {
+fn add_target(text: &mut String, known: &Known, target: CodeTarget) {
     match target {
-        CodeTarget::Unused => return Ok(()),
-        CodeTarget::Int(name) => add_slot(text, known, name)?,
-        CodeTarget::Own(name) => {
-            text.push_str("own ")?;
-            add_slot(text, known, name)?;
-        }
+        CodeTarget::Unused => {}
+        CodeTarget::Int(name) => add_slot(text, known, "", name, " = "),
+        CodeTarget::Own(name) => add_slot(text, known, "own ", name, " = "),
     }
-    text.push_str(" = ")?;
-    Ok(())
 }
 
 /// What stands before a line, where so many levels are left.
-fn add_margin(text: &mut String, left: u32) -> Result<(), Fail> {
+fn add_margin(text: &mut String, left: u32) {
     for _ in left..LEVELS {
-        text.push_str("  ")?;
+        put(text, "  ");
     }
-    Ok(())
 }
 
 /// The functions of a table, and one of them.
@@ -194,132 +173,79 @@ struct Place<'a> {
 
 /// Statements between braces, one level deeper.
 #[cycle(add_body)]
-fn add_braces(text: &mut String, place: &Place, numbers: &[u32], left: u32) -> Result<(), Fail> {
+fn add_braces(text: &mut String, place: &Place, numbers: &[u32], left: u32) {
     if left == 0 {
-        return Err(Fail::new("too many levels"));
+        put(text, "too many levels");
+    } else {
+        put(text, "{\n");
+        add_body(text, place, numbers, left - 1);
+        add_margin(text, left);
+        put(text, "}");
     }
-    text.push_str("{\n")?;
-    add_body(text, place, numbers, left - 1)?;
-    add_margin(text, left)?;
-    text.push_str("}")?;
-    Ok(())
 }
 
 #[cycle(add_body)]
-fn add_body(text: &mut String, place: &Place, numbers: &[u32], left: u32) -> Result<(), Fail> {
+fn add_body(text: &mut String, place: &Place, numbers: &[u32], left: u32) {
     for number in numbers {
         match place.code.node(*number) {
             Some(node) => {
-                add_margin(text, left)?;
-                add_statement(text, place, &node.kind, left)?;
-                text.push_str("\n")?;
+                add_margin(text, left);
+                add_statement(text, place, &node.kind, left);
+                put(text, "\n");
             }
-            None => return Err(Fail::new("a number without a node")),
+            None => put(text, "a number without a node"),
         }
     }
-    Ok(())
-}
-
-/// `name = value;`, behind a word.
-fn add_named(
-    text: &mut String,
-    known: &Known,
-    word: &str,
-    name: u16,
-    value: &CodeExpr,
-) -> Result<(), Fail> {
-    text.push_str(word)?;
-    add_slot(text, known, name)?;
-    text.push_str(" = ")?;
-    add_expression(text, known, value)?;
-    text.push_str(";")?;
-    Ok(())
-}
-
-/// The name of a called function, and its arguments.
-fn add_call(text: &mut String, place: &Place, func: u32, args: &[CodeArg]) -> Result<(), Fail> {
-    match place.all.get(func as usize) {
-        Some(callee) => text.push_str(callee.name)?,
-        None => return Err(Fail::new("a number without a function")),
-    }
-    text.push_str("(")?;
-    add_arguments(text, place.known, args)?;
-    text.push_str(");")?;
-    Ok(())
-}
-
-/// `call target = name(arguments);`
-fn add_call_statement(
-    text: &mut String,
-    place: &Place,
-    target: CodeTarget,
-    func: u32,
-    args: &[CodeArg],
-) -> Result<(), Fail> {
-    text.push_str("call ")?;
-    add_target(text, place.known, target)?;
-    add_call(text, place, func, args)
-}
-
-/// `block[index] = value;`
-fn add_put(
-    text: &mut String,
-    known: &Known,
-    block: u16,
-    index: &CodeExpr,
-    value: &CodeExpr,
-) -> Result<(), Fail> {
-    add_slot(text, known, block)?;
-    text.push_str("[")?;
-    add_expression(text, known, index)?;
-    text.push_str("] = ")?;
-    add_expression(text, known, value)?;
-    text.push_str(";")?;
-    Ok(())
-}
-
-fn add_free(text: &mut String, known: &Known, block: u16) -> Result<(), Fail> {
-    text.push_str("free ")?;
-    add_slot(text, known, block)?;
-    text.push_str(";")?;
-    Ok(())
 }
 
 /// An expression between two words.
-fn add_between(
-    text: &mut String,
-    known: &Known,
-    front: &str,
-    value: &CodeExpr,
-    back: &str,
-) -> Result<(), Fail> {
-    text.push_str(front)?;
-    add_expression(text, known, value)?;
-    text.push_str(back)?;
-    Ok(())
+fn add_between(text: &mut String, known: &Known, front: &str, value: &CodeExpr, back: &str) {
+    put(text, front);
+    add_expression(text, known, value);
+    put(text, back);
+}
+
+/// `name = value;`, behind a word.
+fn add_named(text: &mut String, known: &Known, word: &str, name: u16, value: &CodeExpr) {
+    add_slot(text, known, word, name, " = ");
+    add_between(text, known, "", value, ";");
+}
+
+/// The name of a called function.
+fn add_callee(text: &mut String, place: &Place, func: u32) {
+    match place.all.get(func as usize) {
+        Some(callee) => put(text, callee.name),
+        None => put(text, "a number without a function"),
+    }
+}
+
+/// `call target = name(arguments);`
+fn add_call(text: &mut String, place: &Place, target: CodeTarget, func: u32, args: &[CodeArg]) {
+    put(text, "call ");
+    add_target(text, place.known, target);
+    add_callee(text, place, func);
+    put(text, "(");
+    add_arguments(text, place.known, args);
+    put(text, ");");
+}
+
+/// `block[index] = value;`
+fn add_put(text: &mut String, known: &Known, block: u16, index: &CodeExpr, value: &CodeExpr) {
+    add_slot(text, known, "", block, "[");
+    add_between(text, known, "", index, "] = ");
+    add_between(text, known, "", value, ";");
 }
 
 /// `split block at place into left, right `
-fn add_split(
-    text: &mut String,
-    known: &Known,
-    block: u16,
-    at: &CodeExpr,
-    parts: [u16; 2],
-) -> Result<(), Fail> {
-    let [left, right] = parts;
-    text.push_str("split ")?;
-    add_slot(text, known, block)?;
-    add_between(text, known, " at ", at, " into ")?;
-    add_slot(text, known, left)?;
-    text.push_str(", ")?;
-    add_slot(text, known, right)?;
-    text.push_str(" ")?;
-    Ok(())
+fn add_split(text: &mut String, known: &Known, block: u16, at: &CodeExpr, left: u16, right: u16) {
+    add_slot(text, known, "split ", block, " at ");
+    add_between(text, known, "", at, " into ");
+    add_slot(text, known, "", left, ", ");
+    add_slot(text, known, "", right, " ");
 }
 
 #[cycle(add_body)]
-fn add_statement(text: &mut String, place: &Place, kind: &NodeKind, left: u32) -> Result<(), Fail> {
+fn add_statement(text: &mut String, place: &Place, kind: &NodeKind, left: u32) {
     let known = place.known;
     match kind {
         NodeKind::Let { name, value } => add_named(text, known, "let ", *name, value),
@@ -330,35 +256,34 @@ fn add_statement(text: &mut String, place: &Place, kind: &NodeKind, left: u32) -
             index,
             value,
         } => add_put(text, known, *block, index, value),
-        NodeKind::Free { name } => add_free(text, known, *name),
+        NodeKind::Free { name } => add_slot(text, known, "free ", *name, ";"),
         NodeKind::Print { value } => add_between(text, known, "print ", value, ";"),
         NodeKind::Call {
             target: receiver,
             func,
             args,
-        } => add_call_statement(text, place, *receiver, *func, args),
+        } => add_call(text, place, *receiver, *func, args),
         NodeKind::If { cond, then, other } => {
-            add_between(text, known, "if ", cond, " ")?;
-            add_braces(text, place, then, left)?;
-            if other.is_empty() {
-                return Ok(());
+            add_between(text, known, "if ", cond, " ");
+            add_braces(text, place, then, left);
+            if !other.is_empty() {
+                put(text, " else ");
+                add_braces(text, place, other, left);
             }
-            text.push_str(" else ")?;
-            add_braces(text, place, other, left)
         }
         NodeKind::While { cond, body } => {
-            add_between(text, known, "while ", cond, " ")?;
-            add_braces(text, place, body, left)
+            add_between(text, known, "while ", cond, " ");
+            add_braces(text, place, body, left);
         }
         NodeKind::Both {
             left: first,
             right: second,
             ..
         } => {
-            text.push_str("par ")?;
-            add_braces(text, place, first, left)?;
-            text.push_str(" and ")?;
-            add_braces(text, place, second, left)
+            put(text, "par ");
+            add_braces(text, place, first, left);
+            put(text, " and ");
+            add_braces(text, place, second, left);
         }
         NodeKind::Split {
             block,
@@ -367,75 +292,68 @@ fn add_statement(text: &mut String, place: &Place, kind: &NodeKind, left: u32) -
             right: second,
             body,
         } => {
-            add_split(text, known, *block, at, [*first, *second])?;
-            add_braces(text, place, body, left)
+            add_split(text, known, *block, at, *first, *second);
+            add_braces(text, place, body, left);
         }
     }
 }
 
-fn add_return(text: &mut String, known: &Known, ret: &CodeRet) -> Result<(), Fail> {
-    text.push_str("  return ")?;
+fn add_return(text: &mut String, known: &Known, ret: &CodeRet) {
     match &ret.value {
-        CodeRetValue::Int(value) => add_expression(text, known, value)?,
-        CodeRetValue::Own(block) => {
-            text.push_str("own ")?;
-            add_slot(text, known, *block)?;
-        }
+        CodeRetValue::Int(value) => add_between(text, known, "  return ", value, ";\n"),
+        CodeRetValue::Own(block) => add_slot(text, known, "  return own ", *block, ";\n"),
     }
-    text.push_str(";\n")?;
-    Ok(())
 }
 
-fn add_parameters(text: &mut String, known: &Known, params: &[u16]) -> Result<(), Fail> {
+fn add_parameters(text: &mut String, known: &Known, params: &[u16]) {
     for i in 0..params.len() {
-        if i > 0 {
-            text.push_str(", ")?;
-        }
-        add_word(text, known.kinds, i)?;
-        add_slot(text, known, params[i])?;
+        put(text, if i > 0 { ", " } else { "" });
+        add_word(text, known.kinds, i);
+        add_slot(text, known, "", params[i], "");
     }
-    Ok(())
 }
 
 /// `fn name(parameters) {`
-fn add_head(text: &mut String, known: &Known, params: &[u16]) -> Result<(), Fail> {
-    text.push_str("fn ")?;
-    text.push_str(known.name)?;
-    text.push_str("(")?;
-    add_parameters(text, known, params)?;
-    text.push_str(") {\n")?;
-    Ok(())
+fn add_head(text: &mut String, known: &Known, params: &[u16]) {
+    put(text, "fn ");
+    put(text, known.name);
+    put(text, "(");
+    add_parameters(text, known, params);
+    put(text, ") {\n");
 }
 
-fn add_function(text: &mut String, place: &Place, number: u32) -> Result<(), Fail> {
-    let Some(func) = place.code.func(number) else {
-        return Err(Fail::new("a number without a function"));
-    };
+/// A function, of which is told whether it has another number of slots.
+fn add_func(text: &mut String, place: &Place, func: &FuncCode) {
     if func.slots as usize != place.known.slots.len() {
-        return Err(Fail::new("another number of slots"));
+        put(text, "another number of slots");
     }
-    add_head(text, place.known, &func.params)?;
-    add_body(text, place, &func.body, LEVELS - 1)?;
+    add_head(text, place.known, &func.params);
+    add_body(text, place, &func.body, LEVELS - 1);
     if let Some(ret) = &func.ret {
-        add_return(text, place.known, ret)?;
+        add_return(text, place.known, ret);
     }
-    text.push_str("}\n")?;
-    Ok(())
+    put(text, "}\n");
+}
+
+fn add_function(text: &mut String, place: &Place, number: u32) {
+    match place.code.func(number) {
+        Some(func) => add_func(text, place, func),
+        None => put(text, "a number without a function"),
+    }
 }
 
 /// The text of a table.
-fn read_back<'a>(alloc: Global, code: &'a Code, all: &'a [Known<'a>]) -> Result<String, Fail> {
+fn read_back<'a>(alloc: Global, code: &'a Code, all: &'a [Known<'a>]) -> String {
     let mut text = String::new(alloc);
     let mut number = 0u32;
     for known in all {
-        let place = Place { code, all, known };
-        add_function(&mut text, &place, number)?;
+        add_function(&mut text, &Place { code, all, known }, number);
         number = number.wrapping_add(1);
     }
     if code.func(number).is_some() {
-        return Err(Fail::new("one function more"));
+        put(&mut text, "one function more");
     }
-    Ok(text)
+    text
 }
 
 /// The canonical text of a program with every form of statement, expression, argument and `return`.
@@ -519,30 +437,36 @@ fn told<'a>() -> [Known<'a>; 4] {
     ]
 }
 
-/// The text is canonical, and this is its table.
-fn table(rt: &(impl Abort + AllocGlobal)) -> Result<Code, Fail> {
-    let alloc = rt.alloc();
-    let Ok(checked) = accept(alloc, TEXT.as_bytes()) else {
-        return Err(Fail::new("the text is refused"));
-    };
-    let printed = print(alloc, checked.program())?;
-    assert_eq!(rt; printed.as_slice(), TEXT.as_bytes());
-    Ok(lower(alloc, checked)?)
+/// The tree of the text.
+fn accepted(rt: &(impl Abort + AllocGlobal)) -> Checked {
+    accept(rt.alloc(), TEXT.as_bytes())
+        .ok()
+        .expect(rt, "an accepted text")
 }
 
-fn is_the_text(rt: &(impl Abort + AllocGlobal), code: &Code) -> Result<(), Fail> {
-    let text = read_back(rt.alloc(), code, &told())?;
+fn is_canonical(rt: &(impl Abort + AllocGlobal), checked: &Checked) {
+    let printed = print(rt.alloc(), checked.program()).expect(rt, "memory");
+    assert_eq!(rt; printed.as_slice(), TEXT.as_bytes());
+}
+
+/// The text is canonical, and this is its table.
+fn table(rt: &(impl Abort + AllocGlobal)) -> Code {
+    let checked = accepted(rt);
+    is_canonical(rt, &checked);
+    lower(rt.alloc(), checked).expect(rt, "memory")
+}
+
+fn is_the_text(rt: &(impl Abort + AllocGlobal), code: &Code) {
+    let text = read_back(rt.alloc(), code, &told());
     assert_eq!(rt; text.as_str(), TEXT);
-    Ok(())
 }
 
 /// The table and its copy are the text.
 #[test]
-fn the_table_is_the_text(rt: HostRuntime) -> Result<(), Fail> {
-    let code = table(&rt)?;
-    is_the_text(&rt, &code)?;
-    let copy = code.copy(rt.alloc())?;
-    is_the_text(&rt, &copy)?;
-    assert_eq!(&rt; copy.main(), 3);
-    Ok(())
+fn the_table_is_the_text(rt: HostRuntime) {
+    let code = table(&rt);
+    is_the_text(&rt, &code);
+    let copy = code.copy(rt.alloc()).expect(&rt, "memory");
+    is_the_text(&rt, &copy);
+    assert_eq!(rt; copy.main(), 3);
 }

@@ -1,61 +1,55 @@
 //! What sources are: accepted, or refused with the rule that is broken, the line and the name, or no text, with the place. Each answer was
 //! worked out by hand from the rules.
 
-use crate::rows::parts_of;
+use crate::rows::{parts_of, put};
 use accepted_source::{SourceFail, accept};
 use block_check::CheckError;
-use std::alloc::{AllocError, Global};
+use par_syntax::SyntaxError;
+use std::alloc::Global;
 use std::fmt::Write;
 use std::process::Abort;
-use std::test::Fail;
 
 /// Adds a broken rule, with its line and name.
-fn add_refusal(told: &mut String, error: &CheckError) -> Result<(), AllocError> {
-    write!(told, "{:?} {} ", error.kind, error.line)?;
+fn add_rule(told: &mut String, error: &CheckError) {
+    let _written = write!(told, "{:?} {} ", error.kind, error.line);
     for byte in &error.name.bytes {
-        told.push(*byte as char)?;
+        let _pushed = told.push(*byte as char);
     }
-    Ok(())
 }
 
-/// What a source that is refused is.
-fn refusal(alloc: Global, fail: &SourceFail) -> Result<String, AllocError> {
-    let mut told = String::new(alloc);
+/// Adds why bytes are no text, and where.
+fn add_place(told: &mut String, error: SyntaxError) {
+    let _written = write!(told, "{:?} {}", error.kind, error.at);
+}
+
+/// Adds why a source is refused.
+fn add_refusal(told: &mut String, fail: &SourceFail) {
     match fail {
-        SourceFail::Syntax(error) => write!(told, "{:?} {}", error.kind, error.at)?,
-        SourceFail::Check(error) => add_refusal(&mut told, error)?,
-        SourceFail::OutOfMemory => return Err(AllocError),
+        SourceFail::Syntax(error) => add_place(told, *error),
+        SourceFail::Check(error) => add_rule(told, error),
+        SourceFail::OutOfMemory => put(told, "no memory"),
     }
-    Ok(told)
+}
+
+/// Why a source is refused, if it is.
+fn refusal(alloc: Global, text: &str) -> Option<SourceFail> {
+    accept(alloc, text.as_bytes()).err()
 }
 
 /// What a source is.
-fn verdict(alloc: Global, text: &str) -> Result<String, AllocError> {
-    match accept(alloc, text.as_bytes()) {
-        Ok(_) => {
-            let mut told = String::new(alloc);
-            told.push_str("accepted")?;
-            Ok(told)
-        }
-        Err(fail) => refusal(alloc, &fail),
+fn verdict(alloc: Global, text: &str) -> String {
+    let mut told = String::new(alloc);
+    match refusal(alloc, text) {
+        None => put(&mut told, "accepted"),
+        Some(fail) => add_refusal(&mut told, &fail),
     }
+    told
 }
 
 /// A source is so.
-fn is_so(rt: &impl Abort, alloc: Global, want: &str, text: &str) -> Result<(), Fail> {
-    let told = verdict(alloc, text)?;
+fn is_so(rt: &impl Abort, alloc: Global, want: &str, text: &str) {
+    let told = verdict(alloc, text);
     assert_eq!(rt; told.as_str(), want, "{text}");
-    Ok(())
-}
-
-/// Each row is what a source is, and the source.
-fn are_so(rt: &impl Abort, alloc: Global, rows: &str) -> Result<(), Fail> {
-    for row in rows.split('@') {
-        if let Some((want, text)) = parts_of(row) {
-            is_so(rt, alloc, want, text)?;
-        }
-    }
-    Ok(())
 }
 
 /// Sources, by the rules that they keep or break.
@@ -243,6 +237,10 @@ alloc b = 1; } fn main() { }
 ";
 
 #[test]
-fn sources_are_accepted_or_refused(rt: HostRuntime) -> Result<(), Fail> {
-    are_so(&rt, rt.alloc(), SOURCES)
+fn sources_are_accepted_or_refused(rt: HostRuntime) {
+    for row in SOURCES.split('@') {
+        if let Some((want, text)) = parts_of(row) {
+            is_so(&rt, rt.alloc(), want, text);
+        }
+    }
 }

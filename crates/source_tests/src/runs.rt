@@ -1,57 +1,70 @@
 //! Depth-first runs of whole programs. What they have to give was worked out by hand from the meaning of a program.
 
-use crate::rows::parts_of;
+use crate::rows::{parts_of, put};
 use accepted_source::accept;
-use dag_order::{Birth, Finish, Kind, ThreadId};
+use dag_order::{Birth, FaultAt, Finish, Kind, ThreadId};
 use dummy_tree::Quota;
 use serial_meaning::{Serial, SerialStop, depth_first};
-use std::alloc::{AllocError, Global};
+use std::alloc::Global;
 use std::fmt::Write;
 use std::process::Abort;
-use std::test::Fail;
 
 /// More actions than most of these runs have.
 pub(crate) const LIMIT: u32 = 1_000_000;
 
 /// The depth-first run of a text. A text that is no accepted program, and a number that is no quota, count as want of memory.
 pub(crate) fn run(alloc: Global, text: &str, k: u32, limit: u32) -> Result<Serial, SerialStop> {
-    let Ok(program) = accept(alloc, text.as_bytes()) else {
-        return Err(SerialStop::OutOfMemory);
-    };
     let Some(k) = Quota::new(k) else {
         return Err(SerialStop::OutOfMemory);
     };
-    depth_first(alloc, &program, k, limit)
+    match accept(alloc, text.as_bytes()) {
+        Ok(program) => depth_first(alloc, &program, k, limit),
+        Err(_) => Err(SerialStop::OutOfMemory),
+    }
+}
+
+/// Why there is no run of a text, if there is none.
+pub(crate) fn stop_of(alloc: Global, text: &str, k: u32, limit: u32) -> Option<SerialStop> {
+    run(alloc, text, k, limit).err()
+}
+
+/// The run of a text, with more actions allowed than it has.
+fn whole(rt: &impl Abort, alloc: Global, text: &str, k: u32) -> Serial {
+    run(alloc, text, k, LIMIT).expect(rt, "a run")
+}
+
+fn add_fault(told: &mut String, at: FaultAt) {
+    let _written = write!(told, "{:?} at {}", at.kind, at.line);
 }
 
 /// Adds how a run finished.
-fn add_finish(told: &mut String, finish: Finish) -> Result<(), AllocError> {
+fn add_finish(told: &mut String, finish: Finish) {
     match finish {
-        Finish::Done => told.push_str("done"),
-        Finish::Faulted(at) => write!(told, "{:?} at {}", at.kind, at.line),
+        Finish::Done => put(told, "done"),
+        Finish::Faulted(at) => add_fault(told, at),
     }
 }
 
-/// What a run gave.
-fn outcome(alloc: Global, k: u32, serial: &Serial) -> Result<String, AllocError> {
+/// Adds the number of actions and the peak of a run, in front of what it printed.
+fn add_counts(told: &mut String, actions: u32, peak: u64) {
+    let _written = write!(told, ", {actions} actions, peak {peak}, prints");
+}
+
+/// Adds a number and what stands around it.
+fn add_number(told: &mut String, front: &str, number: i64, back: &str) {
+    let _written = write!(told, "{front}{number}{back}");
+}
+
+/// What a run gave, behind its quota.
+fn outcome(alloc: Global, k: u32, serial: &Serial) -> String {
     let mut told = String::new(alloc);
-    write!(told, "{k} ")?;
-    add_finish(&mut told, serial.finish)?;
-    write!(
-        told,
-        ", {} actions, peak {}, prints",
-        serial.actions.len(),
-        serial.peak
-    )?;
+    add_number(&mut told, "", i64::from(k), " ");
+    add_finish(&mut told, serial.finish);
+    add_counts(&mut told, serial.actions.len(), serial.peak);
     for line in serial.output.as_slice() {
-        write!(told, " {line}")?;
+        add_number(&mut told, " ", *line, "");
     }
-    Ok(told)
-}
-
-/// Whether a run stops at a limit.
-fn stops(alloc: Global, text: &str, k: u32, limit: u32) -> bool {
-    matches!(run(alloc, text, k, limit), Err(SerialStop::StepsSpent))
+    told
 }
 
 /// The quota of a row.
@@ -62,42 +75,44 @@ fn quota_of(want: &str) -> u32 {
     }
 }
 
-/// The run of a program gives this, with its quota in front.
-fn goes_so(rt: &impl Abort, alloc: Global, want: &str, text: &str) -> Result<(), Fail> {
-    let k = quota_of(want);
-    let serial = run(alloc, text, k, LIMIT).ok().ok_or("no run")?;
-    let told = outcome(alloc, k, &serial)?;
+/// What the run of a text gave, and its number of actions.
+fn outcome_of(rt: &impl Abort, alloc: Global, text: &str, k: u32) -> (String, u32) {
+    let serial = whole(rt, alloc, text, k);
+    (outcome(alloc, k, &serial), serial.actions.len())
+}
+
+/// The run of a program gives this, with its quota in front. The number of its actions comes back.
+fn goes_so(rt: &impl Abort, alloc: Global, want: &str, text: &str) -> u32 {
+    let (told, actions) = outcome_of(rt, alloc, text, quota_of(want));
     assert_eq!(rt; told.as_str(), want, "{text}");
-    Ok(())
+    actions
 }
 
 /// Each row is what the run of a program gives, and the program.
-fn go_so(rt: &impl Abort, alloc: Global, rows: &str) -> Result<(), Fail> {
+fn go_so(rt: &impl Abort, alloc: Global, rows: &str) {
     for row in rows.split('@') {
         if let Some((want, text)) = parts_of(row) {
-            goes_so(rt, alloc, want, text)?;
+            goes_so(rt, alloc, want, text);
         }
     }
-    Ok(())
 }
 
 /// A run needs just as many actions as it has.
-fn stops_so(rt: &impl Abort, alloc: Global, k: u32, text: &str) -> Result<(), Fail> {
-    let serial = run(alloc, text, k, LIMIT).ok().ok_or("no run")?;
-    let actions = serial.actions.len();
-    assert!(rt; run(alloc, text, k, actions).is_ok(), "{text}");
-    assert!(rt; stops(alloc, text, k, actions.saturating_sub(1)), "{text}");
-    Ok(())
+fn needs(rt: &impl Abort, alloc: Global, k: u32, text: &str, actions: u32) {
+    let stop = stop_of(alloc, text, k, actions);
+    assert!(rt; stop.is_none(), "{text}");
+    let stop = stop_of(alloc, text, k, actions.saturating_sub(1));
+    assert!(rt; stop == Some(SerialStop::StepsSpent), "{text}");
 }
 
-/// Each of these runs needs just as many actions as it has.
-fn stop_so(rt: &impl Abort, alloc: Global, rows: &str) -> Result<(), Fail> {
+/// Each row is as those of `go_so`, and each run needs just as many actions as it has.
+fn go_just_so(rt: &impl Abort, alloc: Global, rows: &str) {
     for row in rows.split('@') {
         if let Some((want, text)) = parts_of(row) {
-            stops_so(rt, alloc, quota_of(want), text)?;
+            let actions = goes_so(rt, alloc, want, text);
+            needs(rt, alloc, quota_of(want), text, actions);
         }
     }
-    Ok(())
 }
 
 /// Programs with several quotas, which change only dummies, to their finish, and with faults, of which the first is the finish. The last
@@ -259,9 +274,8 @@ fn main() {
 ";
 
 #[test]
-fn programs_run_to_their_finish(rt: HostRuntime) -> Result<(), Fail> {
-    go_so(&rt, rt.alloc(), PROGRAMS)?;
-    stop_so(&rt, rt.alloc(), PROGRAMS)
+fn programs_run_to_their_finish(rt: HostRuntime) {
+    go_just_so(&rt, rt.alloc(), PROGRAMS);
 }
 
 /// What statements do to integers and blocks.
@@ -344,19 +358,16 @@ const LIMITS: &str = "
 ";
 
 #[test]
-fn statements_and_limits(rt: HostRuntime) -> Result<(), Fail> {
-    go_so(&rt, rt.alloc(), STATEMENTS)?;
-    go_so(&rt, rt.alloc(), LIMITS)
+fn statements_and_limits(rt: HostRuntime) {
+    go_so(&rt, rt.alloc(), STATEMENTS);
+    go_so(&rt, rt.alloc(), LIMITS);
 }
 
 /// How a run finishes.
-fn finish_told(alloc: Global, text: &str) -> Result<String, AllocError> {
+fn finish_told(rt: &impl Abort, alloc: Global, text: &str) -> String {
     let mut told = String::new(alloc);
-    match run(alloc, text, 64, LIMIT) {
-        Ok(serial) => add_finish(&mut told, serial.finish)?,
-        Err(_) => told.push_str("no run")?,
-    }
-    Ok(told)
+    add_finish(&mut told, whole(rt, alloc, text, 64).finish);
+    told
 }
 
 /// Faults, and the statements that have them, where `b` is a block of one number and `g` takes two integers.
@@ -406,23 +417,21 @@ call g(1,
 ";
 
 /// The fault that a statement has.
-fn has_fault(rt: &(impl Abort + AllocGlobal), statement: &str, want: &str) -> Result<(), Fail> {
-    let text = format!(in rt.alloc();
+fn has_fault(rt: &impl Abort, alloc: Global, statement: &str, want: &str) {
+    let text = format!(in alloc;
         "fn g(n, m) {{ }} fn main() {{ alloc b = 1; {statement} free b; }}"
-    )?;
-    let told = finish_told(rt.alloc(), &text)?;
+    ).expect(rt, "memory");
+    let told = finish_told(rt, alloc, &text);
     assert_eq!(rt; told.as_str(), want, "{statement}");
-    Ok(())
 }
 
 #[test]
-fn statements_have_faults(rt: HostRuntime) -> Result<(), Fail> {
+fn statements_have_faults(rt: HostRuntime) {
     for row in FAULTS.split('@') {
         if let Some((want, statement)) = parts_of(row) {
-            has_fault(&rt, statement, want)?;
+            has_fault(&rt, rt.alloc(), statement, want);
         }
     }
-    Ok(())
 }
 
 /// Numbers, and the expressions that have them, where `m` is the least number and `g` the greatest one.
@@ -478,28 +487,26 @@ const NUMBERS: &str = "
 ";
 
 /// The first number that a program prints.
-fn printed(alloc: Global, text: &str) -> Option<i64> {
-    let serial = run(alloc, text, 64, LIMIT).ok()?;
+fn printed(rt: &impl Abort, alloc: Global, text: &str) -> Option<i64> {
+    let serial = whole(rt, alloc, text, 64);
     serial.output.as_slice().first().copied()
 }
 
 /// The number that an expression has.
-fn has_number(rt: &(impl Abort + AllocGlobal), expr: &str, want: Option<i64>) -> Result<(), Fail> {
-    let text = format!(in rt.alloc();
+fn has_number(rt: &impl Abort, alloc: Global, expr: &str, want: Option<i64>) {
+    let text = format!(in alloc;
         "fn main() {{ let g = 9223372036854775807; let m = -g - 1; print {expr}; }}"
-    )?;
-    assert_eq!(rt; printed(rt.alloc(), &text), want, "{expr}");
-    Ok(())
+    ).expect(rt, "memory");
+    assert_eq!(rt; printed(rt, alloc, &text), want, "{expr}");
 }
 
 #[test]
-fn expressions_have_numbers(rt: HostRuntime) -> Result<(), Fail> {
+fn expressions_have_numbers(rt: HostRuntime) {
     for row in NUMBERS.split('@') {
         if let Some((want, expr)) = parts_of(row) {
-            has_number(&rt, expr, want.parse::<i64>().ok())?;
+            has_number(&rt, rt.alloc(), expr, want.parse::<i64>().ok());
         }
     }
-    Ok(())
 }
 
 /// How many actions of a kind there are.
@@ -546,42 +553,43 @@ fn allocs() -> [(u32, u32, u32, &'static str); 12] {
     ]
 }
 
-fn has_dummies(
-    rt: &(impl Abort + AllocGlobal),
-    k: u32,
-    words: u32,
-    dummies: u32,
-    want: &str,
-) -> Result<(), Fail> {
-    let text = format!(in rt.alloc(); "fn main() {{ alloc b = {words}; free b; }}")?;
-    let serial = run(rt.alloc(), &text, k, LIMIT).ok().ok_or("no run")?;
-    assert_eq!(rt; count(&serial, Kind::Dummy), dummies, "{k} {words}");
-    let told = outcome(rt.alloc(), k, &serial)?;
+/// What the run of a text gave, and its number of dummies.
+fn dummies_of(rt: &impl Abort, alloc: Global, text: &str, k: u32) -> (String, u32) {
+    let serial = whole(rt, alloc, text, k);
+    (outcome(alloc, k, &serial), count(&serial, Kind::Dummy))
+}
+
+fn has_dummies(rt: &impl Abort, alloc: Global, k: u32, words: u32, dummies: u32, want: &str) {
+    let text = format!(in alloc; "fn main() {{ alloc b = {words}; free b; }}").expect(rt, "memory");
+    let (told, count) = dummies_of(rt, alloc, &text, k);
+    assert_eq!(rt; count, dummies, "{k} {words}");
     assert_eq!(rt; told.as_str(), want, "{words}");
-    Ok(())
 }
 
 /// Each quota of an Alloc that is larger than one quota has a dummy, and so has a part of one.
 #[test]
-fn each_quota_or_part_of_one_has_a_dummy(rt: HostRuntime) -> Result<(), Fail> {
+fn each_quota_or_part_of_one_has_a_dummy(rt: HostRuntime) {
     for (k, words, dummies, want) in allocs() {
-        has_dummies(&rt, k, words, dummies, want)?;
+        has_dummies(&rt, rt.alloc(), k, words, dummies, want);
     }
-    Ok(())
+}
+
+/// Adds a piece so many times.
+fn put_times(text: &mut String, piece: &str, times: u32) {
+    for _ in 0..times {
+        put(text, piece);
+    }
 }
 
 /// A program with so many forks above one another in its text, whose innermost branch prints.
-fn nested(alloc: Global, forks: u32) -> Result<String, AllocError> {
-    let mut text = String::from_str(alloc, "fn main() {")?;
-    for _ in 0..forks {
-        text.push_str("par {")?;
-    }
-    text.push_str("print 5;")?;
-    for _ in 0..forks {
-        text.push_str("} and { print 6; }")?;
-    }
-    text.push_str("}")?;
-    Ok(text)
+fn nested(alloc: Global, forks: u32) -> String {
+    let mut text = String::new(alloc);
+    put(&mut text, "fn main() {");
+    put_times(&mut text, "par {", forks);
+    put(&mut text, "print 5;");
+    put_times(&mut text, "} and { print 6; }", forks);
+    put(&mut text, "}");
+    text
 }
 
 /// The actions and the lines of a run whose first line is 5 and whose last one is 6.
@@ -597,44 +605,50 @@ fn has_lines(rt: &impl Abort, serial: &Serial, actions: u32, lines: u32) {
     );
 }
 
+fn forks_stand_above(rt: &impl Abort, alloc: Global, forks: u32, actions: u32, lines: u32) {
+    let text = nested(alloc, forks);
+    let serial = whole(rt, alloc, &text, 16);
+    has_lines(rt, &serial, actions, lines);
+}
+
 #[test]
-fn forks_stand_above_one_another_in_a_text(rt: HostRuntime) -> Result<(), Fail> {
+fn forks_stand_above_one_another_in_a_text(rt: HostRuntime) {
     for (forks, actions, lines) in [(3, 10, 4), (63, 190, 64)] {
-        let text = nested(rt.alloc(), forks)?;
-        let serial = run(rt.alloc(), &text, 16, LIMIT).ok().ok_or("no run")?;
-        has_lines(&rt, &serial, actions, lines);
+        forks_stand_above(&rt, rt.alloc(), forks, actions, lines);
     }
-    Ok(())
 }
 
 const FOUR_MILLIONS: &str =
     "fn main() { let i = 0; while i < 999999 { alloc a = 0; free a; alloc b = 0; free b; i = i + 1; } par { } and { } }";
 
 #[test]
-fn a_run_has_as_many_actions_as_are_allowed(rt: HostRuntime) -> Result<(), Fail> {
-    let serial = run(rt.alloc(), FOUR_MILLIONS, 64, 4_000_000)
-        .ok()
-        .ok_or("no run")?;
+fn a_run_has_as_many_actions_as_are_allowed(rt: HostRuntime) {
+    let serial = run(rt.alloc(), FOUR_MILLIONS, 64, 4_000_000).expect(&rt, "a run");
     assert_eq!(rt; serial.actions.len(), 4_000_000);
-    assert!(rt; stops(rt.alloc(), FOUR_MILLIONS, 64, 3_999_999));
-    Ok(())
+    let stop = stop_of(rt.alloc(), FOUR_MILLIONS, 64, 3_999_999);
+    assert_eq!(rt; stop, Some(SerialStop::StepsSpent));
 }
 
-/// How many ordinals the longest label has that these births give; None where memory is wanting.
-fn longest_label(alloc: Global, births: &[Birth]) -> Option<u32> {
+/// How many ordinals the label of a thread has, by those of the threads that were born before.
+fn label_length(lengths: &[u32], id: ThreadId) -> Option<u32> {
+    if id == ThreadId::ROOT {
+        Some(0)
+    } else {
+        lengths.get(id.nth as usize).copied()
+    }
+}
+
+/// How many ordinals the longest label has that these births give.
+fn longest_label(rt: &impl Abort, alloc: Global, births: &[Birth]) -> u32 {
     let mut lengths = Vec::new(alloc);
     let mut longest = 0u32;
     for birth in births {
-        let parent = if birth.parent == ThreadId::ROOT {
-            0u32
-        } else {
-            lengths.get(birth.parent.nth as usize).copied()?
-        };
-        let length = parent.saturating_add(1);
-        lengths.push(length).ok()?;
+        let above = label_length(&lengths, birth.parent).expect(rt, "a parent");
+        let length = above.saturating_add(1);
+        lengths.push(length).expect(rt, "memory");
         longest = longest.max(length);
     }
-    Some(longest)
+    longest
 }
 
 /// A fork of 256 levels, and below it an Alloc.
@@ -645,13 +659,13 @@ const DEEP: &str =
 /// The forks of a tree of dummies have no limit of 256: an allocation of 65,536 quotas below 256 forks, whose tree has 16 forks above
 /// one another.
 #[test]
-fn dummies_may_stand_272_deep(rt: HostRuntime) -> Result<(), Fail> {
-    let serial = run(rt.alloc(), DEEP, 16, LIMIT).ok().ok_or("no run")?;
-    let told = outcome(rt.alloc(), 16, &serial)?;
+fn dummies_may_stand_272_deep(rt: HostRuntime) {
+    let serial = whole(&rt, rt.alloc(), DEEP, 16);
+    let told = outcome(rt.alloc(), 16, &serial);
     assert_eq!(rt;
         told.as_str(),
         "16 done, 262912 actions, peak 1052672, prints 8"
     );
-    assert!(rt; longest_label(rt.alloc(), serial.births.as_slice()) == Some(272));
-    Ok(())
+    let longest = longest_label(&rt, rt.alloc(), serial.births.as_slice());
+    assert_eq!(rt; longest, 272);
 }

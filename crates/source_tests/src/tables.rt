@@ -1,19 +1,24 @@
 //! Node tables whose nodes the text gives, worked out by hand, and tables as large as a text can have them.
 
+use crate::rows::put;
 use accepted_source::accept;
-use block_check::{Checked, Names};
+use block_check::{BranchSets, Checked, Names};
 use frame_code::{Code, CodeArg, CodeExpr, CodeRetValue, CodeTarget, FuncCode, NodeKind, lower};
 use std::alloc::{AllocError, Global};
 use std::fmt::Write;
 use std::process::Abort;
-use std::test::Fail;
+
+/// The accepted program of a text.
+fn checked_of(rt: &impl Abort, alloc: Global, text: &str) -> Checked {
+    accept(alloc, text.as_bytes())
+        .ok()
+        .expect(rt, "an accepted text")
+}
 
 /// The table of a text.
-fn code_of(alloc: Global, text: &str) -> Result<Code, AllocError> {
-    match accept(alloc, text.as_bytes()) {
-        Ok(checked) => lower(alloc, checked),
-        Err(_) => Err(AllocError),
-    }
+fn code_of(rt: &impl Abort, alloc: Global, text: &str) -> Code {
+    let checked = checked_of(rt, alloc, text);
+    lower(alloc, checked).expect(rt, "memory")
 }
 
 /// The branches of a fork node, and its slots.
@@ -40,26 +45,14 @@ fn body_told(alloc: Global, code: &Code, number: u32) -> Result<String, AllocErr
     }
 }
 
-fn is_fork(
-    rt: &(impl Abort + AllocGlobal),
-    code: &Code,
-    number: u32,
-    want: &str,
-) -> Result<(), AllocError> {
-    let told = fork_told(rt.alloc(), code, number)?;
+fn is_fork(rt: &(impl Abort + AllocGlobal), code: &Code, number: u32, want: &str) {
+    let told = fork_told(rt.alloc(), code, number).expect(rt, "memory");
     assert_eq!(rt; told.as_str(), want);
-    Ok(())
 }
 
-fn is_body(
-    rt: &(impl Abort + AllocGlobal),
-    code: &Code,
-    number: u32,
-    want: &str,
-) -> Result<(), AllocError> {
-    let told = body_told(rt.alloc(), code, number)?;
+fn is_body(rt: &(impl Abort + AllocGlobal), code: &Code, number: u32, want: &str) {
+    let told = body_told(rt.alloc(), code, number).expect(rt, "memory");
     assert_eq!(rt; told.as_str(), want);
-    Ok(())
 }
 
 const NESTED: &str = "fn f(use b) { let n = len(b); b[0] = n; }
@@ -70,54 +63,60 @@ const NESTED: &str = "fn f(use b) { let n = len(b); b[0] = n; }
 /// Nodes 0 and 1 are those of `f`; in `main`, the outer `par` is node 6, and the inner one node 9. The slots of `main` are those of x, a,
 /// y, b and z.
 #[test]
-fn nested_branches(rt: HostRuntime) -> Result<(), Fail> {
-    let code = code_of(rt.alloc(), NESTED)?;
-    assert_eq!(&rt; [code.len(), code.main()], [17, 1]);
-    is_fork(&rt, &code, 6, "[7, 8, 9] [13, 14] [0, 1, 2, 3] [0, 2]")?;
-    is_fork(&rt, &code, 9, "[10, 11] [12] [0, 1] [0]")?;
-    is_fork(&rt, &code, 17, "no node")?;
-    is_body(&rt, &code, 1, "5 [2, 3, 4, 5, 6, 15, 16]")?;
-    is_body(&rt, &code, 2, "no function")?;
-    Ok(())
+fn nested_branches(rt: HostRuntime) {
+    let code = code_of(&rt, rt.alloc(), NESTED);
+    assert_eq!(rt; [code.len(), code.main()], [17, 1]);
+    is_fork(&rt, &code, 6, "[7, 8, 9] [13, 14] [0, 1, 2, 3] [0, 2]");
+    is_fork(&rt, &code, 9, "[10, 11] [12] [0, 1] [0]");
+    is_fork(&rt, &code, 17, "no node");
+    is_body(&rt, &code, 1, "5 [2, 3, 4, 5, 6, 15, 16]");
+    is_body(&rt, &code, 2, "no function");
+}
+
+/// Adds a name.
+fn add_name(told: &mut String, name: &[u8]) {
+    put(told, " ");
+    for byte in name {
+        let _pushed = told.push(*byte as char);
+    }
 }
 
 /// Adds names.
-fn add_names(told: &mut String, names: &Names) -> Result<(), AllocError> {
-    told.push_str(";")?;
+fn add_names(told: &mut String, names: &Names) {
+    put(told, ";");
     for name in names {
-        told.push_str(" ")?;
-        for byte in &name.bytes {
-            told.push(*byte as char)?;
-        }
+        add_name(told, &name.bytes);
     }
-    Ok(())
+}
+
+/// Adds what goes in and out of the branches of a `par`.
+fn add_sets(told: &mut String, sets: &BranchSets) {
+    add_names(told, &sets.left_blocks);
+    add_names(told, &sets.right_blocks);
+    add_names(told, &sets.left_assigned);
 }
 
 /// What goes in and out of the branches of a `par` of `main`, by the checker.
-fn sets_told(alloc: Global, checked: &Checked, par: u32) -> Result<String, AllocError> {
+fn sets_told(alloc: Global, checked: &Checked, par: u32) -> String {
     let mut told = String::new(alloc);
     match checked.branch_sets(alloc, 1, par) {
-        Ok(sets) => {
-            add_names(&mut told, &sets.left_blocks)?;
-            add_names(&mut told, &sets.right_blocks)?;
-            add_names(&mut told, &sets.left_assigned)?;
-        }
-        Err(_) => told.push_str("no par")?,
+        Ok(sets) => add_sets(&mut told, &sets),
+        Err(_) => put(&mut told, "no par"),
     }
-    Ok(told)
+    told
+}
+
+fn has_sets(rt: &impl Abort, alloc: Global, checked: &Checked, par: u32, want: &str) {
+    let told = sets_told(alloc, checked, par);
+    assert_eq!(rt; told.as_str(), want);
 }
 
 #[test]
-fn sets_of_nested_branches(rt: HostRuntime) -> Result<(), Fail> {
-    let alloc = rt.alloc();
-    let Ok(checked) = accept(alloc, NESTED.as_bytes()) else {
-        return Err(Fail::new("the text is refused"));
-    };
+fn sets_of_nested_branches(rt: HostRuntime) {
+    let checked = checked_of(&rt, rt.alloc(), NESTED);
     for (par, want) in [(0, "; a b;; x y"), (1, "; a; b; x"), (2, "no par")] {
-        let told = sets_told(alloc, &checked, par)?;
-        assert_eq!(&rt; told.as_str(), want);
+        has_sets(&rt, rt.alloc(), &checked, par, want);
     }
-    Ok(())
 }
 
 /// Whether a node calls function 0 with the number 3, and keeps the block that comes back in slot 0.
@@ -146,47 +145,59 @@ fn returns_its_block(func: &FuncCode) -> bool {
     }
 }
 
+/// Whether function 0 has 2 slots, of which the first is its only parameter, and returns its block.
+fn is_maker(func: &FuncCode) -> bool {
+    func.slots == 2 && func.params.as_slice() == [0u16].as_slice() && returns_its_block(func)
+}
+
 /// A call of the first function by the second one.
 #[test]
-fn calls_and_returns(rt: HostRuntime) -> Result<(), Fail> {
+fn calls_and_returns(rt: HostRuntime) {
     let text = "fn mk(n) { alloc b = n; return own b; }
         fn main() { call own c = mk(3); free c; }";
-    let code = code_of(rt.alloc(), text)?;
+    let code = code_of(&rt, rt.alloc(), text);
     assert!(rt; is_call(&code, 1));
-    let mk = code.func(0).ok_or("no function")?;
-    assert_eq!(&rt; (mk.slots, mk.params.as_slice()), (2, [0u16].as_slice()));
-    assert!(rt; returns_its_block(mk));
-    Ok(())
+    let mk = code.func(0).expect(&rt, "a function");
+    assert!(rt; is_maker(mk));
+}
+
+/// Adds a number and what stands around it.
+fn add_number(text: &mut String, front: &str, number: u32, back: &str) {
+    let _written = write!(text, "{front}{number}{back}");
 }
 
 /// 256 names in one function, each declared once.
-fn many_names(alloc: Global) -> Result<Code, AllocError> {
-    let mut text = String::from_str(alloc, "fn main() {")?;
+fn many_names(alloc: Global) -> String {
+    let mut text = String::new(alloc);
+    put(&mut text, "fn main() {");
     for i in 0..256 {
-        write!(text, " let x{i} = {i};")?;
+        add_number(&mut text, " let x", i, " = ");
+        add_number(&mut text, "", i, ";");
     }
-    text.push_str(" }")?;
-    code_of(alloc, &text)
+    put(&mut text, " }");
+    text
 }
 
 /// 1,024 functions, of which each but the last one, `main`, calls the one behind it.
-fn many_functions(alloc: Global) -> Result<Code, AllocError> {
+fn many_functions(alloc: Global) -> String {
     let mut text = String::new(alloc);
     for i in 0..1_022u32 {
-        write!(text, "fn f{i}() {{ call f{}(); }} ", i + 1)?;
+        add_number(&mut text, "fn f", i, "() {");
+        add_number(&mut text, " call f", i + 1, "(); } ");
     }
-    text.push_str("fn f1022() { } fn main() { call f0(); }")?;
-    code_of(alloc, &text)
+    put(&mut text, "fn f1022() { } fn main() { call f0(); }");
+    text
 }
 
 /// So many statements, of which each prints its number.
-fn many_nodes(alloc: Global, count: u32) -> Result<Code, AllocError> {
-    let mut text = String::from_str(alloc, "fn main() {")?;
+fn many_nodes(alloc: Global, count: u32) -> String {
+    let mut text = String::new(alloc);
+    put(&mut text, "fn main() {");
     for i in 0..count {
-        write!(text, "\nprint {i};")?;
+        add_number(&mut text, "\nprint ", i, ";");
     }
-    text.push_str(" }")?;
-    code_of(alloc, &text)
+    put(&mut text, " }");
+    text
 }
 
 /// The function that a node calls.
@@ -225,12 +236,11 @@ fn is_last_name(code: &Code, number: u32) -> bool {
 }
 
 #[test]
-fn as_many_names_as_there_may_be(rt: HostRuntime) -> Result<(), Fail> {
-    let code = many_names(rt.alloc())?;
-    assert_eq!(&rt; code.len(), 256);
-    assert_eq!(&rt; code.func(0).map(|main| main.slots), Some(256));
+fn as_many_names_as_there_may_be(rt: HostRuntime) {
+    let code = code_of(&rt, rt.alloc(), &many_names(rt.alloc()));
+    assert_eq!(rt; code.len(), 256);
+    assert_eq!(rt; code.func(0).map(|main| main.slots), Some(256));
     assert!(rt; is_last_name(&code, 255));
-    Ok(())
 }
 
 /// Each function but the last one calls the one behind it, and that one calls the first.
@@ -242,12 +252,11 @@ fn each_calls_the_next(rt: &impl Abort, code: &Code) {
 }
 
 #[test]
-fn as_many_functions_as_there_may_be(rt: HostRuntime) -> Result<(), Fail> {
-    let code = many_functions(rt.alloc())?;
-    assert_eq!(&rt; [code.main(), code.len()], [1_023, 1_023]);
+fn as_many_functions_as_there_may_be(rt: HostRuntime) {
+    let code = code_of(&rt, rt.alloc(), &many_functions(rt.alloc()));
+    assert_eq!(rt; [code.main(), code.len()], [1_023, 1_023]);
     each_calls_the_next(&rt, &code);
     assert!(rt; code.func(1_023).is_some() && code.func(1_024).is_none());
-    Ok(())
 }
 
 fn is_large(rt: &impl Abort, code: &Code) {
@@ -257,15 +266,19 @@ fn is_large(rt: &impl Abort, code: &Code) {
     }
 }
 
+/// A copy of a table of 2,000 nodes.
+fn large_copy(rt: &(impl Abort + AllocGlobal), code: &Code) -> Code {
+    let copy = code.copy(rt.alloc()).expect(rt, "memory");
+    is_large(rt, &copy);
+    copy
+}
+
 /// A table of 2,000 nodes, its copy, and the copy of its copy.
 #[test]
-fn large_tables_are_copied(rt: HostRuntime) -> Result<(), Fail> {
-    let code = many_nodes(rt.alloc(), 2_000)?;
+fn large_tables_are_copied(rt: HostRuntime) {
+    let code = code_of(&rt, rt.alloc(), &many_nodes(rt.alloc(), 2_000));
     is_large(&rt, &code);
-    let copy = code.copy(rt.alloc())?;
-    is_large(&rt, &copy);
-    let again = copy.copy(rt.alloc())?;
-    is_large(&rt, &again);
+    let copy = large_copy(&rt, &code);
+    large_copy(&rt, &copy);
     is_large(&rt, &code);
-    Ok(())
 }

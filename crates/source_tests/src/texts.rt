@@ -1,38 +1,40 @@
 //! Which bytes are a text, and where others are refused.
 
-use par_syntax::{ChainOp, Expr, Func, ParseFail, StmtKind, SyntaxKind, parse};
-use std::alloc::{AllocError, Global};
+use crate::rows::put;
+use par_syntax::{
+    ChainOp, Expr, Func, ParseFail, Program, StmtKind, SyntaxError, SyntaxKind, parse,
+};
+use std::alloc::Global;
+use std::fmt::Write;
 use std::process::Abort;
-use std::test::Fail;
+
+/// Why bytes have no tree, if they have none.
+fn fail_of(alloc: Global, text: &[u8]) -> Option<ParseFail> {
+    parse(alloc, text).err()
+}
 
 /// Whether a text has a tree.
 fn reads(alloc: Global, text: &[u8]) -> bool {
-    matches!(parse(alloc, text), Ok(_))
+    fail_of(alloc, text).is_none()
 }
 
 /// Whether bytes are refused for this reason at this place.
 fn refuses(alloc: Global, text: &[u8], kind: SyntaxKind, at: u32) -> bool {
-    match parse(alloc, text) {
-        Ok(_) => false,
-        Err(ParseFail::OutOfMemory) => false,
-        Err(ParseFail::Refused(error)) => error.kind == kind && error.at == at,
+    match fail_of(alloc, text) {
+        Some(ParseFail::Refused(error)) => error.kind == kind && error.at == at,
+        _ => false,
     }
 }
 
 /// The front, the middle so many times, and the back.
-fn repeated(
-    alloc: Global,
-    front: &[u8],
-    middle: &[u8],
-    count: u32,
-    back: &[u8],
-) -> Result<Vec<u8>, AllocError> {
-    let mut text = Vec::from_slice(alloc, front)?;
+fn repeated(alloc: Global, front: &str, middle: &str, count: u32, back: &str) -> String {
+    let mut text = String::new(alloc);
+    put(&mut text, front);
     for _ in 0..count {
-        text.extend_from_slice(middle)?;
+        put(&mut text, middle);
     }
-    text.extend_from_slice(back)?;
-    Ok(text)
+    put(&mut text, back);
+    text
 }
 
 /// Texts, a line each.
@@ -86,13 +88,20 @@ NumberTooLarge 18|fn main() { print 9223372036854775808; }
 NumberTooLarge 0|0009223372036854775808
 NumberTooLarge 4|x 1 99999999999999999999 $";
 
-/// The reason and the place of a refusal as a row has them; nothing where the bytes are a text.
-fn told(alloc: Global, text: &[u8]) -> Result<String, AllocError> {
-    match parse(alloc, text) {
-        Err(ParseFail::Refused(error)) => format!(in alloc; "{:?} {}", error.kind, error.at),
-        Err(ParseFail::OutOfMemory) => Err(AllocError),
-        Ok(_) => Ok(String::new(alloc)),
+/// Adds the reason and the place of a refusal.
+fn add_error(told: &mut String, error: SyntaxError) {
+    let _written = write!(told, "{:?} {}", error.kind, error.at);
+}
+
+/// The reason and the place of a refusal as a row has them, or that the bytes are a text.
+fn told(alloc: Global, text: &[u8]) -> String {
+    let mut told = String::new(alloc);
+    match fail_of(alloc, text) {
+        None => put(&mut told, "read"),
+        Some(ParseFail::Refused(error)) => add_error(&mut told, error),
+        Some(ParseFail::OutOfMemory) => put(&mut told, "no memory"),
     }
+    told
 }
 
 #[test]
@@ -110,19 +119,17 @@ fn lines_end_in_two_ways(rt: HostRuntime) {
     assert!(rt; reads(rt.alloc(), LINES.as_bytes()));
 }
 
-fn is_told(rt: &(impl Abort + AllocGlobal), text: &[u8], want: &str) -> Result<(), Fail> {
-    let told = told(rt.alloc(), text)?;
+fn is_told(rt: &impl Abort, alloc: Global, text: &[u8], want: &str) {
+    let told = told(alloc, text);
     assert_eq!(rt; told.as_str(), want);
-    Ok(())
 }
 
 #[test]
-fn other_bytes_are_refused(rt: HostRuntime) -> Result<(), Fail> {
+fn other_bytes_are_refused(rt: HostRuntime) {
     for row in REFUSED.split('\n') {
-        let (reason, text) = row.split_once('|').ok_or("a row without a bar")?;
-        is_told(&rt, text.as_bytes(), reason)?;
+        let (reason, text) = row.split_once('|').expect(&rt, "a row with a bar");
+        is_told(&rt, rt.alloc(), text.as_bytes(), reason);
     }
-    Ok(())
 }
 
 #[test]
@@ -139,21 +146,15 @@ fn every_front(rt: HostRuntime) {
 type Row = (&'static str, &'static str, u32, &'static str, &'static str);
 
 /// One of these rows.
-fn is_row_told(rt: &(impl Abort + AllocGlobal), row: Row) -> Result<(), Fail> {
+fn is_row_told(rt: &impl Abort, alloc: Global, row: Row) {
     let (front, middle, count, back, want) = row;
-    let text = repeated(
-        rt.alloc(),
-        front.as_bytes(),
-        middle.as_bytes(),
-        count,
-        back.as_bytes(),
-    )?;
-    is_told(rt, &text, want)
+    let text = repeated(alloc, front, middle, count, back);
+    is_told(rt, alloc, text.as_bytes(), want);
 }
 
 fn deep_texts() -> [Row; 7] {
     [
-        ("fn main() { let x = ", "-", 63, "1; }", ""),
+        ("fn main() { let x = ", "-", 63, "1; }", "read"),
         ("fn main() { let x = ", "-", 64, "1; }", "TooDeep 83"),
         ("fn main() { let x = ", "- ", 500_000, "", "TooDeep 146"),
         ("fn main() { let x = ", "(", 1_000_000, "", "TooDeep 83"),
@@ -164,20 +165,19 @@ fn deep_texts() -> [Row; 7] {
 }
 
 #[test]
-fn depth(rt: HostRuntime) -> Result<(), Fail> {
+fn depth(rt: HostRuntime) {
     for row in deep_texts() {
-        is_row_told(&rt, row)?;
+        is_row_told(&rt, rt.alloc(), row);
     }
-    Ok(())
 }
 
 fn large_texts() -> [Row; 8] {
     [
-        ("", "fn f(){}", 1024, "", ""),
+        ("", "fn f(){}", 1024, "", "read"),
         ("", "fn f(){}", 1025, "", "TooMany 8192"),
-        ("fn f(){", "let a=1;", 256, "} fn g(a){}", ""),
+        ("fn f(){", "let a=1;", 256, "} fn g(a){}", "read"),
         ("fn f(){", "let a=1;", 257, "}", "TooMany 2059"),
-        ("fn f(use a", ",own b", 255, "){}", ""),
+        ("fn f(use a", ",own b", 255, "){}", "read"),
         (
             "fn f(use a",
             ",own b",
@@ -197,23 +197,25 @@ fn large_texts() -> [Row; 8] {
 }
 
 #[test]
-fn counts(rt: HostRuntime) -> Result<(), Fail> {
+fn counts(rt: HostRuntime) {
     for row in large_texts() {
-        is_row_told(&rt, row)?;
+        is_row_told(&rt, rt.alloc(), row);
     }
-    Ok(())
 }
 
 /// A byte or none in front of 1,048,576 blanks.
-fn blanks_behind(rt: &(impl Abort + AllocGlobal), front: &[u8], want: &str) -> Result<(), Fail> {
-    let text = repeated(rt.alloc(), front, b" ", 1_048_576, b"")?;
-    is_told(rt, &text, want)
+fn blanks_behind(rt: &impl Abort, alloc: Global, front: &[u8], want: &str) {
+    let mut text = Vec::from_slice(alloc, front).expect(rt, "memory");
+    for _ in 0..1_048_576u32 {
+        text.push(b' ').expect(rt, "memory");
+    }
+    is_told(rt, alloc, &text, want);
 }
 
 #[test]
-fn length(rt: HostRuntime) -> Result<(), Fail> {
-    blanks_behind(&rt, b"", "Expected 1048576")?;
-    blanks_behind(&rt, b"\x80", "TooLong 1048576")
+fn length(rt: HostRuntime) {
+    blanks_behind(&rt, rt.alloc(), b"", "Expected 1048576");
+    blanks_behind(&rt, rt.alloc(), b"\x80", "TooLong 1048576");
 }
 
 fn is_main(rt: &impl Abort, func: &Func) {
@@ -224,15 +226,18 @@ fn is_main(rt: &impl Abort, func: &Func) {
     }
 }
 
-#[test]
-fn trees(rt: HostRuntime) -> Result<(), Fail> {
-    let text = b"fn main() {\n  print ((1 + 2 * 3)) - y;\n}".as_slice();
-    let program = parse(rt.alloc(), text).ok().ok_or("a text")?;
+fn has_main_alone(rt: &impl Abort, program: &Program) {
     assert_eq!(rt; program.funcs.len(), 1);
     for func in &program.funcs {
-        is_main(&rt, func);
+        is_main(rt, func);
     }
-    Ok(())
+}
+
+#[test]
+fn trees(rt: HostRuntime) {
+    let text = b"fn main() {\n  print ((1 + 2 * 3)) - y;\n}".as_slice();
+    let program = parse(rt.alloc(), text).ok().expect(&rt, "a text");
+    has_main_alone(&rt, &program);
 }
 
 /// Whether a statement prints a difference whose left side is a sum.

@@ -1,13 +1,12 @@
 //! Runs action by action: names, kinds, weights and births, each worked out by hand.
 
-use crate::rows::parts_of;
-use crate::runs::{LIMIT, run};
-use dag_order::ThreadId;
+use crate::rows::{parts_of, put};
+use crate::runs::{LIMIT, run, stop_of};
+use dag_order::{Birth, ThreadId};
 use serial_meaning::{Action, Serial, SerialStop};
-use std::alloc::{AllocError, Global};
+use std::alloc::Global;
 use std::fmt::Write;
 use std::process::Abort;
-use std::test::Fail;
 
 /// The number of a thread in these runs: 0 for the root, and else as the threads are born.
 fn number(id: ThreadId) -> u32 {
@@ -19,31 +18,36 @@ fn number(id: ThreadId) -> u32 {
 }
 
 /// Adds an action, with the number of its thread, its index, its kind and its weight.
-fn add_action(told: &mut String, action: &Action) -> Result<(), AllocError> {
-    write!(
+fn add_action(told: &mut String, action: &Action) {
+    let _written = write!(
         told,
         "{}.{} {:?} {}",
         number(action.name.by),
         action.name.index,
         action.kind,
         action.change
-    )
+    );
 }
 
-/// The actions of a run, and behind them the births, each with the number of the parent and which of its forks it is.
-fn trace(alloc: Global, serial: &Serial) -> Result<String, AllocError> {
+/// Adds a birth, with the number of the parent and which of its forks it is.
+fn add_birth(told: &mut String, birth: &Birth) {
+    let _written = write!(told, " {}.{}", number(birth.parent), birth.ordinal);
+}
+
+/// The actions of a run, and behind them the births.
+fn trace(alloc: Global, serial: &Serial) -> String {
     let mut told = String::new(alloc);
     let mut mark = "";
     for action in serial.actions.as_slice() {
-        told.push_str(mark)?;
-        add_action(&mut told, action)?;
+        put(&mut told, mark);
+        add_action(&mut told, action);
         mark = ", ";
     }
-    told.push_str(";")?;
+    put(&mut told, ";");
     for birth in serial.births.as_slice() {
-        write!(told, " {}.{}", number(birth.parent), birth.ordinal)?;
+        add_birth(&mut told, birth);
     }
-    Ok(told)
+    told
 }
 
 /// What programs do with a quota of 16 words. A thread that meets a fault gives back what it holds in all its open calls; one that joins a
@@ -100,30 +104,33 @@ fn main() {
 }
 ";
 
+/// The trace of the run of a text.
+fn trace_of(rt: &impl Abort, alloc: Global, text: &str) -> String {
+    let serial = run(alloc, text, 16, LIMIT).expect(rt, "a run");
+    trace(alloc, &serial)
+}
+
 /// A program does this.
-fn goes_so(rt: &impl Abort, alloc: Global, want: &str, text: &str) -> Result<(), Fail> {
-    let serial = run(alloc, text, 16, LIMIT).ok().ok_or("no run")?;
-    let told = trace(alloc, &serial)?;
+fn goes_so(rt: &impl Abort, alloc: Global, want: &str, text: &str) {
+    let told = trace_of(rt, alloc, text);
     assert_eq!(rt; told.as_str(), want, "{text}");
-    Ok(())
 }
 
 #[test]
-fn runs_go_action_by_action(rt: HostRuntime) -> Result<(), Fail> {
+fn runs_go_action_by_action(rt: HostRuntime) {
     for row in TRACES.split('@') {
         if let Some((want, text)) = parts_of(row) {
-            goes_so(&rt, rt.alloc(), want, text)?;
+            goes_so(&rt, rt.alloc(), want, text);
         }
     }
-    Ok(())
 }
 
 #[test]
 fn each_limit_stops_a_run(rt: HostRuntime) {
     let text = "fn main() { alloc b = 40; free b; }";
     for limit in 0..12 {
-        let stop = run(rt.alloc(), text, 16, limit).map(|_| ());
-        assert_eq!(rt; stop, Err(SerialStop::StepsSpent), "{limit}");
+        let stop = stop_of(rt.alloc(), text, 16, limit);
+        assert_eq!(rt; stop, Some(SerialStop::StepsSpent), "{limit}");
     }
-    assert!(rt; run(rt.alloc(), text, 16, 12).is_ok());
+    assert_eq!(rt; stop_of(rt.alloc(), text, 16, 12), None);
 }
