@@ -6,29 +6,25 @@ use dfd_core::{Core, CoreEnd, CoreParts, RunEnd};
 use std::alloc::{AllocError, Global};
 use std::fmt::Write;
 use std::process::Abort;
-use std::test::Fail;
 
 /// Two children, of which the first one is forked.
 const TWO: &str = "fn main() { par { print 1; } and { print 2; } print 3; }";
 
 /// Lets the first worker do one event, and writes it down.
-fn let_step(core: &mut Core, text: &mut String) -> Result<(), Fail> {
-    let stepped = step_of(core, 0, 0)?;
-    tell_step(text, stepped)?;
-    Ok(())
+fn let_step(rt: &impl Abort, core: &mut Core, text: &mut String) {
+    let stepped = step_of(rt, core, 0, 0);
+    tell_step(rt, text, stepped);
 }
 
 /// The first worker gives its deque up, which has this number.
-fn give_up(core: &mut Core) -> Result<u32, Fail> {
+fn give_up(rt: &impl Abort, core: &mut Core) -> u32 {
     let owned = match core.seat(0) {
         Some(seat) => seat.deque,
-        None => return Err(Fail::new("it owns no deque")),
+        None => panic!(rt; "it owns no deque"),
     };
-    let deque = core.give_up(0)?;
-    if deque != owned {
-        return Err(Fail::new("it gave another deque up"));
-    }
-    Ok(deque.0)
+    let deque = core.give_up(0).expect(rt, "memory");
+    assert!(rt; deque == owned, "it gave another deque up");
+    deque.0
 }
 
 /// What is left of a run that has ended.
@@ -41,7 +37,7 @@ fn rest_of(rt: &impl Abort, core: Core) -> CoreEnd {
 }
 
 /// Writes down what is left of a run.
-fn tell_rest(text: &mut String, rest: &CoreEnd) -> Result<(), AllocError> {
+fn tell_rest(rt: &impl Abort, text: &mut String, rest: &CoreEnd) {
     let finished = rest.end == RunEnd::Finished(Finish::Done);
     write!(
         text,
@@ -51,45 +47,49 @@ fn tell_rest(text: &mut String, rest: &CoreEnd) -> Result<(), AllocError> {
         rest.moves.high(),
         rest.root.is_some()
     )
+    .expect(rt, "memory");
 }
 
 /// Takes a run apart that has ended, and writes down what is left of it.
-fn tell_end(rt: &impl Abort, text: &mut String, core: Core) -> Result<(), AllocError> {
+fn tell_end(rt: &impl Abort, text: &mut String, core: Core) {
     let rest = rest_of(rt, core);
-    tell_rest(text, &rest)
+    tell_rest(rt, text, &rest);
+}
+
+/// Writes down which deque the first worker gives up.
+fn tell_given(rt: &impl Abort, core: &mut Core, text: &mut String) {
+    let deque = give_up(rt, core);
+    write!(text, "gives {deque} up, ").expect(rt, "memory");
 }
 
 /// Two steps, after which the deque is given up, and seven steps to the end.
-fn tell_steps(core: &mut Core, text: &mut String) -> Result<(), Fail> {
-    let_step(core, text)?;
-    let_step(core, text)?;
-    let deque = give_up(core)?;
-    write!(text, "gives {deque} up, ")?;
+fn tell_steps(rt: &impl Abort, core: &mut Core, text: &mut String) {
+    let_step(rt, core, text);
+    let_step(rt, core, text);
+    tell_given(rt, core, text);
     for _ in 0..7 {
-        let_step(core, text)?;
+        let_step(rt, core, text);
     }
-    Ok(())
 }
 
 /// The core of a run of one worker behind its last step. What it did is written down.
-fn ended(alloc: Global, text: &mut String) -> Result<Core, Fail> {
-    let mut core = core_of(alloc, TWO, 16, 1, 1_024, 100, 4_096)?;
-    tell_steps(&mut core, text)?;
-    Ok(core)
+fn ended(rt: &impl Abort, alloc: Global, text: &mut String) -> Core {
+    let mut core = core_of(alloc, TWO, 16, 1, 1_024, 100, 4_096).expect(rt, "a core");
+    tell_steps(rt, &mut core, text);
+    core
 }
 
 /// A worker forks and gives its deque up. Then it steals the root, which has to wait, and after that the child.
 #[test]
-fn an_owner_gives_its_deque_up(rt: HostRuntime) -> Result<(), Fail> {
+fn an_owner_gives_its_deque_up(rt: HostRuntime) {
     let mut text = String::new(rt.alloc());
-    let core = ended(rt.alloc(), &mut text)?;
-    tell_end(&rt, &mut text, core)?;
+    let core = ended(&rt, rt.alloc(), &mut text);
+    tell_end(&rt, &mut text, core);
     assert_eq!(rt;
         text.as_str(),
         "steals 0 1, 0.0 does 0, gives 0 up, steals 1 2, 0.0 waits, steals 0 3, 1.0 does 0, 0.0 does 1, 0.0 does 2, over, \
          done true, periods 3, ahead 1, high 16, root true"
     );
-    Ok(())
 }
 
 /// The list of deques of these parts has one deque, which holds the root alone.

@@ -1,10 +1,10 @@
 //! The depth-first list of a program as the machine of deques reads it, and where a named action stands in it.
 
-use dag_order::{Births, Kind, Label, ThreadId};
+use dag_order::{Birth, Births, Kind, Label, ThreadId};
 use machine_replay::{Action, Deed};
-use serial_meaning::Serial;
+use serial_meaning::{Action as SerialAction, Serial};
 use std::alloc::Global;
-use std::test::Fail;
+use std::process::Abort;
 
 /// The deepest thread of these programs.
 const DEEPEST: u32 = 100;
@@ -23,33 +23,34 @@ pub(crate) struct Listed {
     pub names: Vec<Name>,
 }
 
+/// The birth of a thread, by the births of periods in the order of their numbers.
+fn birth_of(births: &[&Births], id: ThreadId) -> Option<Birth> {
+    let period = births.get(id.period.saturating_sub(1) as usize)?;
+    period.at(id.nth).copied()
+}
+
 /// The label of a thread, by the births of periods in the order of their numbers.
-pub(crate) fn label_of(alloc: Global, births: &[&Births], id: ThreadId) -> Result<Label, Fail> {
+pub(crate) fn label_of(rt: &impl Abort, alloc: Global, births: &[&Births], id: ThreadId) -> Label {
     let mut ordinals = Vec::new(alloc);
     let mut at = id;
     for _ in 0..DEEPEST {
         if at == ThreadId::ROOT {
             break;
         }
-        let Some(period) = births.get(at.period.saturating_sub(1) as usize) else {
-            return Err(Fail::new("a thread of no period"));
-        };
-        let Some(birth) = period.at(at.nth) else {
-            return Err(Fail::new("a thread without a birth"));
-        };
-        ordinals.push(birth.ordinal)?;
+        let birth = birth_of(births, at).expect(rt, "a birth");
+        ordinals.push(birth.ordinal).expect(rt, "memory");
         at = birth.parent;
     }
-    label_up(alloc, &ordinals)
+    label_up(rt, alloc, &ordinals)
 }
 
 /// The label with these ordinals, that of the thread itself first.
-fn label_up(alloc: Global, ordinals: &[u32]) -> Result<Label, Fail> {
+fn label_up(rt: &impl Abort, alloc: Global, ordinals: &[u32]) -> Label {
     let mut label = Label::root(alloc);
     for ordinal in ordinals.iter().rev() {
-        label = label.fork(*ordinal)?;
+        label = label.fork(*ordinal).expect(rt, "memory");
     }
-    Ok(label)
+    label
 }
 
 /// The forks of a depth-first run in their order: how many came, and the ordinals of the children that are open, the newest last.
@@ -60,63 +61,75 @@ struct Forks<'a> {
     open: Vec<u32>,
 }
 
+/// The ordinal of the next fork, whose child is open from now on.
+fn next_fork(rt: &impl Abort, forks: &mut Forks) -> u32 {
+    let birth = forks.births.at(forks.came).expect(rt, "a birth");
+    forks.came = forks.came.saturating_add(1);
+    forks.open.push(birth.ordinal).expect(rt, "memory");
+    birth.ordinal
+}
+
 /// What the next action of a depth-first run does. A Join is that of the newest open child, since the runs of children lie inside that of
 /// their parent.
-fn next_deed(forks: &mut Forks, kind: Kind) -> Result<Deed, Fail> {
+fn next_deed(rt: &impl Abort, forks: &mut Forks, kind: Kind) -> Deed {
     match kind {
-        Kind::Fork => {
-            let Some(birth) = forks.births.at(forks.came) else {
-                return Err(Fail::new("a Fork without a birth"));
-            };
-            forks.came = forks.came.saturating_add(1);
-            forks.open.push(birth.ordinal)?;
-            Ok(Deed::Fork(birth.ordinal))
-        }
-        Kind::Join => match forks.open.pop() {
-            Some(ordinal) => Ok(Deed::Join(ordinal)),
-            None => Err(Fail::new("a Join without a child")),
-        },
-        Kind::Alloc => Ok(Deed::Alloc),
-        Kind::Release => Ok(Deed::Release),
-        Kind::Dummy => Ok(Deed::Dummy),
-        Kind::Fault => Ok(Deed::Fault),
-        Kind::End => Ok(Deed::End),
+        Kind::Fork => Deed::Fork(next_fork(rt, forks)),
+        Kind::Join => Deed::Join(forks.open.pop().expect(rt, "an open child")),
+        Kind::Alloc => Deed::Alloc,
+        Kind::Release => Deed::Release,
+        Kind::Dummy => Deed::Dummy,
+        Kind::Fault => Deed::Fault,
+        Kind::End => Deed::End,
     }
 }
 
 impl Listed {
+    /// Adds an action of a depth-first run that does this.
+    fn add(
+        &mut self,
+        rt: &impl Abort,
+        alloc: Global,
+        births: &Births,
+        action: &SerialAction,
+        deed: Deed,
+    ) {
+        let index = action.name.index;
+        let words = action.change.unsigned_abs();
+        let label = label_of(rt, alloc, &[births], action.name.by);
+        self.actions
+            .push(Action::new(label, index, deed, words))
+            .expect(rt, "memory");
+        let label = label_of(rt, alloc, &[births], action.name.by);
+        self.names.push(Name { label, index }).expect(rt, "memory");
+    }
+
     /// The list of a depth-first run.
-    pub(crate) fn of(alloc: Global, serial: &Serial) -> Result<Listed, Fail> {
-        let births = [&serial.births];
+    pub(crate) fn of(rt: &impl Abort, alloc: Global, serial: &Serial) -> Listed {
         let mut forks = Forks {
             births: &serial.births,
             came: 0,
             open: Vec::new(alloc),
         };
-        let mut actions = Vec::new(alloc);
-        let mut names = Vec::new(alloc);
+        let mut listed = Listed {
+            actions: Vec::new(alloc),
+            names: Vec::new(alloc),
+        };
         for action in serial.actions.as_slice() {
-            let index = action.name.index;
-            let deed = next_deed(&mut forks, action.kind)?;
-            let label = label_of(alloc, &births, action.name.by)?;
-            let words = action.change.unsigned_abs();
-            actions.push(Action::new(label, index, deed, words))?;
-            let label = label_of(alloc, &births, action.name.by)?;
-            names.push(Name { label, index })?;
+            let deed = next_deed(rt, &mut forks, action.kind);
+            listed.add(rt, alloc, &serial.births, action, deed);
         }
-        Ok(Listed { actions, names })
+        listed
     }
 
     /// The place of an action.
-    pub(crate) fn place_of(&self, label: &Label, index: u32) -> Result<u32, Fail> {
-        for (place, name) in self.names.iter().enumerate() {
+    pub(crate) fn place_of(&self, label: &Label, index: u32) -> Option<u32> {
+        let mut place = 0u32;
+        for name in &self.names {
             if name.index == index && name.label.ordinals() == label.ordinals() {
-                return match u32::try_from(place) {
-                    Ok(place) => Ok(place),
-                    Err(_) => Err(Fail::new("a list too long")),
-                };
+                return Some(place);
             }
+            place = place.saturating_add(1);
         }
-        Err(Fail::new("an action that is not in the list"))
+        None
     }
 }

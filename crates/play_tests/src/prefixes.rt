@@ -68,12 +68,11 @@ fn let_move(core: &mut Core, serial: &Serial, workers: &str)
 }
 
 /// Writes the labels of the threads in the deques.
-fn tell_labels(alloc: Global, text: &mut String, core: &Core) -> Result<(), AllocError> {
-    let labels = leaves(alloc, core)?;
+fn tell_labels(rt: &impl Abort, alloc: Global, text: &mut String, core: &Core) {
+    let labels = leaves(alloc, core).expect(rt, "memory");
     for label in &labels {
-        write!(text, "{:?} ", label.ordinals())?;
+        write!(text, "{:?} ", label.ordinals()).expect(rt, "memory");
     }
-    Ok(())
 }
 
 /// What stands of the space bound.
@@ -96,12 +95,13 @@ fn bound_of(alloc: Global, core: &Core, serial: &Serial) -> Result<Bound, AllocE
 }
 
 /// Writes what stands of the space bound, and the words that are out.
-fn tell_bound(text: &mut String, bound: &Bound, live: u64) -> Result<(), AllocError> {
+fn tell_bound(rt: &impl Abort, text: &mut String, bound: &Bound, live: u64) {
     write!(
         text,
         "prefix {}, ahead {}, live {live}, margin {}",
         bound.prefix, bound.ahead, bound.margin
     )
+    .expect(rt, "memory");
 }
 
 /// A row of a table: the quota; the workers; the workers that move, one after another; what the core shows then; and the program.
@@ -132,38 +132,43 @@ fn row_of(row: &str) -> Option<Row<'_>> {
 }
 
 /// What a core shows: the labels of the threads in its deques, what stands of the space bound, and the words that are out.
-fn shown(alloc: Global, core: &Core, serial: &Serial) -> Result<String, AllocError>
-    requires { IsSerialOf core.now serial.now }
-{
-    let bound = bound_of(alloc, core, serial)?;
+fn shown(rt: &impl Abort, alloc: Global, core: &Core, bound: &Bound) -> String {
     let mut text = String::new(alloc);
-    tell_labels(alloc, &mut text, core)?;
-    tell_bound(&mut text, &bound, core.live())?;
-    Ok(text)
+    tell_labels(rt, alloc, &mut text, core);
+    tell_bound(rt, &mut text, bound, core.live());
+    text
+}
+
+/// What stands of the space bound in the core of a row behind the moves of the row.
+fn bound_behind(both: &mut Compared, alloc: Global, row: &Row) -> Result<Bound, AllocError>
+    requires { IsSerialOf both.old.core both.old.serial }
+{
+    let_move(&mut both.core, &both.serial, row.moves);
+    bound_of(alloc, &both.core, &both.serial)
 }
 
 /// What the core of a row shows behind the moves of the row.
-fn shown_behind(alloc: Global, row: &Row) -> Result<String, AllocError> {
-    let mut both = begun(alloc, row.text, row.k, row.workers)?;
-    let_move(&mut both.core, &both.serial, row.moves);
-    shown(alloc, &both.core, &both.serial)
+fn shown_behind(rt: &impl Abort, alloc: Global, row: &Row) -> String {
+    let Ok(mut both) = begun(alloc, row.text, row.k, row.workers) else {
+        panic!(rt; "no core");
+    };
+    let bound = bound_behind(&mut both, alloc, row).expect(rt, "memory");
+    shown(rt, alloc, &both.core, &bound)
 }
 
 /// The core of a row shows what the row says.
-fn show_row(rt: &impl Abort, alloc: Global, row: &Row) -> Result<(), AllocError> {
-    let got = shown_behind(alloc, row)?;
+fn show_row(rt: &impl Abort, alloc: Global, row: &Row) {
+    let got = shown_behind(rt, alloc, row);
     assert_eq!(rt; got.as_str(), row.want, "{}", row.text);
-    Ok(())
 }
 
 /// The core of each row of a table shows what the row says.
-fn show_so(rt: &impl Abort, alloc: Global, rows: &str) -> Result<(), AllocError> {
+fn show_so(rt: &impl Abort, alloc: Global, rows: &str) {
     for row in rows.split('@') {
         if let Some(row) = row_of(row) {
-            show_row(rt, alloc, &row)?;
+            show_row(rt, alloc, &row);
         }
     }
-    Ok(())
 }
 
 /// One worker behind a tree of dummies, and two workers of whom one runs ahead.
@@ -174,6 +179,6 @@ const MOMENTS: &str = "
 ";
 
 #[test]
-fn cores_show_their_laws(rt: HostRuntime) -> Result<(), AllocError> {
-    show_so(&rt, rt.alloc(), MOMENTS)
+fn cores_show_their_laws(rt: HostRuntime) {
+    show_so(&rt, rt.alloc(), MOMENTS);
 }

@@ -2,7 +2,7 @@
 //! machine's moment has.
 
 use crate::listed::{Listed, label_of};
-use crate::plays::{next_word, step_of};
+use crate::plays::{next_word, put, step_of};
 use crate::prefixes::{Compared, begun};
 use dag_order::{ActionId, Births, Kind, Label};
 use dfd_core::{Core, RunEnd, Stepped};
@@ -10,10 +10,9 @@ use machine_replay::runs::{opening, replay, step};
 use machine_replay::{Event, Moment, Pair};
 use serial_meaning::Serial;
 use space_ledger::Book;
-use std::alloc::{AllocError, Global};
+use std::alloc::Global;
 use std::fmt::Write;
 use std::process::Abort;
-use std::test::Fail;
 
 /// More turns than these plays have.
 const TURNS: u32 = 5_000;
@@ -37,20 +36,12 @@ struct Numbered<'a> {
     births: &'a Births,
 }
 
-/// The period of a number.
-fn period_of(core: &Core, number: u32) -> Result<Numbered<'_>, Fail> {
-    if let Some(closed) = core.books().by_number(number) {
-        return Ok(Numbered {
-            ahead: closed.ahead,
-            owner: None,
-            book: &closed.book,
-            births: &closed.births,
-        });
-    }
+/// The open period of a number.
+fn open_period_of(core: &Core, number: u32) -> Option<Numbered<'_>> {
     for worker in 0..core.workers() {
         if let Some(period) = core.period(worker) {
             if period.number == number {
-                return Ok(Numbered {
+                return Some(Numbered {
                     ahead: period.ahead,
                     owner: Some(worker),
                     book: &period.book,
@@ -59,97 +50,115 @@ fn period_of(core: &Core, number: u32) -> Result<Numbered<'_>, Fail> {
             }
         }
     }
-    Err(Fail::new("a number without a period"))
+    None
+}
+
+/// The period of a number.
+fn period_of(core: &Core, number: u32) -> Option<Numbered<'_>> {
+    match core.books().by_number(number) {
+        Some(closed) => Some(Numbered {
+            ahead: closed.ahead,
+            owner: None,
+            book: &closed.book,
+            births: &closed.births,
+        }),
+        None => open_period_of(core, number),
+    }
 }
 
 /// The births of all periods, in the order of their numbers.
-fn births_in(alloc: Global, core: &Core) -> Result<Vec<&Births>, Fail> {
+fn births_in<'a>(rt: &impl Abort, alloc: Global, core: &'a Core) -> Vec<&'a Births> {
     let mut births = Vec::new(alloc);
     for before in 0..core.periods() {
-        births.push(period_of(core, before + 1)?.births)?;
+        let period = period_of(core, before + 1).expect(rt, "a period");
+        births.push(period.births).expect(rt, "memory");
     }
-    Ok(births)
+    births
 }
 
 /// The place of an action of a core in the depth-first list.
-fn place_of(alloc: Global, births: &[&Births], listed: &Listed, id: ActionId) -> Result<u32, Fail> {
-    let label = label_of(alloc, births, id.by)?;
-    listed.place_of(&label, id.index)
+fn place_of(
+    rt: &impl Abort,
+    alloc: Global,
+    births: &[&Births],
+    listed: &Listed,
+    id: ActionId,
+) -> u32 {
+    let label = label_of(rt, alloc, births, id.by);
+    listed
+        .place_of(&label, id.index)
+        .expect(rt, "an action of the list")
 }
 
 /// Writes a deque: its id, its owner, and the labels of its threads from top to bottom.
-fn tell_deque(
-    text: &mut String,
-    id: u32,
-    owner: Option<u32>,
-    threads: &[Label],
-) -> Result<(), AllocError> {
-    write!(text, "{id} {owner:?}:")?;
+fn tell_deque(rt: &impl Abort, text: &mut String, id: u32, owner: Option<u32>, threads: &[Label]) {
+    write!(text, "{id} {owner:?}:").expect(rt, "memory");
     for label in threads {
-        write!(text, " {:?}", label.ordinals())?;
+        write!(text, " {:?}", label.ordinals()).expect(rt, "memory");
     }
-    text.push_str("; ")
+    put(rt, text, "; ");
 }
 
 /// Writes a book: its mark, the worker that it is open for, and the places of what it ran.
-fn tell_book(
-    text: &mut String,
-    ahead: bool,
-    owner: Option<u32>,
-    ran: &[u32],
-) -> Result<(), AllocError> {
-    write!(text, "{ahead} {owner:?} {ran:?}; ")
+fn tell_book(rt: &impl Abort, text: &mut String, ahead: bool, owner: Option<u32>, ran: &[u32]) {
+    write!(text, "{ahead} {owner:?} {ran:?}; ").expect(rt, "memory");
 }
 
 /// The labels of the threads of a deque of a core.
 fn labels_in(
+    rt: &impl Abort,
     alloc: Global,
     core: &Core,
     births: &[&Births],
     rank: u32,
-) -> Result<Vec<Label>, Fail> {
+) -> Vec<Label> {
     let mut labels = Vec::new(alloc);
     if let Some(id) = core.list().at(rank) {
         let lane = core.list().lane(id);
         for place in 0..lane.len() {
             if let Some(thread) = lane.item(place) {
-                labels.push(label_of(alloc, births, thread.get().id())?)?;
+                let label = label_of(rt, alloc, births, thread.get().id());
+                labels.push(label).expect(rt, "memory");
             }
         }
     }
-    Ok(labels)
+    labels
 }
 
 /// Writes the deques of a core; the answer is how many threads stand in them.
 fn tell_deques(
+    rt: &impl Abort,
     alloc: Global,
     text: &mut String,
     core: &Core,
     births: &[&Births],
-) -> Result<u64, Fail> {
+) -> u64 {
     let mut threads = 0u64;
     for rank in 0..core.list().len() {
         if let Some(place) = core.list().place(rank) {
-            let labels = labels_in(alloc, core, births, rank)?;
-            tell_deque(text, place.id.0, place.owner, &labels)?;
+            let labels = labels_in(rt, alloc, core, births, rank);
+            tell_deque(rt, text, place.id.0, place.owner, &labels);
             threads = threads.saturating_add(labels.len() as u64);
         }
     }
-    Ok(threads)
+    threads
 }
 
 /// The places of the actions of a book of a core.
 fn places_in(
+    rt: &impl Abort,
     alloc: Global,
     births: &[&Births],
     listed: &Listed,
     book: &Book,
-) -> Result<Vec<u32>, Fail> {
+) -> Vec<u32> {
     let mut places = Vec::new(alloc);
     for id in book.as_slice() {
-        places.push(place_of(alloc, births, listed, *id)?)?;
+        places
+            .push(place_of(rt, alloc, births, listed, *id))
+            .expect(rt, "memory");
     }
-    Ok(places)
+    places
 }
 
 /// How many of these places are Ends.
@@ -165,28 +174,42 @@ fn ends_at(serial: &Serial, places: &[u32]) -> u64 {
     ends
 }
 
+/// Writes the book of a period of a core; the answer is how many Ends stand in it.
+fn tell_period(
+    rt: &impl Abort,
+    alloc: Global,
+    text: &mut String,
+    period: &Numbered,
+    births: &[&Births],
+    play: &Play,
+) -> u64 {
+    let places = places_in(rt, alloc, births, &play.listed, period.book);
+    tell_book(rt, text, period.ahead, period.owner, &places);
+    ends_at(play.serial, &places)
+}
+
 /// Writes the books of a core; the answer is how many threads were begun without an End.
 fn tell_books(
+    rt: &impl Abort,
     alloc: Global,
     text: &mut String,
     core: &Core,
     births: &[&Births],
     play: &Play,
-) -> Result<u64, Fail> {
+) -> u64 {
     let mut begun = 1u64;
     let mut ended = 0u64;
     for before in 0..core.periods() {
-        let period = period_of(core, before + 1)?;
-        let places = places_in(alloc, births, &play.listed, period.book)?;
-        tell_book(text, period.ahead, period.owner, &places)?;
+        let period = period_of(core, before + 1).expect(rt, "a period");
+        let ends = tell_period(rt, alloc, text, &period, births, play);
         begun = begun.saturating_add(u64::from(period.births.len()));
-        ended = ended.saturating_add(ends_at(play.serial, &places));
+        ended = ended.saturating_add(ends);
     }
-    Ok(begun.saturating_sub(ended))
+    begun.saturating_sub(ended)
 }
 
 /// Writes how many threads wait, and what a core counts.
-fn tell_counts_of(text: &mut String, core: &Core, waiting: u64) -> Result<(), AllocError> {
+fn tell_counts_of(rt: &impl Abort, text: &mut String, core: &Core, waiting: u64) {
     write!(
         text,
         "waiting {waiting}, live {}, actions {}, ahead {}",
@@ -194,16 +217,17 @@ fn tell_counts_of(text: &mut String, core: &Core, waiting: u64) -> Result<(), Al
         core.actions(),
         core.ahead()
     )
+    .expect(rt, "memory");
 }
 
 /// What a core holds: its deques, its books, how many threads wait, its live words, and how many periods are marked.
-fn told_of_core(alloc: Global, core: &Core, play: &Play) -> Result<String, Fail> {
-    let births = births_in(alloc, core)?;
+fn told_of_core(rt: &impl Abort, alloc: Global, core: &Core, play: &Play) -> String {
+    let births = births_in(rt, alloc, core);
     let mut text = String::new(alloc);
-    let standing = tell_deques(alloc, &mut text, core, &births)?;
-    let going = tell_books(alloc, &mut text, core, &births, play)?;
-    tell_counts_of(&mut text, core, going.saturating_sub(standing))?;
-    Ok(text)
+    let standing = tell_deques(rt, alloc, &mut text, core, &births);
+    let going = tell_books(rt, alloc, &mut text, core, &births, play);
+    tell_counts_of(rt, &mut text, core, going.saturating_sub(standing));
+    text
 }
 
 /// By how much the words that are out rise with the actions at these places.
@@ -217,32 +241,44 @@ fn change_at(serial: &Serial, places: &[u32]) -> i64 {
     change
 }
 
+/// Writes how many threads of a moment wait, and what its books come to.
+fn tell_sums(
+    rt: &impl Abort,
+    text: &mut String,
+    waiting: usize,
+    live: i64,
+    actions: u64,
+    ahead: u64,
+) {
+    write!(
+        text,
+        "waiting {waiting}, live {live}, actions {actions}, ahead {ahead}"
+    )
+    .expect(rt, "memory");
+}
+
 /// Writes the books of a moment, and behind them its waiting threads, and what its books come to.
-fn tell_rest(text: &mut String, moment: &Moment, serial: &Serial) -> Result<(), AllocError> {
+fn tell_rest(rt: &impl Abort, text: &mut String, moment: &Moment, serial: &Serial) {
     let mut live = 0i64;
     let mut actions = 0u64;
     let mut ahead = 0u64;
     for book in moment.books() {
-        tell_book(text, book.is_ahead(), book.owner(), book.ran())?;
+        tell_book(rt, text, book.is_ahead(), book.owner(), book.ran());
         live = live.saturating_add(change_at(serial, book.ran()));
         actions = actions.saturating_add(book.ran().len() as u64);
         ahead = ahead.saturating_add(u64::from(book.is_ahead()));
     }
-    write!(
-        text,
-        "waiting {}, live {live}, actions {actions}, ahead {ahead}",
-        moment.waiting().len()
-    )
+    tell_sums(rt, text, moment.waiting().len(), live, actions, ahead);
 }
 
 /// What a moment of the machine has.
-fn told_of_moment(alloc: Global, moment: &Moment, serial: &Serial) -> Result<String, AllocError> {
+fn told_of_moment(rt: &impl Abort, alloc: Global, moment: &Moment, serial: &Serial) -> String {
     let mut text = String::new(alloc);
     for deque in moment.deques() {
-        tell_deque(&mut text, deque.id(), deque.owner(), deque.threads())?;
+        tell_deque(rt, &mut text, deque.id(), deque.owner(), deque.threads());
     }
-    tell_rest(&mut text, moment, serial)?;
-    Ok(text)
+    tell_rest(rt, &mut text, moment, serial);
+    text
 }
 
 /// The place of the deque that a thief robs, picked by a word: of the leftmost deques, as many as there are workers, the first from which a
@@ -262,28 +298,32 @@ fn robbed(moment: &Moment, workers: u32, word: u64) -> Option<u32> {
     None
 }
 
+/// The place of an action that a core did in the depth-first list.
+fn place_in(rt: &impl Abort, alloc: Global, core: &Core, play: &Play, id: ActionId) -> u32 {
+    let births = births_in(rt, alloc, core);
+    place_of(rt, alloc, &births, &play.listed, id)
+}
+
 /// What a step did, as the machine says it.
 fn event_of(
+    rt: &impl Abort,
     alloc: Global,
     core: &Core,
     moment: &Moment,
     play: &Play,
     word: u64,
     stepped: Stepped,
-) -> Result<Event, Fail> {
+) -> Event {
     match stepped {
-        Stepped::Stole { deque, .. } => match robbed(moment, play.workers, word) {
-            Some(place) => Ok(Event::Steals { place, id: deque.0 }),
-            None => Err(Fail::new("a theft from nobody")),
+        Stepped::Stole { deque, .. } => Event::Steals {
+            place: robbed(moment, play.workers, word).expect(rt, "somebody to rob"),
+            id: deque.0,
         },
-        Stepped::Acted(id) => {
-            let births = births_in(alloc, core)?;
-            Ok(Event::Does(place_of(alloc, &births, &play.listed, id)?))
-        }
-        Stepped::Suspended(_) => Ok(Event::Suspends),
-        Stepped::GaveUp(_) => Ok(Event::GivesUp),
-        Stepped::Nothing => Err(Fail::new("a worker that cannot move")),
-        Stepped::Over(_) => Err(Fail::new("a stop")),
+        Stepped::Acted(id) => Event::Does(place_in(rt, alloc, core, play, id)),
+        Stepped::Suspended(_) => Event::Suspends,
+        Stepped::GaveUp(_) => Event::GivesUp,
+        Stepped::Nothing => panic!(rt; "a worker that cannot move"),
+        Stepped::Over(_) => panic!(rt; "a stop"),
     }
 }
 
@@ -302,43 +342,25 @@ fn mover(core: &Core, word: u64) -> Option<u32> {
 
 /// What the machine makes of a pair: the next moment, or None where the pair is no case of it. It hands no clause on, as `run_of`.
 fn machine_step(
-    alloc: Global,
-    play: &Play,
-    moment: Moment,
-    pair: Pair,
-) -> Result<Option<Moment>, Fail> {
-    if 1_000_000 < play.listed.actions.len() {
-        return Err(Fail::new("a list too long"));
-    }
-    let next = step(
-        alloc,
-        &play.listed.actions,
-        u64::from(play.k),
-        play.workers,
-        moment,
-        pair,
-    )?;
-    Ok(next)
-}
-
-/// The moment that a pair leads to.
-fn next_moment(
     rt: &impl Abort,
     alloc: Global,
     play: &Play,
     moment: Moment,
     pair: Pair,
-) -> Result<Moment, Fail> {
-    match machine_step(alloc, play, moment, pair)? {
-        Some(next) => Ok(next),
-        None => {
-            assert!(rt;
-                false,
-                "{pair:?} is no case of the machine, quota {}: {}",
-                play.k, play.text
-            );
-            Err(Fail::new("a pair that is no case of the machine"))
-        }
+) -> Option<Moment> {
+    let list = play.listed.actions.as_slice();
+    assert!(rt; list.len() <= 1_000_000, "a list too long");
+    step(alloc, list, u64::from(play.k), play.workers, moment, pair).expect(rt, "memory")
+}
+
+/// The moment that a pair leads to.
+fn next_moment(rt: &impl Abort, alloc: Global, play: &Play, moment: Moment, pair: Pair) -> Moment {
+    match machine_step(rt, alloc, play, moment, pair) {
+        Some(next) => next,
+        None => panic!(rt;
+            "{pair:?} is no case of the machine, quota {}: {}",
+            play.k, play.text
+        ),
     }
 }
 
@@ -350,9 +372,9 @@ fn compare_moment(
     play: &Play,
     next: &Moment,
     pair: Pair,
-) -> Result<(), Fail> {
-    let told = told_of_core(alloc, core, play)?;
-    let want = told_of_moment(alloc, next, play.serial)?;
+) {
+    let told = told_of_core(rt, alloc, core, play);
+    let want = told_of_moment(rt, alloc, next, play.serial);
     assert_eq!(rt;
         told.as_str(),
         want.as_str(),
@@ -360,7 +382,21 @@ fn compare_moment(
         play.k,
         play.text
     );
-    Ok(())
+}
+
+/// A worker moves, and this is what the machine says of it.
+fn pair_of(
+    rt: &impl Abort,
+    alloc: Global,
+    core: &mut Core,
+    play: &Play,
+    moment: &Moment,
+    worker: u32,
+    word: u64,
+) -> Pair {
+    let stepped = step_of(rt, core, worker, word);
+    let event = event_of(rt, alloc, core, moment, play, word, stepped);
+    Pair { worker, event }
 }
 
 /// One turn of a play: a worker moves, and so does the machine.
@@ -372,13 +408,11 @@ fn turn(
     moment: Moment,
     worker: u32,
     word: u64,
-) -> Result<(Pair, Moment), Fail> {
-    let stepped = step_of(core, worker, word)?;
-    let event = event_of(alloc, core, &moment, play, word, stepped)?;
-    let pair = Pair { worker, event };
-    let next = next_moment(rt, alloc, play, moment, pair)?;
-    compare_moment(rt, alloc, core, play, &next, pair)?;
-    Ok((pair, next))
+) -> (Pair, Moment) {
+    let pair = pair_of(rt, alloc, core, play, &moment, worker, word);
+    let next = next_moment(rt, alloc, play, moment, pair);
+    compare_moment(rt, alloc, core, play, &next, pair);
+    (pair, next)
 }
 
 /// Plays to the end, and gives the pairs of the play and the moment that they lead to.
@@ -388,49 +422,37 @@ fn play_on(
     core: &mut Core,
     play: &Play,
     seed: u64,
-) -> Result<(Vec<Pair>, Moment), Fail> {
-    let mut moment = opening(alloc)?;
+) -> (Vec<Pair>, Moment) {
+    let mut moment = opening(alloc).expect(rt, "memory");
     let mut pairs = Vec::new(alloc);
     let mut word = seed;
     for _ in 0..TURNS {
         word = next_word(word);
         let Some(worker) = mover(core, word >> 32) else {
-            return Ok((pairs, moment));
+            return (pairs, moment);
         };
         word = next_word(word);
-        let (pair, next) = turn(rt, alloc, core, play, moment, worker, word >> 32)?;
-        pairs.push(pair)?;
+        let (pair, next) = turn(rt, alloc, core, play, moment, worker, word >> 32);
+        pairs.push(pair).expect(rt, "memory");
         moment = next;
     }
-    Err(Fail::new("a play without an end"))
+    panic!(rt; "a play without an end")
 }
 
 /// The moment that all these pairs lead to from the opening one.
-fn replayed(alloc: Global, play: &Play, pairs: &[Pair]) -> Result<Moment, Fail> {
-    if 1_000_000 < play.listed.actions.len() || 1_000_000 < pairs.len() {
-        return Err(Fail::new("a play too long"));
-    }
-    let answer = replay(
-        alloc,
-        &play.listed.actions,
-        u64::from(play.k),
-        play.workers,
-        pairs,
-    )?;
-    match answer {
-        Ok(moment) => Ok(moment),
-        Err(_) => Err(Fail::new("a pair that is no case of the machine")),
-    }
+fn replayed(rt: &impl Abort, alloc: Global, play: &Play, pairs: &[Pair]) -> Moment {
+    let list = play.listed.actions.as_slice();
+    assert!(rt; list.len() <= 1_000_000, "a list too long");
+    assert!(rt; pairs.len() <= 1_000_000, "a play too long");
+    let answer = replay(alloc, list, u64::from(play.k), play.workers, pairs);
+    answer
+        .expect(rt, "memory")
+        .expect(rt, "cases of the machine")
 }
 
 /// The core of a run of a text, and its depth-first run. It hands no clause on, since each goal of its callers would carry it.
-fn core_and_serial(
-    alloc: Global,
-    text: &str,
-    k: u32,
-    workers: u32,
-) -> Result<Compared, AllocError> {
-    begun(alloc, text, k, workers)
+fn core_and_serial(rt: &impl Abort, alloc: Global, text: &str, k: u32, workers: u32) -> Compared {
+    begun(alloc, text, k, workers).expect(rt, "a core")
 }
 
 /// The end of a play is that of the depth-first run.
@@ -446,78 +468,53 @@ fn compare_end(rt: &impl Abort, core: &Core, play: &Play) {
 }
 
 /// What the moment has that all these pairs lead to from the opening one.
-fn told_of_replay(alloc: Global, play: &Play, pairs: &[Pair]) -> Result<String, Fail> {
-    let moment = replayed(alloc, play, pairs)?;
-    let told = told_of_moment(alloc, &moment, play.serial)?;
-    Ok(told)
+fn told_of_replay(rt: &impl Abort, alloc: Global, play: &Play, pairs: &[Pair]) -> String {
+    let moment = replayed(rt, alloc, play, pairs);
+    told_of_moment(rt, alloc, &moment, play.serial)
 }
 
 /// All pairs of a play together lead to the moment that they lead to one by one.
-fn compare_last(
-    rt: &impl Abort,
-    alloc: Global,
-    play: &Play,
-    pairs: &[Pair],
-    last: &Moment,
-) -> Result<(), Fail> {
-    let told = told_of_replay(alloc, play, pairs)?;
-    let want = told_of_moment(alloc, last, play.serial)?;
+fn compare_last(rt: &impl Abort, alloc: Global, play: &Play, pairs: &[Pair], last: &Moment) {
+    let told = told_of_replay(rt, alloc, play, pairs);
+    let want = told_of_moment(rt, alloc, last, play.serial);
     assert_eq!(rt; told.as_str(), want.as_str(), "{}", play.text);
-    Ok(())
 }
 
 /// Plays to the end with the words of a seed. The play goes with the machine from the opening to the end.
-fn play_through(
-    rt: &impl Abort,
-    alloc: Global,
-    core: &mut Core,
-    play: &Play,
-    seed: u64,
-) -> Result<(), Fail> {
-    let (pairs, last) = play_on(rt, alloc, core, play, seed)?;
+fn play_through(rt: &impl Abort, alloc: Global, core: &mut Core, play: &Play, seed: u64) {
+    let (pairs, last) = play_on(rt, alloc, core, play, seed);
     compare_end(rt, core, play);
-    compare_last(rt, alloc, play, &pairs, &last)
+    compare_last(rt, alloc, play, &pairs, &last);
 }
 
 /// Plays a program with the words of a seed.
-fn follow(
-    rt: &impl Abort,
-    alloc: Global,
-    text: &str,
-    k: u32,
-    workers: u32,
-    seed: u64,
-) -> Result<(), Fail> {
-    let mut both = core_and_serial(alloc, text, k, workers)?;
-    let listed = Listed::of(alloc, &both.serial)?;
+fn follow(rt: &impl Abort, alloc: Global, text: &str, k: u32, workers: u32, seed: u64) {
+    let mut both = core_and_serial(rt, alloc, text, k, workers);
     let play = Play {
         text,
         serial: &both.serial,
-        listed,
+        listed: Listed::of(rt, alloc, &both.serial),
         k,
         workers,
     };
-    play_through(rt, alloc, &mut both.core, &play, seed)
+    play_through(rt, alloc, &mut both.core, &play, seed);
 }
 
-/// Each program is played with each of these quotas.
-fn follow_all(
-    rt: &impl Abort,
-    alloc: Global,
-    programs: &str,
-    workers: u32,
-    seed: u64,
-) -> Result<(), Fail> {
+/// A program is played with each of these quotas.
+fn follow_each(rt: &impl Abort, alloc: Global, text: &str, workers: u32, seed: u64) {
+    for k in [16, 32, 48, 4_096] {
+        follow(rt, alloc, text, k, workers, seed);
+    }
+}
+
+/// Each program is played.
+fn follow_all(rt: &impl Abort, alloc: Global, programs: &str, workers: u32, seed: u64) {
     for text in programs.split('@') {
         let text = text.trim();
-        if text.is_empty() {
-            continue;
-        }
-        for k in [16, 32, 48, 4_096] {
-            follow(rt, alloc, text, k, workers, seed)?;
+        if !text.is_empty() {
+            follow_each(rt, alloc, text, workers, seed);
         }
     }
-    Ok(())
 }
 
 /// Forks inside forks, Allocs above the quota with their dummies, faults with open children, blocks that go to a child and come back, and
@@ -561,11 +558,10 @@ fn main() { call leaves(2, 1); }
 ";
 
 #[test]
-fn plays_are_runs_of_the_machine(rt: HostRuntime) -> Result<(), Fail> {
+fn plays_are_runs_of_the_machine(rt: HostRuntime) {
     for workers in [1, 2, 3, 4, 64] {
         for seed in [1, 2] {
-            follow_all(&rt, rt.alloc(), PROGRAMS, workers, seed)?;
+            follow_all(&rt, rt.alloc(), PROGRAMS, workers, seed);
         }
     }
-    Ok(())
 }
