@@ -5,7 +5,6 @@ ghost use Rattle.deque_list.specs.Deques.{Deque, DequeAt, deque_ids};
 use deque_list::{DequeId, InsertRefused, Lane, List, Order, OrderFull, Place};
 use std::fmt::Write;
 use std::process::Abort;
-use std::test::Fail;
 
 // Checks that a deque is live.
 fn live(rt: &impl Abort, list: &List<u32>, id: DequeId)
@@ -30,62 +29,44 @@ fn agrees(rt: &impl Abort, list: &List<u32>, rank: u32, id: DequeId) {
     assert_eq!(rt; [list.ready(id), list.ready_at(rank)], [ready, ready]);
 }
 
-fn add_owner(
-    rt: &impl Abort,
-    told: &mut String,
-    list: &List<u32>,
-    id: DequeId,
-) -> Result<(), Fail> {
+fn add_owner(rt: &impl Abort, told: &mut String, list: &List<u32>, id: DequeId) {
     live(rt, list, id);
-    match list.owner(id) {
-        Some(owner) => write!(told, "{} of {owner}:", id.0)?,
-        None => write!(told, "{}:", id.0)?,
-    }
-    Ok(())
+    let written = match list.owner(id) {
+        Some(owner) => write!(told, "{} of {owner}:", id.0),
+        None => write!(told, "{}:", id.0),
+    };
+    written.expect(rt, "memory");
 }
 
-fn add_items(
-    rt: &impl Abort,
-    told: &mut String,
-    list: &List<u32>,
-    id: DequeId,
-) -> Result<(), Fail> {
+fn add_items(rt: &impl Abort, told: &mut String, list: &List<u32>, id: DequeId) {
     live(rt, list, id);
     for place in 0..list.lane(id).len() {
-        match list.item(id, place) {
-            Some(item) => write!(told, " {item}")?,
-            None => return Err(Fail::new("a place of the lane has no item")),
-        }
+        let item = list.item(id, place).expect(rt, "an item");
+        write!(told, " {item}").expect(rt, "memory");
     }
-    told.push_str("; ")?;
-    Ok(())
+    told.push_str("; ").expect(rt, "memory");
 }
 
 // Each deque from left to right: its id, its owner if it has one, and its items from top to bottom.
-fn told(rt: &(impl Abort + AllocGlobal), list: &List<u32>) -> Result<String, Fail> {
+fn told(rt: &(impl Abort + AllocGlobal), list: &List<u32>) -> String {
     let mut told = String::new(rt.alloc());
     for rank in 0..list.len() {
-        match list.at(rank) {
-            Some(id) => {
-                agrees(rt, list, rank, id);
-                add_owner(rt, &mut told, list, id)?;
-                add_items(rt, &mut told, list, id)?;
-            }
-            None => return Err(Fail::new("a rank of the list has no deque")),
-        }
+        let id = list.at(rank).expect(rt, "a deque");
+        agrees(rt, list, rank, id);
+        add_owner(rt, &mut told, list, id);
+        add_items(rt, &mut told, list, id);
     }
-    Ok(told)
+    told
 }
 
 // Checks that the list shows these deques, and nothing behind them.
-fn shows(rt: &(impl Abort + AllocGlobal), list: &List<u32>, want: &str) -> Result<(), Fail> {
-    assert_eq!(rt; told(rt, list)?.as_str(), want);
+fn shows(rt: &(impl Abort + AllocGlobal), list: &List<u32>, want: &str) {
+    assert_eq!(rt; told(rt, list).as_str(), want);
     let len = list.len();
     assert_eq!(rt;
         (list.at(len), list.place(len), list.ready_at(len)),
         (None, None, false)
     );
-    Ok(())
 }
 
 // Inserts a deque and gives its id.
@@ -101,12 +82,13 @@ fn insert(
 }
 
 // Pushes an item.
-fn push(rt: &impl Abort, list: &mut List<u32>, id: u32, item: u32) -> Result<(), Fail> {
+fn push(rt: &impl Abort, list: &mut List<u32>, id: u32, item: u32) {
     live(rt, list, DequeId(id));
-    list.reserve(DequeId(id))?;
+    let Ok(()) = list.reserve(DequeId(id)) else {
+        panic!(rt; "memory");
+    };
     live(rt, list, DequeId(id));
     list.push_top(DequeId(id), item);
-    Ok(())
 }
 
 // Takes the top item, and the bottom item.
@@ -125,43 +107,62 @@ fn give_up(rt: &impl Abort, list: &mut List<u32>, id: u32) {
     list.give_up(DequeId(id));
 }
 
-fn items_are_pushed(rt: &(impl Abort + AllocGlobal), list: &mut List<u32>) -> Result<(), Fail> {
-    shows(rt, list, "0: 7; ")?;
-    push(rt, list, 0, 8)?;
-    push(rt, list, 0, 9)?;
-    shows(rt, list, "0: 9 8 7; ")
+// A list of at most so many deques, whose first one has this item.
+fn list_of(rt: &(impl Abort + AllocGlobal), item: u32, most: u32) -> List<u32> {
+    assert!(rt; 1 <= most && most <= 4_096);
+    List::new(rt.alloc(), item, most).ok().expect(rt, "memory")
+}
+
+// Checks that the bottom item of a deque is this one, and takes it.
+fn takes(rt: &impl Abort, list: &mut List<u32>, id: u32, want: Option<u32>) {
+    assert_eq!(rt; take(rt, list, id), want);
+}
+
+fn pops(rt: &impl Abort, list: &mut List<u32>, id: u32, want: Option<u32>) {
+    assert_eq!(rt; pop(rt, list, id), want);
+}
+
+// Inserts a deque, which has this id.
+fn inserts(rt: &impl Abort, list: &mut List<u32>, of: u32, item: u32, owner: u32, want: u32) {
+    assert_eq!(rt; insert(rt, list, of, item, owner), Some(DequeId(want)));
+}
+
+fn items_are_pushed(rt: &(impl Abort + AllocGlobal), list: &mut List<u32>) {
+    shows(rt, list, "0: 7; ");
+    push(rt, list, 0, 8);
+    push(rt, list, 0, 9);
+    shows(rt, list, "0: 9 8 7; ");
 }
 
 // The bottom items of deque 0 become deques.
-fn deques_are_inserted(rt: &(impl Abort + AllocGlobal), list: &mut List<u32>) -> Result<(), Fail> {
-    assert_eq!(rt; take(rt, list, 0), Some(7));
-    assert_eq!(rt; insert(rt, list, 0, 7, 5), Some(DequeId(1)));
-    shows(rt, list, "0: 9 8; 1 of 5: 7; ")?;
-    assert_eq!(rt; take(rt, list, 0), Some(8));
-    assert_eq!(rt; insert(rt, list, 0, 8, 6), Some(DequeId(2)));
-    shows(rt, list, "0: 9; 2 of 6: 8; 1 of 5: 7; ")?;
+fn deques_are_inserted(rt: &(impl Abort + AllocGlobal), list: &mut List<u32>) {
+    takes(rt, list, 0, Some(7));
+    inserts(rt, list, 0, 7, 5, 1);
+    shows(rt, list, "0: 9 8; 1 of 5: 7; ");
+    takes(rt, list, 0, Some(8));
+    inserts(rt, list, 0, 8, 6, 2);
+    shows(rt, list, "0: 9; 2 of 6: 8; 1 of 5: 7; ");
     assert_eq!(rt; insert(rt, list, 0, 1, 1), None);
-    Ok(())
 }
 
-fn deques_are_emptied(rt: &(impl Abort + AllocGlobal), list: &mut List<u32>) -> Result<(), Fail> {
-    push(rt, list, 1, 4)?;
+fn deques_are_emptied(rt: &(impl Abort + AllocGlobal), list: &mut List<u32>) {
+    push(rt, list, 1, 4);
     give_up(rt, list, 2);
-    shows(rt, list, "0: 9; 2: 8; 1 of 5: 4 7; ")?;
-    assert_eq!(rt; pop(rt, list, 1), Some(4));
-    assert_eq!(rt; pop(rt, list, 0), Some(9));
-    assert_eq!(rt; [pop(rt, list, 0), take(rt, list, 0)], [None, None]);
-    shows(rt, list, "0:; 2: 8; 1 of 5: 7; ")
+    shows(rt, list, "0: 9; 2: 8; 1 of 5: 4 7; ");
+    pops(rt, list, 1, Some(4));
+    pops(rt, list, 0, Some(9));
+    pops(rt, list, 0, None);
+    takes(rt, list, 0, None);
+    shows(rt, list, "0:; 2: 8; 1 of 5: 7; ");
 }
 
 #[test]
-fn calls_change_their_deque_alone(rt: HostRuntime) -> Result<(), Fail> {
-    let mut list = List::new(rt.alloc(), 7, 3).ok().expect(&rt, "memory");
-    items_are_pushed(&rt, &mut list)?;
-    deques_are_inserted(&rt, &mut list)?;
-    deques_are_emptied(&rt, &mut list)?;
+fn calls_change_their_deque_alone(rt: HostRuntime) {
+    let mut list = list_of(&rt, 7, 3);
+    items_are_pushed(&rt, &mut list);
+    deques_are_inserted(&rt, &mut list);
+    deques_are_emptied(&rt, &mut list);
     assert_eq!(rt; [list.leftmost(2), list.leftmost(9)], [2, 3]);
-    Ok(())
 }
 
 // Removes a deque without items.
@@ -184,45 +185,45 @@ fn take_over(rt: &impl Abort, list: &mut List<u32>, id: u32, owner: u32) {
     list.take_over(DequeId(id), owner);
 }
 
-fn three_are_inserted(rt: &(impl Abort + AllocGlobal), list: &mut List<u32>) -> Result<(), Fail> {
+fn three_are_inserted(rt: &(impl Abort + AllocGlobal), list: &mut List<u32>) {
     for n in 1..4 {
-        assert_eq!(rt; insert(rt, list, 0, n, n), Some(DequeId(n)));
+        inserts(rt, list, 0, n, n, n);
     }
-    shows(rt, list, "0: 0; 3 of 3: 3; 2 of 2: 2; 1 of 1: 1; ")
+    shows(rt, list, "0: 0; 3 of 3: 3; 2 of 2: 2; 1 of 1: 1; ");
 }
 
-fn two_are_removed(rt: &(impl Abort + AllocGlobal), list: &mut List<u32>) -> Result<(), Fail> {
-    assert_eq!(rt; pop(rt, list, 2), Some(2));
+fn two_are_removed(rt: &(impl Abort + AllocGlobal), list: &mut List<u32>) {
+    pops(rt, list, 2, Some(2));
     remove(rt, list, 2);
-    assert_eq!(rt; pop(rt, list, 0), Some(0));
+    pops(rt, list, 0, Some(0));
     remove(rt, list, 0);
     assert_eq!(rt; list.rank(DequeId(0)), None);
-    shows(rt, list, "3 of 3: 3; 1 of 1: 1; ")
+    shows(rt, list, "3 of 3: 3; 1 of 1: 1; ");
 }
 
-fn their_ids_come_back(rt: &(impl Abort + AllocGlobal), list: &mut List<u32>) -> Result<(), Fail> {
-    assert_eq!(rt; insert(rt, list, 3, 5, 9), Some(DequeId(0)));
-    assert_eq!(rt; insert(rt, list, 1, 6, 8), Some(DequeId(2)));
+// Writes the top item of a deque.
+fn set_top(rt: &impl Abort, list: &mut List<u32>, id: u32, item: u32) {
+    live(rt, list, DequeId(id));
+    if let Some(top) = list.top_mut(DequeId(id)) {
+        *top = item;
+    }
+}
+
+fn their_ids_come_back(rt: &(impl Abort + AllocGlobal), list: &mut List<u32>) {
+    inserts(rt, list, 3, 5, 9, 0);
+    inserts(rt, list, 1, 6, 8, 2);
     give_up(rt, list, 0);
     take_over(rt, list, 0, 4);
-    if let Some(top) = top_of(rt, list, 0) {
-        *top = 50;
-    }
-    shows(rt, list, "3 of 3: 3; 0 of 4: 50; 1 of 1: 1; 2 of 8: 6; ")
+    set_top(rt, list, 0, 50);
+    shows(rt, list, "3 of 3: 3; 0 of 4: 50; 1 of 1: 1; 2 of 8: 6; ");
 }
 
 #[test]
-fn ids_come_back_smallest_first(rt: HostRuntime) -> Result<(), Fail> {
-    let mut list = List::new(rt.alloc(), 0, 4).ok().expect(&rt, "memory");
-    three_are_inserted(&rt, &mut list)?;
-    two_are_removed(&rt, &mut list)?;
-    their_ids_come_back(&rt, &mut list)
-}
-
-// The top item for writing.
-fn top_of<'a>(rt: &impl Abort, list: &'a mut List<u32>, id: u32) -> Option<&'a mut u32> {
-    live(rt, list, DequeId(id));
-    list.top_mut(DequeId(id))
+fn ids_come_back_smallest_first(rt: HostRuntime) {
+    let mut list = list_of(&rt, 0, 4);
+    three_are_inserted(&rt, &mut list);
+    two_are_removed(&rt, &mut list);
+    their_ids_come_back(&rt, &mut list);
 }
 
 // A deque behind deque 0 is refused, with its item.
@@ -233,14 +234,14 @@ fn one_more_is_refused(rt: &impl Abort, list: &mut List<u32>) {
 }
 
 #[test]
-fn a_full_list_refuses_one_more(rt: HostRuntime) -> Result<(), Fail> {
-    let mut list = List::new(rt.alloc(), 1, 2).ok().expect(&rt, "memory");
+fn a_full_list_refuses_one_more(rt: HostRuntime) {
+    let mut list = list_of(&rt, 1, 2);
     assert!(rt; list.room_right().is_ok());
-    assert_eq!(rt; insert(&rt, &mut list, 0, 2, 0), Some(DequeId(1)));
+    inserts(&rt, &mut list, 0, 2, 0, 1);
     assert_eq!(rt; list.rank(DequeId(1)), Some(1));
     assert_eq!(rt; list.room_right(), Err(InsertRefused::Full { deques: 2 }));
     one_more_is_refused(&rt, &mut list);
-    shows(&rt, &list, "0: 1; 1 of 0: 2; ")
+    shows(&rt, &list, "0: 1; 1 of 0: 2; ");
 }
 
 // A value that may go to another thread.
@@ -256,8 +257,10 @@ fn parts(rt: &(impl Abort + AllocGlobal), item: u32, most: u32) -> (Order, Deque
 }
 
 // A lane of the item 1.
-fn a_lane_has_items(rt: &impl Abort, lane: &mut Lane<u32>) -> Result<(), Fail> {
-    lane.reserve()?;
+fn a_lane_has_items(rt: &impl Abort, lane: &mut Lane<u32>) {
+    let Ok(()) = lane.reserve() else {
+        panic!(rt; "memory");
+    };
     lane.push_top(2);
     assert_eq!(rt; (lane.len(), lane.top()), (2, Some(&2)));
     assert_eq!(rt; lane.take_bottom(), Some(1));
@@ -265,7 +268,6 @@ fn a_lane_has_items(rt: &impl Abort, lane: &mut Lane<u32>) -> Result<(), Fail> {
         *top = 3;
     }
     assert_eq!(rt; [lane.pop_top(), lane.pop_top()], [Some(3), None]);
-    Ok(())
 }
 
 // An order of at most two deques, which has one.
@@ -287,14 +289,13 @@ fn an_order_has_deques(rt: &impl Abort, order: &mut Order, id: DequeId) {
 }
 
 #[test]
-fn order_and_lane_stand_alone(rt: HostRuntime) -> Result<(), Fail> {
+fn order_and_lane_stand_alone(rt: HostRuntime) {
     let (mut order, id, mut lane) = parts(&rt, 1, 2);
     assert_eq!(rt; (order.len(), order.most(), id), (1, 2, DequeId(0)));
     sends(&order);
     sends(&lane);
-    a_lane_has_items(&rt, &mut lane)?;
+    a_lane_has_items(&rt, &mut lane);
     an_order_has_deques(&rt, &mut order, id);
-    Ok(())
 }
 
 // Inserts a deque into an order.
@@ -314,8 +315,7 @@ fn order_insert(
 // As many deques as a list may have.
 fn a_list_grows(rt: &impl Abort, list: &mut List<u32>) {
     for before in 0..4_095 {
-        let next = insert(rt, list, before, before + 1, before);
-        assert_eq!(rt; next, Some(DequeId(before + 1)));
+        inserts(rt, list, before, before + 1, before, before + 1);
     }
     assert_eq!(rt;
         list.room_right(),
@@ -324,24 +324,23 @@ fn a_list_grows(rt: &impl Abort, list: &mut List<u32>) {
 }
 
 // 300 items in the lane of the last deque.
-fn a_lane_grows(rt: &impl Abort, list: &mut List<u32>) -> Result<(), Fail> {
+fn a_lane_grows(rt: &impl Abort, list: &mut List<u32>) {
     for item in 0..299 {
-        push(rt, list, 4_095, item)?;
+        push(rt, list, 4_095, item);
     }
     assert_eq!(rt;
         list.place(4_095).map(|place| place.id),
         Some(DequeId(4_095))
     );
     assert_eq!(rt; [list.ready_at(4_094), list.ready_at(4_095)], [false, true]);
-    Ok(())
 }
 
 fn a_lane_is_emptied(rt: &impl Abort, list: &mut List<u32>) {
-    assert_eq!(rt; take(rt, list, 4_095), Some(4_095));
+    takes(rt, list, 4_095, Some(4_095));
     for left in 0..299u32 {
-        assert_eq!(rt; pop(rt, list, 4_095), Some(298 - left));
+        pops(rt, list, 4_095, Some(298 - left));
     }
-    assert_eq!(rt; pop(rt, list, 4_095), None);
+    pops(rt, list, 4_095, None);
 }
 
 fn an_order_grows(rt: &impl Abort, order: &mut Order, id: DequeId) {
@@ -358,12 +357,15 @@ fn an_order_grows(rt: &impl Abort, order: &mut Order, id: DequeId) {
 }
 
 #[test]
-fn lists_and_lanes_grow(rt: HostRuntime) -> Result<(), Fail> {
-    let mut list = List::new(rt.alloc(), 0, 4_096).ok().expect(&rt, "memory");
+fn lists_and_lanes_grow(rt: HostRuntime) {
+    let mut list = list_of(&rt, 0, 4_096);
     a_list_grows(&rt, &mut list);
-    a_lane_grows(&rt, &mut list)?;
+    a_lane_grows(&rt, &mut list);
     a_lane_is_emptied(&rt, &mut list);
+}
+
+#[test]
+fn orders_grow(rt: HostRuntime) {
     let (mut order, id, _lane) = parts(&rt, 0, 4_096);
     an_order_grows(&rt, &mut order, id);
-    Ok(())
 }

@@ -1,9 +1,8 @@
 use bounded_list::BoundedList;
 use dag_order::{ActionId, Birth, Births, ThreadId};
 use space_ledger::{Book, Books, Closed, Moved, Moves};
-use std::alloc::{AllocError, Global};
+use std::alloc::Global;
 use std::process::Abort;
-use std::test::Fail;
 
 const FIRST: ActionId = ActionId {
     by: ThreadId::ROOT,
@@ -12,31 +11,35 @@ const FIRST: ActionId = ActionId {
 
 // The functions below make room for what they add. A caller knows nothing of what they did.
 
-fn add_move(rt: &impl Abort, moves: &mut Moves, change: i32) -> Result<(), AllocError> {
-    moves.reserve()?;
+fn add_move(rt: &impl Abort, moves: &mut Moves, change: i32) {
+    let Ok(()) = moves.reserve() else {
+        panic!(rt; "memory");
+    };
     let sum = moves.live();
     assert!(rt; -100_000 < sum && sum < 100_000);
     moves.add(Moved {
         by: FIRST,
         change: i64::from(change),
     });
-    Ok(())
 }
 
-fn add_closed(books: &mut Books, closed: Closed) -> Result<(), AllocError> {
-    books.reserve()?;
+fn add_closed(rt: &impl Abort, books: &mut Books, closed: Closed) {
+    let Ok(()) = books.reserve() else {
+        panic!(rt; "memory");
+    };
     books.add(closed);
-    Ok(())
 }
 
 // A book of so many actions.
-fn book_of(alloc: Global, actions: u32) -> Result<Book, AllocError> {
+fn book_of(rt: &impl Abort, alloc: Global, actions: u32) -> Book {
     let mut book: Book = BoundedList::new(alloc);
     for _ in 0..actions {
-        book.reserve()?;
+        let Ok(()) = book.reserve() else {
+            panic!(rt; "memory");
+        };
         book.add(FIRST);
     }
-    Ok(book)
+    book
 }
 
 // Each change, and the sum and the high mark after it.
@@ -54,16 +57,15 @@ fn changes() -> [(i32, i64, i64); 8] {
 }
 
 #[test]
-fn the_high_mark_is_the_greatest_sum_so_far(rt: HostRuntime) -> Result<(), Fail> {
+fn the_high_mark_is_the_greatest_sum_so_far(rt: HostRuntime) {
     let mut moves = Moves::new(rt.alloc());
     for (change, live, high) in changes() {
-        add_move(&rt, &mut moves, change)?;
+        add_move(&rt, &mut moves, change);
         assert_eq!(rt; [moves.live(), moves.high()], [live, high]);
     }
     assert_eq!(rt; moves.len(), 8);
     assert_eq!(rt; moves.at(2).map(|moved| moved.change), Some(48));
     assert!(rt; moves.at(8).is_none());
-    Ok(())
 }
 
 // The mark and the actions of each period, and the marks and actions of all so far.
@@ -76,62 +78,59 @@ fn periods() -> [(bool, u32, u32, u64); 4] {
     ]
 }
 
-fn add_period(
-    alloc: Global,
-    books: &mut Books,
-    ahead: bool,
-    actions: u32,
-) -> Result<(), AllocError> {
+fn add_period(rt: &impl Abort, alloc: Global, books: &mut Books, ahead: bool, actions: u32) {
     let closed = Closed {
         number: 1,
         ahead,
-        book: book_of(alloc, actions)?,
+        book: book_of(rt, alloc, actions),
         births: BoundedList::new(alloc),
     };
-    add_closed(books, closed)
+    add_closed(rt, books, closed);
 }
 
 #[test]
-fn books_count_periods_marks_and_actions(rt: HostRuntime) -> Result<(), Fail> {
+fn books_count_periods_marks_and_actions(rt: HostRuntime) {
     let mut books = Books::new(rt.alloc());
     for (ahead, actions, marked, all) in periods() {
-        add_period(rt.alloc(), &mut books, ahead, actions)?;
+        add_period(&rt, rt.alloc(), &mut books, ahead, actions);
         assert_eq!(rt; (books.ahead(), books.actions()), (marked, all));
     }
     assert_eq!(rt; books.periods(), 4);
     assert_eq!(rt; books.at(2).map(|closed| closed.book.len()), Some(2));
     assert!(rt; books.at(4).is_none());
-    Ok(())
 }
 
 // So many births, whose ordinals count up.
-fn births_of(alloc: Global, forks: u32) -> Result<Births, AllocError> {
+fn births_of(rt: &impl Abort, alloc: Global, forks: u32) -> Births {
     let mut births: Births = BoundedList::new(alloc);
     for ordinal in 0..forks {
-        births.reserve()?;
+        let Ok(()) = births.reserve() else {
+            panic!(rt; "memory");
+        };
         births.add(Birth {
             parent: ThreadId::ROOT,
             ordinal,
         });
     }
-    Ok(births)
+    births
 }
 
 // Adds a closed period with as many births as are asked for.
 fn add_forks(
+    rt: &impl Abort,
     alloc: Global,
     books: &mut Books,
     number: u32,
     ahead: bool,
     forks: u32,
-) -> Result<(), AllocError> {
+) {
     let closed = Closed {
         number,
         ahead,
         book: BoundedList::new(alloc),
-        births: births_of(alloc, forks)?,
+        births: births_of(rt, alloc, forks),
     };
-    add_closed(books, closed)
+    add_closed(rt, books, closed);
 }
 
 // Periods and births, and what is found.
@@ -158,27 +157,27 @@ fn births_are_found(rt: &impl Abort, books: &Books) {
 }
 
 #[test]
-fn periods_and_births_are_found(rt: HostRuntime) -> Result<(), Fail> {
+fn periods_and_births_are_found(rt: HostRuntime) {
     let mut books = Books::new(rt.alloc());
     // the periods' numbers and births; the second one of number 3 is not found
     for (number, forks) in [(3, 2), (1, 0), (2, 3), (3, 9), (7, 1)] {
-        add_forks(rt.alloc(), &mut books, number, false, forks)?;
+        add_forks(&rt, rt.alloc(), &mut books, number, false, forks);
     }
     births_are_found(&rt, &books);
     let births = books.by_number(3).map(|closed| closed.births.len());
     assert_eq!(rt; births, Some(2));
     assert!(rt; books.by_number(4).is_none());
-    Ok(())
 }
 
 // As many periods as a long run has, which end in another order than they began.
-fn many_books(rt: &(impl Abort + AllocGlobal)) -> Result<Books, Fail> {
+fn many_books(rt: &(impl Abort + AllocGlobal)) -> Books {
     let mut books = Books::new(rt.alloc());
     for ended in 0..70_000u32 {
-        add_forks(rt.alloc(), &mut books, 70_000 - ended, ended % 2 == 0, 1)?;
+        let number = 70_000 - ended;
+        add_forks(rt, rt.alloc(), &mut books, number, ended % 2 == 0, 1);
     }
     assert_eq!(rt; [books.periods(), books.ahead()], [70_000, 35_000]);
-    Ok(books)
+    books
 }
 
 fn numbers_are_found(rt: &impl Abort, books: &Books) {
@@ -189,21 +188,23 @@ fn numbers_are_found(rt: &impl Abort, books: &Books) {
     assert!(rt; books.by_number(0).is_none() && books.by_number(70_001).is_none());
 }
 
-fn moves_grow(rt: &(impl Abort + AllocGlobal)) -> Result<(), Fail> {
+fn moves_grow(rt: &(impl Abort + AllocGlobal)) {
     let mut moves = Moves::new(rt.alloc());
     for _ in 0..70_000u32 {
-        add_move(rt, &mut moves, 1)?;
+        add_move(rt, &mut moves, 1);
     }
     assert_eq!(rt; (moves.len(), moves.high()), (70_000, 70_000));
-    Ok(())
+}
+
+fn a_book_grows(rt: &(impl Abort + AllocGlobal)) {
+    let book = book_of(rt, rt.alloc(), 5_000);
+    assert_eq!(rt; (book.len(), book.at(4_999)), (5_000, Some(&FIRST)));
 }
 
 #[test]
-fn books_and_moves_grow(rt: HostRuntime) -> Result<(), Fail> {
-    let books = many_books(&rt)?;
+fn books_and_moves_grow(rt: HostRuntime) {
+    let books = many_books(&rt);
     numbers_are_found(&rt, &books);
-    moves_grow(&rt)?;
-    let book = book_of(rt.alloc(), 5_000)?;
-    assert_eq!(rt; (book.len(), book.at(4_999)), (5_000, Some(&FIRST)));
-    Ok(())
+    moves_grow(&rt);
+    a_book_grows(&rt);
 }
