@@ -2,7 +2,6 @@ use block_arena::{
     Block, Full, MAX_WORDS, OutOfRange, OwnBlock, Pool, PoolError, Shell, SplitRefused, pieces_for,
 };
 use std::process::Abort;
-use std::test::Fail;
 use std::thread::join;
 
 // Words, and why there is no pool of so many.
@@ -29,8 +28,8 @@ fn makes_pools_of_whole_pieces(rt: HostRuntime) {
 
 // The functions below test what a call needs, and then make it. A caller knows nothing of what they did.
 
-fn shell(rt: &impl AllocGlobal, room: u32) -> Result<Shell, Fail> {
-    Ok(Shell::with_room(rt.alloc(), room)?)
+fn shell(rt: &(impl Abort + AllocGlobal), room: u32) -> Shell {
+    Shell::with_room(rt.alloc(), room).expect(rt, "memory")
 }
 
 fn take(rt: &impl Abort, pool: &mut Pool, len: u32, shell: Shell) -> Result<Block, Full> {
@@ -44,61 +43,73 @@ fn give(rt: &impl Abort, pool: &mut Pool, block: Block) -> Shell {
 }
 
 // A block of `len` zeros, with just the room that it needs.
-fn zeros(rt: &(impl Abort + AllocGlobal), pool: &mut Pool, len: u32) -> Result<Block, Fail> {
-    let shell = shell(rt, pieces_for(len))?;
-    Ok(take(rt, pool, len, shell)?)
+fn zeros(rt: &(impl Abort + AllocGlobal), pool: &mut Pool, len: u32) -> Block {
+    let shell = shell(rt, pieces_for(len));
+    take(rt, pool, len, shell).expect(rt, "room in the pool")
 }
 
 // What a full pool says when it is asked for one number: the words that are out, those asked for, and the room of the shell that comes back.
-fn refusal(rt: &(impl Abort + AllocGlobal), pool: &mut Pool) -> Result<[u64; 3], Fail> {
-    match take(rt, pool, 1, shell(rt, 1)?) {
-        Ok(_) => Err("a full pool gave a block")?,
-        Err(full) => Ok([full.live, full.asked, u64::from(full.shell.room())]),
+fn refusal(rt: &(impl Abort + AllocGlobal), pool: &mut Pool) -> [u64; 3] {
+    match take(rt, pool, 1, shell(rt, 1)) {
+        Ok(_) => panic!(rt; "a full pool gave a block"),
+        Err(full) => [full.live, full.asked, u64::from(full.shell.room())],
     }
+}
+
+fn refuses(rt: &(impl Abort + AllocGlobal), pool: &mut Pool, live: u64) {
+    assert_eq!(rt; refusal(rt, pool), [live, 16, 1]);
 }
 
 fn has_words(rt: &impl Abort, pool: &Pool, live: u64, high: u64) {
     assert_eq!(rt; [pool.live(), pool.high()], [live, high]);
 }
 
+// A pool of so many words.
+fn pool_of(rt: &(impl Abort + AllocGlobal), words: u32) -> Pool {
+    Pool::new(rt.alloc(), words).expect(rt, "a pool")
+}
+
 // Seventeen numbers are taken out of a pool of 32 words.
-fn take_seventeen(rt: &(impl Abort + AllocGlobal), pool: &mut Pool) -> Result<Block, Fail> {
-    let block = take(rt, pool, 17, shell(rt, 2)?)?;
+fn take_seventeen(rt: &(impl Abort + AllocGlobal), pool: &mut Pool) -> Block {
+    let block = take(rt, pool, 17, shell(rt, 2)).expect(rt, "room in the pool");
     assert_eq!(rt; (pool.capacity(), block.len(), block.words()), (32, 17, 32));
-    Ok(block)
+    block
+}
+
+// A shell that comes back with room for two pieces holds one number.
+fn take_one(rt: &impl Abort, pool: &mut Pool, shell: Shell) {
+    assert_eq!(rt; shell.room(), 2);
+    let block = take(rt, pool, 1, shell).expect(rt, "room in the pool");
+    has_words(rt, pool, 16, 32);
+    assert_eq!(rt; block.get(0), Some(0));
 }
 
 #[test]
-fn takes_and_gives(rt: HostRuntime) -> Result<(), Fail> {
-    let mut pool = Pool::new(rt.alloc(), 32)?;
-    let block = take_seventeen(&rt, &mut pool)?;
+fn takes_and_gives(rt: HostRuntime) {
+    let mut pool = pool_of(&rt, 32);
+    let block = take_seventeen(&rt, &mut pool);
     has_words(&rt, &pool, 32, 32);
-    assert_eq!(rt; refusal(&rt, &mut pool)?, [32, 16, 1]);
+    refuses(&rt, &mut pool, 32);
     let shell = give(&rt, &mut pool, block);
     has_words(&rt, &pool, 0, 32);
-    assert_eq!(rt; shell.room(), 2);
-    let block = take(&rt, &mut pool, 1, shell)?;
-    has_words(&rt, &pool, 16, 32);
-    assert_eq!(rt; block.get(0), Some(0));
-    Ok(())
+    take_one(&rt, &mut pool, shell);
 }
 
 // Writes 1 at place 0, 2 at place 1 and so on over the zeros of a block.
-fn count_up(rt: &impl Abort, block: &mut Block) -> Result<(), OutOfRange> {
+fn count_up(rt: &impl Abort, block: &mut Block) {
     let len = block.len();
     for i in 0..len {
         assert_eq!(rt; (i, block.get(i)), (i, Some(0)));
-        block.set(i, i64::from(i) + 1)?;
+        block.set(i, i64::from(i) + 1).expect(rt, "a place");
     }
     assert_eq!(rt; block.set(len, 1), Err(OutOfRange));
-    Ok(())
 }
 
 // A block of `len` numbers, 1 at place 0, 2 at place 1 and so on.
-fn counted(rt: &(impl Abort + AllocGlobal), pool: &mut Pool, len: u32) -> Result<Block, Fail> {
-    let mut block = zeros(rt, pool, len)?;
-    count_up(rt, &mut block)?;
-    Ok(block)
+fn counted(rt: &(impl Abort + AllocGlobal), pool: &mut Pool, len: u32) -> Block {
+    let mut block = zeros(rt, pool, len);
+    count_up(rt, &mut block);
+    block
 }
 
 // The block is the numbers from `first` on.
@@ -166,23 +177,27 @@ fn cut(rt: &impl Abort, block: Block, at: u32, shell: Shell, can: bool) -> Shell
     }
 }
 
-fn cut_one(rt: &(impl Abort + AllocGlobal), len: u32, at: u32, can: bool) -> Result<(), Fail> {
-    let mut pool = Pool::new(rt.alloc(), 131_104)?;
-    let block = counted(rt, &mut pool, len)?;
+// Cuts a block of `len` numbers as `cut`, with a shell that has just the room that it needs.
+fn cut_counted(rt: &(impl Abort + AllocGlobal), block: Block, len: u32, at: u32, can: bool) {
     assert_eq!(rt; block.len(), len);
-    let live = pool.live();
     let room = pieces_for(len.saturating_sub(at));
-    let left = cut(rt, block, at, shell(rt, room)?, can);
-    assert_eq!(rt; (pool.live(), left.room()), (live, room));
-    Ok(())
+    let left = cut(rt, block, at, shell(rt, room), can);
+    assert_eq!(rt; left.room(), room);
+}
+
+fn cut_one(rt: &(impl Abort + AllocGlobal), len: u32, at: u32, can: bool) {
+    let mut pool = pool_of(rt, 131_104);
+    let block = counted(rt, &mut pool, len);
+    let live = pool.live();
+    cut_counted(rt, block, len, at, can);
+    assert_eq!(rt; pool.live(), live);
 }
 
 #[test]
-fn cuts_and_joins(rt: HostRuntime) -> Result<(), Fail> {
+fn cuts_and_joins(rt: HostRuntime) {
     for (len, at, can) in cuts() {
-        cut_one(&rt, len, at, can)?;
+        cut_one(&rt, len, at, can);
     }
-    Ok(())
 }
 
 // Two lengths, whether the blocks are joined with just the room that they need, and whether they are once there is room.
@@ -210,56 +225,51 @@ fn check_both(rt: &impl Abort, left: Block, right: Block, len: u32, more: u32) {
 }
 
 // Makes room for both blocks in the left one, and joins them where they can be joined.
-fn join_with_room(rt: &impl Abort, mut left: Block, right: Block, want: bool) -> Result<(), Fail> {
+fn join_with_room(rt: &impl Abort, mut left: Block, right: Block, want: bool) {
     let (len, more) = (left.len(), right.len());
-    left.make_room(pieces_for(len).saturating_add(pieces_for(more)))?;
+    left.make_room(pieces_for(len).saturating_add(pieces_for(more)))
+        .expect(rt, "memory");
     check(rt, &left, 1, len);
     let can = Block::can_join(&left, &right);
     assert_eq!(rt; can, want, "{more} behind {len}");
     if can {
         check_both(rt, left, right, len, more);
     }
-    Ok(())
 }
 
-fn join_one(
-    rt: &(impl Abort + AllocGlobal),
-    len: u32,
-    more: u32,
-    fits: bool,
-    want: bool,
-) -> Result<(), Fail> {
-    let mut pool = Pool::new(rt.alloc(), 131_104)?;
-    let left = counted(rt, &mut pool, len)?;
-    let right = counted(rt, &mut pool, more)?;
+fn join_one(rt: &(impl Abort + AllocGlobal), len: u32, more: u32, fits: bool, want: bool) {
+    let mut pool = pool_of(rt, 131_104);
+    let left = counted(rt, &mut pool, len);
+    let right = counted(rt, &mut pool, more);
     assert_eq!(rt;
         (left.len(), right.len(), Block::can_join(&left, &right)),
         (len, more, fits)
     );
-    join_with_room(rt, left, right, want)
+    join_with_room(rt, left, right, want);
 }
 
 // Two blocks with just the room that they need are joined where the left one has whole pieces, once it has room.
 #[test]
-fn room_is_made_before_a_join(rt: HostRuntime) -> Result<(), Fail> {
+fn room_is_made_before_a_join(rt: HostRuntime) {
     for (len, more, fits, want) in joins() {
-        join_one(&rt, len, more, fits, want)?;
+        join_one(&rt, len, more, fits, want);
     }
-    Ok(())
+}
+
+// Takes a block out of a pool, and gives it back.
+fn give_back(rt: &(impl Abort + AllocGlobal), pool: &mut Pool) {
+    let block = counted(rt, pool, 16);
+    let _shell = give(rt, pool, block);
 }
 
 // Takes ten blocks out of a pool, and gives every other one back.
-fn scatter(rt: &(impl Abort + AllocGlobal), pool: &mut Pool) -> Result<Vec<Block>, Fail> {
-    let mut kept = Vec::with_capacity(rt.alloc(), 10)?;
-    for i in 0..10u32 {
-        let block = counted(rt, pool, 16)?;
-        if i % 2 == 0 {
-            kept.push(block)?;
-        } else {
-            let _shell = give(rt, pool, block);
-        }
+fn scatter(rt: &(impl Abort + AllocGlobal), pool: &mut Pool) -> Vec<Block> {
+    let mut kept = Vec::new(rt.alloc());
+    for _ in 0..5 {
+        kept.push(counted(rt, pool, 16)).expect(rt, "memory");
+        give_back(rt, pool);
     }
-    Ok(kept)
+    kept
 }
 
 fn eighty_zeros_are_out(rt: &impl Abort, pool: &Pool, block: &Block) {
@@ -274,53 +284,53 @@ fn eighty_zeros_are_out(rt: &impl Abort, pool: &Pool, block: &Block) {
 
 // The pieces that are free lie between others.
 #[test]
-fn scattered_pieces_make_one_block(rt: HostRuntime) -> Result<(), Fail> {
-    let mut pool = Pool::new(rt.alloc(), 160)?;
-    let kept = scatter(&rt, &mut pool)?;
-    let block = zeros(&rt, &mut pool, 80)?;
+fn scattered_pieces_make_one_block(rt: HostRuntime) {
+    let mut pool = pool_of(&rt, 160);
+    let kept = scatter(&rt, &mut pool);
+    let block = zeros(&rt, &mut pool, 80);
     eighty_zeros_are_out(&rt, &pool, &block);
     for block in kept.iter() {
         check(&rt, block, 1, 16);
     }
-    assert_eq!(rt; refusal(&rt, &mut pool)?, [160, 16, 1]);
-    Ok(())
+    refuses(&rt, &mut pool, 160);
 }
 
-// Takes a block of `words` words, writes its last number and gives it back.
-fn write_last(rt: &(impl Abort + AllocGlobal), pool: &mut Pool, words: u32) -> Result<(), Fail> {
-    let mut block = zeros(rt, pool, words)?;
-    let last = words.saturating_sub(1);
+// Writes the last number of a block.
+fn set_last(rt: &impl Abort, block: &mut Block, last: u32) {
     let before = block.get(last);
-    block.set(last, i64::MIN)?;
+    block.set(last, i64::MIN).expect(rt, "a place");
     assert_eq!(rt;
         (last, before, block.get(last)),
         (last, Some(0), Some(i64::MIN))
     );
+}
+
+// Takes a block of `words` words, writes its last number and gives it back.
+fn write_last(rt: &(impl Abort + AllocGlobal), pool: &mut Pool, words: u32) {
+    let mut block = zeros(rt, pool, words);
+    set_last(rt, &mut block, words.saturating_sub(1));
     let _shell = give(rt, pool, block);
-    Ok(())
 }
 
 #[test]
-fn the_greatest_pool_goes_out_whole(rt: HostRuntime) -> Result<(), Fail> {
-    let mut pool = Pool::new(rt.alloc(), MAX_WORDS)?;
+fn the_greatest_pool_goes_out_whole(rt: HostRuntime) {
+    let mut pool = pool_of(&rt, MAX_WORDS);
     for words in [1_048_576, MAX_WORDS, 1_048_576] {
-        write_last(&rt, &mut pool, words)?;
+        write_last(&rt, &mut pool, words);
     }
     assert_eq!(rt;
         [pool.capacity(), pool.live(), pool.high()],
         [67_108_864, 0, 67_108_864]
     );
-    Ok(())
 }
 
 // A pool and a block that is out of it are in the hands of two threads.
 #[test]
-fn crosses_threads(rt: HostRuntime) -> Result<(), Fail> {
-    let mut pool = Pool::new(rt.alloc(), 32)?;
-    let block = zeros(&rt, &mut pool, 16)?;
+fn crosses_threads(rt: HostRuntime) {
+    let mut pool = pool_of(&rt, 32);
+    let block = zeros(&rt, &mut pool, 16);
     let (live, number) = join(&rt, move || pool.live(), move || block.get(15));
     assert_eq!(rt; (live, number), (16, Some(0)));
-    Ok(())
 }
 
 fn reasons() -> [(PoolError, &'static str); 3] {
@@ -334,44 +344,50 @@ fn reasons() -> [(PoolError, &'static str); 3] {
     ]
 }
 
-#[test]
-fn no_pool_is_made_for_a_reason(rt: HostRuntime) -> Result<(), Fail> {
-    for (reason, want) in reasons() {
-        assert_eq!(rt; format!(in rt.alloc(); "{reason}")?.as_str(), want);
-    }
-    Ok(())
+fn is_said(rt: &(impl Abort + AllocGlobal), reason: PoolError, want: &str) {
+    let told = format!(in rt.alloc(); "{reason}").expect(rt, "memory");
+    assert_eq!(rt; told.as_str(), want);
 }
 
 #[test]
-fn refusals_say_why(rt: HostRuntime) -> Result<(), Fail> {
+fn no_pool_is_made_for_a_reason(rt: HostRuntime) {
+    for (reason, want) in reasons() {
+        is_said(&rt, reason, want);
+    }
+}
+
+#[test]
+fn refusals_say_why(rt: HostRuntime) {
     let full = Full {
         live: 32,
         asked: 16,
-        shell: shell(&rt, 0)?,
+        shell: shell(&rt, 0),
     };
-    let refusals = format!(in rt.alloc(); "{full}, {OutOfRange}, {SplitRefused}")?;
+    let refusals = format!(in rt.alloc(); "{full}, {OutOfRange}, {SplitRefused}").expect(
+        &rt, "memory",
+    );
     assert_eq!(rt;
         refusals.as_str(),
         "16 words do not fit beside 32 that are out, the place is not below the length of the block, the block can't be cut at this place"
     );
-    Ok(())
 }
 
 // Writes the numbers from `first` on over the zeros of a block.
-fn count_from(rt: &impl Abort, block: &mut OwnBlock, first: i64) -> Result<(), OutOfRange> {
+fn count_from(rt: &impl Abort, block: &mut OwnBlock, first: i64) {
     for i in 0..block.len() {
         assert_eq!(rt; (i, block.get(i)), (i, Some(0)));
-        block.set(i, first.wrapping_add(i64::from(i)))?;
+        block
+            .set(i, first.wrapping_add(i64::from(i)))
+            .expect(rt, "a place");
     }
-    Ok(())
 }
 
 // A block of `len` numbers in memory of its own, `first` at place 0, the next one at place 1 and so on.
-fn own(rt: &(impl Abort + AllocGlobal), first: i64, len: u16) -> Result<OwnBlock, Fail> {
-    let mut block = OwnBlock::zeros(rt.alloc(), u32::from(len))?;
+fn own(rt: &(impl Abort + AllocGlobal), first: i64, len: u16) -> OwnBlock {
+    let mut block = OwnBlock::zeros(rt.alloc(), u32::from(len)).expect(rt, "memory");
     assert_eq!(rt; block.len(), u32::from(len));
-    count_from(rt, &mut block, first)?;
-    Ok(block)
+    count_from(rt, &mut block, first);
+    block
 }
 
 // The block is the numbers from 1 on.
@@ -382,41 +398,51 @@ fn check_own(rt: &impl Abort, block: &OwnBlock, len: u32) {
     }
 }
 
-// A block of `left` numbers, and one of `right` numbers that goes on where it ends, are one block.
-fn append_one(rt: &(impl Abort + AllocGlobal), left: u16, right: u16) -> Result<(), Fail> {
-    let first = own(rt, 1, left)?;
-    let second = own(rt, i64::from(left) + 1, right)?;
-    let whole = first.append(rt.alloc(), second)?;
-    check_own(rt, &whole, u32::from(left) + u32::from(right));
-    Ok(())
+// The blocks are one block.
+fn appended(rt: &(impl Abort + AllocGlobal), first: OwnBlock, second: OwnBlock) -> OwnBlock {
+    first.append(rt.alloc(), second).expect(rt, "memory")
 }
 
-fn append_each(rt: &(impl Abort + AllocGlobal), left: u16) -> Result<(), Fail> {
-    for right in [0, 1, 16, 40, 65_535] {
-        append_one(rt, left, right)?;
-    }
-    Ok(())
+// A block of `left` numbers, and one of `right` numbers that goes on where it ends, are one block.
+fn append_one(rt: &(impl Abort + AllocGlobal), left: u16, right: u16) {
+    let first = own(rt, 1, left);
+    let second = own(rt, i64::from(left) + 1, right);
+    let whole = appended(rt, first, second);
+    check_own(rt, &whole, u32::from(left) + u32::from(right));
+}
+
+fn append_empty(rt: &(impl Abort + AllocGlobal)) {
+    let first = OwnBlock::empty(rt.alloc());
+    let second = OwnBlock::empty(rt.alloc());
+    let whole = appended(rt, first, second);
+    check_own(rt, &whole, 0);
 }
 
 #[test]
-fn appends_blocks_of_their_own(rt: HostRuntime) -> Result<(), Fail> {
+fn appends_blocks_of_their_own(rt: HostRuntime) {
     for left in [0, 5, 16, 17, 32, 65_535] {
-        append_each(&rt, left)?;
+        for right in [0, 1, 16, 40, 65_535] {
+            append_one(&rt, left, right);
+        }
     }
-    let empty = OwnBlock::empty(rt.alloc()).append(rt.alloc(), OwnBlock::empty(rt.alloc()))?;
-    check_own(&rt, &empty, 0);
-    Ok(())
+    append_empty(&rt);
+}
+
+// The parts of a block of 40 numbers that is cut at place 32.
+fn parts(rt: &(impl Abort + AllocGlobal), block: OwnBlock) -> (OwnBlock, OwnBlock) {
+    let room = pieces_for(block.len().saturating_sub(32));
+    let shell = shell(rt, room);
+    assert!(rt; room <= shell.room());
+    match block.split(32, shell) {
+        Ok(parts) => parts,
+        Err(_) => panic!(rt; "a block was not cut"),
+    }
 }
 
 // A block that was cut has room for its parts, so they are put together again with no memory.
 #[test]
-fn parts_are_appended_again(rt: HostRuntime) -> Result<(), Fail> {
-    let block = own(&rt, 1, 40)?;
-    let room = pieces_for(block.len().saturating_sub(32));
-    let Ok((left, right)) = block.split(32, Shell::with_room(rt.alloc(), room)?) else {
-        return Err("a block was not cut")?;
-    };
-    let whole = left.append(rt.alloc(), right)?;
+fn parts_are_appended_again(rt: HostRuntime) {
+    let (left, right) = parts(&rt, own(&rt, 1, 40));
+    let whole = appended(&rt, left, right);
     check_own(&rt, &whole, 40);
-    Ok(())
 }

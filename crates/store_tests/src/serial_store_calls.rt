@@ -1,35 +1,23 @@
 use dag_order::FaultKind;
 use par_tree::{Expr, Name};
 use serial_store::{Store, evaluate};
-use std::alloc::{AllocError, Global};
 use std::process::Abort;
-use std::test::Fail;
 
-fn name(alloc: Global, text: &str) -> Result<Name, AllocError> {
-    Ok(Name {
-        bytes: Vec::from_slice(alloc, text.as_bytes())?,
-    })
+fn name(rt: &(impl Abort + AllocGlobal), text: &str) -> Name {
+    Name {
+        bytes: Vec::from_slice(rt.alloc(), text.as_bytes()).expect(rt, "memory"),
+    }
 }
 
 // An integer that is set twice, and one that is not set.
-fn integers_are_set<'a>(
-    rt: &impl Abort,
-    store: &mut Store<'a>,
-    x: &'a Name,
-    y: &Name,
-) -> Result<(), AllocError> {
-    store.set_integer(x, 3)?;
-    store.set_integer(x, i64::MIN)?;
+fn integers_are_set<'a>(rt: &impl Abort, store: &mut Store<'a>, x: &'a Name, y: &Name) {
+    store.set_integer(x, 3).expect(rt, "memory");
+    store.set_integer(x, i64::MIN).expect(rt, "memory");
     assert_eq!(rt; [store.integer(x), store.integer(y)], [i64::MIN, 0]);
-    Ok(())
 }
 
-fn seventeen_are_held<'a>(
-    rt: &(impl Abort + AllocGlobal),
-    store: &mut Store<'a>,
-    b: &'a Name,
-) -> Result<(), AllocError> {
-    store.allocate(rt.alloc(), b, 17)?;
+fn seventeen_are_held<'a>(rt: &(impl Abort + AllocGlobal), store: &mut Store<'a>, b: &'a Name) {
+    store.allocate(rt.alloc(), b, 17).expect(rt, "memory");
     assert_eq!(rt;
         [
             u64::from(store.length(b)),
@@ -38,7 +26,6 @@ fn seventeen_are_held<'a>(
         ],
         [17, 32, 32]
     );
-    Ok(())
 }
 
 fn put(rt: &impl Abort, store: &mut Store, name: &Name, place: i64, fault: Option<FaultKind>) {
@@ -55,11 +42,10 @@ fn numbers_are_put(rt: &impl Abort, store: &mut Store, x: &Name, b: &Name) {
     assert_eq!(rt; [store.element(b, 16), store.element(b, 0)], [Ok(5), Ok(0)]);
 }
 
-fn the_length_is_told(rt: &(impl Abort + AllocGlobal), store: &Store) -> Result<(), AllocError> {
-    let length = Expr::Len(name(rt.alloc(), "b")?);
+fn the_length_is_told(rt: &(impl Abort + AllocGlobal), store: &Store) {
+    let length = Expr::Len(name(rt, "b"));
     let told = evaluate(store, &length);
     assert_eq!(rt; told, Ok(17));
-    Ok(())
 }
 
 fn the_block_is_released(rt: &(impl Abort + AllocGlobal), store: &mut Store, b: &Name) {
@@ -68,15 +54,14 @@ fn the_block_is_released(rt: &(impl Abort + AllocGlobal), store: &mut Store, b: 
 }
 
 #[test]
-fn sets_and_puts(rt: HostRuntime) -> Result<(), Fail> {
-    let x = name(rt.alloc(), "x")?;
-    let y = name(rt.alloc(), "y")?;
-    let b = name(rt.alloc(), "b")?;
+fn sets_and_puts(rt: HostRuntime) {
+    let x = name(&rt, "x");
+    let y = name(&rt, "y");
+    let b = name(&rt, "b");
     let mut store = Store::new(rt.alloc());
-    integers_are_set(&rt, &mut store, &x, &y)?;
-    seventeen_are_held(&rt, &mut store, &b)?;
+    integers_are_set(&rt, &mut store, &x, &y);
+    seventeen_are_held(&rt, &mut store, &b);
     numbers_are_put(&rt, &mut store, &x, &b);
-    the_length_is_told(&rt, &store)?;
+    the_length_is_told(&rt, &store);
     the_block_is_released(&rt, &mut store, &b);
-    Ok(())
 }
