@@ -1,7 +1,7 @@
 //! Tests of the stores: blocks out of a pool, the integers and blocks of threads, and rows of slots with turns.
 //!
-//! This crate has no code but tests and a user of a row of turns, which the tests run and a must-fail edit changes. It stands on the crates that
-//! it tests, each of which is so proved but once. It has no theorem.
+//! This crate has no code but tests, and a user of a row of turns that they run. It stands on the crates that it tests, each of which is so
+//! proved but once. It has no theorem.
 #![tactic(auto)]
 
 #[cfg(test)]
@@ -10,6 +10,7 @@ mod block_arena_calls;
 mod serial_store_calls;
 #[cfg(test)]
 mod slot_store_calls;
+#[cfg(test)]
 mod turn_sums;
 #[cfg(test)]
 mod turn_sums_calls;
