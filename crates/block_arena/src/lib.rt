@@ -9,12 +9,16 @@
 //! An [`OwnBlock`] lies in pieces of its own, which no pool counts. It is a type of its own, so that no pool
 //! takes it and none that asks for a [`Block`] gets it.
 //!
+//! A [`RecordBlock`] is the 16 words which a forked thread takes: one piece without a list, so it needs no shell.
+//! Nobody reads or writes its words, and only their count is told.
+//!
 //! The layer stands on std alone. Its theorem is the pool law:
 //!
 //! - Each piece of a pool lies in it or is out, in one place. The words that are out are 16 times the pieces
 //!   that are out: `take` raises them by the words of the block, and `give` lowers them by just these.
-//! - `take` is refused exactly where the words that are out and those asked for are more than the pool has,
-//!   however the free pieces lie.
+//!   `take_record` raises them by 16, and `give_record` lowers them by 16.
+//! - `take` and `take_record` are refused exactly where the words that are out and those asked for are more than
+//!   the pool has, however the free pieces lie.
 //! - A block is its list of numbers. It is zeros when it is taken; `set` writes one place, `split` cuts the list
 //!   between two pieces, `join` appends one list to another, and a join of what was split is the block that was
 //!   there.
@@ -31,6 +35,7 @@ mod own_block;
 mod piece;
 mod pieces;
 mod pool;
+mod record_block;
 mod shell;
 mod size;
 
@@ -38,5 +43,6 @@ pub use block::Block;
 pub use error::{Full, OutOfRange, PoolError, SplitRefused};
 pub use own_block::OwnBlock;
 pub use pool::Pool;
+pub use record_block::RecordBlock;
 pub use shell::Shell;
 pub use size::{MAX_WORDS, PIECE_WORDS, pieces_for};

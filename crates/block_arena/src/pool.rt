@@ -1,4 +1,4 @@
-ghost use Rattle.std.specs.Prelude.{◌≡◌, ◌≢◌, ◌+◌, ◌%◌, ◌<◌, ◌≤◌, ◌↔◌, ◌⊎◌, length, IsErr, IfOk, IfErr, OnOk, OnErr};
+ghost use Rattle.std.specs.Prelude.{◌≡◌, ◌≢◌, ◌+◌, ◌%◌, ◌<◌, ◌≤◌, ◌↔◌, ◌⊎◌, length, IsErr, IsNone, IfOk, IfErr, OnOk, OnErr, OnSome};
 ghost use Rattle.block_arena.specs.Size.{pieces_for, words_taken};
 ghost use Rattle.block_arena.specs.Region.{IsWhole, IsSound, fresh_region, with_taken, with_given};
 ghost use Rattle.block_arena.specs.Content.{zeros};
@@ -7,6 +7,7 @@ use crate::block::Block;
 use crate::error::{Full, PoolError};
 use crate::numbers::Numbers;
 use crate::pieces::{PieceList, clear_all, move_tail, new_pieces};
+use crate::record_block::RecordBlock;
 use crate::shell::Shell;
 use crate::size::{MAX_WORDS, PIECE_WORDS, pieces_for};
 use std::alloc::Global;
@@ -131,5 +132,28 @@ impl Pool {
         let Numbers { mut pieces, .. } = numbers;
         move_tail(&mut pieces, 0, &mut self.free);
         Shell::from_list(pieces)
+    }
+
+    /// Takes the 16 words of a record out of the pool, in one piece. No memory is needed.
+    ///
+    /// It is refused only where the words that are out and these are more than the pool has.
+    pub fn take_record(&mut self) -> Option<RecordBlock>
+        ensures full { IsNone result ↔ (self.old.capacity < self.old.live + PIECE_WORDS) }
+        ensures taken { OnSome result (self.new ≡ with_taken self.old PIECE_WORDS) }
+        ensures unchanged { IsNone result → self.new ≡ self.old }
+    {
+        let piece = self.free.pop()?;
+        self.live += u64::from(PIECE_WORDS);
+        self.high = self.high.max(self.live);
+        Some(RecordBlock { piece })
+    }
+
+    /// Gives the words of a record back to the pool. No memory is needed.
+    pub fn give_record(&mut self, block: RecordBlock)
+        requires { PIECE_WORDS ≤ self.old.live }
+        ensures { self.new ≡ with_given self.old PIECE_WORDS }
+    {
+        self.live -= u64::from(PIECE_WORDS);
+        self.free.push_reserved(block.piece);
     }
 }

@@ -1,5 +1,6 @@
 use block_arena::{
-    Block, Full, MAX_WORDS, OutOfRange, OwnBlock, Pool, PoolError, Shell, SplitRefused, pieces_for,
+    Block, Full, MAX_WORDS, OutOfRange, OwnBlock, Pool, PoolError, RecordBlock, Shell,
+    SplitRefused, pieces_for,
 };
 use std::process::Abort;
 use std::thread::join;
@@ -40,6 +41,11 @@ fn take(rt: &impl Abort, pool: &mut Pool, len: u32, shell: Shell) -> Result<Bloc
 fn give(rt: &impl Abort, pool: &mut Pool, block: Block) -> Shell {
     assert!(rt; u64::from(block.words()) <= pool.live());
     pool.give(block)
+}
+
+fn give_record(rt: &impl Abort, pool: &mut Pool, block: RecordBlock) {
+    assert!(rt; 16 <= pool.live());
+    pool.give_record(block);
 }
 
 // A block of `len` zeros, with just the room that it needs.
@@ -110,6 +116,21 @@ fn counted(rt: &(impl Abort + AllocGlobal), pool: &mut Pool, len: u32) -> Block 
     let mut block = zeros(rt, pool, len);
     count_up(rt, &mut block);
     block
+}
+
+// Two records fill a pool of 32 words. The piece of one that came back is the piece of a block of zeros.
+#[test]
+fn takes_and_gives_records(rt: HostRuntime) {
+    let mut pool = pool_of(&rt, 32);
+    let first = pool.take_record().expect(&rt, "room in the pool");
+    let second = pool.take_record();
+    let third = pool.take_record();
+    assert_eq!(rt; [second.is_some(), third.is_some()], [true, false]);
+    refuses(&rt, &mut pool, 32);
+    give_record(&rt, &mut pool, first);
+    has_words(&rt, &pool, 16, 32);
+    let _block = counted(&rt, &mut pool, 16);
+    has_words(&rt, &pool, 32, 32);
 }
 
 // The block is the numbers from `first` on.
