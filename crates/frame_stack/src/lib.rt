@@ -6,7 +6,7 @@
 //! depth-first run they are. It stands on the node table (`node_table`) and on the depth-first run (`depth_first_run`), and
 //! knows of no number, block or output.
 //!
-//! Its one theorem, by [`frame_from`] and the laws of `proofs/`: a list of statements is read one by one, as the run goes on
+//! Its one theorem, by [`numbers`], [`frame_from`] and the laws of `proofs/`: a list of statements is read one by one, as the run goes on
 //! with it; and what is left, told by one number, grows less with each step that does no action, so that a thread comes to
 //! its next action.
 #![tactic(auto)]
@@ -19,4 +19,4 @@ mod reading;
 pub use branch::Branch;
 pub use frame::Frame;
 pub use list_of::ListOf;
-pub use reading::{frame_from, number_at};
+pub use reading::{frame_from, numbers};

@@ -1,4 +1,4 @@
-ghost use Rattle.std.specs.Prelude.{◌≡◌, ◌≤◌, ◌<◌, ◌+◌, ◌++◌, ℕ, List, slice_get, length, IsSome, IsNone, IfSome, ◌↔◌, option_copied};
+ghost use Rattle.std.specs.Prelude.{◌≡◌, ◌≤◌, ◌<◌, ◌++◌, ℕ, List, length, IsSome, IfSome, ◌↔◌, option_copied};
 ghost use Rattle.par_tree.specs.Tree.{Program, Func, Body as BodyTree};
 ghost use Rattle.depth_first_run.specs.Middle.{Frame as RunFrame, before_all};
 ghost use Rattle.node_table.specs.Codes.{code_shown};
@@ -10,8 +10,8 @@ use crate::frame::Frame;
 use crate::list_of::ListOf;
 use node_table::{Code, FuncCode, NodeKind};
 
-/// The numbers of the statements of a list; none where the code has no such list.
-fn numbers(code: &Code, list: ListOf) -> &[u32]
+/// The numbers of the statements of a list, in their order; none where the code has no such list.
+pub fn numbers(code: &Code, list: ListOf) -> &[u32]
     ensures { result.now ≡ numbers_of (code_shown code.now) list }
 {
     match list {
@@ -53,19 +53,6 @@ fn kind(code: &Code, node: u32) -> Option<&NodeKind>
     match code.node(node) {
         Some(node) => Some(&node.kind),
         None => None,
-    }
-}
-
-/// The number of the statement at a place of a list, from 0; None exactly where the list has no such place.
-pub fn number_at(code: &Code, list: ListOf, place: usize) -> Option<u32>
-    ensures number { result ≡ slice_get (numbers_of (code_shown code.now) list) place }
-    ensures below { IfSome result (λ _. place < 18446744073709551615) }
-{
-    let numbers = numbers(code, list);
-    if place < numbers.len() {
-        Some(numbers[place])
-    } else {
-        None
     }
 }
 

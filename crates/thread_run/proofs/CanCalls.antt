@@ -1,7 +1,7 @@
 -- What stands in the row of a thread where a call begins.
 use Rattle.std.proofs.Common.{◌≡◌, ℕ, ◌+◌, ◌≤◌, true, false, List, ◌∷◌, length, Option, Some, None, refl, sym, ap, ◌∙◌, subst}
 use Rattle.std.specs.Prelude.{slice_get, map}
-use Rattle.std.proofs.Math.Logic.{∥∥₁_elim, ∥∥₁_map}
+use Rattle.std.proofs.Math.Logic.{∥∥₁_elim}
 use Rattle.par_tree.specs.Tree.{Name, Stmt, Arg, call_stmt, step}
 use Rattle.par_ownership.specs.Ownership.{OwnsFunction}
 use Rattle.depth_first_run.specs.Middle.{does, statements}
@@ -16,7 +16,6 @@ use Rattle.ownership_laws.proofs.Fitting.{keeps_at, finds_at}
 use Rattle.ownership_laws.proofs.Passing.{function_owned}
 use Rattle.frame_stack.specs.Frames.{IsNode}
 use Rattle.frame_stack.specs.Lists.{kind_at, kind_of_node}
-use Rattle.frame_stack.specs.declared.frame.Frame.TheVariants.{Statements, Again}
 use Rattle.slot_store.specs.Agreement.{ShowsStore}
 use Rattle.slot_store.specs.Calls.{passed_slots}
 use Rattle.slot_store.proofs.Agreement.{row_length}
@@ -26,11 +25,7 @@ use Rattle.thread_state.specs.declared.state.ThreadState.{ThreadState}
 use Rattle.thread_state.proofs.Steps.{own_store}
 use Rattle.thread_steps.specs.Meanings.{Meaning, IsMeant}
 use Rattle.thread_steps.proofs.Which.{OfCall, of_call}
-use Rattle.thread_steps.proofs.Firsts.{list_meaning, again_meaning}
-use Rattle.thread_run.specs.declared.run.ThreadRun.{ThreadRun}
-use Rattle.thread_run.specs.Calling.{is_call, CanCallFunction, CanCallAt, IsCallFirst}
-use Rattle.thread_run.specs.Stepping.{IsKnownAt}
-use Rattle.thread_run.proofs.Following.{known_below}
+use Rattle.thread_run.specs.Calling.{is_call, CanCallFunction, CanCallAt}
 use Rattle.thread_run.proofs.Beginning.{called}
 use Rattle.thread_run.proofs.OneProof.{can_call_one}
 use Rattle.thread_run.proofs.SlotLists.{hits, once_hits, each_has, passed_under, passed_fits, passed_hits, passed_needed, passed_once, params_once}
@@ -100,11 +95,3 @@ can_call_at t k n u meant going calls = by (kind_at t n) refl calls
     by (Some (print_node x)) e c = let never : ⊥ = cc in absurd never
     by (Some (both_node a b blocks assigned)) e c = let never : ⊥ = cc in absurd never
     by (Some (split_node s x l r body)) e c = let never : ⊥ = cc in absurd never
-
-pub list_can_call : (t : Table) (k : ℕ) (run : ThreadRun) (list : _) (next n : ℕ) → IsKnownAt t k run (Statements list next) → IsCallFirst t list next run.state.faulted n → CanCallAt t (own_row run.state) (kind_at t n)
-list_can_call t k run list next n known first =
-    can_call_at t k n run.state (∥∥₁_map (known_below t k run (Statements list next) known) (list_meaning t k n run.state list next first.there first.going)) first.going first.calls
-
-pub again_can_call : (t : Table) (k : ℕ) (run : ThreadRun) (n : ℕ) → IsKnownAt t k run (Again n) → run.state.faulted ≡ false → is_call (kind_at t n) ≡ true → CanCallAt t (own_row run.state) (kind_at t n)
-again_can_call t k run n known going calls =
-    can_call_at t k n run.state (∥∥₁_map (known_below t k run (Again n) known) (again_meaning t k n run.state going)) going calls

@@ -1,30 +1,34 @@
 -- The functions of the open children of a thread are kept by a step that opens no call and closes none.
 use Rattle.std.proofs.Common.{◌≡◌, ℕ, zero, suc, ◌+◌, List, [], ◌∷◌, ◌++◌, length, Result, Ok, Err, Option, Some, None, refl, sym, ◌∙◌, ap, subst, arith, append_assoc}
-use Rattle.std.specs.Prelude.{map, IfOk, OnOk}
+use Rattle.std.specs.Prelude.{Bool, map, IfOk, OnOk}
 use Rattle.std.specs.declared.alloc.AllocError.{AllocError}
 use Rattle.std.proofs.Math.Logic.{∥∥₁_elim}
 use denote.Struct.Props.{props}
-use Rattle.par_tree.specs.Tree.{Program, Func}
-use Rattle.depth_first_run.specs.States.{Setting, State}
+use Rattle.par_tree.specs.Tree.{Program, Func, Body, done, step}
+use Rattle.depth_first_run.specs.States.{Setting, State, began, with_item}
 use Rattle.depth_first_run.specs.Middle as middles
-use Rattle.depth_first_run.specs.Middle.{does, tree, Part, statements, answers, rejoins, answers_main, allocates, joins, Middle, step_frame, step_fork}
+use Rattle.depth_first_run.specs.Middle.{does, tree, Part, statements, answers, rejoins, answers_main, allocates, joins, Middle, before_all, step_frame, step_first, step_statement}
+use Rattle.node_table.specs.Names.{slot_names}
 use Rattle.node_table.specs.Table.{Table}
-use Rattle.thread_points.specs.Points.{IsOwn, IsAt}
+use Rattle.thread_points.specs.Points.{marked}
 use Rattle.thread_points.specs.Threads.{open_children}
 use Rattle.frame_stack.specs.declared.frame.Frame.{Frame}
 use Rattle.frame_stack.specs.declared.frame.Frame.TheVariants.{Statements, Again, Tree as DummyTree, Answers, Rejoins, AnswersMain, Allocates, Joins}
-use Rattle.frame_stack.specs.Frames.{AreFrames, functions_behind, frames_shown, IsOne}
+use Rattle.frame_stack.specs.Frames.{AreFrames, frames_shown, IsOne}
 use Rattle.thread_state.specs.declared.state.ThreadState.{ThreadState}
-use Rattle.thread_steps.specs.Steps.{StepsBy, Steps, IsActionOf}
+use Rattle.thread_steps.specs.Steps.{ActsNext}
+use Rattle.thread_steps.specs.Dones.{IsAction, Comes}
+use Rattle.thread_steps.specs.Meanings.{Meaning}
+use Rattle.thread_steps.proofs.Coming.{items_aside}
 use Rattle.thread_steps.specs.declared.ready.Ready.{Ready}
 use Rattle.thread_steps.specs.declared.ready.Ready.TheVariants.{Fork, Join, Alloc, Release, Dummy, Fault, End}
 use Rattle.thread_steps.specs.declared.done.Done.{Done}
 use Rattle.thread_steps.specs.declared.done.Done.TheVariants.{Silent, Prints, Acts}
-use Rattle.thread_steps.specs.declared.stepped.Stepped.{Stepped}
 use Rattle.thread_run.specs.declared.run.ThreadRun.{ThreadRun}
 use Rattle.thread_run.specs.Functions.{functions_of, frames_of, frames_before}
-use Rattle.thread_run.specs.Stepping.{frames_with, ready_of, KnowingAt, IsKnownAt, frames_left, KeepsFunctions}
+use Rattle.thread_run.specs.Stepping.{frames_with, ready_of, Meeting, IsMet, KnowingAt, IsKnownAt, frames_left, KeepsFunctions}
 use Rattle.thread_run.proofs.Threads.{children_same}
+use Rattle.thread_run.proofs.Following.{LeadsAt}
 
 -- how many calls end in some frames, and how many children are joined
 abbrev ends_in : List Frame → ℕ
@@ -155,48 +159,77 @@ back_again (Some n ∷ xs) = ap (λ (ys : List (Option ℕ)). Some n ∷ ys) (ba
 same_lists : (xs ys : List (Option ℕ)) → map numbered xs ≡ map numbered ys → xs ≡ ys
 same_lists xs ys e = sym (back_again xs) ∙ ap (map back) e ∙ back_again ys
 
-module _ (c : Setting) (t : Table) (gs : List Func) (u : ThreadState) (func : Option ℕ) (rest : Option Frame) (xs : List Frame) (f : middles.Frame) (fs : List middles.Frame) (s : State) (own : IsOwn f) (behind : AreFrames c.program t gs xs fs) where
-  children : open_children (step_frame c f fs s).frames ≡ open_children fs
-  children = children_same c f fs s own
+-- no statement and no frame but a Join of its own comes to one
+frames_stay : (c : Setting) (t : Table) (gs : List Func) (u : ThreadState) (ys : List Frame) (fs : List middles.Frame) (s : State) (m : Middle) (ready : Ready) → IsAction c t gs u ys fs s m ready → (func : Option ℕ) (xs : List Frame)
+    → functions_of func (frames_before ready xs) ≡ functions_of func xs
+frames_stay c t gs u ys fs s m (Fork x) h func xs = refl
+frames_stay c t gs u ys fs s m (Join branch) h func xs = absurd h
+frames_stay c t gs u ys fs s m (Alloc slot len shell) h func xs = refl
+frames_stay c t gs u ys fs s m (Release slot words) h func xs = refl
+frames_stay c t gs u ys fs s m Dummy h func xs = refl
+frames_stay c t gs u ys fs s m (Fault x) h func xs = refl
+frames_stay c t gs u ys fs s m End h func xs = absurd h
 
-  acting : (ready : Ready) → IsActionOf c t gs u (frames_shown rest ++ xs) fs s f (step_frame c f fs s) ready → functions_of func (frames_before ready (frames_shown rest ++ xs)) ≡ functions_of func xs
-  acting (Fork x) h =
-      let same : open_children h.0 ≡ open_children fs = sym (ap (λ (p : Middle). open_children p.frames) h.1.forks) ∙ children in
-      same_functions c.program t gs func (frames_shown rest) xs h.0 fs h.1.behind behind same
-  acting (Join branch) h = absurd h
-  acting (Alloc slot len shell) h = same_functions c.program t gs func (frames_shown rest) xs (step_frame c f fs s).frames fs h.1.0 behind children
-  acting (Release slot words) h = same_functions c.program t gs func (frames_shown rest) xs (step_frame c f fs s).frames fs h.1.0 behind children
-  acting Dummy h = same_functions c.program t gs func (frames_shown rest) xs (step_frame c f fs s).frames fs h.1.0 behind children
-  acting (Fault x) h = same_functions c.program t gs func (frames_shown rest) xs (step_frame c f fs s).frames fs h.0 behind children
-  acting End h = absurd h
-
-  by_done : (d : Done) → StepsBy c t gs u (frames_shown rest ++ xs) fs s f (step_frame c f fs s) d → functions_of func (frames_left (ready_of d) (frames_with d (frames_shown rest ++ xs))) ≡ functions_of func xs
-  by_done (Silent first next) h =
-      let three : List Frame = (frames_shown first ++ frames_shown next) ++ frames_shown rest in
-      let all : three ++ xs ≡ frames_shown first ++ (frames_shown next ++ (frames_shown rest ++ xs)) =
-      append_assoc (frames_shown first ++ frames_shown next) (frames_shown rest) xs ∙ append_assoc (frames_shown first) (frames_shown next) (frames_shown rest ++ xs) in
-      ap (λ (ys : List Frame). functions_of func ys) (sym all)
-      ∙ same_functions c.program t gs func three xs (step_frame c f fs s).frames fs (subst (λ (ys : List Frame). AreFrames c.program t gs ys (step_frame c f fs s).frames) (sym all) h.0) behind children
-  by_done (Prints v) h = same_functions c.program t gs func (frames_shown rest) xs (step_frame c f fs s).frames fs h.0 behind children
-  by_done (Acts ready) h = acting ready h.1
-
-pub follow_functions : (t : Table) (k : ℕ) (before after : ThreadRun) (u : ThreadState) (x : Frame) (stepped : Stepped) (result : Result (Option Ready) AllocError)
-    → IsKnownAt t k before x → ((gs : List Func) → functions_behind x gs ≡ gs) → ((func : Option ℕ) (xs : List Frame) → functions_of func (x ∷ xs) ≡ functions_of func xs)
-    → Steps t k before.state x (Ok stepped) u → after.func ≡ before.func → IfOk result (λ o. o ≡ ready_of stepped.done)
-    → OnOk result (frames_of after ≡ frames_with stepped.done (frames_shown stepped.rest ++ frames_of before))
-    → KeepsFunctions before x result after
-follow_functions t k before after u x stepped (Err e) known behind none steps same_func answer left = tt
-follow_functions t k before after u x stepped (Ok o) known behind none steps same_func answer left =
-    same_lists (functions_of after.func (frames_left o (frames_of after))) (functions_of before.func (x ∷ frames_of before))
-    (∥∥₁_elim known (search props) (λ m. ap (map numbered) (by m m.own m.frames m.thread.at_point)))
+pub acts_functions : (t : Table) (k : ℕ) (run : ThreadRun) (x : Frame) (ready : Ready) → IsKnownAt t k run x → ((func : Option ℕ) (xs : List Frame) → functions_of func (x ∷ xs) ≡ functions_of func xs) → ActsNext t k run.state x ready
+    → KeepsFunctions run x (Ok (Some ready)) run
+acts_functions t k run x ready known none comes =
+    same_lists (functions_of run.func (frames_before ready (frames_of run))) (functions_of run.func (x ∷ frames_of run))
+    (∥∥₁_elim known (search props) (λ m. ap (map numbered) (by m m.own m.frames)))
   where
-    by : (m : KnowingAt t k before x) → (own : List middles.Frame) → AreFrames m.setting.program t m.functions (x ∷ frames_of before) own → IsAt m.setting own m.at
-        → functions_of after.func (frames_left o (frames_of after)) ≡ functions_of before.func (x ∷ frames_of before)
-    by m [] frames at = absurd frames
-    by m (f ∷ fs) frames at =
-        let h = steps m.setting m.functions f (frames_of before) fs m.at m.of_table frames.0 frames.1 m.state in
-        let same : AreFrames m.setting.program t m.functions (frames_of before) fs = subst (λ (hs : List Func). AreFrames m.setting.program t hs (frames_of before) fs) (behind m.functions) frames.1 in
-        let kept = by_done m.setting t m.functions u after.func stepped.rest (frames_of before) f fs m.at at.all_own.0 same stepped.done h in
-        ap (λ (r : Option Ready). functions_of after.func (frames_left r (frames_of after))) answer
-        ∙ ap (λ (ys : List Frame). functions_of after.func (frames_left (ready_of stepped.done) ys)) left
-        ∙ kept ∙ ap (λ (n : Option ℕ). functions_of n (frames_of before)) same_func ∙ sym (none before.func (frames_of before))
+    by : (m : KnowingAt t k run x) → (own : List middles.Frame) → AreFrames m.setting.program t m.functions (x ∷ frames_of run) own → functions_of run.func (frames_before ready (frames_of run)) ≡ functions_of run.func (x ∷ frames_of run)
+    by m [] frames = absurd frames
+    by m (f ∷ fs) frames =
+        let h = comes m.setting m.functions f (frames_of run) fs m.at m.of_table frames.0 frames.1 m.state in
+        frames_stay m.setting t m.functions run.state (frames_of run) h.0 (marked f m.at) (step_frame m.setting f fs m.at) ready h.1 run.func (frames_of run) ∙ sym (none run.func (frames_of run))
+
+-- ---- one statement
+
+-- what is left behind it has no child of its own
+later_children : (b : Body) (fs : List middles.Frame) → open_children (before_all b fs) ≡ open_children fs
+later_children done fs = refl
+later_children (step line stmt rest) fs = refl
+
+-- the open children behind a statement
+statement_children : (t : Table) (k n : ℕ) (u : ThreadState) (m : Meaning t k n u)
+    → open_children (step_statement m.setting m.line m.stmt (before_all m.later m.own) (with_item (began m.line) m.at)).frames ≡ open_children (before_all m.later m.own)
+statement_children t k n u m =
+    let f : middles.Frame = does (statements (step m.line m.stmt m.later)) in
+    ap (λ (b : Bool). open_children (step_first b m.setting m.line m.stmt m.later m.own m.at).frames) (sym m.going)
+    ∙ children_same m.setting f m.own m.at m.point.all_own.0 ∙ sym (later_children m.later m.own)
+
+pub follow_functions : (t : Table) (k n : ℕ) (before after : ThreadRun) (u : ThreadState) (d : Done) (result : Result (Option Ready) AllocError)
+    → IsMet t k before n → LeadsAt t k n before.state (Ok d) u → after.func ≡ before.func → IfOk result (λ o. o ≡ ready_of d) → OnOk result (frames_of after ≡ frames_with d (frames_of before))
+    → IfOk result (λ o. functions_of after.func (frames_left o (frames_of after)) ≡ functions_of before.func (frames_of before))
+follow_functions t k n before after u d (Err e) met leads same_func answer left = tt
+follow_functions t k n before after u d (Ok o) met leads same_func answer left =
+    ap (λ (r : Option Ready). functions_of after.func (frames_left r (frames_of after))) answer
+    ∙ ap (λ (ys : List Frame). functions_of after.func (frames_left (ready_of d) ys)) left
+    ∙ ap (λ (i : Option ℕ). functions_of i (frames_left (ready_of d) (frames_with d (frames_of before)))) same_func
+    ∙ same_lists (functions_of before.func (frames_left (ready_of d) (frames_with d (frames_of before)))) (functions_of before.func (frames_of before))
+    (∥∥₁_elim met (search props) (λ m. ap (map numbered) (by m)))
+  where
+    kept : (m : Meeting t k n before) (x : Done)
+        → Comes m.meaning.setting t (m.meaning.runs ∷ m.meaning.waiting) u (frames_of before) (before_all m.meaning.later m.meaning.own) (with_item (began m.meaning.line) m.meaning.at)
+        (step_statement m.meaning.setting m.meaning.line m.meaning.stmt (before_all m.meaning.later m.meaning.own) (with_item (began m.meaning.line) m.meaning.at)) x
+        → functions_of before.func (frames_left (ready_of x) (frames_with x (frames_of before))) ≡ functions_of before.func (frames_of before)
+    kept m (Silent first next) h =
+        let p = m.meaning in
+        let gs : List Func = p.runs ∷ p.waiting in
+        let fs : List middles.Frame = before_all p.later p.own in
+        let es : List middles.Frame = (step_statement p.setting p.line p.stmt fs (with_item (began p.line) p.at)).frames in
+        let both : List Frame = frames_shown first ++ frames_shown next in
+        let all : both ++ frames_of before ≡ frames_shown first ++ (frames_shown next ++ frames_of before) = append_assoc (frames_shown first) (frames_shown next) (frames_of before) in
+        ap (λ (ys : List Frame). functions_of before.func ys) (sym all)
+        ∙ same_functions p.setting.program t gs before.func both (frames_of before) es fs (subst (λ (ys : List Frame). AreFrames p.setting.program t gs ys es) (sym all) h.0) m.frames (statement_children t k n before.state p)
+    kept m (Prints v) h = refl
+    kept m (Acts ready) h =
+        let p = m.meaning in
+        let fs : List middles.Frame = before_all p.later p.own in
+        let w : State = with_item (began p.line) p.at in
+        frames_stay p.setting t (p.runs ∷ p.waiting) u (frames_of before) fs w (step_statement p.setting p.line p.stmt fs w) ready h.1 before.func (frames_of before)
+
+    by : (m : Meeting t k n before) → functions_of before.func (frames_left (ready_of d) (frames_with d (frames_of before))) ≡ functions_of before.func (frames_of before)
+    by m =
+        let p = m.meaning in
+        kept m d (leads p.setting p.runs p.line p.stmt p.node p.waiting (frames_of before) (before_all p.later p.own) (with_item (began p.line) p.at)
+        (record { setting = p.of_table; frames = m.frames; state = items_aside (map slot_names (p.runs ∷ p.waiting)) before.state p.at (State.items (with_item (began p.line) p.at)) p.in_state }))

@@ -30,7 +30,7 @@ use Rattle.thread_state.specs.States.{own_row, words_held}
 use Rattle.thread_state.proofs.Steps.{own_store}
 use Rattle.thread_steps.specs.Stands.{InState}
 use Rattle.thread_steps.specs.Rejoining.{CanRejoinAt}
-use Rattle.thread_steps.proofs.Firsts.{none_runs}
+use Rattle.thread_steps.proofs.Behind.{none_runs}
 use Rattle.thread_run.specs.declared.run.ThreadRun.{ThreadRun}
 use Rattle.thread_run.specs.Functions.{frames_of}
 use Rattle.thread_run.specs.Stepping.{KnowingAt, IsKnownAt}

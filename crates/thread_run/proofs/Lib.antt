@@ -7,7 +7,7 @@ pub mod Kept
 pub mod OneProof
 pub mod SlotLists
 pub mod CanCalls
-pub mod FirstCalls
+pub mod Meetings
 pub mod CanEnds
 pub mod Outcomes
 pub mod OnTheWay

@@ -1,6 +1,6 @@
 -- Where a thread comes to by one step, and what it keeps.
 use Rattle.std.proofs.Common.{inl, inr, ◌≡◌, ℕ, List, [], ◌∷◌, ◌++◌, Result, Ok, Err, Option, Some, None, refl, sym, ◌∙◌, subst}
-use Rattle.std.specs.Prelude.{map, ◌⊎◌, MatchResult}
+use Rattle.std.specs.Prelude.{map, ◌⊎◌, IfOk, MatchResult}
 use Rattle.std.specs.declared.alloc.AllocError.{AllocError}
 use Rattle.std.proofs.Math.Logic.{∥∥₁_elim, ∥∥₁_map}
 use denote.Struct.Props.{props}
@@ -68,7 +68,7 @@ comes_by t k before after x (Ok (Some ready)) steps = λ c gs own s part older o
         }
 
 -- it is known again where it is
-pub known_again : (t : Table) (k : ℕ) (before after : ThreadRun) (x : Frame) (o : Option Ready) → IsKnownAt t k before x → ComesBy t k before x (Ok o) after → KnownAgain t k after o
+known_again : (t : Table) (k : ℕ) (before after : ThreadRun) (x : Frame) (o : Option Ready) → IsKnownAt t k before x → ComesBy t k before x (Ok o) after → KnownAgain t k after o
 known_again t k before after x (Some ready) known comes = tt
 known_again t k before after x None known comes = ∥∥₁_map known (λ m. again m (comes m.setting m.functions m.own m.at m.part m.older m.of_table m.thread m.runs m.frames m.state m.tells))
   where
@@ -84,6 +84,10 @@ known_again t k before after x None known comes = ∥∥₁_map known (λ m. aga
       thread = g.thread;
       going = g.going;
     }
+
+pub knows_again : (t : Table) (k : ℕ) (before after : ThreadRun) (x : Frame) (result : Result (Option Ready) AllocError) → IsKnownAt t k before x → StepsRun t k before x result after → IfOk result (λ o. KnownAgain t k after o)
+knows_again t k before after x (Ok o) known steps = known_again t k before after x o known (comes_by t k before after x (Ok o) steps)
+knows_again t k before after x (Err e) known steps = tt
 
 -- ---- what it keeps
 

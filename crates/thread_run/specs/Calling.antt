@@ -1,5 +1,5 @@
 -- Where a call begins and where it ends.
-use Rattle.std.specs.Prelude.{◌≡◌, ◌<◌, ℕ, Bool, true, false, List, ◌∷◌, Option, Some, None, slice_get, Result, MatchResult}
+use Rattle.std.specs.Prelude.{◌≡◌, ℕ, Bool, true, false, List, ◌∷◌, Option, Some, None, slice_get, Result, MatchResult}
 use Rattle.std.specs.declared.alloc.AllocError.{AllocError}
 use Rattle.par_tree.specs.Tree.{Name, Func, Target, Arg, call_stmt}
 use Rattle.par_ownership.specs.Ownership.{function_of}
@@ -10,8 +10,6 @@ use Rattle.node_table.specs.Names.{slot_names}
 use Rattle.node_table.specs.Table as tables
 use Rattle.node_table.specs.Table.{Kind, call_node, Function, Table}
 use Rattle.frame_stack.specs.Frames.{AreFrames, IsNode}
-use Rattle.frame_stack.specs.Lists.{kind_at, numbers_of}
-use Rattle.frame_stack.specs.declared.list_of.ListOf.{ListOf}
 use Rattle.slot_store.specs.Rows.{Entry}
 use Rattle.thread_state.specs.Calls.{CanCall, CanEnd, CanEndMain}
 use Rattle.thread_steps.specs.Settings.{IsSettingOf}
@@ -25,13 +23,6 @@ use Rattle.thread_run.specs.Functions.{RunsIn, frames_of}
 abbrev pub is_call : Option Kind → Bool
 is_call (Some (call_node to func from)) = true
 is_call other = false
-
--- the statement at a place of a list is the call of this node, in a thread that no fault ended
-pub record IsCallFirst (t : Table) (list : ListOf) (next : ℕ) (faulted : Bool) (n : ℕ) : Type 0 where
-  pub going : faulted ≡ false
-  pub there : slice_get (numbers_of t list) next ≡ Some n
-  pub calls : is_call (kind_at t n) ≡ true
-  pub below : next < 18446744073709551615
 
 -- the function of a call is there
 abbrev pub IsThere : Option Function → Type 0

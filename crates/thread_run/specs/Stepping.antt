@@ -1,21 +1,24 @@
 -- One step of a thread: what it comes to that took its next frame off.
 use Rattle.std.specs.Prelude.{◌≡◌, ℕ, ◌+◌, ◌≤◌, ◌⊎◌, List, [], ◌∷◌, ◌++◌, Option, Some, None, Result, IfOk, MatchResult}
 use Rattle.std.specs.declared.alloc.AllocError.{AllocError}
-use Rattle.par_tree.specs.Tree.{Func}
+use Rattle.par_tree.specs.Tree.{Func, Stmt}
 use Rattle.depth_first_run.specs.States.{Setting, State, Item, printed}
 use Rattle.depth_first_run.specs.Run.{actions_of}
 use Rattle.depth_first_run.specs.Middle as middles
-use Rattle.depth_first_run.specs.Middle.{Middle, step_frame}
+use Rattle.depth_first_run.specs.Middle.{Middle, before_all, step_frame, step_statement}
+use Rattle.node_table.specs.Names.{slot_names}
 use Rattle.node_table.specs.Table.{Table}
 use Rattle.thread_points.specs.Threads.{IsThread, open_children}
 use Rattle.frame_stack.specs.declared.frame.Frame.{Frame}
-use Rattle.frame_stack.specs.Frames.{AreFrames, IsFrame, functions_behind, frames_shown}
+use Rattle.frame_stack.specs.Frames.{AreFrames, IsFrame, IsNode, functions_behind, frames_shown}
 use Rattle.frame_stack.specs.Measure.{left_to_do}
 use Rattle.thread_output.specs.Telling.{Tells}
 use Rattle.thread_state.specs.States.{words_held}
 use Rattle.thread_state.specs.declared.state.ThreadState.{ThreadState}
 use Rattle.thread_steps.specs.Settings.{IsSettingOf}
 use Rattle.thread_steps.specs.Stands.{InState}
+use Rattle.thread_steps.specs.Meanings.{Meaning}
+use Rattle.thread_steps.specs.Dones.{IsAction}
 use Rattle.thread_steps.specs.declared.ready.Ready.{Ready}
 use Rattle.thread_steps.specs.declared.done.Done.{Done}
 use Rattle.thread_steps.specs.declared.done.Done.TheVariants.{Silent, Prints, Acts}
@@ -23,7 +26,7 @@ use Rattle.thread_run.specs.declared.run.ThreadRun.{ThreadRun}
 use Rattle.thread_run.specs.Functions.{RunsIn, functions_of, frames_of, frames_before}
 use Rattle.thread_run.specs.Going.{IsGoing, IsNext, Comes, IsKnown}
 
--- ---- what a step of the layer below comes to
+-- ---- what a statement of the layer below comes to
 
 -- the frames behind it, the action that it is, and the items that it tells
 abbrev pub frames_with : Done → List Frame → List Frame
@@ -93,6 +96,31 @@ StepsRun t k before x result after =
     → RunsIn c.program t before.func gs → IsFrame c.program t gs x f → AreFrames c.program t (functions_behind x gs) (frames_of before) fs
     → InState gs before.state s
     → MatchResult result (λ o. RunsBy c t gs before after f fs s o) (λ _. Wants after s (step_frame c f fs s))
+
+-- ---- a statement
+
+-- The node n is the next statement of a thread that no fault ended, and what is left behind it is what the frames have.
+pub record Meeting (t : Table) (k n : ℕ) (run : ThreadRun) : Type 0 where
+  pub meaning : Meaning t k n run.state
+  pub frames : AreFrames meaning.setting.program t (meaning.runs ∷ meaning.waiting) (frames_of run) (before_all meaning.later meaning.own)
+
+abbrev pub IsMet : Table → ℕ → ThreadRun → ℕ → Type 0
+IsMet t k run n = ∥ Meeting t k n run ∥₁
+
+-- A statement, which leads from the state s, with fs behind it, to m: the thread goes on there, or stands before an action that leads there.
+abbrev pub Does : Setting → Table → List Func → (before after : ThreadRun) → List middles.Frame → State → Middle → Option Ready → Type 0
+Does c t gs before after fs s m None = Goes c t before after s m
+Does c t gs before after fs s m (Some ready) =
+    RunsIn c.program t after.func gs × InState gs after.state s × IsAction c t gs after.state (frames_of after) fs s m ready
+    × ((part : List Item) → Tells before.told part → Tells after.told part)
+
+abbrev pub DoesRun : Table → ℕ → (before : ThreadRun) → (node : ℕ) → Result (Option Ready) AllocError → (after : ThreadRun) → Type 0
+DoesRun t k before n result after =
+    (c : Setting) (g : Func) (gs : List Func) (line : ℕ) (stmt : Stmt) (fs : List middles.Frame) (s : State) → IsSettingOf t k c
+    → RunsIn c.program t before.func (g ∷ gs) → IsNode c.program t (slot_names g) n line stmt
+    → AreFrames c.program t (g ∷ gs) (frames_of before) fs → InState (g ∷ gs) before.state s
+    → MatchResult result (λ o. Does c t (g ∷ gs) before after fs s (step_statement c line stmt fs s) o)
+    (λ _. Wants after s (step_statement c line stmt fs s))
 
 -- ---- what a step keeps
 

@@ -1,6 +1,8 @@
 //! Calls: where they begin.
 
-ghost use Rattle.std.specs.Prelude.{◌≡◌, ◌+◌, ◌≤◌, ◌++◌, ◌∷◌, ℕ, List, false, Some, IfOk, vec_len, vec_capacity};
+ghost use Rattle.std.specs.Prelude.{◌≡◌, ◌+◌, ◌≤◌, ◌++◌, ◌∷◌, ℕ, List, false, Some, IfOk, slice_get, vec_len, vec_capacity};
+ghost use Rattle.node_table.specs.Table as tables;
+ghost use Rattle.node_table.specs.Shown.{node_shown, kind_shown};
 ghost use Rattle.node_table.specs.Codes.{code_shown};
 ghost use Rattle.frame_stack.specs.Lists.{kind_at};
 ghost use Rattle.frame_stack.specs.Frames.{frames_shown};
@@ -13,19 +15,16 @@ ghost use Rattle.thread_run.specs.Stepping.{frames_left};
 use crate::run::ThreadRun;
 use dag_order::FaultAt;
 use frame_stack::{Frame, ListOf, frame_from};
-use node_table::{Code, NodeKind};
+use node_table::{Code, Node, NodeKind};
 use std::alloc::{AllocError, Global};
 use thread_state::Stop;
 use thread_steps::Ready;
 
-/// Whether the node of a number is a call.
-pub(crate) fn calls(code: &Code, number: u32) -> bool
-    ensures { result ≡ is_call (kind_at (code_shown code.now) number) }
+/// Whether a node is a call.
+pub(crate) fn calls(node: &Node) -> bool
+    ensures { result ≡ is_call (Some (kind_shown node.now.kind)) }
 {
-    match code.node(number) {
-        Some(node) => matches!(&node.kind, NodeKind::Call { .. }),
-        None => false,
-    }
+    matches!(&node.kind, NodeKind::Call { .. })
 }
 
 impl ThreadRun {
@@ -41,7 +40,9 @@ impl ThreadRun {
         alloc: Global,
         code: &Code,
         number: u32,
+        node: &Node,
     ) -> Result<Option<Ready>, AllocError>
+        requires there { slice_get (tables.Table.nodes (code_shown code.now)) number ≡ Some (node_shown node.now) }
         requires going { self.old.state.faulted ≡ false }
         requires can { CanCallAt (code_shown code.now) (own_row self.old.state) (kind_at (code_shown code.now) number) }
         ensures meaning { (k : ℕ) → BeginsRun (code_shown code.now) k self.old number result self.new }
@@ -54,9 +55,6 @@ impl ThreadRun {
         // A thread without a function runs dummies alone, and comes to no call.
         let Some(caller) = self.func else {
             return Err(AllocError);
-        };
-        let Some(node) = code.node(number) else {
-            unreachable!();
         };
         let NodeKind::Call { func, args, .. } = &node.kind else {
             unreachable!();

@@ -8,7 +8,7 @@ ghost use Rattle.thread_state.specs.States.{words_held};
 ghost use Rattle.thread_run.specs.Stepping.{IsKnownAt, StepsRun, KeepsFunctions, KeepsCounts, RunsLess, ComesBy, KnownAgain};
 
 use crate::run::ThreadRun;
-use dummy_tree::{Quota, Tree};
+use dummy_tree::Quota;
 use frame_stack::Frame;
 use node_table::Code;
 use std::alloc::{AllocError, Global};
@@ -29,61 +29,23 @@ impl ThreadRun {
     ) -> Result<Option<Ready>, AllocError>
         requires known { IsKnownAt (code_shown code.now) (quota_words k) self.old frame }
         requires fits { words_held self.old.state ≤ MAX_WORDS }
+        ensures meaning { StepsRun (code_shown code.now) (quota_words k) self.old frame result self.new }
         ensures comes { ComesBy (code_shown code.now) (quota_words k) self.old frame result self.new }
         ensures known { IfOk result (λ o. KnownAgain (code_shown code.now) (quota_words k) self.new o) }
         ensures counts { KeepsCounts self.old.state self.new.state }
         ensures functions { KeepsFunctions self.old frame result self.new }
         ensures cost { RunsLess (code_shown code.now) self.old frame result self.new }
     {
-        match self.step(alloc, code, k, frame) {
-            Ok(answer) => Ok(answer),
-            Err(error) => Err(error),
-        }
-    }
-
-    /// One step from a frame that was taken off.
-    ///
-    /// # Errors
-    ///
-    /// There is not enough memory.
-    fn step(
-        &mut self,
-        alloc: Global,
-        code: &Code,
-        k: Quota,
-        frame: Frame,
-    ) -> Result<Option<Ready>, AllocError>
-        requires known { IsKnownAt (code_shown code.now) (quota_words k) self.old frame }
-        requires fits { words_held self.old.state ≤ MAX_WORDS }
-        ensures meaning { StepsRun (code_shown code.now) (quota_words k) self.old frame result self.new }
-        ensures functions { KeepsFunctions self.old frame result self.new }
-        ensures cost { RunsLess (code_shown code.now) self.old frame result self.new }
-    {
         match frame {
             Frame::Statements { list, next } => self.statements(alloc, code, k, list, next),
             Frame::Again(number) => self.again(alloc, code, k, number),
-            Frame::Tree(tree) => self.dummies(code, k, tree),
+            Frame::Tree(tree) => Ok(Some(dummies(tree))),
             Frame::Answers { node, caller } => Ok(self.end_call(code, node, caller)),
             Frame::Rejoins(number) => self.rejoin(code, k, number),
             Frame::AnswersMain => Ok(self.end_main(code)),
             Frame::Allocates { slot, len } => self.allocate(alloc, code, k, slot, len),
             Frame::Joins(branch) => Ok(Some(Ready::Join(branch))),
         }
-    }
-
-    /// A tree of dummies.
-    ///
-    /// # Errors
-    ///
-    /// There is not enough memory.
-    fn dummies(&mut self, code: &Code, k: Quota, tree: Tree) -> Result<Option<Ready>, AllocError>
-        requires { IsKnownAt (code_shown code.now) (quota_words k) self.old (Frame.Tree tree) }
-        ensures meaning { StepsRun (code_shown code.now) (quota_words k) self.old (Frame.Tree tree) result self.new }
-        ensures functions { KeepsFunctions self.old (Frame.Tree tree) result self.new }
-        ensures cost { RunsLess (code_shown code.now) self.old (Frame.Tree tree) result self.new }
-    {
-        let stepped = dummies(tree);
-        self.follow(stepped)
     }
 
     /// The end of a `split`.
@@ -99,7 +61,7 @@ impl ThreadRun {
         ensures cost { RunsLess (code_shown code.now) self.old (Frame.Rejoins number) result self.new }
     {
         match rejoins(&mut self.state, code, number) {
-            Ok(stepped) => self.follow(stepped),
+            Ok(()) => Ok(None),
             Err(error) => Err(error),
         }
     }
@@ -110,20 +72,20 @@ impl ThreadRun {
     ///
     /// There is not enough memory.
     fn allocate(
-        &mut self,
+        &self,
         alloc: Global,
         code: &Code,
         k: Quota,
         slot: u16,
         len: u32,
     ) -> Result<Option<Ready>, AllocError>
-        requires { IsKnownAt (code_shown code.now) (quota_words k) self.old (Frame.Allocates slot len) }
-        ensures meaning { StepsRun (code_shown code.now) (quota_words k) self.old (Frame.Allocates slot len) result self.new }
-        ensures functions { KeepsFunctions self.old (Frame.Allocates slot len) result self.new }
-        ensures cost { RunsLess (code_shown code.now) self.old (Frame.Allocates slot len) result self.new }
+        requires { IsKnownAt (code_shown code.now) (quota_words k) self.now (Frame.Allocates slot len) }
+        ensures meaning { StepsRun (code_shown code.now) (quota_words k) self.now (Frame.Allocates slot len) result self.now }
+        ensures functions { KeepsFunctions self.now (Frame.Allocates slot len) result self.now }
+        ensures cost { RunsLess (code_shown code.now) self.now (Frame.Allocates slot len) result self.now }
     {
         match allocates(&self.state, alloc, slot, len) {
-            Ok(stepped) => self.follow(stepped),
+            Ok(ready) => Ok(Some(ready)),
             Err(error) => Err(error),
         }
     }

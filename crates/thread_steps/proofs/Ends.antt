@@ -1,7 +1,5 @@
 -- The end of a `split`, as the next frame.
-use Rattle.frame_stack.specs.Measure.{frames_cost, turn_cost}
-use Rattle.thread_steps.specs.Costs.{done_cost}
-use Rattle.std.proofs.Common.{◌≡◌, ◌≤◌, ◌+◌, ◌*◌, arith, ℕ, Bool, true, false, List, [], ◌∷◌, ◌++◌, Option, Some, None, refl, sym, ◌∙◌, ap, subst, append-nil, Vec, Global}
+use Rattle.std.proofs.Common.{◌≡◌, ℕ, Bool, true, false, List, [], ◌∷◌, Option, Some, refl, sym, ◌∙◌, ap, subst, Vec, Global}
 use Rattle.std.specs.Prelude.{map}
 use Rattle.par_tree.specs.Tree.{Name, Func, Program}
 use Rattle.node_table.specs.Shown.{kind_shown}
@@ -18,15 +16,13 @@ use Rattle.node_table.specs.Table as tables
 use Rattle.node_table.specs.Table.{Table, Kind, split_node}
 use Rattle.frame_stack.specs.declared.frame.Frame.{Frame}
 use Rattle.frame_stack.specs.declared.frame.Frame.TheVariants.{Rejoins}
-use Rattle.frame_stack.specs.Frames.{AreFrames, IsFrame, IsSplitNode, frames_shown}
-use Rattle.thread_steps.proofs.Firsts.{none_runs}
+use Rattle.frame_stack.specs.Frames.{AreFrames, IsFrame, IsSplitNode}
+use Rattle.thread_steps.proofs.Behind.{none_runs}
 use Rattle.frame_stack.specs.Lists.{kind_at}
 use Rattle.thread_state.specs.States.{IsState}
 use Rattle.thread_state.specs.declared.state.ThreadState.{ThreadState}
 use Rattle.thread_steps.specs.Stands.{InState}
-use Rattle.thread_steps.specs.Steps.{StepsBy}
-use Rattle.thread_steps.specs.declared.stepped.Stepped.{Stepped}
-use Rattle.thread_steps.specs.declared.done.Done.TheVariants.{Silent}
+use Rattle.thread_steps.specs.Steps.{Leaves}
 
 -- the node is a `split`
 abbrev pub IsSplitKind : Option Kind → Type 0
@@ -61,35 +57,32 @@ renamed contexts u b l r x y z s p q w is =
     (subst (λ (n : Name). IsState contexts u (unless_faulted (on_store (rejoin_block x n r)) s)) q
     (subst (λ (n : Name). IsState contexts u (unless_faulted (on_store (rejoin_block x y n)) s)) w is))
 
-pub rejoin_comes : (c : Setting) (t : Table) (g : Func) (gs : List Func) (u : ThreadState) (xs : List Frame) (fs : List middles.Frame) (s : State) (f : middles.Frame) (st : Stepped) (b l r : Name) (n slot : ℕ) (at : tables.Expr) (left right : ℕ) (body : List ℕ)
-    → st ≡ record { rest = None; done = Silent None None } → f ≡ rejoins b l r → IsSplitNode t (slot_names g) n b l r → kind_at t n ≡ Some (split_node slot at left right body)
+rejoin_comes : (c : Setting) (t : Table) (g : Func) (gs : List Func) (u : ThreadState) (xs : List Frame) (fs : List middles.Frame) (s : State) (f : middles.Frame) (b l r : Name) (n slot : ℕ) (at : tables.Expr) (left right : ℕ) (body : List ℕ)
+    → f ≡ rejoins b l r → IsSplitNode t (slot_names g) n b l r → kind_at t n ≡ Some (split_node slot at left right body)
     → AreFrames c.program t (g ∷ gs) xs fs
     → IsState (map slot_names (g ∷ gs)) u (unless_faulted (on_store (rejoin_block (name_at (slot_names g) slot) (name_at (slot_names g) left) (name_at (slot_names g) right))) s)
-    → StepsBy c t (g ∷ gs) u (frames_shown st.rest ++ xs) fs s f (step_frame c f fs s) st.done
-rejoin_comes c t g gs u xs fs s f st b l r n slot at left right body e is node there frames state =
+    → Leaves c t (g ∷ gs) u xs s (step_frame c f fs s)
+rejoin_comes c t g gs u xs fs s f b l r n slot at left right body is node there frames state =
     let names = slot_names g in
     let same : Some (split_node slot at left right body) ≡ Some (split_node node.block node.at node.left node.right node.body) = sym there ∙ node.there in
     let whole : name_at names slot ≡ b = ap (λ (o : Option Kind). name_at names (block_in o)) same ∙ node.whole.reads in
     let first : name_at names left ≡ l = ap (λ (o : Option Kind). name_at names (left_in o)) same ∙ node.first.reads in
     let second : name_at names right ≡ r = ap (λ (o : Option Kind). name_at names (right_in o)) same ∙ node.rest.reads in
-    subst (λ (x : Stepped). StepsBy c t (g ∷ gs) u (frames_shown x.rest ++ xs) fs s f (step_frame c f fs s) x.done) (sym e)
-    (subst (λ (y : middles.Frame). StepsBy c t (g ∷ gs) u xs fs s y (step_frame c y fs s) (Silent None None)) (sym is) (
+    subst (λ (y : middles.Frame). Leaves c t (g ∷ gs) u xs s (step_frame c y fs s)) (sym is) (
       frames,
       renamed (map slot_names (g ∷ gs)) u b l r (name_at names slot) (name_at names left) (name_at names right) s whole first second state,
-      [],
-      same_items (rejoin_block b l r) s ∙ sym (append-nil s.items),
-      record { no_action = refl; no_line = refl; no_fault = refl },
-    ))
+      same_items (rejoin_block b l r) s,
+    )
 
-pub rejoin_at : (c : Setting) (t : Table) (gs : List Func) (u v : ThreadState) (xs : List Frame) (fs : List middles.Frame) (s : State) (f : middles.Frame) (st : Stepped) (n slot : ℕ) (at : tables.Expr) (left right : ℕ) (body : List ℕ)
-    → st ≡ record { rest = None; done = Silent None None } → IsFrame c.program t gs (Rejoins n) f → kind_at t n ≡ Some (split_node slot at left right body)
+pub rejoin_at : (c : Setting) (t : Table) (gs : List Func) (u v : ThreadState) (xs : List Frame) (fs : List middles.Frame) (s : State) (f : middles.Frame) (n slot : ℕ) (at : tables.Expr) (left right : ℕ) (body : List ℕ)
+    → IsFrame c.program t gs (Rejoins n) f → kind_at t n ≡ Some (split_node slot at left right body)
     → AreFrames c.program t gs xs fs → InState gs u s
     → ((contexts : List (List Name)) (names : List Name) (q : State) → IsState (names ∷ contexts) u q
     → IsState (names ∷ contexts) v (unless_faulted (on_store (rejoin_block (name_at names slot) (name_at names left) (name_at names right))) q))
-    → StepsBy c t gs v (frames_shown st.rest ++ xs) fs s f (step_frame c f fs s) st.done
-rejoin_at c t [] u v xs fs s f st n slot at left right body e frame there frames is goes = absurd (none_runs c.program t xs fs frames)
-rejoin_at c t (g ∷ gs) u v xs fs s f st n slot at left right body e frame there frames is goes =
-    rejoin_comes c t g gs v xs fs s f st frame.0 frame.1 frame.2 n slot at left right body e frame.3 frame.4 there frames (goes (map slot_names gs) (slot_names g) s is)
+    → Leaves c t gs v xs s (step_frame c f fs s)
+rejoin_at c t [] u v xs fs s f n slot at left right body frame there frames is goes = absurd (none_runs c.program t xs fs frames)
+rejoin_at c t (g ∷ gs) u v xs fs s f n slot at left right body frame there frames is goes =
+    rejoin_comes c t g gs v xs fs s f frame.0 frame.1 frame.2 n slot at left right body frame.3 frame.4 there frames (goes (map slot_names gs) (slot_names g) s is)
 
 -- a node that is no `split` has no end of one
 no_end : (o : Option Kind) (slot : ℕ) (at : tables.Expr) (left right : ℕ) (body : List ℕ) → o ≡ Some (split_node slot at left right body) → IsSplitKind o
@@ -110,9 +103,3 @@ never_split (k.Both a b d e) other h = h
 
 pub split_there : (p : Program) (t : Table) (gs : List Func) (n : ℕ) (f : middles.Frame) → IsFrame p t gs (Rejoins n) f → IsSplitKind (kind_at t n)
 split_there p t gs n f frame = no_end (kind_at t n) frame.4.block frame.4.at frame.4.left frame.4.right frame.4.body frame.4.there
-
--- what is skipped leaves less
-pub skipped_cost : (t : Table) (turns : ℕ) (st : Stepped) → st ≡ record { rest = None; done = Silent None None }
-    → turns * turn_cost t + (done_cost t st.done + frames_cost t (frames_shown st.rest)) + 1 ≤ turns * turn_cost t + 1
-skipped_cost t turns st e =
-    subst (λ (x : Stepped). turns * turn_cost t + (done_cost t x.done + frames_cost t (frames_shown x.rest)) + 1 ≤ turns * turn_cost t + 1) (sym e) (omega arith)

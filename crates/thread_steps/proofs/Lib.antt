@@ -2,6 +2,6 @@ pub mod Coming
 pub mod Which
 pub mod Knowing
 pub mod Arms
-pub mod Firsts
+pub mod Behind
 pub mod Trees
 pub mod Ends

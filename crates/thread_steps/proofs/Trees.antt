@@ -1,5 +1,5 @@
 -- A tree of dummies, and a Join, as the next frame.
-use Rattle.std.proofs.Common.{◌≡◌, ℕ, false, List, [], ◌++◌, None, refl, sym, ap, subst, append-nil}
+use Rattle.std.proofs.Common.{◌≡◌, ℕ, false, List, [], ◌++◌, refl, sym, ap, subst, append-nil}
 use Rattle.dummy_tree.specs.Shapes.{leaf, forked, shape_of}
 use Rattle.dummy_tree.specs.TreeLeaves.{tree_leaves}
 use Rattle.dummy_tree.specs.declared.tree.Tree.{Tree}
@@ -14,61 +14,49 @@ use Rattle.node_table.specs.Table.{Table}
 use Rattle.frame_stack.specs.declared.branch.Branch.TheVariants.{Dummies}
 use Rattle.frame_stack.specs.declared.frame.Frame.{Frame}
 use Rattle.frame_stack.specs.declared.frame.Frame.TheVariants.{Tree as DummyTree}
-use Rattle.frame_stack.specs.Frames.{AreFrames, names_now, frames_shown}
+use Rattle.frame_stack.specs.Frames.{AreFrames, names_now}
 use Rattle.block_arena.specs.Size.{pieces_for}
 use Rattle.slot_store.specs.Rows.{HasNone}
 use Rattle.thread_state.specs.States.{own_row}
 use Rattle.thread_state.specs.declared.state.ThreadState.{ThreadState}
-use Rattle.thread_steps.specs.Stands.{InState}
-use Rattle.thread_steps.specs.Steps.{StepsBy}
+use Rattle.thread_steps.specs.Steps.{IsActionOf}
 use Rattle.thread_steps.specs.declared.ready.Forking.{Forking}
 use Rattle.thread_steps.specs.declared.ready.Ready.TheVariants.{Fork, Alloc, Dummy}
-use Rattle.thread_steps.specs.declared.stepped.Stepped.{Stepped}
-use Rattle.thread_steps.specs.declared.done.Done.TheVariants.{Acts}
 
 -- a frame that is no statement has no mark
 unmarked : (s : State) → s ≡ record s { items = s.items ++ [] }
 unmarked s = ap (λ items. record s { items = items }) (sym (append-nil s.items))
 
-pub dummy_comes : (c : Setting) (t : Table) (gs : List Func) (u : ThreadState) (xs : List Frame) (fs : List middles.Frame) (s : State) (f : middles.Frame) (st : Stepped)
-    → st ≡ record { rest = None; done = Acts Dummy } → f ≡ does (tree leaf) → AreFrames c.program t gs xs fs → InState gs u s
-    → StepsBy c t gs u (frames_shown st.rest ++ xs) fs s f (step_frame c f fs s) st.done
-dummy_comes c t gs u xs fs s f st e is frames state =
-    subst (λ (x : Stepped). StepsBy c t gs u (frames_shown x.rest ++ xs) fs s f (step_frame c f fs s) x.done) (sym e)
-    (subst (λ (y : middles.Frame). StepsBy c t gs u xs fs s y (step_frame c y fs s) (Acts Dummy)) (sym is)
-    (state, (fs, (frames, ap (with_action actions.dummy 0) (unmarked s)))))
+pub dummy_comes : (c : Setting) (t : Table) (gs : List Func) (u : ThreadState) (xs : List Frame) (fs : List middles.Frame) (s : State) (f : middles.Frame)
+    → f ≡ does (tree leaf) → AreFrames c.program t gs xs fs → IsActionOf c t gs u xs fs s f Dummy
+dummy_comes c t gs u xs fs s f is frames =
+    subst (λ (y : middles.Frame). IsActionOf c t gs u xs fs s y Dummy) (sym is) (fs, (frames, ap (with_action actions.dummy 0) (unmarked s)))
 
-pub fork_comes : (c : Setting) (t : Table) (gs : List Func) (u : ThreadState) (xs : List Frame) (fs : List middles.Frame) (s : State) (f : middles.Frame) (st : Stepped) (child own : Tree)
-    → st ≡ record { rest = None; done = Acts (Fork (record { branch = Dummies; work = DummyTree child; own = DummyTree own })) }
-    → f ≡ does (tree (forked (shape_of (tree_leaves child)) (shape_of (tree_leaves own)))) → AreFrames c.program t gs xs fs → InState gs u s
-    → StepsBy c t gs u (frames_shown st.rest ++ xs) fs s f (step_frame c f fs s) st.done
-fork_comes c t gs u xs fs s f st child own e is frames state =
+pub fork_comes : (c : Setting) (t : Table) (gs : List Func) (u : ThreadState) (xs : List Frame) (fs : List middles.Frame) (s : State) (f : middles.Frame) (child own : Tree)
+    → f ≡ does (tree (forked (shape_of (tree_leaves child)) (shape_of (tree_leaves own)))) → AreFrames c.program t gs xs fs
+    → IsActionOf c t gs u xs fs s f (Fork (record { branch = Dummies; work = DummyTree child; own = DummyTree own }))
+fork_comes c t gs u xs fs s f child own is frames =
     let forking : Forking = record { branch = Dummies; work = DummyTree child; own = DummyTree own } in
-    subst (λ (x : Stepped). StepsBy c t gs u (frames_shown x.rest ++ xs) fs s f (step_frame c f fs s) x.done) (sym e)
-    (subst (λ (y : middles.Frame). StepsBy c t gs u xs fs s y (step_frame c y fs s) (Acts (Fork forking))) (sym is) (
-      state,
-      (
-        fs,
-        record {
-          named = no_name;
-          assigned = no_name;
-          work = tree (shape_of (tree_leaves child));
-          mine = tree (shape_of (tree_leaves own));
-          forks = ap (λ (x : State). step_fork c no_name no_name (tree (shape_of (tree_leaves child))) (tree (shape_of (tree_leaves own))) fs x) (unmarked s);
-          behind = frames;
-          taken = refl;
-          joined = refl;
-          work_of = tt;
-          of_child = refl;
-          of_parent = refl;
-        },
-      ),
-    ))
+    subst (λ (y : middles.Frame). IsActionOf c t gs u xs fs s y (Fork forking)) (sym is) (
+      fs,
+      record {
+        named = no_name;
+        assigned = no_name;
+        work = tree (shape_of (tree_leaves child));
+        mine = tree (shape_of (tree_leaves own));
+        forks = ap (λ (x : State). step_fork c no_name no_name (tree (shape_of (tree_leaves child))) (tree (shape_of (tree_leaves own))) fs x) (unmarked s);
+        behind = frames;
+        taken = refl;
+        joined = refl;
+        work_of = tt;
+        of_child = refl;
+        of_parent = refl;
+      },
+    )
 
-pub alloc_comes : (c : Setting) (t : Table) (gs : List Func) (u : ThreadState) (xs : List Frame) (fs : List middles.Frame) (s : State) (f : middles.Frame) (st : Stepped) (b : Name) (slot len : ℕ) (shell : ℕ)
-    → st ≡ record { rest = None; done = Acts (Alloc slot len shell) } → f ≡ allocates b len → IsSlot (names_now gs) slot b → (u.faulted ≡ false → HasNone (own_row u) slot) → shell ≡ pieces_for len
-    → AreFrames c.program t gs xs fs → InState gs u s → StepsBy c t gs u (frames_shown st.rest ++ xs) fs s f (step_frame c f fs s) st.done
-alloc_comes c t gs u xs fs s f st b slot len shell e is named none room frames state =
-    subst (λ (x : Stepped). StepsBy c t gs u (frames_shown x.rest ++ xs) fs s f (step_frame c f fs s) x.done) (sym e)
-    (subst (λ (y : middles.Frame). StepsBy c t gs u xs fs s y (step_frame c y fs s) (Acts (Alloc slot len shell))) (sym is)
-    (state, (fs, (frames, record { block = b; named = named; does = ap (allocated b len) (unmarked s); none = none }, room))))
+pub alloc_comes : (c : Setting) (t : Table) (gs : List Func) (u : ThreadState) (xs : List Frame) (fs : List middles.Frame) (s : State) (f : middles.Frame) (b : Name) (slot len : ℕ) (shell : ℕ)
+    → f ≡ allocates b len → IsSlot (names_now gs) slot b → (u.faulted ≡ false → HasNone (own_row u) slot) → shell ≡ pieces_for len
+    → AreFrames c.program t gs xs fs → IsActionOf c t gs u xs fs s f (Alloc slot len shell)
+alloc_comes c t gs u xs fs s f b slot len shell is named none room frames =
+    subst (λ (y : middles.Frame). IsActionOf c t gs u xs fs s y (Alloc slot len shell)) (sym is)
+    (fs, (frames, record { block = b; named = named; does = ap (allocated b len) (unmarked s); none = none }, room))

@@ -3,9 +3,7 @@ use Rattle.std.specs.Prelude.{ℕ, ◌+◌, ◌*◌, ◌≤◌, ◌≡◌, ◌�
 use Rattle.std.specs.declared.alloc.AllocError.{AllocError}
 use Rattle.node_table.specs.Table.{Table}
 use Rattle.frame_stack.specs.Frames.{frames_shown}
-use Rattle.frame_stack.specs.Measure.{frame_cost, frames_cost, list_cost, node_cost, turn_cost}
-use Rattle.frame_stack.specs.declared.frame.Frame.{Frame}
-use Rattle.thread_steps.specs.declared.stepped.Stepped.{Stepped}
+use Rattle.frame_stack.specs.Measure.{frames_cost, list_cost, node_cost, turn_cost}
 use Rattle.frame_stack.specs.Lists.{numbers_of}
 use Rattle.frame_stack.specs.declared.list_of.ListOf.TheVariants.{Round}
 use Rattle.thread_steps.specs.declared.done.Done.{Done}
@@ -31,9 +29,3 @@ CostsTurns t n before after done =
 abbrev pub LeavesLess : Table → (node : ℕ) → (before after : ℕ) → Result Done AllocError → Type 0
 LeavesLess t n before after result =
     IfOk result (λ done. after * turn_cost t + (done_cost t done + 1) ≤ before * turn_cost t + node_cost t n)
-
--- a step leaves less than there was with its frame
-abbrev pub StepsLess : Table → Frame → (before after : ℕ) → Result Stepped AllocError → Type 0
-StepsLess t x before after result =
-    IfOk result (λ stepped. after * turn_cost t + (done_cost t stepped.done + frames_cost t (frames_shown stepped.rest)) + 1
-    ≤ before * turn_cost t + frame_cost t x)

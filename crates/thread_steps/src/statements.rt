@@ -30,7 +30,7 @@ use thread_state::ThreadState;
 /// # Errors
 ///
 /// There is not enough memory. The thread is as it was.
-pub(crate) fn statement(
+pub fn statement(
     state: &mut ThreadState,
     alloc: Global,
     code: &Code,

@@ -4,10 +4,10 @@ use Rattle.depth_first_run.specs.Middle.{does, tree}
 use Rattle.thread_steps.proofs.Trees.{dummy_comes, fork_comes}
 use Rattle.thread_steps.proofs.frames.dummies.Goals as goal
 
-pub returns-in-None-clause-meaning : goal.returns-in-None-clause-meaning
-returns-in-None-clause-meaning c = λ t k u setting gs f xs fs s of_table frame frames is.
-    dummy_comes setting t gs u xs fs s f c.acts.result c.acts.ensures (frame ∙ ap (λ (x : Shape). does (tree x)) c.in-None.ensures.shape) frames is
+pub returns-in-None : goal.returns-in-None
+returns-in-None c = λ t k u setting gs f xs fs s of_table frame frames is.
+    dummy_comes setting t gs u xs fs s f (frame ∙ ap (λ (x : Shape). does (tree x)) c.in-None.ensures.shape) frames
 
-pub returns-in-Some-clause-meaning : goal.returns-in-Some-clause-meaning
-returns-in-Some-clause-meaning c = λ t k u setting gs f xs fs s of_table frame frames is.
-    fork_comes setting t gs u xs fs s f c.acts-in-Some.result c.in-Some.child c.in-Some.own c.acts-in-Some.ensures (frame ∙ ap (λ (x : Shape). does (tree x)) c.in-Some.ensures.shape) frames is
+pub returns-in-Some : goal.returns-in-Some
+returns-in-Some c = λ t k u setting gs f xs fs s of_table frame frames is.
+    fork_comes setting t gs u xs fs s f c.in-Some.child c.in-Some.own (frame ∙ ap (λ (x : Shape). does (tree x)) c.in-Some.ensures.shape) frames

@@ -9,13 +9,13 @@ use Rattle.thread_steps.specs.Rejoining.{CanRejoinAt}
 use Rattle.node_table.specs.declared.node.Node.{Node}
 use Rattle.frame_stack.specs.Lists.{kind_at}
 use Rattle.thread_steps.proofs.Arms.{kind_there}
-use Rattle.thread_steps.proofs.Ends.{IsSplitKind, rejoin_at, never_split, split_there, skipped_cost}
+use Rattle.thread_steps.proofs.Ends.{IsSplitKind, rejoin_at, never_split, split_there}
 use Rattle.thread_steps.proofs.frames.rejoins.Goals as goal
 
 pub returns-in-Ok-clause-meaning : goal.returns-in-Ok-clause-meaning
 returns-in-Ok-clause-meaning c = λ k setting gs f xs fs s of_table frame frames is.
-    rejoin_at setting (code_shown c.args.code.now) gs c.args.state.now c.rejoin.new.self xs fs s f c.skip-in-Ok.result c.args.number
-    c.in-Split.block (expr_shown c.in-Split.at) c.in-Split.left c.in-Split.right c.in-Split.body.items c.skip-in-Ok.ensures frame
+    rejoin_at setting (code_shown c.args.code.now) gs c.args.state.now c.rejoin.new.self xs fs s f c.args.number
+    c.in-Split.block (expr_shown c.in-Split.at) c.in-Split.left c.in-Split.right c.in-Split.body.items frame
     (kind_there (code_shown c.args.code.now) c.args.number (node_shown c.in-Some.node.now)
     (split_node c.in-Split.block (expr_shown c.in-Split.at) c.in-Split.left c.in-Split.right c.in-Split.body.items)
     (slice_get-map node_shown (nodes_of c.args.code.now) c.args.number ∙ ap (λ (o : Option Node). option_map node_shown o) (sym c.in-Some.ensures))
@@ -31,14 +31,10 @@ rejoin-requires c = λ going.
     (ap kind_shown c.in-Split.is))
     (c.requires going)
 
-pub returns-in_default-kind : goal.returns-in_default-kind
-returns-in_default-kind c =
+pub returns-in_default-kind-clause-meaning : goal.returns-in_default-kind-clause-meaning
+returns-in_default-kind-clause-meaning c = λ k setting gs f xs fs s of_table frame frames is.
     let there : kind_at (code_shown c.args.code.now) c.args.number ≡ Some (kind_shown c.in-Some.node.now.kind) =
     kind_there (code_shown c.args.code.now) c.args.number (node_shown c.in-Some.node.now) (kind_shown c.in-Some.node.now.kind)
     (slice_get-map node_shown (nodes_of c.args.code.now) c.args.number ∙ ap (λ (o : Option Node). option_map node_shown o) (sym c.in-Some.ensures)) refl in
-    record {
-      meaning = λ k setting gs f xs fs s of_table frame frames is.
-          absurd (never_split c.in-Some.node.now.kind c.in_default-kind.not-Split
-          (subst IsSplitKind there (split_there setting.program (code_shown c.args.code.now) gs c.args.number f frame)));
-      cost = skipped_cost (code_shown c.args.code.now) c.args.state.now.turns c.skip-in_default-kind.result c.skip-in_default-kind.ensures;
-    }
+    absurd (never_split c.in-Some.node.now.kind c.in_default-kind.not-Split
+    (subst IsSplitKind there (split_there setting.program (code_shown c.args.code.now) gs c.args.number f frame)))

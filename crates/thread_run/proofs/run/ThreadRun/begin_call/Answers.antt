@@ -6,11 +6,10 @@ use Rattle.par_tree.specs.Names.{param_names}
 use Rattle.depth_first_run.specs.States.{State}
 use Rattle.depth_first_run.specs.Calls.{all_passed}
 use Rattle.node_table.specs.Names.{slot_names}
-use Rattle.node_table.specs.Codes.{code_shown, nodes_of, funcs_of}
+use Rattle.node_table.specs.Codes.{code_shown, funcs_of}
 use Rattle.node_table.specs.Shown.{node_shown, kind_shown, func_shown, target_shown, args_shown}
 use Rattle.node_table.specs.Reading.{AreSlots, AreArgs}
 use Rattle.node_table.specs.Table.{Table, Kind, call_node}
-use Rattle.node_table.specs.declared.node.Node.{Node}
 use Rattle.node_table.specs.declared.func_code.FuncCode.{FuncCode}
 use Rattle.node_table.proofs.Distinct.{names_differ}
 use Rattle.frame_stack.specs.declared.frame.Frame.{Frame}
@@ -41,8 +40,7 @@ returns-in-Ok-clause-meaning c = λ k setting g gs line target name args fs s of
     let from = args_shown c.in-Call.args.items in
     let i : Kind = call_node to c.in-Call.func from in
     let there : kind_at t c.args.number ≡ Some i =
-    kind_there t c.args.number (node_shown c.in-Some-node.node.now) i
-    (slice_get-map node_shown (nodes_of c.args.code.now) c.args.number ∙ ap (λ (o : Option Node). option_map node_shown o) (sym c.in-Some-node.ensures)) (ap kind_shown c.in-Call.is) in
+    kind_there t c.args.number (node_shown c.args.node.now) i c.requires.there (ap kind_shown c.in-Call.is) in
     let function : slice_get t.funcs c.in-Call.func ≡ Some (func_shown c.in-Some-func.callee.now) =
     slice_get-map func_shown (funcs_of c.args.code.now) c.in-Call.func ∙ ap (λ (o : Option FuncCode). option_map func_shown o) (sym c.in-Some-func.ensures) in
     let h = called setting t k g c.args.number line target name args to c.in-Call.func from (func_shown c.in-Some-func.callee.now) of_table node there function in
@@ -73,9 +71,8 @@ returns-in-Err-Fault-clause-meaning c = λ k setting g gs line target name args 
     let to = target_shown c.in-Call.target in
     let from = args_shown c.in-Call.args.items in
     let i : Kind = call_node to c.in-Call.func from in
-    let by_number : slice_get t.nodes c.args.number ≡ Some (node_shown c.in-Some-node.node.now) =
-    slice_get-map node_shown (nodes_of c.args.code.now) c.args.number ∙ ap (λ (o : Option Node). option_map node_shown o) (sym c.in-Some-node.ensures) in
-    let there : kind_at t c.args.number ≡ Some i = kind_there t c.args.number (node_shown c.in-Some-node.node.now) i by_number (ap kind_shown c.in-Call.is) in
+    let by_number : slice_get t.nodes c.args.number ≡ Some (node_shown c.args.node.now) = c.requires.there in
+    let there : kind_at t c.args.number ≡ Some i = kind_there t c.args.number (node_shown c.args.node.now) i by_number (ap kind_shown c.in-Call.is) in
     let function : slice_get t.funcs c.in-Call.func ≡ Some (func_shown c.in-Some-func.callee.now) =
     slice_get-map func_shown (funcs_of c.args.code.now) c.in-Call.func ∙ ap (λ (o : Option FuncCode). option_map func_shown o) (sym c.in-Some-func.ensures) in
     let h = called setting t k g c.args.number line target name args to c.in-Call.func from (func_shown c.in-Some-func.callee.now) of_table node there function in
@@ -87,9 +84,9 @@ returns-in-Err-Fault-clause-meaning c = λ k setting g gs line target name args 
     (subst (λ (xs : List _). AreArgs (slot_names g) (args_shown xs) args) (sym c.deref-2.ensures.value) h.passed) s is) in
     let going = c.in-Err-Fault.ensures.going ∙ c.requires.going in
     let run : ThreadRun = record { func = c.args.self.now.func; state = c.call.new.self; frames = c.reserve.new.self; told = c.args.self.now.told } in
-    subst (λ (kind : FaultKind). Begins setting t (g ∷ gs) run s (step_call setting line target args (function_of setting.program name) fs s) (Some (Fault (record { kind = kind; line = c.in-Some-node.node.now.line })))) (sym c.in-Err-Fault.kind-is)
-    (stops setting t g gs line c.in-Some-node.node.now.line target name args c.in-Err-Fault.kind c.args.self.now run h.function fs s
-    h.found (on_line setting.program t (slot_names g) c.args.number line _ (node_shown c.in-Some-node.node.now) node by_number) runs
+    subst (λ (kind : FaultKind). Begins setting t (g ∷ gs) run s (step_call setting line target args (function_of setting.program name) fs s) (Some (Fault (record { kind = kind; line = c.args.node.now.line })))) (sym c.in-Err-Fault.kind-is)
+    (stops setting t g gs line c.args.node.now.line target name args c.in-Err-Fault.kind c.args.self.now run h.function fs s
+    h.found (on_line setting.program t (slot_names g) c.args.number line _ (node_shown c.args.node.now) node by_number) runs
     (subst (λ (xs : List Frame). AreFrames setting.program t (g ∷ gs) (reverse xs) fs) (sym c.reserve.ensures.items) frames) going stop.0 stop.1)
 
 pub returns-in-Err-OutOfMemory-clause-meaning : goal.returns-in-Err-OutOfMemory-clause-meaning
@@ -99,8 +96,7 @@ returns-in-Err-OutOfMemory-clause-meaning c = λ k setting g gs line target name
     let from = args_shown c.in-Call.args.items in
     let i : Kind = call_node to c.in-Call.func from in
     let there : kind_at t c.args.number ≡ Some i =
-    kind_there t c.args.number (node_shown c.in-Some-node.node.now) i
-    (slice_get-map node_shown (nodes_of c.args.code.now) c.args.number ∙ ap (λ (o : Option Node). option_map node_shown o) (sym c.in-Some-node.ensures)) (ap kind_shown c.in-Call.is) in
+    kind_there t c.args.number (node_shown c.args.node.now) i c.requires.there (ap kind_shown c.in-Call.is) in
     let function : slice_get t.funcs c.in-Call.func ≡ Some (func_shown c.in-Some-func.callee.now) =
     slice_get-map func_shown (funcs_of c.args.code.now) c.in-Call.func ∙ ap (λ (o : Option FuncCode). option_map func_shown o) (sym c.in-Some-func.ensures) in
     let h = called setting t k g c.args.number line target name args to c.in-Call.func from (func_shown c.in-Some-func.callee.now) of_table node there function in

@@ -1,10 +1,9 @@
-use Rattle.std.proofs.Common.{refl, sym, subst, ap}
+use Rattle.std.proofs.Common.{refl}
 use Rattle.dummy_tree.specs.QuotaWords.{quota_words}
 use Rattle.node_table.specs.Codes.{code_shown}
-use Rattle.thread_points.specs.Points.{IsPlain}
 use Rattle.frame_stack.specs.declared.frame.Frame.TheVariants.{Rejoins}
-use Rattle.thread_run.proofs.Following.{follow_meaning, follow_cost, wants_meaning}
-use Rattle.thread_run.proofs.Kept.{follow_functions}
+use Rattle.thread_run.specs.declared.run.ThreadRun.{ThreadRun}
+use Rattle.thread_run.proofs.Following.{rests_meaning, wants_meaning}
 use Rattle.thread_run.proofs.Knowing.{can_rejoin}
 use Rattle.thread_run.proofs.run.ThreadRun.rejoin.Goals as goal
 
@@ -13,20 +12,10 @@ rejoins-requires c = can_rejoin (code_shown c.args.code.now) (quota_words c.args
 
 pub returns-in-Ok-clause-meaning : goal.returns-in-Ok-clause-meaning
 returns-in-Ok-clause-meaning c =
-    follow_meaning (code_shown c.args.code.now) (quota_words c.args.k) c.args.self.now c.follow.new.self c.rejoins.new.state (Rejoins c.args.number) c.in-Ok.stepped c.follow.result
-    (λ p gs f frame. subst IsPlain (sym frame.3) tt) (λ gs. refl) (c.in-Ok.ensures.meaning (quota_words c.args.k))
-    c.follow.ensures.state c.follow.ensures.func c.follow.ensures.answer c.follow.ensures.frames c.follow.ensures.told
-
-pub returns-in-Ok-clause-functions : goal.returns-in-Ok-clause-functions
-returns-in-Ok-clause-functions c =
-    follow_functions (code_shown c.args.code.now) (quota_words c.args.k) c.args.self.now c.follow.new.self c.rejoins.new.state (Rejoins c.args.number) c.in-Ok.stepped c.follow.result
-    c.requires.known (λ gs. refl) (λ func xs. refl) (c.in-Ok.ensures.meaning (quota_words c.args.k))
-    c.follow.ensures.func c.follow.ensures.answer c.follow.ensures.frames
-
-pub returns-in-Ok-clause-cost : goal.returns-in-Ok-clause-cost
-returns-in-Ok-clause-cost c =
-    follow_cost (code_shown c.args.code.now) c.args.self.now c.follow.new.self c.args.self.now.state.turns c.rejoins.new.state.turns (Rejoins c.args.number) c.in-Ok.stepped c.follow.result
-    c.in-Ok.ensures.cost refl (ap (λ u. u.turns) c.follow.ensures.state) c.follow.ensures.frames
+    let run : ThreadRun = record { func = c.args.self.now.func; state = c.rejoins.new.state; frames = c.args.self.now.frames; told = c.args.self.now.told } in
+    rests_meaning (code_shown c.args.code.now) (quota_words c.args.k) c.args.self.now run (Rejoins c.args.number) (λ gs. refl) refl refl refl (c.in-Ok.ensures.meaning (quota_words c.args.k))
 
 pub returns-in-Err-clause-meaning : goal.returns-in-Err-clause-meaning
-returns-in-Err-clause-meaning c = wants_meaning (code_shown c.args.code.now) (quota_words c.args.k) c.args.self.now _ c.rejoins.new.state (Rejoins c.args.number) c.in-Err.error c.in-Err.error (c.in-Err.ensures.meaning (quota_words c.args.k)) refl
+returns-in-Err-clause-meaning c =
+    let run : ThreadRun = record { func = c.args.self.now.func; state = c.rejoins.new.state; frames = c.args.self.now.frames; told = c.args.self.now.told } in
+    wants_meaning (code_shown c.args.code.now) (quota_words c.args.k) c.args.self.now run (Rejoins c.args.number) c.in-Err.error c.in-Err.error (c.in-Err.ensures.meaning (quota_words c.args.k))

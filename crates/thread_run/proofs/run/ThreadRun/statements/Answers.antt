@@ -1,25 +1,62 @@
-use Rattle.std.proofs.Common.{◌∙◌, sym, subst}
+use Rattle.std.proofs.Common.{rules, ◌≡◌, ◌+◌, ◌<◌, ◌≤◌, ◌∙◌, ℕ, List, ◌∷◌, length, slice_get, slice_index_or, Some, sym, subst}
+use Rattle.std.proofs.lemmas.Option.{slice_get-get_or}
 use Rattle.dummy_tree.specs.QuotaWords.{quota_words}
 use Rattle.node_table.specs.Codes.{code_shown}
-use Rattle.frame_stack.specs.Lists.{kind_at}
-use Rattle.thread_state.specs.States.{own_row}
-use Rattle.thread_state.specs.declared.state.ThreadState.{ThreadState}
-use Rattle.thread_run.specs.Calling.{CanCallAt}
-use Rattle.thread_run.proofs.CanCalls.{list_can_call}
-use Rattle.thread_run.proofs.FirstCalls.{list_calls, list_call_cost}
+use Rattle.frame_stack.specs.Lists.{numbers_of}
+use Rattle.frame_stack.specs.declared.frame.Frame.TheVariants.{Statements}
+use Rattle.thread_run.specs.Functions.{frames_of}
+use Rattle.thread_run.proofs.Meetings.{RestPut, list_does, list_met, list_skipped, skip_cost, list_functions, list_cost_falls}
 use Rattle.thread_run.proofs.run.ThreadRun.statements.Goals as goal
 
-pub begin_call-requires-clause-can : goal.begin_call-requires-clause-can
-begin_call-requires-clause-can c =
-    subst (λ (u : ThreadState). CanCallAt (code_shown c.args.code.now) (own_row u) (kind_at (code_shown c.args.code.now) c.in-Some.number)) (sym c.put.ensures.state)
-    (list_can_call (code_shown c.args.code.now) (quota_words c.args.k) c.args.self.now c.args.list c.args.next c.in-Some.number c.requires c.in-Some.ensures)
+pub returns-then-is_faulted-clause-meaning : goal.returns-then-is_faulted-clause-meaning
+returns-then-is_faulted-clause-meaning c = list_skipped (code_shown c.args.code.now) (quota_words c.args.k) c.args.self.now c.args.list c.args.next (sym c.is_faulted.ensures ∙ c.if-is_faulted.true)
+
+pub returns-then-is_faulted-clause-cost : goal.returns-then-is_faulted-clause-cost
+returns-then-is_faulted-clause-cost c = skip_cost (code_shown c.args.code.now) c.args.self.now c.args.list c.args.next
+
+pub statement-requires : goal.statement-requires
+statement-requires c =
+    let below : c.args.next < length c.numbers-numbers.result.now = search rules in
+    let there : slice_get (numbers_of (code_shown c.args.code.now) c.args.list) c.args.next ≡ Some (slice_index_or c.numbers-numbers.result.now c.args.next 0) =
+    subst (λ (ns : List ℕ). slice_get ns c.args.next ≡ Some (slice_index_or c.numbers-numbers.result.now c.args.next 0)) c.numbers-numbers.ensures (slice_get-get_or c.numbers-numbers.result.now c.args.next 0 below) in
+    let rest : RestPut (code_shown c.args.code.now) c.args.list (c.args.next + 1) c.args.self.now c.put_rest.new.self = record {
+      some = subst (λ (ns : List ℕ). c.args.next + 1 < length ns → frames_of c.put_rest.new.self ≡ Statements c.args.list (c.args.next + 1) ∷ frames_of c.args.self.now) c.numbers-numbers.ensures c.in_ok-put_rest.ensures.some;
+      none = subst (λ (ns : List ℕ). length ns ≤ c.args.next + 1 → frames_of c.put_rest.new.self ≡ frames_of c.args.self.now) c.numbers-numbers.ensures c.in_ok-put_rest.ensures.none;
+    } in
+    list_met (code_shown c.args.code.now) (quota_words c.args.k) (slice_index_or c.numbers-numbers.result.now c.args.next 0) c.args.self.now c.put_rest.new.self c.args.list c.args.next (sym c.is_faulted.ensures ∙ c.if-is_faulted.false) there rest
+    c.put_rest.ensures.state c.requires
 
 pub returns-clause-meaning : goal.returns-clause-meaning
 returns-clause-meaning c =
-    list_calls (code_shown c.args.code.now) (quota_words c.args.k) c.in-Some.number c.args.self.now c.put.new.self c.begin_call.new.self c.begin_call.result c.args.list c.args.next c.frame_from.result c.in-Some.ensures
-    c.frame_from.ensures.frames c.in_ok-put.ensures.frames c.put.ensures.func c.put.ensures.state (c.begin_call.ensures.meaning (quota_words c.args.k)) (c.begin_call.ensures.told ∙ c.put.ensures.told)
+    let below : c.args.next < length c.numbers-numbers.result.now = search rules in
+    let there : slice_get (numbers_of (code_shown c.args.code.now) c.args.list) c.args.next ≡ Some (slice_index_or c.numbers-numbers.result.now c.args.next 0) =
+    subst (λ (ns : List ℕ). slice_get ns c.args.next ≡ Some (slice_index_or c.numbers-numbers.result.now c.args.next 0)) c.numbers-numbers.ensures (slice_get-get_or c.numbers-numbers.result.now c.args.next 0 below) in
+    let rest : RestPut (code_shown c.args.code.now) c.args.list (c.args.next + 1) c.args.self.now c.put_rest.new.self = record {
+      some = subst (λ (ns : List ℕ). c.args.next + 1 < length ns → frames_of c.put_rest.new.self ≡ Statements c.args.list (c.args.next + 1) ∷ frames_of c.args.self.now) c.numbers-numbers.ensures c.in_ok-put_rest.ensures.some;
+      none = subst (λ (ns : List ℕ). length ns ≤ c.args.next + 1 → frames_of c.put_rest.new.self ≡ frames_of c.args.self.now) c.numbers-numbers.ensures c.in_ok-put_rest.ensures.none;
+    } in
+    list_does (code_shown c.args.code.now) (quota_words c.args.k) (slice_index_or c.numbers-numbers.result.now c.args.next 0) c.args.self.now c.put_rest.new.self c.statement.new.self c.put_rest.ensures.told c.args.list c.args.next c.statement.result
+    (sym c.is_faulted.ensures ∙ c.if-is_faulted.false) there rest c.put_rest.ensures.func c.put_rest.ensures.state c.statement.ensures.meaning
+
+pub returns-clause-functions : goal.returns-clause-functions
+returns-clause-functions c =
+    let below : c.args.next < length c.numbers-numbers.result.now = search rules in
+    let there : slice_get (numbers_of (code_shown c.args.code.now) c.args.list) c.args.next ≡ Some (slice_index_or c.numbers-numbers.result.now c.args.next 0) =
+    subst (λ (ns : List ℕ). slice_get ns c.args.next ≡ Some (slice_index_or c.numbers-numbers.result.now c.args.next 0)) c.numbers-numbers.ensures (slice_get-get_or c.numbers-numbers.result.now c.args.next 0 below) in
+    let rest : RestPut (code_shown c.args.code.now) c.args.list (c.args.next + 1) c.args.self.now c.put_rest.new.self = record {
+      some = subst (λ (ns : List ℕ). c.args.next + 1 < length ns → frames_of c.put_rest.new.self ≡ Statements c.args.list (c.args.next + 1) ∷ frames_of c.args.self.now) c.numbers-numbers.ensures c.in_ok-put_rest.ensures.some;
+      none = subst (λ (ns : List ℕ). length ns ≤ c.args.next + 1 → frames_of c.put_rest.new.self ≡ frames_of c.args.self.now) c.numbers-numbers.ensures c.in_ok-put_rest.ensures.none;
+    } in
+    list_functions (code_shown c.args.code.now) c.args.list c.args.next c.args.self.now c.put_rest.new.self c.statement.new.self c.statement.result rest c.put_rest.ensures.func c.statement.ensures.functions
 
 pub returns-clause-cost : goal.returns-clause-cost
 returns-clause-cost c =
-    list_call_cost (code_shown c.args.code.now) c.args.list c.args.next c.in-Some.number c.frame_from.result c.args.self.now c.put.new.self c.begin_call.new.self c.begin_call.result
-    c.in-Some.ensures.there c.frame_from.ensures.cost c.in_ok-put.ensures.frames c.put.ensures.state c.begin_call.ensures.cost
+    let below : c.args.next < length c.numbers-numbers.result.now = search rules in
+    let there : slice_get (numbers_of (code_shown c.args.code.now) c.args.list) c.args.next ≡ Some (slice_index_or c.numbers-numbers.result.now c.args.next 0) =
+    subst (λ (ns : List ℕ). slice_get ns c.args.next ≡ Some (slice_index_or c.numbers-numbers.result.now c.args.next 0)) c.numbers-numbers.ensures (slice_get-get_or c.numbers-numbers.result.now c.args.next 0 below) in
+    let rest : RestPut (code_shown c.args.code.now) c.args.list (c.args.next + 1) c.args.self.now c.put_rest.new.self = record {
+      some = subst (λ (ns : List ℕ). c.args.next + 1 < length ns → frames_of c.put_rest.new.self ≡ Statements c.args.list (c.args.next + 1) ∷ frames_of c.args.self.now) c.numbers-numbers.ensures c.in_ok-put_rest.ensures.some;
+      none = subst (λ (ns : List ℕ). length ns ≤ c.args.next + 1 → frames_of c.put_rest.new.self ≡ frames_of c.args.self.now) c.numbers-numbers.ensures c.in_ok-put_rest.ensures.none;
+    } in
+    list_cost_falls (code_shown c.args.code.now) (slice_index_or c.numbers-numbers.result.now c.args.next 0) c.args.self.now c.put_rest.new.self c.statement.new.self c.args.list c.args.next c.statement.result there rest
+    c.put_rest.ensures.state c.statement.ensures.cost
