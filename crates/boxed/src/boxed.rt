@@ -50,12 +50,10 @@ impl<T: Drop> Boxed<T> {
         Ok(Boxed { cell })
     }
 
-    /// Another value in the same place, which takes no memory. The value that was there is no more.
-    pub fn put(self, value: T) -> Boxed<T>
-        ensures { result ≡ value }
+    /// The value, off the heap.
+    pub fn into_inner(self) -> T
+        ensures { result ≡ self }
     {
-        let mut cell = self.cell;
-        *cell = value;
-        Boxed { cell }
+        Box::into_inner(self.cell)
     }
 }

@@ -5,7 +5,7 @@ use Rattle.std.specs.Prelude.{Option, None, Some, Bool, true, false}
 use Rattle.std.proofs.lemmas.Bool.{cases_eq}
 use Rattle.std.proofs.lemmas.Option.{same_Some, none-some}
 use denote.Struct.Props.{props}
-use Rattle.block_arena.specs.Content.{Content}
+use Rattle.block_arena.specs.declared.record_block.RecordBlock.{RecordBlock}
 use Rattle.depth_first_list.specs.Actions.{record_words}
 use Rattle.depth_first_run.specs.States.{Setting, State}
 use Rattle.depth_first_run.proofs.Words.{without_words}
@@ -59,7 +59,7 @@ use Rattle.period_books.proofs.Changes.{each_has_its_book}
 -- ---- words
 
 -- a block that a thread is about to give back is one that it has
-release_held : (c : Setting) (t : Table) (func : Option ℕ) (run : ThreadRun) (children : List OpenChild) (block : Option Content) (slot words : ℕ)
+release_held : (c : Setting) (t : Table) (func : Option ℕ) (run : ThreadRun) (children : List OpenChild) (block : Option RecordBlock) (slot words : ℕ)
     → At c t func run children block (Release slot words) → words ≤ words_held run.state
 release_held c t func run children block slot words a =
     let by : ActsBy c t a.functions run (ready.Release slot words) a.own a.at = a.stands.next in

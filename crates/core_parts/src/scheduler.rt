@@ -3,7 +3,7 @@ use boxed::Boxed;
 use deque_list::List;
 use period_table::PeriodTable;
 use space_ledger::Moves;
-use thread_frames::{Ended, Thread};
+use thread_frames::{Ended, Place, Thread};
 use thread_map::ThreadMap;
 
 /// What a run by workers holds between two events.
@@ -13,9 +13,9 @@ pub struct Scheduler {
     pub list: List<Boxed<Thread>>,
     /// The threads that wait, each under the id of the child that it waits for.
     pub waiting: ThreadMap<Boxed<Thread>>,
-    /// A place for the thread that is forked next, where there is one. What is in it is of no account.
-    pub place: Option<Boxed<Thread>>,
-    /// The place of a thread that has ended, where there is one, which can be the next `place`. What is in it is of no account.
+    /// A place for the thread that is forked next, where there is one.
+    pub place: Option<Place>,
+    /// A thread that has ended, where there is one, whose place on the heap can be the next `place`. What is in it is of no account.
     pub used_place: Option<Boxed<Thread>>,
     /// The results of ended threads that are not joined, each under the id of its thread.
     pub results: ThreadMap<Ended>,

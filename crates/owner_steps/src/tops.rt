@@ -17,7 +17,7 @@ use boxed::Boxed;
 use core_parts::Scheduler;
 use deque_list::DequeId;
 use std::alloc::{AllocError, Global};
-use thread_frames::Thread;
+use thread_frames::{Place, Thread};
 
 /// Makes a place for the thread that is forked next, where there is none: that of a thread that has ended, or a new one.
 ///
@@ -25,7 +25,7 @@ use thread_frames::Thread;
 ///
 /// There is not enough memory.
 fn reserve_place(
-    place: &mut Option<Boxed<Thread>>,
+    place: &mut Option<Place>,
     used: &mut Option<Boxed<Thread>>,
     alloc: Global,
 ) -> Result<(), AllocError>
@@ -34,10 +34,11 @@ fn reserve_place(
     if place.is_some() {
         return Ok(());
     }
-    if used.is_none() {
-        *used = Some(Boxed::new(alloc, Thread::blank(alloc))?);
-    }
-    *place = used.take();
+    let made = match used.take() {
+        Some(thread) => Place::of(thread)?,
+        None => Place::new(alloc)?,
+    };
+    *place = Some(made);
     Ok(())
 }
 

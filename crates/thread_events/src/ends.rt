@@ -19,7 +19,7 @@ use deque_list::{DequeId, List};
 use period_table::PeriodTable;
 use thread_frames::{Ended, Thread};
 
-/// Does the End of a thread whose parent stands directly below, and runs next in the same period. A blank thread is left in its place.
+/// Does the End of a thread whose parent stands directly below, and runs next in the same period.
 pub fn end_above(
     list: &List<Boxed<Thread>>,
     table: &mut PeriodTable,
@@ -42,7 +42,7 @@ pub fn end_above(
     ensures result { (t : Table) (k : ℕ) → IsAtPoint t k top.old → IsResult t k result }
 {
     let name = name_of(top);
-    let ended = top.get_mut().take().end(pool);
+    let ended = top.get_mut().end(pool);
     deque_events::end_above(list, table, worker, deque, name);
     ended
 }
@@ -75,7 +75,7 @@ pub fn end_and_wake(
     ensures result { (t : Table) (k : ℕ) → IsAtPoint t k top.old → IsResult t k result }
 {
     let name = name_of(top);
-    let ended = top.get_mut().take().end(pool);
+    let ended = top.get_mut().end(pool);
     deque_events::end_and_wake(list, table, worker, deque, parent, name);
     ended
 }
@@ -105,7 +105,7 @@ pub fn end_and_leave(
     ensures result { (t : Table) (k : ℕ) → IsAtPoint t k top.old → IsResult t k result }
 {
     let name = name_of(top);
-    let ended = top.get_mut().take().end(pool);
+    let ended = top.get_mut().end(pool);
     deque_events::end_and_leave(list, table, worker, deque, name);
     ended
 }

@@ -19,7 +19,7 @@ use dag_order::ThreadId;
 use deque_events::put_both_back;
 use deque_list::{DequeId, List};
 use period_table::PeriodTable;
-use thread_frames::{ArenaFull, Thread};
+use thread_frames::{ArenaFull, Place, Thread};
 
 /// The id of the thread that the period of a worker forks next.
 fn next_id(table: &PeriodTable, worker: usize) -> ThreadId
@@ -36,7 +36,7 @@ fn next_id(table: &PeriodTable, worker: usize) -> ThreadId
     }
 }
 
-/// Does a Fork: the child comes to a place on the heap, whatever was there, and stands on top of its parent.
+/// Does a Fork: the child comes to be in this place, and stands on top of its parent.
 ///
 /// # Errors
 ///
@@ -48,7 +48,7 @@ pub fn fork(
     worker: usize,
     deque: DequeId,
     top: Boxed<Thread>,
-    place: Boxed<Thread>,
+    place: Place,
 ) -> Result<(), (Boxed<Thread>, ArenaFull)>
     requires placed { IsPlaced top }
     requires next { IsFork (next_of top) }
@@ -72,9 +72,8 @@ pub fn fork(
     let ordinal = top.get().forks() + 1;
     let id = next_id(table, worker);
     let mut top = top;
-    match top.get_mut().do_fork(id, pool) {
+    match top.get_mut().do_fork(id, pool, place) {
         Ok(child) => {
-            let child = place.put(child);
             put_both_back(list, table, worker, deque, top, child, name, ordinal);
             Ok(())
         }

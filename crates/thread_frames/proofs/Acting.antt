@@ -4,7 +4,7 @@ use Rattle.std.specs.Prelude.{reverse, ◌⊎◌, ℤ}
 use Rattle.std.proofs.lemmas.List.{length-append}
 use Rattle.dag_order.specs.LabelOrder.{fork_of}
 use Rattle.dag_order.specs.declared.fault.FaultAt.{FaultAt}
-use Rattle.block_arena.specs.Content.{Content}
+use Rattle.block_arena.specs.declared.record_block.RecordBlock.{RecordBlock}
 use Rattle.depth_first_list.specs.Actions.{Deed}
 use Rattle.par_tree.specs.Tree.{Name, Func, done, step}
 use Rattle.par_ownership.specs.Ownership.{Ownership}
@@ -146,7 +146,7 @@ counts contexts next u v s after is to label counted forks = record {
 }
 
 -- a step of a thread that keeps its label leads to its next point
-pub moved_at : (c : Setting) (t : Table) (func : Option ℕ) (run : ThreadRun) (children : List OpenChild) (block : Option Content) (gs : List Func)
+pub moved_at : (c : Setting) (t : Table) (func : Option ℕ) (run : ThreadRun) (children : List OpenChild) (block : Option RecordBlock) (gs : List Func)
     (next : Frame) (rest own : List Frame) (s : State) (part : List Item) (older : List (List Item)) (new : List Item) (u : ThreadState) (told : Told)
     → own ≡ next ∷ rest
     → IsPlain next
@@ -182,7 +182,7 @@ moved_at c t func run children block gs next rest own s part older new u told ow
     }
 
 -- a thread that stands before an action comes to its next point by it
-pub acted_at : (c : Setting) (t : Table) (func : Option ℕ) (run : ThreadRun) (children : List OpenChild) (block : Option Content) (gs : List Func)
+pub acted_at : (c : Setting) (t : Table) (func : Option ℕ) (run : ThreadRun) (children : List OpenChild) (block : Option RecordBlock) (gs : List Func)
     (own : List Frame) (s : State) (part : List Item) (older : List (List Item)) (ready : Ready) (deed : Deed) (words : ℕ) (u : ThreadState)
     → (by : ActsBy c t gs run ready own s)
     → AreFrames c.program t gs (frames_of run) (step_frame c by.next by.rest s).frames

@@ -3,7 +3,7 @@ use Rattle.std.proofs.Common.{◌≡◌, ℕ, List, ◌∷◌, Option, None, ref
 use Rattle.std.specs.Prelude.{reverse, Vec}
 use Rattle.std.proofs.Math.Logic.{∥∥₁_elim, ∥∥₁_map, ∥∥₁_prop}
 use Rattle.std.specs.declared.alloc.Global.{Global}
-use Rattle.block_arena.specs.Content.{Content}
+use Rattle.block_arena.specs.declared.record_block.RecordBlock.{RecordBlock}
 use Rattle.par_tree.specs.Tree.{Func}
 use Rattle.depth_first_run.specs.States.{Setting, State, Item}
 use Rattle.depth_first_run.specs.Middle as middles
@@ -128,7 +128,7 @@ prepared_frames t run (ready.Fault fault) p xs h = ap (λ q. frames_left q xs) h
 prepared_frames t run ready.End p xs h = ap (λ q. frames_left q xs) h
 
 -- a thread that has come to its next action stands before it
-pub came : (c : Setting) (t : Table) (func : Option ℕ) (run after : ThreadRun) (fs : Vec Frame Global) (children more : List OpenChild) (block : Option Content)
+pub came : (c : Setting) (t : Table) (func : Option ℕ) (run after : ThreadRun) (fs : Vec Frame Global) (children more : List OpenChild) (block : Option RecordBlock)
     (ready : Ready) (p : Prepared) (a : At c t func run children block Nothing)
     → Comes c t a.own a.older after ready → Prepares t after.state ready p
     → functions_of after.func (frames_before ready (frames_of after)) ≡ functions_of run.func (frames_of run)

@@ -3,7 +3,7 @@ use Rattle.std.proofs.Common.{◌≡◌, ℕ, ◌+◌, false, List, [], ◌∷�
 use Rattle.std.specs.Prelude.{reverse}
 use mathlib.Core.List.{reverse-append}
 use Rattle.dag_order.specs.LabelOrder.{fork_of}
-use Rattle.block_arena.specs.Content.{Content}
+use Rattle.block_arena.specs.declared.record_block.RecordBlock.{RecordBlock}
 use Rattle.par_tree.specs.Tree.{Func}
 use Rattle.depth_first_run.specs.States.{Setting, State, Item}
 use Rattle.depth_first_run.specs.Middle.{Frame}
@@ -94,7 +94,7 @@ stands_in c t gs run Dummy own s part h = h.state
 stands_in c t gs run (Fault fault) own s part h = h.state
 stands_in c t gs run End own s part h = h.state
 
-pub at_given : (c : Setting) (t : Table) (func : Option ℕ) (run : ThreadRun) (block : Option Content) (p : Prepared) (left : List OpenChild) (x : OpenChild)
+pub at_given : (c : Setting) (t : Table) (func : Option ℕ) (run : ThreadRun) (block : Option RecordBlock) (p : Prepared) (left : List OpenChild) (x : OpenChild)
     (right : List OpenChild) (e : Ended) → IsResultFor run.state.label e (child_shown x) → IsEndOf c t (ended_label e) e.func e
     → At c t func run (left ++ x ∷ right) block p → At c t func run (left ++ given x e ∷ right) block p
 at_given c t func run block p left x right e fits h a =

@@ -1,7 +1,7 @@
 -- Each action that a thread does alone.
 use Rattle.std.proofs.Common.{◌≡◌, ℕ, ◌+◌, ◌<◌, length, replicate, pos, false, Option, List, [], ◌∷◌, map, refl, sym, ◌∙◌, ap, subst, arith}
 use denote.Struct.Props.{props}
-use Rattle.block_arena.specs.Content.{Content}
+use Rattle.block_arena.specs.declared.record_block.RecordBlock.{RecordBlock}
 use Rattle.depth_first_list.specs.Actions as actions
 use Rattle.depth_first_list.specs.Actions.{Deed}
 use Rattle.par_tree.specs.Tree.{Name, Func, Program}
@@ -45,7 +45,7 @@ use Rattle.thread_frames.proofs.Placed.{placed_gives}
 use Rattle.thread_frames.proofs.Acting.{Counts, counts, marked_state, acted_at, still_running}
 
 -- what is known of a thread behind an action: its point, its counts, and its words
-pub record Acted (c : Setting) (t : Table) (func : Option ℕ) (run : ThreadRun) (children : List OpenChild) (block : Option Content) (u : ThreadState)
+pub record Acted (c : Setting) (t : Table) (func : Option ℕ) (run : ThreadRun) (children : List OpenChild) (block : Option RecordBlock) (u : ThreadState)
     (asked given : ℕ) : Type 0 where
   pub at : At c t func (record run { state = u }) children block Nothing
   pub counts : Counts u run.state
@@ -87,7 +87,7 @@ is_dummy children Dummy h = refl
 is_dummy children (Fault fault) h = absurd h
 is_dummy children End h = absurd h
 
-dummy_done : (c : Setting) (t : Table) (func : Option ℕ) (run : ThreadRun) (children : List OpenChild) (block : Option Content) (u : ThreadState)
+dummy_done : (c : Setting) (t : Table) (func : Option ℕ) (run : ThreadRun) (children : List OpenChild) (block : Option RecordBlock) (u : ThreadState)
     → ((contexts : List (List Name)) (deed : Deed) (words : ℕ) → Goes contexts contexts run.state u (with_action deed words))
     → At c t func run children block Dummy → Acted c t func run children block u 0 0
 unfolding with_action
@@ -109,7 +109,7 @@ dummy_done c t func run children block u goes a =
       words = omega (arith, before, after, same);
     }
 
-pub dummy_at : (c : Setting) (t : Table) (func : Option ℕ) (run : ThreadRun) (children : List OpenChild) (block : Option Content) (p : Prepared) (u : ThreadState)
+pub dummy_at : (c : Setting) (t : Table) (func : Option ℕ) (run : ThreadRun) (children : List OpenChild) (block : Option RecordBlock) (p : Prepared) (u : ThreadState)
     → p ≡ Dummy → ((contexts : List (List Name)) (deed : Deed) (words : ℕ) → Goes contexts contexts run.state u (with_action deed words))
     → At c t func run children block p → Acted c t func run children block u 0 0
 dummy_at c t func run children block p u is goes a = dummy_done c t func run children block u goes (subst (λ (q : Prepared). At c t func run children block q) is a)
@@ -164,7 +164,7 @@ slot_state p t func (g ∷ gs) u v s slot x f runs is named goes =
 
 -- ---- an allocation
 
-module _ (c : Setting) (t : Table) (func : Option ℕ) (run : ThreadRun) (children : List OpenChild) (block : Option Content) (slot len words shell : ℕ)
+module _ (c : Setting) (t : Table) (func : Option ℕ) (run : ThreadRun) (children : List OpenChild) (block : Option RecordBlock) (slot len words shell : ℕ)
     (owned : Ownership c.program) (a : At c t func run children block (Alloc slot len words shell)) where
   abbrev alloc_by : ActsBy c t a.functions run (ready.Alloc slot len shell) a.own a.at
   alloc_by = a.stands.0.next
@@ -229,7 +229,7 @@ is_release children Dummy h = absurd h
 is_release children (Fault fault) h = absurd h
 is_release children End h = absurd h
 
-module _ (c : Setting) (t : Table) (func : Option ℕ) (run : ThreadRun) (children : List OpenChild) (block : Option Content) (slot words : ℕ)
+module _ (c : Setting) (t : Table) (func : Option ℕ) (run : ThreadRun) (children : List OpenChild) (block : Option RecordBlock) (slot words : ℕ)
     (a : At c t func run children block (Release slot words)) where
   abbrev release_by : ActsBy c t a.functions run (ready.Release slot words) a.own a.at
   release_by = a.stands.next

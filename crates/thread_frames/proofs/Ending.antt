@@ -2,7 +2,7 @@
 use Rattle.std.proofs.Common.{◌≡◌, ℕ, ◌+◌, List, [], ◌∷◌, ◌++◌, map, Option, refl, sym, ◌∙◌, ap, subst, arith}
 use Rattle.std.specs.Prelude.{reverse}
 use mathlib.Core.List.{reverse-reverse}
-use Rattle.block_arena.specs.Content.{Content}
+use Rattle.block_arena.specs.declared.record_block.RecordBlock.{RecordBlock}
 use Rattle.depth_first_list.specs.Actions as actions
 use Rattle.depth_first_list.specs.Actions.{Deed, record_words}
 use Rattle.par_tree.specs.Tree.{Name, Func, Program}
@@ -64,7 +64,7 @@ pub record EndsHere (c : Setting) (t : Table) (func : Option ℕ) (run : ThreadR
   pub one : IsOne functions
   pub runs : RunsIn c.program t func functions
 
-pub ends_here : (c : Setting) (t : Table) (func : Option ℕ) (run : ThreadRun) (children : List OpenChild) (block : Option Content)
+pub ends_here : (c : Setting) (t : Table) (func : Option ℕ) (run : ThreadRun) (children : List OpenChild) (block : Option RecordBlock)
     (a : At c t func run children block End) → EndsHere c t func run children a.functions a.at a.part
 ends_here c t func run children block a =
     let none = a.stands.next.none_left in
@@ -84,14 +84,21 @@ ends_here c t func run children block a =
       runs = subst (λ (x : Option ℕ). RunsIn c.program t x a.functions) same a.stands.next.runs;
     }
 
+-- a state that has gone on by an action, and is taken out of its place
+pub taken_out : (before after taken : ThreadState) → taken ≡ after
+    → ((contexts : List (List Name)) (deed : Deed) (words : ℕ) → Goes contexts contexts before after (with_action deed words))
+    → (contexts : List (List Name)) (deed : Deed) (words : ℕ) → Goes contexts contexts before taken (with_action deed words)
+taken_out before after taken same goes contexts deed words =
+    subst (λ (u : ThreadState). Goes contexts contexts before u (with_action deed words)) (sym same) (goes contexts deed words)
+
 -- its state behind the End
-ended_state : (c : Setting) (t : Table) (func : Option ℕ) (run : ThreadRun) (children : List OpenChild) (block : Option Content) (u : ThreadState)
+ended_state : (c : Setting) (t : Table) (func : Option ℕ) (run : ThreadRun) (children : List OpenChild) (block : Option RecordBlock) (u : ThreadState)
     → ((contexts : List (List Name)) (deed : Deed) (words : ℕ) → Goes contexts contexts run.state u (with_action deed words))
     → (a : At c t func run children block End) → InState a.functions u (ended record_words a.at)
 unfolding ended
 ended_state c t func run children block u goes a = goes (map slot_names a.functions) actions.ends record_words a.at a.stands.state
 
-pub ended_label_is : (c : Setting) (t : Table) (func : Option ℕ) (run : ThreadRun) (children : List OpenChild) (block : Option Content) (u : ThreadState)
+pub ended_label_is : (c : Setting) (t : Table) (func : Option ℕ) (run : ThreadRun) (children : List OpenChild) (block : Option RecordBlock) (u : ThreadState)
     → ((contexts : List (List Name)) (deed : Deed) (words : ℕ) → Goes contexts contexts run.state u (with_action deed words))
     → (a : At c t func run children block End) → (u.label ≡ a.at.label) × (words_held u ≡ words_held run.state)
 unfolding ended with_action
@@ -102,7 +109,7 @@ ended_label_is c t func run children block u goes a =
     (is.label, after ∙ sym before)
 
 -- the words that it leaves to its parent, and those of its record block
-pub words_left : (c : Setting) (t : Table) (func : Option ℕ) (run : ThreadRun) (children : List OpenChild) (block : Option Content) (u : ThreadState)
+pub words_left : (c : Setting) (t : Table) (func : Option ℕ) (run : ThreadRun) (children : List OpenChild) (block : Option RecordBlock) (u : ThreadState)
     → ((contexts : List (List Name)) (deed : Deed) (words : ℕ) → Goes contexts contexts run.state u (with_action deed words))
     → (a : At c t func run children block End)
     → words_held u + words_at_end run.state.label ≡ words_held run.state + recorded block + all_brought children
@@ -129,7 +136,7 @@ one_function c t func (g ∷ []) s part result one same runs th is tells label =
   tells = tells;
 }
 
-pub end_result : (c : Setting) (t : Table) (func : Option ℕ) (run : ThreadRun) (children : List OpenChild) (block : Option Content) (result : Ended)
+pub end_result : (c : Setting) (t : Table) (func : Option ℕ) (run : ThreadRun) (children : List OpenChild) (block : Option RecordBlock) (result : Ended)
     → result.func ≡ func → result.told ≡ run.told
     → ((contexts : List (List Name)) (deed : Deed) (words : ℕ) → Goes contexts contexts run.state result.state (with_action deed words))
     → At c t func run children block End → IsEndOf c t (ended_label result) result.func result

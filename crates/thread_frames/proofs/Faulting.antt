@@ -2,7 +2,7 @@
 use Rattle.std.proofs.Common.{◌≡◌, ℕ, true, List, [], ◌∷◌, ◌++◌, map, Option, sym, ◌∙◌, ap, subst, append_assoc}
 use Rattle.dag_order.specs.declared.fault.FaultAt.{FaultAt}
 use Rattle.dag_order.specs.declared.fault.FaultKind.{FaultKind}
-use Rattle.block_arena.specs.Content.{Content}
+use Rattle.block_arena.specs.declared.record_block.RecordBlock.{RecordBlock}
 use Rattle.depth_first_list.specs.Actions as actions
 use Rattle.par_tree.specs.Tree.{Name}
 use Rattle.depth_first_run.specs.States.{Setting, State, Item, failed, next_action, with_action, with_fault, holdings}
@@ -39,13 +39,13 @@ other_contexts contexts next u s e is =
       holds = ends u.faulted next (rows_of u) s.store s.callers e h.0 h.1 h.2;
     }
 
-pub record Faulted (c : Setting) (t : Table) (func : Option ℕ) (run : ThreadRun) (children : List OpenChild) (block : Option Content) (u : ThreadState) (told : Told)
+pub record Faulted (c : Setting) (t : Table) (func : Option ℕ) (run : ThreadRun) (children : List OpenChild) (block : Option RecordBlock) (u : ThreadState) (told : Told)
     : Type 0 where
   pub at : At c t func (record run { state = u; told = told }) children block Nothing
   pub counts : Counts u run.state
   pub words : words_held u ≡ 0
 
-pub fault_done : (c : Setting) (t : Table) (func : Option ℕ) (run : ThreadRun) (children : List OpenChild) (block : Option Content) (fault : FaultAt) (u : ThreadState)
+pub fault_done : (c : Setting) (t : Table) (func : Option ℕ) (run : ThreadRun) (children : List OpenChild) (block : Option RecordBlock) (fault : FaultAt) (u : ThreadState)
     (told : Told) → ((contexts : List (List Name)) (kind : FaultKind) (line : ℕ) → Goes contexts contexts run.state u (with_fault kind line))
     → ((items : List Item) → Tells run.told items → Tells told (items ++ failed fault ∷ []))
     → At c t func run children block (Fault fault) → Faulted c t func run children block u told

@@ -1,14 +1,12 @@
 -- A Fork: the points of the child and of its parent.
-use Rattle.std.proofs.Common.{◌≡◌, ℕ, suc, ◌+◌, Bool, false, List, [], ◌∷◌, ◌++◌, map, filter, length, pos, Option, Some, None, Vec, Box, refl, sym, ◌∙◌, ap, subst, arith, inl, inr}
+use Rattle.std.proofs.Common.{◌≡◌, ℕ, suc, ◌+◌, Bool, false, List, [], ◌∷◌, ◌++◌, map, filter, length, Option, Some, None, Vec, refl, sym, ◌∙◌, ap, subst, arith, inl, inr}
 use Rattle.std.specs.Prelude.{reverse, ◌⊎◌}
 use Rattle.std.proofs.Math.Logic.{∥∥₁_elim}
 use denote.Struct.Props.{props}
 use mathlib.Core.List.{reverse-append}
-use lib.ListN.{length-replicate}
 use Rattle.std.specs.declared.alloc.Global.{Global}
 use Rattle.dag_order.specs.LabelOrder.{fork_of}
-use Rattle.block_arena.specs.Content.{Content, zeros}
-use Rattle.block_arena.specs.Size.{words_taken}
+use Rattle.block_arena.specs.declared.record_block.RecordBlock.{RecordBlock}
 use Rattle.language_limits.specs.declared.TheConstants.{MOST_TURNS}
 use Rattle.depth_first_list.specs.Actions as actions
 use Rattle.depth_first_list.specs.Actions.{record_words}
@@ -219,10 +217,6 @@ fork_label_words : (l : List ℕ) (n : ℕ) → words_at_end (fork_of l n) ≡ r
 fork_label_words [] n = refl
 fork_label_words (x ∷ l) n = refl
 
--- the new record block is one piece
-pub record_is : (block : Content) (shell : ℕ) → block ≡ zeros 16 shell → recorded (Some block) ≡ record_words
-record_is block shell e = ap (λ (b : Content). words_taken (length b.items)) e ∙ ap words_taken (length-replicate 16 (pos 0))
-
 -- what is known of the states behind a Fork
 pub record States (u after child : ThreadState) : Type 0 where
   pub label : after.label ≡ u.label
@@ -242,7 +236,7 @@ states_had u after child h = record {
   words = ∥∥₁_elim h (search props) (λ x. x.words);
 }
 
-module _ (c : Setting) (t : Table) (func : Option ℕ) (run : ThreadRun) (children : List OpenChild) (block : Option Content) (forking : Forking) (g : Func)
+module _ (c : Setting) (t : Table) (func : Option ℕ) (run : ThreadRun) (children : List OpenChild) (block : Option RecordBlock) (forking : Forking) (g : Func)
     (gs : List Func) (own : List Frame) (s : State) (part : List Item) (older : List (List Item)) (owned : Ownership c.program) (turns : c.most_turns ≡ MOST_TURNS)
     (th : IsThread c own s (part ∷ older)) (by : ActsBy c t (g ∷ gs) run (ready.Fork forking) own s) (is : InState (g ∷ gs) run.state s) (tells : Tells run.told part)
     (kids : AreChildren c t s.label (open_children own) older (reverse children))
@@ -304,10 +298,10 @@ module _ (c : Setting) (t : Table) (func : Option ℕ) (run : ThreadRun) (childr
         words = omega (arith, own_words, after_words, child_words, parts);
       }
 
-  child_is : (slots : List ℕ) (after child : ThreadState) (fs : Vec OwnFrame Global) (told : Told) (new : Content) → slots ≡ taken_slots t forking.branch
-      → ForksState forking.branch slots run.state after child → fs.items ≡ forking.work ∷ [] → Tells told [] → recorded (Some new) ≡ record_words
+  child_is : (slots : List ℕ) (after child : ThreadState) (fs : Vec OwnFrame Global) (told : Told) (new : RecordBlock) → slots ≡ taken_slots t forking.branch
+      → ForksState forking.branch slots run.state after child → fs.items ≡ forking.work ∷ [] → Tells told []
       → At c t (forked_in forking.branch run.func) (record { func = forked_in forking.branch run.func; state = child; frames = fs; told = told }) [] (Some new) Nothing
-  child_is slots after child fs told new e forks items nothing words =
+  child_is slots after child fs told new e forks items nothing =
       let h = states slots after child e forks in
       let p = part_frame c.program t g gs forking.work fork.work fork.of_child in
       let xs : reverse fs.items ≡ forking.work ∷ [] = ap reverse items in
@@ -327,7 +321,7 @@ module _ (c : Setting) (t : Table) (func : Option ℕ) (run : ThreadRun) (childr
         };
         children = tt;
         run_in = ap (functions_of (forked_in forking.branch run.func)) xs ∙ part_functions (forked_in forking.branch run.func) forking.work [] p;
-        record_block = words ∙ sym (fork_label_words s.label (suc s.forks));
+        record_block = sym (fork_label_words s.label (suc s.forks));
       }
 
   parent_is : (slots : List ℕ) (after child : ThreadState) (fs : Vec OwnFrame Global) (told : Told) (x : OpenChild) → slots ≡ taken_slots t forking.branch
@@ -393,7 +387,7 @@ by_functions : {P : Type 0} (c : Setting) (t : Table) (run : ThreadRun) (forking
 by_functions c t run forking [] own s part b f = absurd b.next.runs
 by_functions c t run forking (g ∷ gs) own s part b f = f g gs b.next b.state b.tells
 
-pub is_fork : (children : List OpenChild) (p : Prepared) → IsFork (told_as children p) → (forking : Forking) × (room : Box ChildRoom Global) × (p ≡ Fork forking room)
+pub is_fork : (children : List OpenChild) (p : Prepared) → IsFork (told_as children p) → (forking : Forking) × (room : ChildRoom) × (p ≡ Fork forking room)
 is_fork children Nothing h = absurd h
 is_fork children (Fork forking room) h = (forking, room, refl)
 is_fork children (Join branch assigned) h = absurd h
@@ -403,29 +397,29 @@ is_fork children Dummy h = absurd h
 is_fork children (Fault fault) h = absurd h
 is_fork children End h = absurd h
 
-module _ (c : Setting) (t : Table) (func : Option ℕ) (run : ThreadRun) (children : List OpenChild) (block : Option Content) (forking : Forking) (room : Box ChildRoom Global)
+module _ (c : Setting) (t : Table) (func : Option ℕ) (run : ThreadRun) (children : List OpenChild) (block : Option RecordBlock) (forking : Forking) (room : ChildRoom)
     (owned : Ownership c.program) (turns : c.most_turns ≡ MOST_TURNS) (a : At c t func run children block (Fork forking room)) where
   pub running : run.state.faulted ≡ false
   running = by_functions c t run forking a.functions a.own a.at a.part a.stands.0 (λ g gs by is tells.
       is.faulted ∙ fork_going c t func run children block forking g gs a.own a.at a.part a.older owned turns a.point by is tells a.children a.run_in a.record_block)
 
-  pub slots_fit : (slots : List ℕ) → slots ≡ room.value.named.items → FitsSlots (length (own_row run.state)) slots
+  pub slots_fit : (slots : List ℕ) → slots ≡ room.named.items → FitsSlots (length (own_row run.state)) slots
   slots_fit slots e = by_functions c t run forking a.functions a.own a.at a.part a.stands.0 (λ g gs by is tells.
       fits c t func run children block forking g gs a.own a.at a.part a.older owned turns a.point by is tells a.children a.run_in a.record_block slots (e ∙ a.stands.1))
 
-  pub states_of : (slots : List ℕ) (after child : ThreadState) → slots ≡ room.value.named.items → ForksState forking.branch slots run.state after child → States run.state after child
+  pub states_of : (slots : List ℕ) (after child : ThreadState) → slots ≡ room.named.items → ForksState forking.branch slots run.state after child → States run.state after child
   states_of slots after child e forks = by_functions c t run forking a.functions a.own a.at a.part a.stands.0 (λ g gs by is tells.
       counted c t func run children block forking g gs a.own a.at a.part a.older owned turns a.point by is tells a.children a.run_in a.record_block slots after child
       (e ∙ a.stands.1) forks)
 
-  pub child_at : (slots : List ℕ) (after child : ThreadState) (fs : Vec OwnFrame Global) (told : Told) (new : Content) → slots ≡ room.value.named.items
-      → ForksState forking.branch slots run.state after child → fs.items ≡ forking.work ∷ [] → Tells told [] → recorded (Some new) ≡ record_words
+  pub child_at : (slots : List ℕ) (after child : ThreadState) (fs : Vec OwnFrame Global) (told : Told) (new : RecordBlock) → slots ≡ room.named.items
+      → ForksState forking.branch slots run.state after child → fs.items ≡ forking.work ∷ [] → Tells told []
       → At c t (forked_in forking.branch run.func) (record { func = forked_in forking.branch run.func; state = child; frames = fs; told = told }) [] (Some new) Nothing
-  child_at slots after child fs told new e forks items nothing words = by_functions c t run forking a.functions a.own a.at a.part a.stands.0 (λ g gs by is tells.
+  child_at slots after child fs told new e forks items nothing = by_functions c t run forking a.functions a.own a.at a.part a.stands.0 (λ g gs by is tells.
       child_is c t func run children block forking g gs a.own a.at a.part a.older owned turns a.point by is tells a.children a.run_in a.record_block slots after child fs told new
-      (e ∙ a.stands.1) forks items nothing words)
+      (e ∙ a.stands.1) forks items nothing)
 
-  pub parent_at : (slots : List ℕ) (after child : ThreadState) (fs : Vec OwnFrame Global) (told : Told) (x : OpenChild) → slots ≡ room.value.named.items
+  pub parent_at : (slots : List ℕ) (after child : ThreadState) (fs : Vec OwnFrame Global) (told : Told) (x : OpenChild) → slots ≡ room.named.items
       → ForksState forking.branch slots run.state after child → fs.items ≡ (run.frames.items ++ Joins forking.branch ∷ []) ++ forking.own ∷ [] → Tells told []
       → x.ordinal ≡ after.forks → x.func ≡ forked_in forking.branch run.func → x.before ≡ run.told → x.ended ≡ None
       → At c t func (record { func = run.func; state = after; frames = fs; told = told }) (children ++ x ∷ []) block Nothing

@@ -8,7 +8,7 @@ use denote.Struct.Props.{props}
 use mathlib.Core.List.{reverse-append}
 use Rattle.std.specs.declared.alloc.Global.{Global}
 use Rattle.dag_order.specs.LabelOrder.{fork_of}
-use Rattle.block_arena.specs.Content.{Content}
+use Rattle.block_arena.specs.declared.record_block.RecordBlock.{RecordBlock}
 use Rattle.depth_first_list.specs.Actions as actions
 use Rattle.depth_first_list.specs.Actions.{record_words}
 use Rattle.par_tree.specs.Tree.{Name, Func, Program}
@@ -228,7 +228,7 @@ can_join c t (Par n) g h gs func kid u child slots s d assigned runs same kid_ru
     takes_in (slot_names g) (map slot_names gs) u child slots s d f k is (subst (λ (x : Func). InState (x ∷ []) child d) one is_child) fits apart
 can_join c t Dummies g h gs func kid u child slots s d assigned runs same kid_runs join_of e is is_child f k apart = tt
 
-module _ (c : Setting) (t : Table) (func : Option ℕ) (run : ThreadRun) (others : List OpenChild) (x : OpenChild) (e : Ended) (block : Option Content) (branch : Branch)
+module _ (c : Setting) (t : Table) (func : Option ℕ) (run : ThreadRun) (others : List OpenChild) (x : OpenChild) (e : Ended) (block : Option RecordBlock) (branch : Branch)
     (slots : List ℕ) (there : x.ended ≡ Some e) (g : Func) (gs : List Func) (own : List Frame) (s : State) (part : List Item) (older : List (List Item))
     (owned : Ownership c.program) (th : IsThread c own s (part ∷ older)) (runs : RunsIn c.program t run.func (g ∷ gs))
     (frames : AreFrames c.program t (g ∷ gs) (Joins branch ∷ frames_of run) own) (is : InState (g ∷ gs) run.state s) (tells : Tells run.told part)
@@ -337,7 +337,7 @@ by_functions : {P : Type 0} (c : Setting) (t : Table) (run : ThreadRun) (branch 
 by_functions c t run branch [] own s part b f = absurd b.next.runs
 by_functions c t run branch (g ∷ gs) own s part b f = f g gs b.next.runs b.next.frames b.state b.tells
 
-module _ (c : Setting) (t : Table) (func : Option ℕ) (run : ThreadRun) (others : List OpenChild) (x : OpenChild) (e : Ended) (block : Option Content) (branch : Branch)
+module _ (c : Setting) (t : Table) (func : Option ℕ) (run : ThreadRun) (others : List OpenChild) (x : OpenChild) (e : Ended) (block : Option RecordBlock) (branch : Branch)
     (assigned : Vec ℕ Global) (slots : List ℕ) (there : x.ended ≡ Some e) (same : slots ≡ assigned.items) (owned : Ownership c.program)
     (a : At c t func run (others ++ x ∷ []) block (Join branch assigned)) where
   pub can_take : run.state.faulted ≡ false → e.state.faulted ≡ false → CanJoin branch slots run.state e.state

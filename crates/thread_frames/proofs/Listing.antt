@@ -32,7 +32,7 @@ use Rattle.frame_stack.specs.declared.frame.Frame.{Frame as OwnFrame}
 use Rattle.frame_stack.specs.declared.frame.Frame.TheVariants.{Joins}
 use Rattle.thread_steps.specs.Stands.{InState}
 use Rattle.thread_run.specs.Functions.{frames_of}
-use Rattle.block_arena.specs.Content.{Content}
+use Rattle.block_arena.specs.declared.record_block.RecordBlock.{RecordBlock}
 use Rattle.thread_run.specs.declared.run.ThreadRun.{ThreadRun}
 use Rattle.thread_state.specs.States.{IsState, words_held}
 use Rattle.thread_state.specs.Joins.{words_by, released}
@@ -280,7 +280,7 @@ of_list c t thread End answer a e =
 
 -- ---- a Join is that of the newest open child
 
-is_open : (c : Setting) (t : Table) (func : Option ℕ) (run : ThreadRun) (children : List OpenChild) (block : Option Content) (branch : Branch) (assigned : Vec ℕ Global)
+is_open : (c : Setting) (t : Table) (func : Option ℕ) (run : ThreadRun) (children : List OpenChild) (block : Option RecordBlock) (branch : Branch) (assigned : Vec ℕ Global)
     → At c t func run children block (Join branch assigned) → newest children ≡ None → ⊥
 is_open c t func run children block branch assigned a none =
     let s = a.at in

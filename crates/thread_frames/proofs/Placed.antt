@@ -4,7 +4,7 @@ use Rattle.std.proofs.Math.Logic.{∥∥₁_elim, ∥∥₁_map}
 use Rattle.node_table.specs.Table.{Table}
 use Rattle.depth_first_run.specs.States.{Setting}
 use Rattle.thread_steps.specs.Settings.{IsSettingOf}
-use Rattle.block_arena.specs.Content.{Content}
+use Rattle.block_arena.specs.declared.record_block.RecordBlock.{RecordBlock}
 use Rattle.thread_run.specs.declared.run.ThreadRun.{ThreadRun}
 use Rattle.thread_frames.specs.Points.{At, IsThreadAt, IsAtPoint, IsPlaced}
 use Rattle.thread_frames.specs.declared.open_child.OpenChild.{OpenChild}
@@ -23,18 +23,18 @@ pub next_point : (t : Table) (k : ℕ) (before after : Thread) → ((c : Setting
 next_point t k before after f p = record { of_program = p.of_program; at = λ c is. ∥∥₁_map (p.at c is) (f c is) }
 
 -- with another action prepared, or none
-pub prepared_as : (c : Setting) (t : Table) (func : Option ℕ) (run : ThreadRun) (children : List OpenChild) (block : Option Content) (p q : Prepared)
+pub prepared_as : (c : Setting) (t : Table) (func : Option ℕ) (run : ThreadRun) (children : List OpenChild) (block : Option RecordBlock) (p q : Prepared)
     → p ≡ q → At c t func run children block q → At c t func run children block p
 prepared_as c t func run children block p q e a = subst (λ (x : Prepared). At c t func run children block x) (sym e) a
 
 -- with the same parts
-pub same_parts : (c : Setting) (t : Table) (f g : Option ℕ) (r u : ThreadRun) (xs ys : List OpenChild) (b d : Option Content) (p q : Prepared)
+pub same_parts : (c : Setting) (t : Table) (f g : Option ℕ) (r u : ThreadRun) (xs ys : List OpenChild) (b d : Option RecordBlock) (p q : Prepared)
     → f ≡ g → r ≡ u → xs ≡ ys → b ≡ d → p ≡ q → At c t g u ys d q → At c t f r xs b p
 same_parts c t f g r u xs ys b d p q fg ru xy bd pq a =
     subst (λ (x : Option ℕ). At c t x r xs b p) (sym fg)
     (subst (λ (x : ThreadRun). At c t g x xs b p) (sym ru)
     (subst (λ (x : List OpenChild). At c t g u x b p) (sym xy)
-    (subst (λ (x : Option Content). At c t g u ys x p) (sym bd)
+    (subst (λ (x : Option RecordBlock). At c t g u ys x p) (sym bd)
     (subst (λ (x : Prepared). At c t g u ys d x) (sym pq) a))))
 
 -- a thread that is at its point

@@ -12,7 +12,7 @@ use Rattle.thread_points.specs.Threads.{IsThread, open_children}
 use Rattle.frame_stack.specs.declared.frame.Frame.{Frame}
 use Rattle.frame_stack.specs.declared.frame.Frame.TheVariants.{Joins}
 use Rattle.block_arena.specs.Size.{words_taken}
-use Rattle.block_arena.specs.Content.{Content}
+use Rattle.block_arena.specs.declared.record_block.RecordBlock.{RecordBlock}
 use Rattle.thread_frames.specs.Memory.{RoomFits}
 use Rattle.thread_frames.specs.Slots.{taken_slots, assigned_slots}
 use Rattle.thread_output.specs.Telling.{Tells}
@@ -66,8 +66,8 @@ AreChildren c t label (o ∷ os) (before ∷ older) (x ∷ xs) = IsChild c t lab
 abbrev pub Stands : Setting → Table → List Func → ThreadRun → Prepared → List middles.Frame → State → List Item → Type 0
 Stands c t gs run Nothing own s part = IsGoing c t gs run own s part
 Stands c t gs run (Fork forking room) own s part =
-    IsBefore c t gs run (ready.Fork forking) own s part × (room.value.named.items ≡ taken_slots t forking.branch)
-    × RoomFits run.state forking.branch room.value.room
+    IsBefore c t gs run (ready.Fork forking) own s part × (room.named.items ≡ taken_slots t forking.branch)
+    × RoomFits run.state forking.branch room.room
 Stands c t gs run (Join branch assigned) own s part =
     IsBefore c t gs run (ready.Join branch) own s part × (assigned.items ≡ assigned_slots t branch)
 Stands c t gs run (Alloc slot len words shell) own s part =
@@ -87,7 +87,7 @@ function_of_child child = child.func
 
 -- A thread is at a point of the run of a program: where it stands, what it left since its newest open fork and before each older one, its
 -- open children, the functions in which they run, and its record block, which the root alone does not have.
-pub record At (c : Setting) (t : Table) (func : Option ℕ) (run : ThreadRun) (open_ones : List OpenChild) (block : Option Content)
+pub record At (c : Setting) (t : Table) (func : Option ℕ) (run : ThreadRun) (open_ones : List OpenChild) (block : Option RecordBlock)
     (prepared : Prepared) : Type 0 where
   pub functions : List Func
   pub own : List middles.Frame

@@ -1,5 +1,5 @@
 -- What is prepared for an action, and what `main` begins with.
-use Rattle.std.specs.Prelude.{◌≡◌, ℕ, List, [], ◌∷◌, reverse, Some, Vec, Box}
+use Rattle.std.specs.Prelude.{◌≡◌, ℕ, List, [], ◌∷◌, reverse, Some, Vec}
 use Rattle.std.specs.declared.alloc.Global.{Global}
 use Rattle.block_arena.specs.Size.{words_taken}
 use Rattle.par_tree.specs.Tree.{Func, Program}
@@ -28,8 +28,8 @@ use Rattle.thread_frames.specs.declared.prepared.Prepared.TheVariants.{Fork, Joi
 -- what is prepared for an action that is ready
 abbrev pub Prepares : Table → ThreadState → Ready → Prepared → Type 0
 Prepares t state (ready.Fork forking) prepared =
-    (room : Box ChildRoom Global) × (prepared ≡ Fork forking room) × RoomFits state forking.branch room.value.room
-    × (room.value.named.items ≡ taken_slots t forking.branch)
+    (room : ChildRoom) × (prepared ≡ Fork forking room) × RoomFits state forking.branch room.room
+    × (room.named.items ≡ taken_slots t forking.branch)
 Prepares t state (ready.Join branch) prepared =
     (assigned : Vec ℕ Global) × (prepared ≡ Join branch assigned) × (assigned.items ≡ assigned_slots t branch)
 Prepares t state (ready.Alloc slot len shell) prepared = (words : ℕ) × (prepared ≡ Alloc slot len words shell) × (words ≡ words_taken len)

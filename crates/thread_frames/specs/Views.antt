@@ -1,9 +1,9 @@
 -- What callers see of a thread: its open children, its next action, and the words that it has.
-use Rattle.std.specs.Prelude.{ℕ, ◌+◌, Bool, List, [], ◌∷◌, length, map, Option, Some, None, is_some}
+use Rattle.std.specs.Prelude.{ℕ, ◌+◌, Bool, List, [], ◌∷◌, map, Option, Some, None, is_some}
 use Rattle.dag_order.specs.Births.{root}
 use Rattle.dag_order.specs.declared.thread_id.ThreadId.{ThreadId}
-use Rattle.block_arena.specs.Size.{words_taken}
-use Rattle.block_arena.specs.Content.{Content}
+use Rattle.block_arena.specs.declared.record_block.RecordBlock.{RecordBlock}
+use Rattle.depth_first_list.specs.Actions.{record_words}
 use Rattle.thread_state.specs.States.{words_held}
 use Rattle.thread_state.specs.Joins.{released}
 use Rattle.thread_frames.specs.declared.next.Next.{Next}
@@ -76,9 +76,9 @@ forks_of thread = thread.run.state.forks
 abbrev pub held_by : Thread → ℕ
 held_by thread = words_held thread.run.state
 
-abbrev pub recorded : Option Content → ℕ
+abbrev pub recorded : Option RecordBlock → ℕ
 recorded None = 0
-recorded (Some block) = words_taken (length block.items)
+recorded (Some block) = record_words
 
 abbrev pub ended_words : Ended → ℕ
 ended_words child = words_held child.state

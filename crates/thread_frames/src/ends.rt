@@ -14,45 +14,42 @@ ghost use Rattle.thread_frames.specs.Views.{recorded, brought, all_brought};
 use crate::ended::Ended;
 use crate::open_child::OpenChild;
 use crate::thread::Thread;
-use block_arena::{Block, Pool};
+use block_arena::{Pool, RecordBlock};
 use dag_order::{FaultAt, Lines, ThreadId};
 use std::alloc::{AllocError, Global};
+use std::mem;
+use thread_output::Told;
+use thread_state::ThreadState;
 
 impl Thread {
     ghost use Rattle.thread_frames.specs.Views.{next_of, label_of, done_of, thread_words, ended_words, ended_label};
     ghost use Rattle.thread_frames.specs.Points.{IsAtPoint, IsPlaced, IsResult};
     ghost use Rattle.thread_frames.specs.Actions.{IsEnd};
 
-    /// Does the End that is prepared: the record block goes back to the pool, and what is left is the result of the thread.
-    pub fn end(self, pool: &mut Pool) -> Ended
-        requires placed { IsPlaced self }
-        requires next { IsEnd (next_of self) }
-        requires count { done_of self < 4294967295 }
-        requires live { words_at_end (label_of self) ≤ pool.old.live }
-        ensures id { result.id ≡ self.id }
-        ensures parent { result.parent ≡ self.parent }
-        ensures func { result.func ≡ self.func }
-        ensures label { ended_label result ≡ label_of self }
-        ensures words { ended_words result + words_at_end (label_of self) ≡ thread_words self }
-        ensures pool { pool.new ≡ with_given pool.old (words_at_end (label_of self)) }
-        ensures result { (t : Table) (k : ℕ) → IsAtPoint t k self → IsResult t k result }
+    /// Does the End that is prepared: the record block goes back to the pool, and what is left is the result of the thread. Of the thread
+    /// there is no further use but for its place.
+    pub fn end(&mut self, pool: &mut Pool) -> Ended
+        requires placed { IsPlaced self.old }
+        requires next { IsEnd (next_of self.old) }
+        requires count { done_of self.old < 4294967295 }
+        requires live { words_at_end (label_of self.old) ≤ pool.old.live }
+        ensures id { result.id ≡ self.old.id }
+        ensures parent { result.parent ≡ self.old.parent }
+        ensures func { result.func ≡ self.old.func }
+        ensures label { ended_label result ≡ label_of self.old }
+        ensures words { ended_words result + words_at_end (label_of self.old) ≡ thread_words self.old }
+        ensures pool { pool.new ≡ with_given pool.old (words_at_end (label_of self.old)) }
+        ensures result { (t : Table) (k : ℕ) → IsAtPoint t k self.old → IsResult t k result }
     {
-        let Thread {
-            id,
-            parent,
-            func,
-            mut run,
-            record_block,
-            ..
-        } = self;
-        give_record(record_block, pool);
-        run.state.count_action();
+        give_record(self.record_block.take(), pool);
+        self.run.state.count_action();
+        let alloc = *self.run.frames.allocator();
         Ended {
-            id,
-            parent,
-            func,
-            state: run.state,
-            told: run.told,
+            id: self.id,
+            parent: self.parent,
+            func: self.func,
+            state: mem::replace(&mut self.run.state, ThreadState::blank(alloc)),
+            told: mem::replace(&mut self.run.told, Told::new(alloc)),
         }
     }
 
@@ -109,12 +106,12 @@ impl Ended {
 }
 
 /// A record block goes back to the pool, where there is one.
-fn give_record(block: Option<Block>, pool: &mut Pool)
+fn give_record(block: Option<RecordBlock>, pool: &mut Pool)
     requires { recorded block ≤ pool.old.live }
     ensures { pool.new ≡ with_given pool.old (recorded block) }
 {
     if let Some(block) = block {
-        let _shell = pool.give(block);
+        pool.give_record(block);
     }
 }
 

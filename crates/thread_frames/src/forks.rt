@@ -1,6 +1,6 @@
 //! Forks: the child, and what its parent keeps.
 
-ghost use Rattle.std.specs.Prelude.{◌≡◌, ◌≤◌, ◌<◌, ◌+◌, ◌↔◌, ℕ, [], Some, List, length, false, IsErr, IfOk, IfErr, OnOk, OnErr};
+ghost use Rattle.std.specs.Prelude.{◌≡◌, ◌≤◌, ◌<◌, ◌+◌, ◌↔◌, ℕ, length, false, IsErr, IfOk, IfErr, OnOk, OnErr};
 ghost use Rattle.block_arena.specs.Region.{with_taken};
 ghost use Rattle.depth_first_list.specs.Actions.{record_words};
 ghost use Rattle.node_table.specs.Reading.{FitsSlots};
@@ -10,18 +10,18 @@ ghost use Rattle.thread_run.specs.Functions.{forked_in as function_of_branch};
 ghost use Rattle.thread_frames.specs.Memory.{RoomFits};
 ghost use Rattle.thread_frames.specs.Forking.{ForksState};
 
-use crate::acts::test_room;
 use crate::child_room::ChildRoom;
 use crate::error::ArenaFull;
 use crate::open_child::OpenChild;
+use crate::place::Place;
 use crate::prepared::Prepared;
 use crate::thread::Thread;
-use block_arena::{Block, PIECE_WORDS, Pool};
+use block_arena::{PIECE_WORDS, Pool, RecordBlock};
+use boxed::Boxed;
 use dag_order::ThreadId;
 use frame_stack::{Branch, Frame};
 use std::mem;
 use thread_output::Told;
-use thread_run::ThreadRun;
 use thread_state::{ForkRoom, ThreadState};
 use thread_steps::Forking;
 
@@ -30,12 +30,17 @@ impl Thread {
     ghost use Rattle.thread_frames.specs.Points.{IsAtPoint, IsPlaced};
     ghost use Rattle.thread_frames.specs.Actions.{IsFork, HasForked};
 
-    /// Does the Fork that is prepared: the child has this id, and its record block, of 16 words, is of the pool.
+    /// Does the Fork that is prepared: the child, in this place, has this id, and its record block, of 16 words, is of the pool.
     ///
     /// # Errors
     ///
     /// [`ArenaFull`], exactly where 16 words do not fit beside those that are out. The thread and the pool are as they were.
-    pub fn do_fork(&mut self, id: ThreadId, pool: &mut Pool) -> Result<Thread, ArenaFull>
+    pub fn do_fork(
+        &mut self,
+        id: ThreadId,
+        pool: &mut Pool,
+        place: Place,
+    ) -> Result<Boxed<Thread>, ArenaFull>
         requires placed { IsPlaced self.old }
         requires next { IsFork (next_of self.old) }
         requires count { done_of self.old < 4294967295 }
@@ -48,23 +53,15 @@ impl Thread {
         ensures point { (t : Table) (k : ℕ) → IsAtPoint t k self.old → IsAtPoint t k self.new }
         ensures child { (t : Table) (k : ℕ) → IsAtPoint t k self.old → IfOk result (IsAtPoint t k) }
     {
-        test_room(pool, u64::from(PIECE_WORDS))?;
+        let block = take_record(pool)?;
         let Prepared::Fork { forking, room } = mem::replace(&mut self.prepared, Prepared::Nothing)
         else {
             unreachable!();
         };
-        let ChildRoom {
-            room,
-            shell,
-            mut frames,
-            named,
-        } = Box::into_inner(room);
-        let Ok(block) = pool.take(PIECE_WORDS, shell) else {
-            unreachable!();
-        };
+        let ChildRoom { room, named } = room;
         let func = forked_in(forking.branch, self.run.func);
         let state = fork_state(&mut self.run.state, forking.branch, room, &named);
-        let alloc = *frames.allocator();
+        let alloc = *named.allocator();
         let before = mem::replace(&mut self.run.told, Told::new(alloc));
         self.run.frames.push_reserved(Frame::Joins(forking.branch));
         self.run.frames.push_reserved(forking.own);
@@ -75,36 +72,27 @@ impl Thread {
             before,
             ended: None,
         });
-        frames.push_reserved(forking.work);
-        let run = ThreadRun {
-            func,
-            state,
-            frames,
-            told: Told::new(alloc),
-        };
-        Ok(child(id, self.id, run, block))
+        Ok(place.begin(id, self.id, func, state, forking.work, block))
     }
 }
 
-/// A child before its first statement.
-fn child(id: ThreadId, parent: ThreadId, run: ThreadRun, block: Block) -> Thread
-    ensures id { result.id ≡ id }
-    ensures parent { result.parent ≡ Some parent }
-    ensures func { result.func ≡ run.func }
-    ensures run { result.run ≡ run }
-    ensures children { result.children.items ≡ [] }
-    ensures block { result.record_block ≡ Some block }
-    ensures prepared { result.prepared ≡ Prepared.Nothing }
+/// A record block of the pool.
+///
+/// # Errors
+///
+/// [`ArenaFull`], exactly where its words do not fit beside those that are out. The pool is as it was.
+fn take_record(pool: &mut Pool) -> Result<RecordBlock, ArenaFull>
+    ensures full { IsErr result ↔ (pool.old.capacity < pool.old.live + record_words) }
+    ensures told { IfErr result (λ refusal. refusal ≡ record { live = pool.old.live; asked = record_words }) }
+    ensures refused { OnErr result (pool.new ≡ pool.old) }
+    ensures pool { OnOk result (pool.new ≡ with_taken pool.old record_words) }
 {
-    let alloc = *run.frames.allocator();
-    Thread {
-        id,
-        parent: Some(parent),
-        func: run.func,
-        run,
-        children: Vec::new(alloc),
-        record_block: Some(block),
-        prepared: Prepared::Nothing,
+    match pool.take_record() {
+        Some(block) => Ok(block),
+        None => Err(ArenaFull {
+            live: pool.live(),
+            asked: u64::from(PIECE_WORDS),
+        }),
     }
 }
 

@@ -15,18 +15,17 @@ ghost use Rattle.thread_frames.specs.Memory.{RoomFits, frames_put, children_put}
 ghost use Rattle.thread_frames.specs.Slots.{taken_slots as slots_taken, assigned_slots as slots_assigned};
 ghost use Rattle.thread_frames.specs.Preparing.{Prepares, BeginsMain, AreMainFrames};
 
-use crate::child_room::{ChildRoom, FRAMES_OF_A_CHILD};
+use crate::child_room::ChildRoom;
 use crate::next::Next;
 use crate::open_child::OpenChild;
 use crate::prepared::Prepared;
 use crate::thread::Thread;
-use block_arena::{PIECE_WORDS, Shell, pieces_for};
+use block_arena::{PIECE_WORDS, pieces_for};
 use dag_order::{Label, Placed, ThreadId};
 use dummy_tree::Quota;
 use frame_stack::{Branch, Frame, ListOf, frame_from};
 use node_table::{Code, NodeKind};
 use std::alloc::{AllocError, Global};
-use std::mem;
 use thread_output::Told;
 use thread_run::ThreadRun;
 use thread_state::ThreadState;
@@ -102,37 +101,6 @@ impl Thread {
             record_block: None,
             prepared: Prepared::Nothing,
         })
-    }
-
-    /// A thread that runs nothing: what stands in a place for a child before it is forked. What else it has is of no account. It takes no
-    /// memory.
-    pub fn blank(alloc: Global) -> Thread
-        ensures children { children_of result ≡ [] }
-        ensures next { next_of result ≡ None }
-    {
-        let run = ThreadRun {
-            func: None,
-            state: ThreadState::blank(alloc),
-            frames: Vec::new(alloc),
-            told: Told::new(alloc),
-        };
-        Thread {
-            id: ThreadId::ROOT,
-            parent: None,
-            func: None,
-            run,
-            children: Vec::new(alloc),
-            record_block: None,
-            prepared: Prepared::Nothing,
-        }
-    }
-
-    /// The thread, which leaves a blank one where it was, so that its place on the heap can be that of a child.
-    pub fn take(&mut self) -> Thread
-        ensures { result ≡ self.old }
-    {
-        let alloc = *self.run.frames.allocator();
-        mem::replace(self, Thread::blank(alloc))
     }
 
     /// Runs up to the next action, takes the memory that it needs, and tells it. It is not done. Called again before the action is done, it
@@ -279,8 +247,7 @@ fn prepared_for(
 {
     match ready {
         Ready::Fork(forking) => {
-            let child = child_room(state, alloc, code, forking.branch)?;
-            let room = Box::new(alloc, child)?;
+            let room = child_room(state, alloc, code, forking.branch)?;
             Ok(Prepared::Fork { forking, room })
         }
         Ready::Join(branch) => {
@@ -327,8 +294,6 @@ fn child_room(
     };
     Ok(ChildRoom {
         room,
-        shell: Shell::with_room(alloc, 1)?,
-        frames: Vec::with_capacity(alloc, FRAMES_OF_A_CHILD)?,
         named: named_slots(alloc, code, branch)?,
     })
 }

@@ -21,10 +21,12 @@ mod going;
 mod joins;
 mod next;
 mod open_child;
+mod place;
 mod prepared;
 mod thread;
 
 pub use ended::Ended;
 pub use error::ArenaFull;
 pub use next::Next;
+pub use place::Place;
 pub use thread::Thread;

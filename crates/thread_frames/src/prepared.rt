@@ -9,10 +9,10 @@ use thread_steps::Forking;
 pub(crate) enum Prepared {
     /// The thread has not come to its next action.
     Nothing,
-    /// A Fork. What it needs is large, and is on the heap so that a thread, which moves from deque to deque, stays small.
+    /// A Fork.
     Fork {
         forking: Forking,
-        room: Box<ChildRoom>,
+        room: ChildRoom,
     },
     /// The Join of the newest open child, with the slots whose integers come back.
     Join {

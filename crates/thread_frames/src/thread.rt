@@ -3,7 +3,7 @@ ghost use Rattle.thread_frames.specs.Memory.{frames_put, children_put};
 
 use crate::open_child::OpenChild;
 use crate::prepared::Prepared;
-use block_arena::Block;
+use block_arena::RecordBlock;
 use dag_order::ThreadId;
 use thread_run::ThreadRun;
 
@@ -18,7 +18,7 @@ pub struct Thread {
     pub(crate) run: ThreadRun,
     /// The newest one last.
     pub(crate) children: Vec<OpenChild>,
-    pub(crate) record_block: Option<Block>,
+    pub(crate) record_block: Option<RecordBlock>,
     pub(crate) prepared: Prepared,
     pub ghost frames_fit: { frames_put prepared ≤ vec_capacity run.frames - vec_len run.frames },
     pub ghost children_fit: { children_put prepared ≤ vec_capacity children - vec_len children },

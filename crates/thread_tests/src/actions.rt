@@ -14,7 +14,7 @@ use crate::trace::Trace;
 use crate::wrong::Wrong;
 use block_arena::Pool;
 use dag_order::{Placed, ThreadId};
-use thread_frames::{Ended, Next, Thread};
+use thread_frames::{Ended, Next, Place, Thread};
 
 /// The words that a thread gives back at its End.
 fn words_at_end(thread: &Thread) -> u64
@@ -116,10 +116,13 @@ fn fork(trace: &Trace, family: &mut Family, pool: &mut Pool) -> Result<(), Wrong
     let Ok(()) = family.aside.reserve(1) else {
         return Err(Wrong::OutOfMemory);
     };
-    let Ok(child) = family.thread.do_fork(id, pool) else {
+    let Ok(place) = Place::new(*family.aside.allocator()) else {
+        return Err(Wrong::OutOfMemory);
+    };
+    let Ok(child) = family.thread.do_fork(id, pool, place) else {
         return Err(Wrong::TooMany);
     };
-    family.aside.push_reserved(child);
+    family.aside.push_reserved(child.into_inner());
     family.above = above;
     Ok(())
 }
@@ -189,6 +192,7 @@ pub(crate) fn end(thread: Thread, pool: &mut Pool) -> Result<Ended, Wrong>
     if pool.live() < words_at_end(&thread) {
         return Err(Wrong::OtherWords);
     }
+    let mut thread = thread;
     Ok(thread.end(pool))
 }
 
