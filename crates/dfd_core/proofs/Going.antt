@@ -1,7 +1,7 @@
 -- How a core goes on by an event, or stays.
-use Rattle.std.proofs.Common.{◌≡◌, ℕ, ◌≤◌, List, [], ◌∷◌, ◌++◌, length, inl, inr, sym, ap, subst, ◌∙◌, arith}
+use Rattle.std.proofs.Common.{◌≡◌, ℕ, ◌≤◌, List, length, inl, inr, refl, sym, ap, subst, ◌∙◌, arith}
 use Rattle.std.proofs.Math.Logic.{∥∥₁_elim, ∥∥₁_map, ∥∥₁_prop}
-use Rattle.std.specs.Prelude.{Option, None, Some, Result, Ok, Err, pos}
+use Rattle.std.specs.Prelude.{Bool, true, false, cond, Option, None, Some, Result, Ok, Err, pos}
 use Rattle.std.proofs.lemmas.Bool.{cases_lt}
 use Rattle.std.proofs.lemmas.Option.{none-some, same_Some}
 use Rattle.dag_order.specs.declared.finish.Finish.{Finish}
@@ -14,6 +14,7 @@ use Rattle.deque_machine.specs.Play as play
 use Rattle.deque_machine.specs.Play.{Limits, IsForced, NoneFree, Wants, a_theft, a_give_up, a_wait, an_action, Meets, no_words, no_steps}
 use Rattle.deque_machine.specs.Runs.{Pair}
 use Rattle.node_table.specs.Table.{Table}
+use Rattle.period_table.specs.Tables.{periods_of}
 use Rattle.step_laws.proofs.Told.{actions_are_added, others_add_none}
 use Rattle.thread_steps.specs.Settings.{IsSettingOf}
 use Rattle.core_parts.specs.declared.event.Event.{Event as Told}
@@ -26,10 +27,11 @@ use Rattle.core_parts.specs.Outcomes.{StepsTo}
 use Rattle.thief_steps.specs.Thefts.{StepsBy as EventBy}
 use Rattle.dfd_core.specs.declared.run_end.RunEnd.{RunEnd}
 use Rattle.dfd_core.specs.declared.run_end.RunEnd.TheVariants.{Finished, Stopped}
-use Rattle.dfd_core.specs.Ends.{finish_of_run, end_of_root}
+use Rattle.dfd_core.specs.Ends.{finish_of_run, end_of_root, is_of_root, end_behind_event}
 use Rattle.dfd_core.specs.Running.{IsAtMoment, IsSomewhere, KeepsEnd}
 use Rattle.dfd_core.specs.Steps.{GoesOn, Stops, Comes, end_behind}
 use Rattle.dfd_core.proofs.Roots.{root_result, end_is_kept}
+use Rattle.dfd_core.proofs.RootActs.{not_ended_by}
 
 -- no event makes more actions than may be done
 few_done : (s : machine.Setting) (limits : Limits) (m next : Moment) (worker : ℕ) (event : Event) → May s m worker event next
@@ -65,13 +67,17 @@ stays_at t k terms before after c run m stop at stands = record {
 module _ (t : Table) (k : ℕ) (terms : Terms) (before after : Held) (sound : IsSound t k terms after) (c : Setting) (run : List Pair) (m : Moment)
     (at : IsAtMoment t k terms before None c run m) (worker word : ℕ) where
   -- what is kept behind an event
-  kept : (next : Moment) (later : List Pair) → StandsAt c terms after later next → KeepsEnd c terms (end_of_root (root_result after)) next
-  kept next later stands = end_is_kept t k terms after sound c at.setting later next stands
+  kept : (told : Told) (g : parts.GoesOn c terms after worker word run m told) → KeepsEnd c terms (end_behind_event told (root_result after)) g.next
+  kept told g = by_root (is_of_root told) refl
+    where
+      by_root : (b : Bool) → is_of_root told ≡ b → KeepsEnd c terms (cond b (end_of_root (root_result after)) None) g.next
+      by_root true is = end_is_kept t k terms after sound c at.setting _ g.next g.stands
+      by_root false is = inl (not_ended_by (machine_of c terms) m g.next worker (periods_of after.table) g.event told g.may g.tells is (at.going refl), refl)
 
-  goes_on : (told : Told) → parts.GoesOn c terms after worker word run m told → GoesOn t k terms after (end_of_root (root_result after)) c worker word run m told
+  goes_on : (told : Told) → parts.GoesOn c terms after worker word run m told
+      → GoesOn t k terms after (end_behind_event told (root_result after)) c worker word run m told
   goes_on told g =
-      let pair : Pair = record { worker = worker; event = g.event } in
-      let ends = kept g.next (run ++ pair ∷ []) g.stands in
+      let ends = kept told g in
       record {
         event = g.event;
         next = g.next;

@@ -1,6 +1,7 @@
 pub mod Told
 pub mod Seats
 pub mod Roots
+pub mod RootActs
 pub mod Going
 pub mod GivingUp
 pub mod Apart

@@ -1,11 +1,15 @@
 -- How a run ends with its root.
-use Rattle.std.specs.Prelude.{Option, None, Some}
+use Rattle.std.specs.Prelude.{Bool, false, cond, Option, None, Some}
+use Rattle.dag_order.specs.Births.{root}
 use Rattle.dag_order.specs.declared.finish.Finish.{Finish}
 use Rattle.depth_first_run.specs.States.{Setting, State}
 use Rattle.depth_first_run.specs.Run.{whole, first_fault}
 use Rattle.serial_journal.specs.Telling.{finish_of}
 use Rattle.thread_frames.specs.declared.ended.Ended.{Ended}
 use Rattle.thread_output.specs.Telling.{fault_of}
+use Rattle.thread_map.specs.Kept.{same_thread}
+use Rattle.core_parts.specs.declared.event.Event.{Event}
+use Rattle.core_parts.specs.declared.event.Event.TheVariants.{Stole, Acted, Suspended, GaveUp}
 use Rattle.dfd_core.specs.declared.run_end.RunEnd.{RunEnd}
 use Rattle.dfd_core.specs.declared.run_end.RunEnd.TheVariants.{Finished}
 
@@ -17,3 +21,14 @@ finish_of_run c = finish_of (first_fault (State.items (whole c)))
 abbrev pub end_of_root : Option Ended → Option RunEnd
 end_of_root None = None
 end_of_root (Some ended) = Some (Finished (finish_of (fault_of ended.told)))
+
+-- an action of the root, which ends with no other event
+abbrev pub is_of_root : Event → Bool
+is_of_root (Stole deque period) = false
+is_of_root (Acted id) = same_thread root id.by
+is_of_root (Suspended id) = false
+is_of_root (GaveUp deque) = false
+
+-- the end that is kept behind an event: the one that the result of the root tells, where the root acted
+abbrev pub end_behind_event : Event → Option Ended → Option RunEnd
+end_behind_event event ended = cond (is_of_root event) (end_of_root ended) None

@@ -22,7 +22,7 @@ use Rattle.dfd_core.specs.declared.run_end.RunEnd.{RunEnd}
 use Rattle.dfd_core.specs.declared.run_end.RunEnd.TheVariants.{Finished, Stopped}
 use Rattle.dfd_core.specs.declared.run_end.Stepped.{Stepped}
 use Rattle.dfd_core.specs.declared.run_end.Stepped.TheVariants.{Stole, Acted, Suspended, GaveUp, Nothing, Over}
-use Rattle.dfd_core.specs.Ends.{end_of_root}
+use Rattle.dfd_core.specs.Ends.{end_behind_event}
 use Rattle.dfd_core.specs.Running.{IsAtMoment, KeepsEnd}
 
 -- At the moment m of a run the rules of play want an event of the worker, with a word for the choice of its victim, and nothing stops it;
@@ -78,5 +78,5 @@ IsTold (Over (Stopped stop)) result = result ≡ Err stop
 -- the end that is kept behind a step: that of the root, where it has ended, or the stop
 abbrev pub end_behind : Result (Option Event) Stop → Option Ended → Option RunEnd
 end_behind (Ok None) ended = None
-end_behind (Ok (Some event)) ended = end_of_root ended
+end_behind (Ok (Some event)) ended = end_behind_event event ended
 end_behind (Err stop) ended = Some (Stopped stop)

@@ -3,12 +3,12 @@
 ghost use Rattle.std.specs.Prelude.{◌≡◌, Some};
 ghost use Rattle.dag_order.specs.Births.{root};
 ghost use Rattle.thread_map.specs.Kept.{kept_under};
-ghost use Rattle.dfd_core.specs.Ends.{end_of_root};
+ghost use Rattle.dfd_core.specs.Ends.{end_of_root, is_of_root, end_behind_event};
 ghost use Rattle.dfd_core.specs.GiveUps.{end_without_memory};
 ghost use Rattle.serial_journal.specs.Telling.{finish_of};
 
 use crate::run_end::RunEnd;
-use core_parts::Stop;
+use core_parts::{Event, Stop};
 use dag_order::{FaultAt, Finish, ThreadId};
 use thread_frames::Ended;
 use thread_map::ThreadMap;
@@ -24,12 +24,33 @@ fn finish_with(fault: Option<FaultAt>) -> Finish
 }
 
 /// The end that the result of the root tells; None exactly where it is not kept.
-pub(crate) fn end_told(results: &ThreadMap<Ended>) -> Option<RunEnd>
+fn end_told(results: &ThreadMap<Ended>) -> Option<RunEnd>
     ensures { result ≡ end_of_root (kept_under results.now root) }
 {
     match results.get(ThreadId::ROOT) {
         None => None,
         Some(ended) => Some(RunEnd::Finished(finish_with(ended.fault()))),
+    }
+}
+
+/// Whether an event is an action of the root.
+fn is_of_root(event: Event) -> bool
+    ensures { result ≡ is_of_root event }
+{
+    match event {
+        Event::Acted(id) => id.by == ThreadId::ROOT,
+        _ => false,
+    }
+}
+
+/// The end that is kept behind an event. The root ends by an action of its own, so the results are searched behind these alone.
+pub(crate) fn end_behind(results: &ThreadMap<Ended>, event: Event) -> Option<RunEnd>
+    ensures { result ≡ end_behind_event event (kept_under results.now root) }
+{
+    if is_of_root(event) {
+        end_told(results)
+    } else {
+        None
     }
 }
 

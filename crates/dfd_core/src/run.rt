@@ -25,7 +25,7 @@ ghost use Rattle.dfd_core.specs.Running.{IsSomewhere};
 ghost use Rattle.dfd_core.specs.Steps.{IsTold};
 
 use crate::begun::scheduler_of;
-use crate::ends::{end_told, end_without_memory};
+use crate::ends::{end_behind, end_without_memory};
 use crate::events::event_of;
 use crate::run_end::{OutputFail, RunEnd, Stepped};
 use block_arena::Pool;
@@ -177,7 +177,7 @@ impl Core {
         ) {
             Ok(None) => Stepped::Nothing,
             Ok(Some(event)) => {
-                self.end = end_told(&self.scheduler.results);
+                self.end = end_behind(&self.scheduler.results, event);
                 told(event)
             }
             Err(stop) => {

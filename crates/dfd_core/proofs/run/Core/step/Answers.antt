@@ -34,7 +34,7 @@ invariant_of-self-in-Ok-Some c =
       sound = c.event_of.ensures.sound;
       points = λ none. c.event_of.ensures.points (λ bad. ok_or_err _ _ (sym is ∙ bad));
       somewhere = somewhere_behind _ _ _ _ _ _ _ _ c.event_of.ensures.sound (c.event_of.ensures.terms c.args.self.now.limit) c.in_default.is c.args.worker c.args.word c.event_of.result
-          c.event_of.ensures.steps (c.end_told-self.ensures ∙ sym (ap (λ r. end_behind r (root_result (held c.event_of.new.scheduler))) is)) c.args.self.now.somewhere;
+          c.event_of.ensures.steps (c.end_behind-self.ensures ∙ sym (ap (λ r. end_behind r (root_result (held c.event_of.new.scheduler))) is)) c.args.self.now.somewhere;
       few = c.args.self.now.few;
       most_is = c.args.self.now.most_is ∙ sym (ap (λ (x : Terms). x.limits.deques) (c.event_of.ensures.terms 0));
       some_workers = omega (arith, workers, some);
@@ -79,7 +79,7 @@ returns-in-Ok-Some-clause-steps c = λ none s run m at.
       c.event_of.result,
       subst (IsTold c.told.result) (sym is) c.told.ensures,
       comes_behind _ _ _ _ _ _ _ _ c.event_of.ensures.sound (c.event_of.ensures.terms c.args.self.now.limit) none c.args.worker c.args.word c.event_of.result
-          c.event_of.ensures.steps (c.end_told-self.ensures ∙ sym (ap (λ r. end_behind r (root_result (held c.event_of.new.scheduler))) is)) s run m at,
+          c.event_of.ensures.steps (c.end_behind-self.ensures ∙ sym (ap (λ r. end_behind r (root_result (held c.event_of.new.scheduler))) is)) s run m at,
     )
 
 pub returns-in-Ok-Some-clause-nothing : goal.returns-in-Ok-Some-clause-nothing
