@@ -9,7 +9,7 @@ use dfd_core::{Core, RunEnd, Stepped};
 use machine_replay::runs::{opening, replay, step};
 use machine_replay::{Event, Moment, Pair};
 use serial_meaning::Serial;
-use space_ledger::Book;
+use space_ledger::{Book, NumberedBooks};
 use std::alloc::Global;
 use std::fmt::Write;
 use std::process::Abort;
@@ -54,8 +54,8 @@ fn open_period_of(core: &Core, number: u32) -> Option<Numbered<'_>> {
 }
 
 /// The period of a number.
-fn period_of(core: &Core, number: u32) -> Option<Numbered<'_>> {
-    match core.books().by_number(number) {
+fn period_of<'a>(core: &'a Core, closed: &NumberedBooks<'a>, number: u32) -> Option<Numbered<'a>> {
+    match closed.period(number) {
         Some(closed) => Some(Numbered {
             ahead: closed.ahead,
             owner: None,
@@ -69,8 +69,9 @@ fn period_of(core: &Core, number: u32) -> Option<Numbered<'_>> {
 /// The births of all periods, in the order of their numbers.
 fn births_in<'a>(rt: &impl Abort, alloc: Global, core: &'a Core) -> Vec<&'a Births> {
     let mut births = Vec::new(alloc);
+    let closed = NumberedBooks::of(alloc, core.books()).expect(rt, "memory");
     for before in 0..core.periods() {
-        let period = period_of(core, before + 1).expect(rt, "a period");
+        let period = period_of(core, &closed, before + 1).expect(rt, "a period");
         births.push(period.births).expect(rt, "memory");
     }
     births
@@ -197,10 +198,11 @@ fn tell_books(
     births: &[&Births],
     play: &Play,
 ) -> u64 {
+    let closed = NumberedBooks::of(alloc, core.books()).expect(rt, "memory");
     let mut begun = 1u64;
     let mut ended = 0u64;
     for before in 0..core.periods() {
-        let period = period_of(core, before + 1).expect(rt, "a period");
+        let period = period_of(core, &closed, before + 1).expect(rt, "a period");
         let ends = tell_period(rt, alloc, text, &period, births, play);
         begun = begun.saturating_add(u64::from(period.births.len()));
         ended = ended.saturating_add(ends);

@@ -1,6 +1,6 @@
 use bounded_list::BoundedList;
 use dag_order::{ActionId, Birth, Births, ThreadId};
-use space_ledger::{Book, Books, Closed, Moved, Moves};
+use space_ledger::{Book, Books, Closed, Moved, Moves, NumberedBooks};
 use std::alloc::Global;
 use std::process::Abort;
 
@@ -149,9 +149,9 @@ fn births() -> [(u32, u32, Option<u32>); 10] {
     ]
 }
 
-fn births_are_found(rt: &impl Abort, books: &Books) {
+fn births_are_found(rt: &impl Abort, numbered: &NumberedBooks<'_>) {
     for (period, nth, want) in births() {
-        let birth = books.birth(ThreadId { period, nth });
+        let birth = numbered.birth(ThreadId { period, nth });
         assert_eq!(rt; birth.map(|birth| birth.ordinal), want, "{nth} of {period}");
     }
 }
@@ -163,10 +163,11 @@ fn periods_and_births_are_found(rt: HostRuntime) {
     for (number, forks) in [(3, 2), (1, 0), (2, 3), (3, 9), (7, 1)] {
         add_forks(&rt, rt.alloc(), &mut books, number, false, forks);
     }
-    births_are_found(&rt, &books);
-    let births = books.by_number(3).map(|closed| closed.births.len());
+    let numbered = NumberedBooks::of(rt.alloc(), &books).expect(&rt, "memory");
+    births_are_found(&rt, &numbered);
+    let births = numbered.period(3).map(|closed| closed.births.len());
     assert_eq!(rt; births, Some(2));
-    assert!(rt; books.by_number(4).is_none());
+    assert!(rt; numbered.period(4).is_none());
 }
 
 // As many periods as a long run has, which end in another order than they began.
@@ -180,12 +181,13 @@ fn many_books(rt: &(impl Abort + AllocGlobal)) -> Books {
     books
 }
 
-fn numbers_are_found(rt: &impl Abort, books: &Books) {
+fn numbers_are_found(rt: &(impl Abort + AllocGlobal), books: &Books) {
+    let numbered = NumberedBooks::of(rt.alloc(), books).expect(rt, "memory");
     for number in [1, 2, 4_097, 65_537, 70_000] {
-        let found = books.by_number(number).map(|closed| closed.number);
+        let found = numbered.period(number).map(|closed| closed.number);
         assert_eq!(rt; found, Some(number));
     }
-    assert!(rt; books.by_number(0).is_none() && books.by_number(70_001).is_none());
+    assert!(rt; numbered.period(0).is_none() && numbered.period(70_001).is_none());
 }
 
 fn moves_grow(rt: &(impl Abort + AllocGlobal)) {

@@ -3,3 +3,4 @@ pub mod Counts
 pub mod MovesList
 pub mod BooksList
 pub mod Numbers
+pub mod NumberedList
