@@ -15,7 +15,7 @@ use Rattle.depth_first_run.proofs.Built.{whole_is_depth_first}
 use Rattle.node_table.specs.Table.{Table}
 use Rattle.period_table.specs.declared.seat.Seat.{Seat}
 use Rattle.period_table.specs.Tables.{seat_at}
-use Rattle.turn_choice.specs.Choices.{SomeReady, CanMove}
+use Rattle.victim_choice.specs.Choices.{SomeReady, CanMove}
 use Rattle.core_parts.specs.Held.{Held}
 use Rattle.core_parts.specs.Moments.{Terms, IsSound, machine_of}
 use Rattle.core_parts.proofs.Going.{lawful_at}

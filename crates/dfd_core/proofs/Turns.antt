@@ -22,7 +22,7 @@ use Rattle.period_table.specs.Tables.{seat_at, deque_at, deque_of, shown_of, per
 use Rattle.thread_points.specs.Points.{list_of}
 use Rattle.thread_parts.specs.Shown.{thread_shown}
 use Rattle.step_laws.proofs.Ready.{some_ready_is_shown}
-use Rattle.turn_choice.specs.Choices.{SomeReady, CanMove}
+use Rattle.victim_choice.specs.Choices.{SomeReady, CanMove}
 use Rattle.node_table.specs.Table.{Table}
 use Rattle.core_parts.specs.declared.event.Event.{Event}
 use Rattle.core_parts.specs.declared.stop.Stop.{Stop}

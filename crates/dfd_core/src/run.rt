@@ -42,7 +42,7 @@ use quota_period::Period;
 use space_ledger::{Books, Moves};
 use std::alloc::{AllocError, Global};
 use thread_frames::Thread;
-use turn_choice::{first_mover, some_ready};
+use victim_choice::{first_mover, some_ready};
 
 /// A run of a program by some workers, one event at a time.
 #[derive(Drop)]
@@ -218,7 +218,7 @@ impl Core {
             return false;
         }
         let is_ready = some_ready(&self.scheduler.list, self.workers());
-        turn_choice::can_move(&self.scheduler.table, is_ready, worker)
+        victim_choice::can_move(&self.scheduler.table, is_ready, worker)
     }
 
     /// The worker that moves next, picked by a word: the first that can.

@@ -25,9 +25,9 @@ mod messages;
 mod pcg_choices;
 mod peaking;
 mod playing;
+mod playing_core;
 mod program;
 mod refusal;
-mod running;
 mod status;
 
 pub use byte_streams::{

@@ -13,8 +13,8 @@ ghost use Rattle.dfd_run.specs.Peak.{finish_status};
 
 use crate::answer::Answer;
 use crate::finishing::finish_status;
+use crate::playing_core::{lines_of, run_program, stop_answer};
 use crate::refusal::refusal_answer;
-use crate::running::{lines_of, run_program, stop_answer};
 use accepted_source::accept;
 use block_check::Checked;
 use command_line::Command;

@@ -10,9 +10,9 @@ use Rattle.run_outcomes.specs.Outcomes.{added, KeepsLimits}
 use Rattle.par_lex.specs.declared.lexeme.Lexeme.{Lexeme}
 use Rattle.loop_expand.specs.Loops.{Range, numbers, parts, Loop}
 use Rattle.loop_expand.specs.Texts.{bytes_of, sum_name}
-use Rattle.loop_meaning.specs.PlainLoop.{plain_loop, MeansTheSame}
-use Rattle.loop_meaning.proofs.Plain.{numbers_loops}
-use Rattle.loop_meaning.proofs.Logarithm.{prefix_sums}
+use Rattle.number_loop_meaning.specs.PlainLoop.{plain_loop, MeansTheSame}
+use Rattle.number_loop_meaning.proofs.Plain.{numbers_loops}
+use Rattle.number_loop_meaning.proofs.Logarithm.{prefix_sums}
 use Rattle.part_loop_meaning.specs.PartsLoop.{plain_parts_loop}
 use Rattle.part_loop_meaning.proofs.PlainParts.{parts_loops}
 use Rattle.loop_trees.specs.HelperFunctions.{range_function, words_of}

@@ -11,7 +11,7 @@ use Rattle.ownership_laws.specs.Counts.{count}
 use Rattle.run_outcomes.specs.Outcomes.{added, KeepsLimits}
 use Rattle.loop_expand.specs.Loops.{Range, numbers, parts, Loop}
 use Rattle.loop_expand.specs.Texts.{bytes_of}
-use Rattle.loop_meaning.specs.PlainLoop.{plain_loop, MeansTheSame, count_between, numbers_of, RoundsTakeAtMost}
+use Rattle.number_loop_meaning.specs.PlainLoop.{plain_loop, MeansTheSame, count_between, numbers_of, RoundsTakeAtMost}
 use Rattle.part_loop_meaning.specs.PartsLoop.{plain_parts_loop}
 use Rattle.loop_trees.specs.HelperFunctions.{words_of}
 use Rattle.loop_trees.specs.LoopCalls.{IsExpression, AreExpressions, run_words}

@@ -1,6 +1,6 @@
 //! What the parallel loops of a text mean, whose expansion is accepted.
 //!
-//! It puts together what the program of an expansion is (`loop_trees`) and what a loop means that is written out (`loop_meaning`,
+//! It puts together what the program of an expansion is (`loop_trees`) and what a loop means that is written out (`number_loop_meaning`,
 //! `part_loop_meaning`), and holds laws alone.
 //!
 //! Its one theorem, `written_out_loops_are_plain`: each loop of the text has its call in the program, and in the depth-first run this call

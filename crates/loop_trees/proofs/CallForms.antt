@@ -12,7 +12,7 @@ use Rattle.par_text.specs.Grammar.{rule, name, index_rule, extent_rule, group_ru
 use Rattle.par_text.proofs.Marks.{tokens_of-append}
 use Rattle.par_text.proofs.KindLemmas.{is-self}
 use Rattle.canonical_text.proofs.Written.{spells, means_of}
-use Rattle.loop_meaning.specs.HelperTrees.{difference}
+use Rattle.number_loop_meaning.specs.HelperTrees.{difference}
 use Rattle.loop_trees.specs.LoopCalls.{Word, word_of, IsExpression}
 use Rattle.loop_trees.proofs.TokenWords.{word_for, use_word, assign_word, left_word, right_word, comma_word, minus_word, grouped}
 use Rattle.loop_trees.proofs.Without.{false_true, Without, is_without, nested_without}

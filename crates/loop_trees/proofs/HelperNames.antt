@@ -12,7 +12,7 @@ use Rattle.par_text.specs.Lexing.{is_letter, is_digit, is_allowed, form_of, of_w
 use Rattle.par_text.proofs.KindLemmas.{both_true}
 use Rattle.canonical_text.proofs.Lexemes.{Words, Allowed, word-whole}
 use Rattle.canonical_text.proofs.Leaves.{IsName, Digits, numerals}
-use Rattle.loop_meaning.specs.HelperTrees.{further_name, low_name, count_name, sum_of_all, half_name, sum_of_rest, block_name, left_name, right_name}
+use Rattle.number_loop_meaning.specs.HelperTrees.{further_name, low_name, count_name, sum_of_all, half_name, sum_of_rest, block_name, left_name, right_name}
 use Rattle.loop_expand.specs.Texts.{sum_name}
 
 -- digits

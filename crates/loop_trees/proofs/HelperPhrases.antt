@@ -10,7 +10,7 @@ use Rattle.canonical_text.specs.Canonical.{behind_comma}
 use Rattle.canonical_text.proofs.Claims.{Fits, same_fits}
 use Rattle.canonical_text.proofs.Leaves.{IsName}
 use Rattle.loop_expand.specs.Texts.{more_names, numbers_helper as numbers_text, parts_helper as parts_text}
-use Rattle.loop_meaning.specs.HelperTrees.{further_name, further_names, integer_param, pass_on, low_name, count_name, sum_of_all, half_name, sum_of_rest, block_name, left_name, right_name, numbers_helper, parts_helper}
+use Rattle.number_loop_meaning.specs.HelperTrees.{further_name, further_names, integer_param, pass_on, low_name, count_name, sum_of_all, half_name, sum_of_rest, block_name, left_name, right_name, numbers_helper, parts_helper}
 use Rattle.loop_trees.proofs.Phrases.{Begins, same_says}
 use Rattle.loop_trees.proofs.Expressions.{IsExpression, variable, IsNumberOf, number, zero_number, one_number, two_number, fifteen_number, sixteen_number, extent, group, no_factors, over_factor, times_factor, term_of, factor_alone, no_terms, plus_term, minus_term, sum_of, term_alone, sum_alone, compares, says_equal, says_at_most, says_above, factor_expression}
 use Rattle.loop_trees.proofs.TreeLines.{func_on}

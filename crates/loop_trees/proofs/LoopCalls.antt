@@ -17,7 +17,7 @@ use Rattle.loop_expand.specs.Loops.{Range, numbers, parts, Loop, AreLoops}
 use Rattle.loop_expand.specs.Texts.{between, bytes_of, place_behind, sum_name, call_text, line_feeds}
 use Rattle.loop_expand.specs.Expansion.{lexeme_of, with_others, Apart, replacement, replaced}
 use Rattle.loop_expand.proofs.LoopPlaces.{loops_apart}
-use Rattle.loop_meaning.specs.HelperTrees.{difference}
+use Rattle.number_loop_meaning.specs.HelperTrees.{difference}
 use Rattle.loop_trees.specs.LoopCalls.{Word, word_of, run_words, AreExpressions, AreArguments, IsCall, OfSomeStatement}
 use Rattle.loop_trees.specs.Laws.{EachLoopIsACall}
 use Rattle.loop_trees.proofs.Joining.{lexed_of_text}

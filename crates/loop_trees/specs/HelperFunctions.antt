@@ -3,7 +3,7 @@ use Rattle.std.specs.Prelude.{ℕ, ◌+◌, ℤ, pos, negsuc, List, [], ◌∷�
 use Rattle.par_tree.specs.Tree.{Name, Func}
 use Rattle.loop_expand.specs.Loops.{Range, numbers, parts, Loop}
 use Rattle.loop_expand.specs.Texts.{bytes_of, sum_name}
-use Rattle.loop_meaning.specs.HelperTrees.{numbers_helper, parts_helper}
+use Rattle.number_loop_meaning.specs.HelperTrees.{numbers_helper, parts_helper}
 
 -- how many words a part may have, by the value of a size
 abbrev pub words_of : ℤ → ℕ

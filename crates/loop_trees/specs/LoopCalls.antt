@@ -9,7 +9,7 @@ use Rattle.par_text.specs.Grammar.{expr_rule}
 use Rattle.par_lex.specs.declared.lexeme.Lexeme.{Lexeme}
 use Rattle.loop_expand.specs.Loops.{Range, numbers, parts, Loop}
 use Rattle.loop_expand.specs.Texts.{bytes_of, sum_name}
-use Rattle.loop_meaning.specs.HelperTrees.{difference}
+use Rattle.number_loop_meaning.specs.HelperTrees.{difference}
 
 -- a token without its place
 pub record Word : Type 0 where

@@ -13,8 +13,8 @@ use Rattle.depth_first_run.specs.Calls.{Passing, pass_block, passed, all_passed,
 use Rattle.depth_first_run.specs.Run.{open_call, call_with, call_function, exec, run}
 use Rattle.ownership_laws.specs.Counts.{one_if, hit, count}
 use Rattle.ownership_laws.proofs.Counting.{name_same, hit_same, count_without}
-use Rattle.loop_meaning.specs.PlainLoop.{numbers_of}
-use Rattle.loop_meaning.proofs.Arguments.{HaveNumbers, put, passed_is, nothing_lent, fault_passed}
+use Rattle.number_loop_meaning.specs.PlainLoop.{numbers_of}
+use Rattle.number_loop_meaning.proofs.Arguments.{HaveNumbers, put, passed_is, nothing_lent, fault_passed}
 use Rattle.part_loop_meaning.specs.PartsLoop.{hold_again}
 
 -- ---- held again

@@ -19,16 +19,16 @@ use Rattle.depth_first_run.proofs.Fixed.{run_fixed}
 use Rattle.ownership_laws.specs.Counts
 use Rattle.run_outcomes.specs.Outcomes.{added, KeepsLimits}
 use Rattle.run_outcomes.proofs.Concluding.{same_answer}
-use Rattle.loop_meaning.specs.HelperTrees.{integer_param, pass_on, further_name, further_names, further_arguments, block_name, left_name, right_name, count_name, sum_of_all, half_name, sum_of_rest, alone, sum_with, add_rest, parts_body, parts_helper}
-use Rattle.loop_meaning.specs.PlainLoop.{constant}
-use Rattle.loop_meaning.proofs.Faulting.{call_end_told, Tells, or_assoc, unless_faulted_tells, call_told, statements_told, statement_told}
-use Rattle.loop_meaning.proofs.Readings.{ReadTheSame, read_by_marks, Longer, longer, longer_trans, limits_split}
-use Rattle.loop_meaning.proofs.Arguments.{HaveNumbers, put, constants_have, passed_on_have, AllDiffer, put_read, integer_params, beside_further}
-use Rattle.loop_meaning.proofs.Bodies.{skipped_none, skipped_all, only_statement, statement_skipped, assign_done, call_runs, begun}
-use Rattle.loop_meaning.proofs.Loops.{after, taken_up, taken_up_items, taken_up_store, after_both}
-use Rattle.loop_meaning.proofs.TwoRuns.{both_faulted, read_at, no_fault, mark_unread, Silent, silent_same, silent_item, silent_begun, silent_longer, silent_before, silent_behind}
-use Rattle.loop_meaning.proofs.Branches.{child_begins, child_ended, parent_begins, both_joined, end_of_child, par_done, joint_silent, joint_faulted, joint_store, branches_keep, child_read, parent_read, branches_read}
-use Rattle.loop_meaning.proofs.Halving.{sum_value, further_length}
+use Rattle.number_loop_meaning.specs.HelperTrees.{integer_param, pass_on, further_name, further_names, further_arguments, block_name, left_name, right_name, count_name, sum_of_all, half_name, sum_of_rest, alone, sum_with, add_rest, parts_body, parts_helper}
+use Rattle.number_loop_meaning.specs.PlainLoop.{constant}
+use Rattle.number_loop_meaning.proofs.Faulting.{call_end_told, Tells, or_assoc, unless_faulted_tells, call_told, statements_told, statement_told}
+use Rattle.number_loop_meaning.proofs.Readings.{ReadTheSame, read_by_marks, Longer, longer, longer_trans, limits_split}
+use Rattle.number_loop_meaning.proofs.Arguments.{HaveNumbers, put, constants_have, passed_on_have, AllDiffer, put_read, integer_params, beside_further}
+use Rattle.number_loop_meaning.proofs.Bodies.{skipped_none, skipped_all, only_statement, statement_skipped, assign_done, call_runs, begun}
+use Rattle.number_loop_meaning.proofs.Loops.{after, taken_up, taken_up_items, taken_up_store, after_both}
+use Rattle.number_loop_meaning.proofs.TwoRuns.{both_faulted, read_at, no_fault, mark_unread, Silent, silent_same, silent_item, silent_begun, silent_longer, silent_before, silent_behind}
+use Rattle.number_loop_meaning.proofs.Branches.{child_begins, child_ended, parent_begins, both_joined, end_of_child, par_done, joint_silent, joint_faulted, joint_store, branches_keep, child_read, parent_read, branches_read}
+use Rattle.number_loop_meaning.proofs.Halving.{sum_value, further_length}
 use Rattle.part_loop_meaning.specs.Parts.{half_of, left_half, right_half, parts_within}
 use Rattle.part_loop_meaning.specs.PartsLoop.{hold_again}
 use Rattle.part_loop_meaning.proofs.Cutting.{half_less, half_some, left_length, right_length, one_part, two_halves, first_part}

@@ -11,13 +11,13 @@ use Rattle.depth_first_run.specs.Calls.{lent_back}
 use Rattle.depth_first_run.specs.Run.{on_store, set_integer, open_call, run}
 use Rattle.run_outcomes.specs.Outcomes.{added, KeepsLimits}
 use Rattle.run_outcomes.proofs.Concluding.{same_answer}
-use Rattle.loop_meaning.specs.PlainLoop.{constant, MeansTheSame}
-use Rattle.loop_meaning.proofs.Faulting.{Tells, tells_trans, unless_faulted_tells}
-use Rattle.loop_meaning.proofs.Readings.{ReadTheSame, read_by_marks, Longer, longer, limits_split}
-use Rattle.loop_meaning.proofs.Wrapping.{nothing_added}
-use Rattle.loop_meaning.proofs.Arguments.{constants_have}
-use Rattle.loop_meaning.proofs.Loops.{written_twice, read_back, after, taken_up, taken_up_items, taken_up_store}
-use Rattle.loop_meaning.proofs.TwoRuns.{read_at, Silent, silent_same, both_silent, SameRuns, same_runs_on}
+use Rattle.number_loop_meaning.specs.PlainLoop.{constant, MeansTheSame}
+use Rattle.number_loop_meaning.proofs.Faulting.{Tells, tells_trans, unless_faulted_tells}
+use Rattle.number_loop_meaning.proofs.Readings.{ReadTheSame, read_by_marks, Longer, longer, limits_split}
+use Rattle.number_loop_meaning.proofs.Wrapping.{nothing_added}
+use Rattle.number_loop_meaning.proofs.Arguments.{constants_have}
+use Rattle.number_loop_meaning.proofs.Loops.{written_twice, read_back, after, taken_up, taken_up_items, taken_up_store}
+use Rattle.number_loop_meaning.proofs.TwoRuns.{read_at, Silent, silent_same, both_silent, SameRuns, same_runs_on}
 use Rattle.part_loop_meaning.specs.PartsLoop.{hold_again, call_on, add_call_on, behind_part, add_calls_on, sum_calls_on}
 use Rattle.part_loop_meaning.specs.Laws.{SumsOfPartsMayBeginAtZero}
 use Rattle.part_loop_meaning.proofs.Blocks.{block_passed, block_lent, call_opens_on}

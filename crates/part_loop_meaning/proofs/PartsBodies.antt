@@ -8,9 +8,9 @@ use Rattle.depth_first_run.specs.Stores.{Store, block_of}
 use Rattle.depth_first_run.specs.Values.{Outcome, value, chained, operated, compared, truth}
 use Rattle.depth_first_run.specs.States.{Setting, State, unless_faulted, with_number}
 use Rattle.depth_first_run.specs.Run.{on_store, set_integer, cut_of, cut_block, rejoin_block, split_in_place, split_block, exec, exec_all, run}
-use Rattle.loop_meaning.specs.HelperTrees.{block_name, left_name, right_name, count_name, sum_of_all, half_name, sum_of_rest, alone, call_of, add_rest, half_in_pieces, both_halves_of_block, parts_body}
-use Rattle.loop_meaning.proofs.Wrapping.{half_is}
-use Rattle.loop_meaning.proofs.Bodies.{first_statement, only_statement, let_done, if_done, begun, zero_had}
+use Rattle.number_loop_meaning.specs.HelperTrees.{block_name, left_name, right_name, count_name, sum_of_all, half_name, sum_of_rest, alone, call_of, add_rest, half_in_pieces, both_halves_of_block, parts_body}
+use Rattle.number_loop_meaning.proofs.Wrapping.{half_is}
+use Rattle.number_loop_meaning.proofs.Bodies.{first_statement, only_statement, let_done, if_done, begun, zero_had}
 use Rattle.part_loop_meaning.specs.Parts.{half_of}
 use Rattle.part_loop_meaning.proofs.Cutting.{half_may_be_cut}
 

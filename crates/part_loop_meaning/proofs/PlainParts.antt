@@ -15,16 +15,16 @@ use Rattle.depth_first_run.specs.States.{Setting, State, Item, with_fault}
 use Rattle.depth_first_run.specs.Run.{on_store, open_call, run}
 use Rattle.run_outcomes.specs.Outcomes.{added, KeepsLimits}
 use Rattle.ownership_laws.proofs.Passing.{function_owned}
-use Rattle.loop_meaning.specs.HelperTrees.{integer_param, further_names, block_name, parts_helper}
-use Rattle.loop_meaning.specs.PlainLoop.{numbers_of, MeansTheSame}
-use Rattle.loop_meaning.proofs.Faulting.{Tells, tells_trans, unless_faulted_tells, call_told}
-use Rattle.loop_meaning.proofs.Readings.{ReadTheSame, longer, limits_split}
-use Rattle.loop_meaning.proofs.Arguments.{HaveNumbers, expressions_have, AllDiffer, integers_differ}
-use Rattle.loop_meaning.proofs.Bodies.{skipped_none, skipped_all}
-use Rattle.loop_meaning.proofs.Loops.{after}
-use Rattle.loop_meaning.proofs.TwoRuns.{both_faulted, read_at, one_meaning, means_at}
-use Rattle.loop_meaning.proofs.Halving.{further_length}
-use Rattle.loop_meaning.proofs.Plain.{length_numbers}
+use Rattle.number_loop_meaning.specs.HelperTrees.{integer_param, further_names, block_name, parts_helper}
+use Rattle.number_loop_meaning.specs.PlainLoop.{numbers_of, MeansTheSame}
+use Rattle.number_loop_meaning.proofs.Faulting.{Tells, tells_trans, unless_faulted_tells, call_told}
+use Rattle.number_loop_meaning.proofs.Readings.{ReadTheSame, longer, limits_split}
+use Rattle.number_loop_meaning.proofs.Arguments.{HaveNumbers, expressions_have, AllDiffer, integers_differ}
+use Rattle.number_loop_meaning.proofs.Bodies.{skipped_none, skipped_all}
+use Rattle.number_loop_meaning.proofs.Loops.{after}
+use Rattle.number_loop_meaning.proofs.TwoRuns.{both_faulted, read_at, one_meaning, means_at}
+use Rattle.number_loop_meaning.proofs.Halving.{further_length}
+use Rattle.number_loop_meaning.proofs.Plain.{length_numbers}
 use Rattle.part_loop_meaning.specs.Parts.{parts_of}
 use Rattle.part_loop_meaning.specs.PartsLoop.{hold_again, sum_calls_on, parts_loop_with, plain_parts_loop, written_out_on}
 use Rattle.part_loop_meaning.specs.Laws.{PartsLoopsArePlain}

@@ -5,10 +5,10 @@ use Rattle.par_tree.specs.Tree.{Name, call_stmt, integer, lend}
 use Rattle.depth_first_run.specs.Stores.{Store, block_of}
 use Rattle.depth_first_run.specs.States.{Setting, State, unless_faulted}
 use Rattle.depth_first_run.specs.Run.{on_store}
-use Rattle.loop_meaning.specs.PlainLoop.{constant}
-use Rattle.loop_meaning.proofs.Faulting.{Tells, quiet_tells, tells_same, tells_trans, statement_told}
-use Rattle.loop_meaning.proofs.Bodies.{skipped_none, skipped_all}
-use Rattle.loop_meaning.proofs.Loops.{taken_up, taken_up_items}
+use Rattle.number_loop_meaning.specs.PlainLoop.{constant}
+use Rattle.number_loop_meaning.proofs.Faulting.{Tells, quiet_tells, tells_same, tells_trans, statement_told}
+use Rattle.number_loop_meaning.proofs.Bodies.{skipped_none, skipped_all}
+use Rattle.number_loop_meaning.proofs.Loops.{taken_up, taken_up_items}
 use Rattle.part_loop_meaning.specs.PartsLoop.{hold_again, call_on, add_call_on, behind_part, add_calls_on, sum_calls_on}
 
 -- a state, and what the parts so far have become

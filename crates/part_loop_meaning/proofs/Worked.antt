@@ -14,8 +14,8 @@ use Rattle.depth_first_run.specs.States.{Setting, State}
 use Rattle.depth_first_run.specs.Calls
 use Rattle.depth_first_run.specs.Run
 use Rattle.depth_first_run.specs.Run.{root_start, lines_of, first_fault}
-use Rattle.loop_meaning.specs.HelperTrees.{integer_param, parts_helper}
-use Rattle.loop_meaning.specs.PlainLoop
+use Rattle.number_loop_meaning.specs.HelperTrees.{integer_param, parts_helper}
+use Rattle.number_loop_meaning.specs.PlainLoop
 use Rattle.part_loop_meaning.specs.Parts
 use Rattle.part_loop_meaning.specs.Parts.{left_half, right_half, parts_of}
 use Rattle.part_loop_meaning.specs.PartsLoop

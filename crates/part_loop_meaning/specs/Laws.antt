@@ -10,8 +10,8 @@ use Rattle.depth_first_run.specs.States.{Setting, State}
 use Rattle.depth_first_run.specs.Run.{set_integer}
 use Rattle.ownership_laws.specs.Counts.{count}
 use Rattle.run_outcomes.specs.Outcomes.{added, KeepsLimits}
-use Rattle.loop_meaning.specs.HelperTrees.{parts_helper}
-use Rattle.loop_meaning.specs.PlainLoop.{MeansTheSame}
+use Rattle.number_loop_meaning.specs.HelperTrees.{parts_helper}
+use Rattle.number_loop_meaning.specs.PlainLoop.{MeansTheSame}
 use Rattle.part_loop_meaning.specs.Parts.{left_half, right_half, parts_of, joined_parts}
 use Rattle.part_loop_meaning.specs.PartsLoop.{call_on, add_calls_on, sum_calls_on, plain_parts_loop, written_out_on}
 

@@ -7,7 +7,7 @@ use Rattle.par_tree.specs.Tree.{Name, Expr, lend, call_stmt, integer}
 use Rattle.depth_first_run.specs.Stores.{Store, block_of, drop_block, hold_block}
 use Rattle.depth_first_run.specs.States.{Setting, State, with_fault, unless_faulted}
 use Rattle.depth_first_run.specs.Run.{on_store, set_integer, exec, run}
-use Rattle.loop_meaning.specs.PlainLoop.{constant, add_to, numbers_of}
+use Rattle.number_loop_meaning.specs.PlainLoop.{constant, add_to, numbers_of}
 use Rattle.part_loop_meaning.specs.Parts.{parts_of}
 
 -- the block b is held with these numbers, and stands behind the other blocks, as one does that was lent and came back

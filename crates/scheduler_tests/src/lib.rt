@@ -1,6 +1,8 @@
-//! Tests of the parts of a scheduler: its deques, its books and moves, the journal of a run, and the machine that it runs.
+//! Tests of the parts of a scheduler: its deques, its books and moves, the journal of a run, the machine that it runs, and rows of slots
+//! with turns.
 //!
-//! This crate has no code but tests. It stands on the crates that it tests, each of which is so proved but once. It has no theorem.
+//! This crate has no code but tests, and a user of a row of turns that they run. It stands on the crates that it tests,
+//! each of which is so proved but once. It has no theorem.
 #![tactic(auto)]
 
 #[cfg(test)]
@@ -11,3 +13,9 @@ mod machine_replay_calls;
 mod serial_journal_calls;
 #[cfg(test)]
 mod space_ledger_calls;
+#[cfg(test)]
+mod turn_sums;
+#[cfg(test)]
+mod turn_sums_calls;
+#[cfg(test)]
+mod turn_tallies;

@@ -13,7 +13,7 @@ use Rattle.lawful_books.proofs.Lists.{one_same, one_cases}
 use Rattle.deque_machine.specs.Moments as machine
 use Rattle.deque_machine.specs.Moments.{Moment, owned_by, with_id, one_if_worker}
 use Rattle.deque_machine.specs.Play.{IsFirst, IsReady, reach}
-use Rattle.turn_choice.specs.Choices.{IsReadyAt, reach_of}
+use Rattle.victim_choice.specs.Choices.{IsReadyAt, reach_of}
 use Rattle.moment_parts.specs.Parts as parts
 use Rattle.deque_events.specs.Shown.{deque_shown}
 use Rattle.step_laws.specs.Readiness.{AreDeques, ReadyIsShown, FirstIsShown, SomeReadyIsShown, IdsAreShown, OwnersAreShown}

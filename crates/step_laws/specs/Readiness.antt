@@ -7,7 +7,7 @@ use Rattle.lawful_books.specs.Lists.{Each}
 use Rattle.deque_machine.specs.Moments.{Moment, owned_by, with_id}
 use Rattle.deque_machine.specs.Machine.{Setting}
 use Rattle.deque_machine.specs.Play.{IsFirst, IsReady, reach}
-use Rattle.turn_choice.specs.Choices.{IsReadyAt, reach_of, SomeReady}
+use Rattle.victim_choice.specs.Choices.{IsReadyAt, reach_of, SomeReady}
 use Rattle.moment_parts.specs.Parts as parts
 use Rattle.deque_events.specs.Shown.{deque_shown}
 

@@ -5,7 +5,7 @@
 //! are stated here over plain data, beside what a list of deques tells of the moment that it shows. It holds definitions and laws alone.
 //!
 //! It stands on the machine (`deque_machine`), on the parts that show its moments (`moment_parts`), and on lists of deques (`deque_events`,
-//! `turn_choice`). Each law is the contract of a function of [`laws`].
+//! `victim_choice`). Each law is the contract of a function of [`laws`].
 #![tactic(auto)]
 
 pub mod laws;

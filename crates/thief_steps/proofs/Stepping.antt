@@ -28,7 +28,7 @@ use Rattle.thread_parts.specs.Shown.{thread_shown}
 use Rattle.moment_parts.specs.Parts.{Parts}
 use Rattle.deque_events.specs.Seats.{TakesSeat}
 use Rattle.deque_events.specs.Shown.{deque_with}
-use Rattle.turn_choice.specs.Choices.{IsReadyAt, reach_of}
+use Rattle.victim_choice.specs.Choices.{IsReadyAt, reach_of}
 use Rattle.step_laws.proofs.Ready.{first_is_shown, owners_are_shown}
 use Rattle.core_parts.specs.declared.event.Event.{Event}
 use Rattle.core_parts.specs.declared.event.Event.TheVariants.{Stole, Acted, Suspended, GaveUp}

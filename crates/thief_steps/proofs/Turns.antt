@@ -24,7 +24,7 @@ use Rattle.period_table.proofs.Seats.{some_seat}
 use Rattle.thread_points.specs.Points.{list_of}
 use Rattle.thread_steps.specs.Settings.{IsSettingOf}
 use Rattle.thread_parts.specs.Shown.{thread_shown}
-use Rattle.turn_choice.specs.Choices.{SomeReady, CanMove}
+use Rattle.victim_choice.specs.Choices.{SomeReady, CanMove}
 use Rattle.step_laws.proofs.Ready.{some_ready_is_shown, owners_are_shown}
 use Rattle.core_parts.specs.declared.scheduler.Scheduler.{Scheduler}
 use Rattle.core_parts.specs.Held.{held}

@@ -9,7 +9,7 @@ use Rattle.deque_list.specs.Deques.{Deque, DequeAt, deque_ids, place_of}
 use Rattle.deque_list.specs.DequeLists.{ListView}
 use Rattle.lawful_books.proofs.Lists.{by_end}
 use Rattle.deque_events.specs.Shown.{Holds, deque_with}
-use Rattle.turn_choice.specs.Choices.{IsReadyAt}
+use Rattle.victim_choice.specs.Choices.{IsReadyAt}
 
 -- a list is cut at a place
 pub cut_at : {X : Type 0} (xs : List X) (place : ℕ) (x : X) → slice_get xs place ≡ Some x → (left right : List X) × (xs ≡ left ++ x ∷ right) × (length left ≡ place)

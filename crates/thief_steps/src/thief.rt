@@ -6,7 +6,7 @@ ghost use Rattle.node_table.specs.Table.{Table};
 ghost use Rattle.thread_steps.specs.Settings.{IsSettingOf};
 ghost use Rattle.period_table.specs.Tables.{seat_at};
 ghost use Rattle.deque_events.specs.Shown.{Holds};
-ghost use Rattle.turn_choice.specs.Choices.{SomeReady, IsReadyAt};
+ghost use Rattle.victim_choice.specs.Choices.{SomeReady, IsReadyAt};
 ghost use Rattle.core_parts.specs.Held.{held};
 ghost use Rattle.core_parts.specs.Moments.{IsSound, CanGoOn, SameTerms, StandsAt, terms_of};
 ghost use Rattle.thief_steps.specs.Thefts.{Thieves, StepsBy};
@@ -16,7 +16,7 @@ use deque_list::{DequeId, InsertRefused};
 use quota_period::Period;
 use std::alloc::Global;
 use thread_frames::Thread;
-use turn_choice::first_ready;
+use victim_choice::first_ready;
 
 /// A thief takes the bottom thread of a deque that keeps others into a new deque to the right of it.
 ///

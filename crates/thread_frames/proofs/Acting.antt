@@ -22,7 +22,7 @@ use Rattle.thread_points.proofs.Putting.{ahead_of, frame_put}
 use Rattle.thread_points.proofs.Walking.{plain_own}
 use Rattle.thread_points.proofs.Alone.{alone_or_forks}
 use Rattle.thread_points.proofs.Telling.{thread_steps}
-use Rattle.frame_stack.specs.Frames.{AreFrames}
+use Rattle.thread_stack.specs.Frames.{AreFrames}
 use Rattle.thread_output.specs.Laws.{earlier_fault, lines_before}
 use Rattle.thread_output.specs.Telling.{Tells}
 use Rattle.thread_output.specs.declared.told.Told.{Told}

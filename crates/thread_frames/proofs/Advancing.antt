@@ -11,8 +11,8 @@ use Rattle.depth_first_run.specs.Middle.{step_frame}
 use Rattle.node_table.specs.Table.{Table}
 use Rattle.thread_points.specs.Points.{marked, words_at_end}
 use Rattle.thread_points.specs.Threads.{open_children}
-use Rattle.frame_stack.specs.declared.frame.Frame.{Frame}
-use Rattle.frame_stack.specs.Frames.{AreFrames}
+use Rattle.thread_stack.specs.declared.frame.Frame.{Frame}
+use Rattle.thread_stack.specs.Frames.{AreFrames}
 use Rattle.thread_steps.specs.Dones.{IsAction}
 use Rattle.thread_steps.specs.declared.ready.Ready.{Ready}
 use Rattle.thread_steps.specs.declared.ready.Ready.TheVariants as ready

@@ -16,9 +16,9 @@ use Rattle.node_table.specs.Table.{Table, Function}
 use Rattle.node_table.specs.Programs.{name_of, IsTableOf, IsAcceptedTable}
 use Rattle.node_table.proofs.Distinct.{names_differ}
 use Rattle.slot_store.specs.Agreement.{AreDistinct}
-use Rattle.frame_stack.specs.declared.frame.Frame.{Frame}
-use Rattle.frame_stack.specs.Frames.{AreFrames, IsFunctionOf}
-use Rattle.frame_stack.proofs.Functions.{numbered}
+use Rattle.thread_stack.specs.declared.frame.Frame.{Frame}
+use Rattle.thread_stack.specs.Frames.{AreFrames, IsFunctionOf}
+use Rattle.thread_stack.proofs.Functions.{numbered}
 use Rattle.thread_points.specs.Threads.{of_root, open_children}
 use Rattle.thread_points.proofs.Telling.{thread_begins}
 use Rattle.thread_points.proofs.Walking.{start_plain}

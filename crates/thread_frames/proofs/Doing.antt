@@ -19,7 +19,7 @@ use Rattle.slot_store.proofs.Held.{block_under}
 use lib.ListN.{length-replicate}
 use Rattle.node_table.specs.Table.{Table}
 use Rattle.node_table.specs.Names.{slot_names, name_at, IsSlot}
-use Rattle.frame_stack.specs.Frames.{names_now}
+use Rattle.thread_stack.specs.Frames.{names_now}
 use Rattle.thread_points.specs.Points.{IsAt, marked}
 use Rattle.thread_state.specs.Effects.{Goes}
 use Rattle.thread_state.specs.States.{IsState, own_row, words_held}

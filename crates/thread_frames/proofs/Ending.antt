@@ -13,8 +13,8 @@ use Rattle.node_table.specs.Names.{slot_names}
 use Rattle.thread_points.specs.Points.{words_at_end}
 use Rattle.thread_points.specs.Threads as threads
 use Rattle.thread_points.specs.Threads.{IsThread, open_children}
-use Rattle.frame_stack.specs.declared.frame.Frame.{Frame}
-use Rattle.frame_stack.specs.Frames.{AreFrames, IsOne}
+use Rattle.thread_stack.specs.declared.frame.Frame.{Frame}
+use Rattle.thread_stack.specs.Frames.{AreFrames, IsOne}
 use Rattle.thread_output.specs.Telling.{Tells}
 use Rattle.thread_state.specs.Effects.{Goes}
 use Rattle.thread_state.specs.States.{words_held}

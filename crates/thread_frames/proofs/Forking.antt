@@ -19,11 +19,11 @@ use Rattle.node_table.specs.Table.{Table}
 use Rattle.node_table.specs.Names.{slot_names}
 use Rattle.node_table.specs.Reading.{AreSlots, FitsSlots}
 use Rattle.slot_store.proofs.Agreement.{row_length}
-use Rattle.frame_stack.specs.declared.branch.Branch.{Branch}
-use Rattle.frame_stack.specs.declared.branch.Branch.TheVariants.{Par, Dummies}
-use Rattle.frame_stack.specs.declared.frame.Frame.{Frame as OwnFrame}
-use Rattle.frame_stack.specs.declared.frame.Frame.TheVariants.{Statements, Again, Tree as DummyTree, Answers, Rejoins, AnswersMain, Allocates, Joins}
-use Rattle.frame_stack.specs.Frames.{IsFrame, AreFrames, functions_behind}
+use Rattle.thread_stack.specs.declared.branch.Branch.{Branch}
+use Rattle.thread_stack.specs.declared.branch.Branch.TheVariants.{Par, Dummies}
+use Rattle.thread_stack.specs.declared.frame.Frame.{Frame as OwnFrame}
+use Rattle.thread_stack.specs.declared.frame.Frame.TheVariants.{Statements, Again, Tree as DummyTree, Answers, Rejoins, AnswersMain, Allocates, Joins}
+use Rattle.thread_stack.specs.Frames.{IsFrame, AreFrames, functions_behind}
 use Rattle.thread_points.specs.Points.{Each, IsPlain, marked, step_of, StepsAlone, StepForks, child_start, child_end, parent_start, parent_frames, words_at_end}
 use Rattle.thread_points.specs.Laws.{fork_items}
 use Rattle.thread_points.specs.Threads.{IsThread, open_children}

@@ -25,10 +25,10 @@ use Rattle.slot_store.specs.Agreement.{ShowsStore, blocks_under}
 use Rattle.slot_store.proofs.Agreement.{entry_is, row_length}
 use Rattle.ownership_laws.specs.Counts.{hit, count}
 use Rattle.ownership_at_points.proofs.Reading.{join_meets_none}
-use Rattle.frame_stack.specs.declared.branch.Branch.{Branch}
-use Rattle.frame_stack.specs.declared.branch.Branch.TheVariants.{Par, Dummies}
-use Rattle.frame_stack.specs.declared.frame.Frame.TheVariants.{Joins}
-use Rattle.frame_stack.specs.Frames.{AreFrames, IsJoinOf}
+use Rattle.thread_stack.specs.declared.branch.Branch.{Branch}
+use Rattle.thread_stack.specs.declared.branch.Branch.TheVariants.{Par, Dummies}
+use Rattle.thread_stack.specs.declared.frame.Frame.TheVariants.{Joins}
+use Rattle.thread_stack.specs.Frames.{AreFrames, IsJoinOf}
 use Rattle.thread_points.specs.Points.{words_at_end}
 use Rattle.thread_points.specs.Laws.{join_words, joined_part}
 use Rattle.thread_points.specs.Threads as threads

@@ -26,10 +26,10 @@ use Rattle.thread_points.specs.Threads.{IsThread, open_children}
 use Rattle.thread_points.proofs.Putting.{frame_put}
 use Rattle.thread_points.proofs.Placing.{acts_next, end_next, mark_is_quiet}
 use Rattle.thread_points.proofs.Telling.{join_next, thread_joins}
-use Rattle.frame_stack.specs.Frames.{AreFrames, IsJoinOf, names_now}
-use Rattle.frame_stack.specs.declared.branch.Branch.{Branch}
-use Rattle.frame_stack.specs.declared.frame.Frame.{Frame as OwnFrame}
-use Rattle.frame_stack.specs.declared.frame.Frame.TheVariants.{Joins}
+use Rattle.thread_stack.specs.Frames.{AreFrames, IsJoinOf, names_now}
+use Rattle.thread_stack.specs.declared.branch.Branch.{Branch}
+use Rattle.thread_stack.specs.declared.frame.Frame.{Frame as OwnFrame}
+use Rattle.thread_stack.specs.declared.frame.Frame.TheVariants.{Joins}
 use Rattle.thread_steps.specs.Stands.{InState}
 use Rattle.thread_run.specs.Functions.{frames_of}
 use Rattle.block_arena.specs.declared.record_block.RecordBlock.{RecordBlock}

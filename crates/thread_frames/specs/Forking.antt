@@ -5,8 +5,8 @@ use Rattle.par_tree.specs.Tree.{Name}
 use Rattle.depth_first_run.specs.States.{Setting, State, Item, child_of, parent_of}
 use Rattle.depth_first_run.specs.Run.{no_name}
 use Rattle.node_table.specs.Reading.{AreSlots}
-use Rattle.frame_stack.specs.declared.branch.Branch.{Branch}
-use Rattle.frame_stack.specs.declared.branch.Branch.TheVariants.{Par, Dummies}
+use Rattle.thread_stack.specs.declared.branch.Branch.{Branch}
+use Rattle.thread_stack.specs.declared.branch.Branch.TheVariants.{Par, Dummies}
 use Rattle.thread_state.specs.States.{IsState}
 use Rattle.thread_state.specs.declared.state.ThreadState.{ThreadState}
 

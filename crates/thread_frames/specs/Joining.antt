@@ -4,8 +4,8 @@ use Rattle.par_tree.specs.Tree.{Name}
 use Rattle.depth_first_run.specs.States.{State, joined}
 use Rattle.depth_first_run.specs.Run.{no_name}
 use Rattle.node_table.specs.Reading.{AreSlots}
-use Rattle.frame_stack.specs.declared.branch.Branch.{Branch}
-use Rattle.frame_stack.specs.declared.branch.Branch.TheVariants.{Par, Dummies}
+use Rattle.thread_stack.specs.declared.branch.Branch.{Branch}
+use Rattle.thread_stack.specs.declared.branch.Branch.TheVariants.{Par, Dummies}
 use Rattle.thread_state.specs.States.{IsState, own_row}
 use Rattle.thread_state.specs.Joins.{CanTakeIn}
 use Rattle.thread_state.specs.declared.state.ThreadState.{ThreadState}

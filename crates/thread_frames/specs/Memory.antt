@@ -1,7 +1,7 @@
 -- The memory that is had before an action is done.
 use Rattle.std.specs.Prelude.{ℕ}
-use Rattle.frame_stack.specs.declared.branch.Branch.{Branch}
-use Rattle.frame_stack.specs.declared.branch.Branch.TheVariants.{Par, Dummies}
+use Rattle.thread_stack.specs.declared.branch.Branch.{Branch}
+use Rattle.thread_stack.specs.declared.branch.Branch.TheVariants.{Par, Dummies}
 use Rattle.thread_state.specs.Forks.{IsRoom, IsDummyRoom}
 use Rattle.thread_state.specs.declared.state.ThreadState.{ThreadState}
 use Rattle.thread_state.specs.declared.fork_room.ForkRoom.{ForkRoom}

@@ -9,8 +9,8 @@ use Rattle.node_table.specs.Table.{Table}
 use Rattle.thread_points.specs.Points.{words_at_end}
 use Rattle.thread_points.specs.Threads as threads
 use Rattle.thread_points.specs.Threads.{IsThread, open_children}
-use Rattle.frame_stack.specs.declared.frame.Frame.{Frame}
-use Rattle.frame_stack.specs.declared.frame.Frame.TheVariants.{Joins}
+use Rattle.thread_stack.specs.declared.frame.Frame.{Frame}
+use Rattle.thread_stack.specs.declared.frame.Frame.TheVariants.{Joins}
 use Rattle.block_arena.specs.Size.{words_taken}
 use Rattle.block_arena.specs.declared.record_block.RecordBlock.{RecordBlock}
 use Rattle.thread_frames.specs.Memory.{RoomFits}

@@ -1,9 +1,9 @@
 -- The slots that the first branch of a `par` takes with it, and those to whose integers it assigns.
 use Rattle.std.specs.Prelude.{ℕ, List, [], Option, Some}
 use Rattle.node_table.specs.Table.{Kind, both_node, Table}
-use Rattle.frame_stack.specs.declared.branch.Branch.{Branch}
-use Rattle.frame_stack.specs.declared.branch.Branch.TheVariants.{Par, Dummies}
-use Rattle.frame_stack.specs.Lists.{kind_at}
+use Rattle.thread_stack.specs.declared.branch.Branch.{Branch}
+use Rattle.thread_stack.specs.declared.branch.Branch.TheVariants.{Par, Dummies}
+use Rattle.thread_stack.specs.Lists.{kind_at}
 
 abbrev pub blocks_of : Option Kind → List ℕ
 blocks_of (Some (both_node a b blocks assigned)) = blocks

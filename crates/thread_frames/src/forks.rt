@@ -19,7 +19,7 @@ use crate::thread::Thread;
 use block_arena::{PIECE_WORDS, Pool, RecordBlock};
 use boxed::Boxed;
 use dag_order::ThreadId;
-use frame_stack::{Branch, Frame};
+use thread_stack::{Branch, Frame};
 use std::mem;
 use thread_output::Told;
 use thread_state::{ForkRoom, ThreadState};

@@ -17,7 +17,7 @@ use crate::prepared::Prepared;
 use crate::thread::Thread;
 use block_arena::Pool;
 use dag_order::ThreadId;
-use frame_stack::Branch;
+use thread_stack::Branch;
 use std::mem;
 use thread_output::Told;
 use thread_state::ThreadState;

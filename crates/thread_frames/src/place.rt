@@ -9,7 +9,7 @@ use crate::thread::Thread;
 use block_arena::RecordBlock;
 use boxed::Boxed;
 use dag_order::ThreadId;
-use frame_stack::Frame;
+use thread_stack::Frame;
 use std::alloc::{AllocError, Global};
 use thread_output::Told;
 use thread_run::ThreadRun;

@@ -1,7 +1,7 @@
 use crate::child_room::ChildRoom;
 use block_arena::Shell;
 use dag_order::FaultAt;
-use frame_stack::Branch;
+use thread_stack::Branch;
 use thread_steps::Forking;
 
 /// The next action of a thread that has come to it, with all the memory that it takes.

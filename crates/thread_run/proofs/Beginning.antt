@@ -14,14 +14,14 @@ use Rattle.node_table.specs.Reading.{AreArgs, AreSlots}
 use Rattle.node_table.specs.Table as tables
 use Rattle.node_table.specs.Table.{Table, Node, Kind, Function, call_node}
 use Rattle.node_table.specs.Programs.{IsStmt, function_names}
-use Rattle.frame_stack.specs.declared.frame.Frame.{Frame}
-use Rattle.frame_stack.specs.declared.frame.Frame.TheVariants.{Answers}
-use Rattle.frame_stack.specs.declared.list_of.ListOf.TheVariants as lists
-use Rattle.frame_stack.specs.Frames.{IsFunctionOf, IsNode, AreStatements, AreFrames, names_now, frames_shown}
-use Rattle.frame_stack.specs.Lists.{kind_at, kind_of_node, body_of, numbers_from}
-use Rattle.frame_stack.specs.Measure.{frames_cost, list_cost, node_cost, turn_cost, left_to_do}
-use Rattle.frame_stack.proofs.Costs.{turn_covers_body}
-use Rattle.frame_stack.proofs.Functions.{found_of_number}
+use Rattle.thread_stack.specs.declared.frame.Frame.{Frame}
+use Rattle.thread_stack.specs.declared.frame.Frame.TheVariants.{Answers}
+use Rattle.thread_stack.specs.declared.list_of.ListOf.TheVariants as lists
+use Rattle.thread_stack.specs.Frames.{IsFunctionOf, IsNode, AreStatements, AreFrames, names_now, frames_shown}
+use Rattle.thread_stack.specs.Lists.{kind_at, kind_of_node, body_of, numbers_from}
+use Rattle.thread_stack.specs.Measure.{frames_cost, list_cost, node_cost, turn_cost, left_to_do}
+use Rattle.thread_stack.proofs.Costs.{turn_covers_body}
+use Rattle.thread_stack.proofs.Functions.{found_of_number}
 use Rattle.node_table.proofs.Finding.{callee}
 use Rattle.thread_state.specs.States.{IsState}
 use Rattle.thread_state.specs.Calls.{begun}

@@ -14,8 +14,8 @@ use Rattle.node_table.proofs.Finding.{callee}
 use Rattle.thread_points.specs.Points.{IsAt}
 use Rattle.ownership_laws.proofs.Fitting.{keeps_at, finds_at}
 use Rattle.ownership_laws.proofs.Passing.{function_owned}
-use Rattle.frame_stack.specs.Frames.{IsNode}
-use Rattle.frame_stack.specs.Lists.{kind_at, kind_of_node}
+use Rattle.thread_stack.specs.Frames.{IsNode}
+use Rattle.thread_stack.specs.Lists.{kind_at, kind_of_node}
 use Rattle.slot_store.specs.Agreement.{ShowsStore}
 use Rattle.slot_store.specs.Calls.{passed_slots}
 use Rattle.slot_store.proofs.Agreement.{row_length}

@@ -20,9 +20,9 @@ use Rattle.ownership_laws.proofs.Counting.{hit_same, none_counted}
 use Rattle.ownership_at_points.specs.Holdings.{lent_under, given_back_under, answered_under, handed_out, EndsCall}
 use Rattle.ownership_at_points.proofs.Reading.{one_each, call_ends, main_end}
 use Rattle.ownership_at_points.proofs.Taking.{calls_take}
-use Rattle.frame_stack.specs.declared.frame.Frame.TheVariants.{Answers, AnswersMain}
-use Rattle.frame_stack.specs.Frames.{IsFunctionOf, IsAnswerOf}
-use Rattle.frame_stack.specs.Lists.{kind_at}
+use Rattle.thread_stack.specs.declared.frame.Frame.TheVariants.{Answers, AnswersMain}
+use Rattle.thread_stack.specs.Frames.{IsFunctionOf, IsAnswerOf}
+use Rattle.thread_stack.specs.Lists.{kind_at}
 use Rattle.slot_store.specs.Rows.{Entry, blocks_at}
 use Rattle.slot_store.specs.Agreement.{ShowsStore}
 use Rattle.slot_store.specs.Calls.{lent_params, lent_slots}

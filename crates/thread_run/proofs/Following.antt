@@ -11,11 +11,11 @@ use Rattle.depth_first_run.specs.Middle.{Middle, step_frame, step_statement}
 use Rattle.node_table.specs.Names.{slot_names}
 use Rattle.node_table.specs.Table.{Table}
 use Rattle.thread_points.specs.Points.{IsPlain, marked}
-use Rattle.frame_stack.specs.declared.branch.Branch.{Branch}
-use Rattle.frame_stack.specs.declared.frame.Frame.{Frame}
-use Rattle.frame_stack.specs.declared.frame.Frame.TheVariants.{Joins}
-use Rattle.frame_stack.specs.Frames.{AreFrames, IsFrame, IsNode, functions_behind, frames_shown}
-use Rattle.frame_stack.specs.Measure.{frames_cost, node_cost, turn_cost, left_to_do}
+use Rattle.thread_stack.specs.declared.branch.Branch.{Branch}
+use Rattle.thread_stack.specs.declared.frame.Frame.{Frame}
+use Rattle.thread_stack.specs.declared.frame.Frame.TheVariants.{Joins}
+use Rattle.thread_stack.specs.Frames.{AreFrames, IsFrame, IsNode, functions_behind, frames_shown}
+use Rattle.thread_stack.specs.Measure.{frames_cost, node_cost, turn_cost, left_to_do}
 use Rattle.thread_output.specs.Telling.{Tells}
 use Rattle.thread_output.specs.Laws.{earlier_fault, lines_before}
 use Rattle.thread_output.specs.declared.told.Told.{Told}

@@ -12,9 +12,9 @@ use Rattle.node_table.specs.Names.{slot_names}
 use Rattle.node_table.specs.Table.{Table}
 use Rattle.thread_points.specs.Points.{marked}
 use Rattle.thread_points.specs.Threads.{open_children}
-use Rattle.frame_stack.specs.declared.frame.Frame.{Frame}
-use Rattle.frame_stack.specs.declared.frame.Frame.TheVariants.{Statements, Again, Tree as DummyTree, Answers, Rejoins, AnswersMain, Allocates, Joins}
-use Rattle.frame_stack.specs.Frames.{AreFrames, frames_shown, IsOne}
+use Rattle.thread_stack.specs.declared.frame.Frame.{Frame}
+use Rattle.thread_stack.specs.declared.frame.Frame.TheVariants.{Statements, Again, Tree as DummyTree, Answers, Rejoins, AnswersMain, Allocates, Joins}
+use Rattle.thread_stack.specs.Frames.{AreFrames, frames_shown, IsOne}
 use Rattle.thread_state.specs.declared.state.ThreadState.{ThreadState}
 use Rattle.thread_steps.specs.Steps.{ActsNext}
 use Rattle.thread_steps.specs.Dones.{IsAction, Comes}

@@ -14,10 +14,10 @@ use Rattle.node_table.specs.Names.{slot_names, name_at, IsSlot}
 use Rattle.node_table.specs.Table as tables
 use Rattle.node_table.specs.Table.{Table, Node, Kind, let_node, assign_node, put_node, alloc_node, free_node, if_node, while_node, call_node, print_node, both_node, split_node}
 use Rattle.thread_points.specs.Points.{IsAt}
-use Rattle.frame_stack.specs.declared.frame.Frame.{Frame}
-use Rattle.frame_stack.specs.declared.frame.Frame.TheVariants.{Allocates, Rejoins}
-use Rattle.frame_stack.specs.Frames.{AreFrames, IsFrame, IsNode, IsSplitNode}
-use Rattle.frame_stack.specs.Lists.{kind_at}
+use Rattle.thread_stack.specs.declared.frame.Frame.{Frame}
+use Rattle.thread_stack.specs.declared.frame.Frame.TheVariants.{Allocates, Rejoins}
+use Rattle.thread_stack.specs.Frames.{AreFrames, IsFrame, IsNode, IsSplitNode}
+use Rattle.thread_stack.specs.Lists.{kind_at}
 use Rattle.ownership_laws.specs.Counts.{hit, count}
 use Rattle.ownership_laws.proofs.Counting.{name_same}
 use Rattle.ownership_laws.proofs.Fitting.{end_finds_at}

@@ -15,14 +15,14 @@ use Rattle.node_table.specs.Names.{slot_names}
 use Rattle.node_table.specs.Table as tables
 use Rattle.node_table.specs.Table.{Table, Kind, let_node, assign_node, put_node, alloc_node, free_node, if_node, while_node, call_node, print_node, both_node, split_node}
 use Rattle.thread_points.specs.Points.{IsAt}
-use Rattle.frame_stack.specs.declared.frame.Frame.{Frame}
-use Rattle.frame_stack.specs.declared.frame.Frame.TheVariants.{Statements, Again}
-use Rattle.frame_stack.specs.declared.list_of.ListOf.{ListOf}
-use Rattle.frame_stack.specs.Frames.{AreFrames, AreStatements, IsFrame, IsNode, names_now}
-use Rattle.frame_stack.specs.Lists.{kind_at, numbers_of, numbers_from}
-use Rattle.frame_stack.specs.Measure.{frames_cost, list_cost, node_cost, cost_within, turn_cost, left_to_do}
-use Rattle.frame_stack.proofs.Lists.{FirstOf, first_statement, at_place, no_statements, list_frame, no_frame}
-use Rattle.frame_stack.proofs.Costs.{rest_costs}
+use Rattle.thread_stack.specs.declared.frame.Frame.{Frame}
+use Rattle.thread_stack.specs.declared.frame.Frame.TheVariants.{Statements, Again}
+use Rattle.thread_stack.specs.declared.list_of.ListOf.{ListOf}
+use Rattle.thread_stack.specs.Frames.{AreFrames, AreStatements, IsFrame, IsNode, names_now}
+use Rattle.thread_stack.specs.Lists.{kind_at, numbers_of, numbers_from}
+use Rattle.thread_stack.specs.Measure.{frames_cost, list_cost, node_cost, cost_within, turn_cost, left_to_do}
+use Rattle.thread_stack.proofs.Lists.{FirstOf, first_statement, at_place, no_statements, list_frame, no_frame}
+use Rattle.thread_stack.proofs.Costs.{rest_costs}
 use Rattle.thread_output.specs.Telling.{Tells}
 use Rattle.thread_state.specs.declared.state.ThreadState.{ThreadState}
 use Rattle.thread_steps.specs.Settings.{IsSettingOf}

@@ -8,9 +8,9 @@ use Rattle.depth_first_run.specs.States.{Setting, State, Item}
 use Rattle.depth_first_run.specs.Middle as middles
 use Rattle.node_table.specs.Table.{Table}
 use Rattle.thread_points.specs.Threads.{IsThread}
-use Rattle.frame_stack.specs.declared.frame.Frame.{Frame}
-use Rattle.frame_stack.specs.Frames.{AreFrames}
-use Rattle.frame_stack.specs.Measure.{left_to_do}
+use Rattle.thread_stack.specs.declared.frame.Frame.{Frame}
+use Rattle.thread_stack.specs.Frames.{AreFrames}
+use Rattle.thread_stack.specs.Measure.{left_to_do}
 use Rattle.thread_state.specs.States.{words_held}
 use Rattle.thread_state.specs.declared.state.ThreadState.{ThreadState}
 use Rattle.thread_steps.specs.Settings.{IsSettingOf}

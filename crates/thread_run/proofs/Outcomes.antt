@@ -12,8 +12,8 @@ use Rattle.depth_first_run.specs.Middle.{Middle, step_frame}
 use Rattle.node_table.specs.Names.{slot_names}
 use Rattle.node_table.specs.Table.{Table}
 use Rattle.thread_points.specs.Threads.{IsThread}
-use Rattle.frame_stack.specs.declared.frame.Frame.{Frame}
-use Rattle.frame_stack.specs.Frames.{AreFrames}
+use Rattle.thread_stack.specs.declared.frame.Frame.{Frame}
+use Rattle.thread_stack.specs.Frames.{AreFrames}
 use Rattle.thread_output.specs.Telling.{Tells}
 use Rattle.thread_state.specs.declared.state.ThreadState.{ThreadState}
 use Rattle.thread_state.proofs.Held.{holdings_are}

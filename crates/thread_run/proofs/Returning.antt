@@ -16,9 +16,9 @@ use Rattle.node_table.specs.Names.{slot_names}
 use Rattle.node_table.specs.Reading.{IsTarget, AreArgs, AreSlots, IsReturn}
 use Rattle.node_table.specs.Table as tables
 use Rattle.node_table.specs.Table.{Table, Kind, Function, call_node}
-use Rattle.frame_stack.specs.declared.frame.Frame.{Frame}
-use Rattle.frame_stack.specs.Frames.{IsFunctionOf, IsAnswer, IsAnswerOf, IsAnswerOfMain, AreFrames, behind_call}
-use Rattle.frame_stack.specs.Lists.{kind_at}
+use Rattle.thread_stack.specs.declared.frame.Frame.{Frame}
+use Rattle.thread_stack.specs.Frames.{IsFunctionOf, IsAnswer, IsAnswerOf, IsAnswerOfMain, AreFrames, behind_call}
+use Rattle.thread_stack.specs.Lists.{kind_at}
 use Rattle.thread_output.specs.Telling.{Tells}
 use Rattle.thread_state.specs.States.{IsState}
 use Rattle.thread_state.specs.Effects.{Faults}

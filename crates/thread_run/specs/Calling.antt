@@ -9,7 +9,7 @@ use Rattle.depth_first_run.specs.Middle.{Middle, step_call}
 use Rattle.node_table.specs.Names.{slot_names}
 use Rattle.node_table.specs.Table as tables
 use Rattle.node_table.specs.Table.{Kind, call_node, Function, Table}
-use Rattle.frame_stack.specs.Frames.{AreFrames, IsNode}
+use Rattle.thread_stack.specs.Frames.{AreFrames, IsNode}
 use Rattle.slot_store.specs.Rows.{Entry}
 use Rattle.thread_state.specs.Calls.{CanCall, CanEnd, CanEndMain}
 use Rattle.thread_steps.specs.Settings.{IsSettingOf}

@@ -3,11 +3,11 @@ use Rattle.std.specs.Prelude.{◌≡◌, ℕ, List, [], ◌∷◌, Option, Some,
 use Rattle.par_tree.specs.Tree
 use Rattle.par_tree.specs.Tree.{Func, Program}
 use Rattle.node_table.specs.Table.{Table}
-use Rattle.frame_stack.specs.declared.branch.Branch.{Branch}
-use Rattle.frame_stack.specs.declared.branch.Branch.TheVariants.{Par, Dummies}
-use Rattle.frame_stack.specs.declared.frame.Frame.{Frame}
-use Rattle.frame_stack.specs.declared.frame.Frame.TheVariants.{Statements, Again, Tree as DummyTree, Answers, Rejoins, AnswersMain, Allocates, Joins}
-use Rattle.frame_stack.specs.Frames.{IsFunctionOf}
+use Rattle.thread_stack.specs.declared.branch.Branch.{Branch}
+use Rattle.thread_stack.specs.declared.branch.Branch.TheVariants.{Par, Dummies}
+use Rattle.thread_stack.specs.declared.frame.Frame.{Frame}
+use Rattle.thread_stack.specs.declared.frame.Frame.TheVariants.{Statements, Again, Tree as DummyTree, Answers, Rejoins, AnswersMain, Allocates, Joins}
+use Rattle.thread_stack.specs.Frames.{IsFunctionOf}
 use Rattle.thread_steps.specs.declared.ready.Ready.{Ready}
 use Rattle.thread_steps.specs.declared.ready.Ready.TheVariants as ready
 use Rattle.thread_run.specs.declared.run.ThreadRun.{ThreadRun}

@@ -9,9 +9,9 @@ use Rattle.depth_first_run.specs.Middle.{step_frame}
 use Rattle.node_table.specs.Table.{Table}
 use Rattle.thread_points.specs.Points.{IsPlain, marked}
 use Rattle.thread_points.specs.Threads.{IsThread, open_children}
-use Rattle.frame_stack.specs.declared.branch.Branch.{Branch}
-use Rattle.frame_stack.specs.declared.frame.Frame.TheVariants.{Joins}
-use Rattle.frame_stack.specs.Frames.{AreFrames}
+use Rattle.thread_stack.specs.declared.branch.Branch.{Branch}
+use Rattle.thread_stack.specs.declared.frame.Frame.TheVariants.{Joins}
+use Rattle.thread_stack.specs.Frames.{AreFrames}
 use Rattle.thread_output.specs.Telling.{Tells}
 use Rattle.thread_steps.specs.Settings.{IsSettingOf}
 use Rattle.thread_steps.specs.Stands.{InState}

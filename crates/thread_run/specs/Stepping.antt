@@ -9,9 +9,9 @@ use Rattle.depth_first_run.specs.Middle.{Middle, before_all, step_frame, step_st
 use Rattle.node_table.specs.Names.{slot_names}
 use Rattle.node_table.specs.Table.{Table}
 use Rattle.thread_points.specs.Threads.{IsThread, open_children}
-use Rattle.frame_stack.specs.declared.frame.Frame.{Frame}
-use Rattle.frame_stack.specs.Frames.{AreFrames, IsFrame, IsNode, functions_behind, frames_shown}
-use Rattle.frame_stack.specs.Measure.{left_to_do}
+use Rattle.thread_stack.specs.declared.frame.Frame.{Frame}
+use Rattle.thread_stack.specs.Frames.{AreFrames, IsFrame, IsNode, functions_behind, frames_shown}
+use Rattle.thread_stack.specs.Measure.{left_to_do}
 use Rattle.thread_output.specs.Telling.{Tells}
 use Rattle.thread_state.specs.States.{words_held}
 use Rattle.thread_state.specs.declared.state.ThreadState.{ThreadState}

@@ -4,9 +4,9 @@ ghost use Rattle.std.specs.Prelude.{◌≡◌, ◌+◌, ◌≤◌, ◌++◌, ◌
 ghost use Rattle.node_table.specs.Table as tables;
 ghost use Rattle.node_table.specs.Shown.{node_shown, kind_shown};
 ghost use Rattle.node_table.specs.Codes.{code_shown};
-ghost use Rattle.frame_stack.specs.Lists.{kind_at};
-ghost use Rattle.frame_stack.specs.Frames.{frames_shown};
-ghost use Rattle.frame_stack.specs.Measure.{left_to_do};
+ghost use Rattle.thread_stack.specs.Lists.{kind_at};
+ghost use Rattle.thread_stack.specs.Frames.{frames_shown};
+ghost use Rattle.thread_stack.specs.Measure.{left_to_do};
 ghost use Rattle.thread_state.specs.States.{own_row};
 ghost use Rattle.thread_run.specs.Calling.{is_call, CanCallAt, BeginsRun};
 ghost use Rattle.thread_run.specs.Functions.{functions_of};
@@ -14,7 +14,7 @@ ghost use Rattle.thread_run.specs.Stepping.{frames_left};
 
 use crate::run::ThreadRun;
 use dag_order::FaultAt;
-use frame_stack::{Frame, ListOf, frame_from};
+use thread_stack::{Frame, ListOf, frame_from};
 use node_table::{Code, Node, NodeKind};
 use std::alloc::{AllocError, Global};
 use thread_state::Stop;

@@ -3,7 +3,7 @@
 ghost use Rattle.std.specs.Prelude.{◌≡◌, ℕ, Ok, false};
 ghost use Rattle.node_table.specs.Codes.{code_shown};
 ghost use Rattle.node_table.specs.Shown.{ret_shown};
-ghost use Rattle.frame_stack.specs.Lists.{kind_at};
+ghost use Rattle.thread_stack.specs.Lists.{kind_at};
 ghost use Rattle.thread_state.specs.Calls.{return_line};
 ghost use Rattle.thread_state.specs.States.{own_row, rows_of};
 ghost use Rattle.thread_run.specs.Calling.{HasCallee, CanEndAt, IsThere, main_code, CanEndMainBy};
@@ -11,7 +11,7 @@ ghost use Rattle.thread_run.specs.Stepping.{StepsRun, KeepsFunctions, RunsLess};
 
 use crate::run::ThreadRun;
 use dag_order::FaultAt;
-use frame_stack::Frame;
+use thread_stack::Frame;
 use node_table::{Code, CodeRet, NodeKind};
 use thread_steps::Ready;
 

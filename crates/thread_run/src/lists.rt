@@ -3,14 +3,14 @@
 ghost use Rattle.std.specs.Prelude.{◌≡◌, ◌+◌, ◌≤◌, IfOk};
 ghost use Rattle.node_table.specs.Codes.{code_shown};
 ghost use Rattle.dummy_tree.specs.QuotaWords.{quota_words};
-ghost use Rattle.frame_stack.specs.Measure.{left_to_do, node_cost};
+ghost use Rattle.thread_stack.specs.Measure.{left_to_do, node_cost};
 ghost use Rattle.thread_run.specs.Functions.{functions_of};
 ghost use Rattle.thread_run.specs.Stepping.{IsKnownAt, IsMet, DoesRun, StepsRun, KeepsFunctions, RunsLess, frames_left};
 
 use crate::calls::calls;
 use crate::run::ThreadRun;
 use dummy_tree::Quota;
-use frame_stack::{Frame, ListOf, numbers};
+use thread_stack::{Frame, ListOf, numbers};
 use node_table::Code;
 use std::alloc::{AllocError, Global};
 use thread_steps::{Ready, statement};

@@ -2,12 +2,12 @@
 
 ghost use Rattle.std.specs.Prelude.{◌≡◌, ◌<◌, ◌≤◌, ◌++◌, ◌∷◌, [], List, None, OnOk, IfOk};
 ghost use Rattle.depth_first_run.specs.States.{Item, printed};
-ghost use Rattle.frame_stack.specs.Frames.{frames_shown};
+ghost use Rattle.thread_stack.specs.Frames.{frames_shown};
 ghost use Rattle.thread_output.specs.Telling.{Tells};
 ghost use Rattle.thread_run.specs.Stepping.{frames_with, ready_of, told_by};
 
 use crate::run::ThreadRun;
-use frame_stack::{Frame, ListOf};
+use thread_stack::{Frame, ListOf};
 use std::alloc::AllocError;
 use thread_steps::{Done, Ready};
 

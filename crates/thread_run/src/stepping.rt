@@ -9,7 +9,7 @@ ghost use Rattle.thread_run.specs.Stepping.{IsKnownAt, StepsRun, KeepsFunctions,
 
 use crate::run::ThreadRun;
 use dummy_tree::Quota;
-use frame_stack::Frame;
+use thread_stack::Frame;
 use node_table::Code;
 use std::alloc::{AllocError, Global};
 use thread_steps::{Ready, allocates, dummies, rejoins};

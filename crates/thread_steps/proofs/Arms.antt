@@ -8,11 +8,11 @@ use Rattle.depth_first_run.specs.Middle.{step_statement}
 use Rattle.node_table.specs.Table as tables
 use Rattle.node_table.specs.Table.{Table, Node, Kind, if_node, while_node, both_node, split_node}
 use Rattle.node_table.specs.Programs.{IsStmt, IsBody, function_names}
-use Rattle.frame_stack.specs.Frames.{IsParNode, IsSplitNode, AreStatements}
-use Rattle.frame_stack.specs.Lists.{kind_at, kind_of_node, numbers_of, then_of, other_of, round_of, inside_of}
-use Rattle.frame_stack.specs.Measure.{kind_cost, list_cost, node_cost, turn_cost}
-use Rattle.frame_stack.specs.declared.list_of.ListOf.TheVariants.{Round}
-use Rattle.frame_stack.proofs.Costs.{turn_covers_node}
+use Rattle.thread_stack.specs.Frames.{IsParNode, IsSplitNode, AreStatements}
+use Rattle.thread_stack.specs.Lists.{kind_at, kind_of_node, numbers_of, then_of, other_of, round_of, inside_of}
+use Rattle.thread_stack.specs.Measure.{kind_cost, list_cost, node_cost, turn_cost}
+use Rattle.thread_stack.specs.declared.list_of.ListOf.TheVariants.{Round}
+use Rattle.thread_stack.proofs.Costs.{turn_covers_node}
 use Rattle.thread_state.specs.declared.state.ThreadState.{ThreadState}
 use Rattle.thread_steps.specs.Dones.{LeadsOrWants}
 use Rattle.thread_steps.specs.Costs.{done_cost, CostsTurns, CostsAtMost, LeavesLess}

@@ -3,9 +3,9 @@ use Rattle.std.proofs.Common.{◌≡◌, List, [], ◌∷◌, refl, subst}
 use Rattle.par_tree.specs.Tree.{Program, Func}
 use Rattle.depth_first_run.specs.Middle as middles
 use Rattle.node_table.specs.Table.{Table}
-use Rattle.frame_stack.specs.declared.frame.Frame.{Frame}
-use Rattle.frame_stack.specs.declared.frame.Frame.TheVariants.{Statements, Again}
-use Rattle.frame_stack.specs.Frames.{AreFrames, functions_behind}
+use Rattle.thread_stack.specs.declared.frame.Frame.{Frame}
+use Rattle.thread_stack.specs.declared.frame.Frame.TheVariants.{Statements, Again}
+use Rattle.thread_stack.specs.Frames.{AreFrames, functions_behind}
 
 pub none_runs : (p : Program) (t : Table) (xs : List Frame) (fs : List middles.Frame) → AreFrames p t [] xs fs → ⊥
 none_runs p t [] [] h = h

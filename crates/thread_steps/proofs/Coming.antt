@@ -7,7 +7,7 @@ use Rattle.node_table.specs.Names.{slot_names}
 use Rattle.thread_state.specs.Effects.{Faults}
 use Rattle.thread_state.specs.Cuts.{cut_in_place, cut_or_fault}
 use Rattle.std.specs.declared.alloc.AllocError.{AllocError}
-use Rattle.frame_stack.specs.declared.frame.Frame.TheVariants.{Rejoins}
+use Rattle.thread_stack.specs.declared.frame.Frame.TheVariants.{Rejoins}
 use Rattle.thread_steps.specs.Dones.{settled_done}
 use Rattle.std.proofs.lemmas.Bool.{lt-ltb, le-ltb, le-leb, lt-leb, cases_lt}
 use Rattle.dag_order.specs.declared.fault.FaultKind.{FaultKind}
@@ -25,9 +25,9 @@ use Rattle.depth_first_run.specs.Run.{names_in, assigns_in, size_of, unchanged, 
 use Rattle.depth_first_run.specs.Middle as middles
 use Rattle.depth_first_run.specs.Middle.{Middle, middle, statements, does, tree, allocates, allocated, step_with_number, step_if, step_branch, step_fork, step_par, step_alloc, step_alloc_words, step_alloc_within, step_turn, step_cut, rejoins, before_all}
 use Rattle.node_table.specs.Table.{Table, Kind}
-use Rattle.frame_stack.specs.declared.frame.Frame.{Frame}
-use Rattle.frame_stack.specs.Frames.{AreFrames, AreStatements, IsParNode, frames_shown}
-use Rattle.frame_stack.specs.Lists.{kind_at, left_of, right_of}
+use Rattle.thread_stack.specs.declared.frame.Frame.{Frame}
+use Rattle.thread_stack.specs.Frames.{AreFrames, AreStatements, IsParNode, frames_shown}
+use Rattle.thread_stack.specs.Lists.{kind_at, left_of, right_of}
 use Rattle.thread_state.specs.States.{IsState}
 use Rattle.thread_state.specs.declared.state.ThreadState.{ThreadState}
 use Rattle.thread_steps.specs.Stands.{Stands, InState}

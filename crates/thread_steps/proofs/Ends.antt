@@ -14,11 +14,11 @@ use Rattle.depth_first_run.specs.Middle.{middle, rejoins, step_frame}
 use Rattle.node_table.specs.Names.{slot_names, name_at}
 use Rattle.node_table.specs.Table as tables
 use Rattle.node_table.specs.Table.{Table, Kind, split_node}
-use Rattle.frame_stack.specs.declared.frame.Frame.{Frame}
-use Rattle.frame_stack.specs.declared.frame.Frame.TheVariants.{Rejoins}
-use Rattle.frame_stack.specs.Frames.{AreFrames, IsFrame, IsSplitNode}
+use Rattle.thread_stack.specs.declared.frame.Frame.{Frame}
+use Rattle.thread_stack.specs.declared.frame.Frame.TheVariants.{Rejoins}
+use Rattle.thread_stack.specs.Frames.{AreFrames, IsFrame, IsSplitNode}
 use Rattle.thread_steps.proofs.Behind.{none_runs}
-use Rattle.frame_stack.specs.Lists.{kind_at}
+use Rattle.thread_stack.specs.Lists.{kind_at}
 use Rattle.thread_state.specs.States.{IsState}
 use Rattle.thread_state.specs.declared.state.ThreadState.{ThreadState}
 use Rattle.thread_steps.specs.Stands.{InState}

@@ -12,9 +12,9 @@ use Rattle.node_table.specs.Names.{slot_names, name_at, IsSlot}
 use Rattle.node_table.specs.Table as tables
 use Rattle.node_table.specs.Table.{Table, Node, Kind, let_node, assign_node, put_node, alloc_node, free_node, split_node}
 use Rattle.node_table.specs.Programs.{IsStmt, function_names}
-use Rattle.frame_stack.specs.Frames.{IsNode}
-use Rattle.frame_stack.specs.Measure.{kind_cost, node_cost}
-use Rattle.frame_stack.proofs.Costs.{node_covers}
+use Rattle.thread_stack.specs.Frames.{IsNode}
+use Rattle.thread_stack.specs.Measure.{kind_cost, node_cost}
+use Rattle.thread_stack.proofs.Costs.{node_covers}
 use Rattle.thread_points.specs.Points.{IsAt}
 use Rattle.ownership_laws.specs.Counts.{hit, count}
 use Rattle.ownership_laws.specs.Needs.{needs_block}

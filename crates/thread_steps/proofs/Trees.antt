@@ -11,10 +11,10 @@ use Rattle.depth_first_run.specs.Middle as middles
 use Rattle.depth_first_run.specs.Middle.{middle, does, tree, allocates, allocated, step_fork, step_frame}
 use Rattle.node_table.specs.Names.{IsSlot}
 use Rattle.node_table.specs.Table.{Table}
-use Rattle.frame_stack.specs.declared.branch.Branch.TheVariants.{Dummies}
-use Rattle.frame_stack.specs.declared.frame.Frame.{Frame}
-use Rattle.frame_stack.specs.declared.frame.Frame.TheVariants.{Tree as DummyTree}
-use Rattle.frame_stack.specs.Frames.{AreFrames, names_now}
+use Rattle.thread_stack.specs.declared.branch.Branch.TheVariants.{Dummies}
+use Rattle.thread_stack.specs.declared.frame.Frame.{Frame}
+use Rattle.thread_stack.specs.declared.frame.Frame.TheVariants.{Tree as DummyTree}
+use Rattle.thread_stack.specs.Frames.{AreFrames, names_now}
 use Rattle.block_arena.specs.Size.{pieces_for}
 use Rattle.slot_store.specs.Rows.{HasNone}
 use Rattle.thread_state.specs.States.{own_row}

@@ -2,10 +2,10 @@
 use Rattle.std.specs.Prelude.{ℕ, ◌+◌, ◌*◌, ◌≤◌, ◌≡◌, ◌⊎◌, Result, IfOk}
 use Rattle.std.specs.declared.alloc.AllocError.{AllocError}
 use Rattle.node_table.specs.Table.{Table}
-use Rattle.frame_stack.specs.Frames.{frames_shown}
-use Rattle.frame_stack.specs.Measure.{frames_cost, list_cost, node_cost, turn_cost}
-use Rattle.frame_stack.specs.Lists.{numbers_of}
-use Rattle.frame_stack.specs.declared.list_of.ListOf.TheVariants.{Round}
+use Rattle.thread_stack.specs.Frames.{frames_shown}
+use Rattle.thread_stack.specs.Measure.{frames_cost, list_cost, node_cost, turn_cost}
+use Rattle.thread_stack.specs.Lists.{numbers_of}
+use Rattle.thread_stack.specs.declared.list_of.ListOf.TheVariants.{Round}
 use Rattle.thread_steps.specs.declared.done.Done.{Done}
 use Rattle.thread_steps.specs.declared.done.Done.TheVariants.{Silent, Prints, Acts}
 

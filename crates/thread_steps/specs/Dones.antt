@@ -12,11 +12,11 @@ use Rattle.depth_first_run.specs.Middle as middles
 use Rattle.depth_first_run.specs.Middle.{Middle, allocated, step_fork, does}
 use Rattle.node_table.specs.Names.{IsSlot}
 use Rattle.node_table.specs.Table.{Table}
-use Rattle.frame_stack.specs.declared.branch.Branch.{Branch}
-use Rattle.frame_stack.specs.declared.branch.Branch.TheVariants.{Par, Dummies}
-use Rattle.frame_stack.specs.declared.frame.Frame.{Frame}
-use Rattle.frame_stack.specs.declared.frame.Frame.TheVariants.{Tree as DummyTree}
-use Rattle.frame_stack.specs.Frames.{AreFrames, IsFrame, IsJoinOf, IsParNode, names_now, frames_shown}
+use Rattle.thread_stack.specs.declared.branch.Branch.{Branch}
+use Rattle.thread_stack.specs.declared.branch.Branch.TheVariants.{Par, Dummies}
+use Rattle.thread_stack.specs.declared.frame.Frame.{Frame}
+use Rattle.thread_stack.specs.declared.frame.Frame.TheVariants.{Tree as DummyTree}
+use Rattle.thread_stack.specs.Frames.{AreFrames, IsFrame, IsJoinOf, IsParNode, names_now, frames_shown}
 use Rattle.block_arena.specs.Size.{pieces_for}
 use Rattle.slot_store.specs.Rows.{HasBlock, HasNone}
 use Rattle.thread_state.specs.States.{own_row}

@@ -6,7 +6,7 @@ use Rattle.depth_first_run.specs.Middle as middles
 use Rattle.depth_first_run.specs.Middle.{does, statements}
 use Rattle.node_table.specs.Names.{slot_names}
 use Rattle.node_table.specs.Table.{Table}
-use Rattle.frame_stack.specs.Frames.{IsNode}
+use Rattle.thread_stack.specs.Frames.{IsNode}
 use Rattle.thread_points.specs.Points.{IsAt}
 use Rattle.thread_state.specs.declared.state.ThreadState.{ThreadState}
 use Rattle.thread_steps.specs.Settings.{IsSettingOf}

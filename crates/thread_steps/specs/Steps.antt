@@ -7,8 +7,8 @@ use Rattle.depth_first_run.specs.Middle as middles
 use Rattle.depth_first_run.specs.Middle.{Middle, step_frame}
 use Rattle.node_table.specs.Table.{Table}
 use Rattle.thread_points.specs.Points.{marked}
-use Rattle.frame_stack.specs.declared.frame.Frame.{Frame}
-use Rattle.frame_stack.specs.Frames.{AreFrames, IsFrame, functions_behind}
+use Rattle.thread_stack.specs.declared.frame.Frame.{Frame}
+use Rattle.thread_stack.specs.Frames.{AreFrames, IsFrame, functions_behind}
 use Rattle.thread_state.specs.declared.state.ThreadState.{ThreadState}
 use Rattle.thread_steps.specs.Settings.{IsSettingOf}
 use Rattle.thread_steps.specs.Stands.{InState}

@@ -1,5 +1,5 @@
 use crate::ready::Ready;
-use frame_stack::Frame;
+use thread_stack::Frame;
 
 /// What a step comes to.
 #[derive(Drop)]

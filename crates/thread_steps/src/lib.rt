@@ -6,7 +6,7 @@
 //! So no step needs the stack. Calls and Joins are left to the layer above: a call since only there are the frames of its caller at hand,
 //! and a Join since its frame is the action itself.
 //!
-//! It stands on the state of a thread (`thread_state`), on its frames (`frame_stack`), on the points of threads in the one depth-first run
+//! It stands on the state of a thread (`thread_state`), on its frames (`thread_stack`), on the points of threads in the one depth-first run
 //! (`thread_points`) and on what a thread of an accepted program holds there (`ownership_at_points`), which says that each block is there
 //! that a statement needs, and that none is where it puts one.
 //!

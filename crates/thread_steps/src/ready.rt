@@ -1,6 +1,6 @@
 use block_arena::Shell;
 use dag_order::FaultAt;
-use frame_stack::{Branch, Frame};
+use thread_stack::{Branch, Frame};
 
 /// The next action of a thread, with the memory that it needs. What it comes from is off the stack.
 #[derive(Drop)]

@@ -1,5 +1,5 @@
 use Rattle.std.proofs.Common.{sym, subst}
-use Rattle.frame_stack.specs.declared.branch.Branch.{Branch}
+use Rattle.thread_stack.specs.declared.branch.Branch.{Branch}
 use Rattle.thread_frames.specs.Forking.{ForksState}
 use Rattle.thread_frames.proofs.forks.fork_state.Goals as goal
 

@@ -6,7 +6,7 @@ use Rattle.dummy_tree.specs.TreeLeaves.{tree_leaves}
 use Rattle.depth_first_list.specs.Runs.{tree_for}
 use Rattle.depth_first_run.specs.Stores.{block_words}
 use Rattle.depth_first_run.specs.Middle.{middle, does, tree, allocates, allocated, step_alloc_words}
-use Rattle.frame_stack.specs.declared.frame.Frame.TheVariants.{Tree, Allocates}
+use Rattle.thread_stack.specs.declared.frame.Frame.TheVariants.{Tree, Allocates}
 use Rattle.thread_steps.specs.declared.ready.Ready.TheVariants.{Alloc}
 use Rattle.thread_steps.specs.declared.done.Done.TheVariants.{Silent, Acts}
 use Rattle.thread_steps.proofs.Coming.{at_point, allocated_now, allocated_later, few_words, many_words, whole_words, short_words}

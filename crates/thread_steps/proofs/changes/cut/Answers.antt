@@ -7,7 +7,7 @@ use Rattle.depth_first_run.specs.Run.{cut_of}
 use Rattle.depth_first_run.specs.Middle.{rejoins, step_split}
 use Rattle.node_table.specs.Names.{slot_names, name_at}
 use Rattle.node_table.specs.Codes.{code_shown}
-use Rattle.frame_stack.specs.declared.frame.Frame.TheVariants.{Rejoins}
+use Rattle.thread_stack.specs.declared.frame.Frame.TheVariants.{Rejoins}
 use Rattle.thread_state.specs.Effects.{OnStop}
 use Rattle.thread_state.specs.Cuts.{cut_or_fault}
 use Rattle.thread_state.specs.declared.stop.Stop.{Stop}

@@ -4,7 +4,7 @@ use Rattle.par_tree.specs.Tree.{step, while_stmt, done, Body}
 use Rattle.depth_first_run.specs.Middle.{middle, before_all, step_turn}
 use Rattle.node_table.specs.Names.{slot_names}
 use Rattle.node_table.specs.Codes.{code_shown}
-use Rattle.frame_stack.specs.declared.frame.Frame.TheVariants.{Again}
+use Rattle.thread_stack.specs.declared.frame.Frame.TheVariants.{Again}
 use Rattle.thread_state.specs.States.{IsState}
 use Rattle.thread_steps.specs.declared.done.Done.TheVariants.{Silent}
 use Rattle.thread_steps.proofs.Coming.{at_point, one_turn, turned, turn_fails, faulted}

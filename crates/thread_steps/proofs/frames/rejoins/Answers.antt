@@ -7,7 +7,7 @@ use Rattle.node_table.specs.Table.{Kind, split_node}
 use Rattle.thread_state.specs.States.{own_row}
 use Rattle.thread_steps.specs.Rejoining.{CanRejoinAt}
 use Rattle.node_table.specs.declared.node.Node.{Node}
-use Rattle.frame_stack.specs.Lists.{kind_at}
+use Rattle.thread_stack.specs.Lists.{kind_at}
 use Rattle.thread_steps.proofs.Arms.{kind_there}
 use Rattle.thread_steps.proofs.Ends.{IsSplitKind, rejoin_at, never_split, split_there}
 use Rattle.thread_steps.proofs.frames.rejoins.Goals as goal

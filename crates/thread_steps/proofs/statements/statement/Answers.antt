@@ -7,9 +7,9 @@ use Rattle.node_table.specs.Programs.{function_names}
 use Rattle.node_table.specs.Shown.{kind_shown, node_shown, expr_shown, target_shown, args_shown}
 use Rattle.node_table.specs.Codes.{code_shown}
 use Rattle.thread_steps.specs.Calling.{IsNoCall}
-use Rattle.frame_stack.specs.Lists.{numbers_of}
-use Rattle.frame_stack.specs.Measure.{list_cost, node_cost}
-use Rattle.frame_stack.specs.declared.list_of.ListOf.TheVariants.{Then, Other, Inside}
+use Rattle.thread_stack.specs.Lists.{numbers_of}
+use Rattle.thread_stack.specs.Measure.{list_cost, node_cost}
+use Rattle.thread_stack.specs.declared.list_of.ListOf.TheVariants.{Then, Other, Inside}
 use Rattle.thread_steps.proofs.Which.{of_let, of_assign, of_put, of_alloc, of_free, of_if, of_while, of_print, of_both, of_split}
 use Rattle.thread_steps.proofs.Knowing.{is_stmt, is_kind, runs_on, let_within, assign_within, put_within, alloc_none, free_has, covered, can_cut}
 use Rattle.thread_steps.proofs.Arms.{kind_there, known, then_list, other_list, round_list, inside_list, loop_list, par_node, split_at, quiet_cost, covers_at, loop_cost, result_cost, if_covers, round_covers, inside_covers}

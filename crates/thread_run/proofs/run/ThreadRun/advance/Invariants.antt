@@ -1,6 +1,6 @@
 use Rattle.dummy_tree.specs.QuotaWords.{quota_words}
 use Rattle.node_table.specs.Codes.{code_shown}
-use Rattle.frame_stack.specs.Measure.{left_to_do}
+use Rattle.thread_stack.specs.Measure.{left_to_do}
 use Rattle.thread_run.specs.Functions.{frames_of}
 use Rattle.thread_run.specs.Stepping.{UnderWay}
 use Rattle.thread_run.proofs.run.ThreadRun.advance.Given as goal

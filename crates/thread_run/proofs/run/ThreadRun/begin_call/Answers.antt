@@ -12,10 +12,10 @@ use Rattle.node_table.specs.Reading.{AreSlots, AreArgs}
 use Rattle.node_table.specs.Table.{Table, Kind, call_node}
 use Rattle.node_table.specs.declared.func_code.FuncCode.{FuncCode}
 use Rattle.node_table.proofs.Distinct.{names_differ}
-use Rattle.frame_stack.specs.declared.frame.Frame.{Frame}
-use Rattle.frame_stack.specs.declared.frame.Frame.TheVariants.{Answers}
-use Rattle.frame_stack.specs.Frames.{AreFrames, frames_shown}
-use Rattle.frame_stack.specs.Lists.{kind_at}
+use Rattle.thread_stack.specs.declared.frame.Frame.{Frame}
+use Rattle.thread_stack.specs.declared.frame.Frame.TheVariants.{Answers}
+use Rattle.thread_stack.specs.Frames.{AreFrames, frames_shown}
+use Rattle.thread_stack.specs.Lists.{kind_at}
 use Rattle.thread_state.specs.Calls.{begun}
 use Rattle.thread_state.specs.Effects.{OnStop}
 use Rattle.thread_state.specs.declared.stop.Stop.{Stop}

@@ -9,7 +9,7 @@ use Rattle.node_table.specs.Reading.{AreSlots, AreArgs}
 use Rattle.node_table.specs.Table.{Table, Kind, call_node}
 use Rattle.node_table.specs.declared.node.Node.{Node}
 use Rattle.node_table.specs.declared.func_code.FuncCode.{FuncCode}
-use Rattle.frame_stack.specs.Lists.{kind_at}
+use Rattle.thread_stack.specs.Lists.{kind_at}
 use Rattle.thread_state.specs.Calls.{return_line}
 use Rattle.thread_steps.proofs.Arms.{kind_there}
 use Rattle.thread_run.specs.declared.run.ThreadRun.{ThreadRun}

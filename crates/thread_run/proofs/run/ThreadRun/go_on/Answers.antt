@@ -2,8 +2,8 @@ use Rattle.std.proofs.Common.{Ok, Some, refl, sym, subst}
 use Rattle.dummy_tree.specs.QuotaWords.{quota_words}
 use Rattle.node_table.specs.Codes.{code_shown}
 use Rattle.thread_points.specs.Points.{IsPlain}
-use Rattle.frame_stack.specs.declared.frame.Frame.{Frame}
-use Rattle.frame_stack.specs.declared.frame.Frame.TheVariants.{Tree}
+use Rattle.thread_stack.specs.declared.frame.Frame.{Frame}
+use Rattle.thread_stack.specs.declared.frame.Frame.TheVariants.{Tree}
 use Rattle.thread_run.specs.Stepping.{IsKnownAt, StepsRun, KeepsFunctions}
 use Rattle.thread_run.proofs.CanEnds.{can_end_at, main_there, main_can_end}
 use Rattle.thread_run.proofs.Following.{acts_meaning, joins_meaning}

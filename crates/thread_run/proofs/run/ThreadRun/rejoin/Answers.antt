@@ -1,7 +1,7 @@
 use Rattle.std.proofs.Common.{refl}
 use Rattle.dummy_tree.specs.QuotaWords.{quota_words}
 use Rattle.node_table.specs.Codes.{code_shown}
-use Rattle.frame_stack.specs.declared.frame.Frame.TheVariants.{Rejoins}
+use Rattle.thread_stack.specs.declared.frame.Frame.TheVariants.{Rejoins}
 use Rattle.thread_run.specs.declared.run.ThreadRun.{ThreadRun}
 use Rattle.thread_run.proofs.Following.{rests_meaning, wants_meaning}
 use Rattle.thread_run.proofs.Knowing.{can_rejoin}

@@ -2,8 +2,8 @@ use Rattle.std.proofs.Common.{rules, ◌≡◌, ◌+◌, ◌<◌, ◌≤◌, ◌
 use Rattle.std.proofs.lemmas.Option.{slice_get-get_or}
 use Rattle.dummy_tree.specs.QuotaWords.{quota_words}
 use Rattle.node_table.specs.Codes.{code_shown}
-use Rattle.frame_stack.specs.Lists.{numbers_of}
-use Rattle.frame_stack.specs.declared.frame.Frame.TheVariants.{Statements}
+use Rattle.thread_stack.specs.Lists.{numbers_of}
+use Rattle.thread_stack.specs.declared.frame.Frame.TheVariants.{Statements}
 use Rattle.thread_run.specs.Functions.{frames_of}
 use Rattle.thread_run.proofs.Meetings.{RestPut, list_does, list_met, list_skipped, skip_cost, list_functions, list_cost_falls}
 use Rattle.thread_run.proofs.run.ThreadRun.statements.Goals as goal

@@ -1,5 +1,0 @@
-use Rattle.store_tests.proofs.Tallies.{count_keeps}
-use Rattle.store_tests.proofs.turn_tallies.count_up.Goals as goal
-
-pub count-requires-clause-keeps : goal.count-requires-clause-keeps
-count-requires-clause-keeps c = count_keeps tt c.loop-done.seat
