@@ -36,7 +36,7 @@ use Rattle.moment_parts.specs.Parts.{IsIn, words_of, deque_words, thread_words a
 use Rattle.moment_parts.specs.Standing.{ThreadStands}
 use Rattle.moment_parts.specs.Events.{Works}
 use Rattle.moment_parts.proofs.Shown.{used_is, book_of_it, deque_words_middle}
-use Rattle.thread_points.specs.Points.{list_of}
+use Rattle.depth_first_run.specs.Run.{list_of}
 use Rattle.thread_frames.specs.declared.thread.Thread.{Thread}
 use Rattle.thread_frames.specs.declared.ended.Ended.{Ended}
 use Rattle.thread_frames.specs.declared.next.Next.{Next}
@@ -47,7 +47,8 @@ use Rattle.thread_map.specs.Kept.{kept_under}
 use Rattle.deque_events.specs.Shown.{deque_shown, Stands, parts_under}
 use Rattle.core_parts.specs.declared.scheduler.Scheduler.{Scheduler}
 use Rattle.core_parts.specs.Held.{held, held_under, parts_in, waiting_shown, result_kept, OwnsNone, IsInOrder, IsUnderItsId}
-use Rattle.core_parts.specs.Moments.{Terms, machine_of, StandsAt}
+use Rattle.core_parts.specs.Moments.{StandsAt}
+use Rattle.deque_machine.specs.Terms.{Terms, machine_of}
 use Rattle.core_parts.proofs.Owners.{own_here, owned_shown, own_one, none_owned}
 use Rattle.core_parts.proofs.Lists.{found_among, among_mapped}
 use Rattle.core_parts.proofs.Going.{lawful_at}

@@ -23,7 +23,8 @@ use Rattle.node_table.specs.Names.{slot_names}
 use Rattle.thread_state.specs.States.{words_held}
 use Rattle.thread_state.specs.Joins.{words_by}
 use Rattle.thread_state.proofs.Held.{holdings_are}
-use Rattle.thread_points.specs.Points.{list_of, words_at_end}
+use Rattle.thread_points.specs.Points.{words_at_end}
+use Rattle.depth_first_run.specs.Run.{list_of}
 use Rattle.thread_steps.specs.Dones.{IsRelease as IsGiven}
 use Rattle.thread_run.specs.declared.run.ThreadRun.{ThreadRun}
 use Rattle.thread_frames.specs.declared.thread.Thread.{Thread}
@@ -48,7 +49,8 @@ use Rattle.deque_events.specs.Shown.{deque_shown, deque_with, Stands}
 use Rattle.thread_parts.specs.Shown.{thread_shown}
 use Rattle.core_parts.specs.declared.scheduler.Scheduler.{Scheduler}
 use Rattle.core_parts.specs.Held.{Held, held, IsInOrder}
-use Rattle.core_parts.specs.Moments.{Terms, machine_of, StandsAt, IsSound}
+use Rattle.core_parts.specs.Moments.{StandsAt, IsSound}
+use Rattle.deque_machine.specs.Terms.{Terms, machine_of}
 use Rattle.core_parts.proofs.Going.{lawful_at}
 use Rattle.core_parts.proofs.Owners.{own_here, owned_shown, own_one, owner_there}
 use Rattle.core_parts.proofs.Lists.{among_mapped}

@@ -31,7 +31,7 @@ use Rattle.moment_parts.specs.Parts.{Parts, IsKept}
 use Rattle.moment_parts.specs.Standing.{Shows}
 use Rattle.moment_parts.specs.Events.{Does, does_alone, runs_dummy, joins_newest, forks_child, ends_above, ends_and_wakes, ends_and_leaves}
 use Rattle.moment_parts.proofs.Acting.{actions_are_events}
-use Rattle.thread_points.specs.Points.{list_of}
+use Rattle.depth_first_run.specs.Run.{list_of}
 use Rattle.space_ledger.specs.declared.moved.Moved.{Moved}
 use Rattle.space_ledger.specs.Sums.{total_change}
 use Rattle.step_laws.proofs.Going.{runs_go_on, moves_go_on}
@@ -41,7 +41,8 @@ use Rattle.step_laws.proofs.Reordered.{order_is_of_no_account, among_moved}
 use Rattle.core_parts.specs.declared.event.Event.TheVariants.{Acted}
 use Rattle.core_parts.specs.Held.{Held, parts_in, AreSame}
 use Rattle.core_parts.specs.Moves.{IsMoveOf, AreMovesOf}
-use Rattle.core_parts.specs.Moments.{Terms, machine_of, StandsAt}
+use Rattle.core_parts.specs.Moments.{StandsAt}
+use Rattle.deque_machine.specs.Terms.{Terms, machine_of}
 use Rattle.core_parts.specs.Outcomes.{GoesOn, tells_action}
 
 -- moves keep their names where labels stay

@@ -29,7 +29,7 @@ use Rattle.period_table.specs.Tables.{periods_of}
 use Rattle.moment_parts.specs.Parts as parts
 use Rattle.moment_parts.specs.Standing.{EndedIn, ChildStands, IsWaiting, ordinal_of}
 use Rattle.moment_parts.specs.Events.{Works, IsNextOf, deques_with, HandsOver, hands_over}
-use Rattle.thread_points.specs.Points.{list_of}
+use Rattle.depth_first_run.specs.Run.{list_of}
 use Rattle.thread_frames.specs.declared.thread.Thread.{Thread}
 use Rattle.thread_frames.specs.declared.ended.Ended.{Ended}
 use Rattle.thread_frames.specs.declared.next.Next.TheVariants as nexts
@@ -42,7 +42,8 @@ use Rattle.thread_map.specs.Kept.{kept_under}
 use Rattle.deque_events.specs.Shown.{deque_shown, deque_with, Stands}
 use Rattle.core_parts.specs.declared.scheduler.Scheduler.{Scheduler}
 use Rattle.core_parts.specs.Held.{Held, held_under, parts_in, waiting_shown, result_kept, IsInOrder, WaitsUnder, IsUnderItsId}
-use Rattle.core_parts.specs.Moments.{Terms, StandsAt}
+use Rattle.core_parts.specs.Moments.{StandsAt}
+use Rattle.deque_machine.specs.Terms.{Terms}
 use Rattle.core_parts.proofs.Lists.{found_among, among_mapped, none_found}
 use Rattle.core_parts.proofs.Newest.{Cut, cut_newest, shown_cut, among_reversed, AreOthers, delivered_last, with_delivered_last, only_last, awaits_last}
 use Rattle.core_parts.proofs.AtTop.{own_deque, its_period, period_there, lawful, listed, stands_at_top, next_at_top, deque_there, label_there, top_is_live}

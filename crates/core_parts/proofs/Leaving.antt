@@ -23,11 +23,12 @@ use Rattle.moment_parts.specs.Events as events
 use Rattle.moment_parts.specs.Events.{Works, IsNextOf, GivesUp, Suspends, Steals}
 use Rattle.moment_parts.proofs.Moving.{give_ups_are_events, waits_are_events, thefts_are_events}
 use Rattle.moment_parts.proofs.Placing.{own, top_stands}
-use Rattle.thread_points.specs.Points.{list_of}
+use Rattle.depth_first_run.specs.Run.{list_of}
 use Rattle.step_laws.proofs.Told.{others_add_none, wait_is_wanted, give_up_is_forced}
 use Rattle.core_parts.specs.declared.event.Event.TheVariants.{Stole, Suspended, GaveUp}
 use Rattle.core_parts.specs.Held.{Held, parts_in, AreSame}
-use Rattle.core_parts.specs.Moments.{Terms, machine_of, StandsAt}
+use Rattle.core_parts.specs.Moments.{StandsAt}
+use Rattle.deque_machine.specs.Terms.{Terms, machine_of}
 use Rattle.core_parts.specs.Outcomes.{GoesOn, GivesDequeUp, tells_wait, tells_give_up, tells_theft}
 use Rattle.core_parts.proofs.Going.{lawful_at, idle_stands}
 

@@ -29,7 +29,7 @@ use Rattle.moment_parts.specs.Standing.{ChildStands}
 use Rattle.moment_parts.specs.Events.{HandsOver, hands_over}
 use Rattle.moment_parts.proofs.Placing.{top_stands}
 use Rattle.moment_parts.proofs.Handing.{handing_over_is_no_event}
-use Rattle.thread_points.specs.Points.{list_of}
+use Rattle.depth_first_run.specs.Run.{list_of}
 use Rattle.thread_frames.specs.declared.thread.Thread.{Thread}
 use Rattle.thread_frames.specs.Points.{IsAtPoint, IsResult}
 use Rattle.thread_frames.specs.Actions.{IsStill}
@@ -38,7 +38,8 @@ use Rattle.deque_events.specs.Shown.{deque_shown, Stands}
 use Rattle.core_parts.specs.declared.scheduler.Scheduler.{Scheduler}
 use Rattle.core_parts.specs.Held.{Held, held, held_under, parts_in, waiting_shown, result_kept, AreSame, IsReordered, OwnersSit, IsInOrder, AreAtPoints, AreResults, WaitsUnder, IsUnderItsId}
 use Rattle.core_parts.specs.Moves.{AreMovesOf}
-use Rattle.core_parts.specs.Moments.{Terms, machine_of, StandsAt, IsSound}
+use Rattle.core_parts.specs.Moments.{StandsAt, IsSound}
+use Rattle.deque_machine.specs.Terms.{Terms, machine_of}
 use Rattle.core_parts.proofs.Lists.{each_moved}
 use Rattle.core_parts.proofs.Going.{same_show, kept_moved, lawful_at}
 

@@ -13,18 +13,13 @@ use Rattle.moment_parts.specs.Standing.{Shows}
 use Rattle.space_ledger.specs.Sums.{total_change}
 use Rattle.node_table.specs.Table.{Table}
 use Rattle.period_table.specs.Tables.{periods_of}
-use Rattle.thread_points.specs.Points.{list_of}
+use Rattle.depth_first_run.specs.Run.{list_of}
 use Rattle.thread_steps.specs.Settings.{IsSettingOf}
 use Rattle.thread_frames.specs.Points.{IsOfProgram}
 use Rattle.deque_machine.specs.Play.{Limits}
 use Rattle.core_parts.specs.declared.scheduler.Scheduler.{Scheduler}
 use Rattle.core_parts.specs.Held.{Held, parts_in, IsInOrder, AreAtPoints, AreResults}
 use Rattle.core_parts.specs.Moves.{AreMovesOf}
-
--- What is fixed for a run beside its program: how many workers there are, and what may stop it.
-pub record Terms : Type 0 where
-  pub workers : ℕ
-  pub limits : Limits
 
 -- those of a scheduler, with so many actions at most
 abbrev pub terms_of : Scheduler → (actions : ℕ) → Terms
@@ -36,10 +31,6 @@ terms_of s actions = record {
 -- they stay
 abbrev pub SameTerms : Scheduler → Scheduler → Type 0
 SameTerms before after = (actions : ℕ) → terms_of after actions ≡ terms_of before actions
-
--- the machine over the depth-first list of a program, with its quota
-abbrev pub machine_of : Setting → Terms → machine.Setting
-machine_of c terms = record { list = list_of c; quota = c.quota; workers = terms.workers }
 
 -- What is held stands at the moment to which a run of the machine leads: it shows it, as many words are out, as many actions are done and
 -- as many periods were begun, the moves are those of the run, and once the root has ended its result is kept.

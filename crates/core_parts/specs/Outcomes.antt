@@ -14,13 +14,14 @@ use Rattle.deque_machine.specs.Runs.{Pair}
 use Rattle.period_books.specs.Periods.{Period}
 use Rattle.period_books.specs.Names.{HasLabel, IsNamed}
 use Rattle.period_table.specs.Tables.{periods_of}
-use Rattle.thread_points.specs.Points.{list_of}
+use Rattle.depth_first_run.specs.Run.{list_of}
 use Rattle.core_parts.specs.declared.event.Event.{Event}
 use Rattle.core_parts.specs.declared.event.Event.TheVariants.{Stole, Acted, Suspended, GaveUp}
 use Rattle.core_parts.specs.declared.stop.Stop.{Stop}
 use Rattle.core_parts.specs.declared.stop.Stop.TheVariants.{ArenaFull, DequesFull, StepsSpent, OutOfMemory}
 use Rattle.core_parts.specs.Held.{Held}
-use Rattle.core_parts.specs.Moments.{Terms, machine_of, StandsAt}
+use Rattle.core_parts.specs.Moments.{StandsAt}
+use Rattle.deque_machine.specs.Terms.{Terms, machine_of}
 
 -- An answer tells an event of a worker at a moment: the deque and the number of the period of a theft, the name of an action by the births
 -- of these periods, the id of the thread that waits, the deque that was given up.

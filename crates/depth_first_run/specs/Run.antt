@@ -3,6 +3,8 @@ use Rattle.std.specs.Prelude.{ℕ, zero, suc, ◌+◌, ◌*◌, ◌-◌, ◌%◌
 use Rattle.dag_order.specs.declared.fault.FaultKind.{FaultKind}
 use Rattle.dag_order.specs.declared.fault.FaultKind.TheVariants as faults
 use Rattle.dag_order.specs.declared.fault.FaultAt.{FaultAt}
+use Rattle.dag_order.specs.declared.finish.Finish.{Finish}
+use Rattle.dag_order.specs.declared.finish.Finish.TheVariants.{Done, Faulted}
 use Rattle.dummy_tree.specs.Shapes.{Shape, leaf, forked}
 use Rattle.depth_first_list.specs.Actions as actions
 use Rattle.depth_first_list.specs.Actions.{Action}
@@ -201,7 +203,7 @@ main_run c (Some g) s = unless_faulted (with_answer g.ret ignore_answer) (run c 
 unfoldable pub whole : Setting → State
 whole c = ended 0 (main_run c (function_of c.program main_name) (root_start c))
 
--- L, the actions in depth-first order
+-- the actions among the items of a run, in its order
 abbrev pub actions_of : List Item → List Action
 actions_of [] = []
 actions_of (began line ∷ items) = actions_of items
@@ -224,3 +226,16 @@ lines_of (began line ∷ items) = lines_of items
 lines_of (acted a ∷ items) = lines_of items
 lines_of (printed v ∷ items) = v ∷ lines_of items
 lines_of (failed fault ∷ items) = []
+
+-- L, the depth-first list of a program: the actions of its whole run
+abbrev pub list_of : Setting → List Action
+list_of c = actions_of (State.items (whole c))
+
+-- the first fault is the finish
+abbrev pub finish_of : Option FaultAt → Finish
+finish_of None = Done
+finish_of (Some fault) = Faulted fault
+
+-- how the depth-first run of a program finishes
+abbrev pub finish_of_run : Setting → Finish
+finish_of_run c = finish_of (first_fault (State.items (whole c)))

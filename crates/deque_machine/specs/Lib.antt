@@ -3,3 +3,4 @@ pub mod Machine
 pub mod LawfulOrder
 pub mod Runs
 pub mod Play
+pub mod Terms

@@ -28,7 +28,8 @@ use Rattle.thread_frames.specs.Views.{label_of}
 use Rattle.thread_parts.specs.Shown.{thread_shown}
 use Rattle.deque_events.specs.Shown.{deque_shown}
 use Rattle.core_parts.specs.Held.{Held, parts_in}
-use Rattle.core_parts.specs.Moments.{Terms, IsSound, CanGoOn, StandsAt}
+use Rattle.core_parts.specs.Moments.{IsSound, CanGoOn, StandsAt}
+use Rattle.deque_machine.specs.Terms.{Terms}
 use Rattle.dfd_core.specs.declared.run_end.RunEnd.{RunEnd}
 use Rattle.dfd_core.specs.declared.run_end.RunEnd.TheVariants.{Finished, Stopped}
 use Rattle.dfd_core.specs.Parts.{root_behind, IsOfWholeRun, IsRootAlone}

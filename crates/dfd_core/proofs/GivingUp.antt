@@ -16,7 +16,8 @@ use Rattle.step_laws.proofs.Told.{tells}
 use Rattle.thread_steps.specs.Settings.{IsSettingOf}
 use Rattle.core_parts.specs.declared.stop.Stop.TheVariants.{OutOfMemory}
 use Rattle.core_parts.specs.Held.{Held}
-use Rattle.core_parts.specs.Moments.{Terms, StandsAt, machine_of}
+use Rattle.core_parts.specs.Moments.{StandsAt}
+use Rattle.deque_machine.specs.Terms.{Terms, machine_of}
 use Rattle.core_parts.specs.Outcomes.{GivesDequeUp}
 use Rattle.owner_steps.specs.Steps.{GivesUpOrStays}
 use Rattle.dfd_core.specs.declared.run_end.RunEnd.{RunEnd}

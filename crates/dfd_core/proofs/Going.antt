@@ -21,13 +21,15 @@ use Rattle.core_parts.specs.declared.event.Event.{Event as Told}
 use Rattle.core_parts.specs.declared.stop.Stop.{Stop}
 use Rattle.core_parts.specs.declared.stop.Stop.TheVariants.{ArenaFull, DequesFull, StepsSpent, OutOfMemory}
 use Rattle.core_parts.specs.Held.{Held}
-use Rattle.core_parts.specs.Moments.{Terms, IsSound, StandsAt, machine_of}
+use Rattle.core_parts.specs.Moments.{IsSound, StandsAt}
+use Rattle.deque_machine.specs.Terms.{Terms, machine_of}
 use Rattle.core_parts.specs.Outcomes as parts
 use Rattle.core_parts.specs.Outcomes.{StepsTo}
 use Rattle.thief_steps.specs.Thefts.{StepsBy as EventBy}
 use Rattle.dfd_core.specs.declared.run_end.RunEnd.{RunEnd}
 use Rattle.dfd_core.specs.declared.run_end.RunEnd.TheVariants.{Finished, Stopped}
-use Rattle.dfd_core.specs.Ends.{finish_of_run, end_of_root, is_of_root, end_behind_event}
+use Rattle.dfd_core.specs.Ends.{end_of_root, is_of_root, end_behind_event}
+use Rattle.depth_first_run.specs.Run.{finish_of_run}
 use Rattle.dfd_core.specs.Running.{IsAtMoment, IsSomewhere, KeepsEnd}
 use Rattle.dfd_core.specs.Steps.{GoesOn, Stops, Comes, end_behind}
 use Rattle.dfd_core.proofs.Roots.{root_result, end_is_kept}

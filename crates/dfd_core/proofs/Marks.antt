@@ -16,9 +16,10 @@ use Rattle.deque_machine.specs.Runs.{Pair, moves, high_water_mark}
 use Rattle.space_ledger.specs.declared.moved.Moved.{Moved}
 use Rattle.space_ledger.specs.Sums.{change_of, highest, IsHighest}
 use Rattle.node_table.specs.Table.{Table}
-use Rattle.thread_points.specs.Points.{list_of}
+use Rattle.depth_first_run.specs.Run.{list_of}
 use Rattle.core_parts.specs.Held.{Held}
-use Rattle.core_parts.specs.Moments.{Terms, IsSound}
+use Rattle.core_parts.specs.Moments.{IsSound}
+use Rattle.deque_machine.specs.Terms.{Terms}
 use Rattle.core_parts.specs.Moves.{AreMovesOf}
 use Rattle.dfd_core.specs.declared.run_end.RunEnd.{RunEnd}
 use Rattle.dfd_core.specs.Running.{IsAtMoment, IsSomewhere}

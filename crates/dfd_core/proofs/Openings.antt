@@ -16,14 +16,15 @@ use Rattle.moment_parts.proofs.Handing.{root_is_the_opening}
 use Rattle.node_table.specs.Table.{Table}
 use Rattle.period_table.specs.Tables.{periods_of}
 use Rattle.space_ledger.specs.Sums.{total_change}
-use Rattle.thread_points.specs.Points.{list_of}
+use Rattle.depth_first_run.specs.Run.{list_of}
 use Rattle.thread_steps.specs.Settings.{IsSettingOf}
 use Rattle.thread_frames.specs.declared.thread.Thread.{Thread}
 use Rattle.thread_frames.specs.Points.{IsAtPoint, IsResult}
 use Rattle.thread_parts.specs.Shown.{thread_shown, child_shown}
 use Rattle.deque_events.specs.Shown.{deque_shown}
 use Rattle.core_parts.specs.Held.{Held, parts_in, waiting_shown, result_kept, OwnersSit, WaitsUnder, IsUnderItsId}
-use Rattle.core_parts.specs.Moments.{Terms, machine_of, StandsAt, IsSound, CanGoOn}
+use Rattle.core_parts.specs.Moments.{StandsAt, IsSound, CanGoOn}
+use Rattle.deque_machine.specs.Terms.{Terms, machine_of}
 use Rattle.core_parts.specs.Moves.{AreMovesOf}
 use Rattle.dfd_core.specs.Begun.{IsBegun}
 use Rattle.dfd_core.specs.Running.{IsAtMoment, IsSomewhere}

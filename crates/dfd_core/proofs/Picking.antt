@@ -17,7 +17,8 @@ use Rattle.period_table.specs.declared.seat.Seat.{Seat}
 use Rattle.period_table.specs.Tables.{seat_at}
 use Rattle.victim_choice.specs.Choices.{SomeReady, CanMove}
 use Rattle.core_parts.specs.Held.{Held}
-use Rattle.core_parts.specs.Moments.{Terms, IsSound, machine_of}
+use Rattle.core_parts.specs.Moments.{IsSound}
+use Rattle.deque_machine.specs.Terms.{Terms, machine_of}
 use Rattle.core_parts.proofs.Going.{lawful_at}
 use Rattle.dfd_core.specs.declared.run_end.RunEnd.{RunEnd}
 use Rattle.dfd_core.specs.Cores.{words_of_turn}

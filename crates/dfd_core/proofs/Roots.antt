@@ -8,7 +8,7 @@ use Rattle.dag_order.specs.declared.finish.Finish.{Finish}
 use Rattle.dag_order.specs.declared.thread_id.ThreadId.{ThreadId}
 use Rattle.dag_order.specs.Births.{root}
 use Rattle.depth_first_run.specs.States.{Setting, State}
-use Rattle.depth_first_run.specs.Run.{whole, first_fault}
+use Rattle.depth_first_run.specs.Run.{whole, first_fault, list_of, finish_of}
 use Rattle.lawful_books.specs.Lists.{Among}
 use Rattle.lawful_books.proofs.Lists.{each_among}
 use Rattle.deque_machine.specs.Moments.{Moment, done_at}
@@ -22,7 +22,6 @@ use Rattle.period_table.specs.Tables.{periods_of}
 use Rattle.node_table.specs.Table.{Table}
 use Rattle.thread_map.specs.Kept.{same_thread}
 use Rattle.thread_output.specs.Telling.{fault_of}
-use Rattle.thread_points.specs.Points.{list_of}
 use Rattle.thread_steps.specs.Settings.{IsSettingOf}
 use Rattle.thread_frames.specs.declared.ended.Ended.{Ended}
 use Rattle.thread_frames.specs.Points.{IsResult}
@@ -30,12 +29,12 @@ use Rattle.thread_frames.specs.Views.{ended_label}
 use Rattle.thread_frames.proofs.Sets.{fault_set}
 use Rattle.thread_frames.proofs.Telling.{whole_told}
 use Rattle.core_parts.specs.Held.{Held, result_kept, IsUnderItsId}
-use Rattle.core_parts.specs.Moments.{Terms, IsSound, StandsAt, machine_of}
+use Rattle.core_parts.specs.Moments.{IsSound, StandsAt}
+use Rattle.deque_machine.specs.Terms.{Terms, machine_of}
 use Rattle.core_parts.proofs.Lists.{found_among, none_found, among_mapped}
 use Rattle.dfd_core.specs.declared.run_end.RunEnd.{RunEnd}
 use Rattle.dfd_core.specs.declared.run_end.RunEnd.TheVariants.{Finished}
 use Rattle.dfd_core.specs.Ends.{end_of_root}
-use Rattle.serial_journal.specs.Telling.{finish_of}
 use Rattle.dfd_core.specs.Running.{KeepsEnd, IsSomewhere}
 
 -- what stands in a list under a map comes from the list

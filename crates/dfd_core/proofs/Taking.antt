@@ -17,7 +17,7 @@ use Rattle.core_parts.specs.declared.event.Event.{Event as Told}
 use Rattle.core_parts.specs.declared.stop.Stop.{Stop}
 use Rattle.core_parts.specs.declared.stop.Stop.TheVariants.{ArenaFull, DequesFull, StepsSpent, OutOfMemory}
 use Rattle.core_parts.specs.Held.{held}
-use Rattle.core_parts.specs.Moments.{Terms, machine_of}
+use Rattle.deque_machine.specs.Terms.{Terms, machine_of}
 use Rattle.dfd_core.specs.declared.run.Core.{Core}
 use Rattle.dfd_core.specs.declared.run_end.RunEnd.{RunEnd}
 use Rattle.dfd_core.specs.declared.run_end.RunEnd.TheVariants.{Finished, Stopped}

@@ -19,7 +19,7 @@ use Rattle.period_books.specs.Periods.{Period, open_shown}
 use Rattle.period_books.proofs.Changes.{each_has_its_book}
 use Rattle.period_table.specs.declared.seat.Seat.{Seat}
 use Rattle.period_table.specs.Tables.{seat_at, deque_at, deque_of, shown_of, periods_of}
-use Rattle.thread_points.specs.Points.{list_of}
+use Rattle.depth_first_run.specs.Run.{list_of}
 use Rattle.thread_parts.specs.Shown.{thread_shown}
 use Rattle.step_laws.proofs.Ready.{some_ready_is_shown}
 use Rattle.victim_choice.specs.Choices.{SomeReady, CanMove}
@@ -27,7 +27,8 @@ use Rattle.node_table.specs.Table.{Table}
 use Rattle.core_parts.specs.declared.event.Event.{Event}
 use Rattle.core_parts.specs.declared.stop.Stop.{Stop}
 use Rattle.core_parts.specs.Held.{Held, IsInOrder}
-use Rattle.core_parts.specs.Moments.{Terms, IsSound, StandsAt, machine_of}
+use Rattle.core_parts.specs.Moments.{IsSound, StandsAt}
+use Rattle.deque_machine.specs.Terms.{Terms, machine_of}
 use Rattle.core_parts.proofs.AtTop.{period_is_there}
 use Rattle.core_parts.proofs.Going.{lawful_at}
 use Rattle.core_parts.proofs.Owners.{own_here, own_one, owned_shown, owner_there}

@@ -15,7 +15,7 @@ use Rattle.deque_machine.specs.Runs.{Pair, Reaches}
 use Rattle.deque_machine.proofs.Ends.{runs_are_short}
 use Rattle.deque_machine.proofs.Playing.{forced_of, one_more_event}
 use Rattle.core_parts.specs.declared.stop.Stop.TheVariants.{ArenaFull, DequesFull, StepsSpent, OutOfMemory}
-use Rattle.core_parts.specs.Moments.{Terms, machine_of}
+use Rattle.deque_machine.specs.Terms.{Terms, machine_of}
 use Rattle.core_parts.proofs.Going.{lawful_at}
 use Rattle.dfd_core.specs.declared.run.Core.{Core}
 use Rattle.dfd_core.specs.declared.run_end.RunEnd.{RunEnd}

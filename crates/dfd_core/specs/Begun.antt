@@ -9,7 +9,7 @@ use Rattle.thread_frames.specs.declared.thread.Thread.{Thread}
 use Rattle.thread_frames.specs.Points.{IsAtPoint}
 use Rattle.thread_frames.specs.Views.{label_of, done_of, children_of, thread_words}
 use Rattle.core_parts.specs.Held.{Held}
-use Rattle.core_parts.specs.Moments.{Terms}
+use Rattle.deque_machine.specs.Terms.{Terms}
 
 -- one deque without an owner, which holds a thread
 abbrev pub deques_with : Thread → List (Deque Thread)
@@ -31,10 +31,3 @@ pub record IsBegun (t : Table) (h : Held) (thread : Thread) : Type 0 where
   pub live : h.live ≡ 0
   pub moves : h.moves ≡ []
   pub done : h.done ≡ 0
-
--- so many workers, words, actions and deques
-abbrev pub given_terms : (workers capacity actions deques : ℕ) → Terms
-given_terms workers capacity actions deques = record {
-  workers = workers;
-  limits = record { capacity = capacity; actions = actions; deques = deques };
-}

@@ -12,7 +12,8 @@ use Rattle.quota_period.specs.declared.period.Period.{Period}
 use Rattle.core_parts.specs.declared.event.Event.{Event}
 use Rattle.core_parts.specs.declared.stop.Stop.{Stop}
 use Rattle.core_parts.specs.Held.{held}
-use Rattle.core_parts.specs.Moments.{Terms, terms_of}
+use Rattle.core_parts.specs.Moments.{terms_of}
+use Rattle.deque_machine.specs.Terms.{Terms}
 use Rattle.dfd_core.specs.declared.run.Core.{Core}
 use Rattle.dfd_core.specs.declared.run_end.RunEnd.{RunEnd}
 use Rattle.dfd_core.specs.declared.run_end.RunEnd.TheVariants.{Finished}

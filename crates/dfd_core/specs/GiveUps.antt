@@ -6,11 +6,11 @@ use Rattle.deque_machine.specs.Moments.{Moment}
 use Rattle.deque_machine.specs.Machine.{May, gives_up}
 use Rattle.deque_machine.specs.Runs.{Pair}
 use Rattle.period_table.specs.Tables.{periods_of}
-use Rattle.thread_points.specs.Points.{list_of}
+use Rattle.depth_first_run.specs.Run.{list_of}
 use Rattle.core_parts.specs.declared.event.Event.TheVariants as events
 use Rattle.core_parts.specs.declared.stop.Stop.TheVariants.{OutOfMemory}
 use Rattle.core_parts.specs.Held.{Held}
-use Rattle.core_parts.specs.Moments.{Terms, machine_of}
+use Rattle.deque_machine.specs.Terms.{Terms, machine_of}
 use Rattle.core_parts.specs.Outcomes.{Tells}
 use Rattle.node_table.specs.Table.{Table}
 use Rattle.dfd_core.specs.declared.run_end.RunEnd.{RunEnd}

@@ -7,7 +7,7 @@ use Rattle.deque_machine.specs.Play as play
 use Rattle.deque_machine.specs.Play.{Turn, Meets, words_drawn}
 use Rattle.deque_machine.specs.Runs.{Pair, Reaches}
 use Rattle.core_parts.specs.declared.stop.Stop.TheVariants.{ArenaFull, DequesFull, StepsSpent, OutOfMemory}
-use Rattle.core_parts.specs.Moments.{Terms, machine_of}
+use Rattle.deque_machine.specs.Terms.{Terms, machine_of}
 use Rattle.dfd_core.specs.declared.run.Core.{Core}
 use Rattle.dfd_core.specs.declared.run_end.RunEnd.{RunEnd}
 use Rattle.dfd_core.specs.declared.run_end.RunEnd.TheVariants.{Finished, Stopped}

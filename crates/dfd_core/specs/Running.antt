@@ -9,10 +9,11 @@ use Rattle.deque_machine.specs.Runs.{Pair}
 use Rattle.node_table.specs.Table.{Table}
 use Rattle.thread_steps.specs.Settings.{IsSettingOf}
 use Rattle.core_parts.specs.Held.{Held}
-use Rattle.core_parts.specs.Moments.{Terms, machine_of, StandsAt}
+use Rattle.core_parts.specs.Moments.{StandsAt}
+use Rattle.deque_machine.specs.Terms.{Terms, machine_of}
 use Rattle.dfd_core.specs.declared.run_end.RunEnd.{RunEnd}
 use Rattle.dfd_core.specs.declared.run_end.RunEnd.TheVariants.{Finished}
-use Rattle.dfd_core.specs.Ends.{finish_of_run}
+use Rattle.depth_first_run.specs.Run.{finish_of_run}
 
 -- What is held stands at the moment to which a run of a program of this table leads, in which no give up is free and no more actions are
 -- done than may be. While no end is kept the root has not ended; a kept finish is that of the depth-first run, and the root has ended.

@@ -5,7 +5,8 @@ ghost use Rattle.node_table.specs.Codes.{code_shown};
 ghost use Rattle.thread_frames.specs.declared.thread.Thread.{Thread as AnyThread};
 ghost use Rattle.core_parts.specs.Held.{held};
 ghost use Rattle.core_parts.specs.Moments.{terms_of};
-ghost use Rattle.dfd_core.specs.Begun.{IsBegun, deques_with, given_terms};
+ghost use Rattle.dfd_core.specs.Begun.{IsBegun, deques_with};
+ghost use Rattle.deque_machine.specs.Terms.{given_terms};
 
 use block_arena::Pool;
 use boxed::Boxed;

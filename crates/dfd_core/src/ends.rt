@@ -5,7 +5,7 @@ ghost use Rattle.dag_order.specs.Births.{root};
 ghost use Rattle.thread_map.specs.Kept.{kept_under};
 ghost use Rattle.dfd_core.specs.Ends.{end_of_root, is_of_root, end_behind_event};
 ghost use Rattle.dfd_core.specs.GiveUps.{end_without_memory};
-ghost use Rattle.serial_journal.specs.Telling.{finish_of};
+ghost use Rattle.depth_first_run.specs.Run.{finish_of};
 
 use crate::run_end::RunEnd;
 use core_parts::{Event, Stop};

@@ -13,8 +13,7 @@ use Rattle.depth_first_list.specs.Actions.{peak}
 use Rattle.depth_first_list.proofs.Peak.{peak_is_highest}
 use Rattle.depth_first_run.proofs.Built.{whole_is_depth_first}
 use Rattle.depth_first_run.specs.States.{Item, Setting}
-use Rattle.depth_first_run.specs.Run.{whole, actions_of, first_fault, lines_of}
-use Rattle.serial_journal.specs.Telling.{finish_of}
+use Rattle.depth_first_run.specs.Run.{whole, actions_of, first_fault, lines_of, list_of, finish_of}
 use Rattle.serial_meaning.specs.Settings.{setting_of}
 use Rattle.loop_expand.specs.Expansion.{LexedExpand, Expands}
 use Rattle.loop_expand.specs.declared.expand_fail.ExpandFail.{ExpandFail}
@@ -24,7 +23,6 @@ use Rattle.deque_machine.proofs.Playing.{plays_end}
 use Rattle.deque_machine.specs.Moments.{Moment}
 use Rattle.deque_machine.specs.Play.{Ending, finished, stopped, arena_full, steps_spent, deques_full}
 use Rattle.deque_machine.specs.Runs.{Pair, moves, high_water_mark}
-use Rattle.thread_points.specs.Points.{list_of}
 use Rattle.par_ownership.specs.Ownership.{Ownership}
 use Rattle.par_ownership.specs.Walk.{Refusal, program_refusal}
 use Rattle.par_ownership.proofs.Law.{tells_program}

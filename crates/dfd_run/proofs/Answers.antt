@@ -17,7 +17,7 @@ use Rattle.depth_first_run.specs.States.{Setting as RunSetting}
 use Rattle.deque_machine.specs.Moments.{Moment}
 use Rattle.deque_machine.specs.Play.{Stop, arena_full, steps_spent, deques_full, Ending, finished, stopped}
 use Rattle.deque_machine.specs.Runs.{Pair}
-use Rattle.dfd_core.specs.Ends.{finish_of_run}
+use Rattle.depth_first_run.specs.Run.{finish_of_run}
 use Rattle.loop_expand.specs.declared.expand_fail.ExpandFail.{ExpandFail}
 use Rattle.made_source.specs.declared.TheConstants.{MOST_GROUPS}
 use Rattle.par_tree.specs.Tree.{Program}

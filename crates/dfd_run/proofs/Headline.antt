@@ -10,7 +10,7 @@ use Rattle.depth_first_list.specs.Actions.{Deed, forks, joins, allocates, releas
 use Rattle.depth_first_list.specs.Facts.{deed_at, words_at}
 use Rattle.depth_first_list.specs.Runs.{IsDepthFirst}
 use Rattle.depth_first_run.proofs.Built.{whole_is_depth_first}
-use Rattle.depth_first_run.specs.Run.{whole, lines_of}
+use Rattle.depth_first_run.specs.Run.{whole, lines_of, finish_of_run}
 use Rattle.deque_machine.proofs.Kept.{opening_is_lawful}
 use Rattle.deque_machine.proofs.Playing.{plays_are_runs, plays_finish, wanted_may_come}
 use Rattle.deque_machine.proofs.Reached.{lawful_along, bound_always, marked_bound, arena_refuses}
@@ -19,7 +19,6 @@ use Rattle.deque_machine.specs.Machine.{Setting, Event, does, May}
 use Rattle.deque_machine.specs.Moments.{Moment, opening, done_at, live_at}
 use Rattle.deque_machine.specs.Play.{Stop, arena_full, steps_spent, deques_full, Ending, finished, stopped, IsFirst, CanMove, Meets, no_words, Fills, taken_by, words_taken, one_if_fork}
 use Rattle.deque_machine.specs.Runs.{Pair, Reaches}
-use Rattle.dfd_core.specs.Ends.{finish_of_run}
 use Rattle.lawful_books.specs.Books.{IsPrefix, periods_ahead, periods_marked, bound, booked}
 use Rattle.lawful_books.specs.Lists.{total}
 use Rattle.machine_replay.proofs.OnePlay.{endings_have_causes}

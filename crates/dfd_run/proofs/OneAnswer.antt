@@ -11,13 +11,11 @@ use Rattle.dag_order.specs.declared.fault.FaultAt.{FaultAt}
 use Rattle.command_line.specs.declared.setting.Setting.TheVariants.{Quota as QuotaSetting}
 use Rattle.depth_first_run.proofs.Built.{whole_is_depth_first}
 use Rattle.depth_first_run.specs.States.{Item, Setting}
-use Rattle.depth_first_run.specs.Run.{whole, actions_of, first_fault, lines_of}
-use Rattle.serial_journal.specs.Telling.{finish_of}
+use Rattle.depth_first_run.specs.Run.{whole, actions_of, first_fault, lines_of, finish_of, finish_of_run}
 use Rattle.serial_meaning.specs.Settings.{setting_of}
 use Rattle.deque_machine.specs.Moments.{Moment}
 use Rattle.deque_machine.specs.Play.{Ending, finished, stopped}
 use Rattle.deque_machine.specs.Runs.{Pair}
-use Rattle.dfd_core.specs.Ends.{finish_of_run}
 use Rattle.lawful_books.specs.Books.{booked, periods_marked}
 use Rattle.loop_expand.specs.declared.expand_fail.ExpandFail.{ExpandFail}
 use Rattle.loop_expand.specs.declared.expand_fail.ExpandFail.TheVariants.{Refused, BadLoop, NameTaken, OutOfMemory as NoMemory}

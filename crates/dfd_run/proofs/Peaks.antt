@@ -8,8 +8,8 @@ use Rattle.dag_order.specs.declared.fault.FaultAt.{FaultAt}
 use Rattle.dag_order.specs.declared.finish.Finish.{Finish}
 use Rattle.dummy_tree.specs.Quotas.{IsQuota}
 use Rattle.depth_first_run.specs.States.{Item}
-use Rattle.depth_first_run.specs.Run.{actions_of, first_fault, lines_of}
-use Rattle.serial_journal.specs.Telling.{Told, ShowsAction, finish_of}
+use Rattle.depth_first_run.specs.Run.{actions_of, first_fault, lines_of, finish_of}
+use Rattle.serial_journal.specs.Telling.{Told, ShowsAction}
 use Rattle.serial_journal.specs.declared.action.Action.{Action as Shown}
 use Rattle.run_report.specs.Texts.{peak_text}
 use Rattle.dfd_run.specs.Peak.{RunText, RunMakes, finish_status}

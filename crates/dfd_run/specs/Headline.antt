@@ -2,13 +2,12 @@
 use Rattle.std.specs.Prelude.{◌≡◌, ◌⊎◌, ℕ, ◌<◌, ◌≤◌, List, ◌++◌, length, ℤ, pos, ◌≤ℤ◌}
 use Rattle.command_line.specs.declared.command.Command.{Command}
 use Rattle.depth_first_list.specs.Actions.{Action}
-use Rattle.depth_first_run.specs.Run.{whole, lines_of}
+use Rattle.depth_first_run.specs.Run.{whole, lines_of, list_of, finish_of_run}
 use Rattle.deque_machine.specs.LawfulOrder.{Rises}
 use Rattle.deque_machine.specs.Machine.{does, May}
 use Rattle.deque_machine.specs.Moments.{Moment, opening, done_at, live_at, threads_in}
 use Rattle.deque_machine.specs.Play.{Ending, finished, stopped, arena_full, Fills, words_taken, one_if_fork}
 use Rattle.deque_machine.specs.Runs.{Pair, Reaches}
-use Rattle.dfd_core.specs.Ends.{finish_of_run}
 use Rattle.lawful_books.specs.Books.{IsPrefix, periods_ahead, bound}
 use Rattle.lawful_books.specs.Lists.{total}
 use Rattle.par_ownership.specs.Ownership.{Ownership}
@@ -16,7 +15,6 @@ use Rattle.par_tree.specs.Tree.{Program}
 use Rattle.run_report.specs.Shown.{Shown}
 use Rattle.run_report.specs.Texts.{report_text, summary_text}
 use Rattle.run_report.specs.declared.summary.Summary.{Summary}
-use Rattle.thread_points.specs.Points.{list_of}
 use Rattle.dfd_run.specs.Answer.{HasRanges}
 use Rattle.dfd_run.specs.Make.{MakeMakes}
 use Rattle.dfd_run.specs.Peak.{finish_status}

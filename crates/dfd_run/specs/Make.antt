@@ -3,14 +3,13 @@ use Rattle.std.specs.Prelude.{◌≡◌, ℕ, ℤ, List, [], ◌∷◌, length, 
 use Rattle.std.specs.Int.{w64, int_wrapping_add}
 use Rattle.command_line.specs.declared.command.Command.{Command}
 use Rattle.depth_first_run.specs.States.{Setting}
-use Rattle.depth_first_run.specs.Run.{whole, lines_of}
+use Rattle.depth_first_run.specs.Run.{whole, lines_of, list_of}
 use Rattle.deque_machine.specs.Moments.{Moment}
 use Rattle.deque_machine.specs.Runs.{Pair, high_water_mark}
 use Rattle.lawful_books.specs.Books.{booked, periods_marked}
 use Rattle.made_source.specs.MadeSource.{made_source}
 use Rattle.par_tree.specs.Tree.{Program}
 use Rattle.run_report.specs.Texts.{summary_text}
-use Rattle.thread_points.specs.Points.{list_of}
 use Rattle.dfd_run.specs.Play.{TellsPlay}
 use Rattle.dfd_run.specs.declared.status.Status.{Status}
 

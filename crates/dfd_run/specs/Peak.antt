@@ -5,9 +5,8 @@ use Rattle.dag_order.specs.declared.fault.FaultAt.{FaultAt}
 use Rattle.dag_order.specs.declared.finish.Finish.{Finish}
 use Rattle.dag_order.specs.declared.finish.Finish.TheVariants.{Done as EndDone, Faulted}
 use Rattle.depth_first_run.specs.States.{Item}
-use Rattle.depth_first_run.specs.Run.{whole, actions_of, first_fault, lines_of}
+use Rattle.depth_first_run.specs.Run.{whole, actions_of, first_fault, lines_of, finish_of}
 use Rattle.par_tree.specs.Tree.{Program}
-use Rattle.serial_journal.specs.Telling.{finish_of}
 use Rattle.serial_meaning.specs.Settings.{setting_of}
 use Rattle.run_report.specs.Texts.{peak_text}
 use Rattle.dfd_run.specs.Messages.{spent_text}

@@ -3,20 +3,17 @@ use Rattle.std.specs.Prelude.{◌≡◌, ℕ, List, length, pos}
 use Rattle.rand_core.specs.Pcg32Seed.{pcg32_seed}
 use Rattle.rand_pcg.specs.Pcg.{pcg32_of_seed}
 use Rattle.command_line.specs.declared.command.Command.{Command}
-use Rattle.core_parts.specs.Moments.{Terms, machine_of}
+use Rattle.deque_machine.specs.Terms.{Terms, machine_of, given_terms}
 use Rattle.depth_first_run.specs.States.{Setting}
-use Rattle.depth_first_run.specs.Run.{whole, lines_of}
+use Rattle.depth_first_run.specs.Run.{whole, lines_of, list_of, finish_of_run}
 use Rattle.deque_machine.specs.Machine as machine
 use Rattle.deque_machine.specs.Moments.{Moment, opening}
 use Rattle.deque_machine.specs.Play.{Stop, arena_full, steps_spent, deques_full, Ending, finished, stopped, Plays}
 use Rattle.deque_machine.specs.Runs.{Pair, high_water_mark}
-use Rattle.dfd_core.specs.Begun.{given_terms}
-use Rattle.dfd_core.specs.Ends.{finish_of_run}
 use Rattle.lawful_books.specs.Books.{periods_marked}
 use Rattle.par_tree.specs.Tree.{Program}
 use Rattle.run_report.specs.Texts.{report_text}
 use Rattle.serial_meaning.specs.Settings.{setting_of}
-use Rattle.thread_points.specs.Points.{list_of}
 use Rattle.dfd_run.specs.Messages.{spent_text, arena_text, deques_text}
 use Rattle.dfd_run.specs.Peak.{finish_status}
 use Rattle.dfd_run.specs.PcgChoices.{coming_output}

@@ -14,7 +14,7 @@ use Rattle.period_books.specs.Periods.{Period}
 use Rattle.period_table.specs.Tables.{period_at}
 use Rattle.moment_parts.specs.Parts as parts
 use Rattle.moment_parts.specs.Events.{Does}
-use Rattle.thread_points.specs.Points.{list_of}
+use Rattle.depth_first_run.specs.Run.{list_of}
 use Rattle.thread_frames.specs.Actions.{IsOfTheList, TellsWords, TellsJoin, deed_of, is_there}
 use Rattle.thread_frames.specs.declared.open_child.OpenChild.{OpenChild}
 use Rattle.thread_frames.specs.Views.{label_of, children_of, child_shown, newest, result_of, released_by, join_words_of}

@@ -16,7 +16,7 @@ use Rattle.deque_machine.specs.Runs.{Pair}
 use Rattle.node_table.specs.Table.{Table}
 use Rattle.period_books.specs.Periods.{Period}
 use Rattle.period_table.specs.Tables.{period_at}
-use Rattle.thread_points.specs.Points.{list_of}
+use Rattle.depth_first_run.specs.Run.{list_of}
 use Rattle.thread_map.specs.Kept.{Kept, kept_under}
 use Rattle.thread_steps.specs.Settings.{IsSettingOf}
 use Rattle.thread_frames.specs.Actions.{IsOfTheList, deed_of, TellsWords, is_there}
@@ -31,7 +31,8 @@ use Rattle.deque_events.specs.Shown.{Stands}
 use Rattle.core_parts.specs.declared.scheduler.Scheduler.{Scheduler}
 use Rattle.core_parts.specs.declared.event.Event.{Event}
 use Rattle.core_parts.specs.Held.{held_under}
-use Rattle.core_parts.specs.Moments.{terms_of, machine_of, StandsAt}
+use Rattle.core_parts.specs.Moments.{terms_of, StandsAt}
+use Rattle.deque_machine.specs.Terms.{machine_of}
 use Rattle.core_parts.proofs.Bounds.{release_within, end_within}
 use Rattle.owner_steps.specs.Acts.{IsCharged}
 use Rattle.owner_steps.specs.Decisions.{Decides}

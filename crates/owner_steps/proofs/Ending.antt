@@ -19,7 +19,7 @@ use Rattle.period_table.specs.Tables.{period_at}
 use Rattle.moment_parts.specs.Parts as parts
 use Rattle.moment_parts.specs.Events.{Does}
 use Rattle.thread_map.specs.Kept.{kept_under}
-use Rattle.thread_points.specs.Points.{list_of}
+use Rattle.depth_first_run.specs.Run.{list_of}
 use Rattle.thread_frames.specs.Actions.{IsOfTheList}
 use Rattle.thread_frames.specs.declared.next.Next.{Next}
 use Rattle.thread_frames.specs.declared.next.Next.TheVariants as nexts

@@ -27,7 +27,7 @@ use Rattle.moment_parts.specs.Parts as parts
 use Rattle.moment_parts.specs.Events.{Works}
 use Rattle.moment_parts.proofs.Shown.{used_is}
 use Rattle.moment_parts.proofs.Placing.{own}
-use Rattle.thread_points.specs.Points.{list_of}
+use Rattle.depth_first_run.specs.Run.{list_of}
 use Rattle.thread_steps.specs.Settings.{IsSettingOf}
 use Rattle.thread_frames.specs.Actions.{IsOfTheList, deed_of, TellsWords}
 use Rattle.thread_frames.specs.Views.{label_of, children_of, thread_words, join_words_of}
@@ -40,7 +40,8 @@ use Rattle.core_parts.specs.declared.event.Event.TheVariants as events
 use Rattle.core_parts.specs.declared.stop.Stop.{Stop}
 use Rattle.core_parts.specs.declared.stop.Stop.TheVariants.{ArenaFull, DequesFull, StepsSpent, OutOfMemory}
 use Rattle.core_parts.specs.Held.{Held, held, held_under, parts_in, OwnsNone, IsInOrder, AreAtPoints, AreResults}
-use Rattle.core_parts.specs.Moments.{Terms, terms_of, SameTerms, machine_of, StandsAt, IsSound, CanGoOn}
+use Rattle.core_parts.specs.Moments.{terms_of, SameTerms, StandsAt, IsSound, CanGoOn}
+use Rattle.deque_machine.specs.Terms.{Terms, machine_of}
 use Rattle.core_parts.specs.Outcomes.{GoesOn, GivesDequeUp, StepsTo}
 use Rattle.core_parts.proofs.Going.{made, acted_goes_on, lawful_at, sum_is}
 use Rattle.core_parts.proofs.Leaving.{gave_up, gave_up_goes_on}

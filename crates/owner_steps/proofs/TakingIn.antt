@@ -32,7 +32,8 @@ use Rattle.deque_events.specs.Shown.{deque_with, Stands}
 use Rattle.core_parts.specs.declared.scheduler.Scheduler.{Scheduler}
 use Rattle.core_parts.specs.declared.event.Event.{Event}
 use Rattle.core_parts.specs.Held.{held_under, IsInOrder, IsUnderItsId, AreAtPoints}
-use Rattle.core_parts.specs.Moments.{terms_of, machine_of, StandsAt, IsSound}
+use Rattle.core_parts.specs.Moments.{terms_of, StandsAt, IsSound}
+use Rattle.deque_machine.specs.Terms.{machine_of}
 use Rattle.core_parts.proofs.Lists.{each_moved, found_among}
 use Rattle.core_parts.proofs.Bounds.{point_one}
 use Rattle.core_parts.proofs.Joining.{newest_child, joins_it, told, ended_when_delivered, ended_when_kept, awaited_one, to_come, given, handed}

@@ -13,7 +13,7 @@ use Rattle.period_books.specs.Periods.{Period}
 use Rattle.period_table.specs.Tables.{period_at}
 use Rattle.moment_parts.specs.Parts.{Parts}
 use Rattle.moment_parts.specs.Events.{Does}
-use Rattle.thread_points.specs.Points.{list_of}
+use Rattle.depth_first_run.specs.Run.{list_of}
 use Rattle.thread_frames.specs.Actions.{IsOfTheList, deed_of, TellsWords}
 use Rattle.thread_frames.specs.declared.next.Next.{Next}
 use Rattle.thread_frames.specs.declared.next.Next.TheVariants.{Fork, Join, Alloc, Release, Dummy, Fault, End}

@@ -15,7 +15,8 @@ use Rattle.core_parts.specs.declared.event.Event.{Event}
 use Rattle.core_parts.specs.declared.stop.Stop.{Stop}
 use Rattle.core_parts.specs.declared.scheduler.Scheduler.{Scheduler}
 use Rattle.core_parts.specs.Held.{Held, held, held_under}
-use Rattle.core_parts.specs.Moments.{Terms, IsSound, CanGoOn, StandsAt, SameTerms, terms_of}
+use Rattle.core_parts.specs.Moments.{IsSound, CanGoOn, StandsAt, SameTerms, terms_of}
+use Rattle.deque_machine.specs.Terms.{Terms}
 use Rattle.core_parts.specs.Outcomes.{StepsTo, GivesDequeUp}
 use Rattle.owner_steps.specs.Memory.{CanAct}
 

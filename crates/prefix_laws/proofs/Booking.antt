@@ -6,7 +6,7 @@ use Rattle.dag_order.specs.declared.action_id.ActionId.{ActionId}
 use Rattle.dag_order.specs.declared.birth.Birth.{Birth}
 use Rattle.depth_first_list.proofs.ThreadLaws.{names_differ}
 use Rattle.depth_first_run.specs.States.{Setting, State, Item}
-use Rattle.depth_first_run.specs.Run.{whole, actions_of}
+use Rattle.depth_first_run.specs.Run.{whole, actions_of, list_of}
 use Rattle.depth_first_run.proofs.Built.{whole_is_depth_first}
 use Rattle.deque_machine.specs.Moments.{Moment}
 use Rattle.deque_machine.specs.Runs.{Pair}
@@ -16,7 +16,6 @@ use Rattle.period_books.specs.Periods.{Period}
 use Rattle.period_table.specs.Tables.{periods_of}
 use Rattle.serial_journal.specs.declared.serial.Serial.{Serial}
 use Rattle.serial_journal.specs.Telling.{Tells}
-use Rattle.thread_points.specs.Points.{list_of}
 use Rattle.dfd_core.specs.declared.run.Core.{Core}
 use Rattle.dfd_core.specs.Cores.{IsAt}
 use Rattle.prefix_laws.specs.declared.names.Name.{Name}

@@ -14,8 +14,8 @@ use Rattle.dummy_tree.specs.QuotaWords.{quota_words}
 use Rattle.lawful_books.specs.Books.{IsPrefix, bound, periods_ahead}
 use Rattle.lawful_books.proofs.Keeping.{one_prefix}
 use Rattle.serial_journal.specs.declared.serial.Serial.{Serial}
-use Rattle.thread_points.specs.Points.{list_of}
-use Rattle.core_parts.specs.Moments.{machine_of}
+use Rattle.depth_first_run.specs.Run.{list_of}
+use Rattle.deque_machine.specs.Terms.{machine_of}
 use Rattle.dfd_core.specs.declared.run.Core.{Core}
 use Rattle.dfd_core.specs.Cores.{IsAt, terms_at}
 use Rattle.prefix_laws.specs.Prefixes.{IsSerialOf, TellsRun}

@@ -7,7 +7,7 @@ ghost use Rattle.deque_machine.specs.Moments.{Moment, done_at};
 ghost use Rattle.deque_machine.specs.Runs.{Pair};
 ghost use Rattle.lawful_books.specs.Books.{IsPrefix, goes_past, periods_ahead};
 ghost use Rattle.lawful_books.specs.Lists.{Among};
-ghost use Rattle.thread_points.specs.Points.{list_of};
+ghost use Rattle.depth_first_run.specs.Run.{list_of};
 ghost use Rattle.dfd_core.specs.Cores.{IsAt};
 ghost use Rattle.prefix_laws.specs.Prefixes.{IsSerialOf, TellsRun, all_ran, many_past, places_behind};
 

@@ -14,13 +14,13 @@ use Rattle.dag_order.specs.declared.finish.Finish.TheVariants.{Done, Faulted}
 use Rattle.dag_order.specs.declared.kind.Kind.TheVariants.{Fork}
 use Rattle.depth_first_list.specs.Actions.{Deed, forks, Action, kind_of, weight_of, weight, live_words, peak}
 use Rattle.depth_first_run.specs.States.{Item, began, acted, printed, failed}
-use Rattle.depth_first_run.specs.Run.{actions_of, first_fault, lines_of}
+use Rattle.depth_first_run.specs.Run.{actions_of, first_fault, lines_of, finish_of}
 use Rattle.serial_journal.specs.declared.action.Action.{Action as Shown}
 use Rattle.serial_journal.specs.declared.journal.Journal.{Journal}
 use Rattle.serial_journal.specs.Stops.{OnStop}
 use Rattle.serial_journal.specs.declared.serial_stop.SerialStop.{SerialStop}
 use Rattle.serial_journal.specs.declared.serial_stop.SerialStop.TheVariants.{StepsSpent, OutOfMemory}
-use Rattle.serial_journal.specs.Telling.{Told, ShowsAction, ShowsBirth, ForkOf, with_fork, forks_of, finish_of, IsNoFork}
+use Rattle.serial_journal.specs.Telling.{Told, ShowsAction, ShowsBirth, ForkOf, with_fork, forks_of, IsNoFork}
 use Rattle.serial_journal.specs.Journals.{KeepsUp, Counted, Recorded, births_of, action_named}
 use Rattle.serial_journal.proofs.Items.{or_first, behind, actions_more, fault_more, lines_more, forks_more, no_fork, live_more, peak_more}
 use Rattle.serial_journal.proofs.Known.{zip_one_more, actions_stay, births_stay, labels_stay}

@@ -13,11 +13,6 @@ use Rattle.depth_first_run.specs.Run.{actions_of, first_fault, lines_of}
 use Rattle.serial_journal.specs.declared.action.Action.{Action as Shown}
 use Rattle.serial_journal.specs.declared.serial.Serial.{Serial}
 
--- the first fault is the finish
-abbrev pub finish_of : Option FaultAt → Finish
-finish_of None = Done
-finish_of (Some fault) = Faulted fault
-
 -- an action is shown by the name of its thread, which by the births has its label, by its index there, by its kind
 -- and by its weight
 pub record ShowsAction (births : List Birth) (a : Action) (shown : Shown) : Type 0 where

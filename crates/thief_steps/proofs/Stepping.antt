@@ -36,7 +36,8 @@ use Rattle.core_parts.specs.declared.stop.Stop.{Stop}
 use Rattle.core_parts.specs.declared.stop.Stop.TheVariants.{ArenaFull, DequesFull, StepsSpent, OutOfMemory}
 use Rattle.core_parts.specs.declared.scheduler.Scheduler.{Scheduler}
 use Rattle.core_parts.specs.Held.{Held, held, parts_in, AreSame, OwnersSit, IsInOrder, AreAtPoints, WaitsUnder, IsUnderItsId}
-use Rattle.core_parts.specs.Moments.{machine_of, StandsAt, IsSound, CanGoOn, SameTerms, terms_of}
+use Rattle.core_parts.specs.Moments.{StandsAt, IsSound, CanGoOn, SameTerms, terms_of}
+use Rattle.deque_machine.specs.Terms.{machine_of}
 use Rattle.core_parts.specs.Outcomes.{GoesOn, Stops, StopsBy}
 use Rattle.core_parts.proofs.Going.{lawful_at}
 use Rattle.core_parts.proofs.Leaving.{IsIdle, stole_goes_on}

@@ -21,14 +21,15 @@ use Rattle.period_table.specs.declared.seat.Seat.{Seat}
 use Rattle.period_table.specs.Tables.{periods_of, seat_at}
 use Rattle.period_table.proofs.Lists.{among_of_place, cut_table}
 use Rattle.period_table.proofs.Seats.{some_seat}
-use Rattle.thread_points.specs.Points.{list_of}
+use Rattle.depth_first_run.specs.Run.{list_of}
 use Rattle.thread_steps.specs.Settings.{IsSettingOf}
 use Rattle.thread_parts.specs.Shown.{thread_shown}
 use Rattle.victim_choice.specs.Choices.{SomeReady, CanMove}
 use Rattle.step_laws.proofs.Ready.{some_ready_is_shown, owners_are_shown}
 use Rattle.core_parts.specs.declared.scheduler.Scheduler.{Scheduler}
 use Rattle.core_parts.specs.Held.{held}
-use Rattle.core_parts.specs.Moments.{machine_of, StandsAt, IsSound, terms_of}
+use Rattle.core_parts.specs.Moments.{StandsAt, IsSound, terms_of}
+use Rattle.deque_machine.specs.Terms.{machine_of}
 use Rattle.core_parts.proofs.Going.{lawful_at}
 use Rattle.thief_steps.proofs.Stepping.{unowned}
 

@@ -18,7 +18,8 @@ use Rattle.core_parts.specs.declared.stop.Stop.{Stop}
 use Rattle.core_parts.specs.declared.stop.Stop.TheVariants.{ArenaFull, DequesFull, StepsSpent, OutOfMemory}
 use Rattle.core_parts.specs.declared.scheduler.Scheduler.{Scheduler}
 use Rattle.core_parts.specs.Held.{Held, held, parts_in}
-use Rattle.core_parts.specs.Moments.{Terms, StandsAt}
+use Rattle.core_parts.specs.Moments.{StandsAt}
+use Rattle.deque_machine.specs.Terms.{Terms}
 use Rattle.core_parts.specs.Outcomes.{StepsTo}
 
 -- How a theft changes the deques, of which so many are allowed: a worker takes the bottom thread of the one at a place, and owns the one

@@ -13,7 +13,7 @@ use Rattle.depth_first_run.specs.States.{Setting}
 use Rattle.lawful_books.specs.Books.{charge}
 use Rattle.period_books.specs.Periods.{Period}
 use Rattle.moment_parts.specs.Events.{MayDo, name_of}
-use Rattle.thread_points.specs.Points.{list_of}
+use Rattle.depth_first_run.specs.Run.{list_of}
 use Rattle.thread_frames.specs.Actions as frames
 use Rattle.thread_frames.specs.Actions.{IsOfTheList, is_there}
 use Rattle.thread_frames.specs.Views.{Child, child_shown as child_seen, children_of, done_of, thread_words, newest, ordinal_of, result_of, released_by, join_words_of, label_of, forks_of, ended_label, ended_words}

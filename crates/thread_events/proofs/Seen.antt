@@ -4,7 +4,8 @@ use Rattle.dag_order.specs.declared.action_id.ActionId.{ActionId}
 use Rattle.depth_first_run.specs.States.{Setting}
 use Rattle.deque_events.specs.Events.{DidEnd}
 use Rattle.thread_parts.specs.Shown.{thread_shown, result_shown}
-use Rattle.thread_points.specs.Points.{list_of, words_at_end}
+use Rattle.thread_points.specs.Points.{words_at_end}
+use Rattle.depth_first_run.specs.Run.{list_of}
 use Rattle.thread_frames.specs.Actions.{IsOfTheList}
 use Rattle.thread_frames.specs.Points.{IsAtPoint, IsPlaced}
 use Rattle.thread_frames.specs.Views.{done_of, label_of, thread_words, ended_label, ended_words}

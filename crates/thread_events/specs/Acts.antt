@@ -12,7 +12,7 @@ use Rattle.period_table.specs.declared.table.PeriodTable.{PeriodTable}
 use Rattle.period_table.specs.Tables.{period_at}
 use Rattle.moment_parts.specs.Parts as parts
 use Rattle.moment_parts.specs.Events.{MayDo, Does}
-use Rattle.thread_points.specs.Points.{list_of}
+use Rattle.depth_first_run.specs.Run.{list_of}
 use Rattle.thread_frames.specs.Actions.{IsOfTheList}
 use Rattle.thread_frames.specs.declared.ended.Ended.{Ended}
 use Rattle.thread_frames.specs.declared.next.Next.{Next}

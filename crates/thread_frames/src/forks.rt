@@ -19,9 +19,9 @@ use crate::thread::Thread;
 use block_arena::{PIECE_WORDS, Pool, RecordBlock};
 use boxed::Boxed;
 use dag_order::ThreadId;
-use thread_stack::{Branch, Frame};
 use std::mem;
 use thread_output::Told;
+use thread_stack::{Branch, Frame};
 use thread_state::{ForkRoom, ThreadState};
 use thread_steps::Forking;
 

@@ -23,11 +23,11 @@ use crate::thread::Thread;
 use block_arena::{PIECE_WORDS, pieces_for};
 use dag_order::{Label, Placed, ThreadId};
 use dummy_tree::Quota;
-use thread_stack::{Branch, Frame, ListOf, frame_from};
 use node_table::{Code, NodeKind};
 use std::alloc::{AllocError, Global};
 use thread_output::Told;
 use thread_run::ThreadRun;
+use thread_stack::{Branch, Frame, ListOf, frame_from};
 use thread_state::ThreadState;
 use thread_steps::Ready;
 

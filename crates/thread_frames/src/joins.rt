@@ -17,9 +17,9 @@ use crate::prepared::Prepared;
 use crate::thread::Thread;
 use block_arena::Pool;
 use dag_order::ThreadId;
-use thread_stack::Branch;
 use std::mem;
 use thread_output::Told;
+use thread_stack::Branch;
 use thread_state::ThreadState;
 
 impl Thread {

@@ -9,10 +9,10 @@ use crate::thread::Thread;
 use block_arena::RecordBlock;
 use boxed::Boxed;
 use dag_order::ThreadId;
-use thread_stack::Frame;
 use std::alloc::{AllocError, Global};
 use thread_output::Told;
 use thread_run::ThreadRun;
+use thread_stack::Frame;
 use thread_state::ThreadState;
 
 /// For how many frames a child has room as it begins: most children need no more, so that their list never grows.

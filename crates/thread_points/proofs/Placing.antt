@@ -11,13 +11,13 @@ use Rattle.depth_first_list.specs.Facts.{action_at, label_at, index_at, deed_at,
 use Rattle.depth_first_list.proofs.Weights.{root_end_is_weightless, child_ends_give_back}
 use Rattle.par_tree.specs.Tree.{Name, done, step}
 use Rattle.depth_first_run.specs.States.{Setting, State, Item, next_action, with_action, parent_of, ended}
-use Rattle.depth_first_run.specs.Run.{whole, actions_of}
+use Rattle.depth_first_run.specs.Run.{whole, actions_of, list_of}
 use Rattle.depth_first_run.specs.Middle.{Part, statements, tree, Frame, does, answers, rejoins, answers_main, allocates, awaits, joins, finish, middle, finished, advance, to_come}
 use Rattle.depth_first_run.proofs.Stepping.{beginning_comes}
 use Rattle.depth_first_run.proofs.Nearing.{items_grow}
 use Rattle.depth_first_run.proofs.Built.{whole_is_depth_first}
 use Rattle.depth_first_run.proofs.Covered.{actions_append}
-use Rattle.thread_points.specs.Points.{after_steps, AreParents, IsAt, step_of, IsNextOf, mark_of, StepsAlone, StepForks, list_of, place_of, ActsNext, words_at_end, end_of}
+use Rattle.thread_points.specs.Points.{after_steps, AreParents, IsAt, step_of, IsNextOf, mark_of, StepsAlone, StepForks, place_of, ActsNext, words_at_end, end_of}
 use Rattle.thread_points.proofs.Reaching.{points_come}
 use Rattle.thread_points.proofs.Walking.{next_point, own_step, step_nears, all_plain_own}
 use Rattle.thread_points.proofs.Alone.{alone_or_forks}

@@ -9,11 +9,11 @@ use Rattle.depth_first_list.specs.Facts.{label_at, deed_at, words_at}
 use Rattle.depth_first_list.proofs.ThreadLaws.{end_is_last, forked_once}
 use Rattle.par_tree.specs.Tree.{Name}
 use Rattle.depth_first_run.specs.States.{Setting, State, Item, next_action, ended, with_action}
-use Rattle.depth_first_run.specs.Run.{actions_of, whole}
+use Rattle.depth_first_run.specs.Run.{actions_of, whole, list_of}
 use Rattle.depth_first_run.specs.Middle.{Part, Frame, does, answers, rejoins, answers_main, allocates, awaits, joins, finish, Middle, middle, finished, advance}
 use Rattle.depth_first_run.proofs.Built.{whole_is_depth_first}
 use Rattle.depth_first_run.proofs.OneAction.{next_action_comes}
-use Rattle.thread_points.specs.Points.{after_steps, AreParents, IsAt, StepForks, child_start, list_of, place_of}
+use Rattle.thread_points.specs.Points.{after_steps, AreParents, IsAt, StepForks, child_start, place_of}
 use Rattle.thread_points.specs.Threads.{Begins, of_root, of_child}
 use Rattle.thread_points.proofs.Reaching.{points_come}
 use Rattle.thread_points.proofs.Walking.{next_point, forked_point}

@@ -9,9 +9,9 @@ use Rattle.par_tree.specs.Tree.{Name, par_stmt, Body, step}
 use Rattle.dummy_tree.specs.Shapes.{Shape, forked}
 use Rattle.par_ownership.specs.Ownership.{function_of, main_name}
 use Rattle.depth_first_run.specs.States.{Setting, State, Item, next_action, given_back, joined, ended}
-use Rattle.depth_first_run.specs.Run.{whole, actions_of, first_fault, lines_of, names_in, assigns_in, no_name, root_start}
+use Rattle.depth_first_run.specs.Run.{whole, actions_of, first_fault, lines_of, names_in, assigns_in, no_name, root_start, list_of}
 use Rattle.depth_first_run.specs.Middle.{Frame, does, statements, tree, joins, finish, middle, before_all, step_fork, run_start}
-use Rattle.thread_points.specs.Points.{after_steps, Each, IsOwn, IsPlain, IsAt, step_of, StepsAlone, StepForks, child_start, parent_start, parent_frames, list_of, place_of, ActsNext, end_of, mark_of, marked}
+use Rattle.thread_points.specs.Points.{after_steps, Each, IsOwn, IsPlain, IsAt, step_of, StepsAlone, StepForks, child_start, parent_start, parent_frames, place_of, ActsNext, end_of, mark_of, marked}
 use Rattle.thread_points.specs.Threads.{Begins, OpenChild, open_children, IsThread}
 
 -- ---- points

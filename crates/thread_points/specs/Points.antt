@@ -122,10 +122,6 @@ parent_start c f s k = parent_of k.named (child_end c f s k).items (marked f s)
 abbrev pub parent_frames : (c : Setting) (f : Frame) (s : State) → StepForks c f s → List Frame
 parent_frames c f s k = does k.mine ∷ joins k.assigned (suc s.forks) (child_end c f s k) ∷ k.later
 
--- L, the actions of the whole run in depth-first order
-abbrev pub list_of : Setting → List Action
-list_of c = actions_of (State.items (whole c))
-
 -- how many actions of L are done at a point, so that the next one has this place
 abbrev pub place_of : State → ℕ
 place_of s = length (actions_of s.items)

@@ -1,7 +1,7 @@
 use Rattle.std.proofs.Common.{◌≡◌, ℕ, ◌+◌, Bool, true, false, ap, subst, ◌∙◌, arith}
 use Rattle.std.proofs.lemmas.Bool.{false≢true}
 use Rattle.deque_machine.specs.Play.{IsFirst, CanMove, words_drawn}
-use Rattle.core_parts.specs.Moments.{machine_of}
+use Rattle.deque_machine.specs.Terms.{machine_of}
 use Rattle.dfd_core.specs.Cores.{terms_at, workers_of, words_of_turn}
 use Rattle.dfd_core.proofs.Taking.{turns_to}
 use Rattle.dfd_core.proofs.player.turn.Goals as goal

@@ -5,7 +5,7 @@ use Rattle.deque_machine.specs.Moments.{done_at}
 use Rattle.lawful_books.specs.Books.{periods_ahead}
 use Rattle.lawful_books.proofs.Keeping.{one_prefix_of}
 use Rattle.serial_journal.specs.Telling.{ShowsAction}
-use Rattle.thread_points.specs.Points.{list_of}
+use Rattle.depth_first_run.specs.Run.{list_of}
 use Rattle.prefix_laws.specs.Prefixes.{places_behind, many_past}
 use Rattle.prefix_laws.proofs.Counting.{prefix_is, past_is_ahead}
 use Rattle.prefix_laws.proofs.prefix.ahead_now.Goals as goal

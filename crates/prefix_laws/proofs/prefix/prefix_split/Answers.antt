@@ -2,7 +2,7 @@ use Rattle.std.proofs.Common.{arith}
 use Rattle.std.proofs.lemmas.Slice.Zip.{AllZip-long}
 use Rattle.bounded_list.specs.BoundedList.{entries}
 use Rattle.serial_journal.specs.Telling.{ShowsAction}
-use Rattle.thread_points.specs.Points.{list_of}
+use Rattle.depth_first_run.specs.Run.{list_of}
 use Rattle.prefix_laws.specs.Prefixes.{places_behind}
 use Rattle.prefix_laws.proofs.Counting.{prefix_is}
 use Rattle.prefix_laws.proofs.prefix.prefix_split.Goals as goal

@@ -4,7 +4,8 @@ use Rattle.std.specs.Prelude.{Ok, Err}
 use Rattle.node_table.specs.Codes.{code_shown}
 use Rattle.dummy_tree.specs.QuotaWords.{quota_words}
 use Rattle.core_parts.specs.Held.{held}
-use Rattle.core_parts.specs.Moments.{Terms, terms_of}
+use Rattle.core_parts.specs.Moments.{terms_of}
+use Rattle.deque_machine.specs.Terms.{Terms}
 use Rattle.dfd_core.proofs.GivingUp.{gives_behind, somewhere_behind_give_up}
 use Rattle.dfd_core.proofs.run.Core.give_up.Goals as goal
 

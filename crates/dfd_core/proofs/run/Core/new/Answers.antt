@@ -3,7 +3,8 @@ use Rattle.depth_first_list.specs.Actions.{record_words}
 use Rattle.dummy_tree.specs.QuotaWords.{quota_words}
 use Rattle.node_table.specs.Codes.{code_shown}
 use Rattle.core_parts.specs.Held.{held}
-use Rattle.core_parts.specs.Moments.{Terms, terms_of}
+use Rattle.core_parts.specs.Moments.{terms_of}
+use Rattle.deque_machine.specs.Terms.{Terms}
 use Rattle.dfd_core.proofs.Openings.{opening_is_at, begun_somewhere, begun_is_sound, begun_can_go_on}
 use Rattle.dfd_core.proofs.run.Core.new.Goals as goal
 

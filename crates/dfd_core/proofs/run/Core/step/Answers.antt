@@ -1,7 +1,7 @@
 use Rattle.std.proofs.Common.{Some, Ok, refl, sym, ap, subst, ◌∙◌, arith}
 use Rattle.std.proofs.lemmas.Option.{none-some}
 use Rattle.core_parts.specs.Held.{held}
-use Rattle.core_parts.specs.Moments.{Terms}
+use Rattle.deque_machine.specs.Terms.{Terms}
 use Rattle.dfd_core.specs.Steps.{IsTold, end_behind}
 use Rattle.dfd_core.proofs.Told.{ok_or_err, some_or_none}
 use Rattle.dfd_core.proofs.Roots.{root_result}
