@@ -8,7 +8,7 @@ use Rattle.dag_order.specs.declared.thread_id.ThreadId.{ThreadId}
 use Rattle.dag_order.specs.declared.action_id.ActionId.{ActionId}
 use Rattle.dag_order.specs.declared.birth.Birth.{Birth}
 use Rattle.dag_order.specs.LabelOrder.{fork_of}
-use Rattle.dag_order.specs.Births.{root, birth_of, birth_in, IsBornBefore, ParentComesFirst}
+use Rattle.dag_order.specs.Births.{root, birth_of, birth_in, IsBornBefore, ParentComesFirst, ParentsComeFirst, MayFollow}
 use Rattle.depth_first_list.specs.Actions.{Deed, forks, joins, allocates, releases, dummy, faults, ends, Action}
 use Rattle.depth_first_list.specs.Facts.{label_at, deed_at}
 use Rattle.depth_first_list.specs.Runs.{IsDepthFirst}
@@ -25,10 +25,10 @@ use Rattle.period_books.specs.Periods.{Period, InOrder}
 use Rattle.period_books.specs.Names.{id_of, HasLabel, IsNamed, AreNamed, births_by, births_among}
 use Rattle.period_books.specs.Telling.{IsBook, Tell}
 use Rattle.period_books.specs.Laws.{IsCutAt}
-use Rattle.period_books.proofs.Sorting.{one_of_a_number}
+use Rattle.period_books.proofs.Sorting.{get_middle, one_of_a_number}
 use Rattle.period_books.proofs.Labels.{Forked, how, one_label, born_of}
 use Rattle.period_books.proofs.Changes.{each_has_its_book}
-use Rattle.moment_parts.specs.Laws.{BirthsComeParentsFirst}
+use Rattle.moment_parts.specs.Laws.{BirthsComeParentsFirst, BirthsMayFollow}
 
 -- the action at a place is the Fork of a birth: it is of the thread that gave it
 record IsForkOf (l : List Action) (periods : List Period) (birth : Birth) (place : ℕ) : Type 0 where
@@ -102,7 +102,7 @@ module _ (l : List Action) (periods : List Period) where
       by_deed : (deed : Deed) → deed_at l place ≡ deed → (n : ℕ) → slice_get (births_by id.by deed ++ births_among l ids places) n ≡ Some one
           → slice_get (births_by id.by deed ++ births_among l ids places) (n + more) ≡ Some other
           → ((n : ℕ) → slice_get (births_among l ids places) n ≡ Some one → slice_get (births_among l ids places) (n + more) ≡ Some other
-              → TwoForks l periods one other places)
+          → TwoForks l periods one other places)
           → TwoForks l periods one other (place ∷ places)
       by_deed (forks child) deed zero found found' rest =
           let fork : IsForkOf l periods one place =
@@ -299,3 +299,40 @@ pub births_come_parents_first : (s : Setting) → 0 < s.quota → IsDepthFirst s
 births_come_parents_first s some run m periods t lawful id birth is =
     let found = found_period s run m periods t lawful id.period id.nth birth is in
     comes_first s run m periods t lawful found.0 id.nth birth found.1 found.3 id (ap (λ n. record { period = n; nth = id.nth }) (sym found.2))
+
+module _ {X : Type 0} where
+  -- what stands in the front of a list, or at its end, stands there whatever follows
+  front_same : (front back : List X) (x : X) (n : ℕ) → n ≤ length front → slice_get (front ++ x ∷ back) n ≡ slice_get (front ++ x ∷ []) n
+  front_same [] back x zero le = refl
+  front_same [] back x (suc n) le = absurd (omega (arith, le))
+  front_same (y ∷ front) back x zero le = refl
+  front_same (y ∷ front) back x (suc n) le = front_same front back x n (omega (arith, le))
+
+still_born : (front back : List (List Birth)) (births : List Birth) (number nth : ℕ) → number ≤ length front + 1
+    → birth_in (front ++ births ∷ back) number nth ≡ birth_in (front ++ births ∷ []) number nth
+still_born front back births zero nth le = refl
+still_born front back births (suc before) nth le =
+    ap (option_and_then (λ bs. slice_get bs nth)) (front_same front back births before (omega (arith, le)))
+
+may_follow : (all front back : List (List Birth)) (births : List Birth) → ParentsComeFirst all → all ≡ front ++ births ∷ back → MayFollow front births
+may_follow all front back births first is nth birth there =
+    let id : ThreadId = record { period = length front + 1; nth = nth } in
+    let number : length front + 1 ≡ suc (length front) = omega arith in
+    let has : birth_of all id ≡ Some birth =
+    ap (λ t. birth_in t (length front + 1) nth) is ∙ ap (λ n. birth_in (front ++ births ∷ back) n nth) number
+    ∙ ap (option_and_then (λ bs. slice_get bs nth)) (get_middle front births back) ∙ there in
+    elim (first id birth has) [
+      | inl of_root ↦ inl of_root
+      | inr older ↦ inr (
+        older.0,
+        subst IsSome (ap (λ t. birth_of t birth.parent) is ∙ still_born front back births (ThreadId.period birth.parent) (ThreadId.nth birth.parent) (not_newer older.0)) older.1,
+      )
+    ]
+  where
+    not_newer : IsBornBefore birth.parent (record { period = length front + 1; nth = nth }) → ThreadId.period birth.parent ≤ length front + 1
+    not_newer (inl lt) = omega (arith, lt)
+    not_newer (inr same) = let e = same.0 in omega (arith, e)
+
+pub births_may_follow : (s : Setting) → 0 < s.quota → IsDepthFirst s.quota s.list → BirthsMayFollow s
+births_may_follow s some run m periods t lawful front back births is =
+    may_follow (map (λ p. Period.born p) t.sorted) front back births (births_come_parents_first s some run m periods t lawful) is

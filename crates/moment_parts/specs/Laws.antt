@@ -1,6 +1,7 @@
 -- What each event of the machine is, on parts that show its moment.
-use Rattle.std.specs.Prelude.{◌≡◌, ℕ, List, [], length, map}
-use Rattle.dag_order.specs.Births.{root, ParentsComeFirst}
+use Rattle.std.specs.Prelude.{◌≡◌, ℕ, List, [], ◌∷◌, ◌++◌, length, map}
+use Rattle.dag_order.specs.declared.birth.Birth.{Birth}
+use Rattle.dag_order.specs.Births.{root, ParentsComeFirst, MayFollow}
 use Rattle.deque_machine.specs.Moments.{Moment, opening}
 use Rattle.deque_machine.specs.Machine.{Setting, Event, steals, does, suspends, gives_up, May}
 use Rattle.deque_machine.specs.LawfulOrder.{IsLawful}
@@ -40,6 +41,11 @@ TheftsAreEvents s = (m : Moment) (parts : Parts) (worker place id : ℕ) (next :
 abbrev pub BirthsComeParentsFirst : Setting → Type 0
 BirthsComeParentsFirst s = (m : Moment) (periods : List Period) (t : Tell s.quota s.list periods m.books) → IsLawful s m
     → ParentsComeFirst (map (λ p. p.born) t.sorted)
+
+-- so they may be added to a roster one period after the other
+abbrev pub BirthsMayFollow : Setting → Type 0
+BirthsMayFollow s = (m : Moment) (periods : List Period) (t : Tell s.quota s.list periods m.books) → IsLawful s m
+    → (front back : List (List Birth)) (births : List Birth) → map (λ p. p.born) t.sorted ≡ front ++ births ∷ back → MayFollow front births
 
 -- a result that is handed over changes no moment
 abbrev pub HandingOverIsNoEvent : Setting → Type 0
