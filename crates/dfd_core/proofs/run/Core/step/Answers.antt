@@ -106,7 +106,7 @@ pub returns-in-Err-clause-setting : goal.returns-in-Err-clause-setting
 returns-in-Err-clause-setting c = (refl, refl, c.event_of.ensures.terms c.args.self.now.limit)
 
 pub returns-in-Ok-None-clause-still : goal.returns-in-Ok-None-clause-still
-returns-in-Ok-None-clause-still c = λ nothing. c.event_of.ensures.still (c.in-Ok-None.is ∙ ap Ok c.in-Ok-None.field-0-is)
+returns-in-Ok-None-clause-still c = λ nothing i. record c.args.self.now { scheduler = c.event_of.ensures.still (c.in-Ok-None.is ∙ ap Ok c.in-Ok-None.field-0-is) i }
 
 pub returns-in-Ok-Some-clause-still : goal.returns-in-Ok-Some-clause-still
 returns-in-Ok-Some-clause-still c = λ nothing. absurd (some_or_none _ (subst (λ s. IsTold s (Ok (Some c.in-Ok-Some.event))) nothing c.told.ensures))
