@@ -89,7 +89,7 @@ cut_among x (y ∷ xs) there = elim there [
 ]
 
 -- different elements of a list are no more than it has
-few_among : {X : Type 0} → (xs ys : List X) → Differ xs → Each (λ x. Among x ys) xs → length xs ≤ length ys
+pub few_among : {X : Type 0} → (xs ys : List X) → Differ xs → Each (λ x. Among x ys) xs → length xs ≤ length ys
 few_among [] ys differ all = omega arith
 few_among (x ∷ xs) ys differ all =
     let cut = cut_among x ys all.0 in

@@ -1,4 +1,4 @@
-use Rattle.std.proofs.Common.{sym, subst, ◌∙◌}
+use Rattle.std.proofs.Common.{sym, subst, ◌∙◌, arith}
 use Rattle.node_table.specs.Codes.{code_shown}
 use Rattle.dummy_tree.specs.QuotaWords.{quota_words}
 use Rattle.core_parts.specs.declared.scheduler.Scheduler.{Scheduler}
@@ -8,7 +8,7 @@ use Rattle.core_parts.specs.Outcomes.{StepsTo}
 use Rattle.core_parts.proofs.Still.{reordered_sound, reordered_stands, still_sound, still_stands}
 use Rattle.owner_steps.specs.Steps.{IsBeforeAction}
 use Rattle.owner_steps.proofs.Seated.{seated_has_left}
-use Rattle.owner_steps.proofs.Taking.{taken_sound, taken_points, taken_at, point_at_top, words_at_top, is_before, comes_of_taken}
+use Rattle.owner_steps.proofs.Taking.{taken_sound, taken_points, taken_at, point_at_top, words_at_top, done_at_top, is_before, comes_of_taken}
 use Rattle.owner_steps.proofs.owner.step_of_owner.Goals as goal
 
 pub take_top-requires-clause-sound : goal.take_top-requires-clause-sound
@@ -40,6 +40,13 @@ advance-requires-clause-out c =
     let takes = c.in-Ok.ensures.takes in
     words_at_top (code_shown c.args.code.now) (quota_words c.args.k) c.args.limit c.take_top.new.scheduler takes.stands c.in-Ok.top
     (taken_sound (code_shown c.args.code.now) (quota_words c.args.k) c.args.limit c.args.scheduler.now c.take_top.new.scheduler c.args.worker c.in-Ok.deque c.in-Ok.top takes c.requires.sound)
+
+pub advance-requires-clause-few : goal.advance-requires-clause-few
+advance-requires-clause-few c =
+    let takes = c.in-Ok.ensures.takes in
+    let count = done_at_top (code_shown c.args.code.now) (quota_words c.args.k) c.args.limit c.take_top.new.scheduler takes.stands c.in-Ok.top
+    (taken_sound (code_shown c.args.code.now) (quota_words c.args.k) c.args.limit c.args.scheduler.now c.take_top.new.scheduler c.args.worker c.in-Ok.deque c.in-Ok.top takes c.requires.sound) in
+    let same = takes.same.done in let done = c.requires.done in let few = c.requires.few in omega (arith, count, same, done, few)
 
 pub put_back-requires-clause-stands : goal.put_back-requires-clause-stands
 put_back-requires-clause-stands c = let takes = c.in-Ok.ensures.takes in (takes.items, takes.stands)

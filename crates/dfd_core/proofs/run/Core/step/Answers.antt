@@ -7,7 +7,11 @@ use Rattle.dfd_core.proofs.Told.{ok_or_err, some_or_none}
 use Rattle.dfd_core.proofs.Roots.{root_result}
 use Rattle.dfd_core.proofs.Going.{somewhere_behind, comes_behind}
 use Rattle.dfd_core.proofs.Turns.{nothing_behind}
+use Rattle.dfd_core.proofs.Bounded.{done_within}
 use Rattle.dfd_core.proofs.run.Core.step.Goals as goal
+
+pub event_of-requires-clause-done : goal.event_of-requires-clause-done
+event_of-requires-clause-done c = done_within _ _ _ (held c.args.self.now.scheduler) c.args.self.now.sound c.args.self.now.end c.args.self.now.somewhere
 
 pub invariant_of-self : goal.invariant_of-self
 invariant_of-self c =
