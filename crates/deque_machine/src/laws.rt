@@ -1,5 +1,4 @@
-ghost use Rattle.deque_machine.specs.Play.{RunsEnd, RunsAreShort, ArenaNeverFills, DequesAtMost, SomebodysTurn, WantedMayCome, PlaysAreRuns, PlaysEnd, PlaysFinish};
-ghost use Rattle.deque_machine.specs.Runs.{InEachSetting, OpeningIsLawful, EventsKeepLawful, ReachedIsLawful, BoundAlways, AheadIsMarked, MovesAreLive, MarkedBound, ArenaRefuses, EndedDidAll};
+ghost use Rattle.deque_machine.specs.Laws.{InEachSetting, OpeningIsLawful, EventsKeepLawful, ReachedIsLawful, BoundAlways, AheadIsMarked, MovesAreLive, MarkedBound, ArenaRefuses, EndedDidAll, RunsEnd, RunsAreShort, ArenaNeverFills, DequesAtMost, SomebodysTurn, WantedMayCome, PlaysAreRuns, PlaysEnd, PlaysFinish};
 
 /// The opening moment has lawful order, lawful books and begun ahead.
 pub fn opening_is_lawful()

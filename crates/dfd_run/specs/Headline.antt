@@ -3,9 +3,8 @@ use Rattle.std.specs.Prelude.{◌≡◌, ◌⊎◌, ℕ, ◌<◌, ◌≤◌, Lis
 use Rattle.command_line.specs.declared.command.Command.{Command}
 use Rattle.depth_first_list.specs.Actions.{Action}
 use Rattle.depth_first_run.specs.Run.{whole, lines_of, list_of, finish_of_run}
-use Rattle.deque_machine.specs.LawfulOrder.{Rises}
 use Rattle.deque_machine.specs.Machine.{does, May}
-use Rattle.deque_machine.specs.Moments.{Moment, opening, done_at, live_at, threads_in}
+use Rattle.deque_machine.specs.Moments.{Moment, opening, done_at, live_at, threads_in, Rises}
 use Rattle.deque_machine.specs.Play.{Ending, finished, stopped, arena_full, Fills, words_taken, one_if_fork}
 use Rattle.deque_machine.specs.Runs.{Pair, Reaches}
 use Rattle.lawful_books.specs.Books.{IsPrefix, periods_ahead, bound}

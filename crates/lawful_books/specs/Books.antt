@@ -1,5 +1,5 @@
 -- Books: what each period of a scheduler ran of a depth-first list, and what is done by them.
-use Rattle.std.specs.Prelude.{◌≡◌, ℕ, ◌≤◌, ◌<◌, ◌*◌, Bool, false, ◌||◌, nat_le, cond, Option, List, [], ◌∷◌, ◌++◌, map, length, ℤ, pos, ◌+ℤ◌}
+use Rattle.std.specs.Prelude.{◌≡◌, ℕ, ◌≤◌, ◌<◌, ◌*◌, Bool, false, ◌||◌, nat_le, cond, Option, List, [], ◌∷◌, ◌++◌, map, length, ℤ, pos, ◌+ℤ◌, ◌+◌}
 use Rattle.depth_first_list.specs.Actions.{Deed, forks, joins, allocates, releases, dummy, faults, ends, Action, record_words, live_words, peak}
 use Rattle.depth_first_list.specs.Facts.{action_at, deed_at, words_at}
 use Rattle.lawful_books.specs.Lists.{total, times}
@@ -74,3 +74,11 @@ periods_marked books = total one_if_marked books
 -- the most words that may be in use where so many periods are ahead
 abbrev pub bound : ℕ → List Action → ℕ → ℤ
 bound k l ahead = peak l +ℤ pos (2 * k * ahead)
+
+-- the book with this owner, or closed, in which the period ran this
+abbrev pub book_of : Book → Option ℕ → List ℕ → Book
+book_of book owner ran = record { ahead = book.ahead; owner = owner; ran = ran }
+
+-- the books in which the period of this book, with older and newer ones beside it, ran one action more
+abbrev pub one_more : List Book → Book → List Book → Option ℕ → ℕ → List Book
+one_more older book newer after place = older ++ book_of book after (book.ran ++ place ∷ []) ∷ newer
