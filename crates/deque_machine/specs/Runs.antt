@@ -1,9 +1,9 @@
 -- Runs of the machine, and their moves.
 use Rattle.std.specs.Prelude.{◌≡◌, ℕ, Bool, true, false, nat_lt, filter, map, List, [], ◌∷◌, ◌++◌, length, ℤ}
-use Rattle.depth_first_list.specs.Actions.{Deed, forks, joins, allocates, releases, dummy, faults, ends, Action, peak}
+use Rattle.depth_first_list.specs.Actions.{Deed, joins, dummy, ends, Action, peak}
 use Rattle.depth_first_list.specs.Facts.{action_at}
 use Rattle.deque_machine.specs.Moments.{Moment}
-use Rattle.deque_machine.specs.Machine.{Setting, Event, steals, does, suspends, gives_up, May}
+use Rattle.deque_machine.specs.Machine.{Setting, Event, does, May}
 
 -- an event and the worker that does it
 pub record Pair : Type 0 where
@@ -17,10 +17,8 @@ Reaches s first (pair ∷ later) last = (next : Moment) × May s first pair.work
 
 -- the place of the action that an event does, if it is one
 abbrev pub place_of : Event → List ℕ
-place_of (steals place id) = []
 place_of (does place) = place ∷ []
-place_of suspends = []
-place_of gives_up = []
+place_of other = []
 
 -- the places of the actions of a run, in its order
 abbrev pub places_of : List Pair → List ℕ
@@ -30,13 +28,10 @@ places_of (pair ∷ later) = place_of pair.event ++ places_of later
 -- whether an action is a move: a Fork, an Alloc, a Release or a Fault, the End of a forked thread, or a Join that
 -- releases words
 abbrev pub moves_words : Deed → List ℕ → ℕ → Bool
-moves_words (forks child) label words = true
 moves_words (joins child) label words = nat_lt 0 words
-moves_words allocates label words = true
-moves_words releases label words = true
 moves_words dummy label words = false
-moves_words faults label words = true
 moves_words ends label words = nat_lt 0 (length label)
+moves_words other label words = true
 
 abbrev pub is_move : Action → Bool
 is_move action = moves_words action.deed action.label action.words

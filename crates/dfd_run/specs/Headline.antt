@@ -9,7 +9,7 @@ use Rattle.deque_machine.specs.Play.{Ending, finished, stopped, arena_full, Fill
 use Rattle.deque_machine.specs.Runs.{Pair, Reaches}
 use Rattle.lawful_books.specs.Books.{IsPrefix, periods_ahead, bound}
 use Rattle.lawful_books.specs.Lists.{total}
-use Rattle.par_ownership.specs.Ownership.{Ownership}
+use Rattle.par_ownership.specs.Accepted.{IsAccepted}
 use Rattle.par_tree.specs.Tree.{Program}
 use Rattle.run_report.specs.Shown.{Shown}
 use Rattle.run_report.specs.Texts.{report_text, summary_text}
@@ -35,7 +35,7 @@ pub record HoldsAt (command : Command) (p : Program) (m : Moment) : Type 0 where
 
 -- So it is at each moment of each play: whatever events came up to there, and whatever comes then.
 abbrev pub MomentsAreBounded : Type 0
-MomentsAreBounded = (command : Command) (p : Program) → HasRanges command → Ownership p
+MomentsAreBounded = (command : Command) (p : Program) → HasRanges command → IsAccepted p
     → (run : List Pair) (last : Moment) (ending : Ending) → IsPlay command p run last ending
     → (front rest : List Pair) → run ≡ front ++ rest
     → (m : Moment) × Reaches (play_machine command p) opening front m × HoldsAt command p m
@@ -50,7 +50,7 @@ pub record IsBoundedReport (command : Command) (p : Program) (text : List ℕ) (
 
 -- a play that came to the end of its root is reported so, with a status by the fault of the depth-first run
 abbrev pub ReportsAreBounded : Type 0
-ReportsAreBounded = (command : Command) (p : Program) → HasRanges command → Ownership p
+ReportsAreBounded = (command : Command) (p : Program) → HasRanges command → IsAccepted p
     → (status : Status) (text : List ℕ) → PlayMakes command p status text → (status ≡ Done) ⊎ (status ≡ UserFault)
     → (status ≡ finish_status (finish_of_run (play_setting command p))) × ∥ ((shown : Shown) × IsBoundedReport command p text shown) ∥₁
 
@@ -61,14 +61,14 @@ pub record IsBoundedSummary (command : Command) (p : Program) (text : List ℕ) 
 
 -- and a play of `make` that came to the end of its root is summed up so
 abbrev pub SummariesAreBounded : Type 0
-SummariesAreBounded = (command : Command) (bytes : List ℕ) (p : Program) → HasRanges command → Ownership p
+SummariesAreBounded = (command : Command) (bytes : List ℕ) (p : Program) → HasRanges command → IsAccepted p
     → (status : Status) (text : List ℕ) → MakeMakes command bytes p status text → (status ≡ Done) ⊎ (status ≡ UserFault)
     → ∥ ((shown : Summary) × IsBoundedSummary command p text shown) ∥₁
 
 -- An arena with room for the peak and two quotas for each of so many periods stops a play only at an Alloc or a Fork that does not fit it,
 -- and behind which more periods would be ahead.
 abbrev pub ArenasStopLate : Type 0
-ArenasStopLate = (command : Command) (p : Program) → HasRanges command → Ownership p
+ArenasStopLate = (command : Command) (p : Program) → HasRanges command → IsAccepted p
     → (run : List Pair) (last : Moment) (live : ℤ) (asked : ℕ) → IsPlay command p run last (stopped (arena_full live asked))
     → (periods : ℕ) → bound command.k (play_list command p) periods ≤ℤ pos command.arena
     → (worker place : ℕ) × Fills (play_machine command p) (play_terms command).limits last place
@@ -77,7 +77,7 @@ ArenasStopLate = (command : Command) (p : Program) → HasRanges command → Own
 
 -- With room for all words that the depth-first list takes, as many actions as it has, and more deques than it has Forks, a play finishes.
 abbrev pub PlaysWithRoomFinish : Type 0
-PlaysWithRoomFinish = (command : Command) (p : Program) → HasRanges command → Ownership p
+PlaysWithRoomFinish = (command : Command) (p : Program) → HasRanges command → IsAccepted p
     → (run : List Pair) (last : Moment) (ending : Ending) → IsPlay command p run last ending
     → total words_taken (play_list command p) ≤ command.arena → length (play_list command p) ≤ command.steps
     → total one_if_fork (play_list command p) < command.deques → ending ≡ finished
