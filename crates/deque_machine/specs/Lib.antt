@@ -5,3 +5,4 @@ pub mod Runs
 pub mod Play
 pub mod Terms
 pub mod Laws
+pub mod Completeness
