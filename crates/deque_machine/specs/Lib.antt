@@ -6,3 +6,4 @@ pub mod Play
 pub mod Terms
 pub mod Laws
 pub mod Completeness
+pub mod Fronts
