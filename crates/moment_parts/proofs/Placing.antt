@@ -55,7 +55,7 @@ module _ (s : Setting) (run : IsDepthFirst s.quota s.list) (m : Moment) (lawful 
 
   once : ¬ Among o.top.label (threads_in (map deque_shown o.left) ++ (map label_of o.under ++ threads_in (map deque_shown o.right)))
   once = stands_once (threads_in (map deque_shown o.left)) o.top.label (map label_of o.under ++ threads_in (map deque_shown o.right))
-      (subst Rattle.deque_machine.specs.LawfulOrder.Rises labels_are lawful.order.rises)
+      (subst Rattle.deque_machine.specs.Moments.Rises labels_are lawful.order.rises)
 
   -- whoever else is in the parts has another label
   pub under_differs : (x : Thread) → Among x o.under → x.label ≢ o.top.label
