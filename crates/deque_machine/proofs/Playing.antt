@@ -17,7 +17,8 @@ use Rattle.deque_machine.specs.Moments.{Deque, Moment, opening, done_at, live_at
 use Rattle.deque_machine.specs.Machine.{Setting, Event, steals, does, suspends, gives_up, Owns, books_with, books_closed, new_book, May, steals_beside, takes_over, forks_child, joins_child, allocates_within, allocates_above, releases_words, meets_fault, runs_dummy, ends_above_parent, ends_and_wakes, ends_and_leaves, suspends_top, gives_deque_up}
 use Rattle.deque_machine.specs.LawfulOrder.{IsLawful}
 use Rattle.deque_machine.specs.Runs.{Pair, Reaches, place_of}
-use Rattle.deque_machine.specs.Play.{IsForced, NoneFree, words_taken, taken_by, one_if_fork, Limits, Stop, arena_full, steps_spent, deques_full, Ending, finished, stopped, IsFirst, CanMove, Stays, Wants, a_theft, a_give_up, a_wait, an_action, Fills, Meets, no_deque, no_words, no_steps, Turn, words_drawn, Plays, is_over, is_stopped, goes_on, PlaysAreRuns, PlaysEnd, PlaysFinish, SomebodysTurn, WantedMayCome}
+use Rattle.deque_machine.specs.Play.{IsForced, NoneFree, words_taken, taken_by, one_if_fork, Limits, Stop, arena_full, steps_spent, deques_full, Ending, finished, stopped, IsFirst, CanMove, Stays, Wants, a_theft, a_give_up, a_wait, an_action, Fills, Meets, no_deque, no_words, no_steps, Turn, words_drawn, Plays, is_over, is_stopped, goes_on}
+use Rattle.deque_machine.specs.Laws.{PlaysAreRuns, PlaysEnd, PlaysFinish, SomebodysTurn, WantedMayCome}
 use Rattle.deque_machine.specs.Fronts.{PlaysOn, stays_here, takes_turn, FrontsGoOn}
 use Rattle.deque_machine.specs.Completeness.{CoversNext, ArenasWithRoomLast, ArenasWithTheBoundLast, ActionsSuffice, DequesSuffice}
 use Rattle.deque_machine.proofs.Kept.{opening_is_lawful}

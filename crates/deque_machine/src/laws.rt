@@ -1,7 +1,6 @@
 ghost use Rattle.deque_machine.specs.Completeness.{ArenasWithRoomLast, ArenasWithTheBoundLast, ActionsSuffice, DequesSuffice};
 ghost use Rattle.deque_machine.specs.Fronts.{FrontsGoOn};
-ghost use Rattle.deque_machine.specs.Play.{RunsEnd, RunsAreShort, ArenaNeverFills, DequesAtMost, SomebodysTurn, WantedMayCome, PlaysAreRuns, PlaysEnd, PlaysFinish};
-ghost use Rattle.deque_machine.specs.Runs.{InEachSetting, OpeningIsLawful, EventsKeepLawful, ReachedIsLawful, BoundAlways, AheadIsMarked, MovesAreLive, MarkedBound, MarksNeverFall, ArenaRefuses, EndedDidAll};
+ghost use Rattle.deque_machine.specs.Laws.{InEachSetting, OpeningIsLawful, EventsKeepLawful, ReachedIsLawful, BoundAlways, AheadIsMarked, MovesAreLive, MarkedBound, MarksNeverFall, ArenaRefuses, EndedDidAll, RunsEnd, RunsAreShort, ArenaNeverFills, DequesAtMost, SomebodysTurn, WantedMayCome, PlaysAreRuns, PlaysEnd, PlaysFinish};
 
 /// The opening moment has lawful order, lawful books and begun ahead.
 pub fn opening_is_lawful()

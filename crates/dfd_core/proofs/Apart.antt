@@ -13,7 +13,8 @@ use Rattle.deque_list.specs.declared.deque_id.DequeId.{DequeId}
 use Rattle.deque_list.specs.Deques.{Deque}
 use Rattle.deque_list.specs.Ids.{deque_id}
 use Rattle.depth_first_list.specs.Actions.{Action}
-use Rattle.depth_first_list.specs.Facts.{label_at, index_at, HasDone, NoIndexIsSkipped}
+use Rattle.depth_first_list.specs.Facts.{label_at, index_at, HasDone}
+use Rattle.depth_first_list.specs.Laws.{NoIndexIsSkipped}
 use Rattle.depth_first_list.proofs.ThreadLaws.{root_ends, no_index_is_skipped}
 use Rattle.depth_first_run.specs.States.{Setting}
 use Rattle.depth_first_run.specs.Run.{list_of}

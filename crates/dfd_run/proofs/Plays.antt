@@ -16,6 +16,7 @@ use Rattle.dfd_core.specs.declared.run_end.RunEnd.TheVariants.{Finished, Stopped
 use Rattle.node_table.specs.Programs.{IsTableOf}
 use Rattle.node_table.specs.Table.{Table}
 use Rattle.par_ownership.specs.Ownership.{Ownership}
+use Rattle.par_ownership.proofs.Law.{tells_program}
 use Rattle.par_text.specs.Judging.{IsText}
 use Rattle.par_tree.specs.Tree.{Program}
 use Rattle.run_report.specs.Texts.{report_text, summary_text}
@@ -57,17 +58,17 @@ stopped_makes tells command p after OutOfMemory status text plays told = absurd 
 -- what is made of the program of the bytes is made of the bytes
 pub source_of_play : (tells : Setting → List Pair → Moment → List ℕ → Type 0) (command : Command) (bytes : List ℕ) (p : Program) (status : Status) (text : List ℕ) → IsText bytes p → Ownership p →
     TellsPlay tells command p status text → SourceGives (TellsPlay tells command) bytes status text
-source_of_play tells command bytes p Done text is own makes = (p, (is, (own, makes)))
-source_of_play tells command bytes p Usage text is own makes = (p, (is, (own, makes)))
-source_of_play tells command bytes p ReadFault text is own makes = (p, (is, (own, makes)))
-source_of_play tells command bytes p WriteFault text is own makes = (p, (is, (own, makes)))
+source_of_play tells command bytes p Done text is own makes = (p, (is, ((tells_program p).complete own, makes)))
+source_of_play tells command bytes p Usage text is own makes = (p, (is, ((tells_program p).complete own, makes)))
+source_of_play tells command bytes p ReadFault text is own makes = (p, (is, ((tells_program p).complete own, makes)))
+source_of_play tells command bytes p WriteFault text is own makes = (p, (is, ((tells_program p).complete own, makes)))
 source_of_play tells command bytes p Syntax text is own makes = absurd (not_of_a_play tells command p Syntax text (λ no. no) makes)
 source_of_play tells command bytes p Check text is own makes = absurd (not_of_a_play tells command p Check text (λ no. no) makes)
-source_of_play tells command bytes p UserFault text is own makes = (p, (is, (own, makes)))
-source_of_play tells command bytes p LimitSpent text is own makes = (p, (is, (own, makes)))
-source_of_play tells command bytes p ArenaStatus text is own makes = (p, (is, (own, makes)))
-source_of_play tells command bytes p DequesStatus text is own makes = (p, (is, (own, makes)))
-source_of_play tells command bytes p NoMemory text is own makes = (p, (is, (own, makes)))
+source_of_play tells command bytes p UserFault text is own makes = (p, (is, ((tells_program p).complete own, makes)))
+source_of_play tells command bytes p LimitSpent text is own makes = (p, (is, ((tells_program p).complete own, makes)))
+source_of_play tells command bytes p ArenaStatus text is own makes = (p, (is, ((tells_program p).complete own, makes)))
+source_of_play tells command bytes p DequesStatus text is own makes = (p, (is, ((tells_program p).complete own, makes)))
+source_of_play tells command bytes p NoMemory text is own makes = (p, (is, ((tells_program p).complete own, makes)))
 
 -- the report of equal parts
 pub same_report : (lines lines' : List ℤ) (finish finish' : Finish) (periods periods' ahead ahead' high : ℕ) → lines ≡ lines' →

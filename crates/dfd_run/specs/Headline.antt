@@ -4,15 +4,14 @@ use Rattle.command_line.specs.declared.command.Command.{Command}
 use Rattle.depth_first_list.specs.Actions.{Action}
 use Rattle.depth_first_list.specs.Facts.{words_at}
 use Rattle.depth_first_run.specs.Run.{whole, lines_of, list_of, finish_of_run}
-use Rattle.deque_machine.specs.LawfulOrder.{Rises}
 use Rattle.deque_machine.specs.Machine.{does, May}
-use Rattle.deque_machine.specs.Moments.{Moment, opening, done_at, live_at, threads_in}
+use Rattle.deque_machine.specs.Moments.{Moment, opening, done_at, live_at, threads_in, Rises}
 use Rattle.deque_machine.specs.Completeness.{CoversNext}
 use Rattle.deque_machine.specs.Play.{Ending, finished, stopped, arena_full, steps_spent, deques_full, Fills, Turn, words_taken, one_if_fork}
 use Rattle.deque_machine.specs.Runs.{Pair, Reaches}
 use Rattle.lawful_books.specs.Books.{IsPrefix, periods_ahead, periods_marked, bound}
 use Rattle.lawful_books.specs.Lists.{total}
-use Rattle.par_ownership.specs.Ownership.{Ownership}
+use Rattle.par_ownership.specs.Accepted.{IsAccepted}
 use Rattle.par_tree.specs.Tree.{Program}
 use Rattle.run_report.specs.Shown.{Shown}
 use Rattle.run_report.specs.Texts.{report_text, summary_text}
@@ -46,7 +45,7 @@ pub record AreBounded (command : Command) (p : Program) (front : List Pair) (las
       → periods_ahead n m.books ≤ periods_marked last.books
 
 abbrev pub MomentsAreBounded : Type 0
-MomentsAreBounded = (command : Command) (p : Program) → HasRanges command → Ownership p
+MomentsAreBounded = (command : Command) (p : Program) → HasRanges command → IsAccepted p
     → (run : List Pair) (last : Moment) (ending : Ending) → IsPlay command p run last ending
     → (front rest : List Pair) → run ≡ front ++ rest → AreBounded command p front last
 
@@ -60,7 +59,7 @@ pub record IsBoundedReport (command : Command) (p : Program) (text : List ℕ) (
 
 -- a play that came to the end of its root is reported so, with a status by the fault of the depth-first run
 abbrev pub ReportsAreBounded : Type 0
-ReportsAreBounded = (command : Command) (p : Program) → HasRanges command → Ownership p
+ReportsAreBounded = (command : Command) (p : Program) → HasRanges command → IsAccepted p
     → (status : Status) (text : List ℕ) → PlayMakes command p status text → (status ≡ Done) ⊎ (status ≡ UserFault)
     → (status ≡ finish_status (finish_of_run (play_setting command p))) × ∥ ((shown : Shown) × IsBoundedReport command p text shown) ∥₁
 
@@ -71,7 +70,7 @@ pub record IsBoundedSummary (command : Command) (p : Program) (text : List ℕ) 
 
 -- and a play of `make` that came to the end of its root is summed up so
 abbrev pub SummariesAreBounded : Type 0
-SummariesAreBounded = (command : Command) (bytes : List ℕ) (p : Program) → HasRanges command → Ownership p
+SummariesAreBounded = (command : Command) (bytes : List ℕ) (p : Program) → HasRanges command → IsAccepted p
     → (status : Status) (text : List ℕ) → MakeMakes command bytes p status text → (status ≡ Done) ⊎ (status ≡ UserFault)
     → ∥ ((shown : Summary) × IsBoundedSummary command p text shown) ∥₁
 
@@ -91,13 +90,13 @@ pub record StopsLate (command : Command) (p : Program) (last : Moment) (live : �
 
 -- So an arena with room for the peak and two quotas for each of so many periods stops a play.
 abbrev pub ArenasStopLate : Type 0
-ArenasStopLate = (command : Command) (p : Program) → HasRanges command → Ownership p
+ArenasStopLate = (command : Command) (p : Program) → HasRanges command → IsAccepted p
     → (run : List Pair) (last : Moment) (live : ℤ) (asked : ℕ) → IsPlay command p run last (stopped (arena_full live asked))
     → (periods : ℕ) → bound command.k (play_list command p) periods ≤ℤ pos command.arena → StopsLate command p last live asked periods
 
 -- a fact of each play of each command, by its last moment and its ending
 abbrev pub OfEachPlay : (Command → Program → Moment → Ending → Type 0) → Type 0
-OfEachPlay Fact = (command : Command) (p : Program) → HasRanges command → Ownership p
+OfEachPlay Fact = (command : Command) (p : Program) → HasRanges command → IsAccepted p
     → (run : List Pair) (last : Moment) (ending : Ending) → IsPlay command p run last ending → Fact command p last ending
 
 -- The arena stops no play where it has room for all words that the depth-first list takes, or where at the last moment it has room for the
@@ -128,14 +127,14 @@ DequesSuffice = OfEachPlay LastsInDeques
 
 -- With room for all words and all actions, a play ends well, or with the fault of the program, or at the limit of deques.
 abbrev pub StatusesWithRoom : Type 0
-StatusesWithRoom = (command : Command) (p : Program) → HasRanges command → Ownership p
+StatusesWithRoom = (command : Command) (p : Program) → HasRanges command → IsAccepted p
     → (status : Status) (text : List ℕ) → PlayMakes command p status text
     → total words_taken (play_list command p) ≤ command.arena → length (play_list command p) ≤ command.steps
     → (status ≡ Done) ⊎ ((status ≡ UserFault) ⊎ (status ≡ DequesFull))
 
 -- With room for all words that the depth-first list takes, as many actions as it has, and more deques than it has Forks, a play finishes.
 abbrev pub PlaysWithRoomFinish : Type 0
-PlaysWithRoomFinish = (command : Command) (p : Program) → HasRanges command → Ownership p
+PlaysWithRoomFinish = (command : Command) (p : Program) → HasRanges command → IsAccepted p
     → (run : List Pair) (last : Moment) (ending : Ending) → IsPlay command p run last ending
     → total words_taken (play_list command p) ≤ command.arena → length (play_list command p) ≤ command.steps
     → total one_if_fork (play_list command p) < command.deques → ending ≡ finished

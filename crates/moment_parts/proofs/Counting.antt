@@ -2,7 +2,8 @@
 use Rattle.std.proofs.Common.{◌≡◌, ℕ, zero, suc, ◌≤◌, ◌<◌, List, [], ◌∷◌, length, inl, inr, refl, ap, ◌∙◌, arith}
 use Rattle.std.proofs.lemmas.Bool.{cases_order}
 use Rattle.depth_first_list.specs.Actions.{Action}
-use Rattle.depth_first_list.specs.Facts.{label_at, index_at, HasDone, IsNext, NoIndexIsSkipped}
+use Rattle.depth_first_list.specs.Facts.{label_at, index_at, HasDone, IsNext}
+use Rattle.depth_first_list.specs.Laws.{NoIndexIsSkipped}
 use Rattle.depth_first_list.specs.Runs.{IsDepthFirst}
 use Rattle.depth_first_list.proofs.LiveLaws.{next_is_of_its_index}
 use Rattle.depth_first_list.proofs.OrderLaw.{live_has_next}

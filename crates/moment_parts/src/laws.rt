@@ -1,5 +1,5 @@
 ghost use Rattle.std.specs.Prelude.{ℕ};
-ghost use Rattle.deque_machine.specs.Runs.{InEachSetting};
+ghost use Rattle.deque_machine.specs.Laws.{InEachSetting};
 ghost use Rattle.moment_parts.specs.Laws.{RootIsTheOpening, ThreadsCountWithin, ActionsAreEvents, BirthsComeParentsFirst, BirthsMayFollow, GiveUpsAreEvents, HandingOverIsNoEvent, TheftsAreEvents, WaitsAreEvents};
 
 /// A root that has done nothing, alone in a deque without an owner, is the opening moment.
