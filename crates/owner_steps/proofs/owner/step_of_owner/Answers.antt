@@ -22,8 +22,7 @@ returns-in_default-clause-sound c =
 
 pub returns-in_default-clause-steps : goal.returns-in_default-clause-steps
 returns-in_default-clause-steps c setting of run m word at =
-    let s : Scheduler = c.args.scheduler.now in
-    (
+    let s : Scheduler = c.args.scheduler.now in (
       reordered_stands setting (terms_of s c.args.limit) (held s) (held c.take_top.new.scheduler) run m c.in_default.ensures.same at,
       seated_has_left c.requires.sound.quota setting of (terms_of s c.args.limit) (held s) run m at c.args.worker word c.requires.owner,
     )
@@ -124,8 +123,7 @@ returns-in-Err-clause-steps c setting of run m word at =
     let takes = c.in-Ok.ensures.takes in
     let now : Scheduler = c.take_top.new.scheduler in
     let at_taken = taken_at (code_shown c.args.code.now) (quota_words c.args.k) c.args.limit c.args.scheduler.now now c.args.worker c.in-Ok.deque c.in-Ok.top takes setting run m at in
-    let at_now = still_stands now takes.stands c.in-Ok.top c.advance.new.top c.advance.ensures.still setting (terms_of now c.args.limit) run m at_taken in
-    (
+    let at_now = still_stands now takes.stands c.in-Ok.top c.advance.new.top c.advance.ensures.still setting (terms_of now c.args.limit) run m at_taken in (
       subst (λ h. StandsAt setting (terms_of c.args.scheduler.now c.args.limit) h run m) (sym (c.put_back.ensures.held takes.items takes.stands))
           (subst (λ x. StandsAt setting x (held_under now takes.stands c.advance.new.top) run m) (takes.terms c.args.limit) at_now),
       seated_has_left c.requires.sound.quota setting of (terms_of c.args.scheduler.now c.args.limit) (held c.args.scheduler.now) run m at c.args.worker word c.requires.owner,
