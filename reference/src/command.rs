@@ -11,7 +11,7 @@ use crate::parse::parse;
 use crate::resolve::resolve;
 use crate::stealing::{steal, StealReport};
 use crate::thread::Code;
-use crate::trace::trace;
+use crate::trace::{bound, trace};
 use crate::tree::Program;
 use crate::words::{read_words, Command};
 use crate::world::Finish;
@@ -81,9 +81,10 @@ fn run(command: &Command, code: &Code) -> Answer {
             stolen.map_or_else(|stop| stop_answer(stop, rules), steal_answer)
         }
         "run" => play_answer(in_threads::run(code, rules, seed), rules),
-        "trace" => {
+        "trace" | "bound" => {
             let mut events = String::new();
-            let Answer { status, text } = play_answer(trace(code, rules, &mut choices, &mut events), rules);
+            let run = if command.name == "trace" { trace } else { bound };
+            let Answer { status, text } = play_answer(run(code, rules, &mut choices, &mut events), rules);
             answer(status, events + &text)
         }
         _ => play_answer(play(code, rules, &mut choices), rules),

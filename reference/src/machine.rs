@@ -79,7 +79,8 @@ pub struct Machine<'a> {
     /// The thread that waits for a child, by the child.
     waiting: HashMap<usize, usize>,
     periods: u64,
-    ahead: u64,
+    /// How many periods had a deque to their left as they began: these are marked.
+    pub ahead: u64,
 }
 
 /// Runs a program by the words of choice, and gives its report or the stop.

@@ -1,6 +1,7 @@
 //! A second implementation of the language and of its scheduler, to compare the program with. It is written for being
 //! read: where it could be faster or shorter of words, it is not.
 
+mod ahead;
 mod author;
 mod canonical;
 mod cases;

@@ -26,29 +26,58 @@ const MANY_ACTIONS: &str = "fn main() { let i = 0; while i < 999999 { alloc a = 
 const HALVES: &str = include_str!("../../examples/halves.dfd");
 const USAGE: &str = "usage: dfd play|run|peak|check|make|loops|expand [options]/";
 const LARGE_TEXT: &str = "--/end done/periods 7/ahead 2/high 48/";
-/// Each event of the run of `LARGE` by one worker with a quota of 16: worker, period, deque, thread, action, words, deques.
-const LARGE_EVENTS: &str = "event worker period deque thread action words | deque:owner:threads from the top ../\
-    1 0 1 0 [] steal:0 0 | 0:0:[]/\
-    2 0 1 0 [] fork:[1] 16 | 0:0:[1][]/\
-    3 0 1 0 [1] give-up 16 | 0:-:[1][]/\
-    4 0 2 2 [] steal:0 16 | 0:-:[1] 2:0:[]/\
-    5 0 2 2 [] dummy 16 | 0:-:[1] 2:-:[]/\
-    6 0 3 0 [1] steal:0 16 | 0:0:[1] 2:-:[]/\
-    7 0 3 0 [1] fork:[1,1] 32 | 0:0:[1,1][1] 2:-:[]/\
-    8 0 3 0 [1,1] dummy 32 | 0:-:[1,1][1] 2:-:[]/\
-    9 0 4 4 [1] steal:0 32 | 0:-:[1,1] 4:0:[1] 2:-:[]/\
-    10 0 4 4 [1] dummy 32 | 0:-:[1,1] 4:-:[1] 2:-:[]/\
-    11 0 5 0 [1,1] steal:0 32 | 0:0:[1,1] 4:-:[1] 2:-:[]/\
-    12 0 5 0 [1,1] end 16 | 4:-:[1] 2:-:[]/\
-    13 0 6 4 [1] steal:4 16 | 4:0:[1] 2:-:[]/\
-    14 0 6 4 [1] join:[1,1] 16 | 4:0:[1] 2:-:[]/\
-    15 0 6 4 [1] end 0 | 2:-:[]/\
-    16 0 7 2 [] steal:2 0 | 2:0:[]/\
-    17 0 7 2 [] join:[1] 0 | 2:0:[]/\
-    18 0 7 2 [] alloc:48 48 | 2:0:[]/\
-    19 0 7 2 [] release 0 | 2:0:[]/\
-    20 0 7 2 [] end 0 |/\
+/// Each event of the run of `LARGE` by one worker with a quota of 16: worker, period, deque, thread, action, words, prefix, periods ahead,
+/// deques.
+const LARGE_EVENTS: &str =
+    "event worker period deque thread action words prefix ahead-now | deque:owner:threads from the top ../\
+    1 0 1 0 [] steal:0 0 0 0 | 0:0:[]/\
+    2 0 1 0 [] fork:[1] 16 1 0 | 0:0:[1][]/\
+    3 0 1 0 [1] give-up 16 1 0 | 0:-:[1][]/\
+    4 0 2 2 [] steal:0 16 1 0 | 0:-:[1] 2:0:[]/\
+    5 0 2 2 [] dummy 16 1 1 | 0:-:[1] 2:-:[]/\
+    6 0 3 0 [1] steal:0 16 1 1 | 0:0:[1] 2:-:[]/\
+    7 0 3 0 [1] fork:[1,1] 32 2 1 | 0:0:[1,1][1] 2:-:[]/\
+    8 0 3 0 [1,1] dummy 32 3 1 | 0:-:[1,1][1] 2:-:[]/\
+    9 0 4 4 [1] steal:0 32 3 1 | 0:-:[1,1] 4:0:[1] 2:-:[]/\
+    10 0 4 4 [1] dummy 32 3 2 | 0:-:[1,1] 4:-:[1] 2:-:[]/\
+    11 0 5 0 [1,1] steal:0 32 3 2 | 0:0:[1,1] 4:-:[1] 2:-:[]/\
+    12 0 5 0 [1,1] end 16 5 1 | 4:-:[1] 2:-:[]/\
+    13 0 6 4 [1] steal:4 16 5 1 | 4:0:[1] 2:-:[]/\
+    14 0 6 4 [1] join:[1,1] 16 6 1 | 4:0:[1] 2:-:[]/\
+    15 0 6 4 [1] end 0 8 0 | 2:-:[]/\
+    16 0 7 2 [] steal:2 0 8 0 | 2:0:[]/\
+    17 0 7 2 [] join:[1] 0 9 0 | 2:0:[]/\
+    18 0 7 2 [] alloc:48 48 10 0 | 2:0:[]/\
+    19 0 7 2 [] release 0 11 0 | 2:0:[]/\
+    20 0 7 2 [] end 0 12 0 |/\
     --/end done/periods 7/ahead 2/high 48/";
+/// The same by three workers and seed 8.
+const LARGE_BY_THREE: &str =
+    "event worker period deque thread action words prefix ahead-now | deque:owner:threads from the top ../\
+    1 1 1 0 [] steal:0 0 0 0 | 0:1:[]/\
+    2 1 1 0 [] fork:[1] 16 1 0 | 0:1:[1][]/\
+    3 0 2 2 [] steal:0 16 1 0 | 0:1:[1] 2:0:[]/\
+    4 1 1 0 [1] give-up 16 1 0 | 0:-:[1] 2:0:[]/\
+    5 2 3 0 [1] steal:0 16 1 0 | 0:2:[1] 2:0:[]/\
+    6 2 3 0 [1] fork:[1,1] 32 2 0 | 0:2:[1,1][1] 2:0:[]/\
+    7 0 2 2 [] dummy 32 2 1 | 0:2:[1,1][1] 2:-:[]/\
+    8 0 4 4 [1] steal:0 32 2 1 | 0:2:[1,1] 4:0:[1] 2:-:[]/\
+    9 0 4 4 [1] dummy 32 2 2 | 0:2:[1,1] 4:-:[1] 2:-:[]/\
+    10 1 5 2 [] steal:2 32 2 2 | 0:2:[1,1] 4:-:[1] 2:1:[]/\
+    11 2 3 0 [1,1] dummy 32 3 2 | 0:-:[1,1] 4:-:[1] 2:1:[]/\
+    12 1 5 2 [] suspend 32 3 2 | 0:-:[1,1] 4:-:[1]/\
+    13 0 6 0 [1,1] steal:0 32 3 2 | 0:0:[1,1] 4:-:[1]/\
+    14 2 7 4 [1] steal:4 32 3 2 | 0:0:[1,1] 4:2:[1]/\
+    15 0 6 0 [1,1] end 16 5 1 | 4:2:[1]/\
+    16 2 7 4 [1] join:[1,1] 16 6 1 | 4:2:[1]/\
+    17 2 7 4 [1] end 0 8 0 | 4:2:[]/\
+    18 2 7 4 [] join:[1] 0 9 0 | 4:2:[]/\
+    19 2 7 4 [] alloc:48 48 10 0 | 4:2:[]/\
+    20 2 7 4 [] release 0 11 0 | 4:2:[]/\
+    21 2 7 4 [] end 0 12 0 |/\
+    --/end done/periods 7/ahead 4/high 48/";
+const ONE_PIECE_BOUND: &str = "event words prefix ahead-now bound/1 0 0 0 16/2 16 1 0 16/3 0 2 0 16/4 0 3 0 16/\
+    --/end done/periods 1/ahead 0/high 16/";
 
 const ROWS: &[Row] = &[
     Row("a small block", "play --k 64 --p 1", SMALL, 0, "7/--/end done/periods 1/ahead 0/high 32/"),
@@ -132,6 +161,8 @@ const ROWS: &[Row] = &[
         "--/end fault Divide line 1/actions 3/peak 16/",
     ),
     Row("each event of a tree of three dummies", "trace --k 16 --p 1", LARGE, 0, LARGE_EVENTS),
+    Row("each event by three workers", "trace --k 16 --p 3 --seed 8", LARGE, 0, LARGE_BY_THREE),
+    Row("the bound at each moment", "bound --k 16 --p 1", ONE_PIECE, 0, ONE_PIECE_BOUND),
     Row("lines in order, in threads", "run --p 1", THREE_LINES, 0, "1/2/3/--/end done/periods 1/ahead 0/high 16/"),
     Row("a made source", "make 1 --p 1", "", 0, "bytes 139/lines 2/total 0/actions 8/periods 1/ahead 0/high 32/"),
     Row("a size with a leading zero", "make --p=1 01", "", 0, "bytes 139/lines 2/total 0/actions 8/periods 1/ahead 0/high 32/"),

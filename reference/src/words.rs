@@ -36,13 +36,14 @@ const GROUPS: Rule = rule("groups", 1, 8_000, 1, 0);
 /// The options of the commands that run the machine.
 const OF_MACHINE: &[&str] = &["k", "p", "arena", "steps", "deques", "seed"];
 
-const COMMANDS: [(&str, &[&str]); 7] = [
+const COMMANDS: [(&str, &[&str]); 8] = [
     ("check", &[]),
     ("peak", &["k", "steps"]),
     ("play", OF_MACHINE),
     ("run", OF_MACHINE),
     ("make", OF_MACHINE),
     ("trace", OF_MACHINE),
+    ("bound", OF_MACHINE),
     ("steal", &["p", "steps", "seed"]),
 ];
 
