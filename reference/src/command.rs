@@ -9,6 +9,7 @@ use crate::made::made_source;
 use crate::ownership::check;
 use crate::parse::parse;
 use crate::resolve::resolve;
+use crate::span::{span, Span};
 use crate::stealing::{steal, StealReport};
 use crate::thread::Code;
 use crate::trace::{bound, trace};
@@ -76,6 +77,7 @@ fn run(command: &Command, code: &Code) -> Answer {
     let mut choices = Pcg::from_seed(seed);
     match command.name {
         "peak" => peak_answer(depth_first(code, rules.quota, rules.steps), rules),
+        "span" => span(code, rules.quota, rules.steps).map_or_else(|| stop_answer(Stop::StepsSpent, rules), span_answer),
         "steal" => {
             let stolen = steal(code, rules.workers, rules.steps, &mut choices);
             stolen.map_or_else(|stop| stop_answer(stop, rules), steal_answer)
@@ -116,6 +118,12 @@ fn peak_answer(report: Option<PeakReport>, rules: Rules) -> Answer {
         None => stop_answer(Stop::StepsSpent, rules),
         Some(it) => report_answer(&it.lines, it.finish, &[("actions", it.actions), ("peak", it.peak)]),
     }
+}
+
+/// The parallelism has one digit after the point.
+fn span_answer(it: Span) -> Answer {
+    let tenths = 10 * it.work / it.span;
+    answer(0, format!("work {}\nspan {}\nparallelism {}.{}\n", it.work, it.span, tenths / 10, tenths % 10))
 }
 
 fn steal_answer(it: StealReport) -> Answer {

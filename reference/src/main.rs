@@ -23,6 +23,7 @@ mod resolve;
 mod rows;
 mod selfcheck;
 mod smaller;
+mod span;
 mod stealing;
 mod thread;
 mod tiny;

@@ -162,6 +162,7 @@ const ROWS: &[Row] = &[
     ),
     Row("each event of a tree of three dummies", "trace --k 16 --p 1", LARGE, 0, LARGE_EVENTS),
     Row("each event by three workers", "trace --k 16 --p 3 --seed 8", LARGE, 0, LARGE_BY_THREE),
+    Row("work and span", "span", THREE_LINES, 0, "work 8/span 7/parallelism 1.1/"),
     Row("the bound at each moment", "bound --k 16 --p 1", ONE_PIECE, 0, ONE_PIECE_BOUND),
     Row("lines in order, in threads", "run --p 1", THREE_LINES, 0, "1/2/3/--/end done/periods 1/ahead 0/high 16/"),
     Row("a made source", "make 1 --p 1", "", 0, "bytes 139/lines 2/total 0/actions 8/periods 1/ahead 0/high 32/"),

@@ -60,6 +60,8 @@ pub struct Thread<'a> {
     open: Vec<Open<'a>>,
     is_faulted: bool,
     next: Option<Next<'a>>,
+    /// How many statements it has begun.
+    pub statements: u64,
 }
 
 /// What an item of a thread's output is, in depth-first order.
@@ -85,6 +87,7 @@ impl<'a> Thread<'a> {
             open: Vec::new(),
             is_faulted: false,
             next: None,
+            statements: 0,
         }
     }
 
@@ -153,6 +156,7 @@ impl<'a> Thread<'a> {
         items: &mut Vec<Item>,
     ) -> Result<Option<Next<'a>>, Met> {
         let line = statement.line;
+        self.statements += 1;
         match &statement.kind {
             Kind::Let(slot, value) | Kind::Assign(slot, value) => {
                 let number = self.value(value, line)?;
@@ -358,6 +362,7 @@ impl<'a> Thread<'a> {
             open: Vec::new(),
             is_faulted: false,
             next: None,
+            statements: 0,
         }
     }
 

@@ -36,7 +36,7 @@ const GROUPS: Rule = rule("groups", 1, 8_000, 1, 0);
 /// The options of the commands that run the machine.
 const OF_MACHINE: &[&str] = &["k", "p", "arena", "steps", "deques", "seed"];
 
-const COMMANDS: [(&str, &[&str]); 8] = [
+const COMMANDS: [(&str, &[&str]); 9] = [
     ("check", &[]),
     ("peak", &["k", "steps"]),
     ("play", OF_MACHINE),
@@ -44,6 +44,7 @@ const COMMANDS: [(&str, &[&str]); 8] = [
     ("make", OF_MACHINE),
     ("trace", OF_MACHINE),
     ("bound", OF_MACHINE),
+    ("span", &["k", "steps"]),
     ("steal", &["p", "steps", "seed"]),
 ];
 
