@@ -4,6 +4,7 @@ use crate::canonical::canonical_text;
 use crate::choices::Pcg;
 use crate::depth_first::{depth_first, PeakReport};
 use crate::in_threads;
+use crate::loops::expand;
 use crate::machine::{play, PlayReport, Rules, Stop};
 use crate::made::made_source;
 use crate::ownership::check;
@@ -12,6 +13,7 @@ use crate::resolve::resolve;
 use crate::span::{span, Span};
 use crate::stealing::{steal, StealReport};
 use crate::thread::Code;
+use crate::tokens::SyntaxRefusal;
 use crate::trace::{bound, trace};
 use crate::tree::Program;
 use crate::words::{read_words, Command};
@@ -57,14 +59,29 @@ pub fn make(command: &Command) -> Answer {
     }
 }
 
+fn syntax_answer(it: SyntaxRefusal) -> Answer {
+    answer(4, format!("syntax {} at {}\n", it.reason, it.at))
+}
+
 pub fn accepted(source: &[u8]) -> Result<Program<String>, Answer> {
-    let program = parse(source).map_err(|it| answer(4, format!("syntax {} at {}\n", it.reason, it.at)))?;
+    let program = parse(source).map_err(syntax_answer)?;
     check(&program).map_err(|it| answer(5, format!("check {} line {} name {}\n", it.rule, it.line, it.name)))?;
     Ok(program)
 }
 
-/// Serves a command that reads a source.
+/// Serves a command that reads a source. `loops` serves the expansion as `play` serves a source.
 pub fn serve(command: &Command, source: &[u8]) -> Answer {
+    if !matches!(command.name, "loops" | "expand") {
+        return serve_source(command, source);
+    }
+    match expand(source) {
+        Err(refusal) => syntax_answer(refusal),
+        Ok(text) if command.name == "expand" => answer(0, String::from_utf8_lossy(&text)),
+        Ok(text) => serve_source(command, &text),
+    }
+}
+
+fn serve_source(command: &Command, source: &[u8]) -> Answer {
     match accepted(source) {
         Err(refusal) => refusal,
         Ok(program) if command.name == "check" => answer(0, canonical_text(&program)),

@@ -13,6 +13,8 @@ mod edges;
 mod edits;
 mod evaluate;
 mod in_threads;
+mod looped;
+mod loops;
 mod machine;
 mod made;
 mod mentions;

@@ -76,8 +76,20 @@ const LARGE_BY_THREE: &str =
     20 2 7 4 [] release 0 11 0 | 4:2:[]/\
     21 2 7 4 [] end 0 12 0 |/\
     --/end done/periods 7/ahead 4/high 48/";
+/// A loop of three rounds: the halves are 1 and 2 numbers, and the second one is halved again.
+const THREE_ROUNDS: &str = "fn f(i) { print i; return i * i; } fn main() { let x = 7; par call x = f(2 into 5); print x; }";
+/// A loop over 40 numbers in parts of at most 16: 32 and 8 numbers, and the first of these 16 and 16.
+const THREE_PARTS: &str = "fn g(use v, k) { print len(v); return k; } \
+     fn main() { alloc b = 40; let x = 0; par call x = g(use b at 16, 5); print x; free b; }";
+const SUMS: &str = include_str!("../../examples/loops/sums.dfd");
+const SUMS_TEXT: &str = "1/2/3/4/70/32/32/32/4/12/--/end done/periods 1/ahead 0/high 144/";
 const ONE_PIECE_BOUND: &str = "event words prefix ahead-now bound/1 0 0 0 16/2 16 1 0 16/3 0 2 0 16/4 0 3 0 16/\
     --/end done/periods 1/ahead 0/high 16/";
+const NO_ROUND: &str = "0/--/end done/periods 1/ahead 0/high 0/";
+const FAULT_IN_ROUND: &str = "--/end fault Divide line 2/periods 1/ahead 0/high 16/";
+const WRITTEN_OUT: &str = "call x = __sum0((1), (2) - (1));// y/fn __sum0(lo, n) { let s = 0; if n == 1 { call s = f(lo); } \
+     else { if n > 1 { let h = n / 2; let t = 0; par { call s = __sum0(lo, h); } and { call t = __sum0(lo + h, n - h); } \
+     s = s + t; } } return s; }/";
 
 const ROWS: &[Row] = &[
     Row("a small block", "play --k 64 --p 1", SMALL, 0, "7/--/end done/periods 1/ahead 0/high 32/"),
@@ -164,6 +176,37 @@ const ROWS: &[Row] = &[
     Row("each event by three workers", "trace --k 16 --p 3 --seed 8", LARGE, 0, LARGE_BY_THREE),
     Row("work and span", "span", THREE_LINES, 0, "work 8/span 7/parallelism 1.1/"),
     Row("the bound at each moment", "bound --k 16 --p 1", ONE_PIECE, 0, ONE_PIECE_BOUND),
+    Row("the loops of the example", "loops --p 1", SUMS, 0, SUMS_TEXT),
+    Row("three rounds", "loops --p 1", THREE_ROUNDS, 0, "2/3/4/29/--/end done/periods 1/ahead 0/high 16/"),
+    Row("three parts", "loops --p 1 --k 64", THREE_PARTS, 0, "16/16/8/15/--/end done/periods 3/ahead 1/high 80/"),
+    Row("no round", "loops", "fn f(i) { } fn main() { let x = 7; par call x = f(2 into 2); print x; }", 0, NO_ROUND),
+    Row(
+        "a fault in a round",
+        "loops --p 1",
+        "fn f(i) {\n  return 1 / i;\n}\nfn main() {\n  let x = 0;\n  par call x = f(0 into 2);\n}\n",
+        6,
+        FAULT_IN_ROUND,
+    ),
+    Row("a loop that is written out", "expand", "par\ncall x = f(1 into\n2); y", 0, WRITTEN_OUT),
+    Row(
+        "no loop to write out",
+        "expand",
+        "par { call x = f(1 into 2); } # par call",
+        0,
+        "par { call x = f(1 into 2); } # par call",
+    ),
+    Row("no loop", "expand", "a par call x = f(1);", 4, "syntax BadLoop at 2/"),
+    Row("a part that is no multiple of 16", "expand", "par call x = f(use b at 24);", 4, "syntax BadLoop at 0/"),
+    Row("a bracket that another closes", "expand", "par call x = f((1] into 2);", 4, "syntax BadLoop at 0/"),
+    Row("the name of a helper", "expand", "__sum1 __sum00 __sum0 par call x = f(1 into 2);", 4, "syntax NameTaken at 15/"),
+    Row(
+        "a function that is not there",
+        "loops",
+        "fn main() { let x = 0; par call x = f(1 into 2); }",
+        5,
+        "check UnknownName line 2 name f/",
+    ),
+    Row("an option of another command", "expand --k 16", SUMS, 1, USAGE),
     Row("lines in order, in threads", "run --p 1", THREE_LINES, 0, "1/2/3/--/end done/periods 1/ahead 0/high 16/"),
     Row("a made source", "make 1 --p 1", "", 0, "bytes 139/lines 2/total 0/actions 8/periods 1/ahead 0/high 32/"),
     Row("a size with a leading zero", "make --p=1 01", "", 0, "bytes 139/lines 2/total 0/actions 8/periods 1/ahead 0/high 32/"),
