@@ -7,3 +7,5 @@ pub mod Ending
 pub mod Acting
 pub mod Moving
 pub mod Handing
+pub mod Births
+pub mod Counting
