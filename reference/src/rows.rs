@@ -5,6 +5,7 @@ use crate::choices::{Listed, Pcg};
 use crate::command::{accepted, answer_to, play_answer, Answer};
 use crate::machine::{play, Rules};
 use crate::resolve::resolve;
+use crate::trace::moment;
 
 /// A row: its name, the words, the source, the status, and the text, in which a slash marks the end of a line.
 struct Row(&'static str, &'static str, &'static str, i32, &'static str);
@@ -261,6 +262,16 @@ const DRAWN: &[Drawn] = &[
     ),
 ];
 
+/// A row of moments: the quota, the workers, those that move, one a digit, the source, and what there is then.
+struct Moved(u64, usize, &'static str, &'static str, &'static str);
+
+/// The answers are those of `prefix_laws`, whose numbers are proved, as the tests of the crates (`play_tests`) have them.
+const MOVED: &[Moved] = &[
+    Moved(16, 1, "0000000000", LARGE, "[1, 1] [1] [] prefix 3, ahead 2, live 32, margin 80"),
+    Moved(16, 1, "", LARGE, "[] prefix 0, ahead 0, live 0, margin 48"),
+    Moved(32, 2, "00101", TWO_BLOCKS, "[1] [] prefix 2, ahead 1, live 48, margin 48"),
+];
+
 /// The first outputs of the generator of state 42 and stream 54, as they are published with it.
 const PUBLISHED: [u32; 6] = [0xa15c_02b7, 0x7b47_f409, 0xba1d_3330, 0x83d2_f293, 0xbfa4_784b, 0xcbed_606e];
 
@@ -276,6 +287,9 @@ pub fn rows() -> u8 {
     }
     for row in DRAWN {
         tally.tell(row.0, row.6, &drawn(row));
+    }
+    for Moved(quota, workers, digits, source, due) in MOVED {
+        tally.tell(&format!("a moment after the moves {digits:?}"), due, &moved(source, *quota, *workers, digits));
     }
     let too_long = answered("check", &[b' '; 1_048_577]);
     tally.tell("a source that is too long", "syntax TooLong at 1048576\n", &too_long.text);
@@ -307,6 +321,15 @@ fn halves_in_threads() -> String {
     let number = |name: &str| text.lines().find_map(|line| line.strip_prefix(name)?.parse::<u64>().ok()).unwrap_or(0);
     let is_within = (65_552..=65_632 + 8_192 * number("ahead ")).contains(&number("high "));
     format!("{}, {} the bound", text.lines().next().unwrap_or(""), if is_within { "within" } else { "beyond" })
+}
+
+fn moved(source: &str, quota: u64, workers: usize, digits: &str) -> String {
+    let rules = Rules { quota, workers, arena: 1_024, steps: 1_000, deques: 64 };
+    let moves: Vec<usize> = digits.bytes().map(|digit| usize::from(digit - b'0')).collect();
+    match accepted(source.as_bytes()) {
+        Err(refusal) => refusal.text,
+        Ok(program) => moment(&resolve(&program), rules, &moves).unwrap_or_else(|stop| format!("{stop:?}")),
+    }
 }
 
 fn drawn(row: &Drawn) -> String {

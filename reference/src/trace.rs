@@ -1,7 +1,7 @@
 //! Each event of a run, with what is done of the depth-first list after it: once with the deques, and once with the bound on the words in use.
 
 use crate::ahead::{Ahead, Places};
-use crate::choices::Choices;
+use crate::choices::{Choices, Listed};
 use crate::evaluate::words_of;
 use crate::machine::{Deque, Event, Machine, PlayReport, Rules, Stop, What};
 use crate::thread::{Code, Next};
@@ -54,6 +54,27 @@ pub fn each_event(
         show(number, &event, &machine, &ahead);
     }
     Ok(machine.report())
+}
+
+/// What there is after these workers have moved, one after another; one that cannot move does not, and an idle one steals from the first deque that
+/// has a thread for it: the labels of the threads in the deques, the prefix, the periods ahead, the words in use, and how many are left below the
+/// bound.
+pub fn moment(code: &Code, rules: Rules, workers: &[usize]) -> Result<String, Stop> {
+    let mut ahead = Ahead::new(Places::new(code, rules.quota, rules.steps).ok_or(Stop::StepsSpent)?);
+    let mut machine = Machine::new(code, rules);
+    let mut labels = Labels { forks: vec![0], labels: vec![Vec::new()] };
+    for worker in workers {
+        if machine.can_move(*worker) {
+            let event = machine.step(*worker, &mut Listed(&[]))?;
+            labels.what(&event);
+            ahead.note(&event);
+        }
+    }
+    let threads = machine.deques.iter().flat_map(|deque| deque.threads.iter().rev());
+    let shown: String = threads.map(|thread| format!("{:?} ", labels.labels[*thread])).collect();
+    let live = machine.world.live;
+    let margin = ahead.bound(rules.quota) - live;
+    Ok(format!("{shown}prefix {}, ahead {}, live {live}, margin {margin}", ahead.prefix, ahead.periods))
 }
 
 /// The labels of threads, and how often each has forked.
