@@ -31,7 +31,7 @@ def tokens_of(text):
 
 
 def in_brackets(words, start):
-    """The pieces between the bracket at `start` and its end, cut at the commas that stand in no other bracket."""
+    """The pieces between the bracket at `start` and its end, cut at the commas outside of other brackets."""
     pieces, depth = [[]], 0
     for word in words[start:]:
         depth += {"(": 1, "[": 1, ")": -1, "]": -1}.get(word, 0)
@@ -97,7 +97,7 @@ class Scopes:
 
 
 def kind_at(tokens, line, name):
-    """The kind of a name and the line of its declaration, at the end of a line; None where it is not visible there."""
+    """The kind of a name and the line of its declaration, at the end of a line; None if it is not visible there."""
     scopes, found = Scopes(), None
     for at, token in enumerate(tokens):
         if token.line > line:
@@ -125,7 +125,7 @@ def of_call(words, functions, name):
 
 
 def wrong_kind(text, line, name):
-    """What is wrong with the kind of a name in a line, as a sentence; nothing where it cannot be told."""
+    """What is wrong with the kind of a name in a line, as a sentence; nothing if that is not clear."""
     tokens = tokens_of(text)
     words = [it.text for it in tokens if it.line >= line]
     on_line = sum(it.line == line for it in tokens)

@@ -1,4 +1,4 @@
-"""Draws a run: time goes down, the deques stand from left to right, and each period has a colour."""
+"""Draws a run: time goes down, the deques are from left to right, and each period has a colour."""
 import re
 from typing import NamedTuple
 
@@ -39,7 +39,7 @@ class Deque(NamedTuple):
 
 
 class Event(NamedTuple):
-    """What happened, with the deques from left to right after it. The threads of a deque are told from the top."""
+    """What happened, with the deques from left to right after it. The threads of a deque are from the top."""
 
     worker: int
     period: int

@@ -167,7 +167,7 @@ fn words_of(random: &mut Random, kind: &str) -> Vec<String> {
     words
 }
 
-/// A run in threads gets no limits: which of them it meets may hang on the order of its events.
+/// A run in threads gets no limits: which of them it meets may depend on the order of its events.
 fn machine_words(random: &mut Random, kind: &str) -> Vec<String> {
     let command = *random.pick(match kind {
         "in threads" => &["run"],

@@ -155,7 +155,7 @@ fn stop_answer(stop: Stop, rules: Rules) -> Answer {
     }
 }
 
-/// What `make` tells of its run: the lines are counted and added up.
+/// The text of `make`: the lines are counted and added up.
 fn summary_answer(bytes: usize, it: &PlayReport) -> Answer {
     let total = it.lines.iter().fold(0_i64, |sum, line| sum.wrapping_add(*line));
     let text = format!(

@@ -192,12 +192,12 @@ fn command_name(words: &[String]) -> &str {
 }
 
 fn verdict(words: &[String], source: &[u8], due: &Answer, got: &Answer) -> Verdict {
-    let hangs_on_order = |it: &Answer| command_name(words) == "run" && matches!(it.status, 8 | 9);
+    let depends_on_order = |it: &Answer| command_name(words) == "run" && matches!(it.status, 8 | 9);
     if agree(words, source, due, got) {
         Verdict::Same
     } else if is_not_yet(words, got) {
         Verdict::NotYet
-    } else if hangs_on_order(due) || hangs_on_order(got) {
+    } else if depends_on_order(due) || depends_on_order(got) {
         Verdict::Open
     } else {
         Verdict::Different
@@ -210,7 +210,7 @@ fn is_not_yet(words: &[String], got: &Answer) -> bool {
     command_name(words) == "run" && is_unknown
 }
 
-/// Answers are the same to the byte. But of a run in threads the numbers behind the finish hang on the order of its events, and
+/// Answers are the same to the byte. But of a run in threads the numbers after the finish depend on the order of its events, and
 /// have to be within the bound.
 fn agree(words: &[String], source: &[u8], due: &Answer, got: &Answer) -> bool {
     if due.status != got.status || due.text == got.text {
@@ -228,7 +228,7 @@ fn front(text: &str) -> &str {
     text.split("periods ").next().unwrap_or("")
 }
 
-/// Whether a report tells at most the peak and twice the quota for each period ahead.
+/// Whether the high-water mark of a report is at most the peak and twice the quota for each marked period.
 fn is_within_bound(words: &[String], source: &[u8], text: &str) -> bool {
     let (Ok(command), Ok(program)) = (command_of(words), accepted(source)) else { return false };
     let quota = command.number("k");

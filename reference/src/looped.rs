@@ -2,7 +2,7 @@
 
 use crate::random::Random;
 
-/// How likely a mistake is: once in so many places, or never where it is 0.
+/// How likely a mistake is: once in so many places, or never if it is 0.
 #[derive(Clone, Copy)]
 pub struct Care {
     pub mistake_one_in: u64,

@@ -74,7 +74,7 @@ pub struct Machine<'a> {
     pub world: World<'a>,
     /// From left to right.
     pub deques: Vec<Deque>,
-    /// Where in the list the deque of each worker stands; none while it is idle.
+    /// The place of each worker's deque in the list; none while it is idle.
     places: Vec<Option<usize>>,
     /// The thread that waits for a child, by the child.
     waiting: HashMap<usize, usize>,
@@ -123,7 +123,7 @@ impl<'a> Machine<'a> {
         self.deques[..self.leftmost()].iter().any(Deque::is_ready)
     }
 
-    /// An owner can always move, and an idle worker where there is something to steal.
+    /// An owner can always move, and an idle worker if there is something to steal.
     pub fn can_move(&self, worker: usize) -> bool {
         self.places[worker].is_some() || self.is_any_ready()
     }

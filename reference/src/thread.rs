@@ -91,7 +91,7 @@ impl<'a> Thread<'a> {
         }
     }
 
-    /// Runs what is no action, up to the next action, which it tells. Printed values go to the items.
+    /// Runs what is no action, up to the next action, which it returns. Printed values go to the items.
     pub fn next(&mut self, quota: u64, items: &mut Vec<Item>) -> Next<'a> {
         if let Some(next) = self.next {
             return next;

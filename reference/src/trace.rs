@@ -114,7 +114,7 @@ impl Labels {
             What::Did(Next::Dummy) => "dummy".to_string(),
             What::Did(Next::Fault(fault, _)) => format!("fault:{fault:?}"),
             What::Did(Next::End) => "end".to_string(),
-            What::Did(Next::Fork(_)) => unreachable!("a fork tells its child"),
+            What::Did(Next::Fork(_)) => unreachable!("a fork has its child"),
         }
     }
 }
