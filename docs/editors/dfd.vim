@@ -6,6 +6,8 @@ if exists('b:current_syntax')
   finish
 endif
 syntax case match
+" How commands that comment lines out write a comment.
+setlocal commentstring=#\ %s
 
 syntax keyword dfdFunction fn return call
 syntax keyword dfdConditional if else
@@ -19,7 +21,7 @@ syntax keyword dfdBuiltin len print
 syntax match dfdFunctionName /\(\<fn\s\+\)\@<=[A-Za-z_][A-Za-z0-9_]*/
 syntax match dfdOperator /[-+*\/%<>=]\|[<>=!]=/
 syntax match dfdNumber /\<[0-9]\+\>/
-" A token without a form: digits directly followed by a letter, and a name of more than 32 bytes.
+" Not a token: digits directly followed by a letter, and a name of more than 32 bytes.
 syntax match dfdBadToken /\<[0-9]\+[A-Za-z_][A-Za-z0-9_]*\|\<[A-Za-z_][A-Za-z0-9_]\{32,}/
 syntax match dfdComment /#.*$/
 

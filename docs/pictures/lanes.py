@@ -1,12 +1,13 @@
-"""Draws a run: time goes down, the deques stand from left to right, and each period has a colour."""
+"""Draws a run: time goes down, the deques are from left to right, and each period has a colour."""
 import re
 from typing import NamedTuple
 
 from canvas import Canvas
 
 ROW, LANE, GAP, CHIP = 27, 196, 34, 19
-LEFT, TOP, RIGHT, BOTTOM = 68, 146, 150, 24
+LEFT, TOP, RIGHT, BOTTOM = 68, 146, 270, 24
 BAR = 64
+PREFIX, AHEAD = 170, 236
 COLOURS = {
     "light": ["#0b6e69", "#1f6fd6", "#c9480f", "#7a3fc4", "#2f7d1f", "#b8286b", "#8a6100", "#59636f"],
     "dark": ["#3ecfc5", "#6db0ff", "#ff9457", "#bd93f9", "#8fd16b", "#ff8fbf", "#e0b84a", "#a3aebb"],
@@ -38,7 +39,7 @@ class Deque(NamedTuple):
 
 
 class Event(NamedTuple):
-    """What happened, with the deques from left to right after it. The threads of a deque are told from the top."""
+    """What happened, with the deques from left to right after it. The threads of a deque are from the top."""
 
     worker: int
     period: int
@@ -46,6 +47,8 @@ class Event(NamedTuple):
     thread: str
     action: str
     words: int
+    prefix: int
+    ahead: int
     deques: list
 
 
@@ -61,9 +64,10 @@ def events_of(lines):
         what, bar, deques = line.partition(" |")
         if not bar:
             break
-        _, worker, period, deque, thread, action, words = what.split()
+        _, worker, period, deque, thread, action, words, prefix, ahead = what.split()
         shown = [deque_of(it) for it in deques.split()]
-        events.append(Event(int(worker), int(period), int(deque), thread, action, int(words), shown))
+        numbers = int(words), int(prefix), int(ahead)
+        events.append(Event(int(worker), int(period), int(deque), thread, action, *numbers, shown))
     return events
 
 
@@ -107,16 +111,20 @@ class Lanes(Canvas):
         self.text(LEFT - 16, TOP - 14, "note", "event", "end")
         self.text(LEFT, TOP - 14, "note", "the deques, from left to right")
         self.text(self.end + 26, TOP - 14, "note", "words in use")
+        self.text(self.end + PREFIX, TOP - 14, "note", "prefix", "end")
+        self.text(self.end + AHEAD, TOP - 14, "note", "ahead(t)", "end")
 
     def rows(self):
         most = max(event.words for event in self.events)
         for row, event in enumerate(self.events):
             y = TOP + row * ROW
-            self.straight(LEFT - 38, y, self.end + 26 + BAR + 30, y, "grid")
+            self.straight(LEFT - 38, y, self.end + AHEAD, y, "grid")
             self.text(LEFT - 16, y + 18, "tick", row + 1, "end")
             length = BAR * event.words / most
             self.put(f'<rect x="{self.end + 26}" y="{y + 8}" width="{length:.1f}" height="11" class="words"/>')
             self.text(self.end + 32 + length, y + 18, "tick", event.words)
+            self.text(self.end + PREFIX, y + 18, "tick", event.prefix, "end")
+            self.text(self.end + AHEAD, y + 18, "tick", event.ahead, "end")
 
     def periods(self):
         """A bar for each period, from its steal to its last event."""
@@ -153,8 +161,10 @@ class Lanes(Canvas):
             periods[event.deque] = event.period
             for deque in event.deques:
                 x = self.x(deque.number) + 8
+                # A Dummy ends its period, so after it the deque has no owner, but it was the top thread that ran.
+                was_left = event.action == "dummy" and deque.number == event.deque
                 for at, thread in enumerate(deque.threads):
-                    runs = deque.is_owned and at == 0
+                    runs = at == 0 and (deque.is_owned or was_left)
                     x = self.chip(x, row, thread, self.colour(periods[deque.number]) if runs else None)
 
     def chip(self, x, row, thread, colour):

@@ -8,7 +8,7 @@ use crate::tree::Passing;
 pub struct Style {
     pub has_blocks: bool,
     pub is_faulty: bool,
-    /// Once in so many choices a name is taken that may break a rule of ownership; never where it is 0.
+    /// Once in so many choices a name is taken that may break a rule of ownership; never if it is 0.
     pub careless: u64,
     pub statements: u64,
 }

@@ -2,7 +2,7 @@
 
 use crate::tree::*;
 
-/// What may stand somewhere without parentheses: each place takes its own rule and those that bind tighter.
+/// What may be written at a place without parentheses: each place takes its own rule and those that bind tighter.
 #[derive(Clone, Copy, PartialEq, PartialOrd)]
 enum Place {
     Whole,

@@ -1,9 +1,10 @@
-//! Random cases: the words of a command and a source, by kinds. There are two series: one of what the program can do on a
-//! whole source of every kind, and one of the machine.
+//! Random cases: the words of a command and a source, by kinds. There are three series: one of what the program can do on a whole source of
+//! every kind, one of the machine, and one of parallel loops.
 
 use crate::author::{program, Style};
 use crate::edges::edge;
 use crate::edits::{break_form, break_rule, lay_out};
+use crate::looped::{looped, Care};
 use crate::random::Random;
 use crate::tiny::tiny;
 
@@ -15,6 +16,7 @@ pub struct Case {
 
 pub const KINDS: [&str; 9] = ["good", "faulty", "blocks", "deep", "ill-formed", "ill-typed", "tiny", "prints", "words"];
 pub const KINDS_OF_MACHINE: [&str; 5] = ["played", "in threads", "made", "printed", "words of the machine"];
+pub const KINDS_OF_LOOPS: [&str; 4] = ["looped", "mistaken loops", "broken loops", "words of loops"];
 
 /// The case of a number. The same number gives the same case.
 pub fn case(number: u64) -> Case {
@@ -40,6 +42,25 @@ pub fn machine_case(number: u64) -> Case {
     let words = match kind {
         "words of the machine" => any_words_of(&mut random, &["play", "play", "run", "make", "make", "Play", "--p", "plays"]),
         _ => machine_words(&mut random, kind),
+    };
+    Case { kind, words, source }
+}
+
+/// The case of a number that has parallel loops: `expand`, and `loops` with all its options.
+pub fn loop_case(number: u64) -> Case {
+    let mut random = Random(number.wrapping_mul(0xd1b5_4a32_d192_ed03));
+    let kind = KINDS_OF_LOOPS[(number % KINDS_OF_LOOPS.len() as u64) as usize];
+    let mistake_one_in = if kind == "mistaken loops" { *random.pick(&[3, 8, 20]) } else { 0 };
+    let text = looped(&mut random, Care { mistake_one_in });
+    let source = match kind {
+        "broken loops" => break_form(&mut random, &text),
+        _ if random.once_in(2) => lay_out(&mut random, &text).into_bytes(),
+        _ => text.into_bytes(),
+    };
+    let words = match kind {
+        "words of loops" => any_words_of(&mut random, &["loops", "loops", "expand", "expand", "loop", "Expand", "--k"]),
+        _ if random.once_in(3) => vec!["expand".to_string()],
+        _ => [vec!["loops".to_string()], machine_options(&mut random, true).concat()].concat(),
     };
     Case { kind, words, source }
 }
@@ -146,7 +167,7 @@ fn words_of(random: &mut Random, kind: &str) -> Vec<String> {
     words
 }
 
-/// A run in threads gets no limits: which of them it meets may hang on the order of its events.
+/// A run in threads gets no limits: which of them it meets may depend on the order of its events.
 fn machine_words(random: &mut Random, kind: &str) -> Vec<String> {
     let command = *random.pick(match kind {
         "in threads" => &["run"],

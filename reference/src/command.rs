@@ -4,14 +4,17 @@ use crate::canonical::canonical_text;
 use crate::choices::Pcg;
 use crate::depth_first::{depth_first, PeakReport};
 use crate::in_threads;
+use crate::loops::expand;
 use crate::machine::{play, PlayReport, Rules, Stop};
 use crate::made::made_source;
 use crate::ownership::check;
 use crate::parse::parse;
 use crate::resolve::resolve;
+use crate::span::{span, Span};
 use crate::stealing::{steal, StealReport};
 use crate::thread::Code;
-use crate::trace::trace;
+use crate::tokens::SyntaxRefusal;
+use crate::trace::{bound, trace};
 use crate::tree::Program;
 use crate::words::{read_words, Command};
 use crate::world::Finish;
@@ -56,14 +59,29 @@ pub fn make(command: &Command) -> Answer {
     }
 }
 
+fn syntax_answer(it: SyntaxRefusal) -> Answer {
+    answer(4, format!("syntax {} at {}\n", it.reason, it.at))
+}
+
 pub fn accepted(source: &[u8]) -> Result<Program<String>, Answer> {
-    let program = parse(source).map_err(|it| answer(4, format!("syntax {} at {}\n", it.reason, it.at)))?;
+    let program = parse(source).map_err(syntax_answer)?;
     check(&program).map_err(|it| answer(5, format!("check {} line {} name {}\n", it.rule, it.line, it.name)))?;
     Ok(program)
 }
 
-/// Serves a command that reads a source.
+/// Serves a command that reads a source. `loops` serves the expansion as `play` serves a source.
 pub fn serve(command: &Command, source: &[u8]) -> Answer {
+    if !matches!(command.name, "loops" | "expand") {
+        return serve_source(command, source);
+    }
+    match expand(source) {
+        Err(refusal) => syntax_answer(refusal),
+        Ok(text) if command.name == "expand" => answer(0, String::from_utf8_lossy(&text)),
+        Ok(text) => serve_source(command, &text),
+    }
+}
+
+fn serve_source(command: &Command, source: &[u8]) -> Answer {
     match accepted(source) {
         Err(refusal) => refusal,
         Ok(program) if command.name == "check" => answer(0, canonical_text(&program)),
@@ -76,14 +94,16 @@ fn run(command: &Command, code: &Code) -> Answer {
     let mut choices = Pcg::from_seed(seed);
     match command.name {
         "peak" => peak_answer(depth_first(code, rules.quota, rules.steps), rules),
+        "span" => span(code, rules.quota, rules.steps).map_or_else(|| stop_answer(Stop::StepsSpent, rules), span_answer),
         "steal" => {
             let stolen = steal(code, rules.workers, rules.steps, &mut choices);
             stolen.map_or_else(|stop| stop_answer(stop, rules), steal_answer)
         }
         "run" => play_answer(in_threads::run(code, rules, seed), rules),
-        "trace" => {
+        "trace" | "bound" => {
             let mut events = String::new();
-            let Answer { status, text } = play_answer(trace(code, rules, &mut choices, &mut events), rules);
+            let run = if command.name == "trace" { trace } else { bound };
+            let Answer { status, text } = play_answer(run(code, rules, &mut choices, &mut events), rules);
             answer(status, events + &text)
         }
         _ => play_answer(play(code, rules, &mut choices), rules),
@@ -117,6 +137,12 @@ fn peak_answer(report: Option<PeakReport>, rules: Rules) -> Answer {
     }
 }
 
+/// The parallelism has one digit after the point.
+fn span_answer(it: Span) -> Answer {
+    let tenths = 10 * it.work / it.span;
+    answer(0, format!("work {}\nspan {}\nparallelism {}.{}\n", it.work, it.span, tenths / 10, tenths % 10))
+}
+
 fn steal_answer(it: StealReport) -> Answer {
     report_answer(&it.lines, it.finish, &[("actions", it.actions), ("steals", it.steals), ("high", it.high)])
 }
@@ -129,7 +155,7 @@ fn stop_answer(stop: Stop, rules: Rules) -> Answer {
     }
 }
 
-/// What `make` tells of its run: the lines are counted and added up.
+/// The text of `make`: the lines are counted and added up.
 fn summary_answer(bytes: usize, it: &PlayReport) -> Answer {
     let total = it.lines.iter().fold(0_i64, |sum, line| sum.wrapping_add(*line));
     let text = format!(

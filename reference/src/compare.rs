@@ -1,6 +1,6 @@
 //! Runs the program and the reference on random cases, and prints where they differ with the smallest source that shows it.
 
-use crate::cases::{case, machine_case, Case, KINDS, KINDS_OF_MACHINE};
+use crate::cases::{case, loop_case, machine_case, Case, KINDS, KINDS_OF_LOOPS, KINDS_OF_MACHINE};
 use crate::command::{accepted, answer_to, command_of, Answer, USAGE};
 use crate::depth_first::depth_first;
 use crate::resolve::resolve;
@@ -21,7 +21,7 @@ struct Plan {
 
 const MOST_DIFFERENCES: u64 = 10;
 const SHOWN_BYTES: usize = 400;
-/// One number in so many has a case of the machine too.
+/// One number in so many has a case of the machine too, and one of parallel loops.
 const MACHINE_ONE_IN: u64 = 4;
 
 /// The exit status: 0 where nothing differs, 1 where something does, 2 where the words are wrong.
@@ -42,6 +42,7 @@ pub fn compare(words: &[String]) -> u8 {
         check_own_runs(number, &case, &mut tally);
         if number.is_multiple_of(MACHINE_ONE_IN) {
             one_case(&plan, number, &machine_case(number), &mut tally);
+            one_case(&plan, number, &loop_case(number / MACHINE_ONE_IN), &mut tally);
         }
         if tally.differences >= MOST_DIFFERENCES {
             println!("compare: stopped at {MOST_DIFFERENCES} differences");
@@ -84,7 +85,7 @@ impl Tally {
     }
 
     fn print(&self, seconds: u64) {
-        for kind in KINDS.iter().chain(&KINDS_OF_MACHINE) {
+        for kind in KINDS.iter().chain(&KINDS_OF_MACHINE).chain(&KINDS_OF_LOOPS) {
             let of_kind = self.compared.iter().filter(|((it, _, _), _)| it == kind);
             let counts: Vec<String> =
                 of_kind.map(|((_, command, status), count)| format!("{command} with status {status}: {count}")).collect();
@@ -93,11 +94,12 @@ impl Tally {
         let answers: Vec<String> = self.answers.iter().map(|(answer, count)| format!("{answer} {count}")).collect();
         println!("answers: {}", answers.join(", "));
         println!(
-            "compare: {} cases, and {} of the machine, {} differences, {seconds} s; {} runs that the program does not have yet; \
-             {} runs in threads whose end hangs on the order of events; {} programs run by the reference's own workers, \
-             all within the bound where nothing differs",
+            "compare: {} cases, {} of the machine, {} of parallel loops, {} differences, {seconds} s; \
+             {} runs that the program does not have yet; {} runs in threads whose end depends on the order of events; \
+             {} programs run by the reference's own workers, all within the bound if nothing differs",
             self.compared_of(&KINDS),
             self.compared_of(&KINDS_OF_MACHINE),
+            self.compared_of(&KINDS_OF_LOOPS),
             self.differences,
             self.not_yet,
             self.left_open,
@@ -190,12 +192,12 @@ fn command_name(words: &[String]) -> &str {
 }
 
 fn verdict(words: &[String], source: &[u8], due: &Answer, got: &Answer) -> Verdict {
-    let hangs_on_order = |it: &Answer| command_name(words) == "run" && matches!(it.status, 8 | 9);
+    let depends_on_order = |it: &Answer| command_name(words) == "run" && matches!(it.status, 8 | 9);
     if agree(words, source, due, got) {
         Verdict::Same
     } else if is_not_yet(words, got) {
         Verdict::NotYet
-    } else if hangs_on_order(due) || hangs_on_order(got) {
+    } else if depends_on_order(due) || depends_on_order(got) {
         Verdict::Open
     } else {
         Verdict::Different
@@ -208,7 +210,7 @@ fn is_not_yet(words: &[String], got: &Answer) -> bool {
     command_name(words) == "run" && is_unknown
 }
 
-/// Answers are the same to the byte. But of a run in threads the numbers behind the finish hang on the order of its events, and
+/// Answers are the same to the byte. But of a run in threads the numbers after the finish depend on the order of its events, and
 /// have to be within the bound.
 fn agree(words: &[String], source: &[u8], due: &Answer, got: &Answer) -> bool {
     if due.status != got.status || due.text == got.text {
@@ -226,7 +228,7 @@ fn front(text: &str) -> &str {
     text.split("periods ").next().unwrap_or("")
 }
 
-/// Whether a report tells at most the peak and twice the quota for each period ahead.
+/// Whether the high-water mark of a report is at most the peak and twice the quota for each marked period.
 fn is_within_bound(words: &[String], source: &[u8], text: &str) -> bool {
     let (Ok(command), Ok(program)) = (command_of(words), accepted(source)) else { return false };
     let quota = command.number("k");

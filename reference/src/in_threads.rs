@@ -11,7 +11,7 @@ struct Hall<'a> {
     stop: Option<Stop>,
 }
 
-/// Runs a program by as many threads as there are workers. Worker i draws whom it robs from the generator of seed + i.
+/// Runs a program by as many threads as there are workers. Worker i draws from whom it steals from the generator of seed + i.
 pub fn run(code: &Code, rules: Rules, seed: u64) -> Result<PlayReport, Stop> {
     let hall = Mutex::new(Hall { machine: Machine::new(code, rules), stop: None });
     std::thread::scope(|scope| {

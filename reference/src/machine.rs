@@ -74,12 +74,13 @@ pub struct Machine<'a> {
     pub world: World<'a>,
     /// From left to right.
     pub deques: Vec<Deque>,
-    /// Where in the list the deque of each worker stands; none while it is idle.
+    /// The place of each worker's deque in the list; none while it is idle.
     places: Vec<Option<usize>>,
     /// The thread that waits for a child, by the child.
     waiting: HashMap<usize, usize>,
     periods: u64,
-    ahead: u64,
+    /// How many periods had a deque to their left as they began: these are marked.
+    pub ahead: u64,
 }
 
 /// Runs a program by the words of choice, and gives its report or the stop.
@@ -122,7 +123,7 @@ impl<'a> Machine<'a> {
         self.deques[..self.leftmost()].iter().any(Deque::is_ready)
     }
 
-    /// An owner can always move, and an idle worker where there is something to steal.
+    /// An owner can always move, and an idle worker if there is something to steal.
     pub fn can_move(&self, worker: usize) -> bool {
         self.places[worker].is_some() || self.is_any_ready()
     }

@@ -1,6 +1,7 @@
 //! A second implementation of the language and of its scheduler, to compare the program with. It is written for being
 //! read: where it could be faster or shorter of words, it is not.
 
+mod ahead;
 mod author;
 mod canonical;
 mod cases;
@@ -12,6 +13,8 @@ mod edges;
 mod edits;
 mod evaluate;
 mod in_threads;
+mod looped;
+mod loops;
 mod machine;
 mod made;
 mod mentions;
@@ -22,6 +25,7 @@ mod resolve;
 mod rows;
 mod selfcheck;
 mod smaller;
+mod span;
 mod stealing;
 mod thread;
 mod tiny;

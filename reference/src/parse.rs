@@ -309,7 +309,7 @@ impl Parser<'_> {
         Ok(Kind::Split(Split { block, at, left, right, body }))
     }
 
-    /// The operator of this list that stands here.
+    /// The operator of this list that comes next.
     fn one_of<T: Copy>(&mut self, all: &[(&'static str, T)]) -> Option<T> {
         let found = all.iter().find(|(sign, _)| self.sees(sign)).map(|(_, it)| *it);
         self.place += usize::from(found.is_some());

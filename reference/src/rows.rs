@@ -5,6 +5,7 @@ use crate::choices::{Listed, Pcg};
 use crate::command::{accepted, answer_to, play_answer, Answer};
 use crate::machine::{play, Rules};
 use crate::resolve::resolve;
+use crate::trace::moment;
 
 /// A row: its name, the words, the source, the status, and the text, in which a slash marks the end of a line.
 struct Row(&'static str, &'static str, &'static str, i32, &'static str);
@@ -26,29 +27,70 @@ const MANY_ACTIONS: &str = "fn main() { let i = 0; while i < 999999 { alloc a = 
 const HALVES: &str = include_str!("../../examples/halves.dfd");
 const USAGE: &str = "usage: dfd play|run|peak|check|make|loops|expand [options]/";
 const LARGE_TEXT: &str = "--/end done/periods 7/ahead 2/high 48/";
-/// Each event of the run of `LARGE` by one worker with a quota of 16: worker, period, deque, thread, action, words, deques.
-const LARGE_EVENTS: &str = "event worker period deque thread action words | deque:owner:threads from the top ../\
-    1 0 1 0 [] steal:0 0 | 0:0:[]/\
-    2 0 1 0 [] fork:[1] 16 | 0:0:[1][]/\
-    3 0 1 0 [1] give-up 16 | 0:-:[1][]/\
-    4 0 2 2 [] steal:0 16 | 0:-:[1] 2:0:[]/\
-    5 0 2 2 [] dummy 16 | 0:-:[1] 2:-:[]/\
-    6 0 3 0 [1] steal:0 16 | 0:0:[1] 2:-:[]/\
-    7 0 3 0 [1] fork:[1,1] 32 | 0:0:[1,1][1] 2:-:[]/\
-    8 0 3 0 [1,1] dummy 32 | 0:-:[1,1][1] 2:-:[]/\
-    9 0 4 4 [1] steal:0 32 | 0:-:[1,1] 4:0:[1] 2:-:[]/\
-    10 0 4 4 [1] dummy 32 | 0:-:[1,1] 4:-:[1] 2:-:[]/\
-    11 0 5 0 [1,1] steal:0 32 | 0:0:[1,1] 4:-:[1] 2:-:[]/\
-    12 0 5 0 [1,1] end 16 | 4:-:[1] 2:-:[]/\
-    13 0 6 4 [1] steal:4 16 | 4:0:[1] 2:-:[]/\
-    14 0 6 4 [1] join:[1,1] 16 | 4:0:[1] 2:-:[]/\
-    15 0 6 4 [1] end 0 | 2:-:[]/\
-    16 0 7 2 [] steal:2 0 | 2:0:[]/\
-    17 0 7 2 [] join:[1] 0 | 2:0:[]/\
-    18 0 7 2 [] alloc:48 48 | 2:0:[]/\
-    19 0 7 2 [] release 0 | 2:0:[]/\
-    20 0 7 2 [] end 0 |/\
+/// Each event of the run of `LARGE` by one worker with a quota of 16: worker, period, deque, thread, action, words, prefix, periods ahead,
+/// deques.
+const LARGE_EVENTS: &str =
+    "event worker period deque thread action words prefix ahead-now | deque:owner:threads from the top ../\
+    1 0 1 0 [] steal:0 0 0 0 | 0:0:[]/\
+    2 0 1 0 [] fork:[1] 16 1 0 | 0:0:[1][]/\
+    3 0 1 0 [1] give-up 16 1 0 | 0:-:[1][]/\
+    4 0 2 2 [] steal:0 16 1 0 | 0:-:[1] 2:0:[]/\
+    5 0 2 2 [] dummy 16 1 1 | 0:-:[1] 2:-:[]/\
+    6 0 3 0 [1] steal:0 16 1 1 | 0:0:[1] 2:-:[]/\
+    7 0 3 0 [1] fork:[1,1] 32 2 1 | 0:0:[1,1][1] 2:-:[]/\
+    8 0 3 0 [1,1] dummy 32 3 1 | 0:-:[1,1][1] 2:-:[]/\
+    9 0 4 4 [1] steal:0 32 3 1 | 0:-:[1,1] 4:0:[1] 2:-:[]/\
+    10 0 4 4 [1] dummy 32 3 2 | 0:-:[1,1] 4:-:[1] 2:-:[]/\
+    11 0 5 0 [1,1] steal:0 32 3 2 | 0:0:[1,1] 4:-:[1] 2:-:[]/\
+    12 0 5 0 [1,1] end 16 5 1 | 4:-:[1] 2:-:[]/\
+    13 0 6 4 [1] steal:4 16 5 1 | 4:0:[1] 2:-:[]/\
+    14 0 6 4 [1] join:[1,1] 16 6 1 | 4:0:[1] 2:-:[]/\
+    15 0 6 4 [1] end 0 8 0 | 2:-:[]/\
+    16 0 7 2 [] steal:2 0 8 0 | 2:0:[]/\
+    17 0 7 2 [] join:[1] 0 9 0 | 2:0:[]/\
+    18 0 7 2 [] alloc:48 48 10 0 | 2:0:[]/\
+    19 0 7 2 [] release 0 11 0 | 2:0:[]/\
+    20 0 7 2 [] end 0 12 0 |/\
     --/end done/periods 7/ahead 2/high 48/";
+/// The same by three workers and seed 8.
+const LARGE_BY_THREE: &str =
+    "event worker period deque thread action words prefix ahead-now | deque:owner:threads from the top ../\
+    1 1 1 0 [] steal:0 0 0 0 | 0:1:[]/\
+    2 1 1 0 [] fork:[1] 16 1 0 | 0:1:[1][]/\
+    3 0 2 2 [] steal:0 16 1 0 | 0:1:[1] 2:0:[]/\
+    4 1 1 0 [1] give-up 16 1 0 | 0:-:[1] 2:0:[]/\
+    5 2 3 0 [1] steal:0 16 1 0 | 0:2:[1] 2:0:[]/\
+    6 2 3 0 [1] fork:[1,1] 32 2 0 | 0:2:[1,1][1] 2:0:[]/\
+    7 0 2 2 [] dummy 32 2 1 | 0:2:[1,1][1] 2:-:[]/\
+    8 0 4 4 [1] steal:0 32 2 1 | 0:2:[1,1] 4:0:[1] 2:-:[]/\
+    9 0 4 4 [1] dummy 32 2 2 | 0:2:[1,1] 4:-:[1] 2:-:[]/\
+    10 1 5 2 [] steal:2 32 2 2 | 0:2:[1,1] 4:-:[1] 2:1:[]/\
+    11 2 3 0 [1,1] dummy 32 3 2 | 0:-:[1,1] 4:-:[1] 2:1:[]/\
+    12 1 5 2 [] suspend 32 3 2 | 0:-:[1,1] 4:-:[1]/\
+    13 0 6 0 [1,1] steal:0 32 3 2 | 0:0:[1,1] 4:-:[1]/\
+    14 2 7 4 [1] steal:4 32 3 2 | 0:0:[1,1] 4:2:[1]/\
+    15 0 6 0 [1,1] end 16 5 1 | 4:2:[1]/\
+    16 2 7 4 [1] join:[1,1] 16 6 1 | 4:2:[1]/\
+    17 2 7 4 [1] end 0 8 0 | 4:2:[]/\
+    18 2 7 4 [] join:[1] 0 9 0 | 4:2:[]/\
+    19 2 7 4 [] alloc:48 48 10 0 | 4:2:[]/\
+    20 2 7 4 [] release 0 11 0 | 4:2:[]/\
+    21 2 7 4 [] end 0 12 0 |/\
+    --/end done/periods 7/ahead 4/high 48/";
+/// A loop of three rounds: the halves are 1 and 2 numbers, and the second one is halved again.
+const THREE_ROUNDS: &str = "fn f(i) { print i; return i * i; } fn main() { let x = 7; par call x = f(2 into 5); print x; }";
+/// A loop over 40 numbers in parts of at most 16: 32 and 8 numbers, and the first of these 16 and 16.
+const THREE_PARTS: &str = "fn g(use v, k) { print len(v); return k; } \
+     fn main() { alloc b = 40; let x = 0; par call x = g(use b at 16, 5); print x; free b; }";
+const SUMS: &str = include_str!("../../examples/loops/sums.dfd");
+const SUMS_TEXT: &str = "1/2/3/4/70/32/32/32/4/12/--/end done/periods 1/ahead 0/high 144/";
+const ONE_PIECE_BOUND: &str = "event words prefix ahead-now bound/1 0 0 0 16/2 16 1 0 16/3 0 2 0 16/4 0 3 0 16/\
+    --/end done/periods 1/ahead 0/high 16/";
+const NO_ROUND: &str = "0/--/end done/periods 1/ahead 0/high 0/";
+const FAULT_IN_ROUND: &str = "--/end fault Divide line 2/periods 1/ahead 0/high 16/";
+const WRITTEN_OUT: &str = "call x = __sum0((1), (2) - (1));// y/fn __sum0(lo, n) { let s = 0; if n == 1 { call s = f(lo); } \
+     else { if n > 1 { let h = n / 2; let t = 0; par { call s = __sum0(lo, h); } and { call t = __sum0(lo + h, n - h); } \
+     s = s + t; } } return s; }/";
 
 const ROWS: &[Row] = &[
     Row("a small block", "play --k 64 --p 1", SMALL, 0, "7/--/end done/periods 1/ahead 0/high 32/"),
@@ -132,6 +174,40 @@ const ROWS: &[Row] = &[
         "--/end fault Divide line 1/actions 3/peak 16/",
     ),
     Row("each event of a tree of three dummies", "trace --k 16 --p 1", LARGE, 0, LARGE_EVENTS),
+    Row("each event by three workers", "trace --k 16 --p 3 --seed 8", LARGE, 0, LARGE_BY_THREE),
+    Row("work and span", "span", THREE_LINES, 0, "work 8/span 7/parallelism 1.1/"),
+    Row("the bound at each moment", "bound --k 16 --p 1", ONE_PIECE, 0, ONE_PIECE_BOUND),
+    Row("the loops of the example", "loops --p 1", SUMS, 0, SUMS_TEXT),
+    Row("three rounds", "loops --p 1", THREE_ROUNDS, 0, "2/3/4/29/--/end done/periods 1/ahead 0/high 16/"),
+    Row("three parts", "loops --p 1 --k 64", THREE_PARTS, 0, "16/16/8/15/--/end done/periods 3/ahead 1/high 80/"),
+    Row("no round", "loops", "fn f(i) { } fn main() { let x = 7; par call x = f(2 into 2); print x; }", 0, NO_ROUND),
+    Row(
+        "a fault in a round",
+        "loops --p 1",
+        "fn f(i) {\n  return 1 / i;\n}\nfn main() {\n  let x = 0;\n  par call x = f(0 into 2);\n}\n",
+        6,
+        FAULT_IN_ROUND,
+    ),
+    Row("a loop that is written out", "expand", "par\ncall x = f(1 into\n2); y", 0, WRITTEN_OUT),
+    Row(
+        "no loop to write out",
+        "expand",
+        "par { call x = f(1 into 2); } # par call",
+        0,
+        "par { call x = f(1 into 2); } # par call",
+    ),
+    Row("no loop", "expand", "a par call x = f(1);", 4, "syntax BadLoop at 2/"),
+    Row("a part that is no multiple of 16", "expand", "par call x = f(use b at 24);", 4, "syntax BadLoop at 0/"),
+    Row("a bracket that another closes", "expand", "par call x = f((1] into 2);", 4, "syntax BadLoop at 0/"),
+    Row("the name of a helper", "expand", "__sum1 __sum00 __sum0 par call x = f(1 into 2);", 4, "syntax NameTaken at 15/"),
+    Row(
+        "a function that is not there",
+        "loops",
+        "fn main() { let x = 0; par call x = f(1 into 2); }",
+        5,
+        "check UnknownName line 2 name f/",
+    ),
+    Row("an option of another command", "expand --k 16", SUMS, 1, USAGE),
     Row("lines in order, in threads", "run --p 1", THREE_LINES, 0, "1/2/3/--/end done/periods 1/ahead 0/high 16/"),
     Row("a made source", "make 1 --p 1", "", 0, "bytes 139/lines 2/total 0/actions 8/periods 1/ahead 0/high 32/"),
     Row("a size with a leading zero", "make --p=1 01", "", 0, "bytes 139/lines 2/total 0/actions 8/periods 1/ahead 0/high 32/"),
@@ -186,6 +262,16 @@ const DRAWN: &[Drawn] = &[
     ),
 ];
 
+/// A row of moments: the quota, the workers, those that move, one a digit, the source, and what there is then.
+struct Moved(u64, usize, &'static str, &'static str, &'static str);
+
+/// The answers are those of `prefix_laws`, whose numbers are proved, as the tests of the crates (`play_tests`) have them.
+const MOVED: &[Moved] = &[
+    Moved(16, 1, "0000000000", LARGE, "[1, 1] [1] [] prefix 3, ahead 2, live 32, margin 80"),
+    Moved(16, 1, "", LARGE, "[] prefix 0, ahead 0, live 0, margin 48"),
+    Moved(32, 2, "00101", TWO_BLOCKS, "[1] [] prefix 2, ahead 1, live 48, margin 48"),
+];
+
 /// The first outputs of the generator of state 42 and stream 54, as they are published with it.
 const PUBLISHED: [u32; 6] = [0xa15c_02b7, 0x7b47_f409, 0xba1d_3330, 0x83d2_f293, 0xbfa4_784b, 0xcbed_606e];
 
@@ -201,6 +287,9 @@ pub fn rows() -> u8 {
     }
     for row in DRAWN {
         tally.tell(row.0, row.6, &drawn(row));
+    }
+    for Moved(quota, workers, digits, source, due) in MOVED {
+        tally.tell(&format!("a moment after the moves {digits:?}"), due, &moved(source, *quota, *workers, digits));
     }
     let too_long = answered("check", &[b' '; 1_048_577]);
     tally.tell("a source that is too long", "syntax TooLong at 1048576\n", &too_long.text);
@@ -232,6 +321,15 @@ fn halves_in_threads() -> String {
     let number = |name: &str| text.lines().find_map(|line| line.strip_prefix(name)?.parse::<u64>().ok()).unwrap_or(0);
     let is_within = (65_552..=65_632 + 8_192 * number("ahead ")).contains(&number("high "));
     format!("{}, {} the bound", text.lines().next().unwrap_or(""), if is_within { "within" } else { "beyond" })
+}
+
+fn moved(source: &str, quota: u64, workers: usize, digits: &str) -> String {
+    let rules = Rules { quota, workers, arena: 1_024, steps: 1_000, deques: 64 };
+    let moves: Vec<usize> = digits.bytes().map(|digit| usize::from(digit - b'0')).collect();
+    match accepted(source.as_bytes()) {
+        Err(refusal) => refusal.text,
+        Ok(program) => moment(&resolve(&program), rules, &moves).unwrap_or_else(|stop| format!("{stop:?}")),
+    }
 }
 
 fn drawn(row: &Drawn) -> String {

@@ -1,14 +1,16 @@
-//! What the reference's own runs by workers have to keep, one event at a time and in threads: they print what the depth-first
-//! run prints, and their words in use are at most its peak and twice the quota for each period ahead.
+//! What the reference's own runs by workers have to keep, one event at a time and in threads: they print what the depth-first run prints, and
+//! their words in use are at most its peak and twice the quota for each marked period. Of a run one event at a time this holds at each moment
+//! with the periods that are ahead then, of which there are at most as many as are marked.
 
 use crate::choices::Pcg;
 use crate::depth_first::{depth_first, PeakReport};
 use crate::in_threads;
-use crate::machine::{play, PlayReport, Rules, Stop};
+use crate::machine::{PlayReport, Rules, Stop};
 use crate::random::Random;
 use crate::resolve::resolve;
 use crate::stealing::steal;
 use crate::thread::Code;
+use crate::trace::each_event;
 use crate::tree::Program;
 
 const STEPS: u64 = 200_000;
@@ -22,10 +24,24 @@ pub fn broken_promise(program: &Program<String>, number: u64) -> Option<String> 
     let serial = depth_first(&code, quota, STEPS)?;
     let workers = random.between(1, 64) as usize;
     let rules = Rules { quota, workers, arena: ARENA, steps: STEPS, deques: usize::MAX };
-    let played = play(&code, rules, &mut Pcg::from_seed(random.word()));
-    broken_by_workers(played, rules, &serial)
+    broken_at_a_moment(&code, rules, &serial, random.word())
         .or_else(|| broken_by_theft(&code, rules, &serial, random.word()))
         .or_else(|| broken_by_workers(in_threads::run(&code, rules, number), rules, &serial))
+}
+
+/// Whether a run one event at a time breaks a promise, at the first moment that does or at its end.
+fn broken_at_a_moment(code: &Code, rules: Rules, serial: &PeakReport, seed: u64) -> Option<String> {
+    let mut broken = None;
+    let played = each_event(code, rules, &mut Pcg::from_seed(seed), |number, _, machine, ahead| {
+        let (words, bound, periods) = (machine.world.live, ahead.bound(rules.quota), ahead.periods);
+        if broken.is_none() && (words > bound || periods > machine.ahead) {
+            broken = Some(format!(
+                "after event {number}: {words} words, bound {bound}, {periods} periods ahead, {} marked",
+                machine.ahead
+            ));
+        }
+    });
+    broken.or_else(|| broken_by_workers(played, rules, serial))
 }
 
 fn broken_by_workers(played: Result<PlayReport, Stop>, rules: Rules, serial: &PeakReport) -> Option<String> {

@@ -48,7 +48,7 @@ impl<F: FnMut(&[u8]) -> bool> Search<F> {
         }
     }
 
-    /// Leaves out what stands between two braces or parentheses, with or without the statement before it, or these two alone.
+    /// Leaves out what is between two braces or parentheses, with or without the statement before it, or only these two.
     fn without_pairs(&mut self) {
         let mut at = 0;
         while at < self.small.len() && self.tries < MOST_TRIES {

@@ -1,4 +1,4 @@
-//! Plain work stealing, for comparison: each worker runs its own deque from the top, and an idle one robs the bottom of a
+//! Plain work stealing, for comparison: each worker runs its own deque from the top, and an idle one steals the bottom of a
 //! random other one. There is no quota and no dummy.
 
 use crate::choices::Choices;
@@ -39,21 +39,21 @@ pub fn steal(code: &Code, workers: usize, steps: u64, choices: &mut impl Choices
 
 impl Crew<'_> {
     fn turn(&mut self, choices: &mut impl Choices) -> Result<(), Stop> {
-        let is_any_robbable = self.threads.iter().any(|own| own.len() >= 2);
+        let has_any_to_steal = self.threads.iter().any(|own| own.len() >= 2);
         let worker = around(choices.word(), self.threads.len())
-            .find(|worker| is_any_robbable || !self.threads[*worker].is_empty())
+            .find(|worker| has_any_to_steal || !self.threads[*worker].is_empty())
             .expect("there is always a worker that can move");
         if self.threads[worker].is_empty() {
-            self.rob(worker, choices.word());
+            self.steal(worker, choices.word());
             return Ok(());
         }
         self.act(worker)
     }
 
-    fn rob(&mut self, worker: usize, word: u64) {
+    fn steal(&mut self, worker: usize, word: u64) {
         let victim = around(word, self.threads.len())
             .find(|other| self.threads[*other].len() >= 2)
-            .expect("an idle worker moves only where there is something to rob");
+            .expect("an idle worker moves only where there is something to steal");
         let thread = self.threads[victim].remove(0);
         self.threads[worker].push(thread);
         self.steals += 1;

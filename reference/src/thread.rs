@@ -60,6 +60,8 @@ pub struct Thread<'a> {
     open: Vec<Open<'a>>,
     is_faulted: bool,
     next: Option<Next<'a>>,
+    /// How many statements it has begun.
+    pub statements: u64,
 }
 
 /// What an item of a thread's output is, in depth-first order.
@@ -85,10 +87,11 @@ impl<'a> Thread<'a> {
             open: Vec::new(),
             is_faulted: false,
             next: None,
+            statements: 0,
         }
     }
 
-    /// Runs what is no action, up to the next action, which it tells. Printed values go to the items.
+    /// Runs what is no action, up to the next action, which it returns. Printed values go to the items.
     pub fn next(&mut self, quota: u64, items: &mut Vec<Item>) -> Next<'a> {
         if let Some(next) = self.next {
             return next;
@@ -153,6 +156,7 @@ impl<'a> Thread<'a> {
         items: &mut Vec<Item>,
     ) -> Result<Option<Next<'a>>, Met> {
         let line = statement.line;
+        self.statements += 1;
         match &statement.kind {
             Kind::Let(slot, value) | Kind::Assign(slot, value) => {
                 let number = self.value(value, line)?;
@@ -358,6 +362,7 @@ impl<'a> Thread<'a> {
             open: Vec::new(),
             is_faulted: false,
             next: None,
+            statements: 0,
         }
     }
 

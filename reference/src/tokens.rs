@@ -22,6 +22,8 @@ pub enum Word {
 pub struct Token {
     pub word: Word,
     pub at: usize,
+    /// The byte after it.
+    pub end: usize,
     pub line: u32,
 }
 
@@ -109,7 +111,7 @@ impl Reader<'_> {
             Some(byte) if byte.is_ascii_digit() => self.number(at)?,
             Some(_) => self.symbol(at)?,
         };
-        Ok(Some(Token { word, at, line }))
+        Ok(Some(Token { word, at, end: self.at, line }))
     }
 
     fn name(&mut self, at: usize) -> Result<Word, SyntaxRefusal> {

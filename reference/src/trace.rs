@@ -1,30 +1,80 @@
-//! Each event of a run, and the deques after it.
+//! Each event of a run, with what is done of the depth-first list after it: once with the deques, and once with the bound on the words in use.
 
-use crate::choices::Choices;
+use crate::ahead::{Ahead, Places};
+use crate::choices::{Choices, Listed};
 use crate::evaluate::words_of;
 use crate::machine::{Deque, Event, Machine, PlayReport, Rules, Stop, What};
 use crate::thread::{Code, Next};
 use std::fmt::Write;
 
-const HEAD: &str = "event worker period deque thread action words | deque:owner:threads from the top ..\n";
+const TRACE_HEAD: &str =
+    "event worker period deque thread action words prefix ahead-now | deque:owner:threads from the top ..\n";
+const BOUND_HEAD: &str = "event words prefix ahead-now bound\n";
 
-/// Runs a program by the words of choice, and puts a line for each event into the text.
+/// Runs a program by the words of choice, and puts a line for each event into the text, with the deques after it.
 pub fn trace(code: &Code, rules: Rules, choices: &mut impl Choices, text: &mut String) -> Result<PlayReport, Stop> {
-    let mut machine = Machine::new(code, rules);
     let mut labels = Labels { forks: vec![0], labels: vec![Vec::new()] };
-    text.push_str(HEAD);
+    text.push_str(TRACE_HEAD);
+    each_event(code, rules, choices, |number, event, machine, ahead| {
+        let words = machine.world.live;
+        let what = labels.what(event);
+        let (worker, period, deque, thread) = (event.worker, event.period, event.deque, labels.shown(event.thread));
+        let (prefix, ahead) = (ahead.prefix, ahead.periods);
+        let deques: String = machine.deques.iter().map(|it| labels.deque(it)).collect();
+        writeln!(text, "{number} {worker} {period} {deque} {thread} {what} {words} {prefix} {ahead} |{deques}")
+            .expect("a text takes all");
+    })
+}
+
+/// Runs a program by the words of choice, and puts a line for each event into the text, with the bound on the words in use after it.
+pub fn bound(code: &Code, rules: Rules, choices: &mut impl Choices, text: &mut String) -> Result<PlayReport, Stop> {
+    text.push_str(BOUND_HEAD);
+    each_event(code, rules, choices, |number, _, machine, ahead| {
+        let (words, bound) = (machine.world.live, ahead.bound(rules.quota));
+        writeln!(text, "{number} {words} {} {} {bound}", ahead.prefix, ahead.periods).expect("a text takes all");
+    })
+}
+
+/// Runs a program by the words of choice, and shows each event with its number, the machine after it, and what is done of the list then.
+/// Where the depth-first list has more actions than the limit, nothing is run.
+pub fn each_event(
+    code: &Code,
+    rules: Rules,
+    choices: &mut impl Choices,
+    mut show: impl FnMut(u64, &Event, &Machine, &Ahead),
+) -> Result<PlayReport, Stop> {
+    let mut ahead = Ahead::new(Places::new(code, rules.quota, rules.steps).ok_or(Stop::StepsSpent)?);
+    let mut machine = Machine::new(code, rules);
     for number in 1_u64.. {
         if machine.has_ended() {
             break;
         }
         let event = machine.turn(choices)?;
-        let words = machine.world.live;
-        let what = labels.what(&event);
-        let (worker, period, deque, thread) = (event.worker, event.period, event.deque, labels.shown(event.thread));
-        let deques: String = machine.deques.iter().map(|it| labels.deque(it)).collect();
-        writeln!(text, "{number} {worker} {period} {deque} {thread} {what} {words} |{deques}").expect("a text takes all");
+        ahead.note(&event);
+        show(number, &event, &machine, &ahead);
     }
     Ok(machine.report())
+}
+
+/// What there is after these workers have moved, one after another; one that cannot move does not, and an idle one steals from the first deque that
+/// has a thread for it: the labels of the threads in the deques, the prefix, the periods ahead, the words in use, and how many are left below the
+/// bound.
+pub fn moment(code: &Code, rules: Rules, workers: &[usize]) -> Result<String, Stop> {
+    let mut ahead = Ahead::new(Places::new(code, rules.quota, rules.steps).ok_or(Stop::StepsSpent)?);
+    let mut machine = Machine::new(code, rules);
+    let mut labels = Labels { forks: vec![0], labels: vec![Vec::new()] };
+    for worker in workers {
+        if machine.can_move(*worker) {
+            let event = machine.step(*worker, &mut Listed(&[]))?;
+            labels.what(&event);
+            ahead.note(&event);
+        }
+    }
+    let threads = machine.deques.iter().flat_map(|deque| deque.threads.iter().rev());
+    let shown: String = threads.map(|thread| format!("{:?} ", labels.labels[*thread])).collect();
+    let live = machine.world.live;
+    let margin = ahead.bound(rules.quota) - live;
+    Ok(format!("{shown}prefix {}, ahead {}, live {live}, margin {margin}", ahead.prefix, ahead.periods))
 }
 
 /// The labels of threads, and how often each has forked.
@@ -64,7 +114,7 @@ impl Labels {
             What::Did(Next::Dummy) => "dummy".to_string(),
             What::Did(Next::Fault(fault, _)) => format!("fault:{fault:?}"),
             What::Did(Next::End) => "end".to_string(),
-            What::Did(Next::Fork(_)) => unreachable!("a fork tells its child"),
+            What::Did(Next::Fork(_)) => unreachable!("a fork has its child"),
         }
     }
 }

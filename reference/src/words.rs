@@ -36,13 +36,17 @@ const GROUPS: Rule = rule("groups", 1, 8_000, 1, 0);
 /// The options of the commands that run the machine.
 const OF_MACHINE: &[&str] = &["k", "p", "arena", "steps", "deques", "seed"];
 
-const COMMANDS: [(&str, &[&str]); 7] = [
+const COMMANDS: [(&str, &[&str]); 11] = [
     ("check", &[]),
     ("peak", &["k", "steps"]),
     ("play", OF_MACHINE),
     ("run", OF_MACHINE),
     ("make", OF_MACHINE),
+    ("loops", OF_MACHINE),
+    ("expand", &[]),
     ("trace", OF_MACHINE),
+    ("bound", OF_MACHINE),
+    ("span", &["k", "steps"]),
     ("steal", &["p", "steps", "seed"]),
 ];
 

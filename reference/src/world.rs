@@ -48,6 +48,15 @@ impl<'a> World<'a> {
         running.next(self.quota, &mut self.items[thread])
     }
 
+    /// How many statements a thread that runs has begun.
+    pub fn statements(&self, thread: usize) -> u64 {
+        if let Life::Running(running) = &self.lives[thread] {
+            running.statements
+        } else {
+            0
+        }
+    }
+
     pub fn has_ended(&self, thread: usize) -> bool {
         matches!(self.lives[thread], Life::Ended(_))
     }
