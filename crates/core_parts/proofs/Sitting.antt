@@ -24,7 +24,7 @@ use Rattle.core_parts.proofs.Going.{lawful_at}
 use Rattle.core_parts.proofs.Owners.{own_one}
 
 -- an event is a theft
-pub IsTheft : machine.Event → Type 0
+unfoldable pub IsTheft : machine.Event → Type 0
 IsTheft (machine.steals place id) = Unit {0}
 IsTheft (machine.does place) = ⊥
 IsTheft machine.suspends = ⊥
