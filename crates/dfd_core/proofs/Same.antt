@@ -1,0 +1,28 @@
+-- Two cores whose parts are the same are the same core: what a core has beside its parts are facts, and each fact has one proof.
+use Rattle.std.specs.Prelude.{◌≡◌, ◌≤◌, ◌<◌, None, length}
+use mathlib.Core.HLevel.{is_prop→PathP}
+use denote.Struct.Props.{props}
+use Rattle.node_table.specs.Codes.{code_shown}
+use Rattle.dummy_tree.specs.QuotaWords.{quota_words}
+use Rattle.core_parts.specs.Held.{held}
+use Rattle.core_parts.specs.Moments.{IsSound, CanGoOn, terms_of}
+use Rattle.dfd_core.specs.Running.{IsSomewhere}
+use Rattle.dfd_core.specs.declared.run.Core.{Core}
+
+pub same_core : (x y : Core) → x.scheduler ≡ y.scheduler → x.code ≡ y.code → x.k ≡ y.k → x.limit ≡ y.limit → x.most ≡ y.most → x.alloc ≡ y.alloc → x.end ≡ y.end → x ≡ y
+same_core x y s c k l m a e = λ i. record {
+  scheduler = s i;
+  code = c i;
+  k = k i;
+  limit = l i;
+  most = m i;
+  alloc = a i;
+  end = e i;
+  sound = is_prop→PathP (λ j. IsSound (code_shown (c j)) (quota_words (k j)) (terms_of (s j) (l j)) (held (s j))) (λ j. search props) x.sound y.sound i;
+  points = is_prop→PathP (λ j. e j ≡ None → CanGoOn (code_shown (c j)) (quota_words (k j)) (held (s j))) (λ j. search props) x.points y.points i;
+  somewhere = is_prop→PathP (λ j. IsSomewhere (code_shown (c j)) (quota_words (k j)) (terms_of (s j) (l j)) (held (s j)) (e j)) (λ j. search props) x.somewhere y.somewhere i;
+  few = is_prop→PathP (λ j. l j < 4294967295) (λ j. search props) x.few y.few i;
+  most_is = is_prop→PathP (λ j. m j ≡ (s j).list.most) (λ j. search props) x.most_is y.most_is i;
+  some_workers = is_prop→PathP (λ j. 1 ≤ length (s j).table.seats.items) (λ j. search props) x.some_workers y.some_workers i;
+  few_workers = is_prop→PathP (λ j. length (s j).table.seats.items ≤ 64) (λ j. search props) x.few_workers y.few_workers i;
+}
