@@ -20,6 +20,7 @@ use Rattle.deque_machine.specs.Play.{Limits}
 use Rattle.core_parts.specs.declared.scheduler.Scheduler.{Scheduler}
 use Rattle.core_parts.specs.Held.{Held, parts_in, IsInOrder, AreAtPoints, AreResults}
 use Rattle.core_parts.specs.Moves.{AreMovesOf}
+use Rattle.deque_machine.specs.Terms.{Terms, machine_of}
 
 -- those of a scheduler, with so many actions at most
 abbrev pub terms_of : Scheduler → (actions : ℕ) → Terms

@@ -59,7 +59,12 @@ pub record Stops (c : Setting) (terms : Terms) (after : Held) (worker word : ℕ
   pub meets : Meets (machine_of c terms) terms.limits m event stop
   pub stands : StandsAt c terms after run m
 
--- where memory is wanting, all stands where it stood
+-- the limit of deques does not stop what the rules want of the worker
+abbrev pub HasDequesLeft : Setting → Terms → (worker word : ℕ) → Moment → Type 0
+HasDequesLeft c terms worker word m = (event : machine.Event) (deques : ℕ) → Wants (machine_of c terms) m worker word event
+    → ¬ Meets (machine_of c terms) terms.limits m event (play.deques_full deques)
+
+-- where memory is wanting, all stands where it stood, and the limit of deques is not what stops the step
 abbrev pub StopsBy : Setting → Terms → Held → ℕ → ℕ → List Pair → Moment → Stop → Type 0
 StopsBy c terms after worker word run m (ArenaFull live asked) =
     ∥ Stops c terms after worker word run m (play.arena_full (pos live) asked) ∥₁
@@ -67,7 +72,7 @@ StopsBy c terms after worker word run m (DequesFull deques) =
     ∥ Stops c terms after worker word run m (play.deques_full deques) ∥₁
 StopsBy c terms after worker word run m (StepsSpent limit) =
     ∥ Stops c terms after worker word run m (play.steps_spent limit) ∥₁
-StopsBy c terms after worker word run m OutOfMemory = StandsAt c terms after run m
+StopsBy c terms after worker word run m OutOfMemory = StandsAt c terms after run m × HasDequesLeft c terms worker word m
 
 -- what a step comes to, at each moment of a run at which it may begin
 abbrev pub StepsTo : Setting → Terms → Held → ℕ → ℕ → List Pair → Moment → Result Event Stop → Type 0

@@ -127,6 +127,7 @@ impl<T> List<T> {
     pub fn room_right(&mut self) -> Result<(), InsertRefused>
         ensures ok { OnOk result (self.new.spare ≡ 1) }
         ensures few { OnOk result (length self.new.deques < self.new.most) }
+        ensures wanting { result ≡ Err InsertRefused.OutOfMemory → length self.old.deques < self.old.most }
         ensures full { (deques : ℕ) → (result ≡ Err (InsertRefused.Full deques))
             ↔ ((length self.old.deques ≡ self.old.most) × (deques ≡ self.old.most)) }
         ensures prepared { self.old.spare ≡ 1 → result ≢ Err InsertRefused.OutOfMemory }

@@ -8,18 +8,19 @@ use Rattle.depth_first_list.specs.Actions.{Deed, forks, joins, allocates, releas
 use Rattle.depth_first_list.specs.Runs.{IsDepthFirst}
 use Rattle.depth_first_list.specs.Facts.{action_at, deed_at, words_at, weight_at}
 use Rattle.lawful_books.specs.Lists.{total}
-use Rattle.lawful_books.specs.Books.{booked}
+use Rattle.lawful_books.specs.Books.{booked, periods_ahead}
 use Rattle.lawful_books.specs.Lawful.{LawfulBooks}
 use Rattle.lawful_books.proofs.Lists.{each_from, times_among}
-use Rattle.lawful_books.proofs.Keeping.{closed_same, begun_same}
+use Rattle.lawful_books.proofs.Keeping.{closed_same, begun_same, prefix_of}
 use Rattle.lawful_books.proofs.Whole.{few_places, total_ones}
-use Rattle.deque_machine.specs.Moments.{Deque, Moment, opening, live_at}
+use Rattle.deque_machine.specs.Moments.{Deque, Moment, opening, done_at, live_at}
 use Rattle.deque_machine.specs.Machine.{Setting, Event, steals, does, suspends, gives_up, Owns, books_with, books_closed, new_book, May, steals_beside, takes_over, forks_child, joins_child, allocates_within, allocates_above, releases_words, meets_fault, runs_dummy, ends_above_parent, ends_and_wakes, ends_and_leaves, suspends_top, gives_deque_up}
 use Rattle.deque_machine.specs.LawfulOrder.{IsLawful}
 use Rattle.deque_machine.specs.Runs.{Pair, Reaches, place_of}
 use Rattle.deque_machine.specs.Play.{IsForced, NoneFree, words_taken, taken_by, one_if_fork, Limits, Stop, arena_full, steps_spent, deques_full, Ending, finished, stopped, IsFirst, CanMove, Stays, Wants, a_theft, a_give_up, a_wait, an_action, Fills, Meets, no_deque, no_words, no_steps, words_drawn, Plays, is_over, is_stopped, goes_on, PlaysAreRuns, PlaysEnd, PlaysFinish, SomebodysTurn, WantedMayCome}
+use Rattle.deque_machine.specs.Completeness.{CoversNext, ArenasWithRoomLast, ArenasWithTheBoundLast, ActionsSuffice, DequesSuffice}
 use Rattle.deque_machine.proofs.Kept.{opening_is_lawful}
-use Rattle.deque_machine.proofs.Reached.{lawful_along}
+use Rattle.deque_machine.proofs.Reached.{lawful_along, arena_refuses}
 use Rattle.deque_machine.proofs.Sizes.{booked_more, arena_never_fills, deques_at_most}
 use Rattle.deque_machine.proofs.Ends.{runs_end}
 use Rattle.deque_machine.proofs.Progress.{wanted_comes}
@@ -233,21 +234,58 @@ taken_weighs dummy words some = absurd (omega arith)
 taken_weighs faults words some = absurd (omega arith)
 taken_weighs ends words some = absurd (omega arith)
 
-module _ (s : Setting) (some : 0 < s.quota) (list : IsDepthFirst s.quota s.list) (limits : Limits) (words : ℕ → ℕ)
-    (arena : total words_taken s.list ≤ limits.capacity) (actions : length s.list ≤ limits.actions) (deques : total one_if_fork s.list < limits.deques) where
-  no_stop : (so_far : List Pair) (m : Moment) → Reaches s opening so_far m → (worker : ℕ) (event : Event) (after : Moment) → May s m worker event after
-      → (longer : Reaches s opening (so_far ++ record { worker = worker; event = event } ∷ []) after) → (stop : Stop) → Meets s limits m event stop → ⊥
-  no_stop so_far m reaches worker event after may longer stop (no_deque place id deque is stays many) =
-      let more = theft_adds s m worker event after may place id refl deque is stays in
-      let most = deques_at_most s some list (so_far ++ record { worker = worker; event = event } ∷ []) after longer in omega (arith, more, most, many, deques)
-  no_stop so_far m reaches worker event after may longer stop (no_words place fills) =
+-- where a play is stopped: a run leads to this moment, and the event that meets the stop might come there
+pub record StoppedAt (s : Setting) (limits : Limits) (last : Moment) (stop : Stop) : Type 0 where
+  pub so_far : List Pair
+  pub worker : ℕ
+  pub event : Event
+  pub after : Moment
+  pub reaches : Reaches s opening so_far last
+  pub may : May s last worker event after
+  pub longer : Reaches s opening (so_far ++ record { worker = worker; event = event } ∷ []) after
+  pub meets : Meets s limits last event stop
+
+-- what is known of the last moment of a play, by its ending
+abbrev WhereStopped : Setting → Limits → Moment → Ending → Type 0
+WhereStopped s limits last finished = Unit {0}
+WhereStopped s limits last (stopped stop) = StoppedAt s limits last stop
+
+-- what excludes a stop at a moment: room for all words that the list takes, or for the bound behind the next action; as many actions as the
+-- list has; more deques than it has Forks
+abbrev pub Excluded : Setting → Limits → Moment → Stop → Type 0
+Excluded s limits m (arena_full live asked) = (total words_taken s.list ≤ limits.capacity) ⊎ CoversNext s limits.capacity m
+Excluded s limits m (steps_spent limit) = length s.list ≤ limits.actions
+Excluded s limits m (deques_full deques) = total one_if_fork s.list < limits.deques
+
+module _ (s : Setting) (some : 0 < s.quota) (list : IsDepthFirst s.quota s.list) (limits : Limits) where
+  -- an Alloc or a Fork that does not fit, though its words or the bound behind it do
+  no_filling : (so_far : List Pair) (m : Moment) → Reaches s opening so_far m → (worker place : ℕ) (after : Moment)
+      → May s m worker (does place) after → Fills s limits m place
+      → (total words_taken s.list ≤ limits.capacity) ⊎ CoversNext s limits.capacity m → ⊥
+  no_filling so_far m reaches worker place after may fills (inl arena) =
       let most = arena_never_fills s some list so_far m after worker place reaches may in
       too_many (live_at s.list m) (weight_at s.list place) (words_at s.list place) (total words_taken s.list) limits.capacity most
       (taken_weighs (deed_at s.list place) (words_at s.list place) fills.0) fills.1 arena
     where
       too_many : (x w : ℤ) (n t c : ℕ) → (x +ℤ w) ≤ℤ pos t → w ≡ pos n → pos c <ℤ (x +ℤ pos n) → t ≤ c → ⊥
       too_many x w n t c a b d e = omega (arith, ints)
-  no_stop so_far m reaches worker event after may longer stop (no_steps place room many) =
+  no_filling so_far m reaches worker place after may fills (inr covers) =
+      let p = prefix_of s.list (done_at after) in
+      let more = arena_refuses s some list so_far m after worker place p.0 (periods_ahead p.0 after.books) limits.capacity reaches may
+      (covers worker place p.0 after may fills.0 p.1)
+      (subst (λ w. pos limits.capacity <ℤ (live_at s.list m +ℤ w))
+      (sym (taken_weighs (deed_at s.list place) (words_at s.list place) fills.0)) fills.1) p.1 in
+      absurd (omega (arith, more))
+
+  no_stop : (so_far : List Pair) (m : Moment) → Reaches s opening so_far m → (worker : ℕ) (event : Event) (after : Moment) → May s m worker event after
+      → (longer : Reaches s opening (so_far ++ record { worker = worker; event = event } ∷ []) after) → (stop : Stop) → Meets s limits m event stop
+      → Excluded s limits m stop → ⊥
+  no_stop so_far m reaches worker event after may longer stop (no_deque place id deque is stays many) deques =
+      let more = theft_adds s m worker event after may place id refl deque is stays in
+      let most = deques_at_most s some list (so_far ++ record { worker = worker; event = event } ∷ []) after longer in omega (arith, more, most, many, deques)
+  no_stop so_far m reaches worker event after may longer stop (no_words place fills) arena =
+      no_filling so_far m reaches worker place after may fills arena
+  no_stop so_far m reaches worker event after may longer stop (no_steps place room many) actions =
       let lawful : IsLawful s after = lawful_along s list (so_far ++ record { worker = worker; event = event } ∷ []) opening after (opening_is_lawful s list) longer in
       let books : LawfulBooks s.quota s.list after.books = (lawful.periods).lawful in
       let more = event_acts s m worker (does place) after may in
@@ -255,17 +293,61 @@ module _ (s : Setting) (some : 0 < s.quota) (list : IsDepthFirst s.quota s.list)
       (each_from (λ i. i < length s.list) (booked after.books) (λ i there. books.of_the_list i (times_among i (booked after.books) there))) in
       omega (arith, more, few, many, actions)
 
-  finishes : (n : ℕ) (m : Moment) (run : List Pair) (last : Moment) (ending : Ending) (so_far : List Pair) (reaches : Reaches s opening so_far m) → NoneFree s opening so_far m reaches
-      → Plays s limits words n m run last ending → ending ≡ finished
-  finishes n m run last ending so_far reaches free (is_over n' m' has) = refl
-  finishes n m run last ending so_far reaches free (is_stopped n' m' pair stop turn meets) =
+module _ (s : Setting) (some : 0 < s.quota) (list : IsDepthFirst s.quota s.list) (limits : Limits) (words : ℕ → ℕ) where
+  stopped_from : (n : ℕ) (m : Moment) (run : List Pair) (last : Moment) (ending : Ending) (so_far : List Pair)
+      (reaches : Reaches s opening so_far m) → NoneFree s opening so_far m reaches
+      → Plays s limits words n m run last ending → WhereStopped s limits last ending
+  stopped_from n m run last ending so_far reaches free (is_over n' m' has) = tt
+  stopped_from n m run last ending so_far reaches free (is_stopped n' m' pair stop turn meets) =
       let lawful : IsLawful s m = lawful_along s list so_far opening m (opening_is_lawful s list) reaches in
       let next = wanted_comes s list m lawful pair.worker (in_range s.workers (words n) (CanMove s m) pair.worker turn.first) (words (suc n)) pair.event turn.wants in
       let longer = one_more_event s so_far opening m next.0 pair reaches free next.1 (forced_of s m pair.worker (words (suc n)) pair.event turn.wants) in
-      absurd (no_stop so_far m reaches pair.worker pair.event next.0 next.1 longer.0 stop meets)
-  finishes n m run last ending so_far reaches free (goes_on n' m' next last' pair later ending' turn none may rest) =
+      record {
+        so_far = so_far;
+        worker = pair.worker;
+        event = pair.event;
+        after = next.0;
+        reaches = reaches;
+        may = next.1;
+        longer = longer.0;
+        meets = meets;
+      }
+  stopped_from n m run last ending so_far reaches free (goes_on n' m' next last' pair later ending' turn none may rest) =
       let longer = one_more_event s so_far opening m next pair reaches free may (forced_of s m pair.worker (words (suc n)) pair.event turn.wants) in
-      finishes (n + words_drawn m pair.worker) next later last ending (so_far ++ pair ∷ []) longer.0 longer.1 rest
+      stopped_from (n + words_drawn m pair.worker) next later last ending (so_far ++ pair ∷ []) longer.0 longer.1 rest
+
+  -- a play does not end with a stop that is excluded at its last moment
+  pub excluded : (run : List Pair) (last : Moment) (stop : Stop) → Excluded s limits last stop
+      → Plays s limits words 0 opening run last (stopped stop) → ⊥
+  excluded run last stop none plays =
+      let at = stopped_from 0 opening run last (stopped stop) [] refl tt plays in
+      no_stop s some list limits at.so_far last at.reaches at.worker at.event at.after at.may at.longer stop at.meets none
+
+  finishes : (run : List Pair) (last : Moment) (ending : Ending) → total words_taken s.list ≤ limits.capacity
+      → length s.list ≤ limits.actions → total one_if_fork s.list < limits.deques
+      → Plays s limits words 0 opening run last ending → ending ≡ finished
+  finishes run last finished arena actions deques plays = refl
+  finishes run last (stopped (arena_full live asked)) arena actions deques plays =
+      absurd (excluded run last (arena_full live asked) (inl arena) plays)
+  finishes run last (stopped (steps_spent limit)) arena actions deques plays = absurd (excluded run last (steps_spent limit) actions plays)
+  finishes run last (stopped (deques_full most)) arena actions deques plays = absurd (excluded run last (deques_full most) deques plays)
 
 pub plays_finish : (s : Setting) → 0 < s.quota → IsDepthFirst s.quota s.list → PlaysFinish s
-plays_finish s some list limits words run last ending arena actions deques plays = finishes s some list limits words arena actions deques 0 opening run last ending [] refl tt plays
+plays_finish s some list limits words run last ending arena actions deques plays =
+    finishes s some list limits words run last ending arena actions deques plays
+
+pub arenas_with_room_last : (s : Setting) → 0 < s.quota → IsDepthFirst s.quota s.list → ArenasWithRoomLast s
+arenas_with_room_last s some list limits words run last live asked room plays =
+    excluded s some list limits words run last (arena_full live asked) (inl room) plays
+
+pub arenas_with_the_bound_last : (s : Setting) → 0 < s.quota → IsDepthFirst s.quota s.list → ArenasWithTheBoundLast s
+arenas_with_the_bound_last s some list limits words run last live asked covers plays =
+    excluded s some list limits words run last (arena_full live asked) (inr covers) plays
+
+pub actions_suffice : (s : Setting) → 0 < s.quota → IsDepthFirst s.quota s.list → ActionsSuffice s
+actions_suffice s some list limits words run last limit few plays =
+    excluded s some list limits words run last (steps_spent limit) few plays
+
+pub deques_suffice : (s : Setting) → 0 < s.quota → IsDepthFirst s.quota s.list → DequesSuffice s
+deques_suffice s some list limits words run last most few plays =
+    excluded s some list limits words run last (deques_full most) few plays

@@ -19,7 +19,7 @@ use Rattle.lawful_books.proofs.Accounting.{accounting, arena_law}
 use Rattle.deque_machine.specs.Moments.{Deque, Waiting, Moment, opening, done_at, live_at}
 use Rattle.deque_machine.specs.Machine.{Setting, Event, steals, does, suspends, gives_up, Owns, books_with, books_closed, new_book, May, steals_beside, takes_over, forks_child, joins_child, allocates_within, allocates_above, releases_words, meets_fault, runs_dummy, ends_above_parent, ends_and_wakes, ends_and_leaves, suspends_top, gives_deque_up}
 use Rattle.deque_machine.specs.LawfulOrder.{IsLawful}
-use Rattle.deque_machine.specs.Runs.{Pair, Reaches, place_of, places_of, moves_words, is_move, moves, high_water_mark, EventsKeepLawful, ReachedIsLawful, BoundAlways, AheadIsMarked, MovesAreLive, MarkedBound, ArenaRefuses, EndedDidAll}
+use Rattle.deque_machine.specs.Runs.{Pair, Reaches, place_of, places_of, moves_words, is_move, moves, high_water_mark, EventsKeepLawful, ReachedIsLawful, BoundAlways, AheadIsMarked, MovesAreLive, MarkedBound, MarksNeverFall, ArenaRefuses, EndedDidAll}
 use Rattle.deque_machine.proofs.Kept.{kept, opening_is_lawful}
 
 pub lawful_along : (s : Setting) → IsDepthFirst s.quota s.list → (run : List Pair) (first last : Moment) → IsLawful s first → Reaches s first run last → IsLawful s last
@@ -290,6 +290,9 @@ module _ (s : Setting) (some : 0 < s.quota) (list : IsDepthFirst s.quota s.list)
     where
       from_nothing : (x y : ℤ) → (pos 0 +ℤ x) ≤ℤ y → x ≤ℤ y
       from_nothing x y e = omega (arith, ints)
+
+  pub marks_never_fall : MarksNeverFall s
+  marks_never_fall run first last reaches = marks_grow s run first last reaches
 
   pub arena_refuses : ArenaRefuses s
   arena_refuses run m after worker place n periods capacity reaches may room refused prefix =

@@ -4,3 +4,4 @@ pub mod LawfulOrder
 pub mod Runs
 pub mod Play
 pub mod Terms
+pub mod Completeness

@@ -87,6 +87,10 @@ abbrev pub MarkedBound : Setting → Type 0
 MarkedBound s = (run : List Pair) (m : Moment) → Reaches s opening run m →
     high_water_mark s.list run ≤ℤ bound s.quota s.list (periods_marked m.books)
 
+-- along a run no mark is lost, so those of its end cover each moment before
+abbrev pub MarksNeverFall : Setting → Type 0
+MarksNeverFall s = (run : List Pair) (first last : Moment) → Reaches s first run last → periods_marked first.books ≤ periods_marked last.books
+
 -- Where an action may come that an arena with room for the peak and two quotas for each of so many periods refuses, more
 -- periods would be ahead behind it.
 abbrev pub ArenaRefuses : Setting → Type 0

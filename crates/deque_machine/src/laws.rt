@@ -1,5 +1,6 @@
+ghost use Rattle.deque_machine.specs.Completeness.{ArenasWithRoomLast, ArenasWithTheBoundLast, ActionsSuffice, DequesSuffice};
 ghost use Rattle.deque_machine.specs.Play.{RunsEnd, RunsAreShort, ArenaNeverFills, DequesAtMost, SomebodysTurn, WantedMayCome, PlaysAreRuns, PlaysEnd, PlaysFinish};
-ghost use Rattle.deque_machine.specs.Runs.{InEachSetting, OpeningIsLawful, EventsKeepLawful, ReachedIsLawful, BoundAlways, AheadIsMarked, MovesAreLive, MarkedBound, ArenaRefuses, EndedDidAll};
+ghost use Rattle.deque_machine.specs.Runs.{InEachSetting, OpeningIsLawful, EventsKeepLawful, ReachedIsLawful, BoundAlways, AheadIsMarked, MovesAreLive, MarkedBound, MarksNeverFall, ArenaRefuses, EndedDidAll};
 
 /// The opening moment has lawful order, lawful books and begun ahead.
 pub fn opening_is_lawful()
@@ -92,4 +93,29 @@ pub fn plays_end()
 /// With room for all words, actions and deques that the list can want, a play finishes.
 pub fn plays_finish()
     ensures { InEachSetting PlaysFinish }
+{}
+
+/// With room for all words that the list takes, its arena stops no play.
+pub fn arenas_with_room_last()
+    ensures { InEachSetting ArenasWithRoomLast }
+{}
+
+/// Nor does it where the last moment has room for the peak and two quotas for each period ahead, with the next Alloc or Fork counted.
+pub fn arenas_with_the_bound_last()
+    ensures { InEachSetting ArenasWithTheBoundLast }
+{}
+
+/// With as many actions as the list has, the limit of actions stops no play.
+pub fn actions_suffice()
+    ensures { InEachSetting ActionsSuffice }
+{}
+
+/// With more deques than the list has Forks, the limit of deques stops no play.
+pub fn deques_suffice()
+    ensures { InEachSetting DequesSuffice }
+{}
+
+/// A mark is never lost: along a run as many periods are marked as before, or more.
+pub fn marks_never_fall()
+    ensures { InEachSetting MarksNeverFall }
 {}

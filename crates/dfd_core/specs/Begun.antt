@@ -9,7 +9,6 @@ use Rattle.thread_frames.specs.declared.thread.Thread.{Thread}
 use Rattle.thread_frames.specs.Points.{IsAtPoint}
 use Rattle.thread_frames.specs.Views.{label_of, done_of, children_of, thread_words}
 use Rattle.core_parts.specs.Held.{Held}
-use Rattle.deque_machine.specs.Terms.{Terms}
 
 -- one deque without an owner, which holds a thread
 abbrev pub deques_with : Thread → List (Deque Thread)

@@ -3,6 +3,7 @@ use Rattle.std.proofs.Common.{◌≡◌, ◌≢◌, ℕ, ◌+◌, ◌≤◌, Lis
 use Rattle.std.proofs.lemmas.Int.{ints}
 use Rattle.std.specs.Prelude.{Option, None, Some, true, ℤ, pos, ◌+ℤ◌}
 use Rattle.dag_order.specs.LabelOrder.{fork_of}
+use Rattle.dag_order.specs.declared.thread_id.ThreadId.{ThreadId}
 use Rattle.depth_first_list.specs.Actions.{Deed, forks, joins, allocates, releases, dummy, faults, ends}
 use Rattle.depth_first_list.specs.Runs.{IsDepthFirst}
 use Rattle.depth_first_list.specs.Facts.{label_at, deed_at, words_at, weight_at}
@@ -17,6 +18,7 @@ use Rattle.deque_machine.specs.LawfulOrder.{IsLawful}
 use Rattle.deque_machine.proofs.KeptOrder.{own_alloc, own_release, own_fault, own_dummy, IsOwn}
 use Rattle.deque_machine.proofs.LiveThreads.{join_is_no_end, join_is_no_fork}
 use Rattle.period_books.specs.Periods.{Period}
+use Rattle.period_books.specs.Names.{births_by}
 use Rattle.moment_parts.specs.Parts.{Child, Thread, Parts, IsIn, deque_shown, label_of, words_of, thread_words}
 use Rattle.moment_parts.specs.Standing.{ChildStands, HasAllChildren, ThreadStands, Shows}
 use Rattle.moment_parts.specs.Events as events
@@ -25,6 +27,16 @@ use Rattle.moment_parts.specs.Laws.{Comes}
 use Rattle.moment_parts.proofs.Facts.{Behind, Alike, alike_itself, acted_alike, other_behind, result_behind, top_has_done, own_children_behind, down, none_before, as_alike}
 use Rattle.moment_parts.proofs.Shown.{shown_middle, deques_shown, used_is, by_deque}
 use Rattle.moment_parts.proofs.Placing.{own, top_is_in, top_stands, under_differs, beside_differs, waiting_differs, under_is_in, beside_is_in, words_beside, words_were, words_now, at_top, told, behind, words_behind, one_done}
+
+-- who does not fork gives no birth
+no_births : (by : ThreadId) (deed : Deed) → ((c : ℕ) → deed ≢ forks c) → [] ≡ births_by by deed
+no_births by (forks child) none = absurd (none child refl)
+no_births by (joins child) none = refl
+no_births by allocates none = refl
+no_births by releases none = refl
+no_births by dummy none = refl
+no_births by faults none = refl
+no_births by ends none = refl
 
 pub words_change : (before now top new rest : ℕ) (w : ℤ) → before ≡ top + rest → now ≡ new + rest → pos new ≡ pos top +ℤ w → pos now ≡ pos before +ℤ w
 words_change before now top new rest w was is changes = omega (arith, ints, was, is, changes)
@@ -71,7 +83,7 @@ module _ (s : Setting) (run : IsDepthFirst s.quota s.list) (m : Moment) (lawful 
         waits = shows.waits;
         waiting = shows.waiting;
         wait_once = shows.wait_once;
-        books = told s run m lawful parts shows worker o place deed is_next [] owner periods n;
+        books = told s run m lawful parts shows worker o place deed is_next [] owner periods n (no_births o.top.id deed no_fork);
         threads = λ x there. elim there [
           | inl in_deque ↦ elim (by_deque x o.left o.right (record { id = o.id; owner = owner; threads = new ∷ o.under }) in_deque) [
             | inl here ↦ elim here [

@@ -97,7 +97,7 @@ module _ (s : Setting) (run : IsDepthFirst s.quota s.list) (m : Moment) (lawful 
       waits = waits_are;
       waiting = waiting_are;
       wait_once = once;
-      books = told s run m lawful parts shows worker o place ends is_next [] owner periods n;
+      books = told s run m lawful parts shows worker o place ends is_next [] owner periods n refl;
       threads = λ x there. other x there (is_left x there);
       results = λ r there. elim there [
         | inl same ↦ subst (ResultStands s.list after (next_of deques waiting)) (sym same) (result_stands deques waiting left)

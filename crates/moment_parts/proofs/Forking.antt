@@ -216,7 +216,7 @@ module _ (s : Setting) (run : IsDepthFirst s.quota s.list) (m : Moment) (lawful 
             waits = shows.waits;
             waiting = shows.waiting;
             wait_once = shows.wait_once;
-            books = told s run m lawful parts shows worker o place (forks ordinal) is_next births (Some worker) periods n;
+            books = told s run m lawful parts shows worker o place (forks ordinal) is_next births (Some worker) periods n refl;
             threads = by_who (ThreadStands s.list after next) child_stands parent_stands
                 (λ y differs there. other_behind s.quota s.list run parts next (done_at m) after o.top place is_behind y differs (shows.threads y there));
             results = λ r there. result_behind s.quota s.list run parts next (done_at m) after o.top place is_behind r (shows.results r there);

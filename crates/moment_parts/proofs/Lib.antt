@@ -7,3 +7,4 @@ pub mod Ending
 pub mod Acting
 pub mod Moving
 pub mod Handing
+pub mod Births

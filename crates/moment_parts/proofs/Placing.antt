@@ -21,7 +21,7 @@ use Rattle.deque_machine.proofs.Labels.{stands_once}
 use Rattle.deque_machine.proofs.Placed.{waits_among}
 use Rattle.deque_machine.proofs.Reached.{event_writes}
 use Rattle.period_books.specs.Periods.{Period}
-use Rattle.period_books.specs.Names.{HasLabel, IsNamed}
+use Rattle.period_books.specs.Names.{HasLabel, IsNamed, births_by}
 use Rattle.period_books.specs.Telling.{Tell}
 use Rattle.period_books.proofs.Labels.{one_label, labels_stay}
 use Rattle.period_books.proofs.Changes.{running_is_told}
@@ -125,8 +125,8 @@ module _ (s : Setting) (run : IsDepthFirst s.quota s.list) (m : Moment) (lawful 
     one_done owner i = done_more own.older own.newer own.book owner place i ∙ ap (λ bs. done_in bs i + one_if_same i place) (sym own.books_are)
 
     module _ (births : List Birth) (owner : Option ℕ) (periods : List Period) (n : Notes s.quota s.list o place births owner periods) where
-      pub told : Tell s.quota s.list periods (books_with own owner place)
-      told =
+      pub told : births ≡ births_by (Thread.id o.top) deed → Tell s.quota s.list periods (books_with own owner place)
+      told births_are =
           let book = book_of_it s.quota s.list parts m shows worker o in
           subst (λ w. Tell s.quota s.list periods (one_more own.older own.book own.newer w place)) n.owner_is (
           running_is_told s.quota s.list parts.periods periods own.older own.newer own.book o.period n.after (name_of o.top) place
@@ -134,7 +134,7 @@ module _ (s : Setting) (run : IsDepthFirst s.quota s.list) (m : Moment) (lawful 
             same_ahead = n.same_ahead;
             was_open = (worker, o.open_for_it);
             ran = n.ran;
-            births = (births, n.born);
+            births = n.born ∙ ap (λ t. o.period.born ++ t) (births_are ∙ ap (births_by (Thread.id o.top)) (sym is_next.does));
             named = named;
             used = n.used;
           })

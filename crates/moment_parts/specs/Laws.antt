@@ -1,9 +1,12 @@
 -- What each event of the machine is, on parts that show its moment.
-use Rattle.std.specs.Prelude.{◌≡◌, ℕ, [], length}
-use Rattle.dag_order.specs.Births.{root}
+use Rattle.std.specs.Prelude.{◌≡◌, ℕ, List, [], ◌∷◌, ◌++◌, length, map}
+use Rattle.dag_order.specs.declared.birth.Birth.{Birth}
+use Rattle.dag_order.specs.Births.{root, ParentsComeFirst, MayFollow}
 use Rattle.deque_machine.specs.Moments.{Moment, opening}
 use Rattle.deque_machine.specs.Machine.{Setting, Event, steals, does, suspends, gives_up, May}
 use Rattle.deque_machine.specs.LawfulOrder.{IsLawful}
+use Rattle.period_books.specs.Periods.{Period}
+use Rattle.period_books.specs.Telling.{Tell}
 use Rattle.moment_parts.specs.Parts.{Thread, Parts, parts_with_root}
 use Rattle.moment_parts.specs.Standing.{Shows}
 use Rattle.moment_parts.specs.Events.{Does, GivesUp, Suspends, Steals, HandsOver}
@@ -32,6 +35,17 @@ WaitsAreEvents s = (m : Moment) (parts : Parts) (worker : ℕ) (next : Parts) �
 abbrev pub TheftsAreEvents : Setting → Type 0
 TheftsAreEvents s = (m : Moment) (parts : Parts) (worker place id : ℕ) (next : Parts) → IsLawful s m → Shows s.quota s.list parts m
     → Steals s.workers (length m.books) parts worker place id next → Comes s m worker (steals place id) next
+
+-- The births of the periods, in the order of their numbers, are those of a lawful moment, and so they come parents first: each parent is the
+-- root, or was born in an earlier period or earlier in the same one.
+abbrev pub BirthsComeParentsFirst : Setting → Type 0
+BirthsComeParentsFirst s = (m : Moment) (periods : List Period) (t : Tell s.quota s.list periods m.books) → IsLawful s m
+    → ParentsComeFirst (map (λ p. p.born) t.sorted)
+
+-- so they may be added to a roster one period after the other
+abbrev pub BirthsMayFollow : Setting → Type 0
+BirthsMayFollow s = (m : Moment) (periods : List Period) (t : Tell s.quota s.list periods m.books) → IsLawful s m
+    → (front back : List (List Birth)) (births : List Birth) → map (λ p. p.born) t.sorted ≡ front ++ births ∷ back → MayFollow front births
 
 -- a result that is handed over changes no moment
 abbrev pub HandingOverIsNoEvent : Setting → Type 0

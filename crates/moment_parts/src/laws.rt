@@ -1,6 +1,6 @@
 ghost use Rattle.std.specs.Prelude.{ℕ};
 ghost use Rattle.deque_machine.specs.Runs.{InEachSetting};
-ghost use Rattle.moment_parts.specs.Laws.{RootIsTheOpening, ActionsAreEvents, GiveUpsAreEvents, HandingOverIsNoEvent, TheftsAreEvents, WaitsAreEvents};
+ghost use Rattle.moment_parts.specs.Laws.{RootIsTheOpening, ActionsAreEvents, BirthsComeParentsFirst, BirthsMayFollow, GiveUpsAreEvents, HandingOverIsNoEvent, TheftsAreEvents, WaitsAreEvents};
 
 /// A root that has done nothing, alone in a deque without an owner, is the opening moment.
 pub fn root_is_the_opening()
@@ -30,4 +30,14 @@ pub fn thefts_are_events()
 /// A kept result that is handed to its parent changes no moment.
 pub fn handing_over_is_no_event()
     ensures { InEachSetting HandingOverIsNoEvent }
+{}
+
+/// The births of the periods of a lawful moment come parents first.
+pub fn births_come_parents_first()
+    ensures { InEachSetting BirthsComeParentsFirst }
+{}
+
+/// So they may be added to a roster, one period after the other.
+pub fn births_may_follow()
+    ensures { InEachSetting BirthsMayFollow }
 {}

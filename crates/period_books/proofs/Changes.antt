@@ -1,15 +1,16 @@
 -- What becomes of the books where a period begins, runs an action, or is closed.
-use Rattle.std.proofs.Common.{◌≡◌, ℕ, zero, suc, ◌+◌, ◌<◌, ◌⊎◌, ◌≢◌, List, [], ◌∷◌, ◌++◌, length, inl, inr, refl, sym, ap, subst, ◌∙◌, arith, true≢false}
+use Rattle.std.proofs.Common.{◌≡◌, ℕ, zero, suc, ◌+◌, ◌<◌, ◌⊎◌, ◌≢◌, List, [], ◌∷◌, ◌++◌, length, inl, inr, refl, sym, ap, subst, ◌∙◌, arith, append-nil, append_assoc, true≢false}
 use Rattle.std.specs.Prelude.{None}
 use Rattle.std.proofs.lemmas.Option.{none-some}
 use Rattle.dag_order.specs.declared.thread_id.ThreadId.{ThreadId}
 use Rattle.dag_order.specs.declared.action_id.ActionId.{ActionId}
 use Rattle.depth_first_list.specs.Actions.{Action}
+use Rattle.depth_first_list.specs.Facts.{deed_at}
 use Rattle.lawful_books.specs.Books.{Book, charged, charge_at}
 use Rattle.lawful_books.specs.Lawful.{book_of}
 use Rattle.lawful_books.proofs.Lists.{total_append}
 use Rattle.period_books.specs.Periods.{Period, InOrder, Replaces}
-use Rattle.period_books.specs.Names.{HasLabel, IsNamed, AreNamed}
+use Rattle.period_books.specs.Names.{HasLabel, IsNamed, AreNamed, births_by, births_among}
 use Rattle.period_books.specs.Telling.{IsBook, AreBooks, Tell}
 use Rattle.period_books.specs.Laws.{NoneTell, EachHasItsBook, BeginningIsTold, RunningIsTold, ClosingIsTold}
 use Rattle.period_books.proofs.Sorting.{Place, place_of, cut_at, added, replaced}
@@ -40,11 +41,22 @@ one_named_more l periods [] (p ∷ places) id place are is = absurd are
 one_named_more l periods (i ∷ ids) [] id place are is = absurd are
 one_named_more l periods (i ∷ ids) (p ∷ places) id place are is = (are.0, one_named_more l periods ids places id place are.1 is)
 
+-- an action more has its birth after the others
+births_more : (l : List Action) (periods : List Period) (ids : List ActionId) (places : List ℕ) (id : ActionId) (place : ℕ) → AreNamed l periods ids places
+    → births_among l (ids ++ id ∷ []) (places ++ place ∷ []) ≡ births_among l ids places ++ births_by id.by (deed_at l place)
+births_more l periods [] [] id place are = append-nil (births_by id.by (deed_at l place))
+births_more l periods [] (p ∷ places) id place are = absurd are
+births_more l periods (i ∷ ids) [] id place are = absurd are
+births_more l periods (i ∷ ids) (p ∷ places) id place are =
+    ap (λ t. births_by i.by (deed_at l p) ++ t) (births_more l periods ids places id place are.1)
+    ∙ sym (append_assoc (births_by i.by (deed_at l p)) (births_among l ids places) (births_by id.by (deed_at l place)))
+
 book_still : (k : ℕ) (l : List Action) (periods next : List Period) (stay : Stay periods next) (p : Period) (book : Book) → IsBook k l periods p book → IsBook k l next p book
 book_still k l periods next stay p book is = record {
   ahead = is.ahead;
   owner = is.owner;
   ran = all_named_still l periods next stay p.ran book.ran is.ran;
+  born = is.born;
   used = is.used;
 }
 
@@ -94,7 +106,7 @@ one_book_more k l periods (q ∷ ps) (b ∷ books) p book are is = (are.0, one_b
 
 pub beginning_is_told : (k : ℕ) (l : List Action) → BeginningIsTold k l
 unfolding Stay
-beginning_is_told k l periods next books new t adds number empty none unused =
+beginning_is_told k l periods next books new t adds number empty none_born unused =
     let stay : Stay periods next = λ id label has. labels_stay_at_a_beginning periods next new id label adds has in
     let many : length t.sorted ≡ length books = as_many k l periods t.sorted books t.are_books in
     record {
@@ -104,6 +116,7 @@ beginning_is_told k l periods next books new t adds number empty none unused =
         ahead = refl;
         owner = refl;
         ran = subst (λ ids. AreNamed l next ids []) (sym empty) tt;
+        born = none_born ∙ sym (ap (λ ids. births_among l ids []) empty);
         used = λ worker owner. unused;
       });
     }
@@ -147,12 +160,14 @@ told_changed k l periods next older newer book after old new t change number sta
 pub running_is_told : (k : ℕ) (l : List Action) → RunningIsTold k l
 unfolding Stay
 running_is_told k l periods next older newer book old new id place t change number runs =
-    let stay : Stay periods next = λ i label has. labels_stay k l periods next (older ++ book ∷ newer) old new runs.births.0 i label t change runs.births.1 has in
+    let stay : Stay periods next = λ i label has. labels_stay k l periods next (older ++ book ∷ newer) old new (births_by id.by (deed_at l place)) i label t change runs.births has in
     told_changed k l periods next older newer book (book_of book new.owner (book.ran ++ place ∷ [])) old new t change number stay (λ was. record {
       ahead = was.ahead ∙ sym runs.same_ahead;
       owner = refl;
       ran = subst (λ ids. AreNamed l next ids (book.ran ++ place ∷ [])) (sym runs.ran)
           (one_named_more l next old.ran book.ran id place (all_named_still l periods next stay old.ran book.ran was.ran) (named_still l periods next stay id place runs.named));
+      born = runs.births ∙ ap (λ births. births ++ births_by id.by (deed_at l place)) was.born
+          ∙ sym (births_more l periods old.ran book.ran id place was.ran) ∙ sym (ap (λ ids. births_among l ids (book.ran ++ place ∷ [])) runs.ran);
       used = λ worker owner. runs.used worker owner ∙ ap (λ n. n + charge_at k l place) (was.used runs.was_open.0 runs.was_open.1)
           ∙ sym (charged_more book.ran);
     })
@@ -163,11 +178,12 @@ running_is_told k l periods next older newer book old new id place t change numb
 pub closing_is_told : (k : ℕ) (l : List Action) → ClosingIsTold k l
 unfolding Stay
 closing_is_told k l periods next older newer book old new t change number closes =
-    let born : new.born ≡ old.born ++ [] = closes.same_born ∙ sym (Rattle.std.proofs.Common.append-nil old.born) in
+    let born : new.born ≡ old.born ++ [] = closes.same_born ∙ sym (append-nil old.born) in
     let stay : Stay periods next = λ i label has. labels_stay k l periods next (older ++ book ∷ newer) old new [] i label t change born has in
     told_changed k l periods next older newer book (book_of book None book.ran) old new t change number stay (λ was. record {
       ahead = was.ahead ∙ sym closes.same_ahead;
       owner = sym closes.is_closed;
       ran = subst (λ ids. AreNamed l next ids book.ran) (sym closes.same_ran) (all_named_still l periods next stay old.ran book.ran was.ran);
+      born = closes.same_born ∙ was.born ∙ sym (ap (λ ids. births_among l ids book.ran) closes.same_ran);
       used = λ worker owner. absurd (none-some worker (sym closes.is_closed ∙ owner));
     })

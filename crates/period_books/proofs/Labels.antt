@@ -19,18 +19,18 @@ use Rattle.period_books.specs.Laws.{OneLabel, LabelsStayAtABeginning, LabelsStay
 use Rattle.period_books.proofs.Sorting.{Place, place_of, one_of_a_number, within, none_at_end, get_middle}
 
 -- how a thread comes by its label
-record Forked (periods : List Period) (id : ThreadId) (label : List ℕ) : Type 0 where
-  by : Period
-  nth : ℕ
-  birth : Birth
-  parent : List ℕ
-  there : Among by periods
-  born : slice_get by.born nth ≡ Some birth
-  above : HasLabel periods birth.parent parent
-  id_is : id ≡ id_of by nth
-  label_is : label ≡ fork_of parent birth.ordinal
+pub record Forked (periods : List Period) (id : ThreadId) (label : List ℕ) : Type 0 where
+  pub by : Period
+  pub nth : ℕ
+  pub birth : Birth
+  pub parent : List ℕ
+  pub there : Among by periods
+  pub born : slice_get by.born nth ≡ Some birth
+  pub above : HasLabel periods birth.parent parent
+  pub id_is : id ≡ id_of by nth
+  pub label_is : label ≡ fork_of parent birth.ordinal
 
-how : (periods : List Period) (id : ThreadId) (label : List ℕ) → HasLabel periods id label → ((id ≡ root) × (label ≡ [])) ⊎ Forked periods id label
+pub how : (periods : List Period) (id : ThreadId) (label : List ℕ) → HasLabel periods id label → ((id ≡ root) × (label ≡ [])) ⊎ Forked periods id label
 how periods id label of_root = inl (refl, refl)
 how periods id label (of_fork p nth birth parent there born above) = inr (record {
   by = p;
@@ -119,7 +119,7 @@ forked_is_labelled k l periods next books old new birth parent t change born has
     (of_fork new (length old.born) birth parent change.there found stays)
 
 -- the birth of a thread in the list of the births of the periods
-born_of : {periods sorted : List Period} → InOrder periods sorted → (p : Period) (nth : ℕ) (birth : Birth) → Among p periods → slice_get p.born nth ≡ Some birth
+pub born_of : {periods sorted : List Period} → InOrder periods sorted → (p : Period) (nth : ℕ) (birth : Birth) → Among p periods → slice_get p.born nth ≡ Some birth
     → birth_of (map (λ q. Period.born q) sorted) (id_of p nth) ≡ Some birth
 unfolding Place
 born_of {periods} {sorted} order p nth birth there born =

@@ -6,11 +6,12 @@ use Rattle.dag_order.specs.declared.birth.Birth.{Birth}
 use Rattle.dag_order.specs.LabelOrder.{fork_of}
 use Rattle.dag_order.specs.Births as births
 use Rattle.depth_first_list.specs.Actions.{Action}
+use Rattle.depth_first_list.specs.Facts.{deed_at}
 use Rattle.lawful_books.specs.Lists.{Among}
 use Rattle.lawful_books.specs.Books.{Book, charge_at}
 use Rattle.lawful_books.specs.Lawful.{book_of, one_more}
 use Rattle.period_books.specs.Periods.{Period, Adds, Replaces}
-use Rattle.period_books.specs.Names.{id_of, HasLabel, IsNamed}
+use Rattle.period_books.specs.Names.{id_of, HasLabel, IsNamed, births_by}
 use Rattle.period_books.specs.Telling.{IsBook, Tell}
 
 -- no periods are no books
@@ -36,13 +37,13 @@ BeginningIsTold k l = (periods next : List Period) (books : List Book) (new : Pe
     → new.number ≡ suc (length books) → new.ran ≡ [] → new.born ≡ [] → new.used ≡ 0
     → Tell k l next (books ++ record { ahead = new.ahead; owner = new.owner; ran = [] } ∷ [])
 
--- A period runs the action of a name, and may fork a thread with it: then its book has the place of this action behind the others. While it
--- stays open it has taken what the action takes.
+-- A period runs the action of a name, and has one birth more where this is a Fork: then its book has the place of this action after the others.
+-- While it stays open it has taken what the action takes.
 pub record Runs (k : ℕ) (l : List Action) (periods : List Period) (old new : Period) (id : ActionId) (place : ℕ) : Type 0 where
   pub same_ahead : new.ahead ≡ old.ahead
   pub was_open : (worker : ℕ) × (old.owner ≡ Some worker)
   pub ran : new.ran ≡ old.ran ++ id ∷ []
-  pub births : (more : List Birth) × (new.born ≡ old.born ++ more)
+  pub births : new.born ≡ old.born ++ births_by id.by (deed_at l place)
   pub named : IsNamed l periods id place
   pub used : (worker : ℕ) → new.owner ≡ Some worker → new.used ≡ old.used + charge_at k l place
 

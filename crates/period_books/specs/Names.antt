@@ -1,12 +1,12 @@
 -- The labels of threads by the births that stand in periods, and the places of actions by their names.
-use Rattle.std.specs.Prelude.{◌≡◌, ℕ, ◌<◌, Some, List, [], ◌∷◌, length, slice_get}
+use Rattle.std.specs.Prelude.{◌≡◌, ℕ, ◌<◌, Some, List, [], ◌∷◌, ◌++◌, length, slice_get}
 use Rattle.dag_order.specs.declared.thread_id.ThreadId.{ThreadId}
 use Rattle.dag_order.specs.declared.action_id.ActionId.{ActionId}
 use Rattle.dag_order.specs.declared.birth.Birth.{Birth}
 use Rattle.dag_order.specs.Births.{root}
 use Rattle.dag_order.specs.LabelOrder.{fork_of}
-use Rattle.depth_first_list.specs.Actions.{Action}
-use Rattle.depth_first_list.specs.Facts.{label_at, index_at}
+use Rattle.depth_first_list.specs.Actions.{Deed, forks, joins, allocates, releases, dummy, faults, ends, Action}
+use Rattle.depth_first_list.specs.Facts.{label_at, index_at, deed_at}
 use Rattle.lawful_books.specs.Lists.{Among}
 use Rattle.period_books.specs.Periods.{Period}
 
@@ -32,3 +32,19 @@ AreNamed l periods [] [] = Unit {0}
 AreNamed l periods [] (place ∷ places) = ⊥
 AreNamed l periods (id ∷ ids) [] = ⊥
 AreNamed l periods (id ∷ ids) (place ∷ places) = IsNamed l periods id place × AreNamed l periods ids places
+
+-- the birth that a thread gives with a deed: one where it forks
+abbrev pub births_by : ThreadId → Deed → List Birth
+births_by by (forks child) = record { parent = by; ordinal = child } ∷ []
+births_by by (joins child) = []
+births_by by allocates = []
+births_by by releases = []
+births_by by dummy = []
+births_by by faults = []
+births_by by ends = []
+
+-- the births with the actions of these names, at these places: those of the Forks among them, one for one and in their order
+abbrev pub births_among : List Action → List ActionId → List ℕ → List Birth
+births_among l [] places = []
+births_among l (id ∷ ids) [] = []
+births_among l (id ∷ ids) (place ∷ places) = births_by id.by (deed_at l place) ++ births_among l ids places

@@ -3,14 +3,15 @@ use Rattle.std.specs.Prelude.{◌≡◌, ℕ, Some, List, [], ◌∷◌}
 use Rattle.depth_first_list.specs.Actions.{Action}
 use Rattle.lawful_books.specs.Books.{Book, charged}
 use Rattle.period_books.specs.Periods.{Period, InOrder}
-use Rattle.period_books.specs.Names.{AreNamed}
+use Rattle.period_books.specs.Names.{AreNamed, births_among}
 
--- The book of a period: its mark and its owner, and the places of what it ran. While it is open it knows what it has taken of its quota of
--- k words.
+-- The book of a period: its mark and its owner, and the places of what it ran. Its births are the Forks among what it ran, one for one. While
+-- it is open it knows what it has taken of its quota of k words.
 pub record IsBook (k : ℕ) (l : List Action) (periods : List Period) (p : Period) (book : Book) : Type 0 where
   pub ahead : book.ahead ≡ p.ahead
   pub owner : book.owner ≡ p.owner
   pub ran : AreNamed l periods p.ran book.ran
+  pub born : p.born ≡ births_among l p.ran book.ran
   pub used : (worker : ℕ) → p.owner ≡ Some worker → p.used ≡ charged k l book.ran
 
 abbrev pub AreBooks : ℕ → List Action → List Period → List Period → List Book → Type 0

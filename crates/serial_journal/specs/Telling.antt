@@ -9,7 +9,7 @@ use Rattle.dag_order.specs.declared.finish.Finish.{Finish}
 use Rattle.dag_order.specs.declared.finish.Finish.TheVariants.{Done, Faulted}
 use Rattle.depth_first_list.specs.Actions.{Deed, forks, joins, allocates, releases, dummy, faults, ends, Action, kind_of, weight_of, peak}
 use Rattle.depth_first_run.specs.States.{Item}
-use Rattle.depth_first_run.specs.Run.{actions_of, first_fault, lines_of}
+use Rattle.depth_first_run.specs.Run.{actions_of, first_fault, lines_of, finish_of}
 use Rattle.serial_journal.specs.declared.action.Action.{Action as Shown}
 use Rattle.serial_journal.specs.declared.serial.Serial.{Serial}
 

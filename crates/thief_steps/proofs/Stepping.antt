@@ -42,7 +42,7 @@ use Rattle.core_parts.specs.Outcomes.{GoesOn, Stops, StopsBy}
 use Rattle.core_parts.proofs.Going.{lawful_at}
 use Rattle.core_parts.proofs.Leaving.{IsIdle, stole_goes_on}
 use Rattle.thief_steps.specs.Thefts.{Theft, takes_bottom, takes_deque, Robs, StaysAt, StopsTheft, OnlyMemory, Thieves}
-use Rattle.thief_steps.proofs.Wanting.{one_first, first_below, theft_of, shown_as, same_length, shown_at, shown_stays, id_of_thief, has_room}
+use Rattle.thief_steps.proofs.Wanting.{one_first, first_below, theft_of, shown_as, same_length, shown_at, shown_stays, id_of_thief, has_room, full_at, stays_in_list}
 
 -- an idle worker owns no deque
 pub unowned : (table : PeriodTable) (worker : ℕ) → seat_at table worker ≡ None → (deques : List (Deque Thread)) → OwnersSit table deques
@@ -215,7 +215,18 @@ module _ (workers worker : ℕ) (before : Scheduler) (many : workers ≡ length 
           (∥∥₁_map sound.in_order (λ o. stopped_at
           ((owners_are_shown thread_shown before.list.deques m worker at.shows.deques).1 (unowned before.table worker idle before.list.deques o.owners)) full.1 full.2))
       stops (StepsSpent limit) none = absurd none
-      stops OutOfMemory any = still
+      stops OutOfMemory room = (
+        still,
+        λ event deques wants meets. ∥∥₁_elim sound.in_order (λ x y. absurd x) (λ o.
+            (let none = (owners_are_shown thread_shown before.list.deques m worker at.shows.deques).1 (unowned before.table worker idle before.list.deques o.owners) in
+            let theft = theft_of s m worker word event none wants in
+            let same : place ≡ theft.0 = one_first (reach s m) word (IsReady m) place theft.0 first_of_moment theft.3 in
+            let full = full_at s (terms_of before limit).limits m event deques meets theft.0 theft.1 theft.2 in
+            let many = same_length before.list.deques m at.shows.deques in
+            let few = room (stays_in_list before.list.deques m at.shows.deques place first_by_seats.passes full.0
+            (ap (slice_get m.deques) same ∙ full.1) full.2) in
+            let most = full.3 in omega (arith, most, few, many))),
+      )
 
     pub stopped : (after : Scheduler) → OnlyMemory before after → (stop : Stop) → StopsTheft before.list place stop
         → (run : List Pair) (m : Moment) → StandsAt c (terms_of before limit) (held before) run m → StopsBy c (terms_of before limit) (held after) worker word run m stop

@@ -11,7 +11,7 @@ use Rattle.lawful_books.proofs.Lists.{total_middle, one_same}
 use Rattle.deque_machine.specs.Moments.{Moment, Deque, owned_by, one_if_owned}
 use Rattle.deque_machine.specs.Machine as machine
 use Rattle.deque_machine.specs.Machine.{Setting, Owns}
-use Rattle.deque_machine.specs.Play.{IsFirst, IsReady, IsThiefsId, Stays, Wants, reach, a_theft, a_give_up, a_wait, an_action}
+use Rattle.deque_machine.specs.Play.{IsFirst, IsReady, IsThiefsId, Stays, Wants, reach, a_theft, a_give_up, a_wait, an_action, Limits, Stop, deques_full, Meets, no_deque, no_words, no_steps}
 use Rattle.moment_parts.specs.Parts as parts
 use Rattle.period_books.proofs.Sorting.{get_middle}
 use Rattle.thread_frames.specs.declared.thread.Thread.{Thread}
@@ -19,7 +19,8 @@ use Rattle.thread_parts.specs.Shown.{thread_shown}
 use Rattle.deque_events.specs.Shown.{deque_shown, deque_with}
 use Rattle.step_laws.specs.Readiness.{AreDeques}
 use Rattle.step_laws.proofs.Ready.{ids_are_shown}
-use Rattle.thief_steps.specs.Thefts.{Theft, takes_bottom, takes_deque}
+use Rattle.victim_choice.specs.Choices.{IsReadyAt}
+use Rattle.thief_steps.specs.Thefts.{Theft, takes_bottom, takes_deque, StaysAt}
 use Rattle.thief_steps.proofs.Robbing.{keeps_two}
 
 -- there is one first that passes
@@ -54,6 +55,34 @@ module _ (s : Setting) (m : Moment) (worker : ℕ) where
   theft_of word event none (a_wait o place child at not_ended) = absurd (let some = owner_owns o in omega (arith, none, some))
   theft_of word event none (an_action o place next has fits) = absurd (let some = owner_owns o in omega (arith, none, some))
 
+IsTheft : machine.Event → Type 0
+IsTheft (machine.steals place id) = Unit {0}
+IsTheft (machine.does place) = ⊥
+IsTheft machine.suspends = ⊥
+IsTheft machine.gives_up = ⊥
+
+place_robbed : machine.Event → ℕ
+place_robbed (machine.steals place id) = place
+place_robbed other = 0
+
+-- the stop of a theft says that the deque would stay, and that no more are allowed
+FullAt : (limits : Limits) (m : Moment) (place : ℕ) → Stop → Type 0
+FullAt limits m place (deques_full deques) = (deque : Deque) × (slice_get m.deques place ≡ Some deque) × Stays deque × (limits.deques ≤ length m.deques)
+FullAt limits m place other = Unit {0}
+
+full_of_stop : (s : Setting) (limits : Limits) (m : Moment) (event : machine.Event) (stop : Stop) → Meets s limits m event stop → (place id : ℕ)
+    → event ≡ machine.steals place id → FullAt limits m place stop
+unfolding IsTheft place_robbed FullAt
+full_of_stop s limits m event stop (no_deque p i deque there stays many) place id is =
+    (deque, ap (slice_get m.deques) (sym (ap place_robbed is)) ∙ there, stays, many)
+full_of_stop s limits m event stop (no_words p fills) place id is = absurd (subst IsTheft (sym is) tt)
+full_of_stop s limits m event stop (no_steps p room many) place id is = absurd (subst IsTheft (sym is) tt)
+
+pub full_at : (s : Setting) (limits : Limits) (m : Moment) (event : machine.Event) (deques : ℕ) → Meets s limits m event (deques_full deques) → (place id : ℕ)
+    → event ≡ machine.steals place id → (deque : Deque) × (slice_get m.deques place ≡ Some deque) × Stays deque × (limits.deques ≤ length m.deques)
+unfolding FullAt
+full_at s limits m event deques meets place id is = full_of_stop s limits m event (deques_full deques) meets place id is
+
 -- a deque of the moment, by that of the list
 abbrev pub shown_as : lists.Deque Thread → Deque
 shown_as d = parts.deque_shown (deque_shown thread_shown d)
@@ -74,6 +103,12 @@ module _ (deques : List (lists.Deque Thread)) (m : Moment) (are : AreDeques thre
   -- a deque with an owner or two threads stays
   pub shown_stays : (d : lists.Deque Thread) → (d.owner ≢ None) ⊎ (2 ≤ length d.items) → Stays (shown_as d)
   shown_stays d stays = elim stays [ inl owned ↦ inl owned | inr two ↦ inr (let same = as_many d in omega (arith, two, same)) ]
+
+  -- and a ready deque that stays in the moment stays in the list
+  pub stays_in_list : (place : ℕ) → IsReadyAt deques place → (d : Deque) → slice_get m.deques place ≡ Some d → Stays d → StaysAt deques place
+  stays_in_list place ready d there stays =
+      let same : d ≡ shown_as ready.0 = same_Some d (shown_as ready.0) (sym there ∙ shown_at place ready.0 ready.1) in
+      (ready.0, ready.1, elim (subst Stays same stays) [ inl owned ↦ inl owned | inr two ↦ inr (let n = as_many ready.0 in omega (arith, two, n)) ])
 
   middle_is : (left right : List (lists.Deque Thread)) (d : lists.Deque Thread) → deques ≡ left ++ d ∷ right → slice_get m.deques (length left) ≡ Some (shown_as d)
   middle_is left right d is = shown_at (length left) d (ap (λ ds. slice_get ds (length left)) is ∙ get_middle left d right)

@@ -60,12 +60,13 @@ abbrev pub StaysAt : List (Deque Thread) → ℕ → Type 0
 StaysAt deques place =
     (deque : Deque Thread) × (slice_get deques place ≡ Some deque) × ((Deque.owner deque ≢ None) ⊎ (2 ≤ length (Deque.items deque)))
 
--- what stops a theft: there are as many deques as are allowed, and it would make one more; or memory is wanting
+-- what stops a theft: there are as many deques as are allowed, and it would make one more; or memory is wanting, where a deque more is
+-- allowed or none would come
 abbrev pub StopsTheft : ListView Thread → (place : ℕ) → Stop → Type 0
 StopsTheft list place (ArenaFull live asked) = ⊥
 StopsTheft list place (DequesFull deques) = (deques ≡ list.most) × (length list.deques ≡ list.most) × StaysAt list.deques place
 StopsTheft list place (StepsSpent limit) = ⊥
-StopsTheft list place OutOfMemory = Unit {0}
+StopsTheft list place OutOfMemory = StaysAt list.deques place → length list.deques < list.most
 
 -- nothing has changed but memory
 pub record OnlyMemory (before after : Scheduler) : Type 0 where

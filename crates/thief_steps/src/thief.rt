@@ -1,4 +1,4 @@
-ghost use Rattle.std.specs.Prelude.{◌≡◌, ◌≢◌, ◌≤◌, ◌<◌, ◌+◌, ◌∷◌, ◌++◌, ◌↔◌, [], ℕ, List as AnyList, Option as AnyOption, None, Ok, length, slice_get};
+ghost use Rattle.std.specs.Prelude.{◌≡◌, ◌≢◌, ◌≤◌, ◌<◌, ◌+◌, ◌∷◌, ◌++◌, ◌↔◌, [], ℕ, List as AnyList, Option as AnyOption, None, Ok, Err, IfOk, length, slice_get};
 ghost use Rattle.depth_first_run.specs.States.{Setting};
 ghost use Rattle.deque_machine.specs.Moments.{Moment};
 ghost use Rattle.deque_machine.specs.Runs.{Pair};
@@ -7,16 +7,34 @@ ghost use Rattle.thread_steps.specs.Settings.{IsSettingOf};
 ghost use Rattle.period_table.specs.Tables.{seat_at};
 ghost use Rattle.deque_events.specs.Shown.{Holds};
 ghost use Rattle.victim_choice.specs.Choices.{SomeReady, IsReadyAt};
+ghost use Rattle.core_parts.specs.declared.stop.Stop.{Stop as AnyStop};
+ghost use Rattle.core_parts.specs.declared.stop.Stop.TheVariants as stops;
 ghost use Rattle.core_parts.specs.Held.{held};
 ghost use Rattle.core_parts.specs.Moments.{IsSound, CanGoOn, SameTerms, StandsAt, terms_of};
 ghost use Rattle.thief_steps.specs.Thefts.{Thieves, StepsBy};
 
 use core_parts::{Event, Scheduler, Stop};
 use deque_list::{DequeId, InsertRefused};
+use period_table::PeriodTable;
 use quota_period::Period;
 use std::alloc::Global;
 use thread_frames::Thread;
 use victim_choice::first_ready;
+
+/// The number of the next period.
+///
+/// # Errors
+///
+/// Each number of a period is taken; memory is then said to be wanting. A run would have to begin 4,294,967,295 periods.
+fn next_number(table: &PeriodTable) -> Result<u32, Stop>
+    ensures next { IfOk result (λ number. number ≡ table.now.begun + 1) }
+    ensures taken { (stop : AnyStop) → result ≡ Err stop → (stop ≡ stops.OutOfMemory) × (table.now.begun ≡ 4294967295) }
+{
+    match table.begun().checked_add(1) {
+        Some(number) => Ok(number),
+        None => Err(Stop::OutOfMemory),
+    }
+}
 
 /// A thief takes the bottom thread of a deque that keeps others into a new deque to the right of it.
 ///
@@ -37,15 +55,15 @@ fn steal_beside(
         (holds : Holds scheduler.old.list victim owner (first ∷ (others ++ bottom ∷ [])))
         → Thieves worker (length (Holds.left holds)) scheduler.old scheduler.new result }
 {
-    if scheduler.table.begun() == u32::MAX {
-        return Err(Stop::OutOfMemory);
-    }
     match scheduler.list.room_right() {
         Ok(()) => {}
         Err(InsertRefused::Full { deques }) => return Err(Stop::DequesFull { deques }),
         Err(InsertRefused::OutOfMemory) => return Err(Stop::OutOfMemory),
     }
-    let number = scheduler.table.begun() + 1;
+    let number = match next_number(&scheduler.table) {
+        Ok(number) => number,
+        Err(stop) => return Err(stop),
+    };
     let Ok(period) = Period::start(alloc, number, true) else {
         return Err(Stop::OutOfMemory);
     };
@@ -80,10 +98,10 @@ fn take_over(
     requires idle { seat_at scheduler.old.table worker ≡ None }
     ensures { Thieves worker place scheduler.old scheduler.new result }
 {
-    if scheduler.table.begun() == u32::MAX {
-        return Err(Stop::OutOfMemory);
-    }
-    let number = scheduler.table.begun() + 1;
+    let number = match next_number(&scheduler.table) {
+        Ok(number) => number,
+        Err(stop) => return Err(stop),
+    };
     let Ok(period) = Period::start(alloc, number, place > 0) else {
         return Err(Stop::OutOfMemory);
     };

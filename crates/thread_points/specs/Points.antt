@@ -8,7 +8,7 @@ use Rattle.depth_first_list.specs.Facts.{action_at}
 use Rattle.par_tree.specs.Tree.{Name, done, step}
 use Rattle.par_ownership.specs.Ownership.{function_of, main_name}
 use Rattle.depth_first_run.specs.States.{Setting, State, Item, began, child_of, parent_of, ended}
-use Rattle.depth_first_run.specs.Run.{whole, actions_of}
+use Rattle.depth_first_run.specs.Run.{whole, actions_of, list_of}
 use Rattle.depth_first_run.specs.Middle.{Part, statements, tree, Frame, does, answers, rejoins, answers_main, allocates, awaits, joins, part_done, Middle, middle, step_fork, step_frame, advance, run_start}
 
 -- the point of a run after n steps

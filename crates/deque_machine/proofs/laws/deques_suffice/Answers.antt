@@ -1,0 +1,5 @@
+use Rattle.deque_machine.proofs.Playing as law
+use Rattle.deque_machine.proofs.laws.deques_suffice.Goals as goal
+
+pub returns : goal.returns
+returns c = law.deques_suffice
