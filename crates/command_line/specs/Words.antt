@@ -47,28 +47,19 @@ rule_of Steps = record { least = 1; most = MOST_ACTIONS; unit = 1; default = MOS
 rule_of Deques = record { least = 1; most = MOST_DEQUES; unit = 1; default = MOST_DEQUES }
 rule_of Seed = record { least = 0; most = GREATEST_SEED; unit = 1; default = 1 }
 
--- whether a command has an option
+-- whether a command has an option: those that play have each, and `peak` has two
 abbrev pub has : CommandKind → Setting → Bool
 has Play s = true
-has Peak Quota = true
-has Peak Workers = false
-has Peak Arena = false
-has Peak Steps = true
-has Peak Deques = false
-has Peak Seed = false
-has Check s = false
 has Make s = true
 has Loops s = true
-has Expand s = false
+has Peak Quota = true
+has Peak Steps = true
+has kind s = false
 
 -- whether a command wants a plain word, its number of groups
 abbrev pub wants_groups : CommandKind → Bool
-wants_groups Play = false
-wants_groups Peak = false
-wants_groups Check = false
 wants_groups Make = true
-wants_groups Loops = false
-wants_groups Expand = false
+wants_groups kind = false
 
 -- what stands behind the word of a command: an option with its value, joined in one word or in two; or a plain word
 pub data Item : Type 0 where
@@ -113,7 +104,7 @@ Gives s value n = IsValue value × InRange s n × (n ≡ digits_value 10 value)
 abbrev pub Sets : Setting → List (List ℕ) → ℕ → Type 0
 Sets s [] n = n ≡ (rule_of s).default
 Sets s (value ∷ []) n = Gives s value n
-Sets s (value ∷ again ∷ values) n = ⊥
+Sets s values n = ⊥
 
 -- a plain word tells this number of groups: it is a value like those of options, and so no word that begins with `--`
 abbrev pub TellsGroups : List ℕ → ℕ → Type 0
@@ -121,11 +112,9 @@ TellsGroups word n = IsValue word × (1 ≤ n) × (n ≤ MOST_GROUPS) × (n ≡ 
 
 -- the groups of a command that wants some are what its one plain word tells; another command has no plain word, and 0 groups
 abbrev pub SetsGroups : (wanted : Bool) → (plain_words : List (List ℕ)) → ℕ → Type 0
-SetsGroups true [] n = ⊥
 SetsGroups true (word ∷ []) n = TellsGroups word n
-SetsGroups true (word ∷ again ∷ words) n = ⊥
 SetsGroups false [] n = n ≡ 0
-SetsGroups false (word ∷ words) n = ⊥
+SetsGroups wanted words n = ⊥
 
 -- the command has each of the options
 abbrev pub AllHad : CommandKind → List Item → Type 0

@@ -31,6 +31,7 @@ use Rattle.period_table.specs.Tables.{periods_of, period_at, seat_at, deque_at, 
 use Rattle.period_table.proofs.Seats.{some_shown, some_seat}
 use Rattle.period_table.proofs.Lists.{cut_table}
 use Rattle.space_ledger.specs.BooksList.{books_list}
+use Rattle.moment_parts.proofs.Counting.{threads_count_within}
 use Rattle.moment_parts.specs.Parts as parts
 use Rattle.moment_parts.specs.Parts.{IsIn, words_of, deque_words, thread_words as words_of_thread, label_of as label_shown}
 use Rattle.moment_parts.specs.Standing.{ThreadStands}
@@ -133,6 +134,12 @@ module _ (s : Scheduler) {worker : ℕ} {id : DequeId} {items : List Thread} (st
         ≡ total deque_words (map (deque_shown thread_shown) stands.left ++ deque_shown thread_shown own_deque ∷ map (deque_shown thread_shown) stands.right) = ap (total deque_words) deques_are in
         let sum = deque_words_middle (map (deque_shown thread_shown) stands.left) (map (deque_shown thread_shown) stands.right) (deque_shown thread_shown own_deque) in
         let words = at.shows.words in let live = at.live in omega (arith, ints, deques, sum, words, live)
+
+    -- it has done no more actions than are done
+    pub counts_within : done_of top ≤ s.done
+    counts_within =
+        let few = threads_count_within (machine_of c terms) (omega (arith, quota)) listed m (parts_in (held_under s stands top)) (thread_shown top) lawful at.shows top_is_in in
+        let done = at.done in omega (arith, few, done)
 
     -- its period has taken no more than the quota
     pub used_within : (p : Period) → period_at s.table worker ≡ Some p → p.used ≤ c.quota

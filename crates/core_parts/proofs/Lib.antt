@@ -6,5 +6,6 @@ pub mod Going
 pub mod Leaving
 pub mod Still
 pub mod AtTop
+pub mod Sitting
 pub mod Joining
 pub mod Bounds

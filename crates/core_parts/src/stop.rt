@@ -1,6 +1,3 @@
-use std::error::Error;
-use std::fmt;
-
 /// What stops a run before it ends. Behind it nothing more is done.
 #[derive(Clone, Copy, PartialEq, Eq, Debug)]
 pub enum Stop {
@@ -13,22 +10,3 @@ pub enum Stop {
     /// There is not enough memory.
     OutOfMemory,
 }
-
-impl fmt::Display for Stop {
-    fn fmt<W: fmt::Write>(&self, f: &mut fmt::Formatter<W>) -> fmt::Result {
-        match *self {
-            Stop::ArenaFull { live, asked } => {
-                write!(f, "{asked} words do not fit beside {live} that are out")
-            }
-            Stop::DequesFull { deques } => {
-                write!(f, "there are {deques} deques, and no more are allowed")
-            }
-            Stop::StepsSpent { limit } => {
-                write!(f, "{limit} actions are done, and no more are allowed")
-            }
-            Stop::OutOfMemory => write!(f, "there is not enough memory"),
-        }
-    }
-}
-
-impl Error for Stop {}

@@ -4,7 +4,8 @@ use Rattle.std.proofs.lemmas.Bool.{cases_order}
 use Rattle.dag_order.specs.LabelOrder.{fork_of}
 use Rattle.depth_first_list.specs.Actions.{Deed, forks, joins, ends, Action}
 use Rattle.depth_first_list.specs.Runs.{start, IsDepthFirst}
-use Rattle.depth_first_list.specs.Facts.{action_at, label_at, deed_at, StemsFrom, ForksAreInOrder, JoinStandsBehindChild, JoinsTheNewest, EachChildIsJoined, JoinedOnce}
+use Rattle.depth_first_list.specs.Facts.{action_at, label_at, deed_at, StemsFrom}
+use Rattle.depth_first_list.specs.Laws.{ForksAreInOrder, JoinStandsBehindChild, JoinsTheNewest, EachChildIsJoined, JoinedOnce}
 use Rattle.depth_first_list.proofs.Own.{Found}
 use Rattle.depth_first_list.proofs.Joins.{IsIn, joins_forked, forked_joined, joined_once, later_joined}
 use Rattle.depth_first_list.proofs.Whole.{Whole, own_steps, own_inside, stems_itself, not_the_end, forks_do_not_end, joins_do_not_end, HasWhole, own_whole, end_label, end_deed}

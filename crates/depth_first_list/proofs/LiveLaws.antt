@@ -6,7 +6,8 @@ use Rattle.dag_order.specs.LabelOrder.{fork_of}
 use Rattle.dag_order.specs.LabelLaws.{three_ways}
 use Rattle.depth_first_list.specs.Actions.{forks, joins, ends, Action}
 use Rattle.depth_first_list.specs.Runs.{IsDepthFirst}
-use Rattle.depth_first_list.specs.Facts.{label_at, index_at, deed_at, ForksAreInOrder, IsDone, IsLive, IsNext, EndMeansAll, RootEndMeansAll, ParentsAreLive, JoinsTheLastLive, HasDone, NextIsOfItsIndex, FirstMissingGoesFirst, FirstMissingNeverWaits}
+use Rattle.depth_first_list.specs.Facts.{label_at, index_at, deed_at, IsDone, IsLive, IsNext, HasDone}
+use Rattle.depth_first_list.specs.Laws.{ForksAreInOrder, EndMeansAll, RootEndMeansAll, ParentsAreLive, JoinsTheLastLive, NextIsOfItsIndex, FirstMissingGoesFirst, FirstMissingNeverWaits}
 use Rattle.depth_first_list.proofs.Whole.{stems_of_fork, joins_do_not_end}
 use Rattle.depth_first_list.proofs.ThreadLaws.{index_rises_law, fork_stands_before, forks_are_in_order, each_thread_ends, end_is_last}
 use Rattle.depth_first_list.proofs.JoinLaws.{join_stands_behind_child, joins_the_newest_law, each_child_is_joined}

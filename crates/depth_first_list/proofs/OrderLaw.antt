@@ -5,7 +5,8 @@ use Rattle.dag_order.specs.LabelOrder.{fork_of, Before, ProperlyExtends, FirstDi
 use Rattle.dag_order.specs.LabelLaws.{before_in_words, three_ways, never_before_itself}
 use Rattle.depth_first_list.specs.Actions.{forks, Action}
 use Rattle.depth_first_list.specs.Runs.{IsDepthFirst}
-use Rattle.depth_first_list.specs.Facts.{label_at, deed_at, StemsFrom, ForksAreInOrder, IsDone, IsLive, IsNext, LabelsFollowTheList, LiveHasNext, FirstMissingIsNext}
+use Rattle.depth_first_list.specs.Facts.{label_at, deed_at, StemsFrom, IsDone, IsLive, IsNext}
+use Rattle.depth_first_list.specs.Laws.{ForksAreInOrder, LabelsFollowTheList, LiveHasNext, FirstMissingIsNext}
 use Rattle.depth_first_list.proofs.Own.{one_fork}
 use Rattle.depth_first_list.proofs.Whole.{stems_of_fork}
 use Rattle.depth_first_list.proofs.ThreadLaws.{fork_stands_before, child_stands_before_parent, child_stands_together, each_thread_ends, end_is_last, forks_are_in_order}

@@ -3,7 +3,7 @@ use Rattle.std.proofs.Common.{◌≡◌, ℕ, zero, suc, List, [], ◌∷◌, ta
 use Rattle.std.specs.Int.{int_max}
 use Rattle.std.proofs.lemmas.Int.{ints, clamps, by_lt_z}
 use Rattle.depth_first_list.specs.Actions.{Action, weight, live_words, peak}
-use Rattle.depth_first_list.specs.Facts.{PeakIsHighest}
+use Rattle.depth_first_list.specs.Laws.{PeakIsHighest}
 
 -- no prefix goes above it
 peak_is_above : (l : List Action) (n : ℕ) → live_words (take n l) ≤ℤ peak l

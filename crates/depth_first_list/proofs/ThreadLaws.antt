@@ -4,7 +4,8 @@ use Rattle.std.proofs.lemmas.Bool.{cases_order, cases_lt, cases_eq}
 use Rattle.dag_order.specs.LabelOrder.{fork_of}
 use Rattle.depth_first_list.specs.Actions.{forks, Action}
 use Rattle.depth_first_list.specs.Runs.{Point, start, end_at, IsDepthFirst}
-use Rattle.depth_first_list.specs.Facts.{action_at, label_at, index_at, deed_at, StemsFrom, RootEnds, NamesDiffer, IndexRises, NoIndexIsSkipped, IndexIsWithin, OrdinalIsWithin, ForkStandsBefore, ChildBeginsBehindFork, ChildStandsTogether, ChildStandsBeforeParent, ForksAreInOrder, ForkedOnce, EachThreadEnds, EndIsLast}
+use Rattle.depth_first_list.specs.Facts.{action_at, label_at, index_at, deed_at, StemsFrom}
+use Rattle.depth_first_list.specs.Laws.{RootEnds, NamesDiffer, IndexRises, NoIndexIsSkipped, IndexIsWithin, OrdinalIsWithin, ForkStandsBefore, ChildBeginsBehindFork, ChildStandsTogether, ChildStandsBeforeParent, ForksAreInOrder, ForkedOnce, EachThreadEnds, EndIsLast}
 use Rattle.depth_first_list.proofs.Steps.{Steps, none, more, label_not_below}
 use Rattle.depth_first_list.proofs.Own.{IndexFound, index_found, index_rises, Between, fork_between, forks_rise, Found, fork_found, no_end, not_own, one_fork}
 use Rattle.depth_first_list.proofs.Whole.{Whole, own_steps, RootWhole, root_whole, whole_place, end_label, end_deed, own_inside, stems_of_fork, stems_further, stems_itself, not_the_end, forks_do_not_end, ChildWhole, child_whole, fork_of_child, HasWhole, thread_whole, own_whole}

@@ -8,7 +8,8 @@ use Rattle.dummy_tree.specs.Shapes.{Shape, leaves, shape_of}
 use Rattle.dummy_tree.proofs.ShapeLaws.{leaves_of_shape, shape_of_is_shape}
 use Rattle.depth_first_list.specs.Actions.{Deed, forks, joins, allocates, releases, dummy, faults, ends, Action, record_words}
 use Rattle.depth_first_list.specs.Runs.{Point, start, next_child, action_at_point, end_at, after_tree, tree_run, tree_for, IsPlain, Runs, rests, goes_on, acts, forks_a_child, joins_the_newest, allocates_behind_a_tree, IsDepthFirst}
-use Rattle.depth_first_list.specs.Facts.{action_at, label_at, deed_at, StemsFrom, IsLarge, leaves_at, IsInTreeOf, dummies_from, IsOfTree, TreeStandsBefore, TreesStandBefore, DummiesAreOfTrees, TreesAreApart, TreesAreDoneFirst}
+use Rattle.depth_first_list.specs.Facts.{action_at, label_at, deed_at, StemsFrom}
+use Rattle.depth_first_list.specs.Laws.{IsLarge, leaves_at, IsInTreeOf, dummies_from, IsOfTree, TreeStandsBefore, TreesStandBefore, DummiesAreOfTrees, TreesAreApart, TreesAreDoneFirst}
 use Rattle.depth_first_list.proofs.Trace.{Sits, sits_front, sits_back}
 use Rattle.depth_first_list.proofs.Whole.{sits_itself}
 use Rattle.depth_first_list.proofs.Trees.{tree_length, some_leaves, tree_dummies, every_place, IsTreeAction, tree_actions, tree_done, Treed, treed_nothing, treed_both, IsPlainPlace, treed_plain}

@@ -7,7 +7,8 @@ use Rattle.dag_order.specs.declared.kind.Kind.TheVariants.{Fork, Join, End}
 use Rattle.dummy_tree.specs.Shapes.{Shape, leaf, forked, actions, leaves, is_dummy}
 use Rattle.depth_first_list.specs.Actions.{Deed, forks, joins, allocates, dummy, ends, Action, record_words, kind_of, action_kind}
 use Rattle.depth_first_list.specs.Runs.{Point, start, next_child, action_at_point, after_fork, end_at, after_tree, tree_run}
-use Rattle.depth_first_list.specs.Facts.{action_at, label_at, deed_at, words_at, StemsFrom, IsLarge, IsInTreeOf, dummies_from, IsOfTree, TreeStandsBefore, IsDone, TreeRunsAsShaped}
+use Rattle.depth_first_list.specs.Facts.{action_at, label_at, deed_at, words_at, StemsFrom, IsDone}
+use Rattle.depth_first_list.specs.Laws.{IsLarge, IsInTreeOf, dummies_from, IsOfTree, TreeStandsBefore, TreeRunsAsShaped}
 use Rattle.depth_first_list.proofs.Trace.{Sits, sits_front, sits_back}
 
 -- a tree of n leaves has 4n - 3 actions

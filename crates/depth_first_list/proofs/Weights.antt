@@ -4,7 +4,8 @@ use Rattle.dag_order.specs.LabelOrder.{fork_of}
 use Rattle.dummy_tree.specs.Shapes.{Shape, leaf, forked}
 use Rattle.depth_first_list.specs.Actions.{Deed, forks, joins, allocates, releases, dummy, faults, ends, Action, record_words, weight_of}
 use Rattle.depth_first_list.specs.Runs.{Point, start, next_child, action_at_point, after_fork, end_at, after_tree, tree_run, tree_for, IsPlain, Runs, rests, goes_on, acts, forks_a_child, joins_the_newest, allocates_behind_a_tree, IsDepthFirst}
-use Rattle.depth_first_list.specs.Facts.{action_at, label_at, deed_at, words_at, ForksTakeRecords, ChildEndsGiveBack, RootEndIsWeightless, DummiesAreWeightless}
+use Rattle.depth_first_list.specs.Facts.{action_at, label_at, deed_at, words_at}
+use Rattle.depth_first_list.specs.Laws.{ForksTakeRecords, ChildEndsGiveBack, RootEndIsWeightless, DummiesAreWeightless}
 use Rattle.depth_first_list.proofs.Whole.{sits_itself}
 use Rattle.depth_first_list.proofs.Trees.{Every, every_append, every_place}
 

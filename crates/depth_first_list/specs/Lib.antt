@@ -1,3 +1,4 @@
 pub mod Actions
 pub mod Runs
 pub mod Facts
+pub mod Laws

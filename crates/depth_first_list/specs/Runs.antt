@@ -58,13 +58,10 @@ tree_run label p (forked child own) =
 
 -- what a thread does by itself, with no tree before it: an Alloc that the quota covers, a Release or a Fault
 abbrev pub IsPlain : ℕ → Deed → ℕ → Type 0
-IsPlain k (forks child) words = ⊥
-IsPlain k (joins child) words = ⊥
 IsPlain k allocates words = words ≤ k
 IsPlain k releases words = Unit {0}
-IsPlain k dummy words = ⊥
 IsPlain k faults words = Unit {0}
-IsPlain k ends words = ⊥
+IsPlain k other words = ⊥
 
 -- the tree of dummies before an Alloc that the quota does not cover
 abbrev pub tree_for : ℕ → ℕ → Shape

@@ -54,11 +54,9 @@ pub data Answer : Type 0 where
 
 -- the answer goes to the target
 abbrev pub answered : Target → Answer → Store → Store
-answered unused answer s = s
 answered (integer x) (number v) s = with_integer x v s
-answered (integer x) (items xs) s = s
-answered (block b) (number v) s = s
 answered (block b) (items xs) s = hold_block b xs s
+answered target answer s = s
 
 -- the end of a call: the caller goes on with its own store, its lent blocks and the answer
 abbrev pub end_call : List Store → List Param → List Arg → Target → Answer → State → State

@@ -206,26 +206,21 @@ whole c = ended 0 (main_run c (function_of c.program main_name) (root_start c))
 -- the actions among the items of a run, in its order
 abbrev pub actions_of : List Item → List Action
 actions_of [] = []
-actions_of (began line ∷ items) = actions_of items
 actions_of (acted a ∷ items) = a ∷ actions_of items
-actions_of (printed v ∷ items) = actions_of items
-actions_of (failed fault ∷ items) = actions_of items
+actions_of (other ∷ items) = actions_of items
 
 -- the first fault, where there is one
 abbrev pub first_fault : List Item → Option FaultAt
 first_fault [] = None
-first_fault (began line ∷ items) = first_fault items
-first_fault (acted a ∷ items) = first_fault items
-first_fault (printed v ∷ items) = first_fault items
 first_fault (failed fault ∷ items) = Some fault
+first_fault (other ∷ items) = first_fault items
 
 -- the numbers that are printed before the first fault
 abbrev pub lines_of : List Item → List ℤ
 lines_of [] = []
-lines_of (began line ∷ items) = lines_of items
-lines_of (acted a ∷ items) = lines_of items
 lines_of (printed v ∷ items) = v ∷ lines_of items
 lines_of (failed fault ∷ items) = []
+lines_of (other ∷ items) = lines_of items
 
 -- L, the depth-first list of a program: the actions of its whole run
 abbrev pub list_of : Setting → List Action

@@ -7,8 +7,8 @@ use Rattle.depth_first_list.specs.Actions.{Deed, forks, joins, allocates, releas
 use Rattle.depth_first_list.specs.Runs.{IsDepthFirst}
 use Rattle.depth_first_list.specs.Facts.{label_at, deed_at, words_at, IsDone}
 use Rattle.lawful_books.specs.Lists.{Among, Each, Differ, total, times, one_if_same}
-use Rattle.lawful_books.specs.Books.{Book, booked, charge, charge_at, charged}
-use Rattle.lawful_books.specs.Lawful.{LawfulBooks, book_of}
+use Rattle.lawful_books.specs.Books.{Book, booked, charge, charge_at, charged, book_of}
+use Rattle.lawful_books.specs.Lawful.{LawfulBooks}
 use Rattle.lawful_books.proofs.Lists.{among_middle, each_map, total_append, each_from, times_among, among_times, one_cases, one_same, same_head, same_tail, each_join}
 use Rattle.lawful_books.proofs.Keeping.{booked_append, begun_same, times_append}
 use Rattle.lawful_books.proofs.Whole.{few_places}
@@ -16,7 +16,8 @@ use Rattle.deque_machine.specs.Moments.{Deque, Waiting, Moment, opening, done_at
 use Rattle.deque_machine.specs.Machine.{Setting, Event, gives_up, Owns, books_with, books_closed, new_book, May, steals_beside, takes_over, forks_child, joins_child, allocates_within, allocates_above, releases_words, meets_fault, runs_dummy, ends_above_parent, ends_and_wakes, ends_and_leaves, suspends_top, gives_deque_up}
 use Rattle.deque_machine.specs.LawfulOrder.{Waits, IsLawful}
 use Rattle.deque_machine.specs.Runs.{Pair, Reaches}
-use Rattle.deque_machine.specs.Play.{IsForced, NoneFree, RunsEnd, RunsAreShort}
+use Rattle.deque_machine.specs.Play.{IsForced, NoneFree}
+use Rattle.deque_machine.specs.Laws.{RunsEnd, RunsAreShort}
 use Rattle.deque_machine.proofs.Kept.{kept, opening_is_lawful}
 use Rattle.deque_machine.proofs.LiveThreads.{fork_is_done}
 use Rattle.deque_machine.proofs.Reached.{lawful_along}
@@ -89,7 +90,7 @@ cut_among x (y ∷ xs) there = elim there [
 ]
 
 -- different elements of a list are no more than it has
-few_among : {X : Type 0} → (xs ys : List X) → Differ xs → Each (λ x. Among x ys) xs → length xs ≤ length ys
+pub few_among : {X : Type 0} → (xs ys : List X) → Differ xs → Each (λ x. Among x ys) xs → length xs ≤ length ys
 few_among [] ys differ all = omega arith
 few_among (x ∷ xs) ys differ all =
     let cut = cut_among x ys all.0 in

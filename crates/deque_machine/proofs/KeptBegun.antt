@@ -9,13 +9,13 @@ use Rattle.depth_first_list.specs.Facts.{label_at, deed_at, IsDone, IsLive, IsNe
 use Rattle.depth_first_list.proofs.OrderLaw.{labels_follow_the_list, first_missing_is_next}
 use Rattle.depth_first_list.proofs.JoinLaws.{join_stands_behind_child}
 use Rattle.lawful_books.specs.Lists.{Among, Each, one_if_same, times}
-use Rattle.lawful_books.specs.Books.{Book, booked, done_in, IsPrefix, goes_past, is_ahead}
-use Rattle.lawful_books.specs.Lawful.{LawfulBooks, book_of}
+use Rattle.lawful_books.specs.Books.{Book, booked, done_in, IsPrefix, goes_past, is_ahead, book_of}
+use Rattle.lawful_books.specs.Lawful.{LawfulBooks}
 use Rattle.lawful_books.proofs.Lists.{each_map, each_from, each_among, each_at, each_join, each_left, each_right, each_change, among_left, among_right, among_parts, total_append, one_same, times_among}
 use Rattle.lawful_books.proofs.Keeping.{prefix_of, done_more, closed_same, begun_same}
-use Rattle.deque_machine.specs.Moments.{Deque, Waiting, Moment, threads_in, waiting_threads, done_at, owned_by, one_if_owned, one_if_worker}
+use Rattle.deque_machine.specs.Moments.{Deque, Waiting, Moment, threads_in, waiting_threads, done_at, owned_by, one_if_owned, one_if_worker, Rises}
 use Rattle.deque_machine.specs.Machine.{Setting, Event, Owns, deques_with, books_with, books_closed, new_book, May, steals_beside, takes_over, forks_child, joins_child, allocates_within, allocates_above, releases_words, meets_fault, runs_dummy, ends_above_parent, ends_and_wakes, ends_and_leaves, suspends_top, gives_deque_up}
-use Rattle.deque_machine.specs.LawfulOrder.{OrderOf, LawfulOrder, LawfulPeriods, OwnsFirst, BegunAhead, Waits, Rises}
+use Rattle.deque_machine.specs.LawfulOrder.{OrderOf, LawfulOrder, LawfulPeriods, OwnsFirst, BegunAhead, Waits}
 use Rattle.deque_machine.proofs.Order.{deque_of}
 use Rattle.deque_machine.proofs.Shapes.{threads_append}
 use Rattle.deque_machine.proofs.LiveThreads.{one_next}

@@ -6,8 +6,7 @@ use Rattle.depth_first_list.specs.Actions.{forks, Action}
 use Rattle.depth_first_list.specs.Runs.{IsDepthFirst}
 use Rattle.depth_first_list.specs.Facts.{label_at, deed_at, IsLive, IsNext}
 use Rattle.lawful_books.specs.Lists.{Among, Each}
-use Rattle.lawful_books.specs.Books.{Book, booked}
-use Rattle.lawful_books.specs.Lawful.{one_more, book_of}
+use Rattle.lawful_books.specs.Books.{Book, booked, one_more, book_of}
 use Rattle.lawful_books.proofs.Lists.{each_map, each_from, each_among, each_at, each_join, each_left, each_right, among_here, among_left, among_right, among_wider, among_parts, total_append, one_cases}
 use Rattle.lawful_books.proofs.Keeping.{booked_append, closed_same, begun_same}
 use Rattle.deque_machine.specs.Moments.{Deque, Moment, threads_in, done_at, owned_by, open_for, one_if_owned, one_if_open, one_if_worker}

@@ -5,7 +5,7 @@ use Rattle.dag_order.specs.LabelLaws.{never_before_itself}
 use Rattle.depth_first_list.specs.Facts.{StemsFrom}
 use Rattle.lawful_books.specs.Lists.{Among, Each}
 use Rattle.lawful_books.proofs.Lists.{each_left, each_right, each_join, each_without, each_among, same_head, same_tail, middle_is_not_nil, by_end}
-use Rattle.deque_machine.specs.LawfulOrder.{Rises}
+use Rattle.deque_machine.specs.Moments.{Rises}
 
 pub same_ends : (xs ys : List ℕ) (x y : ℕ) → xs ++ x ∷ [] ≡ ys ++ y ∷ [] → (xs ≡ ys) × (x ≡ y)
 same_ends [] [] x y is = (refl, same_head x y [] [] is)

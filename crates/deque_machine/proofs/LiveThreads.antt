@@ -4,7 +4,8 @@ use Rattle.std.proofs.lemmas.Bool.{cases_order}
 use Rattle.dag_order.specs.LabelOrder.{fork_of, StemsFromForkOn}
 use Rattle.depth_first_list.specs.Actions.{Deed, forks, joins, ends, Action}
 use Rattle.depth_first_list.specs.Runs.{IsDepthFirst}
-use Rattle.depth_first_list.specs.Facts.{label_at, deed_at, StemsFrom, IsDone, IsLive, IsNext, ForksAreInOrder}
+use Rattle.depth_first_list.specs.Facts.{label_at, deed_at, StemsFrom, IsDone, IsLive, IsNext}
+use Rattle.depth_first_list.specs.Laws.{ForksAreInOrder}
 use Rattle.depth_first_list.proofs.ThreadLaws.{fork_stands_before, forked_once, forks_are_in_order}
 use Rattle.depth_first_list.proofs.LiveLaws.{parents_are_live, joins_the_last_live}
 use Rattle.depth_first_list.proofs.JoinLaws.{join_stands_behind_child}

@@ -7,8 +7,8 @@ use Rattle.depth_first_list.specs.Runs.{IsDepthFirst}
 use Rattle.depth_first_list.specs.Facts.{label_at, deed_at, IsDone, IsLive, IsNext}
 use Rattle.lawful_books.specs.Lists.{Among, Each, Differ, one_if_same}
 use Rattle.lawful_books.proofs.Lists.{each_map, each_from, each_among, each_without, each_at, each_join, each_left, each_right, among_here, among_wider, among_middle, among_left, among_right, differ_without, differ_at}
-use Rattle.deque_machine.specs.Moments.{Waiting, waiting_threads}
-use Rattle.deque_machine.specs.LawfulOrder.{Rises, Waits}
+use Rattle.deque_machine.specs.Moments.{Waiting, waiting_threads, Rises}
+use Rattle.deque_machine.specs.LawfulOrder.{Waits}
 use Rattle.deque_machine.proofs.Labels.{one_parent, fork_is_longer, rises_without, rises_with, left_is_before, right_is_behind, stands_once}
 use Rattle.deque_machine.proofs.OneAction.{end_is_no_fork, stays_live, was_live, was_live_or_child, child_is_live, ended_is_not_live, stays_next}
 use Rattle.deque_machine.proofs.LiveThreads.{none_at_fork, none_at_join}

@@ -17,7 +17,9 @@ use Rattle.deque_machine.specs.Moments.{Deque, Moment, opening, done_at, live_at
 use Rattle.deque_machine.specs.Machine.{Setting, Event, steals, does, suspends, gives_up, Owns, books_with, books_closed, new_book, May, steals_beside, takes_over, forks_child, joins_child, allocates_within, allocates_above, releases_words, meets_fault, runs_dummy, ends_above_parent, ends_and_wakes, ends_and_leaves, suspends_top, gives_deque_up}
 use Rattle.deque_machine.specs.LawfulOrder.{IsLawful}
 use Rattle.deque_machine.specs.Runs.{Pair, Reaches, place_of}
-use Rattle.deque_machine.specs.Play.{IsForced, NoneFree, words_taken, taken_by, one_if_fork, Limits, Stop, arena_full, steps_spent, deques_full, Ending, finished, stopped, IsFirst, CanMove, Stays, Wants, a_theft, a_give_up, a_wait, an_action, Fills, Meets, no_deque, no_words, no_steps, words_drawn, Plays, is_over, is_stopped, goes_on, PlaysAreRuns, PlaysEnd, PlaysFinish, SomebodysTurn, WantedMayCome}
+use Rattle.deque_machine.specs.Play.{IsForced, NoneFree, words_taken, taken_by, one_if_fork, Limits, Stop, arena_full, steps_spent, deques_full, Ending, finished, stopped, IsFirst, CanMove, Stays, Wants, a_theft, a_give_up, a_wait, an_action, Fills, Meets, no_deque, no_words, no_steps, Turn, words_drawn, Plays, is_over, is_stopped, goes_on}
+use Rattle.deque_machine.specs.Laws.{PlaysAreRuns, PlaysEnd, PlaysFinish, SomebodysTurn, WantedMayCome}
+use Rattle.deque_machine.specs.Fronts.{PlaysOn, stays_here, takes_turn, FrontsGoOn}
 use Rattle.deque_machine.specs.Completeness.{CoversNext, ArenasWithRoomLast, ArenasWithTheBoundLast, ActionsSuffice, DequesSuffice}
 use Rattle.deque_machine.proofs.Kept.{opening_is_lawful}
 use Rattle.deque_machine.proofs.Reached.{lawful_along, arena_refuses}
@@ -48,6 +50,36 @@ module _ (s : Setting) (limits : Limits) (words : ℕ → ℕ) where
   are_runs n m run last ending (goes_on n' m' next last' pair later ending' turn none may rest) =
       let r = are_runs (n + words_drawn m pair.worker) next later last ending rest in
       ((next, may, r.0), (forced_of s m pair.worker (words (suc n)) pair.event turn.wants, r.1))
+
+-- the front of a play is such a run too
+module _ (s : Setting) (limits : Limits) (words : ℕ → ℕ) where
+  pub front_is_run : (n : ℕ) (m : Moment) (front : List Pair) (drawn : ℕ) (here : Moment) → PlaysOn s limits words n m front drawn here
+      → (reaches : Reaches s m front here) × NoneFree s m front here reaches
+  front_is_run n m front drawn here (stays_here n' m') = (refl, tt)
+  front_is_run n m front drawn here (takes_turn n' m' next last pair later drawn' turn none may rest) =
+      let r = front_is_run (n + words_drawn m pair.worker) next later drawn here rest in
+      ((next, may, r.0), (forced_of s m pair.worker (words (suc n)) pair.event turn.wants, r.1))
+
+  -- what goes on from it is the play
+  pub front_goes_on : (n drawn : ℕ) (m here last : Moment) (front rest : List Pair) (ending : Ending) → PlaysOn s limits words n m front drawn here
+      → Plays s limits words drawn here rest last ending → Plays s limits words n m (front ++ rest) last ending
+  front_goes_on n drawn m here last front rest ending (stays_here n' m') plays = plays
+  front_goes_on n drawn m here last front rest ending (takes_turn n' m' next last' pair later drawn' turn none may further) plays =
+      goes_on n m next last pair (later ++ rest) ending turn none may
+      (front_goes_on (n + words_drawn m pair.worker) drawn next here last later rest ending further plays)
+
+  -- and so does one turn more
+  pub front_with_turn : (n drawn : ℕ) (m here next : Moment) (front : List Pair) (pair : Pair) → PlaysOn s limits words n m front drawn here
+      → Turn s words drawn here pair → ((stop : Stop) → ¬ Meets s limits here pair.event stop) → May s here pair.worker pair.event next
+      → PlaysOn s limits words n m (front ++ pair ∷ []) (drawn + words_drawn here pair.worker) next
+  front_with_turn n drawn m here next front pair (stays_here n' m') turn none may =
+      takes_turn n m next next pair [] (n + words_drawn m pair.worker) turn none may (stays_here (n + words_drawn m pair.worker) next)
+  front_with_turn n drawn m here next front pair (takes_turn n' m' next' last' pair' later drawn' turn' none' may' further) turn none may =
+      takes_turn n m next' next pair' (later ++ pair ∷ []) (drawn + words_drawn here pair.worker) turn' none' may'
+      (front_with_turn (n + words_drawn m pair'.worker) drawn next' here next later pair further turn none may)
+
+pub fronts_go_on : (s : Setting) → 0 < s.quota → IsDepthFirst s.quota s.list → FrontsGoOn s
+fronts_go_on s some list limits words n drawn m here last front rest ending on plays = front_goes_on s limits words n drawn m here last front rest ending on plays
 
 pub plays_are_runs : (s : Setting) → 0 < s.quota → IsDepthFirst s.quota s.list → PlaysAreRuns s
 plays_are_runs s some list limits words run last ending plays = are_runs s limits words 0 opening run last ending plays

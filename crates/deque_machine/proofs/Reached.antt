@@ -10,8 +10,7 @@ use Rattle.depth_first_list.specs.Actions.{Deed, forks, joins, allocates, releas
 use Rattle.depth_first_list.specs.Runs.{IsDepthFirst}
 use Rattle.depth_first_list.specs.Facts.{action_at, label_at, deed_at, words_at, weight_at}
 use Rattle.depth_first_list.proofs.Weights.{root_end_is_weightless}
-use Rattle.lawful_books.specs.Books.{Book, booked, words_in_use, IsPrefix, is_ahead, one_if_ahead, one_if_marked, periods_ahead, periods_marked, bound}
-use Rattle.lawful_books.specs.Lawful.{one_more, book_of}
+use Rattle.lawful_books.specs.Books.{Book, booked, words_in_use, IsPrefix, is_ahead, one_if_ahead, one_if_marked, periods_ahead, periods_marked, bound, one_more, book_of}
 use Rattle.lawful_books.proofs.Lists.{total_append, total_below, each_map}
 use Rattle.lawful_books.proofs.Parts.{live_append}
 use Rattle.lawful_books.proofs.Keeping.{booked_append, closed_same, begun_same, prefix_of, ended_has_all}
@@ -19,7 +18,8 @@ use Rattle.lawful_books.proofs.Accounting.{accounting, arena_law}
 use Rattle.deque_machine.specs.Moments.{Deque, Waiting, Moment, opening, done_at, live_at}
 use Rattle.deque_machine.specs.Machine.{Setting, Event, steals, does, suspends, gives_up, Owns, books_with, books_closed, new_book, May, steals_beside, takes_over, forks_child, joins_child, allocates_within, allocates_above, releases_words, meets_fault, runs_dummy, ends_above_parent, ends_and_wakes, ends_and_leaves, suspends_top, gives_deque_up}
 use Rattle.deque_machine.specs.LawfulOrder.{IsLawful}
-use Rattle.deque_machine.specs.Runs.{Pair, Reaches, place_of, places_of, moves_words, is_move, moves, high_water_mark, EventsKeepLawful, ReachedIsLawful, BoundAlways, AheadIsMarked, MovesAreLive, MarkedBound, MarksNeverFall, ArenaRefuses, EndedDidAll}
+use Rattle.deque_machine.specs.Runs.{Pair, Reaches, place_of, places_of, moves_words, is_move, moves, high_water_mark}
+use Rattle.deque_machine.specs.Laws.{EventsKeepLawful, ReachedIsLawful, BoundAlways, AheadIsMarked, MovesAreLive, MarkedBound, MarksNeverFall, ArenaRefuses, EndedDidAll}
 use Rattle.deque_machine.proofs.Kept.{kept, opening_is_lawful}
 
 pub lawful_along : (s : Setting) → IsDepthFirst s.quota s.list → (run : List Pair) (first last : Moment) → IsLawful s first → Reaches s first run last → IsLawful s last

@@ -6,8 +6,8 @@ use Rattle.depth_first_list.specs.Actions.{Deed, forks, joins, allocates, releas
 use Rattle.depth_first_list.specs.Runs.{IsDepthFirst}
 use Rattle.depth_first_list.specs.Facts.{action_at, deed_at, words_at, weight_at}
 use Rattle.lawful_books.specs.Lists.{Each, total}
-use Rattle.lawful_books.specs.Books.{Book, booked, words_in_use}
-use Rattle.lawful_books.specs.Lawful.{LawfulBooks, one_more, book_of}
+use Rattle.lawful_books.specs.Books.{Book, booked, words_in_use, one_more, book_of}
+use Rattle.lawful_books.specs.Lawful.{LawfulBooks}
 use Rattle.lawful_books.proofs.Lists.{total_append, each_from, times_among}
 use Rattle.lawful_books.proofs.Keeping.{booked_append, closed_same, begun_same}
 use Rattle.lawful_books.proofs.Whole.{total_below_all, up_to, up_to_total}
@@ -15,7 +15,8 @@ use Rattle.deque_machine.specs.Moments.{Deque, Moment, opening, live_at, threads
 use Rattle.deque_machine.specs.Machine.{Setting, Event, does, Owns, books_with, books_closed, new_book, May, steals_beside, takes_over, forks_child, joins_child, allocates_within, allocates_above, releases_words, meets_fault, runs_dummy, ends_above_parent, ends_and_wakes, ends_and_leaves, suspends_top, gives_deque_up}
 use Rattle.deque_machine.specs.LawfulOrder.{IsLawful}
 use Rattle.deque_machine.specs.Runs.{Pair, Reaches}
-use Rattle.deque_machine.specs.Play.{words_taken, taken_by, one_if_fork, counts_fork, ArenaNeverFills, DequesAtMost}
+use Rattle.deque_machine.specs.Play.{words_taken, taken_by, one_if_fork, counts_fork}
+use Rattle.deque_machine.specs.Laws.{ArenaNeverFills, DequesAtMost}
 use Rattle.deque_machine.proofs.Shapes.{threads_append}
 use Rattle.deque_machine.proofs.Kept.{kept, opening_is_lawful}
 use Rattle.deque_machine.proofs.Reached.{lawful_along, event_writes, Writes}

@@ -1,18 +1,13 @@
 -- Lawful order, and what else holds at each moment of a run.
 use Rattle.std.specs.Prelude.{◌≡◌, ◌≢◌, ◌⊎◌, ℕ, ◌<◌, ◌≤◌, true, false, Option, None, Some, List, [], ◌∷◌, ◌++◌}
-use Rattle.dag_order.specs.LabelOrder.{fork_of, Before}
+use Rattle.dag_order.specs.LabelOrder.{fork_of}
 use Rattle.depth_first_list.specs.Actions.{forks, joins, Action}
 use Rattle.depth_first_list.specs.Facts.{label_at, deed_at, IsLive, IsNext}
 use Rattle.lawful_books.specs.Lists.{Among, Each, Differ}
 use Rattle.lawful_books.specs.Books.{Book, booked, IsPrefix, is_ahead}
 use Rattle.lawful_books.specs.Lawful.{LawfulBooks}
-use Rattle.deque_machine.specs.Moments.{Deque, Waiting, Moment, done_at, threads_in, waiting_threads, owned_by, open_for, with_id}
+use Rattle.deque_machine.specs.Moments.{Deque, Waiting, Moment, done_at, threads_in, waiting_threads, owned_by, open_for, with_id, Rises}
 use Rattle.deque_machine.specs.Machine.{Setting}
-
--- each label is before all that stand behind it
-abbrev pub Rises : List (List ℕ) → Type 0
-Rises [] = Unit {0}
-Rises (label ∷ behind) = Each (Before label) behind × Rises behind
 
 -- each thread but the bottom one stands directly above the thread that forked it
 abbrev pub Stacked : List (List ℕ) → Type 0

@@ -4,4 +4,6 @@ pub mod LawfulOrder
 pub mod Runs
 pub mod Play
 pub mod Terms
+pub mod Laws
 pub mod Completeness
+pub mod Fronts

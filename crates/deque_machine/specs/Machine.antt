@@ -4,9 +4,8 @@ use Rattle.dag_order.specs.LabelOrder.{fork_of}
 use Rattle.depth_first_list.specs.Actions.{Deed, forks, joins, allocates, releases, dummy, faults, ends, Action, record_words}
 use Rattle.depth_first_list.specs.Facts.{label_at, deed_at, words_at, IsNext}
 use Rattle.lawful_books.specs.Lists.{Each}
-use Rattle.lawful_books.specs.Books.{Book, charged}
-use Rattle.lawful_books.specs.Lawful.{one_more, book_of}
-use Rattle.deque_machine.specs.Moments.{Deque, Waiting, Moment, done_at, owned_by, with_id}
+use Rattle.lawful_books.specs.Books.{Book, charged, one_more, book_of}
+use Rattle.deque_machine.specs.Moments.{Deque, Waiting, Moment, deque_of, moment_of, done_at, owned_by, with_id}
 
 -- what is fixed for a run: its depth-first list, its quota in words, and the number of its workers
 pub record Setting : Type 0 where
@@ -33,13 +32,13 @@ pub record Owns (m : Moment) (worker : ℕ) : Type 0 where
   pub older : List Book
   pub book : Book
   pub newer : List Book
-  pub deques_are : m.deques ≡ left ++ record { id = id; owner = Some worker; threads = top ∷ under } ∷ right
+  pub deques_are : m.deques ≡ left ++ deque_of id (Some worker) (top ∷ under) ∷ right
   pub books_are : m.books ≡ older ++ book ∷ newer
   pub open_for_it : book.owner ≡ Some worker
 
 -- the deques with other threads, and perhaps no owner, in the place of the worker's
 abbrev pub deques_with : {m : Moment} {worker : ℕ} → Owns m worker → Option ℕ → List (List ℕ) → List Deque
-deques_with o owner threads = o.left ++ record { id = o.id; owner = owner; threads = threads } ∷ o.right
+deques_with o owner threads = o.left ++ deque_of o.id owner threads ∷ o.right
 
 -- the books with one action more in the worker's, which stays open or is closed
 abbrev pub books_with : {m : Moment} {worker : ℕ} → Owns m worker → Option ℕ → ℕ → List Book
@@ -67,87 +66,74 @@ pub record IsIdle (s : Setting) (m : Moment) (worker : ℕ) : Type 0 where
 abbrev pub new_book : ℕ → Bool → Book
 new_book worker ahead = record { ahead = ahead; owner = Some worker; ran = [] }
 
+-- the moment after an action that changes nothing but the books
+abbrev pub only_booked : (m : Moment) (worker : ℕ) → Owns m worker → ℕ → Moment
+only_booked m worker o place = moment_of m.deques m.waiting (books_with o (Some worker) place)
+
+-- the moment after an action behind which the worker's deque has these threads
+abbrev pub booked_with : (m : Moment) (worker : ℕ) → Owns m worker → List (List ℕ) → ℕ → Moment
+booked_with m worker o threads place = moment_of (deques_with o (Some worker) threads) m.waiting (books_with o (Some worker) place)
+
+-- the moment after a theft, which begins a period
+abbrev pub stolen : Moment → ℕ → Bool → List Deque → Moment
+stolen m worker ahead deques = moment_of deques m.waiting (m.books ++ new_book worker ahead ∷ [])
+
 -- `May s m worker event after`: at the moment m the worker may do the event, and then the moment is `after`.
 pub data May (s : Setting) (m : Moment) (worker : ℕ) : Event → Moment → Type 0 where
   -- An idle worker takes the bottom thread of a deque, which keeps its other threads, into a new deque directly to the
-  -- right of it. The victim has no owner or not, but stands at a place below the number of workers. The new period is
+  -- right of it. The victim has an owner or none, and stands at a place below the number of workers. The new period is
   -- marked ahead, since there is a deque to the left.
   steals_beside : (left right : List Deque) (victim : Deque) (first : List ℕ) (others : List (List ℕ)) (bottom : List ℕ) (id : ℕ)
       → IsIdle s m worker → length left < s.workers
       → m.deques ≡ left ++ victim ∷ right → victim.threads ≡ first ∷ (others ++ bottom ∷ []) → with_id id m.deques ≡ 0
-      → May s m worker (steals (length left) id) (record {
-        deques = left ++ record { id = victim.id; owner = victim.owner; threads = first ∷ others }
-            ∷ record { id = id; owner = Some worker; threads = bottom ∷ [] } ∷ right;
-        waiting = m.waiting;
-        books = m.books ++ new_book worker true ∷ [];
-      })
-  -- An idle worker takes a deque without an owner over where it holds one thread. The new period is marked where there is
-  -- a deque to the left.
+      → May s m worker (steals (length left) id)
+      (stolen m worker true
+      (left ++ deque_of victim.id victim.owner (first ∷ others) ∷ deque_of id (Some worker) (bottom ∷ []) ∷ right))
+  -- An idle worker takes over a deque without an owner that holds one thread. The new period is marked ahead if there is a
+  -- deque to the left.
   takes_over : (left right : List Deque) (thread : List ℕ) (id : ℕ)
       → IsIdle s m worker → length left < s.workers
-      → m.deques ≡ left ++ record { id = id; owner = None; threads = thread ∷ [] } ∷ right
-      → May s m worker (steals (length left) id) (record {
-        deques = left ++ record { id = id; owner = Some worker; threads = thread ∷ [] } ∷ right;
-        waiting = m.waiting;
-        books = m.books ++ new_book worker (nat_lt 0 (length left)) ∷ [];
-      })
+      → m.deques ≡ left ++ deque_of id None (thread ∷ []) ∷ right
+      → May s m worker (steals (length left) id)
+      (stolen m worker (nat_lt 0 (length left)) (left ++ deque_of id (Some worker) (thread ∷ []) ∷ right))
   -- A Fork puts the child on top.
   forks_child : (o : Owns m worker) (place child : ℕ) → IsAtTop s m o.top place (forks child)
       → charged s.quota s.list o.book.ran + record_words ≤ s.quota
-      → May s m worker (does place) (record {
-        deques = deques_with o (Some worker) (fork_of o.top child ∷ o.top ∷ o.under);
-        waiting = m.waiting;
-        books = books_with o (Some worker) place;
-      })
+      → May s m worker (does place) (booked_with m worker o (fork_of o.top child ∷ o.top ∷ o.under) place)
   -- A Join comes when the child has ended.
   joins_child : (o : Owns m worker) (place child : ℕ) → IsAtTop s m o.top place (joins child) → HasEnded s m (fork_of o.top child)
-      → May s m worker (does place) (record { deques = m.deques; waiting = m.waiting; books = books_with o (Some worker) place })
-  -- An Alloc that the quota covers comes where the period has that much of its quota left.
+      → May s m worker (does place) (only_booked m worker o place)
+  -- An Alloc that the quota covers comes if the period has that much of its quota left.
   allocates_within : (o : Owns m worker) (place : ℕ) → IsAtTop s m o.top place allocates → words_at s.list place ≤ s.quota
-      → charged s.quota s.list o.book.ran + words_at s.list place ≤ s.quota
-      → May s m worker (does place) (record { deques = m.deques; waiting = m.waiting; books = books_with o (Some worker) place })
-  -- An Alloc that the quota does not cover has its dummies behind it, and takes nothing of the quota.
+      → charged s.quota s.list o.book.ran + words_at s.list place ≤ s.quota → May s m worker (does place) (only_booked m worker o place)
+  -- An Alloc that the quota does not cover comes after its dummies, and takes nothing of the quota.
   allocates_above : (o : Owns m worker) (place : ℕ) → IsAtTop s m o.top place allocates → s.quota < words_at s.list place
-      → May s m worker (does place) (record { deques = m.deques; waiting = m.waiting; books = books_with o (Some worker) place })
+      → May s m worker (does place) (only_booked m worker o place)
   releases_words : (o : Owns m worker) (place : ℕ) → IsAtTop s m o.top place releases
-      → May s m worker (does place) (record { deques = m.deques; waiting = m.waiting; books = books_with o (Some worker) place })
+      → May s m worker (does place) (only_booked m worker o place)
   meets_fault : (o : Owns m worker) (place : ℕ) → IsAtTop s m o.top place faults
-      → May s m worker (does place) (record { deques = m.deques; waiting = m.waiting; books = books_with o (Some worker) place })
+      → May s m worker (does place) (only_booked m worker o place)
   -- With a Dummy the period ends, and the deque stays without an owner.
   runs_dummy : (o : Owns m worker) (place : ℕ) → IsAtTop s m o.top place dummy
-      → May s m worker (does place) (record {
-        deques = deques_with o None (o.top ∷ o.under);
-        waiting = m.waiting;
-        books = books_with o None place;
-      })
+      → May s m worker (does place) (moment_of (deques_with o None (o.top ∷ o.under)) m.waiting (books_with o None place))
   -- At an End with the parent directly below, the parent runs next in the same period.
   ends_above_parent : (o : Owns m worker) (place child : ℕ) (parent : List ℕ) (below : List (List ℕ)) → IsAtTop s m o.top place ends
       → o.under ≡ parent ∷ below → o.top ≡ fork_of parent child
-      → May s m worker (does place) (record {
-        deques = deques_with o (Some worker) o.under;
-        waiting = m.waiting;
-        books = books_with o (Some worker) place;
-      })
-  -- Where the parent waits for this child, it takes its place and runs next in the same period.
+      → May s m worker (does place) (booked_with m worker o o.under place)
+  -- If the parent waits for this child, it takes its place and runs next in the same period.
   ends_and_wakes : (o : Owns m worker) (place : ℕ) (before after : List Waiting) (parent : Waiting) → IsAtTop s m o.top place ends
       → o.under ≡ [] → m.waiting ≡ before ++ parent ∷ after → o.top ≡ fork_of parent.thread parent.child
-      → May s m worker (does place) (record {
-        deques = deques_with o (Some worker) (parent.thread ∷ []);
-        waiting = before ++ after;
-        books = books_with o (Some worker) place;
-      })
-  -- Else the deque leaves the list and the period ends, as it does at the End of the root.
+      → May s m worker (does place)
+      (moment_of (deques_with o (Some worker) (parent.thread ∷ [])) (before ++ after) (books_with o (Some worker) place))
+  -- Otherwise the deque leaves the list and the period ends, as it does at the End of the root.
   ends_and_leaves : (o : Owns m worker) (place : ℕ) → IsAtTop s m o.top place ends
       → o.under ≡ [] → Each (λ waits. o.top ≢ fork_of waits.thread waits.child) m.waiting
-      → May s m worker (does place) (record { deques = o.left ++ o.right; waiting = m.waiting; books = books_with o None place })
+      → May s m worker (does place) (moment_of (o.left ++ o.right) m.waiting (books_with o None place))
   -- At a Join whose child has not ended, the thread waits, its deque is empty and leaves the list, and the period ends.
   suspends_top : (o : Owns m worker) (place child : ℕ) → IsAtTop s m o.top place (joins child) → ¬ HasEnded s m (fork_of o.top child)
       → o.under ≡ []
-      → May s m worker suspends (record {
-        deques = o.left ++ o.right;
-        waiting = record { thread = o.top; child = child } ∷ m.waiting;
-        books = books_closed o;
-      })
+      → May s m worker suspends
+      (moment_of (o.left ++ o.right) (record { thread = o.top; child = child } ∷ m.waiting) (books_closed o))
   -- A worker may give its deque up at any time: the deque stays without an owner, and the period ends.
   gives_deque_up : (o : Owns m worker)
-      → May s m worker gives_up (record { deques = deques_with o None (o.top ∷ o.under); waiting = m.waiting; books = books_closed o })
+      → May s m worker gives_up (moment_of (deques_with o None (o.top ∷ o.under)) m.waiting (books_closed o))

@@ -1,8 +1,9 @@
 -- The moment of a run over deques.
 use Rattle.std.specs.Prelude.{ℕ, cond, nat_eq, Option, None, Some, List, [], ◌∷◌, ◌++◌, ℤ}
 use Rattle.depth_first_list.specs.Actions.{Action}
-use Rattle.lawful_books.specs.Lists.{total}
+use Rattle.lawful_books.specs.Lists.{total, Each}
 use Rattle.lawful_books.specs.Books.{Book, done_in, words_in_use}
+use Rattle.dag_order.specs.LabelOrder.{Before}
 
 -- A deque: its id, the worker that owns it, or none, and its threads from top to bottom, each told by its label. The
 -- owner runs the top thread.
@@ -22,6 +23,14 @@ pub record Moment : Type 0 where
   pub deques : List Deque
   pub waiting : List Waiting
   pub books : List Book
+
+-- the deque with this id, with this owner or none, and with these threads
+abbrev pub deque_of : ℕ → Option ℕ → List (List ℕ) → Deque
+deque_of id owner threads = record { id = id; owner = owner; threads = threads }
+
+-- the moment with these deques, waiting threads and books
+abbrev pub moment_of : List Deque → List Waiting → List Book → Moment
+moment_of deques waiting books = record { deques = deques; waiting = waiting; books = books }
 
 -- how often each action is done
 abbrev pub done_at : Moment → ℕ → ℕ
@@ -69,4 +78,9 @@ with_id id deques = total (one_if_id id) deques
 
 -- the first moment: one deque without an owner, which holds the root, and no book
 abbrev pub opening : Moment
-opening = record { deques = record { id = 0; owner = None; threads = [] ∷ [] } ∷ []; waiting = []; books = [] }
+opening = moment_of (deque_of 0 None ([] ∷ []) ∷ []) [] []
+
+-- each label is before all that stand behind it
+abbrev pub Rises : List (List ℕ) → Type 0
+Rises [] = Unit {0}
+Rises (label ∷ behind) = Each (Before label) behind × Rises behind

@@ -1,13 +1,11 @@
 -- Play: the one run of the machine that a list of words picks, and how runs end.
-use Rattle.std.specs.Prelude.{◌≡◌, ◌≢◌, ◌⊎◌, ℕ, suc, ◌+◌, ◌*◌, ◌%◌, ◌<◌, ◌≤◌, min, None, Some, slice_get, cond, nat_eq, List, [], ◌∷◌, length, ℤ, pos, ◌+ℤ◌, ◌≤ℤ◌, ◌<ℤ◌}
-use Rattle.depth_first_list.specs.Actions.{Deed, forks, joins, allocates, Action, record_words}
+use Rattle.std.specs.Prelude.{◌≡◌, ◌≢◌, ◌⊎◌, ℕ, suc, ◌+◌, ◌%◌, ◌<◌, ◌≤◌, min, None, Some, slice_get, cond, nat_eq, List, [], ◌∷◌, length, ℤ, pos, ◌+ℤ◌, ◌<ℤ◌}
+use Rattle.depth_first_list.specs.Actions.{Deed, forks, joins, allocates, Action}
 use Rattle.dag_order.specs.LabelOrder.{fork_of}
-use Rattle.depth_first_list.specs.Facts.{action_at, deed_at, words_at, weight_at, IsNext}
-use Rattle.lawful_books.specs.Lists.{total}
+use Rattle.depth_first_list.specs.Facts.{action_at, deed_at, words_at, IsNext}
 use Rattle.lawful_books.specs.Books.{booked, charged, charge_at}
-use Rattle.deque_machine.specs.Moments.{Deque, Moment, opening, done_at, live_at, owned_by, with_id}
+use Rattle.deque_machine.specs.Moments.{Deque, Moment, done_at, live_at, owned_by, with_id}
 use Rattle.deque_machine.specs.Machine.{Setting, Event, steals, does, suspends, gives_up, Owns, IsAtTop, HasEnded, May}
-use Rattle.deque_machine.specs.LawfulOrder.{IsLawful}
 use Rattle.deque_machine.specs.Runs.{Pair, Reaches}
 
 -- the next action of a worker's top thread takes more of the quota than its period has left: then a give up is not free
@@ -126,51 +124,3 @@ pub data Plays (s : Setting) (limits : Limits) (words : ℕ → ℕ) : ℕ → M
   goes_on : (n : ℕ) (m next last : Moment) (pair : Pair) (later : List Pair) (ending : Ending) → Turn s words n m pair
       → ((stop : Stop) → ¬ Meets s limits m pair.event stop) → May s m pair.worker pair.event next
       → Plays s limits words (n + words_drawn m pair.worker) next later last ending → Plays s limits words n m (pair ∷ later) last ending
-
--- at a lawful moment what the rules want of a worker may come
-abbrev pub WantedMayCome : Setting → Type 0
-WantedMayCome s = (m : Moment) (worker word : ℕ) (event : Event) → IsLawful s m → worker < s.workers → Wants s m worker word event
-    → (after : Moment) × May s m worker event after
-
--- and while the root has not ended, it is somebody's turn
-abbrev pub SomebodysTurn : Setting → Type 0
-SomebodysTurn s = (words : ℕ → ℕ) (n : ℕ) (m : Moment) → IsLawful s m → 0 < s.workers → ¬ HasEnded s m [] →
-    (pair : Pair) × Turn s words n m pair
-
--- a play is a run of the machine in which no give up is free
-abbrev pub PlaysAreRuns : Setting → Type 0
-PlaysAreRuns s = (limits : Limits) (words : ℕ → ℕ) (run : List Pair) (last : Moment) (ending : Ending) →
-    Plays s limits words 0 opening run last ending
-    → (reaches : Reaches s opening run last) × NoneFree s opening run last reaches
-
--- there is a play for all words
-abbrev pub PlaysEnd : Setting → Type 0
-PlaysEnd s = record_words ≤ s.quota → 0 < s.workers → (limits : Limits) (words : ℕ → ℕ)
-    → (run : List Pair) × (last : Moment) × (ending : Ending) × Plays s limits words 0 opening run last ending
-
--- with room for all words, actions and deques that the list can want, a play finishes
-abbrev pub PlaysFinish : Setting → Type 0
-PlaysFinish s = (limits : Limits) (words : ℕ → ℕ) (run : List Pair) (last : Moment) (ending : Ending)
-    → total words_taken s.list ≤ limits.capacity → length s.list ≤ limits.actions → total one_if_fork s.list < limits.deques
-    → Plays s limits words 0 opening run last ending → ending ≡ finished
-
--- where the quota covers a Fork, a run without a free give up has at most three events for each action of the list, and one
--- for each worker
-abbrev pub RunsEnd : Setting → Type 0
-RunsEnd s = record_words ≤ s.quota → (run : List Pair) (m : Moment) (reaches : Reaches s opening run m) →
-    NoneFree s opening run m reaches → length run ≤ 3 * length s.list + s.workers
-
--- and from a lawful moment on, however it was reached, such a run has at most five events for each action that is done at its end, and
--- two for each worker
-abbrev pub RunsAreShort : Setting → Type 0
-RunsAreShort s = record_words ≤ s.quota → (first last : Moment) (run : List Pair) (reaches : Reaches s first run last) → IsLawful s first →
-    NoneFree s first run last reaches → length run ≤ 5 * length (booked last.books) + 2 * s.workers
-
--- what an action takes never fills an arena with room for all that the list takes
-abbrev pub ArenaNeverFills : Setting → Type 0
-ArenaNeverFills s = (run : List Pair) (m after : Moment) (worker place : ℕ) → Reaches s opening run m → May s m worker (does place) after
-    → (live_at s.list m +ℤ weight_at s.list place) ≤ℤ pos (total words_taken s.list)
-
--- there are never more deques than one and the Forks of the list
-abbrev pub DequesAtMost : Setting → Type 0
-DequesAtMost s = (run : List Pair) (m : Moment) → Reaches s opening run m → length m.deques ≤ suc (total one_if_fork s.list)

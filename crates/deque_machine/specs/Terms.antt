@@ -12,10 +12,8 @@ pub record Terms : Type 0 where
 
 -- so many workers, words, actions and deques
 abbrev pub given_terms : (workers capacity actions deques : ℕ) → Terms
-given_terms workers capacity actions deques = record {
-  workers = workers;
-  limits = record { capacity = capacity; actions = actions; deques = deques };
-}
+given_terms workers capacity actions deques =
+    record { workers = workers; limits = record { capacity = capacity; actions = actions; deques = deques } }
 
 -- the machine over the depth-first list of a program, with its quota
 abbrev pub machine_of : program.Setting → Terms → Setting

@@ -1,6 +1,6 @@
 ghost use Rattle.deque_machine.specs.Completeness.{ArenasWithRoomLast, ArenasWithTheBoundLast, ActionsSuffice, DequesSuffice};
-ghost use Rattle.deque_machine.specs.Play.{RunsEnd, RunsAreShort, ArenaNeverFills, DequesAtMost, SomebodysTurn, WantedMayCome, PlaysAreRuns, PlaysEnd, PlaysFinish};
-ghost use Rattle.deque_machine.specs.Runs.{InEachSetting, OpeningIsLawful, EventsKeepLawful, ReachedIsLawful, BoundAlways, AheadIsMarked, MovesAreLive, MarkedBound, MarksNeverFall, ArenaRefuses, EndedDidAll};
+ghost use Rattle.deque_machine.specs.Fronts.{FrontsGoOn};
+ghost use Rattle.deque_machine.specs.Laws.{InEachSetting, OpeningIsLawful, EventsKeepLawful, ReachedIsLawful, BoundAlways, AheadIsMarked, MovesAreLive, MarkedBound, MarksNeverFall, ArenaRefuses, EndedDidAll, RunsEnd, RunsAreShort, ArenaNeverFills, DequesAtMost, SomebodysTurn, WantedMayCome, PlaysAreRuns, PlaysEnd, PlaysFinish};
 
 /// The opening moment has lawful order, lawful books and begun ahead.
 pub fn opening_is_lawful()
@@ -83,6 +83,11 @@ pub fn somebodys_turn()
 /// A play is a run of the machine in which no give up is free.
 pub fn plays_are_runs()
     ensures { InEachSetting PlaysAreRuns }
+{}
+
+/// What goes on from the front of a play is the play.
+pub fn fronts_go_on()
+    ensures { InEachSetting FrontsGoOn }
 {}
 
 /// Where the quota covers a Fork and there is a worker, each list of words picks a play, and it ends.

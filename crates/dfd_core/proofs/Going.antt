@@ -124,7 +124,7 @@ module _ (t : Table) (k : ℕ) (terms : Terms) (before after : Held) (sound : Is
   comes (Err (ArenaFull live asked)) by = ∥∥₁_map by (stops (ArenaFull live asked) (play.arena_full (pos live) asked))
   comes (Err (DequesFull deques)) by = ∥∥₁_map by (stops (DequesFull deques) (play.deques_full deques))
   comes (Err (StepsSpent limit)) by = ∥∥₁_map by (stops (StepsSpent limit) (play.steps_spent limit))
-  comes (Err OutOfMemory) by = stays_at t k terms before after c run m OutOfMemory at by
+  comes (Err OutOfMemory) by = (stays_at t k terms before after c run m OutOfMemory at by.0, by.1)
 
 -- wherever it comes to, what is held is somewhere
 found : (t : Table) (k : ℕ) (terms : Terms) (after : Held) (end : Option RunEnd) (c : Setting) (worker word : ℕ) (run : List Pair) (m : Moment)
@@ -135,7 +135,7 @@ found t k terms after end c worker word run m (Ok (Some told)) came = ∥∥₁_
 found t k terms after end c worker word run m (Err (ArenaFull live asked)) came = ∥∥₁_map came (λ s. (run, m, s.is_at))
 found t k terms after end c worker word run m (Err (DequesFull deques)) came = ∥∥₁_map came (λ s. (run, m, s.is_at))
 found t k terms after end c worker word run m (Err (StepsSpent limit)) came = ∥∥₁_map came (λ s. (run, m, s.is_at))
-found t k terms after end c worker word run m (Err OutOfMemory) came = ∣ (run, m, came) ∣₁
+found t k terms after end c worker word run m (Err OutOfMemory) came = ∣ (run, m, came.0) ∣₁
 
 pub somewhere_on : (t : Table) (k : ℕ) (terms : Terms) (before after : Held) → IsSound t k terms after → IsSomewhere t k terms before None
     → (worker word : ℕ) (result : Result (Option Told) Stop)

@@ -11,3 +11,4 @@ pub mod Marks
 pub mod Picking
 pub mod Taking
 pub mod Underway
+pub mod Bounded

@@ -95,9 +95,10 @@ module _ (c : Setting) (before after : Core) (same : terms_at after ≡ terms_at
 
   stops : (stop : play.Stop)
       → Stops (code_shown after.code) (quota_words after.k) (terms_at after) (held after.scheduler) after.end c worker word run m stop
-      → TurnStops c (terms_at before) words after run m stop
+      → TurnStops c (terms_at before) words (words_of_turn idle) after run m stop
   stops stop s = record {
     pair = record { worker = worker; event = s.event };
+    draws = sym draws;
     turn = turn_is s.event s.wants;
     meets = subst (λ x. Meets (machine_of c x) x.limits m s.event stop) same s.meets;
     is_at = s.is_at;
@@ -124,4 +125,5 @@ module _ (c : Setting) (before after : Core) (same : terms_at after ≡ terms_at
       subst turns_with (sym (over _ (stop_told stepped _ told))) (∥∥₁_map came (stops (play.deques_full deques)))
   turns_to stepped (Err (StepsSpent limit)) told came nothing over =
       subst turns_with (sym (over _ (stop_told stepped _ told))) (∥∥₁_map came (stops (play.steps_spent limit)))
-  turns_to stepped (Err OutOfMemory) told came nothing over = subst turns_with (sym (over _ (stop_told stepped _ told))) came
+  turns_to stepped (Err OutOfMemory) told came nothing over =
+      subst turns_with (sym (over _ (stop_told stepped _ told))) ∣ record { worker = worker; first = first; draws = sym draws; is_at = came.0 } ∣₁

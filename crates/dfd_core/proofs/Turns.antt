@@ -29,8 +29,7 @@ use Rattle.core_parts.specs.declared.stop.Stop.{Stop}
 use Rattle.core_parts.specs.Held.{Held, IsInOrder}
 use Rattle.core_parts.specs.Moments.{IsSound, StandsAt}
 use Rattle.deque_machine.specs.Terms.{Terms, machine_of}
-use Rattle.core_parts.proofs.AtTop.{period_is_there}
-use Rattle.core_parts.proofs.Going.{lawful_at}
+use Rattle.core_parts.proofs.Sitting.{seat_owns as seated_owns}
 use Rattle.core_parts.proofs.Owners.{own_here, own_one, owned_shown, owner_there}
 use Rattle.dfd_core.specs.declared.run_end.RunEnd.{RunEnd}
 use Rattle.dfd_core.specs.declared.run_end.RunEnd.TheVariants.{Finished, Stopped}
@@ -41,18 +40,8 @@ use Rattle.dfd_core.specs.Steps.{IsTold}
 use Rattle.dfd_core.proofs.Told.{some_or_none, ok_or_err}
 
 module _ (c : Setting) (terms : Terms) (quota : record_words ≤ c.quota) (h : Held) (run : List Pair) (m : Moment) (at : StandsAt c terms h run m) (worker : ℕ) where
-  lawful : IsLawful (machine_of c terms) m
-  lawful = lawful_at c terms quota run m at.reaches
-
-  -- who has a seat owns a deque
   pub seat_owns : (seat : Seat) → seat_at h.table worker ≡ Some seat → 0 < owned_by worker m.deques
-  seat_owns seat is =
-      let p : Period = open_shown worker seat.period in
-      let book = each_has_its_book c.quota (list_of c) (periods_of h.table) m.books p at.shows.books (period_is_there h.table worker p (ap (shown_of worker) is)) in
-      let one : one_if_open worker book.book ≡ 1 = own_one worker (Book.owner book.book) book.is_book.owner in
-      let sum = total_middle (one_if_open worker) book.older book.book book.newer in
-      let opened : open_for worker m.books ≡ open_for worker (book.older ++ book.book ∷ book.newer) = ap (open_for worker) book.books_are in
-      let each = lawful.periods.one_each worker in omega (arith, one, sum, opened, each)
+  seat_owns seat is = seated_owns c terms quota h run m at worker seat is
 
   -- and who has none owns none
   pub idle_owns_none : ∥ IsInOrder h ∥₁ → seat_at h.table worker ≡ None → 0 < owned_by worker m.deques → ⊥

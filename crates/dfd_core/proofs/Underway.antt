@@ -10,10 +10,11 @@ use Rattle.deque_machine.specs.Moments.{Moment}
 use Rattle.deque_machine.specs.Machine as machine
 use Rattle.deque_machine.specs.Machine.{HasEnded}
 use Rattle.deque_machine.specs.Play as play
-use Rattle.deque_machine.specs.Play.{IsFirst, CanMove, NoneFree, Wants, Turn, Plays, is_over, is_stopped, goes_on, words_drawn}
+use Rattle.deque_machine.specs.Play.{IsFirst, CanMove, NoneFree, Wants, Turn, Plays, is_over, is_stopped}
 use Rattle.deque_machine.specs.Runs.{Pair, Reaches}
 use Rattle.deque_machine.proofs.Ends.{runs_are_short}
-use Rattle.deque_machine.proofs.Playing.{forced_of, one_more_event}
+use Rattle.deque_machine.specs.Fronts.{PlaysOn, stays_here}
+use Rattle.deque_machine.proofs.Playing.{front_is_run, front_goes_on, front_with_turn}
 use Rattle.core_parts.specs.declared.stop.Stop.TheVariants.{ArenaFull, DequesFull, StepsSpent, OutOfMemory}
 use Rattle.deque_machine.specs.Terms.{Terms, machine_of}
 use Rattle.core_parts.proofs.Going.{lawful_at}
@@ -21,18 +22,14 @@ use Rattle.dfd_core.specs.declared.run.Core.{Core}
 use Rattle.dfd_core.specs.declared.run_end.RunEnd.{RunEnd}
 use Rattle.dfd_core.specs.declared.run_end.RunEnd.TheVariants.{Finished, Stopped}
 use Rattle.dfd_core.specs.Cores.{IsAt, SameSetting, end_of, terms_at, workers_of}
-use Rattle.dfd_core.specs.Plays.{TurnGoesOn, TurnStops, TurnsTo, TakesTurn, PlaysTo}
+use Rattle.dfd_core.specs.Plays.{TurnGoesOn, TurnStops, TurnLacks, TurnsTo, IsDrawn, TakesTurn, PlaysUpTo, PlaysUntil, PlaysTo}
 
--- The core has come from the moment m of a run to a later one, with so many words and at least so many events, of which no give up is
--- free, and what is played from there is played from m.
+-- The core has come from the moment m of a run along the front of its play, with so many words and at least so many events.
 pub record Along (c : Setting) (terms : Terms) (words : ℕ → ℕ) (drawn events : ℕ) (now : Core) (run : List Pair) (m : Moment) : Type 0 where
   pub later : List Pair
   pub last : Moment
-  pub reaches : Reaches (machine_of c terms) m later last
-  pub none_free : NoneFree (machine_of c terms) m later last reaches
+  pub front : PlaysOn (machine_of c terms) terms.limits words 0 m later drawn last
   pub many : events ≤ length later
-  pub extends : (rest : List Pair) (end : Moment) (ending : play.Ending) → Plays (machine_of c terms) terms.limits words drawn last rest end ending
-      → Plays (machine_of c terms) terms.limits words 0 m (later ++ rest) end ending
   pub is_at : IsAt c now (run ++ later) last
 
 -- No end is kept. Of the words so many were drawn, and the coming ones are those behind. Since the start there were at least so many
@@ -53,10 +50,8 @@ begins words start none = record {
   along = λ c run m at. ∣ record {
     later = [];
     last = m;
-    reaches = refl;
-    none_free = tt;
+    front = stays_here 0 m;
     many = omega arith;
-    extends = λ rest end ending plays. plays;
     is_at = subst (λ r. IsAt c start r m) (sym (append-nil run)) at;
   } ∣₁;
 }
@@ -72,66 +67,84 @@ turn_behind s words coming drawn is m pair turn = record {
 
 module _ (c : Setting) (terms : Terms) (words coming : ℕ → ℕ) (drawn more events : ℕ) (coming_is : (i : ℕ) → coming i ≡ words (drawn + i)) (now after : Core)
     (run : List Pair) (m : Moment) (a : Along c terms words drawn events now run m) where
-  -- one event more
-  longer : (g : TurnGoesOn c terms coming more after (run ++ a.later) a.last)
-      → (reaches : Reaches (machine_of c terms) m (a.later ++ g.pair ∷ []) g.next) × NoneFree (machine_of c terms) m (a.later ++ g.pair ∷ []) g.next reaches
-  longer g = one_more_event (machine_of c terms) a.later m a.last g.next g.pair a.reaches a.none_free g.may
-      (forced_of (machine_of c terms) a.last g.pair.worker (coming 1) g.pair.event g.turn.wants)
-
   -- one turn further
   further : TurnGoesOn c terms coming more after (run ++ a.later) a.last → Along c terms words (drawn + more) (events + 1) after run m
   further g = record {
     later = a.later ++ g.pair ∷ [];
     last = g.next;
-    reaches = (longer g).0;
-    none_free = (longer g).1;
+    front = subst (λ n. PlaysOn (machine_of c terms) terms.limits words 0 m (a.later ++ g.pair ∷ []) (drawn + n) g.next) (sym g.draws)
+        (front_with_turn (machine_of c terms) terms.limits words 0 drawn m a.last g.next a.later g.pair a.front
+        (turn_behind (machine_of c terms) words coming drawn coming_is a.last g.pair g.turn) g.free g.may);
     many = let size = length-append a.later (g.pair ∷ []) in let had = a.many in omega (arith, size, had);
-    extends = λ rest end ending plays. subst (λ r. Plays (machine_of c terms) terms.limits words 0 m r end ending) (sym (append_assoc a.later (g.pair ∷ []) rest))
-        (a.extends (g.pair ∷ rest) end ending (goes_on drawn a.last g.next end g.pair rest ending
-        (turn_behind (machine_of c terms) words coming drawn coming_is a.last g.pair g.turn) g.free g.may
-        (subst (λ n. Plays (machine_of c terms) terms.limits words (drawn + n) g.next rest end ending) g.draws plays)));
     is_at = subst (λ r. IsAt c after r g.next) (append_assoc run a.later (g.pair ∷ [])) g.is_at;
   }
 
-  -- or to a stop
-  stopped_at : (stop : play.Stop) → TurnStops c terms coming after (run ++ a.later) a.last stop
-      → (later : List Pair) × (last : Moment) × Plays (machine_of c terms) terms.limits words 0 m later last (play.stopped stop) × IsAt c after (run ++ later) last
-  stopped_at stop s = (
-    a.later,
-    a.last,
-    subst (λ r. Plays (machine_of c terms) terms.limits words 0 m r a.last (play.stopped stop)) (append-nil a.later)
-        (a.extends [] a.last (play.stopped stop) (is_stopped drawn a.last s.pair stop (turn_behind (machine_of c terms) words coming drawn coming_is a.last s.pair s.turn) s.meets)),
-    s.is_at,
-  )
+  -- the words that come behind the turn
+  coming_behind : (later : ℕ → ℕ) → IsDrawn coming more later → IsDrawn words (drawn + more) later
+  coming_behind later is i = is i ∙ coming_is (more + i) ∙ ap words (omega arith)
 
-  -- or to the end
-  ended_at : (same : terms_at after ≡ terms) (finish : Finish) → end_of after ≡ Some (Finished finish) → TurnGoesOn c terms coming more after (run ++ a.later) a.last
-      → (later : List Pair) × (last : Moment) × Plays (machine_of c terms) terms.limits words 0 m later last play.finished × IsAt c after (run ++ later) last
-  ended_at same finish is g =
-      let b = further g in
-      let has = subst (λ x. HasEnded (machine_of c x) b.last []) same (b.is_at.finished finish is).0 in (
-        b.later,
-        b.last,
-        subst (λ r. Plays (machine_of c terms) terms.limits words 0 m r b.last play.finished) (append-nil b.later)
-            (b.extends [] b.last play.finished (is_over (drawn + more) b.last has)),
-        b.is_at,
-      )
+  -- the whole play behind what goes on from here
+  whole_play : (rest : List Pair) (end : Moment) (ending : play.Ending) → Plays (machine_of c terms) terms.limits words drawn a.last rest end ending
+      → Plays (machine_of c terms) terms.limits words 0 m (a.later ++ rest) end ending
+  whole_play rest end ending plays = front_goes_on (machine_of c terms) terms.limits words 0 drawn m a.last end a.later rest ending a.front plays
 
-  pub plays_to : (same : terms_at after ≡ terms) (end : RunEnd) → end_of after ≡ Some end → TurnsTo c terms coming more after (run ++ a.later) a.last (Some end)
-      → PlaysTo c terms words after run m end
-  plays_to same (Finished finish) is turns = ∥∥₁_map turns (ended_at same finish is)
-  plays_to same (Stopped (ArenaFull live asked)) is turns = ∥∥₁_map turns (stopped_at (play.arena_full (pos live) asked))
-  plays_to same (Stopped (DequesFull deques)) is turns = ∥∥₁_map turns (stopped_at (play.deques_full deques))
-  plays_to same (Stopped (StepsSpent limit)) is turns = ∥∥₁_map turns (stopped_at (play.steps_spent limit))
-  plays_to same (Stopped OutOfMemory) is turns = ∣ (a.later, a.last, a.reaches, turns) ∣₁
+  module _ (later : ℕ → ℕ) (later_is : IsDrawn coming more later) where
+    -- or to a stop
+    stopped_at : (stop : play.Stop) → TurnStops c terms coming more after (run ++ a.later) a.last stop
+        → PlaysUpTo c terms words later after run m (play.stopped stop)
+    stopped_at stop s = record {
+      later = a.later;
+      last = a.last;
+      plays = subst (λ r. Plays (machine_of c terms) terms.limits words 0 m r a.last (play.stopped stop)) (append-nil a.later)
+          (whole_play [] a.last (play.stopped stop) (is_stopped drawn a.last s.pair stop (turn_behind (machine_of c terms) words coming drawn coming_is a.last s.pair s.turn) s.meets));
+      is_at = s.is_at;
+      drawn = drawn + more;
+      rest = coming_behind later later_is;
+    }
 
-plays_to_prop : (c : Setting) (terms : Terms) (words : ℕ → ℕ) (after : Core) (run : List Pair) (m : Moment) (end : RunEnd)
-    → IsProp (PlaysTo c terms words after run m end)
-plays_to_prop c terms words after run m (Finished finish) = ∥∥₁_prop
-plays_to_prop c terms words after run m (Stopped (ArenaFull live asked)) = ∥∥₁_prop
-plays_to_prop c terms words after run m (Stopped (DequesFull deques)) = ∥∥₁_prop
-plays_to_prop c terms words after run m (Stopped (StepsSpent limit)) = ∥∥₁_prop
-plays_to_prop c terms words after run m (Stopped OutOfMemory) = ∥∥₁_prop
+    -- or to the end
+    ended_at : (same : terms_at after ≡ terms) (finish : Finish) → end_of after ≡ Some (Finished finish) → TurnGoesOn c terms coming more after (run ++ a.later) a.last
+        → PlaysUpTo c terms words later after run m play.finished
+    ended_at same finish is g =
+        let b = further g in
+        let has = subst (λ x. HasEnded (machine_of c x) b.last []) same (b.is_at.finished finish is).0 in record {
+          later = b.later;
+          last = b.last;
+          plays = subst (λ r. Plays (machine_of c terms) terms.limits words 0 m r b.last play.finished) (append-nil b.later)
+              (front_goes_on (machine_of c terms) terms.limits words 0 (drawn + more) m b.last b.last b.later [] play.finished b.front (is_over (drawn + more) b.last has));
+          is_at = b.is_at;
+          drawn = drawn + more;
+          rest = coming_behind later later_is;
+        }
+
+    -- or to a turn that lacks memory
+    lacks_at : TurnLacks c terms coming more after (run ++ a.later) a.last → PlaysUntil c terms words later after run m
+    lacks_at l = record {
+      later = a.later;
+      last = a.last;
+      drawn = drawn;
+      plays = a.front;
+      is_at = l.is_at;
+      worker = l.worker;
+      first = subst (λ w. IsFirst terms.workers w (CanMove (machine_of c terms) a.last) l.worker) (coming_is 0 ∙ ap words (omega arith)) l.first;
+      rest = subst (λ n. IsDrawn words (drawn + n) later) l.draws (coming_behind later later_is);
+    }
+
+    pub plays_to : (same : terms_at after ≡ terms) (end : RunEnd) → end_of after ≡ Some end → TurnsTo c terms coming more after (run ++ a.later) a.last (Some end)
+        → PlaysTo c terms words later after run m end
+    plays_to same (Finished finish) is turns = ∥∥₁_map turns (ended_at same finish is)
+    plays_to same (Stopped (ArenaFull live asked)) is turns = ∥∥₁_map turns (stopped_at (play.arena_full (pos live) asked))
+    plays_to same (Stopped (DequesFull deques)) is turns = ∥∥₁_map turns (stopped_at (play.deques_full deques))
+    plays_to same (Stopped (StepsSpent limit)) is turns = ∥∥₁_map turns (stopped_at (play.steps_spent limit))
+    plays_to same (Stopped OutOfMemory) is turns = ∥∥₁_map turns lacks_at
+
+plays_to_prop : (c : Setting) (terms : Terms) (words coming : ℕ → ℕ) (after : Core) (run : List Pair) (m : Moment) (end : RunEnd)
+    → IsProp (PlaysTo c terms words coming after run m end)
+plays_to_prop c terms words coming after run m (Finished finish) = ∥∥₁_prop
+plays_to_prop c terms words coming after run m (Stopped (ArenaFull live asked)) = ∥∥₁_prop
+plays_to_prop c terms words coming after run m (Stopped (DequesFull deques)) = ∥∥₁_prop
+plays_to_prop c terms words coming after run m (Stopped (StepsSpent limit)) = ∥∥₁_prop
+plays_to_prop c terms words coming after run m (Stopped OutOfMemory) = ∥∥₁_prop
 
 same_setting : (a b c : Core) → SameSetting a b → SameSetting b c → SameSetting a c
 same_setting a b c first second = (second.0 ∙ first.0, second.1 ∙ first.1, second.2 ∙ first.2)
@@ -154,9 +167,9 @@ module _ (words coming later : ℕ → ℕ) (start now after : Core) (events : �
   }
 
   pub ends_by : (end : RunEnd) → end_of after ≡ Some end → (c : Setting) (run : List Pair) (m : Moment) → IsAt c start run m
-      → PlaysTo c (terms_at start) words after run m end
-  ends_by end is c run m at = ∥∥₁_elim (u.along c run m at) (plays_to_prop c (terms_at start) words after run m end) (λ a.
-      plays_to c (terms_at start) words coming u.drawn turn.drawn events u.coming_is now after run m a (setting.2 ∙ u.setting.2) end is
+      → PlaysTo c (terms_at start) words later after run m end
+  ends_by end is c run m at = ∥∥₁_elim (u.along c run m at) (plays_to_prop c (terms_at start) words later after run m end) (λ a.
+      plays_to c (terms_at start) words coming u.drawn turn.drawn events u.coming_is now after run m a later turn.later_is (setting.2 ∙ u.setting.2) end is
       (subst (TurnsTo c (terms_at start) coming turn.drawn after (run ++ a.later) a.last) is (turns_from c (run ++ a.later) a.last a.is_at)))
 
   pub setting_by : SameSetting start after
@@ -169,8 +182,12 @@ too_many words coming start now events u many = ∥∥₁_elim start.sound.of_pr
     ∥∥₁_elim (start.somewhere p.0 p.1) (λ x y. absurd x) (λ w. ∥∥₁_elim (u.along p.0 w.0 w.1 w.2) (λ x y. absurd x) (λ a.
     let covers = start.sound.quota in let same = p.1.quota in
     let fork : record_words ≤ p.0.quota = omega (arith, covers, same) in
-    let short = runs_are_short (machine_of p.0 (terms_at start)) (omega (arith, fork)) (whole_is_depth_first p.0) fork w.1 a.last a.later a.reaches
-    (lawful_at p.0 (terms_at start) fork w.0 w.1 w.2.stands.reaches) a.none_free in
+    let short = runs_are_short (machine_of p.0 (terms_at start)) (omega (arith, fork)) (whole_is_depth_first p.0) fork w.1 a.last a.later (on_run p.0 w.1 a).0
+    (lawful_at p.0 (terms_at start) fork w.0 w.1 w.2.stands.reaches) (on_run p.0 w.1 a).1 in
     let within = a.is_at.within in let size = a.many in
     let actions = ap (λ (x : Terms). x.limits.actions) u.setting.2 in
     absurd (omega (arith, short, within, size, actions, many)))))
+  where
+    on_run : (c : Setting) {run : List Pair} (m : Moment) (a : Along c (terms_at start) words u.drawn events now run m)
+        → (reaches : Reaches (machine_of c (terms_at start)) m a.later a.last) × NoneFree (machine_of c (terms_at start)) m a.later a.last reaches
+    on_run c m a = front_is_run (machine_of c (terms_at start)) (terms_at start).limits words 0 m a.later u.drawn a.last a.front

@@ -1,18 +1,27 @@
 -- What is left of a core that is taken apart.
-use Rattle.std.specs.Prelude.{◌≡◌, ℕ, Option, None, List, [], ◌∷◌}
+use Rattle.std.specs.Prelude.{◌≡◌, ℕ, Option, None, List, [], ◌∷◌, map}
 use Rattle.dag_order.specs.Births.{root}
-use Rattle.deque_machine.specs.Moments.{opening}
+use Rattle.core_parts.specs.Moves.{AreMovesOf}
+use Rattle.deque_machine.specs.Moments.{Moment, opening}
+use Rattle.deque_machine.specs.Runs.{Pair, moves}
 use Rattle.depth_first_run.specs.States.{Setting}
+use Rattle.depth_first_run.specs.Run.{list_of}
 use Rattle.dummy_tree.specs.QuotaWords.{quota_words}
 use Rattle.node_table.specs.Codes.{code_shown}
 use Rattle.node_table.specs.Table.{Table}
+use Rattle.period_books.specs.Periods.{closed_shown}
+use Rattle.period_books.specs.Telling.{Tell}
 use Rattle.period_table.specs.Tables.{seat_at}
+use Rattle.space_ledger.specs.BooksList.{books_list}
+use Rattle.space_ledger.specs.MovesList.{moves_list}
+use Rattle.space_ledger.specs.declared.books.Books.{Books}
+use Rattle.space_ledger.specs.declared.moves.Moves.{Moves}
 use Rattle.thread_map.specs.Kept.{kept_under}
 use Rattle.thread_steps.specs.Settings.{IsSettingOf}
 use Rattle.thread_frames.specs.declared.ended.Ended.{Ended}
 use Rattle.thread_frames.specs.declared.thread.Thread.{Thread}
 use Rattle.thread_frames.specs.Points.{IsAtPoint, IsResult}
-use Rattle.thread_frames.specs.Views.{label_of, ended_label}
+use Rattle.thread_frames.specs.Views.{label_of, done_of, children_of, thread_words, ended_label}
 use Rattle.dfd_core.specs.declared.run.Core.{Core}
 use Rattle.dfd_core.specs.declared.run_end.RunEnd.{RunEnd}
 use Rattle.dfd_core.specs.declared.run_end.RunEnd.TheVariants.{Finished, Stopped}
@@ -34,11 +43,24 @@ root_result core end = root_behind end (kept_under core.scheduler.results root)
 abbrev pub IsOfWholeRun : Table → ℕ → Ended → Type 0
 IsOfWholeRun t k ended = ∥ IsResult t k ended ∥₁ × (ended_label ended ≡ [])
 
+-- These periods and moves are those of a run with this last moment: the periods, all of them closed, are its books, and the moves, by the
+-- births in these periods, are its moves.
+pub record AreOfRun (c : Setting) (run : List Pair) (m : Moment) (books : Books) (moved : Moves) : Type 0 where
+  pub books_are : Tell c.quota (list_of c) (map closed_shown (books_list books)) m.books
+  pub moves_are : AreMovesOf (map closed_shown (books_list books)) (moves_list moved) (moves (list_of c) run)
+
 -- whatever its program, the core has done no step, and its run has not ended
 abbrev pub IsFresh : Core → Type 0
 IsFresh core = (end_of core ≡ None)
     × ((c : Setting) → IsSettingOf (code_shown core.code) (quota_words core.k) c → IsAt c core [] opening)
 
+-- the root has done nothing: no action is counted, no child is open, and it holds no words
+pub record HasDoneNothing (thread : Thread) : Type 0 where
+  pub done : done_of thread ≡ 0
+  pub children : children_of thread ≡ []
+  pub words : thread_words thread ≡ 0
+
 -- a lane with the root alone, before its first action
 abbrev pub IsRootAlone : Table → ℕ → List Thread → Type 0
-IsRootAlone t k items = (thread : Thread) × (items ≡ thread ∷ []) × (Thread.id thread ≡ root) × (label_of thread ≡ []) × ∥ IsAtPoint t k thread ∥₁
+IsRootAlone t k items = (thread : Thread) × (items ≡ thread ∷ []) × (Thread.id thread ≡ root) × (label_of thread ≡ [])
+    × HasDoneNothing thread × ∥ IsAtPoint t k thread ∥₁

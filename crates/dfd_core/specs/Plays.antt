@@ -5,7 +5,8 @@ use Rattle.deque_machine.specs.Moments.{Moment}
 use Rattle.deque_machine.specs.Machine.{May}
 use Rattle.deque_machine.specs.Play as play
 use Rattle.deque_machine.specs.Play.{Turn, Meets, words_drawn}
-use Rattle.deque_machine.specs.Runs.{Pair, Reaches}
+use Rattle.deque_machine.specs.Fronts.{PlaysOn}
+use Rattle.deque_machine.specs.Runs.{Pair}
 use Rattle.core_parts.specs.declared.stop.Stop.TheVariants.{ArenaFull, DequesFull, StepsSpent, OutOfMemory}
 use Rattle.deque_machine.specs.Terms.{Terms, machine_of}
 use Rattle.dfd_core.specs.declared.run.Core.{Core}
@@ -25,11 +26,19 @@ pub record TurnGoesOn (c : Setting) (terms : Terms) (words : ℕ → ℕ) (drawn
   pub is_at : IsAt c after (run ++ pair ∷ []) next
 
 -- its event meets this stop, and the core is where it was
-pub record TurnStops (c : Setting) (terms : Terms) (words : ℕ → ℕ) (after : Core) (run : List Pair) (m : Moment) (stop : play.Stop)
+pub record TurnStops (c : Setting) (terms : Terms) (words : ℕ → ℕ) (drawn : ℕ) (after : Core) (run : List Pair) (m : Moment) (stop : play.Stop)
     : Type 0 where
   pub pair : Pair
+  pub draws : drawn ≡ words_drawn m pair.worker
   pub turn : Turn (machine_of c terms) words 0 m pair
   pub meets : Meets (machine_of c terms) terms.limits m pair.event stop
+  pub is_at : IsAt c after run m
+
+-- It is the turn of a worker for which memory is wanting, and the core is where it was. So many words were drawn.
+pub record TurnLacks (c : Setting) (terms : Terms) (words : ℕ → ℕ) (drawn : ℕ) (after : Core) (run : List Pair) (m : Moment) : Type 0 where
+  pub worker : ℕ
+  pub first : play.IsFirst terms.workers (words 0) (play.CanMove (machine_of c terms) m) worker
+  pub draws : drawn ≡ words_drawn m worker
   pub is_at : IsAt c after run m
 
 -- what a turn comes to, by the end that is kept behind it
@@ -37,34 +46,53 @@ abbrev pub TurnsTo : Setting → Terms → (words : ℕ → ℕ) → (drawn : �
 TurnsTo c terms words drawn after run m None = ∥ TurnGoesOn c terms words drawn after run m ∥₁
 TurnsTo c terms words drawn after run m (Some (Finished finish)) = ∥ TurnGoesOn c terms words drawn after run m ∥₁
 TurnsTo c terms words drawn after run m (Some (Stopped (ArenaFull live asked))) =
-    ∥ TurnStops c terms words after run m (play.arena_full (pos live) asked) ∥₁
+    ∥ TurnStops c terms words drawn after run m (play.arena_full (pos live) asked) ∥₁
 TurnsTo c terms words drawn after run m (Some (Stopped (DequesFull deques))) =
-    ∥ TurnStops c terms words after run m (play.deques_full deques) ∥₁
+    ∥ TurnStops c terms words drawn after run m (play.deques_full deques) ∥₁
 TurnsTo c terms words drawn after run m (Some (Stopped (StepsSpent limit))) =
-    ∥ TurnStops c terms words after run m (play.steps_spent limit) ∥₁
-TurnsTo c terms words drawn after run m (Some (Stopped OutOfMemory)) = IsAt c after run m
+    ∥ TurnStops c terms words drawn after run m (play.steps_spent limit) ∥₁
+TurnsTo c terms words drawn after run m (Some (Stopped OutOfMemory)) = ∥ TurnLacks c terms words drawn after run m ∥₁
+
+-- of these words so many were drawn, and those come that follow
+abbrev pub IsDrawn : (words : ℕ → ℕ) → (drawn : ℕ) → (coming : ℕ → ℕ) → Type 0
+IsDrawn words drawn coming = (i : ℕ) → coming i ≡ words (drawn + i)
 
 -- One turn: so many words were drawn of the coming ones, and at each moment of a run at which the core may be it comes to this.
 pub record TakesTurn (words later : ℕ → ℕ) (before after : Core) : Type 0 where
   pub drawn : ℕ
-  pub later_is : (i : ℕ) → later i ≡ words (drawn + i)
+  pub later_is : IsDrawn words drawn later
   pub turns : (c : Setting) (run : List Pair) (m : Moment) → IsAt c before run m
       → TurnsTo c (terms_at before) words drawn after run m (end_of after)
 
--- the play from a moment of a run on, up to this ending, and the core at its last moment
-abbrev pub PlaysUpTo : Setting → Terms → (words : ℕ → ℕ) → (after : Core) → List Pair → Moment → play.Ending → Type 0
-PlaysUpTo c terms words after run m ending =
-    ∥ ((later : List Pair) × (last : Moment) × play.Plays (machine_of c terms) terms.limits words 0 m later last ending
-    × IsAt c after (run ++ later) last) ∥₁
+-- The play from a moment of a run on, up to this ending; the core is at its last moment, and the words come that it did not draw.
+pub record PlaysUpTo (c : Setting) (terms : Terms) (words coming : ℕ → ℕ) (after : Core) (run : List Pair) (m : Moment) (ending : play.Ending)
+    : Type 0 where
+  pub later : List Pair
+  pub last : Moment
+  pub plays : play.Plays (machine_of c terms) terms.limits words 0 m later last ending
+  pub is_at : IsAt c after (run ++ later) last
+  pub drawn : ℕ
+  pub rest : IsDrawn words drawn coming
 
--- what a play comes to, by its end; where memory is wanting it comes to a moment of the machine
-abbrev pub PlaysTo : Setting → Terms → (words : ℕ → ℕ) → (after : Core) → List Pair → Moment → RunEnd → Type 0
-PlaysTo c terms words after run m (Finished finish) = PlaysUpTo c terms words after run m play.finished
-PlaysTo c terms words after run m (Stopped (ArenaFull live asked)) =
-    PlaysUpTo c terms words after run m (play.stopped (play.arena_full (pos live) asked))
-PlaysTo c terms words after run m (Stopped (DequesFull deques)) =
-    PlaysUpTo c terms words after run m (play.stopped (play.deques_full deques))
-PlaysTo c terms words after run m (Stopped (StepsSpent limit)) =
-    PlaysUpTo c terms words after run m (play.stopped (play.steps_spent limit))
-PlaysTo c terms words after run m (Stopped OutOfMemory) =
-    ∥ ((later : List Pair) × (last : Moment) × Reaches (machine_of c terms) m later last × IsAt c after (run ++ later) last) ∥₁
+-- The front of the play, up to the turn of a worker for which memory was wanting; the core is at its moment, and the words come that neither
+-- the front nor this turn drew.
+pub record PlaysUntil (c : Setting) (terms : Terms) (words coming : ℕ → ℕ) (after : Core) (run : List Pair) (m : Moment) : Type 0 where
+  pub later : List Pair
+  pub last : Moment
+  pub drawn : ℕ
+  pub plays : PlaysOn (machine_of c terms) terms.limits words 0 m later drawn last
+  pub is_at : IsAt c after (run ++ later) last
+  pub worker : ℕ
+  pub first : play.IsFirst terms.workers (words drawn) (play.CanMove (machine_of c terms) last) worker
+  pub rest : IsDrawn words (drawn + words_drawn last worker) coming
+
+-- what a play comes to, by its end
+abbrev pub PlaysTo : Setting → Terms → (words coming : ℕ → ℕ) → (after : Core) → List Pair → Moment → RunEnd → Type 0
+PlaysTo c terms words coming after run m (Finished finish) = ∥ PlaysUpTo c terms words coming after run m play.finished ∥₁
+PlaysTo c terms words coming after run m (Stopped (ArenaFull live asked)) =
+    ∥ PlaysUpTo c terms words coming after run m (play.stopped (play.arena_full (pos live) asked)) ∥₁
+PlaysTo c terms words coming after run m (Stopped (DequesFull deques)) =
+    ∥ PlaysUpTo c terms words coming after run m (play.stopped (play.deques_full deques)) ∥₁
+PlaysTo c terms words coming after run m (Stopped (StepsSpent limit)) =
+    ∥ PlaysUpTo c terms words coming after run m (play.stopped (play.steps_spent limit)) ∥₁
+PlaysTo c terms words coming after run m (Stopped OutOfMemory) = ∥ PlaysUntil c terms words coming after run m ∥₁

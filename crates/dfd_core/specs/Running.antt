@@ -1,4 +1,4 @@
--- At which moment of a run of play a core is.
+-- At which moment of a run of the machine a core is.
 use Rattle.std.specs.Prelude.{◌≡◌, ℕ, ◌≤◌, ◌⊎◌, Option, None, Some, List, [], length}
 use Rattle.dag_order.specs.declared.finish.Finish.{Finish}
 use Rattle.depth_first_run.specs.States.{Setting}
@@ -15,8 +15,8 @@ use Rattle.dfd_core.specs.declared.run_end.RunEnd.{RunEnd}
 use Rattle.dfd_core.specs.declared.run_end.RunEnd.TheVariants.{Finished}
 use Rattle.depth_first_run.specs.Run.{finish_of_run}
 
--- What is held stands at the moment to which a run of a program of this table leads, in which no give up is free and no more actions are
--- done than may be. While no end is kept the root has not ended; a kept finish is that of the depth-first run, and the root has ended.
+-- What is held is at the moment to which a run of a program of this table leads, and no more actions are done than may be. The run may have
+-- free give ups. While no end is kept the root has not ended; a kept finish is that of the depth-first run, and the root has ended.
 pub record IsAtMoment (t : Table) (k : ℕ) (terms : Terms) (h : Held) (end : Option RunEnd) (c : Setting) (run : List Pair) (m : Moment)
     : Type 0 where
   pub setting : IsSettingOf t k c

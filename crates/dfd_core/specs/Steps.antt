@@ -17,7 +17,7 @@ use Rattle.core_parts.specs.declared.stop.Stop.{Stop}
 use Rattle.core_parts.specs.declared.stop.Stop.TheVariants.{ArenaFull, DequesFull, StepsSpent, OutOfMemory}
 use Rattle.core_parts.specs.Held.{Held}
 use Rattle.deque_machine.specs.Terms.{Terms, machine_of}
-use Rattle.core_parts.specs.Outcomes.{Tells}
+use Rattle.core_parts.specs.Outcomes.{Tells, HasDequesLeft}
 use Rattle.dfd_core.specs.declared.run_end.RunEnd.{RunEnd}
 use Rattle.dfd_core.specs.declared.run_end.RunEnd.TheVariants.{Finished, Stopped}
 use Rattle.dfd_core.specs.declared.run_end.Stepped.{Stepped}
@@ -47,7 +47,7 @@ pub record Stops (t : Table) (k : ℕ) (terms : Terms) (after : Held) (end : Opt
   pub meets : Meets (machine_of c terms) terms.limits m event stop
   pub is_at : IsAtMoment t k terms after end c run m
 
--- where memory is wanting, all stands where it stood
+-- where memory is wanting, all stands where it stood, and the limit of deques is not what stops the step
 abbrev pub StopsBy : Table → (k : ℕ) → Terms → (after : Held) → (end : Option RunEnd) → Setting → (worker word : ℕ) → List Pair → Moment
     → Stop → Type 0
 StopsBy t k terms after end c worker word run m (ArenaFull live asked) =
@@ -56,7 +56,8 @@ StopsBy t k terms after end c worker word run m (DequesFull deques) =
     ∥ Stops t k terms after end c worker word run m (play.deques_full deques) ∥₁
 StopsBy t k terms after end c worker word run m (StepsSpent limit) =
     ∥ Stops t k terms after end c worker word run m (play.steps_spent limit) ∥₁
-StopsBy t k terms after end c worker word run m OutOfMemory = IsAtMoment t k terms after end c run m
+StopsBy t k terms after end c worker word run m OutOfMemory =
+    IsAtMoment t k terms after end c run m × HasDequesLeft c terms worker word m
 
 -- what a step comes to that was begun at a moment of a run, while no end was kept: an event, nothing, or a stop
 abbrev pub Comes : Table → (k : ℕ) → Terms → (after : Held) → (end : Option RunEnd) → Setting → (worker word : ℕ) → List Pair → Moment

@@ -40,6 +40,7 @@ pub(crate) fn event_of(
     requires within { worker < length scheduler.old.table.seats.items }
     requires workers { length scheduler.old.table.seats.items ≤ 64 }
     requires few { limit < 4294967295 }
+    requires done { scheduler.old.done ≤ limit }
     ensures nothing { (result ≡ Ok None)
         ↔ ((seat_at scheduler.old.table worker ≡ None) × (¬ SomeReady (length scheduler.old.table.seats.items) scheduler.old.list.deques)) }
     ensures still { result ≡ Ok None → scheduler.new ≡ scheduler.old }

@@ -17,12 +17,14 @@ mod begun;
 mod choices;
 mod ends;
 mod events;
+mod laws;
 mod parts;
 mod player;
 mod run;
 mod run_end;
 
 pub use choices::{Choices, ListChoices};
+pub use laws::cores_are_lawful;
 pub use parts::{CoreEnd, CoreParts};
 pub use player::play;
 pub use run::Core;

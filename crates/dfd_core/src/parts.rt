@@ -1,11 +1,15 @@
 //! What a core is taken apart into.
 
-ghost use Rattle.std.specs.Prelude.{◌≡◌, ◌↔◌, [], ◌∷◌, None, Some, IfSome, IsTrue};
+ghost use Rattle.std.specs.Prelude.{◌≡◌, ◌↔◌, List as AnyList, [], ◌∷◌, None, Some, IfSome, IsTrue};
+ghost use Rattle.depth_first_run.specs.States.{Setting};
+ghost use Rattle.deque_machine.specs.Moments.{Moment};
+ghost use Rattle.deque_machine.specs.Runs.{Pair};
 ghost use Rattle.dummy_tree.specs.QuotaWords.{quota_words};
 ghost use Rattle.node_table.specs.Codes.{code_shown};
+ghost use Rattle.deque_list.specs.Ids.{deque_id};
 ghost use Rattle.dfd_core.specs.declared.run_end.RunEnd.{RunEnd as AnyEnd};
-ghost use Rattle.dfd_core.specs.Cores.{HasFinished, end_of, terms_at};
-ghost use Rattle.dfd_core.specs.Parts.{AreAllIdle, IsFresh, IsOfWholeRun, IsRootAlone, root_behind, root_result};
+ghost use Rattle.dfd_core.specs.Cores.{HasFinished, IsAt, end_of, terms_at};
+ghost use Rattle.dfd_core.specs.Parts.{AreAllIdle, AreOfRun, IsFresh, IsOfWholeRun, IsRootAlone, root_behind, root_result};
 
 use crate::run::Core;
 use crate::run_end::RunEnd;
@@ -81,6 +85,7 @@ impl Core {
         ensures end { end_of self ≡ Some result.end }
         ensures books { result.books ≡ self.scheduler.table.books }
         ensures moves { result.moves ≡ self.scheduler.moves }
+        ensures run { (c : Setting) (run : AnyList Pair) (m : Moment) → IsAt c self run m → AreOfRun c run m result.books result.moves }
         ensures root { result.root ≡ root_result self result.end }
         ensures none { (result.root ≡ None) ↔ ¬ HasFinished self }
         ensures whole { IfSome result.root (λ ended. IsOfWholeRun (code_shown self.code) (quota_words self.k) ended) }
@@ -109,6 +114,7 @@ impl Core {
         ensures workers { result.workers ≡ (terms_at self).workers }
         ensures limit { result.limit ≡ (terms_at self).limits.actions }
         ensures most { result.most ≡ (terms_at self).limits.deques }
+        ensures first { result.first ≡ deque_id 0 }
         ensures order { result.order.places ≡ (record { id = result.first; owner = None }) ∷ [] }
         ensures bound { result.order.most ≡ result.most }
         ensures lane { IsRootAlone (code_shown self.code) (quota_words self.k) result.lane.items }

@@ -9,7 +9,7 @@ use crate::choices::Choices;
 use crate::run::Core;
 use crate::run_end::RunEnd;
 
-/// Lets one worker move. A first word picks who, and an idle one draws a second word for its theft.
+/// Lets one worker move, in a run that has not ended. A first word picks who, and an idle one draws a second word for its theft.
 fn turn<C: Choices>(core: &mut Core, choices: &mut C)
     requires { end_of core.old ≡ None }
     ensures turn { TakesTurn (C.coming choices.old) (C.coming choices.new) core.old core.new }
@@ -30,12 +30,13 @@ fn most_turns(core: &Core) -> u64
     5 * u64::from(core.limit()) + 2 * u64::from(core.workers()) + 1
 }
 
-/// Lets the workers run to the end, in the order that the words pick. A run that has ended stays as it is.
+/// Lets the workers run to the end, in the order that the words pick. A run that has ended stays as it is, and draws no word. Where memory is
+/// wanting, the core is at a moment of the front of the play.
 pub fn play<C: Choices>(core: &mut Core, choices: &mut C) -> RunEnd
     ensures end { end_of core.new ≡ Some result }
-    ensures kept { (end : RunEnd) → end_of core.old ≡ Some end → (result ≡ end) × (core.new ≡ core.old) }
+    ensures kept { (end : RunEnd) → end_of core.old ≡ Some end → (result ≡ end) × (core.new ≡ core.old) × (choices.new ≡ choices.old) }
     ensures played { end_of core.old ≡ None → (c : Setting) (run : AnyList Pair) (m : Moment) → IsAt c core.old run m
-        → PlaysTo c (terms_at core.old) (C.coming choices.old) core.new run m result }
+        → PlaysTo c (terms_at core.old) (C.coming choices.old) (C.coming choices.new) core.new run m result }
     ensures setting { SameSetting core.old core.new }
 {
     if let Some(end) = core.end() {

@@ -158,7 +158,7 @@ impl Core {
             → Steps c self.new worker word run m result }
         ensures nothing { end_of self.old ≡ None → (c : Setting) (run : AnyList Pair) (m : Moment) → IsAt c self.old run m
             → (result ≡ steps.Nothing) ↔ ¬ play.CanMove (machine_of c (terms_at self.old)) m worker }
-        ensures still { result ≡ steps.Nothing → self.new.scheduler ≡ self.old.scheduler }
+        ensures still { result ≡ steps.Nothing → self.new ≡ self.old }
         ensures over { (end : RunEnd) → result ≡ steps.Over end → end_of self.new ≡ Some end }
         ensures setting { SameSetting self.old self.new }
     {
@@ -392,9 +392,10 @@ impl Core {
         self.scheduler.table.seat(worker as usize)
     }
 
-    /// The period of a worker; None exactly where it is idle.
+    /// The period of a worker; None exactly where it owns no deque.
     pub fn period(&self, worker: u32) -> Option<&Period>
-        ensures { option_copied result ≡ option_map period_of (seat_at self.now.scheduler.table worker) }
+        ensures value { option_copied result ≡ option_map period_of (seat_at self.now.scheduler.table worker) }
+        ensures none { (option_copied result ≡ None) ↔ (deque_at self.now.scheduler.table worker ≡ None) }
     {
         match self.seat(worker) {
             Some(seat) => Some(&seat.period),

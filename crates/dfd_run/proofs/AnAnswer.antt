@@ -23,9 +23,8 @@ use Rattle.deque_machine.proofs.Playing.{plays_end}
 use Rattle.deque_machine.specs.Moments.{Moment}
 use Rattle.deque_machine.specs.Play.{Ending, finished, stopped, arena_full, steps_spent, deques_full}
 use Rattle.deque_machine.specs.Runs.{Pair, moves, high_water_mark}
-use Rattle.par_ownership.specs.Ownership.{Ownership}
+use Rattle.par_ownership.specs.Accepted.{IsAccepted}
 use Rattle.par_ownership.specs.Walk.{Refusal, program_refusal}
-use Rattle.par_ownership.proofs.Law.{tells_program}
 use Rattle.par_text.specs.Judging.{IsText, Verdict, Judges, tree, refusal}
 use Rattle.par_text.specs.Lexing.{Lexed, text_tokens}
 use Rattle.par_text.proofs.Verdicts.{has_verdict}
@@ -46,21 +45,21 @@ Some_answer gives = (s : Status) × ((t : List ℕ) × gives s t)
 -- what is not refused is made of the program
 source_by_rules :
     (makes : Program → Status → List ℕ → Type 0) (bytes : List ℕ) (p : Program) → IsText bytes p →
-    (Ownership p → Some_answer (SourceGives makes bytes)) →
+    (IsAccepted p → Some_answer (SourceGives makes bytes)) →
     (o : Option Refusal) → program_refusal p ≡ o → Some_answer (SourceGives makes bytes)
-source_by_rules makes bytes p is finish None e = finish ((tells_program p).sound e)
+source_by_rules makes bytes p is finish None e = finish e
 source_by_rules makes bytes p is finish (Some r) e = (Check, (check_text r, (p, (is, (r, (e, refl))))))
 
 source_by_verdict :
     (makes : Program → Status → List ℕ → Type 0) (bytes : List ℕ) →
-    ((p : Program) → IsText bytes p → Ownership p → Some_answer (SourceGives makes bytes)) →
+    ((p : Program) → IsText bytes p → IsAccepted p → Some_answer (SourceGives makes bytes)) →
     (v : Verdict) → Judges bytes v → Some_answer (SourceGives makes bytes)
 source_by_verdict makes bytes finish (refusal e) r = (Syntax, (syntax_text e, (e, (r, refl))))
 source_by_verdict makes bytes finish (tree p) is = source_by_rules makes bytes p is (finish p is) (program_refusal p) refl
 
 source_answer :
     (makes : Program → Status → List ℕ → Type 0) (bytes : List ℕ) →
-    ((p : Program) → IsText bytes p → Ownership p → Some_answer (SourceGives makes bytes)) → Some_answer (SourceGives makes bytes)
+    ((p : Program) → IsText bytes p → IsAccepted p → Some_answer (SourceGives makes bytes)) → Some_answer (SourceGives makes bytes)
 source_answer makes bytes finish = let v = has_verdict bytes in source_by_verdict makes bytes finish v.0 v.1
 
 -- `check`
@@ -78,7 +77,7 @@ text_of_run items =
     (peak_text (lines_of items) (finish_of (first_fault items)) (length (actions_of items)) high.0, (high.0, (high.1, refl)))
 
 peak_by_fault :
-    (k limit : ℕ) (bytes : List ℕ) (p : Program) → IsText bytes p → Ownership p →
+    (k limit : ℕ) (bytes : List ℕ) (p : Program) → IsText bytes p → IsAccepted p →
     length (actions_of (whole (setting_of p k)).items) ≤ limit →
     (o : Option FaultAt) → first_fault (whole (setting_of p k)).items ≡ o → Some_answer (SourceGives (PeakMakes k limit) bytes)
 peak_by_fault k limit bytes p is own within None e =
@@ -87,7 +86,7 @@ peak_by_fault k limit bytes p is own within (Some fault) e =
     let t = text_of_run (whole (setting_of p k)).items in (UserFault, (t.0, (p, (is, (own, (within, ((fault, e), t.1)))))))
 
 peak_by_limit :
-    (k limit : ℕ) (bytes : List ℕ) (p : Program) → IsText bytes p → Ownership p →
+    (k limit : ℕ) (bytes : List ℕ) (p : Program) → IsText bytes p → IsAccepted p →
     (b : Bool) → nat_le (length (actions_of (whole (setting_of p k)).items)) limit ≡ b → Some_answer (SourceGives (PeakMakes k limit) bytes)
 peak_by_limit k limit bytes p is own true e =
     peak_by_fault k limit bytes p is own (leb-true (length (actions_of (whole (setting_of p k)).items)) limit e) (first_fault (whole (setting_of p k)).items) refl
@@ -111,7 +110,7 @@ some_summary bytes c run last = let high = number_of_words c run in (_, (high.0,
 
 module _ (tells : Setting → List Pair → Moment → List ℕ → Type 0)
     (some : (c : Setting) (run : List Pair) (last : Moment) → (t : List ℕ) × tells c run last t)
-    (command : Command) (ranges : HasRanges command) (bytes : List ℕ) (p : Program) (is : IsText bytes p) (own : Ownership p) where
+    (command : Command) (ranges : HasRanges command) (bytes : List ℕ) (p : Program) (is : IsText bytes p) (own : IsAccepted p) where
   by_fault : (run : List Pair) (last : Moment) → IsPlay command p run last finished →
       (o : Option FaultAt) → first_fault (whole (play_setting command p)).items ≡ o → Some_answer (SourceGives (TellsPlay tells command) bytes)
   by_fault run last plays None e =

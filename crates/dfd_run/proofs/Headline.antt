@@ -1,46 +1,58 @@
 -- What holds of each play, by the laws of the machine.
-use Rattle.std.proofs.Common.{◌≡◌, ◌⊎◌, inl, inr, ℕ, suc, ◌+◌, ◌<◌, ◌≤◌, List, [], ◌∷◌, ◌++◌, length, ℤ, pos, arith, refl, sym, ap, subst, ◌∙◌}
+use Rattle.std.proofs.Common.{◌≡◌, ◌≢◌, ◌⊎◌, inl, inr, ℕ, suc, ◌+◌, ◌<◌, ◌≤◌, List, [], ◌∷◌, ◌++◌, length, ℤ, pos, arith, refl, sym, ap, subst, ◌∙◌}
 use Rattle.std.proofs.Math.Logic.{∥∥₁_elim, ∥∥₁_map}
 use Rattle.std.proofs.Math.Nat.{mod-lt}
+use Rattle.std.proofs.lemmas.Bool.{cases_eq}
 use denote.Struct.Props.{props}
 use Rattle.std.specs.Prelude.{◌≤ℤ◌, ◌<ℤ◌, ◌+ℤ◌}
 use Rattle.command_line.specs.declared.command.Command.{Command}
 use Rattle.command_line.specs.declared.setting.Setting.TheVariants.{Quota}
+use Rattle.dag_order.specs.declared.finish.Finish.{Finish}
+use Rattle.dag_order.specs.declared.finish.Finish.TheVariants as finishes
 use Rattle.depth_first_list.specs.Actions.{Deed, forks, joins, allocates, releases, dummy, faults, ends, weight_of}
 use Rattle.depth_first_list.specs.Facts.{deed_at, words_at}
 use Rattle.depth_first_list.specs.Runs.{IsDepthFirst}
 use Rattle.depth_first_run.proofs.Built.{whole_is_depth_first}
 use Rattle.depth_first_run.specs.Run.{whole, lines_of, finish_of_run}
 use Rattle.deque_machine.proofs.Kept.{opening_is_lawful}
-use Rattle.deque_machine.proofs.Playing.{plays_are_runs, plays_finish, wanted_may_come}
-use Rattle.deque_machine.proofs.Reached.{lawful_along, bound_always, marked_bound, arena_refuses}
+use Rattle.deque_machine.proofs.Playing.{Excluded, excluded, plays_are_runs, plays_finish, wanted_may_come}
+use Rattle.deque_machine.proofs.Reached.{lawful_along, events_keep_lawful, bound_always, ahead_is_marked, marks_never_fall, marked_bound, arena_refuses}
 use Rattle.deque_machine.specs.LawfulOrder.{IsLawful}
-use Rattle.deque_machine.specs.Machine.{Setting, Event, does, May}
+use Rattle.deque_machine.specs.Machine.{Setting, Event, steals, does, suspends, gives_up, May}
 use Rattle.deque_machine.specs.Moments.{Moment, opening, done_at, live_at}
-use Rattle.deque_machine.specs.Play.{Stop, arena_full, steps_spent, deques_full, Ending, finished, stopped, IsFirst, CanMove, Meets, no_words, Fills, taken_by, words_taken, one_if_fork}
+use Rattle.deque_machine.specs.Play.{Stop, arena_full, steps_spent, deques_full, Ending, finished, stopped, IsFirst, CanMove, Meets, no_deque, no_words, no_steps, Turn, Fills, taken_by, words_taken, one_if_fork}
 use Rattle.deque_machine.specs.Runs.{Pair, Reaches}
 use Rattle.lawful_books.specs.Books.{IsPrefix, periods_ahead, periods_marked, bound, booked}
 use Rattle.lawful_books.specs.Lists.{total}
-use Rattle.machine_replay.proofs.OnePlay.{endings_have_causes}
+use Rattle.machine_replay.proofs.OnePlay.{one_way, endings_have_causes}
 use Rattle.par_tree.specs.Tree.{Program}
 use Rattle.run_report.specs.Shown.{Shown}
 use Rattle.run_report.specs.declared.summary.Summary.{Summary}
 use Rattle.dfd_run.specs.Make.{MakeMakes, Summarizes, sum_of}
 use Rattle.dfd_run.specs.Answer.{HasRanges}
-use Rattle.dfd_run.specs.Headline.{play_list, HoldsAt, IsBoundedReport, IsBoundedSummary}
+use Rattle.dfd_run.specs.Headline.{play_list, HoldsAt, AreBounded, StopsLate, LastsInArena, LastsInActions, LastsInDeques, IsBoundedReport, IsBoundedSummary}
 use Rattle.dfd_run.specs.Peak.{finish_status}
 use Rattle.dfd_run.specs.Play.{IsPlay, TellsEnding, Reports, PlayMakes, play_setting, play_terms, play_machine, seeded_words, stop_status}
 use Rattle.dfd_run.specs.Status.{code_of}
 use Rattle.dfd_run.specs.declared.status.Status.{Status}
-use Rattle.dfd_run.specs.declared.status.Status.TheVariants.{Done, UserFault}
+use Rattle.dfd_run.specs.declared.status.Status.TheVariants.{Done, UserFault, DequesFull}
 use Rattle.dfd_run.proofs.OneAnswer.{same_status}
 
--- a front of a run reaches a moment
+-- a front of a run reaches a moment, and the rest goes on from there
 reached_front : (s : Setting) (front rest : List Pair) (first last : Moment) → Reaches s first (front ++ rest) last →
-    (m : Moment) × Reaches s first front m
-reached_front s [] rest first last reaches = (first, refl)
+    (m : Moment) × Reaches s first front m × Reaches s m rest last
+reached_front s [] rest first last reaches = (first, refl, reaches)
 reached_front s (pair ∷ front) rest first last reaches =
-    let more = reached_front s front rest reaches.0 last reaches.2 in (more.0, (reaches.0, reaches.1, more.1))
+    let more = reached_front s front rest reaches.0 last reaches.2 in (more.0, (reaches.0, reaches.1, more.1), more.2)
+
+-- and it reaches no other
+one_reached : (s : Setting) → 0 < s.quota → IsDepthFirst s.quota s.list → (run : List Pair) (first one other : Moment) → IsLawful s first →
+    Reaches s first run one → Reaches s first run other → one ≡ other
+one_reached s some list [] first one other lawful reaches reaches' = sym reaches ∙ reaches'
+one_reached s some list (pair ∷ run) first one other lawful reaches reaches' =
+    let same : reaches.0 ≡ reaches'.0 = one_way s some list first reaches.0 reaches'.0 pair.worker pair.event lawful reaches.1 reaches'.1 in
+    one_reached s some list run reaches.0 one other (events_keep_lawful s some list first reaches.0 pair.worker pair.event lawful reaches.1) reaches.2
+    (subst (λ m. Reaches s m run other) (sym same) reaches'.2)
 
 -- the first that passes is below n
 in_range : (n word : ℕ) (Passes : ℕ → Type 0) (x : ℕ) → IsFirst n word Passes x → x < n
@@ -71,13 +83,21 @@ module _ (command : Command) (p : Program) (ranges : HasRanges command) where
       lawful_along (play_machine command p) listed run opening last (opening_is_lawful (play_machine command p) listed) reaches
 
   pub moments_are_bounded : (run : List Pair) (last : Moment) (ending : Ending) → IsPlay command p run last ending →
-      (front rest : List Pair) → run ≡ front ++ rest → (m : Moment) × Reaches (play_machine command p) opening front m × HoldsAt command p m
+      (front rest : List Pair) → run ≡ front ++ rest → AreBounded command p front last
   moments_are_bounded run last ending plays front rest is =
-      let reaches = (plays_are_runs (play_machine command p) some_quota listed (play_terms command).limits (seeded_words command.seed)
-      run last ending plays).0 in
-      let cut = reached_front (play_machine command p) front rest opening last
-      (subst (λ r. Reaches (play_machine command p) opening r last) is reaches) in
-      (cut.0, cut.1, holds_at front cut.0 cut.1)
+      let s = play_machine command p in
+      let reaches = (plays_are_runs s some_quota listed (play_terms command).limits (seeded_words command.seed) run last ending plays).0 in
+      let cut = reached_front s front rest opening last (subst (λ r. Reaches s opening r last) is reaches) in
+      record {
+        moment = cut.0;
+        reached = cut.1;
+        each = λ m reached. holds_at front m reached;
+        told = λ m n reached prefix.
+            let same : m ≡ cut.0 = one_reached s some_quota listed front opening m cut.0 (opening_is_lawful s listed) reached cut.1 in
+            let ahead = ahead_is_marked s some_quota listed front m n reached prefix in
+            let marked = marks_never_fall s some_quota listed rest m last (subst (λ x. Reaches s x rest last) (sym same) cut.2) in
+            omega (arith, ahead, marked);
+      }
 
   -- the status of a play that was stopped is not that of one that ended
   no_stop : (stop : Stop) (status : Status) → status ≡ stop_status stop → (status ≡ Done) ⊎ (status ≡ UserFault) → ⊥
@@ -166,35 +186,116 @@ module _ (command : Command) (p : Program) (ranges : HasRanges command) where
   taken_is_weight faults words some = absurd (omega (arith, some))
   taken_is_weight ends words some = absurd (omega (arith, some))
 
+  -- the numbers of the stop of an arena
+  IsAsked : Moment → (place : ℕ) → Stop → Type 0
+  IsAsked m place (arena_full live asked) = (live ≡ live_at (play_list command p) m) × (asked ≡ words_at (play_list command p) place)
+  IsAsked m place (steps_spent limit) = Unit {0}
+  IsAsked m place (deques_full deques) = Unit {0}
+
+  place_done : Event → ℕ
+  place_done (steals place id) = 0
+  place_done (does place) = place
+  place_done suspends = 0
+  place_done gives_up = 0
+
+  asked_at : (m : Moment) (event : Event) (stop : Stop) → Meets (play_machine command p) (play_terms command).limits m event stop →
+      IsAsked m (place_done event) stop
+  unfolding IsAsked place_done
+  asked_at m event stop (no_deque place id deque there stays many) = tt
+  asked_at m event stop (no_words place fills) = (refl, refl)
+  asked_at m event stop (no_steps place room many) = tt
+
   pub arenas_stop_late : (run : List Pair) (last : Moment) (live : ℤ) (asked : ℕ) → IsPlay command p run last (stopped (arena_full live asked)) →
-      (periods : ℕ) → bound command.k (play_list command p) periods ≤ℤ pos command.arena →
-      (worker place : ℕ) × Fills (play_machine command p) (play_terms command).limits last place
-      × ((after : Moment) × May (play_machine command p) last worker (does place) after
-      × ((n : ℕ) → IsPrefix (play_list command p) (done_at after) n → periods < periods_ahead n after.books))
+      (periods : ℕ) → bound command.k (play_list command p) periods ≤ℤ pos command.arena → StopsLate command p last live asked periods
+  unfolding IsAsked place_done
   arenas_stop_late run last live asked plays periods room =
-      let cause = endings_have_causes (play_machine command p) some_quota listed (play_terms command).limits (seeded_words command.seed)
+      let s = play_machine command p in
+      let cause = endings_have_causes s some_quota listed (play_terms command).limits (seeded_words command.seed)
       run last (stopped (arena_full live asked)) plays in
       let lawful = lawful_last run last (stopped (arena_full live asked)) plays in
       let fills = filled last (cause.1).event live asked cause.3 in
-      let below = in_range command.p (seeded_words command.seed cause.0) (CanMove (play_machine command p) last) (cause.1).worker (cause.2).first in
-      let comes = wanted_may_come (play_machine command p) some_quota listed last (cause.1).worker (seeded_words command.seed (suc cause.0))
+      let asks : IsAsked last (place_done (cause.1).event) (arena_full live asked) = asked_at last (cause.1).event (arena_full live asked) cause.3 in
+      let below = in_range command.p (seeded_words command.seed cause.0) (CanMove s last) (cause.1).worker (cause.2).first in
+      let comes = wanted_may_come s some_quota listed last (cause.1).worker (seeded_words command.seed (suc cause.0))
       (cause.1).event lawful below (cause.2).wants in
-      let may : May (play_machine command p) last (cause.1).worker (does fills.0) comes.0 =
-      subst (λ e. May (play_machine command p) last (cause.1).worker e comes.0) fills.1 comes.1 in
-      let reaches = (plays_are_runs (play_machine command p) some_quota listed (play_terms command).limits (seeded_words command.seed)
-      run last (stopped (arena_full live asked)) plays).0 in (
-        (cause.1).worker,
-        fills.0,
-        fills.2,
-        (
-          comes.0,
-          may,
-          λ n prefix.
-              arena_refuses (play_machine command p) some_quota listed run last comes.0 (cause.1).worker fills.0 n periods command.arena reaches may room
-              (subst (λ w. pos command.arena <ℤ (live_at (play_list command p) last +ℤ w))
-              (sym (taken_is_weight (deed_at (play_list command p) fills.0) (words_at (play_list command p) fills.0) (fills.2).0)) (fills.2).1) prefix,
-        ),
-      )
+      let may : May s last (cause.1).worker (does fills.0) comes.0 = subst (λ e. May s last (cause.1).worker e comes.0) fills.1 comes.1 in
+      let reaches = (plays_are_runs s some_quota listed (play_terms command).limits (seeded_words command.seed)
+      run last (stopped (arena_full live asked)) plays).0 in record {
+        drawn = cause.0;
+        worker = (cause.1).worker;
+        place = fills.0;
+        turn = subst (λ e. Turn s (seeded_words command.seed) cause.0 last (record { worker = (cause.1).worker; event = e })) fills.1 cause.2;
+        live_is = asks.0;
+        asked_is = asks.1 ∙ ap (λ e. words_at (play_list command p) (place_done e)) fills.1;
+        fills = fills.2;
+        after = comes.0;
+        may = may;
+        more_ahead = λ n prefix.
+            arena_refuses s some_quota listed run last comes.0 (cause.1).worker fills.0 n periods command.arena reaches may room
+            (subst (λ w. pos command.arena <ℤ (live_at (play_list command p) last +ℤ w))
+            (sym (taken_is_weight (deed_at (play_list command p) fills.0) (words_at (play_list command p) fills.0) (fills.2).0)) (fills.2).1) prefix;
+      }
+
+  -- a play does not end with a stop that is excluded
+  none_of : (run : List Pair) (last : Moment) (ending : Ending) (stop : Stop) → IsPlay command p run last ending →
+      Excluded (play_machine command p) (play_terms command).limits last stop → ending ≡ stopped stop → ⊥
+  none_of run last ending stop plays none is =
+      excluded (play_machine command p) some_quota listed (play_terms command).limits (seeded_words command.seed) run last stop none
+      (subst (λ e. IsPlay command p run last e) is plays)
+
+  pub arenas_suffice : (run : List Pair) (last : Moment) (ending : Ending) → IsPlay command p run last ending → LastsInArena command p last ending
+  arenas_suffice run last ending plays room live asked = none_of run last ending (arena_full live asked) plays room
+
+  pub actions_suffice : (run : List Pair) (last : Moment) (ending : Ending) → IsPlay command p run last ending → LastsInActions command p last ending
+  actions_suffice run last ending plays room limit = none_of run last ending (steps_spent limit) plays room
+
+  pub deques_suffice : (run : List Pair) (last : Moment) (ending : Ending) → IsPlay command p run last ending → LastsInDeques command p last ending
+  deques_suffice run last ending plays room deques = none_of run last ending (deques_full deques) plays room
+
+  -- so these statuses are left
+  status_left : (run : List Pair) (last : Moment) (ending : Ending) (status : Status) (text : List ℕ) → IsPlay command p run last ending →
+      TellsEnding (Reports (play_setting command p)) (play_setting command p) run last ending status text →
+      total words_taken (play_list command p) ≤ command.arena → length (play_list command p) ≤ command.steps →
+      (status ≡ Done) ⊎ ((status ≡ UserFault) ⊎ (status ≡ DequesFull))
+  status_left run last finished status text plays told words actions = elim (finish_status_is (finish_of_run (play_setting command p))) [
+    | inl done ↦ inl (told.0 ∙ done)
+    | inr fault ↦ inr (inl (told.0 ∙ fault))
+  ]
+    where
+      finish_status_is : (finish : Finish) → (finish_status finish ≡ Done) ⊎ (finish_status finish ≡ UserFault)
+      finish_status_is finishes.Done = inl refl
+      finish_status_is (finishes.Faulted fault) = inr refl
+  status_left run last (stopped (arena_full live asked)) status text plays told words actions =
+      absurd (arenas_suffice run last (stopped (arena_full live asked)) plays (inl words) live asked refl)
+  status_left run last (stopped (steps_spent limit)) status text plays told words actions =
+      absurd (actions_suffice run last (stopped (steps_spent limit)) plays actions limit refl)
+  status_left run last (stopped (deques_full deques)) status text plays told words actions = inr (inr told.0)
+
+  some_status : (n : ℕ) → (n ≡ 0) ⊎ ((n ≡ 6) ⊎ (n ≡ 9)) → (status : Status) → n ≡ code_of status →
+      (status ≡ Done) ⊎ ((status ≡ UserFault) ⊎ (status ≡ DequesFull))
+  some_status n among status is = elim among [
+    | inl zero_is ↦ inl (same_status status Done (sym is ∙ zero_is))
+    | inr other ↦ elim other [
+      | inl six ↦ inr (inl (same_status status UserFault (sym is ∙ six)))
+      | inr nine ↦ inr (inr (same_status status DequesFull (sym is ∙ nine)))
+    ]
+  ]
+
+  pub statuses_with_room : (status : Status) (text : List ℕ) → PlayMakes command p status text →
+      total words_taken (play_list command p) ≤ command.arena → length (play_list command p) ≤ command.steps →
+      (status ≡ Done) ⊎ ((status ≡ UserFault) ⊎ (status ≡ DequesFull))
+  statuses_with_room status text makes words actions = some_status (code_of status) (among (cases_eq (code_of status) 0) (cases_eq (code_of status) 6)) status refl
+    where
+      of_one : (code : ℕ) → (status : Status) → (status ≡ Done) ⊎ ((status ≡ UserFault) ⊎ (status ≡ DequesFull)) → (code_of status ≡ 0 → ⊥) → (code_of status ≡ 6 → ⊥) → code_of status ≡ 9
+      of_one code status (inl is) no_zero no_six = absurd (no_zero (ap code_of is))
+      of_one code status (inr (inl is)) no_zero no_six = absurd (no_six (ap code_of is))
+      of_one code status (inr (inr is)) no_zero no_six = ap code_of is
+
+      among : (code_of status ≡ 0) ⊎ (code_of status ≢ 0) → (code_of status ≡ 6) ⊎ (code_of status ≢ 6) → (code_of status ≡ 0) ⊎ ((code_of status ≡ 6) ⊎ (code_of status ≡ 9))
+      among (inl zero_is) six = inl zero_is
+      among (inr no_zero) (inl six) = inr (inl six)
+      among (inr no_zero) (inr no_six) = inr (inr (∥∥₁_elim makes (search props)
+          (λ w. of_one 0 status (status_left w.0 w.1 w.2 status text w.3 w.4 words actions) no_zero no_six)))
 
   pub plays_with_room_finish : (run : List Pair) (last : Moment) (ending : Ending) → IsPlay command p run last ending →
       total words_taken (play_list command p) ≤ command.arena → length (play_list command p) ≤ command.steps →

@@ -21,9 +21,8 @@ use Rattle.loop_expand.specs.declared.expand_fail.ExpandFail.{ExpandFail}
 use Rattle.loop_expand.specs.declared.expand_fail.ExpandFail.TheVariants.{Refused, BadLoop, NameTaken, OutOfMemory as NoMemory}
 use Rattle.loop_expand.proofs.Answered.{one_answer as a_text_has_one_answer}
 use Rattle.machine_replay.proofs.OnePlay.{one_play}
-use Rattle.par_ownership.specs.Ownership.{Ownership}
+use Rattle.par_ownership.specs.Accepted.{IsAccepted}
 use Rattle.par_ownership.specs.Walk.{Refusal, program_refusal}
-use Rattle.par_ownership.proofs.Law.{tells_program}
 use Rattle.par_text.specs.Judging.{IsText, IsRefused, Verdict, tree, refusal}
 use Rattle.par_text.proofs.Verdicts.{one_verdict}
 use Rattle.par_text.specs.declared.syntax_error.SyntaxError.{SyntaxError}
@@ -74,8 +73,8 @@ data Way (makes : Program → Status → List ℕ → Type 0) (bytes : List ℕ)
   made : (p : Program) → IsText bytes p → program_refusal p ≡ None → makes p s t → Way makes bytes s t
 
 made_of : (makes : Program → Status → List ℕ → Type 0) (bytes : List ℕ) (s : Status) (t : List ℕ) →
-    (p : Program) × (IsText bytes p × (Ownership p × makes p s t)) → Way makes bytes s t
-made_of makes bytes s t g = made g.0 g.1.0 ((tells_program g.0).complete g.1.1.0) g.1.1.1
+    (p : Program) × (IsText bytes p × (IsAccepted p × makes p s t)) → Way makes bytes s t
+made_of makes bytes s t g = made g.0 g.1.0 g.1.1.0 g.1.1.1
 
 way_of : (makes : Program → Status → List ℕ → Type 0) (bytes : List ℕ) (s : Status) (t : List ℕ) → SourceGives makes bytes s t → Way makes bytes s t
 way_of makes bytes Done t g = made_of makes bytes Done t g

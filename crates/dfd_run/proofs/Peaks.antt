@@ -12,8 +12,14 @@ use Rattle.depth_first_run.specs.Run.{actions_of, first_fault, lines_of, finish_
 use Rattle.serial_journal.specs.Telling.{Told, ShowsAction}
 use Rattle.serial_journal.specs.declared.action.Action.{Action as Shown}
 use Rattle.run_report.specs.Texts.{peak_text}
-use Rattle.dfd_run.specs.Peak.{RunText, RunMakes, finish_status}
+use Rattle.par_ownership.specs.Ownership.{Ownership}
+use Rattle.par_ownership.proofs.Law.{tells_program}
+use Rattle.par_text.specs.Judging.{IsText}
+use Rattle.par_tree.specs.Tree.{Program}
+use Rattle.dfd_run.specs.Answer.{SourceGives}
+use Rattle.dfd_run.specs.Peak.{RunText, RunMakes, PeakMakes, finish_status}
 use Rattle.dfd_run.specs.declared.status.Status.{Status}
+use Rattle.dfd_run.specs.declared.status.Status.TheVariants.{Syntax, Check}
 
 run_text :
     (items : List Item) (finish : Finish) (output : List ℤ) (actions : List Shown) (births : List Birth) (high : ℕ) →
@@ -60,6 +66,13 @@ run_answers items limit finish output actions births high count status text told
     (subst (λ (t : List ℕ). RunMakes items limit (finish_status finish) t)
     (sym (is_text ∙ ap (λ (n : ℕ). peak_text output finish n high) is_count))
     (run_makes items limit finish output actions births high told within))
+
+-- what is made of the program of the bytes is made of the bytes
+pub source_of_peak : (k limit : ℕ) (bytes : List ℕ) (p : Program) (status : Status) (text : List ℕ) → IsText bytes p → Ownership p →
+    PeakMakes k limit p status text → SourceGives (PeakMakes k limit) bytes status text
+source_of_peak k limit bytes p Syntax text is own makes = absurd makes
+source_of_peak k limit bytes p Check text is own makes = absurd makes
+source_of_peak k limit bytes p status text is own makes = (p, (is, ((tells_program p).complete own, makes)))
 
 -- the number of the option `--k` is a quota
 pub quota_of_range : (k : ℕ) → InRange QuotaSetting k → IsQuota k

@@ -11,17 +11,18 @@ use Rattle.deque_machine.specs.Moments.{Moment, opening}
 use Rattle.deque_machine.specs.Play.{finished, stopped, arena_full, steps_spent, deques_full}
 use Rattle.deque_machine.specs.Runs.{Pair}
 use Rattle.dfd_core.specs.Cores.{IsAt, end_of}
-use Rattle.dfd_core.specs.Plays.{PlaysTo}
 use Rattle.dfd_core.specs.declared.run.Core.{Core}
 use Rattle.dfd_core.specs.declared.run_end.RunEnd.TheVariants.{Finished, Stopped}
 use Rattle.node_table.specs.Programs.{IsTableOf}
 use Rattle.node_table.specs.Table.{Table}
 use Rattle.par_ownership.specs.Ownership.{Ownership}
+use Rattle.par_ownership.proofs.Law.{tells_program}
 use Rattle.par_text.specs.Judging.{IsText}
 use Rattle.par_tree.specs.Tree.{Program}
 use Rattle.run_report.specs.Texts.{report_text, summary_text}
 use Rattle.thread_steps.specs.Settings.{IsSettingOf}
 use Rattle.dfd_run.specs.Answer.{SourceGives}
+use Rattle.dfd_run.specs.CorePlays.{Played}
 use Rattle.dfd_run.specs.Peak.{finish_status}
 use Rattle.dfd_run.specs.Play.{TellsPlay, play_setting, play_terms, seeded_words}
 use Rattle.dfd_run.specs.Stops.{TellsStop}
@@ -37,37 +38,37 @@ setting_of_table command p t k owned table quota =
     record { owned = owned; table = table; quota = sym quota; calls = refl; turns = refl; forks = refl }
 
 pub finished_makes : (tells : Setting → List Pair → Moment → List ℕ → Type 0) (command : Command) (p : Program) (after : Core) (finish : Finish) (status : Status) (text : List ℕ) →
-    PlaysTo (play_setting command p) (play_terms command) (seeded_words command.seed) after [] opening (Finished finish) →
+    Played (play_setting command p) (play_terms command) (seeded_words command.seed) after (Finished finish) →
     end_of after ≡ Some (Finished finish) → status ≡ finish_status finish →
     ((c : Setting) (run : List Pair) (m : Moment) → IsAt c after run m → tells c run m text) → TellsPlay tells command p status text
 finished_makes tells command p after finish status text plays end is reports =
-    ∥∥₁_map plays (λ w. (w.0, w.1, finished, w.2, (is ∙ ap finish_status (w.3.finished finish end).1, reports _ w.0 w.1 w.3)))
+    ∥∥₁_map plays.1 (λ w. (w.later, w.last, finished, w.plays, (is ∙ ap finish_status (w.is_at.finished finish end).1, reports _ w.later w.last w.is_at)))
 
 pub stopped_makes : (tells : Setting → List Pair → Moment → List ℕ → Type 0) (command : Command) (p : Program) (after : Core) (stop : Stop) (status : Status) (text : List ℕ) →
-    PlaysTo (play_setting command p) (play_terms command) (seeded_words command.seed) after [] opening (Stopped stop) →
+    Played (play_setting command p) (play_terms command) (seeded_words command.seed) after (Stopped stop) →
     TellsStop stop status text → TellsPlay tells command p status text
 stopped_makes tells command p after (ArenaFull live asked) status text plays told =
-    ∥∥₁_map plays (λ w. (w.0, w.1, stopped (arena_full (pos live) asked), w.2, told))
+    ∥∥₁_map plays.1 (λ w. (w.later, w.last, stopped (arena_full (pos live) asked), w.plays, told))
 stopped_makes tells command p after (DequesFull deques) status text plays told =
-    ∥∥₁_map plays (λ w. (w.0, w.1, stopped (deques_full deques), w.2, told))
+    ∥∥₁_map plays.1 (λ w. (w.later, w.last, stopped (deques_full deques), w.plays, told))
 stopped_makes tells command p after (StepsSpent limit) status text plays told =
-    ∥∥₁_map plays (λ w. (w.0, w.1, stopped (steps_spent limit), w.2, told))
+    ∥∥₁_map plays.1 (λ w. (w.later, w.last, stopped (steps_spent limit), w.plays, told))
 stopped_makes tells command p after OutOfMemory status text plays told = absurd told
 
 -- what is made of the program of the bytes is made of the bytes
 pub source_of_play : (tells : Setting → List Pair → Moment → List ℕ → Type 0) (command : Command) (bytes : List ℕ) (p : Program) (status : Status) (text : List ℕ) → IsText bytes p → Ownership p →
     TellsPlay tells command p status text → SourceGives (TellsPlay tells command) bytes status text
-source_of_play tells command bytes p Done text is own makes = (p, (is, (own, makes)))
-source_of_play tells command bytes p Usage text is own makes = (p, (is, (own, makes)))
-source_of_play tells command bytes p ReadFault text is own makes = (p, (is, (own, makes)))
-source_of_play tells command bytes p WriteFault text is own makes = (p, (is, (own, makes)))
+source_of_play tells command bytes p Done text is own makes = (p, (is, ((tells_program p).complete own, makes)))
+source_of_play tells command bytes p Usage text is own makes = (p, (is, ((tells_program p).complete own, makes)))
+source_of_play tells command bytes p ReadFault text is own makes = (p, (is, ((tells_program p).complete own, makes)))
+source_of_play tells command bytes p WriteFault text is own makes = (p, (is, ((tells_program p).complete own, makes)))
 source_of_play tells command bytes p Syntax text is own makes = absurd (not_of_a_play tells command p Syntax text (λ no. no) makes)
 source_of_play tells command bytes p Check text is own makes = absurd (not_of_a_play tells command p Check text (λ no. no) makes)
-source_of_play tells command bytes p UserFault text is own makes = (p, (is, (own, makes)))
-source_of_play tells command bytes p LimitSpent text is own makes = (p, (is, (own, makes)))
-source_of_play tells command bytes p ArenaStatus text is own makes = (p, (is, (own, makes)))
-source_of_play tells command bytes p DequesStatus text is own makes = (p, (is, (own, makes)))
-source_of_play tells command bytes p NoMemory text is own makes = (p, (is, (own, makes)))
+source_of_play tells command bytes p UserFault text is own makes = (p, (is, ((tells_program p).complete own, makes)))
+source_of_play tells command bytes p LimitSpent text is own makes = (p, (is, ((tells_program p).complete own, makes)))
+source_of_play tells command bytes p ArenaStatus text is own makes = (p, (is, ((tells_program p).complete own, makes)))
+source_of_play tells command bytes p DequesStatus text is own makes = (p, (is, ((tells_program p).complete own, makes)))
+source_of_play tells command bytes p NoMemory text is own makes = (p, (is, ((tells_program p).complete own, makes)))
 
 -- the report of equal parts
 pub same_report : (lines lines' : List ℤ) (finish finish' : Finish) (periods periods' ahead ahead' high : ℕ) → lines ≡ lines' →

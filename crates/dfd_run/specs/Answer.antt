@@ -7,7 +7,7 @@ use Rattle.command_line.specs.declared.command_kind.CommandKind.{CommandKind}
 use Rattle.command_line.specs.declared.command_kind.CommandKind.TheVariants.{Play, Peak, Check as Checks, Make, Loops, Expand}
 use Rattle.command_line.specs.declared.setting.Setting.{Setting}
 use Rattle.made_source.specs.declared.TheConstants.{MOST_GROUPS}
-use Rattle.par_ownership.specs.Ownership.{Ownership}
+use Rattle.par_ownership.specs.Accepted.{IsAccepted}
 use Rattle.par_ownership.specs.Walk.{Refusal, program_refusal}
 use Rattle.par_text.specs.Judging.{IsText, IsRefused}
 use Rattle.par_text.specs.declared.syntax_error.SyntaxError.{SyntaxError}
@@ -26,7 +26,7 @@ use Rattle.dfd_run.specs.declared.status.Status.TheVariants.{Done, Usage, ReadFa
 abbrev pub SyntaxGives : List ℕ → List ℕ → Type 0
 SyntaxGives bytes text = (e : SyntaxError) × (IsRefused bytes e × (text ≡ syntax_text e))
 
--- the bytes are the text of a program that breaks the rules of ownership, and the line tells the first refusal
+-- the bytes are the text of a program that is refused, and the line says what the walk refuses first
 abbrev pub OwnershipGives : List ℕ → List ℕ → Type 0
 OwnershipGives bytes text =
     (p : Program) × (IsText bytes p × ((r : Refusal) × ((program_refusal p ≡ Some r) × (text ≡ check_text r))))
@@ -42,7 +42,7 @@ RefusalGives bytes status text = ⊥
 abbrev pub SourceGives : (makes : Program → Status → List ℕ → Type 0) → List ℕ → Status → List ℕ → Type 0
 SourceGives makes bytes Syntax text = SyntaxGives bytes text
 SourceGives makes bytes Check text = OwnershipGives bytes text
-SourceGives makes bytes status text = (p : Program) × (IsText bytes p × (Ownership p × makes p status text))
+SourceGives makes bytes status text = (p : Program) × (IsText bytes p × (IsAccepted p × makes p status text))
 
 -- what the command `check` makes of a program: its canonical text
 abbrev pub CheckMakes : Program → Status → List ℕ → Type 0
@@ -71,12 +71,8 @@ ReadGives command failed left left' status text =
 
 -- what a command answers: `make` reads nothing, and answers what it makes of its made source
 abbrev pub KindAnswers : CommandKind → Command → (failed : Type 0) → (left left' : Option (List ℕ)) → Status → List ℕ → Type 0
-KindAnswers Play command failed left left' = ReadGives command failed left left'
-KindAnswers Peak command failed left left' = ReadGives command failed left left'
-KindAnswers Checks command failed left left' = ReadGives command failed left left'
 KindAnswers Make command failed left left' = BytesGive command (source_of command)
-KindAnswers Loops command failed left left' = ReadGives command failed left left'
-KindAnswers Expand command failed left left' = ReadGives command failed left left'
+KindAnswers kind command failed left left' = ReadGives command failed left left'
 
 abbrev pub CommandGives : Command → (failed : Type 0) → (left left' : Option (List ℕ)) → Status → List ℕ → Type 0
 CommandGives command = KindAnswers command.kind command

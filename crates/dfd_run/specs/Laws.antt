@@ -1,5 +1,6 @@
 -- What a caller may use.
 use Rattle.std.specs.Prelude.{◌≡◌, ◌↔◌, ℕ, List, Ok}
+use Rattle.command_line.specs.Words.{IsCommand}
 use Rattle.command_line.specs.declared.command.Command.{Command}
 use Rattle.command_line.specs.declared.command_kind.CommandKind.TheVariants.{Play, Loops}
 use Rattle.loop_expand.specs.Expansion.{Expands}
@@ -21,3 +22,7 @@ abbrev pub LoopsArePlays : Type 0
 LoopsArePlays =
     (command : Command) (bytes expanded : List ℕ) → Expands bytes (Ok expanded) → (s : Status) (t : List ℕ) →
     BytesGive (record command { kind = Loops }) bytes s t ↔ BytesGive (record command { kind = Play }) expanded s t
+
+-- a command that was read has its ranges: so `serve` may do it
+abbrev pub CommandsHaveRanges : Type 0
+CommandsHaveRanges = (words : List (List ℕ)) (command : Command) → IsCommand words command → HasRanges command

@@ -11,3 +11,4 @@ pub mod Play
 pub mod Program
 pub mod Status
 pub mod Stops
+pub mod CorePlays

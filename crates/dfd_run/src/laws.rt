@@ -1,5 +1,5 @@
-ghost use Rattle.dfd_run.specs.Headline.{ArenasStopLate, MomentsAreBounded, PlaysWithRoomFinish, ReportsAreBounded, SummariesAreBounded};
-ghost use Rattle.dfd_run.specs.Laws.{AnAnswer, LoopsArePlays, OneAnswer};
+ghost use Rattle.dfd_run.specs.Headline.{ActionsSuffice, ArenasStopLate, ArenasSuffice, DequesSuffice, MomentsAreBounded, PlaysWithRoomFinish, ReportsAreBounded, StatusesWithRoom, SummariesAreBounded};
+ghost use Rattle.dfd_run.specs.Laws.{AnAnswer, CommandsHaveRanges, LoopsArePlays, OneAnswer};
 
 /// The status and the text of a command are a function of the command and of the bytes that it reads.
 pub fn a_command_has_one_answer()
@@ -17,8 +17,14 @@ pub fn loops_are_plays()
     ensures { LoopsArePlays }
 {}
 
+/// The numbers of a command that was read are in the ranges of their options.
+pub fn commands_have_ranges()
+    ensures { CommandsHaveRanges }
+{}
+
 /// At each moment of each play of a command the words in use are at most the depth-first peak, and two quotas for each period that by then
-/// ran an action ahead of the prefix; the threads in the deques stand in depth-first order; and no action was done twice.
+/// ran an action ahead of the prefix; the threads in the deques stand in depth-first order; and no action was done twice. At most as many
+/// periods are ahead there as are marked at the end of the play.
 pub fn moments_are_bounded()
     ensures { MomentsAreBounded }
 {}
@@ -34,8 +40,8 @@ pub fn summaries_are_bounded()
     ensures { SummariesAreBounded }
 {}
 
-/// An arena with room for the depth-first peak and two quotas for each of so many periods stops a play only at an action behind which
-/// more periods would be ahead.
+/// An arena with room for the depth-first peak and two quotas for each of so many periods stops a play only at an action of the turn that
+/// does not fit, and after which more periods would be ahead.
 pub fn arenas_stop_late()
     ensures { ArenasStopLate }
 {}
@@ -43,4 +49,25 @@ pub fn arenas_stop_late()
 /// With room for all words that the depth-first run takes, for its actions and for a deque a fork, a play finishes.
 pub fn plays_with_room_finish()
     ensures { PlaysWithRoomFinish }
+{}
+
+/// With room for all words that the depth-first run takes, or for the bound after the next action, the arena stops no play.
+pub fn arenas_suffice()
+    ensures { ArenasSuffice }
+{}
+
+/// With as many actions as the depth-first run has, their limit stops no play.
+pub fn actions_suffice()
+    ensures { ActionsSuffice }
+{}
+
+/// With more deques than the depth-first run has forks, their limit stops no play.
+pub fn deques_suffice()
+    ensures { DequesSuffice }
+{}
+
+/// With room for all words and all actions, `play` ends well, or with the program's fault, or at the limit of deques: a call whose streams do
+/// not fail has status 0, 6 or 9 then, or 10 where there is not enough memory.
+pub fn statuses_with_room()
+    ensures { StatusesWithRoom }
 {}

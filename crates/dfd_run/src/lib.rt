@@ -37,8 +37,9 @@ pub use byte_streams::{
 pub use call::{dfd, serve};
 pub use command_line::{Command, CommandKind, read_words};
 pub use laws::{
-    a_command_has_an_answer, a_command_has_one_answer, arenas_stop_late, loops_are_plays,
-    moments_are_bounded, plays_with_room_finish, reports_are_bounded, summaries_are_bounded,
+    a_command_has_an_answer, a_command_has_one_answer, actions_suffice, arenas_stop_late,
+    arenas_suffice, commands_have_ranges, deques_suffice, loops_are_plays, moments_are_bounded,
+    plays_with_room_finish, reports_are_bounded, statuses_with_room, summaries_are_bounded,
 };
 pub use pcg_choices::PcgChoices;
 pub use program::exit_code;

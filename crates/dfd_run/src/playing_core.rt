@@ -7,13 +7,13 @@ ghost use Rattle.depth_first_run.specs.Run.{whole, lines_of};
 ghost use Rattle.depth_first_run.specs.States.{Setting};
 ghost use Rattle.deque_machine.specs.Moments.{opening};
 ghost use Rattle.dfd_core.specs.Cores.{HasFinished, IsAt, end_of, terms_at};
-ghost use Rattle.dfd_core.specs.Plays.{PlaysTo};
 ghost use Rattle.dummy_tree.specs.QuotaWords.{quota_words};
 ghost use Rattle.node_table.specs.Codes.{code_shown};
 ghost use Rattle.par_ownership.specs.Ownership.{Ownership};
 ghost use Rattle.par_tree.specs.View.{program_tree};
 ghost use Rattle.thread_steps.specs.Settings.{IsSettingOf};
 ghost use Rattle.dfd_run.specs.Answer.{HasRanges};
+ghost use Rattle.dfd_run.specs.CorePlays.{Played};
 ghost use Rattle.dfd_run.specs.Play.{play_setting, play_terms, seeded_words};
 ghost use Rattle.dfd_run.specs.Stops.{TellsStop};
 
@@ -21,7 +21,7 @@ use crate::answer::Answer;
 use crate::messages::{arena_text, deques_text, spent_text};
 use crate::pcg_choices::PcgChoices;
 use crate::status::Status;
-use block_arena::Pool;
+use block_arena::{Pool, PoolError};
 use block_check::Checked;
 use command_line::Command;
 use core_parts::Stop;
@@ -43,8 +43,12 @@ fn begun(alloc: Global, command: &Command, program: Checked) -> Result<Core, All
         unreachable!();
     };
     let code = lower(alloc, program)?;
-    let Ok(pool) = Pool::new(alloc, command.arena) else {
-        return Err(AllocError);
+    let pool = match Pool::new(alloc, command.arena) {
+        Ok(pool) => pool,
+        Err(PoolError::OutOfMemory) => return Err(AllocError),
+        // The arena of a command is whole pieces, and no more of them than there may be.
+        Err(PoolError::NotWhole) => unreachable!(),
+        Err(PoolError::TooLarge) => unreachable!(),
     };
     Core::new(
         alloc,
@@ -66,8 +70,8 @@ pub fn run_program(
     requires ranges { HasRanges command.now }
     requires owned { Ownership (program_tree (program_of program)) }
     ensures end { IfOk result (λ run. end_of run.0 ≡ Some run.1) }
-    ensures plays { IfOk result (λ run. PlaysTo (play_setting command.now (program_tree (program_of program))) (play_terms command.now)
-        (seeded_words command.now.seed) run.0 [] opening run.1) }
+    ensures plays { IfOk result (λ run. Played (play_setting command.now (program_tree (program_of program))) (play_terms command.now)
+        (seeded_words command.now.seed) run.0 run.1) }
 {
     let mut core = begun(alloc, command, program)?;
     let mut choices = PcgChoices::new(command.seed);

@@ -9,12 +9,14 @@ use Rattle.dummy_tree.specs.Quotas.{dummies_of}
 use Rattle.dummy_tree.specs.Shapes.{is_dummy}
 use Rattle.depth_first_list.specs.Actions.{Deed, forks, joins, allocates, releases, dummy, faults, ends, Action, kind_of, record_words, weight_of, live_words, peak}
 use Rattle.depth_first_list.specs.Runs.{IsDepthFirst}
-use Rattle.depth_first_list.specs.Facts.{weight_at, deed_at, words_at, leaves_at, dummies_from, IsOfTree, IsLarge, IsInTreeOf, TreeStandsBefore, PeakIsHighest}
+use Rattle.depth_first_list.specs.Facts.{weight_at, deed_at, words_at}
+use Rattle.depth_first_list.specs.Laws.{leaves_at, dummies_from, IsOfTree, IsLarge, IsInTreeOf, TreeStandsBefore, PeakIsHighest}
 use Rattle.depth_first_list.proofs.TreeLaws.{trees_stand_before, trees_are_done_first}
 use Rattle.depth_first_list.proofs.Peak.{peak_is_highest}
 use Rattle.lawful_books.specs.Lists.{Each, total, times}
 use Rattle.lawful_books.specs.Books.{Book, booked, done_in, words_in_use, charge, charge_at, IsPrefix, goes_past, one_if_ahead, periods_ahead}
-use Rattle.lawful_books.specs.Lawful.{LawfulBooks, DummyEnds, Accounting, ArenaLaw}
+use Rattle.lawful_books.specs.Lawful.{LawfulBooks, DummyEnds}
+use Rattle.lawful_books.specs.Laws.{Accounting, ArenaLaw}
 use Rattle.lawful_books.proofs.Lists.{each_from, times_among}
 use Rattle.lawful_books.proofs.Parts.{part, part_done, part_missing, part_empty, part_append, part_below, part_sum, part_times, part_none, early, early_all, split_at}
 use Rattle.lawful_books.proofs.Words.{fork_weight}

@@ -8,8 +8,9 @@ use Rattle.depth_first_list.specs.Runs.{IsDepthFirst}
 use Rattle.depth_first_list.specs.Facts.{deed_at, label_at, IsDone, IsLive, IsNext, StemsFrom}
 use Rattle.depth_first_list.proofs.LiveLaws.{root_end_means_all}
 use Rattle.lawful_books.specs.Lists.{one_if_same, times}
-use Rattle.lawful_books.specs.Books.{Book, booked, done_in, charge_at, charged, IsPrefix}
-use Rattle.lawful_books.specs.Lawful.{DummyEnds, IsWithin, book_of, one_more, NoBooksAreLawful, OnePrefix, RunningKeeps, ClosingKeeps, BeginningKeeps, EndedHasAll}
+use Rattle.lawful_books.specs.Books.{Book, booked, done_in, charge_at, charged, IsPrefix, book_of, one_more}
+use Rattle.lawful_books.specs.Lawful.{DummyEnds, IsWithin}
+use Rattle.lawful_books.specs.Laws.{NoBooksAreLawful, OnePrefix, RunningKeeps, ClosingKeeps, BeginningKeeps, EndedHasAll}
 use Rattle.lawful_books.proofs.Lists.{total_append, each_change, each_at, each_join, one_cases, at_end, same_head, same_tail, middle_is_not_nil}
 
 pub booked_append : (xs ys : List Book) → booked (xs ++ ys) ≡ booked xs ++ booked ys

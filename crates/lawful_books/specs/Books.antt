@@ -1,6 +1,6 @@
 -- Books: what each period of a scheduler ran of a depth-first list, and what is done by them.
-use Rattle.std.specs.Prelude.{◌≡◌, ℕ, ◌≤◌, ◌<◌, ◌*◌, Bool, false, ◌||◌, nat_le, cond, Option, List, [], ◌∷◌, ◌++◌, map, length, ℤ, pos, ◌+ℤ◌}
-use Rattle.depth_first_list.specs.Actions.{Deed, forks, joins, allocates, releases, dummy, faults, ends, Action, record_words, live_words, peak}
+use Rattle.std.specs.Prelude.{◌≡◌, ℕ, ◌≤◌, ◌<◌, ◌*◌, Bool, false, ◌||◌, nat_le, cond, Option, List, [], ◌∷◌, ◌++◌, map, length, ℤ, pos, ◌+ℤ◌, ◌+◌}
+use Rattle.depth_first_list.specs.Actions.{Deed, forks, allocates, Action, record_words, live_words, peak}
 use Rattle.depth_first_list.specs.Facts.{action_at, deed_at, words_at}
 use Rattle.lawful_books.specs.Lists.{total, times}
 
@@ -25,15 +25,11 @@ done_in books place = times place (booked books)
 abbrev pub words_in_use : List Action → List Book → ℤ
 words_in_use l books = live_words (map (action_at l) (booked books))
 
--- what a deed takes of the quota of its period: a Fork the words of a record, and an Alloc that the quota covers its words
+-- what a deed takes of the quota of its period: a Fork the words of a record, an Alloc that the quota covers its words, and any other nothing
 abbrev pub charge : ℕ → Deed → ℕ → ℕ
 charge k (forks child) words = record_words
-charge k (joins child) words = 0
 charge k allocates words = cond (nat_le words k) words 0
-charge k releases words = 0
-charge k dummy words = 0
-charge k faults words = 0
-charge k ends words = 0
+charge k other words = 0
 
 abbrev pub charge_at : ℕ → List Action → ℕ → ℕ
 charge_at k l place = charge k (deed_at l place) (words_at l place)
@@ -74,3 +70,11 @@ periods_marked books = total one_if_marked books
 -- the most words that may be in use where so many periods are ahead
 abbrev pub bound : ℕ → List Action → ℕ → ℤ
 bound k l ahead = peak l +ℤ pos (2 * k * ahead)
+
+-- the book with this owner, or closed, in which the period ran this
+abbrev pub book_of : Book → Option ℕ → List ℕ → Book
+book_of book owner ran = record { ahead = book.ahead; owner = owner; ran = ran }
+
+-- the books in which the period of this book, with older and newer ones beside it, ran one action more
+abbrev pub one_more : List Book → Book → List Book → Option ℕ → ℕ → List Book
+one_more older book newer after place = older ++ book_of book after (book.ran ++ place ∷ []) ∷ newer

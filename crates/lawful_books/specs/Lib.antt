@@ -1,3 +1,4 @@
 pub mod Lists
 pub mod Books
 pub mod Lawful
+pub mod Laws

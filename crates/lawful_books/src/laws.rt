@@ -1,8 +1,8 @@
 ghost use Rattle.std.specs.Prelude.{ℕ, List};
 ghost use Rattle.depth_first_list.specs.Actions.{Action};
 ghost use Rattle.depth_first_list.specs.Runs.{IsDepthFirst};
-ghost use Rattle.depth_first_list.specs.Facts.{AlwaysWithin};
-ghost use Rattle.lawful_books.specs.Lawful.{Accounting, ArenaLaw, BeginningKeeps, ClosingKeeps, EndedHasAll, NoBooksAreLawful, OnePrefix, RunningKeeps};
+ghost use Rattle.depth_first_list.specs.Laws.{AlwaysWithin};
+ghost use Rattle.lawful_books.specs.Laws.{Accounting, ArenaLaw, BeginningKeeps, ClosingKeeps, EndedHasAll, NoBooksAreLawful, OnePrefix, RunningKeeps};
 
 /// The books are lawful before anything is done.
 pub fn no_books_are_lawful()

@@ -4,8 +4,7 @@ use Rattle.std.specs.Prelude.{Option, None, Some, remove, insert, nat_eq, slice_
 use Rattle.std.specs.Borrow.{Bor}
 use Rattle.std.proofs.lemmas.List.{nil_from_length}
 use Rattle.std.proofs.lemmas.Bool.{eqb-true, eqb-false}
-use Rattle.lawful_books.specs.Books.{Book}
-use Rattle.lawful_books.specs.Lawful.{book_of}
+use Rattle.lawful_books.specs.Books.{Book, book_of}
 use Rattle.deque_machine.specs.Moments.{Deque, Waiting, Moment}
 use Rattle.machine_replay.specs.Helds.{Held}
 use Rattle.machine_replay.specs.Tests.{Cut, cut_first, owns_it, open_for_it, waits_for}

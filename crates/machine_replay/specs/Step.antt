@@ -5,8 +5,7 @@ use Rattle.std.specs.declared.result.Result.TheVariants.{Ok, Err}
 use Rattle.dag_order.specs.LabelOrder.{fork_of}
 use Rattle.depth_first_list.specs.Actions.{Deed, forks, joins, allocates, releases, dummy, faults, ends, record_words}
 use Rattle.depth_first_list.specs.Facts.{deed_at, words_at}
-use Rattle.lawful_books.specs.Books.{Book, charged}
-use Rattle.lawful_books.specs.Lawful.{one_more, book_of}
+use Rattle.lawful_books.specs.Books.{Book, charged, one_more, book_of}
 use Rattle.deque_machine.specs.Moments.{Deque, Waiting, Moment, opening, done_at, owned_by, with_id}
 use Rattle.deque_machine.specs.Machine.{Setting, Event, steals, does, suspends, gives_up, new_book}
 use Rattle.deque_machine.specs.Runs.{Pair}

@@ -1,8 +1,7 @@
 ghost use Rattle.std.specs.Prelude.{◌≡◌, ◌+◌, ◌++◌, ◌∷◌, ℕ, nat_eq, nat_le, None, Some, MatchOption, IfOk, length, []};
-ghost use Rattle.lawful_books.specs.Books.{charged};
+ghost use Rattle.lawful_books.specs.Books.{charged, book_of};
 ghost use Rattle.deque_machine.specs.Moments as plain;
 ghost use Rattle.machine_replay.specs.Tests.{Cut, cut_first, waits_for};
-ghost use Rattle.lawful_books.specs.Lawful.{book_of};
 ghost use Rattle.dag_order.specs.LabelOrder.{fork_of};
 ghost use Rattle.machine_replay.specs.Step.{hand_of, deques_put, books_put, books_shut, moment_of, where_true, ended_over};
 

@@ -1,4 +1,4 @@
-ghost use Rattle.deque_machine.specs.Runs.{InEachSetting};
+ghost use Rattle.deque_machine.specs.Laws.{InEachSetting};
 ghost use Rattle.machine_replay.specs.Laws.{StepIsTheMachine, ReplayReaches, ReplayFails, OneWay, OnePlay, EndingsHaveCauses, PlayedIsPlay};
 
 /// At a lawful moment the computed machine answers just the cases of the machine.

@@ -8,3 +8,4 @@ pub mod Acting
 pub mod Moving
 pub mod Handing
 pub mod Births
+pub mod Counting

@@ -10,8 +10,7 @@ use Rattle.depth_first_list.specs.Runs.{IsDepthFirst}
 use Rattle.depth_first_list.specs.Facts.{weight_at, IsDone, IsNext, HasDone}
 use Rattle.depth_first_list.proofs.LiveLaws.{next_is_of_its_index}
 use Rattle.lawful_books.specs.Lists.{Among, total, one_if_same}
-use Rattle.lawful_books.specs.Books.{done_in}
-use Rattle.lawful_books.specs.Lawful.{one_more}
+use Rattle.lawful_books.specs.Books.{done_in, one_more}
 use Rattle.lawful_books.proofs.Lists.{among_left, among_right, among_parts, among_here, each_among}
 use Rattle.lawful_books.proofs.Keeping.{done_more}
 use Rattle.deque_machine.specs.Moments.{Moment, Waiting, done_at, live_at, threads_in, waiting_threads}
@@ -56,7 +55,7 @@ module _ (s : Setting) (run : IsDepthFirst s.quota s.list) (m : Moment) (lawful 
 
   once : ¬ Among o.top.label (threads_in (map deque_shown o.left) ++ (map label_of o.under ++ threads_in (map deque_shown o.right)))
   once = stands_once (threads_in (map deque_shown o.left)) o.top.label (map label_of o.under ++ threads_in (map deque_shown o.right))
-      (subst Rattle.deque_machine.specs.LawfulOrder.Rises labels_are lawful.order.rises)
+      (subst Rattle.deque_machine.specs.Moments.Rises labels_are lawful.order.rises)
 
   -- whoever else is in the parts has another label
   pub under_differs : (x : Thread) → Among x o.under → x.label ≢ o.top.label

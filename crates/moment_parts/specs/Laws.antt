@@ -1,5 +1,5 @@
 -- What each event of the machine is, on parts that show its moment.
-use Rattle.std.specs.Prelude.{◌≡◌, ℕ, List, [], ◌∷◌, ◌++◌, length, map}
+use Rattle.std.specs.Prelude.{◌≡◌, ℕ, ◌≤◌, List, [], ◌∷◌, ◌++◌, length, map}
 use Rattle.dag_order.specs.declared.birth.Birth.{Birth}
 use Rattle.dag_order.specs.Births.{root, ParentsComeFirst, MayFollow}
 use Rattle.deque_machine.specs.Moments.{Moment, opening}
@@ -7,7 +7,8 @@ use Rattle.deque_machine.specs.Machine.{Setting, Event, steals, does, suspends, 
 use Rattle.deque_machine.specs.LawfulOrder.{IsLawful}
 use Rattle.period_books.specs.Periods.{Period}
 use Rattle.period_books.specs.Telling.{Tell}
-use Rattle.moment_parts.specs.Parts.{Thread, Parts, parts_with_root}
+use Rattle.lawful_books.specs.Books.{booked}
+use Rattle.moment_parts.specs.Parts.{Thread, Parts, IsIn, parts_with_root}
 use Rattle.moment_parts.specs.Standing.{Shows}
 use Rattle.moment_parts.specs.Events.{Does, GivesUp, Suspends, Steals, HandsOver}
 
@@ -35,6 +36,11 @@ WaitsAreEvents s = (m : Moment) (parts : Parts) (worker : ℕ) (next : Parts) �
 abbrev pub TheftsAreEvents : Setting → Type 0
 TheftsAreEvents s = (m : Moment) (parts : Parts) (worker place id : ℕ) (next : Parts) → IsLawful s m → Shows s.quota s.list parts m
     → Steals s.workers (length m.books) parts worker place id next → Comes s m worker (steals place id) next
+
+-- a thread of the parts has done no more actions than are done
+abbrev pub ThreadsCountWithin : Setting → Type 0
+ThreadsCountWithin s = (m : Moment) (parts : Parts) (x : Thread) → IsLawful s m → Shows s.quota s.list parts m → IsIn x parts
+    → x.done ≤ length (booked m.books)
 
 -- The births of the periods, in the order of their numbers, are those of a lawful moment, and so they come parents first: each parent is the
 -- root, or was born in an earlier period or earlier in the same one.

@@ -1,6 +1,6 @@
 ghost use Rattle.std.specs.Prelude.{ℕ};
-ghost use Rattle.deque_machine.specs.Runs.{InEachSetting};
-ghost use Rattle.moment_parts.specs.Laws.{RootIsTheOpening, ActionsAreEvents, BirthsComeParentsFirst, BirthsMayFollow, GiveUpsAreEvents, HandingOverIsNoEvent, TheftsAreEvents, WaitsAreEvents};
+ghost use Rattle.deque_machine.specs.Laws.{InEachSetting};
+ghost use Rattle.moment_parts.specs.Laws.{RootIsTheOpening, ThreadsCountWithin, ActionsAreEvents, BirthsComeParentsFirst, BirthsMayFollow, GiveUpsAreEvents, HandingOverIsNoEvent, TheftsAreEvents, WaitsAreEvents};
 
 /// A root that has done nothing, alone in a deque without an owner, is the opening moment.
 pub fn root_is_the_opening()
@@ -40,4 +40,9 @@ pub fn births_come_parents_first()
 /// So they may be added to a roster, one period after the other.
 pub fn births_may_follow()
     ensures { InEachSetting BirthsMayFollow }
+{}
+
+/// A thread of the parts has done no more actions than are done.
+pub fn threads_count_within()
+    ensures { InEachSetting ThreadsCountWithin }
 {}

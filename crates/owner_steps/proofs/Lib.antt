@@ -6,3 +6,4 @@ pub mod Owning
 pub mod Deciding
 pub mod TakingIn
 pub mod Taking
+mod Seated

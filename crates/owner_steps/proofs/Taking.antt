@@ -34,7 +34,7 @@ use Rattle.thread_steps.specs.Settings.{IsSettingOf}
 use Rattle.owner_steps.specs.Memory.{HasMemory}
 use Rattle.owner_steps.specs.Tops.{TakesTop}
 use Rattle.owner_steps.specs.Steps.{IsBeforeAction, Comes}
-use Rattle.core_parts.proofs.AtTop.{owns_none, words_within, used_within}
+use Rattle.core_parts.proofs.AtTop.{owns_none, words_within, used_within, counts_within}
 use Rattle.core_parts.proofs.Bounds.{point_one, seat_deque}
 use Rattle.owner_steps.proofs.Owning.{quota_is}
 
@@ -150,6 +150,10 @@ module _ (t : Table) (k limit : ℕ) (s : Scheduler) {worker : ℕ} {id : DequeI
   pub words_at_top : thread_words top ≤ s.pool.live
   words_at_top = ∥∥₁_elim sound.of_program (search props) (λ p. ∥∥₁_elim (sound.somewhere p.0 p.1) (search props) (λ a.
       words_within s stands top p.0 (terms_of s limit) (quota_is t k p.0 p.1 sound.quota) a.0 a.1 a.2))
+
+  pub done_at_top : done_of top ≤ s.done
+  done_at_top = ∥∥₁_elim sound.of_program (search props) (λ p. ∥∥₁_elim (sound.somewhere p.0 p.1) (search props) (λ a.
+      counts_within s stands top p.0 (terms_of s limit) (quota_is t k p.0 p.1 sound.quota) a.0 a.1 a.2))
 
   pub used_at_top : (p : Period) → period_at s.table worker ≡ Some p → p.used ≤ k
   used_at_top p is = ∥∥₁_elim sound.of_program (search props) (λ q. ∥∥₁_elim (sound.somewhere q.0 q.1) (search props) (λ a.

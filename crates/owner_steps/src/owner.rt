@@ -102,7 +102,7 @@ fn go_on(
 ///
 /// # Errors
 ///
-/// There is not enough memory, or its count of actions is at its end.
+/// There is not enough memory.
 fn advance(
     top: &mut Boxed<Thread>,
     pool: &Pool,
@@ -112,6 +112,7 @@ fn advance(
 ) -> Result<Next, AllocError>
     requires point { IsAtPoint (code_shown code.now) (quota_words k) top.old }
     requires out { thread_words top.old ≤ pool.now.live }
+    requires few { done_of top.old < 4294967295 }
     ensures point { OnOk result (IsAtPoint (code_shown code.now) (quota_words k) top.new) }
     ensures next { IfOk result (λ next. next_of top.new ≡ Some next) }
     ensures newest { IfOk result (λ next. JoinsNewest next (children_of top.new)) }
@@ -122,9 +123,6 @@ fn advance(
 {
     // A pool says that no more words are out than it may have.
     let _live = pool.live();
-    if top.get().done() == u32::MAX {
-        return Err(AllocError);
-    }
     top.get_mut().advance(alloc, code, k)
 }
 
@@ -145,6 +143,7 @@ pub fn step_of_owner(
     requires points { CanGoOn (code_shown code.now) (quota_words k) (held scheduler.old) }
     requires owner { (id : DequeId) × (deque_at scheduler.old.table worker ≡ Some id) }
     requires few { limit < 4294967295 }
+    requires done { scheduler.old.done ≤ limit }
     ensures sound { IsSound (code_shown code.now) (quota_words k) (terms_of scheduler.new limit) (held scheduler.new) }
     ensures points { result ≢ Err stops.OutOfMemory → CanGoOn (code_shown code.now) (quota_words k) (held scheduler.new) }
     ensures steps { (c : Setting) → IsSettingOf (code_shown code.now) (quota_words k) c → (run : AnyList Pair) (m : Moment) (word : ℕ)

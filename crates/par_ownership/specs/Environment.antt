@@ -68,15 +68,13 @@ opened env b l r line = without (with_entry (with_entry env (lent_entry l line))
 -- the blocks that an argument list gives away are gone
 abbrev pub after_gives : Environment → List Tree.Arg → Environment
 after_gives env [] = env
-after_gives env (Tree.value e ∷ rest) = after_gives env rest
-after_gives env (Tree.lend b ∷ rest) = after_gives env rest
 after_gives env (Tree.give b ∷ rest) = after_gives (without env b) rest
+after_gives env (other ∷ rest) = after_gives env rest
 
 -- the block that a call hands back is declared and held
 abbrev pub after_answer : Environment → Tree.Target → ℕ → Environment
-after_answer env Tree.unused line = env
-after_answer env (Tree.integer x) line = env
 after_answer env (Tree.block b) line = with_entry env (block_entry b line)
+after_answer env other line = env
 
 -- a block that was held on one side is held where it is held on the other side too
 abbrev pub held_also : Bool → Entry → Entry

@@ -1,9 +1,9 @@
 -- What a caller may use: the walk and the rules say the same.
-use Rattle.std.specs.Prelude.{◌≡◌, ◌↔◌, None}
+use Rattle.std.specs.Prelude.{◌↔◌}
 use Rattle.par_tree.specs.Tree.{Program}
 use Rattle.par_ownership.specs.Ownership.{Ownership}
-use Rattle.par_ownership.specs.Walk.{program_refusal}
+use Rattle.par_ownership.specs.Accepted.{IsAccepted}
 
--- the walk meets no refusal exactly where the ownership rules hold
+-- a program is accepted exactly if it keeps the rules of ownership
 abbrev pub WalkIsOwnership : Type 0
-WalkIsOwnership = (p : Program) → (program_refusal p ≡ None) ↔ Ownership p
+WalkIsOwnership = (p : Program) → IsAccepted p ↔ Ownership p

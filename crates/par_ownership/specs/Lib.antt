@@ -1,4 +1,5 @@
 pub mod Environment
 pub mod Ownership
 pub mod Walk
+pub mod Accepted
 pub mod Laws

@@ -90,15 +90,10 @@ shared_refusal line before b = unless (not (list_any (passes b) before)) SharedB
 
 abbrev pub arg_refusal : ℕ → Environment → List Arg → Name → ParamKind → Arg → Option Refusal
 arg_refusal line env before q by_value (value e) = expr_refusal line env e
-arg_refusal line env before q by_value (lend b) = unless false WrongKind line q
-arg_refusal line env before q by_value (give b) = unless false WrongKind line q
-arg_refusal line env before q Tree.lent (value e) = unless false WrongKind line q
 arg_refusal line env before q Tree.lent (lend b) = first_of (block_refusal line env b) (shared_refusal line before b)
-arg_refusal line env before q Tree.lent (give b) = unless false WrongKind line q
-arg_refusal line env before q owned (value e) = unless false WrongKind line q
-arg_refusal line env before q owned (lend b) = unless false WrongKind line q
 arg_refusal line env before q owned (give b) =
     first_of (block_refusal line env b) (first_of (shared_refusal line before b) (lent_refusal line env b))
+arg_refusal line env before q kind other = unless false WrongKind line q
 
 abbrev pub args_refusal : ℕ → Environment → List Arg → List Param → List Arg → Option Refusal
 args_refusal line env before [] rest = None

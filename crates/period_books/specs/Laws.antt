@@ -8,8 +8,7 @@ use Rattle.dag_order.specs.Births as births
 use Rattle.depth_first_list.specs.Actions.{Action}
 use Rattle.depth_first_list.specs.Facts.{deed_at}
 use Rattle.lawful_books.specs.Lists.{Among}
-use Rattle.lawful_books.specs.Books.{Book, charge_at}
-use Rattle.lawful_books.specs.Lawful.{book_of, one_more}
+use Rattle.lawful_books.specs.Books.{Book, charge_at, book_of, one_more}
 use Rattle.period_books.specs.Periods.{Period, Adds, Replaces}
 use Rattle.period_books.specs.Names.{id_of, HasLabel, IsNamed, births_by}
 use Rattle.period_books.specs.Telling.{IsBook, Tell}

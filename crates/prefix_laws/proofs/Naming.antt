@@ -12,7 +12,8 @@ use Rattle.dag_order.specs.Births.{HasLabel}
 use Rattle.dag_order.proofs.BirthLaws.{one_label}
 use Rattle.depth_first_list.specs.Actions.{Action}
 use Rattle.depth_first_list.specs.Runs.{end_at, start}
-use Rattle.depth_first_list.specs.Facts.{action_at, label_at, NamesDiffer}
+use Rattle.depth_first_list.specs.Facts.{action_at, label_at}
+use Rattle.depth_first_list.specs.Laws.{NamesDiffer}
 use Rattle.lawful_books.specs.Books.{Book}
 use Rattle.lawful_books.specs.Lists.{Each}
 use Rattle.period_books.specs.Periods.{Period}

@@ -3,7 +3,7 @@ use Rattle.std.proofs.Common.{ℕ, List, [], ◌∷◌, inl, inr, subst, sym}
 use Rattle.std.proofs.Math.Logic.{∥∥₁_elim, ∥∥₁_map}
 use Rattle.dag_order.specs.LabelOrder.{Before}
 use Rattle.dag_order.specs.LabelLaws.{never_before_itself, before_further, three_ways}
-use Rattle.deque_machine.specs.LawfulOrder.{Rises}
+use Rattle.deque_machine.specs.Moments.{Rises}
 use Rattle.lawful_books.proofs.Lists.{each_from, each_among}
 
 before_from : (a b : List ℕ) → ∥ Before a b ∥₁ → Before a b

@@ -2,8 +2,7 @@
 
 ghost use Rattle.std.specs.Prelude.{◌≡◌, ◌++◌, List as AnyList, IfOk, map};
 ghost use Rattle.depth_first_run.specs.States.{Setting};
-ghost use Rattle.deque_machine.specs.Moments.{Moment, threads_in};
-ghost use Rattle.deque_machine.specs.LawfulOrder.{Rises};
+ghost use Rattle.deque_machine.specs.Moments.{Moment, threads_in, Rises};
 ghost use Rattle.deque_machine.specs.Runs.{Pair};
 ghost use Rattle.lawful_books.specs.Lists.{Each};
 ghost use Rattle.dfd_core.specs.Cores.{IsAt};

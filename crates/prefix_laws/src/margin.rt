@@ -18,7 +18,8 @@ use std::alloc::{AllocError, Global};
 
 /// Two quotas for each of so many periods.
 fn two_quotas(k: Quota, periods: u32) -> u64
-    ensures { result ≡ 2 * quota_words k * periods }
+    ensures value { result ≡ 2 * quota_words k * periods }
+    ensures small { result < 9223372036854775808 }
 {
     2 * u64::from(k.get()) * u64::from(periods)
 }
@@ -30,7 +31,7 @@ fn two_quotas(k: Quota, periods: u32) -> u64
 ///
 /// # Errors
 ///
-/// There is not enough memory. A bound beyond 64 bits, which no memory holds, is counted as this.
+/// There is not enough memory. The bound always has 64 bits.
 pub fn bound_margin(alloc: Global, core: &Core, serial: &Serial) -> Result<u64, AllocError>
     requires { IsSerialOf core.now serial.now }
     ensures { (c : Setting) (run : AnyList Pair) (m : Moment) (n : ℕ) → IsAt c core.now run m → TellsRun c serial.now
@@ -38,8 +39,5 @@ pub fn bound_margin(alloc: Global, core: &Core, serial: &Serial) -> Result<u64, 
         → IfOk result (λ margin. pos margin +ℤ live_at (list_of c) m ≡ bound c.quota (list_of c) (periods_ahead n m.books)) }
 {
     let ahead = ahead_now(alloc, core, serial)?;
-    let Some(most) = serial.peak.checked_add(two_quotas(core.quota(), ahead)) else {
-        return Err(AllocError);
-    };
-    Ok(most - core.live())
+    Ok(serial.peak + two_quotas(core.quota(), ahead) - core.live())
 }

@@ -1,5 +1,5 @@
 -- What a journal has written down behind one item more.
-use Rattle.std.proofs.Common.{◌≡◌, Result, Ok, Err, MatchResult, ℕ, ◌+◌, ◌≤◌, List, [], ◌∷◌, ◌++◌, length, ℤ, pos, ◌+ℤ◌, Option, Some, None, refl, sym, ◌∙◌, ap, subst, arith, append-nil, length-append}
+use Rattle.std.proofs.Common.{◌<◌, ◌≡◌, Result, Ok, Err, MatchResult, ℕ, ◌+◌, ◌≤◌, List, [], ◌∷◌, ◌++◌, length, ℤ, pos, ◌+ℤ◌, Option, Some, None, refl, sym, ◌∙◌, ap, subst, arith, append-nil, length-append}
 use Rattle.std.proofs.lemmas.Slice.Zip.{AllZip-long}
 use Rattle.std.specs.Int.{int_max}
 use Rattle.std.specs.List.{AllZip}
@@ -175,6 +175,17 @@ act_kept limit items label deed words shown j k r same keeps labelled kind chang
     keeps.told.actions_are record { label = labelled; index = refl; kind = kind; change = change }
     (subst (λ (fs : List ForkOf). AllZip (ShowsBirth (births_of j)) fs (births_of j))
     (sym (ap (λ (fs : List ForkOf). forks_of (actions_of items) ++ fs) (no_fork label deed plain) ∙ append-nil (forks_of (actions_of items)))) keeps.told.births_are)
+
+-- how it is known that the peak is small is of no account
+pub small_of_no_account : (limit : ℕ) (items : List Item) (j : Journal) (small : j.peak < 9223372036854775808) → KeepsUp limit items j
+    → KeepsUp limit items (record j { small = small })
+small_of_no_account limit items j small keeps = record {
+  told = keeps.told;
+  live_is = keeps.live_is;
+  limit_is = keeps.limit_is;
+  within = keeps.within;
+  count_is = keeps.count_is;
+}
 
 -- room for lines changes nothing, nor does room for births
 pub lines_room_kept : (limit : ℕ) (items : List Item) (j : Journal) (output : BoundedList ℤ) → entries output ≡ entries j.output → KeepsUp limit items j → KeepsUp limit items (record j { output = output })

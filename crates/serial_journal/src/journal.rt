@@ -1,4 +1,4 @@
-ghost use Rattle.std.specs.Prelude.{◌≡◌, ℕ, ◌≤◌, [], ◌∷◌, ◌++◌, List, length, IfOk, OnErr, MatchResult, Ok, Err};
+ghost use Rattle.std.specs.Prelude.{◌≡◌, ℕ, ◌≤◌, ◌<◌, [], ◌∷◌, ◌++◌, List, length, IfOk, OnErr, MatchResult, Ok, Err};
 ghost use Rattle.std.specs.Prelude.{pos};
 ghost use Rattle.std.specs.Int.{int_max};
 ghost use Rattle.depth_first_list.specs.Actions.{Deed, kind_of, weight_of};
@@ -22,6 +22,7 @@ pub struct Journal {
     peak: u64,
     limit: u32,
     items: u64,
+    ghost small: { peak < 9223372036854775808 },
 }
 
 impl Journal {
@@ -190,7 +191,8 @@ impl Journal {
 
 // A number of words, or 0 where it is below.
 fn above_zero(words: i64) -> u64
-    ensures { pos result ≡ int_max (pos 0) words }
+    ensures value { pos result ≡ int_max (pos 0) words }
+    ensures small { result < 9223372036854775808 }
 {
     if words < 0 { 0 } else { words as u64 }
 }

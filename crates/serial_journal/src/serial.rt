@@ -1,3 +1,5 @@
+ghost use Rattle.std.specs.Prelude.{◌<◌};
+
 use crate::action::Actions;
 use dag_order::{Births, Finish, Lines};
 
@@ -15,4 +17,6 @@ pub struct Serial {
     pub births: Births,
     /// The greatest number of live words behind any of the first actions, at least 0.
     pub peak: u64,
+    /// It is counted with a sign.
+    pub ghost small: { peak < 9223372036854775808 },
 }

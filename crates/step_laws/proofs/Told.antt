@@ -7,8 +7,8 @@ use Rattle.depth_first_list.specs.Actions.{Deed, forks, joins, allocates, releas
 use Rattle.depth_first_list.specs.Runs.{IsDepthFirst}
 use Rattle.depth_first_list.specs.Facts.{action_at, deed_at, words_at, weight_at, IsNext}
 use Rattle.lawful_books.specs.Lists.{Each, total}
-use Rattle.lawful_books.specs.Books.{booked, charge, charge_at, charged}
-use Rattle.lawful_books.specs.Lawful.{IsWithin, book_of}
+use Rattle.lawful_books.specs.Books.{booked, charge, charge_at, charged, book_of}
+use Rattle.lawful_books.specs.Lawful.{IsWithin}
 use Rattle.lawful_books.proofs.Lists.{each_at}
 use Rattle.lawful_books.proofs.Keeping.{closed_same, begun_same}
 use Rattle.lawful_books.proofs.Whole.{total_ones}

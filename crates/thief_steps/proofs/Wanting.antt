@@ -17,6 +17,7 @@ use Rattle.period_books.proofs.Sorting.{get_middle}
 use Rattle.thread_frames.specs.declared.thread.Thread.{Thread}
 use Rattle.thread_parts.specs.Shown.{thread_shown}
 use Rattle.deque_events.specs.Shown.{deque_shown, deque_with}
+use Rattle.core_parts.proofs.Sitting.{IsTheft}
 use Rattle.step_laws.specs.Readiness.{AreDeques}
 use Rattle.step_laws.proofs.Ready.{ids_are_shown}
 use Rattle.victim_choice.specs.Choices.{IsReadyAt}
@@ -54,12 +55,6 @@ module _ (s : Setting) (m : Moment) (worker : ℕ) where
   theft_of word event none (a_give_up forced) = absurd (let some = owner_owns forced.owner in omega (arith, none, some))
   theft_of word event none (a_wait o place child at not_ended) = absurd (let some = owner_owns o in omega (arith, none, some))
   theft_of word event none (an_action o place next has fits) = absurd (let some = owner_owns o in omega (arith, none, some))
-
-IsTheft : machine.Event → Type 0
-IsTheft (machine.steals place id) = Unit {0}
-IsTheft (machine.does place) = ⊥
-IsTheft machine.suspends = ⊥
-IsTheft machine.gives_up = ⊥
 
 place_robbed : machine.Event → ℕ
 place_robbed (machine.steals place id) = place

@@ -1,6 +1,6 @@
 //! What a thread is, how the root begins, and the way to the next action.
 
-ghost use Rattle.std.specs.Prelude.{vec_len, vec_capacity, ◌-◌, ◌≡◌, ◌≤◌, ◌<◌, [], ℕ, Some, None, IfOk, OnOk, Result, Ok};
+ghost use Rattle.std.specs.Prelude.{vec_len, vec_capacity, ◌-◌, ◌≡◌, ◌≤◌, ◌<◌, [], ℕ, Some, None, IfOk, OnOk, OnErr, Result, Ok};
 ghost use Rattle.dag_order.specs.Births.{root as root_id};
 ghost use Rattle.block_arena.specs.declared.size.TheConstants.{MAX_WORDS};
 ghost use Rattle.depth_first_run.specs.States.{Setting};
@@ -263,10 +263,10 @@ fn prepared_for(
                 shell,
             })
         }
-        Ready::Release { slot, words } => match u32::try_from(words) {
-            Ok(words) => Ok(Prepared::Release { slot, words }),
-            Err(_) => Err(AllocError),
-        },
+        Ready::Release { slot, words } => {
+            let words = words_given(words)?;
+            Ok(Prepared::Release { slot, words })
+        }
         Ready::Dummy => Ok(Prepared::Dummy),
         Ready::Fault(fault) => Ok(Prepared::Fault(fault)),
         Ready::End => Ok(Prepared::End),
@@ -342,13 +342,29 @@ fn assigned_slots(alloc: Global, code: &Code, branch: Branch) -> Result<Vec<u16>
 ///
 /// # Errors
 ///
-/// They are more than any arena has.
+/// They are more than 32 bits hold, and so more than any arena has.
 fn words_for(len: u32) -> Result<u32, AllocError>
-    ensures { IfOk result (λ words. words ≡ words_taken len) }
+    ensures value { IfOk result (λ words. words ≡ words_taken len) }
+    ensures many { OnErr result (4294967296 ≤ words_taken len) }
 {
     match pieces_for(len).checked_mul(PIECE_WORDS) {
         Some(words) => Ok(words),
         None => Err(AllocError),
+    }
+}
+
+/// The words of a block that goes back.
+///
+/// # Errors
+///
+/// They are more than 32 bits hold, and so more than any arena has.
+fn words_given(words: u64) -> Result<u32, AllocError>
+    ensures value { IfOk result (λ given. given ≡ words) }
+    ensures many { OnErr result (4294967296 ≤ words) }
+{
+    match u32::try_from(words) {
+        Ok(words) => Ok(words),
+        Err(_) => Err(AllocError),
     }
 }
 

@@ -1,4 +1,4 @@
-use Rattle.std.proofs.Common.{sym, subst, ◌∙◌}
+use Rattle.std.proofs.Common.{sym, subst, ◌∙◌, arith}
 use Rattle.node_table.specs.Codes.{code_shown}
 use Rattle.dummy_tree.specs.QuotaWords.{quota_words}
 use Rattle.core_parts.specs.declared.scheduler.Scheduler.{Scheduler}
@@ -7,7 +7,8 @@ use Rattle.core_parts.specs.Moments.{terms_of, IsSound, StandsAt}
 use Rattle.core_parts.specs.Outcomes.{StepsTo}
 use Rattle.core_parts.proofs.Still.{reordered_sound, reordered_stands, still_sound, still_stands}
 use Rattle.owner_steps.specs.Steps.{IsBeforeAction}
-use Rattle.owner_steps.proofs.Taking.{taken_sound, taken_points, taken_at, point_at_top, words_at_top, is_before, comes_of_taken}
+use Rattle.owner_steps.proofs.Seated.{seated_has_left}
+use Rattle.owner_steps.proofs.Taking.{taken_sound, taken_points, taken_at, point_at_top, words_at_top, done_at_top, is_before, comes_of_taken}
 use Rattle.owner_steps.proofs.owner.step_of_owner.Goals as goal
 
 pub take_top-requires-clause-sound : goal.take_top-requires-clause-sound
@@ -21,8 +22,10 @@ returns-in_default-clause-sound c =
 
 pub returns-in_default-clause-steps : goal.returns-in_default-clause-steps
 returns-in_default-clause-steps c setting of run m word at =
-    let s : Scheduler = c.args.scheduler.now in
-    reordered_stands setting (terms_of s c.args.limit) (held s) (held c.take_top.new.scheduler) run m c.in_default.ensures.same at
+    let s : Scheduler = c.args.scheduler.now in (
+      reordered_stands setting (terms_of s c.args.limit) (held s) (held c.take_top.new.scheduler) run m c.in_default.ensures.same at,
+      seated_has_left c.requires.sound.quota setting of (terms_of s c.args.limit) (held s) run m at c.args.worker word c.requires.owner,
+    )
 
 pub advance-requires-clause-point : goal.advance-requires-clause-point
 advance-requires-clause-point c =
@@ -36,6 +39,13 @@ advance-requires-clause-out c =
     let takes = c.in-Ok.ensures.takes in
     words_at_top (code_shown c.args.code.now) (quota_words c.args.k) c.args.limit c.take_top.new.scheduler takes.stands c.in-Ok.top
     (taken_sound (code_shown c.args.code.now) (quota_words c.args.k) c.args.limit c.args.scheduler.now c.take_top.new.scheduler c.args.worker c.in-Ok.deque c.in-Ok.top takes c.requires.sound)
+
+pub advance-requires-clause-few : goal.advance-requires-clause-few
+advance-requires-clause-few c =
+    let takes = c.in-Ok.ensures.takes in
+    let count = done_at_top (code_shown c.args.code.now) (quota_words c.args.k) c.args.limit c.take_top.new.scheduler takes.stands c.in-Ok.top
+    (taken_sound (code_shown c.args.code.now) (quota_words c.args.k) c.args.limit c.args.scheduler.now c.take_top.new.scheduler c.args.worker c.in-Ok.deque c.in-Ok.top takes c.requires.sound) in
+    let same = takes.same.done in let done = c.requires.done in let few = c.requires.few in omega (arith, count, same, done, few)
 
 pub put_back-requires-clause-stands : goal.put_back-requires-clause-stands
 put_back-requires-clause-stands c = let takes = c.in-Ok.ensures.takes in (takes.items, takes.stands)
@@ -113,6 +123,8 @@ returns-in-Err-clause-steps c setting of run m word at =
     let takes = c.in-Ok.ensures.takes in
     let now : Scheduler = c.take_top.new.scheduler in
     let at_taken = taken_at (code_shown c.args.code.now) (quota_words c.args.k) c.args.limit c.args.scheduler.now now c.args.worker c.in-Ok.deque c.in-Ok.top takes setting run m at in
-    let at_now = still_stands now takes.stands c.in-Ok.top c.advance.new.top c.advance.ensures.still setting (terms_of now c.args.limit) run m at_taken in
-    subst (λ h. StandsAt setting (terms_of c.args.scheduler.now c.args.limit) h run m) (sym (c.put_back.ensures.held takes.items takes.stands))
-    (subst (λ x. StandsAt setting x (held_under now takes.stands c.advance.new.top) run m) (takes.terms c.args.limit) at_now)
+    let at_now = still_stands now takes.stands c.in-Ok.top c.advance.new.top c.advance.ensures.still setting (terms_of now c.args.limit) run m at_taken in (
+      subst (λ h. StandsAt setting (terms_of c.args.scheduler.now c.args.limit) h run m) (sym (c.put_back.ensures.held takes.items takes.stands))
+          (subst (λ x. StandsAt setting x (held_under now takes.stands c.advance.new.top) run m) (takes.terms c.args.limit) at_now),
+      seated_has_left c.requires.sound.quota setting of (terms_of c.args.scheduler.now c.args.limit) (held c.args.scheduler.now) run m at c.args.worker word c.requires.owner,
+    )

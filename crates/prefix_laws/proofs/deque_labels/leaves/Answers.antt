@@ -2,7 +2,7 @@ use Rattle.std.proofs.Common.{sym, subst, ap, ◌∙◌}
 use Rattle.std.proofs.lemmas.Result.{IfOk-weaker}
 use Rattle.deque_list.specs.Deques.{Deque}
 use Rattle.deque_list.specs.DequeLists.{ListView}
-use Rattle.deque_machine.specs.LawfulOrder.{Rises}
+use Rattle.deque_machine.specs.Moments.{Rises}
 use Rattle.lawful_books.specs.Lists.{Each}
 use Rattle.thread_frames.specs.declared.thread.Thread.{Thread}
 use Rattle.prefix_laws.specs.Listing.{births_behind}

@@ -6,11 +6,17 @@ use Rattle.deque_list.specs.declared.deque_id.DequeId.{DequeId}
 use Rattle.thread_frames.specs.declared.thread.Thread.{Thread}
 use Rattle.core_parts.specs.Held.{held}
 use Rattle.dfd_core.specs.Parts.{IsRootAlone}
-use Rattle.dfd_core.proofs.Apart.{one_deque, first, no_owner, root_alone, none_live}
+use Rattle.dfd_core.proofs.Apart.{one_deque, first, first_id, no_owner, root_alone, none_live}
 use Rattle.dfd_core.proofs.run.Core.into_parts.Goals as goal
 
 pub into_first-order-requires : goal.into_first-order-requires
 into_first-order-requires c = one_deque _ _ _ (held c.args.self.scheduler) c.args.self.sound (c.args.self.points c.requires.0) c.args.self.end c.requires.1
+
+pub returns-clause-first : goal.returns-clause-first
+returns-clause-first c =
+    let one = first _ _ _ (held c.args.self.scheduler) c.args.self.sound (c.args.self.points c.requires.0) c.args.self.end c.requires.1 in
+    sym (same_Some _ _ (sym (ap (λ (ds : List (Deque Thread)). slice_get (deque_ids ds) 0) one.1) ∙ c.into_first-order.ensures.id))
+    ∙ first_id _ _ _ (held c.args.self.scheduler) c.args.self.sound (c.args.self.points c.requires.0) c.args.self.end c.requires.1
 
 pub returns-clause-order : goal.returns-clause-order
 returns-clause-order c =

@@ -7,7 +7,11 @@ use Rattle.dfd_core.proofs.Told.{ok_or_err, some_or_none}
 use Rattle.dfd_core.proofs.Roots.{root_result}
 use Rattle.dfd_core.proofs.Going.{somewhere_behind, comes_behind}
 use Rattle.dfd_core.proofs.Turns.{nothing_behind}
+use Rattle.dfd_core.proofs.Bounded.{done_within}
 use Rattle.dfd_core.proofs.run.Core.step.Goals as goal
+
+pub event_of-requires-clause-done : goal.event_of-requires-clause-done
+event_of-requires-clause-done c = done_within _ _ _ (held c.args.self.now.scheduler) c.args.self.now.sound c.args.self.now.end c.args.self.now.somewhere
 
 pub invariant_of-self : goal.invariant_of-self
 invariant_of-self c =
@@ -106,7 +110,7 @@ pub returns-in-Err-clause-setting : goal.returns-in-Err-clause-setting
 returns-in-Err-clause-setting c = (refl, refl, c.event_of.ensures.terms c.args.self.now.limit)
 
 pub returns-in-Ok-None-clause-still : goal.returns-in-Ok-None-clause-still
-returns-in-Ok-None-clause-still c = λ nothing. c.event_of.ensures.still (c.in-Ok-None.is ∙ ap Ok c.in-Ok-None.field-0-is)
+returns-in-Ok-None-clause-still c = λ nothing i. record c.args.self.now { scheduler = c.event_of.ensures.still (c.in-Ok-None.is ∙ ap Ok c.in-Ok-None.field-0-is) i }
 
 pub returns-in-Ok-Some-clause-still : goal.returns-in-Ok-Some-clause-still
 returns-in-Ok-Some-clause-still c = λ nothing. absurd (some_or_none _ (subst (λ s. IsTold s (Ok (Some c.in-Ok-Some.event))) nothing c.told.ensures))

@@ -12,7 +12,7 @@ use Rattle.serial_journal.specs.declared.journal.Journal.{Journal}
 use Rattle.serial_journal.specs.declared.action.Action.{Action as Shown}
 use Rattle.serial_journal.specs.Journals.{births_of, KeepsLabels, KeepsUp}
 use Rattle.serial_journal.proofs.Known.{labels_stay, child_has_label}
-use Rattle.serial_journal.proofs.Keeping.{fork_kept, room_kept, limit_reached, stopping}
+use Rattle.serial_journal.proofs.Keeping.{fork_kept, room_kept, small_of_no_account, limit_reached, stopping}
 use Rattle.serial_journal.proofs.journal.Journal.fork.Goals as goal
 
 pub returns-in-Err-clause-keeps_up : goal.returns-in-Err-clause-keeps_up
@@ -35,9 +35,9 @@ returns-clause-keeps_up c = λ limit items label keeps labelled.
     let change : ℤ = to_z w64 (of_z w64 c.from.result) in
     let weighs : change ≡ pos c.args.words = to_z-of_z w64 c.from.result fits ∙ c.from.ensures in
     let shown : Shown = record { name = c.args.name; kind = Fork; change = change } in
-    let roomy : Journal = record c.args.self.now { births = c.reserve.new.self } in
+    let roomy : Journal = record c.args.self.now { births = c.reserve.new.self; small = c.self-1.given.0 } in
     let same : births_of roomy ≡ births_of c.args.self.now = c.in_ok-reserve.ensures.entries in
-    let kept : KeepsUp limit items roomy = room_kept limit items c.args.self.now c.reserve.new.self same keeps in
+    let kept : KeepsUp limit items roomy = small_of_no_account limit items _ c.self-1.given.0 (room_kept limit items c.args.self.now c.reserve.new.self same keeps) in
     let added : entries c.add.new.self ≡ births_of roomy ++ birth ∷ [] =
     c.add.ensures.entries ∙ ap (λ (bs : BoundedList Birth). entries bs ++ birth ∷ []) c.in_default.ensures.births in
     let known : HasLabel (births_of roomy ∷ []) c.args.name.by label = subst (λ (bs : List Birth). HasLabel (bs ∷ []) c.args.name.by label) (sym same) labelled in
@@ -45,6 +45,7 @@ returns-clause-keeps_up c = λ limit items label keeps labelled.
     let child : HasLabel (entries c.add.new.self ∷ []) id (fork_of label c.args.ordinal) =
     subst (λ (bs : List Birth). HasLabel (bs ∷ []) id (fork_of label c.args.ordinal)) (sym added) (child_has_label (births_of roomy) c.args.name.by c.args.ordinal label known) in
     let at : length (births_of roomy) ≡ c.len-nth.result = ap length same ∙ sym c.len-nth.ensures in (
-      fork_kept limit items label c.args.name c.args.ordinal c.args.words change c.add.new.self roomy c.write_down.new.self weighs c.in_default.ensures.cases added kept known,
+      small_of_no_account limit _ _ c.self-2-1.given.0
+          (fork_kept limit items label c.args.name c.args.ordinal c.args.words change c.add.new.self roomy c.write_down.new.self weighs c.in_default.ensures.cases added kept known),
       subst (λ n. HasLabel (entries c.add.new.self ∷ []) (record { period = 1; nth = n }) (fork_of label c.args.ordinal)) at child,
     )

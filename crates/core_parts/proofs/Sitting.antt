@@ -1,0 +1,74 @@
+-- Who has a seat owns a deque, and is no thief.
+use Rattle.std.proofs.Common.{◌≡◌, ℕ, ◌+◌, ◌<◌, ◌≤◌, List, ◌∷◌, ◌++◌, ap, arith}
+use Rattle.std.specs.Prelude.{Some}
+use Rattle.depth_first_list.specs.Actions.{record_words}
+use Rattle.depth_first_run.specs.States.{Setting}
+use Rattle.depth_first_run.specs.Run.{list_of}
+use Rattle.lawful_books.specs.Books.{Book}
+use Rattle.lawful_books.proofs.Lists.{total_middle}
+use Rattle.deque_machine.specs.Moments.{Moment, owned_by, open_for, one_if_open}
+use Rattle.deque_machine.specs.Machine as machine
+use Rattle.deque_machine.specs.LawfulOrder.{IsLawful}
+use Rattle.deque_machine.specs.Play.{Limits, Stop, arena_full, steps_spent, deques_full, Wants, a_theft, a_give_up, a_wait, an_action, Meets, no_deque, no_words, no_steps}
+use Rattle.deque_machine.specs.Runs.{Pair}
+use Rattle.deque_machine.specs.Terms.{Terms, machine_of}
+use Rattle.period_books.specs.Periods.{Period, open_shown}
+use Rattle.period_books.proofs.Changes.{each_has_its_book}
+use Rattle.period_table.specs.declared.seat.Seat.{Seat}
+use Rattle.period_table.specs.Tables.{seat_at, shown_of, periods_of}
+use Rattle.core_parts.specs.Held.{Held}
+use Rattle.core_parts.specs.Moments.{StandsAt}
+use Rattle.core_parts.specs.Outcomes.{HasDequesLeft}
+use Rattle.core_parts.proofs.AtTop.{period_is_there}
+use Rattle.core_parts.proofs.Going.{lawful_at}
+use Rattle.core_parts.proofs.Owners.{own_one}
+
+-- an event is a theft
+pub IsTheft : machine.Event → Type 0
+IsTheft (machine.steals place id) = Unit {0}
+IsTheft (machine.does place) = ⊥
+IsTheft machine.suspends = ⊥
+IsTheft machine.gives_up = ⊥
+
+-- a stop is that of the limit of deques
+IsFull : Stop → Type 0
+IsFull (arena_full live asked) = ⊥
+IsFull (steps_spent limit) = ⊥
+IsFull (deques_full deques) = Unit {0}
+
+-- the limit of deques stops thefts alone
+theft_of_full : (s : machine.Setting) (limits : Limits) (m : Moment) (event : machine.Event) (stop : Stop) → Meets s limits m event stop → IsFull stop → IsTheft event
+unfolding IsTheft IsFull
+theft_of_full s limits m event stop (no_deque place id deque there stays many) full = tt
+theft_of_full s limits m event stop (no_words place fills) full = absurd full
+theft_of_full s limits m event stop (no_steps place room many) full = absurd full
+
+-- and a theft is wanted of a worker that owns no deque
+none_of_theft : (s : machine.Setting) (m : Moment) (worker word : ℕ) (event : machine.Event) → Wants s m worker word event → IsTheft event
+    → owned_by worker m.deques ≡ 0
+unfolding IsTheft
+none_of_theft s m worker word event (a_theft place id idle first named) theft = idle
+none_of_theft s m worker word event (a_give_up forced) theft = absurd theft
+none_of_theft s m worker word event (a_wait o place child at none) theft = absurd theft
+none_of_theft s m worker word event (an_action o place next has fits) theft = absurd theft
+
+module _ (c : Setting) (terms : Terms) (quota : record_words ≤ c.quota) (h : Held) (run : List Pair) (m : Moment) (at : StandsAt c terms h run m) (worker : ℕ) where
+  lawful : IsLawful (machine_of c terms) m
+  lawful = lawful_at c terms quota run m at.reaches
+
+  -- who has a seat owns a deque
+  pub seat_owns : (seat : Seat) → seat_at h.table worker ≡ Some seat → 0 < owned_by worker m.deques
+  seat_owns seat is =
+      let p : Period = open_shown worker seat.period in
+      let book = each_has_its_book c.quota (list_of c) (periods_of h.table) m.books p at.shows.books (period_is_there h.table worker p (ap (shown_of worker) is)) in
+      let one : one_if_open worker book.book ≡ 1 = own_one worker (Book.owner book.book) book.is_book.owner in
+      let sum = total_middle (one_if_open worker) book.older book.book book.newer in
+      let opened : open_for worker m.books ≡ open_for worker (book.older ++ book.book ∷ book.newer) = ap (open_for worker) book.books_are in
+      let each = lawful.periods.one_each worker in omega (arith, one, sum, opened, each)
+
+  -- so the limit of deques does not stop what is wanted of it
+  pub owner_has_deques_left : (word : ℕ) (seat : Seat) → seat_at h.table worker ≡ Some seat → HasDequesLeft c terms worker word m
+  unfolding IsFull
+  owner_has_deques_left word seat is event deques wants meets =
+      let none = none_of_theft (machine_of c terms) m worker word event wants (theft_of_full (machine_of c terms) terms.limits m event (deques_full deques) meets tt) in
+      let some = seat_owns seat is in omega (arith, none, some)
