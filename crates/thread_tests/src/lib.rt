@@ -10,6 +10,8 @@ mod actions;
 #[cfg(test)]
 mod family;
 #[cfg(test)]
+mod handed_over;
+#[cfg(test)]
 mod orders;
 #[cfg(test)]
 mod running;
