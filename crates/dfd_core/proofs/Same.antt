@@ -1,7 +1,7 @@
 -- Two cores whose parts are the same are the same core: what a core has beside its parts are facts, and each fact has one proof.
 use Rattle.std.specs.Prelude.{◌≡◌, ◌≤◌, ◌<◌, ℕ, None, length, pos}
 use Rattle.std.proofs.Math.Logic.{∥∥₁_prop}
-use mathlib.Core.HLevel.{IsProp, is_prop→PathP}
+use mathlib.Core.HLevel.{is_prop→PathP}
 use denote.Struct.Props.{props}
 use Rattle.node_table.specs.Codes.{code_shown}
 use Rattle.dummy_tree.specs.QuotaWords.{quota_words}
