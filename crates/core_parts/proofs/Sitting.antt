@@ -1,5 +1,5 @@
 -- Who has a seat owns a deque, and is no thief.
-use Rattle.std.proofs.Common.{◌≡◌, ℕ, ◌+◌, ◌<◌, ◌≤◌, List, ◌∷◌, ◌++◌, ap, arith}
+use Rattle.std.proofs.Common.{◌≡◌, ℕ, ◌<◌, ◌≤◌, List, ◌∷◌, ◌++◌, ap, arith}
 use Rattle.std.specs.Prelude.{Some}
 use Rattle.depth_first_list.specs.Actions.{record_words}
 use Rattle.depth_first_run.specs.States.{Setting}

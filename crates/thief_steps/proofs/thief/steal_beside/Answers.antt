@@ -1,4 +1,4 @@
-use Rattle.std.proofs.Common.{◌+◌, inr, refl, ap, ◌∙◌}
+use Rattle.std.proofs.Common.{inr, refl, ap, ◌∙◌}
 use Rattle.deque_events.proofs.Stealing.{held, rank_of}
 use Rattle.core_parts.specs.Held.{held as scheduler_held}
 use Rattle.thief_steps.proofs.Robbing.{stole_beside, keeps_two, full_of}
