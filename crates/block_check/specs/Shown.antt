@@ -7,9 +7,7 @@ use Rattle.par_ownership.specs.Environment
 use Rattle.par_ownership.specs.Environment.{Environment, with_entry, lent_entry, opened}
 use Rattle.par_ownership.specs.Walk
 use Rattle.par_tree.specs.Tree
-use Rattle.par_tree.specs.View.{func_tree, row_body}
-use Rattle.par_tree.specs.declared.stmt.Stmt.{Stmt}
-use Rattle.par_tree.specs.declared.stmt_kind.StmtKind.TheBlock.{hidden-the_row-Stmt-0}
+use Rattle.par_tree.specs.View.{func_tree}
 use Rattle.par_tree.specs.declared.func.Func.{Func}
 use Rattle.block_check.specs.declared.kind.Kind.{Kind}
 use Rattle.block_check.specs.declared.kind.Kind.TheVariants.{Integer, Own, Lent}
@@ -63,7 +61,3 @@ split_opened line env b e l r =
     (Walk.guarded (Walk.expr_refusal line env e)
     (Walk.guarded (Walk.fresh_refusal line env l)
     (Walk.guarded (Walk.fresh_refusal line (with_entry env (lent_entry l line)) r) (Ok (opened env b l r line)))))
-
--- the statements of a `Vec`, as they stand in the tree of a statement that owns it
-abbrev pub rows_tree : Vec Stmt Global → Tree.Body
-rows_tree b = row_body (hidden-the_row-Stmt-0 b)

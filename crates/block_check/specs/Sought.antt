@@ -5,7 +5,8 @@ use Rattle.block_check.specs.declared.fork.Fork.{Fork}
 use Rattle.block_check.specs.declared.sought.Sought.{Sought}
 use Rattle.block_check.specs.declared.sought.Sought.TheVariants.{Found, Passed}
 use Rattle.block_check.specs.declared.refusal.Fail.{Fail}
-use Rattle.block_check.specs.Shown.{env_shown, rows_tree}
+use Rattle.block_check.specs.Shown.{env_shown}
+use Rattle.par_names.specs.Rows.{rows_tree}
 use Rattle.block_check.specs.Forks
 
 abbrev pub fork_shown : Fork → Forks.Fork

@@ -9,7 +9,7 @@ ghost use Rattle.par_ownership.specs.Walk.{first_of, block_refusal, lent_refusal
 ghost use Rattle.block_check.specs.Shown.{entries_shown, funcs_tree, Tests};
 
 use crate::entry::Entry;
-use crate::environment::{block, integer, is_fresh, not_lent, unless};
+use crate::environment::{unless, want_block, want_fresh, want_integer, want_not_lent};
 use crate::expressions::check_expression;
 use crate::mentions::is_name;
 use crate::refusal::Fail;
@@ -57,8 +57,8 @@ fn target<'a>(line: u32, env: &[Entry], target: &'a Target) -> Result<(), Fail<'
 {
     match target {
         Target::Unused => Ok(()),
-        Target::Int(name) => integer(line, env, &name.bytes),
-        Target::Own(name) => is_fresh(line, env, &name.bytes),
+        Target::Int(name) => want_integer(line, env, &name.bytes),
+        Target::Own(name) => want_fresh(line, env, &name.bytes),
     }
 }
 
@@ -96,7 +96,7 @@ fn lent_block<'a>(line: u32, env: &[Entry], before: &[Arg], name: &'a Name) -> R
     ensures { Tests result (first_of (block_refusal line (entries_shown env.now) (name_tree name.now))
         (shared_refusal line (args_tree before.now) (name_tree name.now))) }
 {
-    block(line, env, &name.bytes)?;
+    want_block(line, env, &name.bytes)?;
     not_shared(line, before, &name.bytes)
 }
 
@@ -106,9 +106,9 @@ fn given_block<'a>(line: u32, env: &[Entry], before: &[Arg], name: &'a Name) -> 
         (first_of (shared_refusal line (args_tree before.now) (name_tree name.now))
         (lent_refusal line (entries_shown env.now) (name_tree name.now)))) }
 {
-    block(line, env, &name.bytes)?;
+    want_block(line, env, &name.bytes)?;
     not_shared(line, before, &name.bytes)?;
-    not_lent(line, env, &name.bytes)
+    want_not_lent(line, env, &name.bytes)
 }
 
 /// An argument is of the kind that its parameter takes.

@@ -3,7 +3,7 @@ use crate::kind::Kind;
 /// A declared name: what it stands for, whether it is a block that is held, and the line of its
 /// declaration.
 #[derive(Clone, Copy)]
-pub struct Entry<'a> {
+pub(crate) struct Entry<'a> {
     pub name: &'a [u8],
     pub kind: Kind,
     pub held: bool,

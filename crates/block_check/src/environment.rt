@@ -40,7 +40,7 @@ pub(crate) fn unless<'a>(
 }
 
 /// The name of a declaration must not be visible yet.
-pub(crate) fn is_fresh<'a>(line: u32, env: &[Entry], name: &'a [u8]) -> Result<(), Fail<'a>>
+pub(crate) fn want_fresh<'a>(line: u32, env: &[Entry], name: &'a [u8]) -> Result<(), Fail<'a>>
     ensures { Tests result (fresh_refusal line (entries_shown env.now) name.now) }
 {
     unless(
@@ -52,7 +52,7 @@ pub(crate) fn is_fresh<'a>(line: u32, env: &[Entry], name: &'a [u8]) -> Result<(
 }
 
 /// A name is read as an integer.
-pub(crate) fn integer<'a>(line: u32, env: &[Entry], name: &'a [u8]) -> Result<(), Fail<'a>>
+pub(crate) fn want_integer<'a>(line: u32, env: &[Entry], name: &'a [u8]) -> Result<(), Fail<'a>>
     ensures { Tests result (integer_refusal line (entries_shown env.now) name.now) }
 {
     match entry_of(env, name) {
@@ -62,7 +62,7 @@ pub(crate) fn integer<'a>(line: u32, env: &[Entry], name: &'a [u8]) -> Result<()
 }
 
 /// A name is read as a block.
-pub(crate) fn block<'a>(line: u32, env: &[Entry], name: &'a [u8]) -> Result<(), Fail<'a>>
+pub(crate) fn want_block<'a>(line: u32, env: &[Entry], name: &'a [u8]) -> Result<(), Fail<'a>>
     ensures { Tests result (block_refusal line (entries_shown env.now) name.now) }
 {
     match entry_of(env, name) {
@@ -75,7 +75,7 @@ pub(crate) fn block<'a>(line: u32, env: &[Entry], name: &'a [u8]) -> Result<(), 
 }
 
 /// A block that is freed or given away must not be lent.
-pub(crate) fn not_lent<'a>(line: u32, env: &[Entry], name: &'a [u8]) -> Result<(), Fail<'a>>
+pub(crate) fn want_not_lent<'a>(line: u32, env: &[Entry], name: &'a [u8]) -> Result<(), Fail<'a>>
     ensures { Tests result (lent_refusal line (entries_shown env.now) name.now) }
 {
     match entry_of(env, name) {

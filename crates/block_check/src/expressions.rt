@@ -6,7 +6,7 @@ ghost use Rattle.par_ownership.specs.Walk.{expr_refusal, links_refusal};
 ghost use Rattle.block_check.specs.Shown.{entries_shown, Tests};
 
 use crate::entry::Entry;
-use crate::environment::{block, integer};
+use crate::environment::{want_block, want_integer};
 use crate::refusal::Fail;
 use par_tree::{Expr, Link};
 
@@ -17,12 +17,12 @@ pub(crate) fn check_expression<'a>(line: u32, env: &[Entry], expr: &'a Expr) -> 
 {
     match expr {
         Expr::Num(_) => Ok(()),
-        Expr::Var(name) => integer(line, env, &name.bytes),
+        Expr::Var(name) => want_integer(line, env, &name.bytes),
         Expr::Get(name, index) => {
-            block(line, env, &name.bytes)?;
+            want_block(line, env, &name.bytes)?;
             check_expression(line, env, index)
         }
-        Expr::Len(name) => block(line, env, &name.bytes),
+        Expr::Len(name) => want_block(line, env, &name.bytes),
         Expr::Neg(operand) => check_expression(line, env, operand),
         Expr::Chain { first, rest } => {
             check_expression(line, env, first)?;

@@ -9,7 +9,7 @@ ghost use Rattle.block_check.specs.Shown.{env_shown, funcs_tree, Tests, Walks};
 use crate::calls::{function_of, hands_back};
 use crate::changes::{all_released, param_entry, with_entry};
 use crate::entry::Entry;
-use crate::environment::{is_fresh, unless};
+use crate::environment::{unless, want_fresh};
 use crate::expressions::check_expression;
 use crate::refusal::Fail;
 use crate::statements::{check_statements, free};
@@ -26,7 +26,7 @@ fn parameters<'a>(
     ensures { Walks env_shown result (walk_params line (params_tree params.now) (env_shown env.entry)) }
 {
     for param in params {
-        is_fresh(line, &env, &param.name.bytes)?;
+        want_fresh(line, &env, &param.name.bytes)?;
         env = with_entry(env, param_entry(param, line))?;
     }
     Ok(env)

@@ -1,6 +1,6 @@
 /// What a name stands for.
 #[derive(Clone, Copy)]
-pub enum Kind {
+pub(crate) enum Kind {
     /// An integer.
     Integer,
     /// A block that the function owns.

@@ -2,7 +2,7 @@
 
 ghost use Rattle.std.specs.Prelude.{◌≡◌, IfOk};
 ghost use Rattle.par_names.specs.Named.{body_of};
-ghost use Rattle.block_check.specs.Shown.{rows_tree};
+ghost use Rattle.par_names.specs.Rows.{rows_tree};
 
 use crate::entry::Entry;
 pub(crate) use par_names::{NamedBody, is_name};

@@ -6,7 +6,7 @@ use std::alloc::{AllocError, AllocFailed};
 
 /// Why the walk ends.
 #[derive(Drop)]
-pub enum Fail<'a> {
+pub(crate) enum Fail<'a> {
     /// There was not enough memory.
     Memory,
     /// A rule is broken.
@@ -15,7 +15,7 @@ pub enum Fail<'a> {
 
 /// The first refusal that the walk meets.
 #[derive(Drop)]
-pub struct Refusal<'a> {
+pub(crate) struct Refusal<'a> {
     pub kind: CheckKind,
     pub line: u32,
     pub name: &'a [u8],

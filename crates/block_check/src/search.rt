@@ -2,7 +2,8 @@
 
 ghost use Rattle.std.specs.Prelude.{◌≡◌, Ok, []};
 ghost use Rattle.par_tree.specs.View.{name_tree, stmt_tree, body_tree, params_tree, func_tree};
-ghost use Rattle.block_check.specs.Shown.{env_shown, rows_tree, Walks};
+ghost use Rattle.block_check.specs.Shown.{env_shown, Walks};
+ghost use Rattle.par_names.specs.Rows.{rows_tree};
 ghost use Rattle.block_check.specs.Forks.{split_names, declared_by, forks_in_stmt, forks_in_body, forks_in_func, with_params};
 ghost use Rattle.block_check.specs.Sought.{Seeks};
 
@@ -16,7 +17,7 @@ use par_tree::{Body, Func, Name, Param, Stmt, StmtKind};
 use std::alloc::Global;
 
 /// The names that are visible behind a statement.
-pub fn declared_by<'a>(
+fn declared_by<'a>(
     line: u32,
     names: Vec<Entry<'a>>,
     kind: &'a StmtKind,
@@ -39,7 +40,7 @@ pub fn declared_by<'a>(
 }
 
 /// The names of a `split` are visible in its body.
-pub fn with_parts<'a>(
+fn with_parts<'a>(
     line: u32,
     names: Vec<Entry<'a>>,
     left: &'a Name,
@@ -136,7 +137,7 @@ fn seek_in_list<'a>(
 }
 
 /// The parameters of a function are visible in its body.
-pub fn with_params<'a>(
+fn with_params<'a>(
     line: u32,
     mut names: Vec<Entry<'a>>,
     params: &'a [Param],

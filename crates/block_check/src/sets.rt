@@ -72,7 +72,7 @@ fn integers_assigned(
 }
 
 /// The branch sets of a `par`.
-pub fn sets_of(alloc: Global, fork: &Fork) -> Result<BranchSets, AllocError>
+fn sets_of(alloc: Global, fork: &Fork) -> Result<BranchSets, AllocError>
     ensures { IfOk result (λ s. SetsOf (fork_shown fork.now) s) }
 {
     let left = named(alloc, &fork.names, fork.left)?;

@@ -6,7 +6,8 @@ ghost use Rattle.par_ownership.specs.Environment.{with_entry, integer_entry, blo
 ghost use Rattle.par_ownership.specs.Walk.{branches_refusal, arms_refusal, after_arms, after_round, after_branches, ended, walk, walk_all, guarded, expr_refusal, fresh_refusal, integer_refusal, block_refusal, lent_refusal, call_refusal};
 ghost use Rattle.par_ownership.specs.Ownership.{are_apart};
 ghost use Rattle.par_names.specs.Named.{body_of};
-ghost use Rattle.block_check.specs.Shown.{rows_tree, split_opened, entry_shown, entries_shown, env_shown, funcs_tree, Tests, Walks};
+ghost use Rattle.block_check.specs.Shown.{split_opened, entry_shown, entries_shown, env_shown, funcs_tree, Tests, Walks};
+ghost use Rattle.par_names.specs.Rows.{rows_tree};
 
 use crate::calls::call;
 use crate::changes::{
@@ -14,7 +15,7 @@ use crate::changes::{
     with_entry,
 };
 use crate::entry::Entry;
-use crate::environment::{block, integer, is_fresh, not_lent, unless};
+use crate::environment::{unless, want_block, want_fresh, want_integer, want_not_lent};
 use crate::expressions::check_expression;
 use crate::mentions::{NamedBody, named};
 use crate::refusal::Fail;
@@ -36,7 +37,7 @@ fn are_apart(left: &NamedBody, right: &NamedBody, entry: Entry) -> bool
 }
 
 /// Refuses the first name that two branches share.
-fn apart<'a>(
+fn want_apart<'a>(
     line: u32,
     left: &NamedBody,
     right: &NamedBody,
@@ -56,7 +57,7 @@ fn apart<'a>(
 }
 
 /// The branches of a `par` share no name.
-fn branches<'a>(
+fn want_branches_apart<'a>(
     alloc: Global,
     line: u32,
     left: &'a Body,
@@ -67,7 +68,7 @@ fn branches<'a>(
 {
     let left_names = named(alloc, env, left)?;
     let right_names = named(alloc, env, right)?;
-    apart(line, &left_names, &right_names, env)
+    want_apart(line, &left_names, &right_names, env)
 }
 
 /// `let x = e;`
@@ -81,7 +82,7 @@ fn let_integer<'a>(
         (guarded (expr_refusal line (env_shown env.entry) (expr_tree value.now))
         (Ok (with_entry (env_shown env.entry) (integer_entry (name_tree name.now) line))))) }
 {
-    is_fresh(line, &env, &name.bytes)?;
+    want_fresh(line, &env, &name.bytes)?;
     check_expression(line, &env, value)?;
     with_entry(env, integer_entry(&name.bytes, line))
 }
@@ -97,7 +98,7 @@ fn alloc_block<'a>(
         (guarded (expr_refusal line (env_shown env.entry) (expr_tree size.now))
         (Ok (with_entry (env_shown env.entry) (block_entry (name_tree name.now) line))))) }
 {
-    is_fresh(line, &env, &name.bytes)?;
+    want_fresh(line, &env, &name.bytes)?;
     check_expression(line, &env, size)?;
     with_entry(env, block_entry(&name.bytes, line))
 }
@@ -112,7 +113,7 @@ fn assign<'a>(
     ensures { Walks env_shown result (guarded (integer_refusal line (env_shown env.entry) (name_tree name.now))
         (guarded (expr_refusal line (env_shown env.entry) (expr_tree value.now)) (Ok (env_shown env.entry)))) }
 {
-    integer(line, &env, &name.bytes)?;
+    want_integer(line, &env, &name.bytes)?;
     check_expression(line, &env, value)?;
     Ok(env)
 }
@@ -137,7 +138,7 @@ fn put<'a>(
         (guarded (expr_refusal line (env_shown env.entry) (expr_tree index.now))
         (guarded (expr_refusal line (env_shown env.entry) (expr_tree value.now)) (Ok (env_shown env.entry))))) }
 {
-    block(line, &env, &name.bytes)?;
+    want_block(line, &env, &name.bytes)?;
     check_expression(line, &env, index)?;
     check_expression(line, &env, value)?;
     Ok(env)
@@ -153,8 +154,8 @@ pub(crate) fn free<'a>(
         (guarded (lent_refusal line (env_shown env.entry) (name_tree name.now))
         (Ok (without (env_shown env.entry) (name_tree name.now))))) }
 {
-    block(line, &env, &name.bytes)?;
-    not_lent(line, &env, &name.bytes)?;
+    want_block(line, &env, &name.bytes)?;
+    want_not_lent(line, &env, &name.bytes)?;
     mark(&mut env, &name.bytes, false);
     Ok(env)
 }
@@ -214,11 +215,11 @@ fn parts<'a>(
     ensures { Walks env_shown result (split_opened line (env_shown env.entry) (name_tree name.now) (expr_tree at.now) (name_tree left.now)
         (name_tree right.now)) }
 {
-    block(line, &env, &name.bytes)?;
+    want_block(line, &env, &name.bytes)?;
     check_expression(line, &env, at)?;
-    is_fresh(line, &env, &left.bytes)?;
+    want_fresh(line, &env, &left.bytes)?;
     let mut env = with_entry(env, lent_entry(&left.bytes, line))?;
-    is_fresh(line, &env, &right.bytes)?;
+    want_fresh(line, &env, &right.bytes)?;
     env = with_entry(env, lent_entry(&right.bytes, line))?;
     mark(&mut env, &name.bytes, false);
     Ok(env)
@@ -285,7 +286,7 @@ fn check_statement<'a>(
             after_arms(line, env, end)
         }
         StmtKind::Par { left, right } => {
-            branches(alloc, line, left, right, &env)?;
+            want_branches_apart(alloc, line, left, right, &env)?;
             let forked = copy_of(alloc, &env)?;
             let left = check_nested(alloc, funcs, visible, forked, left)?;
             let right = check_nested(alloc, funcs, visible, env, right)?;

@@ -1,5 +1,5 @@
 -- Who has a seat owns a deque, and is no thief.
-use Rattle.std.proofs.Common.{◌≡◌, ℕ, ◌+◌, ◌<◌, ◌≤◌, List, ◌∷◌, ◌++◌, ap, arith}
+use Rattle.std.proofs.Common.{◌≡◌, ℕ, ◌<◌, ◌≤◌, List, ◌∷◌, ◌++◌, ap, arith}
 use Rattle.std.specs.Prelude.{Some}
 use Rattle.depth_first_list.specs.Actions.{record_words}
 use Rattle.depth_first_run.specs.States.{Setting}
@@ -24,7 +24,7 @@ use Rattle.core_parts.proofs.Going.{lawful_at}
 use Rattle.core_parts.proofs.Owners.{own_one}
 
 -- an event is a theft
-pub IsTheft : machine.Event → Type 0
+unfoldable pub IsTheft : machine.Event → Type 0
 IsTheft (machine.steals place id) = Unit {0}
 IsTheft (machine.does place) = ⊥
 IsTheft machine.suspends = ⊥

@@ -5,7 +5,6 @@ use Rattle.depth_first_list.specs.Actions.{record_words}
 use Rattle.depth_first_run.specs.States.{Setting}
 use Rattle.lawful_books.specs.Books.{booked}
 use Rattle.deque_machine.specs.Moments.{Moment, opening, live_at}
-use Rattle.deque_machine.specs.Machine as machine
 use Rattle.deque_machine.specs.Machine.{HasEnded}
 use Rattle.deque_machine.specs.Runs.{Pair, Reaches, moves}
 use Rattle.moment_parts.specs.Parts.{Parts, IsKept}
@@ -16,7 +15,6 @@ use Rattle.period_table.specs.Tables.{periods_of}
 use Rattle.depth_first_run.specs.Run.{list_of}
 use Rattle.thread_steps.specs.Settings.{IsSettingOf}
 use Rattle.thread_frames.specs.Points.{IsOfProgram}
-use Rattle.deque_machine.specs.Play.{Limits}
 use Rattle.core_parts.specs.declared.scheduler.Scheduler.{Scheduler}
 use Rattle.core_parts.specs.Held.{Held, parts_in, IsInOrder, AreAtPoints, AreResults}
 use Rattle.core_parts.specs.Moves.{AreMovesOf}

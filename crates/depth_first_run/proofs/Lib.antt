@@ -7,3 +7,4 @@ pub mod Built
 pub mod Words
 pub mod Covered
 pub mod OneAction
+pub mod FewWords

@@ -1,6 +1,8 @@
 //! Behind an action the top thread goes back on top of its deque.
 
 ghost use Rattle.std.specs.Prelude.{◌≡◌, ◌≤◌, ◌+◌, ℕ, List as AnyList, [], ◌∷◌, None, Some};
+ghost use Rattle.language_limits.specs.declared.TheConstants.{GREATEST_QUOTA};
+ghost use Rattle.depth_first_list.specs.Actions.{record_words};
 ghost use Rattle.deque_list.specs.DequeLists.{lane_room};
 ghost use Rattle.period_books.specs.Periods.{Period};
 ghost use Rattle.period_table.specs.Tables.{HasRoom, period_at};
@@ -25,7 +27,7 @@ pub fn put_back<T>(
     requires stands { (items : AnyList T) × Stands list.old worker deque items }
     requires room { 1 ≤ lane_room list.old deque }
     requires table { HasRoom table.old worker }
-    requires fits { (p : Period) → period_at table.old worker ≡ Some p → p.used + words ≤ 1048576 }
+    requires fits { (p : Period) → period_at table.old worker ≡ Some p → p.used + words ≤ GREATEST_QUOTA }
     ensures alone { (items : AnyList T) → BecomesBy worker deque items list.old table.old list.new table.new
         (λ shown k l period was place. DidAlone k l period was (shown top) name words place) }
     ensures joins { (items : AnyList T) → BecomesBy worker deque items list.old table.old list.new table.new
@@ -50,7 +52,7 @@ pub fn put_back_and_give_up<T>(
     requires stands { (items : AnyList T) × Stands list.old worker deque items }
     requires room { 1 ≤ lane_room list.old deque }
     requires table { HasRoom table.old worker }
-    requires fits { (p : Period) → period_at table.old worker ≡ Some p → p.used ≤ 1048576 }
+    requires fits { (p : Period) → period_at table.old worker ≡ Some p → p.used ≤ GREATEST_QUOTA }
     ensures dummy { (items : AnyList T) → BecomesBy worker deque items list.old table.old list.new table.new
         (λ shown k l period was place. DidDummy k l was (shown top) name 0 place) }
     ensures deques { (items : AnyList T) (stands : Stands list.old worker deque items)
@@ -77,7 +79,7 @@ pub fn put_both_back<T>(
     requires stands { (items : AnyList T) × Stands list.old worker deque items }
     requires room { 2 ≤ lane_room list.old deque }
     requires table { HasRoom table.old worker }
-    requires fits { (p : Period) → period_at table.old worker ≡ Some p → p.used + 16 ≤ 1048576 }
+    requires fits { (p : Period) → period_at table.old worker ≡ Some p → p.used + record_words ≤ GREATEST_QUOTA }
     ensures forks { (items : AnyList T) → BecomesBy worker deque items list.old table.old list.new table.new
         (λ shown k l period was place. DidFork k l period was (shown top) (shown child) name 16 place ordinal) }
     ensures deques { (items : AnyList T) (stands : Stands list.old worker deque items)

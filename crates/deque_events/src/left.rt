@@ -1,6 +1,7 @@
 //! How a worker leaves its deque, or a thread its place.
 
 ghost use Rattle.std.specs.Prelude.{◌≡◌, ◌≤◌, ◌+◌, ℕ, List as AnyList, [], ◌∷◌, None, Some};
+ghost use Rattle.language_limits.specs.declared.TheConstants.{GREATEST_QUOTA};
 ghost use Rattle.deque_list.specs.DequeLists.{lane_room};
 ghost use Rattle.period_books.specs.Periods.{Period};
 ghost use Rattle.space_ledger.specs.BooksList.{books_spare};
@@ -57,7 +58,7 @@ pub fn end_above<T>(
     name: ActionId,
 )
     requires table { HasRoom table.old worker }
-    requires fits { (p : Period) → period_at table.old worker ≡ Some p → p.used ≤ 1048576 }
+    requires fits { (p : Period) → period_at table.old worker ≡ Some p → p.used ≤ GREATEST_QUOTA }
     ensures ends { EndsAbove worker deque list.now table.old table.new name }
     ensures seats { KeepsSeats table.old table.new }
 {
@@ -76,7 +77,7 @@ pub fn end_and_wake<T>(
     requires stands { Stands list.old worker deque [] }
     requires room { 1 ≤ lane_room list.old deque }
     requires table { HasRoom table.old worker }
-    requires fits { (p : Period) → period_at table.old worker ≡ Some p → p.used ≤ 1048576 }
+    requires fits { (p : Period) → period_at table.old worker ≡ Some p → p.used ≤ GREATEST_QUOTA }
     ensures ends { EndsAndWakes worker deque list.old table.old list.new table.new name parent }
     ensures deques { (stands : Stands list.old worker deque [])
         → Becomes stands list.new (deque_with deque (Some worker) (parent ∷ []) ∷ []) }
@@ -96,7 +97,7 @@ pub fn end_and_leave<T>(
 )
     requires stands { Stands list.old worker deque [] }
     requires table { HasRoom table.old worker }
-    requires fits { (p : Period) → period_at table.old worker ≡ Some p → p.used ≤ 1048576 }
+    requires fits { (p : Period) → period_at table.old worker ≡ Some p → p.used ≤ GREATEST_QUOTA }
     ensures ends { EndsAndLeaves worker deque list.old table.old list.new table.new name }
     ensures deques { (stands : Stands list.old worker deque []) → Becomes stands list.new [] }
     ensures seats { LeavesSeat worker table.old table.new }

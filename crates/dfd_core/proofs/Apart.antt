@@ -208,10 +208,6 @@ module _ (t : Table) (k : ℕ) (terms : Terms) (h : Held) (sound : IsSound t k t
           shown : (c : Setting) → StandsAt c terms h [] opening → [] ≡ label_of x
           shown c at = ap first_label (labels c at ∙ ap (λ xs. map parts.label_of (map thread_shown xs)) is)
 
-      shown_id : (c : Setting) → StandsAt c terms h [] opening → Thread.id x ≡ root
-      shown_id c at = no_label_is_root (periods_of h.table) (Thread.id x) (label_of x)
-          (its_stand c at).labelled no_label
-
       -- it stands in the parts, and so is what it says
       its_stand : (c : Setting) → StandsAt c terms h [] opening → ThreadStands (list_of c) (done_at opening) (parts_in h) (thread_shown x)
       its_stand c at = at.shows.threads (thread_shown x) (inl (
@@ -219,6 +215,10 @@ module _ (t : Table) (k : ℕ) (terms : Terms) (h : Held) (sound : IsSound t k t
         subst (λ ds. Among (deque_shown thread_shown first.0) (map (deque_shown thread_shown) ds)) (sym first.1) (inl refl),
         subst (λ xs. Among (thread_shown x) (map thread_shown xs)) (sym is) (inl refl),
       ))
+
+      shown_id : (c : Setting) → StandsAt c terms h [] opening → Thread.id x ≡ root
+      shown_id c at = no_label_is_root (periods_of h.table) (Thread.id x) (label_of x)
+          (its_stand c at).labelled no_label
 
       none_done : (c : Setting) → StandsAt c terms h [] opening → done_of x ≡ 0
       none_done c at = counts_none c (done_of x) (subst (λ l. HasDone (list_of c) (done_at opening) l (done_of x)) no_label (its_stand c at).has_done)

@@ -12,3 +12,4 @@ pub mod Picking
 pub mod Taking
 pub mod Underway
 pub mod Bounded
+pub mod Same

@@ -1,5 +1,5 @@
 -- Who can move at the moment at which a core is.
-use Rattle.std.proofs.Common.{◌≡◌, ◌↔◌, ℕ, ◌≤◌, ◌<◌, List, ◌∷◌, ◌++◌, inl, inr, refl, sym, ap, subst, ◌∙◌, arith}
+use Rattle.std.proofs.Common.{◌≡◌, ◌↔◌, ℕ, ◌≤◌, ◌<◌, List, inl, inr, refl, sym, ap, subst, ◌∙◌, arith}
 use Rattle.std.proofs.Math.Logic.{∥∥₁_elim}
 use Rattle.std.specs.Prelude.{Option, None, Some, Bool, IsTrue, cond, Result, Ok}
 use Rattle.std.proofs.lemmas.Bool.{cases_lt, eq-eqb, ne_eqb}
@@ -7,19 +7,14 @@ use Rattle.std.proofs.lemmas.Option.{none-some}
 use Rattle.depth_first_list.specs.Actions.{record_words}
 use Rattle.depth_first_run.specs.States.{Setting}
 use Rattle.deque_list.specs.Deques.{Deque}
-use Rattle.lawful_books.specs.Books.{Book}
 use Rattle.lawful_books.specs.Lists.{total}
-use Rattle.lawful_books.proofs.Lists.{total_middle, each_among}
-use Rattle.deque_machine.specs.Moments.{Moment, owned_by, open_for, one_if_open}
-use Rattle.deque_machine.specs.LawfulOrder.{IsLawful}
+use Rattle.lawful_books.proofs.Lists.{each_among}
+use Rattle.deque_machine.specs.Moments.{Moment, owned_by}
 use Rattle.deque_machine.specs.Play as play
 use Rattle.deque_machine.specs.Play.{words_drawn}
 use Rattle.deque_machine.specs.Runs.{Pair}
-use Rattle.period_books.specs.Periods.{Period, open_shown}
-use Rattle.period_books.proofs.Changes.{each_has_its_book}
 use Rattle.period_table.specs.declared.seat.Seat.{Seat}
-use Rattle.period_table.specs.Tables.{seat_at, deque_at, deque_of, shown_of, periods_of}
-use Rattle.depth_first_run.specs.Run.{list_of}
+use Rattle.period_table.specs.Tables.{seat_at, deque_at, deque_of}
 use Rattle.thread_parts.specs.Shown.{thread_shown}
 use Rattle.step_laws.proofs.Ready.{some_ready_is_shown}
 use Rattle.victim_choice.specs.Choices.{SomeReady, CanMove}
@@ -30,7 +25,7 @@ use Rattle.core_parts.specs.Held.{Held, IsInOrder}
 use Rattle.core_parts.specs.Moments.{IsSound, StandsAt}
 use Rattle.deque_machine.specs.Terms.{Terms, machine_of}
 use Rattle.core_parts.proofs.Sitting.{seat_owns as seated_owns}
-use Rattle.core_parts.proofs.Owners.{own_here, own_one, owned_shown, owner_there}
+use Rattle.core_parts.proofs.Owners.{own_here, owned_shown, owner_there}
 use Rattle.dfd_core.specs.declared.run_end.RunEnd.{RunEnd}
 use Rattle.dfd_core.specs.declared.run_end.RunEnd.TheVariants.{Finished, Stopped}
 use Rattle.dfd_core.specs.declared.run_end.Stepped.{Stepped}

@@ -1,9 +1,7 @@
 -- How a run ends with its root.
 use Rattle.std.specs.Prelude.{Bool, false, cond, Option, None, Some}
 use Rattle.dag_order.specs.Births.{root}
-use Rattle.dag_order.specs.declared.finish.Finish.{Finish}
-use Rattle.depth_first_run.specs.States.{Setting, State}
-use Rattle.depth_first_run.specs.Run.{whole, first_fault, finish_of}
+use Rattle.depth_first_run.specs.Run.{finish_of}
 use Rattle.thread_frames.specs.declared.ended.Ended.{Ended}
 use Rattle.thread_output.specs.Telling.{fault_of}
 use Rattle.thread_map.specs.Kept.{same_thread}

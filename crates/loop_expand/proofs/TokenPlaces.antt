@@ -51,7 +51,7 @@ one_le true (c ∷ cs) = by_test (c == 61)
     by_test true = omega arith
     by_test false = omega arith
 
-piece_rest_le : (c : ℕ) (cs : List ℕ) → piece_rest c cs ≤ length cs
+pub piece_rest_le : (c : ℕ) (cs : List ℕ) → piece_rest c cs ≤ length cs
 unfolding piece_rest
 piece_rest_le c cs = by_tests (is_word c) (c == 35)
   where

@@ -18,7 +18,8 @@ use Rattle.loop_expand.specs.Loops.{Loop}
 use Rattle.loop_expand.specs.Texts.{between, bytes_of, place_behind, sum_name, callee_text, range_text, others_text, call_text, is_line_feed, line_feeds}
 use Rattle.loop_expand.specs.Expansion.{with_others, Apart, replacement}
 use Rattle.loop_trees.specs.LoopCalls.{Word, word_of}
-use Rattle.loop_trees.proofs.Joining.{in_front, place_after, lines_after, piece_rest_le, piece_in_front, same_tokens, BothHave, both_have}
+use Rattle.loop_trees.proofs.Joining.{in_front, place_after, lines_after, piece_in_front, same_tokens, BothHave, both_have}
+use Rattle.loop_expand.proofs.TokenPlaces.{piece_rest_le}
 use Rattle.loop_trees.proofs.Pieces.{walk, IsBoundary, walk-add}
 use Rattle.loop_trees.proofs.LoopTokens.{IsLoopOf, AreLoopsOf, word_not_newline}
 use Rattle.loop_trees.proofs.TokenWords.{call_word, rest_words, call_are_words}

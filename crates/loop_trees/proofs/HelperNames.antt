@@ -3,7 +3,7 @@ use Rattle.std.proofs.Common.{◌≡◌, ℕ, ◌^◌, ◌<◌, ◌≤◌, Bool,
 use Rattle.std.specs.Prelude.{◌==◌, ◌&&◌, ◌||◌, nat_le, Some, None, codes}
 use Rattle.std.specs.Fmt.{decimal}
 use Rattle.std.specs.Str.{bytes_eq}
-use Rattle.std.proofs.lemmas.Bool.{leb-true, le-leb}
+use Rattle.std.proofs.lemmas.Bool.{leb-true, le-leb, or_right}
 use Rattle.std.proofs.lemmas.Slice.Eq.{bytes_eq-Decides}
 use Rattle.std.proofs.lemmas.Fmt.{digits_decimal, decimal_nonempty, length-decimal-le}
 use Rattle.par_text.specs.declared.kind.Kind.TheVariants as k
@@ -20,13 +20,9 @@ use Rattle.loop_expand.specs.Texts.{sum_name}
 digit_bounds : (c : ℕ) → is_digit c ≡ true → (48 ≤ c) × (c ≤ 57)
 digit_bounds c h = let (a, b) = both_true (nat_le 48 c) (nat_le c 57) h in (leb-true 48 c a, leb-true c 57 b)
 
-or_true : (a b : Bool) → b ≡ true → (a || b) ≡ true
-or_true true b e = refl
-or_true false b e = e
-
 digits_words : (ds : List ℕ) → Digits ds → Words ds
 digits_words [] h = tt
-digits_words (c ∷ cs) h = (or_true (is_letter c) (is_digit c) h.0, digits_words cs h.1)
+digits_words (c ∷ cs) h = (or_right (is_letter c) (is_digit c) h.0, digits_words cs h.1)
 
 digit_allowed : (c : ℕ) → is_digit c ≡ true → is_allowed c ≡ true
 digit_allowed c h =

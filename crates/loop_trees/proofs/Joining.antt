@@ -9,6 +9,7 @@ use Rattle.par_text.specs.declared.syntax_error.SyntaxKind.TheVariants.{TooLong}
 use Rattle.par_text.specs.Rule.{Token}
 use Rattle.par_text.specs.Lexing.{Lexed, Piece, is_word, is_not_newline, takes_equal, begins_with_equal, run, piece_rest, line_after, pieces, is_lexeme, form_of, token_from, with_token, with_form, with_piece, lexed, forbidden, longest_text, of_allowed, text_tokens}
 use Rattle.canonical_text.proofs.Lexemes.{with_tokens}
+use Rattle.loop_expand.proofs.TokenPlaces.{piece_rest_le}
 
 -- tokens in front of others, or the reason why there are none
 abbrev pub in_front : Lexed → Lexed → Lexed
@@ -23,34 +24,6 @@ place_after at (c ∷ cs) = place_after (at + 1) cs
 abbrev pub lines_after : ℕ → List ℕ → ℕ
 lines_after line [] = line
 lines_after line (c ∷ cs) = lines_after (line_after c line) cs
-
--- a piece is no longer than what is left
-
-run_le : (p : ℕ → Bool) (cs : List ℕ) → run p cs ≤ length cs
-run_le p [] = omega arith
-run_le p (c ∷ cs) = by_test (p c) (run_le p cs)
-  where
-    by_test : (b : Bool) → run p cs ≤ length cs → cond b (suc (run p cs)) 0 ≤ length (c ∷ cs)
-    by_test true more = omega arith
-    by_test false more = omega arith
-
-one_le : (a : Bool) (cs : List ℕ) → cond (a && begins_with_equal cs) 1 0 ≤ length cs
-one_le false cs = omega arith
-one_le true [] = omega arith
-one_le true (c ∷ cs) = by_test (c == 61)
-  where
-    by_test : (b : Bool) → cond b 1 0 ≤ length (c ∷ cs)
-    by_test true = omega arith
-    by_test false = omega arith
-
-pub piece_rest_le : (c : ℕ) (cs : List ℕ) → piece_rest c cs ≤ length cs
-unfolding piece_rest
-piece_rest_le c cs = by_tests (is_word c) (c == 35)
-  where
-    by_tests : (a b : Bool) → cond a (run is_word cs) (cond b (run is_not_newline cs) (cond (takes_equal c && begins_with_equal cs) 1 0)) ≤ length cs
-    by_tests true b = run_le is_word cs
-    by_tests false true = run_le is_not_newline cs
-    by_tests false false = one_le (takes_equal c) cs
 
 -- no piece but a blank has the end of a line
 

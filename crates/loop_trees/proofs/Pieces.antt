@@ -10,7 +10,8 @@ use Rattle.par_text.specs.Lexing.{Lexed, Piece, is_not_newline, piece_rest, line
 use Rattle.par_text.proofs.KindLemmas.{both_true}
 use Rattle.loop_expand.specs.Texts.{bytes_of}
 use Rattle.loop_expand.specs.Expansion.{lexeme_of}
-use Rattle.loop_trees.proofs.Joining.{piece_rest_le, same_tokens, lexed_of_text}
+use Rattle.loop_trees.proofs.Joining.{same_tokens, lexed_of_text}
+use Rattle.loop_expand.proofs.TokenPlaces.{piece_rest_le}
 
 abbrev pub Each : (Token → Type 0) → List Token → Type 0
 Each P [] = Unit {0}

@@ -1,6 +1,7 @@
 -- Rules whose forms have no token of a kind.
 use Rattle.std.proofs.Common.{◌≡◌, ℕ, zero, suc, ◌+◌, Bool, true, false, List, [], ◌∷◌, ◌++◌, ◌⊎◌, inl, inr, refl, sym, ap, ◌∙◌, subst}
 use Rattle.std.specs.Prelude.{◌&&◌, not}
+use Rattle.std.proofs.lemmas.Bool.{not-true}
 use Rattle.par_text.specs.declared.kind.Kind.{Kind}
 use Rattle.par_text.specs.Kinds.{is}
 use Rattle.par_text.specs.Rule.{Token, Nonterminal, Rule, nothing, token, mapped, pair, either, many, nest, within}
@@ -39,10 +40,6 @@ is_without j ok (many ks f z a) = is_without j ok a
 is_without j ok (nest i a) = not (is j i) && is_without j ok a
 is_without j ok (within s f) = ok s
 
-not_true : (a : Bool) → not a ≡ true → a ≡ false
-not_true true e = cc
-not_true false e = refl
-
 -- of nonterminals that pass no form has one
 abbrev pub AreWithout : Kind → (Nonterminal → Bool) → ℕ → Type 0
 AreWithout j ok size = (s : Nonterminal) → ok s ≡ true → (depth : ℕ) (d : Nested size s) → Without j (tokens_of (nested_spelling size depth s d))
@@ -52,7 +49,7 @@ module _ (j : Kind) (ok : Nonterminal → Bool) (size : ℕ) (inner : AreWithout
   join_marked ms ns a b = subst (Without j) (sym (tokens_of-append ms ns)) (join_without j (tokens_of ms) (tokens_of ns) a b)
 
   of_kind : (i : Kind) (t : Token) → t.kind ≡ i → not (is j i) ≡ true → is j t.kind ≡ false
-  of_kind i t e h = subst (λ (x : Kind). is j x ≡ false) (sym e) (not_true (is j i) h)
+  of_kind i t e h = subst (λ (x : Kind). is j x ≡ false) (sym e) (not-true (is j i) h)
 
   pub spells_without : {X : Type 0} (r : Rule X) → is_without j ok r ≡ true → (depth : ℕ) (d : Form (Nested size) r) → Without j (tokens_of (spells size depth r d))
   spells_without (nothing x) e depth d = tt

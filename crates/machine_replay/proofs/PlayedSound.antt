@@ -1,7 +1,7 @@
 -- What the computed play answers is the play.
 use Rattle.std.proofs.Common.{◌≡◌, ℕ, zero, suc, ◌+◌, ◌%◌, ◌≤◌, ◌<◌, ◌⊎◌, List, [], ◌∷◌, length, inl, inr, refl, sym, ap, subst, ◌∙◌, arith, cond, not, ◌&&◌, ◌||◌, nat_eq, nat_lt, nat_le, Bool, true, false, true≢false, ℤ, pos, negsuc, ◌+ℤ◌, ◌<ℤ◌}
 use Rattle.std.specs.Prelude.{Option, None, Some, slice_get, unwrap_or}
-use Rattle.std.proofs.lemmas.Bool.{cases_lt, cases_eq, cases_Bool, eqb-true, eq-eqb, ltb-true, ltb-false, lt-ltb, leb-true, leb-false, le-leb, and_parts, and_from, or_cases}
+use Rattle.std.proofs.lemmas.Bool.{cases_lt, cases_eq, cases_Bool, eqb-true, eq-eqb, ltb-true, ltb-false, lt-ltb, leb-true, leb-false, le-leb, and_parts, and_from, or_cases, or_left, or_right}
 use Rattle.std.proofs.lemmas.Int.{ints}
 use Rattle.dag_order.specs.LabelOrder.{fork_of}
 use Rattle.depth_first_list.specs.Actions.{Deed, forks, joins, allocates, releases, dummy, faults, ends}
@@ -41,13 +41,6 @@ first_is passes Passes says n word (suc left) turns x at none is = elim (cases_B
         | inr other ↦ none e (omega arith)
       ]) (ap (λ b. cond b (Some ((word + turns) % n)) (first_passing passes n word (suc turns) left)) (sym not_here) ∙ is)
 ]
-
-or_left : (x y : Bool) → x ≡ true → (x || y) ≡ true
-or_left x y is = subst (λ t. (t || y) ≡ true) (sym is) refl
-
-or_right : (x y : Bool) → y ≡ true → (x || y) ≡ true
-or_right true y is = refl
-or_right false y is = is
 
 any_says : (passes : ℕ → Bool) (Passes : ℕ → Type 0) → ((x : ℕ) → Says (passes x) (Passes x)) → (n : ℕ) → Says (any_below passes n) ((x : ℕ) × (x < n) × Passes x)
 any_says passes Passes says zero = record { holds = λ is. absurd (true≢false (sym is)); found = λ p. absurd (let lt = p.1 in omega arith) }

@@ -1,7 +1,7 @@
 -- What the tests say.
 use Rattle.std.proofs.Common.{◌≡◌, ◌≢◌, ℕ, zero, suc, ◌+◌, ◌≤◌, ◌<◌, Bool, true, false, cond, not, ◌&&◌, ◌||◌, nat_eq, nat_lt, true≢false, List, [], ◌∷◌, ◌++◌, length, inl, inr, refl, sym, ap, subst, ◌∙◌, arith}
 use Rattle.std.specs.Prelude.{Option, None, Some, is_some, unwrap_or}
-use Rattle.std.proofs.lemmas.Bool.{cases_eq, cases_Bool, eqb-true, eq-eqb, ltb-true, lt-ltb, and_parts, and_from, or_cases}
+use Rattle.std.proofs.lemmas.Bool.{cases_eq, cases_Bool, eqb-true, eq-eqb, ltb-true, lt-ltb, and_parts, and_from, or_cases, or_left, or_right}
 use Rattle.dag_order.specs.LabelOrder.{fork_of}
 use Rattle.depth_first_list.specs.Actions.{Deed, forks, joins, allocates, releases, dummy, faults, ends, Action}
 use Rattle.depth_first_list.specs.Facts.{label_at, deed_at, IsNext}
@@ -23,13 +23,6 @@ same_label_itself (x ∷ a) = and_from (nat_eq x x) (same_label a a) (eq-eqb x x
 
 pub is_same_label : (a b : List ℕ) → a ≡ b → same_label a b ≡ true
 is_same_label a b same = subst (λ t. same_label a t ≡ true) same (same_label_itself a)
-
-or_left : (x y : Bool) → x ≡ true → (x || y) ≡ true
-or_left x y is = subst (λ t. (t || y) ≡ true) (sym is) refl
-
-or_right : (x y : Bool) → y ≡ true → (x || y) ≡ true
-or_right true y is = refl
-or_right false y is = is
 
 module _ (l : List Action) (done : ℕ → ℕ) (thread : List ℕ) where
   pub did_all_is : (n : ℕ) → did_all l done thread n ≡ true → (i : ℕ) → i < n → label_at l i ≡ thread → 0 < done i

@@ -41,14 +41,14 @@ impl Action {
         }
     }
 
-    // What it does.
+    /// What it does.
     pub(crate) fn deed(&self) -> Deed
         ensures { deed_shown result ≡ self.now.deed }
     {
         self.deed
     }
 
-    // Whether it is the End of its thread.
+    /// Whether it is the End of its thread.
     pub(crate) fn is_end(&self) -> bool
         ensures { result ≡ is_end self.now.deed }
     {
@@ -63,7 +63,7 @@ impl Action {
         }
     }
 
-    // What it takes of a quota: a Fork the words of a record, and an Alloc that the quota covers its words.
+    /// What it takes of a quota: a Fork the words of a record, and an Alloc that the quota covers its words.
     pub(crate) fn charge(&self, quota: u64) -> u64
         ensures { result ≡ charge quota self.now.deed self.now.words }
     {
@@ -75,14 +75,14 @@ impl Action {
         }
     }
 
-    // Its words.
+    /// Its words.
     pub(crate) fn words(&self) -> u64
         ensures { result ≡ self.now.words }
     {
         self.words
     }
 
-    // The label of its thread.
+    /// The label of its thread.
     pub(crate) fn label(&self) -> &Label
         ensures { result.now ≡ self.now.label }
     {

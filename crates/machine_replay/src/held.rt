@@ -14,20 +14,25 @@ use dag_order::Label;
 use std::alloc::AllocError;
 use std::marker::Model;
 
-// What a worker holds of a moment: its deque, with the top thread apart, and its open book, each taken out of the list
-// in which it stood.
+/// What stays of a moment where a worker's deque and its open book are taken out, with the places in which they stood.
 #[derive(Drop)]
-pub(crate) struct Held {
+struct Rest {
     others: Vec<Deque>,
     at: usize,
     id: u32,
     owner: Option<u32>,
-    top: Label,
-    under: Vec<Label>,
     periods: Vec<Book>,
     book_at: usize,
-    book: Book,
     waiting: Vec<Waiting>,
+}
+
+/// What a worker holds of a moment: its deque, with the top thread apart, and its open book, each taken out of its list.
+#[derive(Drop)]
+pub(crate) struct Held {
+    rest: Rest,
+    top: Label,
+    under: Vec<Label>,
+    book: Book,
 }
 
 impl Model for Held {
@@ -39,21 +44,25 @@ impl Model for Held {
     ghost view = { λ h. record {
       hand = record {
         deques = record {
-          left = take h.at h.others.items;
-          here = record { id = h.id; owner = h.owner; threads = h.top ∷ h.under.items };
-          right = drop h.at h.others.items;
+          left = take h.rest.at h.rest.others.items;
+          here = record { id = h.rest.id; owner = h.rest.owner; threads = h.top ∷ h.under.items };
+          right = drop h.rest.at h.rest.others.items;
         };
         top = h.top;
         under = h.under.items;
-        books = record { left = take h.book_at h.periods.items; here = h.book; right = drop h.book_at h.periods.items };
+        books = record {
+          left = take h.rest.book_at h.rest.periods.items;
+          here = h.book;
+          right = drop h.rest.book_at h.rest.periods.items;
+        };
       };
-      waiting = h.waiting.items;
+      waiting = h.rest.waiting.items;
     } };
 
-    ghost invariant = { λ h. (h.at ≤ vec_len h.others) × (h.book_at ≤ vec_len h.periods) };
+    ghost invariant = { λ h. (h.rest.at ≤ vec_len h.rest.others) × (h.rest.book_at ≤ vec_len h.rest.periods) };
 }
 
-// What a worker holds.
+/// Takes out of a moment what a worker holds. Returns None where it owns no deque with a thread, or has no open book.
 pub(crate) fn hold(moment: Moment, worker: u32) -> Option<Held>
     ensures hand { MatchOption result (hand_of moment worker ≡ None) (λ held. hand_of moment worker ≡ Some held.hand) }
     ensures waiting { MatchOption result (hand_of moment worker ≡ None) (λ held. held.waiting ≡ moment.waiting) }
@@ -75,21 +84,24 @@ pub(crate) fn hold(moment: Moment, worker: u32) -> Option<Held>
     }
     let top = under.remove(0);
     let book = periods.remove(book_at);
-    Some(Held {
+    let rest = Rest {
         others,
         at,
         id,
         owner,
-        top,
-        under,
         periods,
         book_at,
-        book,
         waiting,
+    };
+    Some(Held {
+        rest,
+        top,
+        under,
+        book,
     })
 }
 
-// The book with one action more, open for a worker or closed.
+/// Returns the book with one action more, open for a worker or closed.
 fn noted(book: Book, place: u32, after: Option<u32>) -> Result<Book, AllocError>
     ensures { IfOk result (λ b. b ≡ book_of book after (book.ran ++ place ∷ [])) }
 {
@@ -102,7 +114,7 @@ fn noted(book: Book, place: u32, after: Option<u32>) -> Result<Book, AllocError>
     })
 }
 
-// The book closed.
+/// Returns the book closed.
 fn closed(book: Book) -> Book
     ensures { result ≡ book_of book None book.ran }
 {
@@ -114,34 +126,32 @@ fn closed(book: Book) -> Book
     }
 }
 
-impl Held {
-    // The action goes on in the same period, with the threads as they are.
-    pub(crate) fn go_on(self, worker: u32, place: u32) -> Result<Moment, AllocError>
-        ensures { IfOk result (λ m. m ≡ moment_of (deques_put self.hand (Some worker) (self.hand.top ∷ self.hand.under)) self.waiting
-            (books_put self.hand (Some worker) place)) }
+impl Rest {
+    ghost use Rattle.std.specs.Prelude.{◌≤◌, take, drop, vec_len};
+
+    /// Puts the deque back, with this owner and these threads, and this book.
+    fn put_back(
+        self,
+        owner: Option<u32>,
+        threads: Vec<Label>,
+        book: Book,
+    ) -> Result<Moment, AllocError>
+        requires deque { self.at ≤ vec_len self.others }
+        requires book { self.book_at ≤ vec_len self.periods }
+        ensures { IfOk result (λ m. m ≡ moment_of
+            (take self.at self.others.items ++ record { id = self.id; owner = owner; threads = threads.items } ∷ drop self.at self.others.items)
+            self.waiting.items (take self.book_at self.periods.items ++ book ∷ drop self.book_at self.periods.items)) }
     {
-        let Held {
+        let Rest {
             mut others,
             at,
             id,
-            top,
-            mut under,
             mut periods,
             book_at,
-            book,
             waiting,
             ..
         } = self;
-        let book = noted(book, place, Some(worker))?;
-        under.insert(0, top)?;
-        others.insert(
-            at,
-            Deque {
-                id,
-                owner: Some(worker),
-                threads: under,
-            },
-        )?;
+        others.insert(at, Deque { id, owner, threads })?;
         periods.insert(book_at, book)?;
         Ok(Moment {
             deques: others,
@@ -150,114 +160,97 @@ impl Held {
         })
     }
 
-    // A Fork puts the child on top.
+    /// Puts this book back, and leaves the deque out.
+    fn leave_out(self, book: Book) -> Result<Moment, AllocError>
+        requires deque { self.at ≤ vec_len self.others }
+        requires book { self.book_at ≤ vec_len self.periods }
+        ensures { IfOk result (λ m. m ≡ moment_of (take self.at self.others.items ++ drop self.at self.others.items)
+            self.waiting.items (take self.book_at self.periods.items ++ book ∷ drop self.book_at self.periods.items)) }
+    {
+        let Rest {
+            others,
+            mut periods,
+            book_at,
+            waiting,
+            ..
+        } = self;
+        periods.insert(book_at, book)?;
+        Ok(Moment {
+            deques: others,
+            waiting,
+            books: periods,
+        })
+    }
+}
+
+impl Held {
+    /// Does the action at a place, in the same period, with the threads as they are.
+    pub(crate) fn go_on(self, worker: u32, place: u32) -> Result<Moment, AllocError>
+        ensures { IfOk result (λ m. m ≡ moment_of (deques_put self.hand (Some worker) (self.hand.top ∷ self.hand.under)) self.waiting
+            (books_put self.hand (Some worker) place)) }
+    {
+        let Held {
+            rest,
+            top,
+            mut under,
+            book,
+        } = self;
+        let book = noted(book, place, Some(worker))?;
+        under.insert(0, top)?;
+        rest.put_back(Some(worker), under, book)
+    }
+
+    /// Does a Fork, which puts the child on top.
     pub(crate) fn fork(self, worker: u32, place: u32, child: u32) -> Result<Moment, AllocError>
         ensures { IfOk result (λ m. m ≡ moment_of (deques_put self.hand (Some worker)
             (fork_of self.hand.top child ∷ self.hand.top ∷ self.hand.under)) self.waiting
             (books_put self.hand (Some worker) place)) }
     {
         let Held {
-            mut others,
-            at,
-            id,
+            rest,
             top,
             mut under,
-            mut periods,
-            book_at,
             book,
-            waiting,
-            ..
         } = self;
         let book = noted(book, place, Some(worker))?;
         let label = top.fork(child)?;
         under.insert(0, top)?;
         under.insert(0, label)?;
-        others.insert(
-            at,
-            Deque {
-                id,
-                owner: Some(worker),
-                threads: under,
-            },
-        )?;
-        periods.insert(book_at, book)?;
-        Ok(Moment {
-            deques: others,
-            waiting,
-            books: periods,
-        })
+        rest.put_back(Some(worker), under, book)
     }
 
-    // A Dummy ends the period, and the deque stays without an owner.
+    /// Does a Dummy, which ends the period and leaves the deque without an owner.
     pub(crate) fn put_down(self, place: u32) -> Result<Moment, AllocError>
         ensures { IfOk result (λ m. m ≡ moment_of (deques_put self.hand None (self.hand.top ∷ self.hand.under)) self.waiting
             (books_put self.hand None place)) }
     {
         let Held {
-            mut others,
-            at,
-            id,
+            rest,
             top,
             mut under,
-            mut periods,
-            book_at,
             book,
-            waiting,
-            ..
         } = self;
         let book = noted(book, place, None)?;
         under.insert(0, top)?;
-        others.insert(
-            at,
-            Deque {
-                id,
-                owner: None,
-                threads: under,
-            },
-        )?;
-        periods.insert(book_at, book)?;
-        Ok(Moment {
-            deques: others,
-            waiting,
-            books: periods,
-        })
+        rest.put_back(None, under, book)
     }
 
-    // The deque is given up.
+    /// Gives the deque up.
     pub(crate) fn give_up(self) -> Result<Moment, AllocError>
         ensures { IfOk result (λ m. m ≡ moment_of (deques_put self.hand None (self.hand.top ∷ self.hand.under)) self.waiting
             (books_shut self.hand)) }
     {
         let Held {
-            mut others,
-            at,
-            id,
+            rest,
             top,
             mut under,
-            mut periods,
-            book_at,
             book,
-            waiting,
-            ..
         } = self;
         under.insert(0, top)?;
-        others.insert(
-            at,
-            Deque {
-                id,
-                owner: None,
-                threads: under,
-            },
-        )?;
-        periods.insert(book_at, closed(book))?;
-        Ok(Moment {
-            deques: others,
-            waiting,
-            books: periods,
-        })
+        rest.put_back(None, under, closed(book))
     }
 
-    // The thread waits, and its deque leaves the list, where it has no other thread.
+    /// Lets the thread wait, and takes its deque out of the list. Returns None where the deque has another thread.
     pub(crate) fn suspend(self, child: u32) -> Result<Option<Moment>, AllocError>
         ensures { IfOk result (λ o. o ≡ where_true (nat_eq (length self.hand.under) 0)
             (moment_of (self.hand.deques.left ++ self.hand.deques.right) (record { thread = self.hand.top; child = child } ∷ self.waiting) (books_shut self.hand))) }
@@ -266,31 +259,23 @@ impl Held {
             return Ok(None);
         }
         let Held {
-            others,
+            mut rest,
             top,
-            mut periods,
-            book_at,
             book,
-            mut waiting,
             ..
         } = self;
-        waiting.insert(0, Waiting { thread: top, child })?;
-        periods.insert(book_at, closed(book))?;
-        Ok(Some(Moment {
-            deques: others,
-            waiting,
-            books: periods,
-        }))
+        rest.waiting.insert(0, Waiting { thread: top, child })?;
+        Ok(Some(rest.leave_out(closed(book))?))
     }
 
-    // Whether so many words of the quota are left.
+    /// Whether so many words of the quota are left.
     pub(crate) fn has_words(&self, list: &[Action], quota: u64, more: u64) -> bool
         ensures { result ≡ nat_le (charged quota list.now self.now.hand.books.here.ran + more) quota }
     {
         has_room(list, quota, self.book.ran(), more)
     }
 
-    // The thread ends.
+    /// Ends the thread. Returns None where the thread below it is not its parent.
     pub(crate) fn end(self, worker: u32, place: u32) -> Result<Option<Moment>, AllocError>
         ensures { IfOk result (λ o. (m : plain.Moment) → m.waiting ≡ self.waiting
             → o ≡ ended_over m self.hand worker place self.hand.under) }
@@ -302,46 +287,28 @@ impl Held {
             return Ok(None);
         }
         let Held {
-            mut others,
-            at,
-            id,
+            rest,
             under,
-            mut periods,
-            book_at,
             book,
-            waiting,
             ..
         } = self;
         let book = noted(book, place, Some(worker))?;
-        others.insert(
-            at,
-            Deque {
-                id,
-                owner: Some(worker),
-                threads: under,
-            },
-        )?;
-        periods.insert(book_at, book)?;
-        Ok(Some(Moment {
-            deques: others,
-            waiting,
-            books: periods,
-        }))
+        Ok(Some(rest.put_back(Some(worker), under, book)?))
     }
 
-    // The thread ends, and no other is in its deque.
+    /// Ends the thread, which is alone in its deque.
     fn end_alone(self, worker: u32, place: u32) -> Result<Option<Moment>, AllocError>
         requires lone { self.hand.under ≡ [] }
         ensures { IfOk result (λ o. (m : plain.Moment) → m.waiting ≡ self.waiting
             → o ≡ ended_over m self.hand worker place self.hand.under) }
     {
-        match waiting_place(&self.waiting, &self.top) {
+        match waiting_place(&self.rest.waiting, &self.top) {
             Some(waits_at) => self.wake(worker, place, waits_at),
             None => self.leave(place),
         }
     }
 
-    // The thread that waits for it takes its place.
+    /// Ends the thread, and puts the one that waits for it in its place.
     fn wake(self, worker: u32, place: u32, waits_at: usize) -> Result<Option<Moment>, AllocError>
         requires lone { self.hand.under ≡ [] }
         requires found { (c : Cut plain.Waiting) × (cut_first (waits_for self.hand.top) self.waiting ≡ Some c)
@@ -350,56 +317,26 @@ impl Held {
             → o ≡ ended_over m self.hand worker place self.hand.under) }
     {
         let Held {
-            mut others,
-            at,
-            id,
+            mut rest,
             mut under,
-            mut periods,
-            book_at,
             book,
-            mut waiting,
             ..
         } = self;
-        let Waiting { thread, .. } = waiting.remove(waits_at);
+        let Waiting { thread, .. } = rest.waiting.remove(waits_at);
         let book = noted(book, place, Some(worker))?;
         under.push(thread)?;
-        others.insert(
-            at,
-            Deque {
-                id,
-                owner: Some(worker),
-                threads: under,
-            },
-        )?;
-        periods.insert(book_at, book)?;
-        Ok(Some(Moment {
-            deques: others,
-            waiting,
-            books: periods,
-        }))
+        Ok(Some(rest.put_back(Some(worker), under, book)?))
     }
 
-    // The deque leaves the list.
+    /// Ends the thread, and takes its deque out of the list.
     fn leave(self, place: u32) -> Result<Option<Moment>, AllocError>
         requires lone { self.hand.under ≡ [] }
         requires alone { cut_first (waits_for self.hand.top) self.waiting ≡ None }
         ensures { IfOk result (λ o. (m : plain.Moment) → m.waiting ≡ self.waiting → (worker : ℕ)
             → o ≡ ended_over m self.hand worker place self.hand.under) }
     {
-        let Held {
-            others,
-            mut periods,
-            book_at,
-            book,
-            waiting,
-            ..
-        } = self;
+        let Held { rest, book, .. } = self;
         let book = noted(book, place, None)?;
-        periods.insert(book_at, book)?;
-        Ok(Some(Moment {
-            deques: others,
-            waiting,
-            books: periods,
-        }))
+        Ok(Some(rest.leave_out(book)?))
     }
 }

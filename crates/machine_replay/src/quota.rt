@@ -3,7 +3,7 @@ ghost use Rattle.lawful_books.specs.Books.{charge_at, charged};
 
 use crate::action::Action;
 
-// What the action at a place takes of the quota.
+/// What the action at a place takes of the quota.
 fn charge_of(list: &[Action], quota: u64, place: u32) -> u64
     ensures { result ≡ charge_at quota list.now place }
 {
@@ -14,7 +14,7 @@ fn charge_of(list: &[Action], quota: u64, place: u32) -> u64
     }
 }
 
-// Whether a period that ran these has so many words of its quota left.
+/// Whether a period that ran these has so many words of its quota left.
 pub(crate) fn has_room(list: &[Action], quota: u64, ran: &[u32], more: u64) -> bool
     ensures { result ≡ nat_le (charged quota list.now ran.now + more) quota }
 {

@@ -14,7 +14,7 @@ use crate::theft::{may_reach, rob};
 use dag_order::Label;
 use std::alloc::{AllocError, Global};
 
-// A theft.
+/// A theft.
 fn steal(
     alloc: Global,
     moment: Moment,

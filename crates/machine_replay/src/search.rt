@@ -7,7 +7,7 @@ ghost use Rattle.machine_replay.specs.Tests.{Cut, cut_first, owns_it, open_for_i
 use crate::parts::{Book, Deque, Waiting};
 use dag_order::Label;
 
-// The place of the first deque of a worker.
+/// The place of the first deque of a worker.
 pub(crate) fn owned_place(deques: &[Deque], worker: u32) -> Option<usize>
     ensures { MatchOption result (cut_first (owns_it worker) deques.now ≡ None)
         (λ at. (c : Cut plain.Deque) × (cut_first (owns_it worker) deques.now ≡ Some c) × (length c.left ≡ at)) }
@@ -20,7 +20,7 @@ pub(crate) fn owned_place(deques: &[Deque], worker: u32) -> Option<usize>
     None
 }
 
-// The place of the first book that is open for a worker.
+/// The place of the first book that is open for a worker.
 pub(crate) fn open_place(books: &[Book], worker: u32) -> Option<usize>
     ensures { MatchOption result (cut_first (open_for_it worker) books.now ≡ None)
         (λ at. (c : Cut ledger.Book) × (cut_first (open_for_it worker) books.now ≡ Some c) × (length c.left ≡ at)) }
@@ -33,7 +33,7 @@ pub(crate) fn open_place(books: &[Book], worker: u32) -> Option<usize>
     None
 }
 
-// The place of the first that waits for a thread.
+/// The place of the first that waits for a thread.
 pub(crate) fn waiting_place(waiting: &[Waiting], thread: &Label) -> Option<usize>
     ensures { MatchOption result (cut_first (waits_for thread.now) waiting.now ≡ None)
         (λ at. (c : Cut plain.Waiting) × (cut_first (waits_for thread.now) waiting.now ≡ Some c) × (length c.left ≡ at)) }
@@ -46,7 +46,7 @@ pub(crate) fn waiting_place(waiting: &[Waiting], thread: &Label) -> Option<usize
     None
 }
 
-// Whether a deque has this id.
+/// Whether a deque has this id.
 pub(crate) fn has_id(deques: &[Deque], id: u32) -> bool
     ensures { result ≡ nat_lt 0 (with_id id deques.now) }
 {
@@ -58,7 +58,7 @@ pub(crate) fn has_id(deques: &[Deque], id: u32) -> bool
     false
 }
 
-// Whether a worker owns no deque.
+/// Whether a worker owns no deque.
 pub(crate) fn owns_none(deques: &[Deque], worker: u32) -> bool
     ensures { result ≡ nat_eq (owned_by worker deques.now) 0 }
 {

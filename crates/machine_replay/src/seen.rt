@@ -8,7 +8,7 @@ use crate::action::Action;
 use crate::parts::Book;
 use dag_order::{Label, before};
 
-// Whether a place stands in a list.
+/// Whether a place stands in a list.
 fn has_place(ran: &[u32], place: u32) -> bool
     ensures { result ≡ nat_lt 0 (times place ran.now) }
 {
@@ -20,14 +20,14 @@ fn has_place(ran: &[u32], place: u32) -> bool
     false
 }
 
-// Whether two labels are the same: neither is before the other.
+/// Whether two labels are the same: neither is before the other.
 pub(crate) fn is_same(a: &Label, b: &Label) -> bool
     ensures { result ≡ same_label a.now b.now }
 {
     !before(a, b) && !before(b, a)
 }
 
-// Whether the action at a place is done.
+/// Whether the action at a place is done.
 pub(crate) fn is_done(books: &[Book], place: u32) -> bool
     ensures { result ≡ nat_lt 0 (done_in books.now place) }
 {
@@ -39,7 +39,7 @@ pub(crate) fn is_done(books: &[Book], place: u32) -> bool
     false
 }
 
-// Whether all actions of a thread among the first n are done.
+/// Whether all actions of a thread among the first n are done.
 fn did_all_before(list: &[Action], books: &[Book], thread: &Label, n: u32) -> bool
     requires { n ≤ length list.now }
     ensures { result ≡ did_all list.now (done_in books.now) thread.now n }
@@ -52,7 +52,7 @@ fn did_all_before(list: &[Action], books: &[Book], thread: &Label, n: u32) -> bo
     true
 }
 
-// Whether the action at a place is the next one of a thread.
+/// Whether the action at a place is the next one of a thread.
 pub(crate) fn is_next_of(list: &[Action], books: &[Book], thread: &Label, place: u32) -> bool
     ensures { result ≡ is_next list.now (done_in books.now) thread.now place }
 {
@@ -62,7 +62,7 @@ pub(crate) fn is_next_of(list: &[Action], books: &[Book], thread: &Label, place:
         && did_all_before(list, books, thread, place)
 }
 
-// The next place of a thread.
+/// The next place of a thread.
 pub(crate) fn next_of(list: &[Action], books: &[Book], thread: &Label) -> Option<u32>
     requires { length list.now < 4294967296 }
     ensures place { result ≡ next_from list.now (done_in books.now) thread.now 0 (length list.now) }
@@ -76,7 +76,7 @@ pub(crate) fn next_of(list: &[Action], books: &[Book], thread: &Label) -> Option
     None
 }
 
-// Whether a thread has ended.
+/// Whether a thread has ended.
 pub(crate) fn has_ended(list: &[Action], books: &[Book], thread: &Label) -> bool
     requires { length list.now < 4294967296 }
     ensures { result ≡ ended_by list.now (done_in books.now) thread.now (length list.now) }
@@ -89,7 +89,7 @@ pub(crate) fn has_ended(list: &[Action], books: &[Book], thread: &Label) -> bool
     false
 }
 
-// Whether a label is that of a fork of a thread.
+/// Whether a label is that of a fork of a thread.
 pub(crate) fn is_fork(label: &[u32], thread: &[u32], child: u32) -> bool
     ensures { result ≡ same_label label.now (fork_of thread.now child) }
 {
@@ -104,7 +104,7 @@ pub(crate) fn is_fork(label: &[u32], thread: &[u32], child: u32) -> bool
     label[thread.len()] == child
 }
 
-// Whether a label is that of some fork of a thread.
+/// Whether a label is that of some fork of a thread.
 pub(crate) fn is_child(label: &[u32], thread: &[u32]) -> bool
     ensures { result ≡ is_fork_of thread.now label.now }
 {

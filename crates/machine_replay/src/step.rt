@@ -18,7 +18,7 @@ use dag_order::Label;
 use depth_first_list::RECORD_WORDS;
 use std::alloc::AllocError;
 
-// The top thread of a worker's deque.
+/// The top thread of a worker's deque.
 fn top_of(moment: &Moment, worker: u32) -> Option<&Label>
     ensures { MatchOption result (hand_of moment.now worker ≡ None) (λ top. (h : Hand) × (hand_of moment.now worker ≡ Some h)
         × (top.now ≡ h.top)) }
@@ -28,7 +28,7 @@ fn top_of(moment: &Moment, worker: u32) -> Option<&Label>
     moment.deques[at].threads.first()
 }
 
-// Whether an Alloc of so many words may come: the quota does not cover it, or has that many words left.
+/// Whether an Alloc of so many words may come: the quota does not cover it, or has that many words left.
 fn may_take(list: &[Action], quota: u64, held: &Held, words: u64) -> bool
     ensures { result ≡ cond (nat_le words quota) (nat_le (charged quota list.now held.now.hand.books.here.ran + words) quota) true }
 {
@@ -39,7 +39,7 @@ fn may_take(list: &[Action], quota: u64, held: &Held, words: u64) -> bool
     }
 }
 
-// The action at a place, which is the next one of the top thread; at a Join the child has ended.
+/// The action at a place, which is the next one of the top thread; at a Join the child has ended.
 fn act(
     list: &[Action],
     quota: u64,
@@ -74,7 +74,7 @@ fn act(
     }
 }
 
-// The deque is given up.
+/// The deque is given up.
 pub(crate) fn give_up(moment: Moment, worker: u32) -> Result<Option<Moment>, AllocError>
     ensures { IfOk result (λ o. o ≡ gives_up_by moment (hand_of moment worker)) }
 {
@@ -84,7 +84,7 @@ pub(crate) fn give_up(moment: Moment, worker: u32) -> Result<Option<Moment>, All
     }
 }
 
-// The action at a place.
+/// The action at a place.
 pub(crate) fn does(
     list: &[Action],
     quota: u64,
@@ -115,7 +115,7 @@ pub(crate) fn does(
     }
 }
 
-// The top thread has to wait for a child.
+/// The top thread has to wait for a child.
 pub(crate) fn suspend(
     list: &[Action],
     moment: Moment,

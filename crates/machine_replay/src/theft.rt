@@ -8,14 +8,14 @@ use crate::parts::{Book, Deque, Moment, Waiting};
 use crate::search::{has_id, owns_none};
 use std::alloc::{AllocError, Global};
 
-// Whether an idle worker may reach a place.
+/// Whether an idle worker may reach a place.
 pub(crate) fn may_reach(moment: &Moment, workers: u32, worker: u32, place: u32) -> bool
     ensures { result ≡ (nat_lt worker workers && (nat_eq (owned_by worker moment.now.deques) 0 && nat_lt place workers)) }
 {
     worker < workers && owns_none(&moment.deques, worker) && place < workers
 }
 
-// A deque without an owner and with one thread is taken over.
+/// A deque without an owner and with one thread is taken over.
 fn take_over(
     alloc: Global,
     mut others: Vec<Deque>,
@@ -59,7 +59,7 @@ fn take_over(
     }))
 }
 
-// The bottom thread of a deque with more threads is taken into a new deque.
+/// The bottom thread of a deque with more threads is taken into a new deque.
 fn take_bottom(
     alloc: Global,
     mut others: Vec<Deque>,
@@ -109,7 +109,7 @@ fn take_bottom(
     }))
 }
 
-// The deque at a place is robbed.
+/// The deque at a place is robbed.
 pub(crate) fn rob(
     alloc: Global,
     moment: Moment,

@@ -1,5 +1,6 @@
 -- What is asked for before an event, and what an action of a top thread needs.
 use Rattle.std.specs.Prelude.{◌≡◌, ◌≤◌, ◌<◌, ◌+◌, ℕ, Some, None, List, pos, IsTrue, IsSome}
+use Rattle.language_limits.specs.declared.TheConstants.{GREATEST_QUOTA}
 use Rattle.deque_list.specs.declared.deque_id.DequeId.{DequeId}
 use Rattle.deque_list.specs.DequeLists.{lane_room}
 use Rattle.depth_first_list.specs.Actions.{record_words}
@@ -38,16 +39,16 @@ pub record CanAct (s : Scheduler) (worker : ℕ) (id : DequeId) (top : Thread) (
   pub memory : HasMemory 2 s worker id
   pub sum : total_change (moves_list s.moves) ≡ pos s.pool.live
   pub period : (p : Period) × (period_at s.table worker ≡ Some p)
-  pub used : (p : Period) → period_at s.table worker ≡ Some p → p.used ≤ 1048576
+  pub used : (p : Period) → period_at s.table worker ≡ Some p → p.used ≤ GREATEST_QUOTA
 
 -- What the action asks for besides: its words fit the arena, or are out; an Alloc, which uses so many words of the quota, and a Fork leave
 -- the period with what may be counted; the result of the child that is joined was delivered; and no result is kept of a thread that ends.
 abbrev pub MayAct : (charge : ℕ) → Scheduler → ℕ → Thread → Next → Type 0
 MayAct charge s worker top Fork =
-    ((p : Period) → period_at s.table worker ≡ Some p → p.used + record_words ≤ 1048576) × (s.pool.live + record_words ≤ s.pool.capacity)
+    ((p : Period) → period_at s.table worker ≡ Some p → p.used + record_words ≤ GREATEST_QUOTA) × (s.pool.live + record_words ≤ s.pool.capacity)
 MayAct charge s worker top (Join child) = IsTrue (is_there (newest (children_of top))) × (join_words_of top ≤ s.pool.live)
 MayAct charge s worker top (Alloc words) =
-    ((p : Period) → period_at s.table worker ≡ Some p → p.used + charge ≤ 1048576) × (s.pool.live + words ≤ s.pool.capacity)
+    ((p : Period) → period_at s.table worker ≡ Some p → p.used + charge ≤ GREATEST_QUOTA) × (s.pool.live + words ≤ s.pool.capacity)
 MayAct charge s worker top (Release words) = words ≤ s.pool.live
 MayAct charge s worker top Dummy = Unit {0}
 MayAct charge s worker top (Fault fault) = held_by top ≤ s.pool.live

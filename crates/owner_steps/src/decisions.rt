@@ -1,6 +1,7 @@
 //! What a worker does whose top thread comes to its next action.
 
 ghost use Rattle.std.specs.Prelude.{◌≡◌, ◌≤◌, Some};
+ghost use Rattle.language_limits.specs.declared.TheConstants.{GREATEST_QUOTA};
 ghost use Rattle.dummy_tree.specs.QuotaWords.{quota_words};
 ghost use Rattle.period_books.specs.Periods.{Period};
 ghost use Rattle.period_table.specs.Tables.{period_at};
@@ -37,7 +38,7 @@ pub(crate) fn decide(
 ) -> Decision
     requires { (p : Period) × (period_at scheduler.now.table worker ≡ Some p) }
     ensures decides { Decides scheduler.now worker (quota_words k) top.now next result }
-    ensures bounded { quota_words k ≤ 1048576 }
+    ensures bounded { quota_words k ≤ GREATEST_QUOTA }
 {
     match next {
         Next::Fork => by_quota(&scheduler.table, worker, PIECE_WORDS, k),

@@ -1,6 +1,7 @@
 //! The step of a worker that owns a deque.
 
 ghost use Rattle.std.specs.Prelude.{◌≡◌, ◌≢◌, ◌≤◌, ◌<◌, ℕ, List as AnyList, Some, OnOk, IfOk, Err};
+ghost use Rattle.language_limits.specs.declared.TheConstants.{GREATEST_QUOTA};
 ghost use Rattle.dummy_tree.specs.QuotaWords.{quota_words};
 ghost use Rattle.node_table.specs.Codes.{code_shown};
 ghost use Rattle.node_table.specs.Table.{Table};
@@ -61,7 +62,7 @@ fn act_or_stop(
 ) -> Result<Event, Stop>
     requires ready { (t : Table) × IsBeforeAction t (quota_words k) limit scheduler.old worker deque top next }
     requires decides { Decides scheduler.old worker (quota_words k) top next (decisions.Act charge) }
-    requires bounded { quota_words k ≤ 1048576 }
+    requires bounded { quota_words k ≤ GREATEST_QUOTA }
     ensures { (t : Table) → IsBeforeAction t (quota_words k) limit scheduler.old worker deque top next
         → ComesUnder t (quota_words k) limit worker deque top scheduler.old scheduler.new result }
 {

@@ -1,4 +1,5 @@
 ghost use Rattle.std.specs.Prelude.{◌≡◌, ◌≢◌, ◌≤◌, ◌<◌, ◌+◌, [], ◌∷◌, ◌++◌, ℕ, None, Some, IfOk, OnOk, option_copied, length, slice_get, slice_set};
+ghost use Rattle.language_limits.specs.declared.TheConstants.{GREATEST_QUOTA};
 ghost use Rattle.bounded_list.specs.BoundedList.{entries, spare};
 ghost use Rattle.space_ledger.specs.BooksList.{books_list, books_spare};
 ghost use Rattle.period_books.specs.Periods.{Period as AnyPeriod, Adds, Replaces, open_shown};
@@ -116,7 +117,7 @@ impl PeriodTable {
     /// Notes an action in the period of a worker, with the words that it takes of the quota and the birth that comes with it.
     pub fn note(&mut self, worker: usize, id: ActionId, words: u32, birth: Option<Birth>)
         requires room { HasRoom self.old worker }
-        requires fits { (p : AnyPeriod) → period_at self.old worker ≡ Some p → p.used + words ≤ 1048576 }
+        requires fits { (p : AnyPeriod) → period_at self.old worker ≡ Some p → p.used + words ≤ GREATEST_QUOTA }
         ensures periods { (p : AnyPeriod) → period_at self.old worker ≡ Some p
             → Replaces (periods_of self.old) p (noted p id words (births_shown birth)) (periods_of self.new) }
         ensures shown { (p : AnyPeriod) → period_at self.old worker ≡ Some p
@@ -202,7 +203,7 @@ fn note_at(
 )
     requires room { HasRoomFor (spare first.old) (seat_in (slice_get seats.old.items worker)) }
     requires none { entries first.old ≡ [] }
-    requires fits { (seat : Seat) → slice_get seats.old.items worker ≡ Some (Some seat) → seat.period.used + words ≤ 1048576 }
+    requires fits { (seat : Seat) → slice_get seats.old.items worker ≡ Some (Some seat) → seat.period.used + words ≤ GREATEST_QUOTA }
     ensures notes { (seat : Seat) → slice_get seats.old.items worker ≡ Some (Some seat)
         → ChangesSeat seats.old.items worker seat (λ period. noted period id words (births_shown birth)) seats.new.items }
     ensures none { entries first.new ≡ [] }
@@ -218,7 +219,7 @@ fn add_to(period: &mut Period, first: &mut Births, id: ActionId, words: u32, bir
     requires book { 1 ≤ spare period.old.book }
     requires births { 1 ≤ birth_room (entries period.old.births) (spare period.old.births) (spare first.old) }
     requires none { entries first.old ≡ [] }
-    requires fits { period.old.used + words ≤ 1048576 }
+    requires fits { period.old.used + words ≤ GREATEST_QUOTA }
     ensures notes { (w : ℕ) → open_shown w period.new ≡ noted (open_shown w period.old) id words (births_shown birth) }
     ensures none { entries first.new ≡ [] }
 {

@@ -1,6 +1,6 @@
 //! How far the words in use are below the space bound.
 
-ghost use Rattle.std.specs.Prelude.{◌≡◌, ◌*◌, ℕ, List as AnyList, IfOk, pos, ◌+ℤ◌};
+ghost use Rattle.std.specs.Prelude.{◌≡◌, ◌<◌, ◌*◌, ℕ, List as AnyList, IfOk, pos, ◌+ℤ◌};
 ghost use Rattle.depth_first_run.specs.States.{Setting};
 ghost use Rattle.deque_machine.specs.Moments.{Moment, done_at, live_at};
 ghost use Rattle.deque_machine.specs.Runs.{Pair};

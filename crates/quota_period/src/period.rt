@@ -1,4 +1,5 @@
 ghost use Rattle.std.specs.Prelude.{◌≡◌, ◌≢◌, ◌+◌, ◌≤◌, [], IfOk};
+ghost use Rattle.language_limits.specs.declared.TheConstants.{GREATEST_QUOTA, LEAST_QUOTA};
 ghost use Rattle.bounded_list.specs.BoundedList.{entries, spare};
 ghost use Rattle.dummy_tree.specs.QuotaWords.{quota_words};
 ghost use Rattle.quota_period.specs.Charges.{IsCharge};
@@ -50,7 +51,7 @@ impl Period {
     /// Words of one piece, as those of a thread's record, are never above the quota.
     pub fn charge(&self, words: u32, k: Quota) -> Charge
         ensures charge { IsCharge self.now.used words (quota_words k) result }
-        ensures piece { words ≤ 16 → result ≢ Charge.Large }
+        ensures piece { words ≤ LEAST_QUOTA → result ≢ Charge.Large }
     {
         let k = k.get();
         if words > k {
@@ -64,7 +65,7 @@ impl Period {
 
     /// Counts the words of an allocation that fits. No quota is above 1,048,576 words.
     pub fn note(&mut self, words: u32)
-        requires { self.old.used + words ≤ 1048576 }
+        requires { self.old.used + words ≤ GREATEST_QUOTA }
         ensures { self.new ≡ record self.old { used = self.old.used + words } }
     {
         self.used += words;

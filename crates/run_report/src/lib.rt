@@ -2,8 +2,8 @@
 //!
 //! A text is a list of lines, each ended by LF. The report of a scheduler's run has a line for each number that the run
 //! printed, the line `--`, the finish line, and its `periods`, `ahead` and `high`; the text of a depth-first run has
-//! `actions` and `peak` in their place; and a summary has seven counted lines. All three begin from [`outcome_text`],
-//! the printed numbers and the finish, or from [`push_counted`], a name and its number.
+//! `actions` and `peak` in their place; and a summary has seven counted lines. The first two begin with the
+//! printed numbers, the line `--` and the finish line.
 //!
 //! The layer stands on `dag_order`, whose `Finish` says how a run ended, on `bounded_list` and on `byte_cuts`. Its one theorem: the
 //! texts are those of `specs/Texts.antt`, and [`read_report`] answers a report exactly on its own text, and else the
@@ -23,8 +23,6 @@ mod reading;
 mod report;
 mod summary;
 
-pub use counted::push_counted;
-pub use outcome::outcome_text;
 pub use peak_report::{PeakReport, peak_text};
 pub use read_fail::ReadFail;
 pub use reading::read_report;

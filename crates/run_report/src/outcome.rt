@@ -7,7 +7,11 @@ use dag_order::{Finish, Lines};
 use std::alloc::{AllocError, Global};
 
 /// The lines with which each text of a run begins: one for each number that it printed, `--`, and the finish line.
-pub fn outcome_text(alloc: Global, printed: &Lines, finish: Finish) -> Result<String, AllocError>
+pub(crate) fn outcome_text(
+    alloc: Global,
+    printed: &Lines,
+    finish: Finish,
+) -> Result<String, AllocError>
     ensures { IfOk result (λ text. string_bytes text ≡ text_of (outcome_lines (entries printed.now) finish)) }
 {
     let mut text = String::new(alloc);

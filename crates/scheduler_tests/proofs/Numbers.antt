@@ -3,7 +3,7 @@ use Rattle.std.proofs.Common.{◌≡◌, ℕ, ◌+◌, ◌-◌, ◌≤◌, sum, 
 use mathlib.Core.Option.{some}
 use lib.ListN.{get_elem?}
 use Rattle.atomic_table.proofs.Lists.{set_else}
-use Rattle.turn_table.specs.Hands.{Shows, renewed, without, showing, shown_by}
+use Rattle.turn_table.specs.Hands.{Shows, renewed, without_slot, showing, shown_by}
 use Rattle.turn_table.specs.Seats.{SeatView}
 use Rattle.turn_table.specs.Law.{PutKeeps}
 use Rattle.turn_table.specs.Notes.{HasAs, OverNotes}
@@ -29,6 +29,6 @@ pub put_shifted : (key : ℕ) (seat : Seat) (first second : ℕ) → seat.hand.h
     → PutKeeps (OverNotes Sums) tt key seat 0 (first - 2) (λ h. h.note) (shown_by ((1, second + 2) ∷ []))
 put_shifted key seat first second is enough = let f : ℕ → ℕ → ℕ = shown_by ((1, second + 2) ∷ []) in put_writes Sums tt key seat 0 (first - 2) (λ h. h.note) f
     (λ shown count notes kept long shows at. let s = subst (λ xs. Shows shown xs) is shows in let one : List ℕ = set shown 1 (second + 2) in
-    let e : showing shown ((0, first - 2) ∷ renewed f (without 0 seat.hand.holds)) ≡ set one 0 (first - 2) = ap (λ xs. showing shown ((0, first - 2) ∷ renewed f (without 0 xs))) is in
+    let e : showing shown ((0, first - 2) ∷ renewed f (without_slot 0 seat.hand.holds)) ≡ set one 0 (first - 2) = ap (λ xs. showing shown ((0, first - 2) ∷ renewed f (without_slot 0 xs))) is in
     let a = sum_set shown 1 second (second + 2) s.0 in let b = sum_set one 0 first (first - 2) (set_else shown 1 0 (second + 2) (λ d. omega arith) ∙ s.1.0) in
     let k : sum shown ≡ key = kept in let t : sum (set one 0 (first - 2)) ≡ key = omega arith in subst (λ xs. sum xs ≡ key) (sym e) t)

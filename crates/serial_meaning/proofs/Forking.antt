@@ -12,7 +12,7 @@ use Rattle.depth_first_run.specs.States.{Setting, State, Item, acted, with_actio
 use Rattle.depth_first_run.specs.Run.{actions_of}
 use Rattle.depth_first_run.specs.Middle as middles
 use Rattle.serial_store.specs.Shown.{store_shown}
-use Rattle.serial_store.specs.Effects.{child_store, parent_store}
+use Rattle.depth_first_run.specs.Branches.{child_store, parent_store}
 use Rattle.serial_journal.specs.Journals.{KeepsUp, KeepsLabels, births_of, action_named}
 use Rattle.serial_journal.specs.declared.journal.Journal.{Journal}
 use Rattle.serial_meaning.specs.Settings.{setting_of}

@@ -7,7 +7,7 @@ use Rattle.depth_first_run.specs.Stores.{held_words}
 use Rattle.depth_first_run.specs.States.{State, with_action, emptied, holdings, given_back, with_result, joined}
 use Rattle.depth_first_run.specs.Run.{on_store}
 use Rattle.serial_store.specs.Shown.{store_shown}
-use Rattle.serial_store.specs.Effects.{joined_store}
+use Rattle.depth_first_run.specs.Branches.{joined_store}
 use Rattle.serial_store.specs.declared.store.Store.{Store}
 use Rattle.serial_meaning.specs.Views.{Is, thread_holdings}
 use Rattle.serial_meaning.specs.declared.runner.Runner.{Runner}

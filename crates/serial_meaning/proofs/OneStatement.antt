@@ -1,10 +1,7 @@
 -- What single statements do to the point in the middle of a run where the machine is.
 use Rattle.std.proofs.Common.{inl, inr, ◌≡◌, ℕ, suc, ◌<◌, ◌≤◌, List, [], ◌∷◌, length, ℤ, Bool, true, false, Result, Ok, Err, MatchResult, Option, Some, None, refl, sym, ◌∙◌, ap, subst, arith}
 use Rattle.std.specs.Prelude.{is_some, nat_lt, min, ◌⊎◌}
-use Rattle.std.proofs.lemmas.Bool.{lt-ltb, le-ltb, le-leb, lt-leb, cases_lt}
-use Rattle.dummy_tree.specs.Leaves.{IsTreeSize}
-use Rattle.dummy_tree.specs.Quotas.{dummies_of}
-use Rattle.dummy_tree.proofs.QuotaLaws.{no_dummies}
+use Rattle.std.proofs.lemmas.Bool.{lt-ltb, le-ltb, le-leb, lt-leb}
 use Rattle.dummy_tree.specs.Shapes.{Shape}
 use Rattle.depth_first_list.specs.Runs.{tree_for}
 use Rattle.dag_order.specs.Births.{HasLabel}
@@ -178,18 +175,3 @@ allocated_later c line b v n shape fs s size many same =
     ap (λ (x : Shape). middle (does (tree x) ∷ allocates b n ∷ fs) s) same
     ∙ ap (λ (t : Bool). step_alloc_within t c b n fs s) (sym (lt-leb (block_words n) c.quota many))
     ∙ ap (λ (o : Option ℕ). step_alloc_words c line b o fs s) size
-
--- there is no tree exactly where the quota covers the words
-pub few_words : (words k n : ℕ) → words ≤ 1048576 → (k < words → 1 < n) → (words ≤ 1048576 → n ≤ 65536) → (IsTreeSize n → ⊥) → words ≤ k
-few_words words k n small several bound none = go (cases_lt k words)
-  where
-    go : (k < words) ⊎ (words ≤ k) → words ≤ k
-    go (inl many) = let more = several many in let within = bound small in absurd (none (omega arith, within))
-    go (inr few) = few
-
-pub many_words : (words k n : ℕ) → n ≡ dummies_of words k → 1 ≤ n → k < words
-many_words words k n dummies some = go (cases_lt k words)
-  where
-    go : (k < words) ⊎ (words ≤ k) → k < words
-    go (inl many) = many
-    go (inr few) = let never = no_dummies words k few in absurd (omega (arith, dummies, never))

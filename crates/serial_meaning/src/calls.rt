@@ -81,9 +81,9 @@ impl<'a> Runner<'a> {
     /// The fault that a call meets whose arguments are without fault, where it meets one: too many calls are open, or
     /// the thread has no turn left.
     pub(crate) fn limit_of_calls(&self) -> Option<FaultKind>
-        ensures { MatchOption result ((self.now.thread.calls < 10000)
-            × (0 < self.now.thread.turns)) (λ kind. ((kind ≡ Depth) × (10000 ≤ self.now.thread.calls))
-            ⊎ ((kind ≡ Turns) × (self.now.thread.calls < 10000) × (self.now.thread.turns ≡ 0))) }
+        ensures { MatchOption result ((self.now.thread.calls < MOST_CALLS)
+            × (0 < self.now.thread.turns)) (λ kind. ((kind ≡ Depth) × (MOST_CALLS ≤ self.now.thread.calls))
+            ⊎ ((kind ≡ Turns) × (self.now.thread.calls < MOST_CALLS) × (self.now.thread.turns ≡ 0))) }
     {
         if self.thread.calls >= MOST_CALLS {
             Some(FaultKind::Depth)
@@ -116,7 +116,7 @@ impl<'a> Runner<'a> {
 
     /// A function begins: its call is open, and its caller's store waits. It is a turn.
     pub(crate) fn enter(&mut self, callee: Store<'a>) -> Result<(), SerialStop>
-        requires calls { self.old.thread.calls < 10000 }
+        requires calls { self.old.thread.calls < MOST_CALLS }
         requires turns { 0 < self.old.thread.turns }
         ensures { (limit : ℕ) → Goes limit self.old result self.new (entering (store_shown callee.entry)) }
     {

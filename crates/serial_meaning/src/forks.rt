@@ -6,7 +6,7 @@ ghost use Rattle.depth_first_run.specs.States.{State, child_of, parent_of, ended
 ghost use Rattle.depth_first_list.specs.Actions.{record_words};
 ghost use Rattle.depth_first_run.specs.Middle.{step_fork, step_awaited};
 ghost use Rattle.serial_store.specs.Shown.{store_shown};
-ghost use Rattle.serial_store.specs.Effects.{child_store, parent_store, joined_store};
+ghost use Rattle.depth_first_run.specs.Branches.{child_store, parent_store, joined_store};
 ghost use Rattle.serial_journal.specs.Journals.{births_of};
 ghost use Rattle.serial_journal.specs.Stops.{OnStop};
 ghost use Rattle.serial_meaning.specs.Settings.{setting_of};

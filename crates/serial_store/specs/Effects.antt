@@ -1,10 +1,9 @@
--- What the calls do that may fault, and what a fork and a join do to stores.
-use Rattle.std.specs.Prelude.{◌≡◌, ℕ, Bool, ◌++◌, ℤ, Option, Some, None, Result, Ok, Err, slice_set}
+-- What the calls do that may fault.
+use Rattle.std.specs.Prelude.{◌≡◌, ℕ, ℤ, Option, Some, None, Result, Ok, Err, slice_set}
 use Rattle.dag_order.specs.declared.fault.FaultKind.{FaultKind}
 use Rattle.dag_order.specs.declared.fault.FaultKind.TheVariants as faults
 use Rattle.par_tree.specs.Tree.{Name}
-use Rattle.depth_first_run.specs.Stores.{Store, block_of, write_block, those_named, those_not_named}
-use Rattle.depth_first_run.specs.States.{taken_integers}
+use Rattle.depth_first_run.specs.Stores.{Store, block_of, write_block}
 use Rattle.depth_first_run.specs.Calls.{Passing}
 use Rattle.depth_first_run.specs.Run.{cut_block}
 use Rattle.serial_store.specs.declared.stop.Stop.{Stop}
@@ -30,17 +29,3 @@ abbrev pub Passes : Result Passing FaultKind → Store → Result RustStore Stop
 Passes passed before (Ok callee) behind = passed ≡ Ok record { callee = store_shown callee; caller = behind }
 Passes passed before (Err (stops.Fault kind)) behind = (passed ≡ Err kind) × (behind ≡ before)
 Passes passed before (Err stops.OutOfMemory) behind = Unit {0}
-
--- the store of a child that is forked with the blocks whose names pass, and what its parent keeps
-abbrev pub child_store : (Name → Bool) → Store → Store
-child_store named s = record { integers = s.integers; blocks = those_named named s.blocks }
-
-abbrev pub parent_store : (Name → Bool) → Store → Store
-parent_store named s = record { integers = s.integers; blocks = those_not_named named s.blocks }
-
--- the store behind a Join: the child's integers whose names pass, and all its blocks
-abbrev pub joined_store : (Name → Bool) → (child own : Store) → Store
-joined_store assigned child own = record {
-  integers = taken_integers assigned child.integers own.integers;
-  blocks = own.blocks ++ child.blocks;
-}

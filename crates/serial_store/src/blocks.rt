@@ -1,6 +1,7 @@
 //! The blocks of a store.
 
 ghost use Rattle.std.specs.Prelude.{◌≡◌, ◌≤◌, ◌<◌, ◌^◌, length, pos, replicate, slice_set, OnOk, OnErr};
+ghost use Rattle.language_limits.specs.declared.TheConstants.{LONGEST_BLOCK};
 ghost use Rattle.par_tree.specs.View.{name_tree};
 ghost use Rattle.depth_first_run.specs.Stores.{block_of, hold_block, drop_block, write_block, block_words, held_words};
 ghost use Rattle.depth_first_run.specs.Values.{number_at, place_in};
@@ -117,7 +118,7 @@ impl<'a> Store<'a> {
 
     /// A block of `len` zeros is held under a name from now on, behind the others.
     pub fn allocate(&mut self, alloc: Global, name: &'a Name, len: u32) -> Result<(), AllocError>
-        requires { len ≤ 1048576 }
+        requires { len ≤ LONGEST_BLOCK }
         ensures ok { OnOk result (store_shown self.new ≡ hold_block (name_tree name.now) (replicate len (pos 0)) (store_shown self.old)) }
         ensures err { OnErr result (store_shown self.new ≡ store_shown self.old) }
     {
@@ -143,7 +144,7 @@ fn words_for(len: u32) -> u64
 
 /// The words of blocks.
 fn words_of(blocks: &[HeldBlock]) -> u64
-    requires { length blocks.now ≤ 1048576 }
+    requires { length blocks.now ≤ MAX_BLOCKS }
     ensures value { result ≡ held_words (held_of blocks.now) }
     ensures bound { result ≤ 2 ^ 46 }
 {

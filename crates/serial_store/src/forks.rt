@@ -6,7 +6,7 @@ ghost use Rattle.depth_first_run.specs.Stores.{those_named, those_not_named};
 ghost use Rattle.depth_first_run.specs.Run.{names_in, assigns_in, no_name};
 ghost use Rattle.serial_store.specs.Branches.{branch_shown};
 ghost use Rattle.serial_store.specs.Shown.{store_shown, held_of, assigned_by, not_assigned_by};
-ghost use Rattle.serial_store.specs.Effects.{child_store, parent_store, joined_store};
+ghost use Rattle.depth_first_run.specs.Branches.{child_store, parent_store, joined_store};
 
 use crate::branch::Branch;
 use crate::held_block::HeldBlock;

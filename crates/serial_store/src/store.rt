@@ -1,4 +1,5 @@
 ghost use Rattle.std.specs.Prelude.{◌≤◌, vec_len};
+ghost use Rattle.serial_store.specs.declared.store.TheConstants.{MAX_BLOCKS};
 
 use crate::held_block::HeldBlock;
 use crate::integer::Integer;
@@ -13,5 +14,5 @@ pub const MAX_BLOCKS: usize = 1_048_576;
 pub struct Store<'a> {
     pub(crate) integers: Vec<Integer<'a>>,
     pub(crate) blocks: Vec<HeldBlock<'a>>,
-    ghost few: { vec_len blocks ≤ 1048576 },
+    ghost few: { vec_len blocks ≤ MAX_BLOCKS },
 }

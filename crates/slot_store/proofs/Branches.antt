@@ -11,7 +11,8 @@ use Rattle.depth_first_run.specs.Stores.{Store, those_named, those_not_named}
 use Rattle.depth_first_run.specs.States.{taken_integers}
 use Rattle.slot_store.specs.Rows.{Entry, blank, entry_at, integer_at, blocks_at}
 use Rattle.slot_store.specs.Agreement.{blocks_under, entry_of, row_of, AreDistinct, ShowsStore}
-use Rattle.slot_store.specs.Forks.{is_in, Parts, with_integers_of, joined_blocks, child_store, parent_store, joined_store}
+use Rattle.slot_store.specs.Forks.{is_in, Parts, with_integers_of, joined_blocks}
+use Rattle.depth_first_run.specs.Branches.{child_store, parent_store, joined_store}
 use Rattle.slot_store.proofs.Names.{same_name, is_itself}
 use Rattle.slot_store.proofs.Held.{under_append, under_named, under_not_named}
 use Rattle.slot_store.proofs.Agreement.{entry_named, row_length, entry_is}

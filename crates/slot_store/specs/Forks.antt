@@ -1,8 +1,5 @@
--- What a forked child takes of a row and a store, and what a Join brings back.
+-- What a forked child takes of a row, and what a Join brings back.
 use Rattle.std.specs.Prelude.{◌≡◌, ℕ, ◌+◌, ◌≤◌, Bool, false, ◌||◌, if◌then◌else◌, nat_eq, List, [], ◌∷◌, ◌++◌, length, ℤ}
-use Rattle.par_tree.specs.Tree.{Name}
-use Rattle.depth_first_run.specs.Stores.{Store, those_named, those_not_named}
-use Rattle.depth_first_run.specs.States.{taken_integers}
 use Rattle.slot_store.specs.Rows.{Entry, entry_at, integer_at, blocks_at}
 
 -- the slot is in the list
@@ -43,17 +40,3 @@ AreApart own child = (s : ℕ) → length (blocks_at own s) + length (blocks_at 
 abbrev pub or_own : List (List ℤ) → List (List ℤ) → List (List ℤ)
 or_own [] own = own
 or_own (items ∷ rest) own = items ∷ rest
-
--- the store of a child that is forked with the blocks whose names pass, and what its parent keeps
-abbrev pub child_store : (Name → Bool) → Store → Store
-child_store named s = record { integers = s.integers; blocks = those_named named s.blocks }
-
-abbrev pub parent_store : (Name → Bool) → Store → Store
-parent_store named s = record { integers = s.integers; blocks = those_not_named named s.blocks }
-
--- the store behind a Join: the child's integers whose names pass, and all blocks of both
-abbrev pub joined_store : (Name → Bool) → (child own : Store) → Store
-joined_store assigned child own = record {
-  integers = taken_integers assigned child.integers own.integers;
-  blocks = own.blocks ++ child.blocks;
-}

@@ -7,7 +7,8 @@ ghost use Rattle.depth_first_run.specs.Stores.{Store};
 ghost use Rattle.slot_store.specs.Rows.{entry_at, blocks_at, with_blocks_at, without_block};
 ghost use Rattle.slot_store.specs.Shown.{slots_shown};
 ghost use Rattle.slot_store.specs.Agreement.{ShowsStore};
-ghost use Rattle.slot_store.specs.Forks.{Parts, with_integers_of, joined_blocks, or_own, AreApart, child_store, parent_store, joined_store};
+ghost use Rattle.slot_store.specs.Forks.{Parts, with_integers_of, joined_blocks, or_own, AreApart};
+ghost use Rattle.depth_first_run.specs.Branches.{child_store, parent_store, joined_store};
 
 use crate::slot::Slot;
 use crate::slots::Slots;

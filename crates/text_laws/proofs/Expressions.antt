@@ -2,6 +2,7 @@
 use Rattle.std.proofs.Common.{◌≡◌, ℕ, zero, suc, ◌+◌, ◌-◌, ◌≤◌, Bool, true, false, List, [], ◌∷◌, ◌++◌, inl, inr, refl, sym, subst, arith}
 use Rattle.std.specs.Prelude.{◌||◌, Option, Some, None, codes}
 use Rattle.std.specs.Fmt.{signed_decimal}
+use Rattle.std.proofs.lemmas.Bool.{or_left}
 use Rattle.par_tree.specs.Tree.{Name, ChainOp, plus, minus, times, over, modulo, Comparison, equal, unequal, below, at_most, above, at_least, Expr, num, var, get, len_of, neg, chain, cmp, Links, last, link}
 use Rattle.par_text.specs.Rule.{expression, factor, within}
 use Rattle.par_text.specs.Form.{Form}
@@ -27,10 +28,6 @@ fewer : (a b : Bool) (text : List ℕ) → (a ≡ true → b ≡ true) → opene
 fewer true b text h = subst (λ (x : Bool). opened (parenthesised true text) ≤ opened (parenthesised x text)) (sym (h refl)) (omega arith)
 fewer false true text h = let e = opened-append text (codes ")") in omega (arith, e)
 fewer false false text h = omega arith
-
-or_left : (a b : Bool) → a ≡ true → (a || b) ≡ true
-or_left true b e = refl
-or_left false b e = cc
 
 or_weaker : (a b c : Bool) → (b ≡ true → c ≡ true) → (a || b) ≡ true → (a || c) ≡ true
 or_weaker true b c h e = refl

@@ -60,10 +60,7 @@ fn steal_beside(
         Err(InsertRefused::Full { deques }) => return Err(Stop::DequesFull { deques }),
         Err(InsertRefused::OutOfMemory) => return Err(Stop::OutOfMemory),
     }
-    let number = match next_number(&scheduler.table) {
-        Ok(number) => number,
-        Err(stop) => return Err(stop),
-    };
+    let number = next_number(&scheduler.table)?;
     let Ok(period) = Period::start(alloc, number, true) else {
         return Err(Stop::OutOfMemory);
     };
@@ -98,10 +95,7 @@ fn take_over(
     requires idle { seat_at scheduler.old.table worker ≡ None }
     ensures { Thieves worker place scheduler.old scheduler.new result }
 {
-    let number = match next_number(&scheduler.table) {
-        Ok(number) => number,
-        Err(stop) => return Err(stop),
-    };
+    let number = next_number(&scheduler.table)?;
     let Ok(period) = Period::start(alloc, number, place > 0) else {
         return Err(Stop::OutOfMemory);
     };

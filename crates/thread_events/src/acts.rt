@@ -1,4 +1,5 @@
 ghost use Rattle.std.specs.Prelude.{◌≡◌, ◌≤◌, ◌<◌, ◌+◌, ◌↔◌, ℕ, List as AnyList, Some, IsErr, IfErr, OnOk, OnErr, IsTrue};
+ghost use Rattle.language_limits.specs.declared.TheConstants.{GREATEST_QUOTA};
 ghost use Rattle.block_arena.specs.Region.{with_taken, with_given};
 ghost use Rattle.deque_list.specs.DequeLists.{lane_room};
 ghost use Rattle.period_books.specs.Periods.{Period};
@@ -53,7 +54,7 @@ pub fn alloc(
     requires stands { (items : AnyList Thread) × Stands list.old worker deque items }
     requires room { 1 ≤ lane_room list.old deque }
     requires table { HasRoom table.old worker }
-    requires fits { (p : Period) → period_at table.old worker ≡ Some p → p.used + charge ≤ 1048576 }
+    requires fits { (p : Period) → period_at table.old worker ≡ Some p → p.used + charge ≤ GREATEST_QUOTA }
     ensures full { IsErr result ↔ (pool.old.capacity < pool.old.live + words_asked (next_of top)) }
     ensures refused { IfErr result (λ e. (e.0 ≡ top) × (e.1 ≡ record { live = pool.old.live; asked = words_asked (next_of top) })) }
     ensures same_list { OnErr result (list.new ≡ list.old) }
@@ -92,7 +93,7 @@ pub fn release(
     requires stands { (items : AnyList Thread) × Stands list.old worker deque items }
     requires room { 1 ≤ lane_room list.old deque }
     requires table { HasRoom table.old worker }
-    requires fits { (p : Period) → period_at table.old worker ≡ Some p → p.used ≤ 1048576 }
+    requires fits { (p : Period) → period_at table.old worker ≡ Some p → p.used ≤ GREATEST_QUOTA }
     ensures acts { ActsBy (nexts.Release (words_asked (next_of top))) worker deque top list.old table.old list.new table.new Always }
     ensures back { GoesBack worker deque top list.old list.new }
     ensures seats { KeepsSeats table.old table.new }
@@ -118,7 +119,7 @@ pub fn dummy(
     requires stands { (items : AnyList Thread) × Stands list.old worker deque items }
     requires room { 1 ≤ lane_room list.old deque }
     requires table { HasRoom table.old worker }
-    requires fits { (p : Period) → period_at table.old worker ≡ Some p → p.used ≤ 1048576 }
+    requires fits { (p : Period) → period_at table.old worker ≡ Some p → p.used ≤ GREATEST_QUOTA }
     ensures acts { ActsBy nexts.Dummy worker deque top list.old table.old list.new table.new Always }
     ensures back { GoesBackUnowned worker deque top list.old list.new }
     ensures seats { LeavesSeat worker table.old table.new }
@@ -145,7 +146,7 @@ pub fn fault(
     requires stands { (items : AnyList Thread) × Stands list.old worker deque items }
     requires room { 1 ≤ lane_room list.old deque }
     requires table { HasRoom table.old worker }
-    requires fits { (p : Period) → period_at table.old worker ≡ Some p → p.used ≤ 1048576 }
+    requires fits { (p : Period) → period_at table.old worker ≡ Some p → p.used ≤ GREATEST_QUOTA }
     ensures acts { (at : FaultAt) → ActsBy (nexts.Fault at) worker deque top list.old table.old list.new table.new Always }
     ensures back { GoesBack worker deque top list.old list.new }
     ensures seats { KeepsSeats table.old table.new }
@@ -174,7 +175,7 @@ pub fn join(
     requires stands { (items : AnyList Thread) × Stands list.old worker deque items }
     requires room { 1 ≤ lane_room list.old deque }
     requires table { HasRoom table.old worker }
-    requires fits { (p : Period) → period_at table.old worker ≡ Some p → p.used ≤ 1048576 }
+    requires fits { (p : Period) → period_at table.old worker ≡ Some p → p.used ≤ GREATEST_QUOTA }
     ensures acts { (child : ThreadId) → ActsBy (nexts.Join child) worker deque top list.old table.old list.new table.new Always }
     ensures words { result ≡ join_words_of top }
     ensures back { GoesBack worker deque top list.old list.new }

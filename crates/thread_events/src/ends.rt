@@ -1,4 +1,5 @@
 ghost use Rattle.std.specs.Prelude.{◌≡◌, ◌≤◌, ◌<◌, ◌∷◌, ℕ, [], Some};
+ghost use Rattle.language_limits.specs.declared.TheConstants.{GREATEST_QUOTA};
 ghost use Rattle.block_arena.specs.Region.{with_given};
 ghost use Rattle.deque_list.specs.DequeLists.{lane_room};
 ghost use Rattle.node_table.specs.Table.{Table};
@@ -33,7 +34,7 @@ pub fn end_above(
     requires count { done_of top.old < 4294967295 }
     requires live { words_at_end (label_of top.old) ≤ pool.old.live }
     requires table { HasRoom table.old worker }
-    requires fits { (p : Period) → period_at table.old worker ≡ Some p → p.used ≤ 1048576 }
+    requires fits { (p : Period) → period_at table.old worker ≡ Some p → p.used ≤ GREATEST_QUOTA }
     ensures acts { EndsAboveBy worker deque top.old list.now table.old table.new result }
     ensures seats { KeepsSeats table.old table.new }
     ensures id { result.id ≡ top.old.id }
@@ -64,7 +65,7 @@ pub fn end_and_wake(
     requires stands { Stands list.old worker deque [] }
     requires room { 1 ≤ lane_room list.old deque }
     requires table { HasRoom table.old worker }
-    requires fits { (p : Period) → period_at table.old worker ≡ Some p → p.used ≤ 1048576 }
+    requires fits { (p : Period) → period_at table.old worker ≡ Some p → p.used ≤ GREATEST_QUOTA }
     ensures acts { EndsAndWakesBy worker deque top.old parent list.old table.old list.new table.new result }
     ensures deques { (stands : Stands list.old worker deque [])
         → Becomes stands list.new (deque_with deque (Some worker) (parent ∷ []) ∷ []) }
@@ -95,7 +96,7 @@ pub fn end_and_leave(
     requires live { words_at_end (label_of top.old) ≤ pool.old.live }
     requires stands { Stands list.old worker deque [] }
     requires table { HasRoom table.old worker }
-    requires fits { (p : Period) → period_at table.old worker ≡ Some p → p.used ≤ 1048576 }
+    requires fits { (p : Period) → period_at table.old worker ≡ Some p → p.used ≤ GREATEST_QUOTA }
     ensures acts { EndsAndLeavesBy worker deque top.old list.old table.old list.new table.new result }
     ensures deques { (stands : Stands list.old worker deque []) → Becomes stands list.new [] }
     ensures seats { LeavesSeat worker table.old table.new }

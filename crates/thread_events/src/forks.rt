@@ -1,4 +1,5 @@
 ghost use Rattle.std.specs.Prelude.{◌≡◌, ◌≤◌, ◌<◌, ◌+◌, ◌↔◌, ℕ, List as AnyList, Some, IsErr, IfErr, OnOk, OnErr, length};
+ghost use Rattle.language_limits.specs.declared.TheConstants.{GREATEST_QUOTA};
 ghost use Rattle.block_arena.specs.Region.{with_taken};
 ghost use Rattle.depth_first_list.specs.Actions.{record_words};
 ghost use Rattle.deque_list.specs.DequeLists.{lane_room};
@@ -57,7 +58,7 @@ pub fn fork(
     requires room { 2 ≤ lane_room list.old deque }
     requires table { HasRoom table.old worker }
     requires period { (p : Period) × (period_at table.old worker ≡ Some p) }
-    requires fits { (p : Period) → period_at table.old worker ≡ Some p → p.used + 16 ≤ 1048576 }
+    requires fits { (p : Period) → period_at table.old worker ≡ Some p → p.used + record_words ≤ GREATEST_QUOTA }
     ensures full { IsErr result ↔ (pool.old.capacity < pool.old.live + record_words) }
     ensures refused { IfErr result (λ e. (e.0 ≡ top) × (e.1 ≡ record { live = pool.old.live; asked = record_words })) }
     ensures same_list { OnErr result (list.new ≡ list.old) }

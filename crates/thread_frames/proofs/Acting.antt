@@ -23,7 +23,8 @@ use Rattle.thread_points.proofs.Walking.{plain_own}
 use Rattle.thread_points.proofs.Alone.{alone_or_forks}
 use Rattle.thread_points.proofs.Telling.{thread_steps}
 use Rattle.thread_stack.specs.Frames.{AreFrames}
-use Rattle.thread_output.specs.Laws.{earlier_fault, lines_before}
+use Rattle.thread_output.specs.Joining.{lines_before}
+use Rattle.thread_points.specs.Laws.{earlier_fault}
 use Rattle.thread_output.specs.Telling.{Tells}
 use Rattle.thread_output.specs.declared.told.Told.{Told}
 use Rattle.thread_output.proofs.Both.{faults, lines}

@@ -3,7 +3,8 @@ use Rattle.std.proofs.Common.{◌≡◌, List, [], ◌∷◌, ◌++◌, ℤ, Opt
 use Rattle.dag_order.specs.declared.fault.FaultAt.{FaultAt}
 use Rattle.depth_first_run.specs.States.{Item, began, acted, printed, failed}
 use Rattle.depth_first_run.specs.Run.{lines_of, first_fault}
-use Rattle.thread_output.specs.Laws.{earlier_fault, lines_before}
+use Rattle.thread_output.specs.Joining.{lines_before}
+use Rattle.thread_points.specs.Laws.{earlier_fault}
 
 pub faults : (a b : List Item) → first_fault (a ++ b) ≡ earlier_fault (first_fault a) (first_fault b)
 faults [] b = refl

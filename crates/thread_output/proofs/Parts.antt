@@ -3,8 +3,8 @@ use Rattle.std.proofs.Common.{◌≡◌, Bool, true, false, List, [], ◌∷◌,
 use Rattle.dag_order.specs.declared.fault.FaultAt.{FaultAt}
 use Rattle.depth_first_run.specs.States.{Item, failed}
 use Rattle.depth_first_run.specs.Run.{lines_of, first_fault}
-use Rattle.thread_output.specs.Joining.{IsJoined}
-use Rattle.thread_output.specs.Laws.{earlier_fault, lines_before}
+use Rattle.thread_output.specs.Joining.{IsJoined, lines_before}
+use Rattle.thread_points.specs.Laws.{earlier_fault}
 use Rattle.thread_output.proofs.Both.{faults, lines, marked_later}
 
 pub none_from : (f : Option FaultAt) → is_some f ≡ false → None ≡ f

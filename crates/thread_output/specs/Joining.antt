@@ -1,6 +1,13 @@
--- Lines that are kept, with later lines behind them.
+-- Lines and later lines.
 use Rattle.std.specs.Prelude.{◌≡◌, List, ◌++◌, ℤ, Option, Some, None}
+use Rattle.dag_order.specs.declared.fault.FaultAt.{FaultAt}
 
+-- the lines of the earlier items, and where they have no fault those of the later ones after them
+abbrev pub lines_before : Option FaultAt → (earlier later : List ℤ) → List ℤ
+lines_before (Some fault) earlier later = earlier
+lines_before None earlier later = earlier ++ later
+
+-- lines that are kept, with later lines after them
 abbrev pub IsJoined : (lines later all : Option (List ℤ)) → Type 0
 IsJoined (Some lines) (Some later) (Some all) = all ≡ lines ++ later
 IsJoined (Some lines) None (Some all) = ⊥

@@ -10,11 +10,9 @@
 //! More than 4,294,967,295 lines are want of memory.
 #![tactic(auto)]
 
-mod laws;
 mod told;
 
-pub use laws::{faults_of_both, lines_of_both, quiet_items_tell_nothing};
-pub use told::{MAX_LINES, Told};
+pub use told::Told;
 
 #[cfg(test)]
 mod tests;

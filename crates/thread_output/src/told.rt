@@ -1,5 +1,5 @@
 ghost use Rattle.std.specs.Prelude.{◌≡◌, ◌++◌, ◌∷◌, ◌≤◌, [], List, length, Some, None, IfSome, IfOk, OnOk, OnErr};
-ghost use Rattle.thread_output.specs.Laws.{earlier_fault};
+ghost use Rattle.thread_points.specs.Laws.{earlier_fault};
 ghost use Rattle.thread_output.specs.Joining.{IsJoined};
 ghost use Rattle.std.specs.Option.{ForSome};
 ghost use Rattle.bounded_list.specs.BoundedList.{entries};
@@ -11,7 +11,7 @@ use std::alloc::{AllocError, Global};
 use std::collections::LinkedList;
 
 /// The most lines that are kept: more is want of memory.
-pub const MAX_LINES: usize = 4_294_967_295;
+const MAX_LINES: usize = 4_294_967_295;
 
 /// What is told of a part of a run: the numbers that it printed before its first fault, and this fault.
 ///
@@ -49,7 +49,7 @@ impl Told {
     ///
     /// # Errors
     ///
-    /// There is not enough memory, or there are [`MAX_LINES`] lines. Nothing is changed.
+    /// There is not enough memory, or there are 4,294,967,295 lines. Nothing is changed.
     pub fn print(&mut self, value: i64) -> Result<(), AllocError>
         requires { fault_of self.old ≡ None }
         ensures ok { (items : List Item) → Tells self.old items → OnOk result (Tells self.new (items ++ printed value ∷ [])) }

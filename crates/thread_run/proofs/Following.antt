@@ -17,7 +17,8 @@ use Rattle.thread_stack.specs.declared.frame.Frame.TheVariants.{Joins}
 use Rattle.thread_stack.specs.Frames.{AreFrames, IsFrame, IsNode, functions_behind, frames_shown}
 use Rattle.thread_stack.specs.Measure.{frames_cost, node_cost, turn_cost, left_to_do}
 use Rattle.thread_output.specs.Telling.{Tells}
-use Rattle.thread_output.specs.Laws.{earlier_fault, lines_before}
+use Rattle.thread_output.specs.Joining.{lines_before}
+use Rattle.thread_points.specs.Laws.{earlier_fault}
 use Rattle.thread_output.specs.declared.told.Told.{Told}
 use Rattle.thread_output.proofs.Both.{faults, lines}
 use Rattle.thread_state.specs.declared.state.ThreadState.{ThreadState}

@@ -14,9 +14,9 @@ ghost use Rattle.thread_run.specs.Stepping.{frames_left};
 
 use crate::run::ThreadRun;
 use dag_order::FaultAt;
-use thread_stack::{Frame, ListOf, frame_from};
 use node_table::{Code, Node, NodeKind};
 use std::alloc::{AllocError, Global};
+use thread_stack::{Frame, ListOf, frame_from};
 use thread_state::Stop;
 use thread_steps::Ready;
 

@@ -11,8 +11,8 @@ ghost use Rattle.thread_run.specs.Stepping.{StepsRun, KeepsFunctions, RunsLess};
 
 use crate::run::ThreadRun;
 use dag_order::FaultAt;
-use thread_stack::Frame;
 use node_table::{Code, CodeRet, NodeKind};
+use thread_stack::Frame;
 use thread_steps::Ready;
 
 /// The line of a `return`; 0 where there is none.

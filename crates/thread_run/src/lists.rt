@@ -10,9 +10,9 @@ ghost use Rattle.thread_run.specs.Stepping.{IsKnownAt, IsMet, DoesRun, StepsRun,
 use crate::calls::calls;
 use crate::run::ThreadRun;
 use dummy_tree::Quota;
-use thread_stack::{Frame, ListOf, numbers};
 use node_table::Code;
 use std::alloc::{AllocError, Global};
+use thread_stack::{Frame, ListOf, numbers};
 use thread_steps::{Ready, statement};
 
 impl ThreadRun {

@@ -7,8 +7,8 @@ ghost use Rattle.thread_output.specs.Telling.{Tells};
 ghost use Rattle.thread_run.specs.Stepping.{frames_with, ready_of, told_by};
 
 use crate::run::ThreadRun;
-use thread_stack::{Frame, ListOf};
 use std::alloc::AllocError;
+use thread_stack::{Frame, ListOf};
 use thread_steps::{Done, Ready};
 
 impl ThreadRun {

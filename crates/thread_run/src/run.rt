@@ -5,10 +5,10 @@ ghost use Rattle.node_table.specs.Codes.{code_shown};
 ghost use Rattle.thread_state.specs.States.{words_held};
 
 use dummy_tree::Quota;
-use thread_stack::Frame;
 use node_table::Code;
 use std::alloc::{AllocError, Global};
 use thread_output::Told;
+use thread_stack::Frame;
 use thread_state::ThreadState;
 use thread_steps::Ready;
 

@@ -9,9 +9,9 @@ ghost use Rattle.thread_run.specs.Stepping.{IsKnownAt, StepsRun, KeepsFunctions,
 
 use crate::run::ThreadRun;
 use dummy_tree::Quota;
-use thread_stack::Frame;
 use node_table::Code;
 use std::alloc::{AllocError, Global};
+use thread_stack::Frame;
 use thread_steps::{Ready, allocates, dummies, rejoins};
 
 impl ThreadRun {

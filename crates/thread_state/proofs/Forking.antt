@@ -7,7 +7,7 @@ use Rattle.depth_first_run.specs.States.{Setting, State, Item, child_of, parent_
 use Rattle.depth_first_run.specs.Run.{no_name}
 use Rattle.slot_store.specs.Rows.{Entry}
 use Rattle.slot_store.specs.Agreement.{ShowsStore, blocks_under}
-use Rattle.slot_store.specs.Forks.{child_store}
+use Rattle.depth_first_run.specs.Branches.{child_store}
 use Rattle.thread_state.specs.Rows.{waiting_rows, ShowStores, Holds}
 use Rattle.thread_state.specs.States.{IsState, own_row, rows_of}
 use Rattle.thread_state.specs.declared.state.ThreadState.{ThreadState}

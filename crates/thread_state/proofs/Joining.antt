@@ -7,7 +7,7 @@ use Rattle.depth_first_run.specs.States.{State, holdings, with_action, joined, w
 use Rattle.depth_first_run.specs.Run.{on_store, no_name}
 use Rattle.slot_store.specs.Rows.{Entry}
 use Rattle.slot_store.specs.Agreement.{ShowsStore, blocks_under}
-use Rattle.slot_store.specs.Forks.{joined_store}
+use Rattle.depth_first_run.specs.Branches.{joined_store}
 use Rattle.slot_store.proofs.Names.{is_itself}
 use Rattle.thread_state.specs.Rows.{waiting_rows, Holds}
 use Rattle.thread_state.specs.States.{IsState, own_row, rows_of, words_held}

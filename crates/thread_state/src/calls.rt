@@ -70,9 +70,9 @@ impl ThreadState {
 
     /// The fault that a call meets whose arguments are without fault, where it meets one.
     fn limit_of_calls(&self) -> Option<FaultKind>
-        ensures { MatchOption result ((self.now.calls < 10000) × (0 < self.now.turns))
-            (λ kind. ((kind ≡ Depth) × (10000 ≤ self.now.calls))
-            ⊎ ((kind ≡ Turns) × (self.now.calls < 10000) × (self.now.turns ≡ 0))) }
+        ensures { MatchOption result ((self.now.calls < MOST_CALLS) × (0 < self.now.turns))
+            (λ kind. ((kind ≡ Depth) × (MOST_CALLS ≤ self.now.calls))
+            ⊎ ((kind ≡ Turns) × (self.now.calls < MOST_CALLS) × (self.now.turns ≡ 0))) }
     {
         if self.calls >= MOST_CALLS {
             Some(FaultKind::Depth)
@@ -98,7 +98,7 @@ impl ThreadState {
 
     /// A function begins: its call is open, and its caller's row waits.
     fn enter(&mut self, callee: Slots)
-        requires calls { self.old.calls < 10000 }
+        requires calls { self.old.calls < MOST_CALLS }
         requires turns { 0 < self.old.turns }
         requires room { vec_len self.old.callers < vec_capacity self.old.callers }
         ensures rows { rows_of self.new ≡ slots_shown callee ∷ rows_of self.old }

@@ -1,4 +1,5 @@
 ghost use Rattle.std.specs.Prelude.{◌≡◌, ◌≤◌, ◌<◌, vec_len};
+ghost use Rattle.language_limits.specs.declared.TheConstants.{MOST_CALLS};
 
 use dag_order::Label;
 use slot_store::Slots;
@@ -19,7 +20,7 @@ pub struct ThreadState {
     pub(crate) turns: u32,
     pub ghost counted: { forks ≤ done },
     pub ghost waiting: { vec_len callers < calls },
-    pub ghost few: { calls ≤ 10000 },
+    pub ghost few: { calls ≤ MOST_CALLS },
 }
 
 impl ThreadState {

@@ -1,6 +1,7 @@
 //! The words that a thread holds, and what gives them back.
 
 ghost use Rattle.std.specs.Prelude.{◌≡◌, ◌≤◌, ◌<◌, ◌+◌, ◌*◌, ◌^◌, [], ℕ, List, length, map};
+ghost use Rattle.language_limits.specs.declared.TheConstants.{MOST_CALLS};
 ghost use Rattle.par_tree.specs.Tree.{Name};
 ghost use Rattle.dag_order.specs.declared.fault.FaultKind.{FaultKind as AnyFault};
 ghost use Rattle.block_arena.specs.Region.{with_given};
@@ -56,9 +57,9 @@ impl ThreadState {
 
 /// How many words the blocks in some rows take.
 fn words_of_rows(rows: &[Slots]) -> u64
-    requires { length rows.now ≤ 10000 }
+    requires { length rows.now ≤ MOST_CALLS }
     ensures words { result ≡ all_words (map slots_shown rows.now) }
-    ensures bound { result ≤ 10000 * 2 ^ 48 }
+    ensures bound { result ≤ MOST_CALLS * 2 ^ 48 }
 {
     let mut words = 0u64;
     for row in rows {

@@ -9,13 +9,10 @@ use Rattle.thread_state.specs.Cuts.{cut_in_place, cut_or_fault}
 use Rattle.std.specs.declared.alloc.AllocError.{AllocError}
 use Rattle.thread_stack.specs.declared.frame.Frame.TheVariants.{Rejoins}
 use Rattle.thread_steps.specs.Dones.{settled_done}
-use Rattle.std.proofs.lemmas.Bool.{lt-ltb, le-ltb, le-leb, lt-leb, cases_lt}
+use Rattle.std.proofs.lemmas.Bool.{lt-ltb, le-ltb, le-leb, lt-leb}
 use Rattle.dag_order.specs.declared.fault.FaultKind.{FaultKind}
 use Rattle.dag_order.specs.declared.fault.FaultKind.TheVariants as faults
 use Rattle.dummy_tree.specs.Shapes.{Shape}
-use Rattle.dummy_tree.specs.Quotas.{dummies_of}
-use Rattle.dummy_tree.proofs.QuotaLaws.{no_dummies}
-use Rattle.dummy_tree.specs.Leaves.{IsTreeSize}
 use Rattle.depth_first_list.specs.Runs.{tree_for}
 use Rattle.par_tree.specs.Tree.{Name, Program, Func, Expr, Body}
 use Rattle.depth_first_run.specs.Stores.{block_of, block_words}
@@ -90,20 +87,6 @@ pub allocated_later : (c : Setting) (line : ℕ) (b : Name) (n : ℕ) (shape : S
 allocated_later c line b n shape fs s many same =
     ap (λ (x : Shape). middle (does (tree x) ∷ allocates b n ∷ fs) s) same
     ∙ ap (λ (w : Bool). step_alloc_within w c b n fs s) (sym (lt-leb (block_words n) c.quota many))
-
-pub few_words : (words k n : ℕ) → words ≤ 1048576 → (k < words → 1 < n) → (words ≤ 1048576 → n ≤ 65536) → (IsTreeSize n → ⊥) → words ≤ k
-few_words words k n small several bound none = go (cases_lt k words)
-  where
-    go : (k < words) ⊎ (words ≤ k) → words ≤ k
-    go (inl many) = let more = several many in let within = bound small in absurd (none (omega arith, within))
-    go (inr few) = few
-
-pub many_words : (words k n : ℕ) → n ≡ dummies_of words k → 1 ≤ n → k < words
-many_words words k n dummies some = go (cases_lt k words)
-  where
-    go : (k < words) ⊎ (words ≤ k) → k < words
-    go (inl many) = many
-    go (inr few) = let never = no_dummies words k few in absurd (omega (arith, dummies, never))
 
 -- pieces of 16 words
 pub whole_words : (n pieces : ℕ) → pieces ≡ div_ceil n 16 → pieces * 16 ≡ block_words n

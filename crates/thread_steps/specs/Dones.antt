@@ -56,7 +56,7 @@ IsWorkOf Dummies (DummyTree shape) = Unit {0}
 IsWorkOf Dummies work = ⊥
 
 -- a Fork: what the child and its parent do, with the names that pass and the integers that come back
-pub record IsFork (c : Setting) (t : Table) (gs : List Func) (xs : List Frame) (fs : List middles.Frame) (s : State) (m : Middle)
+pub record IsForkBy (c : Setting) (t : Table) (gs : List Func) (xs : List Frame) (fs : List middles.Frame) (s : State) (m : Middle)
     (forking : Forking) : Type 0 where
   pub named : Name → Bool
   pub assigned : Name → Bool
@@ -72,7 +72,7 @@ pub record IsFork (c : Setting) (t : Table) (gs : List Func) (xs : List Frame) (
 
 -- The action that a step comes to, which leads from the state s, with fs behind it, to m. It is not done yet.
 abbrev pub IsAction : Setting → Table → List Func → ThreadState → List Frame → List middles.Frame → State → Middle → Ready → Type 0
-IsAction c t gs u xs fs s m (Fork forking) = IsFork c t gs xs fs s m forking
+IsAction c t gs u xs fs s m (Fork forking) = IsForkBy c t gs xs fs s m forking
 IsAction c t gs u xs fs s m (Join branch) = ⊥
 IsAction c t gs u xs fs s m (Alloc slot len shell) =
     AreFrames c.program t gs xs m.frames × IsAlloc gs u slot len s m.state × (shell ≡ pieces_for len)

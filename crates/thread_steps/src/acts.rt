@@ -24,11 +24,11 @@ use crate::simple::fault;
 use block_arena::{Shell, pieces_for};
 use dag_order::FaultKind;
 use dummy_tree::{Quota, Tree, dummies};
-use thread_stack::{Branch, Frame, ListOf};
 use language_limits::MOST_FORKS;
 use node_table::CodeExpr;
 use number_operators::size_of;
 use std::alloc::{AllocError, Global};
+use thread_stack::{Branch, Frame, ListOf};
 use thread_state::ThreadState;
 
 /// `free name;`

@@ -22,10 +22,10 @@ ghost use Rattle.thread_steps.specs.Dones.{Leads, LeadsOrWants, settled_done};
 use crate::done::Done;
 use crate::simple::fault;
 use dag_order::FaultKind;
-use thread_stack::{Frame, ListOf, frame_from};
 use node_table::{Code, CodeExpr};
 use number_operators::is_true;
 use std::alloc::{AllocError, Global};
+use thread_stack::{Frame, ListOf, frame_from};
 use thread_state::{Stop, ThreadState};
 
 /// The slots of a `split`: its block, and the two parts.

@@ -12,9 +12,9 @@ ghost use Rattle.thread_steps.specs.Steps.{ActsNext, StepsOn};
 use crate::ready::{Forking, Ready};
 use block_arena::{Shell, pieces_for};
 use dummy_tree::Tree;
-use thread_stack::{Branch, Frame};
 use node_table::{Code, NodeKind};
 use std::alloc::{AllocError, Global};
+use thread_stack::{Branch, Frame};
 use thread_state::ThreadState;
 
 /// A tree of dummies: one Dummy, or the Fork of a child that runs a half of it.

@@ -20,9 +20,9 @@ ghost use Rattle.thread_steps.specs.Dones.{Leads};
 use crate::done::Done;
 use crate::ready::Ready;
 use dag_order::{FaultAt, FaultKind};
-use thread_stack::{ListOf, frame_from};
 use node_table::{Code, CodeExpr};
 use number_operators::is_true;
+use thread_stack::{ListOf, frame_from};
 use thread_state::ThreadState;
 
 /// A fault at a line.

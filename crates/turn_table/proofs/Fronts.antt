@@ -10,7 +10,7 @@ use Rattle.atomic_table.proofs.Lists.{set_here, set_else, set_again}
 use Rattle.turn_table.specs.declared.hand.Hand.{Hand}
 use Rattle.turn_table.specs.declared.place.Place.{Place}
 use Rattle.turn_table.specs.declared.opening.Opening.{Opening}
-use Rattle.turn_table.specs.Hands.{Has, times, without}
+use Rattle.turn_table.specs.Hands.{Has, times, without_slot}
 use Rattle.turn_table.specs.Seats.{vacant}
 use Rattle.turn_table.specs.Rows.{Rule}
 use Rattle.turn_table.specs.Steps.{Fronted}
@@ -60,10 +60,10 @@ module _ (V : Type 0) where
       let t = subst (λ (z : Homes × Carried). Brings z.0 z.1 hs'' c'' b) (λ k. (sym p.1 k, sym p.0 k)) q in (t.0, t.1, (p.2, t.2))
 
   brings : (i : ℕ) (xs : List (ℕ × V)) (hs : Homes) → Has i xs → ((k : ℕ) → times k xs ≤ 1) → ((k : ℕ) → 0 < times k xs → get_elem? hs k ≡ some none)
-      → Brings hs (vacant xs) hs ((i, None) ∷ vacant (without i xs)) (bring i xs)
+      → Brings hs (vacant xs) hs ((i, None) ∷ vacant (without_slot i xs)) (bring i xs)
   brings i [] hs has once out = absurd has
   brings i (x ∷ xs) hs has once out = dite (ℕ_discrete x.0 i)
-      (λ e. subst (Brings hs (vacant (x ∷ xs)) hs ((i, None) ∷ vacant (without i (x ∷ xs))))
+      (λ e. subst (Brings hs (vacant (x ∷ xs)) hs ((i, None) ∷ vacant (without_slot i (x ∷ xs))))
       (sym (ap (λ b. if b then keeps else chain gives (chain (bring i xs) (swap x.0 i))) (eq-eqb x.0 i e)))
       ((λ k. (e k, None) ∷ vacant (sym (without_here i x xs e) k)), refl, tt))
       (λ n. let t = times_else i x.0 x.1 xs n in let m = times_has i (x ∷ xs) has in let u = times_here x.0 x.0 x.1 xs refl in let o = once x.0 in
@@ -72,9 +72,9 @@ module _ (V : Type 0) where
       (λ k. let p = once k in omega arith)
       (λ k h. set_else hs x.0 k (some None) (λ e. let z : times k xs ≡ times x.0 xs = ap (λ y. times y xs) e in omega arith) ∙ out k (omega arith)) in
       let first : Brings hs (vacant (x ∷ xs)) (set hs x.0 (some None)) (vacant xs) gives = (refl, refl, tt) in
-      let last = swaps hs x.0 i (vacant (without i xs)) n at_x at_i in
-      let all = chains hs (set hs x.0 (some None)) hs (vacant (x ∷ xs)) (vacant xs) ((i, None) ∷ (x.0, None) ∷ vacant (without i xs)) gives (chain (bring i xs) (swap x.0 i)) first
-      (chains (set hs x.0 (some None)) (set hs x.0 (some None)) hs (vacant xs) ((i, None) ∷ vacant (without i xs)) ((i, None) ∷ (x.0, None) ∷ vacant (without i xs)) (bring i xs) (swap x.0 i) rest last) in
+      let last = swaps hs x.0 i (vacant (without_slot i xs)) n at_x at_i in
+      let all = chains hs (set hs x.0 (some None)) hs (vacant (x ∷ xs)) (vacant xs) ((i, None) ∷ (x.0, None) ∷ vacant (without_slot i xs)) gives (chain (bring i xs) (swap x.0 i)) first
+      (chains (set hs x.0 (some None)) (set hs x.0 (some None)) hs (vacant xs) ((i, None) ∷ vacant (without_slot i xs)) ((i, None) ∷ (x.0, None) ∷ vacant (without_slot i xs)) (bring i xs) (swap x.0 i) rest last) in
       subst (λ (z : Act (Option V) × List (ℕ × V)). Brings hs (vacant (x ∷ xs)) hs ((i, None) ∷ vacant z.1) z.0)
       (λ k. (sym (ap (λ b. if b then keeps else chain gives (chain (bring i xs) (swap x.0 i))) (ne_eqb x.0 i n)) k, sym (without_else i x xs n) k)) all)
 
@@ -85,7 +85,7 @@ module _ {K V N : Type 0} (fact : K → List V → ℕ → List (Hand V N) → T
       let r = opened fact blank about s id me.0 law at seated in let h = me.0.hand in let mine' = mine fact blank about s r id me.0 at in
       let b = brings V i h.holds s.homes has (λ k. let t = turn_at r.hands id h k mine' in let o = r.fits.once k in omega arith)
       (λ k z. r.out k (let w = shows_within r.shown k h.holds (r.fits.shows id h mine') z in let l = r.fits.long in omega arith) (let t = turn_at r.hands id h k mine' in omega arith)) in
-      let b' = subst (λ (c : List (ℕ × Option V)). Brings V s.homes c s.homes ((i, None) ∷ without i c) (bring V i h.holds)) (sym is)
+      let b' = subst (λ (c : List (ℕ × Option V)). Brings V s.homes c s.homes ((i, None) ∷ without_slot i c) (bring V i h.holds)) (sym is)
       (subst (λ (c : List (ℕ × Option V)). Brings V s.homes (vacant h.holds) s.homes ((i, None) ∷ c) (bring V i h.holds)) (sym (vacant_without i h.holds)) b) in (
         me.0,
         bring V i h.holds,

@@ -6,7 +6,7 @@ use native.Mathlib.Decide.{ℕ_discrete}
 use lib.ListN.{get_elem?}
 use Rattle.atomic_table.proofs.Lists.{set_here, set_else, set_again}
 use Rattle.turn_table.specs.declared.hand.Hand.{Hand}
-use Rattle.turn_table.specs.Hands.{Has, times, without, renewed, Shows, showing, turn}
+use Rattle.turn_table.specs.Hands.{Has, times, without_slot, renewed, Shows, showing, turn}
 use Rattle.turn_table.specs.Seats.{vacant, Within}
 
 module _ {A : Type 0} where
@@ -55,25 +55,25 @@ module _ {V : Type 0} where
   times_vacant i [] = refl
   times_vacant i (x ∷ xs) = ap (λ n. (if x.0 == i then 1 else 0) + n) (times_vacant i xs)
 
-  pub without_here : (i : ℕ) (x : ℕ × V) (xs : List (ℕ × V)) → x.0 ≡ i → without i (x ∷ xs) ≡ xs
-  without_here i x xs e = ap (λ b. if b then xs else x ∷ without i xs) (eq-eqb x.0 i e)
+  pub without_here : (i : ℕ) (x : ℕ × V) (xs : List (ℕ × V)) → x.0 ≡ i → without_slot i (x ∷ xs) ≡ xs
+  without_here i x xs e = ap (λ b. if b then xs else x ∷ without_slot i xs) (eq-eqb x.0 i e)
 
-  pub without_else : (i : ℕ) (x : ℕ × V) (xs : List (ℕ × V)) → x.0 ≢ i → without i (x ∷ xs) ≡ x ∷ without i xs
-  without_else i x xs n = ap (λ b. if b then xs else x ∷ without i xs) (ne_eqb x.0 i n)
+  pub without_else : (i : ℕ) (x : ℕ × V) (xs : List (ℕ × V)) → x.0 ≢ i → without_slot i (x ∷ xs) ≡ x ∷ without_slot i xs
+  without_else i x xs n = ap (λ b. if b then xs else x ∷ without_slot i xs) (ne_eqb x.0 i n)
 
-  pub times_without : (i : ℕ) (xs : List (ℕ × V)) → times i (without i xs) ≡ times i xs - 1
+  pub times_without : (i : ℕ) (xs : List (ℕ × V)) → times i (without_slot i xs) ≡ times i xs - 1
   times_without i [] = refl
   times_without i (x ∷ xs) = dite (ℕ_discrete x.0 i)
       (λ e. let t = times_here i x.0 x.1 xs e in ap (times i) (without_here i x xs e) ∙ (omega arith))
-      (λ n. let t = times_else i x.0 x.1 xs n in let u = times_without i xs in ap (times i) (without_else i x xs n) ∙ times_else i x.0 x.1 (without i xs) n ∙ u ∙ (omega arith))
+      (λ n. let t = times_else i x.0 x.1 xs n in let u = times_without i xs in ap (times i) (without_else i x xs n) ∙ times_else i x.0 x.1 (without_slot i xs) n ∙ u ∙ (omega arith))
 
-  pub times_without_else : (i j : ℕ) (xs : List (ℕ × V)) → j ≢ i → times j (without i xs) ≡ times j xs
+  pub times_without_else : (i j : ℕ) (xs : List (ℕ × V)) → j ≢ i → times j (without_slot i xs) ≡ times j xs
   times_without_else i j [] n = refl
   times_without_else i j (x ∷ xs) n = dite (ℕ_discrete x.0 i)
       (λ e. ap (times j) (without_here i x xs e) ∙ sym (times_else j x.0 x.1 xs (λ d. n (sym d ∙ e))))
       (λ m. ap (times j) (without_else i x xs m) ∙ ap (λ k. (if x.0 == j then 1 else 0) + k) (times_without_else i j xs n))
 
-  pub without_none : (i : ℕ) (xs : List (ℕ × V)) → times i xs ≡ 0 → without i xs ≡ xs
+  pub without_none : (i : ℕ) (xs : List (ℕ × V)) → times i xs ≡ 0 → without_slot i xs ≡ xs
   without_none i [] e = refl
   without_none i (x ∷ xs) e = dite (ℕ_discrete x.0 i) (λ d. let t = times_here i x.0 x.1 xs d in absurd (omega arith))
       (λ n. let t = times_else i x.0 x.1 xs n in without_else i x xs n ∙ ap (λ (ys : List (ℕ × V)). x ∷ ys) (without_none i xs (omega arith)))
@@ -85,9 +85,9 @@ module _ {V : Type 0} where
   pub within_more : (n i : ℕ) (v : V) (xs : List (ℕ × V)) → i < n → Within n xs → Within n ((i, v) ∷ xs)
   within_more n i v xs near w k pos = dite (ℕ_discrete i k) (λ e. subst (λ (z : ℕ). z < n) e near) (λ d. let t = times_else k i v xs d in w k (omega arith))
 
-  pub within_left : (n i : ℕ) (f : ℕ → V → V) (xs : List (ℕ × V)) → Within n xs → Within n (renewed f (without i xs))
-  within_left n i f xs w k pos = let a = times_renewed f k (without i xs) in
-      dite (ℕ_discrete k i) (λ e. let b = times_without i xs in let c : times k (without i xs) ≡ times i (without i xs) = ap (λ (z : ℕ). times z (without i xs)) e in let d : times k xs ≡ times i xs = ap (λ (z : ℕ). times z xs) e in w k (omega arith))
+  pub within_left : (n i : ℕ) (f : ℕ → V → V) (xs : List (ℕ × V)) → Within n xs → Within n (renewed f (without_slot i xs))
+  within_left n i f xs w k pos = let a = times_renewed f k (without_slot i xs) in
+      dite (ℕ_discrete k i) (λ e. let b = times_without i xs in let c : times k (without_slot i xs) ≡ times i (without_slot i xs) = ap (λ (z : ℕ). times z (without_slot i xs)) e in let d : times k xs ≡ times i xs = ap (λ (z : ℕ). times z xs) e in w k (omega arith))
       (λ d. let b = times_without_else i k xs d in w k (omega arith))
 
   -- a slot that shows its value is a slot
@@ -124,13 +124,13 @@ module _ {V : Type 0} where
   showing_again shown [] s = refl
   showing_again shown (x ∷ xs) s = ap (λ (us : List V). set us x.0 x.1) (showing_again shown xs s.1) ∙ set_again shown x.0 x.1 s.0
 
-  pub shows_without : (shown : List V) (i : ℕ) (xs : List (ℕ × V)) → Shows shown xs → Shows shown (without i xs)
+  pub shows_without : (shown : List V) (i : ℕ) (xs : List (ℕ × V)) → Shows shown xs → Shows shown (without_slot i xs)
   shows_without shown i [] s = tt
   shows_without shown i (x ∷ xs) s = dite (ℕ_discrete x.0 i) (λ e. subst (Shows shown) (sym (without_here i x xs e)) s.1)
       (λ n. subst (Shows shown) (sym (without_else i x xs n)) (s.0, shows_without shown i xs s.1))
 
 module _ {V : Type 0} where
-  pub vacant_without : (i : ℕ) (xs : List (ℕ × V)) → without i (vacant xs) ≡ vacant (without i xs)
+  pub vacant_without : (i : ℕ) (xs : List (ℕ × V)) → without_slot i (vacant xs) ≡ vacant (without_slot i xs)
   vacant_without i [] = refl
   vacant_without i (x ∷ xs) = dite (ℕ_discrete x.0 i)
       (λ e. without_here i (x.0, None) (vacant xs) e ∙ sym (ap vacant (without_here i x xs e)))

@@ -8,7 +8,7 @@ use Rattle.atomic_table.proofs.Lists.{at_map, set_again}
 use Rattle.turn_table.specs.declared.look.Look.{Look}
 use Rattle.turn_table.specs.declared.look.Look.TheVariants.{Took, Refused, Counted}
 use Rattle.turn_table.specs.declared.hand.Hand.{Hand}
-use Rattle.turn_table.specs.Hands.{Shows, showing, without, renewed, fresh, spent, noted, took, refused, counted, gave}
+use Rattle.turn_table.specs.Hands.{Shows, showing, without_slot, renewed, fresh, spent, noted, took, refused, counted, gave}
 use Rattle.turn_table.specs.Seats.{SeatView}
 use Rattle.turn_table.specs.Law.{TakeKeeps, HeldKeeps, CountKeeps, PutKeeps, SplitKeeps, JoinKeeps}
 use Rattle.turn_table.specs.Notes.{notes, HasAs, OverNotes, NoteMay, TakeMay, CountMay, CountsOn, PutMay, SplitMay, JoinMay}
@@ -31,9 +31,9 @@ renewed_same f e [] = refl
 renewed_same f e (x ∷ xs) = λ k. (x.0, e x.0 x.1 k) ∷ renewed_same f e xs k
 
 -- putting back what is shown changes nothing that is shown
-pub quiet_shown : {V : Type 0} (shown : List V) (i : ℕ) (value : V) (f : ℕ → V → V) (xs : List (ℕ × V)) → Shows shown xs → HasAs i value xs → ((k : ℕ) (v : V) → f k v ≡ v) → showing shown ((i, value) ∷ renewed f (without i xs)) ≡ shown
-quiet_shown shown i value f xs s has same = ap (λ (ys : List (ℕ × _)). showing shown ((i, value) ∷ ys)) (renewed_same f same (without i xs))
-    ∙ showing_again shown ((i, value) ∷ without i xs) (shown_as shown i value xs s has, shows_without shown i xs s)
+pub quiet_shown : {V : Type 0} (shown : List V) (i : ℕ) (value : V) (f : ℕ → V → V) (xs : List (ℕ × V)) → Shows shown xs → HasAs i value xs → ((k : ℕ) (v : V) → f k v ≡ v) → showing shown ((i, value) ∷ renewed f (without_slot i xs)) ≡ shown
+quiet_shown shown i value f xs s has same = ap (λ (ys : List (ℕ × _)). showing shown ((i, value) ∷ ys)) (renewed_same f same (without_slot i xs))
+    ∙ showing_again shown ((i, value) ∷ without_slot i xs) (shown_as shown i value xs s has, shows_without shown i xs s)
 
 module _ {K V N : Type 0} (P : K → List V → ℕ → List N → Type 0) (blank : N) (key : K) (seat : SeatView K V N) where
   abbrev F : K → List V → ℕ → List (Hand V N) → Type 0
@@ -77,7 +77,7 @@ module _ {K V N : Type 0} (P : K → List V → ℕ → List N → Type 0) (blan
 
   -- a put back that writes what several slots show, at once
   pub put_writes : (i : ℕ) (value : V) (note : Hand V N → N) (f : ℕ → V → V) → PutMay P key seat i value f (note seat.hand) → PutKeeps F blank key seat i value note f
-  put_writes i value note f may shown count hands st = subst (P key (showing shown ((i, value) ∷ renewed f (without i seat.hand.holds))) count) (sym (notes_set hands seat.number (gave note f seat.hand i)))
+  put_writes i value note f may shown count hands st = subst (P key (showing shown ((i, value) ∷ renewed f (without_slot i seat.hand.holds))) count) (sym (notes_set hands seat.number (gave note f seat.hand i)))
       (may shown count (notes hands) st.kept st.fits.long (st.fits.shows seat.number seat.hand st.mine) (notes_at hands seat.number seat.hand st.mine))
 
   pub split_noted : (left right : N) → SplitMay P key seat left right → SplitKeeps F blank key seat left right

@@ -11,7 +11,7 @@ use Rattle.atomic_table.proofs.Lists.{set_here, set_else}
 use Rattle.turn_table.specs.declared.hand.Hand.{Hand}
 use Rattle.turn_table.specs.declared.place.Place.{Place}
 use Rattle.turn_table.specs.declared.opening.Opening.{Opening}
-use Rattle.turn_table.specs.Hands.{Has, times, turn, without, renewed, Shows, showing, gave}
+use Rattle.turn_table.specs.Hands.{Has, times, turn, without_slot, renewed, Shows, showing, gave}
 use Rattle.turn_table.specs.Law.{PutKeeps}
 use Rattle.turn_table.specs.Rows.{Row, Rule}
 use Rattle.turn_table.specs.Steps.{with, placed, Gave}
@@ -20,18 +20,18 @@ use Rattle.turn_table.proofs.Rows.{fits_set, in_seat, mine, stands, rewritten, m
 
 -- A hand that holds the slot i puts it back, and the slots that stay show new values
 module _ {V N : Type 0} (hands : List (Hand V N)) (shown : List V) (id i : ℕ) (h g : Hand V N) (value : V) (f : ℕ → V → V) (at : get_elem? hands id ≡ some h) (once : (k : ℕ) → turn hands k ≤ 1) (has : Has i h.holds)
-    (is : g.holds ≡ renewed f (without i h.holds)) (shows : (j : ℕ) (o : Hand V N) → get_elem? hands j ≡ some o → Shows shown o.holds) where
+    (is : g.holds ≡ renewed f (without_slot i h.holds)) (shows : (j : ℕ) (o : Hand V N) → get_elem? hands j ≡ some o → Shows shown o.holds) where
   abbrev stay : List (ℕ × V)
-  stay = renewed f (without i h.holds)
+  stay = renewed f (without_slot i h.holds)
 
   abbrev later : List V
   later = showing shown ((i, value) ∷ stay)
 
   pub gone : times i stay ≡ 0
-  gone = let a = times_renewed f i (without i h.holds) in let b = times_without i h.holds in let t = turn_at hands id h i at in let o = once i in omega arith
+  gone = let a = times_renewed f i (without_slot i h.holds) in let b = times_without i h.holds in let t = turn_at hands id h i at in let o = once i in omega arith
 
   pub kept_times : (k : ℕ) → k ≢ i → times k stay ≡ times k h.holds
-  kept_times k n = times_renewed f k (without i h.holds) ∙ times_without_else i k h.holds n
+  kept_times k n = times_renewed f k (without_slot i h.holds) ∙ times_without_else i k h.holds n
 
   pub turn_here : turn (set hands id g) i ≡ 0
   turn_here = let t = turn_set hands id h g i at in let d : times i g.holds ≡ times i stay = ap (times i) is in let z = gone in let a = turn_at hands id h i at in let o = once i in let p = times_has i h.holds has in omega arith

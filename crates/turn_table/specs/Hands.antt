@@ -19,9 +19,9 @@ module _ {V : Type 0} where
   times i (x ∷ xs) = (if x.0 == i then 1 else 0) + times i xs
 
   -- what is left of these when the slot goes
-  abbrev pub without : ℕ → List (ℕ × V) → List (ℕ × V)
-  without i [] = []
-  without i (x ∷ xs) = if x.0 == i then xs else x ∷ without i xs
+  abbrev pub without_slot : ℕ → List (ℕ × V) → List (ℕ × V)
+  without_slot i [] = []
+  without_slot i (x ∷ xs) = if x.0 == i then xs else x ∷ without_slot i xs
 
   -- the same slots, each with the value that f gives it
   abbrev pub renewed : (ℕ → V → V) → List (ℕ × V) → List (ℕ × V)
@@ -78,4 +78,4 @@ module _ {V N : Type 0} where
 
   -- the hand after a put back of this slot, where f says what the other slots show
   abbrev pub gave : (Hand V N → N) → (ℕ → V → V) → Hand V N → ℕ → Hand V N
-  gave note f h i = record { seated = h.seated; holds = renewed f (without i h.holds); note = note h; looks = h.looks }
+  gave note f h i = record { seated = h.seated; holds = renewed f (without_slot i h.holds); note = note h; looks = h.looks }

@@ -5,7 +5,7 @@ use lib.ListN.{get_elem?}
 use Rattle.turn_table.specs.declared.look.Look.{Look}
 use Rattle.turn_table.specs.declared.hand.Hand.{Hand}
 use Rattle.turn_table.specs.declared.still_held.StillHeld.{StillHeld}
-use Rattle.turn_table.specs.Hands.{turn, Shows, showing, without, renewed, fresh, spent, noted, took, refused, counted, gave}
+use Rattle.turn_table.specs.Hands.{turn, Shows, showing, without_slot, renewed, fresh, spent, noted, took, refused, counted, gave}
 use Rattle.turn_table.specs.Seats.{SeatView}
 
 -- The table's own part: each slot shows a value, no turn is held twice, a held slot shows what the hand says, and a hand without a seat is
@@ -55,7 +55,7 @@ module _ {K V N : Type 0} (fact : K → List V → ℕ → List (Hand V N) → T
   -- a put back of the value into the slot keeps it, where f says what the other held slots show from then on
   abbrev pub PutKeeps : SeatView K V N → ℕ → V → (Hand V N → N) → (ℕ → V → V) → Type 0
   PutKeeps seat i value note f =
-      Always seat (λ shown count hands. fact key (showing shown ((i, value) ∷ renewed f (without i seat.hand.holds))) count
+      Always seat (λ shown count hands. fact key (showing shown ((i, value) ∷ renewed f (without_slot i seat.hand.holds))) count
       (slice_set hands seat.number (gave note f seat.hand i)))
 
   -- a split keeps it: the seat has one note, and a new seat, which is the last, the other

@@ -3,7 +3,7 @@ use Rattle.std.specs.Prelude.{◌≡◌, ℕ, ◌+◌, ◌%◌, ◌^◌, ◌<◌
 use mathlib.Core.Option.{some}
 use lib.ListN.{get_elem?}
 use Rattle.turn_table.specs.declared.hand.Hand.{Hand}
-use Rattle.turn_table.specs.Hands.{Shows, showing, without, renewed}
+use Rattle.turn_table.specs.Hands.{Shows, showing, without_slot, renewed}
 use Rattle.turn_table.specs.Seats.{SeatView}
 
 -- the notes of these hands, by number
@@ -48,7 +48,7 @@ module _ {K V N : Type 0} (P : K → List V → ℕ → List N → Type 0) where
   -- it may put this value back into the slot i and note this, where f says what its other slots show from then on
   abbrev pub PutMay : K → SeatView K V N → ℕ → V → (ℕ → V → V) → N → Type 0
   PutMay key seat i value f note =
-      Whatever key seat (λ shown count notes. P key (showing shown ((i, value) ∷ renewed f (without i seat.hand.holds))) count
+      Whatever key seat (λ shown count notes. P key (showing shown ((i, value) ∷ renewed f (without_slot i seat.hand.holds))) count
       (slice_set notes seat.number note))
 
   -- it may note the first, and a new seat the second

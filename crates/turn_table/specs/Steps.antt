@@ -5,7 +5,7 @@ use Rattle.atomic_table.specs.Seated.{TableId}
 use Rattle.turn_table.specs.declared.look.Look.{Look}
 use Rattle.turn_table.specs.declared.hand.Hand.{Hand}
 use Rattle.turn_table.specs.declared.place.Place.{Place}
-use Rattle.turn_table.specs.Hands.{without, took, refused, counted, gave}
+use Rattle.turn_table.specs.Hands.{without_slot, took, refused, counted, gave}
 use Rattle.turn_table.specs.Seats.{SeatView}
 use Rattle.turn_table.specs.Law.{Meets, MeetsHeld}
 
@@ -19,7 +19,7 @@ module _ {K V N : Type 0} where
 
   -- a step that only brings the slot i to the front of those that are out
   abbrev pub Fronted : ℕ → Me (Option V) (Place K V N) → Me (Option V) (Place K V N) → Type 0
-  Fronted i m m' = m' ≡ (m.0, (i, None) ∷ without i m.1)
+  Fronted i m m' = m' ≡ (m.0, (i, None) ∷ without_slot i m.1)
 
 module _ {K V N : Type 0} (fact : K → List V → ℕ → List (Hand V N) → Type 0) (blank : N) (key : K) (table : TableId) (number : ℕ) where
   -- a take of the slot i: it has the value that it shows, or was refused by the word found

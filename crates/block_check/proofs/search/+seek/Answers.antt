@@ -5,7 +5,8 @@ use Rattle.std.proofs.lemmas.List.{length-map}
 use Rattle.par_tree.specs.Tree.{Body}
 use Rattle.par_tree.specs.View.{name_tree, stmt_tree, body_tree}
 use Rattle.par_ownership.specs.Environment.{Environment}
-use Rattle.block_check.specs.Shown.{entry_shown, env_shown, rows_tree}
+use Rattle.block_check.specs.Shown.{entry_shown, env_shown}
+use Rattle.par_names.specs.Rows.{rows_tree}
 use Rattle.block_check.specs.Forks.{Fork, declared_by, split_names, forks_in_stmt, forks_in_body}
 use Rattle.block_check.specs.Sought.{Seeks}
 use Rattle.block_check.specs.declared.sought.Sought.TheVariants.{Found}

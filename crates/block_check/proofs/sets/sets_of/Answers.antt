@@ -1,6 +1,6 @@
 use Rattle.std.proofs.Common.{◌∙◌}
 use Rattle.par_names.specs.Named.{body_of}
-use Rattle.block_check.specs.Shown.{rows_tree}
+use Rattle.par_names.specs.Rows.{rows_tree}
 use Rattle.block_check.specs.Forks.{takes_block, assigns_integer}
 use Rattle.block_check.proofs.Taken.{names_same}
 use Rattle.block_check.proofs.sets.sets_of.Goals as goal

@@ -5,7 +5,8 @@ use Rattle.par_tree.specs.Tree.{Body}
 use Rattle.par_tree.specs.View.{name_tree, expr_tree, stmt_tree, body_tree}
 use Rattle.par_ownership.specs.Environment.{Environment, with_entry, lent_entry, opened, held_in_both}
 use Rattle.par_ownership.specs.Walk.{Refusal, ended, walk, walk_all, expr_refusal, block_refusal, fresh_refusal, branches_refusal}
-use Rattle.block_check.specs.Shown.{entry_shown, entries_shown, env_shown, funcs_tree, rows_tree, Walks}
+use Rattle.block_check.specs.Shown.{entry_shown, entries_shown, env_shown, funcs_tree, Walks}
+use Rattle.par_names.specs.Rows.{rows_tree}
 use Rattle.par_names.proofs.Rows.{body_is}
 use Rattle.block_check.proofs.Compound.{copied, walked_if, walked_while, walked_par, walked_split}
 use Rattle.block_check.proofs.statements.+check_statement.Goals as goal
@@ -56,7 +57,7 @@ check_statement-returns-in_ok-right-in-Par t c =
     let b = rows_tree c.in-Par.right in
     let count : c.len-visible.result ≡ length c.args.env.items = grind (arith, common_steps) in
     let visible = count ∙ sym (length-map c.args.env.items entry_shown) in
-    let passed = ap (λ es. branches_refusal line a b (entries_shown es)) (sym c.deref-in-Par.ensures.value) ∙ c.in_ok-branches-in-Par.ensures in
+    let passed = ap (λ es. branches_refusal line a b (entries_shown es)) (sym c.deref-in-Par.ensures.value) ∙ c.in_ok-want_branches_apart-in-Par.ensures in
     let same = copied (env_shown c.in_ok-forked-in-Par.forked) c.deref-in-Par-2.result.now c.args.env.items c.in_ok-forked-in-Par.ensures c.deref-in-Par-2.ensures.value in
     let whole = ap (λ k. walk p line (stmt_tree k) env) c.in-Par.is in
     let both =

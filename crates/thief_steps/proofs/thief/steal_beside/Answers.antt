@@ -1,4 +1,4 @@
-use Rattle.std.proofs.Common.{◌+◌, inr, refl, ap, ◌∙◌}
+use Rattle.std.proofs.Common.{inr, refl, ap, ◌∙◌}
 use Rattle.deque_events.proofs.Stealing.{held, rank_of}
 use Rattle.core_parts.specs.Held.{held as scheduler_held}
 use Rattle.thief_steps.proofs.Robbing.{stole_beside, keeps_two, full_of}
@@ -31,8 +31,8 @@ returns c owner first others bottom holds =
       pool = c.args.scheduler.now.pool;
       moves = c.args.scheduler.now.moves;
       done = c.args.scheduler.now.done;
-    }) c.steal_beside-deque.result (c.begun-number.result + 1)
+    }) c.steal_beside-deque.result c.in_ok-number.number
     (record { most = becomes.most ∙ c.in-Ok.ensures.rest.1; waiting = refl; results = refl; pool = refl; moves = refl; done = refl })
-    c.steal_beside-deque.ensures.seats (ap (λ n. n + 1) c.begun-number.ensures)
+    c.steal_beside-deque.ensures.seats c.in_ok-number.ensures.next
     c.room_right.new.self c.in-Ok.ensures.rest.0 c.in-Ok.ensures.rest.1 c.args.victim owner first others bottom holds
     c.steal_beside-deque.ensures.steals (λ h. c.steal_beside-deque.ensures.deques owner first others bottom h) c.steal_beside-deque.ensures.id c.in-Ok.ensures.few

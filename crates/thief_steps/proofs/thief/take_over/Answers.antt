@@ -1,4 +1,4 @@
-use Rattle.std.proofs.Common.{◌+◌, refl, ap}
+use Rattle.std.proofs.Common.{refl}
 use Rattle.thief_steps.proofs.Robbing.{took_over}
 use Rattle.thief_steps.proofs.thief.take_over.Goals as goal
 
@@ -17,7 +17,7 @@ returns c =
       pool = c.args.scheduler.now.pool;
       moves = c.args.scheduler.now.moves;
       done = c.args.scheduler.now.done;
-    }) c.args.victim (c.begun-number.result + 1)
+    }) c.args.victim c.in_ok-number.number
     (record { most = becomes.most; waiting = refl; results = refl; pool = refl; moves = refl; done = refl })
-    c.take_over.ensures.seats (ap (λ n. n + 1) c.begun-number.ensures) v.0 c.args.place c.in-Ok.period.ahead v.1 v.2 c.take_over.ensures.steals
+    c.take_over.ensures.seats c.in_ok-number.ensures.next v.0 c.args.place c.in-Ok.period.ahead v.1 v.2 c.take_over.ensures.steals
     c.in-Ok.ensures.ahead becomes

@@ -9,7 +9,8 @@ use Rattle.depth_first_run.specs.Middle.{middle, does, tree, allocates, allocate
 use Rattle.thread_stack.specs.declared.frame.Frame.TheVariants.{Tree, Allocates}
 use Rattle.thread_steps.specs.declared.ready.Ready.TheVariants.{Alloc}
 use Rattle.thread_steps.specs.declared.done.Done.TheVariants.{Silent, Acts}
-use Rattle.thread_steps.proofs.Coming.{at_point, allocated_now, allocated_later, few_words, many_words, whole_words, short_words}
+use Rattle.thread_steps.proofs.Coming.{at_point, allocated_now, allocated_later, whole_words, short_words}
+use Rattle.depth_first_run.proofs.FewWords.{few_words, many_words}
 use Rattle.thread_steps.proofs.acts.allocate_numbers.Goals as goal
 
 pub returns-in_ok-shell-in-None-clause-meaning : goal.returns-in_ok-shell-in-None-clause-meaning

@@ -8,6 +8,7 @@ use Rattle.dfd_core.proofs.Roots.{root_result}
 use Rattle.dfd_core.proofs.Going.{somewhere_behind, comes_behind}
 use Rattle.dfd_core.proofs.Turns.{nothing_behind}
 use Rattle.dfd_core.proofs.Bounded.{done_within}
+use Rattle.dfd_core.proofs.Same.{same_core}
 use Rattle.dfd_core.proofs.run.Core.step.Goals as goal
 
 pub event_of-requires-clause-done : goal.event_of-requires-clause-done
@@ -110,7 +111,7 @@ pub returns-in-Err-clause-setting : goal.returns-in-Err-clause-setting
 returns-in-Err-clause-setting c = (refl, refl, c.event_of.ensures.terms c.args.self.now.limit)
 
 pub returns-in-Ok-None-clause-still : goal.returns-in-Ok-None-clause-still
-returns-in-Ok-None-clause-still c = λ nothing i. record c.args.self.now { scheduler = c.event_of.ensures.still (c.in-Ok-None.is ∙ ap Ok c.in-Ok-None.field-0-is) i }
+returns-in-Ok-None-clause-still c = λ nothing. same_core _ _ (c.event_of.ensures.still (c.in-Ok-None.is ∙ ap Ok c.in-Ok-None.field-0-is)) refl refl refl refl refl refl
 
 pub returns-in-Ok-Some-clause-still : goal.returns-in-Ok-Some-clause-still
 returns-in-Ok-Some-clause-still c = λ nothing. absurd (some_or_none _ (subst (λ s. IsTold s (Ok (Some c.in-Ok-Some.event))) nothing c.told.ensures))

@@ -19,7 +19,8 @@ use Rattle.serial_meaning.specs.Lengths.{length_of}
 use Rattle.serial_meaning.specs.Settings.{setting_of}
 use Rattle.serial_meaning.specs.Moving.{At}
 use Rattle.serial_meaning.proofs.Stack.{faulted_at, lifted, settled_at_ok}
-use Rattle.serial_meaning.proofs.OneStatement.{numbered_at, no_size, allocated_now, allocated_later, few_words, many_words}
+use Rattle.serial_meaning.proofs.OneStatement.{numbered_at, no_size, allocated_now, allocated_later}
+use Rattle.depth_first_run.proofs.FewWords.{few_words, many_words}
 use Rattle.serial_meaning.proofs.machine.Machine.allocate.Goals as goal
 
 pub returns-in-Err : goal.returns-in-Err

@@ -2,7 +2,7 @@ use Rattle.std.proofs.Common.{◌≡◌, ◌∙◌, refl, subst}
 use Rattle.depth_first_list.specs.Actions as deeds
 use Rattle.depth_first_run.specs.States.{State, with_action, joined}
 use Rattle.serial_store.specs.Shown.{store_shown}
-use Rattle.serial_store.specs.Effects.{joined_store}
+use Rattle.depth_first_run.specs.Branches.{joined_store}
 use Rattle.serial_journal.specs.Journals.{births_of}
 use Rattle.serial_meaning.specs.Frames.{assigns_of}
 use Rattle.serial_meaning.specs.Views.{Is, IsBeyond}

@@ -2,7 +2,7 @@ use Rattle.std.proofs.Common.{[], List, refl, sym, subst}
 use Rattle.depth_first_run.specs.Run.{no_name}
 use Rattle.slot_store.specs.Rows.{Entry}
 use Rattle.slot_store.specs.Agreement.{ShowsStore}
-use Rattle.slot_store.specs.Forks.{child_store}
+use Rattle.depth_first_run.specs.Branches.{child_store}
 use Rattle.thread_state.proofs.Forking.{is_child, is_parent, shows_no_slot}
 use Rattle.thread_state.proofs.state.ThreadState.fork_dummies.Goals as goal
 

@@ -1,6 +1,6 @@
 use Rattle.std.proofs.Common.{◌<◌, ◌∷◌, None, arith, sym, ap, ◌∙◌, subst}
 use Rattle.atomic_table.specs.Table.{rest}
-use Rattle.turn_table.specs.Hands.{Has, without, gave}
+use Rattle.turn_table.specs.Hands.{Has, without_slot, gave}
 use Rattle.turn_table.specs.Seats.{SeatView}
 use Rattle.turn_table.specs.Law.{PutKeeps, Meets}
 use Rattle.turn_table.specs.Steps.{with, placed}
@@ -44,9 +44,9 @@ store-requires g c = let table = c.args.self.now.table.shared.table_id in let he
 pub invariant_of-seat : goal.invariant_of-seat
 invariant_of-seat g c = let same = ap (λ m. m.0) c.exchange.ensures.3 ∙ ap (λ m. m.0) c.load.ensures.2 in
     let left = ap (λ m. rest m.1) c.exchange.ensures.3 ∙ ap (λ m. rest m.1) c.load.ensures.2 in
-    in_place c.seat.inside.seat c.store.new.seat (with c.seat.inside.seat.me.0 (gave g.M.Puts.note g.shows c.seat.inside.seat.me.0.hand c.args.i)) (without c.args.i c.seat.inside.seat.me.1)
+    in_place c.seat.inside.seat c.store.new.seat (with c.seat.inside.seat.me.0 (gave g.M.Puts.note g.shows c.seat.inside.seat.me.0.hand c.args.i)) (without_slot c.args.i c.seat.inside.seat.me.1)
     (c.store.ensures.2.0 ∙ (λ k. (with (same k) (gave g.M.Puts.note g.shows (same k).hand c.args.i), left k)))
-    (ap (without c.args.i) c.seat.invariant.0 ∙ vacant_without c.args.i c.seat.inside.seat.me.0.hand.holds ∙ sym (vacant_renewed g.shows (without c.args.i c.seat.inside.seat.me.0.hand.holds)))
+    (ap (without_slot c.args.i) c.seat.invariant.0 ∙ vacant_without c.args.i c.seat.inside.seat.me.0.hand.holds ∙ sym (vacant_renewed g.shows (without_slot c.args.i c.seat.inside.seat.me.0.hand.holds)))
     c.seat.invariant.1 (c.store.ensures.0 ∙ c.exchange.ensures.0 ∙ c.load.ensures.0) (within_left c.seat.inside.seat.table_id.slots c.args.i g.shows c.seat.inside.seat.me.0.hand.holds c.seat.invariant.2)
 
 pub returns-clause-seat : goal.returns-clause-seat

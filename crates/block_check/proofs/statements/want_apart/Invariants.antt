@@ -2,7 +2,7 @@ use Rattle.par_names.specs.Named.{body_of}
 use Rattle.std.proofs.Common.{◌≡◌, drop}
 use Rattle.par_ownership.specs.Walk.{branches_refusal}
 use Rattle.block_check.specs.Shown.{entries_shown}
-use Rattle.block_check.proofs.statements.apart.Given as goal
+use Rattle.block_check.proofs.statements.want_apart.Given as goal
 
 abbrev pub invariant-loop-entry : goal.invariant-loop-entry
 invariant-loop-entry l =
