@@ -4,7 +4,7 @@
 use crate::author::{program, Style};
 use crate::edges::edge;
 use crate::edits::{break_form, break_rule, lay_out};
-use crate::looped::{looped, Care};
+use crate::looped::{looped, looped_at_limits, Care};
 use crate::random::Random;
 use crate::tiny::tiny;
 
@@ -16,7 +16,7 @@ pub struct Case {
 
 pub const KINDS: [&str; 9] = ["good", "faulty", "blocks", "deep", "ill-formed", "ill-typed", "tiny", "prints", "words"];
 pub const KINDS_OF_MACHINE: [&str; 5] = ["played", "in threads", "made", "printed", "words of the machine"];
-pub const KINDS_OF_LOOPS: [&str; 4] = ["looped", "mistaken loops", "broken loops", "words of loops"];
+pub const KINDS_OF_LOOPS: [&str; 5] = ["looped", "mistaken loops", "broken loops", "loops at limits", "words of loops"];
 
 /// The case of a number. The same number gives the same case.
 pub fn case(number: u64) -> Case {
@@ -51,9 +51,13 @@ pub fn loop_case(number: u64) -> Case {
     let mut random = Random(number.wrapping_mul(0xd1b5_4a32_d192_ed03));
     let kind = KINDS_OF_LOOPS[(number % KINDS_OF_LOOPS.len() as u64) as usize];
     let mistake_one_in = if kind == "mistaken loops" { *random.pick(&[3, 8, 20]) } else { 0 };
-    let text = looped(&mut random, Care { mistake_one_in });
+    let text = match kind {
+        "loops at limits" => looped_at_limits(&mut random),
+        _ => looped(&mut random, Care { mistake_one_in }),
+    };
     let source = match kind {
         "broken loops" => break_form(&mut random, &text),
+        "loops at limits" => text.into_bytes(),
         _ if random.once_in(2) => lay_out(&mut random, &text).into_bytes(),
         _ => text.into_bytes(),
     };

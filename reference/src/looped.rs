@@ -196,3 +196,62 @@ impl Writer<'_> {
         self.put(&format!("par call {target} = {name}({range}{more}){end}"));
     }
 }
+
+const F: &str = "fn f(i) { print i; return i; }\n";
+
+/// A text with loops at the edge of a limit: of its bytes, its functions, its open constructs, its numbers, or the names of helpers.
+pub fn looped_at_limits(random: &mut Random) -> String {
+    match random.below(6) {
+        0 => near_the_most_bytes(random),
+        1 => near_the_most_functions(random),
+        2 => near_the_deepest(random),
+        3 => around_the_numbers(random),
+        4 => many_loops(random),
+        _ => {
+            let size = random.between(1, 2_000);
+            format!("fn g(use v) {{ return len(v); }}\nfn main() {{ let x = 0; alloc b = {size}; par call x = g(use b at 16); print x; free b; }}")
+        }
+    }
+}
+
+/// The text is short enough, and its expansion is or is not.
+fn near_the_most_bytes(random: &mut Random) -> String {
+    let text = format!("{F}fn main() {{ let x = 0; par call x = f(1 into 3); print x; }}\n#");
+    let length = 1_048_576 - text.len() - random.below(500) as usize;
+    text + &" ".repeat(length)
+}
+
+fn near_the_most_functions(random: &mut Random) -> String {
+    let count = 1_018 + random.below(6);
+    let others: String = (0..count).map(|number| format!("fn u{number}() {{ }}\n")).collect();
+    let loops = "par call x = f(1 into 3); ".repeat(random.between(1, 3) as usize);
+    format!("{F}{others}fn main() {{ let x = 0; {loops}print x; }}")
+}
+
+fn near_the_deepest(random: &mut Random) -> String {
+    let depth = random.between(58, 66) as usize;
+    let (open, close) = ("(".repeat(depth), ")".repeat(depth));
+    format!("{F}fn main() {{ let x = 0; par call x = f({open}1{close} into 3); print x; }}")
+}
+
+/// Numbers on both sides of where they wrap. Most loops have few rounds, whichever side they begin on.
+fn around_the_numbers(random: &mut Random) -> String {
+    let mut near = |is_high: bool| {
+        let less = random.below(9);
+        if is_high {
+            format!("9223372036854775807 - {less}")
+        } else {
+            format!("-9223372036854775807 - 1 + {less}")
+        }
+    };
+    let pairs = [(near(true), near(true)), (near(false), near(false)), (near(true), near(false)), (near(false), near(true))];
+    let (low, high) = random.pick(&pairs);
+    format!("{F}fn main() {{ let x = 0; par call x = f({low} into {high}); print x; }}")
+}
+
+fn many_loops(random: &mut Random) -> String {
+    let count = random.between(9, 13) as usize;
+    let loops = "par call x = f(x into x + 1);\n".repeat(count);
+    let name = *random.pick(&["__sum9", "__sum10", "__sum12", "__sum13", "__sum010", "__sum", "__sum_1"]);
+    format!("{F}fn main() {{ let {name} = 0; let x = 0; {loops} print x + {name}; }}")
+}
