@@ -18,6 +18,7 @@ use Rattle.core_parts.specs.declared.stop.Stop.{Stop}
 use Rattle.core_parts.specs.declared.stop.Stop.TheVariants.{ArenaFull, DequesFull, StepsSpent, OutOfMemory}
 use Rattle.core_parts.specs.Held.{held}
 use Rattle.deque_machine.specs.Terms.{Terms, machine_of}
+use Rattle.core_parts.specs.Outcomes.{HasDequesLeft}
 use Rattle.dfd_core.specs.declared.run.Core.{Core}
 use Rattle.dfd_core.specs.declared.run_end.RunEnd.{RunEnd}
 use Rattle.dfd_core.specs.declared.run_end.RunEnd.TheVariants.{Finished, Stopped}
@@ -71,6 +72,19 @@ module _ (c : Setting) (before after : Core) (same : terms_at after ≡ terms_at
       by_idle : (b : Bool) → words_drawn m worker ≡ words_of_turn b → (b ≡ true → word ≡ words 1) → Wants (machine_of c (terms_at before)) m worker (words 1) event
       by_idle true two is = subst (λ w. Wants (machine_of c (terms_at before)) m worker w event) (is refl) wants
       by_idle false one is = wanted_of_owner (machine_of c (terms_at before)) m worker word (words 1) event one wants
+
+  -- and what they want by the word that was drawn is what they want by the word of the step
+  wanted_by_step : (event : Event) → Wants (machine_of c (terms_at before)) m worker (words 1) event → Wants (machine_of c (terms_at before)) m worker word event
+  wanted_by_step event wants = by_idle idle draws word_is
+    where
+      by_idle : (b : Bool) → words_drawn m worker ≡ words_of_turn b → (b ≡ true → word ≡ words 1) → Wants (machine_of c (terms_at before)) m worker word event
+      by_idle true two is = subst (λ w. Wants (machine_of c (terms_at before)) m worker w event) (sym (is refl)) wants
+      by_idle false one is = wanted_of_owner (machine_of c (terms_at before)) m worker (words 1) word event one wants
+
+  has_deques : HasDequesLeft c (terms_at after) worker word m → HasDequesLeft c (terms_at before) worker (words 1) m
+  has_deques left = λ event deques wants meets. left event deques
+      (subst (λ x. Wants (machine_of c x) m worker word event) (sym same) (wanted_by_step event wants))
+      (subst (λ x. Meets (machine_of c x) x.limits m event (play.deques_full deques)) (sym same) meets)
 
   turn_is : (event : Event) → Wants (machine_of c (terms_at after)) m worker word event
       → Turn (machine_of c (terms_at before)) words 0 m (record { worker = worker; event = event })
@@ -126,4 +140,4 @@ module _ (c : Setting) (before after : Core) (same : terms_at after ≡ terms_at
   turns_to stepped (Err (StepsSpent limit)) told came nothing over =
       subst turns_with (sym (over _ (stop_told stepped _ told))) (∥∥₁_map came (stops (play.steps_spent limit)))
   turns_to stepped (Err OutOfMemory) told came nothing over =
-      subst turns_with (sym (over _ (stop_told stepped _ told))) ∣ record { worker = worker; first = first; draws = sym draws; is_at = came.0 } ∣₁
+      subst turns_with (sym (over _ (stop_told stepped _ told))) ∣ record { worker = worker; first = first; deques_left = has_deques came.1; draws = sym draws; is_at = came.0 } ∣₁

@@ -17,12 +17,13 @@ use Rattle.deque_machine.specs.Fronts.{PlaysOn, stays_here}
 use Rattle.deque_machine.proofs.Playing.{front_is_run, front_goes_on, front_with_turn}
 use Rattle.core_parts.specs.declared.stop.Stop.TheVariants.{ArenaFull, DequesFull, StepsSpent, OutOfMemory}
 use Rattle.deque_machine.specs.Terms.{Terms, machine_of}
+use Rattle.core_parts.specs.Outcomes.{HasDequesLeft}
 use Rattle.core_parts.proofs.Going.{lawful_at}
 use Rattle.dfd_core.specs.declared.run.Core.{Core}
 use Rattle.dfd_core.specs.declared.run_end.RunEnd.{RunEnd}
 use Rattle.dfd_core.specs.declared.run_end.RunEnd.TheVariants.{Finished, Stopped}
 use Rattle.dfd_core.specs.Cores.{IsAt, SameSetting, end_of, terms_at, workers_of}
-use Rattle.dfd_core.specs.Plays.{TurnGoesOn, TurnStops, TurnLacks, TurnsTo, IsDrawn, TakesTurn, PlaysUpTo, PlaysUntil, PlaysTo}
+use Rattle.dfd_core.specs.Plays.{TurnGoesOn, TurnStops, TurnLacks, TurnsTo, IsDrawn, TakesTurn, PlaysToEnd, PlaysToStop, PlaysUntil, PlaysTo}
 
 -- The core has come from the moment m of a run along the front of its play, with so many words and at least so many events.
 pub record Along (c : Setting) (terms : Terms) (words : ℕ → ℕ) (drawn events : ℕ) (now : Core) (run : List Pair) (m : Moment) : Type 0 where
@@ -91,20 +92,23 @@ module _ (c : Setting) (terms : Terms) (words coming : ℕ → ℕ) (drawn more 
   module _ (later : ℕ → ℕ) (later_is : IsDrawn coming more later) where
     -- or to a stop
     stopped_at : (stop : play.Stop) → TurnStops c terms coming more after (run ++ a.later) a.last stop
-        → PlaysUpTo c terms words later after run m (play.stopped stop)
+        → PlaysToStop c terms words later after run m stop
     stopped_at stop s = record {
       later = a.later;
       last = a.last;
       plays = subst (λ r. Plays (machine_of c terms) terms.limits words 0 m r a.last (play.stopped stop)) (append-nil a.later)
           (whole_play [] a.last (play.stopped stop) (is_stopped drawn a.last s.pair stop (turn_behind (machine_of c terms) words coming drawn coming_is a.last s.pair s.turn) s.meets));
       is_at = s.is_at;
-      drawn = drawn + more;
-      rest = coming_behind later later_is;
+      drawn = drawn;
+      front = a.front;
+      worker = s.pair.worker;
+      first = (turn_behind (machine_of c terms) words coming drawn coming_is a.last s.pair s.turn).first;
+      rest = subst (λ n. IsDrawn words (drawn + n) later) s.draws (coming_behind later later_is);
     }
 
     -- or to the end
     ended_at : (same : terms_at after ≡ terms) (finish : Finish) → end_of after ≡ Some (Finished finish) → TurnGoesOn c terms coming more after (run ++ a.later) a.last
-        → PlaysUpTo c terms words later after run m play.finished
+        → PlaysToEnd c terms words later after run m
     ended_at same finish is g =
         let b = further g in
         let has = subst (λ x. HasEnded (machine_of c x) b.last []) same (b.is_at.finished finish is).0 in record {
@@ -114,6 +118,7 @@ module _ (c : Setting) (terms : Terms) (words coming : ℕ → ℕ) (drawn more 
               (front_goes_on (machine_of c terms) terms.limits words 0 (drawn + more) m b.last b.last b.later [] play.finished b.front (is_over (drawn + more) b.last has));
           is_at = b.is_at;
           drawn = drawn + more;
+          front = b.front;
           rest = coming_behind later later_is;
         }
 
@@ -123,10 +128,11 @@ module _ (c : Setting) (terms : Terms) (words coming : ℕ → ℕ) (drawn more 
       later = a.later;
       last = a.last;
       drawn = drawn;
-      plays = a.front;
+      front = a.front;
       is_at = l.is_at;
       worker = l.worker;
       first = subst (λ w. IsFirst terms.workers w (CanMove (machine_of c terms) a.last) l.worker) (coming_is 0 ∙ ap words (omega arith)) l.first;
+      deques_left = subst (λ w. HasDequesLeft c terms l.worker w a.last) (coming_is 1) l.deques_left;
       rest = subst (λ n. IsDrawn words (drawn + n) later) l.draws (coming_behind later later_is);
     }
 

@@ -9,6 +9,7 @@ use Rattle.deque_machine.specs.Fronts.{PlaysOn}
 use Rattle.deque_machine.specs.Runs.{Pair}
 use Rattle.core_parts.specs.declared.stop.Stop.TheVariants.{ArenaFull, DequesFull, StepsSpent, OutOfMemory}
 use Rattle.deque_machine.specs.Terms.{Terms, machine_of}
+use Rattle.core_parts.specs.Outcomes.{HasDequesLeft}
 use Rattle.dfd_core.specs.declared.run.Core.{Core}
 use Rattle.dfd_core.specs.declared.run_end.RunEnd.{RunEnd}
 use Rattle.dfd_core.specs.declared.run_end.RunEnd.TheVariants.{Finished, Stopped}
@@ -34,10 +35,12 @@ pub record TurnStops (c : Setting) (terms : Terms) (words : ℕ → ℕ) (drawn 
   pub meets : Meets (machine_of c terms) terms.limits m pair.event stop
   pub is_at : IsAt c after run m
 
--- It is the turn of a worker for which memory is wanting, and the core is where it was. So many words were drawn.
+-- It is the turn of a worker for which there is not enough memory, and the limit of deques does not stop what the rules want of it. The core
+-- is where it was, and so many words were drawn.
 pub record TurnLacks (c : Setting) (terms : Terms) (words : ℕ → ℕ) (drawn : ℕ) (after : Core) (run : List Pair) (m : Moment) : Type 0 where
   pub worker : ℕ
   pub first : play.IsFirst terms.workers (words 0) (play.CanMove (machine_of c terms) m) worker
+  pub deques_left : HasDequesLeft c terms worker (words 1) m
   pub draws : drawn ≡ words_drawn m worker
   pub is_at : IsAt c after run m
 
@@ -64,35 +67,50 @@ pub record TakesTurn (words later : ℕ → ℕ) (before after : Core) : Type 0 
   pub turns : (c : Setting) (run : List Pair) (m : Moment) → IsAt c before run m
       → TurnsTo c (terms_at before) words drawn after run m (end_of after)
 
--- The play from a moment of a run on, up to this ending; the core is at its last moment, and the words come that it did not draw.
-pub record PlaysUpTo (c : Setting) (terms : Terms) (words coming : ℕ → ℕ) (after : Core) (run : List Pair) (m : Moment) (ending : play.Ending)
+-- The play from a moment of a run on, up to the end of the root: the core is at its last moment, and the words come that it did not draw.
+pub record PlaysToEnd (c : Setting) (terms : Terms) (words coming : ℕ → ℕ) (after : Core) (run : List Pair) (m : Moment) : Type 0 where
+  pub later : List Pair
+  pub last : Moment
+  pub drawn : ℕ
+  pub front : PlaysOn (machine_of c terms) terms.limits words 0 m later drawn last
+  pub plays : play.Plays (machine_of c terms) terms.limits words 0 m later last play.finished
+  pub is_at : IsAt c after (run ++ later) last
+  pub rest : IsDrawn words drawn coming
+
+-- The play from a moment of a run on, up to the turn of a worker that meets this stop: the core is at the moment before this turn, and the
+-- words come that neither the events before it nor this turn drew.
+pub record PlaysToStop (c : Setting) (terms : Terms) (words coming : ℕ → ℕ) (after : Core) (run : List Pair) (m : Moment) (stop : play.Stop)
     : Type 0 where
   pub later : List Pair
   pub last : Moment
-  pub plays : play.Plays (machine_of c terms) terms.limits words 0 m later last ending
-  pub is_at : IsAt c after (run ++ later) last
   pub drawn : ℕ
-  pub rest : IsDrawn words drawn coming
-
--- The front of the play, up to the turn of a worker for which memory was wanting; the core is at its moment, and the words come that neither
--- the front nor this turn drew.
-pub record PlaysUntil (c : Setting) (terms : Terms) (words coming : ℕ → ℕ) (after : Core) (run : List Pair) (m : Moment) : Type 0 where
-  pub later : List Pair
-  pub last : Moment
-  pub drawn : ℕ
-  pub plays : PlaysOn (machine_of c terms) terms.limits words 0 m later drawn last
+  pub front : PlaysOn (machine_of c terms) terms.limits words 0 m later drawn last
+  pub plays : play.Plays (machine_of c terms) terms.limits words 0 m later last (play.stopped stop)
   pub is_at : IsAt c after (run ++ later) last
   pub worker : ℕ
   pub first : play.IsFirst terms.workers (words drawn) (play.CanMove (machine_of c terms) last) worker
   pub rest : IsDrawn words (drawn + words_drawn last worker) coming
 
+-- The front of the play, up to the turn of a worker for which there was not enough memory, though the limit of deques did not stop it: the
+-- core is at the moment before this turn, and the words come that neither the front nor this turn drew.
+pub record PlaysUntil (c : Setting) (terms : Terms) (words coming : ℕ → ℕ) (after : Core) (run : List Pair) (m : Moment) : Type 0 where
+  pub later : List Pair
+  pub last : Moment
+  pub drawn : ℕ
+  pub front : PlaysOn (machine_of c terms) terms.limits words 0 m later drawn last
+  pub is_at : IsAt c after (run ++ later) last
+  pub worker : ℕ
+  pub first : play.IsFirst terms.workers (words drawn) (play.CanMove (machine_of c terms) last) worker
+  pub deques_left : HasDequesLeft c terms worker (words (drawn + 1)) last
+  pub rest : IsDrawn words (drawn + words_drawn last worker) coming
+
 -- what a play comes to, by its end
 abbrev pub PlaysTo : Setting → Terms → (words coming : ℕ → ℕ) → (after : Core) → List Pair → Moment → RunEnd → Type 0
-PlaysTo c terms words coming after run m (Finished finish) = ∥ PlaysUpTo c terms words coming after run m play.finished ∥₁
+PlaysTo c terms words coming after run m (Finished finish) = ∥ PlaysToEnd c terms words coming after run m ∥₁
 PlaysTo c terms words coming after run m (Stopped (ArenaFull live asked)) =
-    ∥ PlaysUpTo c terms words coming after run m (play.stopped (play.arena_full (pos live) asked)) ∥₁
+    ∥ PlaysToStop c terms words coming after run m (play.arena_full (pos live) asked) ∥₁
 PlaysTo c terms words coming after run m (Stopped (DequesFull deques)) =
-    ∥ PlaysUpTo c terms words coming after run m (play.stopped (play.deques_full deques)) ∥₁
+    ∥ PlaysToStop c terms words coming after run m (play.deques_full deques) ∥₁
 PlaysTo c terms words coming after run m (Stopped (StepsSpent limit)) =
-    ∥ PlaysUpTo c terms words coming after run m (play.stopped (play.steps_spent limit)) ∥₁
+    ∥ PlaysToStop c terms words coming after run m (play.steps_spent limit) ∥₁
 PlaysTo c terms words coming after run m (Stopped OutOfMemory) = ∥ PlaysUntil c terms words coming after run m ∥₁
