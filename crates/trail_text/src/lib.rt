@@ -1,0 +1,11 @@
+//! The text of a trail, written and read.
+//!
+//! [`trail_text`] writes a trail, and [`read_trail`] answers the trail of which the bytes are the text, or the line at which
+//! they are none. The layer stands on `trail_meaning`, on `byte_cuts`, on the numbers of `run_report` and on `language_limits`. Its theorem:
+//! what is written is the text of `specs/TrailText.antt`; what is read is the trail whose text the bytes are; and bytes that are no
+//! trail's text are refused at the one place that `specs/Reading.antt` names.
+#![tactic(auto)]
+
+mod writing;
+
+pub use writing::trail_text;
