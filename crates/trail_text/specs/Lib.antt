@@ -1,1 +1,3 @@
 pub mod TrailText
+pub mod Lines
+pub mod Reading

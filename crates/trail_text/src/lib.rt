@@ -6,6 +6,16 @@
 //! trail's text are refused at the one place that `specs/Reading.antt` names.
 #![tactic(auto)]
 
+mod ending;
+mod event;
+mod head;
+mod numbers;
+mod place;
+mod reading;
+mod source;
+mod trail_fail;
 mod writing;
 
+pub use reading::read_trail;
+pub use trail_fail::TrailFail;
 pub use writing::trail_text;
