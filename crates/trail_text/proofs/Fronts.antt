@@ -1,5 +1,5 @@
 -- How bytes begin with a number, and with the lines of a trail, and that they do in one way.
-use Rattle.std.proofs.Common.{◌≡◌, ◌≢◌, ℕ, zero, suc, ◌+◌, ◌<◌, ◌≤◌, ◌%◌, ◌^◌, List, [], ◌∷◌, ◌++◌, length, take, get_or, append_assoc, ap, sym, ◌∙◌, refl, subst, arith, length-append}
+use Rattle.std.proofs.Common.{◌≡◌, ◌≢◌, ℕ, ◌<◌, ◌≤◌, ◌%◌, ◌^◌, List, [], ◌∷◌, ◌++◌, length, take, get_or, append_assoc, ap, sym, ◌∙◌, refl, arith, length-append}
 use Rattle.std.specs.Prelude.{codes}
 use Rattle.std.specs.Fmt.{decimal}
 use Rattle.std.proofs.Math.Seq.{get_or-append_seam, take-append_seam}
@@ -9,14 +9,10 @@ use Rattle.byte_cuts.specs.Lacks.{Lacks}
 use Rattle.byte_cuts.proofs.Cuts.{cut_once}
 use Rattle.run_report.proofs.Digits.{no_other}
 use Rattle.language_limits.specs.declared.TheConstants.{GREATEST_QUOTA, LEAST_QUOTA, LONGEST_TEXT, MOST_DEQUES, MOST_WORDS, MOST_WORKERS}
-use Rattle.trail_meaning.specs.Ranges.{IsWithin, FitSetting, FitsKind, FitsEvent, FitNumbers}
+use Rattle.trail_meaning.specs.Ranges.{IsWithin, FitSetting}
 use Rattle.trail_meaning.specs.declared.limits.TheConstants.{MOST_TRAIL_ACTIONS}
-use Rattle.trail_meaning.specs.declared.trail_event.TrailEvent.{TrailEvent}
-use Rattle.trail_meaning.specs.declared.trail_kind.TrailKind.{TrailKind}
-use Rattle.trail_meaning.specs.declared.trail_kind.TrailKind.TheVariants.{Steal, Act, Suspend, GiveUp}
-use Rattle.trail_meaning.specs.declared.trail_numbers.TrailNumbers.{TrailNumbers}
-use Rattle.trail_text.specs.TrailText.{head_line, source_front, source_line, kind_words, event_line, end_line}
-use Rattle.trail_text.specs.Lines.{number_then, NoNumber, NoneWithin, NoneBelow, NoHead, NoSource, NoKind, NoEvent, NoEnd}
+use Rattle.trail_text.specs.TrailText.{head_line, source_line}
+use Rattle.trail_text.specs.Lines.{number_then, NoNumber, NoneWithin, NoneBelow, NoHead, NoSource}
 use Rattle.trail_text.proofs.Joined.{after_source}
 
 -- a number behind a name is one number, and what follows it is the same
@@ -67,19 +63,19 @@ then_more name n u more v e =
     append_assoc name (decimal n ++ u) more ∙ ap (λ (t : List ℕ). name ++ t) (append_assoc (decimal n) u more ∙ ap (λ (t : List ℕ). decimal n ++ t) e)
 
 -- the first line, number by number
-abbrev from_deques : ℕ → List ℕ → List ℕ
+abbrev pub from_deques : ℕ → List ℕ → List ℕ
 from_deques d more = number_then (codes "deques ") d 10 more
 
-abbrev from_steps : ℕ → ℕ → List ℕ → List ℕ
+abbrev pub from_steps : ℕ → ℕ → List ℕ → List ℕ
 from_steps s d more = number_then (codes "steps ") s 32 (from_deques d more)
 
-abbrev from_arena : ℕ → ℕ → ℕ → List ℕ → List ℕ
+abbrev pub from_arena : ℕ → ℕ → ℕ → List ℕ → List ℕ
 from_arena a s d more = number_then (codes "arena ") a 32 (from_steps s d more)
 
-abbrev from_workers : ℕ → ℕ → ℕ → ℕ → List ℕ → List ℕ
+abbrev pub from_workers : ℕ → ℕ → ℕ → ℕ → List ℕ → List ℕ
 from_workers p a s d more = number_then (codes "p ") p 32 (from_arena a s d more)
 
-head_is : (k p a s d : ℕ) (more : List ℕ) → head_line k p a s d ++ more ≡ number_then (codes "trail k ") k 32 (from_workers p a s d more)
+pub head_is : (k p a s d : ℕ) (more : List ℕ) → head_line k p a s d ++ more ≡ number_then (codes "trail k ") k 32 (from_workers p a s d more)
 head_is k p a s d more =
     then_more (codes "trail k ") k _ more _
     (then_more (codes " p ") p _ more _
@@ -166,7 +162,7 @@ module _ (bytes : List ℕ) (k : ℕ) (at_p : List ℕ) (e1 : bytes ≡ number_t
             (s_once k at_p in_k p at_arena in_p e2 a at_steps in_a e3 s at_deques in_s e4 k' p' a' s' d' more fits (sym e1 ∙ e)).1
 
 -- the second line
-source_is : (source more : List ℕ) → source_line source ++ more ≡ number_then (codes "source ") (length source) 10 (source ++ 10 ∷ more)
+pub source_is : (source more : List ℕ) → source_line source ++ more ≡ number_then (codes "source ") (length source) 10 (source ++ 10 ∷ more)
 source_is source more =
     after_source source more
     ∙ then_more (codes "source ") (length source) (codes "\n") (source ++ 10 ∷ more) (10 ∷ (source ++ 10 ∷ more)) refl

@@ -1,11 +1,10 @@
 -- In which order the lines of a trail stand, and that a text is cut into them in one way.
-use Rattle.std.proofs.Common.{◌≡◌, ◌≢◌, ℕ, ◌<◌, ◌≤◌, ◌^◌, ◌⊎◌, inl, inr, List, [], ◌∷◌, ◌++◌, length, map, get_or, drop, append_assoc, append-nil, ap, sym, ◌∙◌, refl, subst, arith, length-append}
-use Rattle.std.specs.Prelude.{codes}
+use Rattle.std.proofs.Common.{◌≡◌, ◌≢◌, ℕ, ◌<◌, ◌^◌, ◌⊎◌, inl, inr, List, [], ◌∷◌, ◌++◌, length, map, get_or, drop, append_assoc, append-nil, ap, sym, ◌∙◌, refl, arith, length-append}
 use Rattle.std.specs.List.{concat}
 use Rattle.std.specs.Fmt.{decimal}
 use Rattle.std.proofs.lemmas.List.{append_cancel_left}
 use Rattle.trail_meaning.specs.Shown.{Shown}
-use Rattle.trail_meaning.specs.Ranges.{FitSetting, FitsEvent, FitEvents, FitNumbers, HasTrailRanges}
+use Rattle.trail_meaning.specs.Ranges.{FitsEvent, FitEvents, FitNumbers, HasTrailRanges}
 use Rattle.trail_meaning.specs.declared.trail_event.TrailEvent.{TrailEvent}
 use Rattle.trail_meaning.specs.declared.trail_numbers.TrailNumbers.{TrailNumbers}
 use Rattle.trail_text.specs.TrailText.{head_line, source_line, kind_words, event_line, end_line, trail_lines, trail_text}
@@ -58,7 +57,7 @@ tail_some p a (inl s) =
 tail_some p a (inr t) = omega (arith, ap length t.1.1)
 
 -- trails that begin with the same lines go on with the same line, where the bytes are the same
-lines_once :
+pub lines_once :
     (t u : Shown) (front : List (List ℕ)) (a b : List ℕ) (more more' : List (List ℕ)) (x y : List ℕ) → HasTrailRanges t → HasTrailRanges u →
     trail_lines t ≡ front ++ a ∷ more → trail_lines u ≡ front ++ b ∷ more' → a ++ x ≡ b ++ y → a ≡ b
 lines_once t u [] a b more more' x y ok ok' et eu e =

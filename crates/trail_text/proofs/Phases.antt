@@ -1,8 +1,7 @@
 -- The places at which the reading of a trail may stop.
-use Rattle.std.proofs.Common.{◌≡◌, ◌≢◌, ℕ, ◌<◌, ◌≤◌, ◌+◌, ◌-◌, ◌^◌, List, [], ◌∷◌, ◌++◌, length, map, append_assoc, append-nil, ap, sym, ◌∙◌, refl, subst, arith, length-append}
+use Rattle.std.proofs.Common.{◌≡◌, ◌≢◌, ℕ, ◌<◌, ◌≤◌, ◌-◌, ◌^◌, List, [], ◌∷◌, ◌++◌, length, map, append_assoc, append-nil, ap, sym, ◌∙◌, refl, subst, arith, length-append}
 use Rattle.std.specs.Prelude.{nat_eq, true, false}
 use Rattle.std.specs.List.{concat}
-use Rattle.std.specs.Fmt.{decimal}
 use Rattle.std.proofs.lemmas.Bool.Decides.{nat_tests}
 use Rattle.std.proofs.lemmas.List.{map-append}
 use Rattle.language_limits.specs.declared.TheConstants.{LONGEST_TEXT}
@@ -11,9 +10,9 @@ use Rattle.trail_meaning.specs.Ranges.{FitSetting, FitsEvent, FitEvents, FitNumb
 use Rattle.trail_meaning.specs.declared.limits.TheConstants.{MOST_TRAIL}
 use Rattle.trail_meaning.specs.declared.trail_event.TrailEvent.{TrailEvent}
 use Rattle.trail_meaning.specs.declared.trail_numbers.TrailNumbers.{TrailNumbers}
-use Rattle.trail_text.specs.TrailText.{head_line, source_line, kind_words, event_line, end_line, trail_lines, trail_text, IsTrail}
+use Rattle.trail_text.specs.TrailText.{head_line, source_line, event_line, end_line, trail_lines, trail_text, IsTrail}
 use Rattle.trail_text.specs.Lines.{NoHead, NoSource, NoEvent, NoEnd}
-use Rattle.trail_text.specs.Reading.{Begins, BreaksAt, IsRefused, broken, IsFailure}
+use Rattle.trail_text.specs.Reading.{Begins, BreaksAt, broken, IsFailure}
 use Rattle.trail_text.specs.declared.trail_fail.TrailFail.{TrailFail}
 use Rattle.trail_text.specs.declared.trail_fail.TrailFail.TheVariants.{NotTrail}
 use Rattle.trail_text.proofs.Joined.{joined_last}
@@ -63,34 +62,31 @@ refused text rest fail short is breaks =
     subst (λ (f : TrailFail). IsFailure text f) (sym is)
     (broken short rest breaks (omega (arith, ap length breaks.spelled, length-append (concat breaks.front) rest)))
 
+-- the least numbers of a setting, so that some trail begins with no line
+least : FitSetting 16 1 16 1 1
+least = record {
+  quota = (omega arith, omega arith);
+  quota_whole = refl;
+  workers = (omega arith, omega arith);
+  arena = (omega arith, omega arith);
+  arena_whole = refl;
+  steps = (omega arith, omega arith);
+  deques = (omega arith, omega arith);
+}
+
+pub begins_with_none : Begins []
+begins_with_none = (
+  record { k = 16; p = 1; arena = 16; steps = 1; deques = 1; source = []; events = []; numbers = nothing },
+  (record { setting = least; source = omega arith; events = tt; numbers = small }, (_, refl)),
+)
+
 -- in place of the first line
 pub stops_at_head : (text : List ℕ) → NoHead text → BreaksAt text text
-stops_at_head text none = breaks_here text text [] refl begins stuck
-  where
-    least : Shown
-    least = record { k = 16; p = 1; arena = 16; steps = 1; deques = 1; source = []; events = []; numbers = nothing }
-
-    fits : FitSetting 16 1 16 1 1
-    fits = record {
-      quota = (omega arith, omega arith);
-      quota_whole = refl;
-      workers = (omega arith, omega arith);
-      arena = (omega arith, omega arith);
-      arena_whole = refl;
-      steps = (omega arith, omega arith);
-      deques = (omega arith, omega arith);
-    }
-
-    begins : Begins []
-    begins = (
-      record { k = 16; p = 1; arena = 16; steps = 1; deques = 1; source = []; events = []; numbers = nothing },
-      (record { setting = fits; source = omega arith; events = tt; numbers = small }, (_, refl)),
-    )
-
-    stuck : (t : Shown) (more : List (List ℕ)) → HasTrailRanges t → trail_lines t ≡ [] ++ more → Stuck text more
-    stuck t more ok e =
-        subst (λ (ls : List (List ℕ)). Stuck text ls) e
-        (λ back is. none t.k t.p t.arena t.steps t.deques back ok.setting is)
+stops_at_head text none =
+    breaks_here text text [] refl begins_with_none
+    (λ t more ok e.
+    subst (λ (ls : List (List ℕ)). Stuck text ls) e
+    (λ back is. none t.k t.p t.arena t.steps t.deques back ok.setting is))
 
 module _ (k p a s d : ℕ) (fits : FitSetting k p a s d) where
   -- in place of the second

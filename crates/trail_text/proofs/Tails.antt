@@ -1,5 +1,5 @@
 -- How bytes begin with the line of an event and with the last line, and that they do in one way.
-use Rattle.std.proofs.Common.{◌≡◌, ◌≢◌, ℕ, zero, suc, ◌+◌, ◌<◌, ◌≤◌, ◌^◌, List, [], ◌∷◌, ◌++◌, length, get_or, append_assoc, ap, sym, ◌∙◌, refl, subst, arith}
+use Rattle.std.proofs.Common.{◌≡◌, ℕ, ◌<◌, ◌^◌, List, [], ◌∷◌, ◌++◌, get_or, append_assoc, ap, sym, ◌∙◌, refl, arith}
 use Rattle.std.specs.Prelude.{codes}
 use Rattle.std.specs.Fmt.{decimal}
 use Rattle.std.specs.Str.Parse.{AllDigits, digits_value}
@@ -22,7 +22,7 @@ use Rattle.trail_text.proofs.Fronts.{number_once, then_more}
 second_byte : (kind other : TrailKind) (x y : List ℕ) → kind_words kind ++ 10 ∷ x ≡ kind_words other ++ 10 ∷ y → get_or (kind_words kind ++ 10 ∷ x) 1 0 ≡ get_or (kind_words other ++ 10 ∷ y) 1 0
 second_byte kind other x y e = ap (λ (l : List ℕ). get_or l 1 0) e
 
-steal_is : (place : ℕ) (more : List ℕ) → kind_words (Steal place) ++ 10 ∷ more ≡ number_then (codes "steal ") place 10 more
+pub steal_is : (place : ℕ) (more : List ℕ) → kind_words (Steal place) ++ 10 ∷ more ≡ number_then (codes "steal ") place 10 more
 steal_is place more = append_assoc (codes "steal ") (decimal place) (10 ∷ more)
 
 pub kind_once :
@@ -84,16 +84,16 @@ pub no_worker : (p : ℕ) (bytes : List ℕ) → NoneBelow [] 32 p bytes → NoE
 no_worker p bytes none event more fits e = none event.worker (kind_words event.kind ++ 10 ∷ more) fits.0 (e ∙ event_is event more)
 
 -- the last line, number by number
-abbrev from_high : ℕ → List ℕ → List ℕ
+abbrev pub from_high : ℕ → List ℕ → List ℕ
 from_high h more = number_then (codes "high ") h 10 more
 
-abbrev from_ahead : ℕ → ℕ → List ℕ → List ℕ
+abbrev pub from_ahead : ℕ → ℕ → List ℕ → List ℕ
 from_ahead a h more = number_then (codes "ahead ") a 32 (from_high h more)
 
-abbrev from_periods : TrailNumbers → List ℕ → List ℕ
+abbrev pub from_periods : TrailNumbers → List ℕ → List ℕ
 from_periods n more = number_then (codes "end periods ") n.periods 32 (from_ahead n.ahead n.high more)
 
-end_is : (n : TrailNumbers) (more : List ℕ) → end_line n ++ more ≡ from_periods n more
+pub end_is : (n : TrailNumbers) (more : List ℕ) → end_line n ++ more ≡ from_periods n more
 end_is n more =
     then_more (codes "end periods ") n.periods _ more _
     (then_more (codes " ahead ") n.ahead _ more _ (then_more (codes " high ") n.high (codes "\n") more (10 ∷ more) refl))

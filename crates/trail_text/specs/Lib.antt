@@ -1,3 +1,4 @@
 pub mod TrailText
 pub mod Lines
 pub mod Reading
+pub mod Laws

@@ -9,6 +9,7 @@
 mod ending;
 mod event;
 mod head;
+mod laws;
 mod numbers;
 mod place;
 mod reading;
@@ -16,6 +17,7 @@ mod source;
 mod trail_fail;
 mod writing;
 
+pub use laws::texts_have_one_reading;
 pub use reading::read_trail;
 pub use trail_fail::TrailFail;
 pub use writing::trail_text;

@@ -1,4 +1,3 @@
-use Rattle.std.proofs.Common.{arith}
 use Rattle.trail_text.proofs.Fronts.{too_few_bytes, no_last_byte}
 use Rattle.trail_text.proofs.source.read_source.Goals as goal
 

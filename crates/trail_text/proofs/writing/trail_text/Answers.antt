@@ -1,4 +1,4 @@
-use Rattle.std.proofs.Common.{◌≡◌, ◌++◌, ◌∙◌, List, ℕ, ap, Vec}
+use Rattle.std.proofs.Common.{◌++◌, ◌∙◌, List, ℕ, ap, Vec}
 use Rattle.std.specs.declared.alloc.Global.{Global}
 use Rattle.trail_meaning.specs.Shown.{shown_by_trail}
 use Rattle.trail_text.proofs.Joined.{written}
