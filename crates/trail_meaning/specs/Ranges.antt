@@ -12,7 +12,8 @@ use Rattle.trail_meaning.specs.declared.trail_numbers.TrailNumbers.{TrailNumbers
 abbrev pub IsWithin : ℕ → ℕ → ℕ → Type 0
 IsWithin least most n = (least ≤ n) × (n ≤ most)
 
--- the setting of a play, its quota k, its p workers, and its limits of words, actions and deques: a quota and an arena are whole pieces
+-- the setting of a play: its quota k, its p workers, and its limits of words, actions and deques; the quota and the arena are
+-- whole pieces
 pub record FitSetting (k p words actions lists : ℕ) : Type 0 where
   pub quota : IsWithin LEAST_QUOTA GREATEST_QUOTA k
   pub quota_whole : k % LEAST_QUOTA ≡ 0
@@ -22,7 +23,7 @@ pub record FitSetting (k p words actions lists : ℕ) : Type 0 where
   pub steps : IsWithin 1 MOST_TRAIL_ACTIONS actions
   pub deques : IsWithin 1 MOST_DEQUES lists
 
--- the place of a deque that is robbed
+-- the place of the deque that a thread is stolen from
 abbrev pub FitsKind : TrailKind → Type 0
 FitsKind (Steal place) = place < MOST_DEQUES
 FitsKind Act = Unit {0}

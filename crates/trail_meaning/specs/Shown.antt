@@ -1,11 +1,11 @@
--- What a trail shows, as plain data.
+-- What contracts see of a trail, as plain data.
 use Rattle.std.specs.Prelude.{ℕ, List}
 use Rattle.bounded_list.specs.BoundedList.{entries}
 use Rattle.trail_meaning.specs.declared.trail.Trail.{Trail}
 use Rattle.trail_meaning.specs.declared.trail_event.TrailEvent.{TrailEvent}
 use Rattle.trail_meaning.specs.declared.trail_numbers.TrailNumbers.{TrailNumbers}
 
--- the setting of a play, the bytes of its source, its events, and the numbers that it came to
+-- the setting of a play, the bytes of its source, its events, and the numbers that it ended with
 pub record Shown : Type 0 where
   pub k : ℕ
   pub p : ℕ

@@ -1,9 +1,9 @@
 //! What a trail is: one recorded play, which can be checked apart from the core that made it.
 //!
-//! A [`Trail`] has the numbers of a play's setting, the source that it ran, its events in order, and the numbers that it came
-//! to. The layer has these types, the numbers that a trail may have (`specs/Ranges.antt`), and what a trail shows as plain
-//! data (`specs/Shown.antt`). It stands on `bounded_list` and `language_limits`. It has no theorem: which bytes are a trail is
-//! said by `trail_text`.
+//! A [`Trail`] has the setting of a play, the source that it ran, its events in order, and the numbers that it ended with. The
+//! crate has these types, the ranges of their numbers (`specs/Ranges.antt`), and what contracts see of a trail
+//! (`specs/Shown.antt`). It stands on `bounded_list` and `language_limits`. It has no theorem; `trail_text` says which bytes are
+//! a trail.
 #![tactic(auto)]
 
 mod limits;

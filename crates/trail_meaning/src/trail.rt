@@ -5,7 +5,7 @@ use bounded_list::BoundedList;
 /// The events of a play, first to last.
 pub type Events = BoundedList<TrailEvent>;
 
-/// One recorded play: its setting, its source, its events and the numbers that it came to.
+/// One recorded play: its setting, its source, its events and the numbers that it ended with.
 #[derive(PartialEq, Eq, Debug, Drop)]
 pub struct Trail {
     /// The quota, in words.

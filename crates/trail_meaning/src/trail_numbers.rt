@@ -1,4 +1,4 @@
-/// What a play came to, in numbers.
+/// The numbers that a play ended with.
 #[derive(Clone, Copy, PartialEq, Eq, Debug)]
 pub struct TrailNumbers {
     /// The number of periods: one for each steal.

@@ -23,9 +23,9 @@ use Rattle.trail_text.specs.Lines.{number_then, NoNumber, NoneWithin, NoneBelow,
 use Rattle.trail_text.specs.Reading.{BreaksAt, IsRefused, too_long, broken}
 use Rattle.trail_text.specs.Laws.{EachRead}
 use Rattle.trail_text.proofs.Fronts.{no_stop, no_digits, too_small, too_great, not_below, from_workers, head_is, no_workers, no_whole_quota, no_arena, no_steps, no_whole_arena, no_deques, source_is, too_few_bytes, no_last_byte}
-use Rattle.trail_text.proofs.Tails.{steal_is, no_kind, event_is, no_kind_behind, no_worker, end_is, no_periods, no_ahead, no_high}
+use Rattle.trail_text.proofs.Tails.{steal_is, no_kind, event_is, no_kind_after, no_worker, end_is, no_periods, no_ahead, no_high}
 use Rattle.trail_text.proofs.Order.{first_is, others_are}
-use Rattle.trail_text.proofs.Phases.{stops_at_head, stops_at_source, stops_at_end, stops_behind, reads_all}
+use Rattle.trail_text.proofs.Phases.{stops_at_head, stops_at_source, stops_at_end, stops_after_end, reads_all}
 
 nat_or : (a b : ℕ) → (a ≡ b) ⊎ (a ≢ b)
 nat_or a b =
@@ -301,7 +301,7 @@ event_or p bytes short =
       | inr none ↦ inr (no_worker p bytes none)
       | inl w ↦
           elim (kind_or w.1.0) [
-            | inr none ↦ inr (no_kind_behind p bytes w.0 w.1.0 short w.1.1.0 w.1.1.1 none)
+            | inr none ↦ inr (no_kind_after p bytes w.0 w.1.0 short w.1.1.0 w.1.1.1 none)
             | inl v ↦
                 inl (
                   record { worker = w.0; kind = v.0 },
@@ -405,11 +405,11 @@ refuses text rest short breaks =
     inr (length text - length rest, broken short rest breaks (omega (arith, ap length breaks.spelled, length-append (concat breaks.front) rest)))
 
 module _ (text : List ℕ) (short : length text ≤ MOST_TRAIL) where
-  behind_events : (h : HeadAt text) (s : SourceAt h.rest) (es : EventsAt h.p s.1.0) → EndAt es.1.0 ⊎ NoEnd es.1.0 → Reads text
-  behind_events h s es (inr none) =
+  reads_from_events : (h : HeadAt text) (s : SourceAt h.rest) (es : EventsAt h.p s.1.0) → EndAt es.1.0 ⊎ NoEnd es.1.0 → Reads text
+  reads_from_events h s es (inr none) =
       refuses text es.1.0 short
       (stops_at_end h.k h.p h.arena h.steps h.deques h.fits s.0 s.1.1.1 es.0 es.1.1.1.0 text h.rest s.1.0 es.1.0 h.begins s.1.1.0 es.1.1.0 es.1.1.1.1 none)
-  behind_events h s es (inl n) =
+  reads_from_events h s es (inl n) =
       elim (bytes_or n.1.0 []) [
         | inl none ↦
             inl (
@@ -419,21 +419,21 @@ module _ (text : List ℕ) (short : length text ≤ MOST_TRAIL) where
             )
         | inr some ↦
             refuses text n.1.0 short
-            (stops_behind h.k h.p h.arena h.steps h.deques h.fits s.0 s.1.1.1 es.0 es.1.1.1.0 n.0 n.1.1.1 text h.rest s.1.0 es.1.0 n.1.0 h.begins s.1.1.0
+            (stops_after_end h.k h.p h.arena h.steps h.deques h.fits s.0 s.1.1.1 es.0 es.1.1.1.0 n.0 n.1.1.1 text h.rest s.1.0 es.1.0 n.1.0 h.begins s.1.1.0
             es.1.1.0 n.1.1.0 some)
       ]
 
-  behind_head : (h : HeadAt text) → SourceAt h.rest ⊎ NoSource h.rest → Reads text
-  behind_head h (inr none) = refuses text h.rest short (stops_at_source h.k h.p h.arena h.steps h.deques h.fits text h.rest h.begins none)
-  behind_head h (inl s) =
-      let es = events_at (length s.1.0) h.p s.1.0 (omega (arith, h.fits.workers.1)) (omega arith) in behind_events h s es (end_or es.1.0)
+  reads_from_head : (h : HeadAt text) → SourceAt h.rest ⊎ NoSource h.rest → Reads text
+  reads_from_head h (inr none) = refuses text h.rest short (stops_at_source h.k h.p h.arena h.steps h.deques h.fits text h.rest h.begins none)
+  reads_from_head h (inl s) =
+      let es = events_at (length s.1.0) h.p s.1.0 (omega (arith, h.fits.workers.1)) (omega arith) in reads_from_events h s es (end_or es.1.0)
 
-  lines_at : HeadAt text ⊎ NoHead text → Reads text
-  lines_at (inr none) = refuses text text short (stops_at_head text none)
-  lines_at (inl h) = behind_head h (source_or h.rest)
+  reads_from_start : HeadAt text ⊎ NoHead text → Reads text
+  reads_from_start (inr none) = refuses text text short (stops_at_head text none)
+  reads_from_start (inl h) = reads_from_head h (source_or h.rest)
 
 pub each_read : EachRead
 each_read text = elim (cases_lt MOST_TRAIL (length text)) [
   | inl over ↦ inr (MOST_TRAIL, too_long over refl)
-  | inr short ↦ lines_at text short (head_or text)
+  | inr short ↦ reads_from_start text short (head_or text)
 ]

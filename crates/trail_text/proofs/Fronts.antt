@@ -1,4 +1,4 @@
--- How bytes begin with a number, and with the lines of a trail, and that they do in one way.
+-- How bytes begin with a number, and with the first two lines of a trail, and that they do in one way.
 use Rattle.std.proofs.Common.{◌≡◌, ◌≢◌, ℕ, ◌<◌, ◌≤◌, ◌%◌, ◌^◌, List, [], ◌∷◌, ◌++◌, length, take, get_or, append_assoc, ap, sym, ◌∙◌, refl, arith, length-append}
 use Rattle.std.specs.Prelude.{codes}
 use Rattle.std.specs.Fmt.{decimal}
@@ -15,7 +15,7 @@ use Rattle.trail_text.specs.TrailText.{head_line, source_line}
 use Rattle.trail_text.specs.Lines.{number_then, NoNumber, NoneWithin, NoneBelow, NoHead, NoSource}
 use Rattle.trail_text.proofs.Joined.{after_source}
 
--- a number behind a name is one number, and what follows it is the same
+-- the number after a name is one number, and what follows it is the same
 pub number_once :
     (name : List ℕ) (stop n m : ℕ) (x y : List ℕ) → stop < 48 → n < 2 ^ 64 → m < 2 ^ 64 →
     number_then name n stop x ≡ number_then name m stop y → (n ≡ m) × (x ≡ y)
@@ -24,7 +24,7 @@ number_once name stop n m x y low small small' e =
     (append_cancel_left name (decimal n ++ stop ∷ x) (decimal m ++ stop ∷ y) e) in
     (decimal_injective n m small small' cut.0, cut.1)
 
--- no number, where the byte that ends it is missing, or where what stands before it is none
+-- there is no number if the byte that ends it is missing, or if what is before this byte is none
 pub no_stop :
     (name bytes after : List ℕ) (stop : ℕ) → bytes ≡ name ++ after → ((front back : List ℕ) → ¬ (after ≡ front ++ stop ∷ back)) →
     NoNumber name stop bytes
@@ -39,7 +39,7 @@ no_digits name bytes after front rest stop low begins cut lacks none n more smal
     (cut_once stop front (decimal n) rest more lacks (no_other stop low n small)
     (sym cut ∙ append_cancel_left name after (decimal n ++ stop ∷ more) (sym begins ∙ e))).0
 
--- a number that is too small or too great is none within the bounds
+-- a number that is too small or too great is not within the bounds
 module _ (name bytes rest : List ℕ) (stop v : ℕ) (low : stop < 48) (begins : bytes ≡ number_then name v stop rest) (small : v < 2 ^ 64) where
   pub too_small : (least most : ℕ) → most < 2 ^ 64 → v < least → NoneWithin name stop least most bytes
   too_small least most short under n more fits e =
@@ -130,7 +130,7 @@ head_once k p a s d k' p' a' s' d' x y fits fits' e =
     let is_d = number_once (codes "deques ") 10 d d' x y (omega arith) (omega (arith, fits.deques.1)) (omega (arith, fits'.deques.1)) is_s.1 in
     (is_k.0, is_p.0, is_a.0, is_s.0, is_d.0, is_d.1)
 
--- no first line, by the number that is missing, or that is no whole number of pieces
+-- there is no first line if a number is missing, or if the quota or the arena is not of whole pieces
 module _ (bytes : List ℕ) (k : ℕ) (at_p : List ℕ) (e1 : bytes ≡ number_then (codes "trail k ") k 32 at_p) (in_k : IsWithin LEAST_QUOTA GREATEST_QUOTA k) where
   pub no_workers : NoneWithin (codes "p ") 32 1 MOST_WORKERS at_p → NoHead bytes
   no_workers none k' p' a' s' d' more fits e =

@@ -1,4 +1,4 @@
--- In which order the lines of a trail stand, and that a text is cut into them in one way.
+-- In which order the lines of a trail are, and that a text is cut into them in one way.
 use Rattle.std.proofs.Common.{◌≡◌, ◌≢◌, ℕ, ◌<◌, ◌^◌, ◌⊎◌, inl, inr, List, [], ◌∷◌, ◌++◌, length, map, get_or, drop, append_assoc, append-nil, ap, sym, ◌∙◌, refl, arith, length-append}
 use Rattle.std.specs.List.{concat}
 use Rattle.std.specs.Fmt.{decimal}
@@ -18,7 +18,7 @@ first_is a b ps qs e = ap (λ (l : List _). get_or l 0 a) e
 pub others_are : {A : Type 0} (a b : A) (ps qs : List A) → a ∷ ps ≡ b ∷ qs → ps ≡ qs
 others_are a b ps qs e = ap (λ (l : List _). drop 1 l) e
 
--- behind the source each line is that of an event or the last
+-- after the source each line is that of an event or the last
 abbrev pub tail_lines : List TrailEvent → TrailNumbers → List (List ℕ)
 tail_lines events n = map event_line events ++ end_line n ∷ []
 
@@ -50,13 +50,13 @@ tail_once p q a b x y short short' (inr s) (inr t) e =
     ∙ ap end_line (end_once s.0 t.0 x y s.1.0 t.1.0 (ap (λ (l : List ℕ). l ++ x) (sym s.1.1) ∙ e ∙ ap (λ (l : List ℕ). l ++ y) t.1.1)).0
     ∙ sym t.1.1
 
--- some bytes stand in each line
+-- a line has some bytes
 tail_some : (p : ℕ) (a : List ℕ) → IsTail p a → 0 < length a
 tail_some p a (inl s) =
     omega (arith, ap length s.1.1, length-append (decimal s.0.worker) (32 ∷ (kind_words s.0.kind ++ 10 ∷ [])))
 tail_some p a (inr t) = omega (arith, ap length t.1.1)
 
--- trails that begin with the same lines go on with the same line, where the bytes are the same
+-- two trails that begin with the same lines go on with the same line, if the bytes are the same
 pub lines_once :
     (t u : Shown) (front : List (List ℕ)) (a b : List ℕ) (more more' : List (List ℕ)) (x y : List ℕ) → HasTrailRanges t → HasTrailRanges u →
     trail_lines t ≡ front ++ a ∷ more → trail_lines u ≡ front ++ b ∷ more' → a ++ x ≡ b ++ y → a ≡ b
@@ -87,19 +87,19 @@ line_some t (h ∷ s ∷ front) a more ok e =
     tail_some t.p a (tail_is t.p t.events t.numbers front a more ok.events ok.numbers (others_are _ _ _ _ (others_are _ _ _ _ e)))
 
 -- lines at the front of a text are the first of its lines
-cut_behind :
+cut_after :
     (t u : Shown) (done todo ahead left : List (List ℕ)) (rest : List ℕ) → HasTrailRanges t → HasTrailRanges u →
     trail_lines t ≡ done ++ (todo ++ ahead) → trail_lines u ≡ done ++ left → concat todo ++ rest ≡ concat left →
     (more : List (List ℕ)) × ((trail_lines u ≡ (done ++ todo) ++ more) × (rest ≡ concat more))
-cut_behind t u done [] ahead left rest ok ok' et eu e = (left, (eu ∙ ap (λ (d : List (List ℕ)). d ++ left) (sym (append-nil done)), e))
-cut_behind t u done (a ∷ todo) ahead [] rest ok ok' et eu e =
+cut_after t u done [] ahead left rest ok ok' et eu e = (left, (eu ∙ ap (λ (d : List (List ℕ)). d ++ left) (sym (append-nil done)), e))
+cut_after t u done (a ∷ todo) ahead [] rest ok ok' et eu e =
     absurd
     (omega (arith, line_some t done a (todo ++ ahead) ok et, ap length e, length-append (a ++ concat todo) rest, length-append a (concat todo)))
-cut_behind t u done (a ∷ todo) ahead (b ∷ left) rest ok ok' et eu e =
+cut_after t u done (a ∷ todo) ahead (b ∷ left) rest ok ok' et eu e =
     let e' : a ++ (concat todo ++ rest) ≡ b ++ concat left = sym (append_assoc a (concat todo) rest) ∙ e in
     let one : a ≡ b = lines_once t u done a b (todo ++ ahead) left (concat todo ++ rest) (concat left) ok ok' et eu e' in
     let more =
-    cut_behind t u (done ++ a ∷ []) todo ahead left rest ok ok' (et ∙ sym (append_assoc done (a ∷ []) (todo ++ ahead)))
+    cut_after t u (done ++ a ∷ []) todo ahead left rest ok ok' (et ∙ sym (append_assoc done (a ∷ []) (todo ++ ahead)))
     (eu ∙ ap (λ (l : List ℕ). done ++ l ∷ left) (sym one) ∙ sym (append_assoc done (a ∷ []) left))
     (append_cancel_left a (concat todo ++ rest) (concat left) (e' ∙ ap (λ (l : List ℕ). l ++ concat left) (sym one))) in
     (more.0, (more.1.0 ∙ ap (λ (d : List (List ℕ)). d ++ more.0) (append_assoc done (a ∷ []) todo), more.1.1))
@@ -107,14 +107,14 @@ cut_behind t u done (a ∷ todo) ahead (b ∷ left) rest ok ok' et eu e =
 pub cut_lines :
     (t u : Shown) (front ahead : List (List ℕ)) (rest : List ℕ) → HasTrailRanges t → HasTrailRanges u → trail_lines t ≡ front ++ ahead →
     concat front ++ rest ≡ trail_text u → (more : List (List ℕ)) × ((trail_lines u ≡ front ++ more) × (rest ≡ concat more))
-cut_lines t u front ahead rest ok ok' et e = cut_behind t u [] front ahead (trail_lines u) rest ok ok' et refl e
+cut_lines t u front ahead rest ok ok' et e = cut_after t u [] front ahead (trail_lines u) rest ok ok' et refl e
 
 -- what is left of a text does not go on as these lines do
 abbrev pub Stuck : List ℕ → List (List ℕ) → Type 0
 Stuck rest [] = rest ≢ []
 Stuck rest (line ∷ lines) = (more : List ℕ) → rest ≢ line ++ more
 
--- where no trail goes on, the text breaks
+-- if no trail goes on, the text breaks
 pub breaks_here :
     (text rest : List ℕ) (front : List (List ℕ)) → text ≡ concat front ++ rest → Begins front →
     ((t : Shown) (more : List (List ℕ)) → HasTrailRanges t → trail_lines t ≡ front ++ more → Stuck rest more) → BreaksAt text rest

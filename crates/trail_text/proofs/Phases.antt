@@ -106,7 +106,7 @@ module _ (k p a s d : ℕ) (fits : FitSetting k p a s d) where
   short_count : p < 2 ^ 64
   short_count = omega (arith, fits.workers.1)
 
-  -- behind the lines of events stands that of an event or the last
+  -- after the lines of events comes that of an event or the last
   after_events :
       (rest : List ℕ) (events others : List TrailEvent) (n : TrailNumbers) (more : List (List ℕ)) → NoEvent p rest → NoEnd rest →
       FitEvents p events → FitEvents p others → FitNumbers n → tail_lines others n ≡ map event_line events ++ more → Stuck rest more
@@ -119,7 +119,7 @@ module _ (k p a s d : ℕ) (fits : FitSetting k p a s d) where
   after_events rest (x ∷ events) (f ∷ others) n more none none' ok ok' okn e =
       after_events rest events others n more none none' ok.1 ok'.1 okn (others_are _ _ _ _ e)
 
-  -- behind the last line stands nothing
+  -- after the last line comes nothing
   after_end :
       (events others : List TrailEvent) (n m : TrailNumbers) (more : List (List ℕ)) → FitEvents p events → FitEvents p others → FitNumbers n →
       FitNumbers m → tail_lines others m ≡ tail_lines events n ++ more → more ≡ []
@@ -179,11 +179,11 @@ module _ (k p a s d : ℕ) (fits : FitSetting k p a s d) where
           ∙ sym (append_assoc (source_line source) (concat (tail_lines events n)) after))
           ∙ sym (append_assoc (head_line k p a s d) (source_line source ++ concat (tail_lines events n)) after)
 
-      -- behind the last line
-      pub stops_behind :
+      -- after the last line
+      pub stops_after_end :
           (text at_source at_events rest after : List ℕ) → text ≡ head_line k p a s d ++ at_source → at_source ≡ source_line source ++ at_events →
           at_events ≡ concat (map event_line events) ++ rest → rest ≡ end_line n ++ after → after ≢ [] → BreaksAt text after
-      stops_behind text at_source at_events rest after e1 e2 e3 e4 some =
+      stops_after_end text at_source at_events rest after e1 e2 e3 e4 some =
           breaks_here text after (trail_lines (recorded n)) (spelled_all text at_source at_events rest after e1 e2 e3 e4)
           (recorded n, (has_ranges n okn, ([], sym (append-nil (trail_lines (recorded n))))))
           (λ t more okt e.

@@ -13,7 +13,7 @@ use Rattle.trail_text.proofs.Fronts.{head_once, source_once}
 use Rattle.trail_text.proofs.Tails.{event_once, end_once, event_or_end}
 use Rattle.trail_text.proofs.Order.{first_is, others_are, tail_lines, lines_once, line_some, cut_lines}
 
--- the lines behind the source are those of one list of events, and of one end
+-- the lines after the source are those of one list of events, and of one end
 tails_once :
     (p q : ℕ) (events others : List TrailEvent) (n m : TrailNumbers) → p < 2 ^ 64 → q < 2 ^ 64 → FitEvents p events → FitEvents q others →
     FitNumbers n → FitNumbers m → tail_lines events n ≡ tail_lines others m → (events ≡ others) × (n ≡ m)

@@ -72,10 +72,10 @@ event_once p q event other x y short short' fits fits' e =
     let kind = kind_once event.kind other.kind x y fits.1 fits'.1 worker.1 in
     (λ i. record { worker = worker.0 i; kind = kind.0 i }, kind.1)
 
-pub no_kind_behind :
+pub no_kind_after :
     (p : ℕ) (bytes : List ℕ) (worker : ℕ) (after : List ℕ) → p < 2 ^ 64 → bytes ≡ number_then [] worker 32 after → worker < p → NoKind after →
     NoEvent p bytes
-no_kind_behind p bytes worker after short begins under none event more fits e =
+no_kind_after p bytes worker after short begins under none event more fits e =
     none event.kind more fits.1
     (number_once [] 32 worker event.worker after (kind_words event.kind ++ 10 ∷ more) (omega arith) (omega arith) (omega (arith, fits.0))
     (sym begins ∙ e ∙ event_is event more)).1

@@ -21,14 +21,15 @@ head_line k p arena steps deques =
     codes "trail k " ⊕ decimal k ⊕ codes " p " ⊕ decimal p ⊕ codes " arena " ⊕ decimal arena ⊕ codes " steps " ⊕ decimal steps
     ⊕ codes " deques " ⊕ decimal deques ⊕ codes "\n"
 
--- the second line: how many bytes the source has, and these bytes
+-- the second line: how many bytes the source has
 abbrev pub source_front : ℕ → List ℕ
 source_front n = codes "source " ⊕ decimal n ⊕ codes "\n"
 
+-- and these bytes, whatever they are
 abbrev pub source_line : List ℕ → List ℕ
 source_line source = source_front (length source) ⊕ source ⊕ codes "\n"
 
--- what a worker did
+-- the words for what a worker did
 abbrev pub kind_words : TrailKind → List ℕ
 kind_words (Steal place) = codes "steal " ⊕ decimal place
 kind_words Act = codes "act"
@@ -39,7 +40,7 @@ kind_words GiveUp = codes "giveup"
 abbrev pub event_line : TrailEvent → List ℕ
 event_line event = decimal event.worker ⊕ codes " " ⊕ kind_words event.kind ⊕ codes "\n"
 
--- the last line: the numbers that the play came to
+-- the last line: the numbers that the play ended with
 abbrev pub end_line : TrailNumbers → List ℕ
 end_line n =
     codes "end periods " ⊕ decimal n.periods ⊕ codes " ahead " ⊕ decimal n.ahead ⊕ codes " high " ⊕ decimal n.high ⊕ codes "\n"
@@ -52,6 +53,6 @@ trail_lines t =
 abbrev pub trail_text : Shown → List ℕ
 trail_text t = concat (trail_lines t)
 
--- the bytes are this trail
+-- the bytes are the text of this trail, whose numbers are in range
 abbrev pub IsTrail : List ℕ → Shown → Type 0
 IsTrail bytes t = HasTrailRanges t × (length bytes ≤ MOST_TRAIL) × (bytes ≡ trail_text t)

@@ -8,7 +8,7 @@ use byte_cuts::behind;
 use language_limits::MOST_DEQUES;
 use trail_meaning::{TrailEvent, TrailKind};
 
-/// Returns what a worker did by the rest of an event's line, and the bytes after that line.
+/// Returns what a worker did, from the rest of an event's line, and the bytes after that line.
 fn read_kind(bytes: &[u8]) -> Option<(TrailKind, &[u8])>
     ensures { MatchOption result (NoKind bytes.now)
         (λ next. (bytes.now ≡ kind_words next.0 ++ 10 ∷ next.1.now) × FitsKind next.0) }

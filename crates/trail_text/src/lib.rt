@@ -1,9 +1,12 @@
 //! The text of a trail, written and read.
 //!
-//! [`trail_text`] writes a trail, and [`read_trail`] answers the trail of which the bytes are the text, or the line at which
-//! they are none. The layer stands on `trail_meaning`, on `byte_cuts`, on the numbers of `run_report` and on `language_limits`. Its theorem:
-//! what is written is the text of `specs/TrailText.antt`; what is read is the trail whose text the bytes are; and bytes that are no
-//! trail's text are refused at the one place that `specs/Reading.antt` names.
+//! [`trail_text`] writes a trail. [`read_trail`] returns the trail whose text some bytes are, or the first line that breaks the
+//! form. The crate stands on `trail_meaning`, `bounded_list`, `byte_cuts`, `language_limits` and the lemmas of `run_report` on
+//! digits.
+//!
+//! Its theorem: what is written is the text of `specs/TrailText.antt`; what is read is the trail whose text the bytes are; other
+//! bytes are refused at the place that `specs/Reading.antt` names; and each text is one trail's or is refused at one place, never
+//! both ([`texts_have_one_reading`]).
 #![tactic(auto)]
 
 mod ending;

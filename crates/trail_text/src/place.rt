@@ -4,7 +4,7 @@ ghost use Rattle.trail_text.specs.declared.trail_fail.TrailFail.TheVariants.{Not
 
 use crate::trail_fail::TrailFail;
 
-/// Returns the refusal of a text at the place of what is left of it.
+/// Returns the refusal of a text at the place where `rest`, its end, begins.
 pub fn not_trail(text: &[u8], rest: &[u8]) -> TrailFail
     requires within { length rest.now ≤ length text.now }
     requires short { length text.now ≤ MOST_TRAIL }

@@ -16,7 +16,7 @@ use crate::trail_fail::TrailFail;
 use std::alloc::{AllocError, Global};
 use trail_meaning::{Events, MOST_TRAIL, Trail};
 
-/// Returns the events of `p` workers with whose lines some bytes begin, and the bytes after them.
+/// Returns the events of `p` workers in the lines that some bytes begin with, and the bytes after these lines.
 fn read_events(alloc: Global, bytes: &[u8], p: u32) -> Result<(Events, &[u8]), AllocError>
     ensures spelled { IfOk result (λ read. bytes.now ≡ concat (map event_line (entries read.0)) ++ read.1.now) }
     ensures fit { IfOk result (λ read. FitEvents p (entries read.0)) }
@@ -32,7 +32,7 @@ fn read_events(alloc: Global, bytes: &[u8], p: u32) -> Result<(Events, &[u8]), A
     Ok((events, rest))
 }
 
-/// Reads a text that is not too long.
+/// Reads a text that is no longer than a trail may be.
 fn read_short(alloc: Global, text: &[u8]) -> Result<Trail, TrailFail>
     requires { length text.now ≤ MOST_TRAIL }
     ensures { MatchResult result
@@ -64,11 +64,12 @@ fn read_short(alloc: Global, text: &[u8]) -> Result<Trail, TrailFail>
     })
 }
 
-/// Returns the trail of which the bytes are the text.
+/// Returns the trail whose text the bytes are.
 ///
 /// # Errors
 ///
-/// `NotTrail` if the bytes are no trail's text, with the place where that shows; `OutOfMemory` if there is not enough memory.
+/// `NotTrail` if the bytes are the text of no trail, at the first line that breaks the form; `OutOfMemory` if there is not enough
+/// memory.
 pub fn read_trail(alloc: Global, text: &[u8]) -> Result<Trail, TrailFail>
     ensures { MatchResult result
         (λ t. IsTrail text.now (shown_by_trail t))

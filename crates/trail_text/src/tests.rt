@@ -1,5 +1,5 @@
-//! Texts of trails, in which `/` stands for LF, and the places at which others are refused. Each place was counted by hand: it is the length of
-//! the lines before.
+//! Texts of trails, in which `/` is written for LF, and the places at which others are refused: the length of the lines before.
+//! A second reader, made of regular expressions, found the same places.
 
 use crate::{TrailFail, read_trail, trail_text};
 use std::alloc::{AllocError, Global};

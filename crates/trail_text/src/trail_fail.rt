@@ -3,10 +3,10 @@ use std::alloc::AllocError;
 /// Why bytes were not read as a trail.
 #[derive(Clone, Copy, PartialEq, Eq, Debug)]
 pub enum TrailFail {
-    /// The bytes are no trail's text.
+    /// The bytes are the text of no trail.
     NotTrail {
         /// The first byte, from 0, of the first line that breaks the form, or the length if a line is missing. The bytes of the
-        /// source belong to the second line. It is 33,554,432 if there are more bytes than that.
+        /// source belong to the second line. If there are more than 33,554,432 bytes, the place is this number.
         at: u32,
     },
     /// There was not enough memory.

@@ -31,7 +31,7 @@ fn push_event(text: &mut String, event: TrailEvent) -> Result<(), AllocError>
     }
 }
 
-/// Writes the last line: the numbers that the play came to.
+/// Writes the last line: the numbers that the play ended with.
 fn push_end(text: &mut String, numbers: TrailNumbers) -> Result<(), AllocError>
     ensures { OnOk result (string_bytes text.new ≡ string_bytes text.old ++ end_line numbers) }
 {
@@ -44,7 +44,8 @@ fn push_end(text: &mut String, numbers: TrailNumbers) -> Result<(), AllocError>
 
 /// Returns what comes before the bytes of the source.
 fn text_before(alloc: Global, t: &Trail) -> Result<String, AllocError>
-    ensures { IfOk result (λ text. string_bytes text ≡ head_line t.now.k t.now.p t.now.arena t.now.steps t.now.deques ++ source_front (length t.now.source.items)) }
+    ensures { IfOk result (λ text. string_bytes text
+        ≡ head_line t.now.k t.now.p t.now.arena t.now.steps t.now.deques ++ source_front (length t.now.source.items)) }
 {
     let mut text = String::new(alloc);
     push_head(&mut text, t)?;
@@ -65,7 +66,7 @@ fn text_after(alloc: Global, t: &Trail) -> Result<String, AllocError>
     Ok(text)
 }
 
-/// Returns the text of a trail, of whatever numbers.
+/// Returns the text of a trail, whatever its numbers are.
 ///
 /// # Errors
 ///

@@ -1,7 +1,7 @@
 use Rattle.std.proofs.Common.{ℕ, List, sym, subst}
 use Rattle.bounded_list.specs.BoundedList.{entries}
 use Rattle.trail_text.specs.TrailText.{IsTrail}
-use Rattle.trail_text.proofs.Phases.{refused, stops_at_head, stops_at_source, stops_at_end, stops_behind, reads_all, are_none, are_some}
+use Rattle.trail_text.proofs.Phases.{refused, stops_at_head, stops_at_source, stops_at_end, stops_after_end, reads_all, are_none, are_some}
 use Rattle.trail_text.proofs.reading.read_short.Goals as goal
 
 pub returns-in_default : goal.returns-in_default
@@ -29,7 +29,7 @@ pub returns-then-not-is_empty : goal.returns-then-not-is_empty
 returns-then-not-is_empty c =
     let h = c.in-Some.head in
     refused c.args.text.now c.in-Some-read_end.after.now c.not_trail-then-not-is_empty.result c.requires c.not_trail-then-not-is_empty.ensures
-    (stops_behind h.k h.p h.arena h.steps h.deques c.in-Some.ensures.1 c.in-Some-read_source.source.now c.in-Some-read_source.ensures.1
+    (stops_after_end h.k h.p h.arena h.steps h.deques c.in-Some.ensures.1 c.in-Some-read_source.source.now c.in-Some-read_source.ensures.1
     (entries c.in_ok-events.events) c.in_ok-events.ensures.fit
     c.in-Some-read_end.numbers c.in-Some-read_end.ensures.1
     c.args.text.now c.in-Some.at_source.now c.in-Some-read_source.at_events.now c.in_ok-events.at_end.now c.in-Some-read_end.after.now
