@@ -1,0 +1,4 @@
+pub mod Following
+pub mod Told
+pub mod Good
+pub mod Laws
