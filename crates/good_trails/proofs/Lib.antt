@@ -1,1 +1,5 @@
 pub mod Recorded
+pub mod Steps
+pub mod Ended
+pub mod Bounded
+pub mod OneVerdict

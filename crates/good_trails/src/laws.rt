@@ -1,7 +1,24 @@
 ghost use Rattle.deque_machine.specs.Laws.{InEachSetting};
-ghost use Rattle.good_trails.specs.Laws.{PlaysAreFollowed};
+ghost use Rattle.good_trails.specs.Laws.{PlaysAreFollowed, AcceptedAreBounded, NothingBehindTheEnd, OneVerdict};
 
-/// The events of a play that finishes are good, where a deque is allowed.
+/// The events of a play that finishes are good, if at least one deque is allowed. So a trail that records it is good.
 pub fn plays_are_followed()
     ensures { InEachSetting PlaysAreFollowed }
+{}
+
+/// After each front of a good trail's events the words in use are at most the peak, and two quotas for each period that is ahead; the
+/// threads in the deques are in depth-first order; and no action was done twice. At most as many periods are ahead there as are marked at
+/// the end.
+pub fn accepted_are_bounded()
+    ensures { InEachSetting AcceptedAreBounded }
+{}
+
+/// Once the root has ended no event may come, so its End is the last event of a good trail.
+pub fn nothing_behind_the_end()
+    ensures { InEachSetting NothingBehindTheEnd }
+{}
+
+/// A trail has at most one verdict.
+pub fn one_verdict()
+    ensures { InEachSetting OneVerdict }
 {}
