@@ -3,3 +3,4 @@ pub mod Steps
 pub mod Ended
 pub mod Bounded
 pub mod OneVerdict
+pub mod AVerdict

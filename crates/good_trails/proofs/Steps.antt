@@ -22,7 +22,7 @@ use Rattle.trail_meaning.specs.declared.trail_kind.TrailKind.{TrailKind}
 use Rattle.good_trails.specs.Following.{Tells, tells_steal, tells_action, tells_wait, tells_give_up, Leads, pair_of, Follows, stays, goes_on}
 
 -- the id of the thief's deque is one
-one_id : (m : Moment) (place id other : ℕ) → IsThiefsId m place id → IsThiefsId m place other → id ≡ other
+pub one_id : (m : Moment) (place id other : ℕ) → IsThiefsId m place id → IsThiefsId m place other → id ≡ other
 one_id m place id other a b =
     let same : a.0 ≡ b.0 = ap (λ o. unwrap_or o a.0) (sym a.1 ∙ b.1) in
     elim a.2 [

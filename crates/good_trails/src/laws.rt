@@ -1,5 +1,5 @@
 ghost use Rattle.deque_machine.specs.Laws.{InEachSetting};
-ghost use Rattle.good_trails.specs.Laws.{PlaysAreFollowed, AcceptedAreBounded, NothingBehindTheEnd, OneVerdict};
+ghost use Rattle.good_trails.specs.Laws.{PlaysAreFollowed, AcceptedAreBounded, NothingBehindTheEnd, OneVerdict, AVerdict};
 
 /// The events of a play that finishes are good, if at least one deque is allowed. So a trail that records it is good.
 pub fn plays_are_followed()
@@ -21,4 +21,9 @@ pub fn nothing_behind_the_end()
 /// A trail has at most one verdict.
 pub fn one_verdict()
     ensures { InEachSetting OneVerdict }
+{}
+
+/// And each trail has one.
+pub fn a_verdict()
+    ensures { InEachSetting AVerdict }
 {}
