@@ -1,5 +1,5 @@
 -- There is a verdict on each trail.
-use Rattle.std.proofs.Common.{◌≡◌, ◌≢◌, ◌⊎◌, ℕ, zero, suc, ◌+◌, ◌≤◌, ◌<◌, List, [], ◌∷◌, ◌++◌, length, map, inl, inr, refl, sym, ap, subst, ◌∙◌, arith, ℤ, pos, negsuc, ◌+ℤ◌, ◌≤ℤ◌, ◌<ℤ◌}
+use Rattle.std.proofs.Common.{◌≡◌, ◌⊎◌, ℕ, zero, suc, ◌+◌, ◌≤◌, ◌<◌, List, [], ◌∷◌, ◌++◌, length, map, inl, inr, refl, sym, ap, subst, ◌∙◌, arith, ℤ, pos, negsuc, ◌+ℤ◌, ◌≤ℤ◌, ◌<ℤ◌}
 use Rattle.std.specs.Prelude.{Option, None, Some, slice_get, unwrap_or}
 use Rattle.std.specs.Int.{int_max}
 use Rattle.std.proofs.lemmas.Bool.{cases_lt, cases_eq}
@@ -14,7 +14,7 @@ use Rattle.deque_machine.specs.Moments.{Deque, Moment, opening, done_at, live_at
 use Rattle.deque_machine.specs.Machine.{Setting, Event, steals, does, suspends, gives_up, HasEnded, May}
 use Rattle.deque_machine.specs.LawfulOrder.{IsLawful}
 use Rattle.deque_machine.specs.Runs.{Pair, moves, high_water_mark}
-use Rattle.deque_machine.specs.Play.{Limits, Stays, IsThiefsId}
+use Rattle.deque_machine.specs.Play.{Limits, IsThiefsId}
 use Rattle.deque_machine.proofs.Kept.{opening_is_lawful}
 use Rattle.deque_machine.proofs.LiveThreads.{one_next}
 use Rattle.deque_machine.proofs.Movers.{Decided, ended_or_not, stays_or_not}
@@ -206,15 +206,15 @@ module _ (s : Setting) (some : 0 < s.quota) (list : IsDepthFirst s.quota s.list)
     | inl on ↦ elim (walk on.next (leads_lawful s some list limits m lawful told on.event on.next on.leads) later) [
       | inl w ↦ inl (record { run = pair_of told.worker on.event ∷ w.run; last = w.last; follows = goes_on m on.next w.last told on.event later w.run on.leads w.follows })
       | inr b ↦ inr (record {
-          front = told ∷ b.front;
-          back = b.back;
-          told = b.told;
-          run = pair_of told.worker on.event ∷ b.run;
-          mid = b.mid;
-          is = ap (λ t. told ∷ t) b.is;
-          follows = goes_on m on.next b.mid told on.event b.front b.run on.leads b.follows;
-          nowhere = b.nowhere;
-        })
+        front = told ∷ b.front;
+        back = b.back;
+        told = b.told;
+        run = pair_of told.worker on.event ∷ b.run;
+        mid = b.mid;
+        is = ap (λ t. told ∷ t) b.is;
+        follows = goes_on m on.next b.mid told on.event b.front b.run on.leads b.follows;
+        nowhere = b.nowhere;
+      })
     ]
   ]
 

@@ -1,8 +1,8 @@
 -- What holds after each front of a good trail.
-use Rattle.std.proofs.Common.{◌≡◌, ℕ, ◌≤◌, ◌<◌, List, [], ◌++◌, sym, ap, subst, ◌∙◌, arith}
+use Rattle.std.proofs.Common.{◌≡◌, ◌<◌, List, ap, subst, arith}
 use Rattle.depth_first_list.specs.Runs.{IsDepthFirst}
-use Rattle.lawful_books.specs.Books.{IsPrefix, periods_ahead, periods_marked}
-use Rattle.deque_machine.specs.Moments.{Moment, opening, done_at}
+use Rattle.lawful_books.specs.Books.{periods_marked}
+use Rattle.deque_machine.specs.Moments.{Moment, opening}
 use Rattle.deque_machine.specs.Machine.{Setting}
 use Rattle.deque_machine.specs.LawfulOrder.{IsLawful}
 use Rattle.deque_machine.specs.Runs.{Pair}

@@ -4,3 +4,4 @@ pub mod Ended
 pub mod Bounded
 pub mod OneVerdict
 pub mod AVerdict
+pub mod Examples

@@ -13,7 +13,7 @@ use Rattle.trail_meaning.specs.declared.trail_event.TrailEvent.{TrailEvent}
 use Rattle.trail_meaning.specs.declared.trail_numbers.TrailNumbers.{TrailNumbers}
 use Rattle.good_trails.specs.Following.{Leads, Follows, stays, goes_on}
 use Rattle.good_trails.specs.Good.{IsGood}
-use Rattle.good_trails.specs.Verdicts.{AreNumbers, LeadsNowhere, Verdict, accepted, bad_event, not_ended, wrong_numbers, IsVerdict, is_accepted, is_bad, is_unended, is_wrong}
+use Rattle.good_trails.specs.Verdicts.{AreNumbers, LeadsNowhere, Verdict, accepted, bad_event, wrong_numbers, IsVerdict, is_accepted, is_bad, is_unended, is_wrong}
 use Rattle.good_trails.specs.Laws.{OneVerdict}
 use Rattle.good_trails.proofs.Steps.{one_lead, leads_lawful, one_run}
 

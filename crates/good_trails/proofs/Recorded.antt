@@ -1,25 +1,23 @@
--- The events of a play are a good trail.
-use Rattle.std.proofs.Common.{◌≡◌, ℕ, zero, suc, ◌+◌, ◌≤◌, ◌<◌, List, [], ◌∷◌, ◌++◌, length, map, inl, inr, refl, sym, ap, subst, ◌∙◌, arith, length-append, nat_lt, true, ℤ, pos, ◌+ℤ◌, ◌≤ℤ◌, ◌<ℤ◌}
+-- The events of a play that finishes are good.
+use Rattle.std.proofs.Common.{◌≡◌, ℕ, suc, ◌+◌, ◌≤◌, ◌<◌, List, [], ◌∷◌, ◌++◌, length, map, inl, inr, refl, sym, ap, subst, ◌∙◌, arith, length-append, nat_lt, true, ℤ, pos, ◌+ℤ◌, ◌≤ℤ◌}
 use Rattle.std.specs.Prelude.{Option, None, Some, slice_get}
 use Rattle.std.proofs.lemmas.Bool.{cases_lt}
 use Rattle.std.proofs.lemmas.Int.{ints, by_lt_z}
-use Rattle.depth_first_list.specs.Actions.{Deed, forks, joins, allocates, releases, dummy, faults, ends, Action, live_words, weight_of}
+use Rattle.depth_first_list.specs.Actions.{Deed, forks, joins, allocates, releases, dummy, faults, ends, live_words, weight_of}
 use Rattle.depth_first_list.specs.Runs.{IsDepthFirst}
 use Rattle.depth_first_list.specs.Facts.{action_at, deed_at, words_at, weight_at}
-use Rattle.lawful_books.specs.Books.{Book, booked}
+use Rattle.lawful_books.specs.Books.{booked}
 use Rattle.lawful_books.proofs.Keeping.{closed_same, begun_same}
 use Rattle.lawful_books.proofs.Whole.{total_ones}
-use Rattle.deque_machine.specs.Moments.{Deque, Moment, opening, done_at, live_at}
+use Rattle.deque_machine.specs.Moments.{Deque, Moment, opening, live_at}
 use Rattle.deque_machine.specs.Machine.{Setting, Event, steals, does, suspends, gives_up, Owns, books_with, books_closed, new_book, HasEnded, May, steals_beside, takes_over, forks_child, joins_child, allocates_within, allocates_above, releases_words, meets_fault, runs_dummy, ends_above_parent, ends_and_wakes, ends_and_leaves, suspends_top, gives_deque_up}
 use Rattle.deque_machine.specs.Runs.{Pair, place_of}
-use Rattle.deque_machine.specs.Play.{words_taken, taken_by, Limits, Stop, arena_full, steps_spent, deques_full, Ending, finished, Stays, Wants, a_theft, a_give_up, a_wait, an_action, Fills, Meets, no_deque, no_words, no_steps, Turn, words_drawn, Plays, is_over, is_stopped, goes_on}
+use Rattle.deque_machine.specs.Play.{words_taken, taken_by, Limits, Stop, arena_full, steps_spent, deques_full, Ending, finished, Stays, Wants, a_theft, a_give_up, a_wait, an_action, Fills, Meets, no_deque, no_words, no_steps, words_drawn, Plays, is_over, is_stopped, goes_on}
 use Rattle.deque_machine.proofs.Reached.{event_writes}
 use Rattle.deque_machine.proofs.Sizes.{booked_more}
-use Rattle.trail_meaning.specs.declared.trail_event.TrailEvent.{TrailEvent}
 use Rattle.good_trails.specs.Following as trail
 use Rattle.good_trails.specs.Following.{Tells, tells_steal, tells_action, tells_wait, tells_give_up, IsWithin, Leads, Follows}
 use Rattle.good_trails.specs.Told.{kind_told, event_told, events_told}
-use Rattle.good_trails.specs.Good.{IsGood}
 use Rattle.good_trails.specs.Laws.{PlaysAreFollowed}
 
 -- what the rules want of a worker is what its kind says
@@ -29,22 +27,23 @@ wanted_is_told s m worker word event (a_give_up forced) = tells_give_up
 wanted_is_told s m worker word event (a_wait o place child at none) = tells_wait
 wanted_is_told s m worker word event (an_action o place next has fits) = tells_action place
 
--- an action does not raise the words in use, or it takes words
+no_words_lift : (n : ℕ) → n ≡ 0 → pos n ≤ℤ pos 0
+no_words_lift n none = omega (arith, ints)
+
+no_more : (x c : ℤ) → x ≤ℤ c → (x +ℤ pos 0) ≤ℤ c
+no_more x c few = omega (arith, ints)
+
+-- an action that takes no words does not raise the words in use
 lifts : (deed : Deed) (words : ℕ) → taken_by deed words ≡ 0 → weight_of deed words ≤ℤ pos 0
-lifts (forks child) words none = none_lift words none
-  where
-    none_lift : (n : ℕ) → n ≡ 0 → pos n ≤ℤ pos 0
-    none_lift n none = omega (arith, ints)
+lifts (forks child) words none = no_words_lift words none
 lifts (joins child) words none = omega (arith, ints)
-lifts allocates words none = none_lift words none
-  where
-    none_lift : (n : ℕ) → n ≡ 0 → pos n ≤ℤ pos 0
-    none_lift n none = omega (arith, ints)
+lifts allocates words none = no_words_lift words none
 lifts releases words none = omega (arith, ints)
 lifts dummy words none = omega (arith, ints)
 lifts faults words none = omega (arith, ints)
 lifts ends words none = omega (arith, ints)
 
+-- and one that takes words raises them by so many
 weighs : (deed : Deed) (words : ℕ) → 0 < taken_by deed words → weight_of deed words ≡ pos words
 weighs (forks child) words some = refl
 weighs (joins child) words some = absurd (omega arith)
@@ -54,8 +53,9 @@ weighs dummy words some = absurd (omega arith)
 weighs faults words some = absurd (omega arith)
 weighs ends words some = absurd (omega arith)
 
-acted : (m : Moment) (k : ℕ) (worker : ℕ) (o : Owns m worker) (owner : Option ℕ) (place : ℕ) → length (booked (books_with o owner place)) ≡ length (booked m.books) + 1
-acted m k worker o owner place =
+-- the number of actions in the books, with one more or with a book closed
+acted : (m : Moment) (worker : ℕ) (o : Owns m worker) (owner : Option ℕ) (place : ℕ) → length (booked (books_with o owner place)) ≡ length (booked m.books) + 1
+acted m worker o owner place =
     let more = booked_more (λ i. 1) o.older o.newer o.book owner place in
     let a = total_ones (booked (books_with o owner place)) in let b = total_ones (booked (o.older ++ o.book ∷ o.newer)) in
     let c : length (booked m.books) ≡ length (booked (o.older ++ o.book ∷ o.newer)) = ap (λ t. length (booked t)) o.books_are in omega (arith, more, a, b, c)
@@ -72,16 +72,16 @@ adds_actions s m worker event after (steals_beside left right victim first other
     let same = ap length (begun_same m.books (new_book worker true) refl) in omega (arith, same)
 adds_actions s m worker event after (takes_over left right thread id idle reach deques_are) =
     let same = ap length (begun_same m.books (new_book worker (nat_lt 0 (length left))) refl) in omega (arith, same)
-adds_actions s m worker event after (forks_child o place child at fits) = acted m 0 worker o (Some worker) place
-adds_actions s m worker event after (joins_child o place child at has) = acted m 0 worker o (Some worker) place
-adds_actions s m worker event after (allocates_within o place at small fits) = acted m 0 worker o (Some worker) place
-adds_actions s m worker event after (allocates_above o place at large) = acted m 0 worker o (Some worker) place
-adds_actions s m worker event after (releases_words o place at) = acted m 0 worker o (Some worker) place
-adds_actions s m worker event after (meets_fault o place at) = acted m 0 worker o (Some worker) place
-adds_actions s m worker event after (runs_dummy o place at) = acted m 0 worker o None place
-adds_actions s m worker event after (ends_above_parent o place child parent below at under_is top_is) = acted m 0 worker o (Some worker) place
-adds_actions s m worker event after (ends_and_wakes o place before later parent at under_is waiting_is top_is) = acted m 0 worker o (Some worker) place
-adds_actions s m worker event after (ends_and_leaves o place at under_is unwaited) = acted m 0 worker o None place
+adds_actions s m worker event after (forks_child o place child at fits) = acted m worker o (Some worker) place
+adds_actions s m worker event after (joins_child o place child at has) = acted m worker o (Some worker) place
+adds_actions s m worker event after (allocates_within o place at small fits) = acted m worker o (Some worker) place
+adds_actions s m worker event after (allocates_above o place at large) = acted m worker o (Some worker) place
+adds_actions s m worker event after (releases_words o place at) = acted m worker o (Some worker) place
+adds_actions s m worker event after (meets_fault o place at) = acted m worker o (Some worker) place
+adds_actions s m worker event after (runs_dummy o place at) = acted m worker o None place
+adds_actions s m worker event after (ends_above_parent o place child parent below at under_is top_is) = acted m worker o (Some worker) place
+adds_actions s m worker event after (ends_and_wakes o place before later parent at under_is waiting_is top_is) = acted m worker o (Some worker) place
+adds_actions s m worker event after (ends_and_leaves o place at under_is unwaited) = acted m worker o None place
 adds_actions s m worker event after (suspends_top o place child at not_ended under_is) = closed m worker o
 adds_actions s m worker event after (gives_deque_up o) = closed m worker o
 
@@ -92,17 +92,17 @@ MayAdd limits m (does place) = Unit {0}
 MayAdd limits m suspends = Unit {0}
 MayAdd limits m gives_up = Unit {0}
 
+-- the deque in the middle of a list
 get_middle : (left : List Deque) (d : Deque) (right : List Deque) → slice_get (left ++ d ∷ right) (length left) ≡ Some d
 get_middle [] d right = refl
 get_middle (e ∷ left) d right = get_middle left d right
 
-middle : (left right : List Deque) (d : Deque) → length (left ++ d ∷ right) ≡ length left + suc (length right)
-middle left right d = length-append left (d ∷ right)
-
 module _ (s : Setting) (limits : Limits) (m : Moment) (worker : ℕ) where
+  -- the deques on both sides of the worker's
   cut : (o : Owns m worker) → length m.deques ≡ length o.left + suc (length o.right)
   cut o = ap length o.deques_are ∙ length-append o.left _
 
+  -- so there are not too many deques after it
   deques_fit : (event : Event) (after : Moment) → May s m worker event after → MayAdd limits m event → length m.deques ≤ limits.deques → length after.deques ≤ limits.deques
   unfolding MayAdd
   deques_fit event after (steals_beside left right victim first others bottom id idle reach deques_are threads_are new_id) room few =
@@ -136,6 +136,7 @@ module _ (s : Setting) (limits : Limits) (m : Moment) (worker : ℕ) where
       let was = cut o in let now : length after.deques ≡ length o.left + suc (length o.right) = length-append o.left (_ ∷ o.right) in omega (arith, was, now, few)
 
 module _ (s : Setting) (limits : Limits) (m : Moment) where
+  -- an event that meets no stop keeps to each limit
   adds_no_stop : (event : Event) → ((stop : Stop) → ¬ Meets s limits m event stop) → MayAdd limits m event
   unfolding MayAdd
   adds_no_stop (steals place id) none = λ d there stays. elim (cases_lt (length m.deques) limits.deques) [
@@ -152,17 +153,8 @@ module _ (s : Setting) (limits : Limits) (m : Moment) where
   words_fit : (event : Event) → ((stop : Stop) → ¬ Meets s limits m event stop) → live_at s.list m ≤ℤ pos limits.capacity
       → (live_at s.list m +ℤ live_words (map (action_at s.list) (place_of event))) ≤ℤ pos limits.capacity
   words_fit (steals place id) none few = no_more (live_at s.list m) (pos limits.capacity) few
-    where
-      no_more : (x c : ℤ) → x ≤ℤ c → (x +ℤ pos 0) ≤ℤ c
-      no_more x c few = omega (arith, ints)
   words_fit suspends none few = no_more (live_at s.list m) (pos limits.capacity) few
-    where
-      no_more : (x c : ℤ) → x ≤ℤ c → (x +ℤ pos 0) ≤ℤ c
-      no_more x c few = omega (arith, ints)
   words_fit gives_up none few = no_more (live_at s.list m) (pos limits.capacity) few
-    where
-      no_more : (x c : ℤ) → x ≤ℤ c → (x +ℤ pos 0) ≤ℤ c
-      no_more x c few = omega (arith, ints)
   words_fit (does place) none few = elim (cases_lt 0 (words_taken (action_at s.list place))) [
     | inr low ↦ falls (live_at s.list m) (weight_at s.list place) (pos limits.capacity) few
         (lifts (deed_at s.list place) (words_at s.list place) (let is : words_taken (action_at s.list place) ≡ 0 = omega (arith, low) in is))

@@ -1,15 +1,15 @@
 -- An event of a trail leads one way, and so do its events one after another.
-use Rattle.std.proofs.Common.{◌≡◌, ℕ, ◌+◌, ◌≤◌, ◌<◌, Bool, true, List, [], ◌∷◌, ◌++◌, length, inl, inr, refl, sym, ap, subst, ◌∙◌, arith}
+use Rattle.std.proofs.Common.{◌≡◌, ℕ, ◌<◌, List, [], ◌∷◌, ◌++◌, inl, inr, refl, sym, ap, subst, ◌∙◌, arith}
 use Rattle.std.specs.Prelude.{Option, None, Some, unwrap_or}
 use Rattle.std.proofs.lemmas.Bool.{cases_order}
 use Rattle.depth_first_list.specs.Runs.{IsDepthFirst}
-use Rattle.depth_first_list.specs.Facts.{deed_at, IsNext}
-use Rattle.deque_machine.specs.Moments.{Moment, opening, done_at, with_id}
+use Rattle.depth_first_list.specs.Facts.{deed_at}
+use Rattle.deque_machine.specs.Moments.{Moment, done_at}
 use Rattle.deque_machine.specs.Machine.{Setting, Event, steals, does, May}
 use Rattle.deque_machine.specs.LawfulOrder.{IsLawful}
 use Rattle.deque_machine.specs.Runs.{Pair, Reaches}
 use Rattle.deque_machine.specs.Play.{Limits, Stays, IsThiefsId}
-use Rattle.deque_machine.proofs.Kept.{kept, opening_is_lawful}
+use Rattle.deque_machine.proofs.Kept.{kept}
 use Rattle.deque_machine.proofs.LiveThreads.{one_next}
 use Rattle.machine_replay.specs.Tests.{is_next}
 use Rattle.machine_replay.specs.Step.{Hand, hand_of, act_by, does_by}
