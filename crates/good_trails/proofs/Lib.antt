@@ -1,3 +1,4 @@
+pub mod Adding
 pub mod Recorded
 pub mod Steps
 pub mod Ended

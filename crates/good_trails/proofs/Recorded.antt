@@ -1,24 +1,23 @@
 -- The events of a play that finishes are good.
-use Rattle.std.proofs.Common.{◌≡◌, ℕ, suc, ◌+◌, ◌≤◌, ◌<◌, List, [], ◌∷◌, ◌++◌, length, map, inl, inr, refl, sym, ap, subst, ◌∙◌, arith, length-append, nat_lt, true, ℤ, pos, ◌+ℤ◌, ◌≤ℤ◌}
-use Rattle.std.specs.Prelude.{Option, None, Some, slice_get}
+use Rattle.std.proofs.Common.{◌≡◌, ℕ, suc, ◌+◌, ◌≤◌, ◌<◌, List, [], ◌∷◌, ◌++◌, length, map, inl, inr, refl, sym, ap, subst, ◌∙◌, arith, length-append, ℤ, pos, ◌+ℤ◌, ◌≤ℤ◌}
+use Rattle.std.specs.Prelude.{Some, slice_get}
 use Rattle.std.proofs.lemmas.Bool.{cases_lt}
 use Rattle.std.proofs.lemmas.Int.{ints, by_lt_z}
 use Rattle.depth_first_list.specs.Actions.{Deed, forks, joins, allocates, releases, dummy, faults, ends, live_words, weight_of}
 use Rattle.depth_first_list.specs.Runs.{IsDepthFirst}
 use Rattle.depth_first_list.specs.Facts.{action_at, deed_at, words_at, weight_at}
 use Rattle.lawful_books.specs.Books.{booked}
-use Rattle.lawful_books.proofs.Keeping.{closed_same, begun_same}
 use Rattle.lawful_books.proofs.Whole.{total_ones}
 use Rattle.deque_machine.specs.Moments.{Deque, Moment, opening, live_at}
-use Rattle.deque_machine.specs.Machine.{Setting, Event, steals, does, suspends, gives_up, Owns, books_with, books_closed, new_book, HasEnded, May, steals_beside, takes_over, forks_child, joins_child, allocates_within, allocates_above, releases_words, meets_fault, runs_dummy, ends_above_parent, ends_and_wakes, ends_and_leaves, suspends_top, gives_deque_up}
+use Rattle.deque_machine.specs.Machine.{Setting, Event, steals, does, suspends, gives_up, Owns, HasEnded, May, steals_beside, takes_over, forks_child, joins_child, allocates_within, allocates_above, releases_words, meets_fault, runs_dummy, ends_above_parent, ends_and_wakes, ends_and_leaves, suspends_top, gives_deque_up}
 use Rattle.deque_machine.specs.Runs.{Pair, place_of}
 use Rattle.deque_machine.specs.Play.{words_taken, taken_by, Limits, Stop, arena_full, steps_spent, deques_full, Ending, finished, Stays, Wants, a_theft, a_give_up, a_wait, an_action, Fills, Meets, no_deque, no_words, no_steps, words_drawn, Plays, is_over, is_stopped, goes_on}
 use Rattle.deque_machine.proofs.Reached.{event_writes}
-use Rattle.deque_machine.proofs.Sizes.{booked_more}
 use Rattle.good_trails.specs.Following as trail
 use Rattle.good_trails.specs.Following.{Tells, tells_steal, tells_action, tells_wait, tells_give_up, IsWithin, Leads, Follows}
 use Rattle.good_trails.specs.Told.{kind_told, event_told, events_told}
 use Rattle.good_trails.specs.Laws.{PlaysAreFollowed}
+use Rattle.good_trails.proofs.Adding.{adds_to_books}
 
 -- what the rules want of a worker is what its kind says
 wanted_is_told : (s : Setting) (m : Moment) (worker word : ℕ) (event : Event) → Wants s m worker word event → Tells m (kind_told event) event
@@ -53,37 +52,12 @@ weighs dummy words some = absurd (omega arith)
 weighs faults words some = absurd (omega arith)
 weighs ends words some = absurd (omega arith)
 
--- the number of actions in the books, with one more or with a book closed
-acted : (m : Moment) (worker : ℕ) (o : Owns m worker) (owner : Option ℕ) (place : ℕ) → length (booked (books_with o owner place)) ≡ length (booked m.books) + 1
-acted m worker o owner place =
-    let more = booked_more (λ i. 1) o.older o.newer o.book owner place in
-    let a = total_ones (booked (books_with o owner place)) in let b = total_ones (booked (o.older ++ o.book ∷ o.newer)) in
-    let c : length (booked m.books) ≡ length (booked (o.older ++ o.book ∷ o.newer)) = ap (λ t. length (booked t)) o.books_are in omega (arith, more, a, b, c)
-
-closed : (m : Moment) (worker : ℕ) (o : Owns m worker) → length (booked (books_closed o)) ≡ length (booked m.books) + 0
-closed m worker o =
-    let a : length (booked (books_closed o)) ≡ length (booked (o.older ++ o.book ∷ o.newer)) = ap length (closed_same o.older o.newer o.book None) in
-    let c : length (booked m.books) ≡ length (booked (o.older ++ o.book ∷ o.newer)) = ap (λ t. length (booked t)) o.books_are in omega (arith, a, c)
-
 -- an action is one more in the books, and any other event adds none
 adds_actions : (s : Setting) (m : Moment) (worker : ℕ) (event : Event) (after : Moment) → May s m worker event after
     → length (booked after.books) ≡ length (booked m.books) + length (place_of event)
-adds_actions s m worker event after (steals_beside left right victim first others bottom id idle reach deques_are threads_are new_id) =
-    let same = ap length (begun_same m.books (new_book worker true) refl) in omega (arith, same)
-adds_actions s m worker event after (takes_over left right thread id idle reach deques_are) =
-    let same = ap length (begun_same m.books (new_book worker (nat_lt 0 (length left))) refl) in omega (arith, same)
-adds_actions s m worker event after (forks_child o place child at fits) = acted m worker o (Some worker) place
-adds_actions s m worker event after (joins_child o place child at has) = acted m worker o (Some worker) place
-adds_actions s m worker event after (allocates_within o place at small fits) = acted m worker o (Some worker) place
-adds_actions s m worker event after (allocates_above o place at large) = acted m worker o (Some worker) place
-adds_actions s m worker event after (releases_words o place at) = acted m worker o (Some worker) place
-adds_actions s m worker event after (meets_fault o place at) = acted m worker o (Some worker) place
-adds_actions s m worker event after (runs_dummy o place at) = acted m worker o None place
-adds_actions s m worker event after (ends_above_parent o place child parent below at under_is top_is) = acted m worker o (Some worker) place
-adds_actions s m worker event after (ends_and_wakes o place before later parent at under_is waiting_is top_is) = acted m worker o (Some worker) place
-adds_actions s m worker event after (ends_and_leaves o place at under_is unwaited) = acted m worker o None place
-adds_actions s m worker event after (suspends_top o place child at not_ended under_is) = closed m worker o
-adds_actions s m worker event after (gives_deque_up o) = closed m worker o
+adds_actions s m worker event after may =
+    let sum = adds_to_books s (λ i. 1) m worker event after may in
+    let a = total_ones (booked after.books) in let b = total_ones (booked m.books) in let c = total_ones (place_of event) in omega (arith, sum, a, b, c)
 
 -- what an event may do to the number of the deques: a steal from a deque that stays makes one more, and any other event none
 MayAdd : Limits → Moment → Event → Type 0

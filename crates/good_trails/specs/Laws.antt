@@ -1,13 +1,15 @@
 -- What holds of good trails.
-use Rattle.std.specs.Prelude.{◌≡◌, ℕ, ◌<◌, ◌≤◌, List, [], ◌++◌, ◌≤ℤ◌}
+use Rattle.std.specs.Prelude.{◌≡◌, ℕ, ◌<◌, ◌≤◌, List, [], ◌∷◌, ◌++◌, ◌≤ℤ◌}
+use Rattle.depth_first_list.specs.Actions.{ends}
+use Rattle.depth_first_list.specs.Facts.{label_at, deed_at}
 use Rattle.lawful_books.specs.Books.{IsPrefix, periods_ahead, periods_marked, bound}
-use Rattle.deque_machine.specs.Machine.{Setting, Event, HasEnded, May}
+use Rattle.deque_machine.specs.Machine.{Setting, Event, does, HasEnded, May}
 use Rattle.deque_machine.specs.Moments.{Moment, opening, done_at, live_at, threads_in, Rises}
 use Rattle.deque_machine.specs.Play.{Limits, Plays, finished}
 use Rattle.deque_machine.specs.Runs.{Pair}
 use Rattle.trail_meaning.specs.declared.trail_event.TrailEvent.{TrailEvent}
 use Rattle.trail_meaning.specs.declared.trail_numbers.TrailNumbers.{TrailNumbers}
-use Rattle.good_trails.specs.Following.{Follows}
+use Rattle.good_trails.specs.Following.{Leads, Follows}
 use Rattle.good_trails.specs.Good.{IsGood}
 use Rattle.good_trails.specs.Told.{events_told}
 use Rattle.good_trails.specs.Verdicts.{Verdict, IsVerdict}
@@ -44,6 +46,25 @@ abbrev pub NothingBehindTheEnd : Setting → Type 0
 NothingBehindTheEnd s = (limits : Limits) (events : List TrailEvent) (run : List Pair) (m after : Moment) (worker : ℕ) (event : Event)
     → Follows s limits opening events run m → HasEnded s m [] → ¬ May s m worker event after
 
+-- From a moment on the last of these events is the End of the root, which had not ended before.
+pub record EndsWithRoot (s : Setting) (limits : Limits) (first : Moment) (events : List TrailEvent) (last : Moment) : Type 0 where
+  pub front : List TrailEvent
+  pub told : TrailEvent
+  pub is : events ≡ front ++ told ∷ []
+  pub begun : List Pair
+  pub before : Moment
+  pub follows : Follows s limits first front begun before
+  pub not_ended : ¬ HasEnded s before []
+  pub place : ℕ
+  pub of_root : label_at s.list place ≡ []
+  pub its_end : deed_at s.list place ≡ ends
+  pub leads : Leads s limits before told (does place) last
+
+-- and so it is with good events
+abbrev pub RootEndsLast : Setting → Type 0
+RootEndsLast s = (limits : Limits) (events : List TrailEvent) (run : List Pair) (last : Moment) → IsGood s limits events run last
+    → EndsWithRoot s limits opening events last
+
 -- there is at most one verdict
 abbrev pub OneVerdict : Setting → Type 0
 OneVerdict s = (limits : Limits) (events : List TrailEvent) (numbers : TrailNumbers) (one other : Verdict)
@@ -51,4 +72,5 @@ OneVerdict s = (limits : Limits) (events : List TrailEvent) (numbers : TrailNumb
 
 -- and there is one
 abbrev pub AVerdict : Setting → Type 0
-AVerdict s = (limits : Limits) (events : List TrailEvent) (numbers : TrailNumbers) → (verdict : Verdict) × IsVerdict s limits events numbers verdict
+AVerdict s = (limits : Limits) (events : List TrailEvent) (numbers : TrailNumbers)
+    → (verdict : Verdict) × IsVerdict s limits events numbers verdict

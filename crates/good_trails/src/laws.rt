@@ -1,7 +1,7 @@
 ghost use Rattle.deque_machine.specs.Laws.{InEachSetting};
-ghost use Rattle.good_trails.specs.Laws.{PlaysAreFollowed, AcceptedAreBounded, NothingBehindTheEnd, OneVerdict, AVerdict};
+ghost use Rattle.good_trails.specs.Laws.{PlaysAreFollowed, AcceptedAreBounded, NothingBehindTheEnd, RootEndsLast, OneVerdict, AVerdict};
 
-/// The events of a play that finishes are good, if at least one deque is allowed. So a trail that records it is good.
+/// The events of a play that finishes are good, if at least one deque is allowed.
 pub fn plays_are_followed()
     ensures { InEachSetting PlaysAreFollowed }
 {}
@@ -13,9 +13,14 @@ pub fn accepted_are_bounded()
     ensures { InEachSetting AcceptedAreBounded }
 {}
 
-/// Once the root has ended no event may come, so its End is the last event of a good trail.
+/// Once the root has ended no event may come.
 pub fn nothing_behind_the_end()
     ensures { InEachSetting NothingBehindTheEnd }
+{}
+
+/// The last event of a good trail is the End of the root, which had not ended before.
+pub fn root_ends_last()
+    ensures { InEachSetting RootEndsLast }
 {}
 
 /// A trail has at most one verdict.

@@ -8,9 +8,9 @@
 //! It uses the machine of `deque_machine`, the laws of `machine_replay` on how it is computed, and the types of `trail_meaning`.
 //!
 //! Its theorem is that each trail has just one verdict ([`laws::a_verdict`], [`laws::one_verdict`]). The events of a play that finishes are
-//! good ([`laws::plays_are_followed`]), and after each event of a good trail the words in use are at most the depth-first peak, and two
-//! quotas for each period that is ahead ([`laws::accepted_are_bounded`]). The End of the root is the last event
-//! ([`laws::nothing_behind_the_end`]). A worked trail and its four verdicts are in `proofs/Examples.antt`.
+//! good ([`laws::plays_are_followed`]). After each event of a good trail the words in use are at most the depth-first peak, and two quotas
+//! for each period that is ahead ([`laws::accepted_are_bounded`]). Its last event is the End of the root ([`laws::root_ends_last`]), after
+//! which no event may come ([`laws::nothing_behind_the_end`]). A worked trail and its four verdicts are in `proofs/Examples.antt`.
 #![tactic(auto)]
 
 pub mod laws;
