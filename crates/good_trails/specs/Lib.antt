@@ -1,0 +1,5 @@
+pub mod Following
+pub mod Told
+pub mod Good
+pub mod Verdicts
+pub mod Laws

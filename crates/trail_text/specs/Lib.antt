@@ -1,0 +1,4 @@
+pub mod TrailText
+pub mod Lines
+pub mod Reading
+pub mod Laws
