@@ -8,8 +8,6 @@
 #[cfg(test)]
 mod give_ups;
 #[cfg(test)]
-mod handed_over;
-#[cfg(test)]
 mod listed;
 #[cfg(test)]
 mod plays;

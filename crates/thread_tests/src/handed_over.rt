@@ -1,6 +1,7 @@
-//! Threads that are handed to another thread of the system.
+//! Threads and pools that are handed to another thread of the system.
 
 use accepted_source::accept;
+use block_arena::Pool;
 use frame_code::lower;
 use node_table::Code;
 use std::alloc::Global;
@@ -23,4 +24,14 @@ fn a_thread_crosses_threads(rt: HostRuntime) {
     let root = Thread::root(rt.alloc(), &code).expect(&rt, "memory");
     let (done, other) = join(&rt, move || root.done(), || 1);
     assert_eq!(rt; (done, other), (0, 1));
+}
+
+// A pool goes to another thread of the system, with the pieces that it keeps.
+#[test]
+fn a_pool_crosses_threads(rt: HostRuntime) {
+    let Ok(pool) = Pool::new(rt.alloc(), 16) else {
+        panic!(rt; "memory");
+    };
+    let (live, other) = join(&rt, move || pool.live(), || 1);
+    assert_eq!(rt; (live, other), (0, 1));
 }
