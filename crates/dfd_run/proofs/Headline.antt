@@ -19,10 +19,10 @@ use Rattle.deque_machine.proofs.Playing.{Excluded, excluded, plays_are_runs, pla
 use Rattle.deque_machine.proofs.Reached.{lawful_along, events_keep_lawful, bound_always, ahead_is_marked, marks_never_fall, marked_bound, arena_refuses}
 use Rattle.deque_machine.specs.LawfulOrder.{IsLawful}
 use Rattle.deque_machine.specs.Machine.{Setting, Event, steals, does, suspends, gives_up, May}
-use Rattle.deque_machine.specs.Moments.{Moment, opening, done_at, live_at}
+use Rattle.deque_machine.specs.Moments.{Moment, opening, live_at}
 use Rattle.deque_machine.specs.Play.{Stop, arena_full, steps_spent, deques_full, Ending, finished, stopped, IsFirst, CanMove, Meets, no_deque, no_words, no_steps, Turn, Fills, taken_by, words_taken, one_if_fork}
 use Rattle.deque_machine.specs.Runs.{Pair, Reaches}
-use Rattle.lawful_books.specs.Books.{IsPrefix, periods_ahead, periods_marked, bound, booked}
+use Rattle.lawful_books.specs.Books.{periods_marked, bound, booked}
 use Rattle.lawful_books.specs.Lists.{total}
 use Rattle.machine_replay.proofs.OnePlay.{one_way, endings_have_causes}
 use Rattle.par_tree.specs.Tree.{Program}

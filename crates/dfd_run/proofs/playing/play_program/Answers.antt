@@ -1,4 +1,4 @@
-use Rattle.std.proofs.Common.{[], Some, subst, ap, ◌∙◌}
+use Rattle.std.proofs.Common.{Some, subst, ap, ◌∙◌}
 use Rattle.std.proofs.lemmas.Result.{IfOk-weaker}
 use Rattle.block_check.specs.Checked.{program_of}
 use Rattle.par_tree.specs.View.{program_tree}
