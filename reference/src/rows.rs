@@ -262,6 +262,12 @@ const DRAWN: &[Drawn] = &[
     ),
 ];
 
+const PARS: &str =
+    "fn main() { par { par { alloc a = 16; free a; } and { print 1; } } and { par { alloc b = 40; free b; } and { print 2; } } }";
+const CALLS: &str =
+    "fn f(n) { if n > 0 { alloc b = 20; par { call f(n - 1); } and { call f(n - 1); } free b; } } fn main() { call f(3); }";
+const BLOCKS: &str =
+    "fn main() { alloc a = 100; free a; par { alloc b = 33; b[40] = 1; free b; } and { alloc c = 20; free c; } }";
 /// A row of moments: the quota, the workers, those that move, one a digit, the source, and what there is then.
 struct Moved(u64, usize, &'static str, &'static str, &'static str);
 
@@ -270,6 +276,21 @@ const MOVED: &[Moved] = &[
     Moved(16, 1, "0000000000", LARGE, "[1, 1] [1] [] prefix 3, ahead 2, live 32, margin 80"),
     Moved(16, 1, "", LARGE, "[] prefix 0, ahead 0, live 0, margin 48"),
     Moved(32, 2, "00101", TWO_BLOCKS, "[1] [] prefix 2, ahead 1, live 48, margin 48"),
+    Moved(16, 3, "1012002012020001100021020", PARS, "[1, 1] [1] [2, 1, 1] [2, 1] [2] prefix 2, ahead 5, live 80, margin 144"),
+    Moved(32, 4, "1030101231021012000133233221110232320031", PARS, "[] prefix 16, ahead 0, live 0, margin 64"),
+    Moved(16, 2, "101100111110011001111101100100100", PARS, "[2, 1, 1] [2] prefix 11, ahead 2, live 48, margin 80"),
+    Moved(16, 3, "1110011210121211210000002", CALLS, "[2] [] prefix 7, ahead 0, live 48, margin 96"),
+    Moved(
+        32,
+        4,
+        "1031220132210333330330101310200010200131",
+        CALLS,
+        "[1, 1] [1] [2] [] prefix 5, ahead 5, live 272, margin 192",
+    ),
+    Moved(16, 2, "111100111110001110001001011010100", CALLS, "[2, 2] [2] [] prefix 14, ahead 3, live 96, margin 144"),
+    Moved(16, 3, "0120021120011102211211000", BLOCKS, "[1, 1] [1, 2] [1] [2] [] prefix 6, ahead 3, live 64, margin 144"),
+    Moved(32, 4, "1312130320031313203330111013132110001311", BLOCKS, "[] prefix 15, ahead 0, live 0, margin 112"),
+    Moved(16, 2, "010101110011100010000010011000010", BLOCKS, "[1] [2] [] prefix 14, ahead 2, live 32, margin 144"),
 ];
 
 /// The first outputs of the generator of state 42 and stream 54, as they are published with it.

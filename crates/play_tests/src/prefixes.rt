@@ -171,11 +171,20 @@ fn show_so(rt: &impl Abort, alloc: Global, rows: &str) {
     }
 }
 
-/// One worker behind a tree of dummies, and two workers of whom one runs ahead.
+/// One worker after a tree of dummies, two workers of whom one runs ahead, and random moves, for which `reference/` shows the same.
 const MOMENTS: &str = "
 @ 16 | 1 | 0000000000 | [1, 1] [1] [] prefix 3, ahead 2, live 32, margin 80 | fn main() { alloc b = 40; free b; }
 @ 16 | 1 | | [] prefix 0, ahead 0, live 0, margin 48 | fn main() { alloc b = 40; free b; }
 @ 32 | 2 | 00101 | [1] [] prefix 2, ahead 1, live 48, margin 48 | fn main() { par { alloc a = 16; free a; } and { alloc b = 16; free b; } }
+@ 16 | 3 | 1012002012020001100021020 | [1, 1] [1] [2, 1, 1] [2, 1] [2] prefix 2, ahead 5, live 80, margin 144 | fn main() { par { par { alloc a = 16; free a; } and { print 1; } } and { par { alloc b = 40; free b; } and { print 2; } } }
+@ 32 | 4 | 1030101231021012000133233221110232320031 | [] prefix 16, ahead 0, live 0, margin 64 | fn main() { par { par { alloc a = 16; free a; } and { print 1; } } and { par { alloc b = 40; free b; } and { print 2; } } }
+@ 16 | 2 | 101100111110011001111101100100100 | [2, 1, 1] [2] prefix 11, ahead 2, live 48, margin 80 | fn main() { par { par { alloc a = 16; free a; } and { print 1; } } and { par { alloc b = 40; free b; } and { print 2; } } }
+@ 16 | 3 | 1110011210121211210000002 | [2] [] prefix 7, ahead 0, live 48, margin 96 | fn f(n) { if n > 0 { alloc b = 20; par { call f(n - 1); } and { call f(n - 1); } free b; } } fn main() { call f(3); }
+@ 32 | 4 | 1031220132210333330330101310200010200131 | [1, 1] [1] [2] [] prefix 5, ahead 5, live 272, margin 192 | fn f(n) { if n > 0 { alloc b = 20; par { call f(n - 1); } and { call f(n - 1); } free b; } } fn main() { call f(3); }
+@ 16 | 2 | 111100111110001110001001011010100 | [2, 2] [2] [] prefix 14, ahead 3, live 96, margin 144 | fn f(n) { if n > 0 { alloc b = 20; par { call f(n - 1); } and { call f(n - 1); } free b; } } fn main() { call f(3); }
+@ 16 | 3 | 0120021120011102211211000 | [1, 1] [1, 2] [1] [2] [] prefix 6, ahead 3, live 64, margin 144 | fn main() { alloc a = 100; free a; par { alloc b = 33; b[40] = 1; free b; } and { alloc c = 20; free c; } }
+@ 32 | 4 | 1312130320031313203330111013132110001311 | [] prefix 15, ahead 0, live 0, margin 112 | fn main() { alloc a = 100; free a; par { alloc b = 33; b[40] = 1; free b; } and { alloc c = 20; free c; } }
+@ 16 | 2 | 010101110011100010000010011000010 | [1] [2] [] prefix 14, ahead 2, live 32, margin 144 | fn main() { alloc a = 100; free a; par { alloc b = 33; b[40] = 1; free b; } and { alloc c = 20; free c; } }
 ";
 
 #[test]
