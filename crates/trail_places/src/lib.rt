@@ -1,0 +1,4 @@
+//! Where each thread goes on in a depth-first list.
+#![tactic(auto)]
+
+pub mod laws;
