@@ -13,7 +13,7 @@ use Rattle.depth_first_list.proofs.JoinLaws.{each_child_is_joined}
 use Rattle.trail_places.specs.Laws.{GoesOnAt, NextFollows, ParentFollows}
 
 -- up to the End of a thread is that thread and what stems from it
-stems_up_to_end : (l : List Action) (label : List ℕ) (s e : ℕ) → Whole l label s e → (p : ℕ) → s ≤ p → p ≤ e → StemsFrom label (label_at l p)
+pub stems_up_to_end : (l : List Action) (label : List ℕ) (s e : ℕ) → Whole l label s e → (p : ℕ) → s ≤ p → p ≤ e → StemsFrom label (label_at l p)
 stems_up_to_end l label s e w p lo hi = elim (cases_eq p e) [
   | inl last ↦ subst (λ m. StemsFrom label m) (sym (ap (λ m. label_at l m) last ∙ end_label l label s e w)) (stems_itself label)
   | inr ne ↦ elim (whole_place l label s e w p lo (omega arith)) [

@@ -1,1 +1,5 @@
 pub mod Following
+pub mod Lists
+pub mod Partnership
+pub mod Standing
+pub mod Listed

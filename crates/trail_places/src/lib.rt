@@ -2,3 +2,7 @@
 #![tactic(auto)]
 
 pub mod laws;
+mod pairing;
+mod places;
+
+pub use places::partners;

@@ -1,0 +1,11 @@
+-- What is known stands after the places that were passed.
+use Rattle.std.proofs.Common.{List}
+use Rattle.bounded_list.specs.BoundedList.{entries}
+use Rattle.depth_first_list.specs.Actions.{Action}
+use Rattle.trail_places.specs.Listed.{AreListed}
+use Rattle.trail_places.specs.Passing.{pairs_of}
+use Rattle.trail_places.proofs.Standing.{Stands}
+use Rattle.trail_places.proofs.places.partners.Given as goal
+
+abbrev pub invariant-loop-place : goal.invariant-loop-place
+invariant-loop-place l = (list : List Action) → AreListed list (entries l.fn.actions) → Stands list l.place (pairs_of l.pairing)
