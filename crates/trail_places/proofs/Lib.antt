@@ -3,3 +3,4 @@ pub mod Lists
 pub mod Partnership
 pub mod Standing
 pub mod Listed
+pub mod Passed

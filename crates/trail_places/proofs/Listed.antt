@@ -1,5 +1,5 @@
 -- A list as it was written down has the kinds of its actions.
-use Rattle.std.proofs.Common.{◌≡◌, ℕ, suc, ◌+◌, ◌≤◌, ◌<◌, List, [], length, get_or, refl, sym, subst, ap, ◌∙◌, arith}
+use Rattle.std.proofs.Common.{◌≡◌, ℕ, suc, ◌+◌, ◌≤◌, ◌<◌, List, [], length, get_or, sym, subst, ap, ◌∙◌, arith}
 use Rattle.trail_places.proofs.Lists.{zip_length, zip_at}
 use Rattle.depth_first_list.specs.Actions.{Action, kind_of, ends}
 use Rattle.depth_first_list.specs.Facts.{deed_at}

@@ -1,14 +1,14 @@
 -- The partner of a place is one, and where it is.
-use Rattle.std.proofs.Common.{◌≡◌, ◌↔◌, ℕ, suc, ◌+◌, ◌≤◌, ◌<◌, List, [], ◌∷◌, ◌++◌, inl, inr, length, refl, sym, subst, ap, ◌∙◌, arith, length-append}
-use Rattle.std.proofs.lemmas.List.{append-nil, append_assoc}
-use Rattle.std.proofs.lemmas.Bool.{cases_order, cases_eq, cases_lt}
+use Rattle.std.proofs.Common.{◌≡◌, ◌↔◌, ℕ, ◌+◌, ◌≤◌, ◌<◌, List, [], ◌∷◌, ◌++◌, inl, inr, length, refl, sym, subst, ap, ◌∙◌, arith, length-append}
+use Rattle.std.proofs.lemmas.List.{append-nil}
+use Rattle.std.proofs.lemmas.Bool.{cases_order}
 use Rattle.dag_order.specs.LabelOrder.{fork_of}
-use Rattle.depth_first_list.specs.Actions.{Deed, forks, joins, ends, Action}
+use Rattle.depth_first_list.specs.Actions.{forks, joins, ends, Action}
 use Rattle.depth_first_list.specs.Runs.{IsDepthFirst}
-use Rattle.depth_first_list.specs.Facts.{action_at, label_at, deed_at, StemsFrom}
-use Rattle.depth_first_list.proofs.Own.{one_fork, not_own}
-use Rattle.depth_first_list.proofs.Whole.{Whole, stems_of_fork, stems_itself, own_inside, HasWhole, own_whole, forks_do_not_end, joins_do_not_end}
-use Rattle.depth_first_list.proofs.ThreadLaws.{fork_stands_before, child_stands_together, child_stands_before_parent, forked_once, end_is_last}
+use Rattle.depth_first_list.specs.Facts.{label_at, deed_at, StemsFrom}
+use Rattle.depth_first_list.proofs.Own.{one_fork}
+use Rattle.depth_first_list.proofs.Whole.{stems_of_fork, stems_itself, own_inside, HasWhole, own_whole, forks_do_not_end, joins_do_not_end}
+use Rattle.depth_first_list.proofs.ThreadLaws.{fork_stands_before, child_stands_together, child_stands_before_parent, end_is_last}
 use Rattle.depth_first_list.proofs.JoinLaws.{each_child_is_joined, join_stands_behind_child, joins_the_newest_law, joined_once_law}
 use Rattle.deque_machine.proofs.Labels.{one_parent, above_a_fork}
 use Rattle.trail_places.specs.Partners.{EndsAt, JoinsAt, IsPartner, of_fork, of_join, of_end}

@@ -1,7 +1,7 @@
 -- What is known after each place of the pass is right.
-use Rattle.std.proofs.Common.{◌≡◌, ◌↔◌, ℕ, zero, suc, ◌≤◌, ◌<◌, List, [], ◌∷◌, ◌++◌, ◌⊎◌, inl, inr, length, get_or, set, refl, sym, subst, ap, ◌∙◌, arith}
+use Rattle.std.proofs.Common.{◌≡◌, ◌↔◌, ℕ, suc, ◌≤◌, ◌<◌, List, [], ◌∷◌, ◌++◌, ◌⊎◌, inl, inr, length, get_or, set, refl, sym, subst, ap, ◌∙◌, arith}
 use Rattle.std.specs.Prelude.{Option, None, Some, unwrap_or}
-use Rattle.std.proofs.lemmas.Bool.{cases_order, cases_eq, cases_lt}
+use Rattle.std.proofs.lemmas.Bool.{cases_eq}
 use Rattle.dag_order.specs.LabelOrder.{fork_of}
 use Rattle.depth_first_list.specs.Actions.{Deed, forks, joins, allocates, releases, dummy, faults, ends, Action, kind_of}
 use Rattle.depth_first_list.specs.Runs.{IsDepthFirst}
@@ -12,7 +12,7 @@ use Rattle.deque_machine.proofs.Labels.{one_parent, middle_of_fork}
 use Rattle.trail_places.specs.Partners.{EndsAt, JoinsAt, IsPartner, of_fork, of_join, of_end, ArePartners}
 use Rattle.trail_places.specs.Pairing.{Pairs, no_pairs, after, after_end, after_join, IsIn, ArePassed}
 use Rattle.trail_places.proofs.Lists.{get_left, get_last, get_set_here, get_set_other, length_set, length_more}
-use Rattle.trail_places.proofs.Partnership.{forks_do_not_join, one_end, one_join, one_partner, span_to, Span, span, fork_before, join_after, end_before, joins_back, Ahead, to_end, to_join, ahead, not_crossed, newest_is_joined}
+use Rattle.trail_places.proofs.Partnership.{forks_do_not_join, one_end, one_partner, span_to, Span, span, fork_before, join_after, end_before, joins_back, Ahead, to_end, to_join, ahead, not_crossed, newest_is_joined}
 
 -- a place that was passed has its partner at this place or later
 pub record IsWaiting (l : List Action) (i x : ℕ) : Type 0 where
@@ -72,7 +72,7 @@ pub begins : (l : List Action) → Stands l 0 no_pairs
 begins l = record {
   partners = record { size = refl; found = λ x q lt up is. absurd (omega arith); real = λ x q lt is. absurd (omega arith) };
   running = record { each = λ x. (λ no. absurd no, λ w. let lt = (w.1).passed in absurd (omega arith)); falls = tt };
-  ended = record { each = λ x. (λ no. absurd no, λ w. let lt = (w.1).passed in absurd (omega arith)); falls = tt }
+  ended = record { each = λ x. (λ no. absurd no, λ w. let lt = (w.1).passed in absurd (omega arith)); falls = tt };
 }
 
 module _ (k : ℕ) (l : List Action) (run : IsDepthFirst k l) (i : ℕ) (inside : i < length l) where
@@ -93,9 +93,9 @@ module _ (k : ℕ) (l : List Action) (run : IsDepthFirst k l) (i : ℕ) (inside 
   stack_stays Sort stack s not_here none = record {
     each = λ x. (
       λ m. let h = (s.each x).0 m in (h.0, waits_on x h.1 (λ e. none x (h.1).passed h.0 (subst (λ q. IsPartner l x q) e (h.1).is))),
-      λ w. (s.each x).1 (w.0, waited x w.1 (λ e. not_here (subst Sort e w.0) (subst (λ y. IsWaiting l (suc i) y) e w.1)))
+      λ w. (s.each x).1 (w.0, waited x w.1 (λ e. not_here (subst Sort e w.0) (subst (λ y. IsWaiting l (suc i) y) e w.1))),
     );
-    falls = s.falls
+    falls = s.falls;
   }
 
   -- this place is put on top, where it waits
@@ -107,9 +107,9 @@ module _ (k : ℕ) (l : List Action) (run : IsDepthFirst k l) (i : ℕ) (inside 
         | inl e ↦ (subst Sort (sym e) here, subst (λ y. IsWaiting l (suc i) y) (sym e) (record { passed = omega arith; partner = q; later = omega arith; is = partner }))
         | inr old ↦ let h = (s.each x).0 old in (h.0, waits_on x h.1 (λ e. none x (h.1).passed h.0 (subst (λ q. IsPartner l x q) e (h.1).is)))
       ],
-      λ w. elim (cases_eq x i) [ inl e ↦ inl e | inr ne ↦ inr ((s.each x).1 (w.0, waited x w.1 ne)) ]
+      λ w. elim (cases_eq x i) [ inl e ↦ inl e | inr ne ↦ inr ((s.each x).1 (w.0, waited x w.1 ne)) ],
     );
-    falls = (λ x m. (((s.each x).0 m).1).passed, s.falls)
+    falls = (λ x m. (((s.each x).0 m).1).passed, s.falls);
   }
 
   -- the top is taken off, where it is the one of its sort that has its partner here
@@ -118,14 +118,14 @@ module _ (k : ℕ) (l : List Action) (run : IsDepthFirst k l) (i : ℕ) (inside 
   stack_falls Sort top stack s not_here partner one = record {
     each = λ x. (
       λ m. let h = (s.each x).0 (inr m) in let less = s.falls.0 x m in
-      (h.0, waits_on x h.1 (λ e. let same = one x (h.1).passed h.0 (subst (λ q. IsPartner l x q) e (h.1).is) in omega arith)),
+          (h.0, waits_on x h.1 (λ e. let same = one x (h.1).passed h.0 (subst (λ q. IsPartner l x q) e (h.1).is) in omega arith)),
       λ w. elim ((s.each x).1 (w.0, waited x w.1 (λ e. not_here (subst Sort e w.0)))) [
         | inl e ↦ let same : (w.1).partner ≡ i = one_partner k l run top (w.1).partner i (subst (λ y. IsPartner l y (w.1).partner) e (w.1).is) partner in
             let le = (w.1).later in absurd (omega arith)
         | inr m ↦ m
-      ]
+      ],
     );
-    falls = s.falls.1
+    falls = s.falls.1;
   }
 
   -- a place without a partner before it, that is no partner of one before it, changes nothing that was found
@@ -192,7 +192,7 @@ module _ (k : ℕ) (l : List Action) (run : IsDepthFirst k l) (i : ℕ) (inside 
   by_other p s no_fork no_join no_end = record {
     partners = found_nothing p.partners s.partners nobody (λ q le is. let j = joins_back k l run i q inside le is in no_join j.0 j.1);
     running = stack_stays (IsFork l) p.running s.running (λ h w. no_fork h.0 h.1) (λ x lt sort is. nobody x lt is);
-    ended = stack_stays (Ends l) p.ended s.ended (λ h w. no_end h) (λ x lt sort is. nobody x lt is)
+    ended = stack_stays (Ends l) p.ended s.ended (λ h w. no_end h) (λ x lt sort is. nobody x lt is);
   }
     where
       nobody_by : (x : ℕ) → Ahead k l run x i → ⊥
@@ -286,7 +286,7 @@ module _ (k : ℕ) (l : List Action) (run : IsDepthFirst k l) (i : ℕ) (inside 
     by_end partners [] ended f r e = record {
       partners = found_nothing partners f nobody no_partner_back;
       running = stack_stays (IsFork l) [] r (λ h w. not_a_fork h) (λ x lt sort is. nobody x lt is);
-      ended = stack_stays (Ends l) ended e (λ h w. never w) no_end_before
+      ended = stack_stays (Ends l) ended e (λ h w. never w) no_end_before;
     }
       where
         nobody : (x : ℕ) → x < i → IsPartner l x i → ⊥
@@ -362,9 +362,9 @@ module _ (k : ℕ) (l : List Action) (run : IsDepthFirst k l) (i : ℕ) (inside 
             let e_up = e.1 in
             record {
               partners = found_one partners f top (omega arith) partner one (Some top)
-              (λ q le is. ap Some (one_partner k l run i top q own is)) (λ q is. subst (λ m. IsPartner l i m) (one_some top q is) own);
+                  (λ q le is. ap Some (one_partner k l run i top q own is)) (λ q is. subst (λ m. IsPartner l i m) (one_some top q is) own);
               running = stack_stays (IsFork l) running r (λ h w. forks_do_not_join h.0 child (sym h.1 ∙ deed))
-              (λ x lt sort is. no_fork_by x sort (ahead k l run x i lt (omega arith) is));
+                  (λ x lt sort is. no_fork_by x sort (ahead k l run x i lt (omega arith) is));
               ended = stack_falls (Ends l) top older s not_an_end partner (λ x lt sort is. one x lt is);
             }
 
@@ -397,5 +397,5 @@ partner_inside l i n (of_end u c is by a) = a.0
 pub all_found : (l : List Action) (p : Pairs) → Stands l (length l) p → ArePartners l p.partners
 all_found l p s = record {
   size = (s.partners).size;
-  each = λ i n lt. (λ is. (s.partners).real i n lt is, λ partner. (s.partners).found i n lt (partner_inside l i n partner) partner)
+  each = λ i n lt. (λ is. (s.partners).real i n lt is, λ partner. (s.partners).found i n lt (partner_inside l i n partner) partner);
 }

@@ -45,6 +45,6 @@ abbrev pub IsIn : ℕ → List ℕ → Type 0
 IsIn x [] = ⊥
 IsIn x (y ∷ ys) = (x ≡ y) ⊎ IsIn x ys
 
--- the Forks and the Ends that are kept are among the places that were passed
+-- The Forks and the Ends that are kept are among the places that were passed.
 abbrev pub ArePassed : Pairs → Type 0
 ArePassed p = (x : ℕ) → (IsIn x p.running → x < length p.partners) × (IsIn x p.ended → x < length p.partners)

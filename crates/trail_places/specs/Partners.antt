@@ -1,7 +1,7 @@
 -- Which two places of a depth-first list are partners.
 use Rattle.std.specs.Prelude.{◌≡◌, ◌↔◌, ℕ, ◌<◌, List, length, get_or, Option, Some, None}
 use Rattle.dag_order.specs.LabelOrder.{fork_of}
-use Rattle.depth_first_list.specs.Actions.{Deed, forks, joins, ends, Action}
+use Rattle.depth_first_list.specs.Actions.{forks, joins, ends, Action}
 use Rattle.depth_first_list.specs.Facts.{label_at, deed_at}
 
 -- at this place a thread ends

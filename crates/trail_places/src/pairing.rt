@@ -3,7 +3,7 @@ ghost use Rattle.std.specs.Prelude.{◌≡◌, ◌<◌, length, IfOk};
 use dag_order::Kind;
 use std::alloc::{AllocError, Global};
 
-/// What is known after the first places of a list.
+/// What is known of the partners after the first places of a list.
 #[derive(Drop)]
 pub(crate) struct Pairing {
     /// The partner of each place, if it was found.
@@ -19,15 +19,15 @@ impl Pairing {
     ghost use Rattle.trail_places.specs.Passing.{pairs_of};
     ghost use Rattle.dag_order.specs.declared.kind.Kind.TheVariants.{End, Join};
 
-    /// Nothing is known before the first place.
-    pub(crate) fn new(alloc: Global) -> Pairing
-        ensures { pairs_of result ≡ no_pairs }
+    /// Knows nothing before the first place, and has room for the partners of so many places.
+    pub(crate) fn new(alloc: Global, places: usize) -> Result<Pairing, AllocError>
+        ensures { IfOk result (λ pairing. pairs_of pairing ≡ no_pairs) }
     {
-        Pairing {
-            partners: Vec::new(alloc),
+        Ok(Pairing {
+            partners: Vec::with_capacity(alloc, places)?,
             running: Vec::new(alloc),
             ended: Vec::new(alloc),
-        }
+        })
     }
 
     /// Takes the next place, whose action is of this kind.

@@ -17,11 +17,11 @@ use std::alloc::{AllocError, Global};
 ///
 /// `AllocError` if the list of partners or a stack needs memory and there is none.
 pub fn partners(alloc: Global, actions: &Actions) -> Result<Vec<Option<u32>>, AllocError>
-    requires { (l : List Action) × AreListed l (entries actions.now) }
     ensures { (l : List Action) → AreListed l (entries actions.now) → IfOk result (λ p. ArePartners l p.items) }
 {
-    let mut pairing = Pairing::new(alloc);
-    for (place, action) in actions.as_slice().iter().enumerate() {
+    let actions = actions.as_slice();
+    let mut pairing = Pairing::new(alloc, actions.len())?;
+    for (place, action) in actions.iter().enumerate() {
         pairing.pass(place as u32, action.kind)?;
     }
     Ok(pairing.partners)

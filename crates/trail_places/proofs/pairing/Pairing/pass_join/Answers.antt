@@ -1,5 +1,5 @@
 -- The End that is taken was passed.
-use Rattle.std.proofs.Common.{rules, inl, refl, sym, subst, arith, ◌<◌, length}
+use Rattle.std.proofs.Common.{rules, inl, refl, sym, subst}
 use Rattle.trail_places.specs.Pairing.{IsIn}
 use Rattle.trail_places.proofs.Lists.{popped}
 use Rattle.trail_places.proofs.pairing.Pairing.pass_join.Goals as goal
