@@ -1,4 +1,4 @@
--- Whatever the kinds, what is kept is among the places that were passed, and each place has been told once.
+-- Whatever the kinds, there is an entry for each place that was passed, and what is kept is among these places.
 use Rattle.std.proofs.Common.{◌≡◌, ℕ, suc, ◌+◌, ◌<◌, List, [], ◌∷◌, ◌++◌, inl, inr, length, set, refl, sym, subst, ap, ◌∙◌, arith}
 use Rattle.std.specs.Prelude.{Option, None, Some}
 use Rattle.dag_order.specs.declared.kind.Kind.{Kind}

@@ -1,4 +1,4 @@
-ghost use Rattle.std.specs.Prelude.{◌≡◌, ◌<◌, length, IfOk};
+ghost use Rattle.std.specs.Prelude.{◌≡◌, IfOk};
 
 use dag_order::Kind;
 use std::alloc::{AllocError, Global};
@@ -50,7 +50,7 @@ impl Pairing {
         }
     }
 
-    // An End is the partner of the newest Fork whose child has not ended. The root has no Fork.
+    // Makes this End the partner of the newest Fork whose child has not ended. The root has no Fork.
     fn pass_end(&mut self, place: u32) -> Result<(), AllocError>
         requires { ArePassed (pairs_of self.old) }
         ensures { IfOk result (λ _. pairs_of self.new ≡ after place End (pairs_of self.old)) }
@@ -63,7 +63,7 @@ impl Pairing {
         Ok(())
     }
 
-    // A Join is the partner of the newest End that has not been joined, and this End of the Join.
+    // Makes this Join and the newest End that has not been joined the partners of each other.
     fn pass_join(&mut self, place: u32) -> Result<(), AllocError>
         requires { ArePassed (pairs_of self.old) }
         ensures { IfOk result (λ _. pairs_of self.new ≡ after place Join (pairs_of self.old)) }

@@ -4,7 +4,7 @@ use serial_journal::{Action, Actions};
 use std::alloc::{AllocError, Global};
 use std::test::Fail;
 
-// Actions of these kinds. Their names and their words do not count here.
+// Actions of these kinds. Their names and words do not matter here.
 fn actions_of(alloc: Global, kinds: &str) -> Result<Actions, AllocError> {
     let mut actions = Actions::new(alloc);
     for letter in kinds.bytes() {
