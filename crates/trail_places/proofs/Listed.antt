@@ -8,7 +8,8 @@ use Rattle.serial_journal.specs.declared.action.Action.{Action as Shown}
 use Rattle.trail_places.specs.Listed.{AreListed}
 use Rattle.trail_places.specs.Pairing.{Pairs, after}
 use Rattle.trail_places.specs.Partners.{ArePartners}
-use Rattle.trail_places.proofs.Standing.{Stands, goes_on, all_found}
+use Rattle.trail_places.proofs.Stacks.{Stands}
+use Rattle.trail_places.proofs.Standing.{goes_on, all_found}
 
 -- what is known after one place more
 pub passes : (l : List Action) (shown given : List Shown) → AreListed l shown → given ≡ shown → (i : ℕ) → i < length given → (d : Shown) (p q : Pairs)

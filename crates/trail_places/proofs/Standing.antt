@@ -1,6 +1,6 @@
--- What is known after each place of the pass is right.
-use Rattle.std.proofs.Common.{◌≡◌, ◌↔◌, ℕ, suc, ◌≤◌, ◌<◌, List, [], ◌∷◌, ◌++◌, ◌⊎◌, inl, inr, length, get_or, set, refl, sym, subst, ap, ◌∙◌, arith}
-use Rattle.std.specs.Prelude.{Option, None, Some, unwrap_or}
+-- What is known after each place of the pass is right, whatever the action there.
+use Rattle.std.proofs.Common.{◌≡◌, ℕ, suc, ◌≤◌, ◌<◌, List, [], ◌∷◌, ◌++◌, ◌⊎◌, inl, inr, length, refl, sym, subst, ap, ◌∙◌, arith}
+use Rattle.std.specs.Prelude.{Option, None, Some}
 use Rattle.std.proofs.lemmas.Bool.{cases_eq}
 use Rattle.dag_order.specs.LabelOrder.{fork_of}
 use Rattle.depth_first_list.specs.Actions.{Deed, forks, joins, allocates, releases, dummy, faults, ends, Action, kind_of}
@@ -10,49 +10,9 @@ use Rattle.depth_first_list.proofs.Whole.{forks_do_not_end, joins_do_not_end}
 use Rattle.depth_first_list.proofs.ThreadLaws.{forked_once}
 use Rattle.deque_machine.proofs.Labels.{one_parent, middle_of_fork}
 use Rattle.trail_places.specs.Partners.{EndsAt, JoinsAt, IsPartner, of_fork, of_join, of_end, ArePartners}
-use Rattle.trail_places.specs.Pairing.{Pairs, no_pairs, after, after_end, after_join, IsIn, ArePassed}
-use Rattle.trail_places.proofs.Lists.{get_left, get_last, get_set_here, get_set_other, length_set, length_more}
+use Rattle.trail_places.specs.Pairing.{Pairs, after, after_end, after_join, IsIn, ArePassed}
 use Rattle.trail_places.proofs.Partnership.{forks_do_not_join, one_end, one_partner, span_to, Span, span, fork_before, join_after, end_before, joins_back, Ahead, to_end, to_join, ahead, not_crossed, newest_is_joined}
-
--- a place that was passed has its partner at this place or later
-pub record IsWaiting (l : List Action) (i x : ℕ) : Type 0 where
-  pub passed : x < i
-  pub partner : ℕ
-  pub later : i ≤ partner
-  pub is : IsPartner l x partner
-
-abbrev pub IsFork : List Action → ℕ → Type 0
-IsFork l x = (child : ℕ) × (deed_at l x ≡ forks child)
-
--- a list of places has the later ones first
-abbrev pub Falls : List ℕ → Type 0
-Falls [] = Unit {0}
-Falls (y ∷ ys) = ((x : ℕ) → IsIn x ys → x < y) × Falls ys
-
--- before the place i the partners are those that were passed
-pub record AreFound (l : List Action) (i : ℕ) (partners : List (Option ℕ)) : Type 0 where
-  pub size : length partners ≡ i
-  pub found : (x q : ℕ) → x < i → q < i → IsPartner l x q → get_or partners x None ≡ Some q
-  pub real : (x q : ℕ) → x < i → get_or partners x None ≡ Some q → IsPartner l x q
-
--- and a stack has just the places of one sort that wait
-pub record AreWaiting (l : List Action) (i : ℕ) (Sort : ℕ → Type 0) (stack : List ℕ) : Type 0 where
-  pub each : (x : ℕ) → IsIn x stack ↔ (Sort x × IsWaiting l i x)
-  pub falls : Falls stack
-
-abbrev pub Ends : List Action → ℕ → Type 0
-Ends l x = deed_at l x ≡ ends
-
-pub record Stands (l : List Action) (i : ℕ) (p : Pairs) : Type 0 where
-  pub partners : AreFound l i p.partners
-  pub running : AreWaiting l i (IsFork l) p.running
-  pub ended : AreWaiting l i (Ends l) p.ended
-
-none_is_not_some : (q : ℕ) → ◌≡◌ {A = Option ℕ} None (Some q) → ⊥
-none_is_not_some q e = cc
-
-one_some : (p q : ℕ) → Some p ≡ Some q → p ≡ q
-one_some p q e = ap (λ o. unwrap_or o p) e
+use Rattle.trail_places.proofs.Stacks.{IsWaiting, IsFork, AreFound, AreWaiting, Ends, Stands, none_is_not_some, one_some, stack_stays, stack_grows, stack_falls, found_nothing, found_one, waits_here}
 
 one_forked : (c d : ℕ) → forks c ≡ forks d → c ≡ d
 one_forked c d e = cc
@@ -68,131 +28,14 @@ root_or_fork (x ∷ t) = elim (root_or_fork t) [
   | inr child ↦ inr (x ∷ child.0, child.1, ap (λ m. x ∷ m) child.2)
 ]
 
-pub begins : (l : List Action) → Stands l 0 no_pairs
-begins l = record {
-  partners = record { size = refl; found = λ x q lt up is. absurd (omega arith); real = λ x q lt is. absurd (omega arith) };
-  running = record { each = λ x. (λ no. absurd no, λ w. let lt = (w.1).passed in absurd (omega arith)); falls = tt };
-  ended = record { each = λ x. (λ no. absurd no, λ w. let lt = (w.1).passed in absurd (omega arith)); falls = tt };
-}
-
 module _ (k : ℕ) (l : List Action) (run : IsDepthFirst k l) (i : ℕ) (inside : i < length l) where
-  -- a place that waits goes on to wait, if this one is not its partner
-  waits_on : (x : ℕ) → (w : IsWaiting l i x) → (w.partner ≡ i → ⊥) → IsWaiting l (suc i) x
-  waits_on x w other =
-      let lt = w.passed in let le = w.later in
-      record { passed = omega arith; partner = w.partner; later = elim (cases_eq w.partner i) [ inl e ↦ absurd (other e) | inr ne ↦ omega arith ]; is = w.is }
-
-  waited : (x : ℕ) → IsWaiting l (suc i) x → (x ≡ i → ⊥) → IsWaiting l i x
-  waited x w other =
-      let lt = w.passed in let le = w.later in
-      record { passed = elim (cases_eq x i) [ inl e ↦ absurd (other e) | inr ne ↦ omega arith ]; partner = w.partner; later = omega arith; is = w.is }
-
-  -- a stack stays where no place of its sort is here, and none has its partner here
-  pub stack_stays : (Sort : ℕ → Type 0) (stack : List ℕ) → AreWaiting l i Sort stack → (Sort i → IsWaiting l (suc i) i → ⊥)
-      → ((x : ℕ) → x < i → Sort x → IsPartner l x i → ⊥) → AreWaiting l (suc i) Sort stack
-  stack_stays Sort stack s not_here none = record {
-    each = λ x. (
-      λ m. let h = (s.each x).0 m in (h.0, waits_on x h.1 (λ e. none x (h.1).passed h.0 (subst (λ q. IsPartner l x q) e (h.1).is))),
-      λ w. (s.each x).1 (w.0, waited x w.1 (λ e. not_here (subst Sort e w.0) (subst (λ y. IsWaiting l (suc i) y) e w.1))),
-    );
-    falls = s.falls;
-  }
-
-  -- this place is put on top, where it waits
-  pub stack_grows : (Sort : ℕ → Type 0) (stack : List ℕ) → AreWaiting l i Sort stack → Sort i → (q : ℕ) → i < q → IsPartner l i q
-      → ((x : ℕ) → x < i → Sort x → IsPartner l x i → ⊥) → AreWaiting l (suc i) Sort (i ∷ stack)
-  stack_grows Sort stack s here q later partner none = record {
-    each = λ x. (
-      λ m. elim m [
-        | inl e ↦ (subst Sort (sym e) here, subst (λ y. IsWaiting l (suc i) y) (sym e) (record { passed = omega arith; partner = q; later = omega arith; is = partner }))
-        | inr old ↦ let h = (s.each x).0 old in (h.0, waits_on x h.1 (λ e. none x (h.1).passed h.0 (subst (λ q. IsPartner l x q) e (h.1).is)))
-      ],
-      λ w. elim (cases_eq x i) [ inl e ↦ inl e | inr ne ↦ inr ((s.each x).1 (w.0, waited x w.1 ne)) ],
-    );
-    falls = (λ x m. (((s.each x).0 m).1).passed, s.falls);
-  }
-
-  -- the top is taken off, where it is the one of its sort that has its partner here
-  pub stack_falls : (Sort : ℕ → Type 0) (top : ℕ) (stack : List ℕ) → AreWaiting l i Sort (top ∷ stack) → (Sort i → ⊥) → IsPartner l top i
-      → ((x : ℕ) → x < i → Sort x → IsPartner l x i → x ≡ top) → AreWaiting l (suc i) Sort stack
-  stack_falls Sort top stack s not_here partner one = record {
-    each = λ x. (
-      λ m. let h = (s.each x).0 (inr m) in let less = s.falls.0 x m in
-          (h.0, waits_on x h.1 (λ e. let same = one x (h.1).passed h.0 (subst (λ q. IsPartner l x q) e (h.1).is) in omega arith)),
-      λ w. elim ((s.each x).1 (w.0, waited x w.1 (λ e. not_here (subst Sort e w.0)))) [
-        | inl e ↦ let same : (w.1).partner ≡ i = one_partner k l run top (w.1).partner i (subst (λ y. IsPartner l y (w.1).partner) e (w.1).is) partner in
-            let le = (w.1).later in absurd (omega arith)
-        | inr m ↦ m
-      ],
-    );
-    falls = s.falls.1;
-  }
-
-  -- a place without a partner before it, that is no partner of one before it, changes nothing that was found
-  pub found_nothing : (partners : List (Option ℕ)) → AreFound l i partners → ((x : ℕ) → x < i → IsPartner l x i → ⊥)
-      → ((q : ℕ) → q ≤ i → IsPartner l i q → ⊥) → AreFound l (suc i) (partners ++ None ∷ [])
-  found_nothing partners f none own =
-      let size : length partners ≡ i = f.size in
-      record {
-        size = length_more partners None ∙ ap suc size;
-        found = λ x q x_up q_up is. elim (cases_eq x i) [
-          | inl e ↦ absurd (own q (omega arith) (subst (λ y. IsPartner l y q) e is))
-          | inr ne ↦ elim (cases_eq q i) [
-            | inl e ↦ absurd (none x (omega arith) (subst (λ y. IsPartner l x y) e is))
-            | inr nq ↦ get_left partners None None x (omega arith) ∙ f.found x q (omega arith) (omega arith) is
-          ]
-        ];
-        real = λ x q x_up is. elim (cases_eq x i) [
-          | inl e ↦ absurd (none_is_not_some q (sym (get_last partners None None) ∙ ap (λ m. get_or (partners ++ None ∷ []) m None) (size ∙ sym e) ∙ is))
-          | inr ne ↦ f.real x q (omega arith) (sym (get_left partners None None x (omega arith)) ∙ is)
-        ];
-      }
-
-  -- one place before it has this one as its partner
-  pub found_one : (partners : List (Option ℕ)) → AreFound l i partners → (top : ℕ) → top < i → IsPartner l top i
-      → ((x : ℕ) → x < i → IsPartner l x i → x ≡ top) → (own : Option ℕ) → ((q : ℕ) → q ≤ i → IsPartner l i q → own ≡ Some q)
-      → ((q : ℕ) → own ≡ Some q → IsPartner l i q) → AreFound l (suc i) (set partners top (Some i) ++ own ∷ [])
-  found_one partners f top lt partner one own complete sound =
-      let size : length partners ≡ i = f.size in
-      let now : List (Option ℕ) = set partners top (Some i) in
-      let long : length now ≡ i = length_set partners (Some i) top ∙ size in
-      let here : get_or now top None ≡ Some i = get_set_here partners (Some i) None top (omega arith) in
-      let last : get_or (now ++ own ∷ []) i None ≡ own = ap (λ m. get_or (now ++ own ∷ []) m None) (sym long) ∙ get_last now own None in
-      record {
-        size = length_more now own ∙ ap suc long;
-        found = λ x q x_up q_up is. elim (cases_eq x i) [
-          | inl e ↦ ap (λ m. get_or (now ++ own ∷ []) m None) e ∙ last ∙ complete q (omega arith) (subst (λ y. IsPartner l y q) e is)
-          | inr ne ↦ get_left now own None x (omega arith) ∙ elim (cases_eq x top) [
-            | inl e ↦ let same : i ≡ q = one_partner k l run top i q partner (subst (λ y. IsPartner l y q) e is) in
-                ap (λ m. get_or now m None) e ∙ here ∙ ap Some same
-            | inr nt ↦ elim (cases_eq q i) [
-              | inl e ↦ absurd (nt (one x (omega arith) (subst (λ y. IsPartner l x y) e is)))
-              | inr nq ↦ get_set_other partners (Some i) None top x nt ∙ f.found x q (omega arith) (omega arith) is
-            ]
-          ]
-        ];
-        real = λ x q x_up is. elim (cases_eq x i) [
-          | inl e ↦ subst (λ y. IsPartner l y q) (sym e) (sound q (sym last ∙ ap (λ m. get_or (now ++ own ∷ []) m None) (sym e) ∙ is))
-          | inr ne ↦ let old : get_or now x None ≡ Some q = sym (get_left now own None x (omega arith)) ∙ is in
-              elim (cases_eq x top) [
-                | inl e ↦ let same : i ≡ q = one_some i q (sym here ∙ ap (λ m. get_or now m None) (sym e) ∙ old) in
-                    subst (λ y. IsPartner l y q) (sym e) (subst (λ m. IsPartner l top m) same partner)
-                | inr nt ↦ f.real x q (omega arith) (sym (get_set_other partners (Some i) None top x nt) ∙ old)
-              ]
-        ];
-      }
-
-  -- this place is one's partner if it waits for it here
-  waits_here : (x : ℕ) → x < i → IsPartner l x i → IsWaiting l i x
-  waits_here x lt is = record { passed = lt; partner = i; later = omega arith; is = is }
-
   -- an action that is no Fork, Join or End
   pub by_other : (p : Pairs) → Stands l i p → ((c : ℕ) → deed_at l i ≡ forks c → ⊥) → ((c : ℕ) → deed_at l i ≡ joins c → ⊥) → (deed_at l i ≡ ends → ⊥)
       → Stands l (suc i) (record { partners = p.partners ++ None ∷ []; running = p.running; ended = p.ended })
   by_other p s no_fork no_join no_end = record {
-    partners = found_nothing p.partners s.partners nobody (λ q le is. let j = joins_back k l run i q inside le is in no_join j.0 j.1);
-    running = stack_stays (IsFork l) p.running s.running (λ h w. no_fork h.0 h.1) (λ x lt sort is. nobody x lt is);
-    ended = stack_stays (Ends l) p.ended s.ended (λ h w. no_end h) (λ x lt sort is. nobody x lt is);
+    partners = found_nothing k l run i inside p.partners s.partners nobody (λ q le is. let j = joins_back k l run i q inside le is in no_join j.0 j.1);
+    running = stack_stays k l run i inside (IsFork l) p.running s.running (λ h w. no_fork h.0 h.1) (λ x lt sort is. nobody x lt is);
+    ended = stack_stays k l run i inside (Ends l) p.ended s.ended (λ h w. no_end h) (λ x lt sort is. nobody x lt is);
   }
     where
       nobody_by : (x : ℕ) → Ahead k l run x i → ⊥
@@ -207,9 +50,9 @@ module _ (k : ℕ) (l : List Action) (run : IsDepthFirst k l) (i : ℕ) (inside 
   by_fork p s c deed =
       let child : Span k l run i c = span k l run i c inside deed in
       record {
-        partners = found_nothing p.partners s.partners nobody (λ q le is. let j = joins_back k l run i q inside le is in forks_do_not_join c j.0 (sym deed ∙ j.1));
-        running = stack_grows (IsFork l) p.running s.running (c, deed) child.last child.later (of_fork c deed child.ends) (λ x lt sort is. nobody x lt is);
-        ended = stack_stays (Ends l) p.ended s.ended (λ h w. forks_do_not_end c (sym deed ∙ h)) (λ x lt sort is. nobody x lt is);
+        partners = found_nothing k l run i inside p.partners s.partners nobody (λ q le is. let j = joins_back k l run i q inside le is in forks_do_not_join c j.0 (sym deed ∙ j.1));
+        running = stack_grows k l run i inside (IsFork l) p.running s.running (c, deed) child.last child.later (of_fork c deed child.ends) (λ x lt sort is. nobody x lt is);
+        ended = stack_stays k l run i inside (Ends l) p.ended s.ended (λ h w. forks_do_not_end c (sym deed ∙ h)) (λ x lt sort is. nobody x lt is);
       }
     where
       nobody_by : (x : ℕ) → Ahead k l run x i → ⊥
@@ -271,7 +114,7 @@ module _ (k : ℕ) (l : List Action) (run : IsDepthFirst k l) (i : ℕ) (inside 
             elim (root_or_fork (label_at l i)) [
               | inl root ↦ absurd (middle_of_fork (label_at l f) c (subst (λ m. StemsFrom (fork_of (label_at l f) c) m) root stems))
               | inr of ↦ let g = its_fork of.0 of.1 of.2 in let g_up = g.1 in
-                  elim ((s.each g.0).1 (g.2, waits_here g.0 g_up g.3)) [
+                  elim ((s.each g.0).1 (g.2, waits_here k l run i inside g.0 g_up g.3)) [
                     | inl e ↦ subst (λ m. IsPartner l m i) e g.3
                     | inr m ↦ absurd (not_crossed k l run g.0 (g.2).0 f c i q (s.falls.0 g.0 m) f_up up (g.2).1 (fork_of_here g.0 (g.2).0 g_up (g.2).1 g.3) is a)
                   ]
@@ -284,13 +127,13 @@ module _ (k : ℕ) (l : List Action) (run : IsDepthFirst k l) (i : ℕ) (inside 
     pub by_end : (partners : List (Option ℕ)) (running ended : List ℕ) → AreFound l i partners → AreWaiting l i (IsFork l) running
         → AreWaiting l i (Ends l) ended → Stands l (suc i) (after_end i partners running ended)
     by_end partners [] ended f r e = record {
-      partners = found_nothing partners f nobody no_partner_back;
-      running = stack_stays (IsFork l) [] r (λ h w. not_a_fork h) (λ x lt sort is. nobody x lt is);
-      ended = stack_stays (Ends l) ended e (λ h w. never w) no_end_before;
+      partners = found_nothing k l run i inside partners f nobody no_partner_back;
+      running = stack_stays k l run i inside (IsFork l) [] r (λ h w. not_a_fork h) (λ x lt sort is. nobody x lt is);
+      ended = stack_stays k l run i inside (Ends l) ended e (λ h w. never w) no_end_before;
     }
       where
         nobody : (x : ℕ) → x < i → IsPartner l x i → ⊥
-        nobody x lt is = (r.each x).1 (is_fork x lt is, waits_here x lt is)
+        nobody x lt is = (r.each x).1 (is_fork x lt is, waits_here k l run i inside x lt is)
 
         never_by : (q : ℕ) → i < q → Ahead k l run i q → ⊥
         never_by q up (to_end c is a) = forks_do_not_end c (sym is ∙ deed)
@@ -305,9 +148,9 @@ module _ (k : ℕ) (l : List Action) (run : IsDepthFirst k l) (i : ℕ) (inside 
         let j = join_after k l run (label_at l top) (h.0).0 i here in
         let one : (x : ℕ) → x < i → IsPartner l x i → x ≡ top = λ x x_up is. one_fork_here x top x_up lt (is_fork x x_up is) h.0 is partner in
         record {
-          partners = found_one partners f top lt partner one None (λ q le is. absurd (no_partner_back q le is)) (λ q is. absurd (none_is_not_some q is));
-          running = stack_falls (IsFork l) top older r not_a_fork partner (λ x x_up sort is. one x x_up is);
-          ended = stack_grows (Ends l) ended e deed j.0 j.1 (of_end (label_at l top) (h.0).0 deed here.1 j.2) no_end_before;
+          partners = found_one k l run i inside partners f top lt partner one None (λ q le is. absurd (no_partner_back q le is)) (λ q is. absurd (none_is_not_some q is));
+          running = stack_falls k l run i inside (IsFork l) top older r not_a_fork partner (λ x x_up sort is. one x x_up is);
+          ended = stack_grows k l run i inside (Ends l) ended e deed j.0 j.1 (of_end (label_at l top) (h.0).0 deed here.1 j.2) no_end_before;
         }
 
   module _ (child : ℕ) (deed : deed_at l i ≡ joins child) where
@@ -330,7 +173,7 @@ module _ (k : ℕ) (l : List Action) (run : IsDepthFirst k l) (i : ℕ) (inside 
     top_is_its_end : (e : ℕ) → e < i → EndsAt l (fork_of (label_at l i) child) e → IsPartner l e i → (top : ℕ) (older : List ℕ)
         → AreWaiting l i (Ends l) (top ∷ older) → top ≡ e
     top_is_its_end e lt end partner top older s =
-        elim ((s.each e).1 (end.2, waits_here e lt partner)) [
+        elim ((s.each e).1 (end.2, waits_here k l run i inside e lt partner)) [
           | inl same ↦ sym same
           | inr m ↦ let h = (s.each top).0 (inl refl) in let w = h.1 in let up = w.passed in let later = w.later in
               by (s.falls.0 e m) up h.0 w.partner later (ahead k l run top w.partner (omega arith) (omega arith) w.is)
@@ -351,7 +194,7 @@ module _ (k : ℕ) (l : List Action) (run : IsDepthFirst k l) (i : ℕ) (inside 
             → Stands l (suc i) (after_join i partners running ended)
         go e [] s =
             let partner : IsPartner l e.0 i = of_end (label_at l i) child (e.2).2 (e.2).1 (inside, refl, deed) in
-            let no : IsIn e.0 [] = (s.each e.0).1 ((e.2).2, waits_here e.0 e.1 partner) in absurd no
+            let no : IsIn e.0 [] = (s.each e.0).1 ((e.2).2, waits_here k l run i inside e.0 e.1 partner) in absurd no
         go e (top ∷ older) s =
             let its : IsPartner l e.0 i = of_end (label_at l i) child (e.2).2 (e.2).1 (inside, refl, deed) in
             let same : top ≡ e.0 = top_is_its_end e.0 e.1 e.2 its top older s in
@@ -361,11 +204,11 @@ module _ (k : ℕ) (l : List Action) (run : IsDepthFirst k l) (i : ℕ) (inside 
             λ x lt is. one_end_by e.0 x e.2 lt (ahead k l run x i lt (omega arith) is) ∙ sym same in
             let e_up = e.1 in
             record {
-              partners = found_one partners f top (omega arith) partner one (Some top)
+              partners = found_one k l run i inside partners f top (omega arith) partner one (Some top)
                   (λ q le is. ap Some (one_partner k l run i top q own is)) (λ q is. subst (λ m. IsPartner l i m) (one_some top q is) own);
-              running = stack_stays (IsFork l) running r (λ h w. forks_do_not_join h.0 child (sym h.1 ∙ deed))
+              running = stack_stays k l run i inside (IsFork l) running r (λ h w. forks_do_not_join h.0 child (sym h.1 ∙ deed))
                   (λ x lt sort is. no_fork_by x sort (ahead k l run x i lt (omega arith) is));
-              ended = stack_falls (Ends l) top older s not_an_end partner (λ x lt sort is. one x lt is);
+              ended = stack_falls k l run i inside (Ends l) top older s not_an_end partner (λ x lt sort is. one x lt is);
             }
 
   by_deed : (p : Pairs) → Stands l i p → (d : Deed) → deed_at l i ≡ d → Stands l (suc i) (after i (kind_of d) p)

@@ -2,7 +2,7 @@ use Rattle.std.proofs.Common.{sym, subst}
 use Rattle.bounded_list.specs.BoundedList.{entries}
 use Rattle.trail_places.specs.Passing.{pairs_of}
 use Rattle.trail_places.proofs.Passed.{IsPassing, none_passed, passing_on}
-use Rattle.trail_places.proofs.Standing.{Stands, begins}
+use Rattle.trail_places.proofs.Stacks.{Stands, begins}
 use Rattle.trail_places.proofs.Listed.{passes, all_passed}
 use Rattle.trail_places.proofs.places.partners.Goals as goal
 

@@ -5,7 +5,7 @@ use Rattle.depth_first_list.specs.Actions.{Action}
 use Rattle.trail_places.specs.Listed.{AreListed}
 use Rattle.trail_places.specs.Passing.{pairs_of}
 use Rattle.trail_places.proofs.Passed.{IsPassing}
-use Rattle.trail_places.proofs.Standing.{Stands}
+use Rattle.trail_places.proofs.Stacks.{Stands}
 use Rattle.trail_places.proofs.places.partners.Given as goal
 
 abbrev pub invariant-loop-place : goal.invariant-loop-place
