@@ -8,6 +8,8 @@
 #[cfg(test)]
 mod give_ups;
 #[cfg(test)]
+mod handed_over;
+#[cfg(test)]
 mod listed;
 #[cfg(test)]
 mod plays;
