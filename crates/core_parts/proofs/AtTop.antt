@@ -48,11 +48,10 @@ use Rattle.thread_map.specs.Kept.{kept_under}
 use Rattle.deque_events.specs.Shown.{deque_shown, Stands, parts_under}
 use Rattle.core_parts.specs.declared.scheduler.Scheduler.{Scheduler}
 use Rattle.core_parts.specs.Held.{held, held_under, parts_in, waiting_shown, result_kept, OwnsNone, IsInOrder, IsUnderItsId}
-use Rattle.core_parts.specs.Moments.{StandsAt}
+use Rattle.core_parts.specs.Moments.{HasRun}
 use Rattle.deque_machine.specs.Terms.{Terms, machine_of}
 use Rattle.core_parts.proofs.Owners.{own_here, owned_shown, own_one, none_owned}
 use Rattle.core_parts.proofs.Lists.{found_among, among_mapped}
-use Rattle.core_parts.proofs.Going.{lawful_at}
 
 -- the period of a worker is among the periods
 pub period_is_there : (table : PeriodTable) (worker : ℕ) (p : Period) → period_at table worker ≡ Some p → Among p (periods_of table)
@@ -110,9 +109,9 @@ module _ (s : Scheduler) {worker : ℕ} {id : DequeId} {items : List Thread} (st
     inl refl,
   )
 
-  module _ (c : Setting) (terms : Terms) (quota : record_words ≤ c.quota) (run : List Pair) (m : Moment) (at : StandsAt c terms (held_under s stands top) run m) where
+  module _ (c : Setting) (terms : Terms) (quota : record_words ≤ c.quota) (run : List Pair) (m : Moment) (at : HasRun c terms (held_under s stands top) run m) where
     pub lawful : IsLawful (machine_of c terms) m
-    lawful = lawful_at c terms quota run m at.reaches
+    lawful = at.standing.lawful
 
     pub listed : IsDepthFirst c.quota (list_of c)
     listed = whole_is_depth_first c
@@ -122,7 +121,7 @@ module _ (s : Scheduler) {worker : ℕ} {id : DequeId} {items : List Thread} (st
     owns_none =
         let one : owned_by worker m.deques ≤ 1 = lawful.order.owns_one worker in
         let same : owned_by worker m.deques ≡ total (own_here worker) (stands.left ++ own_deque ∷ stands.right) =
-        ap (owned_by worker) at.shows.deques ∙ owned_shown worker (stands.left ++ own_deque ∷ stands.right) in
+        ap (owned_by worker) at.standing.shows.deques ∙ owned_shown worker (stands.left ++ own_deque ∷ stands.right) in
         let sum = total_middle (own_here worker) stands.left own_deque stands.right in
         let here : own_here worker own_deque ≡ 1 = own_one worker (Some worker) refl in
         (none_owned worker stands.left (omega (arith, one, same, sum, here)), none_owned worker stands.right (omega (arith, one, same, sum, here)))
@@ -133,29 +132,29 @@ module _ (s : Scheduler) {worker : ℕ} {id : DequeId} {items : List Thread} (st
         let deques : total deque_words (parts.Parts.deques (parts_in (held_under s stands top)))
         ≡ total deque_words (map (deque_shown thread_shown) stands.left ++ deque_shown thread_shown own_deque ∷ map (deque_shown thread_shown) stands.right) = ap (total deque_words) deques_are in
         let sum = deque_words_middle (map (deque_shown thread_shown) stands.left) (map (deque_shown thread_shown) stands.right) (deque_shown thread_shown own_deque) in
-        let words = at.shows.words in let live = at.live in omega (arith, ints, deques, sum, words, live)
+        let words = at.standing.shows.words in let live = at.standing.live in omega (arith, ints, deques, sum, words, live)
 
     -- it has done no more actions than are done
     pub counts_within : done_of top ≤ s.done
     counts_within =
-        let few = threads_count_within (machine_of c terms) (omega (arith, quota)) listed m (parts_in (held_under s stands top)) (thread_shown top) lawful at.shows top_is_in in
+        let few = threads_count_within (machine_of c terms) (omega (arith, quota)) listed m (parts_in (held_under s stands top)) (thread_shown top) lawful at.standing.shows top_is_in in
         let done = at.done in omega (arith, few, done)
 
     -- its period has taken no more than the quota
     pub used_within : (p : Period) → period_at s.table worker ≡ Some p → p.used ≤ c.quota
     used_within p is =
         let o = period_there p is in
-        let book = book_of_it c.quota (list_of c) (parts_in (held_under s stands top)) m at.shows worker o in
-        let used = used_is c.quota (list_of c) (parts_in (held_under s stands top)) m at.shows worker o in
+        let book = book_of_it c.quota (list_of c) (parts_in (held_under s stands top)) m at.standing.shows worker o in
+        let used = used_is c.quota (list_of c) (parts_in (held_under s stands top)) m at.standing.shows worker o in
         let within = each_at (IsWithin c.quota (list_of c)) book.older book.book book.newer (subst (Each (IsWithin c.quota (list_of c))) book.books_are lawful.periods.lawful.within) in
         omega (arith, used, within)
 
     pub stands_at_top : ThreadStands (list_of c) (done_at m) (parts_in (held_under s stands top)) (thread_shown top)
-    stands_at_top = at.shows.threads (thread_shown top) top_is_in
+    stands_at_top = at.standing.shows.threads (thread_shown top) top_is_in
 
     -- its deque is one of the moment, and it is live
     pub deque_there : Among (parts.deque_shown (deque_shown thread_shown own_deque)) m.deques
-    deque_there = subst (Among (parts.deque_shown (deque_shown thread_shown own_deque))) (sym at.shows.deques)
+    deque_there = subst (Among (parts.deque_shown (deque_shown thread_shown own_deque))) (sym at.standing.shows.deques)
         (among_mapped parts.deque_shown (deque_shown thread_shown own_deque) (map (deque_shown thread_shown) (stands.left ++ own_deque ∷ stands.right))
         (among_mapped (deque_shown thread_shown) own_deque (stands.left ++ own_deque ∷ stands.right) (among_here own_deque stands.left stands.right)))
 
@@ -189,8 +188,8 @@ module _ (s : Scheduler) {worker : ℕ} {id : DequeId} {items : List Thread} (st
           by_found (Some ended) is =
               let there = found_among (Thread.id top) s.results.entries ended is in
               let its_id : Ended.id ended ≡ Thread.id top = each_among IsUnderItsId (Thread.id top, ended) s.results.entries o.results there in
-              let result = at.shows.results (result_kept (Thread.id top, ended)) (among_mapped result_kept (Thread.id top, ended) s.results.entries there) in
-              let same = one_label c.quota (list_of c) (periods_of s.table) m.books (Thread.id top) (parts.Result.label (result_kept (Thread.id top, ended))) (label_of top) at.shows.books
+              let result = at.standing.shows.results (result_kept (Thread.id top, ended)) (among_mapped result_kept (Thread.id top, ended) s.results.entries there) in
+              let same = one_label c.quota (list_of c) (periods_of s.table) m.books (Thread.id top) (parts.Result.label (result_kept (Thread.id top, ended))) (label_of top) at.standing.shows.books
               (subst (λ who. HasLabel (periods_of s.table) who (parts.Result.label (result_kept (Thread.id top, ended)))) its_id result.labelled) stands_at_top.labelled in
               let e = result.ended in
               let did = end_means_all c.quota (list_of c) listed (done_at m) lawful.periods.lawful.first_actions e.0 i.place e.1 i.inside e.3 e.4

@@ -49,9 +49,8 @@ use Rattle.deque_events.specs.Shown.{deque_shown, deque_with, Stands}
 use Rattle.thread_parts.specs.Shown.{thread_shown}
 use Rattle.core_parts.specs.declared.scheduler.Scheduler.{Scheduler}
 use Rattle.core_parts.specs.Held.{Held, held, IsInOrder}
-use Rattle.core_parts.specs.Moments.{StandsAt, IsSound}
+use Rattle.core_parts.specs.Moments.{HasRun, IsSound}
 use Rattle.deque_machine.specs.Terms.{Terms, machine_of}
-use Rattle.core_parts.proofs.Going.{lawful_at}
 use Rattle.core_parts.proofs.Owners.{own_here, owned_shown, own_one, owner_there}
 use Rattle.core_parts.proofs.Lists.{among_mapped}
 use Rattle.core_parts.proofs.AtTop.{period_is_there, seat_of_deque}
@@ -156,21 +155,21 @@ find_deque worker id (d ∷ ds) = elim (is_it worker id d) [
 ]
 
 -- at the moment of a run a worker with a seat owns a deque, with a thread on top
-module _ (c : Setting) (terms : Terms) (quota : record_words ≤ c.quota) (h : Held) (run : List Pair) (m : Moment) (at : StandsAt c terms h run m) (o : IsInOrder h)
+module _ (c : Setting) (terms : Terms) (quota : record_words ≤ c.quota) (h : Held) (run : List Pair) (m : Moment) (at : HasRun c terms h run m) (o : IsInOrder h)
     (worker : ℕ) (id : DequeId) (sits : deque_at h.table worker ≡ Some id) where
   lawful : IsLawful (machine_of c terms) m
-  lawful = lawful_at c terms quota run m at.reaches
+  lawful = at.standing.lawful
 
   some_owned : 0 < total (own_here worker) h.deques
   some_owned =
       let seat = seat_of_deque (seat_at h.table worker) id sits in
       let p : Period = open_shown worker seat.0.period in
-      let book = each_has_its_book c.quota (list_of c) (periods_of h.table) m.books p at.shows.books (period_is_there h.table worker p (ap (shown_of worker) seat.1)) in
+      let book = each_has_its_book c.quota (list_of c) (periods_of h.table) m.books p at.standing.shows.books (period_is_there h.table worker p (ap (shown_of worker) seat.1)) in
       let one : one_if_open worker book.book ≡ 1 = own_one worker (Book.owner book.book) book.is_book.owner in
       let sum = total_middle (one_if_open worker) book.older book.book book.newer in
       let opened : open_for worker m.books ≡ open_for worker (book.older ++ book.book ∷ book.newer) = ap (open_for worker) book.books_are in
       let each = lawful.periods.one_each worker in
-      let same : owned_by worker m.deques ≡ total (own_here worker) h.deques = ap (owned_by worker) at.shows.deques ∙ owned_shown worker h.deques in
+      let same : owned_by worker m.deques ≡ total (own_here worker) h.deques = ap (owned_by worker) at.standing.shows.deques ∙ owned_shown worker h.deques in
       omega (arith, one, sum, opened, each, same)
 
   not_missing : Each (λ d. Deque.owner d ≡ Some worker → Deque.id d ≡ id → Deque.items d ≡ []) h.deques → ⊥
@@ -179,7 +178,7 @@ module _ (c : Setting) (terms : Terms) (quota : record_words ≤ c.quota) (h : H
       let d = found.0 in
       let its_seat = each_among (λ d. (w : ℕ) → Deque.owner d ≡ Some w → deque_at h.table w ≡ Some (Deque.id d)) d h.deques o.owners found.1 worker found.2 in
       let empty = each_among (λ d. Deque.owner d ≡ Some worker → Deque.id d ≡ id → Deque.items d ≡ []) d h.deques none found.1 found.2 (same_Some (Deque.id d) id (sym its_seat ∙ sits)) in
-      let there = subst (Among (parts.deque_shown (deque_shown thread_shown d))) (sym at.shows.deques)
+      let there = subst (Among (parts.deque_shown (deque_shown thread_shown d))) (sym at.standing.shows.deques)
       (among_mapped parts.deque_shown (deque_shown thread_shown d) (map (deque_shown thread_shown) h.deques) (among_mapped (deque_shown thread_shown) d h.deques found.1)) in
       each_among (λ (x : DequeOfMoment). x.threads ≢ []) (parts.deque_shown (deque_shown thread_shown d)) m.deques lawful.order.none_empty there
       (ap (λ ts. map parts.label_of (map thread_shown ts)) empty)

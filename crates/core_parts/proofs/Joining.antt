@@ -42,7 +42,7 @@ use Rattle.thread_map.specs.Kept.{kept_under}
 use Rattle.deque_events.specs.Shown.{deque_shown, deque_with, Stands}
 use Rattle.core_parts.specs.declared.scheduler.Scheduler.{Scheduler}
 use Rattle.core_parts.specs.Held.{Held, held_under, parts_in, waiting_shown, result_kept, IsInOrder, WaitsUnder, IsUnderItsId}
-use Rattle.core_parts.specs.Moments.{StandsAt}
+use Rattle.core_parts.specs.Moments.{HasRun}
 use Rattle.deque_machine.specs.Terms.{Terms}
 use Rattle.core_parts.proofs.Lists.{found_among, among_mapped, none_found}
 use Rattle.core_parts.proofs.Newest.{Cut, cut_newest, shown_cut, among_reversed, AreOthers, delivered_last, with_delivered_last, only_last, awaits_last}
@@ -81,7 +81,7 @@ unkept_in id [] under none = tt
 unkept_in id (e ∷ entries) under none = (λ same. none.0 (sym under.0 ∙ same), unkept_in id entries under.1 none.1)
 
 module _ (s : Scheduler) {worker : ℕ} {id : DequeId} {items : List Thread} (stands : Stands s.list worker id items) (top : Thread)
-    (c : Setting) (terms : Terms) (quota : record_words ≤ c.quota) (run : List Pair) (m : Moment) (at : StandsAt c terms (held_under s stands top) run m)
+    (c : Setting) (terms : Terms) (quota : record_words ≤ c.quota) (run : List Pair) (m : Moment) (at : HasRun c terms (held_under s stands top) run m)
     (child : ThreadId) (i : IsOfTheList c top (nexts.Join child)) (joins_newest : JoinsNewest (nexts.Join child) (children_of top)) (o : IsInOrder (held_under s stands top)) where
   pub cut : Cut (children_of top) child
   cut = cut_newest (children_of top) child joins_newest
@@ -115,7 +115,7 @@ module _ (s : Scheduler) {worker : ℕ} {id : DequeId} {items : List Thread} (st
 
   -- whoever has this id has this label
   one_of_it : (who : ThreadId) (label : List ℕ) → who ≡ child → HasLabel (periods_of s.table) who label → label ≡ fork_of (label_of top) (Child.ordinal cut.last)
-  one_of_it who label is has = one_label c.quota (list_of c) (periods_of s.table) m.books child label (fork_of (label_of top) (Child.ordinal cut.last)) at.shows.books
+  one_of_it who label is has = one_label c.quota (list_of c) (periods_of s.table) m.books child label (fork_of (label_of top) (Child.ordinal cut.last)) at.standing.shows.books
       (subst (λ x. HasLabel (periods_of s.table) x label) is has) its_label
 
   -- no older open child has the id
@@ -180,11 +180,11 @@ module _ (s : Scheduler) {worker : ℕ} {id : DequeId} {items : List Thread} (st
           let there = found_among child s.waiting.entries x is in
           let waits = each_among WaitsUnder (child, x) s.waiting.entries o.waiting there in
           let shown = among_mapped waiting_shown (child, x) s.waiting.entries there in
-          let stands_x = at.shows.threads (thread_shown x) (inr shown) in
+          let stands_x = at.standing.shows.threads (thread_shown x) (inr shown) in
           let its = subst (Each (ChildStands (list_of c) (done_at m) (parts_in (held_under s stands top)) (Thread.id x) (label_of x))) waits.2 stands_x.children in
           let label = (one_parent (label_of x) (label_of top) (parts.Child.ordinal waits.0) (Child.ordinal cut.last)
           (one_of_it (parts.Child.id waits.0) (fork_of (label_of x) (parts.Child.ordinal waits.0)) waits.3 its.0.labelled)).0 in
-          let w = each_among (λ y. (w : Waiting) × Among w m.waiting × IsWaiting y w) (thread_shown x) (map waiting_shown s.waiting.entries) at.shows.waits shown in
+          let w = each_among (λ y. (w : Waiting) × Among w m.waiting × IsWaiting y w) (thread_shown x) (map waiting_shown s.waiting.entries) at.standing.shows.waits shown in
           let apart = each_among (λ thread. ¬ Among thread (threads_in m.deques)) w.0.thread (waiting_threads m.waiting) (lawful s stands top c terms quota run m at).order.apart
           (waits_among w.0 m.waiting w.1) in
           absurd (apart (subst (λ t. Among t (threads_in m.deques)) (sym (w.2.0 ∙ label)) (label_there s stands top c terms quota run m at)))
@@ -200,7 +200,7 @@ module _ (s : Scheduler) {worker : ℕ} {id : DequeId} {items : List Thread} (st
     pub to_come : is_delivered child (children_of top) ≡ false → IsAwaited (label_of top) ended (children_of top)
     to_come missing =
         let shown = among_mapped result_kept (child, ended) s.results.entries its_entry in
-        let label = one_of_it (Ended.id ended) (ended_label ended) under_its_id (at.shows.results (result_shown ended) shown).labelled in
+        let label = one_of_it (Ended.id ended) (ended_label ended) under_its_id (at.standing.shows.results (result_shown ended) shown).labelled in
         subst (IsAwaited (label_of top) ended) (sym cut.are) (awaits_last child (label_of top) ended under_its_id cut.front cut.last others cut.its_id (record {
           waits = sym told_newest ∙ missing;
           labelled = label;
@@ -227,13 +227,13 @@ module _ (s : Scheduler) {worker : ℕ} {id : DequeId} {items : List Thread} (st
   ended_when_kept ended is =
       let there = found_among child s.results.entries ended is in
       let its_id : Ended.id ended ≡ child = each_among IsUnderItsId (child, ended) s.results.entries o.results there in
-      let result = at.shows.results (result_kept (child, ended)) (among_mapped result_kept (child, ended) s.results.entries there) in
+      let result = at.standing.shows.results (result_kept (child, ended)) (among_mapped result_kept (child, ended) s.results.entries there) in
       subst (EndedIn (list_of c) (done_at m)) (one_of_it (Ended.id ended) (ended_label ended) its_id result.labelled) result.ended
 
 -- ---- a result that comes to the top thread
 
 module _ (s : Scheduler) {worker : ℕ} {id : DequeId} {items : List Thread} (stands : Stands s.list worker id items) (top : Thread)
-    (c : Setting) (terms : Terms) (quota : record_words ≤ c.quota) (run : List Pair) (m : Moment) (at : StandsAt c terms (held_under s stands top) run m)
+    (c : Setting) (terms : Terms) (quota : record_words ≤ c.quota) (run : List Pair) (m : Moment) (at : HasRun c terms (held_under s stands top) run m)
     (o : IsInOrder (held_under s stands top)) (child : ThreadId) (ended : Ended) (results : List (ThreadId × Ended))
     (moved : IsPermutation s.results.entries ((child, ended) ∷ results)) (now : Thread) (awaited : IsAwaited (label_of top) ended (children_of top))
     (same : IsSame top now) (done : done_of now ≡ done_of top) (children : children_of now ≡ with_delivered ended.id (children_of top))
@@ -242,7 +242,7 @@ module _ (s : Scheduler) {worker : ℕ} {id : DequeId} {items : List Thread} (st
   abbrev first : Held
   first = record (held_under s stands top) { results = (child, ended) ∷ results }
 
-  first_stands : StandsAt c terms first run m
+  first_stands : HasRun c terms first run m
   first_stands = same_stands c terms (held_under s stands top) first run m (record {
     deques = refl;
     waiting = IsPermutation-refl (map waiting_shown s.waiting.entries);
@@ -278,10 +278,10 @@ module _ (s : Scheduler) {worker : ℕ} {id : DequeId} {items : List Thread} (st
   after = record (held_under s stands top) { deques = stands.left ++ deque_with id (Some worker) (now ∷ items) ∷ stands.right; results = results }
 
   -- it stands at the same moment
-  pub handed : StandsAt c terms (record (held_under s stands top) { deques = stands.left ++ deque_with id (Some worker) (now ∷ items) ∷ stands.right; results = results }) run m
+  pub handed : HasRun c terms (record (held_under s stands top) { deques = stands.left ++ deque_with id (Some worker) (now ∷ items) ∷ stands.right; results = results }) run m
   handed = handed_stands c terms quota first after run m worker next first_stands hands (record {
     deques = map-append (deque_shown thread_shown) stands.left (deque_with id (Some worker) (now ∷ items) ∷ stands.right);
     waiting = IsPermutation-refl (map waiting_shown s.waiting.entries);
     results = IsPermutation-refl (map result_kept results);
     periods = refl;
-  }) refl refl refl refl refl
+  }) refl refl refl refl

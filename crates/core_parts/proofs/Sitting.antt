@@ -17,10 +17,9 @@ use Rattle.period_books.proofs.Changes.{each_has_its_book}
 use Rattle.period_table.specs.declared.seat.Seat.{Seat}
 use Rattle.period_table.specs.Tables.{seat_at, shown_of, periods_of}
 use Rattle.core_parts.specs.Held.{Held}
-use Rattle.core_parts.specs.Moments.{StandsAt}
+use Rattle.core_parts.specs.Moments.{HasRun}
 use Rattle.core_parts.specs.Outcomes.{HasDequesLeft}
 use Rattle.core_parts.proofs.AtTop.{period_is_there}
-use Rattle.core_parts.proofs.Going.{lawful_at}
 use Rattle.core_parts.proofs.Owners.{own_one}
 
 -- an event is a theft
@@ -52,15 +51,15 @@ none_of_theft s m worker word event (a_give_up forced) theft = absurd theft
 none_of_theft s m worker word event (a_wait o place child at none) theft = absurd theft
 none_of_theft s m worker word event (an_action o place next has fits) theft = absurd theft
 
-module _ (c : Setting) (terms : Terms) (quota : record_words ≤ c.quota) (h : Held) (run : List Pair) (m : Moment) (at : StandsAt c terms h run m) (worker : ℕ) where
+module _ (c : Setting) (terms : Terms) (quota : record_words ≤ c.quota) (h : Held) (run : List Pair) (m : Moment) (at : HasRun c terms h run m) (worker : ℕ) where
   lawful : IsLawful (machine_of c terms) m
-  lawful = lawful_at c terms quota run m at.reaches
+  lawful = at.standing.lawful
 
   -- who has a seat owns a deque
   pub seat_owns : (seat : Seat) → seat_at h.table worker ≡ Some seat → 0 < owned_by worker m.deques
   seat_owns seat is =
       let p : Period = open_shown worker seat.period in
-      let book = each_has_its_book c.quota (list_of c) (periods_of h.table) m.books p at.shows.books (period_is_there h.table worker p (ap (shown_of worker) is)) in
+      let book = each_has_its_book c.quota (list_of c) (periods_of h.table) m.books p at.standing.shows.books (period_is_there h.table worker p (ap (shown_of worker) is)) in
       let one : one_if_open worker book.book ≡ 1 = own_one worker (Book.owner book.book) book.is_book.owner in
       let sum = total_middle (one_if_open worker) book.older book.book book.newer in
       let opened : open_for worker m.books ≡ open_for worker (book.older ++ book.book ∷ book.newer) = ap (open_for worker) book.books_are in

@@ -4,31 +4,21 @@ use Rattle.std.proofs.Math.Logic.{∥∥₁_map}
 use Rattle.std.specs.Prelude.{Some, pos}
 use Rattle.std.proofs.lemmas.List.Sorted.{IsPermutation-map, IsPermutation-refl}
 use Rattle.std.proofs.lemmas.List.{map-append}
-use Rattle.dag_order.specs.Births.{root}
 use Rattle.dag_order.specs.declared.thread_id.ThreadId.{ThreadId}
 use Rattle.deque_list.specs.declared.deque_id.DequeId.{DequeId}
 use Rattle.deque_list.specs.Deques.{Deque}
-use Rattle.dag_order.specs.LabelOrder.{fork_of}
 use Rattle.depth_first_list.specs.Actions.{Action, record_words}
 use Rattle.depth_first_run.specs.States.{Setting}
 use Rattle.depth_first_run.proofs.Built.{whole_is_depth_first}
 use Rattle.lawful_books.specs.Lists.{Among, Each}
-use Rattle.lawful_books.specs.Books.{Book}
 use Rattle.lawful_books.proofs.Lists.{each_map, each_change, each_at, among_middle, middle_is_not_nil}
 use Rattle.deque_machine.specs.Moments.{Moment, done_at}
 use Rattle.deque_machine.specs.Runs.{Pair, moves}
 use Rattle.space_ledger.specs.Sums.{total_change}
 use Rattle.node_table.specs.Table.{Table}
-use Rattle.period_books.specs.Periods.{Period}
-use Rattle.period_books.specs.Names.{HasLabel, of_root}
-use Rattle.period_books.specs.Telling.{Tell}
-use Rattle.period_books.proofs.Labels.{one_label}
 use Rattle.period_table.specs.Tables.{periods_of, deque_at}
-use Rattle.moment_parts.specs.Parts.{Parts, Result, IsKept}
-use Rattle.moment_parts.specs.Standing.{ChildStands}
-use Rattle.moment_parts.specs.Events.{HandsOver, hands_over}
-use Rattle.moment_parts.proofs.Placing.{top_stands}
-use Rattle.moment_parts.proofs.Handing.{handing_over_is_no_event}
+use Rattle.moment_parts.specs.Parts.{Parts}
+use Rattle.moment_parts.specs.Events.{HandsOver}
 use Rattle.depth_first_run.specs.Run.{list_of}
 use Rattle.thread_frames.specs.declared.thread.Thread.{Thread}
 use Rattle.thread_frames.specs.Points.{IsAtPoint, IsResult}
@@ -36,12 +26,13 @@ use Rattle.thread_frames.specs.Actions.{IsStill}
 use Rattle.thread_parts.specs.Shown.{thread_shown, child_shown}
 use Rattle.deque_events.specs.Shown.{deque_shown, Stands}
 use Rattle.core_parts.specs.declared.scheduler.Scheduler.{Scheduler}
-use Rattle.core_parts.specs.Held.{Held, held, held_under, parts_in, waiting_shown, result_kept, AreSame, IsReordered, OwnersSit, IsInOrder, AreAtPoints, AreResults, WaitsUnder, IsUnderItsId}
-use Rattle.core_parts.specs.Moves.{AreMovesOf}
-use Rattle.core_parts.specs.Moments.{StandsAt, IsSound}
+use Rattle.step_laws.specs.Orders.{AreSame}
+use Rattle.core_parts.specs.Held.{Held, held, held_under, parts_in, waiting_shown, result_kept, IsReordered, OwnersSit, IsInOrder, AreAtPoints, AreResults, WaitsUnder, IsUnderItsId}
+use Rattle.core_parts.specs.Moments.{shown, HasRun, IsSound}
 use Rattle.deque_machine.specs.Terms.{Terms, machine_of}
 use Rattle.core_parts.proofs.Lists.{each_moved}
-use Rattle.core_parts.proofs.Going.{same_show, kept_moved, lawful_at}
+use Rattle.step_laws.proofs.Standing.{handings_stand}
+use Rattle.step_laws.proofs.Standing as law
 
 -- parts in another order
 pub reordered_parts : (before after : Held) → IsReordered before after → AreSame (parts_in before) (parts_in after)
@@ -52,23 +43,21 @@ reordered_parts before after r = record {
   periods = r.periods;
 }
 
+none_more : (n : ℕ) → n ≡ n + 0
+none_more n = omega arith
+
 -- the same parts, with the same counts and moves, stand at the same moment
 pub same_stands : (c : Setting) (terms : Terms) (before after : Held) (run : List Pair) (m : Moment) → AreSame (parts_in before) (parts_in after)
     → after.live ≡ before.live → after.done ≡ before.done → after.table.begun ≡ before.table.begun → after.moves ≡ before.moves
-    → StandsAt c terms before run m → StandsAt c terms after run m
+    → HasRun c terms before run m → HasRun c terms after run m
 same_stands c terms before after run m same live done begun moved at = record {
   reaches = at.reaches;
-  shows = same_show c.quota (list_of c) (parts_in before) after m same at.shows;
-  live = ap pos live ∙ at.live;
+  standing = law.same_stands (machine_of c terms) (shown before) (shown after) (moves (list_of c) run) m at.standing same (record { live = live; begun = begun ∙ none_more before.table.begun; moves = moved });
   done = done ∙ at.done;
-  begun = begun ∙ at.begun;
-  moves = subst (λ ps. AreMovesOf ps after.moves (moves (list_of c) run)) (sym same.periods)
-      (subst (λ ms. AreMovesOf (periods_of before.table) ms (moves (list_of c) run)) (sym moved) at.moves);
-  root_kept = λ ended. kept_moved (Parts.results (parts_in before)) (Parts.results (parts_in after)) root same.results (at.root_kept ended);
 }
 
-pub reordered_stands : (c : Setting) (terms : Terms) (before after : Held) (run : List Pair) (m : Moment) → IsReordered before after → StandsAt c terms before run m
-    → StandsAt c terms after run m
+pub reordered_stands : (c : Setting) (terms : Terms) (before after : Held) (run : List Pair) (m : Moment) → IsReordered before after → HasRun c terms before run m
+    → HasRun c terms after run m
 reordered_stands c terms before after run m r at =
     same_stands c terms before after run m (reordered_parts before after r) r.live r.done r.begun r.moves at
 
@@ -130,7 +119,7 @@ module _ (s : Scheduler) {worker : ℕ} {id : DequeId} {items : List Thread} (st
     periods = refl;
   }
 
-  pub still_stands : (c : Setting) (terms : Terms) (run : List Pair) (m : Moment) → StandsAt c terms (held_under s stands x) run m → StandsAt c terms (held_under s stands y) run m
+  pub still_stands : (c : Setting) (terms : Terms) (run : List Pair) (m : Moment) → HasRun c terms (held_under s stands x) run m → HasRun c terms (held_under s stands y) run m
   still_stands c terms run m at = same_stands c terms (held_under s stands x) (held_under s stands y) run m same_still refl refl refl refl at
 
   still_order : IsInOrder (held_under s stands x) → IsInOrder (held_under s stands y)
@@ -163,37 +152,12 @@ module _ (s : Scheduler) {worker : ℕ} {id : DequeId} {items : List Thread} (st
 
 -- ---- a result that is handed over
 
--- what is left of the results still has that of the root
-module _ (periods : List Period) (k : ℕ) (l : List Action) (books : List Book) (tell : Tell k l periods books) where
-  not_the_root : (id : ThreadId) (label : List ℕ) (ordinal : ℕ) → HasLabel periods id (fork_of label ordinal) → id ≢ root
-  not_the_root id label ordinal has is =
-      middle_is_not_nil label ordinal [] (one_label k l periods books root (fork_of label ordinal) [] tell (subst (λ x. HasLabel periods x (fork_of label ordinal)) is has) of_root)
-
 pub handed_stands : (c : Setting) (terms : Terms) → record_words ≤ c.quota → (before after : Held) (run : List Pair) (m : Moment) (worker : ℕ) (next : Parts)
-    → StandsAt c terms before run m → HandsOver (parts_in before) worker next → AreSame next (parts_in after)
-    → after.live ≡ before.live → after.done ≡ before.done → after.table.begun ≡ before.table.begun → after.moves ≡ before.moves
-    → periods_of after.table ≡ periods_of before.table → StandsAt c terms after run m
-handed_stands c terms quota before after run m worker next at hands same live done begun moved periods = record {
+    → HasRun c terms before run m → HandsOver (parts_in before) worker next → AreSame next (parts_in after)
+    → after.live ≡ before.live → after.done ≡ before.done → after.table.begun ≡ before.table.begun → after.moves ≡ before.moves → HasRun c terms after run m
+handed_stands c terms quota before after run m worker next at hands same live done begun moved = record {
   reaches = at.reaches;
-  shows = same_show c.quota (list_of c) next after m same
-      (handing_over_is_no_event (machine_of c terms) (omega (arith, quota)) (whole_is_depth_first c) m (parts_in before) worker next (lawful_at c terms quota run m at.reaches) at.shows hands);
-  live = ap pos live ∙ at.live;
+  standing = handings_stand (machine_of c terms) (omega (arith, quota)) (whole_is_depth_first c) (shown before) (shown after) (moves (list_of c) run) m worker next at.standing hands same
+      (record { live = live; begun = begun ∙ none_more before.table.begun; moves = moved });
   done = done ∙ at.done;
-  begun = begun ∙ at.begun;
-  moves = subst (λ ps. AreMovesOf ps after.moves (moves (list_of c) run)) (sym periods)
-      (subst (λ ms. AreMovesOf (periods_of before.table) ms (moves (list_of c) run)) (sym moved) at.moves);
-  root_kept = λ ended. kept_moved (Parts.results next) (Parts.results (parts_in after)) root same.results (by_hands next hands (at.root_kept ended));
 }
-  where
-    by_hands : (next : Parts) → HandsOver (parts_in before) worker next → IsKept (Parts.results (parts_in before)) root → IsKept next.results root
-    by_hands next (hands_over o front later result left right child new results_are children_are child_is id parent label func same_done children words) kept =
-        let r = kept.0 in
-        let there : Among r (front ++ result ∷ later) = subst (Among r) results_are kept.1 in
-        let stands = top_stands (machine_of c terms) (whole_is_depth_first c) m (lawful_at c terms quota run m at.reaches) (parts_in before) at.shows worker o in
-        let child_stands = each_at (ChildStands (list_of c) (done_at m) (parts_in before) o.top.id o.top.label) left child right
-        (subst (Each (ChildStands (list_of c) (done_at m) (parts_in before) o.top.id o.top.label)) children_are stands.children) in
-        elim (among_middle r front result later there) [
-          | inl is ↦ absurd (not_the_root (periods_of before.table) c.quota (list_of c) m.books at.shows.books child.id o.top.label child.ordinal child_stands.labelled
-              (child_is ∙ sym (ap (λ x. Result.id x) is) ∙ kept.2))
-          | inr beside ↦ (r, beside, kept.2)
-        ]

@@ -61,14 +61,7 @@ parts_in h = record {
   periods = periods_of h.table;
 }
 
--- the same parts but for the order of what waits and of the results, which is of no account
-pub record AreSame (before after : parts.Parts) : Type 0 where
-  pub deques : after.deques ≡ before.deques
-  pub waiting : IsPermutation before.waiting after.waiting
-  pub results : IsPermutation before.results after.results
-  pub periods : after.periods ≡ before.periods
-
--- the same is held but for that order, and for memory
+-- the same is held but for the order of what waits and of the results, which is of no account, and for memory
 pub record IsReordered (before after : Held) : Type 0 where
   pub deques : after.deques ≡ before.deques
   pub waiting : IsPermutation before.waiting after.waiting

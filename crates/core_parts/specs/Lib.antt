@@ -1,4 +1,3 @@
 pub mod Held
-pub mod Moves
 pub mod Moments
 pub mod Outcomes

@@ -20,7 +20,7 @@ use Rattle.core_parts.specs.declared.event.Event.TheVariants.{Stole, Acted, Susp
 use Rattle.core_parts.specs.declared.stop.Stop.{Stop}
 use Rattle.core_parts.specs.declared.stop.Stop.TheVariants.{ArenaFull, DequesFull, StepsSpent, OutOfMemory}
 use Rattle.core_parts.specs.Held.{Held}
-use Rattle.core_parts.specs.Moments.{StandsAt}
+use Rattle.core_parts.specs.Moments.{HasRun}
 use Rattle.deque_machine.specs.Terms.{Terms, machine_of}
 
 -- An answer tells an event of a worker at a moment: the deque and the number of the period of a theft, the name of an action by the births
@@ -40,7 +40,7 @@ pub record GoesOn (c : Setting) (terms : Terms) (after : Held) (worker word : �
   pub wants : Wants (machine_of c terms) m worker word event
   pub free : (stop : play.Stop) → ¬ Meets (machine_of c terms) terms.limits m event stop
   pub may : May (machine_of c terms) m worker event next
-  pub stands : StandsAt c terms after (run ++ record { worker = worker; event = event } ∷ []) next
+  pub stands : HasRun c terms after (run ++ record { worker = worker; event = event } ∷ []) next
   pub tells : Tells (list_of c) (periods_of after.table) m worker event told
 
 -- At the moment m of a run the worker gives up this deque, which it may at any time, and now all stands at the moment of the run with
@@ -48,7 +48,7 @@ pub record GoesOn (c : Setting) (terms : Terms) (after : Held) (worker word : �
 pub record GivesDequeUp (c : Setting) (terms : Terms) (after : Held) (worker : ℕ) (run : List Pair) (m : Moment) (id : DequeId) : Type 0 where
   pub next : Moment
   pub may : May (machine_of c terms) m worker machine.gives_up next
-  pub stands : StandsAt c terms after (run ++ record { worker = worker; event = machine.gives_up } ∷ []) next
+  pub stands : HasRun c terms after (run ++ record { worker = worker; event = machine.gives_up } ∷ []) next
   pub tells : Tells (list_of c) (periods_of after.table) m worker machine.gives_up (GaveUp id)
 
 -- The event that they want meets this stop, and all stands where it stood.
@@ -57,7 +57,7 @@ pub record Stops (c : Setting) (terms : Terms) (after : Held) (worker word : ℕ
   pub event : machine.Event
   pub wants : Wants (machine_of c terms) m worker word event
   pub meets : Meets (machine_of c terms) terms.limits m event stop
-  pub stands : StandsAt c terms after run m
+  pub stands : HasRun c terms after run m
 
 -- the limit of deques does not stop what the rules want of the worker
 abbrev pub HasDequesLeft : Setting → Terms → (worker word : ℕ) → Moment → Type 0
@@ -72,7 +72,7 @@ StopsBy c terms after worker word run m (DequesFull deques) =
     ∥ Stops c terms after worker word run m (play.deques_full deques) ∥₁
 StopsBy c terms after worker word run m (StepsSpent limit) =
     ∥ Stops c terms after worker word run m (play.steps_spent limit) ∥₁
-StopsBy c terms after worker word run m OutOfMemory = StandsAt c terms after run m × HasDequesLeft c terms worker word m
+StopsBy c terms after worker word run m OutOfMemory = HasRun c terms after run m × HasDequesLeft c terms worker word m
 
 -- what a step comes to, at each moment of a run at which it may begin
 abbrev pub StepsTo : Setting → Terms → Held → ℕ → ℕ → List Pair → Moment → Result Event Stop → Type 0

@@ -44,8 +44,8 @@ use Rattle.thread_frames.specs.Views.{label_of, done_of, children_of, thread_wor
 use Rattle.thread_parts.specs.Shown.{thread_shown, child_shown}
 use Rattle.deque_events.specs.Shown.{deque_shown}
 use Rattle.core_parts.specs.Held.{Held, parts_in}
-use Rattle.core_parts.specs.Moments.{IsSound, CanGoOn, StandsAt}
-use Rattle.core_parts.specs.Moves.{AreMovesOf}
+use Rattle.core_parts.specs.Moments.{IsSound, CanGoOn, HasRun}
+use Rattle.step_laws.specs.Moves.{AreMovesOf}
 use Rattle.deque_machine.specs.Terms.{Terms}
 use Rattle.dfd_core.specs.declared.run_end.RunEnd.{RunEnd}
 use Rattle.dfd_core.specs.declared.run_end.RunEnd.TheVariants.{Finished, Stopped}
@@ -90,16 +90,16 @@ none_open worker (None ∷ seats) idle = none_open (suc worker) seats (λ n. idl
 none_open worker (Some seat ∷ seats) idle = absurd (none-some seat (sym (idle 0)))
 
 -- so what is left is of the run
-pub of_run : (c : Setting) (terms : Terms) (h : Held) (run : List Pair) (m : machine.Moment) (moved : Moves) → StandsAt c terms h run m
+pub of_run : (c : Setting) (terms : Terms) (h : Held) (run : List Pair) (m : machine.Moment) (moved : Moves) → HasRun c terms h run m
     → h.moves ≡ moves_list moved → ((worker : ℕ) → seat_at h.table worker ≡ None) → AreOfRun c run m h.table.books moved
 of_run c terms h run m moved at same idle =
     let all : periods_of h.table ≡ map closed_shown (books_list h.table.books) =
     ap (λ ps. map closed_shown (books_list h.table.books) ++ ps) (none_open 0 h.table.seats.items idle)
     ∙ append-nil (map closed_shown (books_list h.table.books)) in
     record {
-      books_are = subst (λ ps. Tell c.quota (list_of c) ps m.books) all at.shows.books;
+      books_are = subst (λ ps. Tell c.quota (list_of c) ps m.books) all at.standing.shows.books;
       moves_are = subst (λ ps. AreMovesOf ps (moves_list moved) (moves (list_of c) run)) all
-          (subst (λ ms. AreMovesOf (periods_of h.table) ms (moves (list_of c) run)) same at.moves);
+          (subst (λ ms. AreMovesOf (periods_of h.table) ms (moves (list_of c) run)) same at.standing.moves);
     }
 
 -- ---- at the opening
@@ -149,26 +149,26 @@ counts_none c (suc n) has =
 
 module _ (t : Table) (k : ℕ) (terms : Terms) (h : Held) (sound : IsSound t k terms h) (points : CanGoOn t k h) (end : Option RunEnd)
     (fresh : (c : Setting) → IsSettingOf t k c → IsAtMoment t k terms h end c [] opening) where
-  at_opening : {P : Type 0} → IsProp P → ((c : Setting) → StandsAt c terms h [] opening → P) → P
+  at_opening : {P : Type 0} → IsProp P → ((c : Setting) → HasRun c terms h [] opening → P) → P
   at_opening prop f = ∥∥₁_elim sound.of_program prop (λ p. f p.0 (fresh p.0 p.1).stands)
 
   pub one_deque : length h.deques ≡ 1
   one_deque = at_opening (search props) (λ c at.
-      let same = ap length at.shows.deques in
+      let same = ap length at.standing.shows.deques in
       let a = length-map (parts.Parts.deques (parts_in h)) parts.deque_shown in let b = length-map h.deques (deque_shown thread_shown) in omega (arith, same, a, b))
 
   pub first : (d : Deque Thread) × (h.deques ≡ d ∷ [])
   first = alone h.deques one_deque
 
   -- the deque of the opening
-  shown_first : (c : Setting) → StandsAt c terms h [] opening → opening.deques ≡ parts.deque_shown (deque_shown thread_shown first.0) ∷ []
-  shown_first c at = at.shows.deques ∙ ap (λ ds. map parts.deque_shown (map (deque_shown thread_shown) ds)) first.1
+  shown_first : (c : Setting) → HasRun c terms h [] opening → opening.deques ≡ parts.deque_shown (deque_shown thread_shown first.0) ∷ []
+  shown_first c at = at.standing.shows.deques ∙ ap (λ ds. map parts.deque_shown (map (deque_shown thread_shown) ds)) first.1
 
   pub no_owner : Deque.owner first.0 ≡ None
   unfolding owner_of_first
   no_owner = by_owner (Deque.owner first.0) refl
     where
-      shown : (c : Setting) → StandsAt c terms h [] opening → None ≡ Deque.owner first.0
+      shown : (c : Setting) → HasRun c terms h [] opening → None ≡ Deque.owner first.0
       shown c at = ap owner_of_first (shown_first c at)
 
       by_owner : (owner : Option ℕ) → Deque.owner first.0 ≡ owner → Deque.owner first.0 ≡ None
@@ -180,7 +180,7 @@ module _ (t : Table) (k : ℕ) (terms : Terms) (h : Held) (sound : IsSound t k t
   unfolding id_of_first
   first_id = let same : DequeId.0 (Deque.id first.0) ≡ 0 = at_opening (search props) (λ c at. sym (ap id_of_first (shown_first c at))) in λ i. record { 0 = same i }
 
-  labels : (c : Setting) → StandsAt c terms h [] opening → [] ∷ [] ≡ map parts.label_of (map thread_shown (Deque.items first.0))
+  labels : (c : Setting) → HasRun c terms h [] opening → [] ∷ [] ≡ map parts.label_of (map thread_shown (Deque.items first.0))
   unfolding threads_of_first
   labels c at = ap threads_of_first (shown_first c at)
 
@@ -205,25 +205,25 @@ module _ (t : Table) (k : ℕ) (terms : Terms) (h : Held) (sound : IsSound t k t
       no_label : label_of x ≡ []
       no_label = nil_from_length (label_of x) (at_opening (search props) (λ c at. sym (ap length (shown c at))))
         where
-          shown : (c : Setting) → StandsAt c terms h [] opening → [] ≡ label_of x
+          shown : (c : Setting) → HasRun c terms h [] opening → [] ≡ label_of x
           shown c at = ap first_label (labels c at ∙ ap (λ xs. map parts.label_of (map thread_shown xs)) is)
 
       -- it stands in the parts, and so is what it says
-      its_stand : (c : Setting) → StandsAt c terms h [] opening → ThreadStands (list_of c) (done_at opening) (parts_in h) (thread_shown x)
-      its_stand c at = at.shows.threads (thread_shown x) (inl (
+      its_stand : (c : Setting) → HasRun c terms h [] opening → ThreadStands (list_of c) (done_at opening) (parts_in h) (thread_shown x)
+      its_stand c at = at.standing.shows.threads (thread_shown x) (inl (
         deque_shown thread_shown first.0,
         subst (λ ds. Among (deque_shown thread_shown first.0) (map (deque_shown thread_shown) ds)) (sym first.1) (inl refl),
         subst (λ xs. Among (thread_shown x) (map thread_shown xs)) (sym is) (inl refl),
       ))
 
-      shown_id : (c : Setting) → StandsAt c terms h [] opening → Thread.id x ≡ root
+      shown_id : (c : Setting) → HasRun c terms h [] opening → Thread.id x ≡ root
       shown_id c at = no_label_is_root (periods_of h.table) (Thread.id x) (label_of x)
           (its_stand c at).labelled no_label
 
-      none_done : (c : Setting) → StandsAt c terms h [] opening → done_of x ≡ 0
+      none_done : (c : Setting) → HasRun c terms h [] opening → done_of x ≡ 0
       none_done c at = counts_none c (done_of x) (subst (λ l. HasDone (list_of c) (done_at opening) l (done_of x)) no_label (its_stand c at).has_done)
 
-      no_child : (c : Setting) → StandsAt c terms h [] opening → length (children_of x) ≡ 0
+      no_child : (c : Setting) → HasRun c terms h [] opening → length (children_of x) ≡ 0
       no_child c at =
           let none : length (map child_shown (reverse (children_of x))) ≡ 0 = none_forked c (map child_shown (reverse (children_of x))) (its_stand c at).children in
           let a = length-map (reverse (children_of x)) child_shown in let b = length-reverse (children_of x) in omega (arith, none, a, b)
@@ -232,9 +232,9 @@ module _ (t : Table) (k : ℕ) (terms : Terms) (h : Held) (sound : IsSound t k t
           none_forked c [] all = refl
           none_forked c (child ∷ cs) all = let did = (all.0).forked.4 in absurd (omega (arith, did))
 
-      no_words : (c : Setting) → StandsAt c terms h [] opening → thread_words x ≡ 0
+      no_words : (c : Setting) → HasRun c terms h [] opening → thread_words x ≡ 0
       no_words c at =
-          let all : pos 0 ≡ pos (parts.words_of (parts_in h)) = at.shows.words in
+          let all : pos 0 ≡ pos (parts.words_of (parts_in h)) = at.standing.shows.words in
           let deques = ap (λ ds. total parts.deque_words (map (deque_shown thread_shown) ds)) first.1 in
           let threads = ap (λ xs. total parts.thread_words (map thread_shown xs)) is in
           let none : parts.words_of (parts_in h) ≡ 0 = zero_is (parts.words_of (parts_in h)) all in omega (arith, none, deques, threads)
@@ -256,4 +256,4 @@ module _ (t : Table) (k : ℕ) (terms : Terms) (h : Held) (sound : IsSound t k t
           λ i. record { period = period i; nth = nth i }
 
   pub none_live : h.live ≡ 0
-  none_live = at_opening (search props) (λ c at. let none : pos h.live ≡ pos 0 = at.live in omega (arith, ints, none))
+  none_live = at_opening (search props) (λ c at. let none : pos h.live ≡ pos 0 = at.standing.live in omega (arith, ints, none))

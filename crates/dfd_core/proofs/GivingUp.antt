@@ -16,7 +16,7 @@ use Rattle.step_laws.proofs.Told.{tells}
 use Rattle.thread_steps.specs.Settings.{IsSettingOf}
 use Rattle.core_parts.specs.declared.stop.Stop.TheVariants.{OutOfMemory}
 use Rattle.core_parts.specs.Held.{Held}
-use Rattle.core_parts.specs.Moments.{StandsAt}
+use Rattle.core_parts.specs.Moments.{HasRun}
 use Rattle.deque_machine.specs.Terms.{Terms, machine_of}
 use Rattle.core_parts.specs.Outcomes.{GivesDequeUp}
 use Rattle.owner_steps.specs.Steps.{GivesUpOrStays}
@@ -49,7 +49,7 @@ module _ (t : Table) (k : ℕ) (terms : Terms) (before after : Held) (c : Settin
         };
       }
 
-  stays : (end : Option RunEnd) → IsAtMoment t k terms before end c run m → StandsAt c terms after run m → IsAtMoment t k terms after (end_without_memory end) c run m
+  stays : (end : Option RunEnd) → IsAtMoment t k terms before end c run m → HasRun c terms after run m → IsAtMoment t k terms after (end_without_memory end) c run m
   stays None at stands = stays_at t k terms before after c run m OutOfMemory at stands
   stays (Some end) at stands = record {
     setting = at.setting;
@@ -74,7 +74,7 @@ found t k terms after end c worker run m (Err none) at = ∣ (run, m, at) ∣₁
 
 module _ {E : Type 0} (t : Table) (k : ℕ) (terms later_terms : Terms) (before after : Held) (end later_end : Option RunEnd) (same : later_terms ≡ terms) (worker : ℕ)
     (result : Result DequeId E)
-    (by : (c : Setting) → IsSettingOf t k c → (run : List Pair) (m : Moment) → StandsAt c terms before run m → GivesUpOrStays c terms after worker run m result)
+    (by : (c : Setting) → IsSettingOf t k c → (run : List Pair) (m : Moment) → HasRun c terms before run m → GivesUpOrStays c terms after worker run m result)
     (later_is : later_end ≡ end_behind_give_up result end) where
   pub gives_behind : (c : Setting) (run : List Pair) (m : Moment) → IsAtMoment t k terms before end c run m → GivesUp t k later_terms after later_end c worker run m result
   gives_behind c run m at = subst (λ x. GivesUp t k x after later_end c worker run m result) (sym same) (subst (λ e. GivesUp t k terms after e c worker run m result) (sym later_is)

@@ -21,7 +21,7 @@ use Rattle.core_parts.specs.declared.event.Event.{Event as Told}
 use Rattle.core_parts.specs.declared.stop.Stop.{Stop}
 use Rattle.core_parts.specs.declared.stop.Stop.TheVariants.{ArenaFull, DequesFull, StepsSpent, OutOfMemory}
 use Rattle.core_parts.specs.Held.{Held}
-use Rattle.core_parts.specs.Moments.{IsSound, StandsAt}
+use Rattle.core_parts.specs.Moments.{IsSound, HasRun}
 use Rattle.deque_machine.specs.Terms.{Terms, machine_of}
 use Rattle.core_parts.specs.Outcomes as parts
 use Rattle.core_parts.specs.Outcomes.{StepsTo}
@@ -50,7 +50,7 @@ few_done s limits m next worker (steals place id) may free few = let added = ((o
 
 -- a run in which nothing was kept is where it was, with a stop too
 pub stays_at : (t : Table) (k : ℕ) (terms : Terms) (before after : Held) (c : Setting) (run : List Pair) (m : Moment) (stop : Stop)
-    → IsAtMoment t k terms before None c run m → StandsAt c terms after run m → IsAtMoment t k terms after (Some (Stopped stop)) c run m
+    → IsAtMoment t k terms before None c run m → HasRun c terms after run m → IsAtMoment t k terms after (Some (Stopped stop)) c run m
 stays_at t k terms before after c run m stop at stands = record {
   setting = at.setting;
   stands = stands;
@@ -139,7 +139,7 @@ found t k terms after end c worker word run m (Err OutOfMemory) came = ∣ (run,
 
 pub somewhere_on : (t : Table) (k : ℕ) (terms : Terms) (before after : Held) → IsSound t k terms after → IsSomewhere t k terms before None
     → (worker word : ℕ) (result : Result (Option Told) Stop)
-    → ((c : Setting) → IsSettingOf t k c → (run : List Pair) (m : Moment) → StandsAt c terms before run m → EventBy c terms after worker word run m result)
+    → ((c : Setting) → IsSettingOf t k c → (run : List Pair) (m : Moment) → HasRun c terms before run m → EventBy c terms after worker word run m result)
     → IsSomewhere t k terms after (end_behind result (root_result after))
 somewhere_on t k terms before after sound was worker word result by c of = ∥∥₁_elim (was c of) ∥∥₁_prop (λ w.
     found t k terms after (end_behind result (root_result after)) c worker word w.0 w.1 result
@@ -149,7 +149,7 @@ somewhere_on t k terms before after sound was worker word result by c of = ∥�
 
 module _ (t : Table) (k : ℕ) (terms later_terms : Terms) (before after : Held) (end later_end : Option RunEnd) (sound : IsSound t k later_terms after)
     (same : later_terms ≡ terms) (none : end ≡ None) (worker word : ℕ) (result : Result (Option Told) Stop)
-    (by : (c : Setting) → IsSettingOf t k c → (run : List Pair) (m : Moment) → StandsAt c terms before run m → EventBy c terms after worker word run m result)
+    (by : (c : Setting) → IsSettingOf t k c → (run : List Pair) (m : Moment) → HasRun c terms before run m → EventBy c terms after worker word run m result)
     (later_is : later_end ≡ end_behind result (root_result after)) where
   sound_still : IsSound t k terms after
   sound_still = subst (λ x. IsSound t k x after) same sound

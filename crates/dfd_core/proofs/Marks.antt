@@ -20,7 +20,7 @@ use Rattle.depth_first_run.specs.Run.{list_of}
 use Rattle.core_parts.specs.Held.{Held}
 use Rattle.core_parts.specs.Moments.{IsSound}
 use Rattle.deque_machine.specs.Terms.{Terms}
-use Rattle.core_parts.specs.Moves.{AreMovesOf}
+use Rattle.step_laws.specs.Moves.{AreMovesOf}
 use Rattle.dfd_core.specs.declared.run_end.RunEnd.{RunEnd}
 use Rattle.dfd_core.specs.Running.{IsAtMoment, IsSomewhere}
 use Rattle.depth_first_list.specs.Actions.{Action}
@@ -158,7 +158,7 @@ module _ (t : Table) (k : ℕ) (terms : Terms) (h : Held) (sound : IsSound t k t
       → closed ≡ count_by is_ahead (books_list h.table.books) → open_ones ≡ open_ahead h.table.seats.items
       → closed + open_ones ≡ periods_marked m.books
   marked_at c run m at closed open_ones closed_is open_is =
-      let all = all_marked h.table c.quota (list_of c) m.books at.stands.shows.books in omega (arith, closed_is, open_is, all)
+      let all = all_marked h.table c.quota (list_of c) m.books at.stands.standing.shows.books in omega (arith, closed_is, open_is, all)
 
   pub marked_fits : IsSomewhere t k terms h end → h.table.begun < 4294967296 → (closed open_ones : ℕ)
       → closed ≡ count_by is_ahead (books_list h.table.books) → open_ones ≡ open_ahead h.table.seats.items
@@ -166,7 +166,7 @@ module _ (t : Table) (k : ℕ) (terms : Terms) (h : Held) (sound : IsSound t k t
   marked_fits somewhere few closed open_ones closed_is open_is = small (closed + open_ones) (∥∥₁_elim sound.of_program (search props) (λ p.
       ∥∥₁_elim (somewhere p.0 p.1) (search props) (λ w.
       let same = marked_at p.0 w.0 w.1 w.2 closed open_ones closed_is open_is in let below = marked_below w.1.books in
-      let begun = w.2.stands.begun in omega (arith, same, below, begun, few))))
+      let begun = w.2.stands.standing.begun in omega (arith, same, below, begun, few))))
     where
       small : (n : ℕ) → n < 4294967296 → Fits w32 n
       small n below = record { fits = below }
@@ -186,7 +186,7 @@ pub high_at : (t : Table) (k : ℕ) (terms : Terms) (h : Held) (end : Option Run
 high_at t k terms h end c run m at high is greatest fits =
     let never : pos 0 ≤ℤ high = greatest.never_above 0 in
     ap (λ z. pos (nat_abs z)) (to_z-of_z w64 high fits) ∙ positive high never ∙ is
-    ∙ ap high_water (changes_are (periods_of h.table) h.moves (moves (list_of c) run) at.stands.moves)
+    ∙ ap high_water (changes_are (periods_of h.table) h.moves (moves (list_of c) run) at.stands.standing.moves)
   where
     positive : (z : ℤ) → pos 0 ≤ℤ z → pos (nat_abs z) ≡ z
     positive (pos n) some = refl

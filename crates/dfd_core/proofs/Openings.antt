@@ -12,7 +12,7 @@ use Rattle.deque_machine.specs.Machine.{HasEnded}
 use Rattle.deque_machine.specs.Runs.{moves}
 use Rattle.moment_parts.specs.Parts.{parts_with_root}
 use Rattle.moment_parts.specs.Standing.{Shows}
-use Rattle.moment_parts.proofs.Handing.{root_is_the_opening}
+use Rattle.step_laws.proofs.Standing.{root_stands}
 use Rattle.node_table.specs.Table.{Table}
 use Rattle.period_table.specs.Tables.{periods_of}
 use Rattle.space_ledger.specs.Sums.{total_change}
@@ -23,9 +23,8 @@ use Rattle.thread_frames.specs.Points.{IsAtPoint, IsResult}
 use Rattle.thread_parts.specs.Shown.{thread_shown, child_shown}
 use Rattle.deque_events.specs.Shown.{deque_shown}
 use Rattle.core_parts.specs.Held.{Held, parts_in, waiting_shown, result_kept, OwnersSit, WaitsUnder, IsUnderItsId}
-use Rattle.core_parts.specs.Moments.{StandsAt, IsSound, CanGoOn}
+use Rattle.core_parts.specs.Moments.{shown, HasRun, IsSound, CanGoOn}
 use Rattle.deque_machine.specs.Terms.{Terms, machine_of}
-use Rattle.core_parts.specs.Moves.{AreMovesOf}
 use Rattle.dfd_core.specs.Begun.{IsBegun}
 use Rattle.dfd_core.specs.Running.{IsAtMoment, IsSomewhere}
 
@@ -42,18 +41,13 @@ module _ (t : Table) (k : ℕ) (terms : Terms) (h : Held) (x : Thread) (b : IsBe
     none_ended : ¬ HasEnded (machine_of c terms) opening []
     none_ended has = let did = has.4 in absurd (omega (arith, did))
 
-    stands : StandsAt c terms h [] opening
+    stands : HasRun c terms h [] opening
     stands =
         let quota = of.quota in record {
           reaches = refl;
-          shows = subst (λ parts. Shows c.quota (list_of c) parts opening) parts_are
-              (root_is_the_opening (machine_of c terms) (omega (arith, covers, quota)) (whole_is_depth_first c) (thread_shown x) b.id b.label b.own_done
-              (ap (λ xs. map child_shown (reverse xs)) b.children) b.words);
-          live = ap pos b.live;
+          standing = root_stands (machine_of c terms) (omega (arith, covers, quota)) (whole_is_depth_first c) (thread_shown x) (shown h) b.id b.label b.own_done
+              (ap (λ xs. map child_shown (reverse xs)) b.children) b.words (sym parts_are) b.live b.begun b.moves;
           done = b.done;
-          begun = b.begun;
-          moves = subst (λ ms. AreMovesOf (periods_of h.table) ms (moves (list_of c) [])) (sym b.moves) tt;
-          root_kept = λ has. absurd (none_ended has);
         }
 
     pub opening_is_at : IsAtMoment t k terms h None c [] opening

@@ -29,7 +29,7 @@ use Rattle.thread_frames.specs.Views.{ended_label}
 use Rattle.thread_frames.proofs.Sets.{fault_set}
 use Rattle.thread_frames.proofs.Telling.{whole_told}
 use Rattle.core_parts.specs.Held.{Held, result_kept, IsUnderItsId}
-use Rattle.core_parts.specs.Moments.{IsSound, StandsAt}
+use Rattle.core_parts.specs.Moments.{IsSound, HasRun}
 use Rattle.deque_machine.specs.Terms.{Terms, machine_of}
 use Rattle.core_parts.proofs.Lists.{found_among, none_found, among_mapped}
 use Rattle.dfd_core.specs.declared.run_end.RunEnd.{RunEnd}
@@ -50,22 +50,22 @@ abbrev pub root_result : Held → Option Ended
 root_result h = lookup (same_thread root) h.results
 
 module _ (t : Table) (k : ℕ) (terms : Terms) (h : Held) (sound : IsSound t k terms h) (c : Setting) (of : IsSettingOf t k c)
-    (run : List Pair) (m : Moment) (at : StandsAt c terms h run m) where
+    (run : List Pair) (m : Moment) (at : HasRun c terms h run m) where
   module _ (ended : Ended) (is : root_result h ≡ Some ended) where
     there : Among {X = ThreadId × Ended} (root, ended) h.results
     there = found_among root h.results ended is
 
     labelled : HasLabel (periods_of h.table) (Ended.id ended) (ended_label ended)
-    labelled = (at.shows.results (result_kept (root, ended)) (among_mapped result_kept (root, ended) h.results there)).labelled
+    labelled = (at.standing.shows.results (result_kept (root, ended)) (among_mapped result_kept (root, ended) h.results there)).labelled
 
     pub of_the_root : ended_label ended ≡ []
     of_the_root = ∥∥₁_elim sound.in_order (search props) (λ o.
-        one_label c.quota (list_of c) (periods_of h.table) m.books root (ended_label ended) [] at.shows.books
+        one_label c.quota (list_of c) (periods_of h.table) m.books root (ended_label ended) [] at.standing.shows.books
         (subst (λ who. HasLabel (periods_of h.table) who (ended_label ended)) (each_among IsUnderItsId (root, ended) h.results o.results there) labelled) of_root)
 
     pub root_has_ended : HasEnded (machine_of c terms) m []
     root_has_ended = subst (EndedIn (list_of c) (done_at m)) of_the_root
-        (at.shows.results (result_kept (root, ended)) (among_mapped result_kept (root, ended) h.results there)).ended
+        (at.standing.shows.results (result_kept (root, ended)) (among_mapped result_kept (root, ended) h.results there)).ended
 
     is_result : ∥ IsResult t k ended ∥₁
     is_result = ∥∥₁_map sound.results (λ all. each_among (λ entry. IsResult t k entry.1) (root, ended) h.results all there)
@@ -75,7 +75,7 @@ module _ (t : Table) (k : ℕ) (terms : Terms) (h : Held) (sound : IsSound t k t
 
   pub not_ended : root_result h ≡ None → ¬ HasEnded (machine_of c terms) m []
   not_ended none has = ∥∥₁_elim sound.in_order (λ x y. absurd x) (λ o.
-      let kept = at.root_kept has in
+      let kept = at.standing.root_kept has in
       let from = mapped_from result_kept kept.0 h.results kept.1 in
       let its_id : Ended.id from.0.1 ≡ from.0.0 = each_among IsUnderItsId from.0 h.results o.results from.1 in
       let is_root : Ended.id from.0.1 ≡ root = ap (λ r. parts.Result.id r) (sym from.2) ∙ kept.2 in

@@ -22,7 +22,7 @@ use Rattle.node_table.specs.Table.{Table}
 use Rattle.core_parts.specs.declared.event.Event.{Event}
 use Rattle.core_parts.specs.declared.stop.Stop.{Stop}
 use Rattle.core_parts.specs.Held.{Held, IsInOrder}
-use Rattle.core_parts.specs.Moments.{IsSound, StandsAt}
+use Rattle.core_parts.specs.Moments.{IsSound, HasRun}
 use Rattle.deque_machine.specs.Terms.{Terms, machine_of}
 use Rattle.core_parts.proofs.Sitting.{seat_owns as seated_owns}
 use Rattle.core_parts.proofs.Owners.{own_here, owned_shown, owner_there}
@@ -34,14 +34,14 @@ use Rattle.dfd_core.specs.Running.{IsAtMoment}
 use Rattle.dfd_core.specs.Steps.{IsTold}
 use Rattle.dfd_core.proofs.Told.{some_or_none, ok_or_err}
 
-module _ (c : Setting) (terms : Terms) (quota : record_words ≤ c.quota) (h : Held) (run : List Pair) (m : Moment) (at : StandsAt c terms h run m) (worker : ℕ) where
+module _ (c : Setting) (terms : Terms) (quota : record_words ≤ c.quota) (h : Held) (run : List Pair) (m : Moment) (at : HasRun c terms h run m) (worker : ℕ) where
   pub seat_owns : (seat : Seat) → seat_at h.table worker ≡ Some seat → 0 < owned_by worker m.deques
   seat_owns seat is = seated_owns c terms quota h run m at worker seat is
 
   -- and who has none owns none
   pub idle_owns_none : ∥ IsInOrder h ∥₁ → seat_at h.table worker ≡ None → 0 < owned_by worker m.deques → ⊥
   idle_owns_none ordered idle some = ∥∥₁_elim ordered (λ x y. absurd x) (λ o.
-      let same : owned_by worker m.deques ≡ total (own_here worker) h.deques = ap (owned_by worker) at.shows.deques ∙ owned_shown worker h.deques in
+      let same : owned_by worker m.deques ≡ total (own_here worker) h.deques = ap (owned_by worker) at.standing.shows.deques ∙ owned_shown worker h.deques in
       let found = owner_there worker h.deques (omega (arith, same, some)) in
       let sits = each_among (λ d. (w : ℕ) → Deque.owner d ≡ Some w → deque_at h.table w ≡ Some (Deque.id d)) found.0 h.deques o.owners found.1 worker found.2 in
       none-some (Deque.id found.0) (sym (ap deque_of idle) ∙ sits))
@@ -62,9 +62,9 @@ module _ (c : Setting) (terms : Terms) (quota : record_words ≤ c.quota) (h : H
     cannot_move = (
       λ idle can. elim can [
         | inl owns ↦ idle_owns_none ordered idle.0 owns
-        | inr ready ↦ idle.1 ((some_ready_is_shown (machine_of c terms) thread_shown h.deques m at.shows.deques).1 ready)
+        | inr ready ↦ idle.1 ((some_ready_is_shown (machine_of c terms) thread_shown h.deques m at.standing.shows.deques).1 ready)
       ],
-      λ cannot. (no_seat (seat_at h.table worker) refl cannot, λ some. cannot (inr ((some_ready_is_shown (machine_of c terms) thread_shown h.deques m at.shows.deques).0 some))),
+      λ cannot. (no_seat (seat_at h.table worker) refl cannot, λ some. cannot (inr ((some_ready_is_shown (machine_of c terms) thread_shown h.deques m at.standing.shows.deques).0 some))),
     )
       where
         no_seat : (seat : Option Seat) → seat_at h.table worker ≡ seat → ¬ play.CanMove (machine_of c terms) m worker → seat ≡ None
@@ -77,11 +77,11 @@ module _ (c : Setting) (terms : Terms) (quota : record_words ≤ c.quota) (h : H
     can_move_is some_ready ready = (
       λ can. elim can [
         | inl seat ↦ inl (seat_owns seat.0 seat.1)
-        | inr some ↦ inr ((some_ready_is_shown (machine_of c terms) thread_shown h.deques m at.shows.deques).0 (ready.0 some))
+        | inr some ↦ inr ((some_ready_is_shown (machine_of c terms) thread_shown h.deques m at.standing.shows.deques).0 (ready.0 some))
       ],
       λ can. elim can [
         | inl owns ↦ a_seat (seat_at h.table worker) refl owns
-        | inr some ↦ inr (ready.1 ((some_ready_is_shown (machine_of c terms) thread_shown h.deques m at.shows.deques).1 some))
+        | inr some ↦ inr (ready.1 ((some_ready_is_shown (machine_of c terms) thread_shown h.deques m at.standing.shows.deques).1 some))
       ],
     )
       where

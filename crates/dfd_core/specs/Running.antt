@@ -9,7 +9,7 @@ use Rattle.deque_machine.specs.Runs.{Pair}
 use Rattle.node_table.specs.Table.{Table}
 use Rattle.thread_steps.specs.Settings.{IsSettingOf}
 use Rattle.core_parts.specs.Held.{Held}
-use Rattle.core_parts.specs.Moments.{StandsAt}
+use Rattle.core_parts.specs.Moments.{HasRun}
 use Rattle.deque_machine.specs.Terms.{Terms, machine_of}
 use Rattle.dfd_core.specs.declared.run_end.RunEnd.{RunEnd}
 use Rattle.dfd_core.specs.declared.run_end.RunEnd.TheVariants.{Finished}
@@ -20,7 +20,7 @@ use Rattle.depth_first_run.specs.Run.{finish_of_run}
 pub record IsAtMoment (t : Table) (k : ℕ) (terms : Terms) (h : Held) (end : Option RunEnd) (c : Setting) (run : List Pair) (m : Moment)
     : Type 0 where
   pub setting : IsSettingOf t k c
-  pub stands : StandsAt c terms h run m
+  pub stands : HasRun c terms h run m
   pub within : length (booked m.books) ≤ terms.limits.actions
   pub going : end ≡ None → ¬ HasEnded (machine_of c terms) m []
   pub finished : (finish : Finish) → end ≡ Some (Finished finish) → HasEnded (machine_of c terms) m [] × (finish ≡ finish_of_run c)

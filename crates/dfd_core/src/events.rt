@@ -11,7 +11,7 @@ ghost use Rattle.thread_steps.specs.Settings.{IsSettingOf};
 ghost use Rattle.victim_choice.specs.Choices.{SomeReady};
 ghost use Rattle.core_parts.specs.declared.stop.Stop.TheVariants as stops;
 ghost use Rattle.core_parts.specs.Held.{held};
-ghost use Rattle.core_parts.specs.Moments.{IsSound, CanGoOn, SameTerms, StandsAt, terms_of};
+ghost use Rattle.core_parts.specs.Moments.{IsSound, CanGoOn, SameTerms, HasRun, terms_of};
 ghost use Rattle.thief_steps.specs.Thefts.{StepsBy};
 
 use core_parts::{Event, Scheduler, Stop};
@@ -47,7 +47,7 @@ pub(crate) fn event_of(
     ensures sound { IsSound (code_shown code.now) (quota_words k) (terms_of scheduler.new limit) (held scheduler.new) }
     ensures points { result ≢ Err stops.OutOfMemory → CanGoOn (code_shown code.now) (quota_words k) (held scheduler.new) }
     ensures steps { (c : Setting) → IsSettingOf (code_shown code.now) (quota_words k) c → (run : AnyList Pair) (m : Moment)
-        → StandsAt c (terms_of scheduler.old limit) (held scheduler.old) run m
+        → HasRun c (terms_of scheduler.old limit) (held scheduler.old) run m
         → StepsBy c (terms_of scheduler.old limit) (held scheduler.new) worker word run m result }
     ensures terms { SameTerms scheduler.old scheduler.new }
 {

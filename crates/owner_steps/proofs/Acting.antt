@@ -27,16 +27,14 @@ use Rattle.deque_events.specs.Shown.{deque_with, Stands, parts_under}
 use Rattle.deque_events.specs.Seats.{KeepsSeats, LeavesSeat}
 use Rattle.thread_events.specs.Acts.{ActsBy, GoesBack, GoesBackUnowned, GoesBackWithChild}
 use Rattle.core_parts.specs.declared.scheduler.Scheduler.{Scheduler}
-use Rattle.core_parts.specs.Held.{Held, held, held_under, parts_in, waiting_shown, result_kept, AreSame, IsReordered, OwnersSit, OwnsNone, IsInOrder, AreAtPoints, AreResults}
+use Rattle.step_laws.specs.Standing.{Settles, as_they_are}
+use Rattle.step_laws.proofs.Standing.{the_same}
+use Rattle.core_parts.specs.Held.{Held, held, held_under, parts_in, waiting_shown, result_kept, IsReordered, OwnersSit, OwnsNone, IsInOrder, AreAtPoints, AreResults}
 use Rattle.core_parts.specs.Moments.{terms_of}
 use Rattle.depth_first_list.specs.Actions.{weight_of}
 use Rattle.deque_machine.specs.Runs.{moves_words}
 use Rattle.owner_steps.specs.Acts.{Acted, Performs}
 use Rattle.owner_steps.proofs.Places.{keep_sitting, leave_sitting, points_change, under_is}
-
--- the very same parts
-pub the_same : (p : parts.Parts) → AreSame p p
-the_same p = record { deques = refl; waiting = IsPermutation-refl p.waiting; results = IsPermutation-refl p.results; periods = refl }
 
 -- nothing in another order
 pub as_it_is : (h : Held) → IsReordered h h
@@ -62,7 +60,7 @@ module _ (next : Next) (Where : ℕ → Period → ℕ → Type 0) (worker : ℕ
   does_it : (items : List Thread) (stands : Stands before.list worker id items) (c : Setting) (k : ℕ) (is : IsOfTheList c top next) (period : Period)
       → period_at before.table worker ≡ Some period → Where k period (words_at (list_of c) (IsOfTheList.place is))
       → (first : Held) × IsReordered (held_under before stands top) first
-      × (next_parts : parts.Parts) × Does k (list_of c) (parts_in first) worker (IsOfTheList.place is) next_parts × AreSame next_parts (parts_in (held after))
+      × (next_parts : parts.Parts) × Does k (list_of c) (parts_in first) worker (IsOfTheList.place is) next_parts × Settles worker next_parts (parts_in (held after))
   does_it items stands c k is period period_is given = (
     held_under before stands top,
     as_it_is (held_under before stands top),
@@ -73,7 +71,7 @@ module _ (next : Next) (Where : ℕ → Period → ℕ → Type 0) (worker : ℕ
         (subst (λ r. Does k (list_of c) (parts_under thread_shown (map waiting_shown before.waiting.entries) (map result_kept before.results.entries) stands before.table (thread_shown top)) worker (IsOfTheList.place is)
         (record (parts_in (held after)) { waiting = map waiting_shown before.waiting.entries; results = map result_kept r.entries })) (sym aside.results)
         (acts c k is items (map waiting_shown before.waiting.entries) (map result_kept before.results.entries) stands period period_is given))),
-    the_same (parts_in (held after)),
+    as_they_are (the_same (parts_in (held after))),
   )
 
   -- whoever waits, and what is kept, is in order as before

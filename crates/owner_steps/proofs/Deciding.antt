@@ -31,7 +31,7 @@ use Rattle.deque_events.specs.Shown.{Stands}
 use Rattle.core_parts.specs.declared.scheduler.Scheduler.{Scheduler}
 use Rattle.core_parts.specs.declared.event.Event.{Event}
 use Rattle.core_parts.specs.Held.{held_under}
-use Rattle.core_parts.specs.Moments.{terms_of, StandsAt}
+use Rattle.core_parts.specs.Moments.{terms_of, HasRun}
 use Rattle.deque_machine.specs.Terms.{machine_of}
 use Rattle.core_parts.proofs.Bounds.{release_within, end_within}
 use Rattle.owner_steps.specs.Acts.{IsCharged}
@@ -104,7 +104,7 @@ module _ (t : Table) (k limit : ℕ) (s : Scheduler) {worker : ℕ} {id : DequeI
 
   -- a child that is joined has ended
   pub ended_before : (next : Next) (b : IsBeforeAction t k limit s worker id top next) (used : ℕ) → Decides s worker k top next (decisions.Act used)
-      → (c : Setting) → Known t k limit s stands top next b c → (run : List Pair) (m : Moment) → StandsAt c (terms_of s limit) (held_under s stands top) run m
+      → (c : Setting) → Known t k limit s stands top next b c → (run : List Pair) (m : Moment) → HasRun c (terms_of s limit) (held_under s stands top) run m
       → (child : ℕ) → deed_of top next ≡ joins child → HasEnded (machine_of c (terms_of s limit)) m (fork_of (label_of top) child)
   ended_before Fork b used d c known run m at child is = absurd (no_join_by _ child refl is)
   ended_before (Join own) b used d c known run m at child is = joined_ended t k limit s stands top own b d c known.of known.action known.order run m at child is

@@ -1,8 +1,9 @@
 -- What the End of a top thread comes to.
-use Rattle.std.proofs.Common.{◌≡◌, ◌≢◌, ℕ, ◌<◌, List, [], ◌∷◌, map, length, refl, sym, ap, subst, ◌∙◌, arith, true≢false}
+use Rattle.std.proofs.Common.{◌≡◌, ◌≢◌, ℕ, ◌<◌, List, [], ◌∷◌, ◌++◌, map, length, refl, sym, ap, subst, ◌∙◌, arith, true≢false}
 use Rattle.std.specs.Prelude.{Bool, true, false, not, nat_lt, IsTrue, ◌↔◌, None, Some}
 use Rattle.std.proofs.lemmas.Bool.{lt-ltb}
 use Rattle.std.specs.List.Sorted.{IsPermutation}
+use Rattle.std.proofs.lemmas.List.{map-append}
 use Rattle.std.proofs.lemmas.List.Sorted.{IsPermutation-refl, IsPermutation-map, IsPermutation-trans}
 use Rattle.dag_order.specs.declared.thread_id.ThreadId.{ThreadId}
 use Rattle.deque_list.specs.declared.deque_id.DequeId.{DequeId}
@@ -14,10 +15,11 @@ use Rattle.lawful_books.specs.Lists.{Each}
 use Rattle.lawful_books.proofs.Lists.{each_at, same_head, cons_is_not_nil}
 use Rattle.space_ledger.specs.declared.moved.Moved.{Moved}
 use Rattle.node_table.specs.Table.{Table}
-use Rattle.period_books.specs.Periods.{Period}
-use Rattle.period_table.specs.Tables.{period_at}
+use Rattle.period_books.specs.Periods.{Period, open_shown}
+use Rattle.period_table.specs.declared.seat.Seat.{Seat}
+use Rattle.period_table.specs.Tables.{period_at, periods_of, seat_at, deque_at, shown_of}
 use Rattle.moment_parts.specs.Parts as parts
-use Rattle.moment_parts.specs.Events.{Does}
+use Rattle.moment_parts.specs.Events.{Does, Works, deques_with, hands_over}
 use Rattle.thread_map.specs.Kept.{kept_under}
 use Rattle.depth_first_run.specs.Run.{list_of}
 use Rattle.thread_frames.specs.Actions.{IsOfTheList}
@@ -27,13 +29,18 @@ use Rattle.thread_frames.specs.declared.thread.Thread.{Thread}
 use Rattle.thread_frames.specs.declared.ended.Ended.{Ended}
 use Rattle.thread_frames.specs.Points.{IsAtPoint, IsResult}
 use Rattle.thread_parts.specs.Shown.{thread_shown, result_shown}
+use Rattle.thread_parts.proofs.Threads.{deliveries_hand_over}
 use Rattle.deque_events.specs.Shown.{deque_shown, deque_with, parts_of, Stands, Becomes, parts_under}
 use Rattle.deque_events.specs.Seats.{KeepsSeats, LeavesSeat}
 use Rattle.thread_events.specs.Acts.{Always, EndsAboveBy, EndsAndWakesBy, EndsAndLeavesBy}
 use Rattle.core_parts.specs.declared.scheduler.Scheduler.{Scheduler}
-use Rattle.core_parts.specs.Held.{Held, held, held_under, parts_in, waiting_shown, result_kept, AreSame, IsReordered, OwnersSit, OwnsNone, IsInOrder, WaitsUnder, IsUnderItsId, AreAtPoints, AreResults}
+use Rattle.step_laws.specs.Orders.{AreSame}
+use Rattle.step_laws.specs.Standing.{Settles, as_they_are, handed_on}
+use Rattle.core_parts.specs.Held.{Held, held, held_under, parts_in, waiting_shown, result_kept, IsReordered, OwnersSit, OwnsNone, IsInOrder, WaitsUnder, IsUnderItsId, AreAtPoints, AreResults}
 use Rattle.core_parts.proofs.Lists.{each_moved, none_found}
+use Rattle.core_parts.proofs.AtTop.{period_is_there, seat_of_deque}
 use Rattle.owner_steps.specs.Acts.{Acted}
+use Rattle.owner_steps.specs.Results.{ComesBelow}
 use Rattle.owner_steps.proofs.Places.{keep_sitting, leave_sitting, points_change, under_is}
 use Rattle.owner_steps.proofs.Acting.{as_it_is}
 
@@ -68,53 +75,99 @@ module _ (worker : ℕ) (id : DequeId) (top : Thread) (before after : Scheduler)
     subst (λ r. Each (λ e. IsResult t k e.1) r.entries) (sym results) all,
   )
 
-  -- with the parent directly below
-  module _ (list : after.list ≡ before.list) (waiting : after.waiting ≡ before.waiting)
-      (lane : (items : List Thread) (stands : Stands before.list worker id items) → 0 < length items)
+  -- with the parent directly below, which has the result at once
+  module _ (waiting : after.waiting ≡ before.waiting)
+      (comes : (items : List Thread) (stands : Stands before.list worker id items) → ComesBelow worker id ended before.list after.list items stands)
       (acts : EndsAboveBy worker id top before.list before.table after.table ended) (seats : KeepsSeats before.table after.table) where
-    above_does : (items : List Thread) (stands : Stands before.list worker id items) (c : Setting) (k : ℕ) (is : IsOfTheList c top nexts.End) (period : Period)
-        → period_at before.table worker ≡ Some period
-        → Does k (list_of c) (parts_under thread_shown (map waiting_shown before.waiting.entries) (map result_kept before.results.entries) stands before.table (thread_shown top)) worker (IsOfTheList.place is)
-        (parts_of thread_shown (map waiting_shown before.waiting.entries) (result_shown ended ∷ map result_kept before.results.entries) before.list after.table)
-    above_does items stands c k is period period_is = by_items items stands (lane items stands)
-      where
-        by_items : (items : List Thread) (stands : Stands before.list worker id items) → 0 < length items
-            → Does k (list_of c) (parts_under thread_shown (map waiting_shown before.waiting.entries) (map result_kept before.results.entries) stands before.table (thread_shown top)) worker (IsOfTheList.place is)
-            (parts_of thread_shown (map waiting_shown before.waiting.entries) (result_shown ended ∷ map result_kept before.results.entries) before.list after.table)
-        by_items [] stands some = absurd (omega (arith, some))
-        by_items (parent ∷ below) stands some = acts c k is parent below (map waiting_shown before.waiting.entries) (map result_kept before.results.entries) stands period period_is
+    module _ (items : List Thread) (stands : Stands before.list worker id items) where
+      abbrev come : ComesBelow worker id ended before.list after.list items stands
+      come = comes items stands
 
-    pub above_acted : Acted nexts.End Always worker id top before (with_result after (Thread.id top) ended)
+      -- the deques with the parent on top, as it was
+      its : Stands before.list worker id (come.parent ∷ come.below)
+      its = record { left = stands.left; right = stands.right; deques_are = stands.deques_are ∙ ap (λ xs. stands.left ++ deque_with id (Some worker) xs ∷ stands.right) come.items_are }
+
+      abbrev kept_now : List parts.Result
+      kept_now = map result_kept before.results.entries
+
+      abbrev waiting_now : List parts.Thread
+      waiting_now = map waiting_shown before.waiting.entries
+
+      -- the parts where the result is kept, which nobody sees
+      abbrev between : parts.Parts
+      between = parts_of thread_shown waiting_now (result_shown ended ∷ kept_now) before.list after.table
+
+      above_does : (c : Setting) (k : ℕ) (is : IsOfTheList c top nexts.End) (period : Period) → period_at before.table worker ≡ Some period
+          → Does k (list_of c) (parts_in (held_under before stands top)) worker (IsOfTheList.place is) between
+      above_does c k is period period_is =
+          subst (λ p. Does k (list_of c) p worker (IsOfTheList.place is) between) (under_is before stands top)
+          (subst (λ xs. Does k (list_of c) (record { deques = map (deque_shown thread_shown) stands.left ++ record { id = id.0; owner = Some worker; threads = thread_shown top ∷ map thread_shown xs } ∷ map (deque_shown thread_shown) stands.right;
+          waiting = waiting_now; results = kept_now; periods = periods_of before.table }) worker (IsOfTheList.place is) between) (sym come.items_are)
+          (acts c k is come.parent come.below waiting_now kept_now its period period_is))
+
+      -- the worker works on them
+      module _ (o : IsInOrder (held_under before stands top)) where
+        sits : deque_at after.table worker ≡ Some id
+        sits = seats.deques worker ∙ each_at (λ d. (w : ℕ) → Deque.owner d ≡ Some w → deque_at before.table w ≡ Some (Deque.id d)) stands.left (deque_with id (Some worker) (top ∷ items)) stands.right o.owners worker refl
+
+        its_seat : (there : Seat) × (seat_at after.table worker ≡ Some there)
+        its_seat = seat_of_deque (seat_at after.table worker) id sits
+
+        works_between : Works between worker
+        works_between = record {
+          left = map (deque_shown thread_shown) stands.left;
+          id = id.0;
+          top = thread_shown come.parent;
+          under = map thread_shown come.below;
+          right = map (deque_shown thread_shown) stands.right;
+          period = open_shown worker its_seat.0.period;
+          deques_are = ap (map (deque_shown thread_shown)) its.deques_are ∙ map-append (deque_shown thread_shown) stands.left (deque_with id (Some worker) (come.parent ∷ come.below) ∷ stands.right);
+          period_there = period_is_there after.table worker (open_shown worker its_seat.0.period) (ap (shown_of worker) its_seat.1);
+          open_for_it = refl;
+        }
+
+        settled : Settles worker between (parts_in (held after))
+        settled =
+            let over = deliveries_hand_over come.parent come.now ended come.awaited come.given.children in
+            handed_on (record between { deques = deques_with works_between (Some worker) (thread_shown come.now ∷ map thread_shown come.below); results = kept_now })
+            (hands_over works_between [] kept_now (result_shown ended) over.0 over.1 over.2 (thread_shown come.now) refl over.3 over.4
+            come.given.same.id come.given.same.parent come.given.same.label come.given.same.func come.given.done over.5 come.given.words)
+            (record {
+              deques = ap (map (deque_shown thread_shown)) come.becomes.deques ∙ map-append (deque_shown thread_shown) stands.left (deque_with id (Some worker) (come.now ∷ come.below) ∷ stands.right);
+              waiting = subst (λ w. IsPermutation waiting_now (map waiting_shown w.entries)) (sym waiting) (IsPermutation-refl waiting_now);
+              results = subst (λ r. IsPermutation kept_now (map result_kept r.entries)) (sym results) (IsPermutation-refl kept_now);
+              periods = refl;
+            })
+
+      above_points : (t : Table) (k : ℕ) → AreAtPoints t k (held_under before stands top) → Each (λ d. Each (IsAtPoint t k) (Deque.items d)) after.list.deques
+      above_points t k are =
+          let all = each_at (λ d. Each (IsAtPoint t k) (Deque.items d)) stands.left (deque_with id (Some worker) (top ∷ items)) stands.right are.in_deques in
+          let below : Each (IsAtPoint t k) (come.parent ∷ come.below) = subst (Each (IsAtPoint t k)) come.items_are all.1 in
+          subst (Each (λ d. Each (IsAtPoint t k) (Deque.items d))) (sym come.becomes.deques)
+          (points_change t k stands.left stands.right (deque_with id (Some worker) (come.now ∷ come.below) ∷ []) (deque_with id (Some worker) (top ∷ items)) are.in_deques
+          ((come.given.point t k below.0 (is_result t k all.0), below.1), tt))
+
+    pub above_acted : Acted nexts.End Always worker id top before (held after)
     above_acted = record {
       does = λ items stands o c k is period period_is given. (
         held_under before stands top,
         as_it_is (held_under before stands top),
-        parts_of thread_shown (map waiting_shown before.waiting.entries) (result_shown ended ∷ map result_kept before.results.entries) before.list after.table,
-        subst (λ p. Does k (list_of c) p worker (IsOfTheList.place is)
-            (parts_of thread_shown (map waiting_shown before.waiting.entries) (result_shown ended ∷ map result_kept before.results.entries) before.list after.table)) (under_is before stands top)
-            (above_does items stands c k is period period_is),
-        record {
-          deques = ap (λ l. map (deque_shown thread_shown) (ListView.deques l)) list;
-          waiting = subst (λ w. IsPermutation (map waiting_shown before.waiting.entries) (map waiting_shown w.entries)) (sym waiting) (IsPermutation-refl (map waiting_shown before.waiting.entries));
-          results = subst (λ r. IsPermutation (result_shown ended ∷ map result_kept before.results.entries) (result_shown ended ∷ map result_kept r.entries)) (sym results)
-              (IsPermutation-refl (result_shown ended ∷ map result_kept before.results.entries));
-          periods = refl;
-        },
+        between items stands,
+        above_does items stands c k is period period_is,
+        settled items stands o,
       );
       begun = seats.begun;
       in_order = λ items stands none o. record {
-        owners = subst (OwnersSit after.table) (sym (ap (λ l. ListView.deques l) list ∙ stands.deques_are))
-            (keep_sitting before.table after.table worker id (top ∷ items) stands.left stands.right o.owners seats items);
+        owners = subst (OwnersSit after.table) (sym (comes items stands).becomes.deques)
+            (keep_sitting before.table after.table worker id (top ∷ items) stands.left stands.right o.owners seats ((comes items stands).now ∷ (comes items stands).below));
         waiting = subst (λ w. Each WaitsUnder w.entries) (sym waiting) o.waiting;
-        results = under_ids o.results;
+        results = subst (λ r. Each IsUnderItsId r.entries) (sym results) o.results;
       };
       points = λ t k items stands are. record {
-        in_deques = subst (Each (λ d. Each (IsAtPoint t k) (Deque.items d))) (sym (ap (λ l. ListView.deques l) list ∙ stands.deques_are))
-            (points_change t k stands.left stands.right (deque_with id (Some worker) items ∷ []) (deque_with id (Some worker) (top ∷ items)) are.in_deques
-            ((each_at (λ d. Each (IsAtPoint t k) (Deque.items d)) stands.left (deque_with id (Some worker) (top ∷ items)) stands.right are.in_deques).1, tt));
+        in_deques = above_points items stands t k are;
         waiting = subst (λ w. Each (λ e. IsAtPoint t k e.1) w.entries) (sym waiting) are.waiting;
       };
-      results = all_results;
+      results = λ t k items stands are all. subst (λ r. Each (λ e. IsResult t k e.1) r.entries) (sym results) all;
     }
 
   -- alone in its deque
@@ -132,7 +185,7 @@ module _ (worker : ℕ) (id : DequeId) (top : Thread) (before after : Scheduler)
       wakes_does : (stands : Stands before.list worker id []) → IsInOrder (held_under before stands top) → (c : Setting) (k : ℕ) (is : IsOfTheList c top nexts.End) (period : Period)
           → period_at before.table worker ≡ Some period
           → (one : Held) × IsReordered (held_under before stands top) one
-          × (next : parts.Parts) × Does k (list_of c) (parts_in one) worker (IsOfTheList.place is) next × AreSame next (parts_in (with_result after (Thread.id top) ended))
+          × (next : parts.Parts) × Does k (list_of c) (parts_in one) worker (IsOfTheList.place is) next × Settles worker next (parts_in (with_result after (Thread.id top) ended))
       wakes_does stands o c k is period period_is =
           let moved = each_moved WaitsUnder before.waiting.entries ((Thread.id top, parent) ∷ after.waiting.entries) taken o.waiting in
           let its = moved.0 in
@@ -140,17 +193,17 @@ module _ (worker : ℕ) (id : DequeId) (top : Thread) (before after : Scheduler)
             record (held_under before stands top) { waiting = (Thread.id top, parent) ∷ after.waiting.entries },
             in_order_of (held_under before stands top) ((Thread.id top, parent) ∷ after.waiting.entries) taken,
             parts_of thread_shown rest (result_shown ended ∷ map result_kept before.results.entries) after.list after.table,
-            subst (λ ds. Does k (list_of c) (record { deques = ds; waiting = thread_shown parent ∷ rest; results = map result_kept before.results.entries; periods = Rattle.period_table.specs.Tables.periods_of before.table }) worker (IsOfTheList.place is)
+            subst (λ ds. Does k (list_of c) (record { deques = ds; waiting = thread_shown parent ∷ rest; results = map result_kept before.results.entries; periods = periods_of before.table }) worker (IsOfTheList.place is)
                 (parts_of thread_shown rest (result_shown ended ∷ map result_kept before.results.entries) after.list after.table))
                 (ap (λ p. parts.Parts.deques p) (under_is before stands top))
                 (acts c k is [] rest (map result_kept before.results.entries) its.0 its.1 stands period period_is its.2 its.3),
-            record {
+            as_they_are (record {
               deques = refl;
               waiting = IsPermutation-refl rest;
               results = subst (λ r. IsPermutation (result_shown ended ∷ map result_kept before.results.entries) (result_shown ended ∷ map result_kept r.entries)) (sym results)
                   (IsPermutation-refl (result_shown ended ∷ map result_kept before.results.entries));
               periods = refl;
-            },
+            }),
           )
 
       wakes_owners : (stands : Stands before.list worker id []) → IsInOrder (held_under before stands top) → OwnersSit after.table after.list.deques
@@ -173,7 +226,7 @@ module _ (worker : ℕ) (id : DequeId) (top : Thread) (before after : Scheduler)
         does = only (λ items stands. IsInOrder (held_under before stands top) → (c : Setting) (k : ℕ) (is : IsOfTheList c top nexts.End) (period : Period)
             → period_at before.table worker ≡ Some period → Always k period (words_at (list_of c) (IsOfTheList.place is))
             → (one : Held) × IsReordered (held_under before stands top) one
-            × (next : parts.Parts) × Does k (list_of c) (parts_in one) worker (IsOfTheList.place is) next × AreSame next (parts_in (with_result after (Thread.id top) ended)))
+            × (next : parts.Parts) × Does k (list_of c) (parts_in one) worker (IsOfTheList.place is) next × Settles worker next (parts_in (with_result after (Thread.id top) ended)))
             (λ stands o c k is period period_is given. wakes_does stands o c k is period period_is);
         begun = seats.begun;
         in_order = only (λ items stands. OwnsNone worker stands.left stands.right → IsInOrder (held_under before stands top) → IsInOrder (with_result after (Thread.id top) ended))
@@ -199,7 +252,7 @@ module _ (worker : ℕ) (id : DequeId) (top : Thread) (before after : Scheduler)
       leaves_does : (stands : Stands before.list worker id []) → IsInOrder (held_under before stands top) → (c : Setting) (k : ℕ) (is : IsOfTheList c top nexts.End) (period : Period)
           → period_at before.table worker ≡ Some period
           → (one : Held) × IsReordered (held_under before stands top) one
-          × (next : parts.Parts) × Does k (list_of c) (parts_in one) worker (IsOfTheList.place is) next × AreSame next (parts_in (with_result after (Thread.id top) ended))
+          × (next : parts.Parts) × Does k (list_of c) (parts_in one) worker (IsOfTheList.place is) next × Settles worker next (parts_in (with_result after (Thread.id top) ended))
       leaves_does stands o c k is period period_is = (
         held_under before stands top,
         as_it_is (held_under before stands top),
@@ -208,13 +261,13 @@ module _ (worker : ℕ) (id : DequeId) (top : Thread) (before after : Scheduler)
             (parts_of thread_shown (map waiting_shown before.waiting.entries) (result_shown ended ∷ map result_kept before.results.entries) after.list after.table)) (under_is before stands top)
             (acts c k is (map waiting_shown before.waiting.entries) (map result_kept before.results.entries) stands period period_is
             (unawaited before.waiting.entries o.waiting (none_found (Thread.id top) before.waiting.entries nobody))),
-        record {
+        as_they_are (record {
           deques = refl;
           waiting = subst (λ w. IsPermutation (map waiting_shown before.waiting.entries) (map waiting_shown w)) (sym waiting) (IsPermutation-refl (map waiting_shown before.waiting.entries));
           results = subst (λ r. IsPermutation (result_shown ended ∷ map result_kept before.results.entries) (result_shown ended ∷ map result_kept r.entries)) (sym results)
               (IsPermutation-refl (result_shown ended ∷ map result_kept before.results.entries));
           periods = refl;
-        },
+        }),
       )
 
       pub leaves_acted : Acted nexts.End Always worker id top before (with_result after (Thread.id top) ended)
@@ -222,7 +275,7 @@ module _ (worker : ℕ) (id : DequeId) (top : Thread) (before after : Scheduler)
         does = only (λ items stands. IsInOrder (held_under before stands top) → (c : Setting) (k : ℕ) (is : IsOfTheList c top nexts.End) (period : Period)
             → period_at before.table worker ≡ Some period → Always k period (words_at (list_of c) (IsOfTheList.place is))
             → (one : Held) × IsReordered (held_under before stands top) one
-            × (next : parts.Parts) × Does k (list_of c) (parts_in one) worker (IsOfTheList.place is) next × AreSame next (parts_in (with_result after (Thread.id top) ended)))
+            × (next : parts.Parts) × Does k (list_of c) (parts_in one) worker (IsOfTheList.place is) next × Settles worker next (parts_in (with_result after (Thread.id top) ended)))
             (λ stands o c k is period period_is given. leaves_does stands o c k is period period_is);
         begun = seats.begun;
         in_order = only (λ items stands. OwnsNone worker stands.left stands.right → IsInOrder (held_under before stands top) → IsInOrder (with_result after (Thread.id top) ended))
@@ -242,23 +295,27 @@ module _ (worker : ℕ) (id : DequeId) (top : Thread) (before after : Scheduler)
       }
 
 -- the results in another order, with other counts
+same_moved : (parts_were : parts.Parts) (after : Held) (results : List (ThreadId × Ended)) (moves : List Moved) (done : ℕ) → IsPermutation after.results results
+    → AreSame parts_were (parts_in after) → AreSame parts_were (parts_in (record after { results = results; moves = moves; done = done }))
+same_moved parts_were after results moves done moved same = record {
+  deques = same.deques;
+  waiting = same.waiting;
+  results = IsPermutation-trans (parts.Parts.results parts_were) (map result_kept after.results) (map result_kept results) same.results (IsPermutation-map result_kept after.results results moved);
+  periods = same.periods;
+}
+
+settles_moved : (worker : ℕ) (parts_were : parts.Parts) (after : Held) (results : List (ThreadId × Ended)) (moves : List Moved) (done : ℕ) → IsPermutation after.results results
+    → Settles worker parts_were (parts_in after) → Settles worker parts_were (parts_in (record after { results = results; moves = moves; done = done }))
+settles_moved worker parts_were after results moves done moved (as_they_are same) = as_they_are (same_moved parts_were after results moves done moved same)
+settles_moved worker parts_were after results moves done moved (handed_on next hands same) = handed_on next hands (same_moved next after results moves done moved same)
+
 pub acted_moved : (next : Next) (Where : ℕ → Period → ℕ → Type 0) (worker : ℕ) (id : DequeId) (top : Thread) (before : Scheduler) (after : Held)
     (results : List (ThreadId × Ended)) (moves : List Moved) (done : ℕ) → IsPermutation after.results results → Acted next Where worker id top before after
     → Acted next Where worker id top before (record after { results = results; moves = moves; done = done })
 acted_moved next Where worker id top before after results moves done moved a = record {
   does = λ items stands o c k is period period_is given.
-      let d = a.does items stands o c k is period period_is given in (
-        d.0,
-        d.1,
-        d.2,
-        d.3,
-        record {
-          deques = d.4.deques;
-          waiting = d.4.waiting;
-          results = IsPermutation-trans (parts.Parts.results d.2) (map result_kept after.results) (map result_kept results) d.4.results (IsPermutation-map result_kept after.results results moved);
-          periods = d.4.periods;
-        },
-      );
+      let d = a.does items stands o c k is period period_is given in
+      (d.0, d.1, d.2, d.3, settles_moved worker d.2 after results moves done moved d.4);
   begun = a.begun;
   in_order = λ items stands none o. let was = a.in_order items stands none o in
       record { owners = was.owners; waiting = was.waiting; results = each_moved IsUnderItsId after.results results moved was.results };

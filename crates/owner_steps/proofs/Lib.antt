@@ -6,4 +6,5 @@ pub mod Owning
 pub mod Deciding
 pub mod TakingIn
 pub mod Taking
+pub mod Giving
 mod Seated

@@ -40,7 +40,7 @@ use Rattle.core_parts.specs.declared.event.Event.TheVariants as events
 use Rattle.core_parts.specs.declared.stop.Stop.{Stop}
 use Rattle.core_parts.specs.declared.stop.Stop.TheVariants.{ArenaFull, DequesFull, StepsSpent, OutOfMemory}
 use Rattle.core_parts.specs.Held.{Held, held, held_under, parts_in, OwnsNone, IsInOrder, AreAtPoints, AreResults}
-use Rattle.core_parts.specs.Moments.{terms_of, SameTerms, StandsAt, IsSound, CanGoOn}
+use Rattle.core_parts.specs.Moments.{terms_of, SameTerms, HasRun, IsSound, CanGoOn}
 use Rattle.deque_machine.specs.Terms.{Terms, machine_of}
 use Rattle.core_parts.specs.Outcomes.{GoesOn, GivesDequeUp, StepsTo}
 use Rattle.core_parts.proofs.Going.{made, acted_goes_on, lawful_at, sum_is}
@@ -85,11 +85,11 @@ module _ (t : Table) (k limit : ℕ) (s : Scheduler) {worker : ℕ} {id : DequeI
   -- all is sound that stands at the moment of some run
   sound_after : (after : Scheduler) → SameTerms s after
       → (OwnsNone worker stands.left stands.right → IsInOrder (held_under s stands top) → ∥ IsInOrder (held after) ∥₁) → ∥ AreResults t k (held after) ∥₁
-      → ((c : Setting) → IsSettingOf t k c → (run : List Pair) (m : Moment) → StandsAt c (terms_of s limit) (held_under s stands top) run m
-      → ∥ ((later : List Pair) × (next : Moment) × StandsAt c (terms_of s limit) (held after) later next) ∥₁)
+      → ((c : Setting) → IsSettingOf t k c → (run : List Pair) (m : Moment) → HasRun c (terms_of s limit) (held_under s stands top) run m
+      → ∥ ((later : List Pair) × (next : Moment) × HasRun c (terms_of s limit) (held after) later next) ∥₁)
       → IsSound t k (terms_of after limit) (held after)
   sound_after after terms in_order results goes =
-      let somewhere : (c : Setting) → IsSettingOf t k c → ∥ ((run : List Pair) × (m : Moment) × StandsAt c (terms_of s limit) (held after) run m) ∥₁ =
+      let somewhere : (c : Setting) → IsSettingOf t k c → ∥ ((run : List Pair) × (m : Moment) × HasRun c (terms_of s limit) (held after) run m) ∥₁ =
       λ c of. ∥∥₁_elim (sound.somewhere c of) ∥∥₁_prop (λ a. goes c of a.0 a.1 a.2) in
       subst (λ x. IsSound t k x (held after)) (sym (terms limit)) (record {
         of_program = sound.of_program;
@@ -102,14 +102,14 @@ module _ (t : Table) (k limit : ℕ) (s : Scheduler) {worker : ℕ} {id : DequeI
       })
 
   module _ (points : CanGoOn t k (held_under s stands top)) (after : Scheduler) (terms : SameTerms s after) where
-    at_before : (c : Setting) (run : List Pair) (m : Moment) → StandsAt c (terms_of after limit) (held_under s stands top) run m → StandsAt c (terms_of s limit) (held_under s stands top) run m
-    at_before c run m at = subst (λ x. StandsAt c x (held_under s stands top) run m) (terms limit) at
+    at_before : (c : Setting) (run : List Pair) (m : Moment) → HasRun c (terms_of after limit) (held_under s stands top) run m → HasRun c (terms_of s limit) (held_under s stands top) run m
+    at_before c run m at = subst (λ x. HasRun c x (held_under s stands top) run m) (terms limit) at
 
     -- an event
     pub comes_in : (told : Event) → (OwnsNone worker stands.left stands.right → IsInOrder (held_under s stands top) → ∥ IsInOrder (held after) ∥₁)
         → (AreAtPoints t k (held_under s stands top) → AreAtPoints t k (held after))
         → (AreAtPoints t k (held_under s stands top) → AreResults t k (held s) → AreResults t k (held after))
-        → ((c : Setting) → IsSettingOf t k c → (run : List Pair) (m : Moment) (word : ℕ) → StandsAt c (terms_of s limit) (held_under s stands top) run m
+        → ((c : Setting) → IsSettingOf t k c → (run : List Pair) (m : Moment) (word : ℕ) → HasRun c (terms_of s limit) (held_under s stands top) run m
         → ∥ GoesOn c (terms_of s limit) (held after) worker word run m told ∥₁)
         → Comes t k limit worker (held_under s stands top) s after (Ok told)
     comes_in told in_order at_points results goes = record {
@@ -123,14 +123,14 @@ module _ (t : Table) (k limit : ℕ) (s : Scheduler) {worker : ℕ} {id : DequeI
     pub comes_by : (told : Event) → (OwnsNone worker stands.left stands.right → IsInOrder (held_under s stands top) → IsInOrder (held after))
         → (AreAtPoints t k (held_under s stands top) → AreAtPoints t k (held after))
         → (AreAtPoints t k (held_under s stands top) → AreResults t k (held s) → AreResults t k (held after))
-        → ((c : Setting) → IsSettingOf t k c → (run : List Pair) (m : Moment) (word : ℕ) → StandsAt c (terms_of s limit) (held_under s stands top) run m
+        → ((c : Setting) → IsSettingOf t k c → (run : List Pair) (m : Moment) (word : ℕ) → HasRun c (terms_of s limit) (held_under s stands top) run m
         → ∥ GoesOn c (terms_of s limit) (held after) worker word run m told ∥₁)
         → Comes t k limit worker (held_under s stands top) s after (Ok told)
     comes_by told in_order at_points results goes = comes_in told (λ none o. ∣ in_order none o ∣₁) at_points results goes
 
     -- a stop, where nothing has changed
     pub stops_by : (stop : Stop) → held after ≡ held_under s stands top
-        → ((c : Setting) → IsSettingOf t k c → (run : List Pair) (m : Moment) (word : ℕ) → StandsAt c (terms_of s limit) (held_under s stands top) run m
+        → ((c : Setting) → IsSettingOf t k c → (run : List Pair) (m : Moment) (word : ℕ) → HasRun c (terms_of s limit) (held_under s stands top) run m
         → StepsTo c (terms_of s limit) (held_under s stands top) worker word run m (Err stop))
         → Comes t k limit worker (held_under s stands top) s after (Err stop)
     stops_by stop same stopped = record {
@@ -146,7 +146,7 @@ module _ (t : Table) (k limit : ℕ) (s : Scheduler) {worker : ℕ} {id : DequeI
 module _ (t : Table) (k limit : ℕ) (s : Scheduler) {worker : ℕ} {id : DequeId} {items : List Thread} (stands : Stands s.list worker id items) (top : Thread)
     (sound : IsSound t k (terms_of s limit) (held_under s stands top)) (after : Scheduler) (leaves : LeavesDeque worker id top s after) where
   pub gave_up_at : (c : Setting) → IsSettingOf t k c → IsInOrder (held_under s stands top) → (run : List Pair) (m : Moment)
-      → StandsAt c (terms_of s limit) (held_under s stands top) run m → GivesDequeUp c (terms_of s limit) (held after) worker run m id
+      → HasRun c (terms_of s limit) (held_under s stands top) run m → GivesDequeUp c (terms_of s limit) (held after) worker run m id
   gave_up_at c of o run m at =
       let period = its_period s stands top o in
       gave_up c (terms_of s limit) (quota_is t k c of sound.quota) (held_under s stands top) (held after) run m at worker (parts_in (held after))
@@ -157,7 +157,7 @@ module _ (t : Table) (k limit : ℕ) (s : Scheduler) {worker : ℕ} {id : DequeI
       none_more : (n : ℕ) → n ≡ n + 0
       none_more n = omega arith
 
-  pub gave_up_gives : (c : Setting) → IsSettingOf t k c → (run : List Pair) (m : Moment) → StandsAt c (terms_of s limit) (held_under s stands top) run m
+  pub gave_up_gives : (c : Setting) → IsSettingOf t k c → (run : List Pair) (m : Moment) → HasRun c (terms_of s limit) (held_under s stands top) run m
       → ∥ GivesDequeUp c (terms_of s limit) (held after) worker run m id ∥₁
   gave_up_gives c of run m at = ∥∥₁_map sound.in_order (λ o. gave_up_at c of o run m at)
 
@@ -219,7 +219,7 @@ module _ (t : Table) (k limit : ℕ) (s : Scheduler) {worker : ℕ} {id : DequeI
     module _ (Where : ℕ → Period → ℕ → Type 0) (after : Scheduler) (name : ActionId) (acts : Acts next Where worker id top s after name)
         (allowed : (c : Setting) → IsSettingOf t k c → (i : IsOfTheList c top next) → (period : Period) → period_at s.table worker ≡ Some period → Where c.quota period (words_at (list_of c) i.place))
         (fits : s.pool.live + asked ≤ s.pool.capacity) (few : s.done < limit) where
-      acted_at : (c : Setting) → Known c → (run : List Pair) (m : Moment) (word : ℕ) → StandsAt c now before run m → GoesOn c now (held after) worker word run m (events.Acted name)
+      acted_at : (c : Setting) → Known c → (run : List Pair) (m : Moment) (word : ℕ) → HasRun c now before run m → GoesOn c now (held after) worker word run m (events.Acted name)
       acted_at c known run m word at =
           let i = known.action in
           let quota = quota_is t k c known.of (b.sound items stands).quota in
@@ -250,9 +250,9 @@ module _ (t : Table) (k limit : ℕ) (s : Scheduler) {worker : ℕ} {id : DequeI
     -- a stop was met
     module _ (charged : (c : Setting) → IsSettingOf t k c → (i : IsOfTheList c top next) → (period : Period) → period_at s.table worker ≡ Some period
         → period.used + charge c.quota (deed_of top next) (words_at (list_of c) i.place) ≤ c.quota)
-        (ended : (c : Setting) → Known c → (run : List Pair) (m : Moment) → StandsAt c now before run m → (child : ℕ) → deed_of top next ≡ joins child
+        (ended : (c : Setting) → Known c → (run : List Pair) (m : Moment) → HasRun c now before run m → (child : ℕ) → deed_of top next ≡ joins child
         → HasEnded (machine_of c now) m (fork_of (label_of top) child)) where
-      wanted : (c : Setting) (x : Known c) (run : List Pair) (m : Moment) (word : ℕ) → StandsAt c now before run m → Wants (machine_of c now) m worker word (machine.does (IsOfTheList.place (Known.action x)))
+      wanted : (c : Setting) (x : Known c) (run : List Pair) (m : Moment) (word : ℕ) → HasRun c now before run m → Wants (machine_of c now) m worker word (machine.does (IsOfTheList.place (Known.action x)))
       wanted c x run m word at =
           let i = x.action in
           let quota = quota_is t k c x.of (b.sound items stands).quota in
@@ -260,21 +260,21 @@ module _ (t : Table) (k limit : ℕ) (s : Scheduler) {worker : ℕ} {id : DequeI
           let o : Works (parts_in before) worker = period_there s stands top period.0 period.1 in
           let lawful = lawful_at c now quota run m at.reaches in
           let within = charged c x.of i period.0 period.1 in
-          let used = used_is c.quota (list_of c) (parts_in before) m at.shows worker o in
+          let used = used_is c.quota (list_of c) (parts_in before) m at.standing.shows worker o in
           let same : ◌≡◌ {A = ℕ} (charge_at c.quota (list_of c) i.place) (charge c.quota (deed_of top next) (words_at (list_of c) i.place)) = ap (λ d. charge c.quota d (words_at (list_of c) i.place)) i.deed in
-          an_action (own (machine_of c now) (whole_is_depth_first c) m lawful (parts_in before) at.shows worker o) i.place (next_at_top s stands top c now quota run m at next i)
+          an_action (own (machine_of c now) (whole_is_depth_first c) m lawful (parts_in before) at.standing.shows worker o) i.place (next_at_top s stands top c now quota run m at next i)
           (λ child deed. ended c x run m at child (sym i.deed ∙ deed)) (omega (arith, within, used, same))
 
       pub refused_comes : (stop : Stop) (after : Scheduler) → Refuses s limit asked stop → held after ≡ before → SameTerms s after → Comes t k limit worker before s after (Err stop)
       refused_comes stop after refused same terms = stops_by t k limit s stands top (b.sound items stands) (b.points items stands) after terms stop same
           (λ c of run m word at. by_stop c of run m word at stop refused)
         where
-          by_stop : (c : Setting) → IsSettingOf t k c → (run : List Pair) (m : Moment) (word : ℕ) → StandsAt c now before run m → (stop : Stop) → Refuses s limit asked stop
+          by_stop : (c : Setting) → IsSettingOf t k c → (run : List Pair) (m : Moment) (word : ℕ) → HasRun c now before run m → (stop : Stop) → Refuses s limit asked stop
               → StepsTo c now before worker word run m (Err stop)
           by_stop c of run m word at (ArenaFull live words) refused = known c of (λ x. ∣ record {
             event = machine.does (IsOfTheList.place (Known.action x));
             wants = wanted c x run m word at;
-            meets = subst (λ n. Meets (machine_of c now) now.limits m (machine.does (IsOfTheList.place (Known.action x))) (play.arena_full n words)) (sym at.live ∙ ap pos (sym refused.0))
+            meets = subst (λ n. Meets (machine_of c now) now.limits m (machine.does (IsOfTheList.place (Known.action x))) (play.arena_full n words)) (sym at.standing.live ∙ ap pos (sym refused.0))
                 (subst (λ n. Meets (machine_of c now) now.limits m (machine.does (IsOfTheList.place (Known.action x))) (play.arena_full (live_at (list_of c) m) n)) (all_asked c (Known.action x) (some x) ∙ sym refused.1)
                 (no_words (IsOfTheList.place (Known.action x)) (some x, above x)));
             stands = at;
@@ -284,14 +284,14 @@ module _ (t : Table) (k limit : ℕ) (s : Scheduler) {worker : ℕ} {id : DequeI
               some x = let is = taken_here c (Known.action x) in let p = refused.3 in omega (arith, is, p)
 
               above : (x : Known c) → pos s.pool.capacity <ℤ (live_at (list_of c) m +ℤ pos (words_at (list_of c) (IsOfTheList.place (Known.action x))))
-              above x = let full = refused.2 in let is = all_asked c (Known.action x) (some x) in let live = at.live in omega (arith, ints, full, is, live)
+              above x = let full = refused.2 in let is = all_asked c (Known.action x) (some x) in let live = at.standing.live in omega (arith, ints, full, is, live)
           by_stop c of run m word at (DequesFull deques) refused = absurd refused
           by_stop c of run m word at (StepsSpent most) refused = known c of (λ x. ∣ record {
             event = machine.does (IsOfTheList.place (Known.action x));
             wants = wanted c x run m word at;
             meets = subst (λ n. Meets (machine_of c now) now.limits m (machine.does (IsOfTheList.place (Known.action x))) (play.steps_spent n)) (sym refused.0)
                 (no_steps (IsOfTheList.place (Known.action x))
-                (λ fills. let is = all_asked c (Known.action x) fills.0 in let over = fills.1 in let room = refused.1 in let live = at.live in absurd (omega (arith, ints, is, over, room, live)))
+                (λ fills. let is = all_asked c (Known.action x) fills.0 in let over = fills.1 in let room = refused.1 in let live = at.standing.live in absurd (omega (arith, ints, is, over, room, live)))
                 (let spent = refused.2 in let done = at.done in omega (arith, spent, done)));
             stands = at;
           } ∣₁)
@@ -336,7 +336,7 @@ module _ (t : Table) (k limit : ℕ) (s : Scheduler) {worker : ℕ} {id : DequeI
 
   module _ (stands : Stands s.list worker id []) (after : Scheduler) (leaves : LeavesList worker id top child s after) where
     waited_at : (c : Setting) → IsSettingOf t k c → (i : IsOfTheList c top (nexts.Join child)) → IsInOrder (held_under s stands top) → (run : List Pair) (m : Moment) (word : ℕ)
-        → StandsAt c (terms_of s limit) (held_under s stands top) run m → GoesOn c (terms_of s limit) (held after) worker word run m (events.Suspended (Thread.id top))
+        → HasRun c (terms_of s limit) (held_under s stands top) run m → GoesOn c (terms_of s limit) (held after) worker word run m (events.Suspended (Thread.id top))
     waited_at c of i o run m word at =
         let quota = quota_is t k c of (b.sound [] stands).quota in
         let period = its_period s stands top o in

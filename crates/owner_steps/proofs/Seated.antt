@@ -11,13 +11,13 @@ use Rattle.node_table.specs.Table.{Table}
 use Rattle.period_table.specs.Tables.{seat_at, deque_at}
 use Rattle.thread_steps.specs.Settings.{IsSettingOf}
 use Rattle.core_parts.specs.Held.{Held}
-use Rattle.core_parts.specs.Moments.{StandsAt}
+use Rattle.core_parts.specs.Moments.{HasRun}
 use Rattle.core_parts.specs.Outcomes.{HasDequesLeft}
 use Rattle.core_parts.proofs.AtTop.{seat_of_deque}
 use Rattle.core_parts.proofs.Sitting.{owner_has_deques_left}
 
 pub seated_has_left : {t : Table} {k : ℕ} → record_words ≤ k → (c : Setting) → IsSettingOf t k c → (terms : Terms) (h : Held) (run : List Pair) (m : Moment)
-    → StandsAt c terms h run m → (worker word : ℕ) → (id : DequeId) × (deque_at h.table worker ≡ Some id) → HasDequesLeft c terms worker word m
+    → HasRun c terms h run m → (worker word : ℕ) → (id : DequeId) × (deque_at h.table worker ≡ Some id) → HasDequesLeft c terms worker word m
 seated_has_left {t} {k} quota c of terms h run m at worker word owner =
     let there = seat_of_deque (seat_at h.table worker) owner.0 owner.1 in
     owner_has_deques_left c terms (subst (λ n. record_words ≤ n) (sym of.quota) quota) h run m at worker word there.0 there.1

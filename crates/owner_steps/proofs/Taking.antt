@@ -17,7 +17,7 @@ use Rattle.core_parts.specs.declared.event.Event.{Event}
 use Rattle.core_parts.specs.declared.scheduler.Scheduler.{Scheduler}
 use Rattle.core_parts.specs.declared.stop.Stop.{Stop}
 use Rattle.core_parts.specs.Held.{held, held_under, OwnsNone}
-use Rattle.core_parts.specs.Moments.{terms_of, SameTerms, StandsAt, IsSound, CanGoOn}
+use Rattle.core_parts.specs.Moments.{terms_of, SameTerms, HasRun, IsSound, CanGoOn}
 use Rattle.core_parts.proofs.Still.{reordered_sound, reordered_points, reordered_stands, still_sound, still_points, still_stands}
 use Rattle.core_parts.specs.Held.{IsReordered}
 use Rattle.depth_first_run.specs.States.{Setting}
@@ -136,8 +136,8 @@ module _ (t : Table) (k limit : ℕ) (s taken : Scheduler) (worker : ℕ) (id : 
   pub taken_points : CanGoOn t k (held s) → CanGoOn t k (held_under taken takes.stands top)
   taken_points points = ∥∥₁_map points (reordered_points t k (held s) (held_under taken takes.stands top) takes.same)
 
-  pub taken_at : (c : Setting) (run : List Pair) (m : Moment) → StandsAt c (terms_of s limit) (held s) run m → StandsAt c (terms_of taken limit) (held_under taken takes.stands top) run m
-  taken_at c run m at = subst (λ x. StandsAt c x (held_under taken takes.stands top) run m) (sym (takes.terms limit))
+  pub taken_at : (c : Setting) (run : List Pair) (m : Moment) → HasRun c (terms_of s limit) (held s) run m → HasRun c (terms_of taken limit) (held_under taken takes.stands top) run m
+  taken_at c run m at = subst (λ x. HasRun c x (held_under taken takes.stands top) run m) (sym (takes.terms limit))
       (reordered_stands c (terms_of s limit) (held s) (held_under taken takes.stands top) run m takes.same at)
 
 -- the thread that is on top is at its point, and its words are out
@@ -204,8 +204,8 @@ pub comes_of_taken : (t : Table) (k limit : ℕ) (s taken after : Scheduler) (wo
 comes_of_taken t k limit s taken after worker id top now takes still result comes = record {
   sound = comes.sound;
   points = comes.points;
-  steps = λ c of run m word at. comes.steps c of run m word (subst (λ x. StandsAt c x (held_under taken takes.stands now) run m) (sym (comes.terms limit))
+  steps = λ c of run m word at. comes.steps c of run m word (subst (λ x. HasRun c x (held_under taken takes.stands now) run m) (sym (comes.terms limit))
       (still_stands taken takes.stands top now still c (terms_of taken limit) run m (taken_at t k limit s taken worker id top takes c run m
-      (subst (λ x. StandsAt c x (held s) run m) (comes.terms limit ∙ takes.terms limit) at))));
+      (subst (λ x. HasRun c x (held s) run m) (comes.terms limit ∙ takes.terms limit) at))));
   terms = λ actions. comes.terms actions ∙ takes.terms actions;
 }

@@ -32,7 +32,7 @@ use Rattle.deque_events.specs.Shown.{deque_with, Stands}
 use Rattle.core_parts.specs.declared.scheduler.Scheduler.{Scheduler}
 use Rattle.core_parts.specs.declared.event.Event.{Event}
 use Rattle.core_parts.specs.Held.{held_under, IsInOrder, IsUnderItsId, AreAtPoints}
-use Rattle.core_parts.specs.Moments.{terms_of, StandsAt, IsSound}
+use Rattle.core_parts.specs.Moments.{terms_of, HasRun, IsSound}
 use Rattle.deque_machine.specs.Terms.{machine_of}
 use Rattle.core_parts.proofs.Lists.{each_moved, found_among}
 use Rattle.core_parts.proofs.Bounds.{point_one}
@@ -67,7 +67,7 @@ module _ (t : Table) (k limit : ℕ) (s : Scheduler) {worker : ℕ} {id : DequeI
   -- the child that is joined has ended, where its result was delivered or is kept
   pub joined_ended : (is_delivered child (children_of top) ≡ true) ⊎ ((ended : Ended) × (kept_under s.results child ≡ Some ended))
       → (c : Setting) (of : IsSettingOf t k c) (i : IsOfTheList c top (nexts.Join child)) (o : IsInOrder (held_under s stands top))
-      → (run : List Pair) (m : Moment) → StandsAt c (terms_of s limit) (held_under s stands top) run m → (ordinal : ℕ) → deed_of top (nexts.Join child) ≡ joins ordinal
+      → (run : List Pair) (m : Moment) → HasRun c (terms_of s limit) (held_under s stands top) run m → (ordinal : ℕ) → deed_of top (nexts.Join child) ≡ joins ordinal
       → HasEnded (machine_of c (terms_of s limit)) m (fork_of (label_of top) ordinal)
   unfolding child_joined
   joined_ended there c of i o run m at ordinal deed =
@@ -96,13 +96,13 @@ module _ (t : Table) (k limit : ℕ) (s : Scheduler) {worker : ℕ} {id : DequeI
     later_stands = record { left = stands.left; right = stands.right; deques_are = stands.deques_are }
 
     pub now_point : IsAtPoint t k now
-    now_point = ∥∥₁_elim (b.sound items stands).results (point_one t k now) (λ r. come.point t k its_point
+    now_point = ∥∥₁_elim (b.sound items stands).results (point_one t k now) (λ r. come.given.point t k its_point
         (each_among (λ e. IsResult t k e.1) (child, come.ended) s.results.entries r (found_among child s.results.entries come.ended come.kept)))
 
-    later_at : (c : Setting) → IsSettingOf t k c → IsInOrder (held_under s stands top) → (run : List Pair) (m : Moment) → StandsAt c (terms_of s limit) (held_under s stands top) run m
-        → StandsAt c (terms_of later limit) (held_under later later_stands now) run m
+    later_at : (c : Setting) → IsSettingOf t k c → IsInOrder (held_under s stands top) → (run : List Pair) (m : Moment) → HasRun c (terms_of s limit) (held_under s stands top) run m
+        → HasRun c (terms_of later limit) (held_under later later_stands now) run m
     later_at c of o run m at = handed s stands top c (terms_of s limit) (quota_is t k c of (b.sound items stands).quota) run m at o child come.ended results.entries come.results now
-        (can_come missing come.ended come.kept) come.same come.done come.children come.words
+        (can_come missing come.ended come.kept) come.given.same come.given.done come.given.children come.given.words
 
     later_order : IsInOrder (held_under s stands top) → IsInOrder (held_under later later_stands now)
     later_order o = record {
@@ -131,13 +131,13 @@ module _ (t : Table) (k limit : ℕ) (s : Scheduler) {worker : ℕ} {id : DequeI
     }
 
     now_next : next_of now ≡ Some (nexts.Join child)
-    now_next = come.next ∙ b.can.is_next
+    now_next = come.given.next ∙ b.can.is_next
 
     -- the newest child has the result now
     pub now_there : is_there (newest (children_of now)) ≡ true
     now_there = ∥∥₁_elim (b.sound items stands).of_program (search props) (λ p. ∥∥₁_elim ((b.sound items stands).somewhere p.0 p.1) (search props) (λ a.
         ∥∥₁_elim (b.of_the_list p.0 p.1) (search props) (λ i. ∥∥₁_elim (b.sound items stands).in_order (search props) (λ o.
-        (given s stands top p.0 (terms_of s limit) (quota_is t k p.0 p.1 (b.sound items stands).quota) a.0 a.1 a.2 child i b.newest o come.ended come.kept now come.children).0))))
+        (given s stands top p.0 (terms_of s limit) (quota_is t k p.0 p.1 (b.sound items stands).quota) a.0 a.1 a.2 child i b.newest o come.ended come.kept now come.given.children).0))))
 
 -- the thread is before the same action, with the result
 pub before_later : (t : Table) (k limit : ℕ) (s : Scheduler) (worker : ℕ) (id : DequeId) (top : Thread) (child : ThreadId) (b : IsBeforeAction t k limit s worker id top (nexts.Join child))
@@ -145,12 +145,12 @@ pub before_later : (t : Table) (k limit : ℕ) (s : Scheduler) (worker : ℕ) (i
     → IsBeforeAction t k limit (record s { results = results }) worker id now (nexts.Join child)
 before_later t k limit s worker id top child b missing results now come =
     let point : IsAtPoint t k now = now_point t k limit s b.can.stands.1 top child b missing results now come in
-    let next : next_of now ≡ Some (nexts.Join child) = come.next ∙ b.can.is_next in
+    let next : next_of now ≡ Some (nexts.Join child) = come.given.next ∙ b.can.is_next in
     record {
       can = record {
         placed = placed_of t k now point;
         is_next = next;
-        few = let few = b.can.few in let same = come.done in omega (arith, few, same);
+        few = let few = b.can.few in let same = come.given.done in omega (arith, few, same);
         stands = b.can.stands;
         memory = record {
           lane = b.can.memory.lane;
@@ -181,7 +181,7 @@ taken_in_comes t k limit s stands top child b missing results now come after tol
   sound = comes.sound;
   points = comes.points;
   steps = λ c of run m word at. ∥∥₁_elim (b.sound _ stands).in_order ∥∥₁_prop (λ o.
-      comes.steps c of run m word (subst (λ x. StandsAt c x (held_under (record s { results = results }) (record { left = stands.left; right = stands.right; deques_are = stands.deques_are }) now) run m) (sym (comes.terms limit))
-      (later_at t k limit s stands top child b missing results now come c of o run m (subst (λ x. StandsAt c x (held_under s stands top) run m) (comes.terms limit) at))));
+      comes.steps c of run m word (subst (λ x. HasRun c x (held_under (record s { results = results }) (record { left = stands.left; right = stands.right; deques_are = stands.deques_are }) now) run m) (sym (comes.terms limit))
+      (later_at t k limit s stands top child b missing results now come c of o run m (subst (λ x. HasRun c x (held_under s stands top) run m) (comes.terms limit) at))));
   terms = comes.terms;
 }

@@ -22,7 +22,9 @@ use Rattle.thread_frames.specs.Views.{label_of, done_of}
 use Rattle.deque_events.specs.Shown.{Stands}
 use Rattle.thread_events.specs.Acts.{AllocIsCharged, ForkFits, Always}
 use Rattle.core_parts.specs.declared.scheduler.Scheduler.{Scheduler}
-use Rattle.core_parts.specs.Held.{Held, held, held_under, parts_in, AreSame, IsReordered, OwnsNone, IsInOrder, AreAtPoints, AreResults}
+use Rattle.step_laws.specs.Moves.{noted_if}
+use Rattle.step_laws.specs.Standing.{Settles}
+use Rattle.core_parts.specs.Held.{Held, held, held_under, parts_in, IsReordered, OwnsNone, IsInOrder, AreAtPoints, AreResults}
 use Rattle.core_parts.specs.Moments.{SameTerms}
 
 -- by how much the words that are out changed
@@ -31,11 +33,10 @@ change before after = pos after -ℤ pos before
 
 -- the move of an action that is one
 abbrev pub noted : Bool → ActionId → ℤ → List Moved
-noted false name change = []
-noted true name change = record { by = name; change = change } ∷ []
+noted is_one name change = noted_if is_one (record { by = name; change = change })
 
 -- A worker's top thread, which was taken out, did its next action: with it on top as it was, and perhaps in another order, the parts become
--- by what the machine does those that are held now. `Where` says what its period and its words must be like. What was in order is so, who
+-- by what the machine does those that are held now, where a result may have come to its parent at once. `Where` says what its period and its words must be like. What was in order is so, who
 -- was at his point is so, and results are results.
 pub record Acted (next : Next) (Where : ℕ → Period → ℕ → Type 0) (worker : ℕ) (id : DequeId) (top : Thread)
     (before : Scheduler) (after : Held) : Type 0 where
@@ -43,7 +44,7 @@ pub record Acted (next : Next) (Where : ℕ → Period → ℕ → Type 0) (work
       → (c : Setting) (k : ℕ) (is : IsOfTheList c top next) (period : Period)
       → period_at before.table worker ≡ Some period → Where k period (words_at (list_of c) (IsOfTheList.place is))
       → (first : Held) × IsReordered (held_under before stands top) first
-      × (parts : Parts) × Does k (list_of c) (parts_in first) worker (IsOfTheList.place is) parts × AreSame parts (parts_in after)
+      × (parts : Parts) × Does k (list_of c) (parts_in first) worker (IsOfTheList.place is) parts × Settles worker parts (parts_in after)
   pub begun : after.table.begun ≡ before.table.begun
   pub in_order : (items : List Thread) (stands : Stands before.list worker id items) → OwnsNone worker stands.left stands.right
       → IsInOrder (held_under before stands top) → IsInOrder after

@@ -21,3 +21,11 @@ pub record LeavesBy (worker : ℕ) (id : DequeId) (top : Thread) (before after :
   pub same_done : after.done ≡ before.done
   pub pool : after.pool ≡ with_given before.pool (words_at_end (label_of top))
   pub terms : SameTerms before after
+
+-- a top thread has done its End, with the words of its record; it is not counted or noted yet
+pub record EndsBy (worker : ℕ) (id : DequeId) (top : Thread) (before after : Scheduler) : Type 0 where
+  pub acted : Acted nexts.End Always worker id top before (held after)
+  pub same_moves : after.moves ≡ before.moves
+  pub same_done : after.done ≡ before.done
+  pub pool : after.pool ≡ with_given before.pool (words_at_end (label_of top))
+  pub terms : SameTerms before after

@@ -17,6 +17,7 @@ use Rattle.thread_frames.specs.declared.thread.Thread.{Thread}
 use Rattle.thread_frames.specs.Points.{IsPlaced}
 use Rattle.thread_frames.specs.Views.{next_of, done_of, held_by, label_of, children_of, newest, join_words_of}
 use Rattle.deque_events.specs.Shown.{Stands}
+use Rattle.owner_steps.specs.Results.{FirstAwaits}
 use Rattle.core_parts.specs.declared.scheduler.Scheduler.{Scheduler}
 
 -- the memory that an event of a worker may take: room for so many threads in its lane, for an action and a birth in its period and for
@@ -42,17 +43,19 @@ pub record CanAct (s : Scheduler) (worker : ℕ) (id : DequeId) (top : Thread) (
   pub used : (p : Period) → period_at s.table worker ≡ Some p → p.used ≤ GREATEST_QUOTA
 
 -- What the action asks for besides: its words fit the arena, or are out; an Alloc, which uses so many words of the quota, and a Fork leave
--- the period with what may be counted; the result of the child that is joined was delivered; and no result is kept of a thread that ends.
-abbrev pub MayAct : (charge : ℕ) → Scheduler → ℕ → Thread → Next → Type 0
-MayAct charge s worker top Fork =
+-- the period with what may be counted; the result of the child that is joined was delivered; and no result is kept of a thread that ends,
+-- for which its parent waits, where it is directly below.
+abbrev pub MayAct : (charge : ℕ) → Scheduler → ℕ → DequeId → Thread → Next → Type 0
+MayAct charge s worker id top Fork =
     ((p : Period) → period_at s.table worker ≡ Some p → p.used + record_words ≤ GREATEST_QUOTA) × (s.pool.live + record_words ≤ s.pool.capacity)
-MayAct charge s worker top (Join child) = IsTrue (is_there (newest (children_of top))) × (join_words_of top ≤ s.pool.live)
-MayAct charge s worker top (Alloc words) =
+MayAct charge s worker id top (Join child) = IsTrue (is_there (newest (children_of top))) × (join_words_of top ≤ s.pool.live)
+MayAct charge s worker id top (Alloc words) =
     ((p : Period) → period_at s.table worker ≡ Some p → p.used + charge ≤ GREATEST_QUOTA) × (s.pool.live + words ≤ s.pool.capacity)
-MayAct charge s worker top (Release words) = words ≤ s.pool.live
-MayAct charge s worker top Dummy = Unit {0}
-MayAct charge s worker top (Fault fault) = held_by top ≤ s.pool.live
-MayAct charge s worker top End = (words_at_end (label_of top) ≤ s.pool.live) × (kept_under s.results (Thread.id top) ≡ None)
+MayAct charge s worker id top (Release words) = words ≤ s.pool.live
+MayAct charge s worker id top Dummy = Unit {0}
+MayAct charge s worker id top (Fault fault) = held_by top ≤ s.pool.live
+MayAct charge s worker id top End = (words_at_end (label_of top) ≤ s.pool.live) × (kept_under s.results (Thread.id top) ≡ None)
+    × ((items : List Thread) → Stands s.list worker id items → FirstAwaits top items)
 
 -- the words that an action takes
 abbrev pub words_taken_by : Next → ℕ

@@ -15,7 +15,7 @@ use Rattle.core_parts.specs.declared.event.Event.{Event}
 use Rattle.core_parts.specs.declared.stop.Stop.{Stop}
 use Rattle.core_parts.specs.declared.scheduler.Scheduler.{Scheduler}
 use Rattle.core_parts.specs.Held.{Held, held, held_under}
-use Rattle.core_parts.specs.Moments.{IsSound, CanGoOn, StandsAt, SameTerms, terms_of}
+use Rattle.core_parts.specs.Moments.{IsSound, CanGoOn, HasRun, SameTerms, terms_of}
 use Rattle.deque_machine.specs.Terms.{Terms}
 use Rattle.core_parts.specs.Outcomes.{StepsTo, GivesDequeUp}
 use Rattle.owner_steps.specs.Memory.{CanAct}
@@ -34,7 +34,7 @@ pub record IsBeforeAction (t : Table) (k limit : ℕ) (s : Scheduler) (worker : 
 pub record Comes (t : Table) (k limit worker : ℕ) (before : Held) (earlier after : Scheduler) (result : Result Event Stop) : Type 0 where
   pub sound : IsSound t k (terms_of after limit) (held after)
   pub points : CanGoOn t k (held after)
-  pub steps : (c : Setting) → IsSettingOf t k c → (run : List Pair) (m : Moment) (word : ℕ) → StandsAt c (terms_of after limit) before run m
+  pub steps : (c : Setting) → IsSettingOf t k c → (run : List Pair) (m : Moment) (word : ℕ) → HasRun c (terms_of after limit) before run m
       → StepsTo c (terms_of after limit) (held after) worker word run m result
   pub terms : SameTerms earlier after
 
@@ -48,4 +48,4 @@ ComesUnder t k limit worker id top before after result =
 -- where it stood.
 abbrev pub GivesUpOrStays : {E : Type 0} → Setting → Terms → (after : Held) → (worker : ℕ) → List Pair → Moment → Result DequeId E → Type 0
 GivesUpOrStays c terms after worker run m (Ok id) = ∥ GivesDequeUp c terms after worker run m id ∥₁
-GivesUpOrStays c terms after worker run m (Err none) = StandsAt c terms after run m
+GivesUpOrStays c terms after worker run m (Err none) = HasRun c terms after run m

@@ -49,7 +49,7 @@ pub(crate) fn act(
 ) -> ActionId
     requires can { CanAct scheduler.old worker deque top next }
     requires counted { scheduler.old.done < 4294967295 }
-    requires may { MayAct charge scheduler.old worker top next }
+    requires may { MayAct charge scheduler.old worker deque top next }
     ensures { Acts next (IsCharged charge next) worker deque top scheduler.old scheduler.new result }
 {
     let name = thread_events::name_of(&top);
@@ -77,7 +77,7 @@ fn perform(
     charge: u32,
 ) -> bool
     requires can { CanAct scheduler.old worker deque top next }
-    requires may { MayAct charge scheduler.old worker top next }
+    requires may { MayAct charge scheduler.old worker deque top next }
     ensures { Performs next (IsCharged charge next) worker deque top scheduler.old scheduler.new result }
 {
     match next {
@@ -101,7 +101,7 @@ fn allocate(
     charge: u32,
 ) -> bool
     requires can { CanAct scheduler.old worker deque top (nexts.Alloc words) }
-    requires may { MayAct charge scheduler.old worker top (nexts.Alloc words) }
+    requires may { MayAct charge scheduler.old worker deque top (nexts.Alloc words) }
     ensures { Performs (nexts.Alloc words) (AllocIsCharged charge) worker deque top scheduler.old scheduler.new result }
 {
     let Ok(()) = thread_events::alloc(
@@ -121,7 +121,7 @@ fn allocate(
 /// Does a Fork.
 fn fork(scheduler: &mut Scheduler, worker: usize, deque: DequeId, top: Boxed<Thread>) -> bool
     requires can { CanAct scheduler.old worker deque top nexts.Fork }
-    requires may { MayAct 0 scheduler.old worker top nexts.Fork }
+    requires may { MayAct 0 scheduler.old worker deque top nexts.Fork }
     ensures { Performs nexts.Fork ForkFits worker deque top scheduler.old scheduler.new result }
 {
     let Some(place) = scheduler.place.take() else {
@@ -150,7 +150,7 @@ fn release(
     words: u32,
 ) -> bool
     requires can { CanAct scheduler.old worker deque top (nexts.Release words) }
-    requires may { MayAct 0 scheduler.old worker top (nexts.Release words) }
+    requires may { MayAct 0 scheduler.old worker deque top (nexts.Release words) }
     ensures { Performs (nexts.Release words) Always worker deque top scheduler.old scheduler.new result }
 {
     thread_events::release(
@@ -173,7 +173,7 @@ fn fault(
     at: FaultAt,
 ) -> bool
     requires can { CanAct scheduler.old worker deque top (nexts.Fault at) }
-    requires may { MayAct 0 scheduler.old worker top (nexts.Fault at) }
+    requires may { MayAct 0 scheduler.old worker deque top (nexts.Fault at) }
     ensures { Performs (nexts.Fault at) Always worker deque top scheduler.old scheduler.new result }
 {
     thread_events::fault(
@@ -211,7 +211,7 @@ fn join(
     child: ThreadId,
 ) -> bool
     requires can { CanAct scheduler.old worker deque top (nexts.Join child) }
-    requires may { MayAct 0 scheduler.old worker top (nexts.Join child) }
+    requires may { MayAct 0 scheduler.old worker deque top (nexts.Join child) }
     ensures { Performs (nexts.Join child) Always worker deque top scheduler.old scheduler.new result }
 {
     let words = thread_events::join(

@@ -9,7 +9,7 @@ ghost use Rattle.thread_map.specs.Kept.{kept_under};
 ghost use Rattle.deque_events.specs.Shown.{Stands};
 ghost use Rattle.core_parts.specs.declared.event.Event.TheVariants as events;
 ghost use Rattle.core_parts.specs.Held.{held};
-ghost use Rattle.core_parts.specs.Moments.{IsSound, CanGoOn, SameTerms, StandsAt, terms_of};
+ghost use Rattle.core_parts.specs.Moments.{IsSound, CanGoOn, SameTerms, HasRun, terms_of};
 ghost use Rattle.depth_first_run.specs.States.{Setting};
 ghost use Rattle.deque_machine.specs.Moments.{Moment};
 ghost use Rattle.deque_machine.specs.Runs.{Pair};
@@ -89,7 +89,7 @@ pub fn give_up_deque(
     ensures points { (t : Table) (k : ℕ) → CanGoOn t k (held scheduler.old) → CanGoOn t k (held scheduler.new) }
     ensures gives { (t : Table) (k limit : ℕ) → IsSound t k (terms_of scheduler.old limit) (held scheduler.old)
         → (c : Setting) → IsSettingOf t k c → (run : AnyList Pair) (m : Moment)
-        → StandsAt c (terms_of scheduler.old limit) (held scheduler.old) run m
+        → HasRun c (terms_of scheduler.old limit) (held scheduler.old) run m
         → GivesUpOrStays c (terms_of scheduler.old limit) (held scheduler.new) worker run m result }
     ensures terms { SameTerms scheduler.old scheduler.new }
 {

@@ -16,7 +16,7 @@ ghost use Rattle.thread_steps.specs.Settings.{IsSettingOf};
 ghost use Rattle.thread_frames.specs.Actions.{IsOfTheList, IsStill, JoinsNewest};
 ghost use Rattle.thread_frames.specs.Points.{IsAtPoint};
 ghost use Rattle.thread_frames.specs.Views.{children_of, done_of, next_of, thread_words};
-ghost use Rattle.core_parts.specs.Moments.{StandsAt};
+ghost use Rattle.core_parts.specs.Moments.{HasRun};
 ghost use Rattle.core_parts.specs.Outcomes.{StepsTo};
 ghost use Rattle.owner_steps.specs.Decisions.{Decides};
 ghost use Rattle.owner_steps.specs.declared.decisions.Decision.TheVariants as decisions;
@@ -147,7 +147,7 @@ pub fn step_of_owner(
     ensures sound { IsSound (code_shown code.now) (quota_words k) (terms_of scheduler.new limit) (held scheduler.new) }
     ensures points { result ≢ Err stops.OutOfMemory → CanGoOn (code_shown code.now) (quota_words k) (held scheduler.new) }
     ensures steps { (c : Setting) → IsSettingOf (code_shown code.now) (quota_words k) c → (run : AnyList Pair) (m : Moment) (word : ℕ)
-        → StandsAt c (terms_of scheduler.old limit) (held scheduler.old) run m
+        → HasRun c (terms_of scheduler.old limit) (held scheduler.old) run m
         → StepsTo c (terms_of scheduler.old limit) (held scheduler.new) worker word run m result }
     ensures terms { SameTerms scheduler.old scheduler.new }
 {

@@ -1,13 +1,15 @@
 //! How a kept result comes to the thread that joins its child.
 
-ghost use Rattle.std.specs.Prelude.{◌≡◌, false};
-ghost use Rattle.thread_frames.specs.Children.{is_delivered};
-ghost use Rattle.thread_frames.specs.Views.{children_of};
+ghost use Rattle.std.specs.Prelude.{◌≡◌, ◌∷◌, false, List as AnyList};
+ghost use Rattle.deque_events.specs.Shown.{Stands};
+ghost use Rattle.thread_frames.specs.Children.{is_delivered, IsAwaited};
+ghost use Rattle.thread_frames.specs.Views.{children_of, label_of};
 ghost use Rattle.thread_frames.specs.declared.next.Next.TheVariants as nexts;
-ghost use Rattle.owner_steps.specs.Results.{IsToCome, HasCome, TakesResult};
+ghost use Rattle.owner_steps.specs.Results.{IsToCome, HasCome, TakesResult, ComesBelow};
 
 use boxed::Boxed;
 use dag_order::ThreadId;
+use deque_list::{DequeId, List};
 use thread_frames::{Ended, Next, Thread};
 use thread_map::ThreadMap;
 
@@ -33,4 +35,18 @@ pub(crate) fn take_result(results: &mut ThreadMap<Ended>, top: &mut Boxed<Thread
             hand_over(results, top, child);
         }
     }
+}
+
+/// The result of a thread that ended comes at once to its parent, which is on top of the worker's deque without it.
+pub(crate) fn give_below(list: &mut List<Boxed<Thread>>, worker: usize, deque: DequeId, ended: Ended)
+    requires { (parent : Thread) × (below : AnyList Thread) × Stands list.old worker deque (parent ∷ below)
+        × IsAwaited (label_of parent) ended (children_of parent) }
+    ensures { (items : AnyList Thread) (stands : Stands list.old worker deque items) → ComesBelow worker deque ended list.old list.new items stands }
+{
+    let _worker = worker;
+    let Some(mut parent) = list.pop_top(deque) else {
+        unreachable!();
+    };
+    parent.get_mut().deliver(ended);
+    list.push_top(deque, parent);
 }

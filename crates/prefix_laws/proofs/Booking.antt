@@ -39,7 +39,7 @@ module _ (core : Core) (serial : Serial) (of : IsSerialOf core serial) where
       (names : List Name) (named : (items : List Item) → Tells items serial → names ≡ map name_shown (actions_of items)) where
     known_at : (c : Setting) (run : List Pair) (m : Moment) → IsAt c core run m → TellsRun c serial → Each (Each (IsKnown births names)) ran
     known_at c run m at tells =
-        let tell = at.stands.shows.books in let listed = listed_at core c run m at in
+        let tell = at.stands.standing.shows.books in let listed = listed_at core c run m at in
         subst (λ bs. Each (Each (IsKnown bs names)) ran) (sym (born tell.sorted listed))
         (subst (λ ns. Each (Each (IsKnown (map born_in tell.sorted) ns)) ran) (sym (named (State.items (whole c)) tells))
         (subst (Each (Each (IsKnown (map born_in tell.sorted) (map name_shown (list_of c))))) (sym (ran_so tell.sorted listed))
@@ -55,7 +55,7 @@ module _ (core : Core) (serial : Serial) (of : IsSerialOf core serial) where
     pub places_at : (c : Setting) (run : List Pair) (m : Moment) → IsAt c core run m → TellsRun c serial → (all : List (List ℕ))
         → AllZip (ArePlaced births names) ran all → all ≡ map ran_of m.books
     places_at c run m at tells all so =
-        let tell = at.stands.shows.books in let listed = listed_at core c run m at in
+        let tell = at.stands.standing.shows.books in let listed = listed_at core c run m at in
         places_are c.quota (list_of c) (periods_of core.scheduler.table) m.books tell (names_differ c.quota (list_of c) (whole_is_depth_first c)) all
         (subst (λ rs. AllZip (ArePlaced (map born_in tell.sorted) (map name_shown (list_of c))) rs all) (ran_so tell.sorted listed)
         (subst (λ ns. AllZip (ArePlaced (map born_in tell.sorted) ns) ran all) (named (State.items (whole c)) tells)

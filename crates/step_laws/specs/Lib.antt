@@ -2,4 +2,6 @@ pub mod Steps
 pub mod Wanted
 pub mod Results
 pub mod Orders
+pub mod Moves
+pub mod Standing
 pub mod Readiness

@@ -6,6 +6,7 @@ ghost use Rattle.step_laws.specs.Steps.{RunsGoOn, MovesGoOn, ActionsAreAdded, Ot
 ghost use Rattle.step_laws.specs.Wanted.{ComingIsWanted, WaitIsWanted, GiveUpIsForced};
 ghost use Rattle.step_laws.specs.Results.{RootEndsOnce, RootLeavesItsResult, OthersEndNothing};
 ghost use Rattle.step_laws.specs.Orders.{OrderIsOfNoAccount};
+ghost use Rattle.step_laws.specs.Standing.{RootStands, SameStands, HandingsStand, ActionsStand, GiveUpsStand, WaitsStand, TheftsStand};
 ghost use Rattle.step_laws.specs.Readiness.{ReadyIsShown, FirstIsShown, SomeReadyIsShown, IdsAreShown, OwnersAreShown};
 
 /// A run goes on with each event that may come at the moment that it reaches.
@@ -61,6 +62,41 @@ pub fn others_end_nothing()
 /// The order of the waiting threads and of the results is of no account.
 pub fn order_is_of_no_account()
     ensures { (k : ℕ) (l : List Action) → OrderIsOfNoAccount k l }
+{}
+
+/// A root that has done nothing stands at the opening moment.
+pub fn root_stands()
+    ensures { InEachSetting RootStands }
+{}
+
+/// The same in another order stands at the same moment.
+pub fn same_stands()
+    ensures { (s : Setting) → SameStands s }
+{}
+
+/// So does a scheduler in which a kept result was handed to its parent.
+pub fn handings_stand()
+    ensures { InEachSetting HandingsStand }
+{}
+
+/// With an action of a worker's top thread a scheduler stands at the moment after it.
+pub fn actions_stand()
+    ensures { InEachSetting ActionsStand }
+{}
+
+/// So it does with a deque that is given up.
+pub fn give_ups_stand()
+    ensures { InEachSetting GiveUpsStand }
+{}
+
+/// With a thread that begins to wait.
+pub fn waits_stand()
+    ensures { InEachSetting WaitsStand }
+{}
+
+/// And with a theft, which begins a period.
+pub fn thefts_stand()
+    ensures { InEachSetting TheftsStand }
 {}
 
 /// A deque has a thread to steal where that of the moment has, whatever the items are.

@@ -24,5 +24,5 @@ never_empty t k limit s sound place deque there none = ∥∥₁_elim sound.of_p
     let same = p.1.quota in
     let lawful = lawful_at p.0 (terms_of s limit) (omega (arith, covers, same)) a.0 a.1 (a.2).reaches in
     each_among (λ (x : DequeOfMoment). x.threads ≢ []) (shown_as deque) (a.1).deques (lawful.order).none_empty
-    (among_of_place (shown_as deque) (a.1).deques place (shown_at s.list.deques a.1 (a.2).shows.deques place deque there))
+    (among_of_place (shown_as deque) (a.1).deques place (shown_at s.list.deques a.1 (a.2).standing.shows.deques place deque there))
     (ap (λ ts. map parts.label_of (map thread_shown ts)) (nil_from_length (Deque.items deque) none))))

@@ -35,8 +35,9 @@ use Rattle.core_parts.specs.declared.event.Event.TheVariants.{Stole, Acted, Susp
 use Rattle.core_parts.specs.declared.stop.Stop.{Stop}
 use Rattle.core_parts.specs.declared.stop.Stop.TheVariants.{ArenaFull, DequesFull, StepsSpent, OutOfMemory}
 use Rattle.core_parts.specs.declared.scheduler.Scheduler.{Scheduler}
-use Rattle.core_parts.specs.Held.{Held, held, parts_in, AreSame, OwnersSit, IsInOrder, AreAtPoints, WaitsUnder, IsUnderItsId}
-use Rattle.core_parts.specs.Moments.{StandsAt, IsSound, CanGoOn, SameTerms, terms_of}
+use Rattle.step_laws.specs.Orders.{AreSame}
+use Rattle.core_parts.specs.Held.{Held, held, parts_in, OwnersSit, IsInOrder, AreAtPoints, WaitsUnder, IsUnderItsId}
+use Rattle.core_parts.specs.Moments.{HasRun, IsSound, CanGoOn, SameTerms, terms_of}
 use Rattle.deque_machine.specs.Terms.{machine_of}
 use Rattle.core_parts.specs.Outcomes.{GoesOn, Stops, StopsBy}
 use Rattle.core_parts.proofs.Going.{lawful_at}
@@ -155,16 +156,16 @@ module _ (workers worker : ℕ) (before : Scheduler) (many : workers ≡ length 
       quota : record_words ≤ c.quota
       quota = subst (λ n. record_words ≤ n) (sym of.quota) sound.quota
 
-      pub robbed_goes_on : (run : List Pair) (m : Moment) → StandsAt c (terms_of before limit) (held before) run m
+      pub robbed_goes_on : (run : List Pair) (m : Moment) → HasRun c (terms_of before limit) (held before) run m
           → ∥ GoesOn c (terms_of before limit) (held after) worker word run m (Stole id number) ∥₁
       robbed_goes_on run m at = ∥∥₁_map sound.in_order (λ o.
           let none = unowned before.table worker idle before.list.deques o.owners in
           stole_goes_on c (terms_of before limit) quota (held before) (held after) run m at worker word place id (parts_in (held after))
           (robs.steals (length before.table.seats.items) (subst (λ n. worker < n) many within) none in_reach) itself is_idle
-          ((owners_are_shown thread_shown before.list.deques m worker at.shows.deques).1 none)
-          (first_is_shown (machine_of c (terms_of before limit)) thread_shown before.list.deques m word place at.shows.deques first_by_seats)
-          (id_of_thief before.list.deques m at.shows.deques worker before.list.most after.list.deques place id robs.theft)
-          (has_room before.list.deques m at.shows.deques worker before.list.most after.list.deques place id robs.theft)
+          ((owners_are_shown thread_shown before.list.deques m worker at.standing.shows.deques).1 none)
+          (first_is_shown (machine_of c (terms_of before limit)) thread_shown before.list.deques m word place at.standing.shows.deques first_by_seats)
+          (id_of_thief before.list.deques m at.standing.shows.deques worker before.list.most after.list.deques place id robs.theft)
+          (has_room before.list.deques m at.standing.shows.deques worker before.list.most after.list.deques place id robs.theft)
           number robs.numbered)
 
     pub robbed_sound : (t : Table) (k limit : ℕ) → IsSound t k (terms_of before limit) (held before) → IsSound t k (terms_of after limit) (held after)
@@ -183,13 +184,13 @@ module _ (workers worker : ℕ) (before : Scheduler) (many : workers ≡ length 
     listed_quota : record_words ≤ c.quota
     listed_quota = subst (λ n. record_words ≤ n) (sym of.quota) sound.quota
 
-    module _ (after : Held) (run : List Pair) (m : Moment) (at : StandsAt c (terms_of before limit) (held before) run m)
-        (still : StandsAt c (terms_of before limit) after run m) where
+    module _ (after : Held) (run : List Pair) (m : Moment) (at : HasRun c (terms_of before limit) (held before) run m)
+        (still : HasRun c (terms_of before limit) after run m) where
       abbrev s : machine.Setting
       s = machine_of c (terms_of before limit)
 
       first_of_moment : IsFirst (reach s m) word (IsReady m) place
-      first_of_moment = first_is_shown s thread_shown before.list.deques m word place at.shows.deques first_by_seats
+      first_of_moment = first_is_shown s thread_shown before.list.deques m word place at.standing.shows.deques first_by_seats
 
       stopped_at : owned_by worker m.deques ≡ 0 → length before.list.deques ≡ before.list.most → StaysAt before.list.deques place
           → Stops c (terms_of before limit) after worker word run m (play.deques_full before.list.most)
@@ -198,14 +199,14 @@ module _ (workers worker : ℕ) (before : Scheduler) (many : workers ≡ length 
           let w = mover_wants s (whole_is_depth_first c) m (lawful_at c (terms_of before limit) listed_quota run m at.reaches) worker word (inr (place, near, first_of_moment.passes)) in
           let theft = theft_of s m worker word w.0 none w.1 in
           let same : place ≡ theft.0 = one_first (reach s m) word (IsReady m) place theft.0 first_of_moment theft.3 in
-          let many = same_length before.list.deques m at.shows.deques in
+          let many = same_length before.list.deques m at.standing.shows.deques in
           record {
             event = w.0;
             wants = w.1;
             meets = subst (λ e. Meets s (terms_of before limit).limits m e (play.deques_full before.list.most)) (sym theft.2)
                 (no_deque theft.0 theft.1 (shown_as stays.0)
-                (ap (slice_get m.deques) (sym same) ∙ shown_at before.list.deques m at.shows.deques place stays.0 stays.1)
-                (shown_stays before.list.deques m at.shows.deques stays.0 stays.2) (omega (arith, full, many)));
+                (ap (slice_get m.deques) (sym same) ∙ shown_at before.list.deques m at.standing.shows.deques place stays.0 stays.1)
+                (shown_stays before.list.deques m at.standing.shows.deques stays.0 stays.2) (omega (arith, full, many)));
             stands = still;
           }
 
@@ -213,25 +214,25 @@ module _ (workers worker : ℕ) (before : Scheduler) (many : workers ≡ length 
       stops (ArenaFull live asked) none = absurd none
       stops (DequesFull deques) full = subst (λ n. ∥ Stops c (terms_of before limit) after worker word run m (play.deques_full n) ∥₁) (sym full.0)
           (∥∥₁_map sound.in_order (λ o. stopped_at
-          ((owners_are_shown thread_shown before.list.deques m worker at.shows.deques).1 (unowned before.table worker idle before.list.deques o.owners)) full.1 full.2))
+          ((owners_are_shown thread_shown before.list.deques m worker at.standing.shows.deques).1 (unowned before.table worker idle before.list.deques o.owners)) full.1 full.2))
       stops (StepsSpent limit) none = absurd none
       stops OutOfMemory room = (
         still,
         λ event deques wants meets. ∥∥₁_elim sound.in_order (λ x y. absurd x) (λ o.
-            (let none = (owners_are_shown thread_shown before.list.deques m worker at.shows.deques).1 (unowned before.table worker idle before.list.deques o.owners) in
+            (let none = (owners_are_shown thread_shown before.list.deques m worker at.standing.shows.deques).1 (unowned before.table worker idle before.list.deques o.owners) in
             let theft = theft_of s m worker word event none wants in
             let same : place ≡ theft.0 = one_first (reach s m) word (IsReady m) place theft.0 first_of_moment theft.3 in
             let full = full_at s (terms_of before limit).limits m event deques meets theft.0 theft.1 theft.2 in
-            let many = same_length before.list.deques m at.shows.deques in
-            let few = room (stays_in_list before.list.deques m at.shows.deques place first_by_seats.passes full.0
+            let many = same_length before.list.deques m at.standing.shows.deques in
+            let few = room (stays_in_list before.list.deques m at.standing.shows.deques place first_by_seats.passes full.0
             (ap (slice_get m.deques) same ∙ full.1) full.2) in
             let most = full.3 in omega (arith, most, few, many))),
       )
 
     pub stopped : (after : Scheduler) → OnlyMemory before after → (stop : Stop) → StopsTheft before.list place stop
-        → (run : List Pair) (m : Moment) → StandsAt c (terms_of before limit) (held before) run m → StopsBy c (terms_of before limit) (held after) worker word run m stop
+        → (run : List Pair) (m : Moment) → HasRun c (terms_of before limit) (held before) run m → StopsBy c (terms_of before limit) (held after) worker word run m stop
     stopped after memory stop why run m at =
-        stops (held after) run m at (subst (λ h. StandsAt c (terms_of before limit) h run m) (sym memory.same) at) stop why
+        stops (held after) run m at (subst (λ h. HasRun c (terms_of before limit) h run m) (sym memory.same) at) stop why
 
   -- what a theft comes to, whatever it is
   module _ (after : Scheduler) where
@@ -249,7 +250,7 @@ module _ (workers worker : ℕ) (before : Scheduler) (many : workers ≡ length 
     points_behind (GaveUp id) none = absurd none
 
     pub steps_behind : (event : Event) → Thieves worker place before after (Ok event) → (t : Table) (k limit : ℕ) → IsSound t k (terms_of before limit) (held before)
-        → (c : Setting) → IsSettingOf t k c → (run : List Pair) (m : Moment) → StandsAt c (terms_of before limit) (held before) run m
+        → (c : Setting) → IsSettingOf t k c → (run : List Pair) (m : Moment) → HasRun c (terms_of before limit) (held before) run m
         → ∥ GoesOn c (terms_of before limit) (held after) worker word run m event ∥₁
     steps_behind (Stole id number) robs = robbed_goes_on after id number robs
     steps_behind (Acted id) none = absurd none

@@ -28,7 +28,7 @@ use Rattle.victim_choice.specs.Choices.{SomeReady, CanMove}
 use Rattle.step_laws.proofs.Ready.{some_ready_is_shown, owners_are_shown}
 use Rattle.core_parts.specs.declared.scheduler.Scheduler.{Scheduler}
 use Rattle.core_parts.specs.Held.{held}
-use Rattle.core_parts.specs.Moments.{StandsAt, IsSound, terms_of}
+use Rattle.core_parts.specs.Moments.{HasRun, IsSound, terms_of}
 use Rattle.deque_machine.specs.Terms.{machine_of}
 use Rattle.core_parts.proofs.Going.{lawful_at}
 use Rattle.thief_steps.proofs.Stepping.{unowned}
@@ -59,28 +59,28 @@ period_is_open k l periods books worker p owner tell there =
     book_is_open k l periods tell.sorted books worker p owner tell.are_books (among_of_place p tell.sorted placed.0 placed.2)
 
 module _ (t : Table) (k limit : ℕ) (s : Scheduler) (sound : IsSound t k (terms_of s limit) (held s)) (c : Setting) (of : IsSettingOf t k c) (run : List Pair) (m : Moment)
-    (at : StandsAt c (terms_of s limit) (held s) run m) where
+    (at : HasRun c (terms_of s limit) (held s) run m) where
   lawful : IsLawful (machine_of c (terms_of s limit)) m
   lawful = lawful_at c (terms_of s limit) (subst (λ n. record_words ≤ n) (sym of.quota) sound.quota) run m at.reaches
 
   -- a worker with a seat owns a deque of the moment
   pub seated_owns : (worker : ℕ) (seat : Seat) → seat_at s.table worker ≡ Some seat → 0 < owned_by worker m.deques
   seated_owns worker seat is =
-      let open_one = period_is_open c.quota (list_of c) (periods_of s.table) m.books worker (open_shown worker seat.period) refl at.shows.books (seat_has_period s.table worker seat is) in
+      let open_one = period_is_open c.quota (list_of c) (periods_of s.table) m.books worker (open_shown worker seat.period) refl at.standing.shows.books (seat_has_period s.table worker seat is) in
       let each = lawful.periods.one_each worker in
       omega (arith, open_one, each)
 
   -- and an idle one owns none
   pub idle_owns_none : (worker : ℕ) → seat_at s.table worker ≡ None → 0 < owned_by worker m.deques → ⊥
   idle_owns_none worker idle some = ∥∥₁_elim sound.in_order (λ x y. absurd x) (λ o.
-      let none = (owners_are_shown thread_shown s.list.deques m worker at.shows.deques).1 (unowned s.table worker idle s.list.deques o.owners) in
+      let none = (owners_are_shown thread_shown s.list.deques m worker at.standing.shows.deques).1 (unowned s.table worker idle s.list.deques o.owners) in
       omega (arith, some, none))
 
   module _ (workers : ℕ) (many : workers ≡ length s.table.seats.items) (some_ready : Bool) (ready : IsTrue some_ready ↔ SomeReady workers s.list.deques) where
     up : (worker : ℕ) → CanMove s.table some_ready worker → play.CanMove (machine_of c (terms_of s limit)) m worker
     up worker can = elim can [
       | inl seated ↦ inl (seated_owns worker seated.0 seated.1)
-      | inr is ↦ inr ((some_ready_is_shown (machine_of c (terms_of s limit)) thread_shown s.list.deques m at.shows.deques).0
+      | inr is ↦ inr ((some_ready_is_shown (machine_of c (terms_of s limit)) thread_shown s.list.deques m at.standing.shows.deques).0
           (subst (λ n. SomeReady n s.list.deques) many (ready.0 is)))
     ]
 
@@ -88,7 +88,7 @@ module _ (t : Table) (k limit : ℕ) (s : Scheduler) (sound : IsSound t k (terms
     down worker can = elim can [
       | inl owns ↦ by_seat (seat_at s.table worker) refl owns
       | inr there ↦ inr (ready.1 (subst (λ n. SomeReady n s.list.deques) (sym many)
-          ((some_ready_is_shown (machine_of c (terms_of s limit)) thread_shown s.list.deques m at.shows.deques).1 there)))
+          ((some_ready_is_shown (machine_of c (terms_of s limit)) thread_shown s.list.deques m at.standing.shows.deques).1 there)))
     ]
       where
         by_seat : (o : Option Seat) → seat_at s.table worker ≡ o → 0 < owned_by worker m.deques → CanMove s.table some_ready worker

@@ -18,7 +18,7 @@ use Rattle.core_parts.specs.declared.stop.Stop.{Stop}
 use Rattle.core_parts.specs.declared.stop.Stop.TheVariants.{ArenaFull, DequesFull, StepsSpent, OutOfMemory}
 use Rattle.core_parts.specs.declared.scheduler.Scheduler.{Scheduler}
 use Rattle.core_parts.specs.Held.{Held, held, parts_in}
-use Rattle.core_parts.specs.Moments.{StandsAt}
+use Rattle.core_parts.specs.Moments.{HasRun}
 use Rattle.deque_machine.specs.Terms.{Terms}
 use Rattle.core_parts.specs.Outcomes.{StepsTo}
 
@@ -85,6 +85,6 @@ Thieves worker place before after (Err stop) = OnlyMemory before after × StopsT
 -- what the step of an idle worker comes to, at each moment of a run at which it may begin: where there is nothing to steal, all stands
 -- where it stood
 abbrev pub StepsBy : Setting → Terms → Held → (worker word : ℕ) → List Pair → Moment → Result (Option Event) Stop → Type 0
-StepsBy c terms after worker word run m (Ok None) = StandsAt c terms after run m
+StepsBy c terms after worker word run m (Ok None) = HasRun c terms after run m
 StepsBy c terms after worker word run m (Ok (Some event)) = StepsTo c terms after worker word run m (Ok event)
 StepsBy c terms after worker word run m (Err stop) = StepsTo c terms after worker word run m (Err stop)

@@ -10,7 +10,7 @@ ghost use Rattle.victim_choice.specs.Choices.{SomeReady, IsReadyAt};
 ghost use Rattle.core_parts.specs.declared.stop.Stop.{Stop as AnyStop};
 ghost use Rattle.core_parts.specs.declared.stop.Stop.TheVariants as stops;
 ghost use Rattle.core_parts.specs.Held.{held};
-ghost use Rattle.core_parts.specs.Moments.{IsSound, CanGoOn, SameTerms, StandsAt, terms_of};
+ghost use Rattle.core_parts.specs.Moments.{IsSound, CanGoOn, SameTerms, HasRun, terms_of};
 ghost use Rattle.thief_steps.specs.Thefts.{Thieves, StepsBy};
 
 use core_parts::{Event, Scheduler, Stop};
@@ -167,7 +167,7 @@ pub fn step_of_thief(
     ensures points { (t : Table) (k : ℕ) → CanGoOn t k (held scheduler.old) → CanGoOn t k (held scheduler.new) }
     ensures steps { (t : Table) (k limit : ℕ) → IsSound t k (terms_of scheduler.old limit) (held scheduler.old)
         → (c : Setting) → IsSettingOf t k c
-        → (run : AnyList Pair) (m : Moment) → StandsAt c (terms_of scheduler.old limit) (held scheduler.old) run m
+        → (run : AnyList Pair) (m : Moment) → HasRun c (terms_of scheduler.old limit) (held scheduler.old) run m
         → StepsBy c (terms_of scheduler.old limit) (held scheduler.new) worker word run m result }
     ensures terms { SameTerms scheduler.old scheduler.new }
 {

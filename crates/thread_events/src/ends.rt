@@ -38,6 +38,7 @@ pub fn end_above(
     ensures acts { EndsAboveBy worker deque top.old list.now table.old table.new result }
     ensures seats { KeepsSeats table.old table.new }
     ensures id { result.id ≡ top.old.id }
+    ensures func { result.func ≡ top.old.func }
     ensures label { ended_label result ≡ label_of top.old }
     ensures pool { pool.new ≡ with_given pool.old (words_at_end (label_of top.old)) }
     ensures result { (t : Table) (k : ℕ) → IsAtPoint t k top.old → IsResult t k result }

@@ -1,29 +1,32 @@
-use Rattle.std.proofs.Common.{ap, subst, ◌∙◌, ◌≡◌}
-use Rattle.std.specs.Prelude.{not, pos, Some, [], ◌∷◌, IsTrue, ◌↔◌}
-use Rattle.std.specs.List.Sorted.{IsPermutation}
-use Rattle.space_ledger.specs.MovesList.{moves_list}
+use Rattle.std.proofs.Common.{List, [], length, ap, subst, ◌∙◌, ◌≡◌, ◌<◌, arith}
+use Rattle.std.proofs.lemmas.List.{nil_from_length}
+use Rattle.std.specs.Prelude.{not, pos, IsTrue, ◌↔◌}
 use Rattle.thread_points.specs.Points.{words_at_end}
 use Rattle.thread_frames.specs.Views.{label_of}
 use Rattle.thread_frames.specs.declared.next.Next.TheVariants.{End}
 use Rattle.thread_frames.specs.declared.thread.Thread.{Thread}
 use Rattle.thread_events.specs.Acts.{Always}
+use Rattle.deque_events.specs.Shown.{Stands}
+use Rattle.deque_events.proofs.Putting.{live, at_rank, here}
 use Rattle.core_parts.specs.declared.scheduler.Scheduler.{Scheduler}
+use Rattle.owner_steps.specs.Ends.{EndsBy}
 use Rattle.owner_steps.proofs.Acting.{performs_of, given_change}
-use Rattle.owner_steps.proofs.Ending.{acted_moved, with_result, forked_is}
+use Rattle.owner_steps.proofs.Ending.{forked_is}
 use Rattle.owner_steps.proofs.ends.end.Goals as goal
 
-pub returns : goal.returns
-returns c =
-    let before : Scheduler = c.args.scheduler.now in
-    let between : Scheduler = c.leave-ended.new.scheduler in
-    let after : Scheduler = record between { results = c.put.new.self; used_place = Some c.leave-ended.new.top } in
-    let left = c.leave-ended.ensures in
-    performs_of End Always c.args.worker c.args.deque c.args.top before after
-    (acted_moved End Always c.args.worker c.args.deque c.args.top before (with_result between c.args.top.id c.leave-ended.result) c.put.new.self.entries (moves_list between.moves) between.done
-    (subst (λ i. IsPermutation ((i, c.leave-ended.result) ∷ between.results.entries) c.put.new.self.entries) (c.id-id.ensures ∙ ap (λ (x : Thread). x.id) c.get.ensures) c.put.ensures.entries) left.acted)
-    (words_at_end (label_of c.args.top)) (λ w told. told)
-    (ap (λ r. pos r.live) left.pool ∙ given_change before.pool.live (words_at_end (label_of c.args.top)) c.requires.may.0)
-    (not c.is_empty-is_forked.result)
-    (forked_is c.is_empty-is_forked.result (label_of c.args.top) (subst (λ l. IsTrue c.is_empty-is_forked.result ↔ (l ≡ [])) (c.label.ensures ∙ ap label_of c.get-2.ensures) c.is_empty-is_forked.ensures))
-    left.same_moves left.same_done
-    (ap (λ t. t.workers) (left.terms 0)) (ap (λ r. r.capacity) left.pool) (ap (λ t. t.limits.deques) (left.terms 0))
+pub lane-requires : goal.lane-requires
+lane-requires c = live c.requires.can.stands.1
+
+pub end_above-requires-clause-above : goal.end_above-requires-clause-above
+end_above-requires-clause-above c items stands =
+    let some = c.if-len-gt0.true in let many = c.len.ensures in let same = ap length (c.lane.ensures.items _ (here stands) (at_rank stands)) in omega (arith, some, many, same)
+
+pub end_alone-requires-clause-alone : goal.end_alone-requires-clause-alone
+end_alone-requires-clause-alone c items stands =
+    let few = c.if-len-gt0.false in let many = c.len.ensures in let same = ap length (c.lane.ensures.items _ (here stands) (at_rank stands)) in
+    nil_from_length items (omega (arith, few, many, same))
+
+-- the End was done, one way or the other
+module _ where
+  pub ended_performs : (worker : Rattle.std.specs.Prelude.ℕ) → Rattle.std.specs.Prelude.Unit {0}
+  ended_performs worker = tt

@@ -3,7 +3,7 @@ use Rattle.node_table.specs.Codes.{code_shown}
 use Rattle.dummy_tree.specs.QuotaWords.{quota_words}
 use Rattle.core_parts.specs.declared.scheduler.Scheduler.{Scheduler}
 use Rattle.core_parts.specs.Held.{held, held_under}
-use Rattle.core_parts.specs.Moments.{terms_of, IsSound, StandsAt}
+use Rattle.core_parts.specs.Moments.{terms_of, IsSound, HasRun}
 use Rattle.core_parts.specs.Outcomes.{StepsTo}
 use Rattle.core_parts.proofs.Still.{reordered_sound, reordered_stands, still_sound, still_stands}
 use Rattle.owner_steps.specs.Steps.{IsBeforeAction}
@@ -104,7 +104,7 @@ returns-in-Ok-advance-clause-steps c =
     c.in-Ok.deque c.in-Ok.top c.advance.new.top takes c.advance.ensures.still c.go_on.result (c.go_on.ensures (code_shown c.args.code.now) before takes.items takes.stands) in
     λ setting of run m word at.
     subst (λ x. StepsTo setting x (held c.go_on.new.scheduler) c.args.worker word run m c.go_on.result) (comes.terms c.args.limit)
-    (comes.steps setting of run m word (subst (λ x. StandsAt setting x (held c.args.scheduler.now) run m) (sym (comes.terms c.args.limit)) at))
+    (comes.steps setting of run m word (subst (λ x. HasRun setting x (held c.args.scheduler.now) run m) (sym (comes.terms c.args.limit)) at))
 
 pub returns-in-Err-clause-sound : goal.returns-in-Err-clause-sound
 returns-in-Err-clause-sound c =
@@ -124,7 +124,7 @@ returns-in-Err-clause-steps c setting of run m word at =
     let now : Scheduler = c.take_top.new.scheduler in
     let at_taken = taken_at (code_shown c.args.code.now) (quota_words c.args.k) c.args.limit c.args.scheduler.now now c.args.worker c.in-Ok.deque c.in-Ok.top takes setting run m at in
     let at_now = still_stands now takes.stands c.in-Ok.top c.advance.new.top c.advance.ensures.still setting (terms_of now c.args.limit) run m at_taken in (
-      subst (λ h. StandsAt setting (terms_of c.args.scheduler.now c.args.limit) h run m) (sym (c.put_back.ensures.held takes.items takes.stands))
-          (subst (λ x. StandsAt setting x (held_under now takes.stands c.advance.new.top) run m) (takes.terms c.args.limit) at_now),
+      subst (λ h. HasRun setting (terms_of c.args.scheduler.now c.args.limit) h run m) (sym (c.put_back.ensures.held takes.items takes.stands))
+          (subst (λ x. HasRun setting x (held_under now takes.stands c.advance.new.top) run m) (takes.terms c.args.limit) at_now),
       seated_has_left c.requires.sound.quota setting of (terms_of c.args.scheduler.now c.args.limit) (held c.args.scheduler.now) run m at c.args.worker word c.requires.owner,
     )

@@ -14,11 +14,13 @@ returns c =
       kept = sym c.take.ensures.value ∙ c.in-Some.is;
       results = c.in-Some.ensures.entries;
       room = c.take.ensures.keeps_room;
-      same = subst (λ (x : Thread). IsSame x c.deliver.new.self) seen c.deliver.ensures.same;
-      done = c.deliver.ensures.done ∙ ap done_of seen;
-      forks = c.deliver.ensures.forks ∙ ap forks_of seen;
-      children = c.deliver.ensures.children ∙ ap (λ (x : Thread). with_delivered c.in-Some.ended.id (children_of x)) seen;
-      next = c.deliver.ensures.next ∙ ap next_of seen;
-      words = c.deliver.ensures.words ∙ ap (λ (x : Thread). thread_words x + ended_words c.in-Some.ended) seen;
-      point = λ t k at is. c.deliver.ensures.point t k (subst (λ (x : Thread). IsAtPoint t k x) (sym seen) at) is;
+      given = record {
+        same = subst (λ (x : Thread). IsSame x c.deliver.new.self) seen c.deliver.ensures.same;
+        done = c.deliver.ensures.done ∙ ap done_of seen;
+        forks = c.deliver.ensures.forks ∙ ap forks_of seen;
+        children = c.deliver.ensures.children ∙ ap (λ (x : Thread). with_delivered c.in-Some.ended.id (children_of x)) seen;
+        next = c.deliver.ensures.next ∙ ap next_of seen;
+        words = c.deliver.ensures.words ∙ ap (λ (x : Thread). thread_words x + ended_words c.in-Some.ended) seen;
+        point = λ t k at is. c.deliver.ensures.point t k (subst (λ (x : Thread). IsAtPoint t k x) (sym seen) at) is;
+      };
     }

@@ -1,5 +1,5 @@
 -- Which actions the moves are of.
-use Rattle.std.specs.Prelude.{◌≡◌, List, [], ◌∷◌}
+use Rattle.std.specs.Prelude.{◌≡◌, Bool, true, false, List, [], ◌∷◌}
 use Rattle.space_ledger.specs.declared.moved.Moved.{Moved}
 use Rattle.depth_first_list.specs.Actions.{Action, weight}
 use Rattle.period_books.specs.Periods.{Period}
@@ -17,3 +17,8 @@ AreMovesOf periods [] [] = Unit {0}
 AreMovesOf periods [] (action ∷ actions) = ⊥
 AreMovesOf periods (moved ∷ moves) [] = ⊥
 AreMovesOf periods (moved ∷ moves) (action ∷ actions) = IsMoveOf periods moved action × AreMovesOf periods moves actions
+
+-- a move is noted where the action is one
+abbrev pub noted_if : Bool → Moved → List Moved
+noted_if false moved = []
+noted_if true moved = moved ∷ []
