@@ -1,7 +1,7 @@
 -- How a run goes on by an action of a worker's top thread.
-use Rattle.std.proofs.Common.{◌≡◌, ℕ, ◌+◌, ◌≤◌, ◌<◌, List, [], ◌∷◌, ◌++◌, sym, ap, subst, ◌∙◌, arith}
+use Rattle.std.proofs.Common.{◌≡◌, ℕ, ◌+◌, ◌≤◌, ◌<◌, List, [], ◌∷◌, ◌++◌, length, refl, sym, ap, subst, ◌∙◌, arith}
 use Rattle.std.proofs.lemmas.Int.{ints}
-use Rattle.std.specs.Prelude.{pos, ◌+ℤ◌, ◌<ℤ◌}
+use Rattle.std.specs.Prelude.{ℤ, pos, ◌+ℤ◌, ◌<ℤ◌}
 use Rattle.dag_order.specs.declared.thread_id.ThreadId.{ThreadId}
 use Rattle.dag_order.specs.declared.action_id.ActionId.{ActionId}
 use Rattle.depth_first_list.specs.Actions.{Action, record_words, live_words, weight}
@@ -102,7 +102,7 @@ moves_sum periods (m ∷ ms) [] are = absurd are
 moves_sum periods (m ∷ ms) (a ∷ actions) are = let rest = moves_sum periods ms actions are.1 in let here = are.0.change in
     sums m.change (weight a) (total_change ms) (live_words actions) here rest
   where
-    sums : (a b x y : Rattle.std.specs.Prelude.ℤ) → a ≡ b → x ≡ y → a +ℤ x ≡ b +ℤ y
+    sums : (a b x y : ℤ) → a ≡ b → x ≡ y → a +ℤ x ≡ b +ℤ y
     sums a b x y p q = λ i. p i +ℤ q i
 
 pub sum_is : (c : Setting) (terms : Terms) → record_words ≤ c.quota → (h : Held) (run : List Pair) (m : Moment) → HasRun c terms h run m → total_change h.moves ≡ pos h.live

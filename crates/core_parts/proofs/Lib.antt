@@ -8,4 +8,5 @@ pub mod Still
 pub mod AtTop
 pub mod Sitting
 pub mod Joining
+pub mod AtEnd
 pub mod Bounds

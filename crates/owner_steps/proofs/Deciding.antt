@@ -1,6 +1,7 @@
 -- What the decision of a worker is for its step, by cases on the next action.
-use Rattle.std.proofs.Common.{◌≡◌, ℕ, ◌+◌, ◌≤◌, ◌<◌, List, inl, inr, refl, sym, ap, subst, ◌∙◌, arith, true≢false}
+use Rattle.std.proofs.Common.{◌≡◌, ℕ, ◌+◌, ◌≤◌, ◌<◌, List, [], ◌∷◌, inl, inr, refl, sym, ap, subst, ◌∙◌, arith, true≢false}
 use Rattle.std.specs.Prelude.{IsTrue, false, Some, None, Ok, cond}
+use Rattle.std.proofs.Math.Logic.{∥∥₁_elim}
 use Rattle.std.proofs.lemmas.Bool.{le-leb, lt-leb}
 use Rattle.dag_order.specs.LabelOrder.{fork_of}
 use Rattle.dag_order.specs.declared.thread_id.ThreadId.{ThreadId}
@@ -33,14 +34,16 @@ use Rattle.core_parts.specs.declared.event.Event.{Event}
 use Rattle.core_parts.specs.Held.{held_under}
 use Rattle.core_parts.specs.Moments.{terms_of, HasRun}
 use Rattle.deque_machine.specs.Terms.{machine_of}
+use Rattle.core_parts.proofs.AtEnd.{parent_awaits}
 use Rattle.core_parts.proofs.Bounds.{release_within, end_within}
+use Rattle.core_parts.proofs.Joining.{awaited_one}
 use Rattle.owner_steps.specs.Acts.{IsCharged}
 use Rattle.owner_steps.specs.Decisions.{Decides}
 use Rattle.owner_steps.specs.Memory.{MayAct, words_taken_by}
-use Rattle.owner_steps.specs.Results.{TakesResult, IsToCome}
+use Rattle.owner_steps.specs.Results.{TakesResult, IsToCome, FirstAwaits}
 use Rattle.owner_steps.specs.Steps.{IsBeforeAction, Comes}
 use Rattle.owner_steps.specs.declared.decisions.Decision.TheVariants as decisions
-use Rattle.owner_steps.proofs.Owning.{Known, used_within_quota, alloc_within, joins_within, no_join_by, no_result, words_out}
+use Rattle.owner_steps.proofs.Owning.{quota_is, Known, used_within_quota, alloc_within, joins_within, no_join_by, no_result, words_out}
 use Rattle.owner_steps.proofs.TakingIn.{joined_ended, delivered_is, can_come, before_later, now_there, taken_in_comes}
 
 -- the words that are asked are those that the action takes
@@ -66,6 +69,16 @@ alloc_counts k charged words period bounded used may = elim may.0 [
   | inl fits ↦ let all = may.1 ∙ ap (λ b. cond b words 0) (le-leb words k fits.0) in let within = fits.1 in omega (arith, all, within, bounded)
   | inr above ↦ let none = may.1 ∙ ap (λ b. cond b words 0) (lt-leb words k above) in omega (arith, none, used)
 ]
+
+-- the parent that stands directly below a thread waits for its result
+parent_waits : (t : Table) (k limit : ℕ) (s : Scheduler) (worker : ℕ) (id : DequeId) (top : Thread) → IsBeforeAction t k limit s worker id top End
+    → (items : List Thread) → Stands s.list worker id items → FirstAwaits top items
+parent_waits t k limit s worker id top b [] its = tt
+parent_waits t k limit s worker id top b (parent ∷ below) its = λ ended is label func.
+    let one = awaited_one (label_of parent) ended (children_of parent) in
+    let sound = b.sound (parent ∷ below) its in
+    ∥∥₁_elim sound.of_program one (λ p. ∥∥₁_elim (sound.somewhere p.0 p.1) one (λ a. ∥∥₁_elim (b.of_the_list p.0 p.1) one (λ i. ∥∥₁_elim sound.in_order one (λ o.
+    parent_awaits s parent below its top p.0 (terms_of s limit) (quota_is t k p.0 p.1 sound.quota) a.0 a.1 a.2 i o ended is label func))))
 
 module _ (t : Table) (k limit : ℕ) (s : Scheduler) {worker : ℕ} {id : DequeId} {items : List Thread} (stands : Stands s.list worker id items) (top : Thread) where
   -- a Fork, at whatever setting of the program
@@ -134,7 +147,7 @@ module _ (t : Table) (k limit : ℕ) (s : Scheduler) {worker : ℕ} {id : DequeI
       → period_at s.table worker ≡ Some period → AllocIsCharged used k period words)
       → (next ≡ Fork → (period : Period) → period_at s.table worker ≡ Some period → period.used + record_words ≤ k)
       → k ≤ 1048576 → s.pool.live + words_taken_by next ≤ s.pool.capacity
-      → ((child : ThreadId) → next ≡ Join child → IsTrue (is_there (newest (children_of top)))) → MayAct used s worker top next
+      → ((child : ThreadId) → next ≡ Join child → IsTrue (is_there (newest (children_of top)))) → MayAct used s worker id top next
   may_act Fork b used alloc fork bounded fits there = ((λ period is. let within = fork refl period is in omega (arith, within, bounded)), fits)
   may_act (Join child) b used alloc fork bounded fits there = (there child refl, joins_within t k limit s stands top (Join child) b)
   may_act (Alloc words) b used alloc fork bounded fits there =
@@ -144,7 +157,8 @@ module _ (t : Table) (k limit : ℕ) (s : Scheduler) {worker : ℕ} {id : DequeI
   may_act Dummy b used alloc fork bounded fits there = tt
   may_act (Fault fault) b used alloc fork bounded fits there = let out = words_out t k limit s stands top (Fault fault) b in omega (arith, out)
   may_act End b used alloc fork bounded fits there =
-      ((let few = end_within top b.can.placed in let out = words_out t k limit s stands top End b in omega (arith, few, out)), no_result t k limit s stands top End b)
+      ((let few = end_within top b.can.placed in let out = words_out t k limit s stands top End b in omega (arith, few, out)), no_result t k limit s stands top End b,
+      λ others its. parent_waits t k limit s worker id top b others its)
 
   -- the kept result of a child that is joined may come, where none was delivered
   pub may_come : (next : Next) (b : IsBeforeAction t k limit s worker id top next) (used : ℕ) → Decides s worker k top next (decisions.Act used)

@@ -1,6 +1,6 @@
 -- What the End of a top thread comes to.
-use Rattle.std.proofs.Common.{◌≡◌, ◌≢◌, ℕ, ◌<◌, List, [], ◌∷◌, ◌++◌, map, length, refl, sym, ap, subst, ◌∙◌, arith, true≢false}
-use Rattle.std.specs.Prelude.{Bool, true, false, not, nat_lt, IsTrue, ◌↔◌, None, Some}
+use Rattle.std.proofs.Common.{◌≡◌, ◌≢◌, ℕ, ◌<◌, ◌≤◌, List, [], ◌∷◌, ◌++◌, map, length, refl, sym, ap, subst, ◌∙◌, arith, true≢false}
+use Rattle.std.specs.Prelude.{Bool, true, false, not, nat_lt, IsTrue, ◌↔◌, None, Some, pos}
 use Rattle.std.proofs.lemmas.Bool.{lt-ltb}
 use Rattle.std.specs.List.Sorted.{IsPermutation}
 use Rattle.std.proofs.lemmas.List.{map-append}
@@ -28,6 +28,9 @@ use Rattle.thread_frames.specs.declared.next.Next.TheVariants as nexts
 use Rattle.thread_frames.specs.declared.thread.Thread.{Thread}
 use Rattle.thread_frames.specs.declared.ended.Ended.{Ended}
 use Rattle.thread_frames.specs.Points.{IsAtPoint, IsResult}
+use Rattle.thread_frames.specs.Children.{IsAwaited}
+use Rattle.thread_frames.specs.Views.{label_of, children_of, ended_label}
+use Rattle.thread_points.specs.Points.{words_at_end}
 use Rattle.thread_parts.specs.Shown.{thread_shown, result_shown}
 use Rattle.thread_parts.proofs.Threads.{deliveries_hand_over}
 use Rattle.deque_events.specs.Shown.{deque_shown, deque_with, parts_of, Stands, Becomes, parts_under}
@@ -39,10 +42,11 @@ use Rattle.step_laws.specs.Standing.{Settles, as_they_are, handed_on}
 use Rattle.core_parts.specs.Held.{Held, held, held_under, parts_in, waiting_shown, result_kept, IsReordered, OwnersSit, OwnsNone, IsInOrder, WaitsUnder, IsUnderItsId, AreAtPoints, AreResults}
 use Rattle.core_parts.proofs.Lists.{each_moved, none_found}
 use Rattle.core_parts.proofs.AtTop.{period_is_there, seat_of_deque}
-use Rattle.owner_steps.specs.Acts.{Acted}
-use Rattle.owner_steps.specs.Results.{ComesBelow}
+use Rattle.owner_steps.specs.Acts.{Acted, Performs}
+use Rattle.owner_steps.specs.Ends.{EndsBy}
+use Rattle.owner_steps.specs.Results.{ComesBelow, FirstAwaits}
 use Rattle.owner_steps.proofs.Places.{keep_sitting, leave_sitting, points_change, under_is}
-use Rattle.owner_steps.proofs.Acting.{as_it_is}
+use Rattle.owner_steps.proofs.Acting.{as_it_is, performs_of, given_change}
 
 -- what is held once the result is kept
 abbrev pub with_result : Scheduler → ThreadId → Ended → Held
@@ -84,7 +88,7 @@ module _ (worker : ℕ) (id : DequeId) (top : Thread) (before after : Scheduler)
       come = comes items stands
 
       -- the deques with the parent on top, as it was
-      its : Stands before.list worker id (come.parent ∷ come.below)
+      abbrev its : Stands before.list worker id (come.parent ∷ come.below)
       its = record { left = stands.left; right = stands.right; deques_are = stands.deques_are ∙ ap (λ xs. stands.left ++ deque_with id (Some worker) xs ∷ stands.right) come.items_are }
 
       abbrev kept_now : List parts.Result
@@ -113,7 +117,7 @@ module _ (worker : ℕ) (id : DequeId) (top : Thread) (before after : Scheduler)
         its_seat : (there : Seat) × (seat_at after.table worker ≡ Some there)
         its_seat = seat_of_deque (seat_at after.table worker) id sits
 
-        works_between : Works between worker
+        abbrev works_between : Works between worker
         works_between = record {
           left = map (deque_shown thread_shown) stands.left;
           id = id.0;
@@ -329,3 +333,18 @@ forked_is true [] is = refl
 forked_is false [] is = absurd (true≢false (sym (is.1 refl)))
 forked_is true (x ∷ xs) is = absurd (cons_is_not_nil x xs (is.0 refl))
 forked_is false (x ∷ xs) is = sym (lt-ltb 0 (length (x ∷ xs)) (omega arith))
+
+-- where there is a thread below, it is the parent, which waits
+pub below_awaits : (list : ListView Thread) (worker : ℕ) (id : DequeId) (top : Thread) (items : List Thread) (stands : Stands list worker id items) → 0 < length items → FirstAwaits top items
+    → (ended : Ended) → ended.id ≡ Thread.id top → ended_label ended ≡ label_of top → ended.func ≡ Thread.func top
+    → (parent : Thread) × (below : List Thread) × Stands list worker id (parent ∷ below) × IsAwaited (label_of parent) ended (children_of parent)
+below_awaits list worker id top [] stands some first ended is label func = absurd (omega (arith, some))
+below_awaits list worker id top (parent ∷ below) stands some first ended is label func = (parent, below, stands, first ended is label func)
+
+-- an End that was done is not counted or noted yet
+pub end_performs : (worker : ℕ) (id : DequeId) (top : Thread) (before after : Scheduler) → EndsBy worker id top before after → words_at_end (label_of top) ≤ before.pool.live
+    → (is_forked : Bool) → is_forked ≡ nat_lt 0 (length (label_of top)) → Performs nexts.End Always worker id top before after is_forked
+end_performs worker id top before after ends few is_forked is =
+    performs_of nexts.End Always worker id top before after ends.acted (words_at_end (label_of top)) (λ w told. told)
+    (ap (λ r. pos r.live) ends.pool ∙ given_change before.pool.live (words_at_end (label_of top)) few) is_forked is ends.same_moves ends.same_done
+    (ap (λ t. t.workers) (ends.terms 0)) (ap (λ r. r.capacity) ends.pool) (ap (λ t. t.limits.deques) (ends.terms 0))

@@ -43,7 +43,8 @@ use Rattle.core_parts.specs.Held.{Held, held, held_under, parts_in, OwnsNone, Is
 use Rattle.core_parts.specs.Moments.{terms_of, SameTerms, HasRun, IsSound, CanGoOn}
 use Rattle.deque_machine.specs.Terms.{Terms, machine_of}
 use Rattle.core_parts.specs.Outcomes.{GoesOn, GivesDequeUp, StepsTo}
-use Rattle.core_parts.proofs.Going.{made, acted_goes_on, lawful_at, sum_is}
+use Rattle.step_laws.proofs.Standing.{the_same}
+use Rattle.core_parts.proofs.Going.{acted_goes_on, lawful_at, sum_is}
 use Rattle.core_parts.proofs.Leaving.{gave_up, gave_up_goes_on}
 use Rattle.core_parts.proofs.Still.{reordered_stands}
 use Rattle.core_parts.proofs.Bounds.{join_within}
@@ -62,7 +63,6 @@ use Rattle.core_parts.specs.Held.{WaitsUnder}
 use Rattle.core_parts.proofs.Leaving.{waited_goes_on}
 use Rattle.core_parts.proofs.Joining.{newest_child, joins_it, told_newest, unkept, waits_alone, not_waited}
 use Rattle.owner_steps.specs.Leaves.{LeavesDeque, LeavesList}
-use Rattle.owner_steps.proofs.Acting.{the_same}
 use Rattle.std.proofs.lemmas.Bool.{le-leb, lt-leb}
 use Rattle.thread_events.specs.Acts.{AllocIsCharged}
 use Rattle.owner_steps.specs.Acts.{Acts, noted, change}
@@ -170,12 +170,6 @@ module _ (t : Table) (k limit : ℕ) (s : Scheduler) {worker : ℕ} {id : DequeI
 
 -- ---- an action
 
--- a move is noted as it is made
-made_noted : (c : Setting) (terms : Terms) (quota : record_words ≤ c.quota) (b : Bool) (name : ActionId) (x : ℤ)
-    → noted b name x ≡ made c terms quota b (record { by = name; change = x })
-made_noted c terms quota true name x = refl
-made_noted c terms quota false name x = refl
-
 -- an action takes all its words, where it takes any
 pub takes_all : (deed : Deed) (words : ℕ) → 0 < taken_by deed words → words ≡ taken_by deed words
 takes_all (forks child) words some = refl
@@ -232,11 +226,17 @@ module _ (t : Table) (k limit : ℕ) (s : Scheduler) {worker : ℕ} {id : DequeI
           ∙ ap (λ x. moves_words (deed_at (list_of c) i.place) x (words_at (list_of c) i.place)) (sym i.labelled) in
           acted_goes_on c now quota d.0 (held after) run m (reordered_stands c now before d.0 run m d.1 at) worker i.place d.2 d.3 d.4 name
           (subst (λ ps. IsNamed (list_of c) ps name i.place) (sym d.1.periods) (named s stands top c now quota run m at next i name acts.by acts.index))
-          (acts.done ∙ ap (λ n. n + 1) (sym d.1.done)) (acts.acted.begun ∙ sym d.1.begun)
-          (weighs ∙ ap (λ n. pos n +ℤ weight_at (list_of c) i.place) (sym d.1.live))
-          (record { by = name; change = change s.pool.live after.pool.live }) refl (weight_is (pos after.pool.live) (pos s.pool.live) (weight_at (list_of c) i.place) weighs)
-          (acts.moves (words_at (list_of c) i.place) i.words ∙ ap (λ ms. ms ++ noted (moves_words (deed_of top next) (label_of top) (words_at (list_of c) i.place)) name (change s.pool.live after.pool.live)) (sym d.1.moves)
-          ∙ ap (λ x. d.0.moves ++ x) (ap (λ x. noted x name (change s.pool.live after.pool.live)) moves ∙ made_noted c now quota (is_move (action_at (list_of c) i.place)) name (change s.pool.live after.pool.live)))
+          (acts.done ∙ ap (λ n. n + 1) (sym d.1.done))
+          (record {
+            live = weighs ∙ ap (λ n. pos n +ℤ weight_at (list_of c) i.place) (sym d.1.live);
+            begun = acts.acted.begun ∙ sym d.1.begun;
+            move = record { by = name; change = change s.pool.live after.pool.live };
+            by = refl;
+            change = weight_is (pos after.pool.live) (pos s.pool.live) (weight_at (list_of c) i.place) weighs;
+            moves = acts.moves (words_at (list_of c) i.place) i.words
+                ∙ ap (λ ms. ms ++ noted (moves_words (deed_of top next) (label_of top) (words_at (list_of c) i.place)) name (change s.pool.live after.pool.live)) (sym d.1.moves)
+                ∙ ap (λ x. d.0.moves ++ noted x name (change s.pool.live after.pool.live)) moves;
+          })
           word (λ some. let asks = all_asked c i some in let same = d.1.live in omega (arith, fits, asks, same)) (let same = d.1.done in omega (arith, few, same))
         where
           weight_is : (x y w : ℤ) → x ≡ y +ℤ w → x -ℤ y ≡ w

@@ -32,13 +32,22 @@ pub(crate) fn end(
 {
     let is_forked = !top.get().label().is_empty();
     let mut top = top;
-    if scheduler.list.lane(deque).len() > 0 {
-        end_above(scheduler, worker, deque, &mut top);
-    } else {
-        end_alone(scheduler, worker, deque, &mut top);
-    }
+    end_thread(scheduler, worker, deque, &mut top);
     scheduler.used_place = Some(top);
     is_forked
+}
+
+/// The thread ends, and leaves its place on top of the deque.
+fn end_thread(scheduler: &mut Scheduler, worker: usize, deque: DequeId, top: &mut Boxed<Thread>)
+    requires can { CanAct scheduler.old worker deque top.old nexts.End }
+    requires may { MayAct 0 scheduler.old worker deque top.old nexts.End }
+    ensures { EndsBy worker deque top.old scheduler.old scheduler.new }
+{
+    if scheduler.list.lane(deque).len() > 0 {
+        end_above(scheduler, worker, deque, top);
+    } else {
+        end_alone(scheduler, worker, deque, top);
+    }
 }
 
 /// The thread ends with its parent directly below, which has the result at once.

@@ -4,4 +4,5 @@ pub mod Ending
 pub mod Reordered
 pub mod Labels
 pub mod Standing
+pub mod Parents
 pub mod Ready

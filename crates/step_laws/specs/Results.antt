@@ -1,13 +1,16 @@
--- How the End of the root comes.
-use Rattle.std.specs.Prelude.{◌≡◌, ℕ, List, []}
+-- What is known at the End of a thread: who waits for its result, and how the root ends.
+use Rattle.std.specs.Prelude.{◌≡◌, ℕ, false, List, [], ◌∷◌}
 use Rattle.dag_order.specs.Births.{root}
+use Rattle.dag_order.specs.LabelOrder.{fork_of}
+use Rattle.depth_first_list.specs.Actions.{ends}
+use Rattle.lawful_books.specs.Lists.{Among, Each}
 use Rattle.deque_machine.specs.Moments.{Moment}
 use Rattle.deque_machine.specs.Machine.{Setting, Event, does, HasEnded, May}
 use Rattle.deque_machine.specs.LawfulOrder.{IsLawful}
 use Rattle.deque_machine.specs.Runs.{place_of}
-use Rattle.moment_parts.specs.Parts.{Parts, IsKept}
+use Rattle.moment_parts.specs.Parts.{Child, Thread, Parts, IsKept}
 use Rattle.moment_parts.specs.Standing.{Shows}
-use Rattle.moment_parts.specs.Events.{Does}
+use Rattle.moment_parts.specs.Events.{Does, Works, IsNextOf}
 
 -- an action comes only where the root has not ended, since behind its End all is done
 abbrev pub RootEndsOnce : Setting → Type 0
@@ -22,3 +25,17 @@ RootLeavesItsResult s = (m after : Moment) (parts next : Parts) (worker place : 
 abbrev pub OthersEndNothing : Setting → Type 0
 OthersEndNothing s = (m after : Moment) (worker : ℕ) (event : Event) (label : List ℕ) → May s m worker event after → place_of event ≡ []
     → HasEnded s after label → HasEnded s m label
+
+-- The open child is the one of this thread: it has its id, its place among the Forks and its function, and its result was not handed over.
+pub record IsChildOf (parent top : Thread) (child : Child) : Type 0 where
+  pub waits : child.delivered ≡ false
+  pub labelled : top.label ≡ fork_of parent.label child.ordinal
+  pub func : top.func ≡ child.func
+
+-- Where the top thread of a worker's deque is before its End, and another stands directly below, this has it as an open child, whose result
+-- was not handed over.
+abbrev pub ParentsAwait : Setting → Type 0
+ParentsAwait s = (m : Moment) (parts : Parts) (worker place : ℕ) (o : Works parts worker) (parent : Thread) (below : List Thread) → IsLawful s m
+    → Shows s.quota s.list parts m → IsNextOf s.list o.top place ends → o.under ≡ parent ∷ below
+    → ((child : Child) × Among child parent.children × (child.id ≡ o.top.id))
+    × Each (λ child. child.id ≡ o.top.id → IsChildOf parent o.top child) parent.children

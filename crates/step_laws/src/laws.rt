@@ -4,7 +4,7 @@ ghost use Rattle.deque_machine.specs.Machine.{Setting};
 ghost use Rattle.deque_machine.specs.Laws.{InEachSetting};
 ghost use Rattle.step_laws.specs.Steps.{RunsGoOn, MovesGoOn, ActionsAreAdded, OthersAddNone};
 ghost use Rattle.step_laws.specs.Wanted.{ComingIsWanted, WaitIsWanted, GiveUpIsForced};
-ghost use Rattle.step_laws.specs.Results.{RootEndsOnce, RootLeavesItsResult, OthersEndNothing};
+ghost use Rattle.step_laws.specs.Results.{RootEndsOnce, RootLeavesItsResult, OthersEndNothing, ParentsAwait};
 ghost use Rattle.step_laws.specs.Orders.{OrderIsOfNoAccount};
 ghost use Rattle.step_laws.specs.Standing.{RootStands, SameStands, HandingsStand, ActionsStand, GiveUpsStand, WaitsStand, TheftsStand};
 ghost use Rattle.step_laws.specs.Readiness.{ReadyIsShown, FirstIsShown, SomeReadyIsShown, IdsAreShown, OwnersAreShown};
@@ -52,6 +52,11 @@ pub fn root_ends_once()
 /// Behind the action with which the root ends its result is kept.
 pub fn root_leaves_its_result()
     ensures { InEachSetting RootLeavesItsResult }
+{}
+
+/// A parent that stands directly below a thread which is before its End waits for its result.
+pub fn parents_await()
+    ensures { InEachSetting ParentsAwait }
 {}
 
 /// With an event that is no action no thread ends.

@@ -1,52 +1,28 @@
 use Rattle.std.proofs.Common.{◌≡◌, List, [], ◌∷◌, length, refl, sym, ap, subst, ◌∙◌, arith}
-use Rattle.std.proofs.lemmas.List.{nil_from_length}
 use Rattle.core_parts.specs.declared.scheduler.Scheduler.{Scheduler}
 use Rattle.thread_frames.specs.declared.thread.Thread.{Thread}
 use Rattle.std.specs.List.Sorted.{IsPermutation}
 use Rattle.thread_map.specs.Kept.{kept_under}
 use Rattle.deque_events.specs.Shown.{Stands}
-use Rattle.deque_events.proofs.Putting.{live, at_rank, here}
 use Rattle.owner_steps.proofs.Acting.{same_terms}
-use Rattle.owner_steps.proofs.Ending.{above_acted, wakes_acted, leaves_acted}
+use Rattle.owner_steps.proofs.Ending.{wakes_acted, leaves_acted}
 use Rattle.owner_steps.proofs.ends.leave.Goals as goal
-
-pub lane-requires : goal.lane-requires
-lane-requires c = live c.requires.can.stands.1
-
-pub returns-then-len-gt0 : goal.returns-then-len-gt0
-returns-then-len-gt0 c =
-    let before : Scheduler = c.args.scheduler.now in
-    let after : Scheduler = record before { table = c.end_above.new.table; pool = c.end_above.new.pool } in
-    record {
-      acted = above_acted c.args.worker c.args.deque c.args.top.now before after c.end_above.result c.end_above.ensures.id refl c.end_above.ensures.result refl refl
-          (λ items stands. let some = c.if-len-gt0.true in let many = c.len.ensures in let same = ap length (c.lane.ensures.items _ (here stands) (at_rank stands)) in omega (arith, some, many, same))
-          c.end_above.ensures.acts c.end_above.ensures.seats;
-      same_results = refl;
-      same_moves = refl;
-      same_done = refl;
-      pool = c.end_above.ensures.pool;
-      terms = λ actions. same_terms before after actions c.end_above.ensures.seats.workers (ap (λ r. r.capacity) c.end_above.ensures.pool) refl;
-    }
 
 pub end_and_wake-requires-clause-stands : goal.end_and_wake-requires-clause-stands
 end_and_wake-requires-clause-stands c =
     let s = c.requires.can.stands in
-    let few = c.if-len-gt0.false in let many = c.len.ensures in let same = ap length (c.lane.ensures.items _ (here s.1) (at_rank s.1)) in
-    subst (Stands c.args.scheduler.now.list c.args.worker c.args.deque) (nil_from_length s.0 (omega (arith, few, many, same))) s.1
+    subst (Stands c.args.scheduler.now.list c.args.worker c.args.deque) (c.requires.alone s.0 s.1) s.1
 
 pub end_and_leave-requires-clause-stands : goal.end_and_leave-requires-clause-stands
 end_and_leave-requires-clause-stands c =
     let s = c.requires.can.stands in
-    let few = c.if-len-gt0.false in let many = c.len.ensures in let same = ap length (c.lane.ensures.items _ (here s.1) (at_rank s.1)) in
-    subst (Stands c.args.scheduler.now.list c.args.worker c.args.deque) (nil_from_length s.0 (omega (arith, few, many, same))) s.1
+    subst (Stands c.args.scheduler.now.list c.args.worker c.args.deque) (c.requires.alone s.0 s.1) s.1
 
 pub returns-in-Some : goal.returns-in-Some
 returns-in-Some c =
     let before : Scheduler = c.args.scheduler.now in
     let after : Scheduler = record before { list = c.end_and_wake.new.list; waiting = c.take.new.self; table = c.end_and_wake.new.table; pool = c.end_and_wake.new.pool } in
-    let alone : (items : List Thread) → Stands before.list c.args.worker c.args.deque items → items ≡ [] = λ items stands.
-    let few = c.if-len-gt0.false in let many = c.len.ensures in let same = ap length (c.lane.ensures.items _ (here stands) (at_rank stands)) in
-    nil_from_length items (omega (arith, few, many, same)) in
+    let alone : (items : List Thread) → Stands before.list c.args.worker c.args.deque items → items ≡ [] = c.requires.alone in
     let its : Stands before.list c.args.worker c.args.deque [] = subst (Stands before.list c.args.worker c.args.deque) (alone c.requires.can.stands.0 c.requires.can.stands.1) c.requires.can.stands.1 in
     record {
       acted = wakes_acted c.args.worker c.args.deque c.args.top.now before after c.end_and_wake.result c.end_and_wake.ensures.id refl c.end_and_wake.ensures.result alone
@@ -62,9 +38,7 @@ pub returns-in-None : goal.returns-in-None
 returns-in-None c =
     let before : Scheduler = c.args.scheduler.now in
     let after : Scheduler = record before { list = c.end_and_leave.new.list; waiting = c.take.new.self; table = c.end_and_leave.new.table; pool = c.end_and_leave.new.pool } in
-    let alone : (items : List Thread) → Stands before.list c.args.worker c.args.deque items → items ≡ [] = λ items stands.
-    let few = c.if-len-gt0.false in let many = c.len.ensures in let same = ap length (c.lane.ensures.items _ (here stands) (at_rank stands)) in
-    nil_from_length items (omega (arith, few, many, same)) in
+    let alone : (items : List Thread) → Stands before.list c.args.worker c.args.deque items → items ≡ [] = c.requires.alone in
     let its : Stands before.list c.args.worker c.args.deque [] = subst (Stands before.list c.args.worker c.args.deque) (alone c.requires.can.stands.0 c.requires.can.stands.1) c.requires.can.stands.1 in
     record {
       acted = leaves_acted c.args.worker c.args.deque c.args.top.now before after c.end_and_leave.result c.end_and_leave.ensures.id refl c.end_and_leave.ensures.result alone
