@@ -87,18 +87,18 @@ module _ (c : Setting) (k : ℕ) (top after : Thread) (name : ActionId) (by : na
         charged = ap (λ d. charge k d (words_at (list_of c) is.place)) (sym is.deed);
       }
 
-  pub dummy_did : (is : IsOfTheList c top nexts.Dummy) → thread_words after ≡ thread_words top
-      → DidDummy k (list_of c) (thread_shown top) (thread_shown after) name 0 is.place
-  dummy_did is words =
-      let both = actions_are_acted top after acted in
-      record {
-        next = next_actions_stand c top nexts.Dummy is;
-        acted = both.0;
-        children = both.1;
-        same_words = words;
-        named = name_is top name by index;
-        charged = ap (λ d. charge k d (words_at (list_of c) is.place)) (sym is.deed);
-      }
+pub dummy_did : (c : Setting) (k : ℕ) (top after : Thread) (name : ActionId) → name.by ≡ top.id → name.index ≡ done_of top → frames.HasActed top after
+    → (is : IsOfTheList c top nexts.Dummy) → thread_words after ≡ thread_words top → DidDummy k (list_of c) (thread_shown top) (thread_shown after) name 0 is.place
+dummy_did c k top after name by index acted is words =
+    let both = actions_are_acted top after acted in
+    record {
+      next = next_actions_stand c top nexts.Dummy is;
+      acted = both.0;
+      children = both.1;
+      same_words = words;
+      named = name_is top name by index;
+      charged = ap (λ d. charge k d (words_at (list_of c) is.place)) (sym is.deed);
+    }
 
 -- the newest open child, whose result is there
 pub record NewestIs (items : List OpenChild) : Type 0 where

@@ -1,5 +1,7 @@
 -- What a call does, for each program of which the thread does the next action.
-use Rattle.std.specs.Prelude.{◌≡◌, ◌≢◌, ℕ, ◌+◌, ◌≤◌, List, [], ◌∷◌, ◌++◌, None, Some}
+use Rattle.std.specs.Prelude.{◌≡◌, ◌≢◌, ℕ, ◌+◌, ◌≤◌, List, [], ◌∷◌, ◌++◌, length, None, Some}
+use Rattle.dag_order.specs.declared.action_id.ActionId.{ActionId}
+use Rattle.dag_order.specs.declared.thread_id.ThreadId.{ThreadId}
 use Rattle.deque_list.specs.declared.deque_id.DequeId.{DequeId}
 use Rattle.deque_list.specs.DequeLists.{ListView}
 use Rattle.depth_first_list.specs.Actions.{allocates, record_words}
@@ -8,6 +10,7 @@ use Rattle.depth_first_list.specs.Facts.{words_at}
 use Rattle.depth_first_run.specs.States.{Setting}
 use Rattle.lawful_books.specs.Books.{charge}
 use Rattle.period_books.specs.Periods.{Period}
+use Rattle.period_books.specs.Names.{id_of}
 use Rattle.period_table.specs.declared.table.PeriodTable.{PeriodTable}
 use Rattle.period_table.specs.Tables.{period_at}
 use Rattle.moment_parts.specs.Parts as parts
@@ -21,6 +24,8 @@ use Rattle.thread_frames.specs.declared.thread.Thread.{Thread}
 use Rattle.node_table.specs.Table.{Table}
 use Rattle.thread_frames.specs.Points.{IsAtPoint}
 use Rattle.thread_parts.specs.Shown.{thread_shown, result_shown}
+use Rattle.deque_events.specs.Events.{DidAlone, DidDummy, DidJoin, DidFork, DidEnd}
+use Rattle.thread_events.specs.declared.forked.Forked.{Forked}
 use Rattle.deque_events.specs.Shown.{deque_with, parts_of, Stands, Becomes, parts_under}
 
 -- The top thread of the worker's deque, which was taken out, does its next action. With the thread on top as it was, the parts become those
@@ -72,6 +77,35 @@ EndsAndLeavesBy worker id top before table after behind ended =
     → Each (λ x. (newest : parts.Child) (older : List parts.Child) → x.children ≡ newest ∷ older → top.parent ≡ Some x.id → newest.id ≢ top.id) waiting
     → Does k (list_of c) (parts_under thread_shown waiting results stands table (thread_shown top)) worker (IsOfTheList.place is)
     (parts_of thread_shown waiting (result_shown ended ∷ results) after behind)
+
+-- What a thread did under this name is, whatever the program, what the machine does with its next action: by itself, where its period may and
+-- so many words of the quota are used;
+abbrev pub ActedAlone : Next → (charge : ℕ) → (ℕ → Period → ℕ → Type 0) → Thread → Thread → ActionId → Type 0
+ActedAlone next charge Where top after name =
+    (c : Setting) (k : ℕ) (is : IsOfTheList c top next) (period : Period) → Where k period (words_at (list_of c) (IsOfTheList.place is))
+    → DidAlone k (list_of c) period (thread_shown top) (thread_shown after) name charge (IsOfTheList.place is)
+
+-- a Dummy;
+abbrev pub ActedDummy : Thread → Thread → ActionId → Type 0
+ActedDummy top after name = (c : Setting) (k : ℕ) (is : IsOfTheList c top nexts.Dummy)
+    → DidDummy k (list_of c) (thread_shown top) (thread_shown after) name 0 (IsOfTheList.place is)
+
+-- the Join of its newest open child;
+abbrev pub ActedJoin : Thread → Thread → ActionId → Type 0
+ActedJoin top after name = (c : Setting) (k : ℕ) (child : ThreadId) (is : IsOfTheList c top (nexts.Join child))
+    → DidJoin k (list_of c) (thread_shown top) (thread_shown after) name 0 (IsOfTheList.place is)
+
+-- a Fork, where the child has the id of the period's next birth;
+abbrev pub ActedFork : ThreadId → Thread → Thread → Forked → Type 0
+ActedFork id top after forked = (c : Setting) (k : ℕ) (is : IsOfTheList c top nexts.Fork) (period : Period)
+    → id ≡ id_of period (length period.born) → ForkFits k period (words_at (list_of c) (IsOfTheList.place is))
+    → DidFork k (list_of c) period (thread_shown top) (thread_shown after) (thread_shown (Forked.child forked)) (Forked.name forked) record_words
+    (IsOfTheList.place is) (Forked.ordinal forked)
+
+-- or its End, with this result
+abbrev pub ActedEnd : Thread → ActionId → Ended → Type 0
+ActedEnd top name ended = (c : Setting) (is : IsOfTheList c top nexts.End)
+    → DidEnd (list_of c) (thread_shown top) name (IsOfTheList.place is) (result_shown ended)
 
 -- whoever was at its point is so behind the action
 abbrev pub StaysAtPoint : Thread → Thread → Type 0

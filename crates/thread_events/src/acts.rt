@@ -8,31 +8,19 @@ ghost use Rattle.thread_frames.specs.Actions.{IsAlloc, IsRelease, IsDummy, IsFau
 ghost use Rattle.thread_frames.specs.Points.{IsPlaced};
 ghost use Rattle.thread_frames.specs.Views.{children_of, next_of, words_asked, done_of, held_by, join_words_of, newest};
 ghost use Rattle.thread_frames.specs.declared.next.Next.TheVariants as nexts;
-ghost use Rattle.thread_frames.specs.declared.thread.Thread.{Thread as AnyThread};
 ghost use Rattle.dag_order.specs.declared.fault.FaultAt.{FaultAt};
 ghost use Rattle.dag_order.specs.declared.thread_id.ThreadId.{ThreadId};
 ghost use Rattle.deque_events.specs.Shown.{Stands};
 ghost use Rattle.deque_events.specs.Seats.{KeepsSeats, LeavesSeat};
 ghost use Rattle.thread_events.specs.Acts.{ActsBy, AllocIsCharged, Always, GoesBack, GoesBackUnowned};
 
+use crate::done::{alloc_done, dummy_done, fault_done, join_done, release_done};
 use block_arena::Pool;
 use boxed::Boxed;
-use dag_order::ActionId;
 use deque_events::{put_back, put_back_and_give_up};
 use deque_list::{DequeId, List};
 use period_table::PeriodTable;
 use thread_frames::{ArenaFull, Thread};
-
-/// The name of the next action of a thread.
-pub fn name_of(thread: &Boxed<Thread>) -> ActionId
-    ensures by { result.by ≡ AnyThread.id thread.now }
-    ensures index { result.index ≡ done_of thread.now }
-{
-    ActionId {
-        by: thread.get().id(),
-        index: thread.get().done(),
-    }
-}
 
 /// Does an Alloc, which takes `charge` words of the quota.
 ///
@@ -66,10 +54,9 @@ pub fn alloc(
     ensures seats { OnOk result (KeepsSeats table.old table.new) }
     ensures pool { OnOk result (pool.new ≡ with_taken pool.old (words_asked (next_of top))) }
 {
-    let name = name_of(&top);
     let mut top = top;
-    match top.get_mut().do_alloc(pool) {
-        Ok(()) => {
+    match alloc_done(&mut top, pool) {
+        Ok(name) => {
             put_back(list, table, worker, deque, top, name, charge);
             Ok(())
         }
@@ -99,9 +86,8 @@ pub fn release(
     ensures seats { KeepsSeats table.old table.new }
     ensures pool { pool.new ≡ with_given pool.old (words_asked (next_of top)) }
 {
-    let name = name_of(&top);
     let mut top = top;
-    top.get_mut().do_release(pool);
+    let name = release_done(&mut top, pool);
     put_back(list, table, worker, deque, top, name, 0);
 }
 
@@ -124,9 +110,8 @@ pub fn dummy(
     ensures back { GoesBackUnowned worker deque top list.old list.new }
     ensures seats { LeavesSeat worker table.old table.new }
 {
-    let name = name_of(&top);
     let mut top = top;
-    top.get_mut().do_dummy();
+    let name = dummy_done(&mut top);
     put_back_and_give_up(list, table, worker, deque, top, name);
 }
 
@@ -152,9 +137,8 @@ pub fn fault(
     ensures seats { KeepsSeats table.old table.new }
     ensures pool { pool.new ≡ with_given pool.old (held_by top) }
 {
-    let name = name_of(&top);
     let mut top = top;
-    top.get_mut().do_fault(pool);
+    let name = fault_done(&mut top, pool);
     put_back(list, table, worker, deque, top, name, 0);
 }
 
@@ -182,9 +166,8 @@ pub fn join(
     ensures seats { KeepsSeats table.old table.new }
     ensures pool { pool.new ≡ with_given pool.old (join_words_of top) }
 {
-    let name = name_of(&top);
     let mut top = top;
-    let words = top.get_mut().do_join(pool);
+    let (name, words) = join_done(&mut top, pool);
     put_back(list, table, worker, deque, top, name, 0);
     words
 }

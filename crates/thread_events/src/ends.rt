@@ -13,7 +13,7 @@ ghost use Rattle.deque_events.specs.Shown.{Stands, Becomes, deque_with};
 ghost use Rattle.deque_events.specs.Seats.{KeepsSeats, LeavesSeat};
 ghost use Rattle.thread_events.specs.Acts.{EndsAboveBy, EndsAndWakesBy, EndsAndLeavesBy};
 
-use crate::acts::name_of;
+use crate::done::end_done;
 use block_arena::Pool;
 use boxed::Boxed;
 use deque_list::{DequeId, List};
@@ -43,8 +43,7 @@ pub fn end_above(
     ensures pool { pool.new ≡ with_given pool.old (words_at_end (label_of top.old)) }
     ensures result { (t : Table) (k : ℕ) → IsAtPoint t k top.old → IsResult t k result }
 {
-    let name = name_of(top);
-    let ended = top.get_mut().end(pool);
+    let (name, ended) = end_done(top, pool);
     deque_events::end_above(list, table, worker, deque, name);
     ended
 }
@@ -76,8 +75,7 @@ pub fn end_and_wake(
     ensures pool { pool.new ≡ with_given pool.old (words_at_end (label_of top.old)) }
     ensures result { (t : Table) (k : ℕ) → IsAtPoint t k top.old → IsResult t k result }
 {
-    let name = name_of(top);
-    let ended = top.get_mut().end(pool);
+    let (name, ended) = end_done(top, pool);
     deque_events::end_and_wake(list, table, worker, deque, parent, name);
     ended
 }
@@ -106,8 +104,7 @@ pub fn end_and_leave(
     ensures pool { pool.new ≡ with_given pool.old (words_at_end (label_of top.old)) }
     ensures result { (t : Table) (k : ℕ) → IsAtPoint t k top.old → IsResult t k result }
 {
-    let name = name_of(top);
-    let ended = top.get_mut().end(pool);
+    let (name, ended) = end_done(top, pool);
     deque_events::end_and_leave(list, table, worker, deque, name);
     ended
 }

@@ -13,7 +13,7 @@ ghost use Rattle.deque_events.specs.Shown.{Stands};
 ghost use Rattle.deque_events.specs.Seats.{KeepsSeats};
 ghost use Rattle.thread_events.specs.Acts.{ActsBy, ForkFits, GoesBackWithChild};
 
-use crate::acts::name_of;
+use crate::done::fork_done;
 use block_arena::Pool;
 use boxed::Boxed;
 use dag_order::ThreadId;
@@ -69,13 +69,20 @@ pub fn fork(
     ensures seats { OnOk result (KeepsSeats table.old table.new) }
     ensures pool { OnOk result (pool.new ≡ with_taken pool.old record_words) }
 {
-    let name = name_of(&top);
-    let ordinal = top.get().forks() + 1;
     let id = next_id(table, worker);
     let mut top = top;
-    match top.get_mut().do_fork(id, pool, place) {
-        Ok(child) => {
-            put_both_back(list, table, worker, deque, top, child, name, ordinal);
+    match fork_done(&mut top, id, pool, place) {
+        Ok(forked) => {
+            put_both_back(
+                list,
+                table,
+                worker,
+                deque,
+                top,
+                forked.child,
+                forked.name,
+                forked.ordinal,
+            );
             Ok(())
         }
         Err(full) => Err((top, full)),

@@ -1,22 +1,9 @@
-use Rattle.std.proofs.Common.{◌≡◌, ◌+◌, subst}
 use Rattle.thread_parts.specs.Shown.{thread_shown}
-use Rattle.thread_frames.specs.Actions.{HasActed}
-use Rattle.thread_frames.specs.Views.{next_of, words_asked, thread_words}
-use Rattle.thread_frames.specs.declared.thread.Thread.{Thread}
-use Rattle.thread_events.proofs.Acting.{release_did}
-use Rattle.thread_events.proofs.Seen.{placed_seen, stays_seen}
 use Rattle.thread_events.proofs.acts.release.Goals as goal
-
-pub do_release-requires-clause-placed : goal.do_release-requires-clause-placed
-do_release-requires-clause-placed c = placed_seen c.get_mut.result.now c.args.top c.get_mut.ensures.value c.requires.placed
 
 pub returns-clause-acts : goal.returns-clause-acts
 returns-clause-acts c setting k is items waiting results stands period period_is given =
-    let acted = subst (λ (x : Thread). HasActed x c.do_release.new.self) c.get_mut.ensures.value c.do_release.ensures.acted in
-    let words = subst (λ (x : Thread). thread_words c.do_release.new.self + words_asked (next_of x) ≡ thread_words x) c.get_mut.ensures.value c.do_release.ensures.words in
-    c.put_back.ensures.alone items thread_shown waiting results k _ period (thread_shown c.args.top) is.place stands period_is
-    (release_did setting k c.args.top c.do_release.new.self c.name_of-name.result c.name_of-name.ensures.by c.name_of-name.ensures.index acted period _ is words)
+    c.put_back.ensures.alone items thread_shown waiting results k _ period (thread_shown c.args.top) is.place stands period_is (c.release_done-name.ensures.did setting k is period given)
 
 pub returns-clause-back : goal.returns-clause-back
-returns-clause-back c =
-    (c.do_release.new.self, c.put_back.ensures.deques, stays_seen c.get_mut.result.now c.args.top c.do_release.new.self c.get_mut.ensures.value c.do_release.ensures.point)
+returns-clause-back c = (c.release_done-name.new.top, c.put_back.ensures.deques, c.release_done-name.ensures.point)
