@@ -1,10 +1,10 @@
 -- A parent that stands directly below a thread waits for its result.
-use Rattle.std.proofs.Common.{◌≡◌, ℕ, ◌<◌, List, [], ◌∷◌, ◌++◌, length, map, inl, inr, refl, sym, ap, subst, ◌∙◌, arith}
+use Rattle.std.proofs.Common.{◌≡◌, ℕ, ◌<◌, List, [], ◌∷◌, length, map, inl, inr, refl, sym, ap, subst, ◌∙◌, arith}
 use Rattle.std.proofs.lemmas.Bool.{cases_lt}
 use Rattle.std.specs.Prelude.{Bool, true, false, Some}
 use Rattle.dag_order.specs.LabelOrder.{fork_of}
 use Rattle.depth_first_list.specs.Actions.{joins, ends}
-use Rattle.depth_first_list.specs.Facts.{label_at, deed_at, IsLive, IsNext}
+use Rattle.depth_first_list.specs.Facts.{label_at, deed_at, IsLive}
 use Rattle.depth_first_list.specs.Runs.{IsDepthFirst}
 use Rattle.lawful_books.specs.Lists.{Among, Each}
 use Rattle.lawful_books.proofs.Lists.{each_at, each_among, each_map, among_here}

@@ -1,6 +1,5 @@
 -- What a scheduler shows of itself stands at moments, one after another.
 use Rattle.std.proofs.Common.{◌≡◌, ℕ, ◌+◌, ◌<◌, List, [], ◌∷◌, ◌++◌, map, inl, inr, refl, sym, ap, subst, ◌∙◌, arith, append-nil}
-use Rattle.std.proofs.lemmas.Int.{ints}
 use Rattle.std.specs.Prelude.{Bool, true, false, cond, filter, pos, ◌+ℤ◌}
 use Rattle.std.specs.List.Sorted.{IsPermutation}
 use Rattle.std.proofs.lemmas.List.Sorted.{IsPermutation-refl}
@@ -15,7 +14,7 @@ use Rattle.lawful_books.specs.Lists.{Among, Each}
 use Rattle.lawful_books.specs.Books.{Book}
 use Rattle.lawful_books.proofs.Lists.{each_at, among_middle, middle_is_not_nil}
 use Rattle.deque_machine.specs.Moments.{Moment, opening, done_at}
-use Rattle.deque_machine.specs.Machine.{Setting, Event, steals, does, suspends, gives_up, May, HasEnded}
+use Rattle.deque_machine.specs.Machine.{Setting, Event, steals, does, suspends, gives_up, HasEnded}
 use Rattle.deque_machine.specs.LawfulOrder.{IsLawful}
 use Rattle.deque_machine.specs.Runs.{place_of, is_move}
 use Rattle.deque_machine.proofs.Kept.{kept, opening_is_lawful}
@@ -24,10 +23,10 @@ use Rattle.period_books.specs.Periods.{Period}
 use Rattle.period_books.specs.Names.{HasLabel, IsNamed, of_root}
 use Rattle.period_books.specs.Telling.{Tell}
 use Rattle.period_books.proofs.Labels.{one_label}
-use Rattle.moment_parts.specs.Parts.{Parts, Result, IsKept, parts_with_root}
+use Rattle.moment_parts.specs.Parts.{Parts, Result, IsKept}
 use Rattle.moment_parts.specs.Standing.{Shows, ChildStands}
 use Rattle.moment_parts.specs.Laws.{Comes}
-use Rattle.moment_parts.specs.Events.{Does, GivesUp, Suspends, Steals, HandsOver, hands_over}
+use Rattle.moment_parts.specs.Events.{Does, Steals, HandsOver, hands_over}
 use Rattle.moment_parts.proofs.Acting.{actions_are_events}
 use Rattle.moment_parts.proofs.Moving.{give_ups_are_events, waits_are_events, thefts_are_events}
 use Rattle.moment_parts.proofs.Handing.{handing_over_is_no_event, root_is_the_opening}
@@ -147,23 +146,26 @@ module _ (s : Setting) (some : 0 < s.quota) (list : IsDepthFirst s.quota s.list)
       → IsNamed s.list before.parts.periods name place → Counts s.list place name before after → StandsAfter s after moved m worker (does place)
   acted_stands before after moved m worker place next name at acts same named counts =
       let comes : Comes s m worker (does place) next = actions_are_events s some list m before.parts worker place next at.lawful at.shows acts in
-      let added = actions_are_added s m comes.0 worker place comes.1 in
-      (comes.0, comes.1, record {
-        lawful = kept s list m at.lawful worker (does place) comes.0 comes.1;
-        shows = same_show s.quota s.list next after.parts comes.0 same comes.2;
-        live = counts.live ∙ ap (λ x. x +ℤ weight_at s.list place) at.live ∙ sym added.live;
-        begun = counts.begun ∙ at.begun ∙ sym added.books;
-        moves = subst (λ ms. AreMovesOf after.parts.periods ms (moved ++ filter is_move (action_at s.list place ∷ []))) (sym counts.moves)
-            (moves_join after.parts.periods before.moves (noted_if (is_move (action_at s.list place)) counts.move) moved (filter is_move (action_at s.list place ∷ []))
-            (moves_stay before.parts.periods after.parts.periods stays before.moves moved at.moves)
-            (noted_are after.parts.periods counts.move (action_at s.list place) (record {
-              by = subst (λ i. HasLabel after.parts.periods i (label_at s.list place)) (ap (λ n. ActionId.by n) (sym counts.by)) (stays name.by (label_at s.list place) named.by);
-              index = named.index ∙ ap (λ n. ActionId.index n) (sym counts.by);
-              change = counts.change;
-            })));
-        root_kept = λ ended. kept_moved next.results after.parts.results root same.results
-            (root_leaves_its_result s some list m comes.0 before.parts next worker place at.lawful at.shows acts comes.1 ended);
-      })
+      let added = actions_are_added s m comes.0 worker place comes.1 in (
+        comes.0,
+        comes.1,
+        record {
+          lawful = kept s list m at.lawful worker (does place) comes.0 comes.1;
+          shows = same_show s.quota s.list next after.parts comes.0 same comes.2;
+          live = counts.live ∙ ap (λ x. x +ℤ weight_at s.list place) at.live ∙ sym added.live;
+          begun = counts.begun ∙ at.begun ∙ sym added.books;
+          moves = subst (λ ms. AreMovesOf after.parts.periods ms (moved ++ filter is_move (action_at s.list place ∷ []))) (sym counts.moves)
+              (moves_join after.parts.periods before.moves (noted_if (is_move (action_at s.list place)) counts.move) moved (filter is_move (action_at s.list place ∷ []))
+              (moves_stay before.parts.periods after.parts.periods stays before.moves moved at.moves)
+              (noted_are after.parts.periods counts.move (action_at s.list place) (record {
+                by = subst (λ i. HasLabel after.parts.periods i (label_at s.list place)) (ap (λ n. ActionId.by n) (sym counts.by)) (stays name.by (label_at s.list place) named.by);
+                index = named.index ∙ ap (λ n. ActionId.index n) (sym counts.by);
+                change = counts.change;
+              })));
+          root_kept = λ ended. kept_moved next.results after.parts.results root same.results
+              (root_leaves_its_result s some list m comes.0 before.parts next worker place at.lawful at.shows acts comes.1 ended);
+        },
+      )
     where
       stays : (id : ThreadId) (label : List ℕ) → HasLabel before.parts.periods id label → HasLabel after.parts.periods id label
       stays id label has = subst (λ ps. HasLabel ps id label) (sym same.periods)
@@ -175,9 +177,12 @@ module _ (s : Setting) (some : 0 < s.quota) (list : IsDepthFirst s.quota s.list)
   actions_stand before after moved m worker place next name at acts (handed_on behind hands same) named counts =
       let between : Showing = record { parts = next; live = after.live; begun = after.begun; moves = after.moves } in
       let first = acted_stands before between moved m worker place next name at acts (the_same next) named
-      (record { live = counts.live; begun = counts.begun; move = counts.move; by = counts.by; change = counts.change; moves = counts.moves }) in
-      (first.0, first.1, handings_stand between after (moved ++ filter is_move (action_at s.list place ∷ [])) first.0 worker behind first.2 hands same
-      (record { live = refl; begun = none_more after.begun; moves = refl }))
+      (record { live = counts.live; begun = counts.begun; move = counts.move; by = counts.by; change = counts.change; moves = counts.moves }) in (
+        first.0,
+        first.1,
+        handings_stand between after (moved ++ filter is_move (action_at s.list place ∷ [])) first.0 worker behind first.2 hands same
+            (record { live = refl; begun = none_more after.begun; moves = refl }),
+      )
 
   -- ---- an event that does nothing
 
@@ -185,17 +190,21 @@ module _ (s : Setting) (some : 0 < s.quota) (list : IsDepthFirst s.quota s.list)
       → StandsAt s before moved m → AreSame next after.parts → Keeps before after begun → next.results ≡ before.parts.results
       → ((id : ThreadId) (label : List ℕ) → HasLabel before.parts.periods id label → HasLabel next.periods id label)
       → (comes : Comes s m worker event next) → AddsNone s.list m comes.0 begun → StandsAfter s after moved m worker event
-  quiet_stands before after moved m worker event begun next idle at same keeps same_results stays comes adds = (comes.0, comes.1, record {
-    lawful = kept s list m at.lawful worker event comes.0 comes.1;
-    shows = same_show s.quota s.list next after.parts comes.0 same comes.2;
-    live = ap pos keeps.live ∙ at.live ∙ sym adds.live;
-    begun = keeps.begun ∙ ap (λ n. n + begun) at.begun ∙ sym adds.books;
-    moves = subst (λ xs. AreMovesOf after.parts.periods after.moves xs) (sym (ap (λ places. moved ++ filter is_move (map (action_at s.list) places)) idle ∙ append-nil moved))
-        (subst (λ ms. AreMovesOf after.parts.periods ms moved) (sym keeps.moves)
-        (moves_stay before.parts.periods after.parts.periods (λ id label has. subst (λ ps. HasLabel ps id label) (sym same.periods) (stays id label has)) before.moves moved at.moves));
-    root_kept = λ ended. kept_moved next.results after.parts.results root same.results
-        (subst (λ rs. IsKept rs root) (sym same_results) (at.root_kept (others_end_nothing s m comes.0 worker event [] comes.1 idle ended)));
-  })
+  quiet_stands before after moved m worker event begun next idle at same keeps same_results stays comes adds = (
+    comes.0,
+    comes.1,
+    record {
+      lawful = kept s list m at.lawful worker event comes.0 comes.1;
+      shows = same_show s.quota s.list next after.parts comes.0 same comes.2;
+      live = ap pos keeps.live ∙ at.live ∙ sym adds.live;
+      begun = keeps.begun ∙ ap (λ n. n + begun) at.begun ∙ sym adds.books;
+      moves = subst (λ xs. AreMovesOf after.parts.periods after.moves xs) (sym (ap (λ places. moved ++ filter is_move (map (action_at s.list) places)) idle ∙ append-nil moved))
+          (subst (λ ms. AreMovesOf after.parts.periods ms moved) (sym keeps.moves)
+          (moves_stay before.parts.periods after.parts.periods (λ id label has. subst (λ ps. HasLabel ps id label) (sym same.periods) (stays id label has)) before.moves moved at.moves));
+      root_kept = λ ended. kept_moved next.results after.parts.results root same.results
+          (subst (λ rs. IsKept rs root) (sym same_results) (at.root_kept (others_end_nothing s m comes.0 worker event [] comes.1 idle ended)));
+    },
+  )
 
   pub give_ups_stand : GiveUpsStand s
   give_ups_stand before after moved m worker next at gives same keeps =
