@@ -89,7 +89,7 @@ impl Ahead {
                 self.threads.push(Ran::new(child));
             }
             What::Did(_) => self.act(event.thread, event.period),
-            What::Stole(_) | What::GaveUp | What::Suspended => {}
+            What::Stole { .. } | What::GaveUp | What::Suspended => {}
         }
     }
 

@@ -7,7 +7,7 @@ use crate::machine::{Deque, Event, Machine, PlayReport, Rules, Stop, What};
 use crate::thread::{Code, Next};
 use std::fmt::Write;
 
-const TRACE_HEAD: &str =
+pub const TRACE_HEAD: &str =
     "event worker period deque thread action words prefix ahead-now | deque:owner:threads from the top ..\n";
 const BOUND_HEAD: &str = "event words prefix ahead-now bound\n";
 
@@ -98,7 +98,7 @@ impl Labels {
     /// The action of an event. A forked child gets its label.
     fn what(&mut self, event: &Event) -> String {
         match event.what {
-            What::Stole(from) => format!("steal:{from}"),
+            What::Stole { from, .. } => format!("steal:{from}"),
             What::GaveUp => "give-up".to_string(),
             What::Suspended => "suspend".to_string(),
             What::Forked(child) => {
