@@ -10,7 +10,7 @@ use crate::machine::{play, PlayReport, Rules, Stop};
 use crate::made::made_source;
 use crate::ownership::check;
 use crate::parse::parse;
-use crate::replay::replay;
+use crate::replay::{replay, replay_bound};
 use crate::resolve::resolve;
 use crate::span::{span, Span};
 use crate::stealing::{steal, StealReport};
@@ -84,7 +84,7 @@ pub fn most_read(command: &Command) -> usize {
 }
 
 fn reads_trail(command: &Command) -> bool {
-    matches!(command.name, "verify" | "replay")
+    matches!(command.name, "verify" | "replay" | "replay-bound")
 }
 
 /// Serves a command that reads a source or a trail.
@@ -123,7 +123,8 @@ fn serve_trail(command: &Command, text: &[u8]) -> Answer {
         return said;
     }
     let mut events = String::new();
-    replay(&setting, &trail.events, &mut events);
+    let put = if command.name == "replay" { replay } else { replay_bound };
+    put(&setting, &trail.events, &mut events);
     answer(said.status, format!("{events}--\n{}peak {}\n", said.text, setting.peak()))
 }
 

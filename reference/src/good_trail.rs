@@ -55,6 +55,8 @@ pub struct Book {
     marked: bool,
     owner: Option<usize>,
     ran: Vec<usize>,
+    /// The greatest place of these.
+    furthest: Option<usize>,
 }
 
 /// The state of a play after some of its events: the deques from left to right, the waiting threads, and the books of all periods.
@@ -66,6 +68,8 @@ pub struct Moment {
     done: Vec<bool>,
     /// How many actions are in the books.
     booked: usize,
+    /// How many first actions of the list are done.
+    pub prefix: usize,
     /// The sum of the weights of all that is in the books.
     pub live: i64,
     /// The greatest such sum so far.
@@ -190,6 +194,7 @@ impl Setting {
             books: Vec::new(),
             done: vec![false; self.list.len()],
             booked: 0,
+            prefix: 0,
             live: 0,
             high: 0,
         }
@@ -295,7 +300,7 @@ impl Moment {
     }
 
     fn begin_book(&mut self, worker: usize, marked: bool) {
-        self.books.push(Book { marked, owner: Some(worker), ran: Vec::new() });
+        self.books.push(Book { marked, owner: Some(worker), ran: Vec::new(), furthest: None });
     }
 
     fn close_book(&mut self, worker: usize) {
@@ -306,9 +311,14 @@ impl Moment {
 
     /// The action at a place is written into a book.
     fn run(&mut self, book: usize, place: usize, weight: i64) {
-        self.books[book].ran.push(place);
+        let book = &mut self.books[book];
+        book.ran.push(place);
+        book.furthest = book.furthest.max(Some(place));
         self.done[place] = true;
         self.booked += 1;
+        while self.done.get(self.prefix) == Some(&true) {
+            self.prefix += 1;
+        }
         self.live += weight;
         self.high = self.high.max(self.live);
     }
@@ -346,14 +356,9 @@ impl Moment {
         Numbers { periods: self.books.len() as u64, ahead: marked as u64, high: self.high as u64 }
     }
 
-    /// How many first actions of the list are done.
-    pub fn prefix(&self) -> usize {
-        self.done.iter().position(|is_done| !is_done).unwrap_or(self.done.len())
-    }
-
-    /// How many periods ran an action that is not among these first ones.
-    pub fn periods_ahead(&self, prefix: usize) -> usize {
-        self.books.iter().filter(|book| book.ran.iter().any(|place| *place >= prefix)).count()
+    /// How many periods ran an action that is not among the first ones that are done.
+    pub fn periods_ahead(&self) -> usize {
+        self.books.iter().filter(|book| book.furthest.is_some_and(|place| place >= self.prefix)).count()
     }
 }
 

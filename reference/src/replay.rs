@@ -1,7 +1,7 @@
-//! The events of a trail, each with the moment after it, in the lines of `trace`.
+//! The events of a trail, each with the moment after it: in the lines of `trace`, with the deques, and in those of `bound`.
 
 use crate::good_trail::{fork_of, Action, Deed, Label, Moment, Setting};
-use crate::trace::TRACE_HEAD;
+use crate::trace::{BOUND_HEAD, TRACE_HEAD};
 use crate::trail::{Kind, TrailEvent};
 use std::collections::HashMap;
 use std::fmt::Write;
@@ -16,10 +16,23 @@ pub fn replay(setting: &Setting, events: &[TrailEvent], text: &mut String) {
             break;
         }
         let what = shown.what(&moment, *event, before);
-        let prefix = moment.prefix();
-        let (number, worker, words, ahead) = (at + 1, event.worker, moment.live, moment.periods_ahead(prefix));
+        let (number, worker, words, prefix, ahead) = (at + 1, event.worker, moment.live, moment.prefix, moment.periods_ahead());
         let deques: String = moment.deques.iter().map(|deque| shown.deque(deque.id, deque.owner, &deque.threads)).collect();
         writeln!(text, "{number} {worker} {what} {words} {prefix} {ahead} |{deques}").expect("a text takes all");
+    }
+}
+
+/// Puts a line for each event of a trail into the text, up to the first that may not come, with the bound on the words in use after it.
+pub fn replay_bound(setting: &Setting, events: &[TrailEvent], text: &mut String) {
+    text.push_str(BOUND_HEAD);
+    let (mut moment, peak) = (setting.opening(), setting.peak());
+    for (at, event) in events.iter().enumerate() {
+        if !setting.lead(&mut moment, *event) {
+            break;
+        }
+        let (words, prefix, ahead) = (moment.live, moment.prefix, moment.periods_ahead());
+        let bound = peak + 2 * setting.rules.quota as i64 * ahead as i64;
+        writeln!(text, "{} {words} {prefix} {ahead} {bound}", at + 1).expect("a text takes all");
     }
 }
 

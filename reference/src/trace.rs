@@ -9,7 +9,7 @@ use std::fmt::Write;
 
 pub const TRACE_HEAD: &str =
     "event worker period deque thread action words prefix ahead-now | deque:owner:threads from the top ..\n";
-const BOUND_HEAD: &str = "event words prefix ahead-now bound\n";
+pub const BOUND_HEAD: &str = "event words prefix ahead-now bound\n";
 
 /// Runs a program by the words of choice, and puts a line for each event into the text, with the deques after it.
 pub fn trace(code: &Code, rules: Rules, choices: &mut impl Choices, text: &mut String) -> Result<PlayReport, Stop> {

@@ -38,7 +38,7 @@ const STEPS_OF_TRAIL: Rule = rule("steps", 1, 400_000, 1, 400_000);
 /// The options of the commands that run the machine.
 const OF_MACHINE: &[&str] = &["k", "p", "arena", "steps", "deques", "seed"];
 
-const COMMANDS: [(&str, &[&str]); 14] = [
+const COMMANDS: [(&str, &[&str]); 15] = [
     ("check", &[]),
     ("peak", &["k", "steps"]),
     ("play", OF_MACHINE),
@@ -49,6 +49,7 @@ const COMMANDS: [(&str, &[&str]); 14] = [
     ("trail", OF_MACHINE),
     ("verify", &[]),
     ("replay", &[]),
+    ("replay-bound", &[]),
     ("trace", OF_MACHINE),
     ("bound", OF_MACHINE),
     ("span", &["k", "steps"]),
