@@ -1,5 +1,5 @@
-//! Which trails are good: a checker that uses no thread and no machine, but labels, the depth-first list, and books of what each period ran of it.
-//! It says the rules again, one by one, and is not fast.
+//! Which trails are good: a checker that uses no thread and no machine, but labels, the depth-first list, and books of what each period ran
+//! of it. It says the rules again, one by one, and is not fast.
 
 use crate::evaluate::Fault;
 use crate::machine::Rules;
@@ -206,7 +206,8 @@ impl Setting {
         live <= self.rules.arena as i64 && booked <= self.rules.steps && moment.deques.len() <= self.rules.deques
     }
 
-    /// Leads from a moment to the next by an event of a trail. Answers whether it may come. If it may not, nothing is said of the moment after it.
+    /// Leads from a moment to the next by an event of a trail. Answers whether it may come. If it may not, nothing is said of the moment
+    /// after it.
     pub fn lead(&self, moment: &mut Moment, event: TrailEvent) -> bool {
         let may_come = match event.kind {
             Kind::Steal(place) => self.steal(moment, event.worker, place),
@@ -217,8 +218,8 @@ impl Setting {
         may_come && self.is_within(moment)
     }
 
-    /// An idle worker takes the bottom thread of a deque. A deque that keeps other threads stays, and the thief's new one is directly to the right of
-    /// it. One with a single thread and no owner is taken over.
+    /// An idle worker takes the bottom thread of a deque. A deque that keeps other threads stays, and the worker's new one is directly
+    /// to the right of it. One with a single thread and no owner is taken over.
     fn steal(&self, moment: &mut Moment, worker: usize, place: usize) -> bool {
         let is_idle = moment.deques.iter().all(|deque| deque.owner != Some(worker));
         if !is_idle || worker >= self.rules.workers || place >= self.rules.workers.min(moment.deques.len()) {
@@ -266,8 +267,8 @@ impl Setting {
         may_come
     }
 
-    /// The top thread of a worker's deque is at a Join of a child that has not ended: it waits, and its deque, which has no other thread, leaves the
-    /// list.
+    /// The top thread of a worker's deque is at a Join of a child that has not ended: it waits, and its deque, which has no other thread,
+    /// leaves the list.
     fn suspend(&self, moment: &mut Moment, worker: usize) -> bool {
         let Some((at, _)) = moment.owns(worker) else { return false };
         let [top] = moment.deques[at].threads.as_slice() else { return false };
@@ -331,8 +332,8 @@ impl Moment {
         true
     }
 
-    /// The top thread ends. The thread below it runs next if it is its parent. In a deque without another thread the parent runs next if it waits for
-    /// it; otherwise the deque leaves the list.
+    /// The top thread ends. The thread below it runs next if it is its parent. In a deque without another thread the parent runs next if it
+    /// waits for it; otherwise the deque leaves the list.
     fn end(&mut self, worker: usize, at: usize, top: &Label) -> bool {
         let is_child_of = |parent: &Label| top.split_last().is_some_and(|(_, above)| above == parent.as_slice());
         if let Some(below) = self.deques[at].threads.get(1) {

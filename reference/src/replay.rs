@@ -36,9 +36,9 @@ pub fn replay_bound(setting: &Setting, events: &[TrailEvent], text: &mut String)
     }
 }
 
-/// What an event is about: the deque that a thief steals from, or the deque, the period, the thread and the action of an owner.
+/// What an event is about: the deque that is stolen from, or the deque, the period, the thread and the action of an owner.
 enum Before {
-    Theft(u64),
+    Steal(u64),
     Own { deque: u64, period: usize, thread: Label, action: String },
 }
 
@@ -50,9 +50,9 @@ struct Shown {
 impl Shown {
     fn before(&self, setting: &Setting, moment: &Moment, event: TrailEvent) -> Before {
         if let Kind::Steal(place) = event.kind {
-            return Before::Theft(moment.deques.get(place).map_or(0, |deque| self.number(deque.id)));
+            return Before::Steal(moment.deques.get(place).map_or(0, |deque| self.number(deque.id)));
         }
-        let Some((at, book)) = moment.owns(event.worker) else { return Before::Theft(0) };
+        let Some((at, book)) = moment.owns(event.worker) else { return Before::Steal(0) };
         let deque = &moment.deques[at];
         let thread = deque.threads[0].clone();
         let action = match event.kind {
@@ -67,7 +67,7 @@ impl Shown {
     fn what(&mut self, moment: &Moment, event: TrailEvent, before: Before) -> String {
         match before {
             Before::Own { deque, period, thread, action } => format!("{period} {deque} {} {action}", label_shown(&thread)),
-            Before::Theft(from) => {
+            Before::Steal(from) => {
                 let period = moment.books.len() as u64;
                 let Some((at, _)) = moment.owns(event.worker) else { return String::new() };
                 let deque = &moment.deques[at];

@@ -1,6 +1,6 @@
-//! What the reference's own runs by workers have to keep, one event at a time and in threads: they print what the depth-first run prints, and
-//! their words in use are at most its peak and twice the quota for each marked period. Of a run one event at a time this holds at each moment
-//! with the periods that are ahead then, of which there are at most as many as are marked; and its trail is good.
+//! What the reference's own runs by workers have to keep, one event at a time and in threads: they print what the depth-first run prints,
+//! and their words in use are at most its peak and twice the quota for each marked period. Of a run one event at a time this holds at each
+//! moment with the periods that are ahead then, of which there are at most as many as are marked; and its trail is good.
 
 use crate::choices::Pcg;
 use crate::depth_first::{depth_first, PeakReport};

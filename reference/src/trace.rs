@@ -1,4 +1,5 @@
-//! Each event of a run, with what is done of the depth-first list after it: once with the deques, and once with the bound on the words in use.
+//! Each event of a run, with what is done of the depth-first list after it: once with the deques, and once with the bound on the words in
+//! use.
 
 use crate::ahead::{Ahead, Places};
 use crate::choices::{Choices, Listed};
@@ -56,9 +57,9 @@ pub fn each_event(
     Ok(machine.report())
 }
 
-/// What there is after these workers have moved, one after another; one that cannot move does not, and an idle one steals from the first deque that
-/// has a thread for it: the labels of the threads in the deques, the prefix, the periods ahead, the words in use, and how many are left below the
-/// bound.
+/// What there is after these workers have moved, one after another; one that cannot move does not, and an idle one steals from the first
+/// deque that has a thread for it: the labels of the threads in the deques, the prefix, the periods ahead, the words in use, and how many
+/// are left below the bound.
 pub fn moment(code: &Code, rules: Rules, workers: &[usize]) -> Result<String, Stop> {
     let mut ahead = Ahead::new(Places::new(code, rules.quota, rules.steps).ok_or(Stop::StepsSpent)?);
     let mut machine = Machine::new(code, rules);

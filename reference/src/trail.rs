@@ -1,4 +1,5 @@
-//! A trail: one recorded play, as a text that can be checked apart from the machine that made it. Here are the recorder, the text and its reader.
+//! A trail: one recorded play, as a text that can be checked apart from the machine that made it. Here are the recorder, the text and its
+//! reader.
 
 use crate::choices::Choices;
 use crate::machine::{Event, Machine, PlayReport, Rules, Stop, What};
@@ -85,8 +86,8 @@ fn event_line(event: &TrailEvent) -> String {
     }
 }
 
-/// The trail whose text this is. Otherwise the place at which it is none: the first byte of the first line that breaks the form, or the end of the
-/// text if a line is missing. The bytes of the source are a part of the second line.
+/// The trail whose text this is. Otherwise the place at which it is none: the first byte of the first line that breaks the form, or the end
+/// of the text if a line is missing. The bytes of the source are a part of the second line.
 pub fn read_trail(text: &[u8]) -> Result<Trail, usize> {
     if text.len() > MOST_TRAIL {
         return Err(MOST_TRAIL);

@@ -1,7 +1,7 @@
 //! Worked rows of trails, whose answers were worked out by hand: what `verify` says of them, and one trail that `trail` writes.
 
-/// A row: its name, the numbers of the first line, the source, the other lines, the status, and the text. A slash marks the end of a line in the
-/// lines and in the text.
+/// A row: its name, the numbers of the first line, the source, the other lines, the status, and the text. A slash marks the end of a line
+/// in the lines and in the text.
 pub struct Trailed(pub &'static str, pub &'static str, pub &'static str, pub &'static str, pub i32, pub &'static str);
 
 impl Trailed {
