@@ -7,7 +7,9 @@ from canvas import Canvas
 ROW, LANE, GAP, CHIP = 27, 196, 34, 19
 LEFT, TOP, RIGHT, BOTTOM = 68, 146, 270, 24
 BAR = 64
-PREFIX, AHEAD = 170, 236
+# The least width, in which a note has room.
+LEAST = 940
+PREFIX, AHEAD, BOUND = 170, 236, 310
 COLOURS = {
     "light": ["#0b6e69", "#1f6fd6", "#c9480f", "#7a3fc4", "#2f7d1f", "#b8286b", "#8a6100", "#59636f"],
     "dark": ["#3ecfc5", "#6db0ff", "#ff9457", "#bd93f9", "#8fd16b", "#ff8fbf", "#e0b84a", "#a3aebb"],
@@ -95,11 +97,14 @@ def columns_of(events):
 
 
 class Lanes(Canvas):
-    def __init__(self, events):
-        self.events = events
+    """A row for each event. With bounds, one for each event, there is a column for them."""
+
+    def __init__(self, events, bounds=None):
+        self.events, self.bounds = events, bounds
+        self.last = BOUND if bounds else AHEAD
         count, self.columns = columns_of(events)
         self.end = LEFT + count * (LANE + GAP) - GAP
-        super().__init__(self.end + RIGHT, TOP + len(events) * ROW + BOTTOM)
+        super().__init__(max(LEAST, self.end + RIGHT + self.last - AHEAD), TOP + len(events) * ROW + BOTTOM)
 
     def x(self, deque):
         return LEFT + self.columns[deque] * (LANE + GAP)
@@ -113,18 +118,22 @@ class Lanes(Canvas):
         self.text(self.end + 26, TOP - 14, "note", "words in use")
         self.text(self.end + PREFIX, TOP - 14, "note", "prefix", "end")
         self.text(self.end + AHEAD, TOP - 14, "note", "ahead(t)", "end")
+        if self.bounds:
+            self.text(self.end + BOUND, TOP - 14, "note", "bound", "end")
 
     def rows(self):
-        most = max(event.words for event in self.events)
+        most = max(1, *(event.words for event in self.events))
         for row, event in enumerate(self.events):
             y = TOP + row * ROW
-            self.straight(LEFT - 38, y, self.end + AHEAD, y, "grid")
+            self.straight(LEFT - 38, y, self.end + self.last, y, "grid")
             self.text(LEFT - 16, y + 18, "tick", row + 1, "end")
             length = BAR * event.words / most
             self.put(f'<rect x="{self.end + 26}" y="{y + 8}" width="{length:.1f}" height="11" class="words"/>')
             self.text(self.end + 32 + length, y + 18, "tick", event.words)
             self.text(self.end + PREFIX, y + 18, "tick", event.prefix, "end")
             self.text(self.end + AHEAD, y + 18, "tick", event.ahead, "end")
+            if self.bounds:
+                self.text(self.end + BOUND, y + 18, "tick", self.bounds[row], "end")
 
     def periods(self):
         """A bar for each period, from its steal to its last event."""
@@ -193,8 +202,8 @@ class Lanes(Canvas):
         return f"{action} {detail}".strip()
 
 
-def picture(lines, title, notes):
-    lanes = Lanes(events_of(lines))
+def picture(lines, title, notes, bounds=None):
+    lanes = Lanes(events_of(lines), bounds)
     lanes.head(title, notes)
     lanes.rows()
     lanes.free_deques()

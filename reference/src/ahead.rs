@@ -1,7 +1,7 @@
 //! The prefix of a run, and the periods ahead of it.
 //!
-//! The actions of a run are those of the depth-first run in another order, so each has a place in the depth-first list. The prefix is how many
-//! first actions of the list are done without a gap. A period is ahead if it ran an action that is not among them.
+//! The actions of a run are those of the depth-first run in another order, so each has a place in the depth-first list. The prefix is how
+//! many first actions of the list are done without a gap. A period is ahead if it ran an action that is not among them.
 
 use crate::machine::{Event, What};
 use crate::thread::Code;
@@ -89,7 +89,7 @@ impl Ahead {
                 self.threads.push(Ran::new(child));
             }
             What::Did(_) => self.act(event.thread, event.period),
-            What::Stole(_) | What::GaveUp | What::Suspended => {}
+            What::Stole { .. } | What::GaveUp | What::Suspended => {}
         }
     }
 

@@ -1,10 +1,11 @@
-//! Random cases: the words of a command and a source, by kinds. There are three series: one of what the program can do on a whole source of
-//! every kind, one of the machine, and one of parallel loops.
+//! Random cases: the words of a command and a source, by kinds. There are four series: one of what the program can do on a whole source of
+//! every kind, one of the machine, one of parallel loops, and one of trails.
 
 use crate::author::{program, Style};
 use crate::edges::edge;
 use crate::edits::{break_form, break_rule, lay_out};
 use crate::looped::{looped, looped_at_limits, Care};
+use crate::mended::mended_trail;
 use crate::random::Random;
 use crate::tiny::tiny;
 
@@ -16,6 +17,7 @@ pub struct Case {
 
 pub const KINDS: [&str; 9] = ["good", "faulty", "blocks", "deep", "ill-formed", "ill-typed", "tiny", "prints", "words"];
 pub const KINDS_OF_MACHINE: [&str; 5] = ["played", "in threads", "made", "printed", "words of the machine"];
+pub const KINDS_OF_TRAILS: [&str; 3] = ["mended trails", "trailed", "words of trails"];
 pub const KINDS_OF_LOOPS: [&str; 5] = ["looped", "mistaken loops", "broken loops", "loops at limits", "words of loops"];
 
 /// The case of a number. The same number gives the same case.
@@ -67,6 +69,37 @@ pub fn loop_case(number: u64) -> Case {
         _ => [vec!["loops".to_string()], machine_options(&mut random, true).concat()].concat(),
     };
     Case { kind, words, source }
+}
+
+/// The case of a number that has trails: `trail` with all its options, and `verify` of a trail that was mended.
+pub fn trail_case(number: u64) -> Case {
+    let mut random = Random(number.wrapping_mul(0xa24b_aed4_963e_e407));
+    let kind = KINDS_OF_TRAILS[[0, 0, 0, 1, 1, 2][(number % 6) as usize]];
+    let source = match kind {
+        "mended trails" => mended_trail(&mut random),
+        _ => {
+            let of_source = *random.pick(&["good", "faulty", "blocks", "deep", "tiny", "prints"]);
+            source_of(&mut random, of_source)
+        }
+    };
+    let words = match kind {
+        "mended trails" => vec!["verify".to_string()],
+        "words of trails" => {
+            any_words_of(&mut random, &["trail", "trail", "trail", "verify", "verify", "Trail", "trails", "--k"])
+        }
+        _ => [vec!["trail".to_string()], machine_options(&mut random, true).concat()].concat(),
+    };
+    Case { kind, words, source }
+}
+
+/// The words and the source of a play that a trail may be made of: a short one, or one that stops.
+pub fn short_play(random: &mut Random) -> (Vec<String>, Vec<u8>) {
+    let of_source = *random.pick(&["good", "faulty", "blocks", "prints", "tiny"]);
+    let source = source_of(random, of_source);
+    let mut options = machine_options(random, true);
+    options.retain(|option| option[0] != "--steps");
+    options.push(option("steps", 400));
+    (options.concat(), source)
 }
 
 fn source_of(random: &mut Random, kind: &str) -> Vec<u8> {

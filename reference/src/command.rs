@@ -3,18 +3,21 @@
 use crate::canonical::canonical_text;
 use crate::choices::Pcg;
 use crate::depth_first::{depth_first, PeakReport};
+use crate::good_trail::{verdict, Setting, Verdict};
 use crate::in_threads;
 use crate::loops::expand;
 use crate::machine::{play, PlayReport, Rules, Stop};
 use crate::made::made_source;
 use crate::ownership::check;
 use crate::parse::parse;
+use crate::replay::{replay, replay_bound};
 use crate::resolve::resolve;
 use crate::span::{span, Span};
 use crate::stealing::{steal, StealReport};
 use crate::thread::Code;
-use crate::tokens::SyntaxRefusal;
+use crate::tokens::{SyntaxRefusal, MOST_BYTES};
 use crate::trace::{bound, trace};
+use crate::trail::{read_trail, record, trail_text, Numbers, Trail, MOST_TRAIL};
 use crate::tree::Program;
 use crate::words::{read_words, Command};
 use crate::world::Finish;
@@ -22,6 +25,8 @@ use std::fmt::Write;
 
 pub const USAGE: &str = "usage: dfd play|run|peak|check|make|loops|expand [options]\n";
 pub const READ_FAULT: &str = "read fault\n";
+/// The status of a trail that is refused for another cause than its source.
+const TRAIL_REFUSED: i32 = 11;
 
 #[derive(Clone, Debug, PartialEq, Eq)]
 pub struct Answer {
@@ -69,11 +74,30 @@ pub fn accepted(source: &[u8]) -> Result<Program<String>, Answer> {
     Ok(program)
 }
 
-/// Serves a command that reads a source. `loops` serves the expansion as `play` serves a source.
-pub fn serve(command: &Command, source: &[u8]) -> Answer {
-    if !matches!(command.name, "loops" | "expand") {
-        return serve_source(command, source);
+/// The most bytes that a command may read.
+pub fn most_read(command: &Command) -> usize {
+    if reads_trail(command) {
+        MOST_TRAIL
+    } else {
+        MOST_BYTES
     }
+}
+
+fn reads_trail(command: &Command) -> bool {
+    matches!(command.name, "verify" | "replay" | "replay-bound")
+}
+
+/// Serves a command that reads a source or a trail.
+pub fn serve(command: &Command, source: &[u8]) -> Answer {
+    match command.name {
+        "loops" | "expand" => serve_loops(command, source),
+        _ if reads_trail(command) => serve_trail(command, source),
+        _ => serve_source(command, source),
+    }
+}
+
+/// `loops` serves the expansion as `play` serves a source.
+fn serve_loops(command: &Command, source: &[u8]) -> Answer {
     match expand(source) {
         Err(refusal) => syntax_answer(refusal),
         Ok(text) if command.name == "expand" => answer(0, String::from_utf8_lossy(&text)),
@@ -81,10 +105,48 @@ pub fn serve(command: &Command, source: &[u8]) -> Answer {
     }
 }
 
+/// The refusals of the source in a trail come after those of its form, and before those of its events.
+fn serve_trail(command: &Command, text: &[u8]) -> Answer {
+    let trail = match read_trail(text) {
+        Err(at) => return answer(TRAIL_REFUSED, format!("trail NotTrail at {at}\n")),
+        Ok(trail) => trail,
+    };
+    let program = match accepted(&trail.source) {
+        Err(refusal) => return refusal,
+        Ok(program) => program,
+    };
+    let Some(setting) = Setting::new(&resolve(&program), trail.rules) else {
+        return answer(TRAIL_REFUSED, format!("trail LongRun limit {}\n", trail.rules.steps));
+    };
+    let said = verdict_answer(verdict(&setting, &trail.events, trail.numbers), trail.numbers);
+    if command.name == "verify" {
+        return said;
+    }
+    let mut events = String::new();
+    let put = if command.name == "replay" { replay } else { replay_bound };
+    put(&setting, &trail.events, &mut events);
+    answer(said.status, format!("{events}--\n{}peak {}\n", said.text, setting.peak()))
+}
+
+fn verdict_answer(verdict: Verdict, numbers: Numbers) -> Answer {
+    let Numbers { periods, ahead, high } = numbers;
+    match verdict {
+        Verdict::Accepted(actions) => {
+            answer(0, format!("trail ok\nperiods {periods}\nahead {ahead}\nhigh {high}\nactions {actions}\n"))
+        }
+        Verdict::BadEvent(event) => answer(TRAIL_REFUSED, format!("trail BadEvent event {event}\n")),
+        Verdict::NotEnded(events) => answer(TRAIL_REFUSED, format!("trail NotEnded events {events}\n")),
+        Verdict::WrongNumbers(Numbers { periods, ahead, high }) => {
+            answer(TRAIL_REFUSED, format!("trail WrongNumbers periods {periods} ahead {ahead} high {high}\n"))
+        }
+    }
+}
+
 fn serve_source(command: &Command, source: &[u8]) -> Answer {
     match accepted(source) {
         Err(refusal) => refusal,
         Ok(program) if command.name == "check" => answer(0, canonical_text(&program)),
+        Ok(program) if command.name == "trail" => trail_answer(command, source, &resolve(&program)),
         Ok(program) => run(command, &resolve(&program)),
     }
 }
@@ -107,6 +169,19 @@ fn run(command: &Command, code: &Code) -> Answer {
             answer(status, events + &text)
         }
         _ => play_answer(play(code, rules, &mut choices), rules),
+    }
+}
+
+/// Plays a program, and writes the trail of a play that finishes.
+fn trail_answer(command: &Command, source: &[u8], code: &Code) -> Answer {
+    let rules = rules_of(command);
+    match record(code, rules, &mut Pcg::from_seed(command.number("seed"))) {
+        Err(stop) => stop_answer(stop, rules),
+        Ok((events, report)) => {
+            let numbers = Numbers { periods: report.periods, ahead: report.ahead, high: report.high };
+            let trail = Trail { rules, source: source.to_vec(), events, numbers };
+            answer(status_of(report.finish), String::from_utf8_lossy(&trail_text(&trail)))
+        }
     }
 }
 
@@ -179,18 +254,19 @@ fn report_answer(lines: &[i64], finish: Finish, numbers: &[(&str, u64)]) -> Answ
         put(format_args!("{line}"));
     }
     put(format_args!("--"));
-    let status = match finish {
-        Finish::Done => {
-            put(format_args!("end done"));
-            0
-        }
-        Finish::Faulted(fault, line) => {
-            put(format_args!("end fault {fault:?} line {line}"));
-            6
-        }
-    };
+    match finish {
+        Finish::Done => put(format_args!("end done")),
+        Finish::Faulted(fault, line) => put(format_args!("end fault {fault:?} line {line}")),
+    }
     for (name, number) in numbers {
         put(format_args!("{name} {number}"));
     }
-    answer(status, text)
+    answer(status_of(finish), text)
+}
+
+fn status_of(finish: Finish) -> i32 {
+    match finish {
+        Finish::Done => 0,
+        Finish::Faulted(..) => 6,
+    }
 }

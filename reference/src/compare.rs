@@ -1,6 +1,6 @@
 //! Runs the program and the reference on random cases, and prints where they differ with the smallest source that shows it.
 
-use crate::cases::{case, loop_case, machine_case, Case, KINDS, KINDS_OF_LOOPS, KINDS_OF_MACHINE};
+use crate::cases::{case, loop_case, machine_case, trail_case, Case, KINDS, KINDS_OF_LOOPS, KINDS_OF_MACHINE, KINDS_OF_TRAILS};
 use crate::command::{accepted, answer_to, command_of, Answer, USAGE};
 use crate::depth_first::depth_first;
 use crate::resolve::resolve;
@@ -21,7 +21,7 @@ struct Plan {
 
 const MOST_DIFFERENCES: u64 = 10;
 const SHOWN_BYTES: usize = 400;
-/// One number in so many has a case of the machine too, and one of parallel loops.
+/// One number in so many has a case of the machine too, one of parallel loops, and one of trails.
 const MACHINE_ONE_IN: u64 = 4;
 
 /// The exit status: 0 where nothing differs, 1 where something does, 2 where the words are wrong.
@@ -43,6 +43,7 @@ pub fn compare(words: &[String]) -> u8 {
         if number.is_multiple_of(MACHINE_ONE_IN) {
             one_case(&plan, number, &machine_case(number), &mut tally);
             one_case(&plan, number, &loop_case(number / MACHINE_ONE_IN), &mut tally);
+            one_case(&plan, number, &trail_case(number / MACHINE_ONE_IN), &mut tally);
         }
         if tally.differences >= MOST_DIFFERENCES {
             println!("compare: stopped at {MOST_DIFFERENCES} differences");
@@ -85,7 +86,7 @@ impl Tally {
     }
 
     fn print(&self, seconds: u64) {
-        for kind in KINDS.iter().chain(&KINDS_OF_MACHINE).chain(&KINDS_OF_LOOPS) {
+        for kind in KINDS.iter().chain(&KINDS_OF_MACHINE).chain(&KINDS_OF_LOOPS).chain(&KINDS_OF_TRAILS) {
             let of_kind = self.compared.iter().filter(|((it, _, _), _)| it == kind);
             let counts: Vec<String> =
                 of_kind.map(|((_, command, status), count)| format!("{command} with status {status}: {count}")).collect();
@@ -94,12 +95,13 @@ impl Tally {
         let answers: Vec<String> = self.answers.iter().map(|(answer, count)| format!("{answer} {count}")).collect();
         println!("answers: {}", answers.join(", "));
         println!(
-            "compare: {} cases, {} of the machine, {} of parallel loops, {} differences, {seconds} s; \
+            "compare: {} cases, {} of the machine, {} of parallel loops, {} of trails, {} differences, {seconds} s; \
              {} runs that the program does not have yet; {} runs in threads whose end depends on the order of events; \
              {} programs run by the reference's own workers, all within the bound if nothing differs",
             self.compared_of(&KINDS),
             self.compared_of(&KINDS_OF_MACHINE),
             self.compared_of(&KINDS_OF_LOOPS),
+            self.compared_of(&KINDS_OF_TRAILS),
             self.differences,
             self.not_yet,
             self.left_open,
@@ -143,7 +145,7 @@ fn word_of(answer: &Answer) -> String {
     match answer.status {
         0 => "done".to_string(),
         1 => "usage".to_string(),
-        6 => line[mark.len()..].split(' ').next().unwrap_or("").to_string(),
+        6 => line.strip_prefix(mark).map_or("trail of a fault", |it| it.split(' ').next().unwrap_or("")).to_string(),
         _ => line.split(' ').nth(1).unwrap_or("").to_string(),
     }
 }
@@ -204,10 +206,10 @@ fn verdict(words: &[String], source: &[u8], due: &Answer, got: &Answer) -> Verdi
     }
 }
 
-/// Whether the words are such as the product does not know today: the command `run`.
+/// Whether the words are such as the product does not know today: the commands `run`, `trail` and `verify`.
 fn is_not_yet(words: &[String], got: &Answer) -> bool {
     let is_unknown = got.status == 1 && got.text == USAGE;
-    command_name(words) == "run" && is_unknown
+    matches!(command_name(words), "run" | "trail" | "verify") && is_unknown
 }
 
 /// Answers are the same to the byte. But of a run in threads the numbers after the finish depend on the order of its events, and

@@ -53,8 +53,11 @@ pub struct Event<'a> {
 }
 
 pub enum What<'a> {
-    /// The thread was stolen from this deque.
-    Stole(u64),
+    /// The thread was stolen from this deque, which was at this place of the list.
+    Stole {
+        from: u64,
+        place: usize,
+    },
     /// The thread forked this child.
     Forked(usize),
     /// The thread did another action.
@@ -167,7 +170,7 @@ impl<'a> Machine<'a> {
         self.deques.insert(place, Deque { id, owner: Some(worker), threads: vec![thread], period: self.periods, used: 0 });
         self.places[worker] = Some(place);
         self.ahead += u64::from(place > 0);
-        Ok(Event { worker, period: self.periods, deque: id, thread, what: What::Stole(from) })
+        Ok(Event { worker, period: self.periods, deque: id, thread, what: What::Stole { from, place: victim } })
     }
 
     /// The deques from this place on move by one to the right or to the left.

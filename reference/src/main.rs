@@ -12,15 +12,18 @@ mod depth_first;
 mod edges;
 mod edits;
 mod evaluate;
+mod good_trail;
 mod in_threads;
 mod looped;
 mod loops;
 mod machine;
 mod made;
+mod mended;
 mod mentions;
 mod ownership;
 mod parse;
 mod random;
+mod replay;
 mod resolve;
 mod rows;
 mod selfcheck;
@@ -31,11 +34,13 @@ mod thread;
 mod tiny;
 mod tokens;
 mod trace;
+mod trail;
+mod trail_rows;
 mod tree;
 mod words;
 mod world;
 
-use command::{answer, command_of, make, serve, Answer, READ_FAULT};
+use command::{answer, command_of, make, most_read, serve, Answer, READ_FAULT};
 use std::io::{Read, Write};
 use std::process::ExitCode;
 
@@ -57,7 +62,7 @@ fn run(words: &[String]) -> Answer {
         return make(&command);
     }
     let mut source = Vec::new();
-    match std::io::stdin().take(tokens::MOST_BYTES as u64 + 1).read_to_end(&mut source) {
+    match std::io::stdin().take(most_read(&command) as u64 + 1).read_to_end(&mut source) {
         Ok(_) => serve(&command, &source),
         Err(_) => answer(2, READ_FAULT),
     }

@@ -6,6 +6,7 @@ use crate::command::{accepted, answer_to, play_answer, Answer};
 use crate::machine::{play, Rules};
 use crate::resolve::resolve;
 use crate::trace::moment;
+use crate::trail_rows::{Trailed, RECORDED, TRAILED};
 
 /// A row: its name, the words, the source, the status, and the text, in which a slash marks the end of a line.
 struct Row(&'static str, &'static str, &'static str, i32, &'static str);
@@ -208,6 +209,9 @@ const ROWS: &[Row] = &[
         "check UnknownName line 2 name f/",
     ),
     Row("an option of another command", "expand --k 16", SUMS, 1, USAGE),
+    Row("a trail that stops", "trail --k 16 --p 1 --steps 3", THREE_LINES, 7, "stop StepsSpent limit 3/"),
+    Row("more actions than a trail may have", "trail --steps 400001", THREE_LINES, 1, USAGE),
+    Row("an option of a checker", "verify --k 16", THREE_LINES, 1, USAGE),
     Row("lines in order, in threads", "run --p 1", THREE_LINES, 0, "1/2/3/--/end done/periods 1/ahead 0/high 16/"),
     Row("a made source", "make 1 --p 1", "", 0, "bytes 139/lines 2/total 0/actions 8/periods 1/ahead 0/high 32/"),
     Row("a size with a leading zero", "make --p=1 01", "", 0, "bytes 139/lines 2/total 0/actions 8/periods 1/ahead 0/high 32/"),
@@ -309,6 +313,13 @@ pub fn rows() -> u8 {
     for row in DRAWN {
         tally.tell(row.0, row.6, &drawn(row));
     }
+    for row in TRAILED {
+        let Trailed(name, _, _, _, status, text) = row;
+        let got = answered("verify", row.text().as_bytes());
+        tally.tell(name, &format!("{status} {text}"), &format!("{} {}", got.status, got.text.replace('\n', "/")));
+    }
+    tally.tell("the trail of a play", &RECORDED.text(), &answered("trail --k 16 --p 1", THREE_LINES.as_bytes()).text);
+    tally.tell("no trail", "trail NotTrail at 0\n", &answered("verify", b"").text);
     for Moved(quota, workers, digits, source, due) in MOVED {
         tally.tell(&format!("a moment after the moves {digits:?}"), due, &moved(source, *quota, *workers, digits));
     }

@@ -1,20 +1,25 @@
-//! What the reference's own runs by workers have to keep, one event at a time and in threads: they print what the depth-first run prints, and
-//! their words in use are at most its peak and twice the quota for each marked period. Of a run one event at a time this holds at each moment
-//! with the periods that are ahead then, of which there are at most as many as are marked.
+//! What the reference's own runs by workers have to keep, one event at a time and in threads: they print what the depth-first run prints,
+//! and their words in use are at most its peak and twice the quota for each marked period. Of a run one event at a time this holds at each
+//! moment with the periods that are ahead then, of which there are at most as many as are marked; and its trail is good.
 
 use crate::choices::Pcg;
 use crate::depth_first::{depth_first, PeakReport};
+use crate::good_trail::{verdict, Setting, Verdict};
 use crate::in_threads;
 use crate::machine::{PlayReport, Rules, Stop};
 use crate::random::Random;
+use crate::replay::replay;
 use crate::resolve::resolve;
 use crate::stealing::steal;
 use crate::thread::Code;
-use crate::trace::each_event;
+use crate::trace::{each_event, trace};
+use crate::trail::{record, Numbers};
 use crate::tree::Program;
 
 const STEPS: u64 = 200_000;
 const ARENA: u64 = 1 << 40;
+/// The checker of trails is slow, so it sees no longer ones.
+const STEPS_OF_TRAIL: u64 = 2_000;
 
 /// The promise that a run breaks, or none.
 pub fn broken_promise(program: &Program<String>, number: u64) -> Option<String> {
@@ -27,6 +32,7 @@ pub fn broken_promise(program: &Program<String>, number: u64) -> Option<String> 
     broken_at_a_moment(&code, rules, &serial, random.word())
         .or_else(|| broken_by_theft(&code, rules, &serial, random.word()))
         .or_else(|| broken_by_workers(in_threads::run(&code, rules, number), rules, &serial))
+        .or_else(|| broken_by_trail(&code, rules, &serial, random.word()))
 }
 
 /// Whether a run one event at a time breaks a promise, at the first moment that does or at its end.
@@ -60,4 +66,24 @@ fn broken_by_theft(code: &Code, rules: Rules, serial: &PeakReport, seed: u64) ->
         Ok(stolen) if (&stolen.lines, stolen.finish) == (&serial.lines, serial.finish) => None,
         _ => Some("plain work stealing prints something else than the depth-first run".to_string()),
     }
+}
+
+/// A recorded play is a good trail with its numbers, and each moment of it is the one that the machine had.
+fn broken_by_trail(code: &Code, rules: Rules, serial: &PeakReport, seed: u64) -> Option<String> {
+    if serial.actions > STEPS_OF_TRAIL {
+        return None;
+    }
+    let (mut traced, mut replayed) = (String::new(), String::new());
+    let Ok((events, report)) = record(code, rules, &mut Pcg::from_seed(seed)) else {
+        return Some("a recorded play stops where the depth-first run does not".to_string());
+    };
+    let numbers = Numbers { periods: report.periods, ahead: report.ahead, high: report.high };
+    let setting = Setting::new(code, rules)?;
+    let said = verdict(&setting, &events, numbers);
+    if said != Verdict::Accepted(serial.actions as usize) {
+        return Some(format!("the trail of a play is not accepted: {said:?}"));
+    }
+    replay(&setting, &events, &mut replayed);
+    let is_same = trace(code, rules, &mut Pcg::from_seed(seed), &mut traced).is_ok() && traced == replayed;
+    (!is_same).then(|| "the moments of a trail are not those of its play".to_string())
 }

@@ -1,4 +1,5 @@
-//! Each event of a run, with what is done of the depth-first list after it: once with the deques, and once with the bound on the words in use.
+//! Each event of a run, with what is done of the depth-first list after it: once with the deques, and once with the bound on the words in
+//! use.
 
 use crate::ahead::{Ahead, Places};
 use crate::choices::{Choices, Listed};
@@ -7,9 +8,9 @@ use crate::machine::{Deque, Event, Machine, PlayReport, Rules, Stop, What};
 use crate::thread::{Code, Next};
 use std::fmt::Write;
 
-const TRACE_HEAD: &str =
+pub const TRACE_HEAD: &str =
     "event worker period deque thread action words prefix ahead-now | deque:owner:threads from the top ..\n";
-const BOUND_HEAD: &str = "event words prefix ahead-now bound\n";
+pub const BOUND_HEAD: &str = "event words prefix ahead-now bound\n";
 
 /// Runs a program by the words of choice, and puts a line for each event into the text, with the deques after it.
 pub fn trace(code: &Code, rules: Rules, choices: &mut impl Choices, text: &mut String) -> Result<PlayReport, Stop> {
@@ -56,9 +57,9 @@ pub fn each_event(
     Ok(machine.report())
 }
 
-/// What there is after these workers have moved, one after another; one that cannot move does not, and an idle one steals from the first deque that
-/// has a thread for it: the labels of the threads in the deques, the prefix, the periods ahead, the words in use, and how many are left below the
-/// bound.
+/// What there is after these workers have moved, one after another; one that cannot move does not, and an idle one steals from the first
+/// deque that has a thread for it: the labels of the threads in the deques, the prefix, the periods ahead, the words in use, and how many
+/// are left below the bound.
 pub fn moment(code: &Code, rules: Rules, workers: &[usize]) -> Result<String, Stop> {
     let mut ahead = Ahead::new(Places::new(code, rules.quota, rules.steps).ok_or(Stop::StepsSpent)?);
     let mut machine = Machine::new(code, rules);
@@ -98,7 +99,7 @@ impl Labels {
     /// The action of an event. A forked child gets its label.
     fn what(&mut self, event: &Event) -> String {
         match event.what {
-            What::Stole(from) => format!("steal:{from}"),
+            What::Stole { from, .. } => format!("steal:{from}"),
             What::GaveUp => "give-up".to_string(),
             What::Suspended => "suspend".to_string(),
             What::Forked(child) => {

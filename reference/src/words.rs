@@ -32,11 +32,13 @@ const RULES: [Rule; 6] = [
 ];
 
 const GROUPS: Rule = rule("groups", 1, 8_000, 1, 0);
+/// A trail has fewer actions than a play may have.
+const STEPS_OF_TRAIL: Rule = rule("steps", 1, 400_000, 1, 400_000);
 
 /// The options of the commands that run the machine.
 const OF_MACHINE: &[&str] = &["k", "p", "arena", "steps", "deques", "seed"];
 
-const COMMANDS: [(&str, &[&str]); 11] = [
+const COMMANDS: [(&str, &[&str]); 15] = [
     ("check", &[]),
     ("peak", &["k", "steps"]),
     ("play", OF_MACHINE),
@@ -44,6 +46,10 @@ const COMMANDS: [(&str, &[&str]); 11] = [
     ("make", OF_MACHINE),
     ("loops", OF_MACHINE),
     ("expand", &[]),
+    ("trail", OF_MACHINE),
+    ("verify", &[]),
+    ("replay", &[]),
+    ("replay-bound", &[]),
     ("trace", OF_MACHINE),
     ("bound", OF_MACHINE),
     ("span", &["k", "steps"]),
@@ -55,9 +61,16 @@ const MOST_DIGITS: usize = 20;
 impl Command {
     /// The number of an option, as it was given or by default.
     pub fn number(&self, name: &str) -> u64 {
-        let default = RULES.iter().find(|rule| rule.name == name).map_or(0, |rule| rule.default);
-        self.numbers.get(name).copied().unwrap_or(default)
+        self.numbers.get(name).copied().unwrap_or(rule_of(self.name, name).map_or(0, |rule| rule.default))
     }
+}
+
+/// The rule of an option of a command.
+fn rule_of(command: &str, option: &str) -> Option<&'static Rule> {
+    if (command, option) == ("trail", "steps") {
+        return Some(&STEPS_OF_TRAIL);
+    }
+    RULES.iter().find(|rule| rule.name == option)
 }
 
 /// The command that the words give, or none.
@@ -75,7 +88,7 @@ pub fn read_words(words: &[String]) -> Option<Command> {
             Some(pair) => pair,
             None => (item, rest.next()?.as_str()),
         };
-        let rule = RULES.iter().find(|rule| rule.name == option && options.contains(&rule.name))?;
+        let rule = rule_of(name, option).filter(|rule| options.contains(&rule.name))?;
         if numbers.insert(rule.name, number(value, rule)?).is_some() {
             return None;
         }
