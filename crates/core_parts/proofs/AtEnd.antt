@@ -1,11 +1,9 @@
 -- The thread that stands directly below a worker's top thread, which is before its End.
-use Rattle.std.proofs.Common.{◌≡◌, ℕ, ◌≤◌, List, [], ◌∷◌, ◌++◌, map, reverse, inl, inr, refl, sym, ap, subst, ◌∙◌, arith, true≢false}
+use Rattle.std.proofs.Common.{◌≡◌, ℕ, ◌≤◌, List, [], ◌∷◌, map, reverse, inl, inr, refl, sym, ap, subst, ◌∙◌, arith, true≢false}
 use Rattle.std.specs.Prelude.{Bool, true, false}
 use Rattle.std.proofs.lemmas.List.{reverse-append, map-append}
-use Rattle.dag_order.specs.declared.thread_id.ThreadId.{ThreadId}
 use Rattle.depth_first_list.specs.Actions.{record_words}
 use Rattle.depth_first_run.specs.States.{Setting}
-use Rattle.depth_first_run.specs.Run.{list_of}
 use Rattle.depth_first_run.proofs.Built.{whole_is_depth_first}
 use Rattle.deque_list.specs.declared.deque_id.DequeId.{DequeId}
 use Rattle.lawful_books.specs.Lists.{Among, Each}
@@ -38,7 +36,7 @@ among_back : (c : parts.Child) (xs : List Child) → Among c (map child_shown (r
 among_back c [] there = absurd there
 among_back c (y ∷ xs) there = elim (among_parts c (map child_shown (reverse xs)) (child_shown y ∷ []) (subst (Among c) (ap (map child_shown) (reverse-append (y ∷ []) xs) ∙ map-append child_shown (reverse xs) (y ∷ [])) there)) [
   | inl before ↦ let found = among_back c xs before in (found.0, inr found.1, found.2)
-  | inr last ↦ elim last [ | inl same ↦ (y, inl refl, sym same) | inr none ↦ absurd none ]
+  | inr last ↦ elim last [ inl same ↦ (y, inl refl, sym same) | inr none ↦ absurd none ]
 ]
 
 -- a thread waits for a result, where one of its children has its id and each that has it is the child

@@ -27,7 +27,7 @@ use Rattle.depth_first_run.specs.Run.{list_of}
 use Rattle.space_ledger.specs.declared.moved.Moved.{Moved}
 use Rattle.space_ledger.specs.Sums.{total_change}
 use Rattle.step_laws.specs.Moves.{AreMovesOf}
-use Rattle.step_laws.specs.Standing.{Showing, StandsAt, StandsAfter, Counts, Settles}
+use Rattle.step_laws.specs.Standing.{StandsAt, StandsAfter, Counts, Settles}
 use Rattle.step_laws.proofs.Going.{runs_go_on, moves_go_on}
 use Rattle.step_laws.proofs.Labels.{does_keeps_labels}
 use Rattle.step_laws.proofs.Standing.{actions_stand, settled_periods}

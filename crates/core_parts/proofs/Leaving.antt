@@ -1,8 +1,8 @@
 -- How a run goes on by an event that does nothing: a deque that is given up, a thread that waits, a theft.
-use Rattle.std.proofs.Common.{◌≡◌, ℕ, ◌+◌, ◌≤◌, ◌<◌, List, [], length, refl, sym, subst, ◌∙◌, arith, append-nil}
+use Rattle.std.proofs.Common.{◌≡◌, ℕ, ◌+◌, ◌≤◌, ◌<◌, List, length, sym, subst, ◌∙◌, arith}
 use Rattle.std.specs.Prelude.{None, Some, slice_get, nat_lt}
 use Rattle.dag_order.specs.declared.thread_id.ThreadId.{ThreadId}
-use Rattle.depth_first_list.specs.Actions.{Deed, record_words, joins}
+use Rattle.depth_first_list.specs.Actions.{Deed, record_words}
 use Rattle.depth_first_run.specs.States.{Setting}
 use Rattle.depth_first_run.proofs.Built.{whole_is_depth_first}
 use Rattle.deque_list.specs.declared.deque_id.DequeId.{DequeId}

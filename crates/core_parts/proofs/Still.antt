@@ -1,22 +1,21 @@
 -- Where nothing happens: the same in another order, a thread that came nearer to its next action, and a result that is handed over.
-use Rattle.std.proofs.Common.{◌≡◌, ◌≢◌, ℕ, ◌+◌, ◌≤◌, List, [], ◌∷◌, ◌++◌, map, reverse, inl, inr, refl, sym, ap, subst, ◌∙◌, arith}
+use Rattle.std.proofs.Common.{◌≡◌, ℕ, ◌+◌, ◌≤◌, List, ◌∷◌, ◌++◌, map, reverse, refl, sym, ap, subst, ◌∙◌, arith}
 use Rattle.std.proofs.Math.Logic.{∥∥₁_map}
 use Rattle.std.specs.Prelude.{Some, pos}
 use Rattle.std.proofs.lemmas.List.Sorted.{IsPermutation-map, IsPermutation-refl}
 use Rattle.std.proofs.lemmas.List.{map-append}
-use Rattle.dag_order.specs.declared.thread_id.ThreadId.{ThreadId}
 use Rattle.deque_list.specs.declared.deque_id.DequeId.{DequeId}
 use Rattle.deque_list.specs.Deques.{Deque}
-use Rattle.depth_first_list.specs.Actions.{Action, record_words}
+use Rattle.depth_first_list.specs.Actions.{record_words}
 use Rattle.depth_first_run.specs.States.{Setting}
 use Rattle.depth_first_run.proofs.Built.{whole_is_depth_first}
-use Rattle.lawful_books.specs.Lists.{Among, Each}
-use Rattle.lawful_books.proofs.Lists.{each_map, each_change, each_at, among_middle, middle_is_not_nil}
-use Rattle.deque_machine.specs.Moments.{Moment, done_at}
+use Rattle.lawful_books.specs.Lists.{Each}
+use Rattle.lawful_books.proofs.Lists.{each_map, each_change, each_at}
+use Rattle.deque_machine.specs.Moments.{Moment}
 use Rattle.deque_machine.specs.Runs.{Pair, moves}
 use Rattle.space_ledger.specs.Sums.{total_change}
 use Rattle.node_table.specs.Table.{Table}
-use Rattle.period_table.specs.Tables.{periods_of, deque_at}
+use Rattle.period_table.specs.Tables.{deque_at}
 use Rattle.moment_parts.specs.Parts.{Parts}
 use Rattle.moment_parts.specs.Events.{HandsOver}
 use Rattle.depth_first_run.specs.Run.{list_of}

@@ -156,9 +156,11 @@ module _ (t : Table) (k limit : ℕ) (s : Scheduler) {worker : ℕ} {id : DequeI
       let few = release_within top words b.can.placed b.can.is_next in let out = words_out t k limit s stands top (Release words) b in omega (arith, few, out)
   may_act Dummy b used alloc fork bounded fits there = tt
   may_act (Fault fault) b used alloc fork bounded fits there = let out = words_out t k limit s stands top (Fault fault) b in omega (arith, out)
-  may_act End b used alloc fork bounded fits there =
-      ((let few = end_within top b.can.placed in let out = words_out t k limit s stands top End b in omega (arith, few, out)), no_result t k limit s stands top End b,
-      λ others its. parent_waits t k limit s worker id top b others its)
+  may_act End b used alloc fork bounded fits there = (
+    (let few = end_within top b.can.placed in let out = words_out t k limit s stands top End b in omega (arith, few, out)),
+    no_result t k limit s stands top End b,
+    λ others its. parent_waits t k limit s worker id top b others its,
+  )
 
   -- the kept result of a child that is joined may come, where none was delivered
   pub may_come : (next : Next) (b : IsBeforeAction t k limit s worker id top next) (used : ℕ) → Decides s worker k top next (decisions.Act used)

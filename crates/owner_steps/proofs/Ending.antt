@@ -33,7 +33,7 @@ use Rattle.thread_frames.specs.Views.{label_of, children_of, ended_label}
 use Rattle.thread_points.specs.Points.{words_at_end}
 use Rattle.thread_parts.specs.Shown.{thread_shown, result_shown}
 use Rattle.thread_parts.proofs.Threads.{deliveries_hand_over}
-use Rattle.deque_events.specs.Shown.{deque_shown, deque_with, parts_of, Stands, Becomes, parts_under}
+use Rattle.deque_events.specs.Shown.{deque_shown, deque_with, parts_of, Stands, Becomes}
 use Rattle.deque_events.specs.Seats.{KeepsSeats, LeavesSeat}
 use Rattle.thread_events.specs.Acts.{Always, EndsAboveBy, EndsAndWakesBy, EndsAndLeavesBy}
 use Rattle.core_parts.specs.declared.scheduler.Scheduler.{Scheduler}
@@ -105,8 +105,12 @@ module _ (worker : ℕ) (id : DequeId) (top : Thread) (before after : Scheduler)
           → Does k (list_of c) (parts_in (held_under before stands top)) worker (IsOfTheList.place is) between
       above_does c k is period period_is =
           subst (λ p. Does k (list_of c) p worker (IsOfTheList.place is) between) (under_is before stands top)
-          (subst (λ xs. Does k (list_of c) (record { deques = map (deque_shown thread_shown) stands.left ++ record { id = id.0; owner = Some worker; threads = thread_shown top ∷ map thread_shown xs } ∷ map (deque_shown thread_shown) stands.right;
-          waiting = waiting_now; results = kept_now; periods = periods_of before.table }) worker (IsOfTheList.place is) between) (sym come.items_are)
+          (subst (λ xs. Does k (list_of c) (record {
+            deques = map (deque_shown thread_shown) stands.left ++ record { id = id.0; owner = Some worker; threads = thread_shown top ∷ map thread_shown xs } ∷ map (deque_shown thread_shown) stands.right;
+            waiting = waiting_now;
+            results = kept_now;
+            periods = periods_of before.table;
+          }) worker (IsOfTheList.place is) between) (sym come.items_are)
           (acts c k is come.parent come.below waiting_now kept_now its period period_is))
 
       -- the worker works on them

@@ -1,5 +1,5 @@
 -- What an action of a worker's top thread comes to.
-use Rattle.std.specs.Prelude.{◌≡◌, ℕ, ◌+◌, Bool, true, false, List, [], ◌∷◌, ◌++◌, Some, ℤ, pos, ◌+ℤ◌, ◌-ℤ◌}
+use Rattle.std.specs.Prelude.{◌≡◌, ℕ, ◌+◌, Bool, List, ◌++◌, Some, ℤ, pos, ◌+ℤ◌, ◌-ℤ◌}
 use Rattle.dag_order.specs.declared.action_id.ActionId.{ActionId}
 use Rattle.deque_list.specs.declared.deque_id.DequeId.{DequeId}
 use Rattle.space_ledger.specs.declared.moved.Moved.{Moved}

@@ -38,7 +38,12 @@ pub(crate) fn take_result(results: &mut ThreadMap<Ended>, top: &mut Boxed<Thread
 }
 
 /// The result of a thread that ended comes at once to its parent, which is on top of the worker's deque without it.
-pub(crate) fn give_below(list: &mut List<Boxed<Thread>>, worker: usize, deque: DequeId, ended: Ended)
+pub(crate) fn give_below(
+    list: &mut List<Boxed<Thread>>,
+    worker: usize,
+    deque: DequeId,
+    ended: Ended,
+)
     requires { (parent : Thread) × (below : AnyList Thread) × Stands list.old worker deque (parent ∷ below)
         × IsAwaited (label_of parent) ended (children_of parent) }
     ensures { (items : AnyList Thread) (stands : Stands list.old worker deque items) → ComesBelow worker deque ended list.old list.new items stands }

@@ -1,4 +1,7 @@
-//! What one step of a run changes, and what the rules of play want, as a scheduler cites it.
+//! Where a scheduler stands, what one step of a run changes, and what the rules of play want, as a scheduler cites it.
+//!
+//! What a scheduler shows of itself (parts, words in use, how many periods were begun, moves) stands at a lawful moment, and after each event
+//! at the next one. This is said over plain data, for a scheduler in one hand and for one whose parts are in slots.
 //!
 //! A scheduler that does one event after another needs of the machine a few facts of each step: that the run goes on with it, what it adds
 //! to the moves, the actions and the periods, that what it does is what the rules want of the worker, and how the End of the root comes. They

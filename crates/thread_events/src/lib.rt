@@ -16,7 +16,9 @@ mod forked;
 mod forks;
 
 pub use acts::{alloc, dummy, fault, join, release};
-pub use done::{alloc_done, dummy_done, end_done, fault_done, fork_done, join_done, name_of, release_done};
+pub use done::{
+    alloc_done, dummy_done, end_done, fault_done, fork_done, join_done, name_of, release_done,
+};
 pub use ends::{end_above, end_and_leave, end_and_wake};
 pub use forked::Forked;
 pub use forks::fork;

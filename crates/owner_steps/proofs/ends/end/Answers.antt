@@ -2,7 +2,6 @@ use Rattle.std.proofs.Common.{subst, ap, ◌∙◌, ◌≡◌}
 use Rattle.std.specs.Prelude.{[], Some, not, IsTrue, ◌↔◌}
 use Rattle.core_parts.specs.declared.scheduler.Scheduler.{Scheduler}
 use Rattle.thread_frames.specs.Views.{label_of}
-use Rattle.thread_frames.specs.declared.thread.Thread.{Thread}
 use Rattle.owner_steps.proofs.Ending.{forked_is, end_performs}
 use Rattle.owner_steps.proofs.ends.end.Goals as goal
 

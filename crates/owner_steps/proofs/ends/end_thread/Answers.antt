@@ -1,6 +1,5 @@
-use Rattle.std.proofs.Common.{length, ap, ◌<◌, arith}
+use Rattle.std.proofs.Common.{length, ap, arith}
 use Rattle.std.proofs.lemmas.List.{nil_from_length}
-use Rattle.std.specs.Prelude.{[]}
 use Rattle.deque_events.proofs.Putting.{live, at_rank, here}
 use Rattle.owner_steps.proofs.ends.end_thread.Goals as goal
 
