@@ -1,6 +1,6 @@
-ghost use Rattle.std.specs.Prelude.{◌≡◌, ℕ, ◌≤◌, ◌<◌, [], ◌∷◌, ◌++◌, List, length, IfOk, OnErr, MatchResult, Ok, Err};
-ghost use Rattle.std.specs.Prelude.{pos};
-ghost use Rattle.std.specs.Int.{int_max};
+ghost use Rattle.std.specs.Prelude.{◌≡◌, ℕ, ◌+◌, ◌≤◌, ◌<◌, ◌^◌, [], ◌∷◌, ◌++◌, List, length, IfOk, OnErr, MatchResult, Ok, Err};
+ghost use Rattle.std.specs.Prelude.{pos, ◌+ℤ◌, FitsSigned};
+ghost use Rattle.std.specs.Int.{int_max, w64};
 ghost use Rattle.depth_first_list.specs.Actions.{Deed, kind_of, weight_of};
 ghost use Rattle.serial_journal.specs.Stops.{OnStop};
 
@@ -53,7 +53,12 @@ impl Journal {
     }
 
     /// A statement begins. Behind an error nothing is changed, here and in the other calls.
+    ///
+    /// # Errors
+    ///
+    /// `OutOfMemory` exactly where 64 bits do not count one item more: no memory is asked for.
     pub fn begin(&mut self) -> Result<(), SerialStop>
+        ensures many { OnErr result (2 ^ 64 ≤ self.old.items + 1) }
         ensures unchanged { OnErr result (IsUnchanged self.old self.new) }
         ensures births { births_of self.new ≡ births_of self.old }
         ensures keeps_up { (limit line : ℕ) (items : List Item) → KeepsUp limit items self.old
@@ -63,6 +68,10 @@ impl Journal {
     }
 
     /// A number is printed. It is no part of the output where a fault came before.
+    ///
+    /// # Errors
+    ///
+    /// `OutOfMemory`, where memory is wanting for the number, or 64 bits do not count one item more.
     pub fn print(&mut self, value: i64) -> Result<(), SerialStop>
         ensures unchanged { OnErr result (IsUnchanged self.old self.new) }
         ensures births { births_of self.new ≡ births_of self.old }
@@ -81,7 +90,12 @@ impl Journal {
     }
 
     /// A fault comes. It is the finish where it is the first one.
+    ///
+    /// # Errors
+    ///
+    /// `OutOfMemory` exactly where 64 bits do not count one item more: no memory is asked for.
     pub fn fail(&mut self, fault: FaultAt) -> Result<(), SerialStop>
+        ensures many { OnErr result (2 ^ 64 ≤ self.old.items + 1) }
         ensures unchanged { OnErr result (IsUnchanged self.old self.new) }
         ensures births { births_of self.new ≡ births_of self.old }
         ensures keeps_up { (limit : ℕ) (items : List Item) → KeepsUp limit items self.old
@@ -158,8 +172,9 @@ impl Journal {
         }
     }
 
-    // One item more.
+    // One item more, where 64 bits count it.
     fn count(&mut self) -> Result<(), SerialStop>
+        ensures many { OnErr result (2 ^ 64 ≤ self.old.items + 1) }
         ensures births { self.new.births ≡ self.old.births }
         ensures unchanged { OnErr result (self.new ≡ self.old) }
         ensures cases { MatchResult result (λ _. Counted self.old self.new) (λ stop. OnStop stop ⊥) }
@@ -178,8 +193,7 @@ impl Journal {
         if self.limit <= self.actions.len() {
             return Err(SerialStop::StepsSpent);
         }
-        let live = self.live.checked_add(action.change);
-        let live = live.ok_or(SerialStop::OutOfMemory)?;
+        let live = raised(self.live, action.change)?;
         self.actions.reserve()?;
         self.count()?;
         self.live = live;
@@ -197,9 +211,19 @@ fn above_zero(words: i64) -> u64
     if words < 0 { 0 } else { words as u64 }
 }
 
-// By how many words the live words rise.
+// The words that are live behind an action, where 64 bits with a sign count them. No memory is asked for.
+fn raised(live: i64, change: i64) -> Result<i64, SerialStop>
+    ensures sum { MatchResult result (λ sum. sum ≡ live +ℤ change) (λ stop. OnStop stop ⊥) }
+    ensures many { OnErr result (FitsSigned w64 (live +ℤ change) → ⊥) }
+{
+    let sum = live.checked_add(change);
+    sum.ok_or(SerialStop::OutOfMemory)
+}
+
+// By how many words the live words rise, where 63 bits count the words. No memory is asked for.
 fn change_of(kind: Kind, words: u64) -> Result<i64, SerialStop>
-    ensures { (deed : Deed) → kind ≡ kind_of deed → MatchResult result (λ change. change ≡ weight_of deed words) (λ stop. OnStop stop ⊥) }
+    ensures many { OnErr result (2 ^ 63 ≤ words) }
+    ensures change { (deed : Deed) → kind ≡ kind_of deed → MatchResult result (λ change. change ≡ weight_of deed words) (λ stop. OnStop stop ⊥) }
 {
     let words = i64::try_from(words).or(Err(SerialStop::OutOfMemory))?;
     Ok(match kind {

@@ -15,5 +15,5 @@ returns-clause-keeps_up c = λ limit items label deed keeps labelled kind plain.
     let shown : Shown = record { name = c.args.name; kind = c.args.kind; change = to_z w64 (of_z w64 c.in_ok-change.change) } in
     ending (λ _. Recorded shown c.args.self.now c.write_down.new.self) (λ _. KeepsUp limit (items ++ acted (action_named label c.args.name.index deed c.args.words) ∷ []) c.write_down.new.self)
     (c.args.self.now.limit ≤ length (entries c.args.self.now.actions)) (limit ≤ length (actions_of items)) c.write_down.result
-    (λ _ recorded. act_kept limit items label deed c.args.words shown c.args.self.now c.write_down.new.self recorded c.write_down.ensures.births keeps labelled kind (same ∙ c.in_ok-change.ensures deed kind) plain)
+    (λ _ recorded. act_kept limit items label deed c.args.words shown c.args.self.now c.write_down.new.self recorded c.write_down.ensures.births keeps labelled kind (same ∙ c.in_ok-change.ensures.change deed kind) plain)
     (λ full. limit_reached limit items c.args.self.now keeps full) c.write_down.ensures.cases
