@@ -1,5 +1,5 @@
 -- What a call does to the state that a thread is in.
-use Rattle.std.proofs.Common.{◌≡◌, ◌⊎◌, inl, inr, ℕ, suc, ◌+◌, ◌<◌, ◌≤◌, List, [], ◌∷◌, ◌++◌, length, ℤ, Result, Ok, Err, MatchResult, Option, Some, None, refl, sym, ◌∙◌, ap, subst, arith, append-nil, length-append}
+use Rattle.std.proofs.Common.{◌≡◌, ◌⊎◌, inl, inr, ℕ, zero, suc, ◌+◌, ◌<◌, ◌≤◌, List, [], ◌∷◌, ◌++◌, length, ℤ, Result, Ok, Err, MatchResult, Option, Some, None, refl, sym, ◌∙◌, ap, subst, arith, append-nil, length-append}
 use Rattle.std.specs.Option.{SomeIff}
 use Rattle.std.proofs.lemmas.Bool.{cases_lt}
 use Rattle.std.specs.Result.{IsErrAnd}
@@ -280,3 +280,17 @@ all_callers t seen i words same past so_far =
     let all = ap (λ (xs : List RustStore). stored_words (map store_shown xs)) (take_all i t.callers.items past_callers) in
     let turned = stored_reverse (map store_shown t.callers.items) in
     omega (arith, so_far, all, turned)
+
+-- the words of some callers are not more than those of all
+some_callers : (callers : List RustStore) (i : ℕ) → stored_words (map store_shown (take i callers)) ≤ stored_words (map store_shown callers)
+some_callers [] zero = omega arith
+some_callers [] (suc i) = omega arith
+some_callers (caller ∷ callers) zero = omega arith
+some_callers (caller ∷ callers) (suc i) = let rest = some_callers callers i in omega (arith, rest)
+
+-- nor those of a thread's own store and of some of its callers than all that it holds
+pub within_holdings : (t : Thread) (i sum : ℕ) → sum ≡ held_words (store_shown t.store).blocks + stored_words (map store_shown (take i t.callers.items)) → sum ≤ thread_holdings t
+within_holdings t i sum same =
+    let some = some_callers t.callers.items i in
+    let turned = stored_reverse (map store_shown t.callers.items) in
+    omega (arith, same, some, turned)

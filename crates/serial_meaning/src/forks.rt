@@ -15,7 +15,7 @@ ghost use Rattle.serial_meaning.specs.Frames.{part_shown, names_of, assigns_of};
 use crate::frame::Frame;
 use crate::machine::Machine;
 use crate::part::Part;
-use crate::runner::Runner;
+use crate::runner::{Runner, words_in};
 use crate::thread::Thread;
 use dag_order::Kind;
 use depth_first_list::RECORD_WORDS;
@@ -116,7 +116,8 @@ impl<'a> Runner<'a> {
             → Goes limit self.old result self.new (joined (assigns_of child.entry) ordinal d) }
     {
         if self.thread.faulted {
-            return self.act(Kind::Join, store.held_words());
+            let brought = words_in(&store)?;
+            return self.act(Kind::Join, brought);
         }
         if faulted {
             let words = self.holdings()?;

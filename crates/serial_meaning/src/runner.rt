@@ -1,6 +1,8 @@
-ghost use Rattle.std.specs.Prelude.{◌≡◌, ℕ, Ok, MatchResult};
+ghost use Rattle.std.specs.Prelude.{◌≡◌, ℕ, ◌≤◌, ◌^◌, Ok, OnErr, MatchResult};
 ghost use Rattle.depth_first_list.specs.Actions.{Deed, kind_of};
+ghost use Rattle.depth_first_run.specs.Stores.{held_words};
 ghost use Rattle.depth_first_run.specs.States.{with_action, with_fault, with_item, printed, emptied};
+ghost use Rattle.serial_store.specs.Shown.{store_shown};
 ghost use Rattle.serial_journal.specs.Stops.{OnStop};
 ghost use Rattle.serial_journal.specs.Telling.{IsNoFork};
 
@@ -52,12 +54,19 @@ impl<'a> Runner<'a> {
     }
 
     /// The words that the thread holds, in all its open calls.
+    ///
+    /// # Errors
+    ///
+    /// 64 bits do not count them; memory is then said to be wanting.
     pub(crate) fn holdings(&self) -> Result<u64, SerialStop>
-        ensures { MatchResult result (λ words. words ≡ thread_holdings self.now.thread) (λ stop. OnStop stop ⊥) }
+        ensures many { OnErr result (2 ^ 64 ≤ thread_holdings self.now.thread) }
+        ensures words { MatchResult result (λ words. words ≡ thread_holdings self.now.thread) (λ stop. OnStop stop ⊥) }
     {
-        let mut words = self.thread.store.held_words();
+        let own = words_in(&self.thread.store)?;
+        let mut words = own;
         for caller in &self.thread.callers {
-            let more = words.checked_add(caller.held_words());
+            let held = words_in(caller)?;
+            let more = words.checked_add(held);
             words = more.ok_or(SerialStop::OutOfMemory)?;
         }
         Ok(words)
@@ -100,4 +109,16 @@ impl<'a> Runner<'a> {
         let words = self.holdings()?;
         self.fault_with(alloc, words, kind, line)
     }
+}
+
+/// The words of the blocks of a store.
+///
+/// # Errors
+///
+/// 64 bits do not count them; memory is then said to be wanting.
+pub(crate) fn words_in(store: &Store) -> Result<u64, SerialStop>
+    ensures many { OnErr result (2 ^ 64 ≤ held_words (store_shown store.now).blocks) }
+    ensures words { MatchResult result (λ words. words ≡ held_words (store_shown store.now).blocks) (λ stop. OnStop stop ⊥) }
+{
+    store.held_words().ok_or(SerialStop::OutOfMemory)
 }

@@ -1,14 +1,8 @@
 -- The words of blocks.
-use Rattle.std.proofs.Common.{◌≡◌, ℕ, ◌+◌, ◌<◌, ◌≤◌, suc, List, length, drop, get_or, ap, sym, ◌∙◌, arith, drop-cons}
-use Rattle.block_arena.specs.declared.size.TheConstants.{MAX_WORDS}
-use Rattle.block_arena.specs.Size.{words_taken}
+use Rattle.std.proofs.Common.{◌≡◌, ℕ, ◌+◌, ◌<◌, suc, List, length, drop, get_or, ap, sym, ◌∙◌, arith, drop-cons}
 use Rattle.depth_first_run.specs.Stores.{block_words, held_words}
 use Rattle.serial_store.specs.declared.held_block.HeldBlock.{HeldBlock}
 use Rattle.serial_store.specs.Shown.{held_of}
-
-pub most_words : (n : ℕ) → words_taken n ≤ MAX_WORDS → block_words n ≤ 67108864
-unfolding block_words
-most_words n h = h
 
 -- the words of a block, and of those behind it
 pub words_next : (hs : List HeldBlock) (i : ℕ) (h : HeldBlock) → h ≡ get_or hs i h → i < length hs →

@@ -1,6 +1,6 @@
 //! The blocks of a store.
 
-ghost use Rattle.std.specs.Prelude.{◌≡◌, ◌≤◌, ◌<◌, ◌^◌, length, pos, replicate, slice_set, OnOk, OnErr};
+ghost use Rattle.std.specs.Prelude.{◌≡◌, ◌≤◌, ◌<◌, ◌^◌, length, pos, replicate, slice_set, IsNone, IfSome, OnOk, OnErr};
 ghost use Rattle.language_limits.specs.declared.TheConstants.{LONGEST_BLOCK};
 ghost use Rattle.par_tree.specs.View.{name_tree};
 ghost use Rattle.depth_first_run.specs.Stores.{block_of, hold_block, drop_block, write_block, block_words, held_words};
@@ -10,7 +10,7 @@ ghost use Rattle.serial_store.specs.Effects.{Puts};
 
 use crate::held_block::HeldBlock;
 use crate::places::place_of_block;
-use crate::store::{MAX_BLOCKS, Store};
+use crate::store::Store;
 use block_arena::{OwnBlock, PIECE_WORDS};
 use dag_order::FaultKind;
 use number_operators::place_up_to;
@@ -85,10 +85,10 @@ impl<'a> Store<'a> {
         words_for(self.length(name))
     }
 
-    /// How many words all blocks take.
-    pub fn held_words(&self) -> u64
-        ensures value { result ≡ held_words (store_shown self.now).blocks }
-        ensures bound { result ≤ 2 ^ 46 }
+    /// How many words all blocks take. None exactly where 64 bits do not count them.
+    pub fn held_words(&self) -> Option<u64>
+        ensures some { IfSome result (λ words. words ≡ held_words (store_shown self.now).blocks) }
+        ensures none { IsNone result → 2 ^ 64 ≤ held_words (store_shown self.now).blocks }
     {
         words_of(&self.blocks)
     }
@@ -98,9 +98,6 @@ impl<'a> Store<'a> {
         ensures ok { OnOk result (store_shown self.new ≡ hold_block (name_tree name.now) block.items (store_shown self.old)) }
         ensures err { OnErr result (store_shown self.new ≡ store_shown self.old) }
     {
-        if self.blocks.len() >= MAX_BLOCKS {
-            return Err(AllocError);
-        }
         self.blocks.push(HeldBlock { name, block })?;
         Ok(())
     }
@@ -142,15 +139,14 @@ fn words_for(len: u32) -> u64
     u64::from(len.div_ceil(PIECE_WORDS)) * u64::from(PIECE_WORDS)
 }
 
-/// The words of blocks.
-fn words_of(blocks: &[HeldBlock]) -> u64
-    requires { length blocks.now ≤ MAX_BLOCKS }
-    ensures value { result ≡ held_words (held_of blocks.now) }
-    ensures bound { result ≤ 2 ^ 46 }
+/// The words of blocks, where 64 bits count them.
+fn words_of(blocks: &[HeldBlock]) -> Option<u64>
+    ensures some { IfSome result (λ words. words ≡ held_words (held_of blocks.now)) }
+    ensures none { IsNone result → 2 ^ 64 ≤ held_words (held_of blocks.now) }
 {
     let mut words = 0u64;
     for held in blocks {
-        words += words_for(held.block.len());
+        words = words.checked_add(words_for(held.block.len()))?;
     }
-    words
+    Some(words)
 }

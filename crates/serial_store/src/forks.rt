@@ -11,7 +11,7 @@ ghost use Rattle.depth_first_run.specs.Branches.{child_store, parent_store, join
 use crate::branch::Branch;
 use crate::held_block::HeldBlock;
 use crate::integer::Integer;
-use crate::store::{MAX_BLOCKS, Store};
+use crate::store::Store;
 use par_tree::Stmt;
 use std::alloc::{AllocError, Global};
 
@@ -58,9 +58,6 @@ impl<'a> Store<'a> {
             (store_shown self.old)) }
         ensures err { OnErr result (store_shown self.new ≡ store_shown self.old) }
     {
-        if self.blocks.len() + child.blocks.len() > MAX_BLOCKS {
-            return Err(AllocError);
-        }
         let asked = Branch::for_integers(alloc, branch, &self.integers, &child.integers)?;
         let integers = brought_back(alloc, &self.integers, &child.integers, &asked)?;
         let mut blocks = child.blocks;
@@ -74,9 +71,6 @@ impl<'a> Store<'a> {
         ensures ok { OnOk result (store_shown self.new ≡ joined_store no_name (store_shown child.entry) (store_shown self.old)) }
         ensures err { OnErr result (store_shown self.new ≡ store_shown self.old) }
     {
-        if self.blocks.len() + child.blocks.len() > MAX_BLOCKS {
-            return Err(AllocError);
-        }
         let mut blocks = child.blocks;
         self.blocks.append(&mut blocks)
     }

@@ -27,4 +27,4 @@ pub use answer::Answer;
 pub use calls::{lend_back, pass};
 pub use expressions::evaluate;
 pub use stop::Stop;
-pub use store::{MAX_BLOCKS, Store};
+pub use store::Store;

@@ -1,11 +1,5 @@
-ghost use Rattle.std.specs.Prelude.{◌≤◌, vec_len};
-ghost use Rattle.serial_store.specs.declared.store.TheConstants.{MAX_BLOCKS};
-
 use crate::held_block::HeldBlock;
 use crate::integer::Integer;
-
-/// The most blocks that a store holds: more is want of memory.
-pub const MAX_BLOCKS: usize = 1_048_576;
 
 /// The integers and the blocks that a thread can reach.
 ///
@@ -14,5 +8,4 @@ pub const MAX_BLOCKS: usize = 1_048_576;
 pub struct Store<'a> {
     pub(crate) integers: Vec<Integer<'a>>,
     pub(crate) blocks: Vec<HeldBlock<'a>>,
-    ghost few: { vec_len blocks ≤ MAX_BLOCKS },
 }

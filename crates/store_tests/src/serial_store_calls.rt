@@ -18,14 +18,8 @@ fn integers_are_set<'a>(rt: &impl Abort, store: &mut Store<'a>, x: &'a Name, y: 
 
 fn seventeen_are_held<'a>(rt: &(impl Abort + AllocGlobal), store: &mut Store<'a>, b: &'a Name) {
     store.allocate(rt.alloc(), b, 17).expect(rt, "memory");
-    assert_eq!(rt;
-        [
-            u64::from(store.length(b)),
-            store.words(b),
-            store.held_words()
-        ],
-        [17, 32, 32]
-    );
+    assert_eq!(rt; [u64::from(store.length(b)), store.words(b)], [17, 32]);
+    assert_eq!(rt; store.held_words(), Some(32));
 }
 
 fn put(rt: &impl Abort, store: &mut Store, name: &Name, place: i64, fault: Option<FaultKind>) {
@@ -50,7 +44,7 @@ fn the_length_is_told(rt: &(impl Abort + AllocGlobal), store: &Store) {
 
 fn the_block_is_released(rt: &(impl Abort + AllocGlobal), store: &mut Store, b: &Name) {
     store.release(rt.alloc(), b);
-    assert_eq!(rt; [u64::from(store.length(b)), store.held_words()], [0, 0]);
+    assert_eq!(rt; (store.length(b), store.held_words()), (0, Some(0)));
 }
 
 #[test]

@@ -8,5 +8,5 @@ pub returns : goal.returns
 returns c = λ limit s is.
     at_same limit c.args.self.now c.fault_with.result c.fault_with.new.self
     (fault_of c.in_ok-words.words c.args.kind c.args.line s) (with_fault c.args.kind c.args.line s)
-    (holdings_are (births_of c.args.self.now.journal) c.args.self.now.thread s is.thread c.args.kind c.args.line c.in_ok-words.words c.in_ok-words.ensures)
+    (holdings_are (births_of c.args.self.now.journal) c.args.self.now.thread s is.thread c.args.kind c.args.line c.in_ok-words.words c.in_ok-words.ensures.words)
     (c.fault_with.ensures limit s is)

@@ -13,21 +13,21 @@ use Rattle.serial_meaning.proofs.runner.Runner.join.Goals as goal
 
 pub returns-then-self : goal.returns-then-self
 returns-then-self c = λ limit ordinal d store ended s is.
-    at_same limit c.args.self.now c.act.result c.act.new.self (with_action (deeds.joins ordinal) c.held_words.result s) (joined (assigns_of c.args.child) ordinal d s)
-    (joined_when_faulted limit (assigns_of c.args.child) ordinal c.held_words.result c.args.self.now c.args.store d s is c.if-self.true store c.held_words.ensures.value)
+    at_same limit c.args.self.now c.act.result c.act.new.self (with_action (deeds.joins ordinal) c.in_ok-brought.brought s) (joined (assigns_of c.args.child) ordinal d s)
+    (joined_when_faulted limit (assigns_of c.args.child) ordinal c.in_ok-brought.brought c.args.self.now c.args.store d s is c.if-self.true store c.in_ok-brought.ensures.words)
     (c.act.ensures limit (deeds.joins ordinal) refl tt s is)
 
 pub returns-in_err-act : goal.returns-in_err-act
 returns-in_err-act c = λ limit ordinal d store ended s is.
     let t : State = joined (assigns_of c.args.child) ordinal d s in
-    let same = joined_to_faulted limit (assigns_of c.args.child) ordinal c.in_ok-words.words c.args.self.now d s is c.if-self.false (ended ∙ c.if-faulted.true) c.in_ok-words.ensures in
+    let same = joined_to_faulted limit (assigns_of c.args.child) ordinal c.in_ok-words.words c.args.self.now d s is c.if-self.false (ended ∙ c.if-faulted.true) c.in_ok-words.ensures.words in
     err_exit (λ _. Is limit c.act-then-faulted.new.self t × (births_of c.act-then-faulted.new.self.journal ≡ births_of c.args.self.now.journal)) (IsBeyond limit t)
     c.from_residual-in_err-act.result c.in_err-act.field-0.0 c.from_residual-in_err-act.ensures.1
     (stops_so _ _ c.in_err-act.field-0.0 (λ more. subst (IsBeyond limit) same more) (c.in_err-act.ensures limit (deeds.joins ordinal) refl tt s is))
 
 pub returns-then-faulted : goal.returns-then-faulted
 returns-then-faulted c = λ limit ordinal d store ended s is.
-    let same = joined_to_faulted limit (assigns_of c.args.child) ordinal c.in_ok-words.words c.args.self.now d s is c.if-self.false (ended ∙ c.if-faulted.true) c.in_ok-words.ensures in
+    let same = joined_to_faulted limit (assigns_of c.args.child) ordinal c.in_ok-words.words c.args.self.now d s is c.if-self.false (ended ∙ c.if-faulted.true) c.in_ok-words.ensures.words in
     let acted = c.in_ok-act.ensures limit (deeds.joins ordinal) refl tt s is in
     let emptied_now = c.empty.ensures limit (with_action (deeds.joins ordinal) c.in_ok-words.words s) acted.0 in
     (subst (λ (v : State). Is limit c.empty.new.self v) same emptied_now.0, emptied_now.1 ∙ acted.1)

@@ -30,12 +30,12 @@ returns c = λ limit s is.
     elim c.match-pass.branch [
       | in-Ok w ↦ at_joined limit run w.fault_with.result c.match-pass.result w.fault_with.new.self c.match-pass.self
           (fault_of c.in_ok-words.words c.args.limit line moved) (refused line c.args.limit (all_passed s.store qs args) s) w.result-is w.self-is
-          (fault_moved (births_of run.journal) run.thread kept s is.thread c.args.limit line c.in_ok-words.words c.in_ok-words.ensures
+          (fault_moved (births_of run.journal) run.thread kept s is.thread c.args.limit line c.in_ok-words.words c.in_ok-words.ensures.words
           ∙ refused_is limit line c.args.limit run qs args (Ok record { callee = store_shown w.in-Ok.field-0; caller = kept }) s is w.in-Ok.ensures)
           (w.fault_with.ensures limit moved is_moved)
       | in-Err-Fault w ↦ at_joined limit run w.fault_with-in-Err-Fault.result c.match-pass.result w.fault_with-in-Err-Fault.new.self c.match-pass.self
           _ (refused line c.args.limit (all_passed s.store qs args) s) w.result-is w.self-is
-          (ap (λ (x : FaultKind). fault_of c.in_ok-words.words x line moved) w.in-Err-Fault.kind-is ∙ fault_moved (births_of run.journal) run.thread kept s is.thread w.in-Err-Fault.kind line c.in_ok-words.words c.in_ok-words.ensures
+          (ap (λ (x : FaultKind). fault_of c.in_ok-words.words x line moved) w.in-Err-Fault.kind-is ∙ fault_moved (births_of run.journal) run.thread kept s is.thread w.in-Err-Fault.kind line c.in_ok-words.words c.in_ok-words.ensures.words
           ∙ refused_is limit line c.args.limit run qs args (Err w.in-Err-Fault.kind) s is (rw w.in-Err-Fault.field-0-is at w.in-Err-Fault.ensures).0)
           (w.fault_with-in-Err-Fault.ensures limit moved is_moved)
       | in-Err-OutOfMemory w ↦ subst (λ (x : Result (Unit {0}) SerialStop). MatchResult x (λ _. Is limit c.match-pass.self (refused line c.args.limit (all_passed s.store qs args) s)
