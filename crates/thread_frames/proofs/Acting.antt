@@ -22,7 +22,7 @@ use Rattle.thread_points.proofs.Putting.{ahead_of, frame_put}
 use Rattle.thread_points.proofs.Walking.{plain_own}
 use Rattle.thread_points.proofs.Alone.{alone_or_forks}
 use Rattle.thread_points.proofs.Telling.{thread_steps}
-use Rattle.thread_stack.specs.Frames.{AreFrames}
+use Rattle.thread_stack.specs.Frames.{AreFrames, RunsIn}
 use Rattle.thread_output.specs.Joining.{lines_before}
 use Rattle.thread_points.specs.Laws.{earlier_fault}
 use Rattle.thread_output.specs.Telling.{Tells}
@@ -33,7 +33,7 @@ use Rattle.thread_state.specs.declared.state.ThreadState.{ThreadState}
 use Rattle.thread_steps.specs.Stands.{InState}
 use Rattle.thread_steps.specs.declared.ready.Ready.{Ready}
 use Rattle.thread_steps.proofs.Coming.{items_aside}
-use Rattle.thread_run.specs.Functions.{RunsIn, frames_of, functions_of}
+use Rattle.thread_run.specs.Functions.{frames_of, functions_of}
 use Rattle.thread_run.specs.Going.{ActsBy}
 use Rattle.thread_run.specs.declared.run.ThreadRun.{ThreadRun}
 use Rattle.thread_frames.specs.Views.{recorded}

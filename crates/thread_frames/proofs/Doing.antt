@@ -19,7 +19,7 @@ use Rattle.slot_store.proofs.Held.{block_under}
 use lib.ListN.{length-replicate}
 use Rattle.node_table.specs.Table.{Table}
 use Rattle.node_table.specs.Names.{slot_names, name_at, IsSlot}
-use Rattle.thread_stack.specs.Frames.{names_now}
+use Rattle.thread_stack.specs.Frames.{names_now, RunsIn}
 use Rattle.thread_points.specs.Points.{IsAt, marked}
 use Rattle.thread_state.specs.Effects.{Goes}
 use Rattle.thread_state.specs.States.{IsState, own_row, words_held}
@@ -31,7 +31,6 @@ use Rattle.thread_steps.specs.Settings.{IsSettingOf}
 use Rattle.thread_steps.specs.Stands.{InState}
 use Rattle.thread_steps.specs.Dones.{IsAlloc as IsHeld, IsRelease as IsGiven}
 use Rattle.thread_steps.specs.declared.ready.Ready.TheVariants as ready
-use Rattle.thread_run.specs.Functions.{RunsIn}
 use Rattle.thread_run.specs.Going.{ActsBy}
 use Rattle.thread_run.specs.declared.run.ThreadRun.{ThreadRun}
 use Rattle.thread_frames.specs.Views.{told_as}

@@ -14,14 +14,14 @@ use Rattle.thread_points.specs.Points.{words_at_end}
 use Rattle.thread_points.specs.Threads as threads
 use Rattle.thread_points.specs.Threads.{IsThread, open_children}
 use Rattle.thread_stack.specs.declared.frame.Frame.{Frame}
-use Rattle.thread_stack.specs.Frames.{AreFrames, IsOne}
+use Rattle.thread_stack.specs.Frames.{AreFrames, IsOne, RunsIn}
 use Rattle.thread_output.specs.Telling.{Tells}
 use Rattle.thread_state.specs.Effects.{Goes}
 use Rattle.thread_state.specs.States.{words_held}
 use Rattle.thread_state.specs.declared.state.ThreadState.{ThreadState}
 use Rattle.thread_state.proofs.Held.{holdings_are}
 use Rattle.thread_steps.specs.Stands.{InState}
-use Rattle.thread_run.specs.Functions.{RunsIn, frames_of, functions_of}
+use Rattle.thread_run.specs.Functions.{frames_of, functions_of}
 use Rattle.thread_run.specs.declared.run.ThreadRun.{ThreadRun}
 use Rattle.thread_frames.specs.Views.{told_as, recorded, all_brought, ended_label}
 use Rattle.thread_frames.specs.Actions.{IsEnd}

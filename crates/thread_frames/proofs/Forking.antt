@@ -23,7 +23,7 @@ use Rattle.thread_stack.specs.declared.branch.Branch.{Branch}
 use Rattle.thread_stack.specs.declared.branch.Branch.TheVariants.{Par, Dummies}
 use Rattle.thread_stack.specs.declared.frame.Frame.{Frame as OwnFrame}
 use Rattle.thread_stack.specs.declared.frame.Frame.TheVariants.{Statements, Again, Tree as DummyTree, Answers, Rejoins, AnswersMain, Allocates, Joins}
-use Rattle.thread_stack.specs.Frames.{IsFrame, AreFrames, functions_behind}
+use Rattle.thread_stack.specs.Frames.{IsFrame, AreFrames, functions_behind, RunsIn, no_function}
 use Rattle.thread_points.specs.Points.{Each, IsPlain, marked, step_of, StepsAlone, StepForks, child_start, child_end, parent_start, parent_frames, words_at_end}
 use Rattle.thread_points.specs.Laws.{fork_items}
 use Rattle.thread_points.specs.Threads.{IsThread, open_children}
@@ -41,7 +41,7 @@ use Rattle.thread_steps.specs.Stands.{InState}
 use Rattle.thread_steps.specs.Dones.{IsForkBy, IsTakenBy, IsWorkOf}
 use Rattle.thread_steps.specs.declared.ready.Forking.{Forking}
 use Rattle.thread_steps.specs.declared.ready.Ready.TheVariants as ready
-use Rattle.thread_run.specs.Functions.{RunsIn, no_function, forked_in, frames_of, functions_of}
+use Rattle.thread_run.specs.Functions.{forked_in, frames_of, functions_of}
 use Rattle.thread_run.specs.Going.{ActsBy, IsBefore}
 use Rattle.thread_run.specs.declared.run.ThreadRun.{ThreadRun}
 use Rattle.thread_frames.specs.Views.{told_as, recorded, brought, all_brought}

@@ -28,7 +28,7 @@ use Rattle.ownership_at_points.proofs.Reading.{join_meets_none}
 use Rattle.thread_stack.specs.declared.branch.Branch.{Branch}
 use Rattle.thread_stack.specs.declared.branch.Branch.TheVariants.{Par, Dummies}
 use Rattle.thread_stack.specs.declared.frame.Frame.TheVariants.{Joins}
-use Rattle.thread_stack.specs.Frames.{AreFrames, IsJoinOf}
+use Rattle.thread_stack.specs.Frames.{AreFrames, IsJoinOf, RunsIn, no_function}
 use Rattle.thread_points.specs.Points.{words_at_end}
 use Rattle.thread_points.specs.Laws.{join_words, joined_part}
 use Rattle.thread_points.specs.Threads as threads
@@ -45,7 +45,7 @@ use Rattle.thread_state.proofs.Held.{holdings_are}
 use Rattle.thread_state.proofs.Joining.{brought_are}
 use Rattle.thread_state.proofs.Steps.{own_store}
 use Rattle.thread_steps.specs.Stands.{InState}
-use Rattle.thread_run.specs.Functions.{RunsIn, no_function, forked_in, frames_of, functions_of}
+use Rattle.thread_run.specs.Functions.{forked_in, frames_of, functions_of}
 use Rattle.thread_steps.specs.declared.ready.Ready.TheVariants as ready
 use Rattle.thread_run.specs.Going.{IsBefore}
 use Rattle.thread_run.specs.declared.run.ThreadRun.{ThreadRun}

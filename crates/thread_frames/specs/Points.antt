@@ -19,7 +19,8 @@ use Rattle.thread_output.specs.Telling.{Tells}
 use Rattle.thread_steps.specs.Settings.{IsSettingOf}
 use Rattle.thread_steps.specs.Stands.{InState}
 use Rattle.thread_steps.specs.declared.ready.Ready.TheVariants as ready
-use Rattle.thread_run.specs.Functions.{RunsIn, frames_of, functions_of}
+use Rattle.thread_stack.specs.Frames.{RunsIn}
+use Rattle.thread_run.specs.Functions.{frames_of, functions_of}
 use Rattle.thread_run.specs.Going.{IsGoing, IsBefore}
 use Rattle.thread_run.specs.declared.run.ThreadRun.{ThreadRun}
 use Rattle.thread_frames.specs.Views.{recorded, ended_label}

@@ -17,7 +17,7 @@ use Rattle.node_table.specs.Programs.{IsStmt, function_names}
 use Rattle.thread_stack.specs.declared.frame.Frame.{Frame}
 use Rattle.thread_stack.specs.declared.frame.Frame.TheVariants.{Answers}
 use Rattle.thread_stack.specs.declared.list_of.ListOf.TheVariants as lists
-use Rattle.thread_stack.specs.Frames.{IsFunctionOf, IsNode, AreStatements, AreFrames, names_now, frames_shown}
+use Rattle.thread_stack.specs.Frames.{IsFunctionOf, IsNode, AreStatements, AreFrames, names_now, frames_shown, RunsIn}
 use Rattle.thread_stack.specs.Lists.{kind_at, kind_of_node, body_of, numbers_from}
 use Rattle.thread_stack.specs.Measure.{frames_cost, list_cost, node_cost, turn_cost, left_to_do}
 use Rattle.thread_stack.proofs.Costs.{turn_covers_body}
@@ -31,7 +31,7 @@ use Rattle.thread_steps.specs.Stands.{InState}
 use Rattle.thread_steps.proofs.Coming.{never_faulted}
 use Rattle.thread_steps.specs.declared.ready.Ready.TheVariants.{Fault}
 use Rattle.thread_run.specs.declared.run.ThreadRun.{ThreadRun}
-use Rattle.thread_run.specs.Functions.{RunsIn, frames_of}
+use Rattle.thread_run.specs.Functions.{frames_of}
 use Rattle.thread_run.specs.Calling.{Begins}
 
 some_same : {A : Type 0} (x y : A) → Some x ≡ Some y → x ≡ y
@@ -125,25 +125,24 @@ refused_point c line target args o g kind fs s going found is =
 
 -- ---- the thread
 
-pub begins : (c : Setting) (t : Table) (k : ℕ) (g : Func) (gs : List Func) (n line : ℕ) (target : Target) (name : Name) (args : List Arg) (to : tables.Target) (func caller : ℕ) (from : List tables.Arg) (code : Function)
+pub begins : (c : Setting) (t : Table) (k : ℕ) (g : Func) (gs : List Func) (n line : ℕ) (target : Target) (name : Name) (args : List Arg) (to : tables.Target) (func : ℕ) (from : List tables.Arg) (code : Function)
     (before after : ThreadRun) (body : Option Frame) (fs : List middles.Frame) (s : State)
     → (h : Called c t g func from code name args) → IsNode c.program t (slot_names g) n line (call_stmt target name args) → kind_at t n ≡ Some (call_node to func from)
-    → before.func ≡ Some caller → RunsIn c.program t before.func (g ∷ gs) → AreFrames c.program t (g ∷ gs) (frames_of before) fs
+    → RunsIn c.program t before.func (g ∷ gs) → AreFrames c.program t (g ∷ gs) (frames_of before) fs
     → ((p : Program) (hs : List Func) (b : Body) (xs : List Frame) (es : List middles.Frame) → AreStatements p t (names_now hs) (numbers_from t (lists.Body func) 0) b → AreFrames p t hs xs es → AreFrames p t hs (frames_shown body ++ xs) (before_all b es))
-    → frames_of after ≡ frames_shown body ++ (Answers n caller ∷ frames_of before) → after.func ≡ Some func → after.state.faulted ≡ false
+    → frames_of after ≡ frames_shown body ++ (Answers n before.func ∷ frames_of before) → after.func ≡ Some func → after.state.faulted ≡ false
     → IsState (slot_names h.function ∷ slot_names g ∷ map slot_names gs) after.state (begun c line (all_passed s.store h.function.params args) s)
     → Begins c t (g ∷ gs) after s (step_call c line target args (function_of c.program name) fs s) None
-begins c t k g gs n line target name args to func caller from code before after body fs s h node there in_caller runs frames puts left in_callee going is =
+begins c t k g gs n line target name args to func from code before after body fs s h node there runs frames puts left in_callee going is =
     let hs : List Func = h.function ∷ g ∷ gs in
     let o = opens c (map slot_names hs) after.state line (all_passed s.store h.function.params args) s going is in
     let f : middles.Frame = answers h.function.ret h.function.params args target in
     let m : Middle = middle (before_all h.function.body (f ∷ fs)) (entered o.passing (record s { turns = o.left })) in
     let same : m ≡ step_call c line target args (function_of c.program name) fs s = opened_point c line target args (function_of c.program name) h.function fs s (map slot_names hs) after.state h.found o in
     let i = kind_is c.program t (slot_names g) n line target name args (call_node to func from) node there in
-    let by_number : IsFunctionOf c.program t caller g = subst (λ (x : Option ℕ). RunsIn c.program t x (g ∷ gs)) in_caller runs in
-    let answer : AreFrames c.program t hs (Answers n caller ∷ frames_of before) (f ∷ fs) =
-    ((args, target, refl, record { to = to; func = func; from = from; there = there; function = h.is; to_target = i.0; passed = h.passed }, by_number), frames) in
-    let all = puts c.program hs h.function.body (Answers n caller ∷ frames_of before) (f ∷ fs) h.body answer in
+    let answer : AreFrames c.program t hs (Answers n before.func ∷ frames_of before) (f ∷ fs) =
+    ((args, target, refl, record { to = to; func = func; from = from; there = there; function = h.is; to_target = i.0; passed = h.passed }, runs), frames) in
+    let all = puts c.program hs h.function.body (Answers n before.func ∷ frames_of before) (f ∷ fs) h.body answer in
     subst (λ (x : Middle). Begins c t (g ∷ gs) after s x None) same (
       hs,
       subst (λ (x : Option ℕ). RunsIn c.program t x hs) (sym in_callee) h.is,
@@ -163,7 +162,7 @@ stops c t g gs line here target name args kind before after function fs s found 
     (runs, frames, is, refl))
 
 -- what a call leaves is less by its turn
-pub call_cost : (t : Table) (func : ℕ) (code : Function) (old new : ℕ) (body : Option Frame) (n caller : ℕ) (xs ys : List Frame) → slice_get t.funcs func ≡ Some code → new + 1 ≡ old
+pub call_cost : (t : Table) (func : ℕ) (code : Function) (old new : ℕ) (body : Option Frame) (n : ℕ) (caller : Option ℕ) (xs ys : List Frame) → slice_get t.funcs func ≡ Some code → new + 1 ≡ old
     → frames_cost t (frames_shown body) ≤ list_cost (node_cost t) (numbers_from t (lists.Body func) 0) → ys ≡ frames_shown body ++ (Answers n caller ∷ xs)
     → left_to_do t new ys ≤ left_to_do t old xs
 call_cost t func code old new body n caller xs ys there turn few put = by body few put

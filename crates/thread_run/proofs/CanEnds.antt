@@ -157,7 +157,7 @@ going_holds : (b : Bool) (contexts : List (List Name)) (rows : List (List Entry)
 going_holds true contexts rows store callers e h = let never : ⊥ = cc in absurd never
 going_holds false contexts rows store callers e h = h
 
-module _ (t : Table) (n caller : ℕ) (u : ThreadState) (to : tables.Target) (func : ℕ) (from : List tables.Arg) (code : Function) (there : kind_at t n ≡ Some (call_node to func from)) (function : slice_get t.funcs func ≡ Some code)
+module _ (t : Table) (n : ℕ) (caller : Option ℕ) (u : ThreadState) (to : tables.Target) (func : ℕ) (from : List tables.Arg) (code : Function) (there : kind_at t n ≡ Some (call_node to func from)) (function : slice_get t.funcs func ≡ Some code)
     (going : u.faulted ≡ false) where
   can_end : (c : Setting) → Ownership c.program → (g h : Func) (gs : List Func) (f : middles.Frame) (own : List middles.Frame) (s : State) → IsAt c (f ∷ own) s → InState (g ∷ h ∷ gs) u s → IsAnswerOf c.program t (g ∷ h ∷ gs) n caller f
       → CanEnd (rows_of u) code.params from to code.ret
@@ -180,7 +180,7 @@ module _ (t : Table) (n caller : ℕ) (u : ThreadState) (to : tables.Target) (fu
       by (rows_of u) (s.callers) (going_holds u.faulted (gn ∷ hn ∷ map slot_names gs) (rows_of u) s.store s.callers going state.holds) ends.waits e holds meets taken one
     where
       by : (rows : List (List Entry)) (callers : List Store) → ShowStores (slot_names g ∷ slot_names h ∷ map slot_names gs) rows (s.store ∷ callers) → {st : Store} {older : List Store} → callers ≡ st ∷ older
-          → (e : Ended c.program t g h n caller func to from code f)
+          → (e : Ended c.program t g h gs n caller func to from code f)
           → ((x : Name) → count s.store.blocks x ≡ lent_under g.params (args_read (slot_names h) from) x + handed_out (ret_read (slot_names g) code.ret) x)
           → ((x : Name) → count st.blocks x + (given_back_under (args_read (slot_names h) from) x + answered_under (target_read (slot_names h) to) x) ≤ 1)
           → takes_answer (target_read (slot_names h) to) (hands_back (ret_read (slot_names g) code.ret)) ≡ true → ((x : Name) → count s.store.blocks x ≤ 1) → CanEnd rows code.params from to code.ret
@@ -204,7 +204,7 @@ func_same : (x y : Kind) → Some x ≡ Some y → func_in (Some x) ≡ func_in 
 func_same x y e = ap func_in e
 
 -- a thread in which a call ends has a caller
-open_call : (t : Table) (k : ℕ) (run : ThreadRun) (n caller : ℕ) (m : KnowingAt t k run (Answers n caller)) (P : Type 0)
+open_call : (t : Table) (k : ℕ) (run : ThreadRun) (n : ℕ) (caller : Option ℕ) (m : KnowingAt t k run (Answers n caller)) (P : Type 0)
     → ((g h : Func) (gs : List Func) (f : middles.Frame) (own : List middles.Frame) → IsAt m.setting (f ∷ own) m.at → InState (g ∷ h ∷ gs) run.state m.at → IsAnswerOf m.setting.program t (g ∷ h ∷ gs) n caller f → P) → P
 open_call t k run n caller m P next = go (at_frame t k run (Answers n caller) m)
   where
@@ -215,7 +215,7 @@ open_call t k run n caller m P next = go (at_frame t k run (Answers n caller) m)
     go : At t k run (Answers n caller) m → P
     go a = by a.runs a.waiting a.next a.own a.point a.state a.frame
 
-pub can_end_at : (t : Table) (k : ℕ) (run : ThreadRun) (n caller : ℕ) → IsKnownAt t k run (Answers n caller) → run.state.faulted ≡ false → CanEndAt t (rows_of run.state) (kind_at t n)
+pub can_end_at : (t : Table) (k : ℕ) (run : ThreadRun) (n : ℕ) (caller : Option ℕ) → IsKnownAt t k run (Answers n caller) → run.state.faulted ≡ false → CanEndAt t (rows_of run.state) (kind_at t n)
 can_end_at t k run n caller known going = by (kind_at t n) refl
   where
     no_call : (o : Option Kind) → kind_at t n ≡ o → ((to : tables.Target) (func : ℕ) (from : List tables.Arg) → o ≡ Some (call_node to func from) → ⊥) → ⊥

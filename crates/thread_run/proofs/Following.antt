@@ -14,7 +14,7 @@ use Rattle.thread_points.specs.Points.{IsPlain, marked}
 use Rattle.thread_stack.specs.declared.branch.Branch.{Branch}
 use Rattle.thread_stack.specs.declared.frame.Frame.{Frame}
 use Rattle.thread_stack.specs.declared.frame.Frame.TheVariants.{Joins}
-use Rattle.thread_stack.specs.Frames.{AreFrames, IsFrame, IsNode, functions_behind, frames_shown}
+use Rattle.thread_stack.specs.Frames.{AreFrames, IsFrame, IsNode, functions_behind, frames_shown, RunsIn}
 use Rattle.thread_stack.specs.Measure.{frames_cost, node_cost, turn_cost, left_to_do}
 use Rattle.thread_output.specs.Telling.{Tells}
 use Rattle.thread_output.specs.Joining.{lines_before}
@@ -29,7 +29,7 @@ use Rattle.thread_steps.specs.declared.ready.Ready.TheVariants.{Fork, Join, Allo
 use Rattle.thread_steps.specs.declared.done.Done.{Done}
 use Rattle.thread_steps.specs.declared.done.Done.TheVariants.{Silent, Prints, Acts}
 use Rattle.thread_run.specs.declared.run.ThreadRun.{ThreadRun}
-use Rattle.thread_run.specs.Functions.{RunsIn, frames_of}
+use Rattle.thread_run.specs.Functions.{frames_of}
 use Rattle.thread_run.specs.Going.{IsNext}
 use Rattle.thread_run.specs.Stepping.{frames_with, ready_of, told_by, Does, DoesRun, Wants, StepsRun}
 use Rattle.thread_steps.specs.Dones.{IsAction, Comes, LeadsOrWants}

@@ -18,7 +18,7 @@ use Rattle.thread_points.specs.Points.{IsAt}
 use Rattle.thread_stack.specs.declared.frame.Frame.{Frame}
 use Rattle.thread_stack.specs.declared.frame.Frame.TheVariants.{Statements, Again}
 use Rattle.thread_stack.specs.declared.list_of.ListOf.{ListOf}
-use Rattle.thread_stack.specs.Frames.{AreFrames, AreStatements, IsFrame, IsNode, names_now}
+use Rattle.thread_stack.specs.Frames.{AreFrames, AreStatements, IsFrame, IsNode, names_now, RunsIn}
 use Rattle.thread_stack.specs.Lists.{kind_at, numbers_of, numbers_from}
 use Rattle.thread_stack.specs.Measure.{frames_cost, list_cost, node_cost, cost_within, turn_cost, left_to_do}
 use Rattle.thread_stack.proofs.Lists.{FirstOf, first_statement, at_place, no_statements, list_frame, no_frame}
@@ -33,7 +33,7 @@ use Rattle.thread_steps.proofs.Behind.{none_runs}
 use Rattle.thread_steps.specs.declared.ready.Ready.{Ready}
 use Rattle.thread_steps.specs.declared.ready.Ready.TheVariants.{Fork, Join, Alloc, Release, Dummy, Fault, End}
 use Rattle.thread_run.specs.declared.run.ThreadRun.{ThreadRun}
-use Rattle.thread_run.specs.Functions.{RunsIn, frames_of, functions_of}
+use Rattle.thread_run.specs.Functions.{frames_of, functions_of}
 use Rattle.thread_run.specs.Calling.{is_call, Begins, BeginsRun}
 use Rattle.thread_run.specs.Stepping.{Meeting, IsMet, KnowingAt, IsKnownAt, Does, DoesRun, RunsBy, Goes, Wants, StepsRun, RunsLess, KeepsFunctions, frames_left}
 use Rattle.thread_run.proofs.Following.{acts, quiet_told}

@@ -13,7 +13,7 @@ use Rattle.node_table.specs.Names.{slot_names}
 use Rattle.node_table.specs.Table.{Table}
 use Rattle.thread_points.specs.Threads.{IsThread}
 use Rattle.thread_stack.specs.declared.frame.Frame.{Frame}
-use Rattle.thread_stack.specs.Frames.{AreFrames}
+use Rattle.thread_stack.specs.Frames.{AreFrames, RunsIn}
 use Rattle.thread_output.specs.Telling.{Tells}
 use Rattle.thread_state.specs.declared.state.ThreadState.{ThreadState}
 use Rattle.thread_state.proofs.Held.{holdings_are}
@@ -21,7 +21,7 @@ use Rattle.thread_steps.specs.Settings.{IsSettingOf}
 use Rattle.thread_steps.specs.Stands.{InState}
 use Rattle.thread_steps.specs.declared.ready.Ready.{Ready}
 use Rattle.thread_run.specs.declared.run.ThreadRun.{ThreadRun}
-use Rattle.thread_run.specs.Functions.{RunsIn, frames_of}
+use Rattle.thread_run.specs.Functions.{frames_of}
 use Rattle.thread_run.specs.Going.{Knowing, Comes}
 use Rattle.thread_run.specs.Stepping.{KnowingAt, IsKnownAt, Goes, RunsBy, Wants, StepsRun, KeepsCounts, GoesOn, ComesBy, KnownAgain}
 use Rattle.thread_run.proofs.Threads.{quiet_step}

@@ -17,7 +17,7 @@ use Rattle.node_table.specs.Reading.{IsTarget, AreArgs, AreSlots, IsReturn}
 use Rattle.node_table.specs.Table as tables
 use Rattle.node_table.specs.Table.{Table, Kind, Function, call_node}
 use Rattle.thread_stack.specs.declared.frame.Frame.{Frame}
-use Rattle.thread_stack.specs.Frames.{IsFunctionOf, IsAnswer, IsAnswerOf, IsAnswerOfMain, AreFrames, behind_call}
+use Rattle.thread_stack.specs.Frames.{IsFunctionOf, IsAnswer, IsAnswerOf, IsAnswerOfMain, AreFrames, behind_call, RunsIn}
 use Rattle.thread_stack.specs.Lists.{kind_at}
 use Rattle.thread_output.specs.Telling.{Tells}
 use Rattle.thread_state.specs.States.{IsState}
@@ -27,7 +27,7 @@ use Rattle.thread_steps.specs.Stands.{InState}
 use Rattle.thread_steps.specs.declared.ready.Ready.TheVariants.{Fault}
 use Rattle.thread_steps.proofs.Coming.{never_faulted}
 use Rattle.thread_run.specs.declared.run.ThreadRun.{ThreadRun}
-use Rattle.thread_run.specs.Functions.{RunsIn, frames_of}
+use Rattle.thread_run.specs.Functions.{frames_of}
 use Rattle.thread_run.specs.Stepping.{Goes, RunsBy}
 
 some_same : {A : Type 0} (x y : A) → Some x ≡ Some y → x ≡ y
@@ -78,7 +78,7 @@ same_told before after told part tells = subst (λ (xs : List Item). Tells after
 -- ---- the end of a call
 
 -- the node and the function of a call that ends
-pub record Ended (p : Program) (t : Table) (g h : Func) (n caller func : ℕ) (to : tables.Target) (from : List tables.Arg) (code : Function) (f : middles.Frame) : Type 0 where
+pub record Ended (p : Program) (t : Table) (g h : Func) (gs : List Func) (n : ℕ) (caller : Option ℕ) (func : ℕ) (to : tables.Target) (from : List tables.Arg) (code : Function) (f : middles.Frame) : Type 0 where
   pub args : List Arg
   pub target : Target
   pub is : f ≡ answers g.ret g.params args target
@@ -86,7 +86,7 @@ pub record Ended (p : Program) (t : Table) (g h : Func) (n caller func : ℕ) (t
   pub params : AreSlots (slot_names g) code.params (param_names g.params)
   pub passed : AreArgs (slot_names h) from args
   pub to_target : IsTarget (slot_names h) to target
-  pub runs : IsFunctionOf p t caller h
+  pub runs : RunsIn p t caller (h ∷ gs)
 
 abbrev target_in : Option Kind → tables.Target
 target_in (Some (call_node to func from)) = to
@@ -100,8 +100,8 @@ abbrev args_in : Option Kind → List tables.Arg
 args_in (Some (call_node to func from)) = from
 args_in other = []
 
-pub ended : (p : Program) (t : Table) (g h : Func) (gs : List Func) (n caller func : ℕ) (to : tables.Target) (from : List tables.Arg) (code : Function) (f : middles.Frame)
-    → IsAnswerOf p t (g ∷ h ∷ gs) n caller f → kind_at t n ≡ Some (call_node to func from) → slice_get t.funcs func ≡ Some code → Ended p t g h n caller func to from code f
+pub ended : (p : Program) (t : Table) (g h : Func) (gs : List Func) (n : ℕ) (caller : Option ℕ) (func : ℕ) (to : tables.Target) (from : List tables.Arg) (code : Function) (f : middles.Frame)
+    → IsAnswerOf p t (g ∷ h ∷ gs) n caller f → kind_at t n ≡ Some (call_node to func from) → slice_get t.funcs func ≡ Some code → Ended p t g h gs n caller func to from code f
 ended p t g h gs n caller func to from code f frame there function =
     let a : IsAnswer p t g h n frame.0 frame.1 = frame.3 in
     let same : Some (call_node a.to a.func a.from) ≡ Some (call_node to func from) = sym a.there ∙ there in
@@ -120,11 +120,11 @@ ended p t g h gs n caller func to from code f frame there function =
       runs = frame.4;
     }
 
-module _ (c : Setting) (t : Table) (n caller func : ℕ) (to : tables.Target) (from : List tables.Arg) (code : Function) (before after : ThreadRun) where
+module _ (c : Setting) (t : Table) (n : ℕ) (caller : Option ℕ) (func : ℕ) (to : tables.Target) (from : List tables.Arg) (code : Function) (before after : ThreadRun) where
   -- the caller goes on
   pub call_returns : (gs : List Func) (f : middles.Frame) (fs : List middles.Frame) (s : State) → IsAnswerOf c.program t gs n caller f
       → kind_at t n ≡ Some (call_node to func from) → slice_get t.funcs func ≡ Some code → AreFrames c.program t (behind_call gs) (frames_of before) fs → InState gs before.state s
-      → after.func ≡ Some caller → frames_of after ≡ frames_of before → after.told ≡ before.told → after.state.faulted ≡ before.state.faulted
+      → after.func ≡ caller → frames_of after ≡ frames_of before → after.told ≡ before.told → after.state.faulted ≡ before.state.faulted
       → ((contexts : List (List Name)) (names callee_names : List Name) (r : Option Ret) (qs : List Param) (values : List Arg) (x : Target) → IsReturn callee_names code.ret r → AreSlots callee_names code.params (param_names qs)
       → AreArgs names from values → IsTarget names to x → (q : State) → IsState (callee_names ∷ names ∷ contexts) before.state q → IsState (names ∷ contexts) after.state (unless_faulted (with_answer r (returned qs values x)) q))
       → Goes c t before after s (step_frame c f fs s)
@@ -148,7 +148,7 @@ module _ (c : Setting) (t : Table) (n caller func : ℕ) (to : tables.Target) (f
   -- its `return` is a fault
   pub call_faults : (gs : List Func) (f : middles.Frame) (fs : List middles.Frame) (s : State) (kind : FaultKind) (line here : ℕ) → IsAnswerOf c.program t gs n caller f
       → kind_at t n ≡ Some (call_node to func from) → slice_get t.funcs func ≡ Some code → AreFrames c.program t (behind_call gs) (frames_of before) fs → InState gs before.state s
-      → after.func ≡ Some caller → frames_of after ≡ frames_of before → after.told ≡ before.told → here ≡ line
+      → after.func ≡ caller → frames_of after ≡ frames_of before → after.told ≡ before.told → here ≡ line
       → ((contexts : List (List Name)) (names callee_names : List Name) (r : Option Ret) (qs : List Param) (values : List Arg) (x : Target) → IsReturn callee_names code.ret r → AreSlots callee_names code.params (param_names qs)
       → AreArgs names from values → IsTarget names to x → (q : State) → IsState (callee_names ∷ names ∷ contexts) before.state q
       → Faults (callee_names ∷ names ∷ contexts) line after.state (unless_faulted (with_answer r (returned qs values x))) q kind)

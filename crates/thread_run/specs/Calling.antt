@@ -9,7 +9,7 @@ use Rattle.depth_first_run.specs.Middle.{Middle, step_call}
 use Rattle.node_table.specs.Names.{slot_names}
 use Rattle.node_table.specs.Table as tables
 use Rattle.node_table.specs.Table.{Kind, call_node, Function, Table}
-use Rattle.thread_stack.specs.Frames.{AreFrames, IsNode}
+use Rattle.thread_stack.specs.Frames.{AreFrames, IsNode, RunsIn}
 use Rattle.slot_store.specs.Rows.{Entry}
 use Rattle.thread_state.specs.Calls.{CanCall, CanEnd, CanEndMain}
 use Rattle.thread_steps.specs.Settings.{IsSettingOf}
@@ -17,7 +17,7 @@ use Rattle.thread_steps.specs.Stands.{InState}
 use Rattle.thread_steps.specs.declared.ready.Ready.{Ready}
 use Rattle.thread_steps.specs.declared.ready.Ready.TheVariants.{Fault}
 use Rattle.thread_run.specs.declared.run.ThreadRun.{ThreadRun}
-use Rattle.thread_run.specs.Functions.{RunsIn, frames_of}
+use Rattle.thread_run.specs.Functions.{frames_of}
 
 -- what a node does is a call
 abbrev pub is_call : Option Kind → Bool

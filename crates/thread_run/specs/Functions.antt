@@ -1,13 +1,9 @@
 -- The functions in which a thread runs, by their numbers in the node table.
-use Rattle.std.specs.Prelude.{◌≡◌, ℕ, List, [], ◌∷◌, Option, Some, None, reverse}
-use Rattle.par_tree.specs.Tree
-use Rattle.par_tree.specs.Tree.{Func, Program}
-use Rattle.node_table.specs.Table.{Table}
+use Rattle.std.specs.Prelude.{ℕ, List, [], ◌∷◌, Option, None, reverse}
 use Rattle.thread_stack.specs.declared.branch.Branch.{Branch}
 use Rattle.thread_stack.specs.declared.branch.Branch.TheVariants.{Par, Dummies}
 use Rattle.thread_stack.specs.declared.frame.Frame.{Frame}
 use Rattle.thread_stack.specs.declared.frame.Frame.TheVariants.{Statements, Again, Tree as DummyTree, Answers, Rejoins, AnswersMain, Allocates, Joins}
-use Rattle.thread_stack.specs.Frames.{IsFunctionOf}
 use Rattle.thread_steps.specs.declared.ready.Ready.{Ready}
 use Rattle.thread_steps.specs.declared.ready.Ready.TheVariants as ready
 use Rattle.thread_run.specs.declared.run.ThreadRun.{ThreadRun}
@@ -15,16 +11,6 @@ use Rattle.thread_run.specs.declared.run.ThreadRun.{ThreadRun}
 -- the frames of a thread, the next one first
 abbrev pub frames_of : ThreadRun → List Frame
 frames_of run = reverse run.frames.items
-
--- the function of a thread that runs a tree of dummies: it has no names, and so no slots
-abbrev pub no_function : Func
-no_function = record { name = []; params = []; body = Tree.done; ret = None; line = 0 }
-
--- the first of the functions whose calls are open is the one of this number, or that of a thread of dummies
-abbrev pub RunsIn : Program → Table → Option ℕ → List Func → Type 0
-RunsIn p t func [] = ⊥
-RunsIn p t None (g ∷ gs) = g ≡ no_function
-RunsIn p t (Some n) (g ∷ gs) = IsFunctionOf p t n g
 
 -- the function of a child that is forked in a function: the same one, or none where it runs a tree of dummies
 abbrev pub forked_in : Branch → Option ℕ → Option ℕ
@@ -38,7 +24,7 @@ functions_of func [] = func ∷ []
 functions_of func (Statements list next ∷ xs) = functions_of func xs
 functions_of func (Again n ∷ xs) = functions_of func xs
 functions_of func (DummyTree shape ∷ xs) = functions_of func xs
-functions_of func (Answers n caller ∷ xs) = functions_of (Some caller) xs
+functions_of func (Answers n caller ∷ xs) = functions_of caller xs
 functions_of func (Rejoins n ∷ xs) = functions_of func xs
 functions_of func (AnswersMain ∷ xs) = functions_of func xs
 functions_of func (Allocates slot len ∷ xs) = functions_of func xs

@@ -11,7 +11,7 @@ use Rattle.thread_points.specs.Points.{IsPlain, marked}
 use Rattle.thread_points.specs.Threads.{IsThread, open_children}
 use Rattle.thread_stack.specs.declared.branch.Branch.{Branch}
 use Rattle.thread_stack.specs.declared.frame.Frame.TheVariants.{Joins}
-use Rattle.thread_stack.specs.Frames.{AreFrames}
+use Rattle.thread_stack.specs.Frames.{AreFrames, RunsIn}
 use Rattle.thread_output.specs.Telling.{Tells}
 use Rattle.thread_steps.specs.Settings.{IsSettingOf}
 use Rattle.thread_steps.specs.Stands.{InState}
@@ -19,7 +19,7 @@ use Rattle.thread_steps.specs.Dones.{IsAction}
 use Rattle.thread_steps.specs.declared.ready.Ready.{Ready}
 use Rattle.thread_steps.specs.declared.ready.Ready.TheVariants.{Fork, Join, Alloc, Release, Dummy, Fault, End}
 use Rattle.thread_run.specs.declared.run.ThreadRun.{ThreadRun}
-use Rattle.thread_run.specs.Functions.{RunsIn, frames_of}
+use Rattle.thread_run.specs.Functions.{frames_of}
 
 -- A thread has these frames left and is in the state s, where the functions gs have open calls, the innermost first. The items `part` are
 -- what it has left since its newest open fork.

@@ -10,7 +10,7 @@ use Rattle.node_table.specs.Names.{slot_names}
 use Rattle.node_table.specs.Table.{Table}
 use Rattle.thread_points.specs.Threads.{IsThread, open_children}
 use Rattle.thread_stack.specs.declared.frame.Frame.{Frame}
-use Rattle.thread_stack.specs.Frames.{AreFrames, IsFrame, IsNode, functions_behind, frames_shown}
+use Rattle.thread_stack.specs.Frames.{AreFrames, IsFrame, IsNode, functions_behind, frames_shown, RunsIn}
 use Rattle.thread_stack.specs.Measure.{left_to_do}
 use Rattle.thread_output.specs.Telling.{Tells}
 use Rattle.thread_state.specs.States.{words_held}
@@ -23,7 +23,7 @@ use Rattle.thread_steps.specs.declared.ready.Ready.{Ready}
 use Rattle.thread_steps.specs.declared.done.Done.{Done}
 use Rattle.thread_steps.specs.declared.done.Done.TheVariants.{Silent, Prints, Acts}
 use Rattle.thread_run.specs.declared.run.ThreadRun.{ThreadRun}
-use Rattle.thread_run.specs.Functions.{RunsIn, functions_of, frames_of, frames_before}
+use Rattle.thread_run.specs.Functions.{functions_of, frames_of, frames_before}
 use Rattle.thread_run.specs.Going.{IsGoing, IsNext, Comes, IsKnown}
 
 -- ---- what a statement of the layer below comes to

@@ -52,10 +52,7 @@ impl ThreadRun {
             ≤ left_to_do (code_shown code.now) self.old.state.turns (frames_of self.old)) }
         ensures told { self.new.told ≡ self.old.told }
     {
-        // A thread without a function runs dummies alone, and comes to no call.
-        let Some(caller) = self.func else {
-            return Err(AllocError);
-        };
+        let caller = self.func;
         let NodeKind::Call { func, args, .. } = &node.kind else {
             unreachable!();
         };
@@ -78,7 +75,7 @@ impl ThreadRun {
     }
 
     /// The frames of a call: the statements of its function, and its end.
-    fn enter(&mut self, body: Option<Frame>, func: u32, number: u32, caller: u32)
+    fn enter(&mut self, body: Option<Frame>, func: u32, number: u32, caller: Option<u32>)
         requires { vec_len self.old.frames + 2 ≤ vec_capacity self.old.frames }
         ensures frames { frames_of self.new ≡ frames_shown body ++ (Frame.Answers number caller ∷ frames_of self.old) }
         ensures func { self.new.func ≡ Some func }

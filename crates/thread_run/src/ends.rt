@@ -27,7 +27,12 @@ fn line_of(ret: &Option<CodeRet>) -> u32
 
 impl ThreadRun {
     /// The call of a node ends, and its caller goes on. The fault of its `return` is the answer.
-    pub(crate) fn end_call(&mut self, code: &Code, number: u32, caller: u32) -> Option<Ready>
+    pub(crate) fn end_call(
+        &mut self,
+        code: &Code,
+        number: u32,
+        caller: Option<u32>,
+    ) -> Option<Ready>
         requires there { HasCallee (code_shown code.now) (kind_at (code_shown code.now) number) }
         requires can { self.old.state.faulted ≡ false
             → CanEndAt (code_shown code.now) (rows_of self.old.state) (kind_at (code_shown code.now) number) }
@@ -44,7 +49,7 @@ impl ThreadRun {
         let Some(callee) = code.func(*func) else {
             unreachable!();
         };
-        self.func = Some(caller);
+        self.func = caller;
         match self
             .state
             .end_call(&callee.ret, &callee.params, args, *target)

@@ -27,6 +27,16 @@ pub record IsFunctionOf (p : Program) (t : Table) (n : ℕ) (g : Func) : Type 0 
   pub there : slice_get t.funcs n ≡ Some code
   pub is : IsFunc t.nodes (function_names p) g code
 
+-- the function of a thread that runs a tree of dummies: it has no names, and so no slots
+abbrev pub no_function : Func
+no_function = record { name = []; params = []; body = Tree.done; ret = None; line = 0 }
+
+-- the first of the functions whose calls are open is the one of this number, or that of a thread of dummies
+abbrev pub RunsIn : Program → Table → Option ℕ → List Func → Type 0
+RunsIn p t func [] = ⊥
+RunsIn p t None (g ∷ gs) = g ≡ no_function
+RunsIn p t (Some n) (g ∷ gs) = IsFunctionOf p t n g
+
 -- The functions whose calls are open in a thread, the innermost first: the first one has the names of the slots, and the next one
 -- those of its caller.
 abbrev pub names_now : List Func → List Name
@@ -54,12 +64,12 @@ pub record IsAnswer (p : Program) (t : Table) (callee caller : Func) (n : ℕ) (
   pub to_target : IsTarget (slot_names caller) to target
   pub passed : AreArgs (slot_names caller) from args
 
-abbrev pub IsAnswerOf : Program → Table → List Func → (node caller : ℕ) → middles.Frame → Type 0
+abbrev pub IsAnswerOf : Program → Table → List Func → (node : ℕ) → (caller : Option ℕ) → middles.Frame → Type 0
 IsAnswerOf p t [] n caller f = ⊥
 IsAnswerOf p t (g ∷ []) n caller f = ⊥
 IsAnswerOf p t (g ∷ h ∷ gs) n caller f =
     (args : List Arg) × (target : Target) × (f ≡ answers g.ret g.params args target) × IsAnswer p t g h n args target
-    × IsFunctionOf p t caller h
+    × RunsIn p t caller (h ∷ gs)
 
 -- the end of `main`
 abbrev pub IsAnswerOfMain : Program → Table → List Func → middles.Frame → Type 0

@@ -11,8 +11,8 @@ pub enum Frame {
     Again(u32),
     /// A tree of dummies.
     Tree(Tree),
-    /// The end of the call of a node, behind which the function `caller` goes on.
-    Answers { node: u32, caller: u32 },
+    /// The end of the call of a node, behind which its caller goes on: `caller` is its function, or None where it runs a tree of dummies.
+    Answers { node: u32, caller: Option<u32> },
     /// The end of the `split` of this node.
     Rejoins(u32),
     /// The end of `main`.

@@ -41,9 +41,9 @@ returns-in-Ok-clause-meaning c = λ k setting g gs line target name args fs s of
     let i : Kind = call_node to c.in-Call.func from in
     let there : kind_at t c.args.number ≡ Some i =
     kind_there t c.args.number (node_shown c.args.node.now) i c.requires.there (ap kind_shown c.in-Call.is) in
-    let function : slice_get t.funcs c.in-Call.func ≡ Some (func_shown c.in-Some-func.callee.now) =
-    slice_get-map func_shown (funcs_of c.args.code.now) c.in-Call.func ∙ ap (λ (o : Option FuncCode). option_map func_shown o) (sym c.in-Some-func.ensures) in
-    let h = called setting t k g c.args.number line target name args to c.in-Call.func from (func_shown c.in-Some-func.callee.now) of_table node there function in
+    let function : slice_get t.funcs c.in-Call.func ≡ Some (func_shown c.in-Some.callee.now) =
+    slice_get-map func_shown (funcs_of c.args.code.now) c.in-Call.func ∙ ap (λ (o : Option FuncCode). option_map func_shown o) (sym c.in-Some.ensures) in
+    let h = called setting t k g c.args.number line target name args to c.in-Call.func from (func_shown c.in-Some.callee.now) of_table node there function in
     let begun_is = c.in-Ok.ensures.state (map slot_names gs) (slot_names g) (slot_names h.function) setting line h.function.params args of_table.calls
     (names_differ h.function) h.slots
     (subst (λ (xs : List ℕ). AreSlots (slot_names h.function) xs (param_names h.function.params)) (sym c.deref.ensures.value) h.params)
@@ -51,19 +51,19 @@ returns-in-Ok-clause-meaning c = λ k setting g gs line target name args fs s of
     let state : IsState (slot_names h.function ∷ slot_names g ∷ map slot_names gs) c.enter.new.self.state (begun setting line (all_passed s.store h.function.params args) s) =
     subst (λ (u : ThreadState). IsState (slot_names h.function ∷ slot_names g ∷ map slot_names gs) u (begun setting line (all_passed s.store h.function.params args) s)) (sym c.enter.ensures.state) begun_is in
     let going = ap (λ (u : ThreadState). u.faulted) c.enter.ensures.state ∙ c.in-Ok.ensures.going ∙ c.requires.going in
-    let left : frames_of c.enter.new.self ≡ frames_shown c.frame_from-body.result ++ (Answers c.args.number c.in-Some.caller ∷ frames_of c.args.self.now) =
-    c.enter.ensures.frames ∙ ap (λ (xs : List Frame). frames_shown c.frame_from-body.result ++ (Answers c.args.number c.in-Some.caller ∷ reverse xs)) c.reserve.ensures.items in
-    begins setting t k g gs c.args.number line target name args to c.in-Call.func c.in-Some.caller from (func_shown c.in-Some-func.callee.now) c.args.self.now c.enter.new.self c.frame_from-body.result fs s h node there
-    c.in-Some.is runs frames c.frame_from-body.ensures.frames left c.enter.ensures.func going state
+    let left : frames_of c.enter.new.self ≡ frames_shown c.frame_from-body.result ++ (Answers c.args.number c.args.self.now.func ∷ frames_of c.args.self.now) =
+    c.enter.ensures.frames ∙ ap (λ (xs : List Frame). frames_shown c.frame_from-body.result ++ (Answers c.args.number c.args.self.now.func ∷ reverse xs)) c.reserve.ensures.items in
+    begins setting t k g gs c.args.number line target name args to c.in-Call.func from (func_shown c.in-Some.callee.now) c.args.self.now c.enter.new.self c.frame_from-body.result fs s h node there
+    runs frames c.frame_from-body.ensures.frames left c.enter.ensures.func going state
 
 pub returns-in-Ok-clause-cost : goal.returns-in-Ok-clause-cost
 returns-in-Ok-clause-cost c =
     let t : Table = code_shown c.args.code.now in
-    let function : slice_get t.funcs c.in-Call.func ≡ Some (func_shown c.in-Some-func.callee.now) =
-    slice_get-map func_shown (funcs_of c.args.code.now) c.in-Call.func ∙ ap (λ (o : Option FuncCode). option_map func_shown o) (sym c.in-Some-func.ensures) in
-    call_cost t c.in-Call.func (func_shown c.in-Some-func.callee.now) c.args.self.now.state.turns c.enter.new.self.state.turns c.frame_from-body.result c.args.number c.in-Some.caller
+    let function : slice_get t.funcs c.in-Call.func ≡ Some (func_shown c.in-Some.callee.now) =
+    slice_get-map func_shown (funcs_of c.args.code.now) c.in-Call.func ∙ ap (λ (o : Option FuncCode). option_map func_shown o) (sym c.in-Some.ensures) in
+    call_cost t c.in-Call.func (func_shown c.in-Some.callee.now) c.args.self.now.state.turns c.enter.new.self.state.turns c.frame_from-body.result c.args.number c.args.self.now.func
     (frames_of c.args.self.now) (frames_of c.enter.new.self) function (ap (λ (u : ThreadState). u.turns + 1) c.enter.ensures.state ∙ c.in-Ok.ensures.turns) c.frame_from-body.ensures.cost
-    (c.enter.ensures.frames ∙ ap (λ (xs : List Frame). frames_shown c.frame_from-body.result ++ (Answers c.args.number c.in-Some.caller ∷ reverse xs)) c.reserve.ensures.items)
+    (c.enter.ensures.frames ∙ ap (λ (xs : List Frame). frames_shown c.frame_from-body.result ++ (Answers c.args.number c.args.self.now.func ∷ reverse xs)) c.reserve.ensures.items)
 
 pub returns-in-Err-Fault-clause-meaning : goal.returns-in-Err-Fault-clause-meaning
 returns-in-Err-Fault-clause-meaning c = λ k setting g gs line target name args fs s of_table runs node frames is.
@@ -73,9 +73,9 @@ returns-in-Err-Fault-clause-meaning c = λ k setting g gs line target name args 
     let i : Kind = call_node to c.in-Call.func from in
     let by_number : slice_get t.nodes c.args.number ≡ Some (node_shown c.args.node.now) = c.requires.there in
     let there : kind_at t c.args.number ≡ Some i = kind_there t c.args.number (node_shown c.args.node.now) i by_number (ap kind_shown c.in-Call.is) in
-    let function : slice_get t.funcs c.in-Call.func ≡ Some (func_shown c.in-Some-func.callee.now) =
-    slice_get-map func_shown (funcs_of c.args.code.now) c.in-Call.func ∙ ap (λ (o : Option FuncCode). option_map func_shown o) (sym c.in-Some-func.ensures) in
-    let h = called setting t k g c.args.number line target name args to c.in-Call.func from (func_shown c.in-Some-func.callee.now) of_table node there function in
+    let function : slice_get t.funcs c.in-Call.func ≡ Some (func_shown c.in-Some.callee.now) =
+    slice_get-map func_shown (funcs_of c.args.code.now) c.in-Call.func ∙ ap (λ (o : Option FuncCode). option_map func_shown o) (sym c.in-Some.ensures) in
+    let h = called setting t k g c.args.number line target name args to c.in-Call.func from (func_shown c.in-Some.callee.now) of_table node there function in
     let contexts = slot_names g ∷ map slot_names gs in
     let stop = subst (λ (x : Stop). OnStop contexts line c.call.new.self (λ (q : State). begun setting line (all_passed q.store h.function.params args) q) s x) c.in-Err-Fault.field-0-is
     (c.in-Err-Fault.ensures.state (map slot_names gs) (slot_names g) (slot_names h.function) setting line h.function.params args of_table.calls
@@ -97,9 +97,9 @@ returns-in-Err-OutOfMemory-clause-meaning c = λ k setting g gs line target name
     let i : Kind = call_node to c.in-Call.func from in
     let there : kind_at t c.args.number ≡ Some i =
     kind_there t c.args.number (node_shown c.args.node.now) i c.requires.there (ap kind_shown c.in-Call.is) in
-    let function : slice_get t.funcs c.in-Call.func ≡ Some (func_shown c.in-Some-func.callee.now) =
-    slice_get-map func_shown (funcs_of c.args.code.now) c.in-Call.func ∙ ap (λ (o : Option FuncCode). option_map func_shown o) (sym c.in-Some-func.ensures) in
-    let h = called setting t k g c.args.number line target name args to c.in-Call.func from (func_shown c.in-Some-func.callee.now) of_table node there function in
+    let function : slice_get t.funcs c.in-Call.func ≡ Some (func_shown c.in-Some.callee.now) =
+    slice_get-map func_shown (funcs_of c.args.code.now) c.in-Call.func ∙ ap (λ (o : Option FuncCode). option_map func_shown o) (sym c.in-Some.ensures) in
+    let h = called setting t k g c.args.number line target name args to c.in-Call.func from (func_shown c.in-Some.callee.now) of_table node there function in
     subst (λ (x : Stop). OnStop (slot_names g ∷ map slot_names gs) line c.call.new.self (λ (q : State). begun setting line (all_passed q.store h.function.params args) q) s x) c.in-Err-OutOfMemory.field-0-is
     (c.in-Err-OutOfMemory.ensures.state (map slot_names gs) (slot_names g) (slot_names h.function) setting line h.function.params args of_table.calls
     (names_differ h.function) h.slots

@@ -27,7 +27,7 @@ returns-in-Ok-clause-meaning c = λ k setting gs f fs s of_table runs frame fram
     (slice_get-map node_shown (nodes_of c.args.code.now) c.args.number ∙ ap (λ (o : Option Node). option_map node_shown o) (sym c.in-Some.ensures)) (ap kind_shown c.in-Call.is) in
     let function : slice_get t.funcs c.in-Call.func ≡ Some (func_shown c.in-Some-func.callee.now) =
     slice_get-map func_shown (funcs_of c.args.code.now) c.in-Call.func ∙ ap (λ (o : Option FuncCode). option_map func_shown o) (sym c.in-Some-func.ensures) in
-    let run : ThreadRun = record { func = Some c.args.caller; state = c.end_call.new.self; frames = c.args.self.now.frames; told = c.args.self.now.told } in
+    let run : ThreadRun = record { func = c.args.caller; state = c.end_call.new.self; frames = c.args.self.now.frames; told = c.args.self.now.told } in
     call_returns setting t c.args.number c.args.caller c.in-Call.func to from (func_shown c.in-Some-func.callee.now) c.args.self.now run gs f fs s frame there function frames is refl refl refl c.end_call.ensures.going
     (λ contexts names callee_names r qs values x ret params passed target q at.
     c.in-Ok.ensures.state contexts names callee_names r qs values x ret
@@ -45,7 +45,7 @@ returns-in-Err-clause-meaning c = λ k setting gs f fs s of_table runs frame fra
     (slice_get-map node_shown (nodes_of c.args.code.now) c.args.number ∙ ap (λ (o : Option Node). option_map node_shown o) (sym c.in-Some.ensures)) (ap kind_shown c.in-Call.is) in
     let function : slice_get t.funcs c.in-Call.func ≡ Some (func_shown c.in-Some-func.callee.now) =
     slice_get-map func_shown (funcs_of c.args.code.now) c.in-Call.func ∙ ap (λ (o : Option FuncCode). option_map func_shown o) (sym c.in-Some-func.ensures) in
-    let run : ThreadRun = record { func = Some c.args.caller; state = c.end_call.new.self; frames = c.args.self.now.frames; told = c.args.self.now.told } in
+    let run : ThreadRun = record { func = c.args.caller; state = c.end_call.new.self; frames = c.args.self.now.frames; told = c.args.self.now.told } in
     let code = func_shown c.in-Some-func.callee.now in
     call_faults setting t c.args.number c.args.caller c.in-Call.func to from code c.args.self.now run gs f fs s c.in-Err.kind (return_line code.ret) c.line_of.result frame there function frames is refl refl refl c.line_of.ensures
     (λ contexts names callee_names r qs values x ret params passed target q at.
