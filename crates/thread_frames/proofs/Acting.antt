@@ -1,5 +1,5 @@
 -- An action that a thread does alone.
-use Rattle.std.proofs.Common.{◌≡◌, ℕ, suc, ◌+◌, Bool, true, false, List, [], ◌∷◌, ◌++◌, length, map, Option, Some, None, IfSome, refl, sym, ◌∙◌, ap, subst, arith, append_assoc, append-nil, inl, inr}
+use Rattle.std.proofs.Common.{◌≡◌, ℕ, suc, ◌+◌, Bool, true, false, List, [], ◌∷◌, ◌++◌, length, map, Option, Some, None, refl, sym, ◌∙◌, ap, subst, arith, append_assoc, append-nil, inl, inr}
 use Rattle.std.specs.Prelude.{reverse, ◌⊎◌, ℤ}
 use Rattle.std.proofs.lemmas.List.{length-append}
 use Rattle.dag_order.specs.LabelOrder.{fork_of}
@@ -25,7 +25,7 @@ use Rattle.thread_points.proofs.Telling.{thread_steps}
 use Rattle.thread_stack.specs.Frames.{AreFrames, RunsIn}
 use Rattle.thread_output.specs.Joining.{lines_before}
 use Rattle.thread_points.specs.Laws.{earlier_fault}
-use Rattle.thread_output.specs.Telling.{Tells}
+use Rattle.thread_output.specs.Telling.{Tells, AreLines}
 use Rattle.thread_output.specs.declared.told.Told.{Told}
 use Rattle.thread_output.proofs.Both.{faults, lines}
 use Rattle.thread_state.specs.States.{IsState}
@@ -101,7 +101,7 @@ quiet_behind told items new h none no_line = record {
   lines =
       let same : lines_of (items ++ new) ≡ lines_of items =
       lines items new ∙ ap (lines_before (first_fault items) (lines_of items)) no_line ∙ no_later_line (first_fault items) (lines_of items) in
-      subst (λ (vs : List ℤ). IfSome told.lines (λ kept. kept ≡ vs)) (sym same) h.lines;
+      subst (λ (vs : List ℤ). AreLines told.lines vs) (sym same) h.lines;
 }
 
 pub mark_no_fault : (f : Frame) (xs : List Item) → first_fault (mark_of f ++ xs) ≡ first_fault xs

@@ -1,9 +1,10 @@
 -- What is told of one part behind another.
-use Rattle.std.proofs.Common.{◌≡◌, Bool, true, false, List, [], ◌∷◌, ◌++◌, ℤ, Option, Some, None, is_some, IfSome, refl, sym, ap, ◌∙◌}
+use Rattle.std.proofs.Common.{◌≡◌, true, false, List, [], ◌∷◌, ◌++◌, length, ℤ, Option, Some, None, is_some, refl, sym, ap, ◌∙◌, arith, length-append}
 use Rattle.dag_order.specs.declared.fault.FaultAt.{FaultAt}
 use Rattle.depth_first_run.specs.States.{Item, failed}
 use Rattle.depth_first_run.specs.Run.{lines_of, first_fault}
 use Rattle.thread_output.specs.Joining.{IsJoined, lines_before}
+use Rattle.thread_output.specs.Telling.{AreLines}
 use Rattle.thread_points.specs.Laws.{earlier_fault}
 use Rattle.thread_output.proofs.Both.{faults, lines, marked_later}
 
@@ -38,9 +39,14 @@ goes_on_lines (Some fault) items others is none = let never : ⊥ = cc in absurd
 goes_on_lines None items others is none =
     lines items others ∙ ap (λ (f : Option FaultAt). lines_before f (lines_of items) (lines_of others)) (sym is)
 
-pub joined_lines : (a b all : Option (List ℤ)) (xs ys : List ℤ) → IsJoined a b all → IfSome a (λ kept. kept ≡ xs) → IfSome b (λ kept. kept ≡ ys) →
-    IfSome all (λ kept. kept ≡ xs ++ ys)
-joined_lines a b None xs ys joined first second = tt
+pub joined_lines : (a b all : Option (List ℤ)) (xs ys : List ℤ) → IsJoined a b all → AreLines a xs → AreLines b ys → AreLines all (xs ++ ys)
 joined_lines (Some a) (Some b) (Some all) xs ys joined first second = joined ∙ ap (λ (vs : List ℤ). vs ++ b) first ∙ ap (λ (vs : List ℤ). xs ++ vs) second
+joined_lines (Some a) (Some b) None xs ys joined first second =
+    let all = length-append xs ys in
+    let here = ap (λ (vs : List ℤ). length vs) first in
+    let there = ap (λ (vs : List ℤ). length vs) second in
+    omega (arith, all, here, there, joined)
 joined_lines (Some a) None (Some all) xs ys joined first second = absurd joined
+joined_lines (Some a) None None xs ys joined first second = let all = length-append xs ys in omega (arith, all, second)
 joined_lines None b (Some all) xs ys joined first second = absurd joined
+joined_lines None b None xs ys joined first second = let all = length-append xs ys in omega (arith, all, first)

@@ -1,4 +1,4 @@
-ghost use Rattle.std.specs.Prelude.{◌≡◌, ◌++◌, ◌∷◌, ◌≤◌, [], List, length, Some, None, IfSome, IfOk, OnOk, OnErr};
+ghost use Rattle.std.specs.Prelude.{◌≡◌, ◌++◌, ◌∷◌, ◌≤◌, ◌<◌, [], List, length, Some, None, IsErr, IfSome, IfOk, OnOk, OnErr};
 ghost use Rattle.thread_points.specs.Laws.{earlier_fault};
 ghost use Rattle.thread_output.specs.Joining.{IsJoined};
 ghost use Rattle.std.specs.Option.{ForSome};
@@ -10,12 +10,12 @@ use dag_order::{FaultAt, Lines};
 use std::alloc::{AllocError, Global};
 use std::collections::LinkedList;
 
-/// The most lines that are kept: more is want of memory.
+/// The most lines that are kept.
 const MAX_LINES: usize = 4_294_967_295;
 
 /// What is told of a part of a run: the numbers that it printed before its first fault, and this fault.
 ///
-/// Where parts with too many lines were joined the lines are lost, and want of memory is the answer from then on.
+/// Where parts with more than 4,294,967,295 lines were joined the lines are lost, and from then on memory is said to be wanting.
 #[derive(Drop)]
 pub struct Told {
     lines: Option<LinkedList<i64>>,
@@ -49,12 +49,13 @@ impl Told {
     ///
     /// # Errors
     ///
-    /// There is not enough memory, or there are 4,294,967,295 lines. Nothing is changed.
+    /// There is not enough memory, or there are 4,294,967,295 lines or more. Nothing is changed.
     pub fn print(&mut self, value: i64) -> Result<(), AllocError>
         requires { fault_of self.old ≡ None }
         ensures ok { (items : List Item) → Tells self.old items → OnOk result (Tells self.new (items ++ printed value ∷ [])) }
         ensures err { OnErr result (self.new ≡ self.old) }
         ensures fault { fault_of self.new ≡ None }
+        ensures many { (items : List Item) → Tells self.old items → 4294967295 ≤ length (lines_of items) → IsErr result }
     {
         let Some(lines) = &mut self.lines else {
             return Err(AllocError);
@@ -94,9 +95,10 @@ impl Told {
     ///
     /// # Errors
     ///
-    /// There is not enough memory, or there were too many lines.
+    /// There is not enough memory, or there are more than 4,294,967,295 lines.
     pub fn lines(&self, alloc: Global) -> Result<Lines, AllocError>
-        ensures { (items : List Item) → Tells self.now items → IfOk result (λ lines. entries lines ≡ lines_of items) }
+        ensures many { (items : List Item) → Tells self.now items → 4294967295 < length (lines_of items) → IsErr result }
+        ensures lines { (items : List Item) → Tells self.now items → IfOk result (λ lines. entries lines ≡ lines_of items) }
     {
         match &self.lines {
             Some(lines) => Ok(Lines::from_vec(flattened(alloc, lines)?)),

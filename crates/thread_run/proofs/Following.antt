@@ -1,6 +1,6 @@
 -- What a step of the layer below comes to: a statement, with the frames that it puts and what it tells, or a frame that is none.
 use Rattle.std.proofs.Common.{inl, inr, ◌≡◌, ℕ, ◌+◌, ◌*◌, ◌≤◌, List, [], ◌∷◌, ◌++◌, ℤ, Result, Ok, Err, Option, Some, None, refl, sym, ◌∙◌, ap, subst, arith, append-nil}
-use Rattle.std.specs.Prelude.{true, is_some, IfOk, OnOk, IfSome, MatchResult}
+use Rattle.std.specs.Prelude.{true, is_some, IfOk, OnOk, MatchResult}
 use Rattle.std.specs.declared.alloc.AllocError.{AllocError}
 use Rattle.dag_order.specs.declared.fault.FaultAt.{FaultAt}
 use Rattle.par_tree.specs.Tree.{Program, Func, Stmt}
@@ -16,7 +16,7 @@ use Rattle.thread_stack.specs.declared.frame.Frame.{Frame}
 use Rattle.thread_stack.specs.declared.frame.Frame.TheVariants.{Joins}
 use Rattle.thread_stack.specs.Frames.{AreFrames, IsFrame, IsNode, functions_behind, frames_shown, RunsIn}
 use Rattle.thread_stack.specs.Measure.{frames_cost, node_cost, turn_cost, left_to_do}
-use Rattle.thread_output.specs.Telling.{Tells}
+use Rattle.thread_output.specs.Telling.{Tells, AreLines}
 use Rattle.thread_output.specs.Joining.{lines_before}
 use Rattle.thread_points.specs.Laws.{earlier_fault}
 use Rattle.thread_output.specs.declared.told.Told.{Told}
@@ -40,7 +40,7 @@ use Rattle.thread_steps.specs.Dones.{IsAction, Comes, LeadsOrWants}
 pub told_behind : (told : Told) (part : List Item) (fault : FaultAt) (v : ℤ) → Some fault ≡ first_fault part → Tells told part → Tells told (part ++ printed v ∷ [])
 told_behind told part fault v some tells = record {
   fault = tells.fault ∙ sym some ∙ sym (faults part (printed v ∷ []) ∙ ap (λ (o : Option FaultAt). earlier_fault o None) (sym some));
-  lines = subst (λ (vs : List ℤ). IfSome told.lines (λ kept. kept ≡ vs)) (sym (lines part (printed v ∷ []) ∙ ap (λ (o : Option FaultAt). lines_before o (lines_of part) (v ∷ [])) (sym some))) tells.lines;
+  lines = subst (λ (vs : List ℤ). AreLines told.lines vs) (sym (lines part (printed v ∷ []) ∙ ap (λ (o : Option FaultAt). lines_before o (lines_of part) (v ∷ [])) (sym some))) tells.lines;
 }
 
 quiet_faults : (part new : List Item) → first_fault new ≡ None → first_fault (part ++ new) ≡ first_fault part
@@ -60,7 +60,7 @@ quiet_lines part new none = lines part new ∙ ap (λ (vs : List ℤ). lines_bef
 pub quiet_told : (told : Told) (part new : List Item) → first_fault new ≡ None → lines_of new ≡ [] → Tells told part → Tells told (part ++ new)
 quiet_told told part new no_fault no_line tells = record {
   fault = tells.fault ∙ sym (quiet_faults part new no_fault);
-  lines = subst (λ (vs : List ℤ). IfSome told.lines (λ kept. kept ≡ vs)) (sym (quiet_lines part new no_line)) tells.lines;
+  lines = subst (λ (vs : List ℤ). AreLines told.lines vs) (sym (quiet_lines part new no_line)) tells.lines;
 }
 
 -- ---- an action

@@ -7,4 +7,4 @@ use Rattle.thread_frames.proofs.ended.Ended.lines.Goals as goal
 
 pub returns : goal.returns
 returns c = λ t k is root setting of.
-    ∥∥₁_elim (is.at setting of) (lines_fact c.lines.result _) (λ h. c.lines.ensures (State.items (whole setting)) (whole_told setting t c.args.self.now h root))
+    ∥∥₁_elim (is.at setting of) (lines_fact c.lines.result _) (λ h. c.lines.ensures.lines (State.items (whole setting)) (whole_told setting t c.args.self.now h root))
