@@ -1,4 +1,4 @@
-ghost use Rattle.std.specs.Prelude.{◌≡◌, ◌+◌, ◌-◌, ◌≤◌, [], ◌∷◌, ◌++◌, length, take, drop, slice_get, IsOk, OnOk, IfOk, MatchOption, option_to_list};
+ghost use Rattle.std.specs.Prelude.{◌≡◌, ◌+◌, ◌-◌, ◌≤◌, [], ◌∷◌, ◌++◌, length, take, drop, slice_get, IsOk, IsErr, OnOk, IfOk, MatchOption, option_to_list};
 ghost use Rattle.std.specs.Option.{option_copied, option_copied_mut};
 
 use std::alloc::{AllocError, Global};
@@ -69,12 +69,14 @@ impl<T> Lane<T> {
         self.items.len() as u32
     }
 
-    /// Makes room for at least one more item. Where there is room, no memory is needed.
+    /// Makes room for at least one more item. Where there is room, no memory is needed. In a lane of 4,294,967,295 items memory is said to be
+    /// wanting, and none is asked for.
     pub fn reserve(&mut self) -> Result<(), AllocError>
         ensures items { self.new.items ≡ self.old.items }
         ensures room { OnOk result (1 ≤ self.new.spare) }
         ensures keeps_room { self.old.spare ≤ self.new.spare }
         ensures enough { 1 ≤ self.old.spare → IsOk result }
+        ensures full { length self.old.items ≡ 4294967295 → IsErr result }
     {
         if self.items.len() == MAX_ITEMS {
             return Err(AllocError);

@@ -1,5 +1,5 @@
 //! How a row is made.
-ghost use Rattle.std.specs.Prelude.{◌≡◌, ◌<◌, [], ◌∷◌, vec_len, IfOk, IfErr};
+ghost use Rattle.std.specs.Prelude.{◌≡◌, ◌<◌, [], ◌∷◌, vec_len, IsErr, IfOk, IfErr};
 ghost use Rattle.turn_table.specs.Hands.{fresh};
 ghost use Rattle.turn_table.specs.Tables.{key_of, slot_count, IsSeatOf};
 
@@ -19,7 +19,8 @@ impl<V, L: TurnLaw<V>> Turns<V, L> {
     ///
     /// # Errors
     ///
-    /// The values come back where there is no memory. A row of more than 4,294,967,295 slots finds none.
+    /// The values come back where there is no memory. For a row of more than 4,294,967,295 slots memory is said to be wanting, and none is
+    /// asked for.
     pub fn new<M: Opens<L::Note>>(
         alloc: Global,
         mut values: Vec<V>,
@@ -30,6 +31,7 @@ impl<V, L: TurnLaw<V>> Turns<V, L> {
         ensures ok { IfOk result (λ made. IsSeatOf made.0 made.1 × (key_of made.0 ≡ key) × (slot_count made.0 ≡ vec_len values)
             × (made.1.hand ≡ fresh (M.note L.blank))) }
         ensures err { IfErr result (λ refused. refused.0.items ≡ values.items) }
+        ensures many { 4294967295 < vec_len values → IsErr result }
     {
         if values.len() > u32::MAX as usize {
             return Err((values, AllocError));
