@@ -9,7 +9,8 @@ LEFT, TOP, RIGHT, BOTTOM = 68, 146, 270, 24
 BAR = 64
 # The least width, in which a note has room.
 LEAST = 940
-PREFIX, AHEAD, BOUND = 170, 236, 310
+# Where the columns of numbers end, from the end of the deques: the prefix, the periods ahead, and the bound, if it is shown.
+ENDS, ENDS_WITH_BOUND = (170, 236), (198, 274, 354)
 COLOURS = {
     "light": ["#0b6e69", "#1f6fd6", "#c9480f", "#7a3fc4", "#2f7d1f", "#b8286b", "#8a6100", "#59636f"],
     "dark": ["#3ecfc5", "#6db0ff", "#ff9457", "#bd93f9", "#8fd16b", "#ff8fbf", "#e0b84a", "#a3aebb"],
@@ -101,10 +102,10 @@ class Lanes(Canvas):
 
     def __init__(self, events, bounds=None):
         self.events, self.bounds = events, bounds
-        self.last = BOUND if bounds else AHEAD
+        self.ends = ENDS_WITH_BOUND if bounds else ENDS
         count, self.columns = columns_of(events)
         self.end = LEFT + count * (LANE + GAP) - GAP
-        super().__init__(max(LEAST, self.end + RIGHT + self.last - AHEAD), TOP + len(events) * ROW + BOTTOM)
+        super().__init__(max(LEAST, self.end + RIGHT + self.ends[-1] - ENDS[-1]), TOP + len(events) * ROW + BOTTOM)
 
     def x(self, deque):
         return LEFT + self.columns[deque] * (LANE + GAP)
@@ -116,24 +117,21 @@ class Lanes(Canvas):
         self.text(LEFT - 16, TOP - 14, "note", "event", "end")
         self.text(LEFT, TOP - 14, "note", "the deques, from left to right")
         self.text(self.end + 26, TOP - 14, "note", "words in use")
-        self.text(self.end + PREFIX, TOP - 14, "note", "prefix", "end")
-        self.text(self.end + AHEAD, TOP - 14, "note", "ahead(t)", "end")
-        if self.bounds:
-            self.text(self.end + BOUND, TOP - 14, "note", "bound", "end")
+        for at, name in zip(self.ends, ("prefix", "ahead(t)", "bound")):
+            self.text(self.end + at, TOP - 14, "note", name, "end")
 
     def rows(self):
         most = max(1, *(event.words for event in self.events))
         for row, event in enumerate(self.events):
             y = TOP + row * ROW
-            self.straight(LEFT - 38, y, self.end + self.last, y, "grid")
+            self.straight(LEFT - 38, y, self.end + self.ends[-1], y, "grid")
             self.text(LEFT - 16, y + 18, "tick", row + 1, "end")
             length = BAR * event.words / most
             self.put(f'<rect x="{self.end + 26}" y="{y + 8}" width="{length:.1f}" height="11" class="words"/>')
             self.text(self.end + 32 + length, y + 18, "tick", event.words)
-            self.text(self.end + PREFIX, y + 18, "tick", event.prefix, "end")
-            self.text(self.end + AHEAD, y + 18, "tick", event.ahead, "end")
-            if self.bounds:
-                self.text(self.end + BOUND, y + 18, "tick", self.bounds[row], "end")
+            numbers = (event.prefix, event.ahead, self.bounds[row] if self.bounds else 0)
+            for at, number in zip(self.ends, numbers):
+                self.text(self.end + at, y + 18, "tick", number, "end")
 
     def periods(self):
         """A bar for each period, from its steal to its last event."""
