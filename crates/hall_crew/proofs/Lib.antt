@@ -1,0 +1,4 @@
+pub mod First
+pub mod Notes
+pub mod Acting
+pub mod Counting

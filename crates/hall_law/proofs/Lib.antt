@@ -1,0 +1,12 @@
+pub mod Lanes
+pub mod Own
+pub mod Going
+pub mod Opening
+pub mod LaneRows
+pub mod ListRows
+pub mod HandedRows
+pub mod Stealing
+pub mod TakingOver
+pub mod Beside
+pub mod Closing
+pub mod Examples

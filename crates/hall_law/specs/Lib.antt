@@ -1,0 +1,5 @@
+pub mod Values
+pub mod Steps
+pub mod Standing
+pub mod Writing
+pub mod Rows
