@@ -6,7 +6,7 @@ pub fn first_crew()
     ensures { (s : Setting) → FirstCrew s }
 {}
 
-/// Each event keeps it.
+/// An event keeps it that leaves the deques of other workers as they are, and is in the period of its seat.
 pub fn events_keep_crew()
     ensures { (s : Setting) → EventsKeepCrew s }
 {}

@@ -5,7 +5,8 @@
 //! done, that a stop which was found has its cause, and that no give up was free where no seat has yielded. It holds definitions and laws
 //! alone, over plain values.
 //!
-//! Its theorem, by the functions of [`laws`]: this law holds where a hall begins, and each event keeps it.
+//! Its theorem, by the functions of [`laws`]: this law holds where a hall begins, and an event keeps it that leaves the deques of other workers
+//! as they are and is in the period of its seat.
 #![tactic(auto)]
 
 pub mod laws;
