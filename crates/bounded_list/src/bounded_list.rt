@@ -1,4 +1,4 @@
-ghost use Rattle.std.specs.Prelude.{◌≡◌, ◌+◌, ◌≤◌, ◌<◌, ◌^◌, ◌↔◌, [], ◌∷◌, ◌++◌, length, min, slice_get, IsTrue, IsOk, IfOk, OnOk, vec_len, vec_capacity};
+ghost use Rattle.std.specs.Prelude.{◌≡◌, ◌+◌, ◌≤◌, ◌<◌, ◌^◌, ◌↔◌, [], ◌∷◌, ◌++◌, length, min, slice_get, IsTrue, IsOk, IsErr, IfOk, OnOk, vec_len, vec_capacity};
 ghost use Rattle.std.specs.Option.{option_copied};
 
 use std::alloc::{AllocError, Global};
@@ -82,6 +82,7 @@ impl<T> BoundedList<T> {
         ensures room { OnOk result (1 ≤ spare self.new) }
         ensures keeps_room { spare self.old ≤ spare self.new }
         ensures succeeds { 1 ≤ spare self.old → IsOk result }
+        ensures full { length (entries self.old) ≡ MAX_ENTRIES → IsErr result }
     {
         if self.len() == MAX_ENTRIES {
             return Err(AllocError);
@@ -108,6 +109,7 @@ impl<T: Copy> BoundedList<T> {
     pub fn copy_with_room(&self) -> Result<BoundedList<T>, AllocError>
         ensures entries { IfOk result (λ copy. entries copy ≡ entries self.now) }
         ensures room { IfOk result (λ copy. 1 ≤ spare copy) }
+        ensures full { length (entries self.now) ≡ MAX_ENTRIES → IsErr result }
     {
         if self.len() == MAX_ENTRIES {
             return Err(AllocError);

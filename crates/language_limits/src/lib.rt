@@ -54,3 +54,9 @@ pub const MOST_DEQUES: u32 = 4_096;
 
 /// The most words of an arena.
 pub const MOST_WORDS: u32 = 67_108_864;
+
+/// The most bytes of a trail's text.
+pub const MOST_TRAIL: u32 = 33_554_432;
+
+/// The most actions that a trail may allow a play.
+pub const MOST_TRAIL_ACTIONS: u32 = 400_000;

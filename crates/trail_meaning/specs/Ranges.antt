@@ -1,8 +1,7 @@
 -- The numbers that a trail may have.
 use Rattle.std.specs.Prelude.{◌≡◌, ℕ, ◌<◌, ◌≤◌, ◌%◌, ◌^◌, List, [], ◌∷◌, length}
-use Rattle.language_limits.specs.declared.TheConstants.{GREATEST_QUOTA, LEAST_QUOTA, LONGEST_TEXT, MOST_DEQUES, MOST_WORDS, MOST_WORKERS}
+use Rattle.language_limits.specs.declared.TheConstants.{GREATEST_QUOTA, LEAST_QUOTA, LONGEST_TEXT, MOST_DEQUES, MOST_TRAIL_ACTIONS, MOST_WORDS, MOST_WORKERS}
 use Rattle.trail_meaning.specs.Shown.{Shown}
-use Rattle.trail_meaning.specs.declared.limits.TheConstants.{MOST_TRAIL_ACTIONS}
 use Rattle.trail_meaning.specs.declared.trail_event.TrailEvent.{TrailEvent}
 use Rattle.trail_meaning.specs.declared.trail_kind.TrailKind.{TrailKind}
 use Rattle.trail_meaning.specs.declared.trail_kind.TrailKind.TheVariants.{Steal, Act, Suspend, GiveUp}

@@ -6,13 +6,11 @@
 //! a trail.
 #![tactic(auto)]
 
-mod limits;
 mod trail;
 mod trail_event;
 mod trail_kind;
 mod trail_numbers;
 
-pub use limits::{MOST_TRAIL, MOST_TRAIL_ACTIONS};
 pub use trail::{Events, Trail};
 pub use trail_event::TrailEvent;
 pub use trail_kind::TrailKind;

@@ -10,10 +10,9 @@ use Rattle.std.proofs.lemmas.Fmt.{decimal_is_IsNumeral}
 use Rattle.std.proofs.lemmas.List.{take-append-drop, length-take-le}
 use Rattle.byte_cuts.specs.Lacks.{Lacks}
 use Rattle.byte_cuts.proofs.Cuts.{cut_here}
-use Rattle.language_limits.specs.declared.TheConstants.{GREATEST_QUOTA, LEAST_QUOTA, LONGEST_TEXT, MOST_DEQUES, MOST_WORDS, MOST_WORKERS}
+use Rattle.language_limits.specs.declared.TheConstants.{GREATEST_QUOTA, LEAST_QUOTA, LONGEST_TEXT, MOST_DEQUES, MOST_TRAIL, MOST_TRAIL_ACTIONS, MOST_WORDS, MOST_WORKERS}
 use Rattle.trail_meaning.specs.Shown.{Shown}
 use Rattle.trail_meaning.specs.Ranges.{IsWithin, FitSetting, FitsKind, FitsEvent, FitEvents, FitNumbers}
-use Rattle.trail_meaning.specs.declared.limits.TheConstants.{MOST_TRAIL, MOST_TRAIL_ACTIONS}
 use Rattle.trail_meaning.specs.declared.trail_event.TrailEvent.{TrailEvent}
 use Rattle.trail_meaning.specs.declared.trail_kind.TrailKind.{TrailKind}
 use Rattle.trail_meaning.specs.declared.trail_kind.TrailKind.TheVariants.{Steal, Act, Suspend, GiveUp}

@@ -8,9 +8,8 @@ use Rattle.std.proofs.lemmas.Fmt.{decimal_injective}
 use Rattle.byte_cuts.specs.Lacks.{Lacks}
 use Rattle.byte_cuts.proofs.Cuts.{cut_once}
 use Rattle.run_report.proofs.Digits.{no_other}
-use Rattle.language_limits.specs.declared.TheConstants.{GREATEST_QUOTA, LEAST_QUOTA, LONGEST_TEXT, MOST_DEQUES, MOST_WORDS, MOST_WORKERS}
+use Rattle.language_limits.specs.declared.TheConstants.{GREATEST_QUOTA, LEAST_QUOTA, LONGEST_TEXT, MOST_DEQUES, MOST_TRAIL_ACTIONS, MOST_WORDS, MOST_WORKERS}
 use Rattle.trail_meaning.specs.Ranges.{IsWithin, FitSetting}
-use Rattle.trail_meaning.specs.declared.limits.TheConstants.{MOST_TRAIL_ACTIONS}
 use Rattle.trail_text.specs.TrailText.{head_line, source_line}
 use Rattle.trail_text.specs.Lines.{number_then, NoNumber, NoneWithin, NoneBelow, NoHead, NoSource}
 use Rattle.trail_text.proofs.Joined.{after_source}

@@ -4,10 +4,9 @@ use Rattle.std.specs.Prelude.{nat_eq, true, false}
 use Rattle.std.specs.List.{concat}
 use Rattle.std.proofs.lemmas.Bool.Decides.{nat_tests}
 use Rattle.std.proofs.lemmas.List.{map-append}
-use Rattle.language_limits.specs.declared.TheConstants.{LONGEST_TEXT}
+use Rattle.language_limits.specs.declared.TheConstants.{LONGEST_TEXT, MOST_TRAIL}
 use Rattle.trail_meaning.specs.Shown.{Shown}
 use Rattle.trail_meaning.specs.Ranges.{FitSetting, FitsEvent, FitEvents, FitNumbers, HasTrailRanges}
-use Rattle.trail_meaning.specs.declared.limits.TheConstants.{MOST_TRAIL}
 use Rattle.trail_meaning.specs.declared.trail_event.TrailEvent.{TrailEvent}
 use Rattle.trail_meaning.specs.declared.trail_numbers.TrailNumbers.{TrailNumbers}
 use Rattle.trail_text.specs.TrailText.{head_line, source_line, event_line, end_line, trail_lines, trail_text, IsTrail}

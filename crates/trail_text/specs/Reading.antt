@@ -3,7 +3,7 @@ use Rattle.std.specs.Prelude.{◌≡◌, ℕ, ◌<◌, ◌≤◌, ◌+◌, List,
 use Rattle.std.specs.List.{concat}
 use Rattle.trail_meaning.specs.Shown.{Shown}
 use Rattle.trail_meaning.specs.Ranges.{HasTrailRanges}
-use Rattle.trail_meaning.specs.declared.limits.TheConstants.{MOST_TRAIL}
+use Rattle.language_limits.specs.declared.TheConstants.{MOST_TRAIL}
 use Rattle.trail_text.specs.TrailText.{trail_lines, trail_text}
 use Rattle.trail_text.specs.declared.trail_fail.TrailFail.{TrailFail}
 use Rattle.trail_text.specs.declared.trail_fail.TrailFail.TheVariants.{NotTrail, OutOfMemory}

@@ -4,8 +4,9 @@ ghost use Rattle.trail_text.specs.TrailText.{head_line};
 ghost use Rattle.trail_text.specs.Lines.{NoHead};
 
 use crate::numbers::within;
-use language_limits::{GREATEST_QUOTA, LEAST_QUOTA, MOST_DEQUES, MOST_WORDS, MOST_WORKERS};
-use trail_meaning::MOST_TRAIL_ACTIONS;
+use language_limits::{
+    GREATEST_QUOTA, LEAST_QUOTA, MOST_DEQUES, MOST_TRAIL_ACTIONS, MOST_WORDS, MOST_WORKERS,
+};
 
 /// The setting of a play.
 #[derive(Clone, Copy)]

@@ -1,5 +1,5 @@
 ghost use Rattle.std.specs.Prelude.{◌≡◌, ◌≤◌, ◌-◌, length};
-ghost use Rattle.trail_meaning.specs.declared.limits.TheConstants.{MOST_TRAIL};
+ghost use Rattle.language_limits.specs.declared.TheConstants.{MOST_TRAIL};
 ghost use Rattle.trail_text.specs.declared.trail_fail.TrailFail.TheVariants.{NotTrail};
 
 use crate::trail_fail::TrailFail;

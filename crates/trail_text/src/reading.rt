@@ -13,8 +13,9 @@ use crate::head::read_head;
 use crate::place::not_trail;
 use crate::source::read_source;
 use crate::trail_fail::TrailFail;
+use language_limits::MOST_TRAIL;
 use std::alloc::{AllocError, Global};
-use trail_meaning::{Events, MOST_TRAIL, Trail};
+use trail_meaning::{Events, Trail};
 
 /// Returns the events of `p` workers in the lines that some bytes begin with, and the bytes after these lines.
 fn read_events(alloc: Global, bytes: &[u8], p: u32) -> Result<(Events, &[u8]), AllocError>
