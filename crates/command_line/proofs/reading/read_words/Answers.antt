@@ -1,7 +1,7 @@
 use Rattle.std.proofs.Common.{◌∙◌, ap, sym, List, ℕ, ◌∷◌, arith}
 use Rattle.command_line.specs.Words.{words_of}
 use Rattle.command_line.specs.declared.setting.Setting.TheVariants.{Quota, Workers, Arena, Steps, Deques}
-use Rattle.command_line.proofs.Commands.{a_command, no_groups, one_command, in_range}
+use Rattle.command_line.proofs.Commands.{a_command, few_steps, no_groups, one_command, in_range}
 use Rattle.command_line.proofs.reading.read_words.Goals as goal
 
 pub short_number-requires : goal.short_number-requires
@@ -18,7 +18,8 @@ short_number-requires-3 c =
 
 pub short_number-requires-4 : goal.short_number-requires-4
 short_number-requires-4 c =
-    omega (arith, (in_range c.in_ok-kind.kind (words_of c.in_ok-first.rest.now) c.in_ok-numbers.numbers Steps c.in_ok-numbers.ensures).1)
+    let within = (in_range c.in_ok-kind.kind (words_of c.in_ok-first.rest.now) c.in_ok-numbers.numbers Steps c.in_ok-numbers.ensures).1 in
+    let few = few_steps c.in_ok-kind.kind in omega (arith, within, few)
 
 pub short_number-requires-5 : goal.short_number-requires-5
 short_number-requires-5 c =
