@@ -20,18 +20,18 @@ takes_both before None (Some after) xs ys g h = absurd h
 takes_both None (Some between) (Some after) xs ys g h = absurd g
 takes_both (Some before) (Some between) (Some after) xs ys g h = h ∙ ap (λ bytes. bytes ++ ys) g ∙ append_assoc before xs ys
 
--- the reading of a source ends where nothing is left, or at 1,048,577 bytes
+-- the reading of a source ends where nothing is left, or at the most bytes that are read
 pub read_whole :
-    (before after : Option (List ℕ)) (bytes : List ℕ) → Gives before after bytes → length bytes ≤ 1048577 →
-    (length bytes ≡ 1048577) ⊎ IsSpent after → IsRead before after bytes
-read_whole None after bytes gives short ends = tt
-read_whole (Some before) None bytes gives short ends = absurd gives
-read_whole (Some before) (Some after) bytes gives short (inl full) = (
-  sym (ap (λ (l : List ℕ). take 1048577 l) gives ∙ take_at bytes after 1048577 full),
-  sym (ap (λ (l : List ℕ). drop 1048577 l) gives ∙ drop_at bytes after 1048577 full),
+    (most : ℕ) (before after : Option (List ℕ)) (bytes : List ℕ) → Gives before after bytes → length bytes ≤ most →
+    (length bytes ≡ most) ⊎ IsSpent after → IsRead most before after bytes
+read_whole most None after bytes gives short ends = tt
+read_whole most (Some before) None bytes gives short ends = absurd gives
+read_whole most (Some before) (Some after) bytes gives short (inl full) = (
+  sym (ap (λ (l : List ℕ). take most l) gives ∙ take_at bytes after most full),
+  sym (ap (λ (l : List ℕ). drop most l) gives ∙ drop_at bytes after most full),
 )
-read_whole (Some before) (Some after) bytes gives short (inr spent) =
+read_whole most (Some before) (Some after) bytes gives short (inr spent) =
     let e : before ≡ bytes = gives ∙ ap (λ (l : List ℕ). bytes ++ l) spent ∙ append-nil bytes in (
-      sym (ap (λ (l : List ℕ). take 1048577 l) e ∙ take_all 1048577 bytes short),
-      spent ∙ sym (ap (λ (l : List ℕ). drop 1048577 l) e ∙ drop_all 1048577 bytes short),
+      sym (ap (λ (l : List ℕ). take most l) e ∙ take_all most bytes short),
+      spent ∙ sym (ap (λ (l : List ℕ). drop most l) e ∙ drop_all most bytes short),
     )

@@ -13,12 +13,8 @@ abbrev pub IsSpent : Option (List ℕ) → Type 0
 IsSpent None = Unit {0}
 IsSpent (Some left) = left ≡ []
 
--- how many bytes of a source are read at most: one more than a program may have
-abbrev pub most_read : ℕ
-most_read = 1048577
-
--- what is read of a source that tells the bytes still to come: all of them, or the first 1,048,577
-abbrev pub IsRead : Option (List ℕ) → Option (List ℕ) → List ℕ → Type 0
-IsRead None after bytes = Unit {0}
-IsRead (Some before) None bytes = ⊥
-IsRead (Some before) (Some after) bytes = (bytes ≡ take most_read before) × (after ≡ drop most_read before)
+-- what is read of a source that tells the bytes still to come: all of them, or as many as are read at most
+abbrev pub IsRead : (most : ℕ) → Option (List ℕ) → Option (List ℕ) → List ℕ → Type 0
+IsRead most None after bytes = Unit {0}
+IsRead most (Some before) None bytes = ⊥
+IsRead most (Some before) (Some after) bytes = (bytes ≡ take most before) × (after ≡ drop most before)

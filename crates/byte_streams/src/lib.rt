@@ -7,7 +7,7 @@
 //! [`StdinSource`] and [`StdoutSink`] are these over the real streams, which tell nothing of content.
 //!
 //! The layer stands on no other. Its one theorem: [`read_source`] gives what the source had to give, up to its end or
-//! to 1,048,577 bytes, and [`write_text`] puts the whole text into the sink, or a front of it where the sink fails. Each
+//! to the most bytes that are asked for, and [`write_text`] puts the whole text into the sink, or a front of it where the sink fails. Each
 //! tells a fault exactly where one was counted in the call. Want of memory, which the reading may answer at any time, comes
 //! without a fault.
 #![tactic(auto)]
@@ -34,7 +34,7 @@ pub use memory_sink::MemorySink;
 pub use memory_source::MemorySource;
 pub use read_fail::ReadFail;
 pub use reader_source::ReaderSource;
-pub use reading::{MOST_READ, read_source};
+pub use reading::read_source;
 pub use sink::{Sink, SinkFailed};
 pub use source::{Source, SourceFailed};
 pub use standard::{StdinSource, StdoutSink};

@@ -6,9 +6,6 @@ use crate::read_fail::ReadFail;
 use crate::source::Source;
 use std::alloc::Global;
 
-/// How many bytes of a source are read at most: one more than a text may have.
-pub const MOST_READ: usize = 1_048_577;
-
 /// How many bytes are asked for at once.
 const BUFFER: usize = 4_096;
 
@@ -32,13 +29,17 @@ fn pull_into<S: Source>(
     Ok(count)
 }
 
-/// Reads a source to its end, or its first 1,048,577 bytes, by a buffer of 4,096.
+/// Reads a source to its end, or its first `most` bytes, by a buffer of 4,096.
 ///
 /// Each call of the source gives a byte, ends or fails, so the reading ends. A failure ends it too: the source is not
 /// asked again, and what was read before is lost. Its fault is told as such, and want of memory comes without one.
-pub fn read_source<S: Source>(alloc: Global, source: &mut S) -> Result<Vec<u8>, ReadFail>
-    ensures read { IfOk result (λ text. IsRead (S.left source.old) (S.left source.new) text.items) }
-    ensures short { IfOk result (λ text. vec_len text ≤ MOST_READ) }
+pub fn read_source<S: Source>(
+    alloc: Global,
+    source: &mut S,
+    most: usize,
+) -> Result<Vec<u8>, ReadFail>
+    ensures read { IfOk result (λ text. IsRead most (S.left source.old) (S.left source.new) text.items) }
+    ensures short { IfOk result (λ text. vec_len text ≤ most) }
     ensures goes_on { (bytes : List ℕ) × Gives (S.left source.old) (S.left source.new) bytes }
     ensures cause { MatchResult result
         (λ _. S.faults source.new ≡ S.faults source.old)
@@ -46,8 +47,8 @@ pub fn read_source<S: Source>(alloc: Global, source: &mut S) -> Result<Vec<u8>, 
 {
     let mut buffer = [0; BUFFER];
     let mut text = Vec::new(alloc);
-    'pulls: while text.len() < MOST_READ {
-        let room = (MOST_READ - text.len()).min(BUFFER);
+    'pulls: while text.len() < most {
+        let room = (most - text.len()).min(BUFFER);
         if pull_into(source, &mut buffer[..room], &mut text)? == 0 {
             break;
         }

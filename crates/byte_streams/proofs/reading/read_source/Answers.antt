@@ -20,10 +20,10 @@ returns-clause-goes_on g c = elim c.pulls-test.branch [
 pub returns-clause-read : goal.returns-clause-read
 returns-clause-read g c = elim c.pulls-test.branch [
   | else-pulls-test w ↦
-      rw (w.source-is, w.text-is) (read_whole _ _ _ c.pulls.invariant.gave (grind (arith, common_steps)) (inl (grind (arith, common_steps))))
+      rw (w.source-is, w.text-is) (read_whole _ _ _ _ c.pulls.invariant.gave (grind (arith, common_steps)) (inl (grind (arith, common_steps))))
   | then-pulls-test+in_ok-pull_into+then-branch-eq0 w ↦
       let gave = w.in_ok-pull_into.ensures.gives in
       let ended = w.in_ok-pull_into.ensures.end in
       let text = w.in_ok-pull_into.ensures.text in
-      rw (w.source-is, w.text-is) (read_whole _ _ _ (rw text (gives_both _ _ _ _ _ c.pulls.invariant.gave gave)) (grind (arith, common_steps)) (inr (ended w.if-branch-eq0.true (grind (arith, common_steps)))))
+      rw (w.source-is, w.text-is) (read_whole _ _ _ _ (rw text (gives_both _ _ _ _ _ c.pulls.invariant.gave gave)) (grind (arith, common_steps)) (inr (ended w.if-branch-eq0.true (grind (arith, common_steps)))))
 ]
