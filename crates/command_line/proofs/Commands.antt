@@ -1,5 +1,5 @@
 -- From the items to the command, and back.
-use Rattle.std.proofs.Common.{◌≡◌, ◌≢◌, ◌≤◌, ◌<◌, ℕ, Bool, true, false, List, [], ◌∷◌, ◌++◌, length, get_or, drop, append_assoc, append-nil, ap, sym, ◌∙◌, refl, subst, arith}
+use Rattle.std.proofs.Common.{◌≡◌, ◌≢◌, ◌≤◌, ℕ, Bool, true, false, List, [], ◌∷◌, ◌++◌, length, get_or, drop, append_assoc, append-nil, ap, sym, ◌∙◌, refl, subst, arith}
 use Rattle.std.specs.Prelude.{nat_eq, codes, Option, Some, None, unwrap_or, if◌then◌else◌}
 use Rattle.std.specs.List.{flat_map}
 use Rattle.std.proofs.lemmas.Grind.{flat_map-append}
@@ -12,6 +12,7 @@ use Rattle.command_line.specs.declared.command_kind.CommandKind.TheVariants.{Pla
 use Rattle.command_line.specs.declared.numbers.Numbers.{Numbers}
 use Rattle.command_line.specs.declared.setting.Setting.{Setting}
 use Rattle.command_line.specs.declared.setting.Setting.TheVariants.{Quota, Workers, Arena, Steps, Deques, Seed}
+use Rattle.language_limits.specs.declared.TheConstants.{MOST_ACTIONS}
 use Rattle.made_source.specs.declared.TheConstants.{MOST_GROUPS}
 use Rattle.command_line.specs.Words.{words_of, kind_word, Item, spelled, values_of, plain_of, wants_groups, most_steps, rule_of, InRange, TellsGroups, Sets, SetsGroups, AllHad, number_of, IsCommand}
 use Rattle.command_line.specs.Reading.{slot, or_default, no_numbers, Seen, SeenGroups, MaySet, MaySetGroups, MayFit, GoesOn, NoneGoesOn, AreItems, NoItems, AreRead}
@@ -228,8 +229,8 @@ sets_in_range kind s [] n sets = subst (λ (m : ℕ). InRange kind s m) (sym set
 sets_in_range kind s (v ∷ []) n sets = sets.1
 sets_in_range kind s (v ∷ w ∷ vs) n sets = absurd sets
 
--- the most steps are a number of 32 bits
-pub few_steps : (kind : CommandKind) → most_steps kind < 4294967296
+-- no command allows more actions than a run may have
+pub few_steps : (kind : CommandKind) → most_steps kind ≤ MOST_ACTIONS
 few_steps Play = omega arith
 few_steps Peak = omega arith
 few_steps Check = omega arith

@@ -6,7 +6,7 @@ use borrow.Author.Tests.{leb-true, leb-false}
 use Rattle.canonical_text.specs.Canonical.{canonical}
 use Rattle.command_line.specs.declared.command.Command.{Command}
 use Rattle.command_line.specs.declared.command_kind.CommandKind.{CommandKind}
-use Rattle.command_line.specs.declared.command_kind.CommandKind.TheVariants.{Play, Peak, Check as Checks, Make, Loops, Expand}
+use Rattle.command_line.specs.declared.command_kind.CommandKind.TheVariants.{Play, Peak, Check as Checks, Make, Loops, Expand, Trail, Verify}
 use Rattle.dag_order.specs.declared.fault.FaultAt.{FaultAt}
 use Rattle.command_line.specs.declared.setting.Setting.TheVariants.{Quota, Workers}
 use Rattle.depth_first_list.specs.Actions.{peak}
@@ -30,14 +30,23 @@ use Rattle.par_text.specs.Lexing.{Lexed, text_tokens}
 use Rattle.par_text.proofs.Verdicts.{has_verdict}
 use Rattle.par_tree.specs.Tree.{Program}
 use Rattle.run_report.specs.Texts.{peak_text}
-use Rattle.dfd_run.specs.Answer.{SourceGives, CheckMakes, KindGives, BytesGive, HasRanges}
+use Rattle.dfd_run.specs.Answer.{CheckMakes, KindGives, BytesGive, HasRanges}
+use Rattle.dfd_run.specs.Sources.{SourceGives}
 use Rattle.dfd_run.specs.Expanding.{ExpansionGives, ExpandMakes}
+use Rattle.trail_check.specs.Laws.{IsAnswer}
+use Rattle.trail_check.specs.declared.verify_fail.VerifyFail.{VerifyFail}
+use Rattle.trail_check.specs.declared.verify_fail.VerifyFail.TheVariants.{LongRun, BadEvent, NotEnded, WrongNumbers, OutOfMemory as NoRoom}
+use Rattle.trail_check.proofs.Outcomes.{an_answer as a_trail_has_an_answer}
+use Rattle.trail_meaning.specs.Shown.{Shown}
+use Rattle.trail_text.proofs.Deciding.{each_read}
+use Rattle.dfd_run.specs.TrailMessages.{not_trail_text, long_run_text, bad_event_text, not_ended_text, wrong_numbers_text, trail_ok_text}
+use Rattle.dfd_run.specs.Trails.{Records, TrailMakes, VerifyMakes, VerifyGives}
 use Rattle.dfd_run.specs.Messages.{syntax_text, bad_loop_text, name_taken_text, check_text, spent_text, arena_text, deques_text}
 use Rattle.dfd_run.specs.Make.{MakeMakes, Summarizes}
 use Rattle.dfd_run.specs.Peak.{RunText, PeakMakes, finish_status}
 use Rattle.dfd_run.specs.Play.{IsPlay, TellsPlay, Reports, PlayMakes, play_setting, play_terms, play_machine, seeded_words}
 use Rattle.dfd_run.specs.declared.status.Status.{Status}
-use Rattle.dfd_run.specs.declared.status.Status.TheVariants.{Done, Syntax, Check, UserFault, StepsSpent, ArenaFull, DequesFull}
+use Rattle.dfd_run.specs.declared.status.Status.TheVariants.{Done, Syntax, Check, UserFault, StepsSpent, ArenaFull, DequesFull, TrailRefused}
 
 abbrev Some_answer : (Status → List ℕ → Type 0) → Type 0
 Some_answer gives = (s : Status) × ((t : List ℕ) × gives s t)
@@ -167,6 +176,33 @@ expansion_answer makes some bytes = let a = has_answer bytes in by_answer a.0 a.
 play_answer : (command : Command) → HasRanges command → (bytes : List ℕ) → Some_answer (SourceGives (PlayMakes command) bytes)
 play_answer command ranges bytes = source_answer (PlayMakes command) bytes (play_made Reports some_report command ranges bytes)
 
+some_record : (command : Command) (bytes : List ℕ) (c : Setting) (run : List Pair) (last : Moment) → (t : List ℕ) × Records command bytes c run last t
+some_record command bytes c run last = let high = number_of_words c run in (_, (high.0, (high.1, refl)))
+
+-- `verify`: bytes are a trail or refused, and a trail has an answer
+told_answer : (t : Shown) (p : Program) → IsText t.source p → IsAccepted p → (answer : Result ℕ VerifyFail) → IsAnswer (setting_of p t.k) t answer →
+    Some_answer (SourceGives (VerifyMakes t) t.source)
+told_answer t p is own (Ok actions) a = (Done, (trail_ok_text t.numbers actions, (p, (is, (own, (Ok actions, (a.1, (refl, refl))))))))
+told_answer t p is own (Err (LongRun limit)) a =
+    (TrailRefused, (long_run_text limit, (p, (is, (own, (Err (LongRun limit), (a.1, (refl, refl))))))))
+told_answer t p is own (Err (BadEvent event)) a =
+    (TrailRefused, (bad_event_text event, (p, (is, (own, (Err (BadEvent event), (a.1, (refl, refl))))))))
+told_answer t p is own (Err (NotEnded events)) a =
+    (TrailRefused, (not_ended_text events, (p, (is, (own, (Err (NotEnded events), (a.1, (refl, refl))))))))
+told_answer t p is own (Err (WrongNumbers numbers)) a =
+    (TrailRefused, (wrong_numbers_text numbers, (p, (is, (own, (Err (WrongNumbers numbers), (a.1, (refl, refl))))))))
+told_answer t p is own (Err NoRoom) a = absurd (a.0 refl)
+
+verify_answer : (bytes : List ℕ) → Some_answer (VerifyGives bytes)
+verify_answer bytes = elim (each_read bytes) [
+  | inl trail ↦
+      let t = trail.0 in let least = trail.1.0.setting.quota.0 in
+      let given = source_answer (VerifyMakes t) t.source (λ p is own.
+          let a = a_trail_has_an_answer (setting_of p t.k) t (omega (arith, least)) in told_answer t p is own a.0 a.1) in
+      (given.0, (given.1.0, inr (t, (trail.1, given.1.1))))
+  | inr refused ↦ (TrailRefused, (not_trail_text refused.0, inl (refused.0, (refused.1, (refl, refl)))))
+]
+
 kind_answer : (kind : CommandKind) (command : Command) → HasRanges command → (bytes : List ℕ) → Some_answer (KindGives kind command bytes)
 kind_answer Play command ranges bytes = play_answer command ranges bytes
 kind_answer Peak command ranges bytes = peak_answer command.k command.steps bytes
@@ -175,6 +211,9 @@ kind_answer Make command ranges bytes =
     source_answer (MakeMakes command bytes) bytes (play_made (Summarizes (length bytes)) (some_summary (length bytes)) command ranges bytes)
 kind_answer Loops command ranges bytes = expansion_answer (SourceGives (PlayMakes command)) (play_answer command ranges) bytes
 kind_answer Expand command ranges bytes = expansion_answer ExpandMakes (λ expanded. (Done, (expanded, (refl, refl)))) bytes
+kind_answer Trail command ranges bytes =
+    source_answer (TrailMakes command bytes) bytes (play_made (Records command bytes) (some_record command bytes) command ranges bytes)
+kind_answer Verify command ranges bytes = verify_answer bytes
 
 pub an_answer : (command : Command) (bytes : List ℕ) → HasRanges command → Some_answer (BytesGive command bytes)
 an_answer command bytes ranges = kind_answer command.kind command ranges bytes

@@ -10,7 +10,7 @@ use Rattle.command_line.specs.Words.{IsCommand, number_of, values_of, wants_grou
 use Rattle.command_line.proofs.Commands.{sets_in_range, groups_in_range}
 use Rattle.command_line.specs.declared.command.Command.{Command}
 use Rattle.command_line.specs.declared.command_kind.CommandKind.{CommandKind}
-use Rattle.command_line.specs.declared.command_kind.CommandKind.TheVariants.{Play, Peak, Check as Checks, Make, Loops, Expand}
+use Rattle.command_line.specs.declared.command_kind.CommandKind.TheVariants.{Play, Peak, Check as Checks, Make, Loops, Expand, Trail, Verify}
 use Rattle.dag_order.specs.declared.finish.Finish.{Finish}
 use Rattle.dag_order.specs.declared.finish.Finish.TheVariants.{Done as EndDone, Faulted}
 use Rattle.depth_first_run.specs.States.{Setting as RunSetting}
@@ -26,12 +26,17 @@ use Rattle.dfd_run.specs.Expanding.{OfExpansion, ExpandMakes}
 use Rattle.dfd_run.specs.Make.{Summarizes, source_of}
 use Rattle.dfd_run.specs.Peak.{PeakMakes, finish_status}
 use Rattle.dfd_run.specs.Play.{TellsPlay, TellsEnding, Reports, PlayMakes, play_setting, stop_status}
-use Rattle.dfd_run.specs.Answer.{RefusalGives, SourceGives, CheckMakes, KindGives, BytesGive, ReadGives, KindAnswers, CommandGives, CallGives, Ends, HasRanges}
+use Rattle.dfd_run.specs.Trails.{TellsCheck, VerifyMakes, VerifyGives, Records}
+use Rattle.trail_check.specs.declared.verify_fail.VerifyFail.{VerifyFail}
+use Rattle.trail_check.specs.declared.verify_fail.VerifyFail.TheVariants.{LongRun, BadEvent, NotEnded, WrongNumbers, OutOfMemory as NoMemory}
+use Rattle.trail_meaning.specs.Shown.{Shown}
+use Rattle.dfd_run.specs.Answer.{most_read, CheckMakes, KindGives, BytesGive, ReadGives, KindAnswers, CommandGives, CallGives, Ends, HasRanges}
+use Rattle.dfd_run.specs.Sources.{RefusalGives, SourceGives}
 use Rattle.byte_streams.specs.Sink.{Takes}
 use Rattle.byte_streams.specs.Source.{IsRead}
 use Rattle.dfd_run.specs.declared.answer.Answer.{Answer}
 use Rattle.dfd_run.specs.declared.status.Status.{Status}
-use Rattle.dfd_run.specs.declared.status.Status.TheVariants.{Done, Usage, ReadFault, WriteFault, Syntax, Check, UserFault, StepsSpent, ArenaFull, DequesFull, OutOfMemory}
+use Rattle.dfd_run.specs.declared.status.Status.TheVariants.{Done, Usage, ReadFault, WriteFault, Syntax, Check, UserFault, StepsSpent, ArenaFull, DequesFull, OutOfMemory, TrailRefused}
 
 -- a refusal is the answer of each command that reads a program that keeps the rules
 pub source_of_refusal :
@@ -48,6 +53,7 @@ source_of_refusal makes bytes StepsSpent text gives = absurd gives
 source_of_refusal makes bytes ArenaFull text gives = absurd gives
 source_of_refusal makes bytes DequesFull text gives = absurd gives
 source_of_refusal makes bytes OutOfMemory text gives = absurd gives
+source_of_refusal makes bytes TrailRefused text gives = absurd gives
 
 pub refused_source :
     (makes : Program → Status → List ℕ → Type 0) (bytes : List ℕ) (fail : SourceFail) (result : Result Answer AllocError) →
@@ -70,6 +76,7 @@ IsOfARun StepsSpent = Unit {0}
 IsOfARun ArenaFull = Unit {0}
 IsOfARun DequesFull = Unit {0}
 IsOfARun OutOfMemory = ⊥
+IsOfARun TrailRefused = ⊥
 
 of_finish : (finish : Finish) → IsOfARun (finish_status finish)
 of_finish EndDone = tt
@@ -104,6 +111,7 @@ IsOfNoBytes StepsSpent = ⊥
 IsOfNoBytes ArenaFull = ⊥
 IsOfNoBytes DequesFull = ⊥
 IsOfNoBytes OutOfMemory = Unit {0}
+IsOfNoBytes TrailRefused = ⊥
 
 -- and that no run has
 not_of_a_run : (status : Status) → IsOfNoBytes status → ¬ IsOfARun status
@@ -118,6 +126,7 @@ not_of_a_run StepsSpent none = absurd none
 not_of_a_run ArenaFull none = absurd none
 not_of_a_run DequesFull none = absurd none
 not_of_a_run OutOfMemory none = λ is. is
+not_of_a_run TrailRefused none = absurd none
 
 -- nor bytes whose program brings none about
 not_of_a_source :
@@ -135,6 +144,7 @@ not_of_a_source makes bytes text not StepsSpent none gives = absurd none
 not_of_a_source makes bytes text not ArenaFull none gives = absurd none
 not_of_a_source makes bytes text not DequesFull none gives = absurd none
 not_of_a_source makes bytes text not OutOfMemory none gives = not gives.0 OutOfMemory tt gives.1.1.1
+not_of_a_source makes bytes text not TrailRefused none gives = absurd none
 
 not_of_a_played_source :
     (tells : RunSetting → List Pair → Moment → List ℕ → Type 0) (command : Command) (bytes text : List ℕ) (status : Status) →
@@ -155,6 +165,7 @@ not_of_a_peak k limit text p StepsSpent none = absurd none
 not_of_a_peak k limit text p ArenaFull none = absurd none
 not_of_a_peak k limit text p DequesFull none = absurd none
 not_of_a_peak k limit text p OutOfMemory none = λ makes. makes
+not_of_a_peak k limit text p TrailRefused none = absurd none
 
 not_of_a_check : (text : List ℕ) (p : Program) (status : Status) → IsOfNoBytes status → ¬ CheckMakes p status text
 not_of_a_check text p Done none = absurd none
@@ -168,12 +179,27 @@ not_of_a_check text p StepsSpent none = λ makes. makes
 not_of_a_check text p ArenaFull none = λ makes. makes
 not_of_a_check text p DequesFull none = λ makes. makes
 not_of_a_check text p OutOfMemory none = λ makes. makes
+not_of_a_check text p TrailRefused none = λ makes. makes
 
 not_of_an_expansion :
     (makes : List ℕ → Status → List ℕ → Type 0) (text : List ℕ) (status : Status) → IsOfNoBytes status →
     ((expanded : List ℕ) → ¬ makes expanded status text) → (answer : Result (List ℕ) ExpandFail) → ¬ OfExpansion makes answer status text
 not_of_an_expansion makes text status none not (Ok expanded) gives = not expanded gives
 not_of_an_expansion makes text status none not (Err fail) gives = subst IsOfNoBytes gives.0 none
+
+-- nor one that is told of a trail
+not_of_a_verdict : (t : Shown) (text : List ℕ) (status : Status) → IsOfNoBytes status → (answer : Result ℕ VerifyFail) → ¬ TellsCheck t answer status text
+not_of_a_verdict t text status none (Ok actions) told = subst IsOfNoBytes told.0 none
+not_of_a_verdict t text status none (Err (LongRun limit)) told = subst IsOfNoBytes told.0 none
+not_of_a_verdict t text status none (Err (BadEvent event)) told = subst IsOfNoBytes told.0 none
+not_of_a_verdict t text status none (Err (NotEnded events)) told = subst IsOfNoBytes told.0 none
+not_of_a_verdict t text status none (Err (WrongNumbers numbers)) told = subst IsOfNoBytes told.0 none
+not_of_a_verdict t text status none (Err NoMemory) told = told
+
+not_of_a_trail : (bytes text : List ℕ) (status : Status) → IsOfNoBytes status → ¬ VerifyGives bytes status text
+not_of_a_trail bytes text status none (inl refused) = subst IsOfNoBytes refused.1.1.0 none
+not_of_a_trail bytes text status none (inr of) =
+    not_of_a_source (VerifyMakes of.0) of.0.source text (λ p s no makes. not_of_a_verdict of.0 text s no makes.0 makes.1.1) status none of.1.1
 
 not_given : (kind : CommandKind) (command : Command) (bytes text : List ℕ) (status : Status) → IsOfNoBytes status →
     ¬ KindGives kind command bytes status text
@@ -188,6 +214,8 @@ not_given Loops command bytes text status none gives =
     (λ expanded. not_of_a_played_source Reports command expanded text status none) gives.0 gives.2
 not_given Expand command bytes text status none gives =
     not_of_an_expansion ExpandMakes text status none (λ expanded made. subst IsOfNoBytes made.0 none) gives.0 gives.2
+not_given Trail command bytes text status none gives = not_of_a_played_source (Records command bytes) command bytes text status none gives
+not_given Verify command bytes text status none gives = not_of_a_trail bytes text status none gives
 
 -- what is made of bytes ends a call with its text
 pub ends_at_text : (command : Command) (bytes : List ℕ) (taken taken' : Option (List ℕ)) (status : Status) (text : List ℕ) →
@@ -203,6 +231,7 @@ ends_at_text command bytes taken taken' StepsSpent text gives takes = (text, (gi
 ends_at_text command bytes taken taken' ArenaFull text gives takes = (text, (gives, takes))
 ends_at_text command bytes taken taken' DequesFull text gives takes = (text, (gives, takes))
 ends_at_text command bytes taken taken' OutOfMemory text gives takes = tt
+ends_at_text command bytes taken taken' TrailRefused text gives takes = (text, (gives, takes))
 
 -- it is no want of memory
 pub has_memory : (command : Command) (bytes : List ℕ) (status : Status) (text : List ℕ) → BytesGive command bytes status text →
@@ -226,11 +255,12 @@ counts_none command bytes StepsSpent text gives reads writes writes' same = (ref
 counts_none command bytes ArenaFull text gives reads writes writes' same = (refl, same)
 counts_none command bytes DequesFull text gives reads writes writes' same = (refl, same)
 counts_none command bytes OutOfMemory text gives reads writes writes' same = (refl, same)
+counts_none command bytes TrailRefused text gives reads writes writes' same = (refl, same)
 
 -- what a command makes of the bytes that it read is what it answers where it reads
 pub read_of_kind :
     (command : Command) (failed : Type 0) (left left' : Option (List ℕ)) (bytes : List ℕ) (status : Status) (text : List ℕ) →
-    IsRead left left' bytes → BytesGive command bytes status text →
+    IsRead (most_read command.kind) left left' bytes → BytesGive command bytes status text →
     ReadGives command failed left left' status text
 read_of_kind command failed left left' bytes Done text read gives = (bytes, (read, gives))
 read_of_kind command failed left left' bytes Usage text read gives = (bytes, (read, gives))
@@ -244,6 +274,7 @@ read_of_kind command failed left left' bytes StepsSpent text read gives = (bytes
 read_of_kind command failed left left' bytes ArenaFull text read gives = (bytes, (read, gives))
 read_of_kind command failed left left' bytes DequesFull text read gives = (bytes, (read, gives))
 read_of_kind command failed left left' bytes OutOfMemory text read gives = (bytes, (read, gives))
+read_of_kind command failed left left' bytes TrailRefused text read gives = (bytes, (read, gives))
 
 -- and a command that is not `make` reads
 pub command_of_read :
@@ -255,6 +286,8 @@ command_of_read Checks command failed left left' reads status text gives = gives
 command_of_read Make command failed left left' reads status text gives = absurd (reads refl)
 command_of_read Loops command failed left left' reads status text gives = gives
 command_of_read Expand command failed left left' reads status text gives = gives
+command_of_read Trail command failed left left' reads status text gives = gives
+command_of_read Verify command failed left left' reads status text gives = gives
 
 -- `make` answers what it makes of its made source
 pub command_of_made :
@@ -272,6 +305,8 @@ no_usage Checks command failed left left' text gives = not_given command.kind co
 no_usage Make command failed left left' text gives = not_given command.kind command (source_of command) text Usage tt gives
 no_usage Loops command failed left left' text gives = not_given command.kind command gives.0 text Usage tt gives.1.1
 no_usage Expand command failed left left' text gives = not_given command.kind command gives.0 text Usage tt gives.1.1
+no_usage Trail command failed left left' text gives = not_given command.kind command gives.0 text Usage tt gives.1.1
+no_usage Verify command failed left left' text gives = not_given command.kind command gives.0 text Usage tt gives.1.1
 
 -- what a command gives is what its call gives
 pub call_of_command :
@@ -289,6 +324,7 @@ call_of_command words command failed left left' is StepsSpent text gives = (comm
 call_of_command words command failed left left' is ArenaFull text gives = (command, (is, gives))
 call_of_command words command failed left left' is DequesFull text gives = (command, (is, gives))
 call_of_command words command failed left left' is OutOfMemory text gives = (command, (is, gives))
+call_of_command words command failed left left' is TrailRefused text gives = (command, (is, gives))
 
 pub ends_at_fault :
     (gives : Status → List ℕ → Type 0) (taken taken' : Option (List ℕ)) (status : Status) (text : List ℕ) →
@@ -311,11 +347,12 @@ ends_more gives gives' taken taken' StepsSpent more ends = (ends.0, (more StepsS
 ends_more gives gives' taken taken' ArenaFull more ends = (ends.0, (more ArenaFull ends.0 ends.1.0, ends.1.1))
 ends_more gives gives' taken taken' DequesFull more ends = (ends.0, (more DequesFull ends.0 ends.1.0, ends.1.1))
 ends_more gives gives' taken taken' OutOfMemory more ends = tt
+ends_more gives gives' taken taken' TrailRefused more ends = (ends.0, (more TrailRefused ends.0 ends.1.0, ends.1.1))
 
 -- the numbers of a command that words are
 pub command_ranges : (words : List (List ℕ)) (command : Command) → IsCommand words command → HasRanges command
 command_ranges words command is = record {
-  numbers = λ s. sets_in_range s (values_of s is.items) (number_of command s) (is.sets s);
+  numbers = λ s. sets_in_range command.kind s (values_of s is.items) (number_of command s) (is.sets s);
   groups = groups_in_range words command is;
 }
 

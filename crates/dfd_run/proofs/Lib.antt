@@ -7,3 +7,4 @@ pub mod Expansions
 pub mod GivenWords
 pub mod Headline
 pub mod Sums
+pub mod Trails

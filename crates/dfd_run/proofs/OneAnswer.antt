@@ -1,12 +1,12 @@
 -- A command has one answer to the bytes of a source.
-use Rattle.std.proofs.Common.{◌≡◌, ℕ, ℤ, pos, negsuc, ◌≤◌, ◌<◌, length, arith, List, [], ◌∷◌, get_or, Option, Some, None, ap, sym, ◌∙◌, refl, subst}
+use Rattle.std.proofs.Common.{◌≡◌, ◌≢◌, inl, inr, ℕ, ℤ, pos, negsuc, ◌≤◌, ◌<◌, length, arith, List, [], ◌∷◌, get_or, Option, Some, None, ap, sym, ◌∙◌, refl, subst}
 use Rattle.std.specs.Prelude.{Result, Ok, Err}
 use Rattle.std.proofs.Math.Logic.{∥∥₁_elim}
 use denote.Struct.Props.{props}
 use Rattle.canonical_text.specs.Canonical.{canonical}
 use Rattle.command_line.specs.declared.command.Command.{Command}
 use Rattle.command_line.specs.declared.command_kind.CommandKind.{CommandKind}
-use Rattle.command_line.specs.declared.command_kind.CommandKind.TheVariants.{Play, Peak, Check as Checks, Make, Loops, Expand}
+use Rattle.command_line.specs.declared.command_kind.CommandKind.TheVariants.{Play, Peak, Check as Checks, Make, Loops, Expand, Trail, Verify}
 use Rattle.dag_order.specs.declared.fault.FaultAt.{FaultAt}
 use Rattle.command_line.specs.declared.setting.Setting.TheVariants.{Quota as QuotaSetting}
 use Rattle.depth_first_run.proofs.Built.{whole_is_depth_first}
@@ -28,15 +28,25 @@ use Rattle.par_text.proofs.Verdicts.{one_verdict}
 use Rattle.par_text.specs.declared.syntax_error.SyntaxError.{SyntaxError}
 use Rattle.par_tree.specs.Tree.{Program}
 use Rattle.run_report.specs.Texts.{peak_text, report_text, summary_text}
-use Rattle.dfd_run.specs.Answer.{SourceGives, CheckMakes, KindGives, BytesGive, HasRanges}
+use Rattle.dfd_run.specs.Answer.{CheckMakes, KindGives, BytesGive, HasRanges}
+use Rattle.dfd_run.specs.Sources.{SourceGives}
 use Rattle.dfd_run.specs.Expanding.{TellsExpandFail, OfExpansion, ExpansionGives, ExpandMakes}
+use Rattle.trail_check.specs.declared.verify_fail.VerifyFail.{VerifyFail}
+use Rattle.trail_check.specs.declared.verify_fail.VerifyFail.TheVariants.{LongRun, BadEvent, NotEnded, WrongNumbers, OutOfMemory as NoRoom}
+use Rattle.trail_check.proofs.Outcomes.{one_answer as a_trail_has_one_answer}
+use Rattle.trail_meaning.specs.Ranges.{HasTrailRanges}
+use Rattle.trail_meaning.specs.Shown.{Shown}
+use Rattle.trail_text.specs.TrailText.{trail_text}
+use Rattle.trail_text.proofs.Readings.{one_trail, one_place, never_both}
+use Rattle.dfd_run.specs.TrailMessages.{not_trail_text}
+use Rattle.dfd_run.specs.Trails.{Records, TrailMakes, TellsCheck, VerifyMakes, VerifyGives, trail_of}
 use Rattle.dfd_run.specs.Messages.{syntax_text, check_text, spent_text}
 use Rattle.dfd_run.specs.Make.{MakeMakes, Summarizes, sum_of}
 use Rattle.dfd_run.specs.Peak.{RunText, RunMakes, PeakMakes}
 use Rattle.dfd_run.specs.Play.{IsPlay, TellsPlay, TellsEnding, Reports, PlayMakes, play_setting, play_terms, play_machine, seeded_words}
 use Rattle.dfd_run.specs.Status.{code_of}
 use Rattle.dfd_run.specs.declared.status.Status.{Status}
-use Rattle.dfd_run.specs.declared.status.Status.TheVariants.{Done, Usage, ReadFault, WriteFault, Syntax, Check, UserFault, StepsSpent, ArenaFull, DequesFull, OutOfMemory}
+use Rattle.dfd_run.specs.declared.status.Status.TheVariants.{Done, Usage, ReadFault, WriteFault, Syntax, Check, UserFault, StepsSpent, ArenaFull, DequesFull, OutOfMemory, TrailRefused}
 
 abbrev program_in : Program → Verdict → Program
 program_in default (tree p) = p
@@ -88,6 +98,7 @@ way_of makes bytes StepsSpent t g = made_of makes bytes StepsSpent t g
 way_of makes bytes ArenaFull t g = made_of makes bytes ArenaFull t g
 way_of makes bytes DequesFull t g = made_of makes bytes DequesFull t g
 way_of makes bytes OutOfMemory t g = made_of makes bytes OutOfMemory t g
+way_of makes bytes TrailRefused t g = made_of makes bytes TrailRefused t g
 
 no_refusal : (p : Program) (r : Refusal) → program_refusal p ≡ None → program_refusal p ≡ Some r → ⊥
 no_refusal p r none some = is_some (sym some ∙ none)
@@ -139,6 +150,7 @@ is_done p StepsSpent t m = absurd m
 is_done p ArenaFull t m = absurd m
 is_done p DequesFull t m = absurd m
 is_done p OutOfMemory t m = absurd m
+is_done p TrailRefused t m = absurd m
 
 one_check : IsOne CheckMakes
 one_check p s s' t t' m m' =
@@ -149,7 +161,7 @@ one_check p s s' t t' m m' =
 -- `play`: two statuses of one number are one
 abbrev with_code : ℕ → Status
 with_code code = get_or
-    (Done ∷ Usage ∷ ReadFault ∷ WriteFault ∷ Syntax ∷ Check ∷ UserFault ∷ StepsSpent ∷ ArenaFull ∷ DequesFull ∷ OutOfMemory ∷ []) code Done
+    (Done ∷ Usage ∷ ReadFault ∷ WriteFault ∷ Syntax ∷ Check ∷ UserFault ∷ StepsSpent ∷ ArenaFull ∷ DequesFull ∷ OutOfMemory ∷ TrailRefused ∷ []) code Done
 
 code_back : (s : Status) → with_code (code_of s) ≡ s
 code_back Done = refl
@@ -163,6 +175,7 @@ code_back StepsSpent = refl
 code_back ArenaFull = refl
 code_back DequesFull = refl
 code_back OutOfMemory = refl
+code_back TrailRefused = refl
 
 pub same_status : (s s' : Status) → code_of s ≡ code_of s' → s ≡ s'
 same_status s s' same = sym (code_back s) ∙ ap with_code same ∙ code_back s'
@@ -207,6 +220,12 @@ one_summary bytes c run last t t' told told' =
       high = n;
     })) same
     ∙ sym told'.1.1
+
+one_record : (command : Command) (bytes : List ℕ) (c : Setting) (run : List Pair) (last : Moment) (t t' : List ℕ) →
+    Records command bytes c run last t → Records command bytes c run last t' → t ≡ t'
+one_record command bytes c run last t t' told told' =
+    let same : told.0 ≡ told'.0 = ap size_of (told.1.0 ∙ sym told'.1.0) in
+    told.1.1 ∙ ap (λ (n : ℕ). trail_text (trail_of command bytes run last n)) same ∙ sym told'.1.1
 
 module _ (tells : Setting → List Pair → Moment → List ℕ → Type 0)
     (one : (c : Setting) (run : List Pair) (last : Moment) (t t' : List ℕ) → tells c run last t → tells c run last t' → t ≡ t')
@@ -256,6 +275,7 @@ run_way_of items limit StepsSpent t m = beyond m.0 refl m.1
 run_way_of items limit ArenaFull t m = absurd m
 run_way_of items limit DequesFull t m = absurd m
 run_way_of items limit OutOfMemory t m = absurd m
+run_way_of items limit TrailRefused t m = absurd m
 
 one_text : (items : List Item) (t t' : List ℕ) → RunText items t → RunText items t' → t ≡ t'
 one_text items t t' a b =
@@ -292,6 +312,36 @@ one_expansion makes bytes s s' t t' one g g' =
     by_answer (Ok expanded) m m' = one expanded m m'
     by_answer (Err fail) told told' = (told.0 ∙ sym told'.0, one_line fail t t' told.1 told'.1)
 
+-- `verify`: bytes are one trail or refused at one place, and a trail has one answer
+one_told : (t : Shown) (answer : Result ℕ VerifyFail) (s s' : Status) (u u' : List ℕ) → TellsCheck t answer s u → TellsCheck t answer s' u' →
+    Same s s' u u'
+one_told t (Ok actions) s s' u u' told told' = (told.0 ∙ sym told'.0, told.1 ∙ sym told'.1)
+one_told t (Err (LongRun limit)) s s' u u' told told' = (told.0 ∙ sym told'.0, told.1 ∙ sym told'.1)
+one_told t (Err (BadEvent event)) s s' u u' told told' = (told.0 ∙ sym told'.0, told.1 ∙ sym told'.1)
+one_told t (Err (NotEnded events)) s s' u u' told told' = (told.0 ∙ sym told'.0, told.1 ∙ sym told'.1)
+one_told t (Err (WrongNumbers numbers)) s s' u u' told told' = (told.0 ∙ sym told'.0, told.1 ∙ sym told'.1)
+one_told t (Err NoRoom) s s' u u' told told' = absurd told
+
+no_want : (t : Shown) (answer : Result ℕ VerifyFail) (s : Status) (u : List ℕ) → TellsCheck t answer s u → answer ≢ Err NoRoom
+no_want t answer s u told is = subst (λ a. TellsCheck t a s u) is told
+
+one_verify : (t : Shown) → 0 < t.k → IsOne (VerifyMakes t)
+one_verify t some p s s' u u' m m' =
+    let same = a_trail_has_one_answer (setting_of p t.k) t m'.0 m.0 some (no_want t m'.0 s' u' m'.1.1, m'.1.0) (no_want t m.0 s u m.1.1, m.1.0) in
+    one_told t m.0 s s' u u' m.1.1 (subst (λ a. TellsCheck t a s' u') same m'.1.1)
+
+quota_of_trail : (t : Shown) → HasTrailRanges t → 0 < t.k
+quota_of_trail t ranges = let least = ranges.setting.quota.0 in omega (arith, least)
+
+one_trail_answer : (bytes : List ℕ) (s s' : Status) (u u' : List ℕ) → VerifyGives bytes s u → VerifyGives bytes s' u' → Same s s' u u'
+one_trail_answer bytes s s' u u' (inl no) (inl no') =
+    (no.1.1.0 ∙ sym no'.1.1.0, no.1.1.1 ∙ ap not_trail_text (one_place bytes no.0 no'.0 no.1.0 no'.1.0) ∙ sym no'.1.1.1)
+one_trail_answer bytes s s' u u' (inl no) (inr of) = absurd (never_both bytes of.0 no.0 of.1.0 no.1.0)
+one_trail_answer bytes s s' u u' (inr of) (inl no) = absurd (never_both bytes of.0 no.0 of.1.0 no.1.0)
+one_trail_answer bytes s s' u u' (inr of) (inr of') =
+    one_source (VerifyMakes of.0) (one_verify of.0 (quota_of_trail of.0 of.1.0.0)) of.0.source s s' u u' of.1.1
+    (subst (λ t. SourceGives (VerifyMakes t) t.source s' u') (one_trail bytes of'.0 of.0 of'.1.0 of.1.0) of'.1.1)
+
 one_kind : (kind : CommandKind) (command : Command) → HasRanges command → (bytes : List ℕ) (s s' : Status) (t t' : List ℕ) →
     KindGives kind command bytes s t → KindGives kind command bytes s' t' → Same s s' t t'
 one_kind Play command ranges bytes s s' t t' =
@@ -307,6 +357,9 @@ one_kind Loops command ranges bytes s s' t t' =
     (λ expanded. one_source (PlayMakes command) (one_play_answer Reports one_report command ranges) expanded s s' t t')
 one_kind Expand command ranges bytes s s' t t' =
     one_expansion ExpandMakes bytes s s' t t' (λ expanded m m'. (m.0 ∙ sym m'.0, m.1 ∙ sym m'.1))
+one_kind Trail command ranges bytes s s' t t' =
+    one_source (TrailMakes command bytes) (one_play_answer (Records command bytes) (one_record command bytes) command ranges) bytes s s' t t'
+one_kind Verify command ranges bytes s s' t t' = one_trail_answer bytes s s' t t'
 
 pub one_answer :
     (command : Command) (bytes : List ℕ) (s s' : Status) (t t' : List ℕ) → HasRanges command →

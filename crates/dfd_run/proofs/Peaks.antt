@@ -2,6 +2,7 @@
 use Rattle.std.proofs.Common.{◌≡◌, ℕ, ℤ, ◌≤◌, List, length, Option, Some, None, ap, sym, ◌∙◌, refl, subst}
 use Rattle.std.proofs.lemmas.Slice.Zip.{AllZip-long}
 use Rattle.command_line.specs.Words.{InRange}
+use Rattle.command_line.specs.declared.command_kind.CommandKind.{CommandKind}
 use Rattle.command_line.specs.declared.setting.Setting.TheVariants.{Quota as QuotaSetting}
 use Rattle.dag_order.specs.declared.birth.Birth.{Birth}
 use Rattle.dag_order.specs.declared.fault.FaultAt.{FaultAt}
@@ -16,7 +17,7 @@ use Rattle.par_ownership.specs.Ownership.{Ownership}
 use Rattle.par_ownership.proofs.Law.{tells_program}
 use Rattle.par_text.specs.Judging.{IsText}
 use Rattle.par_tree.specs.Tree.{Program}
-use Rattle.dfd_run.specs.Answer.{SourceGives}
+use Rattle.dfd_run.specs.Sources.{SourceGives}
 use Rattle.dfd_run.specs.Peak.{RunText, RunMakes, PeakMakes, finish_status}
 use Rattle.dfd_run.specs.declared.status.Status.{Status}
 use Rattle.dfd_run.specs.declared.status.Status.TheVariants.{Syntax, Check}
@@ -75,5 +76,5 @@ source_of_peak k limit bytes p Check text is own makes = absurd makes
 source_of_peak k limit bytes p status text is own makes = (p, (is, ((tells_program p).complete own, makes)))
 
 -- the number of the option `--k` is a quota
-pub quota_of_range : (k : ℕ) → InRange QuotaSetting k → IsQuota k
-quota_of_range k range = (range.2, range.0, range.1)
+pub quota_of_range : (kind : CommandKind) (k : ℕ) → InRange kind QuotaSetting k → IsQuota k
+quota_of_range kind k range = (range.2, range.0, range.1)

@@ -21,14 +21,14 @@ use Rattle.par_text.specs.Judging.{IsText}
 use Rattle.par_tree.specs.Tree.{Program}
 use Rattle.run_report.specs.Texts.{report_text, summary_text}
 use Rattle.thread_steps.specs.Settings.{IsSettingOf}
-use Rattle.dfd_run.specs.Answer.{SourceGives}
+use Rattle.dfd_run.specs.Sources.{SourceGives}
 use Rattle.dfd_run.specs.CorePlays.{Played}
 use Rattle.dfd_run.specs.Peak.{finish_status}
 use Rattle.dfd_run.specs.Play.{TellsPlay, play_setting, play_terms, seeded_words}
 use Rattle.dfd_run.specs.Stops.{TellsStop}
 use Rattle.dfd_run.specs.declared.answer.Answer.{Answer}
 use Rattle.dfd_run.specs.declared.status.Status.{Status}
-use Rattle.dfd_run.specs.declared.status.Status.TheVariants.{Done, Usage, ReadFault, WriteFault, Syntax, Check, UserFault, StepsSpent as LimitSpent, ArenaFull as ArenaStatus, DequesFull as DequesStatus, OutOfMemory as NoMemory}
+use Rattle.dfd_run.specs.declared.status.Status.TheVariants.{Done, Usage, ReadFault, WriteFault, Syntax, Check, UserFault, StepsSpent as LimitSpent, ArenaFull as ArenaStatus, DequesFull as DequesStatus, OutOfMemory as NoMemory, TrailRefused}
 use Rattle.dfd_run.proofs.Answers.{not_of_a_play}
 
 -- a table of the program with the quota of the command is of its setting
@@ -69,6 +69,7 @@ source_of_play tells command bytes p LimitSpent text is own makes = (p, (is, ((t
 source_of_play tells command bytes p ArenaStatus text is own makes = (p, (is, ((tells_program p).complete own, makes)))
 source_of_play tells command bytes p DequesStatus text is own makes = (p, (is, ((tells_program p).complete own, makes)))
 source_of_play tells command bytes p NoMemory text is own makes = (p, (is, ((tells_program p).complete own, makes)))
+source_of_play tells command bytes p TrailRefused text is own makes = (p, (is, ((tells_program p).complete own, makes)))
 
 -- the report of equal parts
 pub same_report : (lines lines' : List ℤ) (finish finish' : Finish) (periods periods' ahead ahead' high : ℕ) → lines ≡ lines' →

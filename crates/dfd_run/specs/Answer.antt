@@ -1,55 +1,33 @@
 -- What a call of the program answers, and why.
-use Rattle.std.specs.Prelude.{◌≡◌, ℕ, ◌≤◌, true, List, Option, Some, take}
+use Rattle.std.specs.Prelude.{◌≡◌, ℕ, suc, ◌≤◌, true, List, Option, Some, take}
 use Rattle.canonical_text.specs.Canonical.{canonical}
 use Rattle.command_line.specs.Words.{IsCommand, InRange, number_of, wants_groups}
 use Rattle.command_line.specs.declared.command.Command.{Command}
 use Rattle.command_line.specs.declared.command_kind.CommandKind.{CommandKind}
-use Rattle.command_line.specs.declared.command_kind.CommandKind.TheVariants.{Play, Peak, Check as Checks, Make, Loops, Expand}
+use Rattle.command_line.specs.declared.command_kind.CommandKind.TheVariants.{Play, Peak, Check as Checks, Make, Loops, Expand, Trail, Verify}
 use Rattle.command_line.specs.declared.setting.Setting.{Setting}
+use Rattle.language_limits.specs.declared.TheConstants.{LONGEST_TEXT, MOST_TRAIL}
 use Rattle.made_source.specs.declared.TheConstants.{MOST_GROUPS}
-use Rattle.par_ownership.specs.Accepted.{IsAccepted}
-use Rattle.par_ownership.specs.Walk.{Refusal, program_refusal}
-use Rattle.par_text.specs.Judging.{IsText, IsRefused}
-use Rattle.par_text.specs.declared.syntax_error.SyntaxError.{SyntaxError}
 use Rattle.par_tree.specs.Tree.{Program}
 use Rattle.dfd_run.specs.Expanding.{ExpansionGives, ExpandMakes}
 use Rattle.dfd_run.specs.Make.{MakeMakes, source_of}
 use Rattle.dfd_run.specs.Peak.{PeakMakes}
 use Rattle.dfd_run.specs.Play.{PlayMakes}
-use Rattle.dfd_run.specs.Messages.{usage_text, read_fault_text, syntax_text, check_text}
+use Rattle.dfd_run.specs.Messages.{usage_text, read_fault_text}
+use Rattle.dfd_run.specs.Sources.{SourceGives}
+use Rattle.dfd_run.specs.Trails.{TrailMakes, VerifyGives}
 use Rattle.byte_streams.specs.Sink.{Takes}
 use Rattle.byte_streams.specs.Source.{IsRead}
 use Rattle.dfd_run.specs.declared.status.Status.{Status}
-use Rattle.dfd_run.specs.declared.status.Status.TheVariants.{Done, Usage, ReadFault, WriteFault, Syntax, Check, OutOfMemory}
-
--- the bytes are no text, and the line says why and where
-abbrev pub SyntaxGives : List ℕ → List ℕ → Type 0
-SyntaxGives bytes text = (e : SyntaxError) × (IsRefused bytes e × (text ≡ syntax_text e))
-
--- the bytes are the text of a program that is refused, and the line says what the walk refuses first
-abbrev pub OwnershipGives : List ℕ → List ℕ → Type 0
-OwnershipGives bytes text =
-    (p : Program) × (IsText bytes p × ((r : Refusal) × ((program_refusal p ≡ Some r) × (text ≡ check_text r))))
-
--- the bytes are refused, as no text or for their program
-abbrev pub RefusalGives : List ℕ → Status → List ℕ → Type 0
-RefusalGives bytes Syntax text = SyntaxGives bytes text
-RefusalGives bytes Check text = OwnershipGives bytes text
-RefusalGives bytes status text = ⊥
-
--- what a command gives that makes this of each program: the refusal of the bytes, or else the refusal of their
--- program, or else what it makes of the program
-abbrev pub SourceGives : (makes : Program → Status → List ℕ → Type 0) → List ℕ → Status → List ℕ → Type 0
-SourceGives makes bytes Syntax text = SyntaxGives bytes text
-SourceGives makes bytes Check text = OwnershipGives bytes text
-SourceGives makes bytes status text = (p : Program) × (IsText bytes p × (IsAccepted p × makes p status text))
+use Rattle.dfd_run.specs.declared.status.Status.TheVariants.{Done, Usage, ReadFault, WriteFault, OutOfMemory}
 
 -- what the command `check` makes of a program: its canonical text
 abbrev pub CheckMakes : Program → Status → List ℕ → Type 0
 CheckMakes p Done text = text ≡ canonical p
 CheckMakes p status text = ⊥
 
--- What a command of a kind makes of the bytes of a source: `loops` what `play` makes of their expansion; and `expand` reads no program.
+-- What a command of a kind makes of the bytes of a source: `loops` what `play` makes of their expansion;
+-- `expand` reads no program; and `verify` reads a trail, which has a source.
 abbrev pub KindGives : CommandKind → Command → (bytes : List ℕ) → Status → List ℕ → Type 0
 KindGives Play command bytes = SourceGives (PlayMakes command) bytes
 KindGives Peak command bytes = SourceGives (PeakMakes command.k command.steps) bytes
@@ -57,17 +35,24 @@ KindGives Checks command bytes = SourceGives CheckMakes bytes
 KindGives Make command bytes = SourceGives (MakeMakes command bytes) bytes
 KindGives Loops command bytes = ExpansionGives (SourceGives (PlayMakes command)) bytes
 KindGives Expand command bytes = ExpansionGives ExpandMakes bytes
+KindGives Trail command bytes = SourceGives (TrailMakes command bytes) bytes
+KindGives Verify command bytes = VerifyGives bytes
 
 -- what a command makes of the bytes of a source
 abbrev pub BytesGive : Command → (bytes : List ℕ) → Status → List ℕ → Type 0
 BytesGive command = KindGives command.kind command
+
+-- how many bytes a command reads at most: one more than a text, or a trail, may have
+abbrev pub most_read : CommandKind → ℕ
+most_read Verify = suc MOST_TRAIL
+most_read kind = suc LONGEST_TEXT
 
 -- what a command answers that reads its source: where the source failed, just this, else what it makes of the bytes
 -- that it read
 abbrev pub ReadGives : Command → (failed : Type 0) → (left left' : Option (List ℕ)) → Status → List ℕ → Type 0
 ReadGives command failed left left' ReadFault text = failed × (text ≡ read_fault_text)
 ReadGives command failed left left' status text =
-    (bytes : List ℕ) × (IsRead left left' bytes × BytesGive command bytes status text)
+    (bytes : List ℕ) × (IsRead (most_read command.kind) left left' bytes × BytesGive command bytes status text)
 
 -- what a command answers: `make` reads nothing, and answers what it makes of its made source
 abbrev pub KindAnswers : CommandKind → Command → (failed : Type 0) → (left left' : Option (List ℕ)) → Status → List ℕ → Type 0
@@ -79,7 +64,7 @@ CommandGives command = KindAnswers command.kind command
 
 -- the numbers of a command are those that its options may have, and where it wants groups it has 1 to 8,000
 pub record HasRanges (command : Command) : Type 0 where
-  pub numbers : (s : Setting) → InRange s (number_of command s)
+  pub numbers : (s : Setting) → InRange command.kind s (number_of command s)
   pub groups : wants_groups command.kind ≡ true → (1 ≤ command.groups) × (command.groups ≤ MOST_GROUPS)
 
 -- the words are a command that reads nothing

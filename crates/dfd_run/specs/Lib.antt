@@ -10,5 +10,8 @@ pub mod Peak
 pub mod Play
 pub mod Program
 pub mod Status
+pub mod Sources
 pub mod Stops
+pub mod TrailMessages
+pub mod Trails
 pub mod CorePlays

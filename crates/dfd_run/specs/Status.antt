@@ -1,7 +1,7 @@
 -- The numbers of the ways in which a call of the program ends.
 use Rattle.std.specs.Prelude.{ℕ}
 use Rattle.dfd_run.specs.declared.status.Status.{Status}
-use Rattle.dfd_run.specs.declared.status.Status.TheVariants.{Done, Usage, ReadFault, WriteFault, Syntax, Check, UserFault, StepsSpent, ArenaFull, DequesFull, OutOfMemory}
+use Rattle.dfd_run.specs.declared.status.Status.TheVariants.{Done, Usage, ReadFault, WriteFault, Syntax, Check, UserFault, StepsSpent, ArenaFull, DequesFull, OutOfMemory, TrailRefused}
 
 abbrev pub code_of : Status → ℕ
 code_of Done = 0
@@ -15,3 +15,4 @@ code_of StepsSpent = 7
 code_of ArenaFull = 8
 code_of DequesFull = 9
 code_of OutOfMemory = 10
+code_of TrailRefused = 11

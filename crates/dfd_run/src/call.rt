@@ -7,7 +7,7 @@ ghost use Rattle.dfd_run.specs.Make.{source_of};
 ghost use Rattle.byte_streams.specs.Faults.{Rose};
 ghost use Rattle.dfd_run.specs.declared.status.Status.TheVariants.{OutOfMemory};
 
-use crate::kinds::answer_to;
+use crate::kinds::{answer_to, most_read};
 use crate::messages::{READ_FAULT, USAGE};
 use crate::status::Status;
 use byte_streams::{ReadFail, Sink, SinkFailed, Source, read_source, write_text};
@@ -60,7 +60,7 @@ fn serve_read<S: Source, W: Sink>(
     ensures no_memory { result ≡ OutOfMemory → sink.new ≡ sink.old }
     ensures counts { Counts result (S.faults source.old) (S.faults source.new) (W.faults sink.old) (W.faults sink.new) }
 {
-    match read_source(alloc, source) {
+    match read_source(alloc, source, most_read(command.kind)) {
         Ok(bytes) => serve_bytes(alloc, command, &bytes, sink),
         Err(ReadFail::Fault) => match write_text(sink, READ_FAULT.as_bytes()) {
             Ok(()) => Status::ReadFault,

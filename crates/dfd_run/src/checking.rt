@@ -1,5 +1,6 @@
 ghost use Rattle.std.specs.Prelude.{IfOk};
-ghost use Rattle.dfd_run.specs.Answer.{SourceGives, CheckMakes};
+ghost use Rattle.dfd_run.specs.Answer.{CheckMakes};
+ghost use Rattle.dfd_run.specs.Sources.{SourceGives};
 
 use crate::answer::Answer;
 use crate::refusal::refusal_answer;

@@ -1,7 +1,8 @@
 //! The commands on a source whose parallel loops are written out.
 
 ghost use Rattle.std.specs.Prelude.{IfOk};
-ghost use Rattle.dfd_run.specs.Answer.{HasRanges, SourceGives};
+ghost use Rattle.dfd_run.specs.Answer.{HasRanges};
+ghost use Rattle.dfd_run.specs.Sources.{SourceGives};
 ghost use Rattle.dfd_run.specs.Expanding.{ExpandMakes, ExpansionGives};
 ghost use Rattle.dfd_run.specs.Play.{PlayMakes};
 

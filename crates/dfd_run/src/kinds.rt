@@ -1,5 +1,5 @@
-ghost use Rattle.std.specs.Prelude.{IfOk};
-ghost use Rattle.dfd_run.specs.Answer.{BytesGive, HasRanges};
+ghost use Rattle.std.specs.Prelude.{◌≡◌, IfOk};
+ghost use Rattle.dfd_run.specs.Answer.{BytesGive, HasRanges, most_read};
 
 use crate::answer::Answer;
 use crate::checking::check;
@@ -7,8 +7,21 @@ use crate::expanding::{expand, loops};
 use crate::making::make;
 use crate::peaking::peak;
 use crate::playing::play;
+use crate::trailing::trail;
+use crate::verifying::verify;
 use command_line::{Command, CommandKind};
+use language_limits::{LONGEST_TEXT, MOST_TRAIL};
 use std::alloc::{AllocError, Global};
+
+/// How many bytes a command reads at most: one more than a text, or a trail, may have.
+pub fn most_read(kind: CommandKind) -> usize
+    ensures { result ≡ most_read kind }
+{
+    match kind {
+        CommandKind::Verify => MOST_TRAIL as usize + 1,
+        _ => LONGEST_TEXT as usize + 1,
+    }
+}
 
 /// What a command makes of the bytes of a source.
 pub fn answer_to(alloc: Global, command: &Command, bytes: &[u8]) -> Result<Answer, AllocError>
@@ -22,5 +35,7 @@ pub fn answer_to(alloc: Global, command: &Command, bytes: &[u8]) -> Result<Answe
         CommandKind::Make => make(alloc, command, bytes),
         CommandKind::Loops => loops(alloc, command, bytes),
         CommandKind::Expand => expand(alloc, bytes),
+        CommandKind::Trail => trail(alloc, command, bytes),
+        CommandKind::Verify => verify(alloc, bytes),
     }
 }

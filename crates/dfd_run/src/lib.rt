@@ -29,9 +29,12 @@ mod playing_core;
 mod program;
 mod refusal;
 mod status;
+mod trail_messages;
+mod trailing;
+mod verifying;
 
 pub use byte_streams::{
-    CleanSink, CleanSource, MOST_READ, MemorySink, MemorySource, ReadFail, ReaderSource, Sink,
+    CleanSink, CleanSource, MemorySink, MemorySource, ReadFail, ReaderSource, Sink,
     SinkFailed, Source, SourceFailed, StdinSource, StdoutSink, WriterSink, read_source, write_text,
 };
 pub use call::{dfd, serve};

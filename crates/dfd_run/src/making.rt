@@ -7,7 +7,8 @@ ghost use Rattle.dfd_core.specs.Cores.{IsAt, end_of};
 ghost use Rattle.dfd_core.specs.declared.run_end.RunEnd.TheVariants.{Finished};
 ghost use Rattle.par_ownership.specs.Ownership.{Ownership};
 ghost use Rattle.par_tree.specs.View.{program_tree};
-ghost use Rattle.dfd_run.specs.Answer.{HasRanges, SourceGives};
+ghost use Rattle.dfd_run.specs.Answer.{HasRanges};
+ghost use Rattle.dfd_run.specs.Sources.{SourceGives};
 ghost use Rattle.dfd_run.specs.Make.{MakeMakes, Summarizes, sum_of};
 ghost use Rattle.dfd_run.specs.Peak.{finish_status};
 

@@ -2,11 +2,12 @@ ghost use Rattle.std.specs.Prelude.{◌≡◌, ◌≤◌, ℕ, List, IfOk, lengt
 ghost use Rattle.block_check.specs.Checked.{program_of};
 ghost use Rattle.par_tree.specs.View.{program_tree};
 ghost use Rattle.command_line.specs.Words.{InRange};
+ghost use Rattle.command_line.specs.declared.command_kind.CommandKind.TheVariants.{Peak as PeakKind};
 ghost use Rattle.command_line.specs.declared.setting.Setting.TheVariants.{Quota as QuotaSetting};
 ghost use Rattle.depth_first_run.specs.States.{Item};
 ghost use Rattle.depth_first_run.specs.Run.{actions_of};
 ghost use Rattle.serial_journal.specs.Telling.{Tells};
-ghost use Rattle.dfd_run.specs.Answer.{SourceGives};
+ghost use Rattle.dfd_run.specs.Sources.{SourceGives};
 ghost use Rattle.dfd_run.specs.Peak.{finish_status, RunMakes, PeakMakes};
 
 use crate::answer::Answer;
@@ -39,7 +40,7 @@ fn run_answer(alloc: Global, run: Serial) -> Result<Answer, AllocError>
 
 /// Runs a program depth-first.
 fn peak_program(alloc: Global, k: u32, limit: u32, program: &Checked) -> Result<Answer, AllocError>
-    requires { InRange QuotaSetting k }
+    requires { InRange PeakKind QuotaSetting k }
     ensures { IfOk result (λ answer. PeakMakes k limit (program_tree (program_of program.now)) answer.status answer.text.items) }
 {
     let Some(quota) = Quota::new(k) else {
@@ -60,7 +61,7 @@ fn peak_program(alloc: Global, k: u32, limit: u32, program: &Checked) -> Result<
 
 /// What the depth-first run of the program whose text these bytes are comes to, or why and where they are refused.
 pub fn peak(alloc: Global, k: u32, limit: u32, bytes: &[u8]) -> Result<Answer, AllocError>
-    requires { InRange QuotaSetting k }
+    requires { InRange PeakKind QuotaSetting k }
     ensures { IfOk result (λ answer. SourceGives (PeakMakes k limit) bytes.now answer.status answer.text.items) }
 {
     match accept(alloc, bytes) {

@@ -13,7 +13,7 @@ ghost use Rattle.par_ownership.specs.Ownership.{Ownership};
 ghost use Rattle.par_tree.specs.View.{program_tree};
 ghost use Rattle.thread_steps.specs.Settings.{IsSettingOf};
 ghost use Rattle.dfd_run.specs.Answer.{HasRanges};
-ghost use Rattle.dfd_run.specs.CorePlays.{Played};
+ghost use Rattle.dfd_run.specs.CorePlays.{Played, PlayedAs};
 ghost use Rattle.dfd_run.specs.Play.{play_setting, play_terms, seeded_words};
 ghost use Rattle.dfd_run.specs.Stops.{TellsStop};
 
@@ -30,6 +30,7 @@ use dfd_core::{Core, OutputFail, RunEnd};
 use dummy_tree::Quota;
 use frame_code::lower;
 use std::alloc::{AllocError, Global};
+use trail_record::{Recorded, record_play};
 
 /// The run of a program by the workers of a command, at its start.
 fn begun(alloc: Global, command: &Command, program: Checked) -> Result<Core, AllocError>
@@ -77,6 +78,24 @@ pub fn run_program(
     let mut choices = PcgChoices::new(command.seed);
     let end = dfd_core::play(&mut core, &mut choices);
     Ok((core, end))
+}
+
+/// Lets the workers of a command run a program up to the end of the run, and records what they do.
+pub fn record_program(
+    alloc: Global,
+    command: &Command,
+    program: Checked,
+) -> Result<(Core, Recorded), AllocError>
+    requires ranges { HasRanges command.now }
+    requires owned { Ownership (program_tree (program_of program)) }
+    ensures end { IfOk result (λ run. end_of run.0 ≡ Some run.1.end) }
+    ensures plays { IfOk result (λ run. PlayedAs (play_setting command.now (program_tree (program_of program))) (play_terms command.now)
+        (seeded_words command.now.seed) run.0 run.1.end (entries run.1.events)) }
+{
+    let mut core = begun(alloc, command, program)?;
+    let mut choices = PcgChoices::new(command.seed);
+    let recorded = record_play(alloc, &mut core, &mut choices)?;
+    Ok((core, recorded))
 }
 
 /// The lines of a run that has finished.

@@ -1,6 +1,6 @@
 ghost use Rattle.std.specs.Prelude.{◌≡◌, Err, IfOk, ℕ, List};
 ghost use Rattle.accepted_source.specs.Sources.{ReadsSource};
-ghost use Rattle.dfd_run.specs.Answer.{RefusalGives};
+ghost use Rattle.dfd_run.specs.Sources.{RefusalGives};
 ghost use Rattle.dfd_run.specs.Expanding.{TellsExpandFail};
 ghost use Rattle.dfd_run.specs.declared.status.Status.TheVariants.{Syntax};
 

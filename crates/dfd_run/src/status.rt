@@ -23,6 +23,8 @@ pub enum Status {
     DequesFull,
     /// There was no memory. Nothing was written.
     OutOfMemory,
+    /// The bytes of the source are no trail, or a trail that is not accepted.
+    TrailRefused,
 }
 
 impl Status {
@@ -45,6 +47,7 @@ impl Status {
             Status::ArenaFull => 8,
             Status::DequesFull => 9,
             Status::OutOfMemory => 10,
+            Status::TrailRefused => 11,
         }
     }
 }

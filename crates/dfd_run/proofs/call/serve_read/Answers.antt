@@ -1,7 +1,8 @@
+use Rattle.std.proofs.Common.{subst}
 use Rattle.byte_streams.specs.Faults.{Rose}
 use Rattle.byte_streams.specs.Source.{IsRead}
 use Rattle.dfd_run.proofs.Answers.{read_of_kind, ends_at_fault, ends_more}
-use Rattle.dfd_run.specs.Answer.{BytesGive}
+use Rattle.dfd_run.specs.Answer.{BytesGive, most_read}
 use Rattle.dfd_run.specs.declared.status.Status.TheVariants.{ReadFault}
 use Rattle.dfd_run.proofs.call.serve_read.Goals as goal
 
@@ -11,7 +12,8 @@ returns-in-Ok-clause-ends g c =
     let left = g.S.Source.left c.args.source.now in
     let left' = g.S.Source.left c.read_source.new.source in
     let failed = Rose (g.S.Source.faults c.args.source.now) (g.S.Source.faults c.read_source.new.source) in
-    let read : IsRead left left' c.deref.result.now = rw c.deref.ensures.value c.in-Ok.ensures.read in
+    let read : IsRead (most_read command.kind) left left' c.deref.result.now =
+        rw c.deref.ensures.value (subst (λ n. IsRead n left left' c.in-Ok.bytes.items) c.most_read.ensures c.in-Ok.ensures.read) in
     ends_more (BytesGive command c.deref.result.now) _ _ _ _
     (λ status text gives. read_of_kind command failed left left' c.deref.result.now status text read gives) c.serve_bytes.ensures.ends
 

@@ -2,7 +2,7 @@ use Rattle.std.proofs.Common.{Ok}
 use Rattle.std.proofs.lemmas.Result.{IfOk-weaker}
 use Rattle.dfd_run.proofs.Expansions.{expansion_refused}
 use Rattle.dfd_run.proofs.Plays.{both_ok}
-use Rattle.dfd_run.specs.Answer.{SourceGives}
+use Rattle.dfd_run.specs.Sources.{SourceGives}
 use Rattle.dfd_run.specs.Play.{PlayMakes}
 use Rattle.dfd_run.proofs.expanding.loops.Goals as goal
 
