@@ -206,10 +206,9 @@ fn verdict(words: &[String], source: &[u8], due: &Answer, got: &Answer) -> Verdi
     }
 }
 
-/// Whether the words are such as the product does not know today: the commands `run`, `trail` and `verify`.
+/// Whether the words are such as the product does not know today: the command `run`.
 fn is_not_yet(words: &[String], got: &Answer) -> bool {
-    let is_unknown = got.status == 1 && got.text == USAGE;
-    matches!(command_name(words), "run" | "trail" | "verify") && is_unknown
+    command_name(words) == "run" && got.status == 1 && got.text == USAGE
 }
 
 /// Answers are the same to the byte. But of a run in threads the numbers after the finish depend on the order of its events, and
