@@ -18,4 +18,6 @@ mod plays;
 #[cfg(test)]
 mod streams;
 #[cfg(test)]
+mod trails;
+#[cfg(test)]
 mod words;

@@ -44,7 +44,12 @@ loops 1
 Loops
 expand --k 16
 expand --
-expand expand";
+expand expand
+trail --steps 400001
+trail 1
+verify --k 16
+verify 1
+verify --";
 
 #[test]
 fn words_that_are_no_command(rt: HostRuntime) -> Result<(), Fail> {
