@@ -193,7 +193,7 @@ told_answer t p is own (Err (WrongNumbers numbers)) a =
     (TrailRefused, (wrong_numbers_text numbers, (p, (is, (own, (Err (WrongNumbers numbers), (a.1, (refl, refl))))))))
 told_answer t p is own (Err NoRoom) a = absurd (a.0 refl)
 
-verify_answer : (bytes : List ℕ) → Some_answer (VerifyGives bytes)
+pub verify_answer : (bytes : List ℕ) → Some_answer (VerifyGives bytes)
 verify_answer bytes = elim (each_read bytes) [
   | inl trail ↦
       let t = trail.0 in let least = trail.1.0.setting.quota.0 in

@@ -8,3 +8,4 @@ pub mod GivenWords
 pub mod Headline
 pub mod Sums
 pub mod Trails
+pub mod TrailLaws

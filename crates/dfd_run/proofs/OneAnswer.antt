@@ -333,7 +333,7 @@ one_verify t some p s s' u u' m m' =
 quota_of_trail : (t : Shown) → HasTrailRanges t → 0 < t.k
 quota_of_trail t ranges = let least = ranges.setting.quota.0 in omega (arith, least)
 
-one_trail_answer : (bytes : List ℕ) (s s' : Status) (u u' : List ℕ) → VerifyGives bytes s u → VerifyGives bytes s' u' → Same s s' u u'
+pub one_trail_answer : (bytes : List ℕ) (s s' : Status) (u u' : List ℕ) → VerifyGives bytes s u → VerifyGives bytes s' u' → Same s s' u u'
 one_trail_answer bytes s s' u u' (inl no) (inl no') =
     (no.1.1.0 ∙ sym no'.1.1.0, no.1.1.1 ∙ ap not_trail_text (one_place bytes no.0 no'.0 no.1.0 no'.1.0) ∙ sym no'.1.1.1)
 one_trail_answer bytes s s' u u' (inl no) (inr of) = absurd (never_both bytes of.0 no.0 of.1.0 no.1.0)

@@ -1,11 +1,19 @@
 -- What a caller may use.
-use Rattle.std.specs.Prelude.{◌≡◌, ◌↔◌, ℕ, List, Ok}
+use Rattle.std.specs.Prelude.{◌≡◌, ◌↔◌, ◌⊎◌, ℕ, List, Ok}
 use Rattle.command_line.specs.Words.{IsCommand}
 use Rattle.command_line.specs.declared.command.Command.{Command}
-use Rattle.command_line.specs.declared.command_kind.CommandKind.TheVariants.{Play, Loops}
+use Rattle.command_line.specs.declared.command_kind.CommandKind.TheVariants.{Play, Loops, Trail, Verify}
 use Rattle.loop_expand.specs.Expansion.{Expands}
 use Rattle.dfd_run.specs.Answer.{BytesGive, HasRanges}
+use Rattle.par_ownership.specs.Accepted.{IsAccepted}
+use Rattle.par_text.specs.Judging.{IsText}
+use Rattle.par_tree.specs.Tree.{Program}
+use Rattle.serial_meaning.specs.Settings.{setting_of}
+use Rattle.trail_check.specs.Laws.{IsBounded}
+use Rattle.trail_meaning.specs.Shown.{Shown}
+use Rattle.trail_text.specs.TrailText.{IsTrail}
 use Rattle.dfd_run.specs.declared.status.Status.{Status}
+use Rattle.dfd_run.specs.declared.status.Status.TheVariants.{Done, UserFault}
 
 -- a command has one answer to the bytes of a source, one status and one text
 abbrev pub OneAnswer : Type 0
@@ -26,3 +34,14 @@ LoopsArePlays =
 -- a command that was read has its ranges: so `serve` may do it
 abbrev pub CommandsHaveRanges : Type 0
 CommandsHaveRanges = (words : List (List ℕ)) (command : Command) → IsCommand words command → HasRanges command
+
+-- what `trail` writes of a play that ends, well or with a fault, `verify` accepts
+abbrev pub RecordedTrailsAreAccepted : Type 0
+RecordedTrailsAreAccepted = (command : Command) (bytes trail : List ℕ) (status : Status) → HasRanges (record command { kind = Trail })
+    → BytesGive (record command { kind = Trail }) bytes status trail → (status ≡ Done) ⊎ (status ≡ UserFault)
+    → (text : List ℕ) × BytesGive (record command { kind = Verify }) trail Done text
+
+-- what `verify` accepts is a trail, of an accepted program, and the bound holds after each of its events
+abbrev pub AcceptedTrailsAreBounded : Type 0
+AcceptedTrailsAreBounded = (command : Command) (bytes text : List ℕ) → BytesGive (record command { kind = Verify }) bytes Done text
+    → (t : Shown) × (p : Program) × IsTrail bytes t × IsText t.source p × IsAccepted p × IsBounded (setting_of p t.k) t

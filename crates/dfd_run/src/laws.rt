@@ -1,5 +1,5 @@
 ghost use Rattle.dfd_run.specs.Headline.{ActionsSuffice, ArenasStopLate, ArenasSuffice, DequesSuffice, MomentsAreBounded, PlaysWithRoomFinish, ReportsAreBounded, StatusesWithRoom, SummariesAreBounded};
-ghost use Rattle.dfd_run.specs.Laws.{AnAnswer, CommandsHaveRanges, LoopsArePlays, OneAnswer};
+ghost use Rattle.dfd_run.specs.Laws.{AcceptedTrailsAreBounded, AnAnswer, CommandsHaveRanges, LoopsArePlays, OneAnswer, RecordedTrailsAreAccepted};
 
 /// The status and the text of a command are a function of the command and of the bytes that it reads.
 pub fn a_command_has_one_answer()
@@ -70,4 +70,16 @@ pub fn deques_suffice()
 /// not fail has status 0, 6 or 9 then, or 10 where there is not enough memory.
 pub fn statuses_with_room()
     ensures { StatusesWithRoom }
+{}
+
+/// `verify` accepts what `trail` writes of a play that ends, well or with a fault.
+pub fn recorded_trails_are_accepted()
+    ensures { RecordedTrailsAreAccepted }
+{}
+
+/// What `verify` accepts is the trail of an accepted program. After each of its events the words in use are at most the depth-first peak, and
+/// two quotas for each period that by then ran an action ahead of the prefix; the threads in the deques stand in depth-first order; and no
+/// action was done twice.
+pub fn accepted_trails_are_bounded()
+    ensures { AcceptedTrailsAreBounded }
 {}

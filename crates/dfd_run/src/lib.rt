@@ -40,7 +40,7 @@ pub use byte_streams::{
 pub use call::{dfd, serve};
 pub use command_line::{Command, CommandKind, read_words};
 pub use laws::{
-    a_command_has_an_answer, a_command_has_one_answer, actions_suffice, arenas_stop_late,
+    a_command_has_an_answer, accepted_trails_are_bounded, recorded_trails_are_accepted, a_command_has_one_answer, actions_suffice, arenas_stop_late,
     arenas_suffice, commands_have_ranges, deques_suffice, loops_are_plays, moments_are_bounded,
     plays_with_room_finish, reports_are_bounded, statuses_with_room, summaries_are_bounded,
 };
