@@ -8,7 +8,7 @@ use Rattle.std.specs.declared.string.String.{String}
 use Rattle.std.specs.declared.alloc.Global.{Global}
 use Rattle.command_line.specs.declared.command.Command.{Command}
 use Rattle.command_line.specs.declared.command_kind.CommandKind.{CommandKind}
-use Rattle.command_line.specs.declared.command_kind.CommandKind.TheVariants.{Play, Peak, Check, Make, Loops, Expand}
+use Rattle.command_line.specs.declared.command_kind.CommandKind.TheVariants.{Play, Peak, Check, Make, Loops, Expand, Trail, Verify}
 use Rattle.command_line.specs.declared.numbers.Numbers.{Numbers}
 use Rattle.command_line.specs.declared.setting.Setting.{Setting}
 use Rattle.command_line.specs.declared.setting.Setting.TheVariants.{Quota, Workers, Arena, Steps, Deques, Seed}
@@ -29,7 +29,7 @@ some_words (w ∷ words) e none = omega (arith, ap (λ (l : List (List ℕ)). le
 pub none_read : (kind : CommandKind) (words : List (List ℕ)) → AreRead kind words words no_numbers
 none_read kind words = record { items = []; written = refl; fit = record { had = tt; seen = none; groups = tt } }
   where
-    none : (s : Setting) → Seen s [] (slot no_numbers s)
+    none : (s : Setting) → Seen kind s [] (slot no_numbers s)
     none Quota = tt
     none Workers = tt
     none Arena = tt
@@ -85,6 +85,8 @@ kind_of word =
     else if bytes_eq word (codes "make") then Some Make
     else if bytes_eq word (codes "loops") then Some Loops
     else if bytes_eq word (codes "expand") then Some Expand
+    else if bytes_eq word (codes "trail") then Some Trail
+    else if bytes_eq word (codes "verify") then Some Verify
     else None
 
 kind_back : (kind : CommandKind) → kind_of (kind_word kind) ≡ Some kind
@@ -94,6 +96,8 @@ kind_back Check = refl
 kind_back Make = refl
 kind_back Loops = refl
 kind_back Expand = refl
+kind_back Trail = refl
+kind_back Verify = refl
 
 kind_one : (a b : CommandKind) → kind_word a ≡ kind_word b → a ≡ b
 kind_one a b e = ap (λ (o : Option CommandKind). unwrap_or o a) (sym (kind_back a) ∙ ap kind_of e ∙ kind_back b)
@@ -105,23 +109,23 @@ other_words : (x y : List ℕ) (xs ys : List (List ℕ)) → x ∷ xs ≡ y ∷ 
 other_words x y xs ys e = ap (λ (l : List (List ℕ)). drop 1 l) e
 
 -- what sets an option may set it
-may_set : (s : Setting) (vs : List (List ℕ)) (n : ℕ) → Sets s vs n → MaySet s vs
-may_set s [] n sets = tt
-may_set s (v ∷ []) n sets = (sets.0, subst (λ (m : ℕ). InRange s m) sets.2 sets.1, refl)
-may_set s (v ∷ w ∷ vs) n sets = absurd sets
+may_set : (kind : CommandKind) (s : Setting) (vs : List (List ℕ)) (n : ℕ) → Sets kind s vs n → MaySet kind s vs
+may_set kind s [] n sets = tt
+may_set kind s (v ∷ []) n sets = (sets.0, subst (λ (m : ℕ). InRange kind s m) sets.2 sets.1, refl)
+may_set kind s (v ∷ w ∷ vs) n sets = absurd sets
 
-seen_sets : (s : Setting) (vs : List (List ℕ)) (o : Option ℕ) → Seen s vs o → Sets s vs (or_default s o)
-seen_sets s [] None seen = refl
-seen_sets s [] (Some n) seen = absurd seen
-seen_sets s (v ∷ []) None seen = absurd seen
-seen_sets s (v ∷ []) (Some n) seen = seen
-seen_sets s (v ∷ w ∷ vs) None seen = absurd seen
-seen_sets s (v ∷ w ∷ vs) (Some n) seen = absurd seen
+seen_sets : (kind : CommandKind) (s : Setting) (vs : List (List ℕ)) (o : Option ℕ) → Seen kind s vs o → Sets kind s vs (or_default kind s o)
+seen_sets kind s [] None seen = refl
+seen_sets kind s [] (Some n) seen = absurd seen
+seen_sets kind s (v ∷ []) None seen = absurd seen
+seen_sets kind s (v ∷ []) (Some n) seen = seen
+seen_sets kind s (v ∷ w ∷ vs) None seen = absurd seen
+seen_sets kind s (v ∷ w ∷ vs) (Some n) seen = absurd seen
 
-sets_one : (s : Setting) (vs : List (List ℕ)) (m n : ℕ) → Sets s vs m → Sets s vs n → m ≡ n
-sets_one s [] m n a b = a ∙ sym b
-sets_one s (v ∷ []) m n a b = a.2 ∙ sym b.2
-sets_one s (v ∷ w ∷ vs) m n a b = absurd a
+sets_one : (kind : CommandKind) (s : Setting) (vs : List (List ℕ)) (m n : ℕ) → Sets kind s vs m → Sets kind s vs n → m ≡ n
+sets_one kind s [] m n a b = a ∙ sym b
+sets_one kind s (v ∷ []) m n a b = a.2 ∙ sym b.2
+sets_one kind s (v ∷ w ∷ vs) m n a b = absurd a
 
 -- what sets the groups may set them
 may_set_groups : (wanted : Bool) (words : List (List ℕ)) (n : ℕ) → SetsGroups wanted words n → MaySetGroups wanted words
@@ -168,7 +172,7 @@ no_command words rest word kind are is none command c =
     none c.items (other_words _ _ _ _ e)
     (record {
       had = subst (λ (k : CommandKind). AllHad k c.items) (sym same) c.had;
-      may = λ s. may_set s (values_of s c.items) (number_of command s) (c.sets s);
+      may = λ s. may_set kind s (values_of s c.items) (number_of command s) (c.sets s);
       groups = subst (λ (k : CommandKind). MaySetGroups (wants_groups k) (plain_of c.items)) (sym same)
           (may_set_groups (wants_groups command.kind) (plain_of c.items) command.groups c.groups);
     })
@@ -183,10 +187,10 @@ no_word words none command c = omega (arith, ap (λ (l : List (List ℕ)). lengt
 
 pub a_command :
     (words rest : List (List ℕ)) (word : List ℕ) (command : Command) (numbers : Numbers) → words ≡ word ∷ rest →
-    word ≡ kind_word command.kind → AreItems command.kind rest numbers → command.k ≡ or_default Quota numbers.quota →
-    command.p ≡ or_default Workers numbers.workers → command.arena ≡ or_default Arena numbers.arena →
-    command.steps ≡ or_default Steps numbers.steps → command.deques ≡ or_default Deques numbers.deques →
-    command.seed ≡ or_default Seed numbers.seed →
+    word ≡ kind_word command.kind → AreItems command.kind rest numbers → command.k ≡ or_default command.kind Quota numbers.quota →
+    command.p ≡ or_default command.kind Workers numbers.workers → command.arena ≡ or_default command.kind Arena numbers.arena →
+    command.steps ≡ or_default command.kind Steps numbers.steps → command.deques ≡ or_default command.kind Deques numbers.deques →
+    command.seed ≡ or_default command.kind Seed numbers.seed →
     (if wants_groups command.kind then numbers.groups else Some 0) ≡ Some command.groups → IsCommand words command
 a_command words rest word command numbers are is read k p arena steps deques seed groups = record {
   items = read.items;
@@ -195,12 +199,12 @@ a_command words rest word command numbers are is read k p arena steps deques see
       ∙ ap (λ (w : List ℕ). w ∷ rest) is
       ∙ ap (λ (l : List (List ℕ)). kind_word command.kind ∷ l) read.written;
   had = read.fit.had;
-  sets = λ s. subst (λ (n : ℕ). Sets s (values_of s read.items) n) (sym (number s))
-      (seen_sets s (values_of s read.items) (slot numbers s) (read.fit.seen s));
+  sets = λ s. subst (λ (n : ℕ). Sets kind s (values_of s read.items) n) (sym (number s))
+      (seen_sets kind s (values_of s read.items) (slot numbers s) (read.fit.seen s));
   groups = seen_sets_groups (wants_groups command.kind) (plain_of read.items) numbers.groups command.groups read.fit.groups groups;
 }
   where
-    number : (s : Setting) → number_of command s ≡ or_default s (slot numbers s)
+    number : (s : Setting) → number_of command s ≡ or_default kind s (slot numbers s)
     number Quota = k
     number Workers = p
     number Arena = arena
@@ -209,27 +213,27 @@ a_command words rest word command numbers are is read k p arena steps deques see
     number Seed = seed
 
 -- a default is a number that the option may have
-default_in_range : (s : Setting) → InRange s (rule_of s).default
-default_in_range Quota = search (arith)
-default_in_range Workers = search (arith)
-default_in_range Arena = search (arith)
-default_in_range Steps = search (arith)
-default_in_range Deques = search (arith)
-default_in_range Seed = search (arith)
+default_in_range : (kind : CommandKind) (s : Setting) → InRange kind s (rule_of kind s).default
+default_in_range kind Quota = search (arith)
+default_in_range kind Workers = search (arith)
+default_in_range kind Arena = search (arith)
+default_in_range kind Steps = search (arith)
+default_in_range kind Deques = search (arith)
+default_in_range kind Seed = search (arith)
 
 -- what sets an option is a number that it may have
-pub sets_in_range : (s : Setting) (vs : List (List ℕ)) (n : ℕ) → Sets s vs n → InRange s n
-sets_in_range s [] n sets = subst (λ (m : ℕ). InRange s m) (sym sets) (default_in_range s)
-sets_in_range s (v ∷ []) n sets = sets.1
-sets_in_range s (v ∷ w ∷ vs) n sets = absurd sets
+pub sets_in_range : (kind : CommandKind) (s : Setting) (vs : List (List ℕ)) (n : ℕ) → Sets kind s vs n → InRange kind s n
+sets_in_range kind s [] n sets = subst (λ (m : ℕ). InRange kind s m) (sym sets) (default_in_range kind s)
+sets_in_range kind s (v ∷ []) n sets = sets.1
+sets_in_range kind s (v ∷ w ∷ vs) n sets = absurd sets
 
 -- the number of an option is one that it may have
 pub in_range :
     (kind : CommandKind) (words : List (List ℕ)) (numbers : Numbers) (s : Setting) → AreItems kind words numbers →
-    InRange s (or_default s (slot numbers s))
+    InRange kind s (or_default kind s (slot numbers s))
 in_range kind words numbers s read =
-    sets_in_range s (values_of s read.items) (or_default s (slot numbers s))
-    (seen_sets s (values_of s read.items) (slot numbers s) (read.fit.seen s))
+    sets_in_range kind s (values_of s read.items) (or_default kind s (slot numbers s))
+    (seen_sets kind s (values_of s read.items) (slot numbers s) (read.fit.seen s))
 
 -- the groups of a command that wants some
 pub groups_in_range :
@@ -292,8 +296,8 @@ one_command words a b is_a is_b =
     let items : is_b.items ≡ is_a.items =
     same_items is_a.items is_b.items (plain_in_command words a is_a) (plain_in_command words b is_b) (other_words _ _ _ _ e) in
     let same : (s : Setting) → number_of b s ≡ number_of a s =
-    λ s. sets_one s (values_of s is_a.items) (number_of b s) (number_of a s)
-    (subst (λ (l : List Item). Sets s (values_of s l) (number_of b s)) items (is_b.sets s)) (is_a.sets s) in
+    λ s. sets_one kind s (values_of s is_a.items) (number_of b s) (number_of a s)
+    (subst (λ (l : List Item). Sets kind s (values_of s l) (number_of b s)) items (is_b.sets s)) (is_a.sets s) in
     let groups : b.groups ≡ a.groups =
     sets_groups_one (wants_groups a.kind) (plain_of is_a.items) b.groups a.groups
     (subst (λ (k : CommandKind). SetsGroups (wants_groups k) (plain_of is_a.items) b.groups) kinds

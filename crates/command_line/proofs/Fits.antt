@@ -71,33 +71,33 @@ not_had kind numbers s v none items more joined fit may =
     no e = cc
 
 -- the option was given before
-given_twice : (s : Setting) (vs more : List (List ℕ)) (v : List ℕ) (n : ℕ) → Seen s vs (Some n) → MaySet s (vs ++ v ∷ more) → ⊥
-given_twice s [] more v n seen may = seen
-given_twice s (w ∷ []) more v n seen may = may
-given_twice s (w ∷ x ∷ vs) more v n seen may = seen
+given_twice : (kind : CommandKind) (s : Setting) (vs more : List (List ℕ)) (v : List ℕ) (n : ℕ) → Seen kind s vs (Some n) → MaySet kind s (vs ++ v ∷ more) → ⊥
+given_twice kind s [] more v n seen may = seen
+given_twice kind s (w ∷ []) more v n seen may = may
+given_twice kind s (w ∷ x ∷ vs) more v n seen may = seen
 
 pub twice : (kind : CommandKind) (numbers : Numbers) (s : Setting) (v : List ℕ) → is_some (slot numbers s) ≡ true → NoneFit kind numbers s v
 twice kind numbers s v given items more joined fit may =
     by_slot (slot numbers s) given (fit.seen s)
   where
-    by_slot : (o : Option ℕ) → is_some o ≡ true → Seen s (values_of s items) o → ⊥
+    by_slot : (o : Option ℕ) → is_some o ≡ true → Seen kind s (values_of s items) o → ⊥
     by_slot None given seen = cc
-    by_slot (Some n) given seen = given_twice s (values_of s items) (values_of s more) v n seen
-        (subst (λ (l : List (List ℕ)). MaySet s l) (values_at s items more v joined) (may.may s))
+    by_slot (Some n) given seen = given_twice kind s (values_of s items) (values_of s more) v n seen
+        (subst (λ (l : List (List ℕ)). MaySet kind s l) (values_at s items more v joined) (may.may s))
 
 -- the option may not have the value
-one_value : (s : Setting) (vs more : List (List ℕ)) (v : List ℕ) → MaySet s (vs ++ v ∷ more) → Gives s v (digits_value 10 v)
-one_value s [] [] v may = may
-one_value s [] (x ∷ more) v may = absurd may
-one_value s (w ∷ []) more v may = absurd may
-one_value s (w ∷ x ∷ vs) more v may = absurd may
+one_value : (kind : CommandKind) (s : Setting) (vs more : List (List ℕ)) (v : List ℕ) → MaySet kind s (vs ++ v ∷ more) → Gives kind s v (digits_value 10 v)
+one_value kind s [] [] v may = may
+one_value kind s [] (x ∷ more) v may = absurd may
+one_value kind s (w ∷ []) more v may = absurd may
+one_value kind s (w ∷ x ∷ vs) more v may = absurd may
 
 pub not_given :
-    (kind : CommandKind) (numbers : Numbers) (s : Setting) (v : List ℕ) → ((n : ℕ) → ¬ Gives s v n) → NoneFit kind numbers s v
+    (kind : CommandKind) (numbers : Numbers) (s : Setting) (v : List ℕ) → ((n : ℕ) → ¬ Gives kind s v n) → NoneFit kind numbers s v
 not_given kind numbers s v none items more joined fit may =
     none (digits_value 10 v)
-    (one_value s (values_of s items) (values_of s more) v
-    (subst (λ (l : List (List ℕ)). MaySet s l) (values_at s items more v joined) (may.may s)))
+    (one_value kind s (values_of s items) (values_of s more) v
+    (subst (λ (l : List (List ℕ)). MaySet kind s l) (values_at s items more v joined) (may.may s)))
 
 not_some : (o : Option ℕ) → is_some o ≡ false → o ≡ None
 not_some None e = refl
@@ -105,29 +105,29 @@ not_some (Some n) e = cc
 
 -- the option was not given, and has the value now
 seen_more :
-    (t : Setting) (same : Bool) (vs : List (List ℕ)) (v : List ℕ) (n : ℕ) (o : Option ℕ) → Seen t vs o → (same ≡ true → o ≡ None) →
-    (same ≡ true → Gives t v n) → Seen t (vs ++ (if same then v ∷ [] else [])) (if same then Some n else o)
-seen_more t false vs v n o seen fresh gives = subst (λ (l : List (List ℕ)). Seen t l o) (sym (append-nil vs)) seen
-seen_more t true vs v n o seen fresh gives =
-    fill vs (subst (λ (p : Option ℕ). Seen t vs p) (fresh refl) seen)
+    (kind : CommandKind) (t : Setting) (same : Bool) (vs : List (List ℕ)) (v : List ℕ) (n : ℕ) (o : Option ℕ) → Seen kind t vs o → (same ≡ true → o ≡ None) →
+    (same ≡ true → Gives kind t v n) → Seen kind t (vs ++ (if same then v ∷ [] else [])) (if same then Some n else o)
+seen_more kind t false vs v n o seen fresh gives = subst (λ (l : List (List ℕ)). Seen kind t l o) (sym (append-nil vs)) seen
+seen_more kind t true vs v n o seen fresh gives =
+    fill vs (subst (λ (p : Option ℕ). Seen kind t vs p) (fresh refl) seen)
   where
-    fill : (vs : List (List ℕ)) → Seen t vs None → Seen t (vs ++ v ∷ []) (Some n)
+    fill : (vs : List (List ℕ)) → Seen kind t vs None → Seen kind t (vs ++ v ∷ []) (Some n)
     fill [] seen = gives refl
     fill (w ∷ []) seen = absurd seen
     fill (w ∷ x ∷ vs) seen = absurd seen
 
 pub one_more :
     (kind : CommandKind) (numbers after : Numbers) (s : Setting) (v : List ℕ) (n : ℕ) → has kind s ≡ true →
-    is_some (slot numbers s) ≡ false → Gives s v n → IsWith numbers s n after → after.groups ≡ numbers.groups →
+    is_some (slot numbers s) ≡ false → Gives kind s v n → IsWith numbers s n after → after.groups ≡ numbers.groups →
     MoreFit kind numbers s v after
 one_more kind numbers after s v n had fresh gives is kept items joined fit = record {
   had = had_both kind items (option s v joined ∷ []) fit.had (had, tt);
-  seen = λ t. subst (λ (o : Option ℕ). Seen t (values_of t (items ++ option s v joined ∷ [])) o) (sym (is t))
-      (subst (λ (l : List (List ℕ)). Seen t l (if is_same s t then Some n else slot numbers t))
+  seen = λ t. subst (λ (o : Option ℕ). Seen kind t (values_of t (items ++ option s v joined ∷ [])) o) (sym (is t))
+      (subst (λ (l : List (List ℕ)). Seen kind t l (if is_same s t then Some n else slot numbers t))
       (sym (values_of-append t items (option s v joined ∷ [])))
-      (seen_more t (is_same s t) (values_of t items) v n (slot numbers t) (fit.seen t)
+      (seen_more kind t (is_same s t) (values_of t items) v n (slot numbers t) (fit.seen t)
       (λ same. subst (λ (u : Setting). slot numbers u ≡ None) (same_is s t same) (not_some (slot numbers s) fresh))
-      (λ same. subst (λ (u : Setting). Gives u v n) (same_is s t same) gives)));
+      (λ same. subst (λ (u : Setting). Gives kind u v n) (same_is s t same) gives)));
   groups = subst (λ (o : Option ℕ). SeenGroups (wants_groups kind) (plain_of (items ++ option s v joined ∷ [])) o) (sym kept)
       (subst (λ (l : List (List ℕ)). SeenGroups (wants_groups kind) l numbers.groups) (sym same_words) fit.groups);
 }
@@ -178,8 +178,8 @@ pub groups_told :
     TellsGroups word n → MoreTell kind numbers word (record numbers { groups = Some n })
 groups_told kind numbers word n wanted fresh tells items fit = record {
   had = had_both kind items (plain word ∷ []) fit.had tt;
-  seen = λ t. subst (λ (o : Option ℕ). Seen t (values_of t (items ++ plain word ∷ [])) o) (sym (same_slot t))
-      (subst (λ (l : List (List ℕ)). Seen t l (slot numbers t)) (sym (same_values t)) (fit.seen t));
+  seen = λ t. subst (λ (o : Option ℕ). Seen kind t (values_of t (items ++ plain word ∷ [])) o) (sym (same_slot t))
+      (subst (λ (l : List (List ℕ)). Seen kind t l (slot numbers t)) (sym (same_values t)) (fit.seen t));
   groups = subst (λ (l : List (List ℕ)). SeenGroups (wants_groups kind) l (Some n)) (sym (plain_of-append items (plain word ∷ [])))
       (fill (plain_of items)
       (subst (λ (o : Option ℕ). SeenGroups (wants_groups kind) (plain_of items) o) (not_some numbers.groups fresh) fit.groups));

@@ -26,8 +26,8 @@ slot numbers Deques = numbers.deques
 slot numbers Seed = numbers.seed
 
 -- or its default
-abbrev pub or_default : Setting → Option ℕ → ℕ
-or_default s o = unwrap_or o (rule_of s).default
+abbrev pub or_default : CommandKind → Setting → Option ℕ → ℕ
+or_default kind s o = unwrap_or o (rule_of kind s).default
 
 -- nothing was given
 abbrev pub no_numbers : Numbers
@@ -38,12 +38,12 @@ abbrev pub IsWith : Numbers → Setting → ℕ → Numbers → Type 0
 IsWith before s n after = (t : Setting) → slot after t ≡ (if is_same s t then Some n else slot before t)
 
 -- the values of an option are one that gives this number, or none where there is no number
-abbrev pub Seen : Setting → List (List ℕ) → Option ℕ → Type 0
-Seen s [] None = Unit {0}
-Seen s [] (Some n) = ⊥
-Seen s (value ∷ []) None = ⊥
-Seen s (value ∷ []) (Some n) = Gives s value n
-Seen s (value ∷ again ∷ values) o = ⊥
+abbrev pub Seen : CommandKind → Setting → List (List ℕ) → Option ℕ → Type 0
+Seen kind s [] None = Unit {0}
+Seen kind s [] (Some n) = ⊥
+Seen kind s (value ∷ []) None = ⊥
+Seen kind s (value ∷ []) (Some n) = Gives kind s value n
+Seen kind s (value ∷ again ∷ values) o = ⊥
 
 -- the plain words are one that tells this number of groups, where groups are wanted, or none where there is no number
 abbrev pub SeenGroups : (wanted : Bool) → List (List ℕ) → Option ℕ → Type 0
@@ -54,10 +54,10 @@ SeenGroups wanted (word ∷ []) (Some n) = (wanted ≡ true) × TellsGroups word
 SeenGroups wanted (word ∷ again ∷ words) o = ⊥
 
 -- the values of an option may be those of a command
-abbrev pub MaySet : Setting → List (List ℕ) → Type 0
-MaySet s [] = Unit {0}
-MaySet s (value ∷ []) = Gives s value (digits_value 10 value)
-MaySet s (value ∷ again ∷ values) = ⊥
+abbrev pub MaySet : CommandKind → Setting → List (List ℕ) → Type 0
+MaySet kind s [] = Unit {0}
+MaySet kind s (value ∷ []) = Gives kind s value (digits_value 10 value)
+MaySet kind s (value ∷ again ∷ values) = ⊥
 
 -- the plain words may be those of a command
 abbrev pub MaySetGroups : (wanted : Bool) → List (List ℕ) → Type 0
@@ -68,13 +68,13 @@ MaySetGroups wanted (word ∷ again ∷ words) = ⊥
 -- the items give these numbers to a command
 pub record Fit (kind : CommandKind) (items : List Item) (numbers : Numbers) : Type 0 where
   pub had : AllHad kind items
-  pub seen : (s : Setting) → Seen s (values_of s items) (slot numbers s)
+  pub seen : (s : Setting) → Seen kind s (values_of s items) (slot numbers s)
   pub groups : SeenGroups (wants_groups kind) (plain_of items) numbers.groups
 
 -- the items may be those of a command
 pub record MayFit (kind : CommandKind) (items : List Item) : Type 0 where
   pub had : AllHad kind items
-  pub may : (s : Setting) → MaySet s (values_of s items)
+  pub may : (s : Setting) → MaySet kind s (values_of s items)
   pub groups : MaySetGroups (wants_groups kind) (plain_of items)
 
 -- with one option more the numbers are these

@@ -6,11 +6,11 @@ use Rattle.std.specs.Str.Parse.{IsNumeral, digits_value}
 use Rattle.std.specs.String.{string_bytes}
 use Rattle.std.specs.declared.string.String.{String}
 use Rattle.std.specs.declared.alloc.Global.{Global}
-use Rattle.language_limits.specs.declared.TheConstants.{GREATEST_QUOTA, LEAST_QUOTA, MOST_ACTIONS, MOST_DEQUES, MOST_WORDS, MOST_WORKERS}
+use Rattle.language_limits.specs.declared.TheConstants.{GREATEST_QUOTA, LEAST_QUOTA, MOST_ACTIONS, MOST_DEQUES, MOST_TRAIL_ACTIONS, MOST_WORDS, MOST_WORKERS}
 use Rattle.made_source.specs.declared.TheConstants.{MOST_GROUPS}
 use Rattle.command_line.specs.declared.command.Command.{Command}
 use Rattle.command_line.specs.declared.command_kind.CommandKind.{CommandKind}
-use Rattle.command_line.specs.declared.command_kind.CommandKind.TheVariants.{Play, Peak, Check, Make, Loops, Expand}
+use Rattle.command_line.specs.declared.command_kind.CommandKind.TheVariants.{Play, Peak, Check, Make, Loops, Expand, Trail, Verify}
 use Rattle.command_line.specs.declared.rule.Rule.{Rule}
 use Rattle.command_line.specs.declared.rule.TheConstants.{GREATEST_SEED}
 use Rattle.command_line.specs.declared.setting.Setting.{Setting}
@@ -28,6 +28,8 @@ kind_word Check = codes "check"
 kind_word Make = codes "make"
 kind_word Loops = codes "loops"
 kind_word Expand = codes "expand"
+kind_word Trail = codes "trail"
+kind_word Verify = codes "verify"
 
 -- the name of an option, without its `--`
 abbrev pub name_of : Setting → List ℕ
@@ -38,20 +40,26 @@ name_of Steps = codes "steps"
 name_of Deques = codes "deques"
 name_of Seed = codes "seed"
 
--- the numbers that it may have, and its default; the words of a quota and of an arena are whole pieces
-abbrev pub rule_of : Setting → Rule
-rule_of Quota = record { least = LEAST_QUOTA; most = GREATEST_QUOTA; unit = LEAST_QUOTA; default = 4096 }
-rule_of Workers = record { least = 1; most = MOST_WORKERS; unit = 1; default = 4 }
-rule_of Arena = record { least = LEAST_QUOTA; most = MOST_WORDS; unit = LEAST_QUOTA; default = 1048576 }
-rule_of Steps = record { least = 1; most = MOST_ACTIONS; unit = 1; default = MOST_ACTIONS }
-rule_of Deques = record { least = 1; most = MOST_DEQUES; unit = 1; default = MOST_DEQUES }
-rule_of Seed = record { least = 0; most = GREATEST_SEED; unit = 1; default = 1 }
+-- the most actions that a command allows a run: a recorded one has fewer
+abbrev pub most_steps : CommandKind → ℕ
+most_steps Trail = MOST_TRAIL_ACTIONS
+most_steps kind = MOST_ACTIONS
+
+-- the numbers that it may have in a command, and its default; the words of a quota and of an arena are whole pieces
+abbrev pub rule_of : CommandKind → Setting → Rule
+rule_of kind Quota = record { least = LEAST_QUOTA; most = GREATEST_QUOTA; unit = LEAST_QUOTA; default = 4096 }
+rule_of kind Workers = record { least = 1; most = MOST_WORKERS; unit = 1; default = 4 }
+rule_of kind Arena = record { least = LEAST_QUOTA; most = MOST_WORDS; unit = LEAST_QUOTA; default = 1048576 }
+rule_of kind Steps = record { least = 1; most = most_steps kind; unit = 1; default = most_steps kind }
+rule_of kind Deques = record { least = 1; most = MOST_DEQUES; unit = 1; default = MOST_DEQUES }
+rule_of kind Seed = record { least = 0; most = GREATEST_SEED; unit = 1; default = 1 }
 
 -- whether a command has an option: those that play have each, and `peak` has two
 abbrev pub has : CommandKind → Setting → Bool
 has Play s = true
 has Make s = true
 has Loops s = true
+has Trail s = true
 has Peak Quota = true
 has Peak Steps = true
 has kind s = false
@@ -92,19 +100,19 @@ plain_of (plain word ∷ items) = word ∷ plain_of items
 abbrev pub IsValue : List ℕ → Type 0
 IsValue text = IsNumeral 10 text × (length text ≤ 20)
 
--- the option may have this number
-abbrev pub InRange : Setting → ℕ → Type 0
-InRange s n = ((rule_of s).least ≤ n) × (n ≤ (rule_of s).most) × (n % (rule_of s).unit ≡ 0)
+-- the option of a command may have this number
+abbrev pub InRange : CommandKind → Setting → ℕ → Type 0
+InRange kind s n = ((rule_of kind s).least ≤ n) × (n ≤ (rule_of kind s).most) × (n % (rule_of kind s).unit ≡ 0)
 
--- a value gives this number to an option
-abbrev pub Gives : Setting → List ℕ → ℕ → Type 0
-Gives s value n = IsValue value × InRange s n × (n ≡ digits_value 10 value)
+-- a value gives this number to an option of a command
+abbrev pub Gives : CommandKind → Setting → List ℕ → ℕ → Type 0
+Gives kind s value n = IsValue value × InRange kind s n × (n ≡ digits_value 10 value)
 
 -- the number of an option: what its one value gives, or its default where there is none; it has no two values
-abbrev pub Sets : Setting → List (List ℕ) → ℕ → Type 0
-Sets s [] n = n ≡ (rule_of s).default
-Sets s (value ∷ []) n = Gives s value n
-Sets s values n = ⊥
+abbrev pub Sets : CommandKind → Setting → List (List ℕ) → ℕ → Type 0
+Sets kind s [] n = n ≡ (rule_of kind s).default
+Sets kind s (value ∷ []) n = Gives kind s value n
+Sets kind s values n = ⊥
 
 -- a plain word tells this number of groups: it is a value like those of options, and so no word that begins with `--`
 abbrev pub TellsGroups : List ℕ → ℕ → Type 0
@@ -137,5 +145,5 @@ pub record IsCommand (words : List (List ℕ)) (command : Command) : Type 0 wher
   pub items : List Item
   pub written : words ≡ kind_word command.kind ∷ flat_map spelled items
   pub had : AllHad command.kind items
-  pub sets : (s : Setting) → Sets s (values_of s items) (number_of command s)
+  pub sets : (s : Setting) → Sets command.kind s (values_of s items) (number_of command s)
   pub groups : SetsGroups (wants_groups command.kind) (plain_of items) command.groups

@@ -10,7 +10,7 @@ pub struct Command {
     pub p: u32,
     /// The most words in use at once: a multiple of 16 from 16 to 67,108,864; the default is 1,048,576.
     pub arena: u32,
-    /// The most actions of a run: 1 to 4,000,000; the default is 4,000,000.
+    /// The most actions of a run: 1 to 4,000,000; the default is 4,000,000. For a trail both are 400,000.
     pub steps: u32,
     /// The most deques at once: 1 to 4,096; the default is 4,096.
     pub deques: u32,

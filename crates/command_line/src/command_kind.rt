@@ -1,8 +1,9 @@
 ghost use Rattle.std.specs.Prelude.{◌≡◌, MatchOption};
-ghost use Rattle.command_line.specs.Words.{kind_word, has, wants_groups};
+ghost use Rattle.command_line.specs.Words.{kind_word, has, most_steps, wants_groups};
 ghost use Rattle.command_line.specs.declared.command_kind.CommandKind.{CommandKind};
 
 use crate::setting::Setting;
+use language_limits::{MOST_ACTIONS, MOST_TRAIL_ACTIONS};
 
 /// What a command does.
 #[derive(Clone, Copy, PartialEq, Eq, Debug)]
@@ -19,6 +20,10 @@ pub enum CommandKind {
     Loops,
     /// `expand`: parallel loops are written out, and the text is written.
     Expand,
+    /// `trail`: a program is run as by `play`, and what the workers did is written, event by event.
+    Trail,
+    /// `verify`: a trail is checked.
+    Verify,
 }
 
 impl CommandKind {
@@ -38,6 +43,10 @@ impl CommandKind {
             Some(CommandKind::Loops)
         } else if word == b"expand".as_slice() {
             Some(CommandKind::Expand)
+        } else if word == b"trail".as_slice() {
+            Some(CommandKind::Trail)
+        } else if word == b"verify".as_slice() {
+            Some(CommandKind::Verify)
         } else {
             None
         }
@@ -48,9 +57,19 @@ impl CommandKind {
         ensures { result ≡ has self setting }
     {
         match self {
-            CommandKind::Play | CommandKind::Make | CommandKind::Loops => true,
+            CommandKind::Play | CommandKind::Make | CommandKind::Loops | CommandKind::Trail => true,
             CommandKind::Peak => matches!(setting, Setting::Quota | Setting::Steps),
-            CommandKind::Check | CommandKind::Expand => false,
+            CommandKind::Check | CommandKind::Expand | CommandKind::Verify => false,
+        }
+    }
+
+    /// The most actions that the command allows a run.
+    pub fn most_steps(self) -> u32
+        ensures { result ≡ most_steps self }
+    {
+        match self {
+            CommandKind::Trail => MOST_TRAIL_ACTIONS,
+            _ => MOST_ACTIONS,
         }
     }
 

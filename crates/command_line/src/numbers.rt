@@ -65,19 +65,19 @@ impl Numbers {
         more
     }
 
-    /// The number of an option: what was given to it, or its default.
-    pub fn number(self, setting: Setting) -> u64
-        ensures { result ≡ or_default setting (slot self setting) }
+    /// The number of an option in a command: what was given to it, or its default.
+    pub fn number(self, kind: CommandKind, setting: Setting) -> u64
+        ensures { result ≡ or_default kind setting (slot self setting) }
     {
-        self.given(setting).unwrap_or(setting.rule().default)
+        self.given(setting).unwrap_or(setting.rule(kind).default)
     }
 
     /// The same number where it has 32 bits.
-    pub fn short_number(self, setting: Setting) -> u32
-        requires { or_default setting (slot self setting) < 2 ^ 32 }
-        ensures { result ≡ or_default setting (slot self setting) }
+    pub fn short_number(self, kind: CommandKind, setting: Setting) -> u32
+        requires { or_default kind setting (slot self setting) < 2 ^ 32 }
+        ensures { result ≡ or_default kind setting (slot self setting) }
     {
-        self.number(setting) as u32
+        self.number(kind, setting) as u32
     }
 
     /// The same with the value of one option more. None where the command has no such option, where it was given
@@ -91,7 +91,7 @@ impl Numbers {
         if self.given(setting).is_some() {
             return None;
         }
-        let number = number_for(setting, value)?;
+        let number = number_for(kind, setting, value)?;
         Some(self.with(setting, number))
     }
 

@@ -51,12 +51,12 @@ pub fn read_words(words: &[String]) -> Option<Command>
     let groups = numbers.groups_of(kind)?;
     Some(Command {
         kind,
-        k: numbers.short_number(Setting::Quota),
-        p: numbers.short_number(Setting::Workers),
-        arena: numbers.short_number(Setting::Arena),
-        steps: numbers.short_number(Setting::Steps),
-        deques: numbers.short_number(Setting::Deques),
-        seed: numbers.number(Setting::Seed),
+        k: numbers.short_number(kind, Setting::Quota),
+        p: numbers.short_number(kind, Setting::Workers),
+        arena: numbers.short_number(kind, Setting::Arena),
+        steps: numbers.short_number(kind, Setting::Steps),
+        deques: numbers.short_number(kind, Setting::Deques),
+        seed: numbers.number(kind, Setting::Seed),
         groups,
     })
 }

@@ -2,9 +2,10 @@ ghost use Rattle.std.specs.Prelude.{◌≡◌, MatchOption};
 ghost use Rattle.command_line.specs.Words.{name_of, rule_of};
 ghost use Rattle.command_line.specs.declared.setting.Setting.{Setting};
 
+use crate::command_kind::CommandKind;
 use crate::rule::{GREATEST_SEED, Rule};
 use language_limits::{
-    GREATEST_QUOTA, LEAST_QUOTA, MOST_ACTIONS, MOST_DEQUES, MOST_WORDS, MOST_WORKERS,
+    GREATEST_QUOTA, LEAST_QUOTA, MOST_DEQUES, MOST_WORDS, MOST_WORKERS,
 };
 
 /// An option of a command.
@@ -46,15 +47,15 @@ impl Setting {
         }
     }
 
-    /// The numbers that the option may have. The words of a quota and of an arena are whole pieces.
-    pub fn rule(self) -> Rule
-        ensures { result ≡ rule_of self }
+    /// The numbers that the option may have in a command. The words of a quota and of an arena are whole pieces.
+    pub fn rule(self, kind: CommandKind) -> Rule
+        ensures { result ≡ rule_of kind self }
     {
         match self {
             Setting::Quota => Rule::short(LEAST_QUOTA, GREATEST_QUOTA, LEAST_QUOTA, 4_096),
             Setting::Workers => Rule::short(1, MOST_WORKERS, 1, 4),
             Setting::Arena => Rule::short(LEAST_QUOTA, MOST_WORDS, LEAST_QUOTA, 1_048_576),
-            Setting::Steps => Rule::short(1, MOST_ACTIONS, 1, MOST_ACTIONS),
+            Setting::Steps => Rule::short(1, kind.most_steps(), 1, kind.most_steps()),
             Setting::Deques => Rule::short(1, MOST_DEQUES, 1, MOST_DEQUES),
             Setting::Seed => Rule {
                 least: 0,

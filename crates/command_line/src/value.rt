@@ -2,6 +2,7 @@ ghost use Rattle.std.specs.Prelude.{◌≡◌, ℕ, ◌<◌, ◌^◌, MatchOptio
 ghost use Rattle.std.specs.Str.Parse.{digits_value};
 ghost use Rattle.command_line.specs.Words.{IsValue, InRange, Gives, TellsGroups};
 
+use crate::command_kind::CommandKind;
 use crate::setting::Setting;
 use made_source::MOST_GROUPS;
 
@@ -21,11 +22,11 @@ fn number(value: &[u8]) -> Option<u64>
     text.parse::<u64>().ok()
 }
 
-/// The number that a value gives to an option, where the option may have it.
-pub fn number_for(setting: Setting, value: &[u8]) -> Option<u64>
-    ensures { MatchOption result ((n : ℕ) → ¬ Gives setting value.now n) (λ n. Gives setting value.now n) }
+/// The number that a value gives to an option of a command, where the option may have it.
+pub fn number_for(kind: CommandKind, setting: Setting, value: &[u8]) -> Option<u64>
+    ensures { MatchOption result ((n : ℕ) → ¬ Gives kind setting value.now n) (λ n. Gives kind setting value.now n) }
 {
-    let rule = setting.rule();
+    let rule = setting.rule(kind);
     let number = number(value)?;
     if number < rule.least || number > rule.most || number % rule.unit != 0 {
         return None;
