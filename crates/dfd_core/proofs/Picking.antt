@@ -2,20 +2,22 @@
 use Rattle.std.proofs.Common.{◌≡◌, ◌↔◌, ℕ, ◌+◌, ◌≤◌, ◌<◌, List, sym, subst, arith, Bor}
 use Rattle.std.proofs.Math.Logic.{∥∥₁_elim}
 use Rattle.std.proofs.Math.Nat.{mod-lt}
-use Rattle.std.specs.Prelude.{Option, None, Some, Bool, true, false, is_some, not, IsTrue}
+use Rattle.std.specs.Prelude.{Option, None, Some, Bool, true, false, is_some, not, IsTrue, MatchOption}
 use Rattle.std.specs.Option.{option_copied}
 use Rattle.std.proofs.lemmas.Bool.{false≢true, true≢false}
 use Rattle.depth_first_run.specs.States.{Setting}
 use Rattle.deque_machine.specs.Moments.{Moment}
 use Rattle.deque_machine.specs.Play as play
-use Rattle.deque_machine.specs.Play.{IsFirst, words_drawn}
+use Rattle.deque_machine.specs.Play.{IsFirst, IsReady, reach, words_drawn}
 use Rattle.deque_machine.specs.Runs.{Pair}
 use Rattle.deque_machine.proofs.Playing.{somebodys_turn}
 use Rattle.depth_first_run.proofs.Built.{whole_is_depth_first}
 use Rattle.node_table.specs.Table.{Table}
 use Rattle.period_table.specs.declared.seat.Seat.{Seat}
 use Rattle.period_table.specs.Tables.{seat_at}
-use Rattle.victim_choice.specs.Choices.{SomeReady, CanMove}
+use Rattle.victim_choice.specs.Choices.{IsReadyAt, SomeReady, CanMove, reach_of}
+use Rattle.thread_parts.specs.Shown.{thread_shown}
+use Rattle.step_laws.proofs.Ready.{first_is_shown, some_ready_is_shown}
 use Rattle.core_parts.specs.Held.{Held}
 use Rattle.core_parts.specs.Moments.{IsSound}
 use Rattle.deque_machine.specs.Terms.{Terms, machine_of}
@@ -72,3 +74,11 @@ module _ (t : Table) (k : ℕ) (terms : Terms) (h : Held) (sound : IsSound t k t
   draws_at c run m at worker (Some seat) false is copied =
       let covers = sound.quota in let same = at.setting.quota in
       owner_draws c terms (omega (arith, covers, same)) h run m at.stands worker seat.now (sym copied)
+
+  -- whom a thief robs by what the list tells is whom it robs at the moment
+  pub victim_at : (c : Setting) (run : List Pair) (m : Moment) → IsAtMoment t k terms h end c run m → (word : ℕ) (place : Option ℕ)
+      → MatchOption place (¬ SomeReady terms.workers h.deques) (IsFirst (reach_of terms.workers h.deques) word (IsReadyAt h.deques))
+      → MatchOption place ((p : ℕ) → p < reach (machine_of c terms) m → ¬ IsReady m p) (IsFirst (reach (machine_of c terms) m) word (IsReady m))
+  victim_at c run m at word None none = λ p near ready.
+      none ((some_ready_is_shown (machine_of c terms) thread_shown h.deques m at.stands.standing.shows.deques).1 (p, near, ready))
+  victim_at c run m at word (Some place) first = first_is_shown (machine_of c terms) thread_shown h.deques m word place at.stands.standing.shows.deques first

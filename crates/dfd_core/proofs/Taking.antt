@@ -1,8 +1,8 @@
 -- What one turn comes to.
 use Rattle.std.proofs.Common.{◌≡◌, ◌↔◌, ℕ, List, inl, inr, refl, sym, ap, subst, arith}
 use Rattle.std.proofs.Math.Logic.{∥∥₁_elim, ∥∥₁_map}
-use Rattle.std.specs.Prelude.{Option, None, Some, Bool, true, false, Result, Ok, Err, cond, pos}
-use Rattle.std.proofs.lemmas.Bool.{eq-eqb}
+use Rattle.std.specs.Prelude.{Option, None, Some, Bool, true, false, Result, Ok, Err, cond, pos, is_some, unwrap_or}
+use Rattle.std.proofs.lemmas.Bool.{eq-eqb, false≢true}
 use Rattle.std.proofs.lemmas.Option.{none-some, same_Some}
 use Rattle.dummy_tree.specs.QuotaWords.{quota_words}
 use Rattle.depth_first_run.specs.States.{Setting}
@@ -31,6 +31,11 @@ use Rattle.dfd_core.specs.Plays.{TurnGoesOn, TurnStops, TurnsTo}
 use Rattle.dfd_core.proofs.Told.{ok_or_err, same_err}
 use Rattle.dfd_core.proofs.Turns.{nothing_told}
 
+-- the word of a theft is the second that comes
+pub word_drawn : (words : ℕ → ℕ) (word : Option ℕ) → ((w : ℕ) → word ≡ Some w → w ≡ words 1) → is_some word ≡ true → unwrap_or word 0 ≡ words 1
+word_drawn words None second is = absurd (false≢true is)
+word_drawn words (Some w) second is = second w refl
+
 -- what the rules want of an owner does not depend on the word
 wanted_of_owner : (s : machine.Setting) (m : Moment) (worker word other : ℕ) (event : Event) → words_drawn m worker ≡ 1 → Wants s m worker word event
     → Wants s m worker other event
@@ -41,7 +46,7 @@ wanted_of_owner s m worker word other event one (a_wait o place child at none) =
 wanted_of_owner s m worker word other event one (an_action o place next has fits) = an_action o place next has fits
 
 -- a step that met a stop answers that it is over
-stop_told : (stepped : Stepped) (stop : Stop) → IsTold stepped (Err stop) → stepped ≡ Over (Stopped stop)
+pub stop_told : (stepped : Stepped) (stop : Stop) → IsTold stepped (Err stop) → stepped ≡ Over (Stopped stop)
 stop_told (Stole deque period) stop told = absurd (ok_or_err _ _ (sym told))
 stop_told (Acted id) stop told = absurd (ok_or_err _ _ (sym told))
 stop_told (Suspended id) stop told = absurd (ok_or_err _ _ (sym told))
@@ -55,7 +60,7 @@ is_stop (Finished finish) = ⊥
 is_stop (Stopped stop) = Unit {0}
 
 -- an event leaves no stop
-no_stop_kept : (c : Setting) (terms : Terms) (m : Moment) (stop : Stop) → KeepsEnd c terms (Some (Stopped stop)) m → ⊥
+pub no_stop_kept : (c : Setting) (terms : Terms) (m : Moment) (stop : Stop) → KeepsEnd c terms (Some (Stopped stop)) m → ⊥
 unfolding is_stop
 no_stop_kept c terms m stop keeps = elim keeps [
   | inl going ↦ none-some _ (sym going.1)
@@ -94,7 +99,7 @@ module _ (c : Setting) (before after : Core) (same : terms_at after ≡ terms_at
     wants = wanted event (subst (λ x. Wants (machine_of c x) m worker word event) same wants);
   }
 
-  goes : (told : Told)
+  pub goes : (told : Told)
       → GoesOn (code_shown after.code) (quota_words after.k) (terms_at after) (held after.scheduler) after.end c worker word run m told
       → TurnGoesOn c (terms_at before) words (words_of_turn idle) after run m
   goes told g = record {

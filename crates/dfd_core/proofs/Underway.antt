@@ -58,7 +58,7 @@ begins words start none = record {
 }
 
 -- a turn by the coming words is one behind the words that were drawn
-turn_behind : (s : machine.Setting) (words coming : ℕ → ℕ) (drawn : ℕ) → ((i : ℕ) → coming i ≡ words (drawn + i)) → (m : Moment) (pair : Pair)
+pub turn_behind : (s : machine.Setting) (words coming : ℕ → ℕ) (drawn : ℕ) → ((i : ℕ) → coming i ≡ words (drawn + i)) → (m : Moment) (pair : Pair)
     → Turn s coming 0 m pair → Turn s words drawn m pair
 turn_behind s words coming drawn is m pair turn = record {
   not_over = turn.not_over;
@@ -69,7 +69,7 @@ turn_behind s words coming drawn is m pair turn = record {
 module _ (c : Setting) (terms : Terms) (words coming : ℕ → ℕ) (drawn more events : ℕ) (coming_is : (i : ℕ) → coming i ≡ words (drawn + i)) (now after : Core)
     (run : List Pair) (m : Moment) (a : Along c terms words drawn events now run m) where
   -- one turn further
-  further : TurnGoesOn c terms coming more after (run ++ a.later) a.last → Along c terms words (drawn + more) (events + 1) after run m
+  pub further : TurnGoesOn c terms coming more after (run ++ a.later) a.last → Along c terms words (drawn + more) (events + 1) after run m
   further g = record {
     later = a.later ++ g.pair ∷ [];
     last = g.next;
@@ -91,7 +91,7 @@ module _ (c : Setting) (terms : Terms) (words coming : ℕ → ℕ) (drawn more 
 
   module _ (later : ℕ → ℕ) (later_is : IsDrawn coming more later) where
     -- or to a stop
-    stopped_at : (stop : play.Stop) → TurnStops c terms coming more after (run ++ a.later) a.last stop
+    pub stopped_at : (stop : play.Stop) → TurnStops c terms coming more after (run ++ a.later) a.last stop
         → PlaysToStop c terms words later after run m stop
     stopped_at stop s = record {
       later = a.later;
@@ -107,7 +107,7 @@ module _ (c : Setting) (terms : Terms) (words coming : ℕ → ℕ) (drawn more 
     }
 
     -- or to the end
-    ended_at : (same : terms_at after ≡ terms) (finish : Finish) → end_of after ≡ Some (Finished finish) → TurnGoesOn c terms coming more after (run ++ a.later) a.last
+    pub ended_at : (same : terms_at after ≡ terms) (finish : Finish) → end_of after ≡ Some (Finished finish) → TurnGoesOn c terms coming more after (run ++ a.later) a.last
         → PlaysToEnd c terms words later after run m
     ended_at same finish is g =
         let b = further g in
@@ -123,7 +123,7 @@ module _ (c : Setting) (terms : Terms) (words coming : ℕ → ℕ) (drawn more 
         }
 
     -- or to a turn that lacks memory
-    lacks_at : TurnLacks c terms coming more after (run ++ a.later) a.last → PlaysUntil c terms words later after run m
+    pub lacks_at : TurnLacks c terms coming more after (run ++ a.later) a.last → PlaysUntil c terms words later after run m
     lacks_at l = record {
       later = a.later;
       last = a.last;
@@ -152,7 +152,7 @@ plays_to_prop c terms words coming after run m (Stopped (DequesFull deques)) = �
 plays_to_prop c terms words coming after run m (Stopped (StepsSpent limit)) = ∥∥₁_prop
 plays_to_prop c terms words coming after run m (Stopped OutOfMemory) = ∥∥₁_prop
 
-same_setting : (a b c : Core) → SameSetting a b → SameSetting b c → SameSetting a c
+pub same_setting : (a b c : Core) → SameSetting a b → SameSetting b c → SameSetting a c
 same_setting a b c first second = (second.0 ∙ first.0, second.1 ∙ first.1, second.2 ∙ first.2)
 
 module _ (words coming later : ℕ → ℕ) (start now after : Core) (events : ℕ) (u : IsUnderWay words coming start now events)

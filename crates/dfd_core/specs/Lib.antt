@@ -7,4 +7,5 @@ pub mod GiveUps
 pub mod Cores
 pub mod ListChoices
 pub mod Plays
+pub mod Turns
 pub mod Parts

@@ -22,10 +22,13 @@ mod parts;
 mod player;
 mod run;
 mod run_end;
+mod turn;
 
 pub use choices::{Choices, ListChoices};
+pub use core_parts::Stop;
 pub use laws::cores_are_lawful;
 pub use parts::{CoreEnd, CoreParts};
-pub use player::play;
+pub use player::{most_turns, play};
 pub use run::Core;
 pub use run_end::{OutputFail, RunEnd, Stepped};
+pub use turn::{draw_turn, Turn};

@@ -8,23 +8,20 @@ ghost use Rattle.dfd_core.specs.Plays.{TakesTurn, PlaysTo};
 use crate::choices::Choices;
 use crate::run::Core;
 use crate::run_end::RunEnd;
+use crate::turn::draw_turn;
 
-/// Lets one worker move, in a run that has not ended. A first word picks who, and an idle one draws a second word for its theft.
+/// Lets the worker move whose turn it is, in a run that has not ended.
 fn turn<C: Choices>(core: &mut Core, choices: &mut C)
     requires { end_of core.old ≡ None }
     ensures turn { TakesTurn (C.coming choices.old) (C.coming choices.new) core.old core.new }
     ensures setting { SameSetting core.old core.new }
 {
-    let worker = core.mover(choices.word());
-    if core.is_idle(worker) {
-        core.step(worker, choices.word());
-    } else {
-        core.step(worker, 0);
-    }
+    let turn = draw_turn(core, choices);
+    core.step(turn.worker, turn.word.unwrap_or(0));
 }
 
 /// More turns than a play can have, from whatever moment on.
-fn most_turns(core: &Core) -> u64
+pub fn most_turns(core: &Core) -> u64
     ensures { result ≡ 5 * (terms_at core.now).limits.actions + 2 * workers_of core.now + 1 }
 {
     5 * u64::from(core.limit()) + 2 * u64::from(core.workers()) + 1

@@ -1,4 +1,4 @@
-ghost use Rattle.std.specs.Prelude.{◌≡◌, ◌<◌, ◌≤◌, ◌↔◌, List as AnyList, [], None, Some, Ok, Err, IfOk, IsTrue, length, pos};
+ghost use Rattle.std.specs.Prelude.{◌≡◌, ◌<◌, ◌≤◌, ◌↔◌, ℕ, List as AnyList, [], None, Some, Ok, Err, IfOk, IsTrue, MatchOption, length, pos};
 ghost use Rattle.std.specs.Option.{option_copied, option_map};
 ghost use Rattle.bounded_list.specs.BoundedList.{entries};
 ghost use Rattle.dag_order.specs.declared.finish.Finish.{Finish as AnyFinish};
@@ -22,6 +22,7 @@ ghost use Rattle.dfd_core.specs.GiveUps.{end_behind_give_up};
 ghost use Rattle.dfd_core.specs.Marks.{ahead_in, open_ahead};
 ghost use Rattle.dfd_core.specs.Running.{IsSomewhere};
 ghost use Rattle.dfd_core.specs.Steps.{IsTold};
+ghost use Rattle.dfd_core.specs.Turns.{IsVictim};
 
 use crate::begun::scheduler_of;
 use crate::ends::{end_behind, end_without_memory};
@@ -41,7 +42,7 @@ use quota_period::Period;
 use space_ledger::{Books, Moves};
 use std::alloc::{AllocError, Global};
 use thread_frames::Thread;
-use victim_choice::{first_mover, some_ready};
+use victim_choice::{first_mover, first_ready, some_ready};
 
 /// A run of a program by some workers, one event at a time.
 #[derive(Drop)]
@@ -233,6 +234,16 @@ impl Core {
             Some(worker) => worker,
             None => unreachable!(),
         }
+    }
+
+    /// The place, from 0 at the left, of the deque that an idle worker robs, picked by a word; None exactly where there is none in reach that
+    /// has a thread to steal.
+    pub fn victim(&self, word: u64) -> Option<u32>
+        ensures { (c : Setting) (run : AnyList Pair) (m : Moment) → IsAt c self.now run m
+            → MatchOption result ((place : ℕ) → place < play.reach (machine_of c (terms_at self.now)) m → ¬ play.IsReady m place)
+            (IsVictim c self.now m word) }
+    {
+        first_ready(&self.scheduler.list, self.workers(), word)
     }
 
     /// Whether a worker is idle: then its turn draws a second word.

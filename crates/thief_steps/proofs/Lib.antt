@@ -2,5 +2,4 @@ pub mod Robbing
 pub mod Victims
 pub mod Wanting
 pub mod Stepping
-pub mod Turns
 pub mod Filled

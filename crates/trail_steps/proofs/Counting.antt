@@ -91,7 +91,7 @@ at_most_one l (does place) = elim (cases_Bool (is_move (action_at l place))) [
 module _ (s : Setting) (some : 0 < s.quota) (list : IsDepthFirst s.quota s.list) (run : List Pair) (m : Moment) (reaches : Reaches s opening run m) (worker : ℕ) (event : Event) (next : Moment)
     (may : May s m worker event next) where
   -- the high-water mark
-  high_more : high_water_mark s.list (run ++ pair_of worker event ∷ []) ≡ int_max (high_water_mark s.list run) (live_at s.list next)
+  pub high_more : high_water_mark s.list (run ++ pair_of worker event ∷ []) ≡ int_max (high_water_mark s.list run) (live_at s.list next)
   high_more =
       let is = moves_are_live s some list (run ++ pair_of worker event ∷ []) next (reaches_more s run (pair_of worker event) opening m next reaches may) in
       let more = moves_more s.list run (pair_of worker event) in

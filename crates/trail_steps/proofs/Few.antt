@@ -48,7 +48,7 @@ one_action s m worker event after may =
     let a = total_ones (booked after.books) in let b = total_ones (booked m.books) in let c = total_ones (place_of event) in let one = one_place event in
     omega (arith, sum, a, b, c, one)
 
-few_from : (s : Setting) (run : List Pair) (first last : Moment) → Reaches s first run last
+pub few_from : (s : Setting) (run : List Pair) (first last : Moment) → Reaches s first run last
     → (length last.books ≤ length first.books + length run) × (length (booked last.books) ≤ length (booked first.books) + length run)
 few_from s [] first last reaches =
     let a : length first.books ≡ length last.books = ap (λ t. length t.books) reaches in
@@ -58,7 +58,7 @@ few_from s (pair ∷ run) first last reaches =
     let a = one_period s first pair.worker pair.event reaches.0 reaches.1 in let b = one_action s first pair.worker pair.event reaches.0 reaches.1 in
     let x = rest.0 in let y = rest.1 in (omega (arith, a, x), omega (arith, b, y))
 
-few_marks : (bs : List Book) → periods_marked bs ≤ length bs
+pub few_marks : (bs : List Book) → periods_marked bs ≤ length bs
 few_marks [] = omega arith
 few_marks (b ∷ bs) = let rest = few_marks bs in by_mark b.ahead rest
   where

@@ -1,0 +1,28 @@
+use Rattle.std.proofs.Common.{◌≡◌, ℕ, ◌+◌, ap, subst, ◌∙◌, arith}
+use Rattle.deque_machine.specs.Moments.{Moment}
+use Rattle.deque_machine.specs.Play.{IsFirst, CanMove, words_drawn}
+use Rattle.deque_machine.specs.Terms.{machine_of}
+use Rattle.dfd_core.specs.Cores.{terms_at, workers_of, words_of_turn}
+use Rattle.dfd_core.proofs.turn.draw_turn.Goals as goal
+
+pub returns-then-is_idle : goal.returns-then-is_idle
+returns-then-is_idle g c = record {
+  below = c.mover-worker.ensures.below;
+  first = λ s run m at.
+      subst (λ (w : ℕ). IsFirst (workers_of c.args.core.now) w (CanMove (machine_of s (terms_at c.args.core.now)) m) c.mover-worker.result) c.word.ensures.value
+      (c.mover-worker.ensures.first s run m at);
+  word = λ w is. c.hole;
+  draws = λ s run m at. subst (λ b. words_drawn m c.mover-worker.result ≡ words_of_turn b) c.if-is_idle.true (c.is_idle.ensures s run m at);
+  later_is = λ i. c.word-then-is_idle.ensures.later i ∙ c.word.ensures.later (i + 1) ∙ ap (g.C.Choices.coming c.args.choices.now) (omega arith);
+}
+
+pub returns : goal.returns
+returns g c = record {
+  below = c.mover-worker.ensures.below;
+  first = λ s run m at.
+      subst (λ (w : ℕ). IsFirst (workers_of c.args.core.now) w (CanMove (machine_of s (terms_at c.args.core.now)) m) c.mover-worker.result) c.word.ensures.value
+      (c.mover-worker.ensures.first s run m at);
+  word = λ w is. c.hole;
+  draws = λ s run m at. subst (λ b. words_drawn m c.mover-worker.result ≡ words_of_turn b) c.if-is_idle.false (c.is_idle.ensures s run m at);
+  later_is = λ i. c.word.ensures.later i ∙ ap (g.C.Choices.coming c.args.choices.now) (omega arith);
+}

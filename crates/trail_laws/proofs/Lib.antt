@@ -1,0 +1,4 @@
+pub mod Counts
+pub mod Fits
+pub mod Lengths
+pub mod Accepted
