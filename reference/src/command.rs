@@ -5,6 +5,7 @@ use crate::choices::Pcg;
 use crate::depth_first::{depth_first, PeakReport};
 use crate::good_trail::{verdict, Setting, Verdict};
 use crate::in_threads;
+use crate::kept_books::play_with_books;
 use crate::loops::expand;
 use crate::machine::{play, PlayReport, Rules, Stop};
 use crate::made::made_source;
@@ -162,6 +163,7 @@ fn run(command: &Command, code: &Code) -> Answer {
             stolen.map_or_else(|stop| stop_answer(stop, rules), steal_answer)
         }
         "run" => play_answer(in_threads::run(code, rules, seed), rules),
+        "play-books" => play_answer(play_with_books(code, rules, &mut choices), rules),
         "trace" | "bound" => {
             let mut events = String::new();
             let run = if command.name == "trace" { trace } else { bound };

@@ -14,6 +14,7 @@ mod edits;
 mod evaluate;
 mod good_trail;
 mod in_threads;
+mod kept_books;
 mod looped;
 mod loops;
 mod machine;

@@ -38,7 +38,7 @@ const STEPS_OF_TRAIL: Rule = rule("steps", 1, 400_000, 1, 400_000);
 /// The options of the commands that run the machine.
 const OF_MACHINE: &[&str] = &["k", "p", "arena", "steps", "deques", "seed"];
 
-const COMMANDS: [(&str, &[&str]); 15] = [
+const COMMANDS: [(&str, &[&str]); 16] = [
     ("check", &[]),
     ("peak", &["k", "steps"]),
     ("play", OF_MACHINE),
@@ -50,6 +50,7 @@ const COMMANDS: [(&str, &[&str]); 15] = [
     ("verify", &[]),
     ("replay", &[]),
     ("replay-bound", &[]),
+    ("play-books", OF_MACHINE),
     ("trace", OF_MACHINE),
     ("bound", OF_MACHINE),
     ("span", &["k", "steps"]),
