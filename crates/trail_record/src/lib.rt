@@ -14,6 +14,3 @@ mod recorder;
 pub use laws::recorded_plays_are_good;
 pub use recorded::Recorded;
 pub use recorder::record_play;
-
-#[cfg(test)]
-mod tests;
