@@ -22,7 +22,6 @@ ghost use Rattle.dfd_core.specs.GiveUps.{end_behind_give_up};
 ghost use Rattle.dfd_core.specs.Marks.{ahead_in, open_ahead};
 ghost use Rattle.dfd_core.specs.Running.{IsSomewhere};
 ghost use Rattle.dfd_core.specs.Steps.{IsTold};
-ghost use Rattle.dfd_core.specs.Turns.{IsVictim};
 
 use crate::begun::scheduler_of;
 use crate::ends::{end_behind, end_without_memory};
@@ -112,6 +111,7 @@ fn open_ahead(table: &PeriodTable) -> u32
 impl Core {
     ghost use Rattle.dfd_core.specs.Cores.{IsAt, Steps, GivesUp, SameSetting, HasFinished};
     ghost use Rattle.dfd_core.specs.Cores.{end_of, terms_at, workers_of, period_of, words_of_turn};
+    ghost use Rattle.dfd_core.specs.Turns.{IsVictim};
 
     /// The run of a program by so many workers, at its start: one deque without an owner holds the root, and all workers are idle.
     /// It may do `limit` actions and have `most` deques.
