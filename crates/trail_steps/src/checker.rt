@@ -122,7 +122,8 @@ impl Checker {
     ///
     /// # Errors
     ///
-    /// `AllocError` if a deque needs memory and there is none, or if 63 bits do not count the words in use.
+    /// `AllocError` if a deque needs memory and there is none, or exactly where 63 bits do not count the words in use after the event
+    /// (`many` of `Tally::act`).
     pub fn follow(&mut self, told: TrailEvent) -> Result<bool, AllocError>
         requires { IsStanding self.old }
         ensures { (s : Setting) (limits : Limits) (run : AnyList Pair) (m : Moment) → StandsFor s limits run m self.old

@@ -1,5 +1,5 @@
-ghost use Rattle.std.specs.Prelude.{◌≡◌, ◌+◌, ◌<◌, ◌^◌, get_or, set, replicate, pos, ◌+ℤ◌, false, true, IfOk, cond};
-ghost use Rattle.std.specs.Int.{int_max};
+ghost use Rattle.std.specs.Prelude.{◌≡◌, ◌↔◌, ◌+◌, ◌<◌, ◌^◌, get_or, set, replicate, pos, ◌+ℤ◌, FitsSigned, false, true, IfOk, IsErr, cond};
+ghost use Rattle.std.specs.Int.{int_max, w64};
 
 use crate::writing::write;
 use std::alloc::{AllocError, Global};
@@ -52,12 +52,13 @@ impl Tally {
     ///
     /// # Errors
     ///
-    /// `AllocError` if the words in use were a number of more than 63 bits, which no memory holds.
+    /// `AllocError` exactly if 63 bits do not count the words in use after it, which no memory holds. It asks for no memory.
     pub(crate) fn act(&mut self, place: u32, change: i64) -> Result<(), AllocError>
         requires { IsFew 4294967294 self.old }
-        ensures { IfOk result (λ _. HasActed place change self.old self.new) }
+        ensures acted { IfOk result (λ _. HasActed place change self.old self.new) }
+        ensures many { IsErr result ↔ ¬ FitsSigned w64 (self.old.live +ℤ change) }
     {
-        let live = self.live.checked_add(change).ok_or(AllocError)?;
+        let live = raised(self.live, change)?;
         write(&mut self.done, place, true);
         self.actions += 1;
         self.live = live;
@@ -74,6 +75,14 @@ impl Tally {
             None => false,
         }
     }
+}
+
+// The words in use after they rise by so many, if 63 bits count them.
+fn raised(live: i64, change: i64) -> Result<i64, AllocError>
+    ensures sum { IfOk result (λ sum. sum ≡ live +ℤ change) }
+    ensures many { IsErr result ↔ ¬ FitsSigned w64 (live +ℤ change) }
+{
+    live.checked_add(change).ok_or(AllocError)
 }
 
 // A number of words, or 0 if it is below.

@@ -13,7 +13,7 @@ returns-in-Some c = λ s limits run m stands is kind.
     wakes_came s limits run m now stands c.args.step is kind c.in-Some.join c.in-Some.ensures.0 c.in-Some.ensures.1
     (record now { deques = c.go_on.new.deques; seats = c.write-in-Some.new.list; waits = c.write.new.list; tally = c.act.new.self })
     (record { actions = refl; partners = refl; quota = refl; workers = refl; arena = refl; steps = refl; most = refl; list_most = c.go_on.ensures.most })
-    (subst (λ w. HasActed c.args.step.place w now.tally c.act.new.self) (to_z-of_z w64 c.args.step.change (search rules)) c.in_ok-act.ensures) (c.go_on.ensures.deques _ c.args.step.place is.hand.under is.hand.holds) c.write-in-Some.ensures c.write.ensures
+    (subst (λ w. HasActed c.args.step.place w now.tally c.act.new.self) (to_z-of_z w64 c.args.step.change (search rules)) c.in_ok-act.ensures.acted) (c.go_on.ensures.deques _ c.args.step.place is.hand.under is.hand.holds) c.write-in-Some.ensures c.write.ensures
 
 pub returns-then-leave : goal.returns-then-leave
 returns-then-leave c = λ s limits run m stands is kind.
@@ -23,7 +23,7 @@ returns-then-leave c = λ s limits run m stands is kind.
       | inl alone ↦ leaves_came s limits run m now stands c.args.step is kind alone.0 c.in_default.ensures
           (record now { deques = c.leave.new.deques; seats = c.write-then-leave.new.list; tally = c.act.new.self })
           (record { actions = refl; partners = refl; quota = refl; workers = refl; arena = refl; steps = refl; most = refl; list_most = c.leave.ensures.most })
-          (subst (λ w. HasActed c.args.step.place w now.tally c.act.new.self) (to_z-of_z w64 c.args.step.change (search rules)) c.in_ok-act.ensures) alone.2 c.write-then-leave.ensures refl
+          (subst (λ w. HasActed c.args.step.place w now.tally c.act.new.self) (to_z-of_z w64 c.args.step.change (search rules)) c.in_ok-act.ensures.acted) alone.2 c.write-then-leave.ensures refl
     ]
 
 pub returns : goal.returns
@@ -34,5 +34,5 @@ returns c = λ s limits run m stands is kind.
       | inr above ↦ above_came s limits run m now stands c.args.step is kind above.0 above.1 above.2
           (record now { deques = c.leave.new.deques; seats = c.write-2.new.list; tally = c.act.new.self })
           (record { actions = refl; partners = refl; quota = refl; workers = refl; arena = refl; steps = refl; most = refl; list_most = c.leave.ensures.most })
-          (subst (λ w. HasActed c.args.step.place w now.tally c.act.new.self) (to_z-of_z w64 c.args.step.change (search rules)) c.in_ok-act.ensures) above.4 c.write-2.ensures refl
+          (subst (λ w. HasActed c.args.step.place w now.tally c.act.new.self) (to_z-of_z w64 c.args.step.change (search rules)) c.in_ok-act.ensures.acted) above.4 c.write-2.ensures refl
     ]

@@ -28,7 +28,7 @@ returns c = λ s limits run m stands is kind.
     let parent : c.in-Some-checked_add.parent ≡ c.in-Some.end + 1 = c.in-Some-checked_add.ensures.1 in
     fork_came s limits run m now stands c.args.step is kind (record now { deques = c.put_child.new.deques; seats = c.write.new.list; tally = c.act.new.self })
     (record { actions = refl; partners = refl; quota = refl; workers = refl; arena = refl; steps = refl; most = refl; list_most = c.in_ok-put_child.ensures.most })
-    (subst (λ w. HasActed c.args.step.place w now.tally c.act.new.self) (to_z-of_z w64 c.args.step.change (search rules)) c.in_ok-act.ensures) c.in-Some.end (sym c.partner.ensures ∙ c.in-Some.is)
+    (subst (λ w. HasActed c.args.step.place w now.tally c.act.new.self) (to_z-of_z w64 c.args.step.change (search rules)) c.in_ok-act.ensures.acted) c.in-Some.end (sym c.partner.ensures ∙ c.in-Some.is)
     (c.in_ok-put_child.ensures.deques (Some c.args.step.worker) c.args.step.place is.hand.under is.hand.holds
     ∙ ap (λ n. with_these is.hand.holds (deque_with c.args.step.seat.deque (Some c.args.step.worker) ((c.args.step.place + 1) ∷ n ∷ is.hand.under) ∷ [])) parent)
     c.write.ensures refl
