@@ -1,7 +1,7 @@
 -- The law of the seats goes on with each event.
 use Rattle.std.proofs.Common.{◌≡◌, ◌≢◌, ℕ, zero, suc, ◌+◌, ◌<◌, ◌≤◌, ◌⊎◌, Bool, true, false, cond, min, List, [], ◌∷◌, ◌++◌, length, inl, inr, refl, sym, ap, subst, ◌∙◌, arith, append-nil, length-set, true≢false}
 use Rattle.std.proofs.lemmas.Bool.{cases_eq, eq-eqb}
-use Rattle.std.specs.Prelude.{Option, None, Some, slice_get, slice_set}
+use Rattle.std.specs.Prelude.{Option, Some, slice_get, slice_set}
 use Rattle.std.proofs.lemmas.Option.{none-some, same_Some}
 use Rattle.deque_list.specs.declared.deque_id.DequeId.{DequeId}
 use Rattle.deque_list.specs.declared.place.Place.{Place}
@@ -17,7 +17,7 @@ use Rattle.period_books.specs.Periods.{Period}
 use Rattle.period_table.proofs.Lists.{set_same, set_other}
 use Rattle.step_laws.proofs.Told.{actions_are_added, others_add_none}
 use Rattle.hall_law.specs.Values.{Hall, LaneShown, Stop, by_rule, no_memory, End, finished, stopped, lane_at}
-use Rattle.hall_law.specs.Steps.{Step, Told, Leads, IsOfItsPeriod, told_to, last_theft, if_same}
+use Rattle.hall_law.specs.Steps.{Step, Told, Leads, told_to, last_theft}
 use Rattle.hall_law.specs.Standing.{Went}
 use Rattle.hall_law.specs.Writing.{place_of}
 use Rattle.hall_law.proofs.Going.{if_same_is, if_same_other}
@@ -37,7 +37,7 @@ done_by s m next worker (does place) may = (actions_are_added s m next worker pl
 done_by s m next worker suspends may = let same = ((others_add_none s m next worker).0 may).booked in omega (arith, same)
 done_by s m next worker gives_up may = let same = ((others_add_none s m next worker).1 may).booked in omega (arith, same)
 
-events_append : (mine more : List Told) → events_told (mine ++ more) ≡ events_told mine ++ events_told more
+pub events_append : (mine more : List Told) → events_told (mine ++ more) ≡ events_told mine ++ events_told more
 events_append [] more = refl
 events_append (told ∷ mine) more = ap (λ t. event_told told ++ t) (events_append mine more) ∙ sym (Rattle.std.proofs.Common.append_assoc (event_told told) (events_told mine) (events_told more))
 
@@ -183,8 +183,9 @@ module _ (s : Setting) (limits : Limits) (h after : Hall) (steps : List Step) (m
 
 kept_on : (s : Setting) (limits : Limits) (h : Hall) (steps : List Step) (m : Moment) (leads : Leads s steps m) (step : Step) (next : Moment) (on : Leads s (step ∷ steps) next) (places : List Place)
     → on.0 ≡ m → h.list.places ≢ [] → (end : End) → MayBeKept s limits steps on.0 on.1 h.list.places end → MayBeKept s limits (step ∷ steps) next on places end
-kept_on s limits h steps m leads step next on places same some finished may = absurd (some may.1)
-kept_on s limits h steps m leads step next on places same some (stopped stop) may = cause_stays s limits steps m leads step next on same stop may
+kept_on s limits h steps m leads step next leads_on places same some finished may = absurd (some may.1)
+kept_on s limits h steps m leads step next leads_on places same some (stopped stop) may =
+    cause_stays s limits steps m leads step next leads_on same stop may
 
 pub events_keep_crew : (s : Setting) → EventsKeepCrew s
 events_keep_crew s limits h after steps m leads count views v step deque yielded crew its_view placed here its_worker went counting is_event changes some same_crew same_kept of_its_period runs_on kept_yield forced =
@@ -195,6 +196,7 @@ events_keep_crew s limits h after steps m leads count views v step deque yielded
       sized = ap length same_crew ∙ crew.sized
           ∙ sym (same_total s limits h after steps m leads count views v step deque yielded crew its_view placed here its_worker went counting is_event changes same_crew workers_of refl);
       once = λ worker. subst (λ c. times worker c ≤ 1) (sym same_crew) (crew.once worker);
+      numbered = subst (Each (λ worker. worker < s.workers)) (sym same_crew) crew.numbered;
       owners = owners_now s limits h after steps m leads count views v step deque yielded crew its_view placed here its_worker went counting is_event changes same_crew;
       counted = counted_now s limits h after steps m leads count views v step deque yielded crew its_view placed here its_worker went counting is_event changes same_crew;
       above = subst (λ n. count ≤ limits.actions + (n + missing after.list.kept s.workers (length after.list.crew)))

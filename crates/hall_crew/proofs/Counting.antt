@@ -2,9 +2,9 @@
 use Rattle.std.proofs.Common.{◌≡◌, ◌≢◌, ℕ, zero, suc, ◌+◌, ◌<◌, ◌≤◌, Bool, true, false, cond, min, List, [], ◌∷◌, ◌++◌, length, inl, inr, refl, sym, ap, subst, ◌∙◌, arith, length-set}
 use Rattle.std.proofs.lemmas.Bool.{cases_eq}
 use Rattle.std.specs.Prelude.{Option, None, Some, slice_get, slice_set}
-use Rattle.std.proofs.lemmas.Option.{none-some, same_Some}
+use Rattle.std.proofs.lemmas.Option.{same_Some}
 use Rattle.deque_list.specs.declared.deque_id.DequeId.{DequeId}
-use Rattle.lawful_books.specs.Lists.{Each, total}
+use Rattle.lawful_books.specs.Lists.{total}
 use Rattle.lawful_books.specs.Books.{booked}
 use Rattle.lawful_books.proofs.Lists.{each_map}
 use Rattle.deque_machine.specs.Moments.{Moment}
@@ -47,6 +47,7 @@ module _ (s : Setting) (limits : Limits) (h : Hall) (steps : List Step) (m : Mom
     named = λ worker. crew.named worker ∙ sym (same_total (stands_for worker) refl);
     sized = crew.sized ∙ sym (same_total workers_of refl);
     once = crew.once;
+    numbered = crew.numbered;
     owners = crew.owners;
     counted = counted;
     above = above;

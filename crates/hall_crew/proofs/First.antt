@@ -1,22 +1,16 @@
 -- The law of the seats where a hall begins.
-use Rattle.std.proofs.Common.{◌≡◌, ◌≢◌, ℕ, zero, suc, ◌+◌, ◌-◌, ◌<◌, ◌≤◌, Bool, true, false, cond, min, nat_eq, List, [], ◌∷◌, length, inl, inr, refl, sym, ap, subst, ◌∙◌, arith, true≢false}
+use Rattle.std.proofs.Common.{◌≡◌, ℕ, zero, suc, ◌+◌, ◌<◌, ◌≤◌, Bool, true, false, cond, min, nat_eq, [], ◌∷◌, length, inl, inr, refl, sym, ap, subst, ◌∙◌, arith, true≢false}
 use Rattle.std.specs.Prelude.{Option, None, Some, slice_get}
 use Rattle.std.proofs.lemmas.Option.{none-some, same_Some}
-use Rattle.std.proofs.lemmas.Bool.{eq-eqb}
 use Rattle.deque_list.specs.declared.deque_id.DequeId.{DequeId}
 use Rattle.deque_list.specs.declared.place.Place.{Place}
-use Rattle.deque_list.specs.Ids.{deque_id}
-use Rattle.lawful_books.specs.Lists.{Among, Each, total, times, one_if_same}
+use Rattle.lawful_books.specs.Lists.{Among, Each, times, one_if_same}
 use Rattle.lawful_books.proofs.Lists.{one_cases}
 use Rattle.deque_machine.specs.Moments.{opening}
 use Rattle.deque_machine.specs.Machine.{Setting}
-use Rattle.deque_machine.specs.Play.{Limits}
-use Rattle.moment_parts.specs.Parts.{Thread}
-use Rattle.hall_law.specs.Values.{Hall, End, Stop}
 use Rattle.hall_law.specs.Writing.{place_of}
-use Rattle.hall_law.specs.Rows.{IsFirst}
-use Rattle.hall_crew.specs.Views.{View, fresh, joined, in_hall, one_if_its, stands_for, workers_of}
-use Rattle.hall_crew.specs.Crew.{SeatStands, Crew, missing}
+use Rattle.hall_crew.specs.Views.{View, fresh, in_hall, stands_for}
+use Rattle.hall_crew.specs.Crew.{SeatStands}
 use Rattle.hall_crew.specs.Changes.{FirstCrew}
 
 -- a seat with a place, which has not left, is in
@@ -24,14 +18,21 @@ pub is_in : (places : ℕ) → 0 < places → in_hall places false ≡ 1
 is_in zero some = absurd (omega (arith, some))
 is_in (suc places) some = refl
 
+-- so is any seat that has one, as much as a seat with one place
+pub as_with_one : (places : ℕ) (left : Bool) → 0 < places → in_hall places left ≡ in_hall 1 left
+as_with_one zero left some = absurd (omega (arith, some))
+as_with_one (suc places) true some = refl
+as_with_one (suc places) false some = refl
+
 pub none_is : {X : Type 0} (x : Option X) → x ≡ None → (y : X) → x ≡ Some y → ⊥
 none_is x none y is = none-some y (sym none ∙ is)
 
 pub first_crew : (s : Setting) → FirstCrew s
-first_crew s limits h x worker first crew kept some = record {
+first_crew s limits h x worker first crew kept low = record {
   places = omega arith;
   named = λ w. ap (times w) crew ∙ one_of_it w;
   sized = ap length crew ∙ sym (ap (λ n. (n + 0) + 0) (is_in s.workers some));
+  numbered = subst (Each (λ w. w < s.workers)) (sym crew) (low, tt);
   once = λ w. let counted = ap (times w) crew in at_most_one w counted;
   owners = subst (Each (λ place. (v : ℕ) → place.owner ≡ Some v → 0 < times v h.list.crew)) (sym first.places) (λ v is. absurd (none-some v is), tt);
   counted = none_done limits.actions;
@@ -44,6 +45,9 @@ first_crew s limits h x worker first crew kept some = record {
   kept = λ end is. absurd (none_is h.list.kept kept end is);
 }
   where
+    some : 0 < s.workers
+    some = omega (arith, low)
+
     one_of_it : (w : ℕ) → one_if_same w worker + 0 ≡ stands_for w (fresh worker s.workers) + 0
     one_of_it w = ap (λ n. cond (nat_eq w worker) n 0 + 0) (sym (is_in s.workers some)) ∙ more (cond (nat_eq w worker) (in_hall s.workers false) 0)
       where

@@ -1,6 +1,6 @@
 -- Sums over seats, of which one notes something else.
-use Rattle.std.proofs.Common.{◌≡◌, ◌≢◌, ℕ, zero, suc, ◌+◌, ◌<◌, ◌≤◌, List, [], ◌∷◌, ◌++◌, length, refl, sym, ap, subst, ◌∙◌, arith}
-use Rattle.std.specs.Prelude.{Option, None, Some, slice_get, slice_set}
+use Rattle.std.proofs.Common.{◌≡◌, ◌≢◌, ℕ, zero, suc, ◌+◌, ◌<◌, ◌≤◌, ◌⊎◌, List, [], ◌∷◌, ◌++◌, length, inl, inr, refl, sym, ap, subst, arith}
+use Rattle.std.specs.Prelude.{Some, slice_get, slice_set}
 use Rattle.std.proofs.lemmas.Option.{none-some, same_Some}
 use Rattle.lawful_books.specs.Lists.{Each, total}
 
@@ -44,3 +44,27 @@ module _ {X : Type 0} where
   get_inside [] i x is = absurd (none-some x is)
   get_inside (z ∷ xs) zero x is = omega arith
   get_inside (z ∷ xs) (suc i) x is = let rest = get_inside xs i x is in omega (arith, rest)
+
+  -- what holds of each by its place holds of all
+  pub each_by_place : (P : X → Type 0) (xs : List X) → ((i : ℕ) (x : X) → slice_get xs i ≡ Some x → P x) → Each P xs
+  each_by_place P [] f = tt
+  each_by_place P (z ∷ xs) f = (f zero z refl, each_by_place P xs (λ i x is. f (suc i) x is))
+
+  -- one more at the end is the last, and the others are where they were
+  pub get_more : (xs : List X) (y : X) (i : ℕ) (x : X) → slice_get (xs ++ y ∷ []) i ≡ Some x → (slice_get xs i ≡ Some x) ⊎ ((i ≡ length xs) × (y ≡ x))
+  get_more [] y zero x is = inr (refl, same_Some y x is)
+  get_more [] y (suc i) x is = absurd (none-some x is)
+  get_more (z ∷ xs) y zero x is = inl is
+  get_more (z ∷ xs) y (suc i) x is = elim (get_more xs y i x is) [ inl there ↦ inl there | inr last ↦ inr (ap suc last.0, last.1) ]
+
+  pub each_more : (P : X → Type 0) (xs : List X) (y : X) → Each P (xs ++ y ∷ []) → Each P xs
+  each_more P [] y all = tt
+  each_more P (z ∷ xs) y all = (all.0, each_more P xs y all.1)
+
+  pub each_and : (P : X → Type 0) (xs : List X) (y : X) → Each P xs → P y → Each P (xs ++ y ∷ [])
+  each_and P [] y all one = (one, tt)
+  each_and P (z ∷ xs) y all one = (all.0, each_and P xs y all.1 one)
+
+  pub total_more : (f : X → ℕ) (xs : List X) (y : X) → total f (xs ++ y ∷ []) ≡ total f xs + f y
+  total_more f [] y = omega arith
+  total_more f (z ∷ xs) y = let rest = total_more f xs y in omega (arith, rest)

@@ -1,7 +1,7 @@
 -- What keeps the law of the seats.
 use Rattle.std.specs.Prelude.{◌≡◌, ◌≢◌, ℕ, suc, ◌<◌, ◌≤◌, Bool, true, false, Option, None, Some, List, [], ◌∷◌, ◌++◌, length, slice_get, slice_set, refl}
 use Rattle.deque_list.specs.declared.deque_id.DequeId.{DequeId}
-use Rattle.lawful_books.specs.Lists.{Among, total}
+use Rattle.lawful_books.specs.Lists.{Among}
 use Rattle.deque_machine.specs.Moments.{Moment, opening}
 use Rattle.deque_machine.specs.Machine.{Setting, gives_up}
 use Rattle.deque_machine.specs.Play as play
@@ -11,7 +11,7 @@ use Rattle.period_books.specs.Periods.{Period}
 use Rattle.moment_parts.specs.Parts.{Thread}
 use Rattle.hall_law.specs.Values.{Hall, LaneShown, by_rule, lane_at}
 use Rattle.hall_law.specs.Steps.{Step, Told, Leads, IsOfItsPeriod, told_to, last_theft}
-use Rattle.hall_law.specs.Standing.{HallStands, Went}
+use Rattle.hall_law.specs.Standing.{Went}
 use Rattle.hall_law.specs.Writing as writing
 use Rattle.hall_law.specs.Rows.{IsFirst}
 use Rattle.hall_crew.specs.Views.{View, fresh, one_if_counting, event_told}
@@ -20,7 +20,7 @@ use Rattle.hall_crew.specs.Crew.{Crew}
 -- a hall that begins, with one seat that has all places
 abbrev pub FirstCrew : Setting → Type 0
 FirstCrew s = (limits : Limits) (h : Hall) (x : Thread) (worker : ℕ) → IsFirst h x → h.list.crew ≡ worker ∷ [] → h.list.kept ≡ None
-    → 0 < s.workers → Crew s limits h [] opening refl 0 (fresh worker s.workers ∷ [])
+    → worker < s.workers → Crew s limits h [] opening refl 0 (fresh worker s.workers ∷ [])
 
 -- a seat after an event: it was told of it, holds no count any more, and owns this deque or none; it has yielded or not
 abbrev pub after_event : View → Option DequeId → Told → (yielded : Bool) → View

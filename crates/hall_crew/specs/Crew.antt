@@ -1,5 +1,5 @@
 -- What holds of the seats, the count word and the end, where a hall stands at a moment.
-use Rattle.std.specs.Prelude.{◌≡◌, ℕ, ◌+◌, ◌-◌, ◌<◌, ◌≤◌, Bool, true, false, min, Option, None, Some, List, [], ◌∷◌, length, slice_get}
+use Rattle.std.specs.Prelude.{◌≡◌, ℕ, ◌+◌, ◌-◌, ◌<◌, ◌≤◌, true, false, min, Option, None, Some, List, [], length, slice_get}
 use Rattle.deque_list.specs.declared.deque_id.DequeId.{DequeId}
 use Rattle.deque_list.specs.declared.place.Place.{Place}
 use Rattle.lawful_books.specs.Lists.{Among, Each, total, times}
@@ -10,7 +10,7 @@ use Rattle.deque_machine.specs.Play as play
 use Rattle.deque_machine.specs.Play.{Limits}
 use Rattle.period_books.specs.Periods.{Period}
 use Rattle.hall_law.specs.Values.{Hall, LaneShown, Stop, by_rule, no_memory, End, finished, stopped, lane_at}
-use Rattle.hall_law.specs.Steps.{Step, Told, Leads, told_to, last_theft, InTheirPeriods, NoneFree, HasMet}
+use Rattle.hall_law.specs.Steps.{Step, Leads, told_to, last_theft, InTheirPeriods, NoneFree, HasMet}
 use Rattle.hall_law.specs.Writing.{place_of}
 use Rattle.hall_crew.specs.Views.{View, joined, stands_for, workers_of, places_held, one_if_counting, one_if_late, events_told}
 
@@ -61,6 +61,7 @@ pub record Crew (s : Setting) (limits : Limits) (h : Hall) (steps : List Step) (
   pub named : (worker : ℕ) → times worker h.list.crew ≡ total (stands_for worker) views
   pub sized : length h.list.crew ≡ total workers_of views
   pub once : (worker : ℕ) → times worker h.list.crew ≤ 1
+  pub numbered : Each (λ worker. worker < s.workers) h.list.crew
   pub owners : Each (λ place. (worker : ℕ) → place.owner ≡ Some worker → 0 < times worker h.list.crew) h.list.places
   -- the count word, up to the limit, is what is done and the counts that seats hold; and so far it may be above the limit
   pub counted : min count limits.actions ≡ length (booked m.books) + total one_if_counting views

@@ -1,3 +1,4 @@
 pub mod Views
 pub mod Crew
 pub mod Changes
+pub mod Seats

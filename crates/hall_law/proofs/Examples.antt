@@ -28,7 +28,7 @@ abbrev act : List ℕ → ℕ → Deed → ℕ → Action
 act label index deed words = record { label = label; index = index; deed = deed; words = words }
 
 -- a root that forks a child, which does nothing, and joins it, with a quota of 16 words
-abbrev one_fork : Setting
+abbrev pub one_fork : Setting
 one_fork = record {
   list = act [] 0 (forks 1) 16 ∷ act (1 ∷ []) 0 ends 16 ∷ act [] 1 (joins 1) 0 ∷ act [] 2 ends 0 ∷ [];
   quota = 16;
@@ -46,16 +46,16 @@ one_fork_is_depth_first = record {
 
 -- ---- it begins
 
-abbrev root_thread : Thread
+abbrev pub root_thread : Thread
 root_thread = record { id = root; parent = None; label = []; done = 0; func = None; children = []; words = 0 }
 
-abbrev first_list : ListShown
+abbrev pub first_list : ListShown
 first_list = record { places = place_of (deque_id 0) None ∷ []; crew = 0 ∷ 1 ∷ []; waiting = []; results = []; closed = []; begun = 0; kept = None }
 
-abbrev empty_pool : PoolShown
+abbrev pub empty_pool : PoolShown
 empty_pool = record { live = 0; moves = [] }
 
-abbrev first : Hall
+abbrev pub first : Hall
 first = record { list = first_list; pool = empty_pool; lanes = lane_with (root_thread ∷ []) None ∷ no_lane ∷ [] }
 
 pub it_is_in_slots : hall_of (of_list first_list ∷ of_pool empty_pool ∷ of_lane (lane_with (root_thread ∷ []) None) ∷ of_lane no_lane ∷ []) ≡ first
@@ -82,14 +82,14 @@ it_begins = first_stands one_fork (omega arith) one_fork_is_depth_first first ro
 
 -- ---- worker 0, in seat 0, takes the root over
 
-abbrev taken : Hall
+abbrev pub taken : Hall
 taken = record {
   list = record first_list { places = place_of (deque_id 0) (Some 0) ∷ []; begun = 1 };
   pool = empty_pool;
   lanes = lane_with (root_thread ∷ []) (Some (new_period 0 false 1)) ∷ no_lane ∷ [];
 }
 
-abbrev theft : Step
+abbrev pub theft : Step
 theft = record { seat = 0; worker = 0; period = 1; event = steals 0 0; told = stole 0 1 }
 
 pub it_is_taken_over : Went one_fork taken [] opening theft
@@ -101,13 +101,13 @@ its_period_is_open = refl
 
 -- ---- it forks: the child runs next, above its parent
 
-abbrev child_id : ThreadId
+abbrev pub child_id : ThreadId
 child_id = record { period = 1; nth = 0 }
 
-abbrev child_thread : Thread
+abbrev pub child_thread : Thread
 child_thread = record { id = child_id; parent = Some root; label = 1 ∷ []; done = 0; func = None; children = []; words = 16 }
 
-abbrev forked_root : Thread
+abbrev pub forked_root : Thread
 forked_root = record {
   id = root;
   parent = None;
@@ -118,23 +118,23 @@ forked_root = record {
   words = 0;
 }
 
-abbrev first_name : ActionId
+abbrev pub first_name : ActionId
 first_name = record { by = root; index = 0 }
 
-abbrev fork_moved : Moved
+abbrev pub fork_moved : Moved
 fork_moved = record { by = first_name; change = pos 16 }
 
-abbrev pool_now : PoolShown
+abbrev pub pool_now : PoolShown
 pool_now = record { live = 16; moves = fork_moved ∷ [] }
 
-abbrev forked : Hall
+abbrev pub forked : Hall
 forked = record {
   list = taken.list;
   pool = pool_now;
   lanes = lane_with (child_thread ∷ forked_root ∷ []) (Some (noted (new_period 0 false 1) first_name 16 (record { parent = root; ordinal = 1 } ∷ []))) ∷ no_lane ∷ [];
 }
 
-abbrev at_work : IsAtWork taken 0
+abbrev pub at_work : IsAtWork taken 0
 at_work = record {
   left = [];
   id = deque_id 0;
@@ -146,7 +146,7 @@ at_work = record {
   lane_is = refl;
 }
 
-abbrev fork : Step
+abbrev pub fork : Step
 fork = record { seat = 0; worker = 0; period = 1; event = does 0; told = did first_name }
 
 pub it_forks : Went one_fork forked (theft ∷ []) it_is_taken_over.0 fork
@@ -170,7 +170,7 @@ it_forks = lane_actions_stand one_fork (omega arith) one_fork_is_depth_first tak
 
 -- ---- worker 1, in seat 1, steals the root, which is at the bottom, into a new deque to the right
 
-abbrev stolen : Hall
+abbrev pub stolen : Hall
 stolen = record {
   list = record first_list { places = place_of (deque_id 0) (Some 0) ∷ place_of (deque_id 1) (Some 1) ∷ []; begun = 2 };
   pool = pool_now;
@@ -178,7 +178,7 @@ stolen = record {
       ∷ lane_with (forked_root ∷ []) (Some (new_period 1 true 2)) ∷ [];
 }
 
-abbrev second_theft : Step
+abbrev pub second_theft : Step
 second_theft = record { seat = 1; worker = 1; period = 2; event = steals 0 1; told = stole 1 2 }
 
 pub it_is_stolen : Went one_fork stolen (fork ∷ theft ∷ []) it_forks.0 second_theft
