@@ -1,0 +1,13 @@
+pub mod Moments
+pub mod Owning
+pub mod Owners
+pub mod Thieves
+pub mod Roots
+pub mod Claims
+pub mod Stops
+pub mod Books
+pub mod Closing
+pub mod Points
+pub mod Receipts
+pub mod Examples
+pub mod Quiet

@@ -1,0 +1,9 @@
+pub mod State
+pub mod Events
+pub mod Moments
+pub mod Stops
+pub mod Books
+pub mod Closing
+pub mod Points
+pub mod Receipts
+pub mod Quiet
