@@ -47,7 +47,7 @@ limit_below (Some (by_rule (play.arena_full live asked))) n = omega arith
 limit_below (Some (by_rule (play.deques_full deques))) n = omega arith
 limit_below (Some (by_rule (play.steps_spent limit))) n = omega arith
 
-in_below : (places : ℕ) (left : Bool) → (in_hall places left ≤ places) × (in_hall places left ≤ 1)
+pub in_below : (places : ℕ) (left : Bool) → (in_hall places left ≤ places) × (in_hall places left ≤ 1)
 in_below zero left = (omega arith, omega arith)
 in_below (suc places) true = (omega arith, omega arith)
 in_below (suc places) false = (omega arith, omega arith)
@@ -55,7 +55,7 @@ in_below (suc places) false = (omega arith, omega arith)
 -- ---- there are no more workers in than places
 
 module _ (s : Setting) (limits : Limits) (h : Hall) (steps : List Step) (m : Moment) (leads : Leads s steps m) (count : ℕ) (views : List View) (crew : Crew s limits h steps m leads count views) where
-  workers_below : (n : ℕ) (u : View) → slice_get views n ≡ Some u → (places : ℕ) → u.places ≡ places → (enters : Option ℕ) → u.enters ≡ enters → workers_of u ≤ places_held u
+  pub workers_below : (n : ℕ) (u : View) → slice_get views n ≡ Some u → (places : ℕ) → u.places ≡ places → (enters : Option ℕ) → u.enters ≡ enters → workers_of u ≤ places_held u
   workers_below n u is zero none enters entered =
       let its = each_get (λ v. v.places ≡ 0 → v ≡ joined) views n u crew.unplaced is none in
       let nobody : one_if_some u.enters ≡ 0 = ap (λ v. one_if_some (View.enters v)) its in

@@ -29,7 +29,7 @@ use Rattle.hall_state.proofs.Owners.{lane_actions_go_on}
 use Rattle.hall_state.proofs.Thieves.{thefts_beside_go_on, taking_over_goes_on}
 use Rattle.hall_state.proofs.Books.{books_are_told}
 
-abbrev some_limits : Limits
+abbrev pub some_limits : Limits
 some_limits = record { capacity = 64; actions = 10; deques = 4 }
 
 -- ---- it begins with one seat, which has both places
@@ -85,7 +85,7 @@ pub it_counts : Crew one_fork some_limits taken (theft ∷ []) it_takes_over.0 (
 it_counts = counts_keep_crew one_fork some_limits taken (theft ∷ []) it_takes_over.0 (opening, refl, it_takes_over.1, it_takes_over.2) 0 (owning ∷ fresh 1 1 ∷ []) 0 owning (deque_id 0)
     it_takes_over.3.crew refl (omega arith) refl refl refl (omega arith)
 
-abbrev forking : View
+abbrev pub forking : View
 forking = after_event counting (Some (deque_id 0)) (did first_name) false
 
 pub it_forks : GoesOn one_fork some_limits forked (theft ∷ []) it_takes_over.0 (opening, refl, it_takes_over.1, it_takes_over.2) fork 1 (forking ∷ fresh 1 1 ∷ [])
@@ -110,7 +110,7 @@ it_forks = lane_actions_go_on one_fork (omega arith) one_fork_is_depth_first som
 
 -- ---- seat 1 steals the root
 
-abbrev stealing : View
+abbrev pub stealing : View
 stealing = after_event (fresh 1 1) (Some (deque_id 1)) (stole 1 2) false
 
 pub it_steals : GoesOn one_fork some_limits stolen (fork ∷ theft ∷ []) it_forks.0 (it_takes_over.0, (opening, refl, it_takes_over.1, it_takes_over.2), it_forks.1, it_forks.2) second_theft 1

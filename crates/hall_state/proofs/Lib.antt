@@ -9,5 +9,7 @@ pub mod Books
 pub mod Closing
 pub mod Points
 pub mod Receipts
+pub mod Numbers
 pub mod Examples
+pub mod WholeRun
 pub mod Quiet

@@ -7,3 +7,4 @@ pub mod Closing
 pub mod Points
 pub mod Receipts
 pub mod Quiet
+pub mod Numbers

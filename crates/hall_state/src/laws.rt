@@ -3,6 +3,7 @@ ghost use Rattle.deque_machine.specs.Laws.{InEachSetting};
 ghost use Rattle.hall_state.specs.Moments.{AllAreWithin, DequesHoldThreads, EndedHasNoDeques, ActionsAreDone};
 ghost use Rattle.hall_state.specs.Events.{LaneActionsGoOn, DummiesGoOn, EndsAboveGoOn, WakingEndsGoOn, LeavingEndsGoOn, RootEndsGoOn, KeptJoinsGoOn, GivingUpGoesOn, ForcedGiveUpsGoOn, SuspendingGoesOn, TheftsBesideGoOn, TakingOverGoesOn};
 ghost use Rattle.hall_state.specs.Quiet.{QuietPutsGoOn, CountsGoOn, EnteringGoesOn, SplittingGoesOn, KeptStopsGoOn, HaltingGoesOn, LeavingGoesOn, LeavingOwnersGoOn, JoiningGoesOn};
+ghost use Rattle.hall_state.specs.Numbers.{WorkersMayEnter};
 ghost use Rattle.hall_state.specs.Stops.{SpentCountsGoOn, FullArenasGoOn, FullArenasAreAhead, FullListsGoOn};
 ghost use Rattle.hall_state.specs.Books.{BooksAreTold, OneSeatBegan};
 ghost use Rattle.hall_state.specs.Receipts.{VictimsAreFirst, NothingIsReady, SeatsAreTold};
@@ -97,6 +98,11 @@ pub fn quiet_puts_go_on()
 /// So does a count below the limit.
 pub fn counts_go_on()
     ensures { (s : Setting) → CountsGoOn s }
+{}
+
+/// A seat with two places may let a worker enter, and there is a number for it.
+pub fn workers_may_enter()
+    ensures { (s : Setting) → WorkersMayEnter s }
 {}
 
 /// A worker that enters.
