@@ -1,4 +1,5 @@
-use Rattle.std.proofs.Common.{◌≡◌, ℕ, ◌+◌, ap, subst, ◌∙◌, arith}
+use Rattle.std.proofs.Common.{◌≡◌, ℕ, ◌+◌, ap, sym, subst, ◌∙◌, arith}
+use Rattle.std.proofs.lemmas.Option.{none-some, same_Some}
 use Rattle.deque_machine.specs.Moments.{Moment}
 use Rattle.deque_machine.specs.Play.{IsFirst, CanMove, words_drawn}
 use Rattle.deque_machine.specs.Terms.{machine_of}
@@ -11,7 +12,7 @@ returns-then-is_idle g c = record {
   first = λ s run m at.
       subst (λ (w : ℕ). IsFirst (workers_of c.args.core.now) w (CanMove (machine_of s (terms_at c.args.core.now)) m) c.mover-worker.result) c.word.ensures.value
       (c.mover-worker.ensures.first s run m at);
-  word = λ w is. c.hole;
+  word = λ w is. sym (same_Some _ w is) ∙ c.word-then-is_idle.ensures.value ∙ c.word.ensures.later 0;
   draws = λ s run m at. subst (λ b. words_drawn m c.mover-worker.result ≡ words_of_turn b) c.if-is_idle.true (c.is_idle.ensures s run m at);
   later_is = λ i. c.word-then-is_idle.ensures.later i ∙ c.word.ensures.later (i + 1) ∙ ap (g.C.Choices.coming c.args.choices.now) (omega arith);
 }
@@ -22,7 +23,7 @@ returns g c = record {
   first = λ s run m at.
       subst (λ (w : ℕ). IsFirst (workers_of c.args.core.now) w (CanMove (machine_of s (terms_at c.args.core.now)) m) c.mover-worker.result) c.word.ensures.value
       (c.mover-worker.ensures.first s run m at);
-  word = λ w is. c.hole;
+  word = λ w is. absurd (none-some w is);
   draws = λ s run m at. subst (λ b. words_drawn m c.mover-worker.result ≡ words_of_turn b) c.if-is_idle.false (c.is_idle.ensures s run m at);
   later_is = λ i. c.word.ensures.later i ∙ ap (g.C.Choices.coming c.args.choices.now) (omega arith);
 }
