@@ -6,6 +6,7 @@ ghost use Rattle.hall_state.specs.Quiet.{QuietPutsGoOn, CountsGoOn, EnteringGoes
 ghost use Rattle.hall_state.specs.Numbers.{WorkersMayEnter};
 ghost use Rattle.hall_state.specs.Stops.{SpentCountsGoOn, FullArenasGoOn, FullArenasAreAhead, FullListsGoOn};
 ghost use Rattle.hall_state.specs.Books.{BooksAreTold, OneSeatBegan};
+ghost use Rattle.hall_state.specs.Owned.{SeatsHaveTheirWorkers, SeatsOwnTheirDeques, SeatsWroteTheirBooks};
 ghost use Rattle.hall_state.specs.Receipts.{VictimsAreFirst, NothingIsReady, SeatsAreTold};
 ghost use Rattle.hall_state.specs.Points.{ExcusesStay};
 ghost use Rattle.hall_state.specs.Closing.{FirstHallStands, StatesMeetTheLaw, HallsAreBounded, SeatsWithAllAreAlone, ClosedGiveOneRun};
@@ -168,6 +169,21 @@ pub fn books_are_told()
 /// No period was begun by two seats.
 pub fn one_seat_began()
     ensures { (s : Setting) → OneSeatBegan s }
+{}
+
+/// Seats that are in have different workers.
+pub fn seats_have_their_workers()
+    ensures { (s : Setting) → SeatsHaveTheirWorkers s }
+{}
+
+/// The deque of a seat is the one that the moment gives to its worker.
+pub fn seats_own_their_deques()
+    ensures { (s : Setting) → SeatsOwnTheirDeques s }
+{}
+
+/// What a seat was told in a period that it began is the book of this period at the moment.
+pub fn seats_wrote_their_books()
+    ensures { (s : Setting) → SeatsWroteTheirBooks s }
 {}
 
 /// What a seat was told are its own events of the run.
