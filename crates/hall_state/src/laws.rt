@@ -1,7 +1,7 @@
 ghost use Rattle.deque_machine.specs.Machine.{Setting};
 ghost use Rattle.deque_machine.specs.Laws.{InEachSetting};
 ghost use Rattle.hall_state.specs.Moments.{AllAreWithin, DequesHoldThreads, EndedHasNoDeques, ActionsAreDone};
-ghost use Rattle.hall_state.specs.Events.{LaneActionsGoOn, DummiesGoOn, EndsAboveGoOn, WakingEndsGoOn, LeavingEndsGoOn, RootEndsGoOn, KeptJoinsGoOn, GivingUpGoesOn, ForcedGiveUpsGoOn, SuspendingGoesOn, TheftsBesideGoOn, TakingOverGoesOn};
+ghost use Rattle.hall_state.specs.Events.{LaneActionsGoOn, OwnJoinsGoOn, DummiesGoOn, EndsAboveGoOn, WakingEndsGoOn, LeavingEndsGoOn, RootEndsGoOn, KeptJoinsGoOn, GivingUpGoesOn, ForcedGiveUpsGoOn, SuspendingGoesOn, TheftsBesideGoOn, TakingOverGoesOn};
 ghost use Rattle.hall_state.specs.Quiet.{QuietPutsGoOn, CountsGoOn, EnteringGoesOn, SplittingGoesOn, KeptStopsGoOn, HaltingGoesOn, LeavingGoesOn, LeavingOwnersGoOn, JoiningGoesOn};
 ghost use Rattle.hall_state.specs.Numbers.{WorkersMayEnter};
 ghost use Rattle.hall_state.specs.Stops.{SpentCountsGoOn, FullArenasGoOn, FullArenasAreAhead, FullListsGoOn};
@@ -34,6 +34,11 @@ pub fn actions_are_done()
 /// An action that the top thread of a seat does in its own lane leads from a running state to a running state.
 pub fn lane_actions_go_on()
     ensures { InEachSetting LaneActionsGoOn }
+{}
+
+/// A Join of a child whose result was handed over, which releases no words, writes its own lane alone.
+pub fn own_joins_go_on()
+    ensures { InEachSetting OwnJoinsGoOn }
 {}
 
 /// So does a Dummy.
