@@ -113,7 +113,7 @@ while_events inside n (waited thread ∷ mine) = while_events inside n mine
 while_events inside n (gave_up deque ∷ mine) = while_events inside n mine
 while_events inside n (halted end ∷ mine) = while_events inside n mine
 
-theft_stays : (deque n : ℕ) (mine : List Told) → Among (stole deque n) mine → Among (stole deque n) (events_told mine)
+pub theft_stays : (deque n : ℕ) (mine : List Told) → Among (stole deque n) mine → Among (stole deque n) (events_told mine)
 theft_stays deque n [] there = there
 theft_stays deque n (told ∷ mine) there = elim there [
   | inl same ↦ subst (λ t. Among (stole deque n) (event_told t ++ events_told mine)) same (inl refl)
@@ -238,6 +238,27 @@ module _ (s : Setting) where
             | inr now ↦ absurd (continues.no_theft (subst IsTheft now.1 tt))
             | inl second_before ↦ one_seat earlier before leads.1 periods.1 a b deque other n first_before second_before
           ]
+        ]
+      ]
+
+  -- the number of a period that a seat began
+  pub number_within : (steps : List Step) (m : Moment) → Leads s steps m → InTheirPeriods steps → (seat deque n : ℕ) → Among (stole deque n) (told_to seat steps)
+      → (0 < n) × (n ≤ length m.books)
+  number_within [] m leads periods seat deque n there = absurd there
+  number_within (step ∷ earlier) m leads periods seat deque n there =
+      let before : Moment = leads.0 in
+      elim (by_event s before m step.worker step.event step.period step.told (told_to step.seat earlier) leads.2 leads.3 periods.0) [
+        | inl begins ↦ let more = begins.one_more in let next = begins.next_one in elim (among_told (stole deque n) seat step earlier there) [
+          | inl was ↦
+              let rest = number_within earlier before leads.1 periods.1 seat deque n was in let some = rest.0 in let low = rest.1 in
+              (omega (arith, some), omega (arith, low, more))
+          | inr now ↦ let is = ap begun_by (now.1 ∙ begins.told_is) in (omega (arith, is, next), omega (arith, is, next, more))
+        ]
+        | inr continues ↦ let same = continues.no_more in elim (among_told (stole deque n) seat step earlier there) [
+          | inl was ↦
+              let rest = number_within earlier before leads.1 periods.1 seat deque n was in let some = rest.0 in let low = rest.1 in
+              (omega (arith, some), omega (arith, low, same))
+          | inr now ↦ absurd (continues.no_theft (subst IsTheft now.1 tt))
         ]
       ]
 

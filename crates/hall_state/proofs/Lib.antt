@@ -10,6 +10,7 @@ pub mod Closing
 pub mod Points
 pub mod Receipts
 pub mod Numbers
+pub mod Owned
 pub mod Examples
 pub mod WholeRun
 pub mod Quiet

@@ -1,25 +1,58 @@
 -- Each event of a seat at work leads from a running state to a running state.
-use Rattle.std.proofs.Common.{◌<◌, [], ◌∷◌, refl, ap, cond}
+use Rattle.std.proofs.Common.{◌≡◌, ℕ, ◌<◌, false, List, [], ◌∷◌, ◌++◌, refl, sym, ap, ◌∙◌, cond, arith, append-nil, ℤ, pos, ◌+ℤ◌}
+use Rattle.std.proofs.lemmas.Int.{ints}
 use Rattle.std.specs.Prelude.{None}
+use Rattle.dag_order.specs.declared.action_id.ActionId.{ActionId}
+use Rattle.depth_first_list.specs.Actions.{Deed, joins, Action, weight_of}
+use Rattle.depth_first_list.specs.Facts.{action_at, deed_at, words_at, weight_at}
 use Rattle.depth_first_list.specs.Runs.{IsDepthFirst}
 use Rattle.deque_machine.specs.Machine.{Setting, does, suspends, gives_up}
+use Rattle.deque_machine.specs.Runs.{moves_words}
+use Rattle.space_ledger.specs.declared.moved.Moved.{Moved}
 use Rattle.period_table.specs.Tables.{noted, shut}
+use Rattle.step_laws.specs.Moves.{noted_if}
 use Rattle.step_laws.proofs.Told.{give_up_is_forced}
-use Rattle.hall_law.specs.Values.{no_lane, parts_of}
+use Rattle.hall_law.specs.Values.{PoolShown, no_lane, parts_of}
 use Rattle.hall_law.specs.Steps.{did, waited, gave_up}
-use Rattle.hall_law.specs.Writing.{lane_with, list_unowned, list_without}
+use Rattle.hall_law.specs.Writing.{lane_with, list_unowned, list_without, PoolTakes, joins_handed}
 use Rattle.hall_law.proofs.Own.{works}
 use Rattle.hall_law.proofs.LaneRows.{lane_actions_stand}
 use Rattle.hall_law.proofs.ListRows.{dummies_stand, giving_up_stands, suspending_stands, leaving_ends_stand}
 use Rattle.hall_law.proofs.HandedRows.{ends_above_stand, waking_ends_stand, kept_joins_stand}
-use Rattle.hall_state.specs.Events.{LaneActionsGoOn, DummiesGoOn, EndsAboveGoOn, WakingEndsGoOn, LeavingEndsGoOn, KeptJoinsGoOn, GivingUpGoesOn, ForcedGiveUpsGoOn, SuspendingGoesOn}
+use Rattle.hall_state.specs.Events.{LaneActionsGoOn, OwnJoinsGoOn, DummiesGoOn, EndsAboveGoOn, WakingEndsGoOn, LeavingEndsGoOn, KeptJoinsGoOn, GivingUpGoesOn, ForcedGiveUpsGoOn, SuspendingGoesOn}
 use Rattle.hall_state.proofs.Owning.{no_give_up, wait_no_give_up, goes_on_owning, goes_on_idle, wider_unowned, owned_beside, its_period}
+
+-- ---- a Join that releases nothing leaves the pool as it was
+
+none_released : (deed : Deed) (words ordinal : ℕ) → deed ≡ joins ordinal → words ≡ 0 → weight_of deed words ≡ pos 0
+none_released deed words ordinal is none = ap (λ d. weight_of d words) is ∙ ap (λ n. weight_of (joins ordinal) n) none
+
+none_moved : (deed : Deed) (label : List ℕ) (words ordinal : ℕ) → deed ≡ joins ordinal → words ≡ 0 → moves_words deed label words ≡ false
+none_moved deed label words ordinal is none = ap (λ d. moves_words d label words) is ∙ ap (λ n. moves_words (joins ordinal) label n) none
+
+pool_stays : (l : List Action) (place ordinal : ℕ) (name : ActionId) (pool : PoolShown) → deed_at l place ≡ joins ordinal → words_at l place ≡ 0 → PoolTakes l place name pool pool
+pool_stays l place ordinal name pool is none =
+    let move : Moved = record { by = name; change = weight_at l place } in record {
+      live = same (pos pool.live) (weight_at l place) (none_released (deed_at l place) (words_at l place) ordinal is none);
+      move = move;
+      by = refl;
+      change = refl;
+      moves = sym (append-nil pool.moves) ∙ ap (λ b. pool.moves ++ noted_if b move) (sym (none_moved (deed_at l place) (Action.label (action_at l place)) (words_at l place) ordinal is none));
+    }
+  where
+    same : (x y : ℤ) → y ≡ pos 0 → x ≡ x +ℤ y
+    same x y none = omega (arith, ints, none)
 
 module _ (s : Setting) (some : 0 < s.quota) (list : IsDepthFirst s.quota s.list) where
   pub lane_actions_go_on : LaneActionsGoOn s
   lane_actions_go_on limits h steps m leads count views seat v w place name threads words births pool state here counting acts takes =
       goes_on_owning s limits h steps m leads count views seat v state here w h.list pool threads (noted w.period name words births) place name counting refl refl refl refl
       (lane_actions_stand s some list h steps m seat v.worker w place name threads words births pool state.stands acts takes)
+
+  pub own_joins_go_on : OwnJoinsGoOn s
+  own_joins_go_on limits h steps m leads count views seat v w place name new words state here counting join none =
+      lane_actions_go_on limits h steps m leads count views seat v w place name (new ∷ w.under) words [] h.pool state here counting (joins_handed new words join)
+      (pool_stays s.list place join.newest.ordinal name h.pool join.next.does none)
 
   pub dummies_go_on : DummiesGoOn s
   dummies_go_on limits h steps m leads count views seat v w place name new state here counting dummy =

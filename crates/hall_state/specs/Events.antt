@@ -4,6 +4,7 @@ use Rattle.std.specs.List.Sorted.{IsPermutation}
 use Rattle.dag_order.specs.declared.action_id.ActionId.{ActionId}
 use Rattle.dag_order.specs.declared.birth.Birth.{Birth}
 use Rattle.depth_first_list.specs.Actions.{Deed, joins}
+use Rattle.depth_first_list.specs.Facts.{words_at}
 use Rattle.deque_list.specs.declared.deque_id.DequeId.{DequeId}
 use Rattle.deque_list.specs.declared.place.Place.{Place}
 use Rattle.lawful_books.specs.Lists.{Each}
@@ -39,6 +40,15 @@ LaneActionsGoOn s = (limits : Limits) (h : Hall) (steps : List Step) (m : Moment
     (pool : PoolShown) → RunningState s limits h steps m leads count views → IsIn views seat v → v.counting ≡ true
     → ActsInLane s.quota s.list w place name threads words births → PoolTakes s.list place name h.pool pool
     → GoesOn s limits (written w h.list pool (lane_with threads (Some (noted w.period name words births)))) steps m leads
+    (step_of w seat (does place) (did name)) count (slice_set views seat (still_owning v w name))
+
+-- The Join of a child whose result was handed over, which releases no words: its own lane is all that is written.
+abbrev pub OwnJoinsGoOn : Setting → Type 0
+OwnJoinsGoOn s = (limits : Limits) (h : Hall) (steps : List Step) (m : Moment) (leads : Leads s steps m) (count : ℕ) (views : List View)
+    (seat : ℕ) (v : View) (w : IsAtWork h v.worker) (place : ℕ) (name : ActionId) (new : Thread) (words : ℕ)
+    → RunningState s limits h steps m leads count views → IsIn views seat v → v.counting ≡ true
+    → DidJoin s.quota s.list w.top new name words place → words_at s.list place ≡ 0
+    → GoesOn s limits (written w h.list h.pool (lane_with (new ∷ w.under) (Some (noted w.period name words [])))) steps m leads
     (step_of w seat (does place) (did name)) count (slice_set views seat (still_owning v w name))
 
 -- a Dummy, after which its deque has no owner

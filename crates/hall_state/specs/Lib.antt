@@ -8,3 +8,4 @@ pub mod Points
 pub mod Receipts
 pub mod Quiet
 pub mod Numbers
+pub mod Owned

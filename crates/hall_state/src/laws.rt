@@ -1,11 +1,12 @@
 ghost use Rattle.deque_machine.specs.Machine.{Setting};
 ghost use Rattle.deque_machine.specs.Laws.{InEachSetting};
 ghost use Rattle.hall_state.specs.Moments.{AllAreWithin, DequesHoldThreads, EndedHasNoDeques, ActionsAreDone};
-ghost use Rattle.hall_state.specs.Events.{LaneActionsGoOn, DummiesGoOn, EndsAboveGoOn, WakingEndsGoOn, LeavingEndsGoOn, RootEndsGoOn, KeptJoinsGoOn, GivingUpGoesOn, ForcedGiveUpsGoOn, SuspendingGoesOn, TheftsBesideGoOn, TakingOverGoesOn};
+ghost use Rattle.hall_state.specs.Events.{LaneActionsGoOn, OwnJoinsGoOn, DummiesGoOn, EndsAboveGoOn, WakingEndsGoOn, LeavingEndsGoOn, RootEndsGoOn, KeptJoinsGoOn, GivingUpGoesOn, ForcedGiveUpsGoOn, SuspendingGoesOn, TheftsBesideGoOn, TakingOverGoesOn};
 ghost use Rattle.hall_state.specs.Quiet.{QuietPutsGoOn, CountsGoOn, EnteringGoesOn, SplittingGoesOn, KeptStopsGoOn, HaltingGoesOn, LeavingGoesOn, LeavingOwnersGoOn, JoiningGoesOn};
 ghost use Rattle.hall_state.specs.Numbers.{WorkersMayEnter};
 ghost use Rattle.hall_state.specs.Stops.{SpentCountsGoOn, FullArenasGoOn, FullArenasAreAhead, FullListsGoOn};
 ghost use Rattle.hall_state.specs.Books.{BooksAreTold, OneSeatBegan};
+ghost use Rattle.hall_state.specs.Owned.{SeatsHaveTheirWorkers, SeatsOwnTheirDeques, SeatsWroteTheirBooks};
 ghost use Rattle.hall_state.specs.Receipts.{VictimsAreFirst, NothingIsReady, SeatsAreTold};
 ghost use Rattle.hall_state.specs.Points.{ExcusesStay};
 ghost use Rattle.hall_state.specs.Closing.{FirstHallStands, StatesMeetTheLaw, HallsAreBounded, SeatsWithAllAreAlone, ClosedGiveOneRun};
@@ -33,6 +34,11 @@ pub fn actions_are_done()
 /// An action that the top thread of a seat does in its own lane leads from a running state to a running state.
 pub fn lane_actions_go_on()
     ensures { InEachSetting LaneActionsGoOn }
+{}
+
+/// A Join of a child whose result was handed over, which releases no words, writes its own lane alone.
+pub fn own_joins_go_on()
+    ensures { InEachSetting OwnJoinsGoOn }
 {}
 
 /// So does a Dummy.
@@ -168,6 +174,21 @@ pub fn books_are_told()
 /// No period was begun by two seats.
 pub fn one_seat_began()
     ensures { (s : Setting) → OneSeatBegan s }
+{}
+
+/// Seats that are in have different workers.
+pub fn seats_have_their_workers()
+    ensures { (s : Setting) → SeatsHaveTheirWorkers s }
+{}
+
+/// The deque of a seat is the one that the moment gives to its worker.
+pub fn seats_own_their_deques()
+    ensures { (s : Setting) → SeatsOwnTheirDeques s }
+{}
+
+/// What a seat was told in a period that it began is the book of this period at the moment.
+pub fn seats_wrote_their_books()
+    ensures { (s : Setting) → SeatsWroteTheirBooks s }
 {}
 
 /// What a seat was told are its own events of the run.
