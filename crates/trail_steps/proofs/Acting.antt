@@ -1,21 +1,19 @@
 -- The actions of a thread that stays in its deque.
-use Rattle.std.proofs.Common.{◌≡◌, ◌≢◌, ◌⊎◌, ℕ, suc, ◌+◌, ◌≤◌, ◌<◌, List, [], ◌∷◌, ◌++◌, length, map, get_or, set, inl, inr, refl, sym, ap, subst, ◌∙◌, arith, cond, true, nat_le}
+use Rattle.std.proofs.Common.{◌≡◌, ℕ, suc, ◌+◌, ◌≤◌, ◌<◌, List, [], ◌∷◌, ◌++◌, length, map, get_or, set, inl, inr, refl, sym, ap, subst, ◌∙◌, arith, cond, true}
 use Rattle.std.specs.Prelude.{Option, None, Some}
 use Rattle.std.proofs.lemmas.Bool.{cases_lt, le-leb}
 use Rattle.dag_order.specs.LabelOrder.{fork_of}
 use Rattle.dag_order.specs.declared.kind.Kind.TheVariants as kinds
 use Rattle.depth_first_list.specs.Actions.{Deed, forks, joins, allocates, releases, dummy, faults, ends, kind_of}
-use Rattle.depth_first_list.specs.Runs.{IsDepthFirst}
-use Rattle.depth_first_list.specs.Facts.{label_at, deed_at, words_at, weight_at, IsNext}
+use Rattle.depth_first_list.specs.Facts.{label_at, deed_at, words_at}
 use Rattle.depth_first_list.proofs.ThreadLaws.{end_is_last, child_begins_behind_fork}
 use Rattle.lawful_books.specs.Lists.{Each, one_if_same}
-use Rattle.lawful_books.specs.Books.{Book, done_in, charge, charge_at, charged, book_of, one_more}
+use Rattle.lawful_books.specs.Books.{done_in, charge, charge_at, charged, book_of, one_more}
 use Rattle.lawful_books.proofs.Lists.{each_left, each_right, each_join, total_append}
 use Rattle.lawful_books.proofs.Keeping.{done_more}
 use Rattle.deque_list.specs.Deques.{Deque}
-use Rattle.deque_machine.specs.Moments.{Moment, moment_of, deque_of, done_at, threads_in, Rises, owned_by}
+use Rattle.deque_machine.specs.Moments.{Moment, moment_of, deque_of, done_at, threads_in, Rises}
 use Rattle.deque_machine.specs.Machine.{Setting, does, Owns, IsAtTop, only_booked, booked_with, deques_with, books_with, May, forks_child, joins_child, allocates_within, allocates_above, releases_words, meets_fault, runs_dummy}
-use Rattle.deque_machine.specs.LawfulOrder.{IsLawful}
 use Rattle.deque_machine.specs.Play.{Limits}
 use Rattle.deque_machine.specs.Runs.{Pair}
 use Rattle.deque_machine.proofs.Kept.{kept}
@@ -23,7 +21,7 @@ use Rattle.deque_machine.proofs.KeptOrder.{fork_is_no_join, no_dummy_fork, no_du
 use Rattle.deque_machine.proofs.OneAction.{end_is_no_fork}
 use Rattle.depth_first_list.proofs.Own.{one_fork}
 use Rattle.trail_places.specs.Laws.{GoesOnAt, ChildThenParent}
-use Rattle.trail_places.specs.Partners.{IsPartner, of_fork, of_join, of_end, ArePartners}
+use Rattle.trail_places.specs.Partners.{IsPartner, of_fork, of_join, of_end}
 use Rattle.trail_places.proofs.Following.{next_follows, parent_follows}
 use Rattle.trail_meaning.specs.declared.trail_kind.TrailKind.TheVariants.{Act}
 use Rattle.good_trails.specs.Following.{tells_action}
@@ -32,7 +30,6 @@ use Rattle.trail_steps.specs.declared.step.Step.{Step}
 use Rattle.trail_steps.specs.declared.checker.Checker.{Checker}
 use Rattle.trail_steps.specs.Tallies.{HasActed}
 use Rattle.trail_steps.specs.Holds.{deque_with, with_these}
-use Rattle.trail_steps.specs.Hands.{Hand}
 use Rattle.trail_steps.specs.Places.{deque_shown, places_in, IsNextHere, Sits, SeatIs}
 use Rattle.trail_steps.specs.Standing.{StandsFor}
 use Rattle.trail_steps.specs.Steps.{told_of, Came, IsStep, IsAlone}

@@ -1,6 +1,6 @@
 -- What is counted after one event more.
-use Rattle.std.proofs.Common.{◌≡◌, ◌↔◌, ℕ, suc, ◌+◌, ◌≤◌, ◌<◌, Bool, true, false, cond, List, [], ◌∷◌, ◌++◌, ◌⊎◌, length, map, get_or, set, inl, inr, refl, sym, ap, subst, ◌∙◌, arith, append-nil, append_assoc, length-append, ℤ, pos, ◌+ℤ◌, ◌≤ℤ◌}
-use Rattle.std.specs.Prelude.{Option, None, Some, filter}
+use Rattle.std.proofs.Common.{◌≡◌, ℕ, ◌+◌, ◌<◌, Bool, true, false, cond, List, [], ◌∷◌, ◌++◌, ◌⊎◌, length, map, get_or, set, inl, inr, refl, sym, ap, subst, ◌∙◌, arith, append-nil, append_assoc, length-append, ℤ, pos, ◌+ℤ◌, ◌≤ℤ◌}
+use Rattle.std.specs.Prelude.{Option, filter}
 use Rattle.std.specs.Int.{int_max}
 use Rattle.std.proofs.lemmas.Bool.{cases_Bool, cases_eq}
 use Rattle.std.proofs.lemmas.Int.{ints, clamps}
@@ -9,19 +9,17 @@ use Rattle.depth_first_list.specs.Actions.{Action, live_words, peak, weight}
 use Rattle.depth_first_list.specs.Runs.{IsDepthFirst}
 use Rattle.depth_first_list.specs.Facts.{action_at, weight_at}
 use Rattle.lawful_books.specs.Lists.{one_if_same, times}
-use Rattle.lawful_books.specs.Books.{Book, booked, book_of, one_more, one_if_marked, periods_marked}
+use Rattle.lawful_books.specs.Books.{Book, booked, book_of, one_if_marked, periods_marked}
 use Rattle.lawful_books.proofs.Lists.{total_append, one_cases}
 use Rattle.lawful_books.proofs.Parts.{live_append}
 use Rattle.lawful_books.proofs.Whole.{total_ones}
 use Rattle.deque_machine.specs.Moments.{Moment, opening, done_at, live_at}
-use Rattle.deque_machine.specs.Machine.{Setting, Event, steals, does, suspends, gives_up, Owns, new_book, May, steals_beside, takes_over, forks_child, joins_child, allocates_within, allocates_above, releases_words, meets_fault, runs_dummy, ends_above_parent, ends_and_wakes, ends_and_leaves, suspends_top, gives_deque_up}
+use Rattle.deque_machine.specs.Machine.{Setting, Event, steals, does, suspends, gives_up, new_book, May}
 use Rattle.deque_machine.specs.Runs.{Pair, Reaches, place_of, places_of, is_move, moves, high_water_mark}
 use Rattle.deque_machine.proofs.Reached.{event_writes, moves_are_live}
 use Rattle.serial_journal.proofs.Items.{peak_more}
 use Rattle.good_trails.specs.Following.{pair_of}
-use Rattle.good_trails.specs.Verdicts.{AreNumbers}
 use Rattle.good_trails.proofs.Adding.{adds_to_books}
-use Rattle.trail_meaning.specs.declared.trail_numbers.TrailNumbers.{TrailNumbers}
 use Rattle.trail_places.proofs.Lists.{get_set_here, get_set_other, length_set}
 use Rattle.trail_steps.specs.declared.tally.Tally.{Tally}
 use Rattle.trail_steps.specs.Tallies.{HasBegun, HasActed}

@@ -1,6 +1,6 @@
 -- The End of a thread.
-use Rattle.std.proofs.Common.{◌≡◌, ◌≢◌, ◌⊎◌, ℕ, suc, ◌+◌, ◌<◌, List, [], ◌∷◌, ◌++◌, length, map, get_or, set, true, false, true≢false, inl, inr, refl, sym, ap, subst, ◌∙◌, arith}
-use Rattle.std.specs.Prelude.{Option, None, Some}
+use Rattle.std.proofs.Common.{◌≡◌, ◌≢◌, ℕ, ◌<◌, List, [], ◌∷◌, ◌++◌, length, map, get_or, set, true, false, true≢false, inl, inr, refl, sym, ap, subst, ◌∙◌}
+use Rattle.std.specs.Prelude.{None, Some}
 use Rattle.dag_order.specs.LabelOrder.{fork_of}
 use Rattle.dag_order.specs.declared.kind.Kind.TheVariants as kinds
 use Rattle.depth_first_list.specs.Actions.{joins, ends}
@@ -8,10 +8,8 @@ use Rattle.depth_first_list.specs.Facts.{label_at, deed_at, IsNext}
 use Rattle.depth_first_list.proofs.JoinLaws.{joined_once_law}
 use Rattle.lawful_books.specs.Lists.{Among, Each}
 use Rattle.lawful_books.proofs.Lists.{each_at, each_among, each_from, each_join, among_left, among_right}
-use Rattle.deque_list.specs.Deques.{Deque}
-use Rattle.deque_machine.specs.Moments as machine
 use Rattle.deque_machine.specs.Moments.{Waiting, Moment, moment_of, deque_of, done_at, threads_in, waiting_threads}
-use Rattle.deque_machine.specs.Machine.{Setting, does, IsAtTop, deques_with, books_with, booked_with, May, ends_above_parent, ends_and_wakes, ends_and_leaves}
+use Rattle.deque_machine.specs.Machine.{Setting, deques_with, books_with, booked_with, ends_above_parent, ends_and_wakes, ends_and_leaves}
 use Rattle.deque_machine.specs.LawfulOrder.{Stacked, Waits}
 use Rattle.deque_machine.specs.Play.{Limits}
 use Rattle.deque_machine.specs.Runs.{Pair}
@@ -25,8 +23,8 @@ use Rattle.trail_meaning.specs.declared.trail_kind.TrailKind.TheVariants.{Act}
 use Rattle.trail_steps.specs.declared.step.Step.{Step}
 use Rattle.trail_steps.specs.declared.checker.Checker.{Checker}
 use Rattle.trail_steps.specs.Tallies.{HasActed}
-use Rattle.trail_steps.specs.Holds.{Holds, deque_with, with_these}
-use Rattle.trail_steps.specs.Places.{deque_shown, IsNextHere, WaitsAt}
+use Rattle.trail_steps.specs.Holds.{deque_with, with_these}
+use Rattle.trail_steps.specs.Places.{IsNextHere, WaitsAt}
 use Rattle.trail_steps.specs.Standing.{StandsFor}
 use Rattle.trail_steps.specs.Steps.{told_of, Came, IsStep}
 use Rattle.trail_steps.proofs.Lists.{among_cut}

@@ -1,5 +1,5 @@
 -- An event that came leads on if the limits hold after it.
-use Rattle.std.proofs.Common.{◌≡◌, ℕ, ◌+◌, ◌≤◌, List, [], ◌∷◌, ◌++◌, length, map, Bool, true, false, true≢false, ◌↔◌, refl, sym, ap, subst, ◌∙◌, arith, ℤ, pos, negsuc, ◌≤ℤ◌}
+use Rattle.std.proofs.Common.{◌≡◌, ℕ, ◌+◌, ◌≤◌, List, [], ◌∷◌, ◌++◌, length, Bool, true, false, true≢false, ◌↔◌, refl, sym, ap, subst, ◌∙◌, arith, ℤ, pos, negsuc, ◌≤ℤ◌}
 use Rattle.std.proofs.lemmas.Int.{ints}
 use Rattle.std.proofs.lemmas.List.{length-map}
 use Rattle.lawful_books.specs.Books.{booked}
@@ -8,7 +8,7 @@ use Rattle.deque_machine.specs.Machine.{Setting, Event, May}
 use Rattle.deque_machine.specs.Play.{Limits}
 use Rattle.deque_machine.specs.Runs.{Pair}
 use Rattle.trail_meaning.specs.declared.trail_event.TrailEvent.{TrailEvent}
-use Rattle.good_trails.specs.Following.{Tells, IsWithin, Leads, pair_of}
+use Rattle.good_trails.specs.Following.{Tells, IsWithin, pair_of}
 use Rattle.good_trails.specs.Verdicts.{LeadsNowhere}
 use Rattle.good_trails.proofs.Steps.{one_lead}
 use Rattle.trail_steps.specs.declared.checker.Checker.{Checker}

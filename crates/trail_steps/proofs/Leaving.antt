@@ -1,17 +1,14 @@
 -- A worker leaves its deque, or its top thread begins to wait.
-use Rattle.std.proofs.Common.{◌≡◌, ◌≢◌, ℕ, ◌+◌, ◌<◌, Bool, List, [], ◌∷◌, ◌++◌, length, map, get_or, set, true, false, true≢false, inl, inr, refl, sym, ap, subst, ◌∙◌, arith}
-use Rattle.std.specs.Prelude.{Option, None, Some, slice_get}
-use Rattle.bounded_list.specs.BoundedList.{entries}
+use Rattle.std.proofs.Common.{◌≡◌, ℕ, List, [], ◌∷◌, ◌++◌, map, get_or, set, true, refl, sym, ap, subst, ◌∙◌}
+use Rattle.std.specs.Prelude.{None, Some}
 use Rattle.dag_order.specs.LabelOrder.{fork_of}
-use Rattle.dag_order.specs.declared.kind.Kind.TheVariants as kinds
-use Rattle.depth_first_list.specs.Actions.{joins, ends}
-use Rattle.depth_first_list.specs.Facts.{label_at, deed_at, IsNext}
+use Rattle.depth_first_list.specs.Actions.{joins}
+use Rattle.depth_first_list.specs.Facts.{label_at, deed_at}
 use Rattle.lawful_books.specs.Lists.{Each}
-use Rattle.lawful_books.specs.Books.{book_of}
 use Rattle.lawful_books.proofs.Lists.{each_left, each_right, each_join}
 use Rattle.deque_list.specs.Deques.{Deque}
 use Rattle.deque_machine.specs.Moments.{Moment, moment_of, done_at, owned_by}
-use Rattle.deque_machine.specs.Machine.{Setting, Event, suspends, gives_up, Owns, IsAtTop, HasEnded, deques_with, books_closed, May, suspends_top, gives_deque_up}
+use Rattle.deque_machine.specs.Machine.{Setting, Event, suspends, gives_up, Owns, HasEnded, deques_with, books_closed, May, suspends_top, gives_deque_up}
 use Rattle.deque_machine.specs.Play.{Limits}
 use Rattle.deque_machine.specs.Runs.{Pair, place_of}
 use Rattle.trail_meaning.specs.declared.trail_kind.TrailKind.TheVariants.{Suspend, GiveUp}

@@ -1,12 +1,12 @@
 -- What a worker's seat says of its deque and its book, and the other way round.
-use Rattle.std.proofs.Common.{◌≡◌, ◌≢◌, ℕ, ◌+◌, ◌≤◌, ◌<◌, List, [], ◌∷◌, ◌++◌, length, map, get_or, refl, sym, ap, subst, ◌∙◌, arith}
-use Rattle.std.specs.Prelude.{Option, None, Some}
+use Rattle.std.proofs.Common.{◌≡◌, ◌≢◌, ℕ, List, [], ◌∷◌, ◌++◌, map, refl, sym, ap, subst, ◌∙◌, arith}
+use Rattle.std.specs.Prelude.{None, Some}
 use Rattle.std.proofs.lemmas.List.{map-append}
 use Rattle.depth_first_list.specs.Actions.{Action}
 use Rattle.depth_first_list.specs.Facts.{label_at}
 use Rattle.lawful_books.specs.Lists.{Each, one_if_same}
 use Rattle.lawful_books.specs.Books.{Book, charged}
-use Rattle.lawful_books.proofs.Lists.{each_at, each_map, each_join, total_append, one_same, one_other}
+use Rattle.lawful_books.proofs.Lists.{each_at, each_map, each_join, total_append, one_same}
 use Rattle.deque_list.specs.declared.deque_id.DequeId.{DequeId}
 use Rattle.deque_list.specs.Deques.{Deque}
 use Rattle.deque_machine.specs.Moments as machine
@@ -16,10 +16,10 @@ use Rattle.deque_machine.specs.LawfulOrder.{IsLawful}
 use Rattle.deque_machine.proofs.Counts.{no_other_open}
 use Rattle.deque_machine.proofs.Movers.{cut_owned, cut_open}
 use Rattle.trail_steps.specs.declared.seat.Seat.{Seat}
-use Rattle.trail_steps.specs.Holds.{Holds, deque_with}
+use Rattle.trail_steps.specs.Holds.{deque_with}
 use Rattle.trail_steps.specs.Hands.{Hand}
-use Rattle.trail_steps.specs.Places.{deque_shown, HasId, HasUsed, Sits, SeatIs, PlacesAre}
-use Rattle.trail_steps.proofs.Lists.{MapCut, map_cut}
+use Rattle.trail_steps.specs.Places.{deque_shown, HasId, HasUsed, Sits}
+use Rattle.trail_steps.proofs.Lists.{map_cut}
 
 -- the worker's own deque counts
 one_is_mine : (worker id : ℕ) (threads : List (List ℕ)) → one_if_owned worker (deque_of id (Some worker) threads) ≡ 1

@@ -1,15 +1,14 @@
 -- Which places are next after an action.
-use Rattle.std.proofs.Common.{◌≡◌, ◌≢◌, ◌⊎◌, ℕ, suc, ◌+◌, ◌≤◌, ◌<◌, List, [], ◌∷◌, ◌++◌, length, map, inl, inr, refl, sym, ap, subst, ◌∙◌, arith, append_assoc, append-nil}
-use Rattle.std.specs.Prelude.{Option, None, Some}
+use Rattle.std.proofs.Common.{◌≡◌, ℕ, suc, ◌+◌, ◌<◌, List, [], ◌∷◌, ◌++◌, map, inl, inr, refl, sym, ap, subst, ◌∙◌, arith, append_assoc, append-nil}
 use Rattle.std.proofs.lemmas.List.{map-append}
 use Rattle.std.proofs.lemmas.Bool.{cases_lt, cases_eq}
 use Rattle.dag_order.specs.LabelOrder.{fork_of}
 use Rattle.depth_first_list.specs.Actions.{forks, Action}
 use Rattle.depth_first_list.specs.Runs.{IsDepthFirst}
-use Rattle.depth_first_list.specs.Facts.{label_at, index_at, deed_at, IsDone, IsNext, StemsFrom}
+use Rattle.depth_first_list.specs.Facts.{label_at, index_at, deed_at, IsDone, StemsFrom}
 use Rattle.depth_first_list.proofs.ThreadLaws.{index_rises_law, child_begins_behind_fork}
 use Rattle.lawful_books.specs.Lists.{Among, Each, one_if_same}
-use Rattle.lawful_books.proofs.Lists.{each_left, each_right, each_join, each_map, among_left, among_right}
+use Rattle.lawful_books.proofs.Lists.{each_left, each_right, each_map, among_left, among_right}
 use Rattle.deque_list.specs.Deques.{Deque}
 use Rattle.deque_machine.specs.Moments.{threads_in, Rises}
 use Rattle.deque_machine.proofs.Labels.{stands_once}

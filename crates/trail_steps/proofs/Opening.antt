@@ -1,14 +1,13 @@
 -- A checker before the first event stands for the opening moment, and when the root has ended.
-use Rattle.std.proofs.Common.{◌≡◌, ◌↔◌, ℕ, zero, suc, ◌+◌, ◌-◌, ◌<◌, List, [], ◌∷◌, ◌++◌, length, map, get_or, replicate, true, false, true≢false, inl, inr, refl, sym, ap, subst, ◌∙◌, arith, pos}
-use Rattle.std.specs.Prelude.{Option, None, Some}
+use Rattle.std.proofs.Common.{◌≡◌, ◌↔◌, ℕ, zero, suc, ◌-◌, ◌<◌, List, [], ◌∷◌, length, map, get_or, replicate, true, false, true≢false, refl, sym, ap, subst, ◌∙◌, arith, pos}
+use Rattle.std.specs.Prelude.{Option, None}
 use Rattle.std.specs.List.{AllZip}
 use Rattle.bounded_list.specs.BoundedList.{entries}
-use Rattle.depth_first_list.specs.Actions.{Action, ends}
+use Rattle.depth_first_list.specs.Actions.{Action}
 use Rattle.depth_first_list.specs.Runs.{IsDepthFirst}
 use Rattle.depth_first_list.specs.Facts.{label_at, deed_at}
 use Rattle.depth_first_list.proofs.ThreadLaws.{root_ends, fork_stands_before, end_is_last}
 use Rattle.deque_list.specs.Ids.{deque_id}
-use Rattle.deque_list.specs.Deques.{Deque}
 use Rattle.deque_machine.specs.Moments.{Moment, opening, deque_of, done_at}
 use Rattle.deque_machine.specs.Machine.{Setting, HasEnded}
 use Rattle.deque_machine.specs.Play.{Limits}
@@ -19,7 +18,6 @@ use Rattle.trail_places.specs.Partners.{ArePartners}
 use Rattle.serial_journal.specs.Telling.{ShowsAction}
 use Rattle.serial_journal.specs.declared.action.Action.{Action as Shown}
 use Rattle.trail_places.proofs.Lists.{zip_length}
-use Rattle.trail_steps.specs.declared.seat.Seat.{Seat}
 use Rattle.trail_steps.specs.declared.terms.Terms.{Terms}
 use Rattle.trail_steps.specs.declared.checker.Checker.{Checker}
 use Rattle.trail_steps.specs.Tallies.{IsBlank}

@@ -1,5 +1,5 @@
 -- An event of a worker leaves the deques and the books of all others as they are.
-use Rattle.std.proofs.Common.{◌≡◌, ◌≢◌, ℕ, ◌+◌, List, [], ◌∷◌, ◌++◌, length, refl, sym, ap, subst, ◌∙◌, arith, true≢false, Bool, nat_lt, true}
+use Rattle.std.proofs.Common.{◌≡◌, ◌≢◌, ℕ, List, [], ◌∷◌, ◌++◌, length, refl, sym, ap, subst, ◌∙◌, arith, true≢false, Bool, nat_lt, true}
 use Rattle.std.specs.Prelude.{Option, None, Some, is_some}
 use Rattle.lawful_books.specs.Lists.{Each}
 use Rattle.lawful_books.specs.Books.{Book, book_of, one_more}
@@ -8,7 +8,7 @@ use Rattle.deque_machine.specs.Moments.{Deque, Moment, deque_of, owned_by, one_i
 use Rattle.deque_machine.specs.Machine.{Setting, Event, Owns, new_book, May, steals_beside, takes_over, forks_child, joins_child, allocates_within, allocates_above, releases_words, meets_fault, runs_dummy, ends_above_parent, ends_and_wakes, ends_and_leaves, suspends_top, gives_deque_up}
 use Rattle.deque_machine.proofs.Counts.{same_worker}
 use Rattle.trail_steps.specs.declared.seat.Seat.{Seat}
-use Rattle.trail_steps.specs.Places.{HasId, HasUsed, Sits, SeatIs}
+use Rattle.trail_steps.specs.Places.{HasId, HasUsed, SeatIs}
 
 none_is_no_worker : (v : ℕ) → ¬ (None ≡ Some v)
 none_is_no_worker v is = true≢false (sym (ap is_some is))

@@ -1,15 +1,14 @@
 -- Which events may not come.
-use Rattle.std.proofs.Common.{◌≡◌, ◌≢◌, ◌⊎◌, ℕ, suc, ◌+◌, ◌≤◌, ◌<◌, List, [], ◌∷◌, ◌++◌, length, map, get_or, true, false, true≢false, inl, inr, refl, sym, ap, subst, ◌∙◌, arith}
-use Rattle.std.specs.Prelude.{Option, None, Some, slice_get, is_some, ℤ}
+use Rattle.std.proofs.Common.{◌≡◌, ◌⊎◌, ℕ, ◌+◌, ◌≤◌, ◌<◌, List, ◌∷◌, length, map, get_or, true, false, true≢false, inl, inr, refl, sym, ap, subst, ◌∙◌, arith}
+use Rattle.std.specs.Prelude.{Option, None, Some, slice_get, is_some}
 use Rattle.std.specs.Option.{option_map}
 use Rattle.std.proofs.lemmas.Option.{slice_get-map, same_Some}
 use Rattle.std.proofs.lemmas.List.{length-map}
-use Rattle.bounded_list.specs.BoundedList.{entries}
 use Rattle.dag_order.specs.LabelOrder.{fork_of}
 use Rattle.dag_order.specs.declared.kind.Kind.{Kind}
 use Rattle.dag_order.specs.declared.kind.Kind.TheVariants as kinds
-use Rattle.depth_first_list.specs.Actions.{Action, joins, ends, kind_of, weight_of}
-use Rattle.depth_first_list.specs.Facts.{label_at, deed_at, words_at, weight_at, IsNext}
+use Rattle.depth_first_list.specs.Actions.{joins, kind_of}
+use Rattle.depth_first_list.specs.Facts.{label_at, deed_at, words_at, IsNext}
 use Rattle.lawful_books.specs.Lists.{Each}
 use Rattle.lawful_books.specs.Books.{charge, charge_at, charged}
 use Rattle.lawful_books.proofs.Lists.{each_at, same_head, same_tail, cons_is_not_nil}

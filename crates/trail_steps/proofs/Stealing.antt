@@ -1,12 +1,12 @@
 -- An idle worker steals.
-use Rattle.std.proofs.Common.{◌≡◌, ◌≢◌, ◌⊎◌, ℕ, zero, suc, ◌+◌, ◌≤◌, ◌<◌, Bool, nat_lt, List, [], ◌∷◌, ◌++◌, length, map, get_or, set, true, inl, inr, refl, sym, ap, subst, ◌∙◌, arith, append_assoc, true≢false}
-use Rattle.std.specs.Prelude.{Option, None, Some, slice_get, is_some}
+use Rattle.std.proofs.Common.{◌≡◌, ℕ, zero, suc, ◌<◌, Bool, nat_lt, List, [], ◌∷◌, ◌++◌, length, map, set, true, inl, inr, refl, sym, ap, subst, ◌∙◌, arith, append_assoc, true≢false}
+use Rattle.std.specs.Prelude.{None, Some, slice_get, is_some}
 use Rattle.std.proofs.lemmas.List.{map-append, length-map, length-append}
 use Rattle.std.proofs.lemmas.Option.{same_Some}
 use Rattle.depth_first_list.specs.Actions.{Action}
 use Rattle.depth_first_list.specs.Facts.{label_at}
 use Rattle.lawful_books.specs.Lists.{Each}
-use Rattle.lawful_books.proofs.Lists.{each_left, each_right, each_join, one_same, one_other}
+use Rattle.lawful_books.proofs.Lists.{each_left, each_right, one_same, one_other}
 use Rattle.deque_list.specs.declared.deque_id.DequeId.{DequeId}
 use Rattle.deque_list.specs.Ids.{IsLive, IsSmallestFree, deque_id}
 use Rattle.deque_list.specs.Deques.{Deque, deque_ids}

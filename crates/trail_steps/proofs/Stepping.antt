@@ -1,19 +1,16 @@
 -- The next action of a worker's top thread.
-use Rattle.std.proofs.Common.{◌≡◌, ◌≢◌, ◌⊎◌, ℕ, suc, ◌+◌, ◌≤◌, ◌<◌, List, [], ◌∷◌, length, get_or, true, false, true≢false, inl, inr, refl, sym, ap, subst, ◌∙◌, arith}
-use Rattle.std.specs.Prelude.{Option, None, Some, slice_get, set, is_some, ℤ}
+use Rattle.std.proofs.Common.{◌≡◌, ℕ, ◌<◌, List, [], ◌∷◌, length, get_or, true, false, true≢false, inl, inr, sym, ap, subst, ◌∙◌, arith}
+use Rattle.std.specs.Prelude.{Option, None, Some, slice_get, set, is_some}
 use Rattle.std.proofs.lemmas.Bool.{cases_lt}
 use Rattle.std.proofs.lemmas.Option.{slice_get_past, get_or_from_slice_get, slice_get_cases, same_Some}
 use Rattle.bounded_list.specs.BoundedList.{entries}
-use Rattle.dag_order.specs.LabelOrder.{fork_of}
-use Rattle.dag_order.specs.declared.kind.Kind.{Kind}
-use Rattle.dag_order.specs.declared.kind.Kind.TheVariants as kinds
 use Rattle.depth_first_list.specs.Actions.{joins, ends, kind_of, weight_of}
-use Rattle.depth_first_list.specs.Facts.{label_at, deed_at, words_at, weight_at}
-use Rattle.lawful_books.specs.Books.{charge, charge_at, charged}
+use Rattle.depth_first_list.specs.Facts.{deed_at, words_at, weight_at}
+use Rattle.lawful_books.specs.Books.{charge, charge_at}
 use Rattle.deque_list.specs.Ids.{IsLive}
 use Rattle.deque_list.specs.Deques.{deque_ids}
 use Rattle.deque_machine.specs.Moments.{Moment}
-use Rattle.deque_machine.specs.Machine.{Setting, HasEnded}
+use Rattle.deque_machine.specs.Machine.{Setting}
 use Rattle.deque_machine.specs.Play.{Limits}
 use Rattle.deque_machine.specs.Runs.{Pair}
 use Rattle.serial_journal.specs.Telling.{ShowsAction}
@@ -22,18 +19,16 @@ use Rattle.trail_places.proofs.Lists.{zip_length, zip_at}
 use Rattle.trail_meaning.specs.declared.trail_kind.TrailKind.TheVariants.{Suspend}
 use Rattle.good_trails.specs.Verdicts.{LeadsNowhere}
 use Rattle.trail_steps.specs.declared.seat.Seat.{Seat}
-use Rattle.trail_steps.specs.declared.step.Step.{Step}
 use Rattle.trail_steps.specs.declared.checker.Checker.{Checker}
-use Rattle.trail_steps.specs.Holds.{Holds, deque_with, with_these}
+use Rattle.trail_steps.specs.Holds.{Holds, with_these}
 use Rattle.trail_steps.specs.Standing.{StandsFor}
 use Rattle.trail_steps.specs.Steps.{told_of, Came, NoAction, IsStep, has_ended_by, Owes, UsedAfter}
 use Rattle.trail_steps.proofs.Lists.{some_inside}
 use Rattle.trail_steps.proofs.Moves.{is_live}
 use Rattle.trail_steps.proofs.Deeds.{join_deed}
-use Rattle.trail_steps.proofs.Ending.{one_join}
 use Rattle.trail_steps.proofs.Leaving.{sits, top_next, suspend_came}
 use Rattle.trail_steps.proofs.Going.{SameList}
-use Rattle.trail_steps.proofs.Refusing.{refused, ended_by_bits, bits_of_ended, waits_not, waits_not_above}
+use Rattle.trail_steps.proofs.Refusing.{refused, ended_by_bits, bits_of_ended, waits_not}
 
 module _ (s : Setting) (limits : Limits) (run : List Pair) (m : Moment) (c : Checker) (stands : StandsFor s limits run m c) where
   -- the list as it was written down

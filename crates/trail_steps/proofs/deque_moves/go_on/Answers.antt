@@ -1,5 +1,5 @@
 -- The top place is taken and another is put there.
-use Rattle.std.proofs.Common.{◌≡◌, ◌∷◌, length, sym, ap, ◌∙◌, true≢false}
+use Rattle.std.proofs.Common.{◌∷◌, length, sym, ap, ◌∙◌, true≢false}
 use Rattle.std.specs.Prelude.{is_some}
 use Rattle.trail_steps.specs.Holds.{deque_with}
 use Rattle.trail_steps.proofs.Moves.{rank_of, set_there, holds_then}

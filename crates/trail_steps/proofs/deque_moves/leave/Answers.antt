@@ -1,5 +1,5 @@
 -- The top place is taken. A deque that has no other is empty then.
-use Rattle.std.proofs.Common.{◌≡◌, [], ◌∷◌, length, sym, ap, subst, ◌∙◌, refl, true≢false}
+use Rattle.std.proofs.Common.{[], ◌∷◌, length, sym, ap, subst, ◌∙◌, refl, true≢false}
 use Rattle.std.specs.Prelude.{is_some}
 use Rattle.deque_list.specs.Ids.{IsLive}
 use Rattle.trail_steps.specs.Holds.{deque_with}

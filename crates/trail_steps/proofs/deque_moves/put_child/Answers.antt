@@ -1,5 +1,5 @@
 -- The parent goes on, and then the child is put on top.
-use Rattle.std.proofs.Common.{◌≡◌, ◌∷◌, length, ap, ◌∙◌}
+use Rattle.std.proofs.Common.{◌∷◌, length, ◌∙◌}
 use Rattle.trail_steps.specs.Holds.{deque_with}
 use Rattle.trail_steps.proofs.Moves.{rank_of, set_there, holds_then}
 use Rattle.trail_steps.proofs.deque_moves.put_child.Goals as goal

@@ -1,5 +1,5 @@
 -- At an End the parent goes on, or the deque leaves the list.
-use Rattle.std.proofs.Common.{◌≡◌, inl, inr, refl, sym, ◌∙◌, true≢false, subst, w64, rules}
+use Rattle.std.proofs.Common.{inl, inr, refl, sym, ◌∙◌, true≢false, subst, w64, rules}
 use Rattle.std.proofs.lemmas.Int.{to_z-of_z}
 use Rattle.trail_steps.specs.Tallies.{HasActed}
 use Rattle.trail_steps.specs.declared.checker.Checker.{Checker}

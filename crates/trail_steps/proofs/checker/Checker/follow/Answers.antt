@@ -1,5 +1,5 @@
 -- The event came, or not, and the limits hold after it, or not.
-use Rattle.std.proofs.Common.{sym, subst}
+use Rattle.std.proofs.Common.{subst}
 use Rattle.trail_steps.specs.Steps.{Came}
 use Rattle.trail_steps.proofs.Leading.{by_limits}
 use Rattle.trail_steps.proofs.checker.Checker.follow.Goals as goal

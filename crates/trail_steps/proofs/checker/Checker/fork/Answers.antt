@@ -1,9 +1,8 @@
 -- A Fork has a partner, after which the parent goes on.
-use Rattle.std.proofs.Common.{◌≡◌, ◌+◌, ◌<◌, ◌∷◌, [], length, refl, sym, ap, subst, ◌∙◌, arith, true≢false, w64, rules}
+use Rattle.std.proofs.Common.{◌≡◌, ◌+◌, ◌∷◌, [], refl, sym, ap, subst, ◌∙◌, arith, true≢false, w64, rules}
 use Rattle.std.proofs.lemmas.Int.{to_z-of_z}
 use Rattle.trail_steps.specs.Tallies.{HasActed}
 use Rattle.std.specs.Prelude.{Some, is_some}
-use Rattle.bounded_list.specs.BoundedList.{entries}
 use Rattle.trail_steps.specs.declared.checker.Checker.{Checker}
 use Rattle.trail_steps.specs.Holds.{deque_with, with_these}
 use Rattle.trail_steps.proofs.Acting.{fork_came, fork_partner, parent_inside}

@@ -1,5 +1,5 @@
 -- The opening.
-use Rattle.std.proofs.Common.{◌≡◌, length, replicate, false, refl, ap, subst, ◌∙◌, rules}
+use Rattle.std.proofs.Common.{◌≡◌, replicate, false, refl, ap, subst, ◌∙◌, rules}
 use Rattle.std.specs.Prelude.{None}
 use Rattle.bounded_list.specs.BoundedList.{entries}
 use Rattle.trail_steps.specs.Tallies.{IsBlank}

@@ -1,5 +1,5 @@
 -- What the worker has, and what its top thread does next.
-use Rattle.std.proofs.Common.{◌≡◌, ◌<◌, length, refl, sym, ap, subst, ◌∙◌, arith, true≢false, w64, rules}
+use Rattle.std.proofs.Common.{sym, ap, subst, ◌∙◌, arith, true≢false, w64, rules}
 use Rattle.std.specs.Prelude.{Some, None, is_some}
 use Rattle.std.proofs.lemmas.Int.{to_z-of_z}
 use Rattle.trail_steps.specs.Steps.{IsStep, UsedAfter}

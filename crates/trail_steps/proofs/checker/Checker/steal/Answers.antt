@@ -1,8 +1,7 @@
 -- An idle worker steals from a deque in reach that has a thread to steal.
-use Rattle.std.proofs.Common.{◌≡◌, ◌<◌, ◌≤◌, length, sym, ap, subst, ◌∙◌, arith}
-use Rattle.std.specs.Prelude.{None, is_some}
-use Rattle.deque_machine.specs.Machine.{Setting}
-use Rattle.deque_machine.specs.Moments.{Moment, owned_by}
+use Rattle.std.proofs.Common.{◌≡◌, length, sym, ap, subst, ◌∙◌, arith}
+use Rattle.std.specs.Prelude.{is_some}
+use Rattle.deque_machine.specs.Moments.{owned_by}
 use Rattle.trail_steps.specs.Places.{SeatIs}
 use Rattle.trail_steps.proofs.Few.{few}
 use Rattle.trail_steps.proofs.Victims.{there, nothing_there, there_live, there_at, can_steal, is_there, is_absent}

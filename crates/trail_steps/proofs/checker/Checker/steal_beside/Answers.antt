@@ -1,5 +1,5 @@
 -- The bottom thread gets a deque of its own, if there may be one more.
-use Rattle.std.proofs.Common.{◌≡◌, ◌≤◌, ◌∷◌, [], ◌++◌, refl, length, sym, ap, subst, ◌∙◌, arith, true≢false}
+use Rattle.std.proofs.Common.{◌≡◌, ◌∷◌, [], ◌++◌, refl, sym, ap, subst, ◌∙◌, true≢false}
 use Rattle.std.specs.Prelude.{Some, is_some, slice_get}
 use Rattle.deque_list.specs.Ids.{IsLive, IsSmallestFree}
 use Rattle.trail_steps.specs.declared.checker.Checker.{Checker}

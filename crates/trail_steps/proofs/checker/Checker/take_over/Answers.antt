@@ -1,5 +1,5 @@
 -- The deque has an owner from now on.
-use Rattle.std.proofs.Common.{◌≡◌, ◌∷◌, [], refl, length, sym, ap, ◌∙◌, arith}
+use Rattle.std.proofs.Common.{◌∷◌, [], refl, length}
 use Rattle.std.specs.Prelude.{Some, None}
 use Rattle.trail_steps.specs.declared.checker.Checker.{Checker}
 use Rattle.trail_steps.specs.Holds.{deque_with}
