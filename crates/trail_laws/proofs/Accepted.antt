@@ -53,8 +53,9 @@ module _ (c : Setting) (t : Shown) (o : IsOfPlay c t) where
 
   few_events : length o.run ≤ 2000128
   few_events =
-      let short = runs_are_short s some_quota listed (let same = o.quota in let least = o.setting.quota.0 in omega (arith, same, least)) opening o.last o.run reaches
-      (opening_is_lawful s listed) (plays_are_runs s some_quota listed (trail_terms t).limits o.words o.run o.last _ o.plays).1 in
+      let both = plays_are_runs s some_quota listed (trail_terms t).limits o.words o.run o.last _ o.plays in
+      let short = runs_are_short s some_quota listed (let same = o.quota in let least = o.setting.quota.0 in omega (arith, same, least)) opening o.last o.run both.0
+      (opening_is_lawful s listed) both.1 in
       let actions = few_actions in let most = o.setting.steps.1 in let workers = o.setting.workers.1 in omega (arith, short, actions, most, workers)
 
   events_fit : FitEvents t.p t.events
