@@ -91,7 +91,7 @@ module _ (c : Setting) (before after : Core) (same : terms_at after ≡ terms_at
       (subst (λ x. Wants (machine_of c x) m worker word event) (sym same) (wanted_by_step event wants))
       (subst (λ x. Meets (machine_of c x) x.limits m event (play.deques_full deques)) (sym same) meets)
 
-  turn_is : (event : Event) → Wants (machine_of c (terms_at after)) m worker word event
+  pub turn_is : (event : Event) → Wants (machine_of c (terms_at after)) m worker word event
       → Turn (machine_of c (terms_at before)) words 0 m (record { worker = worker; event = event })
   turn_is event wants = record {
     not_over = at.going none;
@@ -99,7 +99,7 @@ module _ (c : Setting) (before after : Core) (same : terms_at after ≡ terms_at
     wants = wanted event (subst (λ x. Wants (machine_of c x) m worker word event) same wants);
   }
 
-  pub goes : (told : Told)
+  unfoldable pub goes : (told : Told)
       → GoesOn (code_shown after.code) (quota_words after.k) (terms_at after) (held after.scheduler) after.end c worker word run m told
       → TurnGoesOn c (terms_at before) words (words_of_turn idle) after run m
   goes told g = record {

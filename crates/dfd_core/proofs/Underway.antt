@@ -69,7 +69,7 @@ turn_behind s words coming drawn is m pair turn = record {
 module _ (c : Setting) (terms : Terms) (words coming : ℕ → ℕ) (drawn more events : ℕ) (coming_is : (i : ℕ) → coming i ≡ words (drawn + i)) (now after : Core)
     (run : List Pair) (m : Moment) (a : Along c terms words drawn events now run m) where
   -- one turn further
-  pub further : TurnGoesOn c terms coming more after (run ++ a.later) a.last → Along c terms words (drawn + more) (events + 1) after run m
+  unfoldable pub further : TurnGoesOn c terms coming more after (run ++ a.later) a.last → Along c terms words (drawn + more) (events + 1) after run m
   further g = record {
     later = a.later ++ g.pair ∷ [];
     last = g.next;
@@ -81,17 +81,17 @@ module _ (c : Setting) (terms : Terms) (words coming : ℕ → ℕ) (drawn more 
   }
 
   -- the words that come behind the turn
-  coming_behind : (later : ℕ → ℕ) → IsDrawn coming more later → IsDrawn words (drawn + more) later
+  pub coming_behind : (later : ℕ → ℕ) → IsDrawn coming more later → IsDrawn words (drawn + more) later
   coming_behind later is i = is i ∙ coming_is (more + i) ∙ ap words (omega arith)
 
   -- the whole play behind what goes on from here
-  whole_play : (rest : List Pair) (end : Moment) (ending : play.Ending) → Plays (machine_of c terms) terms.limits words drawn a.last rest end ending
+  pub whole_play : (rest : List Pair) (end : Moment) (ending : play.Ending) → Plays (machine_of c terms) terms.limits words drawn a.last rest end ending
       → Plays (machine_of c terms) terms.limits words 0 m (a.later ++ rest) end ending
   whole_play rest end ending plays = front_goes_on (machine_of c terms) terms.limits words 0 drawn m a.last end a.later rest ending a.front plays
 
   module _ (later : ℕ → ℕ) (later_is : IsDrawn coming more later) where
     -- or to a stop
-    pub stopped_at : (stop : play.Stop) → TurnStops c terms coming more after (run ++ a.later) a.last stop
+    unfoldable pub stopped_at : (stop : play.Stop) → TurnStops c terms coming more after (run ++ a.later) a.last stop
         → PlaysToStop c terms words later after run m stop
     stopped_at stop s = record {
       later = a.later;
@@ -107,7 +107,7 @@ module _ (c : Setting) (terms : Terms) (words coming : ℕ → ℕ) (drawn more 
     }
 
     -- or to the end
-    pub ended_at : (same : terms_at after ≡ terms) (finish : Finish) → end_of after ≡ Some (Finished finish) → TurnGoesOn c terms coming more after (run ++ a.later) a.last
+    unfoldable pub ended_at : (same : terms_at after ≡ terms) (finish : Finish) → end_of after ≡ Some (Finished finish) → TurnGoesOn c terms coming more after (run ++ a.later) a.last
         → PlaysToEnd c terms words later after run m
     ended_at same finish is g =
         let b = further g in
@@ -123,7 +123,7 @@ module _ (c : Setting) (terms : Terms) (words coming : ℕ → ℕ) (drawn more 
         }
 
     -- or to a turn that lacks memory
-    pub lacks_at : TurnLacks c terms coming more after (run ++ a.later) a.last → PlaysUntil c terms words later after run m
+    unfoldable pub lacks_at : TurnLacks c terms coming more after (run ++ a.later) a.last → PlaysUntil c terms words later after run m
     lacks_at l = record {
       later = a.later;
       last = a.last;

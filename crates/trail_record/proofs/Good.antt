@@ -6,7 +6,7 @@ use Rattle.depth_first_run.proofs.Built.{whole_is_depth_first}
 use Rattle.deque_machine.specs.Moments.{opening}
 use Rattle.deque_machine.specs.Terms.{machine_of}
 use Rattle.good_trails.specs.Good.{IsGood}
-use Rattle.good_trails.proofs.Plays.{plays_are_followed}
+use Rattle.good_trails.proofs.Recorded.{plays_are_followed}
 use Rattle.trail_record.specs.Laws.{RecordedPlaysAreGood}
 
 pub recorded_plays_are_good : RecordedPlaysAreGood

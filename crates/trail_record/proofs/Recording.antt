@@ -1,7 +1,7 @@
 -- A play whose events are being recorded.
 use Rattle.std.proofs.Common.{◌≡◌, ℕ, ◌+◌, ◌*◌, ◌≤◌, List, [], ◌∷◌, ◌++◌, map, refl, sym, ap, subst, ◌∙◌, arith, append-nil}
 use Rattle.std.proofs.Math.Logic.{∥∥₁_elim, ∥∥₁_map, ∥∥₁_prop}
-use Rattle.std.specs.Prelude.{Option, None, Some, pos}
+use Rattle.std.specs.Prelude.{Option, None, Some, pos, Result, Ok, Err, IsErrAnd, MatchResult}
 use Rattle.std.proofs.lemmas.List.{map-append}
 use Rattle.dag_order.specs.declared.finish.Finish.{Finish}
 use Rattle.depth_first_run.specs.States.{Setting}
@@ -40,7 +40,7 @@ pub begins_recording : (words : ℕ → ℕ) (start : Core) → end_of start ≡
 begins_recording words start none = record {
   going = none;
   drawn = 0;
-  coming_is = λ i. refl;
+  coming_is = λ i. ap words (omega arith);
   setting = (refl, refl, refl);
   along = λ c run m at. ∣ (record {
     later = [];
@@ -50,6 +50,11 @@ begins_recording words start none = record {
     is_at = subst (λ r. IsAt c start r m) (sym (append-nil run)) at;
   }, refl) ∣₁;
 }
+
+-- an answer that is an error
+pub at_error : {T E : Type 0} (Q : T → Type 0) (P : Type 0) (r : Result T E) (e : E) → IsErrAnd r (λ y. y ≡ e) → P → MatchResult r Q (λ _. P)
+at_error Q P (Ok x) e is part = absurd is
+at_error Q P (Err y) e is part = part
 
 -- the record of one event more
 told_further : (later : List Pair) (pair : Pair) (told : List TrailEvent) (event : Option TrailEvent) → told ≡ events_told later → event ≡ Some (event_told pair)
@@ -73,6 +78,7 @@ module _ (words coming later : ℕ → ℕ) (start now after : Core) (events : �
   module _ (c : Setting) (run : List Pair) (m : Moment) (a : AlongRecorded c (terms_at start) words u.drawn events now run m told) where
     one_further : TurnRecorded c (terms_at start) coming turn.drawn after (run ++ a.0.later) a.0.last event
         → AlongRecorded c (terms_at start) words (u.drawn + turn.drawn) (events + 1) after run m (with_event told event)
+    unfolding further
     one_further g = (
       further c (terms_at start) words coming u.drawn turn.drawn events u.coming_is now after run m a.0 g.goes,
       told_further a.0.later g.goes.pair told event a.1 g.event_is,
@@ -83,6 +89,7 @@ module _ (words coming later : ℕ → ℕ) (start now after : Core) (events : �
 
     recorded_to : (end : RunEnd) → end_of after ≡ Some end → RecordsTo c (terms_at start) coming turn.drawn after (run ++ a.0.later) a.0.last event (Some end)
         → PlaysRecorded c (terms_at start) words later after run m end (with_event told event)
+    unfolding further ended_at stopped_at lacks_at
     recorded_to (Finished finish) is turns = ∥∥₁_map turns (λ g.
         (ended_at c (terms_at start) words coming u.drawn turn.drawn events u.coming_is now after run m a.0 later turn.later_is (setting.2 ∙ u.setting.2) finish is g.goes,
         told_further a.0.later g.goes.pair told event a.1 g.event_is))

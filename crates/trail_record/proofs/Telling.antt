@@ -119,6 +119,7 @@ module _ (c : Setting) (before after : Core) (same : terms_at after ≡ terms_at
   recorded : (stepped : Stepped) (told : Event) → IsTold stepped (Ok (Some told))
       → GoesOn (code_shown after.code) (quota_words after.k) (terms_at after) (held after.scheduler) after.end c worker (unwrap_or word 0) run m told
       → TurnRecorded c (terms_at before) words (words_of_turn (is_some word)) after run m (event_recorded worker stepped place)
+  unfolding goes
   recorded stepped told is g = record {
     goes = goes c before after same words worker (unwrap_or word 0) (is_some word) none run m at first draws word_is told g;
     event_is = ap (option_map (λ kind. record { worker = worker; kind = kind })) (recorded_by place stepped told is

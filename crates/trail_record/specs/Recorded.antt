@@ -1,5 +1,5 @@
 -- What is recorded of a play.
-use Rattle.std.specs.Prelude.{◌≡◌, ℕ, List, [], ◌++◌, pos, Result, Ok, ∥◌∥₁}
+use Rattle.std.specs.Prelude.{◌≡◌, ℕ, Some, List, [], ◌++◌, pos, Result, Ok}
 use Rattle.bounded_list.specs.BoundedList.{entries}
 use Rattle.depth_first_run.specs.States.{Setting}
 use Rattle.deque_machine.specs.Moments.{Moment}

@@ -1,5 +1,5 @@
 -- What is recorded of one turn.
-use Rattle.std.specs.Prelude.{◌≡◌, ℕ, ◌<◌, Option, None, Some, option_map, MatchOption, List, [], ◌∷◌, ◌++◌, ∥◌∥₁}
+use Rattle.std.specs.Prelude.{◌≡◌, ℕ, ◌<◌, Option, None, Some, option_map, MatchOption, List, [], ◌∷◌, ◌++◌}
 use Rattle.depth_first_run.specs.States.{Setting}
 use Rattle.deque_machine.specs.Moments.{Moment}
 use Rattle.deque_machine.specs.Play.{IsReady, reach}
