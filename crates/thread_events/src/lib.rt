@@ -14,9 +14,11 @@
 mod acts;
 mod done;
 mod ends;
+mod finished;
 mod forked;
 mod forks;
 mod going;
+mod joined;
 mod readiness;
 mod results;
 
@@ -25,8 +27,10 @@ pub use done::{
     alloc_done, dummy_done, end_done, fault_done, fork_done, join_done, name_of, release_done,
 };
 pub use ends::{end_above, end_and_leave, end_and_wake};
+pub use finished::Finished;
 pub use forked::Forked;
 pub use forks::fork;
 pub use going::{advance, reserve_place};
+pub use joined::Joined;
 pub use readiness::{Readiness, readiness_of};
 pub use results::{give, hand_over, take_result};
