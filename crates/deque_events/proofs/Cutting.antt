@@ -1,5 +1,5 @@
 -- A deque of two that is cut in two, the lower one without an owner.
-use Rattle.std.proofs.Common.{◌≡◌, ℕ, List, [], ◌∷◌, ◌++◌, sym, ◌∙◌, append_assoc}
+use Rattle.std.proofs.Common.{◌≡◌, ℕ, [], ◌∷◌, ◌++◌, sym, ◌∙◌, append_assoc}
 use Rattle.std.specs.Prelude.{Option, None, Some, slice_set}
 use Rattle.deque_list.specs.declared.deque_id.DequeId.{DequeId}
 use Rattle.deque_list.specs.Deques.{Deque, DequeAt}
@@ -10,7 +10,7 @@ use Rattle.deque_events.proofs.Putting.{given_up}
 module _ {T : Type 0} {before : ListView T} {id : DequeId} (owner : Option ℕ) (top bottom : T) (holds : Holds before id owner (top ∷ bottom ∷ []))
     (worker : ℕ) (mid : ListView T) where
   -- the deque of the bottom thread, where somebody owns it
-  pub new_stands : (new : DequeId)
+  abbrev pub new_stands : (new : DequeId)
       → Becomes holds mid (deque_with id owner (top ∷ []) ∷ deque_with new (Some worker) (bottom ∷ []) ∷ []) → Stands mid worker new (bottom ∷ [])
   new_stands new both = record {
     left = holds.left ++ deque_with id owner (top ∷ []) ∷ [];

@@ -1,6 +1,6 @@
 -- A place in the middle of a list of places.
 use Rattle.std.proofs.Common.{◌≡◌, ℕ, List, ◌∷◌, ◌++◌, length, ap, ◌∙◌}
-use Rattle.std.specs.Prelude.{Option, None, Some, slice_get, slice_set, remove}
+use Rattle.std.specs.Prelude.{Option, None, slice_get, slice_set, remove}
 use Rattle.std.specs.Option.{option_map}
 use Rattle.std.proofs.Common.{refl}
 use Rattle.std.proofs.lemmas.Option.{slice_get-map}

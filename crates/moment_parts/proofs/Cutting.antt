@@ -3,10 +3,9 @@ use Rattle.std.proofs.Common.{◌≡◌, ℕ, ◌+◌, ◌<◌, List, [], ◌∷
 use Rattle.std.specs.Prelude.{Option, None, pos}
 use Rattle.depth_first_list.specs.Runs.{IsDepthFirst}
 use Rattle.lawful_books.specs.Lists.{total}
-use Rattle.deque_machine.specs.Moments.{Moment, done_at}
+use Rattle.deque_machine.specs.Moments.{done_at}
 use Rattle.deque_machine.specs.Machine.{Setting}
 use Rattle.moment_parts.specs.Parts.{Thread, Deque, Parts, IsIn, words_of, thread_words, deque_words, result_words}
-use Rattle.moment_parts.specs.Standing.{Shows}
 use Rattle.moment_parts.specs.Cuts.{deque_with, SettingAsideShows}
 use Rattle.moment_parts.proofs.Shown.{InDeques, shown_middle, by_deque, in_here, in_wider, deque_words_middle}
 use Rattle.moment_parts.proofs.Moving.{thread_moves, result_moves}

@@ -3,10 +3,10 @@ use Rattle.list_part.proofs.Middles.{live, gone}
 use Rattle.list_part.proofs.list_part.ListPart.remove.Goals as goal
 
 pub remove-requires : goal.remove-requires
-remove-requires c = live c.requires.has.1
+remove-requires g c = live c.requires.has.1
 
 pub returns : goal.returns
-returns c owner has = record {
+returns g c owner has = record {
   places_are = c.close.ensures.places_are ∙ gone has c.remove.new.self.places c.remove.ensures.place;
   most = c.close.ensures.most ∙ c.remove.ensures.most;
   closed = c.close.ensures.closed;

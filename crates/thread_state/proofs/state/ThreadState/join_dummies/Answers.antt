@@ -13,7 +13,7 @@ returns-then-child-clause-state c = λ contexts ordinal d of_child s is.
     joins_of_faulted contexts [] c.args.self.now _ c.args.child s d no_name ordinal c.if-self.false c.if-child.true of_child
     refl refl refl refl refl refl c.take_rows.ensures.slots c.take_rows.ensures.callers is
 
-pub returns-else-child-clause-state : goal.returns-else-child-clause-state
-returns-else-child-clause-state c = λ contexts ordinal d of_child s is.
+pub returns-clause-state : goal.returns-clause-state
+returns-clause-state c = λ contexts ordinal d of_child s is.
     joins_dummies contexts c.args.self.now _ c.args.child s d ordinal c.if-self.false c.if-child.false of_child
     (record { label = refl; done = refl; forks = refl; faulted = refl; callers = refl; calls = refl; turns = refl }) refl is
