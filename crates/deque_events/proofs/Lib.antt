@@ -2,3 +2,4 @@ pub mod Putting
 pub mod Leaving
 pub mod Stealing
 pub mod Seating
+pub mod Cutting

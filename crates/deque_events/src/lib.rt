@@ -10,9 +10,11 @@
 #![tactic(auto)]
 
 mod acted;
+mod aside;
 mod left;
 mod stolen;
 
 pub use acted::{put_back, put_back_and_give_up, put_both_back};
+pub use aside::set_aside;
 pub use left::{end_above, end_and_leave, end_and_wake, give_up, suspend};
 pub use stolen::{steal_beside, take_over};

@@ -8,22 +8,22 @@ use Rattle.dag_order.specs.declared.thread_id.ThreadId.{ThreadId}
 use Rattle.dag_order.specs.declared.action_id.ActionId.{ActionId}
 use Rattle.dag_order.specs.declared.birth.Birth.{Birth}
 use Rattle.dag_order.specs.LabelOrder.{fork_of}
-use Rattle.dag_order.specs.Births.{root, birth_of, birth_in, IsBornBefore, ParentComesFirst, ParentsComeFirst, MayFollow}
+use Rattle.dag_order.specs.Births.{birth_of, birth_in, IsBornBefore, ParentComesFirst, ParentsComeFirst, MayFollow}
 use Rattle.depth_first_list.specs.Actions.{Deed, forks, joins, allocates, releases, dummy, faults, ends, Action}
 use Rattle.depth_first_list.specs.Facts.{label_at, deed_at}
 use Rattle.depth_first_list.specs.Runs.{IsDepthFirst}
 use Rattle.depth_first_list.proofs.ThreadLaws.{forked_once}
 use Rattle.lawful_books.specs.Lists.{Among, times}
 use Rattle.lawful_books.specs.Books.{Book, booked}
-use Rattle.lawful_books.proofs.Lists.{same_head, same_tail, times_among, among_left, among_right, among_middle, among_here}
+use Rattle.lawful_books.proofs.Lists.{same_tail, times_among, among_left, among_right, among_here}
 use Rattle.lawful_books.proofs.Keeping.{booked_append, times_append}
-use Rattle.deque_machine.specs.LawfulOrder.{IsLawful, ParentsFirst, IsRootOrBorn}
+use Rattle.deque_machine.specs.LawfulOrder.{IsLawful, ParentsFirst}
 use Rattle.deque_machine.specs.Machine.{Setting}
 use Rattle.deque_machine.specs.Moments.{Moment}
 use Rattle.deque_machine.proofs.Labels.{one_parent}
-use Rattle.period_books.specs.Periods.{Period, InOrder}
+use Rattle.period_books.specs.Periods.{Period}
 use Rattle.period_books.specs.Names.{id_of, HasLabel, IsNamed, AreNamed, births_by, births_among}
-use Rattle.period_books.specs.Telling.{IsBook, Tell}
+use Rattle.period_books.specs.Telling.{Tell}
 use Rattle.period_books.specs.Laws.{IsCutAt}
 use Rattle.period_books.proofs.Sorting.{get_middle, one_of_a_number}
 use Rattle.period_books.proofs.Labels.{Forked, how, one_label, born_of}

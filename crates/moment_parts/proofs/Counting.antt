@@ -11,12 +11,9 @@ use Rattle.depth_first_list.proofs.ThreadLaws.{no_index_is_skipped}
 use Rattle.lawful_books.specs.Lists.{Among, Each, Differ}
 use Rattle.lawful_books.specs.Books.{booked}
 use Rattle.lawful_books.proofs.Lists.{among_times, each_among, each_map}
-use Rattle.deque_machine.specs.Moments.{Moment, done_at}
+use Rattle.deque_machine.specs.Moments.{done_at}
 use Rattle.deque_machine.specs.Machine.{Setting}
-use Rattle.deque_machine.specs.LawfulOrder.{IsLawful}
 use Rattle.deque_machine.proofs.Ends.{few_among}
-use Rattle.moment_parts.specs.Parts.{Thread, Parts, IsIn}
-use Rattle.moment_parts.specs.Standing.{Shows}
 use Rattle.moment_parts.specs.Laws.{ThreadsCountWithin}
 use Rattle.moment_parts.proofs.Forking.{lives}
 

@@ -9,3 +9,4 @@ pub mod Moving
 pub mod Handing
 pub mod Births
 pub mod Counting
+pub mod Cutting

@@ -2,3 +2,4 @@ pub mod Parts
 pub mod Standing
 pub mod Events
 pub mod Laws
+pub mod Cuts

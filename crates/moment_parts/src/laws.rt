@@ -1,5 +1,6 @@
 ghost use Rattle.std.specs.Prelude.{ℕ};
 ghost use Rattle.deque_machine.specs.Laws.{InEachSetting};
+ghost use Rattle.moment_parts.specs.Cuts.{SettingAsideShows};
 ghost use Rattle.moment_parts.specs.Laws.{RootIsTheOpening, ThreadsCountWithin, ActionsAreEvents, BirthsComeParentsFirst, BirthsMayFollow, GiveUpsAreEvents, HandingOverIsNoEvent, TheftsAreEvents, WaitsAreEvents};
 
 /// A root that has done nothing, alone in a deque without an owner, is the opening moment.
@@ -30,6 +31,11 @@ pub fn thefts_are_events()
 /// A kept result that is handed to its parent changes no moment.
 pub fn handing_over_is_no_event()
     ensures { InEachSetting HandingOverIsNoEvent }
+{}
+
+/// A deque of two that is cut in two shows the moment whose deque is cut so.
+pub fn setting_aside_shows()
+    ensures { InEachSetting SettingAsideShows }
 {}
 
 /// The births of the periods of a lawful moment come parents first.

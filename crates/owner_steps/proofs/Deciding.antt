@@ -40,7 +40,7 @@ use Rattle.core_parts.proofs.Joining.{awaited_one}
 use Rattle.owner_steps.specs.Acts.{IsCharged}
 use Rattle.owner_steps.specs.Decisions.{Decides}
 use Rattle.owner_steps.specs.Memory.{MayAct, words_taken_by}
-use Rattle.owner_steps.specs.Results.{TakesResult, IsToCome, FirstAwaits}
+use Rattle.thread_events.specs.Results.{TakesResult, IsToCome, FirstAwaits}
 use Rattle.owner_steps.specs.Steps.{IsBeforeAction, Comes}
 use Rattle.owner_steps.specs.declared.decisions.Decision.TheVariants as decisions
 use Rattle.owner_steps.proofs.Owning.{quota_is, Known, used_within_quota, alloc_within, joins_within, no_join_by, no_result, words_out}

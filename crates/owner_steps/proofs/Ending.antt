@@ -44,7 +44,8 @@ use Rattle.core_parts.proofs.Lists.{each_moved, none_found}
 use Rattle.core_parts.proofs.AtTop.{period_is_there, seat_of_deque}
 use Rattle.owner_steps.specs.Acts.{Acted, Performs}
 use Rattle.owner_steps.specs.Ends.{EndsBy}
-use Rattle.owner_steps.specs.Results.{ComesBelow, FirstAwaits}
+use Rattle.thread_events.specs.Results.{FirstAwaits}
+use Rattle.owner_steps.specs.Results.{ComesBelow}
 use Rattle.owner_steps.proofs.Places.{keep_sitting, leave_sitting, points_change, under_is}
 use Rattle.owner_steps.proofs.Acting.{as_it_is, performs_of, given_change}
 

@@ -11,7 +11,8 @@ use Rattle.thread_frames.specs.Children.{IsAwaited}
 use Rattle.thread_frames.specs.Views.{children_of, label_of}
 use Rattle.thread_frames.specs.declared.ended.Ended.{Ended}
 use Rattle.thread_frames.specs.declared.thread.Thread.{Thread}
-use Rattle.owner_steps.specs.Results.{IsGiven, ComesBelow}
+use Rattle.thread_events.specs.Results.{IsGiven}
+use Rattle.owner_steps.specs.Results.{ComesBelow}
 use Rattle.owner_steps.proofs.Taking.{popped}
 
 -- what was popped was the first of the items

@@ -4,6 +4,7 @@ pub mod Ending
 pub mod Leaving
 pub mod Owning
 pub mod Deciding
+pub mod Readying
 pub mod TakingIn
 pub mod Taking
 pub mod Giving

@@ -38,7 +38,7 @@ use Rattle.core_parts.proofs.Lists.{each_moved, found_among}
 use Rattle.core_parts.proofs.Bounds.{point_one}
 use Rattle.core_parts.proofs.Joining.{newest_child, joins_it, told, ended_when_delivered, ended_when_kept, awaited_one, to_come, given, handed}
 use Rattle.owner_steps.specs.Steps.{IsBeforeAction, Comes}
-use Rattle.owner_steps.specs.Results.{HasCome}
+use Rattle.thread_events.specs.Results.{HasCome}
 use Rattle.owner_steps.proofs.Owning.{quota_is}
 
 -- the child of a Join

@@ -27,6 +27,13 @@ DecidesByQuota k words period (Wait child) = ⊥
 abbrev pub HasResult : Kept Ended → Thread → ThreadId → Type 0
 HasResult results top child = (is_delivered child (children_of top) ≡ true) ⊎ ((ended : Ended) × (kept_under results child ≡ Some ended))
 
+-- by the results that are kept, where the result of the child was not delivered: the Join is done where it is kept, and the thread waits for it
+-- where it is not
+abbrev pub DecidesByKept : Kept Ended → ThreadId → Decision → Type 0
+DecidesByKept results child (Act charge) = (ended : Ended) × (kept_under results child ≡ Some ended)
+DecidesByKept results child GiveUp = ⊥
+DecidesByKept results child (Wait awaited) = (awaited ≡ child) × (kept_under results child ≡ None)
+
 -- by the child that is joined: a Join is done where its result is there, and the thread waits for it where it is not
 abbrev pub DecidesByChild : Kept Ended → Thread → ThreadId → Decision → Type 0
 DecidesByChild results top child (Act charge) = HasResult results top child

@@ -17,7 +17,7 @@ use Rattle.thread_frames.specs.declared.thread.Thread.{Thread}
 use Rattle.thread_frames.specs.Points.{IsPlaced}
 use Rattle.thread_frames.specs.Views.{next_of, done_of, held_by, label_of, children_of, newest, join_words_of}
 use Rattle.deque_events.specs.Shown.{Stands}
-use Rattle.owner_steps.specs.Results.{FirstAwaits}
+use Rattle.thread_events.specs.Results.{FirstAwaits}
 use Rattle.core_parts.specs.declared.scheduler.Scheduler.{Scheduler}
 
 -- the memory that an event of a worker may take: room for so many threads in its lane, for an action and a birth in its period and for

@@ -5,22 +5,20 @@ ghost use Rattle.language_limits.specs.declared.TheConstants.{GREATEST_QUOTA};
 ghost use Rattle.dummy_tree.specs.QuotaWords.{quota_words};
 ghost use Rattle.period_books.specs.Periods.{Period};
 ghost use Rattle.period_table.specs.Tables.{period_at};
-ghost use Rattle.quota_period.specs.Charges.{IsCharge};
-ghost use Rattle.owner_steps.specs.Decisions.{Decides, DecidesByChild, UsesQuota};
+ghost use Rattle.owner_steps.specs.Decisions.{Decides, DecidesByKept};
 
-use block_arena::PIECE_WORDS;
 use boxed::Boxed;
 use core_parts::Scheduler;
 use dag_order::ThreadId;
 use dummy_tree::Quota;
-use period_table::PeriodTable;
-use quota_period::Charge;
-use thread_frames::{Next, Thread};
+use thread_events::{Readiness, readiness_of};
+use thread_frames::{Ended, Next, Thread};
+use thread_map::ThreadMap;
 
 /// What a worker does whose top thread comes to its next action.
 #[derive(Clone, Copy)]
 pub(crate) enum Decision {
-    /// The thread does the action, and an Alloc uses `charge` words of the quota.
+    /// The thread does the action, which uses `charge` words of the quota.
     Act { charge: u32 },
     /// The action does not fit what is left of the quota: the worker gives its deque up.
     GiveUp,
@@ -40,46 +38,23 @@ pub(crate) fn decide(
     ensures decides { Decides scheduler.now worker (quota_words k) top.now next result }
     ensures bounded { quota_words k ≤ GREATEST_QUOTA }
 {
-    match next {
-        Next::Fork => by_quota(&scheduler.table, worker, PIECE_WORDS, k),
-        Next::Alloc { words } => by_quota(&scheduler.table, worker, words, k),
-        Next::Join { child } => by_child(scheduler, top, child),
-        _ => Decision::Act { charge: 0 },
-    }
-}
-
-/// What an action does to a worker's period which takes so many words.
-fn charge_of(table: &PeriodTable, worker: usize, words: u32, k: Quota) -> Charge
-    requires { (p : Period) × (period_at table.now worker ≡ Some p) }
-    ensures { (p : Period) → period_at table.now worker ≡ Some p → IsCharge p.used words (quota_words k) result }
-{
-    let Some(seat) = table.seat(worker) else {
+    let Some(seat) = scheduler.table.seat(worker) else {
         unreachable!();
     };
-    seat.period.charge(words, k)
-}
-
-/// An action that takes so many words: it is done where they fit what is left of the quota, or are above the whole of it.
-fn by_quota(table: &PeriodTable, worker: usize, words: u32, k: Quota) -> Decision
-    requires { (p : Period) × (period_at table.now worker ≡ Some p) }
-    ensures { UsesQuota table.now worker (quota_words k) words result }
-{
-    match charge_of(table, worker, words, k) {
-        Charge::Fits => Decision::Act { charge: words },
-        Charge::Ends => Decision::GiveUp,
-        Charge::Large => Decision::Act { charge: 0 },
+    match readiness_of(&seat.period, top, next, k) {
+        Readiness::Ready { charge } => Decision::Act { charge },
+        Readiness::Spent => Decision::GiveUp,
+        Readiness::Missing { child } => by_kept(&scheduler.results, child),
     }
 }
 
-/// The Join of a child: it is done where the result of the child is there.
-fn by_child(scheduler: &Scheduler, top: &Boxed<Thread>, child: ThreadId) -> Decision
-    ensures { DecidesByChild scheduler.now.results top.now child result }
+/// The Join of a child whose result was not delivered: it is done if the result is kept.
+fn by_kept(results: &ThreadMap<Ended>, child: ThreadId) -> Decision
+    ensures { DecidesByKept results.now child result }
 {
-    if top.get().delivered(child) {
-        return Decision::Act { charge: 0 };
+    if results.has(child) {
+        Decision::Act { charge: 0 }
+    } else {
+        Decision::Wait { child }
     }
-    if scheduler.results.has(child) {
-        return Decision::Act { charge: 0 };
-    }
-    Decision::Wait { child }
 }

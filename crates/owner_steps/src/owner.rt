@@ -1,6 +1,6 @@
 //! The step of a worker that owns a deque.
 
-ghost use Rattle.std.specs.Prelude.{◌≡◌, ◌≢◌, ◌≤◌, ◌<◌, ℕ, List as AnyList, Some, OnOk, IfOk, Err};
+ghost use Rattle.std.specs.Prelude.{◌≡◌, ◌≢◌, ◌≤◌, ◌<◌, ℕ, List as AnyList, Some, Err};
 ghost use Rattle.language_limits.specs.declared.TheConstants.{GREATEST_QUOTA};
 ghost use Rattle.dummy_tree.specs.QuotaWords.{quota_words};
 ghost use Rattle.node_table.specs.Codes.{code_shown};
@@ -13,9 +13,6 @@ ghost use Rattle.depth_first_run.specs.States.{Setting};
 ghost use Rattle.deque_machine.specs.Moments.{Moment};
 ghost use Rattle.deque_machine.specs.Runs.{Pair};
 ghost use Rattle.thread_steps.specs.Settings.{IsSettingOf};
-ghost use Rattle.thread_frames.specs.Actions.{IsOfTheList, IsStill, JoinsNewest};
-ghost use Rattle.thread_frames.specs.Points.{IsAtPoint};
-ghost use Rattle.thread_frames.specs.Views.{children_of, done_of, next_of, thread_words};
 ghost use Rattle.core_parts.specs.Moments.{HasRun};
 ghost use Rattle.core_parts.specs.Outcomes.{StepsTo};
 ghost use Rattle.owner_steps.specs.Decisions.{Decides};
@@ -27,15 +24,15 @@ use crate::acts::act;
 use crate::decisions::{Decision, decide};
 use crate::leaves::{give_up, suspend};
 use crate::refusals::test_action;
-use crate::results::take_result;
 use crate::tops::{put_back, take_top};
-use block_arena::{PIECE_WORDS, Pool};
+use block_arena::PIECE_WORDS;
 use boxed::Boxed;
 use core_parts::{Event, Scheduler, Stop};
 use deque_list::DequeId;
 use dummy_tree::Quota;
 use node_table::Code;
-use std::alloc::{AllocError, Global};
+use std::alloc::Global;
+use thread_events::{advance, take_result};
 use thread_frames::{Next, Thread};
 
 /// The words that an action takes.
@@ -98,34 +95,6 @@ fn go_on(
     }
 }
 
-/// Runs a thread up to its next action.
-///
-/// # Errors
-///
-/// There is not enough memory.
-fn advance(
-    top: &mut Boxed<Thread>,
-    pool: &Pool,
-    alloc: Global,
-    code: &Code,
-    k: Quota,
-) -> Result<Next, AllocError>
-    requires point { IsAtPoint (code_shown code.now) (quota_words k) top.old }
-    requires out { thread_words top.old ≤ pool.now.live }
-    requires few { done_of top.old < 4294967295 }
-    ensures point { OnOk result (IsAtPoint (code_shown code.now) (quota_words k) top.new) }
-    ensures next { IfOk result (λ next. next_of top.new ≡ Some next) }
-    ensures newest { IfOk result (λ next. JoinsNewest next (children_of top.new)) }
-    ensures still { IsStill top.old top.new }
-    ensures few { OnOk result (done_of top.new < 4294967295) }
-    ensures list { (c : Setting) → IsSettingOf (code_shown code.now) (quota_words k) c
-        → IfOk result (λ next. ∥ IsOfTheList c top.new next ∥₁) }
-{
-    // A pool says that no more words are out than it may have.
-    let _live = pool.live();
-    top.get_mut().advance(alloc, code, k)
-}
-
 /// The step of a worker that owns a deque: its top thread does its next action, or waits, or the worker gives the deque up.
 ///
 /// # Errors
@@ -154,7 +123,9 @@ pub fn step_of_owner(
     let Ok((deque, mut top)) = take_top(scheduler, alloc, worker) else {
         return Err(Stop::OutOfMemory);
     };
-    match advance(&mut top, &scheduler.pool, alloc, code, k) {
+    // A pool says that no more words are out than a thread may hold.
+    let _live = scheduler.pool.live();
+    match advance(&mut top, alloc, code, k) {
         Ok(next) => go_on(scheduler, k, limit, worker, deque, top, next),
         Err(_) => {
             put_back(scheduler, worker, deque, top);

@@ -1,6 +1,6 @@
 //! The top thread of a worker's deque is taken out for an event, and put back.
 
-ghost use Rattle.std.specs.Prelude.{◌≡◌, ◌≤◌, ◌∷◌, ℕ, List as AnyList, Some, OnOk, IfOk, OnErr, IsSome};
+ghost use Rattle.std.specs.Prelude.{◌≡◌, ◌≤◌, ◌∷◌, ℕ, List as AnyList, Some, OnOk, IfOk, OnErr};
 ghost use Rattle.deque_list.specs.DequeLists.{lane_room};
 ghost use Rattle.deque_list.specs.Deques.{deque_ids};
 ghost use Rattle.deque_list.specs.Ids.{IsLive};
@@ -17,30 +17,8 @@ use boxed::Boxed;
 use core_parts::Scheduler;
 use deque_list::DequeId;
 use std::alloc::{AllocError, Global};
-use thread_frames::{Place, Thread};
-
-/// Makes a place for the thread that is forked next, where there is none: that of a thread that has ended, or a new one.
-///
-/// # Errors
-///
-/// There is not enough memory.
-fn reserve_place(
-    place: &mut Option<Place>,
-    used: &mut Option<Boxed<Thread>>,
-    alloc: Global,
-) -> Result<(), AllocError>
-    ensures { OnOk result (IsSome place.new) }
-{
-    if place.is_some() {
-        return Ok(());
-    }
-    let made = match used.take() {
-        Some(thread) => Place::of(thread)?,
-        None => Place::new(alloc)?,
-    };
-    *place = Some(made);
-    Ok(())
-}
+use thread_events::reserve_place;
+use thread_frames::Thread;
 
 /// Takes the memory that an event of a worker with this deque may need.
 ///

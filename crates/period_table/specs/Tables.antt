@@ -5,6 +5,8 @@ use Rattle.dag_order.specs.declared.action_id.ActionId.{ActionId}
 use Rattle.dag_order.specs.declared.birth.Birth.{Birth}
 use Rattle.deque_list.specs.declared.deque_id.DequeId.{DequeId}
 use Rattle.space_ledger.specs.BooksList.{books_list, books_spare}
+use Rattle.space_ledger.specs.declared.book.Closed.{Closed}
+use Rattle.quota_period.specs.declared.period.Period.{Period as OpenPeriod}
 use Rattle.period_books.specs.Periods.{Period, open_shown}
 use Rattle.period_table.specs.Numbers.{all_periods}
 use Rattle.period_table.specs.declared.seat.Seat.{Seat}
@@ -73,6 +75,10 @@ pub record ChangesSeat (seats : List (Option Seat)) (worker : ℕ) (old : Seat) 
   pub are : after ≡ slice_set seats worker (Some new)
   pub deque : new.deque ≡ old.deque
   pub shown : (w : ℕ) → open_shown w new.period ≡ change (open_shown w old.period)
+
+-- an open period as the closed one that it becomes
+abbrev pub closed_of : OpenPeriod → Closed
+closed_of p = record { number = p.number; ahead = p.ahead; book = p.book; births = p.births }
 
 -- a period that is closed
 abbrev pub shut : Period → Period

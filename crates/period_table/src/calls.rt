@@ -1,10 +1,11 @@
-ghost use Rattle.std.specs.Prelude.{◌≡◌, ◌≢◌, ◌≤◌, ◌<◌, ◌+◌, [], ◌∷◌, ◌++◌, ℕ, None, Some, IfOk, OnOk, option_copied, length, slice_get, slice_set};
+ghost use Rattle.std.specs.Prelude.{◌≡◌, ◌≢◌, ◌≤◌, ◌<◌, ◌+◌, [], ℕ, None, Some, IfOk, OnOk, option_copied, length, slice_get, slice_set};
 ghost use Rattle.language_limits.specs.declared.TheConstants.{GREATEST_QUOTA};
 ghost use Rattle.bounded_list.specs.BoundedList.{entries, spare};
-ghost use Rattle.space_ledger.specs.BooksList.{books_list, books_spare};
+ghost use Rattle.space_ledger.specs.BooksList.{books_spare};
 ghost use Rattle.period_books.specs.Periods.{Period as AnyPeriod, Adds, Replaces, open_shown};
-ghost use Rattle.period_table.specs.Tables.{HasRoomFor, ChangesSeat, birth_room, seat_in, noted, births_shown};
+ghost use Rattle.period_table.specs.Tables.{HasRoomFor, ChangesSeat, seat_in, noted, births_shown};
 
+use crate::periods::{close_in, note_in, reserve_in};
 use crate::seat::Seat;
 use crate::table::PeriodTable;
 use bounded_list::BoundedList;
@@ -150,7 +151,7 @@ impl PeriodTable {
         ensures workers { length self.new.seats.items ≡ length self.old.seats.items }
     {
         let seat = take_seat(&mut self.seats, worker);
-        self.books.add(seat.period.close());
+        close_in(&mut self.books, seat.period);
     }
 }
 
@@ -179,19 +180,6 @@ fn reserve_at(seats: &mut Vec<Option<Seat>>, worker: usize) -> Result<(), AllocE
     }
 }
 
-/// Room for an action, and for a birth, where it is not the first one.
-fn reserve_in(period: &mut Period) -> Result<(), AllocError>
-    ensures shown { (w : ℕ) → open_shown w period.new ≡ open_shown w period.old }
-    ensures book { OnOk result (1 ≤ spare period.new.book) }
-    ensures births { (first : ℕ) → 1 ≤ first → OnOk result (1 ≤ birth_room (entries period.new.births) (spare period.new.births) first) }
-{
-    period.book.reserve()?;
-    if period.births.is_empty() {
-        return Ok(());
-    }
-    period.births.reserve()
-}
-
 /// Notes an action in the period of a worker, with the words that it takes of the quota and the birth that comes with it.
 fn note_at(
     seats: &mut Vec<Option<Seat>>,
@@ -209,36 +197,7 @@ fn note_at(
     ensures none { entries first.new ≡ [] }
 {
     match &mut seats[worker] {
-        Some(seat) => add_to(&mut seat.period, first, id, words, birth),
+        Some(seat) => note_in(&mut seat.period, first, id, words, birth),
         None => unreachable!(),
     }
-}
-
-/// An action with the words that it takes of the quota and the birth that comes with it.
-fn add_to(period: &mut Period, first: &mut Births, id: ActionId, words: u32, birth: Option<Birth>)
-    requires book { 1 ≤ spare period.old.book }
-    requires births { 1 ≤ birth_room (entries period.old.births) (spare period.old.births) (spare first.old) }
-    requires none { entries first.old ≡ [] }
-    requires fits { period.old.used + words ≤ GREATEST_QUOTA }
-    ensures notes { (w : ℕ) → open_shown w period.new ≡ noted (open_shown w period.old) id words (births_shown birth) }
-    ensures none { entries first.new ≡ [] }
-{
-    period.book.add(id);
-    period.note(words);
-    if let Some(birth) = birth {
-        add_birth(&mut period.births, first, birth);
-    }
-}
-
-/// A birth. The first one of a period comes into the list that is ready for it.
-fn add_birth(births: &mut Births, first: &mut Births, birth: Birth)
-    requires room { 1 ≤ birth_room (entries births.old) (spare births.old) (spare first.old) }
-    requires none { entries first.old ≡ [] }
-    ensures births { entries births.new ≡ entries births.old ++ birth ∷ [] }
-    ensures none { entries first.new ≡ [] }
-{
-    if births.is_empty() {
-        mem::swap(births, first);
-    }
-    births.add(birth);
 }

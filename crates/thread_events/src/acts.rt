@@ -167,7 +167,8 @@ pub fn join(
     ensures pool { pool.new ≡ with_given pool.old (join_words_of top) }
 {
     let mut top = top;
-    let (name, words) = join_done(&mut top, pool);
-    put_back(list, table, worker, deque, top, name, 0);
-    words
+    let joined = join_done(&mut top);
+    joined.rows.give_all(pool);
+    put_back(list, table, worker, deque, top, joined.name, 0);
+    joined.words
 }

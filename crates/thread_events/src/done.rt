@@ -1,4 +1,4 @@
-//! What a thread does with the pool in its next action. Nothing else of a scheduler is touched.
+//! What a thread does in its next action, with the pool if the action takes or gives words. Nothing else of a scheduler is touched.
 
 ghost use Rattle.std.specs.Prelude.{◌≡◌, ◌≤◌, ◌<◌, ◌+◌, ◌↔◌, ℕ, IsErr, IfErr, IfOk, OnOk, OnErr, IsTrue};
 ghost use Rattle.block_arena.specs.Region.{with_taken, with_given};
@@ -6,18 +6,21 @@ ghost use Rattle.dag_order.specs.declared.fault.FaultAt.{FaultAt};
 ghost use Rattle.depth_first_list.specs.Actions.{record_words};
 ghost use Rattle.node_table.specs.Table.{Table};
 ghost use Rattle.thread_points.specs.Points.{words_at_end};
+ghost use Rattle.thread_state.specs.Joins.{words_released};
 ghost use Rattle.thread_frames.specs.Actions.{IsAlloc, IsRelease, IsDummy, IsFault, IsJoin, IsFork, IsEnd, is_there};
 ghost use Rattle.thread_frames.specs.Points.{IsAtPoint, IsPlaced, IsResult};
-ghost use Rattle.thread_frames.specs.Views.{children_of, next_of, words_asked, done_of, held_by, join_words_of, newest, label_of, ended_label};
+ghost use Rattle.thread_frames.specs.Views.{children_of, next_of, words_asked, done_of, held_by, join_words_of, newest, label_of, ended_label, recorded};
 ghost use Rattle.thread_frames.specs.declared.next.Next.TheVariants as nexts;
 ghost use Rattle.thread_frames.specs.declared.thread.Thread.{Thread as AnyThread};
 ghost use Rattle.thread_events.specs.Acts.{ActedAlone, ActedDummy, ActedJoin, ActedFork, ActedEnd, AllocIsCharged, Always, StaysAtPoint};
 
+use crate::finished::Finished;
 use crate::forked::Forked;
+use crate::joined::Joined;
 use block_arena::Pool;
 use boxed::Boxed;
 use dag_order::{ActionId, ThreadId};
-use thread_frames::{ArenaFull, Ended, Place, Thread};
+use thread_frames::{ArenaFull, Place, Thread};
 
 /// The name of the next action of a thread.
 pub fn name_of(thread: &Boxed<Thread>) -> ActionId
@@ -96,21 +99,20 @@ pub fn fault_done(top: &mut Boxed<Thread>, pool: &mut Pool) -> ActionId
     name
 }
 
-/// Does the Join of the newest open child, whose result was delivered; the answer has its name and the words that it gives back.
-pub fn join_done(top: &mut Boxed<Thread>, pool: &mut Pool) -> (ActionId, u64)
+/// Does the Join of the newest open child, whose result was delivered. What goes back to the pool comes with the answer.
+pub fn join_done(top: &mut Boxed<Thread>) -> Joined
     requires placed { IsPlaced top.old }
     requires next { IsJoin (next_of top.old) }
     requires delivered { IsTrue (is_there (newest (children_of top.old))) }
     requires count { done_of top.old < 4294967295 }
-    requires live { join_words_of top.old ≤ pool.old.live }
-    ensures did { ActedJoin top.old top.new result.0 }
-    ensures words { result.1 ≡ join_words_of top.old }
+    ensures did { ActedJoin top.old top.new result.name }
+    ensures words { result.words ≡ join_words_of top.old }
+    ensures rows { words_released result.rows ≡ join_words_of top.old }
     ensures point { StaysAtPoint top.old top.new }
-    ensures pool { pool.new ≡ with_given pool.old (join_words_of top.old) }
 {
     let name = name_of(top);
-    let words = top.get_mut().do_join(pool);
-    (name, words)
+    let (words, rows) = top.get_mut().do_join();
+    Joined { name, words, rows }
 }
 
 /// Does a Fork: the child gets this id, and comes to be in this place.
@@ -147,20 +149,24 @@ pub fn fork_done(
     })
 }
 
-/// Does the End of a thread; the answer has its name and the result. Of the thread there is no further use but for its place.
-pub fn end_done(top: &mut Boxed<Thread>, pool: &mut Pool) -> (ActionId, Ended)
+/// Does the End of a thread. Its record block, which goes back to the pool, comes with the answer. Of the thread there is no further use but
+/// for its place.
+pub fn end_done(top: &mut Boxed<Thread>) -> Finished
     requires placed { IsPlaced top.old }
     requires next { IsEnd (next_of top.old) }
     requires count { done_of top.old < 4294967295 }
-    requires live { words_at_end (label_of top.old) ≤ pool.old.live }
-    ensures did { ActedEnd top.old result.0 result.1 }
-    ensures id { result.1.id ≡ top.old.id }
-    ensures func { result.1.func ≡ top.old.func }
-    ensures label { ended_label result.1 ≡ label_of top.old }
-    ensures pool { pool.new ≡ with_given pool.old (words_at_end (label_of top.old)) }
-    ensures result { (t : Table) (k : ℕ) → IsAtPoint t k top.old → IsResult t k result.1 }
+    ensures did { ActedEnd top.old result.name result.ended }
+    ensures id { result.ended.id ≡ top.old.id }
+    ensures func { result.ended.func ≡ top.old.func }
+    ensures label { ended_label result.ended ≡ label_of top.old }
+    ensures record { recorded result.record ≡ words_at_end (label_of top.old) }
+    ensures result { (t : Table) (k : ℕ) → IsAtPoint t k top.old → IsResult t k result.ended }
 {
     let name = name_of(top);
-    let ended = top.get_mut().end(pool);
-    (name, ended)
+    let (ended, record) = top.get_mut().end();
+    Finished {
+        name,
+        ended,
+        record,
+    }
 }

@@ -18,7 +18,7 @@ use block_arena::Pool;
 use boxed::Boxed;
 use deque_list::{DequeId, List};
 use period_table::PeriodTable;
-use thread_frames::{Ended, Thread};
+use thread_frames::{Ended, Thread, give_record};
 
 /// Does the End of a thread whose parent stands directly below, and runs next in the same period.
 pub fn end_above(
@@ -43,9 +43,10 @@ pub fn end_above(
     ensures pool { pool.new ≡ with_given pool.old (words_at_end (label_of top.old)) }
     ensures result { (t : Table) (k : ℕ) → IsAtPoint t k top.old → IsResult t k result }
 {
-    let (name, ended) = end_done(top, pool);
-    deque_events::end_above(list, table, worker, deque, name);
-    ended
+    let finished = end_done(top);
+    give_record(finished.record, pool);
+    deque_events::end_above(list, table, worker, deque, finished.name);
+    finished.ended
 }
 
 /// Does the End of a thread that is alone in its deque, and whose parent, which waited for it, takes its place there.
@@ -75,9 +76,10 @@ pub fn end_and_wake(
     ensures pool { pool.new ≡ with_given pool.old (words_at_end (label_of top.old)) }
     ensures result { (t : Table) (k : ℕ) → IsAtPoint t k top.old → IsResult t k result }
 {
-    let (name, ended) = end_done(top, pool);
-    deque_events::end_and_wake(list, table, worker, deque, parent, name);
-    ended
+    let finished = end_done(top);
+    give_record(finished.record, pool);
+    deque_events::end_and_wake(list, table, worker, deque, parent, finished.name);
+    finished.ended
 }
 
 /// Does the End of a thread that is alone in its deque and for which nobody waits: the deque leaves the list, and the period ends.
@@ -104,7 +106,8 @@ pub fn end_and_leave(
     ensures pool { pool.new ≡ with_given pool.old (words_at_end (label_of top.old)) }
     ensures result { (t : Table) (k : ℕ) → IsAtPoint t k top.old → IsResult t k result }
 {
-    let (name, ended) = end_done(top, pool);
-    deque_events::end_and_leave(list, table, worker, deque, name);
-    ended
+    let finished = end_done(top);
+    give_record(finished.record, pool);
+    deque_events::end_and_leave(list, table, worker, deque, finished.name);
+    finished.ended
 }

@@ -26,31 +26,31 @@ impl Thread {
     ghost use Rattle.thread_frames.specs.Points.{IsAtPoint, IsPlaced, IsResult};
     ghost use Rattle.thread_frames.specs.Actions.{IsEnd};
 
-    /// Does the End that is prepared: the record block goes back to the pool, and what is left is the result of the thread. Of the thread
-    /// there is no further use but for its place.
-    pub fn end(&mut self, pool: &mut Pool) -> Ended
+    /// Does the End that is prepared. Returns the result of the thread and its record block, which the caller gives to the pool
+    /// ([`give_record`]); the root has none. Of the thread there is no further use but for its place.
+    pub fn end(&mut self) -> (Ended, Option<RecordBlock>)
         requires placed { IsPlaced self.old }
         requires next { IsEnd (next_of self.old) }
         requires count { done_of self.old < 4294967295 }
-        requires live { words_at_end (label_of self.old) ≤ pool.old.live }
-        ensures id { result.id ≡ self.old.id }
-        ensures parent { result.parent ≡ self.old.parent }
-        ensures func { result.func ≡ self.old.func }
-        ensures label { ended_label result ≡ label_of self.old }
-        ensures words { ended_words result + words_at_end (label_of self.old) ≡ thread_words self.old }
-        ensures pool { pool.new ≡ with_given pool.old (words_at_end (label_of self.old)) }
-        ensures result { (t : Table) (k : ℕ) → IsAtPoint t k self.old → IsResult t k result }
+        ensures id { result.0.id ≡ self.old.id }
+        ensures parent { result.0.parent ≡ self.old.parent }
+        ensures func { result.0.func ≡ self.old.func }
+        ensures label { ended_label result.0 ≡ label_of self.old }
+        ensures words { ended_words result.0 + words_at_end (label_of self.old) ≡ thread_words self.old }
+        ensures record { recorded result.1 ≡ words_at_end (label_of self.old) }
+        ensures result { (t : Table) (k : ℕ) → IsAtPoint t k self.old → IsResult t k result.0 }
     {
-        give_record(self.record_block.take(), pool);
+        let record = self.record_block.take();
         self.run.state.count_action();
         let alloc = *self.run.frames.allocator();
-        Ended {
+        let ended = Ended {
             id: self.id,
             parent: self.parent,
             func: self.func,
             state: mem::replace(&mut self.run.state, ThreadState::blank(alloc)),
             told: mem::replace(&mut self.run.told, Told::new(alloc)),
-        }
+        };
+        (ended, record)
     }
 
     /// All blocks of the thread go back to the pool, its record block and those of delivered results among them, and it is no more.
@@ -105,8 +105,8 @@ impl Ended {
     }
 }
 
-/// A record block goes back to the pool, where there is one.
-fn give_record(block: Option<RecordBlock>, pool: &mut Pool)
+/// Gives a record block back to the pool, if there is one.
+pub fn give_record(block: Option<RecordBlock>, pool: &mut Pool)
     requires { recorded block ≤ pool.old.live }
     ensures { pool.new ≡ with_given pool.old (recorded block) }
 {

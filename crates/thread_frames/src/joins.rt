@@ -1,11 +1,10 @@
 //! Deliveries and Joins: how the results of children come back.
 
 ghost use Rattle.std.specs.Prelude.{◌≡◌, ◌≤◌, ◌<◌, ◌+◌, ℕ, Bool, List, [], ◌∷◌, length, false, IsTrue};
-ghost use Rattle.block_arena.specs.Region.{with_given};
 ghost use Rattle.depth_first_run.specs.States.{Setting};
 ghost use Rattle.depth_first_list.specs.Facts.{words_at};
 ghost use Rattle.node_table.specs.Table.{Table};
-ghost use Rattle.thread_state.specs.Joins.{released};
+ghost use Rattle.thread_state.specs.Joins.{released, words_released};
 ghost use Rattle.std.specs.Prelude.{option_copied};
 ghost use Rattle.thread_frames.specs.Views.{newest as newest_child, result_of};
 ghost use Rattle.thread_frames.specs.Children.{place_in};
@@ -15,12 +14,11 @@ use crate::ended::Ended;
 use crate::open_child::OpenChild;
 use crate::prepared::Prepared;
 use crate::thread::Thread;
-use block_arena::Pool;
 use dag_order::ThreadId;
 use std::mem;
 use thread_output::Told;
 use thread_stack::Branch;
-use thread_state::ThreadState;
+use thread_state::{ReleasedRows, ThreadState};
 
 impl Thread {
     ghost use Rattle.thread_frames.specs.Views.{Child, children_of, next_of, label_of, done_of, forks_of, thread_words, ended_words, join_words_of, newest};
@@ -74,17 +72,16 @@ impl Thread {
         self.run.state.join_releases(&child.state)
     }
 
-    /// Does the Join that is prepared: what the child brings is taken in, or given back where a fault ended the child or its parent. The
-    /// answer is the words given back.
-    pub fn do_join(&mut self, pool: &mut Pool) -> u64
+    /// Does the Join that is prepared: what the child brings is taken in, or comes out for the pool if a fault ended the child or its
+    /// parent. Returns the words that come out and the rows with them, which the caller gives to the pool.
+    pub fn do_join(&mut self) -> (u64, ReleasedRows)
         requires placed { IsPlaced self.old }
         requires next { IsJoin (next_of self.old) }
         requires delivered { IsTrue (is_there (newest (children_of self.old))) }
         requires count { done_of self.old < 4294967295 }
-        requires live { join_words_of self.old ≤ pool.old.live }
-        ensures words { result ≡ join_words_of self.old }
-        ensures joined { HasJoined result self.old self.new }
-        ensures pool { pool.new ≡ with_given pool.old result }
+        ensures words { result.0 ≡ join_words_of self.old }
+        ensures rows { words_released result.1 ≡ join_words_of self.old }
+        ensures joined { HasJoined result.0 self.old self.new }
         ensures point { (t : Table) (k : ℕ) → IsAtPoint t k self.old → IsAtPoint t k self.new }
     {
         let Prepared::Join { branch, assigned } = mem::replace(
@@ -101,11 +98,11 @@ impl Thread {
             unreachable!();
         };
         let words = self.run.state.join_releases(&ended.state);
-        join_state(&mut self.run.state, branch, ended.state, &assigned, pool);
+        let rows = join_state(&mut self.run.state, branch, ended.state, &assigned);
         let alloc = *assigned.allocator();
         let own = mem::replace(&mut self.run.told, Told::new(alloc));
         self.run.told = before.then(ended.told.then(own));
-        words
+        (words, rows)
     }
 }
 
@@ -131,22 +128,20 @@ fn newest_result(children: &Vec<OpenChild>) -> Option<&Ended>
     }
 }
 
-/// The Join of the state of a thread.
+/// The Join of the state of a thread; the answer is what comes out of it.
 fn join_state(
     state: &mut ThreadState,
     branch: Branch,
     child: ThreadState,
     assigned: &[u16],
-    pool: &mut Pool,
-)
+) -> ReleasedRows
     requires count { state.old.done < 4294967295 }
     requires can { state.old.faulted ≡ false → child.faulted ≡ false → CanJoin branch assigned.now state.old child }
-    requires live { released state.old child ≤ pool.old.live }
     ensures state { JoinsState branch assigned.now state.old state.new child }
-    ensures pool { pool.new ≡ with_given pool.old (released state.old child) }
+    ensures words { words_released result ≡ released state.old child }
 {
     match branch {
-        Branch::Par(_) => state.join(child, assigned, pool),
-        Branch::Dummies => state.join_dummies(child, pool),
+        Branch::Par(_) => state.join(child, assigned),
+        Branch::Dummies => state.join_dummies(child),
     }
 }

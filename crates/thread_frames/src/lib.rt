@@ -7,7 +7,7 @@
 //!
 //! Its one theorem: at each time a thread is at its point of the depth-first run, whatever the other threads have done. What it does next
 //! is the action that the depth-first list has under its label and index, with its words; each call of an action brings it to its next
-//! point, and changes the pool by just these words; and its result is what the depth-first run has at its End, so that the result of the
+//! point, and takes just these words from the pool, gives them back, or answers what has to go back; and its result is what the depth-first run has at its End, so that the result of the
 //! root tells the whole run. Want of memory is the one free answer: of [`Thread::root`], [`Thread::advance`] and [`Ended::lines`].
 #![tactic(auto)]
 
@@ -26,6 +26,7 @@ mod prepared;
 mod thread;
 
 pub use ended::Ended;
+pub use ends::give_record;
 pub use error::ArenaFull;
 pub use next::Next;
 pub use place::Place;

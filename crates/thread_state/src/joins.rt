@@ -2,19 +2,18 @@
 
 ghost use Rattle.std.specs.Prelude.{◌≡◌, ◌≤◌, ◌<◌, ◌+◌, ◌∷◌, [], ℕ, Bool, List, length, filter, false};
 ghost use Rattle.par_tree.specs.Tree.{Name};
-ghost use Rattle.block_arena.specs.Region.{with_given};
 ghost use Rattle.node_table.specs.Reading.{AreSlots, FitsSlots};
 ghost use Rattle.depth_first_run.specs.States.{State, given_back, joined};
 ghost use Rattle.depth_first_run.specs.Run.{no_name};
 
+use crate::released_rows::ReleasedRows;
 use crate::state::ThreadState;
-use crate::words::give_rows;
-use block_arena::Pool;
+use crate::words::take_rows;
 
 impl ThreadState {
     ghost use Rattle.thread_state.specs.States.{IsState, words_held, own_row};
     ghost use Rattle.thread_state.specs.Effects.{Goes};
-    ghost use Rattle.thread_state.specs.Joins.{released, CanTakeIn};
+    ghost use Rattle.thread_state.specs.Joins.{released, words_released, CanTakeIn};
 
     /// How many words the Join of a child gives back: all that the child brings to a thread that a fault ended, or all that the thread holds
     /// where a fault ended the child; else none.
@@ -33,41 +32,42 @@ impl ThreadState {
     }
 
     /// The Join of a child that ran a branch and has ended: the integers of the slots `assigned` are the child's, and all its blocks come
-    /// back. Where a fault ended the thread or the child, all that is left of both goes back to the pool.
-    pub fn join(&mut self, child: ThreadState, assigned: &[u16], pool: &mut Pool)
+    /// back. Where a fault ended the thread or the child, all that is left of both comes out as rows, for the pool.
+    pub fn join(&mut self, child: ThreadState, assigned: &[u16]) -> ReleasedRows
         requires count { self.old.done < 4294967295 }
         requires can { self.old.faulted ≡ false → child.faulted ≡ false → CanTakeIn (own_row self.old) (own_row child) assigned.now }
-        requires live { released self.old child ≤ pool.old.live }
         ensures state { (contexts : List (List Name)) (names : List Name) (assigns : Name → Bool) (ordinal : ℕ) (d : State)
             → IsState (names ∷ []) child d → AreSlots names assigned.now (filter assigns names)
             → Goes (names ∷ contexts) (names ∷ contexts) self.old self.new (joined assigns ordinal d) }
-        ensures pool { pool.new ≡ with_given pool.old (released self.old child) }
+        ensures words { words_released result ≡ released self.old child }
     {
         self.done += 1;
         if self.faulted {
-            child.give_all(pool);
+            child.into_rows()
         } else if child.faulted {
-            give_rows(&mut self.slots, &mut self.callers, pool);
             self.faulted = true;
+            take_rows(&mut self.slots, &mut self.callers)
         } else {
             self.slots.take_in(child.slots, assigned);
+            ReleasedRows::none(*self.callers.allocator())
         }
     }
 
-    /// The Join of a child that ran a tree of dummies and has ended. It brings nothing.
-    pub fn join_dummies(&mut self, child: ThreadState, pool: &mut Pool)
+    /// The Join of a child that ran a tree of dummies and has ended. It brings nothing. What `join` says of faults is so here too.
+    pub fn join_dummies(&mut self, child: ThreadState) -> ReleasedRows
         requires count { self.old.done < 4294967295 }
-        requires live { released self.old child ≤ pool.old.live }
         ensures state { (contexts : List (List Name)) (ordinal : ℕ) (d : State) → IsState ([] ∷ []) child d
             → Goes contexts contexts self.old self.new (joined no_name ordinal d) }
-        ensures pool { pool.new ≡ with_given pool.old (released self.old child) }
+        ensures words { words_released result ≡ released self.old child }
     {
         self.done += 1;
         if self.faulted {
-            child.give_all(pool);
+            child.into_rows()
         } else if child.faulted {
-            give_rows(&mut self.slots, &mut self.callers, pool);
             self.faulted = true;
+            take_rows(&mut self.slots, &mut self.callers)
+        } else {
+            ReleasedRows::none(*self.callers.allocator())
         }
     }
 }

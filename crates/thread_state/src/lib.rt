@@ -17,11 +17,13 @@ mod ends;
 mod fork_room;
 mod forks;
 mod joins;
+mod released_rows;
 mod simple;
 mod state;
 mod stop;
 mod words;
 
 pub use fork_room::ForkRoom;
+pub use released_rows::ReleasedRows;
 pub use state::ThreadState;
 pub use stop::Stop;

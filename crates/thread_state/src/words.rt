@@ -9,10 +9,13 @@ ghost use Rattle.depth_first_run.specs.States.{State, holdings, with_fault};
 ghost use Rattle.slot_store.specs.Rows.{row_words};
 ghost use Rattle.slot_store.specs.Shown.{slots_shown};
 ghost use Rattle.thread_state.specs.Rows.{all_words};
+ghost use Rattle.thread_state.specs.Joins.{words_released};
 
+use crate::released_rows::ReleasedRows;
 use crate::state::ThreadState;
 use block_arena::Pool;
 use slot_store::Slots;
+use std::alloc::Global;
 use std::mem;
 
 impl ThreadState {
@@ -38,7 +41,7 @@ impl ThreadState {
         ensures words { (contexts : List (List Name)) (s : State) → IsState contexts self.old s
             → pool.new ≡ with_given pool.old (holdings s) }
     {
-        give_rows(&mut self.slots, &mut self.callers, pool);
+        take_rows(&mut self.slots, &mut self.callers).give_all(pool);
         self.faulted = true;
         self.done += 1;
     }
@@ -49,6 +52,36 @@ impl ThreadState {
         ensures pool { pool.new ≡ with_given pool.old (words_held self) }
         ensures words { (contexts : List (List Name)) (s : State) → IsState contexts self s
             → pool.new ≡ with_given pool.old (holdings s) }
+    {
+        self.into_rows().give_all(pool);
+    }
+
+    /// The rows of the thread, which is no more.
+    pub(crate) fn into_rows(self) -> ReleasedRows
+        ensures { words_released result ≡ words_held self }
+    {
+        ReleasedRows {
+            slots: self.slots,
+            callers: self.callers,
+        }
+    }
+}
+
+impl ReleasedRows {
+    /// No rows.
+    pub(crate) fn none(alloc: Global) -> ReleasedRows
+        ensures { words_released result ≡ 0 }
+    {
+        ReleasedRows {
+            slots: Slots::empty(alloc),
+            callers: Vec::new(alloc),
+        }
+    }
+
+    /// The blocks of the rows go back to the pool.
+    pub fn give_all(self, pool: &mut Pool)
+        requires { words_released self ≤ pool.old.live }
+        ensures { pool.new ≡ with_given pool.old (words_released self) }
     {
         self.slots.give_all(pool);
         give_each(self.callers, pool);
@@ -68,18 +101,17 @@ fn words_of_rows(rows: &[Slots]) -> u64
     words
 }
 
-/// All blocks of the rows of a thread go back to the pool. One row without slots is left.
-pub(crate) fn give_rows(slots: &mut Slots, callers: &mut Vec<Slots>, pool: &mut Pool)
-    requires { row_words (slots_shown slots.old) + all_words (map slots_shown callers.old.items) ≤ pool.old.live }
+/// Takes the rows of a thread out. One row without slots is left.
+pub(crate) fn take_rows(slots: &mut Slots, callers: &mut Vec<Slots>) -> ReleasedRows
     ensures slots { slots_shown slots.new ≡ [] }
     ensures callers { callers.new.items ≡ [] }
-    ensures pool { pool.new ≡ with_given pool.old (row_words (slots_shown slots.old) + all_words (map slots_shown callers.old.items)) }
+    ensures words { words_released result ≡ row_words (slots_shown slots.old) + all_words (map slots_shown callers.old.items) }
 {
     let alloc = *callers.allocator();
-    let row = mem::replace(slots, Slots::empty(alloc));
-    row.give_all(pool);
-    let rows = mem::replace(callers, Vec::new(alloc));
-    give_each(rows, pool);
+    ReleasedRows {
+        slots: mem::replace(slots, Slots::empty(alloc)),
+        callers: mem::replace(callers, Vec::new(alloc)),
+    }
 }
 
 /// All blocks of some rows go back to the pool.

@@ -14,7 +14,7 @@ use crate::trace::Trace;
 use crate::wrong::Wrong;
 use block_arena::Pool;
 use dag_order::{Placed, ThreadId};
-use thread_frames::{Ended, Next, Place, Thread};
+use thread_frames::{Ended, Next, Place, Thread, give_record};
 
 /// The words that a thread gives back at its End.
 fn words_at_end(thread: &Thread) -> u64
@@ -147,7 +147,8 @@ fn join(family: &mut Family, pool: &mut Pool, child: ThreadId) -> Result<(), Wro
     if pool.live() < family.thread.join_releases() {
         return Err(Wrong::OtherWords);
     }
-    family.thread.do_join(pool);
+    let (_, rows) = family.thread.do_join();
+    rows.give_all(pool);
     Ok(())
 }
 
@@ -193,7 +194,9 @@ pub(crate) fn end(thread: Thread, pool: &mut Pool) -> Result<Ended, Wrong>
         return Err(Wrong::OtherWords);
     }
     let mut thread = thread;
-    Ok(thread.end(pool))
+    let (ended, record) = thread.end();
+    give_record(record, pool);
+    Ok(ended)
 }
 
 /// Takes the oldest of the children that stand aside.

@@ -34,11 +34,13 @@ advance-requires-clause-point c =
     point_at_top (code_shown c.args.code.now) (quota_words c.args.k) c.args.limit c.take_top.new.scheduler takes.stands c.in-Ok.top sound
     (taken_points (code_shown c.args.code.now) (quota_words c.args.k) c.args.limit c.args.scheduler.now c.take_top.new.scheduler c.args.worker c.in-Ok.deque c.in-Ok.top takes c.requires.points)
 
-pub advance-requires-clause-out : goal.advance-requires-clause-out
-advance-requires-clause-out c =
+pub advance-requires-clause-fits : goal.advance-requires-clause-fits
+advance-requires-clause-fits c =
     let takes = c.in-Ok.ensures.takes in
-    words_at_top (code_shown c.args.code.now) (quota_words c.args.k) c.args.limit c.take_top.new.scheduler takes.stands c.in-Ok.top
-    (taken_sound (code_shown c.args.code.now) (quota_words c.args.k) c.args.limit c.args.scheduler.now c.take_top.new.scheduler c.args.worker c.in-Ok.deque c.in-Ok.top takes c.requires.sound)
+    let few = words_at_top (code_shown c.args.code.now) (quota_words c.args.k) c.args.limit c.take_top.new.scheduler takes.stands c.in-Ok.top
+    (taken_sound (code_shown c.args.code.now) (quota_words c.args.k) c.args.limit c.args.scheduler.now c.take_top.new.scheduler c.args.worker c.in-Ok.deque c.in-Ok.top takes c.requires.sound) in
+    let raised = c.live-live.ensures.sound.raised in let within = c.live-live.ensures.sound.within in let greatest = c.live-live.ensures.sound.greatest in
+    omega (arith, few, raised, within, greatest)
 
 pub advance-requires-clause-few : goal.advance-requires-clause-few
 advance-requires-clause-few c =

@@ -9,8 +9,8 @@ pub returns-clause-notes : goal.returns-clause-notes
 returns-clause-notes c seat is =
     let same = read_seat c.args.seats.now.items c.args.worker seat c.in-Some.seat c.index_mut.result.now is c.index_mut.ensures.value c.in-Some.is in
     record {
-      new = record { deque = c.in-Some.seat.deque; period = c.add_to.new.period };
+      new = record { deque = c.in-Some.seat.deque; period = c.note_in.new.period };
       are = refl;
       deque = ap (λ (s : Seat). s.deque) same;
-      shown = λ w. c.add_to.ensures.notes w ∙ ap (λ (s : Seat). noted (open_shown w s.period) c.args.id c.args.words (births_shown c.args.birth)) same;
+      shown = λ w. c.note_in.ensures.notes w ∙ ap (λ (s : Seat). noted (open_shown w s.period) c.args.id c.args.words (births_shown c.args.birth)) same;
     }

@@ -11,8 +11,8 @@ do_join-words-requires-clause-placed c = placed_seen c.get_mut.result.now c.args
 
 pub returns-clause-did : goal.returns-clause-did
 returns-clause-did c setting k child is =
-    let joined = subst (λ (x : Thread). HasJoined c.do_join-words.result x c.do_join-words.new.self) c.get_mut.ensures.value c.do_join-words.ensures.joined in
-    let words = subst (λ (x : Thread). c.do_join-words.result ≡ join_words_of x) c.get_mut.ensures.value c.do_join-words.ensures.words in
+    let joined = subst (λ (x : Thread). HasJoined c.do_join-words.result.0 x c.do_join-words.new.self) c.get_mut.ensures.value c.do_join-words.ensures.joined in
+    let words = subst (λ (x : Thread). c.do_join-words.result.0 ≡ join_words_of x) c.get_mut.ensures.value c.do_join-words.ensures.words in
     join_did setting k c.args.top.now c.do_join-words.new.self c.name_of-name.result c.name_of-name.ensures.by c.name_of-name.ensures.index _ joined
     c.requires.delivered words child is
 

@@ -26,8 +26,8 @@ unreachable-requires-in_default-ended c =
     c.requires.delivered)
     (sym c.in_default-ended.is)
 
-pub join_state-requires-clause-can : goal.join_state-requires-clause-can
-join_state-requires-clause-can c = λ going child_going.
+pub join_state-rows-requires-clause-can : goal.join_state-rows-requires-clause-can
+join_state-rows-requires-clause-can c = λ going child_going.
     let b = c.args.self.now in
     let x = c.in-Some.child in
     let e = c.in-Some-ended.ended in
@@ -36,17 +36,6 @@ join_state-requires-clause-can c = λ going child_going.
     ∣ can_take setting t b.func b.run c.pop.new.self.items x e b.record_block c.in-Join.branch c.in-Join.assigned c.deref.result.now c.in-Some-ended.is c.deref.ensures.value of.owned
     (subst (λ xs. At setting t b.func b.run xs b.record_block (Join c.in-Join.branch c.in-Join.assigned)) c.in-Some.ensures.items
     (prepared_as setting t b.func b.run b.children.items b.record_block _ b.prepared (sym is) y)) going child_going ∣₁))
-
-pub join_state-requires-clause-live : goal.join_state-requires-clause-live
-join_state-requires-clause-live c =
-    let b = c.args.self.now in
-    let x = c.in-Some.child in
-    let e = c.in-Some-ended.ended in
-    let last = ap newest c.in-Some.ensures.items ∙ newest_of c.pop.new.self.items x in
-    let words : join_words_of b ≡ released b.run.state e.state =
-    ap (λ (o : Option OpenChild). released_by b (result_of o)) last ∙ ap (λ (o : Option Ended). released_by b o) c.in-Some-ended.is in
-    let live = c.requires.live in
-    omega (arith, words, live)
 
 pub returns-clause-words : goal.returns-clause-words
 returns-clause-words c =
@@ -58,16 +47,26 @@ returns-clause-words c =
     ap (λ (o : Option OpenChild). released_by b (result_of o)) last ∙ ap (λ (o : Option Ended). released_by b o) c.in-Some-ended.is in
     c.join_releases-words.ensures.words ∙ sym words
 
+pub returns-clause-rows : goal.returns-clause-rows
+returns-clause-rows c =
+    let b = c.args.self.now in
+    let x = c.in-Some.child in
+    let e = c.in-Some-ended.ended in
+    let last = ap newest c.in-Some.ensures.items ∙ newest_of c.pop.new.self.items x in
+    let words : join_words_of b ≡ released b.run.state e.state =
+    ap (λ (o : Option OpenChild). released_by b (result_of o)) last ∙ ap (λ (o : Option Ended). released_by b o) c.in-Some-ended.is in
+    c.join_state-rows.ensures.words ∙ sym words
+
 pub returns-clause-joined : goal.returns-clause-joined
 returns-clause-joined c =
     let b = c.args.self.now in
     let x = c.in-Some.child in
     let e = c.in-Some-ended.ended in
     let is = sym c.replace.ensures.value ∙ c.in-Join.is in
-    let st : Joined b.run.state c.join_state.new.state e.state = joined_had b.run.state c.join_state.new.state e.state (placed_gives b ∥∥₁_prop c.requires.placed (λ t k setting of y.
+    let st : Joined b.run.state c.join_state-rows.new.state e.state = joined_had b.run.state c.join_state-rows.new.state e.state (placed_gives b ∥∥₁_prop c.requires.placed (λ t k setting of y.
     ∣ joined_counts setting t b.func b.run c.pop.new.self.items x e b.record_block c.in-Join.branch c.in-Join.assigned c.deref.result.now c.in-Some-ended.is c.deref.ensures.value of.owned
     (subst (λ xs. At setting t b.func b.run xs b.record_block (Join c.in-Join.branch c.in-Join.assigned)) c.in-Some.ensures.items
-    (prepared_as setting t b.func b.run b.children.items b.record_block _ b.prepared (sym is) y)) c.join_state.new.state c.join_state.ensures.state ∣₁)) in
+    (prepared_as setting t b.func b.run b.children.items b.record_block _ b.prepared (sym is) y)) c.join_state-rows.new.state c.join_state-rows.ensures.state ∣₁)) in
     record {
       same = record { id = refl; parent = refl; func = refl; label = st.label };
       done = st.done;
@@ -93,6 +92,6 @@ returns-clause-point c = λ t k.
     prepared_as setting t b.func _ c.pop.new.self.items b.record_block _ Nothing c.replace.ensures.after
     (joined_at setting t b.func b.run c.pop.new.self.items x e b.record_block c.in-Join.branch c.in-Join.assigned c.deref.result.now c.in-Some-ended.is c.deref.ensures.value of.owned
     (subst (λ xs. At setting t b.func b.run xs b.record_block (Join c.in-Join.branch c.in-Join.assigned)) c.in-Some.ensures.items
-    (prepared_as setting t b.func b.run b.children.items b.record_block _ b.prepared (sym is) y)) c.join_state.new.state c.then-2.result c.join_state.ensures.state
+    (prepared_as setting t b.func b.run b.children.items b.record_block _ b.prepared (sym is) y)) c.join_state-rows.new.state c.then-2.result c.join_state-rows.ensures.state
     (λ front of_child own_part f g h. c.then-2.ensures.items front (of_child ++ own_part) f
     (c.then.ensures.items of_child own_part g (subst (λ z. Tells z own_part) (sym c.replace-own.ensures.value) h)))))

@@ -1,24 +1,12 @@
-use Rattle.std.proofs.Common.{refl, sym, ◌∙◌, ap, arith}
+use Rattle.std.proofs.Common.{refl, sym, ◌∙◌, ap}
 use denote.Struct.Props.{props}
 use Rattle.std.proofs.Math.Logic.{∥∥₁_map}
-use Rattle.block_arena.specs.Region.{with_given}
 use Rattle.thread_points.specs.Points.{words_at_end}
 use Rattle.thread_frames.specs.Views.{recorded}
 use Rattle.thread_frames.specs.declared.prepared.Prepared.TheVariants.{End}
 use Rattle.thread_frames.proofs.Placed.{placed_gives, prepared_as}
 use Rattle.thread_frames.proofs.Ending.{is_end, taken_out, ended_label_is, words_left, end_result}
 use Rattle.thread_frames.proofs.thread.Thread.end.Goals as goal
-
-pub give_record-requires : goal.give_record-requires
-give_record-requires c =
-    let b = c.args.self.now in
-    let is = is_end b.children.items b.prepared c.requires.next in
-    let live = c.requires.live in
-    let taken = ap recorded c.take.ensures.value in
-    placed_gives b (search props) c.requires.placed (λ t k setting of x.
-    (let a = prepared_as setting t b.func b.run b.children.items b.record_block End b.prepared (sym is) x in
-    let block = a.record_block ∙ ap words_at_end (sym a.stands.state.label) in
-    omega (arith, live, block, taken)))
 
 pub returns-clause-label : goal.returns-clause-label
 returns-clause-label c =
@@ -38,13 +26,13 @@ returns-clause-words c =
     (let a = prepared_as setting t b.func b.run b.children.items b.record_block End b.prepared (sym is) x in
     words_left setting t b.func b.run b.children.items b.record_block _ goes a))
 
-pub returns-clause-pool : goal.returns-clause-pool
-returns-clause-pool c =
+pub returns-clause-record : goal.returns-clause-record
+returns-clause-record c =
     let b = c.args.self.now in
     let is = is_end b.children.items b.prepared c.requires.next in
-    c.give_record.ensures ∙ ap (λ n. with_given c.args.pool.now n) (ap recorded c.take.ensures.value ∙ placed_gives b (search props) c.requires.placed (λ t k setting of x.
+    ap recorded c.take-record.ensures.value ∙ placed_gives b (search props) c.requires.placed (λ t k setting of x.
     (let a = prepared_as setting t b.func b.run b.children.items b.record_block End b.prepared (sym is) x in
-    a.record_block ∙ ap words_at_end (sym a.stands.state.label))))
+    a.record_block ∙ ap words_at_end (sym a.stands.state.label)))
 
 pub returns-clause-result : goal.returns-clause-result
 returns-clause-result c = λ t k at.

@@ -11,7 +11,7 @@ returns-then-self-clause-state c = λ contexts names assigns ordinal d of_child 
 pub returns-then-child-clause-state : goal.returns-then-child-clause-state
 returns-then-child-clause-state c = λ contexts names assigns ordinal d of_child slots s is.
     joins_of_faulted _ names c.args.self.now _ c.args.child s d assigns ordinal c.if-self.false c.if-child.true of_child
-    refl refl refl refl refl refl c.give_rows.ensures.slots c.give_rows.ensures.callers is
+    refl refl refl refl refl refl c.take_rows.ensures.slots c.take_rows.ensures.callers is
 
 pub returns-else-child-clause-state : goal.returns-else-child-clause-state
 returns-else-child-clause-state c = λ contexts names assigns ordinal d of_child slots s is.

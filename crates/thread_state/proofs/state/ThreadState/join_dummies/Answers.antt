@@ -11,7 +11,7 @@ returns-then-self-clause-state c = λ contexts ordinal d of_child s is.
 pub returns-then-child-clause-state : goal.returns-then-child-clause-state
 returns-then-child-clause-state c = λ contexts ordinal d of_child s is.
     joins_of_faulted contexts [] c.args.self.now _ c.args.child s d no_name ordinal c.if-self.false c.if-child.true of_child
-    refl refl refl refl refl refl c.give_rows.ensures.slots c.give_rows.ensures.callers is
+    refl refl refl refl refl refl c.take_rows.ensures.slots c.take_rows.ensures.callers is
 
 pub returns-clause-state : goal.returns-clause-state
 returns-clause-state c = λ contexts ordinal d of_child s is.

@@ -2,7 +2,7 @@ use Rattle.std.proofs.Common.{sym, ◌∙◌, ap}
 use Rattle.thread_frames.specs.Children.{is_delivered}
 use Rattle.thread_frames.specs.Views.{children_of}
 use Rattle.thread_frames.specs.declared.thread.Thread.{Thread}
-use Rattle.owner_steps.proofs.results.take_result.Goals as goal
+use Rattle.thread_events.proofs.results.take_result.Goals as goal
 
 pub hand_over-requires : goal.hand_over-requires
 hand_over-requires c =
