@@ -4,9 +4,7 @@ ghost use Rattle.command_line.specs.declared.setting.Setting.{Setting};
 
 use crate::command_kind::CommandKind;
 use crate::rule::{GREATEST_SEED, Rule};
-use language_limits::{
-    GREATEST_QUOTA, LEAST_QUOTA, MOST_DEQUES, MOST_WORDS, MOST_WORKERS,
-};
+use language_limits::{GREATEST_QUOTA, LEAST_QUOTA, MOST_DEQUES, MOST_WORDS, MOST_WORKERS};
 
 /// An option of a command.
 #[derive(Clone, Copy, PartialEq, Eq, Debug)]

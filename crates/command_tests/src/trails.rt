@@ -6,7 +6,8 @@ use std::process::Abort;
 use std::test::Fail;
 
 /// Plays that are recorded, stopped or refused.
-const RECORDED: &str = "trail --k 16 --p 1|0|trail k 16 p 1 arena 1048576 steps 400000 deques 4096~source 56~fn main() { par { print 1; } and { print 2; } print 3; }~0 steal 0~0 act~0 act~0 act~0 act~end periods 1 ahead 0 high 16~|\
+const RECORDED: &str =
+    "trail --k 16 --p 1|0|trail k 16 p 1 arena 1048576 steps 400000 deques 4096~source 56~fn main() { par { print 1; } and { print 2; } print 3; }~0 steal 0~0 act~0 act~0 act~0 act~end periods 1 ahead 0 high 16~|\
 fn main() { par { print 1; } and { print 2; } print 3; }
 @trail --k 16 --p 2 --seed 5|0|trail k 16 p 2 arena 1048576 steps 400000 deques 4096~source 56~fn main() { par { print 1; } and { print 2; } print 3; }~0 steal 0~0 act~1 steal 0~1 suspend~0 act~0 act~0 act~end periods 2 ahead 1 high 16~|\
 fn main() { par { print 1; } and { print 2; } print 3; }

@@ -31,4 +31,4 @@ pub use parts::{CoreEnd, CoreParts};
 pub use player::{most_turns, play};
 pub use run::Core;
 pub use run_end::{OutputFail, RunEnd, Stepped};
-pub use turn::{draw_turn, Turn};
+pub use turn::{Turn, draw_turn};

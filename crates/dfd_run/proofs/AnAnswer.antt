@@ -198,7 +198,7 @@ verify_answer bytes = elim (each_read bytes) [
   | inl trail ↦
       let t = trail.0 in let least = trail.1.0.setting.quota.0 in
       let given = source_answer (VerifyMakes t) t.source (λ p is own.
-          let a = a_trail_has_an_answer (setting_of p t.k) t (omega (arith, least)) in told_answer t p is own a.0 a.1) in
+      let a = a_trail_has_an_answer (setting_of p t.k) t (omega (arith, least)) in told_answer t p is own a.0 a.1) in
       (given.0, (given.1.0, inr (t, (trail.1, given.1.1))))
   | inr refused ↦ (TrailRefused, (not_trail_text refused.0, inl (refused.0, (refused.1, (refl, refl)))))
 ]

@@ -74,9 +74,10 @@ module _ (command : Command) (bytes trail : List ℕ) (ranges : HasRanges (recor
         events = refl;
         numbers = record { periods = refl; ahead = refl; high = records.1.0 };
       } in
-      let a = laws.recorded_trails_are_accepted (setting_of p command.k) t o in
-      (trail_ok_text t.numbers a.1.0,
-      inr (t, (subst (λ b. IsTrail b t) (sym records.1.1) a.0, (p, (is, (own, (Ok a.1.0, (a.1.1, (refl, refl)))))))))
+      let a = laws.recorded_trails_are_accepted (setting_of p command.k) t o in (
+        trail_ok_text t.numbers a.1.0,
+        inr (t, (subst (λ b. IsTrail b t) (sym records.1.1) a.0, (p, (is, (own, (Ok a.1.0, (a.1.1, (refl, refl)))))))),
+      )
 
   verified_status : (status : Status) → (status ≡ Done) ⊎ (status ≡ UserFault) → TellsPlay (Records command bytes) command p status trail
       → (s : Status) (text : List ℕ) → VerifyGives trail s text → s ≡ Done

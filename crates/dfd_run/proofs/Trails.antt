@@ -40,9 +40,13 @@ pub recorded_makes : (command : Command) (bytes : List ℕ) (p : Program) (after
     → end_of after ≡ Some (Finished finish) → status ≡ finish_status finish
     → ((c : Setting) (run : List Pair) (m : Moment) → IsAt c after run m → events ≡ events_told run → Records command bytes c run m text)
     → TellsPlay (Records command bytes) command p status text
-recorded_makes command bytes p after finish events status text plays end is records = ∥∥₁_map plays.1 (λ w.
-    (w.0.later, w.0.last, finished, w.0.plays,
-    (is ∙ ap finish_status (w.0.is_at.finished finish end).1, records _ w.0.later w.0.last w.0.is_at w.1)))
+recorded_makes command bytes p after finish events status text plays end is records = ∥∥₁_map plays.1 (λ w. (
+  w.0.later,
+  w.0.last,
+  finished,
+  w.0.plays,
+  (is ∙ ap finish_status (w.0.is_at.finished finish end).1, records _ w.0.later w.0.last w.0.is_at w.1),
+))
 
 -- what is recorded of a play is left out
 pub played_by : (c : Setting) (terms : Terms) (words : ℕ → ℕ) (after : Core) (stop : Stop) (events : List TrailEvent)

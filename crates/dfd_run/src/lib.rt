@@ -34,15 +34,16 @@ mod trailing;
 mod verifying;
 
 pub use byte_streams::{
-    CleanSink, CleanSource, MemorySink, MemorySource, ReadFail, ReaderSource, Sink,
-    SinkFailed, Source, SourceFailed, StdinSource, StdoutSink, WriterSink, read_source, write_text,
+    CleanSink, CleanSource, MemorySink, MemorySource, ReadFail, ReaderSource, Sink, SinkFailed,
+    Source, SourceFailed, StdinSource, StdoutSink, WriterSink, read_source, write_text,
 };
 pub use call::{dfd, serve};
 pub use command_line::{Command, CommandKind, read_words};
 pub use laws::{
-    a_command_has_an_answer, accepted_trails_are_bounded, recorded_trails_are_accepted, a_command_has_one_answer, actions_suffice, arenas_stop_late,
-    arenas_suffice, commands_have_ranges, deques_suffice, loops_are_plays, moments_are_bounded,
-    plays_with_room_finish, reports_are_bounded, statuses_with_room, summaries_are_bounded,
+    a_command_has_an_answer, a_command_has_one_answer, accepted_trails_are_bounded,
+    actions_suffice, arenas_stop_late, arenas_suffice, commands_have_ranges, deques_suffice,
+    loops_are_plays, moments_are_bounded, plays_with_room_finish, recorded_trails_are_accepted,
+    reports_are_bounded, statuses_with_room, summaries_are_bounded,
 };
 pub use pcg_choices::PcgChoices;
 pub use program::exit_code;

@@ -42,8 +42,7 @@ pub fn not_ended_text(alloc: Global, events: u32) -> Result<Vec<u8>, AllocError>
 pub fn wrong_numbers_text(alloc: Global, numbers: TrailNumbers) -> Result<Vec<u8>, AllocError>
     ensures { IfOk result (λ text. text.items ≡ wrong_numbers_text numbers) }
 {
-    let line = format!(
-        in alloc;
+    let line = format!(in alloc;
         "trail WrongNumbers periods {} ahead {} high {}\n",
         numbers.periods, numbers.ahead, numbers.high
     )?;
@@ -58,8 +57,7 @@ pub fn trail_ok_text(
 ) -> Result<Vec<u8>, AllocError>
     ensures { IfOk result (λ text. text.items ≡ trail_ok_text numbers actions) }
 {
-    let text = format!(
-        in alloc;
+    let text = format!(in alloc;
         "trail ok\nperiods {}\nahead {}\nhigh {}\nactions {actions}\n",
         numbers.periods, numbers.ahead, numbers.high
     )?;

@@ -28,7 +28,9 @@ fn sinks_keep_what_they_have_room_for(rt: HostRuntime) -> Result<(), Fail> {
 #[test]
 fn sources_are_read_to_their_end(rt: HostRuntime) -> Result<(), Fail> {
     let mut source = CleanSource::new(Vec::from_slice(rt.alloc(), b"abcdefg")?);
-    let bytes = read_source(rt.alloc(), &mut source, 1_048_577).ok().ok_or("a fault")?;
+    let bytes = read_source(rt.alloc(), &mut source, 1_048_577)
+        .ok()
+        .ok_or("a fault")?;
     assert_eq!(rt; bytes.as_slice(), b"abcdefg".as_slice());
     Ok(())
 }
@@ -60,7 +62,9 @@ fn is_fault(
     source: &mut MemorySource,
     call: u32,
 ) -> Result<(), Fail> {
-    let why = read_source(alloc, source, 1_048_577).err().ok_or("no fault")?;
+    let why = read_source(alloc, source, 1_048_577)
+        .err()
+        .ok_or("no fault")?;
     assert_eq!(rt; why, ReadFail::Fault, "at {call}");
     Ok(())
 }

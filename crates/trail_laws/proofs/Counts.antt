@@ -56,7 +56,7 @@ high_fits s some list limits front m events run last reaches few (goes_on m' nex
     (high_fits s some list limits (front ++ pair_of told.worker event ∷ []) next later run' last
     (reaches_more s front (pair_of told.worker event) opening m next reaches leads.may)
     (subst (λ z. z ≤ℤ pos limits.capacity) (sym (high_more s some list front m reaches told.worker event next leads.may))
-        (both (high_water_mark s.list front) (live_at s.list next) (pos limits.capacity) few leads.within.words)) rest)
+    (both (high_water_mark s.list front) (live_at s.list next) (pos limits.capacity) few leads.within.words)) rest)
   where
     both : (x y c : ℤ) → x ≤ℤ c → y ≤ℤ c → int_max x y ≤ℤ c
     both x y c a b = omega (arith, ints, clamps)

@@ -42,13 +42,16 @@ begins_recording words start none = record {
   drawn = 0;
   coming_is = λ i. ap words (omega arith);
   setting = (refl, refl, refl);
-  along = λ c run m at. ∣ (record {
-    later = [];
-    last = m;
-    front = stays_here 0 m;
-    many = omega arith;
-    is_at = subst (λ r. IsAt c start r m) (sym (append-nil run)) at;
-  }, refl) ∣₁;
+  along = λ c run m at. ∣ (
+    record {
+      later = [];
+      last = m;
+      front = stays_here 0 m;
+      many = omega arith;
+      is_at = subst (λ r. IsAt c start r m) (sym (append-nil run)) at;
+    },
+    refl,
+  ) ∣₁;
 }
 
 -- an answer that is an error
@@ -90,9 +93,10 @@ module _ (words coming later : ℕ → ℕ) (start now after : Core) (events : �
     recorded_to : (end : RunEnd) → end_of after ≡ Some end → RecordsTo c (terms_at start) coming turn.drawn after (run ++ a.0.later) a.0.last event (Some end)
         → PlaysRecorded c (terms_at start) words later after run m end (with_event told event)
     unfolding further ended_at stopped_at lacks_at
-    recorded_to (Finished finish) is turns = ∥∥₁_map turns (λ g.
-        (ended_at c (terms_at start) words coming u.drawn turn.drawn events u.coming_is now after run m a.0 later turn.later_is (setting.2 ∙ u.setting.2) finish is g.goes,
-        told_further a.0.later g.goes.pair told event a.1 g.event_is))
+    recorded_to (Finished finish) is turns = ∥∥₁_map turns (λ g. (
+      ended_at c (terms_at start) words coming u.drawn turn.drawn events u.coming_is now after run m a.0 later turn.later_is (setting.2 ∙ u.setting.2) finish is g.goes,
+      told_further a.0.later g.goes.pair told event a.1 g.event_is,
+    ))
     recorded_to (Stopped (ArenaFull live asked)) is turns = ∥∥₁_map turns.1 (λ s.
         (stopped_at c (terms_at start) words coming u.drawn turn.drawn events u.coming_is now after run m a.0 later turn.later_is (play.arena_full (pos live) asked) s, unchanged turns.0))
     recorded_to (Stopped (DequesFull deques)) is turns = ∥∥₁_map turns.1 (λ s.

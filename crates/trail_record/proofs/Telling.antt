@@ -124,7 +124,7 @@ module _ (c : Setting) (before after : Core) (same : terms_at after ≡ terms_at
     goes = goes c before after same words worker (unwrap_or word 0) (is_some word) none run m at first draws word_is told g;
     event_is = ap (option_map (λ kind. record { worker = worker; kind = kind })) (recorded_by place stepped told is
         ∙ kind_is c before worker word place m draws victim (list_of c) (periods_of (held after.scheduler).table) g.event told g.tells
-            (subst (λ x. Wants (machine_of c x) m worker (unwrap_or word 0) g.event) same g.wants));
+        (subst (λ x. Wants (machine_of c x) m worker (unwrap_or word 0) g.event) same g.wants));
   }
 
   abbrev records_with : Stepped → Option RunEnd → Type 0

@@ -9,7 +9,7 @@ ghost use Rattle.trail_record.specs.Recorded.{KeepsEnd, PlaysRecorded, PlaysInPa
 
 use crate::recorded::Recorded;
 use bounded_list::BoundedList;
-use dfd_core::{draw_turn, most_turns, Choices, Core, Stepped};
+use dfd_core::{Choices, Core, Stepped, draw_turn, most_turns};
 use std::alloc::{AllocError, Global};
 use trail_meaning::{Events, TrailEvent, TrailKind};
 

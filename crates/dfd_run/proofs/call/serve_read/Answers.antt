@@ -13,7 +13,7 @@ returns-in-Ok-clause-ends g c =
     let left' = g.S.Source.left c.read_source.new.source in
     let failed = Rose (g.S.Source.faults c.args.source.now) (g.S.Source.faults c.read_source.new.source) in
     let read : IsRead (most_read command.kind) left left' c.deref.result.now =
-        rw c.deref.ensures.value (subst (λ n. IsRead n left left' c.in-Ok.bytes.items) c.most_read.ensures c.in-Ok.ensures.read) in
+    rw c.deref.ensures.value (subst (λ n. IsRead n left left' c.in-Ok.bytes.items) c.most_read.ensures c.in-Ok.ensures.read) in
     ends_more (BytesGive command c.deref.result.now) _ _ _ _
     (λ status text gives. read_of_kind command failed left left' c.deref.result.now status text read gives) c.serve_bytes.ensures.ends
 

@@ -9,5 +9,5 @@ pub returns : goal.returns
 returns c = λ s run m at.
     victim_at _ _ _ _ c.args.self.now.sound c.args.self.now.end s run m at c.args.word c.first_ready.result
     (subst (λ (n : ℕ). MatchOption c.first_ready.result (¬ SomeReady n c.args.self.now.scheduler.list.deques)
-        (IsFirst (reach_of n c.args.self.now.scheduler.list.deques) c.args.word (IsReadyAt c.args.self.now.scheduler.list.deques)))
+    (IsFirst (reach_of n c.args.self.now.scheduler.list.deques) c.args.word (IsReadyAt c.args.self.now.scheduler.list.deques)))
     c.workers.ensures.value c.first_ready.ensures)
