@@ -1,5 +1,5 @@
 -- A command has an answer to the bytes of a source.
-use Rattle.std.proofs.Common.{◌≡◌, ℕ, ℤ, pos, negsuc, ◌≤◌, length, arith, Bool, true, false, List, Option, Some, None, ap, sym, refl, subst}
+use Rattle.std.proofs.Common.{◌≡◌, ℕ, ℤ, pos, negsuc, ◌≤◌, length, arith, Bool, true, false, List, Option, Some, None, ap, sym, refl, subst, inl, inr}
 use Rattle.std.specs.Prelude.{nat_le, ◌≤ℤ◌, Result, Ok, Err}
 use Rattle.std.proofs.lemmas.Int.{ints}
 use borrow.Author.Tests.{leb-true, leb-false}

@@ -12,7 +12,7 @@ use Rattle.dfd_run.specs.Answer.{CallGives, Ends}
 use Rattle.dfd_run.specs.Program.{Given, words_given, AreNoWords}
 use Rattle.dfd_run.specs.Status.{code_of}
 use Rattle.dfd_run.specs.declared.status.Status.{Status}
-use Rattle.dfd_run.specs.declared.status.Status.TheVariants.{Done, Usage, ReadFault, WriteFault, Syntax, Check, UserFault, StepsSpent, ArenaFull, DequesFull, OutOfMemory}
+use Rattle.dfd_run.specs.declared.status.Status.TheVariants.{Done, Usage, ReadFault, WriteFault, Syntax, Check, UserFault, StepsSpent, ArenaFull, DequesFull, OutOfMemory, TrailRefused}
 
 -- what is left behind the first word
 pub behind_first :
@@ -37,6 +37,7 @@ code_of_memory StepsSpent e = absurd (omega (arith, e))
 code_of_memory ArenaFull e = absurd (omega (arith, e))
 code_of_memory DequesFull e = absurd (omega (arith, e))
 code_of_memory OutOfMemory e = refl
+code_of_memory TrailRefused e = absurd (omega (arith, e))
 
 abbrev IsNil : List (List ℕ) → Type 0
 IsNil [] = Unit {0}

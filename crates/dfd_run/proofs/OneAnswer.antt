@@ -334,10 +334,10 @@ quota_of_trail : (t : Shown) → HasTrailRanges t → 0 < t.k
 quota_of_trail t ranges = let least = ranges.setting.quota.0 in omega (arith, least)
 
 pub one_trail_answer : (bytes : List ℕ) (s s' : Status) (u u' : List ℕ) → VerifyGives bytes s u → VerifyGives bytes s' u' → Same s s' u u'
-one_trail_answer bytes s s' u u' (inl no) (inl no') =
-    (no.1.1.0 ∙ sym no'.1.1.0, no.1.1.1 ∙ ap not_trail_text (one_place bytes no.0 no'.0 no.1.0 no'.1.0) ∙ sym no'.1.1.1)
-one_trail_answer bytes s s' u u' (inl no) (inr of) = absurd (never_both bytes of.0 no.0 of.1.0 no.1.0)
-one_trail_answer bytes s s' u u' (inr of) (inl no) = absurd (never_both bytes of.0 no.0 of.1.0 no.1.0)
+one_trail_answer bytes s s' u u' (inl one) (inl other) =
+    (one.1.1.0 ∙ sym other.1.1.0, one.1.1.1 ∙ ap not_trail_text (one_place bytes one.0 other.0 one.1.0 other.1.0) ∙ sym other.1.1.1)
+one_trail_answer bytes s s' u u' (inl one) (inr of) = absurd (never_both bytes of.0 one.0 of.1.0 one.1.0)
+one_trail_answer bytes s s' u u' (inr of) (inl one) = absurd (never_both bytes of.0 one.0 of.1.0 one.1.0)
 one_trail_answer bytes s s' u u' (inr of) (inr of') =
     one_source (VerifyMakes of.0) (one_verify of.0 (quota_of_trail of.0 of.1.0.0)) of.0.source s s' u u' of.1.1
     (subst (λ t. SourceGives (VerifyMakes t) t.source s' u') (one_trail bytes of'.0 of.0 of'.1.0 of.1.0) of'.1.1)

@@ -117,7 +117,7 @@ accepted_answer t p text (Err (WrongNumbers numbers)) is told = absurd (done_or_
 accepted_answer t p text (Err NoRoom) is told = absurd told
 
 pub accepted_trails_are_bounded : AcceptedTrailsAreBounded
-accepted_trails_are_bounded command bytes text (inl no) = absurd (done_or_refused no.1.1.0)
+accepted_trails_are_bounded command bytes text (inl none) = absurd (done_or_refused none.1.1.0)
 accepted_trails_are_bounded command bytes text (inr of) =
     let t = of.0 in let p = of.1.1.0 in let least = of.1.0.0.setting.quota.0 in
     let m = of.1.1.1.1.1 in
