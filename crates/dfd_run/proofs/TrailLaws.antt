@@ -31,7 +31,7 @@ use Rattle.dfd_run.specs.declared.status.Status.{Status}
 use Rattle.dfd_run.specs.declared.status.Status.TheVariants.{Done, UserFault, TrailRefused}
 use Rattle.dfd_run.specs.TrailMessages.{trail_ok_text}
 use Rattle.dfd_run.proofs.AnAnswer.{verify_answer}
-use Rattle.dfd_run.proofs.OneAnswer.{one_trail_answer}
+use Rattle.dfd_run.proofs.OneAnswer.{one_trail_answer, same_status}
 use Rattle.dfd_run.proofs.Sums.{short_text}
 
 -- the status of a play that was stopped is not that of one that ended
@@ -81,7 +81,8 @@ module _ (command : Command) (bytes trail : List ℕ) (ranges : HasRanges (recor
 
   verified_status : (status : Status) → (status ≡ Done) ⊎ (status ≡ UserFault) → TellsPlay (Records command bytes) command p status trail
       → (s : Status) (text : List ℕ) → VerifyGives trail s text → s ≡ Done
-  verified_status status ended makes s text gives = ∥∥₁_elim makes (search props) (λ w. by_ending w.0 w.1 w.2 w.3 w.4)
+  verified_status status ended makes s text gives = same_status s Done
+      (∥∥₁_elim makes (search props) (λ w. ap code_of (by_ending w.0 w.1 w.2 w.3 w.4)))
     where
       by_ending : (run : List Pair) (last : Moment) (ending : Ending) → IsPlay command p run last ending
           → TellsEnding (Records command bytes (play_setting command p)) (play_setting command p) run last ending status trail → s ≡ Done
