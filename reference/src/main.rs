@@ -19,6 +19,7 @@ mod hall_calls;
 mod hall_check;
 mod hall_law;
 mod hall_order;
+mod hall_rows;
 mod hall_seats;
 mod in_threads;
 mod kept_books;
