@@ -160,7 +160,7 @@ fn choose(hall: &Hall, seat: usize, random: &mut Random) -> Option<Call> {
     if random.once_in(50) || (is_over && view.places == workers) {
         return Some(Call::Close);
     }
-    if is_over || random.once_in(50) {
+    if is_over || random.once_in(if view.found.is_some() { 4 } else { 50 }) {
         let others = (0..hall.seats.len()).filter(|it| *it != seat && is_free(hall, *it));
         let others: Vec<usize> = others.collect();
         return random.pick_some(&others).map(|into| Call::Leave { into: *into });

@@ -19,6 +19,7 @@ pub struct HallRow(pub &'static str, &'static str, u64, usize, u64, usize, &'sta
 const THREE_LINES: &str = "fn main() { par { print 1; } and { print 2; } print 3; }";
 const TWO_BLOCKS: &str = "fn main() { par { alloc a = 16; free a; } and { alloc b = 16; free b; } }";
 const LARGE: &str = "fn main() { alloc b = 40; free b; }";
+const TWO_SIZES: &str = "fn main() { par { alloc a = 16; free a; } and { alloc b = 32; free b; } }";
 const ARENA: u64 = 1_048_576;
 
 pub const HALL_ROWS: &[HallRow] = &[
@@ -107,6 +108,29 @@ pub const HALL_ROWS: &[HallRow] = &[
         "0 steal 0/0 act/0 halt/0 close",
         "stole 0 period 1/stopped arena full live 0 asked 48/halted arena full live 0 asked 48/\
          closed arena full live 0 asked 48 periods 1 ahead 0",
+    ),
+    HallRow(
+        "two stops, of which the first is kept",
+        TWO_SIZES,
+        64,
+        2,
+        16,
+        64,
+        "0 steal 0/0 act/0 enter/1 steal 0/0 act/1 act/0 halt/1 halt/1 leave 0/0 close",
+        "stole 0 period 1/did Fork(1)/entered 1/stole 1 period 2/stopped arena full live 16 asked 16/\
+         stopped arena full live 16 asked 32/halted arena full live 16 asked 16/halted arena full live 16 asked 16/left/\
+         closed arena full live 16 asked 16 periods 2 ahead 1",
+    ),
+    HallRow(
+        "a seat that leaves with a stop",
+        TWO_SIZES,
+        64,
+        2,
+        16,
+        64,
+        "0 steal 0/0 act/0 enter/0 act/0 leave 1/1 steal 0/1 close",
+        "stole 0 period 1/did Fork(1)/entered 1/stopped arena full live 16 asked 16/left/over arena full live 16 asked 16/\
+         closed arena full live 16 asked 16 periods 1 ahead 0",
     ),
 ];
 

@@ -78,6 +78,8 @@ fn seat_stands(hall: &Hall, law: &Law, view: &View) -> Checked {
     let entering = view.enters.is_none_or(|it| view.places >= 2 && list.places.iter().all(|place| place.owner != Some(it)));
     must(entering, "whom a seat enters for owns no deque, and the seat has a place for it")?;
     must(view.found.is_none_or(|stop| law.has_cause(stop)), "a found stop has its cause")?;
+    let is_lost = view.left && view.found.is_some() && list.kept.is_none();
+    must(!is_lost, "a stop of a seat that leaves is kept unless an end is")?;
     must(view.answered.is_none() || view.answered == list.kept, "an answered end is kept")
 }
 
@@ -180,7 +182,11 @@ fn refusal_shown(hall: &Hall, seat: &Seat, running: &Running, looks: &[Look], re
         Refusal::Over(end) => {
             must(list_seen(looks).is_some_and(|list| list.kept == Some(end)), "Over comes of a list with this end")
         }
-        Refusal::Stopped(stop) => must(view.found == Some(stop), "a stop that is answered was found"),
+        Refusal::Stopped(stop) => {
+            let keeps = matches!(running.call, Call::Steal(_) | Call::GiveUp) && !looks.is_empty();
+            must(view.found == Some(stop), "a stop that is answered was found")?;
+            must(!keeps || hall.shown(LIST).list().kept.is_some(), "a steal and a give up keep the stop that they find")
+        }
         Refusal::Crowded => must(view.places == 1 && looks.is_empty(), "Crowded comes to a seat with one place"),
         Refusal::StillIn { places } => must(view.places == places && places < hall.rules.workers, "StillIn has the places"),
         Refusal::NotOver => {
