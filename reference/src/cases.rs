@@ -102,7 +102,8 @@ pub fn short_play(random: &mut Random) -> (Vec<String>, Vec<u8>) {
     (options.concat(), source)
 }
 
-fn source_of(random: &mut Random, kind: &str) -> Vec<u8> {
+/// A source of a kind.
+pub fn source_of(random: &mut Random, kind: &str) -> Vec<u8> {
     let text = match kind {
         "good" => sized_program(random, false, false),
         "faulty" => sized_program(random, true, true),

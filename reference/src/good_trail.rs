@@ -46,15 +46,15 @@ pub struct Deque {
 
 /// A thread that waits for one of its children.
 pub struct Waiting {
-    thread: Label,
-    child: u32,
+    pub thread: Label,
+    pub child: u32,
 }
 
 /// What one period ran, by places in the list; whether it is marked; and for which worker it is open.
 pub struct Book {
-    marked: bool,
-    owner: Option<usize>,
-    ran: Vec<usize>,
+    pub marked: bool,
+    pub owner: Option<usize>,
+    pub ran: Vec<usize>,
     /// The greatest place of these.
     furthest: Option<usize>,
 }
@@ -62,18 +62,18 @@ pub struct Book {
 /// The state of a play after some of its events: the deques from left to right, the waiting threads, and the books of all periods.
 pub struct Moment {
     pub deques: Vec<Deque>,
-    waiting: Vec<Waiting>,
+    pub waiting: Vec<Waiting>,
     pub books: Vec<Book>,
     /// Whether the action at a place is in a book.
-    done: Vec<bool>,
+    pub done: Vec<bool>,
     /// How many actions are in the books.
-    booked: usize,
+    pub booked: usize,
     /// How many first actions of the list are done.
     pub prefix: usize,
     /// The sum of the weights of all that is in the books.
     pub live: i64,
     /// The greatest such sum so far.
-    high: i64,
+    pub high: i64,
 }
 
 #[derive(Clone, Copy, Debug, PartialEq, Eq)]
@@ -128,7 +128,7 @@ fn depth_first_list(code: &Code, quota: u64, limit: u64) -> Option<Vec<Action>> 
 
 impl Action {
     /// By how much the words in use rise.
-    fn weight(&self) -> i64 {
+    pub fn weight(&self) -> i64 {
         let words = self.words as i64;
         match self.deed {
             Deed::Fork(_) | Deed::Alloc => words,
@@ -137,7 +137,7 @@ impl Action {
     }
 
     /// What it takes of the quota of its period.
-    fn charge(&self, quota: u64) -> u64 {
+    pub fn charge(&self, quota: u64) -> u64 {
         match self.deed {
             Deed::Fork(_) => RECORD_WORDS,
             Deed::Alloc if self.words <= quota => self.words,
@@ -167,7 +167,7 @@ impl Setting {
         peak
     }
 
-    fn places_of(&self, label: &Label) -> &[usize] {
+    pub fn places_of(&self, label: &Label) -> &[usize] {
         self.places.get(label).map_or(&[], Vec::as_slice)
     }
 
@@ -182,7 +182,7 @@ impl Setting {
     }
 
     /// What a period has taken of its quota.
-    fn charged(&self, book: &Book) -> u64 {
+    pub fn charged(&self, book: &Book) -> u64 {
         book.ran.iter().map(|place| self.list[*place].charge(self.rules.quota)).sum()
     }
 

@@ -13,6 +13,14 @@ mod edges;
 mod edits;
 mod evaluate;
 mod good_trail;
+mod hall;
+mod hall_acts;
+mod hall_calls;
+mod hall_check;
+mod hall_law;
+mod hall_order;
+mod hall_rows;
+mod hall_seats;
 mod in_threads;
 mod kept_books;
 mod looped;
@@ -49,6 +57,7 @@ fn main() -> ExitCode {
     let words: Vec<String> = std::env::args_os().skip(1).map(|word| word.to_string_lossy().into_owned()).collect();
     match words.first().map(String::as_str) {
         Some("rows") => ExitCode::from(rows::rows()),
+        Some("hall-check") => ExitCode::from(hall_check::hall_check(&words[1..])),
         Some("compare") => ExitCode::from(compare::compare(&words[1..])),
         _ => write_out(&run(&words)),
     }

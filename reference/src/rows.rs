@@ -3,6 +3,7 @@
 
 use crate::choices::{Listed, Pcg};
 use crate::command::{accepted, answer_to, play_answer, Answer};
+use crate::hall_rows::{scripted, HALL_ROWS};
 use crate::machine::{play, Rules};
 use crate::resolve::resolve;
 use crate::trace::moment;
@@ -322,6 +323,9 @@ pub fn rows() -> u8 {
     tally.tell("no trail", "trail NotTrail at 0\n", &answered("verify", b"").text);
     for Moved(quota, workers, digits, source, due) in MOVED {
         tally.tell(&format!("a moment after the moves {digits:?}"), due, &moved(source, *quota, *workers, digits));
+    }
+    for row in HALL_ROWS {
+        tally.tell(row.0, row.7, &scripted(row));
     }
     let too_long = answered("check", &[b' '; 1_048_577]);
     tally.tell("a source that is too long", "syntax TooLong at 1048576\n", &too_long.text);

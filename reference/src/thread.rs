@@ -32,6 +32,7 @@ pub enum Branch<'a> {
 }
 
 /// What is left to do, the innermost last.
+#[derive(Clone)]
 enum Task<'a> {
     List(&'a [Statement<usize>]),
     Round(&'a Statement<usize>),
@@ -43,11 +44,13 @@ enum Task<'a> {
     Alloc { slot: usize, numbers: u64 },
 }
 
+#[derive(Clone)]
 struct Open<'a> {
     child: usize,
     branch: Branch<'a>,
 }
 
+#[derive(Clone)]
 pub struct Thread<'a> {
     code: &'a Code,
     forks_above: u32,
@@ -65,6 +68,7 @@ pub struct Thread<'a> {
 }
 
 /// What an item of a thread's output is, in depth-first order.
+#[derive(Clone)]
 pub enum Item {
     Printed(i64),
     Faulted(Fault, u32),
