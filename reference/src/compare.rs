@@ -17,6 +17,8 @@ struct Plan {
     product: String,
     count: u64,
     from: u64,
+    /// Whether only trails are compared: then each number has one.
+    is_of_trails: bool,
 }
 
 const MOST_DIFFERENCES: u64 = 10;
@@ -27,7 +29,7 @@ const MACHINE_ONE_IN: u64 = 4;
 /// The exit status: 0 where nothing differs, 1 where something does, 2 where the words are wrong.
 pub fn compare(words: &[String]) -> u8 {
     let Some(plan) = read_plan(words) else {
-        eprintln!("usage: reference/compare [--product FILE] [--count N] [--from N]");
+        eprintln!("usage: reference/compare [--product FILE] [--count N] [--from N] [--only trails]");
         return 2;
     };
     if !Path::new(&plan.product).exists() {
@@ -37,13 +39,10 @@ pub fn compare(words: &[String]) -> u8 {
     std::panic::set_hook(Box::new(|_| {}));
     let (began, mut tally) = (Instant::now(), Tally::default());
     for number in plan.from..plan.from + plan.count {
-        let case = case(number);
-        one_case(&plan, number, &case, &mut tally);
-        check_own_runs(number, &case, &mut tally);
-        if number.is_multiple_of(MACHINE_ONE_IN) {
-            one_case(&plan, number, &machine_case(number), &mut tally);
-            one_case(&plan, number, &loop_case(number / MACHINE_ONE_IN), &mut tally);
-            one_case(&plan, number, &trail_case(number / MACHINE_ONE_IN), &mut tally);
+        if plan.is_of_trails {
+            one_case(&plan, number, &trail_case(number), &mut tally);
+        } else {
+            all_of(&plan, number, &mut tally);
         }
         if tally.differences >= MOST_DIFFERENCES {
             println!("compare: stopped at {MOST_DIFFERENCES} differences");
@@ -54,14 +53,27 @@ pub fn compare(words: &[String]) -> u8 {
     u8::from(tally.differences > 0)
 }
 
+/// Compares the cases of a number.
+fn all_of(plan: &Plan, number: u64, tally: &mut Tally) {
+    let case = case(number);
+    one_case(plan, number, &case, tally);
+    check_own_runs(number, &case, tally);
+    if number.is_multiple_of(MACHINE_ONE_IN) {
+        one_case(plan, number, &machine_case(number), tally);
+        one_case(plan, number, &loop_case(number / MACHINE_ONE_IN), tally);
+        one_case(plan, number, &trail_case(number / MACHINE_ONE_IN), tally);
+    }
+}
+
 fn read_plan(words: &[String]) -> Option<Plan> {
-    let mut plan = Plan { product: String::new(), count: 1_000, from: 1 };
+    let mut plan = Plan { product: String::new(), count: 1_000, from: 1, is_of_trails: false };
     for pair in words.chunks(2) {
         let [name, value] = pair else { return None };
         match name.as_str() {
             "--product" => plan.product = value.clone(),
             "--count" => plan.count = value.parse().ok()?,
             "--from" => plan.from = value.parse().ok()?,
+            "--only" if value == "trails" => plan.is_of_trails = true,
             _ => return None,
         }
     }
