@@ -117,7 +117,7 @@ fn play_to_end(core: &mut Core, choices: &mut ListChoices) -> RunEnd {
 }
 
 /// Adds a piece to a text.
-pub(crate) fn put(rt: &impl Abort, text: &mut String, piece: &str) {
+fn put(rt: &impl Abort, text: &mut String, piece: &str) {
     text.push_str(piece).expect(rt, "memory");
 }
 
@@ -362,7 +362,7 @@ fn main() { call leaves(4, 1); }
 
 /// The word behind a word, in a row that looks random: the word is multiplied and moved (D. Knuth, MMIX). The low half of its bits changes
 /// least.
-pub(crate) fn next_word(word: u64) -> u64 {
+fn next_word(word: u64) -> u64 {
     word.wrapping_mul(6_364_136_223_846_793_005)
         .wrapping_add(1_442_695_040_888_963_407)
 }

@@ -1,4 +1,4 @@
-//! Trails of small programs as values, and the answers to them. The answers were worked out by hand.
+//! Trails of small programs as values, and the answers to them, which were worked out by hand.
 
 ghost use Rattle.std.specs.Prelude.{IfOk, IfSome, IsTrue};
 ghost use Rattle.bounded_list.specs.BoundedList.{entries};
@@ -16,19 +16,18 @@ use trail_meaning::{Events, Trail, TrailEvent, TrailKind, TrailNumbers};
 /// The quota of these trails, in words.
 const QUOTA: u32 = 16;
 
-/// The workers, and the most words, actions and deques of a trail.
+/// The quota, the workers, and the most words, actions and deques of a trail.
 #[derive(Clone, Copy)]
-struct Setting {
-    p: u32,
-    arena: u32,
-    steps: u32,
-    deques: u32,
+pub(crate) struct Setting {
+    pub k: u32,
+    pub p: u32,
+    pub arena: u32,
+    pub steps: u32,
+    pub deques: u32,
 }
 
 /// The kind of a letter: to act, to wait, to give the deque up, or to steal at the place of a digit.
-fn kind_of(letter: u8) -> TrailKind
-    ensures { FitsKind result }
-{
+fn kind_of(letter: u8) -> TrailKind {
     match letter {
         b'a' | b'A' => TrailKind::Act,
         b'w' | b'W' => TrailKind::Suspend,
@@ -47,18 +46,37 @@ fn worker_of(letter: u8) -> u32 {
     }
 }
 
-/// Adds the event of a letter, if the trail has its worker.
-fn add_event(events: &mut Events, letter: u8, p: u32) -> Result<(), AllocError>
+/// Whether a trail may have an event of this kind.
+fn is_kind(kind: TrailKind) -> bool
+    ensures { IsTrue result → FitsKind kind }
+{
+    match kind {
+        TrailKind::Steal(place) => place < 4_096,
+        TrailKind::Act | TrailKind::Suspend | TrailKind::GiveUp => true,
+    }
+}
+
+/// Adds an event, if a trail of so many workers may have it.
+pub(crate) fn add_event(events: &mut Events, event: TrailEvent, p: u32) -> Result<(), AllocError>
     ensures { FitEvents p (entries events.old) → IfOk result (λ _. FitEvents p (entries events.new)) }
 {
-    let worker = worker_of(letter);
-    if p <= worker {
+    if p <= event.worker {
         return Ok(());
     }
-    let kind = kind_of(letter);
+    if !is_kind(event.kind) {
+        return Ok(());
+    }
     events.reserve()?;
-    events.add(TrailEvent { worker, kind });
+    events.add(event);
     Ok(())
+}
+
+/// The event of a letter.
+fn event_of(letter: u8) -> TrailEvent {
+    TrailEvent {
+        worker: worker_of(letter),
+        kind: kind_of(letter),
+    }
 }
 
 /// The events of letters.
@@ -67,15 +85,18 @@ fn events_of(alloc: Global, letters: &str, p: u32) -> Result<Events, AllocError>
 {
     let mut events = Events::new(alloc);
     'letters: for letter in letters.bytes() {
-        add_event(&mut events, letter, p)?;
+        add_event(&mut events, event_of(letter), p)?;
     }
     Ok(events)
 }
 
 /// Whether a trail may have such a setting.
 fn fits(of: Setting) -> bool
-    ensures { IsTrue result → FitSetting 16 of.p of.arena of.steps of.deques }
+    ensures { IsTrue result → FitSetting of.k of.p of.arena of.steps of.deques }
 {
+    if of.k < 16 || 1_048_576 < of.k || of.k % 16 != 0 {
+        return false;
+    }
     if of.p < 1 || 64 < of.p || of.deques < 1 || 4_096 < of.deques {
         return false;
     }
@@ -86,7 +107,12 @@ fn fits(of: Setting) -> bool
 }
 
 /// The trail with these events, or None if the setting is out of its ranges.
-fn trail_of(alloc: Global, of: Setting, events: Events, numbers: TrailNumbers) -> Option<Trail>
+pub(crate) fn trail_of(
+    alloc: Global,
+    of: Setting,
+    events: Events,
+    numbers: TrailNumbers,
+) -> Option<Trail>
     requires { FitEvents of.p (entries events) }
     ensures { IfSome result (λ trail. HasTrailRanges (shown_by_trail trail)) }
 {
@@ -94,7 +120,7 @@ fn trail_of(alloc: Global, of: Setting, events: Events, numbers: TrailNumbers) -
         return None;
     }
     Some(Trail {
-        k: QUOTA,
+        k: of.k,
         p: of.p,
         arena: of.arena,
         steps: of.steps,
@@ -119,6 +145,7 @@ fn small_at(part: &str, place: usize) -> u32 {
 
 fn setting_of(part: &str) -> Setting {
     Setting {
+        k: QUOTA,
         p: small_at(part, 0),
         arena: small_at(part, 1),
         steps: small_at(part, 2),
@@ -158,11 +185,16 @@ fn told(alloc: Global, answer: Result<u32, VerifyFail>) -> String {
 }
 
 /// The answer to a trail of a program. It hands no clause on.
-fn answer_of(rt: &impl Abort, alloc: Global, source: &str, trail: &Trail) -> String
+pub(crate) fn answer_of(
+    rt: &impl Abort,
+    alloc: Global,
+    source: &str,
+    trail: &Trail,
+) -> Result<u32, VerifyFail>
     requires { HasTrailRanges (shown_by_trail trail.now) }
 {
     match accept(alloc, source.as_bytes()) {
-        Ok(program) => told(alloc, verify(alloc, &program, trail)),
+        Ok(program) => verify(alloc, &program, trail),
         Err(_) => panic!(rt; "refused: {source}"),
     }
 }
@@ -192,7 +224,7 @@ fn part_of(row: &str, place: usize) -> &str {
 /// The answer to the trail of a row is the one in its first part.
 fn is_answered(rt: &impl Abort, alloc: Global, row: &str) {
     let trail = trail_in(rt, alloc, part_of(row, 1), part_of(row, 2), part_of(row, 3));
-    let answer = answer_of(rt, alloc, part_of(row, 4), &trail);
+    let answer = told(alloc, answer_of(rt, alloc, part_of(row, 4), &trail));
     assert_eq!(rt; answer.as_str(), part_of(row, 0), "{row}");
 }
 

@@ -14,7 +14,7 @@ use std::alloc::{AllocError, Global};
 use std::fmt::Write;
 use std::process::Abort;
 
-/// A core, and the depth-first run that it is compared with. Both are let go by a call, as a `Run`.
+/// A core, and the depth-first run that it is compared with. Both are let go by a call, so that the steps of that are proved once, and not at each exit of what owns them.
 pub(crate) struct Compared {
     pub core: Core,
     pub serial: Serial,

@@ -2,7 +2,6 @@
 //! machine's moment has.
 
 use crate::listed::{Listed, label_of};
-use crate::plays::{next_word, put, step_of};
 use crate::prefixes::{Compared, begun};
 use dag_order::{ActionId, Births, Kind, Label};
 use dfd_core::{Core, RunEnd, Stepped};
@@ -19,12 +18,25 @@ const TURNS: u32 = 5_000;
 
 /// A program that is played, and what its play is compared with.
 #[derive(Drop)]
-struct Play<'a> {
-    text: &'a str,
-    serial: &'a Serial,
-    listed: Listed,
-    k: u32,
-    workers: u32,
+pub(crate) struct Play<'a> {
+    pub text: &'a str,
+    pub serial: &'a Serial,
+    pub listed: Listed,
+    pub k: u32,
+    pub workers: u32,
+}
+
+/// Lets a worker do one event. It hands no clause on, since each goal of its callers would carry it.
+fn step_of(rt: &impl Abort, core: &mut Core, worker: u32, word: u64) -> Stepped {
+    assert!(rt; worker < core.workers(), "no such worker");
+    core.step(worker, word)
+}
+
+/// The word after a word, in a row that looks random: the word is multiplied and moved (D. Knuth, MMIX). The low half of its bits changes
+/// least.
+pub(crate) fn next_word(word: u64) -> u64 {
+    word.wrapping_mul(6_364_136_223_846_793_005)
+        .wrapping_add(1_442_695_040_888_963_407)
 }
 
 /// A period of a core, closed or open.
@@ -97,7 +109,7 @@ fn tell_deque(rt: &impl Abort, text: &mut String, id: u32, owner: Option<u32>, t
     for label in threads {
         write!(text, " {:?}", label.ordinals()).expect(rt, "memory");
     }
-    put(rt, text, "; ");
+    text.push_str("; ").expect(rt, "memory");
 }
 
 /// Writes a book: its mark, the worker that it is open for, and the places of what it ran.
@@ -233,7 +245,7 @@ fn told_of_core(rt: &impl Abort, alloc: Global, core: &Core, play: &Play) -> Str
 }
 
 /// By how much the words that are out rise with the actions at these places.
-fn change_at(serial: &Serial, places: &[u32]) -> i64 {
+pub(crate) fn change_at(serial: &Serial, places: &[u32]) -> i64 {
     let mut change = 0i64;
     for place in places {
         if let Some(action) = serial.actions.at(*place) {
@@ -342,8 +354,8 @@ fn mover(core: &Core, word: u64) -> Option<u32> {
     None
 }
 
-/// What the machine makes of a pair: the next moment, or None where the pair is no case of it. It hands no clause on, as `run_of`.
-fn machine_step(
+/// What the machine makes of a pair: the next moment, or None where the pair is no case of it. It hands no clause on, as `step_of`.
+pub(crate) fn machine_step(
     rt: &impl Abort,
     alloc: Global,
     play: &Play,
@@ -453,7 +465,13 @@ fn replayed(rt: &impl Abort, alloc: Global, play: &Play, pairs: &[Pair]) -> Mome
 }
 
 /// The core of a run of a text, and its depth-first run. It hands no clause on, since each goal of its callers would carry it.
-fn core_and_serial(rt: &impl Abort, alloc: Global, text: &str, k: u32, workers: u32) -> Compared {
+pub(crate) fn core_and_serial(
+    rt: &impl Abort,
+    alloc: Global,
+    text: &str,
+    k: u32,
+    workers: u32,
+) -> Compared {
     begun(alloc, text, k, workers).expect(rt, "a core")
 }
 
@@ -521,7 +539,7 @@ fn follow_all(rt: &impl Abort, alloc: Global, programs: &str, workers: u32, seed
 
 /// Forks inside forks, Allocs above the quota with their dummies, faults with open children, blocks that go to a child and come back, and
 /// cuts.
-const PROGRAMS: &str = "
+pub(crate) const PROGRAMS: &str = "
 @ fn main() { print 1; }
 @ fn main() { par { print 1; } and { print 2; } print 3; }
 @ fn main() { alloc b = 40; b[3] = 7; print b[3]; free b; }

@@ -1,0 +1,24 @@
+-- What a Dummy does to the parts that its worker took.
+use Rattle.std.specs.Prelude.{◌≡◌, ℕ, List, ◌∷◌, []}
+use Rattle.dag_order.specs.declared.action_id.ActionId.{ActionId}
+use Rattle.depth_first_run.specs.Run.{list_of}
+use Rattle.depth_first_run.specs.States.{Setting}
+use Rattle.period_books.specs.Periods.{open_shown}
+use Rattle.period_table.specs.Tables.{noted}
+use Rattle.quota_period.specs.declared.period.Period.{Period as OpenPeriod}
+use Rattle.thread_frames.specs.Actions.{IsOfTheList}
+use Rattle.thread_frames.specs.declared.next.Next.TheVariants as nexts
+use Rattle.thread_frames.specs.declared.thread.Thread.{Thread}
+use Rattle.thread_parts.specs.Shown.{thread_shown}
+use Rattle.thread_events.specs.Acts.{StaysAtPoint}
+use Rattle.deque_events.specs.Events.{DidDummy}
+
+-- the thread did a Dummy of this name, and is on top of the others at its next point; the period has the name
+pub record DummyHere (top : Thread) (under : List Thread) (before : OpenPeriod) (threads : List Thread) (after : OpenPeriod) (name : ActionId)
+    : Type 0 where
+  pub now : Thread
+  pub threads_are : threads ≡ now ∷ under
+  pub did : (c : Setting) (k : ℕ) (is : IsOfTheList c top nexts.Dummy)
+      → DidDummy k (list_of c) (thread_shown top) (thread_shown now) name 0 (IsOfTheList.place is)
+  pub period : (worker : ℕ) → open_shown worker after ≡ noted (open_shown worker before) name 0 []
+  pub point : StaysAtPoint top now

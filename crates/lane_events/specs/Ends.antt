@@ -1,0 +1,35 @@
+-- What the End of a thread does to the parts that its worker took.
+use Rattle.std.specs.Prelude.{◌≡◌, ℕ, List, ◌∷◌, []}
+use Rattle.dag_order.specs.declared.action_id.ActionId.{ActionId}
+use Rattle.depth_first_run.specs.Run.{list_of}
+use Rattle.depth_first_run.specs.States.{Setting}
+use Rattle.node_table.specs.Table.{Table}
+use Rattle.period_books.specs.Periods.{open_shown}
+use Rattle.period_table.specs.Tables.{noted}
+use Rattle.quota_period.specs.declared.period.Period.{Period as OpenPeriod}
+use Rattle.thread_frames.specs.Actions.{IsOfTheList}
+use Rattle.thread_frames.specs.Points.{IsAtPoint, IsResult}
+use Rattle.thread_frames.specs.Views.{label_of, ended_label}
+use Rattle.thread_frames.specs.declared.ended.Ended.{Ended}
+use Rattle.thread_frames.specs.declared.next.Next.TheVariants as nexts
+use Rattle.thread_frames.specs.declared.thread.Thread.{Thread}
+use Rattle.thread_parts.specs.Shown.{thread_shown, result_shown}
+use Rattle.deque_events.specs.Events.{DidEnd}
+use Rattle.thread_events.specs.Results.{IsGiven}
+
+-- The thread ended under this name, and left this result; the period has the name.
+pub record EndsHere (top : Thread) (before after : OpenPeriod) (name : ActionId) (ended : Ended) : Type 0 where
+  pub did : (c : Setting) (is : IsOfTheList c top nexts.End)
+      → DidEnd (list_of c) (thread_shown top) name (IsOfTheList.place is) (result_shown ended)
+  pub period : (worker : ℕ) → open_shown worker after ≡ noted (open_shown worker before) name 0 []
+  pub id : ended.id ≡ Thread.id top
+  pub label : ended_label ended ≡ label_of top
+  pub func : ended.func ≡ Thread.func top
+  pub result : (t : Table) (k : ℕ) → IsAtPoint t k top → IsResult t k ended
+
+-- It ended so above its parent, which was given the result and runs next.
+pub record EndsAbove (top : Thread) (under : List Thread) (before : OpenPeriod) (threads : List Thread) (after : OpenPeriod) (name : ActionId)
+    : Type 0 where
+  pub ended : Ended
+  pub ends : EndsHere top before after name ended
+  pub given : (parent : Thread) (below : List Thread) → under ≡ parent ∷ below → (now : Thread) × (threads ≡ now ∷ below) × IsGiven ended parent now

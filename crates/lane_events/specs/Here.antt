@@ -1,0 +1,68 @@
+-- What an owner's event does to what its worker took: the lane of its deque, with the top thread taken out of it, the period that runs there,
+-- and the pool with its moves.
+use Rattle.std.specs.Prelude.{◌≡◌, ℕ, ◌≤◌, List, ◌∷◌, map, pos}
+use Rattle.bounded_list.specs.BoundedList.{entries, spare}
+use Rattle.dag_order.specs.declared.action_id.ActionId.{ActionId}
+use Rattle.dag_order.specs.declared.birth.Birth.{Birth}
+use Rattle.deque_list.specs.Lanes.{LaneView}
+use Rattle.depth_first_list.specs.Facts.{words_at}
+use Rattle.depth_first_run.specs.Run.{list_of}
+use Rattle.depth_first_run.specs.States.{Setting}
+use Rattle.period_books.specs.Periods.{Period, open_shown}
+use Rattle.period_table.specs.Tables.{birth_room, noted}
+use Rattle.quota_period.specs.declared.period.Period.{Period as OpenPeriod}
+use Rattle.space_ledger.specs.declared.moves.Moves.{Moves}
+use Rattle.space_ledger.specs.MovesList.{moves_list, moves_spare}
+use Rattle.space_ledger.specs.Sums.{total_change}
+use Rattle.thread_frames.specs.Actions.{IsOfTheList}
+use Rattle.thread_frames.specs.declared.next.Next.{Next}
+use Rattle.thread_frames.specs.declared.thread.Thread.{Thread}
+use Rattle.thread_parts.specs.Shown.{thread_shown}
+use Rattle.thread_events.specs.Acts.{StaysAtPoint}
+use Rattle.hall_law.specs.Values.{Hall, PoolShown}
+use Rattle.hall_law.specs.Writing.{IsAtWork, ActsInLane, PoolTakes}
+
+-- There is memory for an action and a birth in the period, where a list for so many births is ready for the first one.
+pub record HasRoomIn (period : OpenPeriod) (ready : ℕ) : Type 0 where
+  pub book : 1 ≤ spare period.book
+  pub births : 1 ≤ birth_room (entries period.births) (spare period.births) ready
+
+-- and for so many threads more in the lane
+pub record HasRoomHere (threads : ℕ) (lane : LaneView Thread) (period : OpenPeriod) (ready : ℕ) : Type 0 where
+  pub lane : threads ≤ lane.spare
+  pub period : HasRoomIn period ready
+
+-- There is memory for a move, and the moves so far are those of the words in use.
+pub record HasMovesFor (live : ℕ) (moves : Moves) : Type 0 where
+  pub room : 1 ≤ moves_spare moves
+  pub sum : total_change (moves_list moves) ≡ pos live
+
+-- the pool as a slot shows it: the words in use, and the moves
+abbrev pub pool_with : ℕ → Moves → PoolShown
+pool_with live moves = record { live = live; moves = moves_list moves }
+
+-- A worker at work has this top thread, these under it, and this period.
+pub record ShowsOwn {h : Hall} {worker : ℕ} (w : IsAtWork h worker) (top : Thread) (under : List Thread) (period : OpenPeriod) : Type 0 where
+  pub top_is : w.top ≡ thread_shown top
+  pub under_is : w.under ≡ map thread_shown under
+  pub period_is : w.period ≡ open_shown worker period
+
+-- The top thread did its next action, of this name, in its own lane, where its period may: now these are the threads of the lane, this is the
+-- period, which has so many words less of the quota, and these are the births.
+abbrev pub ActsHere : Next → (Where : ℕ → Period → ℕ → Type 0) → Thread → (under : List Thread) → OpenPeriod → (threads : List Thread) → OpenPeriod
+    → ActionId → (words : ℕ) → List Birth → Type 0
+ActsHere next Where top under before threads after name words births =
+    (worker : ℕ) (c : Setting) (k : ℕ) (is : IsOfTheList c top next) → Where k (open_shown worker before) (words_at (list_of c) (IsOfTheList.place is))
+    → (h : Hall) (w : IsAtWork h worker) → ShowsOwn w top under before
+    → ActsInLane k (list_of c) w (IsOfTheList.place is) name (map thread_shown threads) words births
+    × (open_shown worker after ≡ noted w.period name words births)
+
+-- The pool took the words of this action or had them back, and noted the move if it is one.
+abbrev pub TakesWords : Next → Thread → ActionId → (before after : PoolShown) → Type 0
+TakesWords next top name before after =
+    (c : Setting) (is : IsOfTheList c top next) → PoolTakes (list_of c) (IsOfTheList.place is) name before after
+
+-- the thread is on top of the others of its lane, at its point if it was before
+abbrev pub GoesOnTop : Thread → (under threads : List Thread) → Type 0
+GoesOnTop top under threads =
+    (after : Thread) × (threads ≡ after ∷ under) × StaysAtPoint top after

@@ -1,0 +1,5 @@
+pub mod Here
+pub mod Dummies
+pub mod Ends
+pub mod Forks
+pub mod Joins
