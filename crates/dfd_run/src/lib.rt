@@ -3,14 +3,17 @@
 //! [`dfd`] takes the words of the command line, reads its program from a [`Source`] (`make` writes its own, by `made_source`)
 //! and writes its text to a [`Sink`]. The kinds and contracts of both are those of `byte_streams`.
 //!
-//! The layer stands on `command_line`, which says which words are a command; on `accepted_source`, which reads bytes as
-//! a program that keeps the rules of ownership or says why not; on `canonical_text` and `par_print`, the text of a program
-//! in one layout; on `serial_meaning`, the depth-first run of a program; on `frame_code`, its table of nodes, and `dfd_core`, by which
-//! workers play it; on `loop_expand`, which writes parallel loops out before a program is read; and on `run_report`, the texts of runs. The
-//! one theorem of the layer is the contract of `dfd`, and of [`serve`], which does what `dfd` does for a command: the status and the text
-//! that the sink took are those that `CallGives` of `specs/Answer.antt` gives for the words and the bytes read, and each fault has its cause.
-//! The laws of `specs/Headline.antt` say what holds of each play, and [`loops_are_plays`] that `loops` is one, of the expansion.
-//! [`a_command_has_an_answer`] and [`a_command_has_one_answer`] say that these are a function of the command and the bytes.
+//! It uses `command_line`, which says which words are a command; `accepted_source`, which reads bytes as a program that keeps the rules of
+//! ownership or says why not; `canonical_text` and `par_print`, the text of a program in one layout; `serial_meaning`, the depth-first run of a
+//! program; `frame_code`, its table of nodes, and `dfd_core`, by which workers play it; `loop_expand`, which writes parallel loops out before a
+//! program is read; `trail_record`, which records a play, `trail_text`, its text, and `trail_check`, which checks one; and `run_report`, the
+//! texts of runs.
+//!
+//! Its theorem is the contract of `dfd`, and of [`serve`], which does what `dfd` does for a command: the status and the text that the sink took
+//! are those that `CallGives` of `specs/Answer.antt` gives for the words and the bytes read, and each fault has its cause. The laws of
+//! `specs/Headline.antt` say what holds of each play, and [`loops_are_plays`] that `loops` is one, of the expansion. Of trails say
+//! [`recorded_trails_are_accepted`] and [`accepted_trails_are_bounded`]. [`a_command_has_an_answer`] and [`a_command_has_one_answer`] say that
+//! the answers are a function of the command and the bytes.
 #![tactic(auto)]
 
 mod answer;

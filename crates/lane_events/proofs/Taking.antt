@@ -1,7 +1,7 @@
 -- What an action took from the pool or gave back is what the law of the hall asks for.
-use Rattle.std.proofs.Common.{◌≡◌, ℕ, ◌+◌, ◌-◌, ◌≤◌, List, [], ◌∷◌, ◌++◌, refl, sym, ap, subst, ◌∙◌, arith}
+use Rattle.std.proofs.Common.{◌≡◌, ℕ, zero, suc, ◌+◌, ◌-◌, ◌≤◌, ◌<◌, List, [], ◌∷◌, ◌++◌, refl, sym, ap, subst, ◌∙◌, arith}
 use Rattle.std.proofs.lemmas.Int.{ints}
-use Rattle.std.specs.Prelude.{Bool, true, Some, ℤ, pos, neg_ℤ, ◌+ℤ◌, ◌-ℤ◌, IsTrue}
+use Rattle.std.specs.Prelude.{Bool, true, nat_lt, Some, ℤ, pos, neg_ℤ, ◌+ℤ◌, ◌-ℤ◌, IsTrue}
 use Rattle.dag_order.specs.declared.action_id.ActionId.{ActionId}
 use Rattle.depth_first_list.specs.Actions.{weight_of}
 use Rattle.depth_first_list.specs.Facts.{action_at, deed_at, words_at, weight_at}
@@ -57,3 +57,7 @@ join_tells top there w told =
     let found = newest_there top.children.items there in
     let result_is : result_of (newest top.children.items) ≡ Some found.result = ap result_of found.newest_is ∙ found.there in
     subst (λ r. TellsJoin top r w) result_is told ∙ ap (released_by top) (sym result_is)
+
+pub some_words : (n : ℕ) → 0 < n → ◌≡◌ {A = Bool} (nat_lt 0 n) true
+some_words zero some = absurd (omega (arith, some))
+some_words (suc n) some = refl
