@@ -1,2 +1,3 @@
-pub mod Writing
+pub mod Giving
 pub mod Taking
+pub mod Writing

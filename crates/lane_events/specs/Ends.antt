@@ -16,6 +16,7 @@ use Rattle.thread_frames.specs.declared.thread.Thread.{Thread}
 use Rattle.thread_parts.specs.Shown.{thread_shown, result_shown}
 use Rattle.deque_events.specs.Events.{DidEnd}
 use Rattle.thread_events.specs.Results.{IsGiven}
+use Rattle.hall_law.specs.Writing.{IsHanded}
 
 -- The thread ended under this name, and left this result; the period has the name.
 pub record EndsHere (top : Thread) (before after : OpenPeriod) (name : ActionId) (ended : Ended) : Type 0 where
@@ -33,3 +34,4 @@ pub record EndsAbove (top : Thread) (under : List Thread) (before : OpenPeriod) 
   pub ended : Ended
   pub ends : EndsHere top before after name ended
   pub given : (parent : Thread) (below : List Thread) → under ≡ parent ∷ below → (now : Thread) × (threads ≡ now ∷ below) × IsGiven ended parent now
+      × IsHanded (thread_shown parent) (result_shown ended) (thread_shown now)

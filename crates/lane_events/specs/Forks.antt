@@ -1,5 +1,5 @@
 -- What a Fork does to the parts that its worker took.
-use Rattle.std.specs.Prelude.{◌≡◌, ℕ, List, ◌∷◌, [], map}
+use Rattle.std.specs.Prelude.{◌≡◌, ℕ, List, ◌∷◌, []}
 use Rattle.dag_order.specs.declared.action_id.ActionId.{ActionId}
 use Rattle.depth_first_list.specs.Actions.{record_words}
 use Rattle.quota_period.specs.declared.period.Period.{Period as OpenPeriod}

@@ -28,9 +28,9 @@ pub record HasRoomIn (period : OpenPeriod) (ready : ℕ) : Type 0 where
   pub births : 1 ≤ birth_room (entries period.births) (spare period.births) ready
 
 -- and for so many threads more in the lane
-pub record HasRoomHere (threads : ℕ) (lane : LaneView Thread) (period : OpenPeriod) (ready : ℕ) : Type 0 where
-  pub lane : threads ≤ lane.spare
-  pub period : HasRoomIn period ready
+pub record HasRoomHere (threads : ℕ) (under : LaneView Thread) (running : OpenPeriod) (ready : ℕ) : Type 0 where
+  pub lane : threads ≤ under.spare
+  pub period : HasRoomIn running ready
 
 -- There is memory for a move, and the moves so far are those of the words in use.
 pub record HasMovesFor (live : ℕ) (moves : Moves) : Type 0 where

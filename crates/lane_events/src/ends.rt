@@ -14,6 +14,8 @@ ghost use Rattle.thread_frames.specs.Views.{children_of, next_of, done_of, label
 ghost use Rattle.thread_frames.specs.declared.next.Next.TheVariants as nexts;
 ghost use Rattle.thread_frames.specs.declared.thread.Thread.{Thread as AnyThread};
 ghost use Rattle.thread_events.specs.Results.{FirstAwaits, IsGiven};
+ghost use Rattle.thread_parts.specs.Shown.{thread_shown, result_shown};
+ghost use Rattle.hall_law.specs.Writing.{IsHanded};
 ghost use Rattle.lane_events.specs.Here.{HasRoomIn, HasMovesFor, TakesWords, pool_with};
 ghost use Rattle.lane_events.specs.Ends.{EndsHere, EndsAbove};
 
@@ -33,7 +35,8 @@ fn give_top(lane: &mut Lane<Boxed<Thread>>, ended: Ended)
     requires { (parent : AnyThread) × (below : AnyList AnyThread) × (lane.old.items ≡ parent ∷ below)
         × IsAwaited (label_of parent) ended (children_of parent) }
     ensures { (parent : AnyThread) (below : AnyList AnyThread) → lane.old.items ≡ parent ∷ below
-        → (handed : AnyThread) × (lane.new.items ≡ handed ∷ below) × IsGiven ended parent handed }
+        → (now : AnyThread) × (lane.new.items ≡ now ∷ below) × IsGiven ended parent now
+        × IsHanded (thread_shown parent) (result_shown ended) (thread_shown now) }
 {
     let Some(mut parent) = lane.pop_top() else {
         unreachable!();
