@@ -5,7 +5,8 @@
 //! A seat that was refused a slot puts back what it took before: then it is what it was, but for the answers that it had (`IsBack`).
 //!
 //! It stands on the row of turns (`turn_table`) and has no code: its lemmas are for the proofs of a user. Its one theorem, by
-//! [`lone_seats_are_free`]: where no other seat has places, a seat that holds nothing finds every turn free.
+//! [`lone_seats_are_free`]: where no other seat has places, a seat finds each turn free that it does
+//! not hold.
 #![tactic(auto)]
 
 mod laws;
