@@ -23,6 +23,3 @@ pub use list_slot::ListSlot;
 pub use pool_slot::PoolSlot;
 pub use seat_note::SeatNote;
 pub use slot::Slot;
-
-#[cfg(test)]
-mod tests;

@@ -1,6 +1,6 @@
 //! What the calls on the list do.
 
-ghost use Rattle.std.specs.Prelude.{◌≡◌, ◌≤◌, ◌<◌, ◌↔◌, ◌∷◌, ◌++◌, [], ℕ, Some, length, IsTrue, IfOk, OnErr};
+ghost use Rattle.std.specs.Prelude.{◌≡◌, ◌≤◌, ◌<◌, ◌∷◌, ◌++◌, [], ℕ, Some, slice_get, ◌↔◌, IsTrue, IfOk, OnErr, MatchOption};
 ghost use Rattle.space_ledger.specs.BooksList.{books_spare};
 ghost use Rattle.lawful_books.specs.Lists.{times};
 ghost use Rattle.list_part.specs.Parts.{Has};
@@ -29,15 +29,10 @@ impl ListSlot {
     }
 
     /// Whether a worker is in.
-    fn has(&self, worker: u32) -> bool
+    pub fn has(&self, worker: u32) -> bool
         ensures { IsTrue result ↔ (0 < times worker self.now.crew.items) }
     {
-        'workers: for &other in self.crew.iter() {
-            if other == worker {
-                return true;
-            }
-        }
-        false
+        place_in(&self.crew, worker).is_some()
     }
 
     /// The smallest number below `workers` of a worker that is not in.
@@ -80,7 +75,9 @@ impl ListSlot {
         ensures part { self.new.part ≡ self.old.part }
         ensures end { self.new.end ≡ self.old.end }
     {
-        let place = place_in(&self.crew, worker);
+        let Some(place) = place_in(&self.crew, worker) else {
+            unreachable!();
+        };
         self.crew.remove(place);
     }
 
@@ -107,15 +104,14 @@ impl ListSlot {
     }
 }
 
-/// The place of a worker that is in.
-fn place_in(crew: &[u32], worker: u32) -> usize
-    requires { 0 < times worker crew.now }
-    ensures { slice_get crew.now result ≡ Some worker }
+/// The place of a worker in a crew; None exactly where it is not in.
+fn place_in(crew: &[u32], worker: u32) -> Option<usize>
+    ensures { MatchOption result (times worker crew.now ≡ 0) (λ place. slice_get crew.now place ≡ Some worker) }
 {
     'places: for (place, &other) in crew.iter().enumerate() {
         if other == worker {
-            return place;
+            return Some(place);
         }
     }
-    unreachable!()
+    None
 }

@@ -1,0 +1,4 @@
+pub mod Keys
+pub mod Sound
+pub mod Law
+pub mod Takes
