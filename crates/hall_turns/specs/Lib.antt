@@ -2,3 +2,4 @@ pub mod Keys
 pub mod Sound
 pub mod Law
 pub mod Takes
+pub mod Steps

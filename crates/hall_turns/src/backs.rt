@@ -1,8 +1,8 @@
 //! How a seat puts back what it took, unchanged.
 
-ghost use Rattle.std.specs.Prelude.{◌≡◌, ◌+◌};
+ghost use Rattle.std.specs.Prelude.{◌≡◌, ◌+◌, ◌<◌};
 ghost use Rattle.turn_table.specs.Notes.{HasAs};
-ghost use Rattle.turn_table.specs.Tables.{IsSeatOf};
+ghost use Rattle.turn_table.specs.Tables.{slot_count, IsSeatOf};
 ghost use Rattle.hall_slots.specs.declared.slot.Slot.TheVariants as slots;
 ghost use Rattle.hall_turns.specs.Takes.{IsPlaced, IsGiven};
 
@@ -46,6 +46,7 @@ pub fn give_pool_back(row: &HallRow, seat: &mut HallPlace, pool: PoolSlot)
 pub fn give_lane_back(row: &HallRow, seat: &mut HallPlace, deque: DequeId, lane: LaneSlot)
     requires here { IsSeatOf row.now seat.old }
     requires placed { IsPlaced seat.old }
+    requires slot { deque.0 + 2 < slot_count row.now }
     requires held { HasAs (deque.0 + 2) (slots.Lane lane) seat.old.hand.holds }
     ensures { IsGiven seat.old (deque.0 + 2) seat.new }
 {

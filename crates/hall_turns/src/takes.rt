@@ -57,7 +57,7 @@ pub fn take_list(row: &HallRow, seat: &mut HallPlace) -> Result<Boxed<ListSlot>,
 pub fn take_pool(row: &HallRow, seat: &mut HallPlace) -> Result<PoolSlot, Held>
     requires here { IsSeatOf row.now seat.old }
     requires placed { IsPlaced seat.old }
-    requires free { ¬ (Has 1 seat.old.hand.holds) }
+    requires slot { (1 < slot_count row.now) × ¬ (Has 1 seat.old.hand.holds) }
     ensures seat { MatchResult result (λ pool. IsTaken seat.old 1 (slots.Pool pool) seat.new) (λ held. IsRefused seat.old 1 held seat.new) }
     ensures lone { HasAllPlaces (key_of row.now) seat.old → IsOk result }
 {
