@@ -3,3 +3,4 @@ pub mod Sound
 pub mod Law
 pub mod Takes
 pub mod Steps
+pub mod First
