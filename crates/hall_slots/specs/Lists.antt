@@ -1,0 +1,42 @@
+-- What the calls on the list do to it.
+use Rattle.std.specs.Prelude.{◌≡◌, ℕ, ◌+◌, Option, None, Some, List, [], ◌∷◌, ◌++◌}
+use Rattle.core_parts.specs.declared.stop.Stop.{Stop}
+use Rattle.dfd_core.specs.declared.run_end.RunEnd.{RunEnd}
+use Rattle.dfd_core.specs.declared.run_end.RunEnd.TheVariants.{Stopped}
+use Rattle.deque_list.specs.declared.deque_id.DequeId.{DequeId}
+use Rattle.period_table.specs.Tables.{shut}
+use Rattle.hall_law.specs.Values.{Hall, ListShown}
+use Rattle.hall_law.specs.Writing.{IsAtWork, list_unowned, list_without}
+use Rattle.hall_crew.specs.Seats.{end_with}
+use Rattle.hall_slots.specs.declared.list_slot.ListSlot.{ListSlot}
+use Rattle.hall_slots.specs.declared.lane_slot.Running.{Running}
+use Rattle.hall_slots.specs.Shown.{list_shown, running_shown, stop_shown}
+
+-- the end that is kept where a stop is to be kept: the one that was kept before, and else the stop
+abbrev pub end_kept : Option RunEnd → Stop → RunEnd
+end_kept None stop = Stopped stop
+end_kept (Some end) stop = end
+
+-- one worker is out of the crew, and the others are in it as they were
+pub record IsOutOf (worker : ℕ) (before after : List ℕ) : Type 0 where
+  pub front : List ℕ
+  pub back : List ℕ
+  pub before_is : before ≡ front ++ worker ∷ back
+  pub after_is : after ≡ front ++ back
+
+-- the list shows that a deque, which was that of a worker at work, has no owner, or is gone, and that its period is closed
+abbrev pub ShowsUnowned : (before after : ListSlot) → DequeId → Running → Type 0
+ShowsUnowned before after id running = (h : Hall) (w : IsAtWork h running.worker) → h.list ≡ list_shown before → w.id ≡ id
+    → list_shown after ≡ list_unowned w (shut (running_shown running))
+
+abbrev pub ShowsWithout : (before after : ListSlot) → DequeId → Running → Type 0
+ShowsWithout before after id running = (h : Hall) (w : IsAtWork h running.worker) → h.list ≡ list_shown before → w.id ≡ id
+    → list_shown after ≡ list_without w (shut (running_shown running))
+
+-- What a call that closes a period leaves: the crew, the end, what waits, the results, and how many deques there may be.
+pub record KeepsRest (before after : ListSlot) : Type 0 where
+  pub crew : after.crew ≡ before.crew
+  pub end : after.end ≡ before.end
+  pub waiting : after.part.waiting ≡ before.part.waiting
+  pub results : after.part.results ≡ before.part.results
+  pub most : after.part.order.most ≡ before.part.order.most

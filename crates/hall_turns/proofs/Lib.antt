@@ -1,0 +1,6 @@
+pub mod Keeping
+pub mod Reading
+pub mod Lone
+pub mod Pairing
+pub mod Written
+pub mod Putting

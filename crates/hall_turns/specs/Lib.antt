@@ -1,0 +1,6 @@
+pub mod Keys
+pub mod Sound
+pub mod Law
+pub mod Takes
+pub mod Steps
+pub mod First
