@@ -1,0 +1,4 @@
+pub mod Owners
+pub mod Cutting
+pub mod Sharing
+pub mod Along

@@ -1,0 +1,4 @@
+//! The machine of a ready list.
+#![tactic(auto)]
+
+pub mod laws;
