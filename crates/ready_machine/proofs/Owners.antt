@@ -10,7 +10,7 @@ with_owner : Option ℕ → List ℕ → List ℕ
 with_owner None rest = rest
 with_owner (Some w) rest = w ∷ rest
 
-pub one_if_some : Option ℕ → ℕ
+unfoldable pub one_if_some : Option ℕ → ℕ
 one_if_some None = 0
 one_if_some (Some w) = 1
 
