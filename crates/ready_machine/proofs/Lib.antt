@@ -4,3 +4,6 @@ pub mod Sharing
 pub mod Along
 pub mod Changes
 pub mod Ends
+pub mod Cuts
+pub mod Agreeing
+pub mod Coming
