@@ -7,3 +7,4 @@ pub mod Ends
 pub mod Cuts
 pub mod Agreeing
 pub mod Coming
+pub mod Playing
