@@ -1,9 +1,8 @@
 -- At a lawful ready list the two machines agree on who can move and on what is wanted: the thief of word 0 takes the leftmost ready entry.
-use Rattle.std.proofs.Common.{◌≡◌, ◌≢◌, ℕ, suc, ◌+◌, ◌%◌, ◌≤◌, ◌<◌, ◌⊎◌, List, [], ◌∷◌, ◌++◌, length, inl, inr, refl, sym, ap, subst, ◌∙◌, arith, length-append, true≢false}
-use Rattle.std.specs.Prelude.{Option, None, Some, is_some, slice_get, unwrap_or, min}
+use Rattle.std.proofs.Common.{◌≡◌, ℕ, suc, ◌+◌, ◌%◌, ◌<◌, ◌⊎◌, List, [], ◌∷◌, ◌++◌, length, inl, inr, refl, sym, ap, subst, ◌∙◌, arith, length-append, true≢false}
+use Rattle.std.specs.Prelude.{Option, None, Some, is_some, slice_get, unwrap_or}
 use Rattle.std.proofs.lemmas.Bool.{cases_lt}
-use Rattle.std.proofs.Math.Nat.{mod-lt, mod-eq_of_lt}
-use Rattle.depth_first_list.specs.Runs.{IsDepthFirst}
+use Rattle.std.proofs.Math.Nat.{mod-eq_of_lt}
 use Rattle.lawful_books.specs.Lists.{Among, Each}
 use Rattle.lawful_books.proofs.Lists.{total_append, each_at, each_among, each_from, among_here, one_same}
 use Rattle.deque_machine.specs.Moments.{Deque, Moment, deque_of, owned_by, one_if_owned}
@@ -11,7 +10,7 @@ use Rattle.deque_machine.specs.Machine.{Setting, Event, steals, does, suspends, 
 use Rattle.deque_machine.specs.Play.{IsFirst, IsReady, CanMove, reach, Stays, Wants, a_theft, a_give_up, a_wait, an_action}
 use Rattle.deque_machine.proofs.Progress.{cut_place}
 use Rattle.ready_machine.specs.Entries.{entry, IsEntry, IsRun, IsLeftmostReady, IsReadyList}
-use Rattle.ready_machine.specs.ReadyPlay.{SomeReady, CanGo, WantsReady, a_take, of_its_entry}
+use Rattle.ready_machine.specs.ReadyPlay.{CanGo, WantsReady, a_take, of_its_entry}
 use Rattle.ready_machine.specs.Laws.{MoversAgree, WantsAgree}
 use Rattle.ready_machine.proofs.Sharing.{in_reach}
 use Rattle.ready_machine.proofs.Cuts.{get_middle, get_before, place_before}
@@ -29,13 +28,23 @@ leftmost_or_none (d ∷ ds) all = by_owner d.owner refl (leftmost_or_none ds all
     by_owner : (owner : Option ℕ) → d.owner ≡ owner
         → ((left right : List Deque) × (id : ℕ) × (thread : List ℕ) × IsLeftmostReady ds left id thread right) ⊎ Each IsRun ds
         → ((left right : List Deque) × (id : ℕ) × (thread : List ℕ) × IsLeftmostReady (d ∷ ds) left id thread right) ⊎ Each IsRun (d ∷ ds)
-    by_owner None o rest = inl ([], ds, d.id, (all.0).0,
-        record { deques_are = ap (λ t. t ∷ ds) (ready_entry d (all.0).0 o (all.0).1); left_are_run = tt })
+    by_owner None o rest = inl (
+      [],
+      ds,
+      d.id,
+      (all.0).0,
+      record { deques_are = ap (λ t. t ∷ ds) (ready_entry d (all.0).0 o (all.0).1); left_are_run = tt },
+    )
     by_owner (Some w) o rest =
         let run : IsRun d = λ none. true≢false (ap is_some (sym o ∙ none)) in
         elim rest [
-          | inl cut ↦ inl (d ∷ cut.0, cut.1, cut.2, cut.3,
-              record { deques_are = ap (λ t. d ∷ t) (cut.4).deques_are; left_are_run = (run, (cut.4).left_are_run) })
+          | inl cut ↦ inl (
+            d ∷ cut.0,
+            cut.1,
+            cut.2,
+            cut.3,
+            record { deques_are = ap (λ t. d ∷ t) (cut.4).deques_are; left_are_run = (run, (cut.4).left_are_run) },
+          )
           | inr all_run ↦ inr (run, all_run)
         ]
 

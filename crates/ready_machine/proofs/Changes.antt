@@ -1,5 +1,5 @@
 -- What each event does to the books and to those who wait: six kinds.
-use Rattle.std.proofs.Common.{◌≡◌, ℕ, ◌+◌, List, [], ◌∷◌, ◌++◌, length, refl, sym, ap, subst, ◌∙◌, arith, length-append, Bool, nat_lt, true}
+use Rattle.std.proofs.Common.{◌≡◌, ℕ, ◌+◌, List, [], ◌∷◌, ◌++◌, length, refl, ap, arith, Bool, nat_lt, true}
 use Rattle.std.specs.Prelude.{Option, None, Some}
 use Rattle.depth_first_list.specs.Actions.{ends}
 use Rattle.depth_first_list.specs.Facts.{deed_at}

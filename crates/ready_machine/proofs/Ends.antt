@@ -1,5 +1,5 @@
 -- A run of a ready list without a free give up ends.
-use Rattle.std.proofs.Common.{◌≡◌, ℕ, suc, ◌+◌, ◌*◌, ◌≤◌, ◌<◌, ◌⊎◌, List, [], ◌∷◌, ◌++◌, length, inl, inr, refl, sym, ap, subst, ◌∙◌, arith, length-append, cond, nat_lt, nat_le, Bool, true, false}
+use Rattle.std.proofs.Common.{◌≡◌, ℕ, suc, ◌+◌, ◌*◌, ◌≤◌, ◌<◌, List, [], ◌∷◌, ◌++◌, length, inl, inr, refl, sym, ap, subst, ◌∙◌, arith, length-append, cond, nat_lt, nat_le, Bool, true, false}
 use Rattle.std.specs.Prelude.{Option, None, Some}
 use Rattle.std.proofs.lemmas.Bool.{cases_lt, lt-ltb, leb-true}
 use Rattle.dag_order.specs.LabelOrder.{fork_of}
@@ -12,15 +12,15 @@ use Rattle.lawful_books.specs.Lawful.{LawfulBooks}
 use Rattle.lawful_books.proofs.Lists.{among_middle, each_map, total_append, each_from, times_among, among_times, one_cases, each_join}
 use Rattle.lawful_books.proofs.Keeping.{booked_append, begun_same, times_append}
 use Rattle.lawful_books.proofs.Whole.{few_places}
-use Rattle.deque_machine.specs.Moments.{Waiting, Moment, opening, done_at, waiting_threads, owned_by, open_for}
-use Rattle.deque_machine.specs.Machine.{Setting, Event, steals, does, suspends, gives_up, Owns, books_with, books_closed, new_book}
+use Rattle.deque_machine.specs.Moments.{Waiting, Moment, opening, done_at, waiting_threads, open_for}
+use Rattle.deque_machine.specs.Machine.{Setting, Event, gives_up, Owns, new_book}
 use Rattle.deque_machine.specs.LawfulOrder.{Waits, IsLawful}
 use Rattle.deque_machine.specs.Runs.{Pair}
 use Rattle.deque_machine.specs.Play.{IsForced}
 use Rattle.deque_machine.proofs.LiveThreads.{fork_is_done}
 use Rattle.deque_machine.proofs.Ends.{one_book}
 use Rattle.ready_machine.specs.Entries.{IsReadyList}
-use Rattle.ready_machine.specs.ReadyMachine.{MayReady, ReadyReaches, NoneGivenFree}
+use Rattle.ready_machine.specs.ReadyMachine.{ReadyReaches, NoneGivenFree}
 use Rattle.ready_machine.specs.Laws.{RunsEnd, RunsAreShort}
 use Rattle.ready_machine.proofs.Owners.{one_if_some, how_many_owners, few_owners}
 use Rattle.ready_machine.proofs.Sharing.{kept_ready, opening_is_ready}

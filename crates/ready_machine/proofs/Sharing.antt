@@ -1,19 +1,18 @@
 -- Each event of a ready list is one of the machine of deques, or a Fork of it whose deque is cut in two. So it keeps the ready list lawful.
-use Rattle.std.proofs.Common.{◌≡◌, ◌≢◌, ℕ, suc, ◌+◌, ◌≤◌, ◌<◌, ◌⊎◌, List, [], ◌∷◌, ◌++◌, length, inl, inr, refl, sym, ap, subst, ◌∙◌, arith, nat_lt}
+use Rattle.std.proofs.Common.{◌≡◌, ℕ, ◌+◌, ◌≤◌, ◌<◌, List, [], ◌∷◌, ◌++◌, length, inl, inr, refl, sym, ap, subst, ◌∙◌, arith, nat_lt}
 use Rattle.std.specs.Prelude.{Option, None, Some}
 use Rattle.dag_order.specs.LabelOrder.{fork_of}
-use Rattle.depth_first_list.specs.Actions.{Deed, forks, joins, allocates, releases, dummy, faults, ends, record_words}
+use Rattle.depth_first_list.specs.Actions.{forks, record_words}
 use Rattle.depth_first_list.specs.Runs.{IsDepthFirst}
-use Rattle.depth_first_list.specs.Facts.{deed_at}
-use Rattle.lawful_books.specs.Lists.{Each, times, one_if_same}
+use Rattle.lawful_books.specs.Lists.{Each, times}
 use Rattle.lawful_books.specs.Books.{charged}
 use Rattle.lawful_books.proofs.Lists.{total_append, each_at, each_change, each_without, each_join, each_left, each_right, each_from, same_tail, cons_is_not_nil, one_cases, times_among}
 use Rattle.lawful_books.proofs.Whole.{few_places}
 use Rattle.deque_machine.specs.Moments.{Deque, Moment, opening, moment_of, deque_of, owned_by, with_id, one_if_owned, one_if_id}
-use Rattle.deque_machine.specs.Machine.{Setting, Event, steals, does, suspends, gives_up, Owns, IsIdle, IsAtTop, booked_with, books_with, new_book, May, steals_beside, takes_over, forks_child, joins_child, allocates_within, allocates_above, releases_words, meets_fault, runs_dummy, ends_above_parent, ends_and_wakes, ends_and_leaves, suspends_top, gives_deque_up}
+use Rattle.deque_machine.specs.Machine.{Setting, Event, steals, does, Owns, IsIdle, IsAtTop, booked_with, books_with, new_book, May, steals_beside, takes_over, forks_child, joins_child, allocates_within, allocates_above, releases_words, meets_fault, runs_dummy, ends_above_parent, ends_and_wakes, ends_and_leaves, suspends_top, gives_deque_up}
 use Rattle.deque_machine.specs.LawfulOrder.{IsLawful}
 use Rattle.deque_machine.proofs.Kept.{kept, opening_is_lawful}
-use Rattle.ready_machine.specs.Entries.{entry, IsEntry, IsRun, IsLeftmostReady, IsLeastFree, IsReadyList}
+use Rattle.ready_machine.specs.Entries.{entry, IsEntry, IsRun, IsLeftmostReady, IsReadyList}
 use Rattle.ready_machine.specs.ReadyMachine.{IsShared, MayReady, takes, forks_left, as_with_deques}
 use Rattle.ready_machine.proofs.Owners.{owners, owners_times, all_have_owners}
 use Rattle.ready_machine.proofs.Cutting.{parted_is_lawful}
@@ -38,9 +37,11 @@ in_reach s m lawful worker below idle left rest are run =
     (λ w. let few = at_most w in let most = (lawful.order).owns_one w in elim (one_cases w worker) [
       | inl here ↦ let one = here.1 in let none : owned_by w m.deques ≡ 0 = ap (λ t. owned_by t m.deques) here.0 ∙ idle in omega (arith, few, one, none)
       | inr other ↦ let none = other.1 in omega (arith, few, most, none)
-    ])
-    (below, each_from (λ w. w < s.workers) ws (λ w there. lawful.owners_below w
-    (let some = times_among w ws there in let few = at_most w in omega (arith, some, few)))) in
+    ]) (
+      below,
+      each_from (λ w. w < s.workers) ws (λ w there. lawful.owners_below w
+          (let some = times_among w ws there in let few = at_most w in omega (arith, some, few))),
+    ) in
     omega (arith, few, as_many)
 
 -- so a Take is a theft in place

@@ -1,14 +1,14 @@
 -- What holds of each moment of a ready list, and of its runs.
-use Rattle.std.specs.Prelude.{◌≡◌, ◌↔◌, ℕ, suc, ◌+◌, ◌*◌, ◌<◌, ◌≤◌, ◌⊎◌, None, Some, List, [], ◌∷◌, ◌++◌, length, pos, ◌+ℤ◌, ◌≤ℤ◌, ◌<ℤ◌}
+use Rattle.std.specs.Prelude.{◌≡◌, ◌↔◌, ℕ, ◌+◌, ◌*◌, ◌<◌, ◌≤◌, ◌⊎◌, None, Some, List, [], ◌∷◌, ◌++◌, length, pos, ◌+ℤ◌, ◌≤ℤ◌, ◌<ℤ◌}
 use Rattle.dag_order.specs.LabelOrder.{fork_of}
 use Rattle.depth_first_list.specs.Actions.{forks, live_words, record_words}
 use Rattle.depth_first_list.specs.Facts.{deed_at, weight_at}
 use Rattle.lawful_books.specs.Lists.{total}
 use Rattle.lawful_books.specs.Books.{IsPrefix, periods_ahead, periods_marked, bound, booked}
-use Rattle.deque_machine.specs.Moments.{Deque, Moment, opening, moment_of, deque_of, done_at, live_at, owned_by}
-use Rattle.deque_machine.specs.Machine.{Setting, Event, does, Owns, HasEnded, May}
+use Rattle.deque_machine.specs.Moments.{Deque, Moment, opening, moment_of, deque_of, done_at, live_at}
+use Rattle.deque_machine.specs.Machine.{Setting, Event, does, HasEnded, May}
 use Rattle.deque_machine.specs.Runs.{Pair, moves, high_water_mark}
-use Rattle.deque_machine.specs.Play.{CanMove, Wants, words_taken, one_if_fork}
+use Rattle.deque_machine.specs.Play.{CanMove, Wants, words_taken}
 use Rattle.ready_machine.specs.Entries.{entry, IsLeastFree, IsReadyList}
 use Rattle.ready_machine.specs.ReadyMachine.{MayReady, ReadyReaches, NoneGivenFree}
 use Rattle.ready_machine.specs.ReadyPlay.{CanGo, WantsReady}

@@ -12,11 +12,6 @@ use Rattle.ready_machine.specs.Entries.{IsReadyList}
 use Rattle.ready_machine.specs.ReadyMachine.{MayReady, ReadyReaches, NoneGivenFree}
 use Rattle.ready_machine.specs.ReadyPlay.{WantsReady, ReadyTurn, ReadyPlays}
 
--- at a lawful ready list an event of a worker leads to one moment
-abbrev pub OneWay : Setting → Type 0
-OneWay s = (m one other : Moment) (worker : ℕ) (event : Event) → IsReadyList s m → MayReady s m worker event one → MayReady s m worker event other
-    → one ≡ other
-
 -- what the rules want of a worker may come
 abbrev pub WantedMayCome : Setting → Type 0
 WantedMayCome s = (m : Moment) (worker : ℕ) (event : Event) → IsReadyList s m → worker < s.workers → WantsReady s m worker event
@@ -37,12 +32,6 @@ PlaysAreRuns s = (limits : Limits) (words : ℕ → ℕ) (run : List Pair) (last
 abbrev pub PlaysEnd : Setting → Type 0
 PlaysEnd s = record_words ≤ s.quota → 0 < s.workers → (limits : Limits) (words : ℕ → ℕ)
     → (run : List Pair) × (last : Moment) × (ending : Ending) × ReadyPlays s limits words 0 opening run last ending
-
--- and only one
-abbrev pub OnePlay : Setting → Type 0
-OnePlay s = (limits : Limits) (words : ℕ → ℕ) (run run' : List Pair) (last last' : Moment) (ending ending' : Ending)
-    → ReadyPlays s limits words 0 opening run last ending → ReadyPlays s limits words 0 opening run' last' ending'
-    → (run ≡ run') × (last ≡ last') × (ending ≡ ending')
 
 -- with room for all words and actions of the list a play finishes
 abbrev pub PlaysFinish : Setting → Type 0
