@@ -1,5 +1,5 @@
 -- Worked runs of ready lists: three small programs with one worker, and one with two.
-use Rattle.std.proofs.Common.{◌≡◌, ℕ, suc, ◌∙◌, ◌<◌, ◌≤◌, Bool, true, false, List, [], ◌∷◌, ◌++◌, inl, inr, refl, sym, ap, arith, take, true≢false, ℤ, pos, ◌+ℤ◌, ◌<ℤ◌}
+use Rattle.std.proofs.Common.{◌≡◌, ℕ, zero, suc, ◌∙◌, ◌<◌, ◌≤◌, Bool, true, false, List, [], ◌∷◌, ◌++◌, inl, inr, refl, sym, ap, arith, take, true≢false, ℤ, pos, ◌+ℤ◌, ◌<ℤ◌}
 use Rattle.std.proofs.lemmas.Int.{ints}
 use Rattle.std.specs.Prelude.{Option, None, Some, is_some, map}
 use Rattle.dummy_tree.specs.Shapes.{leaf, forked, shape_of, halved}
@@ -99,7 +99,7 @@ first_missing : IsPrefix one_fork (done_at it_forked) 1
 first_missing = record { inside = omega arith; all_done = all_done; next_missing = λ lt. refl }
   where
     all_done : (i : ℕ) → i < 1 → 0 < done_at it_forked i
-    all_done 0 lt = omega arith
+    all_done zero lt = omega arith
     all_done (suc i) lt = absurd (omega (arith, lt))
 
 nothing_ahead : periods_ahead 1 it_forked.books ≡ 0

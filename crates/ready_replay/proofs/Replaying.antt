@@ -155,21 +155,20 @@ module _ (s : Setting) (list : IsDepthFirst s.quota s.list) where
     ready_step_sound suspends after is = as_with_deques suspends after tt (step_sound s m worker suspends after is)
     ready_step_sound gives_up after is = as_with_deques gives_up after tt (step_sound s m worker gives_up after is)
 
-  replay_reaches : (first : Moment) → IsReadyList s first → (pairs : List Pair) (last : Moment) → replay_from s (Some first) pairs ≡ Some last
+  replay_reaches : (pairs : List Pair) (first last : Moment) → IsReadyList s first → replay_from s (Some first) pairs ≡ Some last
       → ReadyReaches s first pairs last
-  replay_reaches first ready [] last is = same_moment first last is
-  replay_reaches first ready (pair ∷ later) last is = by_step (ready_step s first pair.worker pair.event) refl is
+  replay_reaches [] first last ready is = same_moment first last is
+  replay_reaches (pair ∷ later) first last ready is =
+      by_step (ready_step s first pair.worker pair.event) refl is (λ next next_ready rest. replay_reaches later next last next_ready rest)
     where
       by_step : (o : Option Moment) → ready_step s first pair.worker pair.event ≡ o → replay_from s o later ≡ Some last
+          → ((next : Moment) → IsReadyList s next → replay_from s (Some next) later ≡ Some last → ReadyReaches s next later last)
           → ReadyReaches s first (pair ∷ later) last
-      by_step None stepped is = absurd (none_is_not_some last (none_stays later is))
-        where
-          none_stays : (pairs : List Pair) → replay_from s None pairs ≡ Some last → None ≡ Some last
-          none_stays pairs is = is
-      by_step (Some next) stepped is =
+      by_step None stepped is further = absurd (none_is_not_some last is)
+      by_step (Some next) stepped is further =
           let may : MayReady s first pair.worker pair.event next = ready_step_sound first ready pair.worker pair.event next stepped in
-          (next, may, replay_reaches next (kept_ready s list first ready pair.worker pair.event next may) later last is)
+          (next, may, further next (kept_ready s list first ready pair.worker pair.event next may) is)
 
   -- what is replayed is a run
   pub replays_are_runs : ReplaysAreRuns s
-  replays_are_runs pairs last is = replay_reaches opening (opening_is_ready s list) pairs last is
+  replays_are_runs pairs last is = replay_reaches pairs opening last (opening_is_ready s list) is
