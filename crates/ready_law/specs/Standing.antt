@@ -7,7 +7,7 @@ use Rattle.lawful_books.specs.Lists.{Each}
 use Rattle.deque_machine.specs.Moments.{Moment, opening}
 use Rattle.deque_machine.specs.Machine.{Setting, Event, May}
 use Rattle.deque_machine.specs.Runs.{Pair, place_of, is_move}
-use Rattle.moment_parts.specs.Parts.{Thread, Deque, Parts, parts_with_root}
+use Rattle.moment_parts.specs.Parts.{Thread, Deque, parts_with_root}
 use Rattle.moment_parts.specs.Cuts.{deque_with}
 use Rattle.step_laws.specs.Standing.{Showing, StandsAt}
 use Rattle.ready_machine.specs.Entries.{IsEntry, IsLeastFree}
@@ -42,14 +42,16 @@ RootStandsReady s = (x : Thread) (shown : Showing) → x.id ≡ root → x.label
 -- Where the rules want an event of a worker, it came in the machine of deques, and each deque has one thread then, the event came in the
 -- ready list.
 abbrev pub OneThreadEach : Setting → Type 0
-OneThreadEach s = (before after : Showing) (moved : List Action) (m next : Moment) (worker : ℕ) (event : Event) → StandsReady s before moved m
+OneThreadEach s = (before after : Showing) (moved : List Action) (m next : Moment) (worker : ℕ) (event : Event)
+    → StandsReady s before moved m
     → worker < s.workers → WantsReady s m worker event → May s m worker event next
     → StandsAt s after (moved ++ filter is_move (map (action_at s.list) (place_of event))) next
     → Each HasOneThread after.parts.deques → StandsReadyAfter s after moved m worker event
 
 -- Where the worker's deque has two threads then, it came in the ready list once the deque is cut in two, under the least free id.
 abbrev pub TwoAreCut : Setting → Type 0
-TwoAreCut s = (before after : Showing) (moved : List Action) (m next : Moment) (worker : ℕ) (event : Event) (left right : List Deque) (id new : ℕ)
+TwoAreCut s = (before after : Showing) (moved : List Action) (m next : Moment) (worker : ℕ) (event : Event) (left right : List Deque)
+    (id new : ℕ)
     (upper lower : Thread) → StandsReady s before moved m → worker < s.workers → WantsReady s m worker event → May s m worker event next
     → StandsAt s after (moved ++ filter is_move (map (action_at s.list) (place_of event))) next
     → after.parts.deques ≡ left ++ deque_with id (Some worker) (upper ∷ lower ∷ []) ∷ right → IsLeastFree next.deques new
@@ -57,5 +59,6 @@ TwoAreCut s = (before after : Showing) (moved : List Action) (m next : Moment) (
 
 -- a run goes on with each event that may come at the ready list that it reaches
 abbrev pub ReadyRunsGoOn : Setting → Type 0
-ReadyRunsGoOn s = (run : List Pair) (m after : Moment) (worker : ℕ) (event : Event) → ReadyReaches s opening run m → MayReady s m worker event after
+ReadyRunsGoOn s = (run : List Pair) (m after : Moment) (worker : ℕ) (event : Event) → ReadyReaches s opening run m
+    → MayReady s m worker event after
     → ReadyReaches s opening (run ++ record { worker = worker; event = event } ∷ []) after

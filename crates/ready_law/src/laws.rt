@@ -6,8 +6,8 @@ pub fn root_stands_ready()
     ensures { InEachSetting RootStandsReady }
 {}
 
-/// Where an event came in the machine of deques that the rules of the ready list want, and each deque has one thread then, it came in the ready
-/// list.
+/// Where an event came in the machine of deques that the rules of the ready list want, and each deque has one thread then, it came in the
+/// ready list.
 pub fn one_thread_each()
     ensures { InEachSetting OneThreadEach }
 {}

@@ -73,7 +73,8 @@ module _ (s : Setting) (m : Moment) (ready : IsReadyList s m) where
         | inr many ↦ let one : length d.threads ≡ 1 = ap length is.1 in absurd (omega (arith, one, many))
       ]
 
-  ready_at : (left right : List Deque) (id : ℕ) (thread : List ℕ) → m.deques ≡ left ++ entry id None thread ∷ right → IsReady m (length left)
+  ready_at : (left right : List Deque) (id : ℕ) (thread : List ℕ) → m.deques ≡ left ++ entry id None thread ∷ right
+      → IsReady m (length left)
   ready_at left right id thread are =
       (entry id None thread, ap (λ t. slice_get t (length left)) are ∙ get_middle left (entry id None thread) right, inl refl)
 
@@ -82,7 +83,8 @@ module _ (s : Setting) (m : Moment) (ready : IsReadyList s m) where
       → IsLeftmostReady m.deques left id thread right → length left < reach s m
   near worker below idle left right id thread at =
       let few = in_reach s m ready.lawful worker below idle left (entry id None thread ∷ right) at.deques_are at.left_are_run in
-      let size : length m.deques ≡ length left + suc (length right) = ap length at.deques_are ∙ length-append left (entry id None thread ∷ right) in
+      let size : length m.deques ≡ length left + suc (length right) = ap length at.deques_are
+      ∙ length-append left (entry id None thread ∷ right) in
       omega (arith, few, size)
 
   pub can_go : (worker : ℕ) → CanMove s m worker → CanGo m worker
@@ -90,7 +92,12 @@ module _ (s : Setting) (m : Moment) (ready : IsReadyList s m) where
     | inl owns ↦ inl owns
     | inr found ↦
         let at = found_ready found.0 found.2 in
-        inr (entry at.2 None at.3, subst (λ t. Among (entry at.2 None at.3) t) (sym at.4) (among_here (entry at.2 None at.3) at.0 at.1), refl)
+        inr (
+          entry at.2 None at.3,
+          subst (λ t. Among (entry at.2 None at.3) t) (sym at.4) (among_here
+              (entry at.2 None at.3) at.0 at.1),
+          refl,
+        )
   ]
 
   pub can_move : (worker : ℕ) → worker < s.workers → CanGo m worker → CanMove s m worker
@@ -128,7 +135,8 @@ module _ (s : Setting) (m : Moment) (ready : IsReadyList s m) where
             (d, ap (λ t. slice_get t found.0) are ∙ found.2, inl none)));
       }
 
-  leftmost_is_first : (worker : ℕ) → worker < s.workers → owned_by worker m.deques ≡ 0 → (left right : List Deque) (id : ℕ) (thread : List ℕ)
+  leftmost_is_first : (worker : ℕ) → worker < s.workers → owned_by worker m.deques ≡ 0
+      → (left right : List Deque) (id : ℕ) (thread : List ℕ)
       → IsLeftmostReady m.deques left id thread right → IsFirst (reach s m) 0 (IsReady m) (length left)
   leftmost_is_first worker below idle left right id thread at =
       let few : length left < reach s m = near worker below idle left right id thread at in
@@ -164,7 +172,8 @@ module _ (s : Setting) (m : Moment) (ready : IsReadyList s m) where
       ]
   wants_ready worker event (a_give_up forced) = of_its_entry gives_up (owner_is_busy m worker forced.owner) (a_give_up forced)
   wants_ready worker event (a_wait o place child at none) = of_its_entry suspends (owner_is_busy m worker o) (a_wait o place child at none)
-  wants_ready worker event (an_action o place next has fits) = of_its_entry (does place) (owner_is_busy m worker o) (an_action o place next has fits)
+  wants_ready worker event (an_action o place next has fits) = of_its_entry (does place) (owner_is_busy m worker o)
+      (an_action o place next has fits)
 
   pub wants_with_deques : (worker : ℕ) → worker < s.workers → (event : Event) → WantsReady s m worker event → Wants s m worker 0 event
   wants_with_deques worker below event (a_take left right id thread idle at) =

@@ -35,7 +35,8 @@ ready_along s list (pair ∷ later) first last ready reaches =
     ready_along s list later reaches.0 last (kept_ready s list first ready pair.worker pair.event reaches.0 reaches.1) reaches.2
 
 -- what an event writes into the books is what the case of the machine beside it writes
-pub ready_writes : (s : Setting) (m : Moment) → IsReadyList s m → (worker : ℕ) (event : Event) (after : Moment) → MayReady s m worker event after
+pub ready_writes : (s : Setting) (m : Moment) → IsReadyList s m → (worker : ℕ) (event : Event) (after : Moment)
+    → MayReady s m worker event after
     → Writes s.list m event after
 ready_writes s m ready worker event after may =
     let b : IsBeside s m worker event after = beside s m ready worker event after may in
@@ -82,7 +83,8 @@ module _ (s : Setting) (list : IsDepthFirst s.quota s.list) where
   live_grows (pair ∷ later) first last ready reaches =
       let w : Writes s.list first pair.event reaches.0 = ready_writes s first ready pair.worker pair.event reaches.0 reaches.1 in
       let rest = live_grows later reaches.0 last (kept_ready s list first ready pair.worker pair.event reaches.0 reaches.1) reaches.2 in
-      let here : List Action = map (action_at s.list) (place_of pair.event) in let further : List Action = map (action_at s.list) (places_of later) in
+      let here : List Action = map (action_at s.list) (place_of pair.event) in let further : List Action = map (action_at s.list)
+      (places_of later) in
       let sum : live_words (map (action_at s.list) (place_of pair.event ++ places_of later)) ≡ live_words here +ℤ live_words further =
       ap live_words (map-append (action_at s.list) (place_of pair.event) (places_of later)) ∙ live_append here further in
       adds (live_at s.list last) (live_at s.list reaches.0) (live_at s.list first) (live_words here) (live_words further)
@@ -155,7 +157,8 @@ trans : (x y z : ℤ) → x ≤ℤ y → y ≤ℤ z → x ≤ℤ z
 trans x y z a b = omega (arith, ints)
 
 module _ (s : Setting) (some : 0 < s.quota) (list : IsDepthFirst s.quota s.list) where
-  marked_bound_at : (m : Moment) (marks : ℕ) → IsLawful s m → periods_marked m.books ≤ marks → live_at s.list m ≤ℤ bound s.quota s.list marks
+  marked_bound_at : (m : Moment) (marks : ℕ) → IsLawful s m → periods_marked m.books ≤ marks
+      → live_at s.list m ≤ℤ bound s.quota s.list marks
   marked_bound_at m marks lawful most =
       let p = prefix_of s.list (done_at m) in
       let few = ahead_marked_at s list m p.0 lawful p.1 in
@@ -184,17 +187,23 @@ module _ (s : Setting) (some : 0 < s.quota) (list : IsDepthFirst s.quota s.list)
       higher x y w h b e le low = omega (arith, ints, clamps)
 
       by_event : (event : Event) → live_at s.list reaches.0 ≡ live_at s.list first +ℤ live_words (map (action_at s.list) (place_of event))
-          → (live_at s.list reaches.0 +ℤ peak (map (action_at s.list) (places_of later))) ≤ℤ bound s.quota s.list (periods_marked last.books)
+          → (live_at s.list reaches.0 +ℤ peak (map (action_at s.list) (places_of later))) ≤ℤ bound s.quota s.list
+          (periods_marked last.books)
           → live_at s.list first ≤ℤ bound s.quota s.list (periods_marked last.books)
-          → (live_at s.list first +ℤ peak (map (action_at s.list) (place_of event ++ places_of later))) ≤ℤ bound s.quota s.list (periods_marked last.books)
+          → (live_at s.list first +ℤ peak (map (action_at s.list) (place_of event ++ places_of later))) ≤ℤ bound s.quota s.list
+          (periods_marked last.books)
       by_event (steals place id) live rest low =
-          same (live_at s.list first) (live_at s.list reaches.0) (peak (map (action_at s.list) (places_of later))) (bound s.quota s.list (periods_marked last.books)) live rest
+          same (live_at s.list first) (live_at s.list reaches.0) (peak (map (action_at s.list) (places_of later))) (bound s.quota s.list
+          (periods_marked last.books)) live rest
       by_event suspends live rest low =
-          same (live_at s.list first) (live_at s.list reaches.0) (peak (map (action_at s.list) (places_of later))) (bound s.quota s.list (periods_marked last.books)) live rest
+          same (live_at s.list first) (live_at s.list reaches.0) (peak (map (action_at s.list) (places_of later))) (bound s.quota s.list
+          (periods_marked last.books)) live rest
       by_event gives_up live rest low =
-          same (live_at s.list first) (live_at s.list reaches.0) (peak (map (action_at s.list) (places_of later))) (bound s.quota s.list (periods_marked last.books)) live rest
+          same (live_at s.list first) (live_at s.list reaches.0) (peak (map (action_at s.list) (places_of later))) (bound s.quota s.list
+          (periods_marked last.books)) live rest
       by_event (does place) live rest low =
-          higher (live_at s.list first) (live_at s.list reaches.0) (weight_at s.list place) (peak (map (action_at s.list) (places_of later)))
+          higher (live_at s.list first) (live_at s.list reaches.0) (weight_at s.list place) (peak (map (action_at s.list)
+          (places_of later)))
           (bound s.quota s.list (periods_marked last.books)) live rest low
 
   pub events_keep_ready : EventsKeepReady s
@@ -223,7 +232,8 @@ module _ (s : Setting) (some : 0 < s.quota) (list : IsDepthFirst s.quota s.list)
   marked_bound run m reaches =
       let inside = places_inside s list run opening m (opening_is_ready s list) reaches in
       let high = moves_rise_as_high s list (places_of run) inside in
-      from_nothing (high_water_mark s.list run) (peak (map (action_at s.list) (places_of run))) (bound s.quota s.list (periods_marked m.books)) high
+      from_nothing (high_water_mark s.list run) (peak (map (action_at s.list) (places_of run))) (bound s.quota s.list
+      (periods_marked m.books)) high
       (high_from run opening m (opening_is_ready s list) reaches)
     where
       from_nothing : (z x y : ℤ) → z ≡ x → (pos 0 +ℤ x) ≤ℤ y → z ≤ℤ y
@@ -238,14 +248,16 @@ module _ (s : Setting) (some : 0 < s.quota) (list : IsDepthFirst s.quota s.list)
       let next : IsReadyList s after = kept_ready s list m ready worker (does place) after may in
       let w : Writes s.list m (does place) after = ready_writes s m ready worker (does place) after may in
       arena_law s.quota s.list some list after.books n periods ((next.lawful).periods).lawful prefix
-      (above (bound s.quota s.list periods) (pos capacity) (live_at s.list m) (weight_at s.list place) (live_at s.list after) room refused w.live)
+      (above (bound s.quota s.list periods) (pos capacity) (live_at s.list m) (weight_at s.list place)
+      (live_at s.list after) room refused w.live)
     where
       above : (b c x w y : ℤ) → b ≤ℤ c → c <ℤ (x +ℤ w) → y ≡ x +ℤ (w +ℤ pos 0) → b <ℤ y
       above b c x w y p q e = omega (arith, ints)
 
   pub ended_did_all : EndedDidAll s
   ended_did_all run m reaches has place inside =
-      ended_has_all s.quota s.list list m.books has.0 (((reached_is_ready run m reaches).lawful).periods).lawful has.1 has.2 has.3 has.4 place inside
+      ended_has_all s.quota s.list list m.books has.0
+      (((reached_is_ready run m reaches).lawful).periods).lawful has.1 has.2 has.3 has.4 place inside
 
   pub arena_never_fills : ArenaNeverFills s
   arena_never_fills run m after worker place reaches may =

@@ -27,9 +27,11 @@ pub data Changes (s : Setting) (m : Moment) (worker : ℕ) : Event → List Book
 
 changes_with_deques : (s : Setting) (m : Moment) (worker : ℕ) (event : Event) (after : Moment) → May s m worker event after
     → Changes s m worker event after.books after.waiting
-changes_with_deques s m worker event after (steals_beside left right victim first others bottom id idle reach deques_are threads_are new_id) =
+changes_with_deques s m worker event after
+    (steals_beside left right victim first others bottom id idle reach deques_are threads_are new_id) =
     begins (length left) id true
-changes_with_deques s m worker event after (takes_over left right thread id idle reach deques_are) = begins (length left) id (nat_lt 0 (length left))
+changes_with_deques s m worker event after (takes_over left right thread id idle reach deques_are) = begins (length left) id (nat_lt 0
+    (length left))
 changes_with_deques s m worker event after (forks_child o place child at fits) = runs_on o place
 changes_with_deques s m worker event after (joins_child o place child at has) = runs_on o place
 changes_with_deques s m worker event after (allocates_within o place at small fits) = runs_on o place
@@ -61,7 +63,8 @@ acted_once m worker o owner place =
 
 closed_as_before : (m : Moment) (worker : ℕ) (o : Owns m worker) → length (booked (books_closed o)) ≡ length (booked m.books) + 0
 closed_as_before m worker o =
-    let a : length (booked (books_closed o)) ≡ length (booked (o.older ++ o.book ∷ o.newer)) = ap length (closed_same o.older o.newer o.book None) in
+    let a : length (booked (books_closed o)) ≡ length (booked (o.older ++ o.book ∷ o.newer)) = ap length
+    (closed_same o.older o.newer o.book None) in
     let c : length (booked m.books) ≡ length (booked (o.older ++ o.book ∷ o.newer)) = ap (λ t. length (booked t)) o.books_are in
     omega (arith, a, c)
 

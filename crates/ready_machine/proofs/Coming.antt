@@ -44,7 +44,8 @@ free_or_not ds i = cases_eq (with_id i ds) 0
 pub least_free : (ds : List Deque) → (id : ℕ) × IsLeastFree ds id
 least_free ds =
     let n : ℕ = suc (suc (sum_of_ids ds)) in
-    let found = first_there n 0 (λ i. with_id i ds ≡ 0) (free_or_not ds) (suc (sum_of_ids ds)) (omega arith) (above_all ds (suc (sum_of_ids ds)) (omega arith)) in
+    let found = first_there n 0 (λ i. with_id i ds ≡ 0) (free_or_not ds) (suc (sum_of_ids ds)) (omega arith) (above_all ds (suc
+    (sum_of_ids ds)) (omega arith)) in
     let first = found.1 in
     let few = first.few in
     let at : found.0 ≡ first.turns = first.is ∙ place_itself n first.turns first.few in (
@@ -52,7 +53,8 @@ least_free ds =
       record {
         free = first.passes;
         none_less = λ i lt. some_of (with_id i ds)
-            (λ none. first.none_before i (omega (arith, lt, at)) (subst (λ t. with_id t ds ≡ 0) (sym (place_itself n i (omega (arith, lt, at, few)))) none));
+            (λ none. first.none_before i (omega (arith, lt, at)) (subst (λ t. with_id t ds ≡ 0) (sym (place_itself n i (omega
+            (arith, lt, at, few)))) none));
       },
     )
   where
@@ -71,11 +73,15 @@ module _ (s : Setting) (m : Moment) (ready : IsReadyList s m) (worker : ℕ) whe
       → (next : Moment) × MayReady s m worker event next
   comes some event after (steals_beside left right victim first others bottom id idle reach deques_are threads_are new_id) =
       let none = idle.owns_none in absurd (omega (arith, some, none))
-  comes some event after (takes_over left right thread id idle reach deques_are) = let none = idle.owns_none in absurd (omega (arith, some, none))
+  comes some event after (takes_over left right thread id idle reach deques_are) = let none = idle.owns_none in absurd (omega
+      (arith, some, none))
   comes some event after (forks_child o place child at fits) =
       let least = least_free m.deques in (_, forks_left o place child least.0 at fits least.1)
-  comes some event after (joins_child o place child at has) =
-      (after, as_with_deques event after (not_a_fork place (joins child) at.deed_is (join_is_no_fork child)) (joins_child o place child at has))
+  comes some event after (joins_child o place child at has) = (
+    after,
+    as_with_deques event after (not_a_fork place (joins child) at.deed_is (join_is_no_fork child))
+        (joins_child o place child at has),
+  )
   comes some event after (allocates_within o place at small fits) =
       (after, as_with_deques event after (not_a_fork place allocates at.deed_is own_alloc.no_fork) (allocates_within o place at small fits))
   comes some event after (allocates_above o place at large) =
@@ -86,10 +92,16 @@ module _ (s : Setting) (m : Moment) (ready : IsReadyList s m) (worker : ℕ) whe
       (after, as_with_deques event after (not_a_fork place faults at.deed_is own_fault.no_fork) (meets_fault o place at))
   comes some event after (runs_dummy o place at) =
       (after, as_with_deques event after (not_a_fork place dummy at.deed_is own_dummy.no_fork) (runs_dummy o place at))
-  comes some event after (ends_above_parent o place child parent below at under_is top_is) =
-      (after, as_with_deques event after (not_a_fork place ends at.deed_is end_is_no_fork) (ends_above_parent o place child parent below at under_is top_is))
-  comes some event after (ends_and_wakes o place before later parent at under_is waiting_is top_is) =
-      (after, as_with_deques event after (not_a_fork place ends at.deed_is end_is_no_fork) (ends_and_wakes o place before later parent at under_is waiting_is top_is))
+  comes some event after (ends_above_parent o place child parent below at under_is top_is) = (
+    after,
+    as_with_deques event after (not_a_fork place ends at.deed_is end_is_no_fork)
+        (ends_above_parent o place child parent below at under_is top_is),
+  )
+  comes some event after (ends_and_wakes o place before later parent at under_is waiting_is top_is) = (
+    after,
+    as_with_deques event after (not_a_fork place ends at.deed_is end_is_no_fork)
+        (ends_and_wakes o place before later parent at under_is waiting_is top_is),
+  )
   comes some event after (ends_and_leaves o place at under_is unwaited) =
       (after, as_with_deques event after (not_a_fork place ends at.deed_is end_is_no_fork) (ends_and_leaves o place at under_is unwaited))
   comes some event after (suspends_top o place child at not_ended under_is) =
@@ -112,7 +124,8 @@ module _ (s : Setting) (m : Moment) (ready : IsReadyList s m) (worker : ℕ) whe
 
   pub each_beside : (o : Owns m worker) → Each IsEntry o.left × Each IsEntry o.right
   each_beside o =
-      let all : Each IsEntry (o.left ++ deque_of o.id (Some worker) (o.top ∷ o.under) ∷ o.right) = subst (λ t. Each IsEntry t) o.deques_are ready.entries in (
+      let all : Each IsEntry (o.left ++ deque_of o.id (Some worker) (o.top ∷ o.under) ∷ o.right) = subst
+      (λ t. Each IsEntry t) o.deques_are ready.entries in (
         each_left IsEntry o.left (deque_of o.id (Some worker) (o.top ∷ o.under) ∷ o.right) all,
         (each_right IsEntry o.left (deque_of o.id (Some worker) (o.top ∷ o.under) ∷ o.right) all).1,
       )
@@ -134,15 +147,24 @@ module _ (s : Setting) (m : Moment) (ready : IsReadyList s m) (worker : ℕ) whe
   machines_fork event after (takes_over l r t i idle reach deques_are) place child is deed = absurd (subst (IsTheFork place) (sym is) refl)
   machines_fork event after (forks_child o p c at fits) place child is deed =
       (record { owner = o; place = p; child = c; at = at; fits = fits; after_is = refl }, subst (IsTheFork place) (sym is) refl)
-  machines_fork event after (joins_child o p c at has) place child is deed = absurd (no_other p (joins c) at.deed_is (join_is_no_fork c) place child is deed)
-  machines_fork event after (allocates_within o p at small fits) place child is deed = absurd (no_other p allocates at.deed_is own_alloc.no_fork place child is deed)
-  machines_fork event after (allocates_above o p at large) place child is deed = absurd (no_other p allocates at.deed_is own_alloc.no_fork place child is deed)
-  machines_fork event after (releases_words o p at) place child is deed = absurd (no_other p releases at.deed_is own_release.no_fork place child is deed)
-  machines_fork event after (meets_fault o p at) place child is deed = absurd (no_other p faults at.deed_is own_fault.no_fork place child is deed)
-  machines_fork event after (runs_dummy o p at) place child is deed = absurd (no_other p dummy at.deed_is own_dummy.no_fork place child is deed)
-  machines_fork event after (ends_above_parent o p c parent below at under_is top_is) place child is deed = absurd (no_other p ends at.deed_is end_is_no_fork place child is deed)
-  machines_fork event after (ends_and_wakes o p before later parent at under_is waiting_is top_is) place child is deed = absurd (no_other p ends at.deed_is end_is_no_fork place child is deed)
-  machines_fork event after (ends_and_leaves o p at under_is unwaited) place child is deed = absurd (no_other p ends at.deed_is end_is_no_fork place child is deed)
+  machines_fork event after (joins_child o p c at has) place child is deed = absurd (no_other p (joins c) at.deed_is
+      (join_is_no_fork c) place child is deed)
+  machines_fork event after (allocates_within o p at small fits) place child is deed = absurd
+      (no_other p allocates at.deed_is own_alloc.no_fork place child is deed)
+  machines_fork event after (allocates_above o p at large) place child is deed = absurd
+      (no_other p allocates at.deed_is own_alloc.no_fork place child is deed)
+  machines_fork event after (releases_words o p at) place child is deed = absurd
+      (no_other p releases at.deed_is own_release.no_fork place child is deed)
+  machines_fork event after (meets_fault o p at) place child is deed = absurd
+      (no_other p faults at.deed_is own_fault.no_fork place child is deed)
+  machines_fork event after (runs_dummy o p at) place child is deed = absurd
+      (no_other p dummy at.deed_is own_dummy.no_fork place child is deed)
+  machines_fork event after (ends_above_parent o p c parent below at under_is top_is) place child is deed = absurd
+      (no_other p ends at.deed_is end_is_no_fork place child is deed)
+  machines_fork event after (ends_and_wakes o p before later parent at under_is waiting_is top_is) place child is deed = absurd
+      (no_other p ends at.deed_is end_is_no_fork place child is deed)
+  machines_fork event after (ends_and_leaves o p at under_is unwaited) place child is deed = absurd
+      (no_other p ends at.deed_is end_is_no_fork place child is deed)
   machines_fork event after (suspends_top o p c at not_ended under_is) place child is deed = absurd (subst (IsTheFork place) (sym is) refl)
   machines_fork event after (gives_deque_up o) place child is deed = absurd (subst (IsTheFork place) (sym is) refl)
 
@@ -163,16 +185,19 @@ module _ (s : Setting) (m : Moment) (ready : IsReadyList s m) (worker : ℕ) whe
       (no_entry o.id (fork_of o.top f.child) o.top o.under) (no_entry id (fork_of thread child) thread []) in
       let ids : o.id ≡ id = ap (λ d. d.id) cut.heres in
       let threads : fork_of o.top f.child ∷ o.top ∷ o.under ≡ fork_of thread child ∷ thread ∷ [] = ap (λ d. d.threads) cut.heres in
-      let upper : fork_of o.top f.child ≡ fork_of thread child = same_head (fork_of o.top f.child) (fork_of thread child) (o.top ∷ o.under) (thread ∷ []) threads in
+      let upper : fork_of o.top f.child ≡ fork_of thread child = same_head (fork_of o.top f.child) (fork_of thread child)
+      (o.top ∷ o.under) (thread ∷ []) threads in
       let lower : o.top ≡ thread = same_head o.top thread o.under []
       (same_tail (fork_of o.top f.child) (fork_of thread child) (o.top ∷ o.under) (thread ∷ []) threads) in
-      let parted : moment_of (o.left ++ entry o.id (Some worker) (fork_of o.top f.child) ∷ entry new None o.top ∷ o.right) m.waiting (books_with o (Some worker) f.place)
+      let parted : moment_of (o.left ++ entry o.id (Some worker) (fork_of o.top f.child) ∷ entry new None o.top ∷ o.right) m.waiting
+      (books_with o (Some worker) f.place)
       ≡ moment_of (left ++ entry id (Some worker) (fork_of thread child) ∷ entry new None thread ∷ right) after.waiting after.books =
       λ i. moment_of (cut.lefts i ++ entry (ids i) (Some worker) (upper i) ∷ entry new None (lower i) ∷ cut.rights i)
       ((sym f.after_is) i).waiting ((sym f.after_is) i).books in
       subst (MayReady s m worker (does place)) parted
       (subst (λ p. MayReady s m worker (does p)
-      (moment_of (o.left ++ entry o.id (Some worker) (fork_of o.top f.child) ∷ entry new None o.top ∷ o.right) m.waiting (books_with o (Some worker) f.place)))
+      (moment_of (o.left ++ entry o.id (Some worker) (fork_of o.top f.child) ∷ entry new None o.top ∷ o.right) m.waiting (books_with o
+      (Some worker) f.place)))
       found.1 (forks_left o f.place f.child new f.at f.fits least))
 
 -- the event that a Take is, and any shared one, is no Fork
@@ -219,7 +244,8 @@ module _ (s : Setting) (list : IsDepthFirst s.quota s.list) where
             few = first.few;
             is = first.is;
             passes = can_go s m ready w.0 first.passes;
-            none_before = λ t lt can. first.none_before t lt (can_move s m ready ((words n + t) % s.workers) (mod-lt (words n + t) workers) can);
+            none_before = λ t lt can. first.none_before t lt (can_move s m ready ((words n + t) % s.workers) (mod-lt
+                (words n + t) workers) can);
           };
           wants = wants_ready s m ready w.0 e.0 e.1;
         },

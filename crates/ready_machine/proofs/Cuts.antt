@@ -21,7 +21,8 @@ module _ {X : Type 0} where
   one_first_cut P (z ∷ left) right [] right' x y same all all' no_x no_y =
       absurd (no_y (subst P (same_head z y (left ++ x ∷ right) right' same) all.0))
   one_first_cut P (z ∷ left) right (w ∷ left') right' x y same all all' no_x no_y =
-      let rest = one_first_cut P left right left' right' x y (same_tail z w (left ++ x ∷ right) (left' ++ y ∷ right') same) all.1 all'.1 no_x no_y in
+      let rest = one_first_cut P left right left' right' x y (same_tail z w (left ++ x ∷ right)
+      (left' ++ y ∷ right') same) all.1 all'.1 no_x no_y in
       record {
         lefts = ap (λ t. t ∷ left) (same_head z w (left ++ x ∷ right) (left' ++ y ∷ right') same) ∙ ap (λ t. w ∷ t) rest.lefts;
         heres = rest.heres;
@@ -38,7 +39,8 @@ module _ {X : Type 0} where
   one_only_cut P (z ∷ left) right [] right' x y same all others no_x no_y =
       absurd (no_y (subst P (same_head z y (left ++ x ∷ right) right' same) all.0))
   one_only_cut P (z ∷ left) right (w ∷ left') right' x y same all others no_x no_y =
-      let rest = one_only_cut P left right left' right' x y (same_tail z w (left ++ x ∷ right) (left' ++ y ∷ right') same) all.1 others no_x no_y in
+      let rest = one_only_cut P left right left' right' x y (same_tail z w (left ++ x ∷ right)
+      (left' ++ y ∷ right') same) all.1 others no_x no_y in
       record {
         lefts = ap (λ t. t ∷ left) (same_head z w (left ++ x ∷ right) (left' ++ y ∷ right') same) ∙ ap (λ t. w ∷ t) rest.lefts;
         heres = rest.heres;
@@ -55,7 +57,8 @@ module _ {X : Type 0} where
   get_before (y ∷ left) rest zero x lt is = inl (sym (ap (λ o. unwrap_or o x) is))
   get_before (y ∷ left) rest (suc place) x lt is = inr (get_before left rest place x (omega arith) is)
 
-  pub place_before : (left rest : List X) (x : X) → Among x left → (place : ℕ) × (place < length left) × (slice_get (left ++ rest) place ≡ Some x)
+  pub place_before : (left rest : List X) (x : X) → Among x left
+      → (place : ℕ) × (place < length left) × (slice_get (left ++ rest) place ≡ Some x)
   place_before [] rest x there = absurd there
   place_before (y ∷ left) rest x there = elim there [
     | inl same ↦ (0, omega arith, ap Some (sym same))

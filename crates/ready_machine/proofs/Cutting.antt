@@ -22,18 +22,22 @@ parted left right id worker new upper lower = left ++ entry id (Some worker) upp
 
 module _ (left right : List Deque) (id worker new : ℕ) (upper lower : List ℕ) where
   -- each worker owns as many
-  owned_as_before : (w : ℕ) → owned_by w (parted left right id worker new upper lower) ≡ owned_by w (joined left right id worker upper lower)
+  owned_as_before : (w : ℕ) → owned_by w (parted left right id worker new upper lower) ≡ owned_by w
+      (joined left right id worker upper lower)
   owned_as_before w =
       let before = total_append (one_if_owned w) left (deque_of id (Some worker) (upper ∷ lower ∷ []) ∷ right) in
-      let after = total_append (one_if_owned w) left (entry id (Some worker) upper ∷ entry new None lower ∷ right) in omega (arith, before, after)
+      let after = total_append (one_if_owned w) left (entry id (Some worker) upper ∷ entry new None lower ∷ right) in omega
+      (arith, before, after)
 
   -- the order is that of a theft of the lower thread by a worker that gives it up
-  parted_order : (l : List Action) (done : ℕ → ℕ) (waiting : List Waiting) (other : ℕ) → with_id new (joined left right id worker upper lower) ≡ 0
+  parted_order : (l : List Action) (done : ℕ → ℕ) (waiting : List Waiting) (other : ℕ)
+      → with_id new (joined left right id worker upper lower) ≡ 0
       → owned_by other (joined left right id worker upper lower) ≡ 0 → OrderOf l done (joined left right id worker upper lower) waiting
       → OrderOf l done (parted left right id worker new upper lower) waiting
   parted_order l done waiting other free idle order =
       let stolen : OrderOf l done (left ++ entry id (Some worker) upper ∷ entry new (Some other) lower ∷ right) waiting =
-      deque_comes l done left right (deque_of id (Some worker) (upper ∷ lower ∷ [])) upper [] lower new other waiting refl free idle order in
+      deque_comes l done left right (deque_of id (Some worker)
+      (upper ∷ lower ∷ [])) upper [] lower new other waiting refl free idle order in
       subst (λ t. OrderOf l done t waiting) (append_assoc left (entry id (Some worker) upper ∷ []) (entry new None lower ∷ right))
       (owner_changes l done (left ++ entry id (Some worker) upper ∷ []) right new (Some other) (lower ∷ []) waiting
       (subst (λ t. OrderOf l done t waiting)
@@ -78,8 +82,10 @@ parted_is_lawful s m left right id worker new upper lower are free lawful =
     let same : (w : ℕ) → owned_by w (parted left right id worker new upper lower) ≡ owned_by w m.deques =
     λ w. owned_as_before left right id worker new upper lower w ∙ ap (owned_by w) (sym are) in
     record {
-      order = parted_order left right id worker new upper lower s.list (done_at m) m.waiting s.workers (subst (λ t. with_id new t ≡ 0) are free)
-          (subst (λ t. owned_by s.workers t ≡ 0) are (nobody s m lawful)) (subst (λ t. OrderOf s.list (done_at m) t m.waiting) are lawful.order);
+      order = parted_order left right id worker new upper lower s.list (done_at m) m.waiting s.workers (subst (λ t. with_id new t
+          ≡ 0) are free)
+          (subst (λ t. owned_by s.workers t ≡ 0) are (nobody s m lawful)) (subst (λ t. OrderOf s.list
+          (done_at m) t m.waiting) are lawful.order);
       periods = record {
         lawful = (lawful.periods).lawful;
         one_each = λ w. (lawful.periods).one_each w ∙ sym (same w);

@@ -85,9 +85,12 @@ module _ (s : Setting) where
     unfolding Rises opens busies is_open one_if_some
     with_book book more waiting ran rises =
         let opened : is_open o.book ≡ 1 = ap one_if_some o.open_for_it in
-        let x : total is_open m.books ≡ total is_open o.older + (is_open o.book + total is_open o.newer) = ap (total is_open) o.books_are ∙ total_append is_open o.older (o.book ∷ o.newer) in
-        let y : total is_busy m.books ≡ total is_busy o.older + (is_busy o.book + total is_busy o.newer) = ap (total is_busy) o.books_are ∙ total_append is_busy o.older (o.book ∷ o.newer) in
-        let z : acts m.books ≡ acts o.older + (length o.book.ran + acts o.newer) = ap acts o.books_are ∙ acts_middle o.older o.newer o.book in
+        let x : total is_open m.books ≡ total is_open o.older + (is_open o.book + total is_open o.newer) = ap
+        (total is_open) o.books_are ∙ total_append is_open o.older (o.book ∷ o.newer) in
+        let y : total is_busy m.books ≡ total is_busy o.older + (is_busy o.book + total is_busy o.newer) = ap
+        (total is_busy) o.books_are ∙ total_append is_busy o.older (o.book ∷ o.newer) in
+        let z : acts m.books ≡ acts o.older + (length o.book.ran + acts o.newer) = ap acts o.books_are
+        ∙ acts_middle o.older o.newer o.book in
         let p = total_append is_open o.older (book ∷ o.newer) in let q = total_append is_busy o.older (book ∷ o.newer) in
         let r = acts_middle o.older o.newer book in omega (arith, opened, x, y, z, p, q, r, ran, rises)
 
@@ -121,10 +124,12 @@ module _ (s : Setting) where
       let f : Owns m worker = forced.owner in
       let each = (lawful.periods).one_each worker in let most = (lawful.order).owns_one worker in
       let cut : open_for worker m.books ≡ open_for worker (o.older ++ o.book ∷ o.newer) = ap (open_for worker) o.books_are in
-      let same : o.book ≡ f.book = one_book s m worker o.older o.newer f.older f.newer o.book f.book (sym o.books_are ∙ f.books_are) o.open_for_it f.open_for_it (omega (arith, each, most, cut)) in
+      let same : o.book ≡ f.book = one_book s m worker o.older o.newer f.older f.newer o.book f.book (sym o.books_are
+      ∙ f.books_are) o.open_for_it f.open_for_it (omega (arith, each, most, cut)) in
       let alike : charged s.quota s.list o.book.ran ≡ charged s.quota s.list f.book.ran = ap (λ b. charged s.quota s.list b.ran) same in
       let full = forced.no_room in
-      let fits : charge_at s.quota s.list forced.place ≤ s.quota = charge_fits fork (deed_at s.list forced.place) (words_at s.list forced.place) in
+      let fits : charge_at s.quota s.list forced.place ≤ s.quota = charge_fits fork (deed_at s.list forced.place)
+      (words_at s.list forced.place) in
       omega (arith, alike, full, fits)
 
   rises : record_words ≤ s.quota → (m : Moment) → IsLawful s m → (worker : ℕ) (event : Event) (books : List Book) (waiting : List Waiting)
@@ -168,13 +173,17 @@ module _ (s : Setting) where
       ≤ 2 * busies first.books + 3 * acts last.books + opens last.books + 2 * length last.waiting
   unfolding Rises
   rises_along fork list [] first last reaches ready free =
-      let a : busies first.books ≡ busies last.books = ap (λ m. busies m.books) reaches in let b : acts first.books ≡ acts last.books = ap (λ m. acts m.books) reaches in
-      let c : opens first.books ≡ opens last.books = ap (λ m. opens m.books) reaches in let d : length first.waiting ≡ length last.waiting = ap (λ m. length m.waiting) reaches in
+      let a : busies first.books ≡ busies last.books = ap (λ m. busies m.books) reaches in let b : acts first.books
+      ≡ acts last.books = ap (λ m. acts m.books) reaches in
+      let c : opens first.books ≡ opens last.books = ap (λ m. opens m.books) reaches in let d : length first.waiting
+      ≡ length last.waiting = ap (λ m. length m.waiting) reaches in
       omega (arith, a, b, c, d)
   rises_along fork list (pair ∷ later) first last reaches ready free =
       let next : Moment = reaches.0 in
-      let here = rises fork first ready.lawful pair.worker pair.event next.books next.waiting (changes s first pair.worker pair.event next reaches.1) free.0 in
-      let rest = rises_along fork list later next last reaches.2 (kept_ready s list first ready pair.worker pair.event next reaches.1) free.1 in
+      let here = rises fork first ready.lawful pair.worker pair.event next.books next.waiting
+      (changes s first pair.worker pair.event next reaches.1) free.0 in
+      let rest = rises_along fork list later next last reaches.2
+      (kept_ready s list first ready pair.worker pair.event next reaches.1) free.1 in
       omega (arith, here, rest)
 
   -- there are at most as many open periods as workers
@@ -190,7 +199,8 @@ module _ (s : Setting) where
   few_busy : (books : List Book) → busies books ≤ opens books
   unfolding busies opens is_busy is_open
   few_busy [] = omega arith
-  few_busy (book ∷ books) = let here = busy_within book.owner (charged s.quota s.list book.ran) in let rest = few_busy books in omega (arith, here, rest)
+  few_busy (book ∷ books) = let here = busy_within book.owner (charged s.quota s.list book.ran) in let rest = few_busy books in omega
+      (arith, here, rest)
 
 -- Different threads that wait have different places, whichever place of its own each has.
 module _ (l : List Action) (Q : ℕ → Type 0) where
@@ -207,7 +217,8 @@ module _ (l : List Action) (Q : ℕ → Type 0) where
   as_many [] all = refl
   as_many (w ∷ ws) all = ap suc (as_many ws all.1)
 
-  of_those : (ws : List Waiting) (all : Each HasPlace ws) (i : ℕ) → Among i (places ws all) → Among (label_at l i) (waiting_threads ws) × Q i
+  of_those : (ws : List Waiting) (all : Each HasPlace ws) (i : ℕ) → Among i (places ws all)
+      → Among (label_at l i) (waiting_threads ws) × Q i
   unfolding places HasPlace
   of_those [] all i there = absurd there
   of_those (w ∷ ws) all i there = elim there [
@@ -288,11 +299,13 @@ module _ (s : Setting) (list : IsDepthFirst s.quota s.list) (m : Moment) (lawful
       let books : LawfulBooks s.quota s.list m.books = (lawful.periods).lawful in
       let all : Each (HasPlace s.list Q) m.waiting = each_map (Waits s.list (done_at m)) (HasPlace s.list Q) m.waiting
       (λ w there waits.
-      let f = fork_is_done s.quota s.list list (done_at m) books.first_actions (fork_of w.thread w.child) w.thread [] w.child waits.child_live refl in
+      let f = fork_is_done s.quota s.list list (done_at m) books.first_actions
+      (fork_of w.thread w.child) w.thread [] w.child waits.child_live refl in
       (f.0, f.2, f.4)) (lawful.order).waits in
       let ws : List ℕ = places s.list Q m.waiting all in
       let few = few_among ws (booked m.books) (differ s.list Q m.waiting all (lawful.order).wait_once)
-      (each_from (λ i. Among i (booked m.books)) ws (λ i there. among_times i (booked m.books) (of_those s.list Q m.waiting all i there).1)) in
+      (each_from (λ i. Among i (booked m.books)) ws (λ i there. among_times i (booked m.books)
+      (of_those s.list Q m.waiting all i there).1)) in
       let same = as_many s.list Q m.waiting all in omega (arith, few, same)
 
 module _ (s : Setting) (some : 0 < s.quota) (list : IsDepthFirst s.quota s.list) where

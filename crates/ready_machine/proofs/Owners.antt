@@ -37,7 +37,8 @@ module _ {X : Type 0} (owner_of : X → Option ℕ) where
   all_have_owners [] all = refl
   all_have_owners (x ∷ xs) all = by_owner (owner_of x) all.0 (all_have_owners xs all.1)
     where
-      by_owner : (owner : Option ℕ) → owner ≢ None → length (owners xs) ≡ length xs → length (with_owner owner (owners xs)) ≡ suc (length xs)
+      by_owner : (owner : Option ℕ) → owner ≢ None → length (owners xs) ≡ length xs
+          → length (with_owner owner (owners xs)) ≡ suc (length xs)
       by_owner None some rest = absurd (some refl)
       by_owner (Some v) some rest = omega (arith, rest)
 

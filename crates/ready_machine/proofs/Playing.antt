@@ -67,7 +67,8 @@ module _ (s : Setting) (limits : Limits) (words : ℕ → ℕ) where
       → HasCause s limits words last ending
   cause_of n m run last ending (is_over n' m' has) = has
   cause_of n m run last ending (is_stopped n' m' pair stop turn meets) = (n, pair, turn, meets)
-  cause_of n m run last ending (goes_on n' m' next last' pair later ending' turn none may rest) = cause_of (suc n) next later last ending rest
+  cause_of n m run last ending (goes_on n' m' next last' pair later ending' turn none may rest) = cause_of
+      (suc n) next later last ending rest
 
 pub plays_are_runs : (s : Setting) → PlaysAreRuns s
 plays_are_runs s limits words run last ending plays = are_runs s limits words 0 opening run last ending plays
@@ -139,7 +140,8 @@ module _ (s : Setting) (limits : Limits) (m : Moment) where
     ]
   ]
     where
-      none_meets : ¬ Fills s limits m place → length (booked m.books) < limits.actions → (stop : Stop) → Meets s limits m (does place) stop → ⊥
+      none_meets : ¬ Fills s limits m place → length (booked m.books) < limits.actions → (stop : Stop)
+          → Meets s limits m (does place) stop → ⊥
       none_meets room few stop (no_words place fills) = room fills
       none_meets room few stop (no_steps place not many) = absurd (omega (arith, few, many))
 
@@ -163,11 +165,13 @@ module _ (s : Setting) (limits : Limits) (m : Moment) where
 
 module _ (s : Setting) (some : 0 < s.quota) (list : IsDepthFirst s.quota s.list) (fork : record_words ≤ s.quota) (workers : 0 < s.workers)
     (limits : Limits) (words : ℕ → ℕ) where
-  ends_from : (fuel n : ℕ) (m : Moment) (so_far : List Pair) (reaches : ReadyReaches s opening so_far m) → NoneGivenFree s opening so_far m reaches
+  ends_from : (fuel n : ℕ) (m : Moment) (so_far : List Pair) (reaches : ReadyReaches s opening so_far m)
+      → NoneGivenFree s opening so_far m reaches
       → length so_far + fuel ≡ suc (3 * length s.list + s.workers)
       → (run : List Pair) × (last : Moment) × (ending : Ending) × ReadyPlays s limits words n m run last ending
   unfolding StopOrNot
-  ends_from zero n m so_far reaches free size = let most = runs_end s some list fork so_far m reaches free in absurd (omega (arith, most, size))
+  ends_from zero n m so_far reaches free size = let most = runs_end s some list fork so_far m reaches free in absurd (omega
+      (arith, most, size))
   ends_from (suc fuel) n m so_far reaches free size =
       let ready : IsReadyList s m = ready_along s list so_far opening m (opening_is_ready s list) reaches in
       elim (ended_or_not s m []) [
@@ -180,7 +184,8 @@ module _ (s : Setting) (some : 0 < s.quota) (list : IsDepthFirst s.quota s.list)
               | inr none ↦
                   let below = in_range s.workers (words n) (CanGo m) (turn.0).worker (turn.1).first in
                   let next = wanted_may_come s list m (turn.0).worker (turn.0).event ready below wants in
-                  let longer = one_more_event s so_far opening m next.0 turn.0 reaches free next.1 (forced s m (turn.0).worker (turn.0).event wants) in
+                  let longer = one_more_event s so_far opening m next.0 turn.0 reaches free next.1 (forced s m (turn.0).worker
+                  (turn.0).event wants) in
                   let more = length-append so_far (turn.0 ∷ []) in
                   let rest = ends_from fuel (suc n) next.0 (so_far ++ turn.0 ∷ []) longer.0 longer.1 (omega (arith, more, size)) in
                   (turn.0 ∷ rest.0, rest.1, rest.2, goes_on n m next.0 rest.1 turn.0 rest.0 rest.2 turn.1 none next.1 rest.3)
@@ -237,7 +242,8 @@ module _ (s : Setting) (some : 0 < s.quota) (list : IsDepthFirst s.quota s.list)
       let books : LawfulBooks s.quota s.list after.books = ((next.lawful).periods).lawful in
       let more = acts_once s m worker (does place) after.books after.waiting (changes s m worker (does place) after may) in
       let few = few_places (booked after.books) (length s.list) books.different
-      (each_from (λ i. i < length s.list) (booked after.books) (λ i there. books.of_the_list i (times_among i (booked after.books) there))) in
+      (each_from (λ i. i < length s.list) (booked after.books) (λ i there. books.of_the_list i (times_among i
+      (booked after.books) there))) in
       omega (arith, more, few, many, actions)
 
   no_stop : (event : Event) (stop : Stop) → Meets s limits m event stop → (after : Moment) → MayReady s m worker event after
@@ -279,7 +285,8 @@ module _ (s : Setting) (some : 0 < s.quota) (list : IsDepthFirst s.quota s.list)
   actions_suffice limits words run last limit few plays = excluded limits words run last (steps_spent limit) few plays
 
   pub arenas_with_room_last : ArenasWithRoomLast s
-  arenas_with_room_last limits words run last live asked room plays = excluded limits words run last (arena_full live asked) (inl room) plays
+  arenas_with_room_last limits words run last live asked room plays = excluded limits words run last (arena_full live asked)
+      (inl room) plays
 
   pub arenas_with_the_bound_last : ArenasWithTheBoundLast s
   arenas_with_the_bound_last limits words run last live asked covers plays =

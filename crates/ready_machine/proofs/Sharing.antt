@@ -21,7 +21,8 @@ use Rattle.ready_machine.proofs.Cutting.{parted_is_lawful}
 pub alone : (s : Setting) (m : Moment) → IsReadyList s m → (worker : ℕ) (o : Owns m worker) → o.under ≡ []
 alone s m ready worker o =
     let is : IsEntry (deque_of o.id (Some worker) (o.top ∷ o.under)) =
-    each_at IsEntry o.left (deque_of o.id (Some worker) (o.top ∷ o.under)) o.right (subst (λ t. Each IsEntry t) o.deques_are ready.entries) in
+    each_at IsEntry o.left (deque_of o.id (Some worker) (o.top ∷ o.under)) o.right (subst
+    (λ t. Each IsEntry t) o.deques_are ready.entries) in
     same_tail o.top is.0 o.under [] is.1
 
 -- To the left of the leftmost ready entry, with a worker idle, are fewer entries than workers: each of them is run by another worker.
@@ -35,7 +36,8 @@ in_reach s m lawful worker below idle left rest are run =
     let same : owned_by w m.deques ≡ owned_by w (left ++ rest) = ap (owned_by w) are in omega (arith, t, sum, same) in
     let few : length (worker ∷ ws) ≤ s.workers = few_places (worker ∷ ws) s.workers
     (λ w. let few = at_most w in let most = (lawful.order).owns_one w in elim (one_cases w worker) [
-      | inl here ↦ let one = here.1 in let none : owned_by w m.deques ≡ 0 = ap (λ t. owned_by t m.deques) here.0 ∙ idle in omega (arith, few, one, none)
+      | inl here ↦ let one = here.1 in let none : owned_by w m.deques ≡ 0 = ap (λ t. owned_by t m.deques) here.0
+          ∙ idle in omega (arith, few, one, none)
       | inr other ↦ let none = other.1 in omega (arith, few, most, none)
     ]) (
       below,
@@ -45,13 +47,15 @@ in_reach s m lawful worker below idle left rest are run =
     omega (arith, few, as_many)
 
 -- so a Take is a theft in place
-pub take_is_theft : (s : Setting) (m : Moment) → IsLawful s m → (worker : ℕ) (left right : List Deque) (thread : List ℕ) (id : ℕ) → IsIdle s m worker
+pub take_is_theft : (s : Setting) (m : Moment) → IsLawful s m → (worker : ℕ) (left right : List Deque) (thread : List ℕ) (id : ℕ)
+    → IsIdle s m worker
     → IsLeftmostReady m.deques left id thread right
     → May s m worker (steals (length left) id)
     (moment_of (left ++ entry id (Some worker) thread ∷ right) m.waiting (m.books ++ new_book worker (nat_lt 0 (length left)) ∷ []))
 take_is_theft s m lawful worker left right thread id idle at =
     takes_over left right thread id idle
-    (in_reach s m lawful worker idle.is_worker idle.owns_none left (entry id None thread ∷ right) at.deques_are at.left_are_run) at.deques_are
+    (in_reach s m lawful worker idle.is_worker idle.owns_none left
+    (entry id None thread ∷ right) at.deques_are at.left_are_run) at.deques_are
 
 -- the case of the machine of deques that comes with an event: it leaves the same books, and the same threads wait
 pub record IsBeside (s : Setting) (m : Moment) (worker : ℕ) (event : Event) (after : Moment) : Type 0 where
@@ -63,7 +67,13 @@ pub record IsBeside (s : Setting) (m : Moment) (worker : ℕ) (event : Event) (a
 pub beside : (s : Setting) (m : Moment) → IsReadyList s m → (worker : ℕ) (event : Event) (after : Moment) → MayReady s m worker event after
     → IsBeside s m worker event after
 beside s m ready worker event after (takes left right thread id idle at) =
-    record { between = after; may = take_is_theft s m ready.lawful worker left right thread id idle at; waiting_are = refl; books_are = refl }
+    record {
+      between = after;
+      may = take_is_theft s m ready.lawful worker left right thread id idle at;
+      waiting_are = refl;
+      books_are =
+          refl;
+    }
 beside s m ready worker event after (forks_left o place child new at fits least) = record {
   between = booked_with m worker o (fork_of o.top child ∷ o.top ∷ o.under) place;
   may = forks_child o place child at fits;
@@ -74,10 +84,12 @@ beside s m ready worker event after (as_with_deques event' after' shared may) =
     record { between = after; may = may; waiting_are = refl; books_are = refl }
 
 -- an id stays free whatever threads the worker's deque has
-pub still_free : (m : Moment) (worker : ℕ) (o : Owns m worker) (new : ℕ) (owner : Option ℕ) (threads : List (List ℕ)) → with_id new m.deques ≡ 0
+pub still_free : (m : Moment) (worker : ℕ) (o : Owns m worker) (new : ℕ) (owner : Option ℕ) (threads : List (List ℕ))
+    → with_id new m.deques ≡ 0
     → with_id new (o.left ++ deque_of o.id owner threads ∷ o.right) ≡ 0
 still_free m worker o new owner threads free =
-    let cut : with_id new m.deques ≡ with_id new (o.left ++ deque_of o.id (Some worker) (o.top ∷ o.under) ∷ o.right) = ap (with_id new) o.deques_are in
+    let cut : with_id new m.deques ≡ with_id new (o.left ++ deque_of o.id (Some worker) (o.top ∷ o.under) ∷ o.right) = ap
+    (with_id new) o.deques_are in
     let before = total_append (one_if_id new) o.left (deque_of o.id (Some worker) (o.top ∷ o.under) ∷ o.right) in
     let after = total_append (one_if_id new) o.left (deque_of o.id owner threads ∷ o.right) in omega (arith, free, cut, before, after)
 
@@ -93,7 +105,8 @@ module _ (s : Setting) (list : IsDepthFirst s.quota s.list) (m : Moment) (ready 
 
   -- a shared event leaves entries
   shared_entries : (event : Event) (after : Moment) → IsShared s event → May s m worker event after → Each IsEntry after.deques
-  shared_entries event after shared (steals_beside left right victim first others bottom id idle reach deques_are threads_are new_id) = absurd shared
+  shared_entries event after shared
+      (steals_beside left right victim first others bottom id idle reach deques_are threads_are new_id) = absurd shared
   shared_entries event after shared (takes_over left right thread id idle reach deques_are) = absurd shared
   shared_entries event after shared (forks_child o place child at fits) = absurd (shared child at.deed_is)
   shared_entries event after shared (joins_child o place child at has) = ready.entries
@@ -116,7 +129,8 @@ module _ (s : Setting) (list : IsDepthFirst s.quota s.list) (m : Moment) (ready 
   fork_entries : (o : Owns m worker) (new : ℕ) (upper lower : List ℕ)
       → Each IsEntry (o.left ++ entry o.id (Some worker) upper ∷ entry new None lower ∷ o.right)
   fork_entries o new upper lower =
-      each_join IsEntry o.left (entry o.id (Some worker) upper ∷ entry new None lower ∷ o.right) (each_left IsEntry o.left o.right (removed o))
+      each_join IsEntry o.left (entry o.id (Some worker) upper ∷ entry new None lower ∷ o.right) (each_left IsEntry o.left o.right
+      (removed o))
       ((upper, refl), ((lower, refl), each_right IsEntry o.left o.right (removed o)))
 
   fork_is_lawful : (o : Owns m worker) (place child new : ℕ) → IsAtTop s m o.top place (forks child)

@@ -19,7 +19,8 @@ OpeningIsReady s = IsReadyList s opening
 
 -- and each event leads from a lawful ready list to a lawful one
 abbrev pub EventsKeepReady : Setting → Type 0
-EventsKeepReady s = (m after : Moment) (worker : ℕ) (event : Event) → IsReadyList s m → MayReady s m worker event after → IsReadyList s after
+EventsKeepReady s = (m after : Moment) (worker : ℕ) (event : Event) → IsReadyList s m → MayReady s m worker event after
+    → IsReadyList s after
 
 -- so each moment of each run is one
 abbrev pub ReachedIsReady : Setting → Type 0
@@ -76,7 +77,8 @@ RunsAreShort s = record_words ≤ s.quota → (first last : Moment) (run : List 
 
 -- what an action takes never fills an arena with room for all that the list takes
 abbrev pub ArenaNeverFills : Setting → Type 0
-ArenaNeverFills s = (run : List Pair) (m after : Moment) (worker place : ℕ) → ReadyReaches s opening run m → MayReady s m worker (does place) after
+ArenaNeverFills s = (run : List Pair) (m after : Moment) (worker place : ℕ) → ReadyReaches s opening run m
+    → MayReady s m worker (does place) after
     → (live_at s.list m +ℤ weight_at s.list place) ≤ℤ pos (total words_taken s.list)
 
 -- At a lawful ready list a worker that is idle can move in one machine just where it can in the other, and the thief of word 0 takes the

@@ -23,14 +23,15 @@ pub data MayReady (s : Setting) (m : Moment) (worker : ℕ) : Event → Moment �
   takes : (left right : List Deque) (thread : List ℕ) (id : ℕ) → IsIdle s m worker → IsLeftmostReady m.deques left id thread right
       → MayReady s m worker (steals (length left) id)
       (stolen m worker (nat_lt 0 (length left)) (left ++ entry id (Some worker) thread ∷ right))
-  -- A Fork puts the child's entry directly left of the thread's. The worker runs the child, and the thread is ready, under the least free id.
+  -- A Fork puts the child's entry directly left of the thread's. The worker runs the child, and the thread is ready, under the least free
+  -- id.
   forks_left : (o : Owns m worker) (place child new : ℕ) → IsAtTop s m o.top place (forks child)
       → charged s.quota s.list o.book.ran + record_words ≤ s.quota → IsLeastFree m.deques new
       → MayReady s m worker (does place)
       (moment_of (o.left ++ entry o.id (Some worker) (fork_of o.top child) ∷ entry new None o.top ∷ o.right) m.waiting
       (books_with o (Some worker) place))
-  -- Any other action, a thread that has to wait, and an entry that is given up are those of the machine of deques. So at the End of a thread
-  -- its entry leaves the list, unless the parent waits for it and takes its place.
+  -- Any other action, a thread that has to wait, and an entry that is given up are those of the machine of deques. So at the End of a
+  -- thread its entry leaves the list, unless the parent waits for it and takes its place.
   as_with_deques : (event : Event) (after : Moment) → IsShared s event → May s m worker event after → MayReady s m worker event after
 
 -- these events may come one after another from the first moment on, and reach the last

@@ -19,7 +19,8 @@ CanGo m worker = (0 < owned_by worker m.deques) ⊎ SomeReady m
 -- What the rules want of a worker: of an idle one to take the leftmost ready entry, and of one that runs an entry what the rules of deques
 -- want of an owner (its next action; a give up, where the quota has no room for it; or to wait). No word decides anything here.
 pub data WantsReady (s : Setting) (m : Moment) (worker : ℕ) : Event → Type 0 where
-  a_take : (left right : List Deque) (id : ℕ) (thread : List ℕ) → owned_by worker m.deques ≡ 0 → IsLeftmostReady m.deques left id thread right
+  a_take : (left right : List Deque) (id : ℕ) (thread : List ℕ) → owned_by worker m.deques ≡ 0
+      → IsLeftmostReady m.deques left id thread right
       → WantsReady s m worker (steals (length left) id)
   of_its_entry : (event : Event) → 0 < owned_by worker m.deques → Wants s m worker 0 event → WantsReady s m worker event
 

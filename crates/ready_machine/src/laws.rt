@@ -42,7 +42,8 @@ pub fn marks_never_fall()
     ensures { InEachSetting MarksNeverFall }
 {}
 
-/// Where an arena with room for the peak and two quotas for each of so many periods refuses an action, more periods would be ahead after it.
+/// Where an arena with room for the peak and two quotas for each of so many periods refuses an action, more periods would be ahead after
+/// it.
 pub fn arena_refuses()
     ensures { InEachSetting ArenaRefuses }
 {}

@@ -1,16 +1,15 @@
 -- Worked runs of ready lists: three small programs with one worker, and one with two.
-use Rattle.std.proofs.Common.{◌≡◌, ℕ, zero, suc, ◌∙◌, ◌<◌, ◌≤◌, Bool, true, false, List, [], ◌∷◌, ◌++◌, inl, inr, refl, sym, ap, arith, take, true≢false, ℤ, pos, ◌+ℤ◌, ◌<ℤ◌}
+use Rattle.std.proofs.Common.{◌≡◌, ℕ, zero, suc, ◌∙◌, ◌<◌, Bool, false, List, [], ◌∷◌, inl, inr, refl, sym, ap, arith, take, true≢false, pos}
 use Rattle.std.proofs.lemmas.Int.{ints}
-use Rattle.std.specs.Prelude.{Option, None, Some, is_some, map}
-use Rattle.dummy_tree.specs.Shapes.{leaf, forked, shape_of, halved}
-use Rattle.depth_first_list.specs.Actions.{Deed, forks, joins, allocates, releases, dummy, ends, Action, peak}
+use Rattle.std.specs.Prelude.{Option, None, Some, is_some}
+use Rattle.dummy_tree.specs.Shapes.{shape_of, halved}
+use Rattle.depth_first_list.specs.Actions.{Deed, forks, joins, allocates, releases, dummy, ends, Action}
 use Rattle.depth_first_list.specs.Runs.{start, after_action, after_fork, after_join, after_tree, rests, goes_on, acts, forks_a_child, joins_the_newest, allocates_behind_a_tree, IsDepthFirst, tree_for}
-use Rattle.depth_first_list.specs.Facts.{action_at}
-use Rattle.lawful_books.specs.Books.{Book, IsPrefix, periods_ahead, periods_marked, bound}
-use Rattle.deque_machine.specs.Moments.{Deque, Moment, opening, moment_of, done_at, live_at, threads_in, owned_by}
-use Rattle.deque_machine.specs.Machine.{Setting, Event, steals, does, suspends, gives_up}
+use Rattle.lawful_books.specs.Books.{Book, IsPrefix, periods_ahead, bound}
+use Rattle.deque_machine.specs.Moments.{Moment, opening, moment_of, done_at, live_at, threads_in}
+use Rattle.deque_machine.specs.Machine.{Setting, Event, steals, does, gives_up}
 use Rattle.deque_machine.specs.Runs.{Pair, high_water_mark}
-use Rattle.deque_machine.specs.Play.{Limits, arena_full, Meets, no_words}
+use Rattle.deque_machine.specs.Play.{arena_full, Meets, no_words}
 use Rattle.ready_machine.specs.Entries.{entry}
 use Rattle.ready_machine.specs.ReadyMachine.{ReadyReaches}
 use Rattle.ready_machine.specs.ReadyPlay.{CanGo}
@@ -139,10 +138,12 @@ two_blocks_is_depth_first = record {
 -- One worker, with a quota of 16 words, which the root's Fork fills. So the child gives up at its Alloc, and is taken again, since it is
 -- the leftmost: three periods, none of them ahead, and at most 32 words in use.
 abbrev three_periods : List Pair
-three_periods = by 0 (steals 0 0) ∷ by 0 (does 0) ∷ by 0 gives_up ∷ by 0 (steals 0 0) ∷ by 0 (does 1) ∷ by 0 (does 2) ∷ by 0 (does 3) ∷ by 0 (steals 0 1) ∷ by 0 (does 4) ∷ by 0 (does 5) ∷ by 0 (does 6) ∷ by 0 (does 7) ∷ []
+three_periods = by 0 (steals 0 0) ∷ by 0 (does 0) ∷ by 0 gives_up ∷ by 0 (steals 0 0) ∷ by 0 (does 1) ∷ by 0 (does 2) ∷ by 0
+    (does 3) ∷ by 0 (steals 0 1) ∷ by 0 (does 4) ∷ by 0 (does 5) ∷ by 0 (does 6) ∷ by 0 (does 7) ∷ []
 
 abbrev three_periods_end : Moment
-three_periods_end = moment_of [] [] (book false None (0 ∷ []) ∷ book false None (1 ∷ 2 ∷ 3 ∷ []) ∷ book false None (4 ∷ 5 ∷ 6 ∷ 7 ∷ []) ∷ [])
+three_periods_end = moment_of [] [] (book false None (0 ∷ []) ∷ book false None (1 ∷ 2 ∷ 3 ∷ []) ∷ book false None
+    (4 ∷ 5 ∷ 6 ∷ 7 ∷ []) ∷ [])
 
 three_periods_is_a_run : ReadyReaches (setting two_blocks 16 1) opening three_periods three_periods_end
 three_periods_is_a_run = replays_are_runs (setting two_blocks 16 1) two_blocks_is_depth_first three_periods three_periods_end refl
@@ -180,19 +181,21 @@ large_alloc_is_depth_first = record {
 
 -- One worker: seven periods, none of them ahead, and at most 48 words in use.
 abbrev seven_periods : List Pair
-seven_periods = by 0 (steals 0 0) ∷ by 0 (does 0) ∷ by 0 gives_up ∷ by 0 (steals 0 0) ∷ by 0 (does 1) ∷ by 0 (does 2) ∷ by 0 (steals 0 0) ∷ by 0 (does 3) ∷ by 0 (steals 0 2) ∷ by 0 (does 4) ∷ by 0 (steals 0 2) ∷ by 0 (does 5) ∷ by 0 (does 6) ∷ by 0 (steals 0 1) ∷ by 0 (does 7) ∷ by 0 (steals 0 1) ∷ by 0 (does 8) ∷ by 0 (does 9) ∷ by 0 (does 10) ∷ by 0 (does 11) ∷ []
+seven_periods = by 0 (steals 0 0) ∷ by 0 (does 0) ∷ by 0 gives_up ∷ by 0 (steals 0 0) ∷ by 0 (does 1) ∷ by 0 (does 2) ∷ by 0
+    (steals 0 0) ∷ by 0 (does 3) ∷ by 0 (steals 0 2) ∷ by 0 (does 4) ∷ by 0 (steals 0 2) ∷ by 0 (does 5) ∷ by 0 (does 6) ∷ by 0
+    (steals 0 1) ∷ by 0 (does 7) ∷ by 0 (steals 0 1) ∷ by 0 (does 8) ∷ by 0 (does 9) ∷ by 0 (does 10) ∷ by 0 (does 11) ∷ []
 
 abbrev seven_periods_end : Moment
 seven_periods_end = moment_of [] [] (
-  book false None (0 ∷ [])
-  ∷ book false None (1 ∷ 2 ∷ [])
-  ∷ book false None (3 ∷ [])
-  ∷ book false None (4 ∷ [])
-  ∷ book false None (5 ∷ 6 ∷ [])
-  ∷ book false None (7 ∷ [])
-  ∷ book false None (8 ∷ 9 ∷ 10 ∷ 11 ∷ [])
-  ∷ []
-)
+    book false None (0 ∷ [])
+    ∷ book false None (1 ∷ 2 ∷ [])
+    ∷ book false None (3 ∷ [])
+    ∷ book false None (4 ∷ [])
+    ∷ book false None (5 ∷ 6 ∷ [])
+    ∷ book false None (7 ∷ [])
+    ∷ book false None (8 ∷ 9 ∷ 10 ∷ 11 ∷ [])
+    ∷ []
+    )
 
 seven_periods_is_a_run : ReadyReaches (setting large_alloc 16 1) opening seven_periods seven_periods_end
 seven_periods_is_a_run = replays_are_runs (setting large_alloc 16 1) large_alloc_is_depth_first seven_periods seven_periods_end refl
@@ -203,18 +206,19 @@ seven_periods_high = refl
 -- In an arena of 32 words it stops at the Alloc, with no words in use.
 abbrev before_the_alloc : Moment
 before_the_alloc = moment_of (entry 1 (Some 0) [] ∷ []) [] (
-  book false None (0 ∷ [])
-  ∷ book false None (1 ∷ 2 ∷ [])
-  ∷ book false None (3 ∷ [])
-  ∷ book false None (4 ∷ [])
-  ∷ book false None (5 ∷ 6 ∷ [])
-  ∷ book false None (7 ∷ [])
-  ∷ book false (Some 0) (8 ∷ [])
-  ∷ []
-)
+    book false None (0 ∷ [])
+    ∷ book false None (1 ∷ 2 ∷ [])
+    ∷ book false None (3 ∷ [])
+    ∷ book false None (4 ∷ [])
+    ∷ book false None (5 ∷ 6 ∷ [])
+    ∷ book false None (7 ∷ [])
+    ∷ book false (Some 0) (8 ∷ [])
+    ∷ []
+    )
 
 it_gets_there : ready_replay (setting large_alloc 16 1) (take 17 seven_periods) ≡ Some before_the_alloc
 it_gets_there = refl
 
-the_arena_is_full : Meets (setting large_alloc 16 1) (record { capacity = 32; actions = 100; deques = 1 }) before_the_alloc (does 9) (arena_full (pos 0) 48)
+the_arena_is_full : Meets (setting large_alloc 16 1) (record { capacity = 32; actions = 100; deques = 1 }) before_the_alloc (does 9)
+    (arena_full (pos 0) 48)
 the_arena_is_full = no_words 9 (omega arith, omega (arith, ints))

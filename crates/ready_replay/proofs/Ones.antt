@@ -1,15 +1,15 @@
 -- An event of a ready list leads to one moment, and a list of words picks one play.
 use Rattle.std.proofs.Common.{◌≡◌, ◌≢◌, ℕ, suc, ◌+◌, ◌%◌, ◌≤◌, ◌<◌, ◌⊎◌, List, [], ◌∷◌, ◌++◌, length, inl, inr, refl, sym, ap, subst, ◌∙◌, arith}
-use Rattle.std.specs.Prelude.{Option, None, Some}
+use Rattle.std.specs.Prelude.{None, Some}
 use Rattle.std.proofs.lemmas.Bool.{cases_order}
 use Rattle.dag_order.specs.LabelOrder.{fork_of}
 use Rattle.depth_first_list.specs.Actions.{forks, joins, record_words}
 use Rattle.depth_first_list.specs.Runs.{IsDepthFirst}
 use Rattle.depth_first_list.specs.Facts.{deed_at, words_at, IsNext}
 use Rattle.lawful_books.specs.Lists.{Each, one_if_same}
-use Rattle.lawful_books.specs.Books.{Book, charge, charge_at, charged}
+use Rattle.lawful_books.specs.Books.{charge, charge_at, charged}
 use Rattle.lawful_books.proofs.Lists.{total_append, each_at, same_head, same_tail, one_same}
-use Rattle.deque_machine.specs.Moments.{Deque, Moment, opening, moment_of, deque_of, done_at, owned_by, open_for, with_id, one_if_owned, one_if_worker}
+use Rattle.deque_machine.specs.Moments.{Deque, Moment, opening, moment_of, deque_of, done_at, owned_by, open_for, one_if_owned, one_if_worker}
 use Rattle.deque_machine.specs.Machine.{Setting, Event, steals, does, Owns, IsAtTop, HasEnded, books_with, booked_with, May, forks_child}
 use Rattle.deque_machine.specs.LawfulOrder.{IsLawful}
 use Rattle.deque_machine.specs.Runs.{Pair}
@@ -21,8 +21,8 @@ use Rattle.ready_machine.specs.Entries.{entry, IsEntry, IsRun, IsLeastFree, IsRe
 use Rattle.ready_machine.specs.ReadyMachine.{MayReady, takes, forks_left, as_with_deques}
 use Rattle.ready_machine.specs.ReadyPlay.{CanGo, WantsReady, a_take, of_its_entry, ReadyTurn, ReadyPlays, is_over, is_stopped, goes_on}
 use Rattle.ready_replay.specs.Laws.{OneWay, OnePlay}
-use Rattle.ready_machine.proofs.Sharing.{alone, take_is_theft, kept_ready, opening_is_ready}
-use Rattle.ready_machine.proofs.Cuts.{IsSameCut, one_first_cut, one_only_cut}
+use Rattle.ready_machine.proofs.Sharing.{take_is_theft, kept_ready, opening_is_ready}
+use Rattle.ready_machine.proofs.Cuts.{one_first_cut, one_only_cut}
 use Rattle.ready_machine.proofs.Coming.{IsForkEvent, shared_is_no_fork, each_beside, no_entry}
 
 -- an event that is a Fork, with what it leaves
@@ -35,7 +35,8 @@ record IsForked (s : Setting) (m : Moment) (worker : ℕ) (event : Event) (after
   pub fits : charged s.quota s.list owner.book.ran + record_words ≤ s.quota
   pub least : IsLeastFree m.deques new
   pub event_is : event ≡ does place
-  pub after_is : after ≡ moment_of (owner.left ++ entry owner.id (Some worker) (fork_of owner.top child) ∷ entry new None owner.top ∷ owner.right)
+  pub after_is : after ≡ moment_of (owner.left ++ entry owner.id (Some worker)
+      (fork_of owner.top child) ∷ entry new None owner.top ∷ owner.right)
       m.waiting (books_with owner (Some worker) place)
 
 module _ (s : Setting) (some : 0 < s.quota) (list : IsDepthFirst s.quota s.list) (m : Moment) (ready : IsReadyList s m) (worker : ℕ) where
@@ -48,7 +49,18 @@ module _ (s : Setting) (some : 0 < s.quota) (list : IsDepthFirst s.quota s.list)
       no_theft : (place id other : ℕ) → steals place id ≡ does other → ⊥
       no_theft place id other same = cc
   forked_or_not event after (forks_left o place child new at fits least) =
-      inr (record { owner = o; place = place; child = child; new = new; at = at; fits = fits; least = least; event_is = refl; after_is = refl })
+      inr (record {
+        owner = o;
+        place = place;
+        child = child;
+        new = new;
+        at = at;
+        fits = fits;
+        least = least;
+        event_is = refl;
+        after_is =
+            refl;
+      })
   forked_or_not event after (as_with_deques event' after' shared may) = inl (shared_is_no_fork s event shared, may)
 
   -- the moment of the machine of deques that a Fork cuts
@@ -76,21 +88,25 @@ module _ (s : Setting) (some : 0 < s.quota) (list : IsDepthFirst s.quota s.list)
   unfolding between
   one_fork event one other f g =
       let o : Owns m worker = f.owner in let p : Owns m worker = g.owner in
-      let same : between event one f ≡ between event other g = replay.one_way s some list m (between event one f) (between event other g) worker event
+      let same : between event one f ≡ between event other g = replay.one_way s some list m (between event one f)
+      (between event other g) worker event
       ready.lawful (with_deques event one f) (with_deques event other g) in
       let sides = each_beside s m ready worker o in
       let cut = one_only_cut IsEntry o.left o.right p.left p.right (deque_of o.id (Some worker) (fork_of o.top f.child ∷ o.top ∷ o.under))
       (deque_of p.id (Some worker) (fork_of p.top g.child ∷ p.top ∷ p.under)) (ap (λ m. m.deques) same) sides.0 sides.1
-      (no_entry s m ready worker o.id (fork_of o.top f.child) o.top o.under) (no_entry s m ready worker p.id (fork_of p.top g.child) p.top p.under) in
+      (no_entry s m ready worker o.id (fork_of o.top f.child) o.top o.under) (no_entry s m ready worker p.id
+      (fork_of p.top g.child) p.top p.under) in
       let threads : fork_of o.top f.child ∷ o.top ∷ o.under ≡ fork_of p.top g.child ∷ p.top ∷ p.under = ap (λ d. d.threads) cut.heres in
       let ids : o.id ≡ p.id = ap (λ d. d.id) cut.heres in
-      let upper : fork_of o.top f.child ≡ fork_of p.top g.child = same_head (fork_of o.top f.child) (fork_of p.top g.child) (o.top ∷ o.under) (p.top ∷ p.under) threads in
+      let upper : fork_of o.top f.child ≡ fork_of p.top g.child = same_head (fork_of o.top f.child) (fork_of p.top g.child)
+      (o.top ∷ o.under) (p.top ∷ p.under) threads in
       let lower : o.top ≡ p.top = same_head o.top p.top o.under p.under
       (same_tail (fork_of o.top f.child) (fork_of p.top g.child) (o.top ∷ o.under) (p.top ∷ p.under) threads) in
       let new : f.new ≡ g.new = one_least f.new g.new f.least g.least in
       let books : books_with o (Some worker) f.place ≡ books_with p (Some worker) g.place = ap (λ m. m.books) same in
       f.after_is
-      ∙ (λ i. moment_of (cut.lefts i ++ entry (ids i) (Some worker) (upper i) ∷ entry (new i) None (lower i) ∷ cut.rights i) m.waiting (books i))
+      ∙ (λ i. moment_of (cut.lefts i ++ entry (ids i) (Some worker) (upper i) ∷ entry (new i) None (lower i) ∷ cut.rights i) m.waiting
+      (books i))
       ∙ sym g.after_is
 
   pub one_way_from : (event : Event) (one other : Moment) → MayReady s m worker event one → MayReady s m worker event other → one ≡ other
@@ -119,7 +135,8 @@ one_first n word Passes x y a b = elim (cases_order a.turns b.turns) [
 ]
 
 -- an event meets one stop
-one_stop : (s : Setting) (limits : Limits) (m : Moment) (event : Event) (stop other : Stop) → Meets s limits m event stop → Meets s limits m event other
+one_stop : (s : Setting) (limits : Limits) (m : Moment) (event : Event) (stop other : Stop) → Meets s limits m event stop
+    → Meets s limits m event other
     → stop ≡ other
 one_stop s limits m event stop other (no_deque place id d is stays many) (no_deque place' id' d' is' stays' many') = refl
 one_stop s limits m event stop other (no_words place fills) (no_words place' fills') = refl
@@ -162,9 +179,11 @@ module _ (s : Setting) (list : IsDepthFirst s.quota s.list) (m : Moment) (lawful
 
   -- what is forced does not fit, and a Join takes nothing
   not_both : (o p : Owns m worker) (a b : ℕ) → IsNext s.list (done_at m) o.top a → IsNext s.list (done_at m) p.top b
-      → s.quota < charged s.quota s.list o.book.ran + charge_at s.quota s.list a → charged s.quota s.list p.book.ran + charge_at s.quota s.list b ≤ s.quota → ⊥
+      → s.quota < charged s.quota s.list o.book.ran + charge_at s.quota s.list a
+      → charged s.quota s.list p.book.ran + charge_at s.quota s.list b ≤ s.quota → ⊥
   not_both o p a b x y full fits =
-      let books : charged s.quota s.list o.book.ran ≡ charged s.quota s.list p.book.ran = ap (λ t. charged s.quota s.list t.ran) (same_book o p) in
+      let books : charged s.quota s.list o.book.ran ≡ charged s.quota s.list p.book.ran = ap (λ t. charged s.quota s.list t.ran)
+      (same_book o p) in
       let places : charge_at s.quota s.list a ≡ charge_at s.quota s.list b = ap (charge_at s.quota s.list) (same_place o p a b x y) in
       omega (arith, full, fits, books, places)
 
@@ -173,7 +192,8 @@ module _ (s : Setting) (list : IsDepthFirst s.quota s.list) (m : Moment) (lawful
   join_fits o place child is =
       let none : charge_at s.quota s.list place ≡ 0 = ap (λ d. charge s.quota d (words_at s.list place)) is in
       let most : charged s.quota s.list o.book.ran ≤ s.quota = each_at (λ b. charged s.quota s.list b.ran ≤ s.quota) o.older o.book o.newer
-      (subst (λ b. Each (λ b. charged s.quota s.list b.ran ≤ s.quota) b) o.books_are ((lawful.periods).lawful).within) in omega (arith, none, most)
+      (subst (λ b. Each (λ b. charged s.quota s.list b.ran ≤ s.quota) b) o.books_are ((lawful.periods).lawful).within) in omega
+      (arith, none, most)
 
   -- it waits for a child that has ended, or not
   not_ended : (o p : Owns m worker) (place child other : ℕ) → IsAtTop s m o.top place (joins child) → ¬ HasEnded s m (fork_of o.top child)
@@ -208,7 +228,8 @@ module _ (s : Setting) (list : IsDepthFirst s.quota s.list) (m : Moment) (lawful
   -- and of an idle one
   one_wanted : (event other : Event) → WantsReady s m worker event → WantsReady s m worker other → event ≡ other
   one_wanted event other (a_take left right id thread idle at) (a_take left' right' id' thread' idle' at') =
-      let cut = one_first_cut IsRun left right left' right' (entry id None thread) (entry id' None thread') (sym at.deques_are ∙ at'.deques_are)
+      let cut = one_first_cut IsRun left right left' right' (entry id None thread) (entry id' None thread') (sym at.deques_are
+      ∙ at'.deques_are)
       at.left_are_run at'.left_are_run (λ run. run refl) (λ run. run refl) in
       λ i. steals (length (cut.lefts i)) (cut.heres i).id
   one_wanted event other (a_take left right id thread idle at) (of_its_entry other' some wants) = absurd (omega (arith, some, idle))
@@ -227,25 +248,38 @@ module _ (s : Setting) (some : 0 < s.quota) (list : IsDepthFirst s.quota s.list)
       → ReadyPlays s limits words n m run last ending → ReadyPlays s limits words n m run' last' ending'
       → (run ≡ run') × (last ≡ last') × (ending ≡ ending')
   one_play_from n m run run' last last' ending ending' ready (is_over a b has) (is_over a' b' has') = (refl, refl, refl)
-  one_play_from n m run run' last last' ending ending' ready (is_over a b has) (is_stopped a' b' pair' stop' turn' meets') = absurd (turn'.not_over has)
-  one_play_from n m run run' last last' ending ending' ready (is_over a b has) (goes_on a' b' next' l' pair' later' e' turn' none' may' rest') =
+  one_play_from n m run run' last last' ending ending' ready (is_over a b has) (is_stopped a' b' pair' stop' turn' meets') = absurd
+      (turn'.not_over has)
+  one_play_from n m run run' last last' ending ending' ready (is_over a b has)
+      (goes_on a' b' next' l' pair' later' e' turn' none' may' rest') =
       absurd (turn'.not_over has)
-  one_play_from n m run run' last last' ending ending' ready (is_stopped a b pair stop turn meets) (is_over a' b' has') = absurd (turn.not_over has')
-  one_play_from n m run run' last last' ending ending' ready (is_stopped a b pair stop turn meets) (is_stopped a' b' pair' stop' turn' meets') =
-      let same : pair ≡ pair' = one_turn n m ready pair pair' turn turn' in
-      (refl, refl, ap stopped (one_stop s limits m pair.event stop stop' meets (subst (λ p. Meets s limits m p.event stop') (sym same) meets')))
-  one_play_from n m run run' last last' ending ending' ready (is_stopped a b pair stop turn meets) (goes_on a' b' next' l' pair' later' e' turn' none' may' rest') =
+  one_play_from n m run run' last last' ending ending' ready (is_stopped a b pair stop turn meets) (is_over a' b' has') = absurd
+      (turn.not_over has')
+  one_play_from n m run run' last last' ending ending' ready (is_stopped a b pair stop turn meets)
+      (is_stopped a' b' pair' stop' turn' meets') =
+      let same : pair ≡ pair' = one_turn n m ready pair pair' turn turn' in (
+        refl,
+        refl,
+        ap stopped (one_stop s limits m pair.event stop stop' meets (subst (λ p. Meets s limits m p.event stop')
+            (sym same) meets')),
+      )
+  one_play_from n m run run' last last' ending ending' ready (is_stopped a b pair stop turn meets)
+      (goes_on a' b' next' l' pair' later' e' turn' none' may' rest') =
       absurd (none' stop (subst (λ p. Meets s limits m p.event stop) (one_turn n m ready pair pair' turn turn') meets))
-  one_play_from n m run run' last last' ending ending' ready (goes_on a b next l pair later e turn none may rest) (is_over a' b' has') = absurd (turn.not_over has')
-  one_play_from n m run run' last last' ending ending' ready (goes_on a b next l pair later e turn none may rest) (is_stopped a' b' pair' stop' turn' meets') =
+  one_play_from n m run run' last last' ending ending' ready (goes_on a b next l pair later e turn none may rest)
+      (is_over a' b' has') = absurd (turn.not_over has')
+  one_play_from n m run run' last last' ending ending' ready (goes_on a b next l pair later e turn none may rest)
+      (is_stopped a' b' pair' stop' turn' meets') =
       absurd (none stop' (subst (λ p. Meets s limits m p.event stop') (sym (one_turn n m ready pair pair' turn turn')) meets'))
-  one_play_from n m run run' last last' ending ending' ready (goes_on a b next l pair later e turn none may rest) (goes_on a' b' next' l' pair' later' e' turn' none' may' rest') =
+  one_play_from n m run run' last last' ending ending' ready (goes_on a b next l pair later e turn none may rest)
+      (goes_on a' b' next' l' pair' later' e' turn' none' may' rest') =
       let same : pair ≡ pair' = one_turn n m ready pair pair' turn turn' in
       let moment : next' ≡ next = one_way s some list m next' next pair.worker pair.event ready
       (subst (λ p. MayReady s m p.worker p.event next') (sym same) may') may in
       let again : ReadyPlays s limits words (suc n) next later' last' ending' =
       subst (λ x. ReadyPlays s limits words (suc n) x later' last' ending') moment rest' in
-      let further = one_play_from (suc n) next later later' last last' ending ending' (kept_ready s list m ready pair.worker pair.event next may) rest again in
+      let further = one_play_from (suc n) next later later' last last' ending ending'
+      (kept_ready s list m ready pair.worker pair.event next may) rest again in
       (ap (λ p. p ∷ later) same ∙ ap (λ t. pair' ∷ t) further.0, further.1, further.2)
 
 pub one_play : (s : Setting) → 0 < s.quota → IsDepthFirst s.quota s.list → OnePlay s

@@ -1,5 +1,5 @@
 -- What the computed machine of a ready list answers is a run.
-use Rattle.std.proofs.Common.{◌≡◌, ◌≢◌, ℕ, zero, suc, ◌+◌, ◌<◌, Bool, true, false, cond, not, ◌&&◌, nat_eq, List, [], ◌∷◌, ◌++◌, length, inl, inr, refl, sym, ap, subst, ◌∙◌, arith, true≢false}
+use Rattle.std.proofs.Common.{◌≡◌, ◌≢◌, ℕ, zero, suc, ◌<◌, true, cond, not, nat_eq, List, [], ◌∷◌, ◌++◌, length, inl, inr, refl, sym, ap, subst, ◌∙◌, arith, true≢false}
 use Rattle.std.specs.Prelude.{Option, None, Some, is_some, unwrap_or}
 use Rattle.std.proofs.lemmas.Bool.{cases_Bool, cases_eq, cases_lt, eqb-true, eq-eqb, and_parts}
 use Rattle.dag_order.specs.LabelOrder.{fork_of}
@@ -20,7 +20,7 @@ use Rattle.machine_replay.proofs.StepSound.{none_is_not_some, same_moment, gate,
 use Rattle.ready_replay.specs.Step.{all_owned, cut_one, cut_in_two, cut_moment, cut_at_fork, ready_step, replay_from}
 use Rattle.ready_replay.specs.Laws.{ReplaysAreRuns}
 use Rattle.ready_machine.specs.Entries.{entry, IsEntry, IsRun, IsLeastFree, IsReadyList}
-use Rattle.ready_machine.specs.ReadyMachine.{IsShared, MayReady, takes, forks_left, as_with_deques, ReadyReaches}
+use Rattle.ready_machine.specs.ReadyMachine.{MayReady, takes, forks_left, as_with_deques, ReadyReaches}
 use Rattle.ready_machine.proofs.Sharing.{alone, kept_ready, opening_is_ready}
 use Rattle.ready_machine.proofs.Coming.{IsMachinesFork, machines_fork, each_beside}
 
@@ -39,7 +39,11 @@ least_is ds zero id x had is = absurd (true≢false (sym (ap is_some is)))
 least_is ds (suc turns) id x had is = elim (cases_Bool (nat_eq (with_id id ds) 0)) [
   | inl free ↦
       let same : id ≡ x = ap (λ o. unwrap_or o x) (ap (λ b. cond b (Some id) (least_id ds (suc id) turns)) (sym free) ∙ is) in
-      record { free = ap (λ t. with_id t ds) (sym same) ∙ eqb-true (with_id id ds) 0 free; none_less = λ i lt. had i (omega (arith, lt, same)) }
+      record {
+        free = ap (λ t. with_id t ds) (sym same) ∙ eqb-true (with_id id ds) 0 free;
+        none_less = λ i lt. had i (omega
+            (arith, lt, same));
+      }
   | inr taken ↦ least_is ds turns (suc id) x (λ i lt. elim (cases_eq i id) [
     | inl same ↦ subst (λ t. 0 < with_id t ds) (sym same) (elim (cases_lt 0 (with_id id ds)) [
       | inl some ↦ some
@@ -84,13 +88,15 @@ module _ (s : Setting) (list : IsDepthFirst s.quota s.list) where
         place_of_steal : Event → ℕ
         place_of_steal (steals place id) = place
         place_of_steal other = 0
-    take_sound event after (steals_beside left right victim first others bottom id idle reach deques_are threads_are new_id) place other is owned =
+    take_sound event after
+        (steals_beside left right victim first others bottom id idle reach deques_are threads_are new_id) place other is owned =
         let one : IsEntry victim = each_at IsEntry left victim right (subst (λ t. Each IsEntry t) deques_are ready.entries) in
         absurd (no_more first others bottom one.0 (sym threads_are ∙ one.1))
       where
         no_more : (first : List ℕ) (others : List (List ℕ)) (bottom thread : List ℕ) → first ∷ (others ++ bottom ∷ []) ≡ thread ∷ [] → ⊥
         no_more first [] bottom thread same = cons_is_not_nil bottom [] (same_tail first thread (bottom ∷ []) [] same)
-        no_more first (x ∷ others) bottom thread same = cons_is_not_nil x (others ++ bottom ∷ []) (same_tail first thread (x ∷ (others ++ bottom ∷ [])) [] same)
+        no_more first (x ∷ others) bottom thread same = cons_is_not_nil x (others ++ bottom ∷ []) (same_tail first thread (x ∷
+            (others ++ bottom ∷ [])) [] same)
     take_sound event after (forks_child o p c at fits) place id is owned = absurd (subst IsSteal (sym is) tt)
     take_sound event after (joins_child o p c at has) place id is owned = absurd (subst IsSteal (sym is) tt)
     take_sound event after (allocates_within o p at small fits) place id is owned = absurd (subst IsSteal (sym is) tt)
@@ -99,7 +105,8 @@ module _ (s : Setting) (list : IsDepthFirst s.quota s.list) where
     take_sound event after (meets_fault o p at) place id is owned = absurd (subst IsSteal (sym is) tt)
     take_sound event after (runs_dummy o p at) place id is owned = absurd (subst IsSteal (sym is) tt)
     take_sound event after (ends_above_parent o p c parent below at under_is top_is) place id is owned = absurd (subst IsSteal (sym is) tt)
-    take_sound event after (ends_and_wakes o p before later parent at under_is waiting_is top_is) place id is owned = absurd (subst IsSteal (sym is) tt)
+    take_sound event after (ends_and_wakes o p before later parent at under_is waiting_is top_is) place id is owned = absurd
+        (subst IsSteal (sym is) tt)
     take_sound event after (ends_and_leaves o p at under_is unwaited) place id is owned = absurd (subst IsSteal (sym is) tt)
     take_sound event after (suspends_top o p c at not_ended under_is) place id is owned = absurd (subst IsSteal (sym is) tt)
     take_sound event after (gives_deque_up o) place id is owned = absurd (subst IsSteal (sym is) tt)
@@ -112,16 +119,20 @@ module _ (s : Setting) (list : IsDepthFirst s.quota s.list) where
         let f : IsMachinesFork s m ready worker between = found.0 in
         let o : Owns m worker = f.owner in
         let others = each_beside s m ready worker o in
-        let cut : cut_in_two new between.deques ≡ o.left ++ entry o.id (Some worker) (fork_of o.top f.child) ∷ entry new None o.top ∷ o.right =
+        let cut : cut_in_two new between.deques ≡ o.left ++ entry o.id (Some worker)
+        (fork_of o.top f.child) ∷ entry new None o.top ∷ o.right =
         ap (λ x. cut_in_two new x.deques) f.after_is
-        ∙ ap (λ t. cut_in_two new (o.left ++ deque_of o.id (Some worker) (fork_of o.top f.child ∷ o.top ∷ t) ∷ o.right)) (alone s m ready worker o)
+        ∙ ap (λ t. cut_in_two new (o.left ++ deque_of o.id (Some worker) (fork_of o.top f.child ∷ o.top ∷ t) ∷ o.right))
+        (alone s m ready worker o)
         ∙ cut_there new o.id (Some worker) (fork_of o.top f.child) o.top o.left o.right others.0 others.1 in
-        let whole : moment_of (o.left ++ entry o.id (Some worker) (fork_of o.top f.child) ∷ entry new None o.top ∷ o.right) m.waiting (books_with o (Some worker) f.place)
+        let whole : moment_of (o.left ++ entry o.id (Some worker) (fork_of o.top f.child) ∷ entry new None o.top ∷ o.right) m.waiting
+        (books_with o (Some worker) f.place)
         ≡ moment_of (cut_in_two new between.deques) between.waiting between.books =
         λ i. moment_of ((sym cut) i) ((sym f.after_is) i).waiting ((sym f.after_is) i).books in
         subst (MayReady s m worker (does place)) (whole ∙ is)
         (subst (λ p. MayReady s m worker (does p)
-        (moment_of (o.left ++ entry o.id (Some worker) (fork_of o.top f.child) ∷ entry new None o.top ∷ o.right) m.waiting (books_with o (Some worker) f.place)))
+        (moment_of (o.left ++ entry o.id (Some worker) (fork_of o.top f.child) ∷ entry new None o.top ∷ o.right) m.waiting (books_with o
+        (Some worker) f.place)))
         found.1 (forks_left o f.place f.child new f.at f.fits least))
 
     other_deed : (place : ℕ) (after : Moment) (deed : Deed) → deed_at s.list place ≡ deed → ((child : ℕ) → deed ≢ forks child)
@@ -129,17 +140,22 @@ module _ (s : Setting) (list : IsDepthFirst s.quota s.list) where
     other_deed place after deed deed_is none is =
         as_with_deques (does place) after (λ child fork. none child (sym deed_is ∙ fork)) (step_sound s m worker (does place) after is)
 
-    by_deed : (place : ℕ) (after : Moment) (deed : Deed) → deed_at s.list place ≡ deed → cut_at_fork m deed (step s m worker (does place)) ≡ Some after
+    by_deed : (place : ℕ) (after : Moment) (deed : Deed) → deed_at s.list place ≡ deed
+        → cut_at_fork m deed (step s m worker (does place)) ≡ Some after
         → MayReady s m worker (does place) after
-    by_deed place after (forks child) deed is = by_parts (least_id m.deques 0 (suc (length m.deques))) (step s m worker (does place)) refl refl is
+    by_deed place after (forks child) deed is = by_parts (least_id m.deques 0 (suc (length m.deques))) (step s m worker
+        (does place)) refl refl is
       where
-        by_parts : (new : Option ℕ) (next : Option Moment) → least_id m.deques 0 (suc (length m.deques)) ≡ new → step s m worker (does place) ≡ next
+        by_parts : (new : Option ℕ) (next : Option Moment) → least_id m.deques 0 (suc (length m.deques)) ≡ new
+            → step s m worker (does place) ≡ next
             → cut_moment new next ≡ Some after → MayReady s m worker (does place) after
         by_parts None next new_is next_is is = absurd (none_is_not_some after is)
         by_parts (Some new) None new_is next_is is = absurd (none_is_not_some after is)
         by_parts (Some new) (Some between) new_is next_is is =
-            fork_sound place child after between new deed (least_is m.deques (suc (length m.deques)) 0 new (λ i lt. absurd (omega (arith, lt))) new_is)
-            (step_sound s m worker (does place) between next_is) (same_moment (moment_of (cut_in_two new between.deques) between.waiting between.books) after is)
+            fork_sound place child after between new deed (least_is m.deques (suc (length m.deques)) 0 new (λ i lt. absurd (omega
+            (arith, lt))) new_is)
+            (step_sound s m worker (does place) between next_is) (same_moment (moment_of
+            (cut_in_two new between.deques) between.waiting between.books) after is)
     by_deed place after (joins c) deed is = other_deed place after (joins c) deed (join_is_no_fork c) is
     by_deed place after allocates deed is = other_deed place after allocates deed own_alloc.no_fork is
     by_deed place after releases deed is = other_deed place after releases deed own_release.no_fork is

@@ -20,7 +20,8 @@ ReplaysAreRuns s = (pairs : List Pair) (last : Moment) → ready_replay s pairs 
 
 -- at a lawful ready list an event of a worker leads to one moment
 abbrev pub OneWay : Setting → Type 0
-OneWay s = (m one other : Moment) (worker : ℕ) (event : Event) → IsReadyList s m → MayReady s m worker event one → MayReady s m worker event other
+OneWay s = (m one other : Moment) (worker : ℕ) (event : Event) → IsReadyList s m → MayReady s m worker event one
+    → MayReady s m worker event other
     → one ≡ other
 
 -- a list of words picks one play
