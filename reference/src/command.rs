@@ -11,6 +11,7 @@ use crate::machine::{play, PlayReport, Rules, Stop};
 use crate::made::made_source;
 use crate::ownership::check;
 use crate::parse::parse;
+use crate::ready_list::play_async;
 use crate::replay::{replay, replay_bound};
 use crate::resolve::resolve;
 use crate::span::{span, Span};
@@ -162,6 +163,7 @@ fn run(command: &Command, code: &Code) -> Answer {
             let stolen = steal(code, rules.workers, rules.steps, &mut choices);
             stolen.map_or_else(|stop| stop_answer(stop, rules), steal_answer)
         }
+        "async" => play_answer(play_async(code, rules, &mut choices), rules),
         "run" => play_answer(in_threads::run(code, rules, seed), rules),
         "play-books" => play_answer(play_with_books(code, rules, &mut choices), rules),
         "trace" | "bound" => {

@@ -207,13 +207,12 @@ impl<'a> Machine<'a> {
                 return Ok(What::Suspended);
             }
         }
-        let asked = World::asked(next);
-        let charged = self.charge(next, asked);
+        let charged = charge(next, self.rules.quota);
         if self.deques[place].used + charged > self.rules.quota {
             self.give_up(worker, place);
             return Ok(What::GaveUp);
         }
-        self.refuse(next, asked)?;
+        self.rules.refuse(&self.world, next)?;
         self.deques[place].used += charged;
         Ok(self.after(next, thread, worker, place))
     }
@@ -223,29 +222,6 @@ impl<'a> Machine<'a> {
             self.waiting.insert(child, thread);
         }
         self.leave(worker, place);
-    }
-
-    /// What an action takes of the quota: an allocation that is larger than the quota takes nothing.
-    fn charge(&self, next: Next, asked: u64) -> u64 {
-        let is_large = matches!(next, Next::Alloc { .. }) && asked > self.rules.quota;
-        if is_large {
-            0
-        } else {
-            asked
-        }
-    }
-
-    fn refuse(&self, next: Next, asked: u64) -> Result<(), Stop> {
-        let live = self.world.live;
-        let takes = matches!(next, Next::Fork(_) | Next::Alloc { .. });
-        if takes && live + asked > self.rules.arena {
-            return Err(Stop::ArenaFull { live, asked });
-        }
-        if self.world.actions == self.rules.steps {
-            Err(Stop::StepsSpent)
-        } else {
-            Ok(())
-        }
     }
 
     fn after(&mut self, next: Next<'a>, thread: usize, worker: usize, place: usize) -> What<'a> {
@@ -270,6 +246,33 @@ impl<'a> Machine<'a> {
         if threads.is_empty() {
             self.leave(worker, place);
         }
+    }
+}
+
+impl Rules {
+    /// The stop that an action meets, if it does.
+    pub fn refuse(&self, world: &World, next: Next) -> Result<(), Stop> {
+        let (live, asked) = (world.live, World::asked(next));
+        let takes = matches!(next, Next::Fork(_) | Next::Alloc { .. });
+        if takes && live + asked > self.arena {
+            return Err(Stop::ArenaFull { live, asked });
+        }
+        if world.actions == self.steps {
+            Err(Stop::StepsSpent)
+        } else {
+            Ok(())
+        }
+    }
+}
+
+/// What an action takes of the quota: an allocation that is larger than the quota takes nothing.
+pub fn charge(next: Next, quota: u64) -> u64 {
+    let asked = World::asked(next);
+    let is_large = matches!(next, Next::Alloc { .. }) && asked > quota;
+    if is_large {
+        0
+    } else {
+        asked
     }
 }
 

@@ -32,6 +32,7 @@ mod mentions;
 mod ownership;
 mod parse;
 mod random;
+mod ready_list;
 mod replay;
 mod resolve;
 mod rows;

@@ -4,9 +4,10 @@
 use crate::choices::{Listed, Pcg};
 use crate::command::{accepted, answer_to, play_answer, Answer};
 use crate::hall_rows::{scripted, HALL_ROWS};
-use crate::machine::{play, Rules};
+use crate::machine::{play, Rules, Stop};
 use crate::resolve::resolve;
-use crate::trace::moment;
+use crate::thread::Code;
+use crate::trace::{async_moment, moment};
 use crate::trail_rows::{Trailed, RECORDED, TRAILED};
 
 /// A row: its name, the words, the source, the status, and the text, in which a slash marks the end of a line.
@@ -213,6 +214,11 @@ const ROWS: &[Row] = &[
     Row("a trail that stops", "trail --k 16 --p 1 --steps 3", THREE_LINES, 7, "stop StepsSpent limit 3/"),
     Row("more actions than a trail may have", "trail --steps 400001", THREE_LINES, 1, USAGE),
     Row("an option of a checker", "verify --k 16", THREE_LINES, 1, USAGE),
+    Row("a ready list", "async --k 16 --p 1", THREE_LINES, 0, "1/2/3/--/end done/periods 2/ahead 0/high 16/"),
+    Row("a child that gives up", "async --k 16 --p 1", TWO_BLOCKS, 0, "--/end done/periods 3/ahead 0/high 32/"),
+    Row("three dummies in a ready list", "async --k 16 --p 1", LARGE, 0, "--/end done/periods 7/ahead 0/high 48/"),
+    Row("a ready list in a full arena", "async --k 16 --p 1 --arena 32", LARGE, 8, "stop ArenaFull live 0 asked 48/"),
+    Row("an option of deques", "async --deques 16", LARGE, 1, USAGE),
     Row("lines in order, in threads", "run --p 1", THREE_LINES, 0, "1/2/3/--/end done/periods 1/ahead 0/high 16/"),
     Row("a made source", "make 1 --p 1", "", 0, "bytes 139/lines 2/total 0/actions 8/periods 1/ahead 0/high 32/"),
     Row("a size with a leading zero", "make --p=1 01", "", 0, "bytes 139/lines 2/total 0/actions 8/periods 1/ahead 0/high 32/"),
@@ -298,6 +304,17 @@ const MOVED: &[Moved] = &[
     Moved(16, 2, "010101110011100010000010011000010", BLOCKS, "[1] [2] [] prefix 14, ahead 2, live 32, margin 144"),
 ];
 
+/// The same of ready lists.
+const LISTED: &[Moved] = &[
+    Moved(16, 2, "01", THREE_LINES, "[] prefix 0, ahead 0, live 0, margin 16"),
+    Moved(16, 2, "010", THREE_LINES, "[1] [] prefix 1, ahead 0, live 16, margin 0"),
+    Moved(16, 2, "0101", THREE_LINES, "[1] [] prefix 1, ahead 0, live 16, margin 0"),
+    Moved(16, 2, "01011", THREE_LINES, "[1] prefix 1, ahead 0, live 16, margin 0"),
+    Moved(16, 2, "010110", THREE_LINES, "[] prefix 2, ahead 0, live 0, margin 16"),
+    Moved(32, 2, "00101", TWO_BLOCKS, "[1] [] prefix 2, ahead 1, live 48, margin 48"),
+    Moved(16, 1, "000000000", LARGE, "[1] [] prefix 4, ahead 0, live 16, margin 32"),
+];
+
 /// The first outputs of the generator of state 42 and stream 54, as they are published with it.
 const PUBLISHED: [u32; 6] = [0xa15c_02b7, 0x7b47_f409, 0xba1d_3330, 0x83d2_f293, 0xbfa4_784b, 0xcbed_606e];
 
@@ -322,7 +339,11 @@ pub fn rows() -> u8 {
     tally.tell("the trail of a play", &RECORDED.text(), &answered("trail --k 16 --p 1", THREE_LINES.as_bytes()).text);
     tally.tell("no trail", "trail NotTrail at 0\n", &answered("verify", b"").text);
     for Moved(quota, workers, digits, source, due) in MOVED {
-        tally.tell(&format!("a moment after the moves {digits:?}"), due, &moved(source, *quota, *workers, digits));
+        tally.tell(&format!("a moment after the moves {digits:?}"), due, &moved(moment, source, *quota, *workers, digits));
+    }
+    for Moved(quota, workers, digits, source, due) in LISTED {
+        let got = moved(async_moment, source, *quota, *workers, digits);
+        tally.tell(&format!("a ready list after the moves {digits:?}"), due, &got);
     }
     for row in HALL_ROWS {
         tally.tell(row.0, row.7, &scripted(row));
@@ -359,12 +380,15 @@ fn halves_in_threads() -> String {
     format!("{}, {} the bound", text.lines().next().unwrap_or(""), if is_within { "within" } else { "beyond" })
 }
 
-fn moved(source: &str, quota: u64, workers: usize, digits: &str) -> String {
+/// What shows the moment after some moves.
+type Shows = fn(&Code, Rules, &[usize]) -> Result<String, Stop>;
+
+fn moved(shows: Shows, source: &str, quota: u64, workers: usize, digits: &str) -> String {
     let rules = Rules { quota, workers, arena: 1_024, steps: 1_000, deques: 64 };
     let moves: Vec<usize> = digits.bytes().map(|digit| usize::from(digit - b'0')).collect();
     match accepted(source.as_bytes()) {
         Err(refusal) => refusal.text,
-        Ok(program) => moment(&resolve(&program), rules, &moves).unwrap_or_else(|stop| format!("{stop:?}")),
+        Ok(program) => shows(&resolve(&program), rules, &moves).unwrap_or_else(|stop| format!("{stop:?}")),
     }
 }
 

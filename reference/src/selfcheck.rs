@@ -1,6 +1,7 @@
-//! What the reference's own runs by workers have to keep, one event at a time and in threads: they print what the depth-first run prints,
-//! and their words in use are at most its peak and twice the quota for each marked period. Of a run one event at a time this holds at each
-//! moment with the periods that are ahead then, of which there are at most as many as are marked; and its trail is good.
+//! What the reference's own runs by workers have to keep, one event at a time, with one ready list, and in threads: they print what the
+//! depth-first run prints, and their words in use are at most its peak and twice the quota for each marked period. Of a run one event at a
+//! time this holds at each moment with the periods that are ahead then, of which there are at most as many as are marked; and the trail of
+//! one over deques is good.
 
 use crate::choices::Pcg;
 use crate::depth_first::{depth_first, PeakReport};
@@ -8,6 +9,7 @@ use crate::good_trail::{verdict, Setting, Verdict};
 use crate::in_threads;
 use crate::machine::{PlayReport, Rules, Stop};
 use crate::random::Random;
+use crate::ready_list::each_async_event;
 use crate::replay::replay;
 use crate::resolve::resolve;
 use crate::stealing::steal;
@@ -30,6 +32,7 @@ pub fn broken_promise(program: &Program<String>, number: u64) -> Option<String> 
     let workers = random.between(1, 64) as usize;
     let rules = Rules { quota, workers, arena: ARENA, steps: STEPS, deques: usize::MAX };
     broken_at_a_moment(&code, rules, &serial, random.word())
+        .or_else(|| broken_by_ready_list(&code, rules, &serial, random.word()))
         .or_else(|| broken_by_theft(&code, rules, &serial, random.word()))
         .or_else(|| broken_by_workers(in_threads::run(&code, rules, number), rules, &serial))
         .or_else(|| broken_by_trail(&code, rules, &serial, random.word()))
@@ -45,6 +48,18 @@ fn broken_at_a_moment(code: &Code, rules: Rules, serial: &PeakReport, seed: u64)
                 "after event {number}: {words} words, bound {bound}, {periods} periods ahead, {} marked",
                 machine.ahead
             ));
+        }
+    });
+    broken.or_else(|| broken_by_workers(played, rules, serial))
+}
+
+/// The same of a run with one ready list.
+fn broken_by_ready_list(code: &Code, rules: Rules, serial: &PeakReport, seed: u64) -> Option<String> {
+    let mut broken = None;
+    let played = each_async_event(code, rules, &mut Pcg::from_seed(seed), |list, ahead| {
+        let (words, bound, periods) = (list.world.live, ahead.bound(rules.quota), ahead.periods);
+        if broken.is_none() && (words > bound || periods > list.ahead) {
+            broken = Some(format!("in a ready list: {words} words, bound {bound}, {periods} periods ahead, {} marked", list.ahead));
         }
     });
     broken.or_else(|| broken_by_workers(played, rules, serial))

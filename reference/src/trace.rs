@@ -5,6 +5,7 @@ use crate::ahead::{Ahead, Places};
 use crate::choices::{Choices, Listed};
 use crate::evaluate::words_of;
 use crate::machine::{Deque, Event, Machine, PlayReport, Rules, Stop, What};
+use crate::ready_list::ReadyList;
 use crate::thread::{Code, Next};
 use std::fmt::Write;
 
@@ -71,11 +72,30 @@ pub fn moment(code: &Code, rules: Rules, workers: &[usize]) -> Result<String, St
             ahead.note(&event);
         }
     }
-    let threads = machine.deques.iter().flat_map(|deque| deque.threads.iter().rev());
-    let shown: String = threads.map(|thread| format!("{:?} ", labels.labels[*thread])).collect();
-    let live = machine.world.live;
-    let margin = ahead.bound(rules.quota) - live;
-    Ok(format!("{shown}prefix {}, ahead {}, live {live}, margin {margin}", ahead.prefix, ahead.periods))
+    let threads = machine.deques.iter().flat_map(|deque| deque.threads.iter().rev().copied());
+    Ok(shown_moment(&labels, threads, &ahead, machine.world.live, rules.quota))
+}
+
+/// The same of a ready list: an idle worker takes the leftmost ready entry.
+pub fn async_moment(code: &Code, rules: Rules, workers: &[usize]) -> Result<String, Stop> {
+    let mut ahead = Ahead::new(Places::new(code, rules.quota, rules.steps).ok_or(Stop::StepsSpent)?);
+    let mut list = ReadyList::new(code, rules);
+    let mut labels = Labels { forks: vec![0], labels: vec![Vec::new()] };
+    for worker in workers {
+        if list.can_move(*worker) {
+            let event = list.step(*worker)?;
+            labels.what(&event);
+            ahead.note(&event);
+        }
+    }
+    Ok(shown_moment(&labels, list.entries.iter().map(|entry| entry.thread), &ahead, list.world.live, rules.quota))
+}
+
+/// The text of a moment.
+fn shown_moment(labels: &Labels, threads: impl Iterator<Item = usize>, ahead: &Ahead, live: u64, quota: u64) -> String {
+    let shown: String = threads.map(|thread| format!("{:?} ", labels.labels[thread])).collect();
+    let margin = ahead.bound(quota) - live;
+    format!("{shown}prefix {}, ahead {}, live {live}, margin {margin}", ahead.prefix, ahead.periods)
 }
 
 /// The labels of threads, and how often each has forked.

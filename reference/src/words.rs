@@ -38,10 +38,14 @@ const STEPS_OF_TRAIL: Rule = rule("steps", 1, 400_000, 1, 400_000);
 /// The options of the commands that run the machine.
 const OF_MACHINE: &[&str] = &["k", "p", "arena", "steps", "deques", "seed"];
 
-const COMMANDS: [(&str, &[&str]); 16] = [
+/// The ready list has no limit of its own.
+const OF_READY_LIST: &[&str] = &["k", "p", "arena", "steps", "seed"];
+
+const COMMANDS: [(&str, &[&str]); 17] = [
     ("check", &[]),
     ("peak", &["k", "steps"]),
     ("play", OF_MACHINE),
+    ("async", OF_READY_LIST),
     ("run", OF_MACHINE),
     ("make", OF_MACHINE),
     ("loops", OF_MACHINE),

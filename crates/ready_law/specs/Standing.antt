@@ -1,0 +1,64 @@
+-- At which lawful ready list a scheduler stands, and how it goes on with each event.
+use Rattle.std.specs.Prelude.{◌≡◌, ℕ, ◌<◌, Option, None, Some, List, [], ◌∷◌, ◌++◌, filter, map}
+use Rattle.dag_order.specs.Births.{root}
+use Rattle.depth_first_list.specs.Actions.{Action}
+use Rattle.depth_first_list.specs.Facts.{action_at}
+use Rattle.lawful_books.specs.Lists.{Each}
+use Rattle.deque_machine.specs.Moments.{Moment, opening}
+use Rattle.deque_machine.specs.Machine.{Setting, Event, May}
+use Rattle.deque_machine.specs.Runs.{Pair, place_of, is_move}
+use Rattle.moment_parts.specs.Parts.{Thread, Deque, parts_with_root}
+use Rattle.moment_parts.specs.Cuts.{deque_with}
+use Rattle.step_laws.specs.Standing.{Showing, StandsAt}
+use Rattle.ready_machine.specs.Entries.{IsEntry, IsLeastFree}
+use Rattle.ready_machine.specs.ReadyMachine.{MayReady, ReadyReaches}
+use Rattle.ready_machine.specs.ReadyPlay.{WantsReady}
+
+-- what is shown stands at a lawful ready list, with these actions as its moves
+pub record StandsReady (s : Setting) (shown : Showing) (moved : List Action) (m : Moment) : Type 0 where
+  pub entries : Each IsEntry m.deques
+  pub standing : StandsAt s shown moved m
+
+-- an event of a worker may come, and what is shown stands at the ready list after it, with the event's move if it is one
+abbrev pub StandsReadyAfter : Setting → Showing → List Action → Moment → (worker : ℕ) → Event → Type 0
+StandsReadyAfter s after moved m worker event = (next : Moment) × MayReady s m worker event next
+    × StandsReady s after (moved ++ filter is_move (map (action_at s.list) (place_of event))) next
+
+-- a deque of the parts has one thread
+abbrev pub HasOneThread : Deque → Type 0
+HasOneThread deque = (thread : Thread) × (deque.threads ≡ thread ∷ [])
+
+-- the same with the deque of two cut in two, the lower one without an owner
+abbrev pub set_aside : Showing → (left right : List Deque) → (id new : ℕ) → Option ℕ → (upper lower : Thread) → Showing
+set_aside shown left right id new owner upper lower = record shown {
+  parts = record (shown.parts) { deques = left ++ deque_with id owner (upper ∷ []) ∷ deque_with new None (lower ∷ []) ∷ right };
+}
+
+-- a root that has done nothing, alone and ready, stands at the opening moment
+abbrev pub RootStandsReady : Setting → Type 0
+RootStandsReady s = (x : Thread) (shown : Showing) → x.id ≡ root → x.label ≡ [] → x.done ≡ 0 → x.children ≡ [] → x.words ≡ 0
+    → shown.parts ≡ parts_with_root x → shown.live ≡ 0 → shown.begun ≡ 0 → shown.moves ≡ [] → StandsReady s shown [] opening
+
+-- Where the rules want an event of a worker, it came in the machine of deques, and each deque has one thread then, the event came in the
+-- ready list.
+abbrev pub OneThreadEach : Setting → Type 0
+OneThreadEach s = (before after : Showing) (moved : List Action) (m next : Moment) (worker : ℕ) (event : Event)
+    → StandsReady s before moved m
+    → worker < s.workers → WantsReady s m worker event → May s m worker event next
+    → StandsAt s after (moved ++ filter is_move (map (action_at s.list) (place_of event))) next
+    → Each HasOneThread after.parts.deques → StandsReadyAfter s after moved m worker event
+
+-- Where the worker's deque has two threads then, it came in the ready list once the deque is cut in two, under the least free id.
+abbrev pub TwoAreCut : Setting → Type 0
+TwoAreCut s = (before after : Showing) (moved : List Action) (m next : Moment) (worker : ℕ) (event : Event) (left right : List Deque)
+    (id new : ℕ)
+    (upper lower : Thread) → StandsReady s before moved m → worker < s.workers → WantsReady s m worker event → May s m worker event next
+    → StandsAt s after (moved ++ filter is_move (map (action_at s.list) (place_of event))) next
+    → after.parts.deques ≡ left ++ deque_with id (Some worker) (upper ∷ lower ∷ []) ∷ right → IsLeastFree next.deques new
+    → StandsReadyAfter s (set_aside after left right id new (Some worker) upper lower) moved m worker event
+
+-- a run goes on with each event that may come at the ready list that it reaches
+abbrev pub ReadyRunsGoOn : Setting → Type 0
+ReadyRunsGoOn s = (run : List Pair) (m after : Moment) (worker : ℕ) (event : Event) → ReadyReaches s opening run m
+    → MayReady s m worker event after
+    → ReadyReaches s opening (run ++ record { worker = worker; event = event } ∷ []) after

@@ -1,0 +1,10 @@
+pub mod Owners
+pub mod Cutting
+pub mod Sharing
+pub mod Along
+pub mod Changes
+pub mod Ends
+pub mod Cuts
+pub mod Agreeing
+pub mod Coming
+pub mod Playing

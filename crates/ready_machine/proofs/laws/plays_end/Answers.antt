@@ -1,0 +1,5 @@
+use Rattle.ready_machine.proofs.Playing as law
+use Rattle.ready_machine.proofs.laws.plays_end.Goals as goal
+
+pub returns : goal.returns
+returns c = law.plays_end

@@ -1,0 +1,5 @@
+pub mod Entries
+pub mod ReadyMachine
+pub mod ReadyPlay
+pub mod Laws
+pub mod PlayLaws

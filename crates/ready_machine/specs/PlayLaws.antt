@@ -1,0 +1,75 @@
+-- What holds of the plays of a ready list.
+use Rattle.std.specs.Prelude.{◌≡◌, ℕ, ◌<◌, ◌≤◌, List, [], length, ℤ, pos, ◌≤ℤ◌}
+use Rattle.depth_first_list.specs.Actions.{record_words}
+use Rattle.depth_first_list.specs.Facts.{action_at}
+use Rattle.lawful_books.specs.Lists.{total}
+use Rattle.lawful_books.specs.Books.{IsPrefix, periods_ahead, bound}
+use Rattle.deque_machine.specs.Moments.{Moment, opening, done_at}
+use Rattle.deque_machine.specs.Machine.{Setting, Event, does, HasEnded}
+use Rattle.deque_machine.specs.Runs.{Pair}
+use Rattle.deque_machine.specs.Play.{Limits, Ending, arena_full, steps_spent, deques_full, finished, stopped, Meets, words_taken}
+use Rattle.ready_machine.specs.Entries.{IsReadyList}
+use Rattle.ready_machine.specs.ReadyMachine.{MayReady, ReadyReaches, NoneGivenFree}
+use Rattle.ready_machine.specs.ReadyPlay.{WantsReady, ReadyTurn, ReadyPlays}
+
+-- what the rules want of a worker may come
+abbrev pub WantedMayCome : Setting → Type 0
+WantedMayCome s = (m : Moment) (worker : ℕ) (event : Event) → IsReadyList s m → worker < s.workers → WantsReady s m worker event
+    → (after : Moment) × MayReady s m worker event after
+
+-- and while the root has not ended, it is somebody's turn
+abbrev pub SomebodysTurn : Setting → Type 0
+SomebodysTurn s = (words : ℕ → ℕ) (n : ℕ) (m : Moment) → IsReadyList s m → 0 < s.workers → ¬ HasEnded s m []
+    → (pair : Pair) × ReadyTurn s words n m pair
+
+-- a play is a run of the machine in which no give up is free
+abbrev pub PlaysAreRuns : Setting → Type 0
+PlaysAreRuns s = (limits : Limits) (words : ℕ → ℕ) (run : List Pair) (last : Moment) (ending : Ending)
+    → ReadyPlays s limits words 0 opening run last ending
+    → (reaches : ReadyReaches s opening run last) × NoneGivenFree s opening run last reaches
+
+-- there is a play for all words
+abbrev pub PlaysEnd : Setting → Type 0
+PlaysEnd s = record_words ≤ s.quota → 0 < s.workers → (limits : Limits) (words : ℕ → ℕ)
+    → (run : List Pair) × (last : Moment) × (ending : Ending) × ReadyPlays s limits words 0 opening run last ending
+
+-- with room for all words and actions of the list a play finishes
+abbrev pub PlaysFinish : Setting → Type 0
+PlaysFinish s = (limits : Limits) (words : ℕ → ℕ) (run : List Pair) (last : Moment) (ending : Ending)
+    → total words_taken s.list ≤ limits.capacity → length s.list ≤ limits.actions
+    → ReadyPlays s limits words 0 opening run last ending → ending ≡ finished
+
+-- no play ends for want of a place in the list
+abbrev pub ListsNeverFill : Setting → Type 0
+ListsNeverFill s = (limits : Limits) (words : ℕ → ℕ) (run : List Pair) (last : Moment) (deques : ℕ)
+    → ¬ ReadyPlays s limits words 0 opening run last (stopped (deques_full deques))
+
+-- with as many actions as the list has, the limit of actions stops no play
+abbrev pub ActionsSuffice : Setting → Type 0
+ActionsSuffice s = (limits : Limits) (words : ℕ → ℕ) (run : List Pair) (last : Moment) (limit : ℕ)
+    → length s.list ≤ limits.actions → ¬ ReadyPlays s limits words 0 opening run last (stopped (steps_spent limit))
+
+-- with room for all words that the list takes, its arena stops no play
+abbrev pub ArenasWithRoomLast : Setting → Type 0
+ArenasWithRoomLast s = (limits : Limits) (words : ℕ → ℕ) (run : List Pair) (last : Moment) (live : ℤ) (asked : ℕ)
+    → total words_taken s.list ≤ limits.capacity → ¬ ReadyPlays s limits words 0 opening run last (stopped (arena_full live asked))
+
+-- so many words are room for the peak and two quotas for each period ahead, whichever Alloc or Fork comes next, with this action counted
+abbrev pub CoversNext : Setting → (capacity : ℕ) → Moment → Type 0
+CoversNext s capacity m = (worker place n : ℕ) (after : Moment) → MayReady s m worker (does place) after
+    → 0 < words_taken (action_at s.list place) → IsPrefix s.list (done_at after) n
+    → bound s.quota s.list (periods_ahead n after.books) ≤ℤ pos capacity
+
+-- nor does it stop one where its last moment has room for the bound after the next action
+abbrev pub ArenasWithTheBoundLast : Setting → Type 0
+ArenasWithTheBoundLast s = (limits : Limits) (words : ℕ → ℕ) (run : List Pair) (last : Moment) (live : ℤ) (asked : ℕ)
+    → CoversNext s limits.capacity last → ¬ ReadyPlays s limits words 0 opening run last (stopped (arena_full live asked))
+
+-- why a play ends as it does, at its last moment: the root has ended, or the event of the turn meets the stop
+abbrev pub HasCause : Setting → Limits → (ℕ → ℕ) → Moment → Ending → Type 0
+HasCause s limits words last finished = HasEnded s last []
+HasCause s limits words last (stopped stop) = (n : ℕ) × (pair : Pair) × ReadyTurn s words n last pair × Meets s limits last pair.event stop
+
+abbrev pub EndingsHaveCauses : Setting → Type 0
+EndingsHaveCauses s = (limits : Limits) (words : ℕ → ℕ) (run : List Pair) (last : Moment) (ending : Ending)
+    → ReadyPlays s limits words 0 opening run last ending → HasCause s limits words last ending
