@@ -1,0 +1,5 @@
+pub mod Going
+pub mod Staying
+pub mod Running
+pub mod Keeping
+pub mod Examples
