@@ -94,7 +94,7 @@ period_of lane other = or_other lane.period other
 
 module _ (s : Setting) (h : Hall) (steps : List Step) (m : Moment) (at : HallStands s h steps m) (worker : ℕ) (id : DequeId) (owns : Among (place_of id (Some worker)) h.list.places) where
   -- an owner is at work, with the thread and the period that were seen
-  pub at_work_by : (top : Thread) (under : List Thread) (period : Period) → lane_with (top ∷ under) (Some period) ≡ lane_at h.lanes id → IsAtWork h worker
+  abbrev pub at_work_by : (top : Thread) (under : List Thread) (period : Period) → lane_with (top ∷ under) (Some period) ≡ lane_at h.lanes id → IsAtWork h worker
   at_work_by top under period is =
       let cut = cut_among (place_of id (Some worker)) h.list.places owns in
       record { left = cut.0; id = id; right = cut.1; top = top; under = under; period = period; places_are = cut.2; lane_is = sym is }

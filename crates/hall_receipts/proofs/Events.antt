@@ -127,9 +127,9 @@ actions_are_shown s some list limits h after steps m leads count views v w place
 
 pause_is_decided : (s : Setting) (h : Hall) (worker : ℕ) (w : IsAtWork h worker) (event : Event) (told : Rattle.hall_law.specs.Steps.Told) (after : Hall) (looks : List Look) → SawList looks h.list
     → PausesOn s h w event told after → Decides s looks w.top w.period event
-pause_is_decided s h worker w event told after looks saw (gives_up_forced place deed is_next full) = decides_give_up place deed is_next full
-pause_is_decided s h worker w event told after looks saw (waits_for_child place newest older waiting is_next children open_child no_result alone same) =
-    decides_wait place newest is_next (subst (Among newest) (sym children) (inl refl)) (open_child, h.list, saw, no_result)
+pause_is_decided s h worker w event told after looks saw (gives_up_forced place deed next full) = decides_give_up place deed next full
+pause_is_decided s h worker w event told after looks saw (waits_for_child place newest older waiting next children open_child no_result alone same) =
+    decides_wait place newest next (subst (Among newest) (sym children) (inl refl)) (open_child, h.list, saw, no_result)
 
 pub pauses_are_shown : (s : Setting) → PausesAreShown s
 pauses_are_shown s h after worker w event told looks lane saw pauses = record {

@@ -31,7 +31,7 @@ HasResult looks child = (child.delivered ≡ true) ⊎ ((list : ListShown) × Sa
 -- it is nowhere: it was not handed over, and a list that was seen does not keep it
 abbrev pub HasNoResult : List Look → Child → Type 0
 HasNoResult looks child =
-    (child.delivered ≡ false) × ((list : ListShown) × SawList looks list × Each (λ result. result.id ≢ child.id) list.results)
+    (child.delivered ≡ false) × (list : ListShown) × SawList looks list × Each (λ result. result.id ≢ child.id) list.results
 
 -- `Decides s looks top period event`: by these looks this is the event of an owner in whose lane this thread is on top and this period runs.
 pub data Decides (s : Setting) (looks : List Look) (top : Thread) (period : Period) : Event → Type 0 where
