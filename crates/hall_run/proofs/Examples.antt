@@ -1,6 +1,6 @@
 -- A worked sequence of two seats, from a hall that begins to one that can be closed: a second worker enters, the first takes the root over and
 -- forks, the second steals the root, the child ends, the root joins it and ends, and the second seat leaves and is joined into the first.
-use Rattle.std.proofs.Common.{◌≡◌, ℕ, false, true, List, [], ◌∷◌, refl, arith}
+use Rattle.std.proofs.Common.{false, true, List, [], ◌∷◌, refl, arith}
 use Rattle.std.specs.Prelude.{None, Some, pos, neg_ℤ}
 use Rattle.std.proofs.lemmas.List.Sorted.{IsPermutation-refl}
 use Rattle.dag_order.specs.declared.action_id.ActionId.{ActionId}
@@ -10,8 +10,8 @@ use Rattle.deque_machine.specs.Moments.{Moment}
 use Rattle.deque_machine.specs.Machine.{does}
 use Rattle.period_books.specs.Periods.{Period}
 use Rattle.period_table.specs.Tables.{noted, shut}
-use Rattle.moment_parts.specs.Parts.{Child, Thread, Result}
-use Rattle.hall_law.specs.Values.{PoolShown, Hall, End, finished, no_lane}
+use Rattle.moment_parts.specs.Parts.{Thread, Result}
+use Rattle.hall_law.specs.Values.{PoolShown, Hall, finished, no_lane}
 use Rattle.hall_law.specs.Steps.{Step, stole, did, Leads}
 use Rattle.hall_law.specs.Writing.{place_of, lane_with, IsAtWork, new_period}
 use Rattle.hall_law.specs.Writing as writing
@@ -19,8 +19,6 @@ use Rattle.hall_law.proofs.Examples.{one_fork, one_fork_is_depth_first, root_thr
 use Rattle.hall_crew.specs.Views.{View, fresh, joined}
 use Rattle.hall_crew.specs.Changes.{after_event}
 use Rattle.hall_crew.specs.Seats.{with_crew, entering, leaving, with_places_of}
-use Rattle.hall_state.specs.State.{IsIn}
-use Rattle.hall_state.specs.Closing.{GivesOneRun}
 use Rattle.hall_state.proofs.Examples.{some_limits}
 use Rattle.hall_run.specs.Events.{Snapshot, seen, acts_in_lane, ends_and_leaves, joins_kept, root_ends, steals_beside, takes_over, does_an_action, steals_a_thread}
 use Rattle.hall_run.specs.Others.{counts_below, enters_by, splits_off, leaves_idle, joins_into}

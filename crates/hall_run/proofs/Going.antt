@@ -1,5 +1,5 @@
 -- Each event of a seat leads from a running state to a running state, by one event of the machine.
-use Rattle.std.proofs.Common.{◌≡◌, ℕ, suc, ◌<◌, Bool, true, false, List, refl, true≢false}
+use Rattle.std.proofs.Common.{◌≡◌, ℕ, suc, ◌<◌, true, false, List, true≢false}
 use Rattle.std.specs.Prelude.{Option, None, Some, slice_set}
 use Rattle.dag_order.specs.declared.action_id.ActionId.{ActionId}
 use Rattle.depth_first_list.specs.Runs.{IsDepthFirst}
@@ -17,7 +17,7 @@ use Rattle.hall_state.proofs.Owners.{lane_actions_go_on, own_joins_go_on, dummie
 use Rattle.hall_state.proofs.Roots.{root_ends_go_on}
 use Rattle.hall_state.proofs.Thieves.{thefts_beside_go_on, taking_over_goes_on}
 use Rattle.hall_state.proofs.Quiet.{leaving_owners_go_on}
-use Rattle.hall_run.specs.Events.{Snapshot, ActsOn, acts_in_lane, joins_in_lane, runs_dummy, ends_above, ends_and_wakes, ends_and_leaves, root_ends, joins_kept, PausesOn, gives_up_forced, waits_for_child, StealsOn, steals_beside, takes_over, IsEvent, does_an_action, has_to_pause, gives_up_freely, steals_a_thread, leaves_as_owner}
+use Rattle.hall_run.specs.Events.{ActsOn, acts_in_lane, joins_in_lane, runs_dummy, ends_above, ends_and_wakes, ends_and_leaves, root_ends, joins_kept, PausesOn, gives_up_forced, waits_for_child, StealsOn, steals_beside, takes_over, does_an_action, has_to_pause, gives_up_freely, steals_a_thread, leaves_as_owner}
 use Rattle.hall_run.specs.Sequences.{EventsGoOn}
 
 module _ (s : Setting) (some : 0 < s.quota) (list : IsDepthFirst s.quota s.list) (limits : Limits) (h : Hall) (events : List Step) (m : Moment) (leads : Leads s events m) (count : ℕ)

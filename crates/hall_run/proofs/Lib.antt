@@ -2,4 +2,5 @@ pub mod Going
 pub mod Staying
 pub mod Running
 pub mod Keeping
+pub mod Telling
 pub mod Examples

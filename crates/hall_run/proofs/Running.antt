@@ -1,12 +1,12 @@
 -- A sequence of steps of seats makes one run, and each of its snapshots shows a moment of it.
-use Rattle.std.proofs.Common.{◌≡◌, ℕ, ◌<◌, List, [], ◌∷◌, refl, sym, subst}
+use Rattle.std.proofs.Common.{◌<◌, List, [], ◌∷◌, refl, sym, subst}
 use Rattle.depth_first_list.specs.Runs.{IsDepthFirst}
 use Rattle.deque_machine.specs.Moments.{Moment, opening}
 use Rattle.deque_machine.specs.Machine.{Setting}
 use Rattle.deque_machine.specs.Play.{Limits}
 use Rattle.hall_law.specs.Steps.{Step, Leads}
 use Rattle.hall_law.proofs.Opening.{first_stands}
-use Rattle.hall_crew.specs.Views.{View, fresh}
+use Rattle.hall_crew.specs.Views.{fresh}
 use Rattle.hall_crew.proofs.First.{first_crew}
 use Rattle.hall_state.specs.State.{RunningState}
 use Rattle.hall_state.proofs.Closing.{states_meet_the_law, halls_are_bounded, closed_give_one_run}

@@ -16,8 +16,7 @@ use Rattle.hall_crew.proofs.Halting.{finding_keeps_crew, stops_are_kept, answers
 use Rattle.hall_state.specs.State.{RunningState, IsIn}
 use Rattle.hall_state.proofs.Quiet.{quiet_puts_go_on, counts_go_on, entering_goes_on, splitting_goes_on, kept_stops_go_on, halting_goes_on, leaving_goes_on, joining_goes_on}
 use Rattle.hall_state.proofs.Stops.{spent_counts_go_on, full_arenas_go_on, full_lists_go_on}
-use Rattle.hall_run.specs.Events.{Snapshot}
-use Rattle.hall_run.specs.Others.{MayFind, wants_memory, fills_the_arena, fills_the_list, IsOther, puts_the_same, counts_below, counts_spent, finds_a_stop, finds_and_keeps, keeps_its_stop, halts_with, is_answered, enters_by, splits_off, leaves_idle, joins_into}
+use Rattle.hall_run.specs.Others.{MayFind, wants_memory, fills_the_arena, fills_the_list, puts_the_same, counts_below, counts_spent, finds_a_stop, finds_and_keeps, keeps_its_stop, halts_with, is_answered, enters_by, splits_off, leaves_idle, joins_into}
 use Rattle.hall_run.specs.Sequences.{OthersStay}
 
 module _ (s : Setting) (some : 0 < s.quota) (list : IsDepthFirst s.quota s.list) (limits : Limits) (h : Hall) (events : List Step) (m : Moment) (leads : Leads s events m) (count : ℕ)

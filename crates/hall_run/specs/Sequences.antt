@@ -6,7 +6,7 @@ use Rattle.deque_machine.specs.Moments.{Moment}
 use Rattle.deque_machine.specs.Machine.{Setting}
 use Rattle.deque_machine.specs.Play.{Limits}
 use Rattle.moment_parts.specs.Parts.{Thread}
-use Rattle.hall_law.specs.Values.{Hall, Value, End, hall_of}
+use Rattle.hall_law.specs.Values.{Value, End, hall_of}
 use Rattle.hall_law.specs.Steps.{Step, Leads}
 use Rattle.hall_law.specs.Rows.{IsFirst}
 use Rattle.hall_crew.specs.Views.{fresh}
