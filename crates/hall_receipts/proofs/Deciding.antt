@@ -3,7 +3,7 @@ use Rattle.std.proofs.Common.{◌≡◌, ◌≢◌, ℕ, ◌+◌, ◌<◌, ◌�
 use Rattle.std.proofs.lemmas.Bool.{cases_lt}
 use Rattle.std.specs.Prelude.{Option, None, Some}
 use Rattle.depth_first_list.specs.Actions.{Deed, forks, joins, allocates, releases, dummy, faults, ends}
-use Rattle.depth_first_list.specs.Facts.{deed_at, words_at}
+use Rattle.depth_first_list.specs.Facts.{deed_at}
 use Rattle.depth_first_list.specs.Runs.{IsDepthFirst}
 use Rattle.dag_order.specs.LabelOrder.{fork_of}
 use Rattle.deque_list.specs.declared.deque_id.DequeId.{DequeId}
@@ -13,7 +13,7 @@ use Rattle.deque_machine.specs.Moments.{Moment}
 use Rattle.deque_machine.specs.Machine.{Setting, Event, HasEnded}
 use Rattle.moment_parts.proofs.Ending.{cut_among}
 use Rattle.period_books.specs.Periods.{Period}
-use Rattle.moment_parts.specs.Parts.{Child, Thread, Result, IsKept}
+use Rattle.moment_parts.specs.Parts.{Child, Thread, IsKept}
 use Rattle.moment_parts.specs.Events.{IsNextOf}
 use Rattle.hall_law.specs.Values.{ListShown, LaneShown, Hall, lane_at}
 use Rattle.hall_law.specs.Steps.{Step}
@@ -22,7 +22,7 @@ use Rattle.hall_law.specs.Writing.{place_of, lane_with, IsAtWork}
 use Rattle.hall_law.proofs.Closing.{owners_are_at_work}
 use Rattle.hall_state.specs.Receipts.{Look, SawLane}
 use Rattle.hall_state.proofs.Owning.{stood}
-use Rattle.hall_receipts.specs.Decisions.{SawList, HasResult, HasNoResult, Decides, decides_give_up, decides_wait, decides_join, decides_action, ShowsEvent, SawTheHall, ShownAreWanted, ShownIsOne, SomeIsShown}
+use Rattle.hall_receipts.specs.Decisions.{SawList, Decides, decides_give_up, decides_wait, decides_join, decides_action, ShownAreWanted, ShownIsOne, SomeIsShown}
 use Rattle.hall_receipts.proofs.Top.{kept_or_not, some_place, used_within, joined_child, given_has_ended, kept_has_ended, has_not_ended}
 use Rattle.hall_receipts.proofs.Found.{Found, is_full, has_to_wait, may_act, found_is_wanted, join_is_free, found_is_one}
 

@@ -1,12 +1,12 @@
 -- What an owner does is what its looks show.
 use Rattle.std.proofs.Common.{◌≡◌, ◌≢◌, ℕ, ◌+◌, ◌<◌, ◌≤◌, nat_le, cond, true, false, Bool, List, [], ◌∷◌, ◌++◌, inl, inr, refl, sym, ap, subst, ◌∙◌, arith}
-use Rattle.std.specs.Prelude.{Option, None, Some}
-use Rattle.depth_first_list.specs.Actions.{Deed, forks, joins, allocates, releases, dummy, faults, ends, record_words}
+use Rattle.std.specs.Prelude.{Option}
+use Rattle.depth_first_list.specs.Actions.{Deed, forks, joins, allocates, releases, dummy, faults, ends}
 use Rattle.depth_first_list.specs.Facts.{deed_at, words_at}
 use Rattle.depth_first_list.specs.Runs.{IsDepthFirst}
 use Rattle.dag_order.specs.declared.action_id.ActionId.{ActionId}
 use Rattle.deque_list.specs.declared.deque_id.DequeId.{DequeId}
-use Rattle.lawful_books.specs.Lists.{Among, Each}
+use Rattle.lawful_books.specs.Lists.{Among}
 use Rattle.lawful_books.specs.Books.{charge, charge_at}
 use Rattle.lawful_books.proofs.Lists.{among_here}
 use Rattle.deque_machine.specs.Moments.{Moment}
@@ -14,14 +14,14 @@ use Rattle.deque_machine.specs.Machine.{Setting, Event, does}
 use Rattle.moment_parts.specs.Parts.{Child, Thread, Result, IsKept}
 use Rattle.moment_parts.specs.Events.{IsNextOf, MayDo}
 use Rattle.deque_events.specs.Events.{DidJoin}
-use Rattle.hall_law.specs.Values.{ListShown, Hall, open_for, lane_at}
+use Rattle.hall_law.specs.Values.{Hall}
 use Rattle.hall_law.specs.Steps.{Step}
 use Rattle.hall_law.specs.Standing.{HallStands}
 use Rattle.hall_law.specs.Writing.{IsAtWork, ActsInLane, acts_alone, joins_handed, forks_child, IsHanded}
 use Rattle.hall_state.specs.Receipts.{Look, SawLane}
 use Rattle.hall_run.specs.Events.{ActsOn, acts_in_lane, joins_in_lane, runs_dummy, ends_above, ends_and_wakes, ends_and_leaves, root_ends, joins_kept, PausesOn, gives_up_forced, waits_for_child}
 use Rattle.hall_receipts.specs.Needs.{NeedsList, for_join}
-use Rattle.hall_receipts.specs.Decisions.{SawList, Decides, decides_give_up, decides_wait, decides_join, decides_action, ShowsEvent, ActionsAreShown, PausesAreShown}
+use Rattle.hall_receipts.specs.Decisions.{SawList, Decides, decides_give_up, decides_wait, decides_join, decides_action, ActionsAreShown, PausesAreShown}
 use Rattle.hall_receipts.proofs.Top.{used_within, kept_is_missing}
 
 -- an action that a thread does by itself joins nobody, and fits

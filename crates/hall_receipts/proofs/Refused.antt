@@ -1,13 +1,13 @@
 -- What the looks of a refused call show.
-use Rattle.std.proofs.Common.{◌≡◌, ◌≢◌, ℕ, true, false, Bool, List, [], ◌∷◌, ◌++◌, refl, sym, ap, subst, ◌∙◌, true≢false}
+use Rattle.std.proofs.Common.{◌≡◌, ℕ, true, false, Bool, List, [], ◌∷◌, ◌++◌, refl, sym, ap, ◌∙◌, true≢false}
 use Rattle.std.specs.Prelude.{Option, None, Some}
 use Rattle.std.proofs.lemmas.Option.{same_Some}
 use Rattle.deque_list.specs.declared.deque_id.DequeId.{DequeId}
 use Rattle.deque_machine.specs.Machine.{Setting}
-use Rattle.hall_law.specs.Values.{ListShown, PoolShown, LaneShown, Hall}
-use Rattle.hall_state.specs.Receipts.{Look, took, held, counted, ShowsEnd, ShowsBusy}
+use Rattle.hall_law.specs.Values.{ListShown, PoolShown, LaneShown}
+use Rattle.hall_state.specs.Receipts.{Look, took, held, counted}
 use Rattle.hall_run.proofs.Keeping.{kept_ends_stay}
-use Rattle.hall_receipts.specs.Refusals.{ShownEndsAreKept, OneEnd, AnswersAreKept, look_at_list, look_at_pool, look_at_count, owners_looks, OneSlotIsBusy, BusyIsNoEvent}
+use Rattle.hall_receipts.specs.Refusals.{ShownEndsAreKept, OneEnd, AnswersAreKept, owners_looks, OneSlotIsBusy, BusyIsNoEvent}
 
 -- ---- ends
 

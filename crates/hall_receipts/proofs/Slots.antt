@@ -1,8 +1,8 @@
 -- An owner writes only the slots that its event needs, and own turns are apart.
-use Rattle.std.proofs.Common.{◌≡◌, ◌≢◌, ℕ, zero, suc, ◌+◌, ◌<◌, true, false, Bool, nat_lt, List, [], ◌∷◌, ◌++◌, length, inl, inr, refl, sym, ap, subst, ◌∙◌, arith, append-nil, true≢false, ℤ, pos, ◌+ℤ◌}
+use Rattle.std.proofs.Common.{◌≡◌, ◌≢◌, ℕ, suc, ◌<◌, true, false, Bool, nat_lt, List, [], ◌∷◌, ◌++◌, length, inl, inr, refl, sym, ap, subst, ◌∙◌, arith, append-nil, true≢false, ℤ, pos, ◌+ℤ◌}
 use Rattle.std.proofs.lemmas.Int.{ints}
 use Rattle.std.proofs.lemmas.Option.{same_Some}
-use Rattle.std.specs.Prelude.{Option, None, Some, neg_ℤ}
+use Rattle.std.specs.Prelude.{Option, None, Some, neg_ℤ, slice_get, slice_set}
 use Rattle.depth_first_list.specs.Actions.{Deed, forks, joins, allocates, releases, dummy, faults, ends, Action, weight_of}
 use Rattle.depth_first_list.specs.Facts.{action_at, label_at, deed_at, words_at, weight_at}
 use Rattle.depth_first_list.specs.Runs.{IsDepthFirst}
@@ -10,28 +10,23 @@ use Rattle.depth_first_list.proofs.Weights.{root_end_is_weightless}
 use Rattle.dag_order.specs.declared.action_id.ActionId.{ActionId}
 use Rattle.deque_list.specs.declared.deque_id.DequeId.{DequeId}
 use Rattle.deque_list.specs.declared.place.Place.{Place}
-use Rattle.lawful_books.specs.Lists.{Among, Each}
+use Rattle.lawful_books.specs.Lists.{Among}
 use Rattle.lawful_books.proofs.Lists.{among_middle, among_here, each_among}
 use Rattle.deque_machine.specs.Moments.{Moment}
 use Rattle.deque_machine.specs.Machine.{Setting, Event, does}
 use Rattle.deque_machine.specs.Runs.{moves_words, is_move}
 use Rattle.step_laws.specs.Moves.{noted_if}
 use Rattle.moment_parts.specs.Parts.{Thread}
-use Rattle.moment_parts.specs.Events.{IsNextOf}
-use Rattle.space_ledger.specs.declared.moved.Moved.{Moved}
-use Rattle.hall_law.specs.Values.{PoolShown, Hall, lane_at}
-use Rattle.hall_law.specs.Steps.{Step, Told}
+use Rattle.hall_law.specs.Values.{PoolShown, Hall}
+use Rattle.hall_law.specs.Steps.{Step}
 use Rattle.hall_law.specs.Standing.{HallStands}
-use Rattle.hall_law.specs.Writing.{place_of, lane_slot, IsAtWork, PoolTakes, ActsInLane, acts_alone, joins_handed, forks_child}
+use Rattle.hall_law.specs.Writing.{place_of, lane_slot, lane_with, IsAtWork, PoolTakes, ActsInLane, acts_alone, joins_handed, forks_child}
 use Rattle.hall_law.proofs.Own.{beside}
 use Rattle.hall_law.proofs.Lanes.{IsElsewhere, lane_beside}
-use Rattle.hall_crew.specs.Views.{View}
-use Rattle.hall_state.specs.State.{IsIn}
-use Rattle.hall_state.specs.Receipts.{Look}
 use Rattle.hall_state.proofs.Owned.{seats_have_their_workers}
-use Rattle.hall_run.specs.Events.{ActsOn, acts_in_lane, joins_in_lane, runs_dummy, ends_above, ends_and_wakes, ends_and_leaves, root_ends, joins_kept, PausesOn, gives_up_forced, waits_for_child}
-use Rattle.hall_receipts.specs.Needs.{NeedsList, for_give_up, for_wait, for_dummy, for_end, for_join, NeedsPool, for_move}
-use Rattle.hall_receipts.specs.Turns.{WritesItsSlots, ActionsWriteTheirSlots, PausesWriteTheirSlots, MayTake, its_lane, the_list, the_pool, LookedAt, OwnTurnsAreApart}
+use Rattle.hall_run.specs.Events.{ActsOn, acts_in_lane, joins_in_lane, runs_dummy, ends_above, ends_and_wakes, ends_and_leaves, root_ends, joins_kept, gives_up_forced, waits_for_child, steals_beside, takes_over}
+use Rattle.hall_receipts.specs.Needs.{NeedsList, for_give_up, for_wait, for_dummy, for_end, NeedsPool, for_move}
+use Rattle.hall_receipts.specs.Turns.{WritesItsSlots, ActionsWriteTheirSlots, PausesWriteTheirSlots, GiveUpsWriteTheirSlots, TheftsWriteTheirSlots, MayTake, its_lane, the_list, the_pool, OwnTurnsAreApart}
 use Rattle.hall_receipts.proofs.Events.{needs}
 
 -- ---- where no words move the pool stays
@@ -137,6 +132,36 @@ pauses_write_their_slots s h after worker w event told (waits_for_child place ne
   lanes = λ id apart. lane_beside h.lanes w.id id _ apart;
 }
 
+pub give_ups_write_their_slots : (s : Setting) → GiveUpsWriteTheirSlots s
+give_ups_write_their_slots s h worker w = record {
+  list = λ unneeded. absurd (unneeded for_give_up);
+  pool = λ unneeded. refl;
+  lanes = λ id apart. lane_beside h.lanes w.id id _ apart;
+}
+
+-- ---- what a thief writes
+
+at_the_cut : (left : List Place) (victim : Place) (right : List Place) → slice_get (left ++ victim ∷ right) (length left) ≡ Some victim
+at_the_cut [] victim right = refl
+at_the_cut (x ∷ left) victim right = at_the_cut left victim right
+
+pub thefts_write_their_slots : (s : Setting) → TheftsWriteTheirSlots s
+thefts_write_their_slots s h after worker place id (steals_beside left right victim new first bottom others running reach are lane free inside) = record {
+  reach = reach;
+  victim = victim;
+  there = ap (λ places. slice_get places (length left)) are ∙ at_the_cut left victim right;
+  pool = refl;
+  lanes = λ other apart aside. lane_beside (slice_set h.lanes victim.id.0 (lane_with (first ∷ others) running)) new other _ aside
+      ∙ lane_beside h.lanes victim.id other (lane_with (first ∷ others) running) apart;
+}
+thefts_write_their_slots s h after worker place id (takes_over left right taken thread reach are lane) = record {
+  reach = reach;
+  victim = place_of taken None;
+  there = ap (λ places. slice_get places (length left)) are ∙ at_the_cut left (place_of taken None) right;
+  pool = refl;
+  lanes = λ other apart aside. lane_beside h.lanes taken other _ apart;
+}
+
 -- ---- own turns
 
 -- two workers at work have different deques
@@ -144,9 +169,9 @@ deques_differ : (s : Setting) (h : Hall) (steps : List Step) (m : Moment) → Ha
     → first ≢ second → w.id.0 ≢ x.id.0
 deques_differ s h steps m at first second w x apart same = elim (among_middle (place_of x.id (Some second)) w.left (place_of w.id (Some first)) w.right
     (subst (Among (place_of x.id (Some second))) w.places_are (subst (Among (place_of x.id (Some second))) (sym x.places_are) (among_here (place_of x.id (Some second)) x.left x.right)))) [
-  | inl here ↦ apart (same_Some first second (ap (λ place. Place.owner place) (sym here)))
-  | inr elsewhere ↦ each_among (IsElsewhere w.id.0) (place_of x.id (Some second)) (w.left ++ w.right) (beside s h steps m at w) elsewhere (sym same)
-]
+      | inl here ↦ apart (same_Some first second (ap (λ place. Place.owner place) (sym here)))
+      | inr elsewhere ↦ each_among (IsElsewhere w.id.0) (place_of x.id (Some second)) (w.left ++ w.right) (beside s h steps m at w) elsewhere (sym same)
+    ]
 
 slots_differ : (l : List Action) (id other : DequeId) (top below : Thread) (under rest : List Thread) (event another : Event) (slot : ℕ) → id.0 ≢ other.0
     → ¬ NeedsList l top under event → ¬ NeedsPool l event → MayTake l id top under event slot → MayTake l other below rest another slot → ⊥

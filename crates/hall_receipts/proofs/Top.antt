@@ -1,23 +1,22 @@
 -- The thread on top of the lane of a worker at work, at the moment of the hall.
 use Rattle.std.proofs.Common.{◌≡◌, ◌≢◌, ◌⊎◌, ℕ, ◌+◌, ◌<◌, ◌≤◌, true, false, Bool, List, [], ◌∷◌, inl, inr, refl, sym, ap, subst, ◌∙◌, arith, true≢false}
 use Rattle.std.proofs.lemmas.Bool.{cases_lt, cases_eq}
-use Rattle.std.specs.Prelude.{Some}
 use Rattle.dag_order.specs.declared.thread_id.ThreadId.{ThreadId}
 use Rattle.dag_order.specs.LabelOrder.{fork_of}
-use Rattle.depth_first_list.specs.Actions.{Deed, forks, joins, ends}
-use Rattle.depth_first_list.specs.Facts.{label_at, index_at, deed_at, words_at, IsNext, IsLive}
+use Rattle.depth_first_list.specs.Actions.{Deed, joins}
+use Rattle.depth_first_list.specs.Facts.{index_at, deed_at, IsNext, IsLive}
 use Rattle.depth_first_list.specs.Runs.{IsDepthFirst}
 use Rattle.depth_first_list.proofs.ThreadLaws.{names_differ, no_index_is_skipped}
 use Rattle.depth_first_list.proofs.JoinLaws.{join_stands_behind_child, joined_once_law}
 use Rattle.depth_first_list.proofs.OrderLaw.{live_has_next}
 use Rattle.lawful_books.specs.Lists.{Among, Each}
-use Rattle.lawful_books.specs.Books.{charge, charge_at, charged}
+use Rattle.lawful_books.specs.Books.{charged}
 use Rattle.lawful_books.specs.Lawful.{IsWithin}
 use Rattle.lawful_books.proofs.Lists.{each_at, each_among}
 use Rattle.deque_machine.specs.Moments.{Moment, done_at}
 use Rattle.deque_machine.specs.Machine.{Setting, Owns, HasEnded}
 use Rattle.period_books.proofs.Labels.{one_label}
-use Rattle.moment_parts.specs.Parts.{Child, Thread, Result, Parts, IsKept}
+use Rattle.moment_parts.specs.Parts.{Child, Result, Parts, IsKept}
 use Rattle.moment_parts.specs.Standing.{ThreadStands, ChildStands, EndedIn, ResultStands}
 use Rattle.moment_parts.specs.Events.{Works, IsNextOf}
 use Rattle.moment_parts.proofs.Placing.{own, top_is_in, top_stands, next_at_top}

@@ -1,5 +1,5 @@
 -- Which event an owner does, by what the looks of its call show.
-use Rattle.std.specs.Prelude.{◌≡◌, ◌≢◌, ◌⊎◌, ℕ, ◌+◌, ◌<◌, ◌≤◌, true, false, Bool, Option, Some, List, [], ◌∷◌}
+use Rattle.std.specs.Prelude.{◌≡◌, ◌≢◌, ◌⊎◌, ℕ, ◌+◌, ◌<◌, ◌≤◌, true, false, Option, Some, List, ◌∷◌}
 use Rattle.dag_order.specs.declared.action_id.ActionId.{ActionId}
 use Rattle.depth_first_list.specs.Actions.{Deed, joins}
 use Rattle.deque_list.specs.declared.deque_id.DequeId.{DequeId}
@@ -33,23 +33,26 @@ abbrev pub HasNoResult : List Look → Child → Type 0
 HasNoResult looks child =
     (child.delivered ≡ false) × (list : ListShown) × SawList looks list × Each (λ result. result.id ≢ child.id) list.results
 
--- `Decides s looks top period event`: by these looks this is the event of an owner in whose lane this thread is on top and this period runs.
+-- `Decides s looks top period event`: by these looks this is the event of an owner in whose lane this thread is on top and this period
+-- runs.
 pub data Decides (s : Setting) (looks : List Look) (top : Thread) (period : Period) : Event → Type 0 where
   -- a give up, if the next action takes more of the quota than is left
   decides_give_up : (place : ℕ) (deed : Deed) → IsNextOf s.list top place deed → s.quota < period.used + charge_at s.quota s.list place
       → Decides s looks top period gives_up
   -- a wait, if it is the Join of a child whose result is nowhere
-  decides_wait : (place : ℕ) (child : Child) → IsNextOf s.list top place (joins child.ordinal) → Among child top.children → HasNoResult looks child
+  decides_wait : (place : ℕ) (child : Child) → IsNextOf s.list top place (joins child.ordinal) → Among child top.children
+      → HasNoResult looks child
       → Decides s looks top period suspends
   -- the Join, if the result is there
-  decides_join : (place : ℕ) (child : Child) → IsNextOf s.list top place (joins child.ordinal) → Among child top.children → HasResult looks child
+  decides_join : (place : ℕ) (child : Child) → IsNextOf s.list top place (joins child.ordinal) → Among child top.children
+      → HasResult looks child
       → Decides s looks top period (does place)
   -- any other action that the quota covers
   decides_action : (place : ℕ) (deed : Deed) → IsNextOf s.list top place deed → ((child : ℕ) → deed ≢ joins child)
       → period.used + charge_at s.quota s.list place ≤ s.quota → Decides s looks top period (does place)
 
--- The looks of a call show this event of the owner of a deque: a look at its lane shows a thread on top and a period that runs, and by the looks
--- they decide about it.
+-- The looks of a call show this event of the owner of a deque: a look at its lane shows a thread on top and a period that runs, and by the
+-- looks they decide about it.
 pub record ShowsEvent (s : Setting) (looks : List Look) (id : DequeId) (event : Event) : Type 0 where
   pub top : Thread
   pub under : List Thread
@@ -83,7 +86,8 @@ SomeIsShown s = (limits : Limits) (h : Hall) (steps : List Step) (m : Moment) (l
 
 -- The action that a worker at work does is the one that they show, if it saw its lane and, where the action needs it, the list.
 abbrev pub ActionsAreShown : Setting → Type 0
-ActionsAreShown s = (limits : Limits) (h after : Hall) (steps : List Step) (m : Moment) (leads : Leads s steps m) (count : ℕ) (views : List View)
+ActionsAreShown s = (limits : Limits) (h after : Hall) (steps : List Step) (m : Moment) (leads : Leads s steps m) (count : ℕ)
+    (views : List View)
     (v : View) (w : IsAtWork h v.worker) (place : ℕ) (name : ActionId) (deque : Option DequeId) (looks : List Look)
     → RunningState s limits h steps m leads count views → SawLane looks w.id (lane_at h.lanes w.id)
     → (NeedsList s.list w.top w.under (does place) → SawList looks h.list) → ActsOn s h w place name after deque

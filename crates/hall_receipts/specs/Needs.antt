@@ -7,8 +7,8 @@ use Rattle.deque_machine.specs.Machine.{Event, does, suspends, gives_up}
 use Rattle.deque_machine.specs.Runs.{is_move}
 use Rattle.moment_parts.specs.Parts.{Child, Thread}
 
--- The list, of an owner in whose lane these threads are, the top one first: for a give up, a wait and a Dummy, for an End if the parent is not in
--- the same lane, and for the Join of a child whose result was not handed over.
+-- The list, of an owner in whose lane these threads are, the top one first: for a give up, a wait and a Dummy, for an End if the parent is
+-- not in the same lane, and for the Join of a child whose result was not handed over.
 pub data NeedsList (l : List Action) (top : Thread) (under : List Thread) : Event → Type 0 where
   for_give_up : NeedsList l top under gives_up
   for_wait : NeedsList l top under suspends

@@ -1,7 +1,6 @@
 -- What the looks of a call show where it is refused.
-use Rattle.std.specs.Prelude.{◌≡◌, ◌≢◌, ℕ, Option, None, Some, List, [], ◌∷◌, ◌++◌, slice_get}
+use Rattle.std.specs.Prelude.{◌≡◌, ℕ, Option, None, Some, List, [], ◌∷◌, ◌++◌}
 use Rattle.deque_list.specs.declared.deque_id.DequeId.{DequeId}
-use Rattle.lawful_books.specs.Lists.{Among}
 use Rattle.deque_machine.specs.Moments.{Moment}
 use Rattle.deque_machine.specs.Machine.{Setting}
 use Rattle.deque_machine.specs.Play.{Limits}
@@ -10,7 +9,7 @@ use Rattle.hall_law.specs.Steps.{Step, Leads}
 use Rattle.hall_law.specs.Writing.{lane_slot}
 use Rattle.hall_crew.specs.Views.{View}
 use Rattle.hall_state.specs.State.{RunningState, IsIn}
-use Rattle.hall_state.specs.Receipts.{Look, took, held, counted, ShowsEnd, ShowsBusy}
+use Rattle.hall_state.specs.Receipts.{Look, took, counted, ShowsEnd, ShowsBusy}
 use Rattle.hall_run.specs.Events.{Snapshot}
 use Rattle.hall_run.specs.Sequences.{Sequence}
 use Rattle.hall_receipts.specs.Decisions.{SawList}
@@ -24,12 +23,14 @@ ShownEndsAreKept s = (limits : Limits) (then_was now : Snapshot) (events : List 
 -- so two calls that are over are so by one end
 abbrev pub OneEnd : Setting → Type 0
 OneEnd s = (limits : Limits) (then_was now : Snapshot) (events : List Step) (looks more : List Look) (end other : End)
-    → ((list : ListShown) → SawList looks list → list ≡ then_was.hall.list) → ((list : ListShown) → SawList more list → list ≡ now.hall.list)
+    → ((list : ListShown) → SawList looks list → list ≡ then_was.hall.list) → ((list : ListShown) → SawList more list
+    → list ≡ now.hall.list)
     → Sequence s limits then_was events now → ShowsEnd looks end → ShowsEnd more other → end ≡ other
 
 -- and an end that a seat was answered is kept from then on
 abbrev pub AnswersAreKept : Setting → Type 0
-AnswersAreKept s = (limits : Limits) (then_was now : Snapshot) (events past : List Step) (m : Moment) (leads : Leads s past m) (seat : ℕ) (v : View)
+AnswersAreKept s = (limits : Limits) (then_was now : Snapshot) (events past : List Step) (m : Moment) (leads : Leads s past m) (seat : ℕ)
+    (v : View)
     (end : End) → RunningState s limits then_was.hall past m leads then_was.count then_was.views → IsIn then_was.views seat v
     → v.answered ≡ Some end → Sequence s limits then_was events now → now.hall.list.kept ≡ Some end
 
@@ -47,7 +48,8 @@ look_at_count None = []
 look_at_count (Some found) = counted found ∷ []
 
 abbrev pub owners_looks : DequeId → LaneShown → Option ListShown → Option PoolShown → Option ℕ → List Look
-owners_looks id lane list pool count = took (lane_slot id) (of_lane lane) ∷ (look_at_list list ++ (look_at_pool pool ++ look_at_count count))
+owners_looks id lane list pool count = took (lane_slot id) (of_lane lane) ∷ (look_at_list list ++
+    (look_at_pool pool ++ look_at_count count))
 
 -- a refusal by a held slot is by one slot and one word
 abbrev pub OneSlotIsBusy : Type 0

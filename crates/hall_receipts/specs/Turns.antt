@@ -1,11 +1,12 @@
 -- Which slots an event of an owner writes, and which turns its call takes.
-use Rattle.std.specs.Prelude.{◌≡◌, ◌≢◌, ◌⊎◌, ℕ, Option, List}
+use Rattle.std.specs.Prelude.{◌≡◌, ◌≢◌, ◌⊎◌, ℕ, ◌<◌, Option, Some, List, slice_get}
 use Rattle.dag_order.specs.declared.action_id.ActionId.{ActionId}
 use Rattle.depth_first_list.specs.Actions.{Action}
 use Rattle.deque_list.specs.declared.deque_id.DequeId.{DequeId}
+use Rattle.deque_list.specs.declared.place.Place.{Place}
 use Rattle.lawful_books.specs.Lists.{Among}
 use Rattle.deque_machine.specs.Moments.{Moment}
-use Rattle.deque_machine.specs.Machine.{Setting, Event, does}
+use Rattle.deque_machine.specs.Machine.{Setting, Event, does, gives_up}
 use Rattle.deque_machine.specs.Play.{Limits}
 use Rattle.moment_parts.specs.Parts.{Thread}
 use Rattle.hall_law.specs.Values.{Hall, Value, lane_at}
@@ -14,7 +15,7 @@ use Rattle.hall_law.specs.Writing.{lane_slot, IsAtWork}
 use Rattle.hall_crew.specs.Views.{View}
 use Rattle.hall_state.specs.State.{RunningState, IsIn}
 use Rattle.hall_state.specs.Receipts.{Look, took, held}
-use Rattle.hall_run.specs.Events.{ActsOn, PausesOn}
+use Rattle.hall_run.specs.Events.{ActsOn, PausesOn, StealsOn, given_up}
 use Rattle.hall_receipts.specs.Needs.{NeedsList, NeedsPool}
 
 -- An event of a worker at work writes only the slots that it needs: its lane, and the list and the pool if it needs them.
@@ -31,8 +32,26 @@ ActionsWriteTheirSlots s = (limits : Limits) (h after : Hall) (steps : List Step
 
 -- and each wait and give up that the rules ask for
 abbrev pub PausesWriteTheirSlots : Setting → Type 0
-PausesWriteTheirSlots s = (h after : Hall) (worker : ℕ) (w : IsAtWork h worker) (event : Event) (told : Told) → PausesOn s h w event told after
+PausesWriteTheirSlots s = (h after : Hall) (worker : ℕ) (w : IsAtWork h worker) (event : Event) (told : Told)
+    → PausesOn s h w event told after
     → WritesItsSlots s.list h w event after
+
+-- as does a give up at any time
+abbrev pub GiveUpsWriteTheirSlots : Setting → Type 0
+GiveUpsWriteTheirSlots s = (h : Hall) (worker : ℕ) (w : IsAtWork h worker) → WritesItsSlots s.list h w gives_up (given_up w)
+
+-- A theft writes the list, the lane of its victim, which is one of as many leftmost deques as there are workers, and its own new lane, and
+-- no other slot. A deque that is taken over is both.
+pub record WritesAsThief (workers : ℕ) (h : Hall) (place : ℕ) (id : DequeId) (after : Hall) : Type 0 where
+  pub reach : place < workers
+  pub victim : Place
+  pub there : slice_get h.list.places place ≡ Some victim
+  pub pool : after.pool ≡ h.pool
+  pub lanes : (other : DequeId) → other.0 ≢ victim.id.0 → other.0 ≢ id.0 → lane_at after.lanes other ≡ lane_at h.lanes other
+
+abbrev pub TheftsWriteTheirSlots : Setting → Type 0
+TheftsWriteTheirSlots s = (h after : Hall) (worker place : ℕ) (id : DequeId) → StealsOn s h worker place id after
+    → WritesAsThief s.workers h place id after
 
 -- The turns that an owner may take for an event: that of its lane, and those of the list and of the pool if the event needs them.
 pub data MayTake (l : List Action) (id : DequeId) (top : Thread) (under : List Thread) (event : Event) : ℕ → Type 0 where

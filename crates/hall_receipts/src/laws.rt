@@ -1,7 +1,7 @@
 ghost use Rattle.deque_machine.specs.Machine.{Setting};
 ghost use Rattle.deque_machine.specs.Laws.{InEachSetting};
 ghost use Rattle.hall_receipts.specs.Decisions.{ShownAreWanted, ShownIsOne, SomeIsShown, ActionsAreShown, PausesAreShown};
-ghost use Rattle.hall_receipts.specs.Turns.{ActionsWriteTheirSlots, PausesWriteTheirSlots, OwnTurnsAreApart};
+ghost use Rattle.hall_receipts.specs.Turns.{ActionsWriteTheirSlots, PausesWriteTheirSlots, GiveUpsWriteTheirSlots, TheftsWriteTheirSlots, OwnTurnsAreApart};
 ghost use Rattle.hall_receipts.specs.Refusals.{ShownEndsAreKept, OneEnd, AnswersAreKept, OneSlotIsBusy, BusyIsNoEvent};
 
 /// The event that the looks of an owner show is the one that the rules of play want of its worker.
@@ -37,6 +37,16 @@ pub fn actions_write_their_slots()
 /// So does a wait, and a give up that the rules ask for.
 pub fn pauses_write_their_slots()
     ensures { (s : Setting) → PausesWriteTheirSlots s }
+{}
+
+/// As does a give up at any time.
+pub fn give_ups_write_their_slots()
+    ensures { (s : Setting) → GiveUpsWriteTheirSlots s }
+{}
+
+/// A theft writes the list, the lane of its victim, which is in reach, and its own new lane.
+pub fn thefts_write_their_slots()
+    ensures { (s : Setting) → TheftsWriteTheirSlots s }
 {}
 
 /// An owner whose event needs neither the list nor the pool takes no turn that another owner takes.

@@ -39,9 +39,10 @@ abbrev pub NobodyAwaits : Thread → List Thread → Type 0
 NobodyAwaits top waiting =
     Each (λ x. (newest : Child) (older : List Child) → x.children ≡ newest ∷ older → top.parent ≡ Some x.id → newest.id ≢ top.id) waiting
 
--- `ActsOn s h w place name after deque`: the top thread of a worker at work does the action at a place, under this name. It writes this hall,
--- and then the worker owns this deque or none.
-pub data ActsOn (s : Setting) (h : Hall) {worker : ℕ} (w : IsAtWork h worker) (place : ℕ) (name : ActionId) : Hall → Option DequeId → Type 0 where
+-- `ActsOn s h w place name after deque`: the top thread of a worker at work does the action at a place, under this name. It writes this
+-- hall, and then the worker owns this deque or none.
+pub data ActsOn (s : Setting) (h : Hall) {worker : ℕ} (w : IsAtWork h worker) (place : ℕ) (name : ActionId) : Hall → Option DequeId
+    → Type 0 where
   -- in its own lane: a Fork, an Alloc, a Release, a Fault, or the Join of a child whose result was handed over; the pool takes its words
   acts_in_lane : (threads : List Thread) (words : ℕ) (births : List Birth) (pool : PoolShown)
       → ActsInLane s.quota s.list w place name threads words births → PoolTakes s.list place name h.pool pool
@@ -73,7 +74,8 @@ pub data ActsOn (s : Setting) (h : Hall) {worker : ℕ} (w : IsAtWork h worker) 
       → DidEnd s.list w.top name place result → PoolTakes s.list place name h.pool pool → IsPermutation (result ∷ h.list.results) results
       → w.top.label ≡ [] → h.list.kept ≡ None
       → ActsOn s h w place name
-      (with_crew (written w (record (list_without w (shut (noted w.period name 0 []))) { results = results }) pool no_lane) h.list.crew (Some finished))
+      (with_crew (written w (record (list_without w (shut (noted w.period name 0 []))) { results = results }) pool no_lane) h.list.crew
+      (Some finished))
       None
   -- the Join of the newest open child, whose result is kept: it is handed over first
   joins_kept : (before later results : List Result) (result : Result) (handed new : Thread) (words : ℕ) (pool : PoolShown)
@@ -93,7 +95,8 @@ pub data PausesOn (s : Setting) (h : Hall) {worker : ℕ} (w : IsAtWork h worker
   gives_up_forced : (place : ℕ) (deed : Deed) → IsNextOf s.list w.top place deed → s.quota < w.period.used + charge_at s.quota s.list place
       → PausesOn s h w gives_up (gave_up w.id.0) (given_up w)
   -- its top thread waits: at the Join of a child whose result is nowhere yet
-  waits_for_child : (place : ℕ) (newest : Child) (older : List Child) (waiting : List Thread) → IsNextOf s.list w.top place (joins newest.ordinal)
+  waits_for_child : (place : ℕ) (newest : Child) (older : List Child) (waiting : List Thread)
+      → IsNextOf s.list w.top place (joins newest.ordinal)
       → w.top.children ≡ newest ∷ older → newest.delivered ≡ false → Each (λ result. result.id ≢ newest.id) h.list.results → w.under ≡ []
       → IsPermutation (w.top ∷ h.list.waiting) waiting
       → PausesOn s h w suspends (waited w.top.id) (written w (record (list_without w (shut w.period)) { waiting = waiting }) h.pool no_lane)
@@ -101,7 +104,8 @@ pub data PausesOn (s : Setting) (h : Hall) {worker : ℕ} (w : IsAtWork h worker
 -- `StealsOn s h worker place id after`: an idle worker steals from the deque at a place, into the deque of this id. It writes this hall.
 pub data StealsOn (s : Setting) (h : Hall) (worker : ℕ) : (place : ℕ) → DequeId → Hall → Type 0 where
   -- the victim keeps other threads; the new deque is to the right of it
-  steals_beside : (left right : List Place) (victim : Place) (id : DequeId) (first bottom : Thread) (others : List Thread) (running : Option Period)
+  steals_beside : (left right : List Place) (victim : Place) (id : DequeId) (first bottom : Thread) (others : List Thread)
+      (running : Option Period)
       → length left < s.workers → h.list.places ≡ left ++ victim ∷ right
       → lane_at h.lanes victim.id ≡ lane_with (first ∷ (others ++ bottom ∷ [])) running
       → Each (λ place. place.id.0 ≢ id.0) h.list.places → id.0 < length h.lanes
@@ -123,7 +127,8 @@ pub data StealsOn (s : Setting) (h : Hall) (worker : ℕ) : (place : ℕ) → De
 -- `IsEvent s b step after`: with this step of one of its seats, an event of the machine, the hall shows `after`.
 pub data IsEvent (s : Setting) (b : Snapshot) : Step → Snapshot → Type 0 where
   -- an action, for which the seat holds a count
-  does_an_action : (seat : ℕ) (v : View) (w : IsAtWork b.hall v.worker) (place : ℕ) (name : ActionId) (after : Hall) (deque : Option DequeId)
+  does_an_action : (seat : ℕ) (v : View) (w : IsAtWork b.hall v.worker) (place : ℕ) (name : ActionId) (after : Hall)
+      (deque : Option DequeId)
       → IsIn b.views seat v → v.counting ≡ true → ActsOn s b.hall w place name after deque
       → IsEvent s b (step_of w seat (does place) (did name))
       (seen after b.count (slice_set b.views seat (after_event v deque (did name) v.yielded)))

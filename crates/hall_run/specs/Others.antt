@@ -33,8 +33,10 @@ pub data MayFind (s : Setting) (limits : Limits) (h : Hall) (v : View) : Stop �
       → limits.capacity < h.pool.live + words_at s.list place
       → MayFind s limits h v (by_rule (play.arena_full (pos h.pool.live) (words_at s.list place)))
   -- the deque that the word of an idle seat picks stays, while there are as many deques as may be
-  fills_the_list : (word place : ℕ) (victim : Deque Thread) → v.deque ≡ None → IsFirst (reach_of s.workers (deques_of h)) word (IsReadyAt (deques_of h)) place
-      → slice_get (deques_of h) place ≡ Some victim → (victim.owner ≢ None) ⊎ (2 ≤ length victim.items) → limits.deques ≤ length h.list.places
+  fills_the_list : (word place : ℕ) (victim : Deque Thread) → v.deque ≡ None
+      → IsFirst (reach_of s.workers (deques_of h)) word (IsReadyAt (deques_of h)) place
+      → slice_get (deques_of h) place ≡ Some victim → (victim.owner ≢ None) ⊎ (2 ≤ length victim.items)
+      → limits.deques ≤ length h.list.places
       → MayFind s limits h v (by_rule (play.deques_full limits.deques))
 
 -- `IsOther s limits b after`: with a step of one of its seats that is no event, the hall shows `after`.
@@ -51,10 +53,12 @@ pub data IsOther (s : Setting) (limits : Limits) (b : Snapshot) : Snapshot → T
       → limits.actions ≤ b.count
       → IsOther s limits b (seen b.hall (suc b.count) (slice_set b.views seat (finding v (by_rule (play.steps_spent limits.actions)))))
   -- a seat finds a stop
-  finds_a_stop : (seat : ℕ) (v : View) (stop : Stop) → IsIn b.views seat v → v.counting ≡ false → v.found ≡ None → MayFind s limits b.hall v stop
+  finds_a_stop : (seat : ℕ) (v : View) (stop : Stop) → IsIn b.views seat v → v.counting ≡ false → v.found ≡ None
+      → MayFind s limits b.hall v stop
       → IsOther s limits b (seen b.hall b.count (slice_set b.views seat (finding v stop)))
   -- and keeps it in the same put back, unless an end is kept
-  finds_and_keeps : (seat : ℕ) (v : View) (stop : Stop) → IsIn b.views seat v → v.counting ≡ false → v.found ≡ None → MayFind s limits b.hall v stop
+  finds_and_keeps : (seat : ℕ) (v : View) (stop : Stop) → IsIn b.views seat v → v.counting ≡ false → v.found ≡ None
+      → MayFind s limits b.hall v stop
       → IsOther s limits b
       (seen (with_crew b.hall b.hall.list.crew (Some (end_with b.hall.list.kept stop))) b.count (slice_set b.views seat (finding v stop)))
   -- or keeps one that it found before

@@ -35,24 +35,27 @@ pub record IsBeginning (s : Setting) (b : Snapshot) : Type 0 where
 -- them, the newest first. Which seat does the next step, nobody says.
 pub data Sequence (s : Setting) (limits : Limits) (first : Snapshot) : List Step → Snapshot → Type 0 where
   begins : Sequence s limits first [] first
-  then_event : (events : List Step) (before after : Snapshot) (step : Step) → Sequence s limits first events before → IsEvent s before step after
+  then_event : (events : List Step) (before after : Snapshot) (step : Step) → Sequence s limits first events before
+      → IsEvent s before step after
       → Sequence s limits first (step ∷ events) after
   then_other : (events : List Step) (before after : Snapshot) → Sequence s limits first events before → IsOther s limits before after
       → Sequence s limits first events after
 
--- A snapshot shows the moment to which these events lead. The hall is in a running state, so its law holds of each list of slots that shows it.
--- A run of the machine reaches the moment, which is lawful, and the words in use are within the bound; and if it is closed now, it gives
--- the books and the moves of this run.
-pub record ShowsMoment (s : Setting) (limits : Limits) (b : Snapshot) (events : List Step) (m : Moment) (leads : Leads s events m) : Type 0 where
+-- A snapshot shows the moment to which these events lead. The hall is in a running state, so its law holds of each list of slots that shows
+-- it. A run of the machine reaches the moment, which is lawful, and the words in use are within the bound; and if it is closed now, it
+-- gives the books and the moves of this run.
+pub record ShowsMoment (s : Setting) (limits : Limits) (b : Snapshot) (events : List Step) (m : Moment) (leads : Leads s events m)
+    : Type 0 where
   pub state : RunningState s limits b.hall events m leads b.count b.views
   pub law : (shown : List Value) → hall_of shown ≡ b.hall → HallLaw s limits shown b.count b.views
   pub bounded : IsBounded s b.hall events m
   pub closed : (end : End) → Each (λ place. place.owner ≡ None) b.hall.list.places → b.hall.list.kept ≡ Some end
       → GivesOneRun s limits b.hall events m leads b.views end
 
--- Each snapshot of a sequence shows a moment of one run: the last one that to which all events lead, and each earlier one that to which those
--- lead that had come by then.
-abbrev pub EachShows : {s : Setting} {limits : Limits} {first : Snapshot} {events : List Step} {now : Snapshot} → Sequence s limits first events now
+-- Each snapshot of a sequence shows a moment of one run: the last one that to which all events lead, and each earlier one that to which
+-- those lead that had come by then.
+abbrev pub EachShows : {s : Setting} {limits : Limits} {first : Snapshot} {events : List Step} {now : Snapshot}
+    → Sequence s limits first events now
     → (m : Moment) → Leads s events m → Type 0
 EachShows {s} {limits} {first} {events} {now} begins m leads = ShowsMoment s limits first [] m leads
 EachShows {s} {limits} {first} {events} {now} (then_event earlier before after step sequence is) m leads =

@@ -21,6 +21,7 @@ EventsAreToldOnce s = (b after : Snapshot) (step : Step) → IsEvent s b step af
 
 -- By any other step no seat is told of an event. One that had left may be joined, and notes nothing any more.
 abbrev pub OthersTellNothing : Setting → Type 0
-OthersTellNothing s = (limits : Limits) (b after : Snapshot) (seat : ℕ) (v : View) → IsOther s limits b after → slice_get b.views seat ≡ Some v
+OthersTellNothing s = (limits : Limits) (b after : Snapshot) (seat : ℕ) (v : View) → IsOther s limits b after
+    → slice_get b.views seat ≡ Some v
     → (w : View) × (slice_get after.views seat ≡ Some w)
     × ((events_told w.mine ≡ events_told v.mine) ⊎ ((w ≡ joined) × (v.left ≡ true)))
