@@ -1,0 +1,5 @@
+pub mod Excuses
+pub mod Owning
+pub mod Stealing
+pub mod Noting
+pub mod Placing

@@ -1,0 +1,6 @@
+pub mod Top
+pub mod Found
+pub mod Deciding
+pub mod Events
+pub mod Slots
+pub mod Refused

@@ -1,0 +1,4 @@
+pub mod Needs
+pub mod Decisions
+pub mod Turns
+pub mod Refusals

@@ -1,0 +1,6 @@
+pub mod Going
+pub mod Staying
+pub mod Running
+pub mod Keeping
+pub mod Telling
+pub mod Examples

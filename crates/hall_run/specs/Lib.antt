@@ -1,0 +1,4 @@
+pub mod Events
+pub mod Others
+pub mod Sequences
+pub mod Told
