@@ -10,6 +10,10 @@ use Rattle.turn_table.specs.Seats.{with_hand}
 use Rattle.turn_table.specs.Law.{Stands, Meets}
 use Rattle.turn_places.specs.Backs.{kept}
 use Rattle.hall_slots.specs.declared.slot.Slot.{Slot}
+use Rattle.hall_slots.specs.declared.slot.Slot.TheVariants as slots
+use Rattle.hall_slots.specs.declared.list_slot.ListSlot.{ListSlot}
+use Rattle.hall_slots.specs.declared.pool_slot.PoolSlot.{PoolSlot}
+use Rattle.hall_slots.specs.declared.lane_slot.LaneSlot.{LaneSlot}
 use Rattle.hall_slots.specs.declared.seat_note.SeatNote.{SeatNote}
 use Rattle.hall_turns.specs.declared.key.HallKey.{HallKey}
 use Rattle.hall_turns.specs.Law.{HallHolds, IsShaped, joined_note}
@@ -33,3 +37,19 @@ shape_of key before after slot found is meets = let st : Stands Whole joined_not
     let shows : Shows meets.0 after.hand.holds = st.fits.shows after.number after.hand st.mine in
     let all : Shows meets.0 ((slot, found) ∷ before.hand.holds) = subst (λ (s : HallSeat). Shows meets.0 s.hand.holds) is shows in
     st.kept.0.shaped slot found all.0
+
+-- a fact of what a slot holds, if it is of this kind
+abbrev pub IfList : (ListSlot → Type 0) → Slot → Type 0
+IfList P (slots.List list) = P list
+IfList P (slots.Pool pool) = Unit {0}
+IfList P (slots.Lane lane) = Unit {0}
+
+abbrev pub IfPool : (PoolSlot → Type 0) → Slot → Type 0
+IfPool P (slots.List list) = Unit {0}
+IfPool P (slots.Pool pool) = P pool
+IfPool P (slots.Lane lane) = Unit {0}
+
+abbrev pub IfLane : (LaneSlot → Type 0) → Slot → Type 0
+IfLane P (slots.List list) = Unit {0}
+IfLane P (slots.Pool pool) = Unit {0}
+IfLane P (slots.Lane lane) = P lane

@@ -3,4 +3,3 @@ pub mod Sound
 pub mod Law
 pub mod Takes
 pub mod Steps
-pub mod First

@@ -12,14 +12,12 @@
 
 mod backs;
 mod key;
-mod opening;
 mod pairs;
 mod rule;
 mod takes;
 
 pub use backs::{give_lane_back, give_list_back, give_pool_back};
 pub use key::HallKey;
-pub use opening::open_row;
 pub use pairs::{take_lane_and_list, take_lane_and_pool};
 pub use rule::{HallPlace, HallRow, HallRule};
 pub use takes::{take_lane, take_list, take_pool};

@@ -6,14 +6,13 @@ ghost use Rattle.dfd_core.specs.Parts.{IsRootAlone};
 ghost use Rattle.turn_table.specs.Hands.{fresh};
 ghost use Rattle.turn_table.specs.Tables.{key_of, slot_count, IsSeatOf};
 ghost use Rattle.hall_turns.specs.Keys.{IsKey, table_of, quota_of};
-ghost use Rattle.hall_turns.specs.First.{AddsEmptyLanes, AreFirst, IsFirstList, first_note};
+ghost use Rattle.hall_opening.specs.First.{AddsEmptyLanes, AreFirst, AreThree, IsFirstList, first_note};
 
-use crate::key::HallKey;
-use crate::rule::{HallPlace, HallRow};
 use block_arena::Pool;
 use boxed::Boxed;
 use deque_list::{Lane, Order};
 use hall_slots::{LaneSlot, ListSlot, PoolSlot, Slot};
+use hall_turns::{HallKey, HallPlace, HallRow};
 use list_part::ListPart;
 use space_ledger::{Books, Moves};
 use std::alloc::{AllocError, Global};
@@ -53,6 +52,24 @@ fn add_empty_lanes(alloc: Global, slots: &mut Vec<Slot>, count: u32) -> Result<(
     Ok(())
 }
 
+/// The list, the pool without moves, and the lane of the one deque, in which no period runs.
+fn three_slots(
+    alloc: Global,
+    list: Boxed<ListSlot>,
+    lane: Lane<Boxed<Thread>>,
+    pool: Pool,
+) -> Result<Vec<Slot>, AllocError>
+    ensures { IfOk result (λ slots. AreThree list lane pool slots.items) }
+{
+    let moves = Moves::new(alloc);
+    let lane = LaneSlot {
+        lane,
+        running: None,
+    };
+    let slots = vec![in alloc; Slot::List(list), Slot::Pool(PoolSlot { pool, moves }), Slot::Lane(lane)]?;
+    Ok(slots)
+}
+
 /// The slots of a run that has done nothing, with this lane for its one deque and a lane for each other one that there may be.
 fn first_slots(
     alloc: Global,
@@ -65,14 +82,7 @@ fn first_slots(
     ensures { IfOk result (λ slots. AreFirst order lane pool deques slots.items) }
 {
     let list = Boxed::new(alloc, first_list(alloc, order)?)?;
-    let moves = Moves::new(alloc);
-    let mut slots = Vec::new(alloc);
-    slots.push(Slot::List(list))?;
-    slots.push(Slot::Pool(PoolSlot { pool, moves }))?;
-    slots.push(Slot::Lane(LaneSlot {
-        lane,
-        running: None,
-    }))?;
+    let mut slots = three_slots(alloc, list, lane, pool)?;
     add_empty_lanes(alloc, &mut slots, deques - 1)?;
     Ok(slots)
 }

@@ -38,6 +38,16 @@ pub record AddsEmptyLanes (before : List Slot) (count : ℕ) (after : List Slot)
   pub as_many : length lanes ≡ count
   pub are_empty : Each IsEmptyLane lanes
 
+-- this list, a pool without moves, and a lane in which no period runs
+pub record AreThree (list : ListSlot) (lane : LaneView Thread) (pool : Region) (shown : List Slot) : Type 0 where
+  pub words : PoolSlot
+  pub first : LaneSlot
+  pub are : shown ≡ slots.List list ∷ slots.Pool words ∷ slots.Lane first ∷ []
+  pub same_pool : words.pool ≡ pool
+  pub no_moves : moves_list words.moves ≡ []
+  pub same_lane : first.lane ≡ lane
+  pub no_period : first.running ≡ None
+
 -- The first slots: the list of a run that has done nothing, the pool without moves, the lane of the one deque, and empty lanes.
 pub record AreFirst (order : OrderView) (lane : LaneView Thread) (pool : Region) (deques : ℕ) (shown : List Slot) : Type 0 where
   pub list : ListSlot

@@ -1,0 +1,2 @@
+pub mod Starting
+mod Filling

@@ -1,0 +1,91 @@
+-- A list in which a stop is kept leaves a hall in a running state.
+use Rattle.std.proofs.Common.{◌≡◌, ℕ, ◌<◌, List, [], ◌∷◌, ◌++◌, map, set, refl, sym, ap, ◌∙◌, subst}
+use Rattle.std.specs.Prelude.{Option, None, Some, false, slice_get, slice_set}
+use Rattle.std.specs.Option.{option_map}
+use Rattle.std.proofs.lemmas.Option.{same_Some, none-some}
+use mathlib.Core.List.{map-append}
+use Rattle.core_parts.specs.declared.stop.Stop.{Stop}
+use Rattle.dfd_core.specs.declared.run_end.RunEnd.{RunEnd}
+use Rattle.dfd_core.specs.declared.run_end.RunEnd.TheVariants.{Finished, Stopped}
+use Rattle.deque_machine.specs.Terms.{Terms, machine_of}
+use Rattle.turn_table.specs.Law.{PutKeeps}
+use Rattle.turn_places.specs.Backs.{unchanged}
+use Rattle.hall_law.specs.Values.{Hall, ListShown, End}
+use Rattle.hall_law.specs.Steps.{halted}
+use Rattle.hall_crew.specs.Views.{View}
+use Rattle.hall_crew.specs.Seats.{with_crew, end_with, halted_with}
+use Rattle.hall_state.specs.State.{RunningState, IsIn}
+use Rattle.hall_state.proofs.Quiet.{halting_goes_on}
+use Rattle.hall_slots.specs.declared.event.Event.TheVariants.{Halted}
+use Rattle.hall_slots.specs.declared.list_slot.ListSlot.{ListSlot}
+use Rattle.hall_slots.specs.declared.seat_note.SeatNote.{SeatNote}
+use Rattle.hall_slots.specs.declared.slot.Slot.TheVariants as slots
+use Rattle.hall_slots.specs.Lists.{end_kept}
+use Rattle.hall_slots.specs.Shown.{list_shown, view_of, stop_shown, end_shown, told_shown}
+use Rattle.hall_turns.specs.declared.key.HallKey.{HallKey}
+use Rattle.hall_turns.specs.Keys.{terms_of}
+use Rattle.hall_turns.specs.Law.{joined_note}
+use Rattle.hall_turns.specs.Steps.{IsRunning, ListMayBecome}
+use Rattle.hall_turns.specs.Takes.{HallSeat}
+use Rattle.hall_turns.proofs.Keeping.{Whole}
+use Rattle.hall_turns.proofs.Putting.{list_keeps}
+use Rattle.hall_seats.specs.Halting.{IsInHall, halted_note, HoldsTheKept, end_in}
+use Rattle.hall_seats.proofs.Ends.{parts_sound}
+
+-- the end that is kept now, as it is shown
+shown_end : (o : Option RunEnd) (stop : Stop) → end_shown (end_kept o stop) ≡ end_with (option_map end_shown o) (stop_shown stop)
+shown_end None stop = refl
+shown_end (Some end) stop = refl
+
+-- an end that was kept is the one that is kept, and a finish was kept before
+kept_before : (o : Option RunEnd) (stop : Stop) (end : RunEnd) → o ≡ Some end → Some (end_kept o stop) ≡ Some end
+kept_before o stop end is = ap (λ (x : Option RunEnd). Some (end_kept x stop)) is
+
+finished_before : (o : Option RunEnd) (stop : Stop) (finish : _) → Some (end_kept o stop) ≡ Some (Finished finish) → o ≡ Some (Finished finish)
+finished_before None stop finish is = absurd (ends_differ (same_Some (Stopped stop) (Finished finish) is))
+  where
+    if_stopped : RunEnd → Type 0
+    if_stopped (Finished finish) = ⊥
+    if_stopped (Stopped stop) = Unit {0}
+
+    ends_differ : Stopped stop ≡ Finished finish → ⊥
+    ends_differ e = subst if_stopped e tt
+finished_before (Some end) stop finish is = is
+
+-- the note of a seat that halted, as it is viewed
+viewed : (note : SeatNote) (end : RunEnd) → view_of (halted_note note (Some end)) ≡ halted_with (view_of note) (end_shown end)
+viewed note end = ap (λ mine. record (view_of note) { answered = Some (end_shown end); mine = mine }) (map-append told_shown note.mine (Halted end ∷ []))
+
+module _ (key : HallKey) (seat : HallSeat) (here : IsInHall seat) (list : ListSlot) (has : HoldsTheKept seat list) where
+  abbrev stop : Stop
+  stop = has.stop
+
+  abbrev end : RunEnd
+  end = end_kept has.before.end stop
+
+  abbrev kept : ListSlot
+  kept = record has.before { end = Some end }
+
+  abbrev note : SeatNote
+  note = halted_note seat.hand.note (Some end)
+
+  may_become : ListMayBecome key seat has.before kept note
+  may_become c of h count views run is its = ∣ (run.0, run.1, run.2,
+      subst (λ (z : Hall × List View). RunningState (machine_of c (terms_of key)) (Terms.limits (terms_of key)) z.0 run.0 run.1 run.2 count z.1)
+      (λ k. (record { list = list_now k; pool = h.pool; lanes = h.lanes }, slice_set views seat.number (view_now k)))
+      (halting_goes_on (machine_of c (terms_of key)) (Terms.limits (terms_of key)) h run.0 run.1 run.2 count views seat.number (view_of seat.hand.note) (stop_shown stop) run.3
+      (record { noted = its; placed = here.placed; stays = here.stays }) (ap (option_map stop_shown) has.found))) ∣₁
+    where
+      kept_now : Some (end_with h.list.kept (stop_shown stop)) ≡ Some (end_shown end)
+      kept_now = ap (λ (l : ListShown). Some (end_with l.kept (stop_shown stop))) is ∙ ap (λ (e : End). Some e) (sym (shown_end has.before.end stop))
+
+      list_now : record h.list { crew = h.list.crew; kept = Some (end_with h.list.kept (stop_shown stop)) } ≡ list_shown kept
+      list_now = λ k. record { places = ListShown.places (is k); crew = ListShown.crew (is k); waiting = ListShown.waiting (is k); results = ListShown.results (is k); closed = ListShown.closed (is k); begun = ListShown.begun (is k); kept = kept_now k }
+
+      view_now : halted_with (view_of seat.hand.note) (end_with h.list.kept (stop_shown stop)) ≡ view_of note
+      view_now = ap (halted_with (view_of seat.hand.note)) (same_Some (end_with h.list.kept (stop_shown stop)) (end_shown end) kept_now) ∙ sym (viewed seat.hand.note end)
+
+  pub halt_keeps : PutKeeps Whole joined_note key seat 0 (slots.List list) (λ hand. halted_note hand.note list.end) unchanged
+  halt_keeps = subst (λ (l : ListSlot). PutKeeps Whole joined_note key seat 0 (slots.List l) (λ hand. halted_note hand.note l.end) unchanged) (sym has.is)
+      (list_keeps key seat has.before kept note has.holds (λ hand. halted_note hand.note (Some end)) refl here.placed may_become
+      (λ shown notes two sound at mine. parts_sound key seat has.before kept note has.holds refl (kept_before has.before.end stop) refl (λ left memory. (left, memory)) (λ e is. is) (finished_before has.before.end stop) shown notes sound at mine))
