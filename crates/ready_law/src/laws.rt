@@ -22,7 +22,8 @@ pub fn ready_runs_go_on()
     ensures { InEachSetting ReadyRunsGoOn }
 {}
 
-/// Where each thread of the list but the root holds the words of a record, there is at most one entry more than the words in use have records.
+/// Where each thread of the list but the root holds the words of a record, there is at most one entry more than the words in use have
+/// records.
 pub fn entries_are_few()
     ensures { InEachSetting EntriesAreFew }
 {}
