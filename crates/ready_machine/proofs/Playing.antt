@@ -44,7 +44,7 @@ IsSteal suspends = ⊥
 IsSteal gives_up = ⊥
 
 -- a give up that the rules want is not free
-forced : (s : Setting) (m : Moment) (worker : ℕ) (event : Event) → WantsReady s m worker event → event ≡ gives_up → IsForced s m worker
+pub forced : (s : Setting) (m : Moment) (worker : ℕ) (event : Event) → WantsReady s m worker event → event ≡ gives_up → IsForced s m worker
 unfolding IsGiveUp
 forced s m worker event (a_take left right id thread idle at) is = absurd (subst IsGiveUp (sym is) tt)
 forced s m worker event (of_its_entry event' some wants) is = forced_of s m worker 0 event wants is
