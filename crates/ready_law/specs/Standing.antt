@@ -1,7 +1,7 @@
 -- At which lawful ready list a scheduler stands, and how it goes on with each event.
-use Rattle.std.specs.Prelude.{◌≡◌, ℕ, ◌<◌, Option, None, Some, List, [], ◌∷◌, ◌++◌, filter, map}
+use Rattle.std.specs.Prelude.{◌≡◌, ℕ, ◌<◌, ◌≤◌, ◌+◌, ◌*◌, ◌⊎◌, Option, None, Some, List, [], ◌∷◌, ◌++◌, length, filter, map}
 use Rattle.dag_order.specs.Births.{root}
-use Rattle.depth_first_list.specs.Actions.{Action}
+use Rattle.depth_first_list.specs.Actions.{Action, record_words}
 use Rattle.depth_first_list.specs.Facts.{action_at}
 use Rattle.lawful_books.specs.Lists.{Each}
 use Rattle.deque_machine.specs.Moments.{Moment, opening}
@@ -62,3 +62,12 @@ abbrev pub ReadyRunsGoOn : Setting → Type 0
 ReadyRunsGoOn s = (run : List Pair) (m after : Moment) (worker : ℕ) (event : Event) → ReadyReaches s opening run m
     → MayReady s m worker event after
     → ReadyReaches s opening (run ++ record { worker = worker; event = event } ∷ []) after
+
+-- a thread is the root, or holds at least the words of a record
+abbrev pub HasRecord : Thread → Type 0
+HasRecord thread = (thread.label ≡ []) ⊎ (record_words ≤ thread.words)
+
+-- Where each thread of the list does, there is at most one entry more than the words in use have records.
+abbrev pub EntriesAreFew : Setting → Type 0
+EntriesAreFew s = (shown : Showing) (moved : List Action) (m : Moment) → StandsReady s shown moved m
+    → Each (λ deque. Each HasRecord deque.threads) shown.parts.deques → record_words * length m.deques ≤ record_words + shown.live

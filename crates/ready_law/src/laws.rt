@@ -1,5 +1,5 @@
 ghost use Rattle.deque_machine.specs.Laws.{InEachSetting};
-ghost use Rattle.ready_law.specs.Standing.{RootStandsReady, OneThreadEach, TwoAreCut, ReadyRunsGoOn};
+ghost use Rattle.ready_law.specs.Standing.{RootStandsReady, OneThreadEach, TwoAreCut, ReadyRunsGoOn, EntriesAreFew};
 
 /// A root that has done nothing, alone and ready, stands at the opening moment.
 pub fn root_stands_ready()
@@ -20,4 +20,10 @@ pub fn two_are_cut()
 /// A run of the ready list goes on with each event that may come.
 pub fn ready_runs_go_on()
     ensures { InEachSetting ReadyRunsGoOn }
+{}
+
+/// Where each thread of the list but the root holds the words of a record, there is at most one entry more than the words in use have
+/// records.
+pub fn entries_are_few()
+    ensures { InEachSetting EntriesAreFew }
 {}

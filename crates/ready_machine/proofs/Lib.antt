@@ -8,3 +8,4 @@ pub mod Cuts
 pub mod Agreeing
 pub mod Coming
 pub mod Playing
+pub mod Going

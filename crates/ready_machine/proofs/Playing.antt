@@ -44,7 +44,7 @@ IsSteal suspends = ⊥
 IsSteal gives_up = ⊥
 
 -- a give up that the rules want is not free
-forced : (s : Setting) (m : Moment) (worker : ℕ) (event : Event) → WantsReady s m worker event → event ≡ gives_up → IsForced s m worker
+pub forced : (s : Setting) (m : Moment) (worker : ℕ) (event : Event) → WantsReady s m worker event → event ≡ gives_up → IsForced s m worker
 unfolding IsGiveUp
 forced s m worker event (a_take left right id thread idle at) is = absurd (subst IsGiveUp (sym is) tt)
 forced s m worker event (of_its_entry event' some wants) is = forced_of s m worker 0 event wants is
@@ -213,6 +213,23 @@ Excluded s limits m (arena_full live asked) = (total words_taken s.list ≤ limi
 Excluded s limits m (steps_spent limit) = length s.list ≤ limits.actions
 Excluded s limits m (deques_full deques) = Unit {0}
 
+-- so no event that is a Take and wanted meets a stop
+pub takes_meet_no_stop : (s : Setting) (limits : Limits) (m : Moment) (worker place id : ℕ) → WantsReady s m worker (steals place id)
+    → (stop : Stop)
+    → Meets s limits m (steals place id) stop → ⊥
+unfolding IsSteal
+takes_meet_no_stop s limits m worker place id wants stop meets = by_wants (steals place id) wants stop meets tt
+  where
+    by_owner : (event : Event) → Wants s m worker 0 event → 0 < owned_by worker m.deques → IsSteal event → ⊥
+    by_owner event (a_theft place id idle first named) some steal = absurd (omega (arith, some, idle))
+    by_owner event (a_give_up forced) some steal = steal
+    by_owner event (a_wait o place child at none) some steal = steal
+    by_owner event (an_action o place next has fits) some steal = steal
+
+    by_wants : (event : Event) → WantsReady s m worker event → (stop : Stop) → Meets s limits m event stop → IsSteal event → ⊥
+    by_wants event (a_take left right id thread idle at) stop meets steal = taken_is_gone s limits m left right id thread at stop meets
+    by_wants event (of_its_entry event' some wants) stop meets steal = by_owner event wants some steal
+
 module _ (s : Setting) (some : 0 < s.quota) (list : IsDepthFirst s.quota s.list) (limits : Limits) (run : List Pair) (m : Moment)
     (reaches : ReadyReaches s opening run m) (worker : ℕ) where
   -- an Alloc or a Fork that does not fit, though its words or the bound after it do
@@ -248,21 +265,10 @@ module _ (s : Setting) (some : 0 < s.quota) (list : IsDepthFirst s.quota s.list)
 
   no_stop : (event : Event) (stop : Stop) → Meets s limits m event stop → (after : Moment) → MayReady s m worker event after
       → WantsReady s m worker event → Excluded s limits m stop → ⊥
-  unfolding IsSteal
   no_stop event stop (no_words place fills) after may wants arena = no_filling place after may fills arena
   no_stop event stop (no_steps place room many) after may wants actions = no_more_actions place after may many actions
   no_stop event stop (no_deque place id deque is stays many) after may wants none =
-      by_wants (steals place id) wants stop (no_deque place id deque is stays many) tt
-    where
-      by_wants : (event : Event) → WantsReady s m worker event → (stop : Stop) → Meets s limits m event stop → IsSteal event → ⊥
-      by_wants event (a_take left right id thread idle at) stop meets steal = taken_is_gone s limits m left right id thread at stop meets
-      by_wants event (of_its_entry event' some wants) stop meets steal = by_owner event wants some steal
-        where
-          by_owner : (event : Event) → Wants s m worker 0 event → 0 < owned_by worker m.deques → IsSteal event → ⊥
-          by_owner event (a_theft place id idle first named) some steal = absurd (omega (arith, some, idle))
-          by_owner event (a_give_up forced) some steal = steal
-          by_owner event (a_wait o place child at none) some steal = steal
-          by_owner event (an_action o place next has fits) some steal = steal
+      takes_meet_no_stop s limits m worker place id wants stop (no_deque place id deque is stays many)
 
 module _ (s : Setting) (some : 0 < s.quota) (list : IsDepthFirst s.quota s.list) where
   -- a play does not end with a stop that is excluded at its last moment

@@ -1,5 +1,6 @@
 ghost use Rattle.deque_machine.specs.Laws.{InEachSetting};
 ghost use Rattle.ready_machine.specs.Laws.{OpeningIsReady, EventsKeepReady, ReachedIsReady, BoundInReady, AheadIsMarked, MovesAreLive, MarkedBound, MarksNeverFall, ArenaRefuses, ArenaNeverFills, EndedDidAll, RunsEnd, RunsAreShort, AllButForksAreShared, ForksAreCut, MoversAgree, WantsAgree};
+ghost use Rattle.ready_machine.specs.ReadyFronts.{FrontsGoOn, FrontsTakeTurns, FrontsAreRuns};
 ghost use Rattle.ready_machine.specs.PlayLaws.{WantedMayCome, SomebodysTurn, PlaysAreRuns, PlaysEnd, PlaysFinish, ListsNeverFill, ActionsSuffice, ArenasWithRoomLast, ArenasWithTheBoundLast, EndingsHaveCauses};
 
 /// The opening moment is a lawful ready list.
@@ -138,4 +139,19 @@ pub fn arenas_with_the_bound_last()
 /// A play that finishes has the End of the root, and one that stops has a turn whose event meets this stop.
 pub fn endings_have_causes()
     ensures { InEachSetting EndingsHaveCauses }
+{}
+
+/// What goes on from the front of a play is the play.
+pub fn fronts_go_on()
+    ensures { InEachSetting FrontsGoOn }
+{}
+
+/// A front of a play with one turn more, which meets no stop, is a front of it.
+pub fn fronts_take_turns()
+    ensures { InEachSetting FrontsTakeTurns }
+{}
+
+/// The front of a play is a run of the machine in which no give up is free.
+pub fn fronts_are_runs()
+    ensures { InEachSetting FrontsAreRuns }
 {}

@@ -1,6 +1,5 @@
--- Worked runs of ready lists: three small programs with one worker, and one with two.
+-- Worked plays of ready lists: three small programs with one worker, and the first moments of a run with two.
 use Rattle.std.proofs.Common.{◌≡◌, ℕ, zero, suc, ◌∙◌, ◌<◌, Bool, false, List, [], ◌∷◌, inl, inr, refl, sym, ap, arith, take, true≢false, pos}
-use Rattle.std.proofs.lemmas.Int.{ints}
 use Rattle.std.specs.Prelude.{Option, None, Some, is_some}
 use Rattle.dummy_tree.specs.Shapes.{shape_of, halved}
 use Rattle.depth_first_list.specs.Actions.{Deed, forks, joins, allocates, releases, dummy, ends, Action}
@@ -9,12 +8,13 @@ use Rattle.lawful_books.specs.Books.{Book, IsPrefix, periods_ahead, bound}
 use Rattle.deque_machine.specs.Moments.{Moment, opening, moment_of, done_at, live_at, threads_in}
 use Rattle.deque_machine.specs.Machine.{Setting, Event, steals, does, gives_up}
 use Rattle.deque_machine.specs.Runs.{Pair, high_water_mark}
-use Rattle.deque_machine.specs.Play.{arena_full, Meets, no_words}
+use Rattle.deque_machine.specs.Play.{Limits, arena_full, finished, stopped}
 use Rattle.ready_machine.specs.Entries.{entry}
 use Rattle.ready_machine.specs.ReadyMachine.{ReadyReaches}
-use Rattle.ready_machine.specs.ReadyPlay.{CanGo}
+use Rattle.ready_machine.specs.ReadyPlay.{CanGo, ReadyPlays}
 use Rattle.ready_replay.specs.Step.{ready_replay}
 use Rattle.ready_replay.proofs.Replaying.{replays_are_runs}
+use Rattle.ready_replay.proofs.PlayedSound.{played_is_play}
 
 abbrev act : List ℕ → ℕ → Deed → ℕ → Action
 act label index deed words = record { label = label; index = index; deed = deed; words = words }
@@ -24,6 +24,16 @@ by worker event = record { worker = worker; event = event }
 
 abbrev book : Bool → Option ℕ → List ℕ → Book
 book ahead owner ran = record { ahead = ahead; owner = owner; ran = ran }
+
+-- the limits by default but for the words of the arena, and a list of words that is all 0
+abbrev limits : ℕ → Limits
+limits capacity = record { capacity = capacity; actions = 4000000; deques = 4096 }
+
+abbrev zeros : ℕ → ℕ
+zeros n = 0
+
+abbrev arena : ℕ
+arena = 1048576
 
 abbrev setting : List Action → ℕ → ℕ → Setting
 setting list quota workers = record { list = list; quota = quota; workers = workers }
@@ -60,6 +70,11 @@ two_periods_end = moment_of [] [] (book false None (0 ∷ 1 ∷ []) ∷ book fal
 
 two_periods_is_a_run : ReadyReaches (setting one_fork 16 1) opening two_periods two_periods_end
 two_periods_is_a_run = replays_are_runs (setting one_fork 16 1) one_fork_is_depth_first two_periods two_periods_end refl
+
+two_periods_is_the_play : ReadyPlays (setting one_fork 16 1) (limits arena) zeros 0 opening two_periods two_periods_end finished
+two_periods_is_the_play =
+    played_is_play (setting one_fork 16 1) (omega arith) one_fork_is_depth_first (limits arena) zeros 100
+    (record { run = two_periods; last = two_periods_end; ending = finished }) refl
 
 two_periods_high : high_water_mark one_fork two_periods ≡ pos 16
 two_periods_high = refl
@@ -148,6 +163,11 @@ three_periods_end = moment_of [] [] (book false None (0 ∷ []) ∷ book false N
 three_periods_is_a_run : ReadyReaches (setting two_blocks 16 1) opening three_periods three_periods_end
 three_periods_is_a_run = replays_are_runs (setting two_blocks 16 1) two_blocks_is_depth_first three_periods three_periods_end refl
 
+three_periods_is_the_play : ReadyPlays (setting two_blocks 16 1) (limits arena) zeros 0 opening three_periods three_periods_end finished
+three_periods_is_the_play =
+    played_is_play (setting two_blocks 16 1) (omega arith) two_blocks_is_depth_first (limits arena) zeros 100
+    (record { run = three_periods; last = three_periods_end; ending = finished }) refl
+
 three_periods_high : high_water_mark two_blocks three_periods ≡ pos 32
 three_periods_high = refl
 
@@ -200,6 +220,11 @@ seven_periods_end = moment_of [] [] (
 seven_periods_is_a_run : ReadyReaches (setting large_alloc 16 1) opening seven_periods seven_periods_end
 seven_periods_is_a_run = replays_are_runs (setting large_alloc 16 1) large_alloc_is_depth_first seven_periods seven_periods_end refl
 
+seven_periods_is_the_play : ReadyPlays (setting large_alloc 16 1) (limits arena) zeros 0 opening seven_periods seven_periods_end finished
+seven_periods_is_the_play =
+    played_is_play (setting large_alloc 16 1) (omega arith) large_alloc_is_depth_first (limits arena) zeros 100
+    (record { run = seven_periods; last = seven_periods_end; ending = finished }) refl
+
 seven_periods_high : high_water_mark large_alloc seven_periods ≡ pos 48
 seven_periods_high = refl
 
@@ -216,9 +241,8 @@ before_the_alloc = moment_of (entry 1 (Some 0) [] ∷ []) [] (
     ∷ []
     )
 
-it_gets_there : ready_replay (setting large_alloc 16 1) (take 17 seven_periods) ≡ Some before_the_alloc
-it_gets_there = refl
-
-the_arena_is_full : Meets (setting large_alloc 16 1) (record { capacity = 32; actions = 100; deques = 1 }) before_the_alloc (does 9)
-    (arena_full (pos 0) 48)
-the_arena_is_full = no_words 9 (omega arith, omega (arith, ints))
+it_stops_there : ReadyPlays (setting large_alloc 16 1) (limits 32) zeros 0 opening (take 17 seven_periods) before_the_alloc (stopped
+    (arena_full (pos 0) 48))
+it_stops_there =
+    played_is_play (setting large_alloc 16 1) (omega arith) large_alloc_is_depth_first (limits 32) zeros 100
+    (record { run = take 17 seven_periods; last = before_the_alloc; ending = stopped (arena_full (pos 0) 48) }) refl

@@ -1,3 +1,4 @@
 pub mod Ones
 pub mod Replaying
+pub mod PlayedSound
 pub mod Examples

@@ -7,7 +7,9 @@ use Rattle.deque_machine.specs.Play.{Limits, Ending}
 use Rattle.ready_machine.specs.Entries.{IsReadyList}
 use Rattle.ready_machine.specs.ReadyMachine.{MayReady, ReadyReaches}
 use Rattle.ready_machine.specs.ReadyPlay.{ReadyPlays}
+use Rattle.machine_replay.specs.Played.{Played}
 use Rattle.ready_replay.specs.Step.{ready_step, ready_replay}
+use Rattle.ready_replay.specs.Played.{ready_play}
 
 -- what is computed of an event at a lawful ready list is a case of the machine
 abbrev pub StepsAreEvents : Setting → Type 0
@@ -29,3 +31,8 @@ abbrev pub OnePlay : Setting → Type 0
 OnePlay s = (limits : Limits) (words : ℕ → ℕ) (run run' : List Pair) (last last' : Moment) (ending ending' : Ending)
     → ReadyPlays s limits words 0 opening run last ending → ReadyPlays s limits words 0 opening run' last' ending'
     → (run ≡ run') × (last ≡ last') × (ending ≡ ending')
+
+-- what the computed play answers is the play
+abbrev pub PlayedIsPlay : Setting → Type 0
+PlayedIsPlay s = (limits : Limits) (words : ℕ → ℕ) (turns : ℕ) (played : Played) → ready_play s limits words turns 0 opening ≡ Some played
+    → ReadyPlays s limits words 0 opening played.run played.last played.ending

@@ -1,5 +1,5 @@
 ghost use Rattle.deque_machine.specs.Laws.{InEachSetting};
-ghost use Rattle.ready_replay.specs.Laws.{StepsAreEvents, ReplaysAreRuns, OneWay, OnePlay};
+ghost use Rattle.ready_replay.specs.Laws.{StepsAreEvents, ReplaysAreRuns, OneWay, OnePlay, PlayedIsPlay};
 
 /// What is computed of an event at a lawful ready list is a case of the machine.
 pub fn steps_are_events()
@@ -19,4 +19,9 @@ pub fn one_way()
 /// A list of words picks one play.
 pub fn one_play()
     ensures { InEachSetting OnePlay }
+{}
+
+/// What the computed play answers is the play.
+pub fn played_is_play()
+    ensures { InEachSetting PlayedIsPlay }
 {}
