@@ -1,3 +1,4 @@
 pub mod Placed
 pub mod Events
 pub mod Others
+pub mod Ways

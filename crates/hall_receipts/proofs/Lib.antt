@@ -4,3 +4,5 @@ pub mod Deciding
 pub mod Events
 pub mod Slots
 pub mod Refused
+pub mod Needing
+pub mod Looking

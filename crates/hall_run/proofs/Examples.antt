@@ -1,29 +1,30 @@
 -- A worked sequence of two seats, from a hall that begins to one that can be closed: a second worker enters, the first takes the root over and
 -- forks, the second steals the root, the child ends, the root joins it and ends, and the second seat leaves and is joined into the first.
-use Rattle.std.proofs.Common.{false, true, List, [], ◌∷◌, refl, arith}
+use Rattle.std.proofs.Common.{◌≡◌, false, true, List, [], ◌∷◌, refl, arith}
 use Rattle.std.specs.Prelude.{None, Some, pos, neg_ℤ}
 use Rattle.std.proofs.lemmas.List.Sorted.{IsPermutation-refl}
 use Rattle.dag_order.specs.declared.action_id.ActionId.{ActionId}
 use Rattle.dag_order.specs.Births.{root}
 use Rattle.deque_list.specs.Ids.{deque_id}
 use Rattle.deque_machine.specs.Moments.{Moment}
-use Rattle.deque_machine.specs.Machine.{does}
+use Rattle.deque_machine.specs.Machine.{steals, does}
 use Rattle.period_books.specs.Periods.{Period}
 use Rattle.period_table.specs.Tables.{noted, shut}
 use Rattle.moment_parts.specs.Parts.{Thread, Result}
 use Rattle.hall_law.specs.Values.{PoolShown, Hall, finished, no_lane}
-use Rattle.hall_law.specs.Steps.{Step, stole, did, Leads}
+use Rattle.hall_law.specs.Steps.{Step, stole, did, run_of, Leads}
 use Rattle.hall_law.specs.Writing.{place_of, lane_with, IsAtWork, new_period}
 use Rattle.hall_law.specs.Writing as writing
 use Rattle.hall_law.proofs.Examples.{one_fork, one_fork_is_depth_first, root_thread, first_list, empty_pool, first, taken, theft, child_id, child_thread, forked_root, first_name, fork_moved, pool_now, forked, at_work, fork, stolen, second_theft}
 use Rattle.hall_crew.specs.Views.{View, fresh, joined}
 use Rattle.hall_crew.specs.Changes.{after_event}
 use Rattle.hall_crew.specs.Seats.{with_crew, entering, leaving, with_places_of}
+use Rattle.hall_state.specs.Closing.{GivesOneRun}
 use Rattle.hall_state.proofs.Examples.{some_limits}
 use Rattle.hall_run.specs.Events.{Snapshot, seen, acts_in_lane, ends_and_leaves, joins_kept, root_ends, steals_beside, takes_over, does_an_action, steals_a_thread}
 use Rattle.hall_run.specs.Others.{counts_below, enters_by, splits_off, leaves_idle, joins_into}
-use Rattle.hall_run.specs.Sequences.{IsBeginning, Sequence, begins, then_event, then_other, EachShows}
-use Rattle.hall_run.proofs.Running.{seats_make_one_run}
+use Rattle.hall_run.specs.Sequences.{IsBeginning, Sequence, begins, then_event, then_other, ShowsMoment, EachShows}
+use Rattle.hall_run.proofs.Running.{seats_make_one_run, sequences_show_moments}
 
 -- ---- it begins with one seat, which has both places; worker 1 enters by it, and gets a seat
 
@@ -357,3 +358,13 @@ begins_so = record {
 
 pub the_run : (m : Moment) × (leads : Leads one_fork five m) × EachShows the_sequence m leads
 the_run = seats_make_one_run one_fork (omega arith) one_fork_is_depth_first some_limits at_first at_last five begins_so the_sequence
+
+pub the_last_moment : (m : Moment) × (leads : Leads one_fork five m) × ShowsMoment one_fork some_limits at_last five m leads
+the_last_moment = sequences_show_moments one_fork (omega arith) one_fork_is_depth_first some_limits at_first at_last five begins_so the_sequence
+
+pub the_closed_hall : GivesOneRun one_fork some_limits alone five the_last_moment.0 the_last_moment.1 at_last.views finished
+the_closed_hall = the_last_moment.2.closed finished tt refl
+
+pub the_events : run_of five ≡ record { worker = 0; event = steals 0 0 } ∷ record { worker = 0; event = does 0 } ∷ record { worker = 1; event = steals 0 1 }
+    ∷ record { worker = 0; event = does 1 } ∷ record { worker = 1; event = does 2 } ∷ record { worker = 1; event = does 3 } ∷ []
+the_events = refl
