@@ -4,3 +4,4 @@ pub mod Stealing
 pub mod Noting
 pub mod Placing
 pub mod Going
+pub mod Running

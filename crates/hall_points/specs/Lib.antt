@@ -2,3 +2,4 @@ pub mod Placed
 pub mod Events
 pub mod Others
 pub mod Ways
+pub mod Sequences

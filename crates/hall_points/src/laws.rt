@@ -1,7 +1,9 @@
 ghost use Rattle.deque_machine.specs.Machine.{Setting};
+ghost use Rattle.deque_machine.specs.Laws.{InEachSetting};
 ghost use Rattle.hall_points.specs.Placed.{BeginningsArePlaced, OwnersArePlaced, BottomsArePlaced, UnownedArePlaced};
 ghost use Rattle.hall_points.specs.Events.{ActionsKeepPoints, PausesKeepPoints, GiveUpsKeepPoints, TheftsBesideKeepPoints, TakingOverKeepsPoints, LeavingOwnersKeepPoints};
 ghost use Rattle.hall_points.specs.Ways.{TopsGoOn, ForksGoOn, EndsAboveGoOn, WakingEndsGoOn, LeavingEndsGoOn, KeptJoinsGoOn, WaitsGoOn};
+ghost use Rattle.hall_points.specs.Sequences.{RunsAreSequences, SeatsKeepPoints};
 ghost use Rattle.hall_points.specs.Others.{OthersKeepPoints, StatementsKeepPoints, WantsOfMemoryExcuse};
 
 /// The threads of a hall that begins are at their points, if its root is.
@@ -102,4 +104,15 @@ pub fn kept_joins_go_on()
 /// And with a wait.
 pub fn waits_go_on()
     ensures { WaitsGoOn }
+{}
+
+/// Steps with which threads go on are a sequence of steps.
+pub fn runs_are_sequences()
+    ensures { (s : Setting) → RunsAreSequences s }
+{}
+
+/// However the steps of the seats are interleaved, the threads of a hall are at their points at each time, but for the two that are
+/// excused.
+pub fn seats_keep_points()
+    ensures { InEachSetting SeatsKeepPoints }
 {}

@@ -6,3 +6,4 @@ pub mod Slots
 pub mod Refused
 pub mod Needing
 pub mod Looking
+pub mod Examples
