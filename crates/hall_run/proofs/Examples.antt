@@ -28,10 +28,10 @@ use Rattle.hall_run.proofs.Running.{seats_make_one_run, sequences_show_moments}
 
 -- ---- it begins with one seat, which has both places; worker 1 enters by it, and gets a seat
 
-abbrev begun : Hall
+abbrev pub begun : Hall
 begun = record { list = record first_list { crew = 0 ∷ [] }; pool = empty_pool; lanes = first.lanes }
 
-abbrev at_first : Snapshot
+abbrev pub at_first : Snapshot
 at_first = seen begun 0 (fresh 0 2 ∷ [])
 
 abbrev entered : Snapshot
@@ -47,7 +47,7 @@ two_seats = then_other [] entered with_two
 
 -- ---- seat 0 takes the root over, draws a count and forks
 
-abbrev owning : View
+abbrev pub owning : View
 owning = after_event (fresh 0 1) (Some (deque_id 0)) (stole 0 1) false
 
 abbrev counting : View
@@ -56,7 +56,7 @@ counting = record owning { counting = true }
 abbrev forking : View
 forking = after_event counting (Some (deque_id 0)) (did first_name) false
 
-abbrev has_stolen : Snapshot
+abbrev pub has_stolen : Snapshot
 has_stolen = seen taken 0 (owning ∷ fresh 1 1 ∷ [])
 
 abbrev has_counted : Snapshot
@@ -65,12 +65,14 @@ has_counted = seen taken 1 (counting ∷ fresh 1 1 ∷ [])
 abbrev has_forked : Snapshot
 has_forked = seen forked 1 (forking ∷ fresh 1 1 ∷ [])
 
+pub it_steals_the_root : Sequence one_fork some_limits at_first (theft ∷ []) has_stolen
+it_steals_the_root = then_event [] with_two has_stolen theft two_seats
+    (steals_a_thread 0 (fresh 0 1) 0 (deque_id 0) taken (record { noted = refl; placed = omega arith; stays = refl }) refl
+    (takes_over [] [] (deque_id 0) root_thread (omega arith) refl refl))
+
 it_forks : Sequence one_fork some_limits at_first (fork ∷ theft ∷ []) has_forked
 it_forks = then_event (theft ∷ []) has_counted has_forked fork
-    (then_other (theft ∷ []) has_stolen has_counted
-    (then_event [] with_two has_stolen theft two_seats
-    (steals_a_thread 0 (fresh 0 1) 0 (deque_id 0) taken (record { noted = refl; placed = omega arith; stays = refl }) refl
-    (takes_over [] [] (deque_id 0) root_thread (omega arith) refl refl)))
+    (then_other (theft ∷ []) has_stolen has_counted it_steals_the_root
     (counts_below 0 owning (deque_id 0) (record { noted = refl; placed = omega arith; stays = refl }) refl refl refl (omega arith)))
     (does_an_action 0 counting at_work 0 first_name forked (Some (deque_id 0)) (record { noted = refl; placed = omega arith; stays = refl }) refl
     (acts_in_lane (child_thread ∷ forked_root ∷ []) 16 (record { parent = root; ordinal = 1 } ∷ []) pool_now
@@ -329,7 +331,7 @@ the_sequence = then_other five has_left at_last
 
 -- ---- it makes one run, and the closed hall gives it
 
-begins_so : IsBeginning one_fork at_first
+pub begins_so : IsBeginning one_fork at_first
 begins_so = record {
   thread = root_thread;
   first = record {
