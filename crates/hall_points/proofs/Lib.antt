@@ -3,3 +3,5 @@ pub mod Owning
 pub mod Stealing
 pub mod Noting
 pub mod Placing
+pub mod Going
+pub mod Running

@@ -1,3 +1,5 @@
 pub mod Placed
 pub mod Events
 pub mod Others
+pub mod Ways
+pub mod Sequences

@@ -1,6 +1,9 @@
 ghost use Rattle.deque_machine.specs.Machine.{Setting};
+ghost use Rattle.deque_machine.specs.Laws.{InEachSetting};
 ghost use Rattle.hall_points.specs.Placed.{BeginningsArePlaced, OwnersArePlaced, BottomsArePlaced, UnownedArePlaced};
 ghost use Rattle.hall_points.specs.Events.{ActionsKeepPoints, PausesKeepPoints, GiveUpsKeepPoints, TheftsBesideKeepPoints, TakingOverKeepsPoints, LeavingOwnersKeepPoints};
+ghost use Rattle.hall_points.specs.Ways.{TopsGoOn, ForksGoOn, EndsAboveGoOn, WakingEndsGoOn, LeavingEndsGoOn, KeptJoinsGoOn, WaitsGoOn};
+ghost use Rattle.hall_points.specs.Sequences.{RunsAreSequences, SeatsKeepPoints};
 ghost use Rattle.hall_points.specs.Others.{OthersKeepPoints, StatementsKeepPoints, WantsOfMemoryExcuse};
 
 /// The threads of a hall that begins are at their points, if its root is.
@@ -66,4 +69,50 @@ pub fn statements_keep_points()
 /// After a seat found want of memory its top thread may be anywhere.
 pub fn wants_of_memory_excuse()
     ensures { (s : Setting) → WantsOfMemoryExcuse s }
+{}
+
+/// The threads of a lane go on if its top thread goes on by itself.
+pub fn tops_go_on()
+    ensures { TopsGoOn }
+{}
+
+/// So they do with a Fork.
+pub fn forks_go_on()
+    ensures { ForksGoOn }
+{}
+
+/// With an End above the parent.
+pub fn ends_above_go_on()
+    ensures { EndsAboveGoOn }
+{}
+
+/// With an End whose parent waits.
+pub fn waking_ends_go_on()
+    ensures { WakingEndsGoOn }
+{}
+
+/// With an End for which nobody waits.
+pub fn leaving_ends_go_on()
+    ensures { LeavingEndsGoOn }
+{}
+
+/// With the Join of a result that was kept.
+pub fn kept_joins_go_on()
+    ensures { KeptJoinsGoOn }
+{}
+
+/// And with a wait.
+pub fn waits_go_on()
+    ensures { WaitsGoOn }
+{}
+
+/// Steps with which threads go on are a sequence of steps.
+pub fn runs_are_sequences()
+    ensures { (s : Setting) → RunsAreSequences s }
+{}
+
+/// However the steps of the seats are interleaved, the threads of a hall are at their points at each time, but for the two that are
+/// excused.
+pub fn seats_keep_points()
+    ensures { InEachSetting SeatsKeepPoints }
 {}

@@ -78,14 +78,14 @@ module _ (s : Setting) (some : 0 < s.quota) (list : IsDepthFirst s.quota s.list)
 -- ---- by the lane that was seen
 
 -- what a lane shows, or else these
-abbrev top_of : LaneShown → Thread → Thread
+abbrev pub top_of : LaneShown → Thread → Thread
 top_of lane other = first_of_them lane.threads other
   where
     first_of_them : List Thread → Thread → Thread
     first_of_them [] other = other
     first_of_them (x ∷ xs) other = x
 
-abbrev period_of : LaneShown → Period → Period
+abbrev pub period_of : LaneShown → Period → Period
 period_of lane other = or_other lane.period other
   where
     or_other : Option Period → Period → Period

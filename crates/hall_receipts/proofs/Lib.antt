@@ -4,3 +4,6 @@ pub mod Deciding
 pub mod Events
 pub mod Slots
 pub mod Refused
+pub mod Needing
+pub mod Looking
+pub mod Examples

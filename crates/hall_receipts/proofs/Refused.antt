@@ -7,7 +7,8 @@ use Rattle.deque_machine.specs.Machine.{Setting}
 use Rattle.hall_law.specs.Values.{ListShown, PoolShown, LaneShown}
 use Rattle.hall_state.specs.Receipts.{Look, took, held, counted}
 use Rattle.hall_run.proofs.Keeping.{kept_ends_stay}
-use Rattle.hall_receipts.specs.Refusals.{ShownEndsAreKept, OneEnd, AnswersAreKept, owners_looks, OneSlotIsBusy, BusyIsNoEvent}
+use Rattle.hall_receipts.specs.Looks.{owners_looks}
+use Rattle.hall_receipts.specs.Refusals.{ShownEndsAreKept, OneEnd, AnswersAreKept, OneSlotIsBusy, BusyIsNoEvent}
 
 -- ---- ends
 

@@ -97,3 +97,12 @@ ActionsAreShown s = (limits : Limits) (h after : Hall) (steps : List Step) (m : 
 abbrev pub PausesAreShown : Setting → Type 0
 PausesAreShown s = (h after : Hall) (worker : ℕ) (w : IsAtWork h worker) (event : Event) (told : Told) (looks : List Look)
     → SawLane looks w.id (lane_at h.lanes w.id) → SawList looks h.list → PausesOn s h w event told after → ShowsEvent s looks w.id event
+
+-- A look at its lane alone shows an owner whether it needs the list. If it does not, it shows the event, which needs none; otherwise each
+-- event that looks at this hall show needs it.
+abbrev pub LanesShowNeeds : Setting → Type 0
+LanesShowNeeds s = (limits : Limits) (h : Hall) (steps : List Step) (m : Moment) (leads : Leads s steps m) (count : ℕ) (views : List View)
+    (v : View) (w : IsAtWork h v.worker) (looks : List Look) → RunningState s limits h steps m leads count views
+    → SawLane looks w.id (lane_at h.lanes w.id)
+    → ((event : Event) × ShowsEvent s looks w.id event × (¬ NeedsList s.list w.top w.under event))
+    ⊎ ((event : Event) (more : List Look) → SawTheHall more h w.id → ShowsEvent s more w.id event → NeedsList s.list w.top w.under event)

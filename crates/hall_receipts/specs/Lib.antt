@@ -1,4 +1,5 @@
 pub mod Needs
+pub mod Looks
 pub mod Decisions
 pub mod Turns
 pub mod Refusals

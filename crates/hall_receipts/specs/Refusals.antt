@@ -1,17 +1,17 @@
 -- What the looks of a call show where it is refused.
-use Rattle.std.specs.Prelude.{◌≡◌, ℕ, Option, None, Some, List, [], ◌∷◌, ◌++◌}
+use Rattle.std.specs.Prelude.{◌≡◌, ℕ, Option, Some, List}
 use Rattle.deque_list.specs.declared.deque_id.DequeId.{DequeId}
 use Rattle.deque_machine.specs.Moments.{Moment}
 use Rattle.deque_machine.specs.Machine.{Setting}
 use Rattle.deque_machine.specs.Play.{Limits}
-use Rattle.hall_law.specs.Values.{ListShown, PoolShown, LaneShown, of_list, of_pool, of_lane, End}
+use Rattle.hall_law.specs.Values.{ListShown, PoolShown, LaneShown, End}
 use Rattle.hall_law.specs.Steps.{Step, Leads}
-use Rattle.hall_law.specs.Writing.{lane_slot}
 use Rattle.hall_crew.specs.Views.{View}
 use Rattle.hall_state.specs.State.{RunningState, IsIn}
-use Rattle.hall_state.specs.Receipts.{Look, took, counted, ShowsEnd, ShowsBusy}
+use Rattle.hall_state.specs.Receipts.{Look, ShowsEnd, ShowsBusy}
 use Rattle.hall_run.specs.Events.{Snapshot}
 use Rattle.hall_run.specs.Sequences.{Sequence}
+use Rattle.hall_receipts.specs.Looks.{owners_looks}
 use Rattle.hall_receipts.specs.Decisions.{SawList}
 
 -- the end that the looks at a list show is kept in it, and at each later time too
@@ -33,23 +33,6 @@ AnswersAreKept s = (limits : Limits) (then_was now : Snapshot) (events past : Li
     (v : View)
     (end : End) → RunningState s limits then_was.hall past m leads then_was.count then_was.views → IsIn then_was.views seat v
     → v.answered ≡ Some end → Sequence s limits then_was events now → now.hall.list.kept ≡ Some end
-
--- the looks of an owner that did an event: its lane, then the list and the pool if it took them, and its count if it drew one
-abbrev pub look_at_list : Option ListShown → List Look
-look_at_list None = []
-look_at_list (Some list) = took 0 (of_list list) ∷ []
-
-abbrev pub look_at_pool : Option PoolShown → List Look
-look_at_pool None = []
-look_at_pool (Some pool) = took 1 (of_pool pool) ∷ []
-
-abbrev pub look_at_count : Option ℕ → List Look
-look_at_count None = []
-look_at_count (Some found) = counted found ∷ []
-
-abbrev pub owners_looks : DequeId → LaneShown → Option ListShown → Option PoolShown → Option ℕ → List Look
-owners_looks id lane list pool count = took (lane_slot id) (of_lane lane) ∷ (look_at_list list ++
-    (look_at_pool pool ++ look_at_count count))
 
 -- a refusal by a held slot is by one slot and one word
 abbrev pub OneSlotIsBusy : Type 0

@@ -1,5 +1,5 @@
 -- Which slots an event of an owner writes, and which turns its call takes.
-use Rattle.std.specs.Prelude.{◌≡◌, ◌≢◌, ◌⊎◌, ℕ, ◌<◌, Option, Some, List, slice_get}
+use Rattle.std.specs.Prelude.{◌≡◌, ◌≢◌, ◌⊎◌, ℕ, ◌<◌, Option, None, Some, List, slice_get}
 use Rattle.dag_order.specs.declared.action_id.ActionId.{ActionId}
 use Rattle.depth_first_list.specs.Actions.{Action}
 use Rattle.deque_list.specs.declared.deque_id.DequeId.{DequeId}
@@ -9,7 +9,7 @@ use Rattle.deque_machine.specs.Moments.{Moment}
 use Rattle.deque_machine.specs.Machine.{Setting, Event, does, gives_up}
 use Rattle.deque_machine.specs.Play.{Limits}
 use Rattle.moment_parts.specs.Parts.{Thread}
-use Rattle.hall_law.specs.Values.{Hall, Value, lane_at}
+use Rattle.hall_law.specs.Values.{ListShown, PoolShown, LaneShown, Hall, Value, lane_at}
 use Rattle.hall_law.specs.Steps.{Step, Told, Leads}
 use Rattle.hall_law.specs.Writing.{lane_slot, IsAtWork}
 use Rattle.hall_crew.specs.Views.{View}
@@ -17,6 +17,7 @@ use Rattle.hall_state.specs.State.{RunningState, IsIn}
 use Rattle.hall_state.specs.Receipts.{Look, took, held}
 use Rattle.hall_run.specs.Events.{ActsOn, PausesOn, StealsOn, given_up}
 use Rattle.hall_receipts.specs.Needs.{NeedsList, NeedsPool}
+use Rattle.hall_receipts.specs.Looks.{owners_looks}
 
 -- An event of a worker at work writes only the slots that it needs: its lane, and the list and the pool if it needs them.
 pub record WritesItsSlots (l : List Action) (h : Hall) {worker : ℕ} (w : IsAtWork h worker) (event : Event) (after : Hall) : Type 0 where
@@ -66,6 +67,12 @@ LookedAt looks slot = ((value : Value) × Among (took slot value) looks) ⊎ ((s
 -- the looks of an owner are only at slots that it may take for this event
 abbrev pub TakesItsTurns : List Action → {h : Hall} {worker : ℕ} → IsAtWork h worker → Event → List Look → Type 0
 TakesItsTurns l {h} {worker} w event looks = (slot : ℕ) → LookedAt looks slot → MayTake l w.id w.top w.under event slot
+
+-- So it is if it took the list and the pool only for an event that needs them.
+abbrev pub OwnersTakeTheirTurns : Type 0
+OwnersTakeTheirTurns = (l : List Action) (h : Hall) (worker : ℕ) (w : IsAtWork h worker) (event : Event) (lane : LaneShown)
+    (list : Option ListShown) (pool : Option PoolShown) (count : Option ℕ) → (list ≢ None → NeedsList l w.top w.under event)
+    → (pool ≢ None → NeedsPool l event) → TakesItsTurns l w event (owners_looks w.id lane list pool count)
 
 -- Two seats at work, one of whose events needs neither the list nor the pool, take no turn both, if they take only those for their events.
 abbrev pub OwnTurnsAreApart : Setting → Type 0

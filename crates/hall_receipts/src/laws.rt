@@ -1,7 +1,7 @@
 ghost use Rattle.deque_machine.specs.Machine.{Setting};
 ghost use Rattle.deque_machine.specs.Laws.{InEachSetting};
-ghost use Rattle.hall_receipts.specs.Decisions.{ShownAreWanted, ShownIsOne, SomeIsShown, ActionsAreShown, PausesAreShown};
-ghost use Rattle.hall_receipts.specs.Turns.{ActionsWriteTheirSlots, PausesWriteTheirSlots, GiveUpsWriteTheirSlots, TheftsWriteTheirSlots, OwnTurnsAreApart};
+ghost use Rattle.hall_receipts.specs.Decisions.{ShownAreWanted, ShownIsOne, SomeIsShown, ActionsAreShown, PausesAreShown, LanesShowNeeds};
+ghost use Rattle.hall_receipts.specs.Turns.{ActionsWriteTheirSlots, PausesWriteTheirSlots, GiveUpsWriteTheirSlots, TheftsWriteTheirSlots, OwnersTakeTheirTurns, OwnTurnsAreApart};
 ghost use Rattle.hall_receipts.specs.Refusals.{ShownEndsAreKept, OneEnd, AnswersAreKept, OneSlotIsBusy, BusyIsNoEvent};
 
 /// The event that the looks of an owner show is the one that the rules of play want of its worker.
@@ -29,6 +29,11 @@ pub fn pauses_are_shown()
     ensures { (s : Setting) → PausesAreShown s }
 {}
 
+/// A look at its lane alone shows an owner whether its event needs the list, and if it does not, the event.
+pub fn lanes_show_needs()
+    ensures { InEachSetting LanesShowNeeds }
+{}
+
 /// An action writes only the slots that it needs: the own lane, and the list and the pool if it needs them.
 pub fn actions_write_their_slots()
     ensures { InEachSetting ActionsWriteTheirSlots }
@@ -47,6 +52,11 @@ pub fn give_ups_write_their_slots()
 /// A theft writes the list, the lane of its victim, which is in reach, and its own new lane.
 pub fn thefts_write_their_slots()
     ensures { (s : Setting) → TheftsWriteTheirSlots s }
+{}
+
+/// The looks of an owner that takes the list and the pool only for an event that needs them are at such slots alone.
+pub fn owners_take_their_turns()
+    ensures { OwnersTakeTheirTurns }
 {}
 
 /// An owner whose event needs neither the list nor the pool takes no turn that another owner takes.

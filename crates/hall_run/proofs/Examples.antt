@@ -1,36 +1,37 @@
 -- A worked sequence of two seats, from a hall that begins to one that can be closed: a second worker enters, the first takes the root over and
 -- forks, the second steals the root, the child ends, the root joins it and ends, and the second seat leaves and is joined into the first.
-use Rattle.std.proofs.Common.{false, true, List, [], ◌∷◌, refl, arith}
+use Rattle.std.proofs.Common.{◌≡◌, false, true, List, [], ◌∷◌, refl, arith}
 use Rattle.std.specs.Prelude.{None, Some, pos, neg_ℤ}
 use Rattle.std.proofs.lemmas.List.Sorted.{IsPermutation-refl}
 use Rattle.dag_order.specs.declared.action_id.ActionId.{ActionId}
 use Rattle.dag_order.specs.Births.{root}
 use Rattle.deque_list.specs.Ids.{deque_id}
 use Rattle.deque_machine.specs.Moments.{Moment}
-use Rattle.deque_machine.specs.Machine.{does}
+use Rattle.deque_machine.specs.Machine.{steals, does}
 use Rattle.period_books.specs.Periods.{Period}
 use Rattle.period_table.specs.Tables.{noted, shut}
 use Rattle.moment_parts.specs.Parts.{Thread, Result}
 use Rattle.hall_law.specs.Values.{PoolShown, Hall, finished, no_lane}
-use Rattle.hall_law.specs.Steps.{Step, stole, did, Leads}
+use Rattle.hall_law.specs.Steps.{Step, stole, did, run_of, Leads}
 use Rattle.hall_law.specs.Writing.{place_of, lane_with, IsAtWork, new_period}
 use Rattle.hall_law.specs.Writing as writing
 use Rattle.hall_law.proofs.Examples.{one_fork, one_fork_is_depth_first, root_thread, first_list, empty_pool, first, taken, theft, child_id, child_thread, forked_root, first_name, fork_moved, pool_now, forked, at_work, fork, stolen, second_theft}
 use Rattle.hall_crew.specs.Views.{View, fresh, joined}
 use Rattle.hall_crew.specs.Changes.{after_event}
 use Rattle.hall_crew.specs.Seats.{with_crew, entering, leaving, with_places_of}
+use Rattle.hall_state.specs.Closing.{GivesOneRun}
 use Rattle.hall_state.proofs.Examples.{some_limits}
 use Rattle.hall_run.specs.Events.{Snapshot, seen, acts_in_lane, ends_and_leaves, joins_kept, root_ends, steals_beside, takes_over, does_an_action, steals_a_thread}
 use Rattle.hall_run.specs.Others.{counts_below, enters_by, splits_off, leaves_idle, joins_into}
-use Rattle.hall_run.specs.Sequences.{IsBeginning, Sequence, begins, then_event, then_other, EachShows}
-use Rattle.hall_run.proofs.Running.{seats_make_one_run}
+use Rattle.hall_run.specs.Sequences.{IsBeginning, Sequence, begins, then_event, then_other, ShowsMoment, EachShows}
+use Rattle.hall_run.proofs.Running.{seats_make_one_run, sequences_show_moments}
 
 -- ---- it begins with one seat, which has both places; worker 1 enters by it, and gets a seat
 
-abbrev begun : Hall
+abbrev pub begun : Hall
 begun = record { list = record first_list { crew = 0 ∷ [] }; pool = empty_pool; lanes = first.lanes }
 
-abbrev at_first : Snapshot
+abbrev pub at_first : Snapshot
 at_first = seen begun 0 (fresh 0 2 ∷ [])
 
 abbrev entered : Snapshot
@@ -46,7 +47,7 @@ two_seats = then_other [] entered with_two
 
 -- ---- seat 0 takes the root over, draws a count and forks
 
-abbrev owning : View
+abbrev pub owning : View
 owning = after_event (fresh 0 1) (Some (deque_id 0)) (stole 0 1) false
 
 abbrev counting : View
@@ -55,7 +56,7 @@ counting = record owning { counting = true }
 abbrev forking : View
 forking = after_event counting (Some (deque_id 0)) (did first_name) false
 
-abbrev has_stolen : Snapshot
+abbrev pub has_stolen : Snapshot
 has_stolen = seen taken 0 (owning ∷ fresh 1 1 ∷ [])
 
 abbrev has_counted : Snapshot
@@ -64,12 +65,14 @@ has_counted = seen taken 1 (counting ∷ fresh 1 1 ∷ [])
 abbrev has_forked : Snapshot
 has_forked = seen forked 1 (forking ∷ fresh 1 1 ∷ [])
 
+pub it_steals_the_root : Sequence one_fork some_limits at_first (theft ∷ []) has_stolen
+it_steals_the_root = then_event [] with_two has_stolen theft two_seats
+    (steals_a_thread 0 (fresh 0 1) 0 (deque_id 0) taken (record { noted = refl; placed = omega arith; stays = refl }) refl
+    (takes_over [] [] (deque_id 0) root_thread (omega arith) refl refl))
+
 it_forks : Sequence one_fork some_limits at_first (fork ∷ theft ∷ []) has_forked
 it_forks = then_event (theft ∷ []) has_counted has_forked fork
-    (then_other (theft ∷ []) has_stolen has_counted
-    (then_event [] with_two has_stolen theft two_seats
-    (steals_a_thread 0 (fresh 0 1) 0 (deque_id 0) taken (record { noted = refl; placed = omega arith; stays = refl }) refl
-    (takes_over [] [] (deque_id 0) root_thread (omega arith) refl refl)))
+    (then_other (theft ∷ []) has_stolen has_counted it_steals_the_root
     (counts_below 0 owning (deque_id 0) (record { noted = refl; placed = omega arith; stays = refl }) refl refl refl (omega arith)))
     (does_an_action 0 counting at_work 0 first_name forked (Some (deque_id 0)) (record { noted = refl; placed = omega arith; stays = refl }) refl
     (acts_in_lane (child_thread ∷ forked_root ∷ []) 16 (record { parent = root; ordinal = 1 } ∷ []) pool_now
@@ -328,7 +331,7 @@ the_sequence = then_other five has_left at_last
 
 -- ---- it makes one run, and the closed hall gives it
 
-begins_so : IsBeginning one_fork at_first
+pub begins_so : IsBeginning one_fork at_first
 begins_so = record {
   thread = root_thread;
   first = record {
@@ -357,3 +360,13 @@ begins_so = record {
 
 pub the_run : (m : Moment) × (leads : Leads one_fork five m) × EachShows the_sequence m leads
 the_run = seats_make_one_run one_fork (omega arith) one_fork_is_depth_first some_limits at_first at_last five begins_so the_sequence
+
+pub the_last_moment : (m : Moment) × (leads : Leads one_fork five m) × ShowsMoment one_fork some_limits at_last five m leads
+the_last_moment = sequences_show_moments one_fork (omega arith) one_fork_is_depth_first some_limits at_first at_last five begins_so the_sequence
+
+pub the_closed_hall : GivesOneRun one_fork some_limits alone five the_last_moment.0 the_last_moment.1 at_last.views finished
+the_closed_hall = the_last_moment.2.closed finished tt refl
+
+pub the_events : run_of five ≡ record { worker = 0; event = steals 0 0 } ∷ record { worker = 0; event = does 0 } ∷ record { worker = 1; event = steals 0 1 }
+    ∷ record { worker = 0; event = does 1 } ∷ record { worker = 1; event = does 2 } ∷ record { worker = 1; event = does 3 } ∷ []
+the_events = refl

@@ -4,3 +4,4 @@ pub mod Running
 pub mod Keeping
 pub mod Telling
 pub mod Examples
+pub mod Stopping

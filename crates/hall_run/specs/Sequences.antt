@@ -68,6 +68,11 @@ abbrev pub SeatsMakeOneRun : Setting → Type 0
 SeatsMakeOneRun s = (limits : Limits) (first now : Snapshot) (events : List Step) → IsBeginning s first
     → (sequence : Sequence s limits first events now) → (m : Moment) × (leads : Leads s events m) × EachShows sequence m leads
 
+-- so does the last one
+abbrev pub SequencesShowMoments : Setting → Type 0
+SequencesShowMoments s = (limits : Limits) (first now : Snapshot) (events : List Step) → IsBeginning s first
+    → Sequence s limits first events now → (m : Moment) × (leads : Leads s events m) × ShowsMoment s limits now events m leads
+
 -- an end that is kept stays, whatever the seats do
 abbrev pub KeptEndsStay : Setting → Type 0
 KeptEndsStay s = (limits : Limits) (first now : Snapshot) (events : List Step) (end : End) → Sequence s limits first events now

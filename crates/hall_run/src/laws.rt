@@ -1,11 +1,16 @@
 ghost use Rattle.deque_machine.specs.Machine.{Setting};
 ghost use Rattle.deque_machine.specs.Laws.{InEachSetting};
-ghost use Rattle.hall_run.specs.Sequences.{SeatsMakeOneRun, EventsGoOn, OthersStay, KeptEndsStay, SequencesJoin};
+ghost use Rattle.hall_run.specs.Sequences.{SeatsMakeOneRun, SequencesShowMoments, EventsGoOn, OthersStay, KeptEndsStay, SequencesJoin};
 ghost use Rattle.hall_run.specs.Told.{EventsAreToldOnce, OthersTellNothing};
 
 /// However the steps of the seats are interleaved, the hall shows at each time a moment of one run, whose events are theirs.
 pub fn seats_make_one_run()
     ensures { InEachSetting SeatsMakeOneRun }
+{}
+
+/// So does the last one: a hall that is closed then gives the books and the moves of this run.
+pub fn sequences_show_moments()
+    ensures { InEachSetting SequencesShowMoments }
 {}
 
 /// Each event of a seat leads from a running state to a running state, by one event of the machine.
