@@ -7,3 +7,4 @@ pub mod Refused
 pub mod Needing
 pub mod Looking
 pub mod Examples
+pub mod Thieves

@@ -2,6 +2,7 @@ ghost use Rattle.deque_machine.specs.Machine.{Setting};
 ghost use Rattle.deque_machine.specs.Laws.{InEachSetting};
 ghost use Rattle.hall_receipts.specs.Decisions.{ShownAreWanted, ShownIsOne, SomeIsShown, ActionsAreShown, PausesAreShown, LanesShowNeeds};
 ghost use Rattle.hall_receipts.specs.Turns.{ActionsWriteTheirSlots, PausesWriteTheirSlots, GiveUpsWriteTheirSlots, TheftsWriteTheirSlots, OwnersTakeTheirTurns, OwnTurnsAreApart};
+ghost use Rattle.hall_receipts.specs.Thefts.{ShownTheftsAreWanted};
 ghost use Rattle.hall_receipts.specs.Refusals.{ShownEndsAreKept, OneEnd, AnswersAreKept, OneSlotIsBusy, BusyIsNoEvent};
 
 /// The event that the looks of an owner show is the one that the rules of play want of its worker.
@@ -62,6 +63,11 @@ pub fn owners_take_their_turns()
 /// An owner whose event needs neither the list nor the pool takes no turn that another owner takes.
 pub fn own_turns_are_apart()
     ensures { (s : Setting) → OwnTurnsAreApart s }
+{}
+
+/// The theft that the looks of an idle seat show is the one that the rules of play want of its worker, by its word.
+pub fn shown_thefts_are_wanted()
+    ensures { (s : Setting) → ShownTheftsAreWanted s }
 {}
 
 /// An end that the looks at the list show is kept in it from then on.
