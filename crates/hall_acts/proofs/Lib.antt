@@ -1,3 +1,4 @@
+pub mod Going
 pub mod Owned
 pub mod Putting
 pub mod Sound

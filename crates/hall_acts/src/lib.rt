@@ -4,10 +4,12 @@
 //! the period that runs there. The seat puts the pool back, and from this step on the lane too shows what it is to be ([`put_acted`]), though the
 //! seat still holds it; then it puts the lane back.
 //!
-//! It uses the law of a hall over a row of turns (`hall_turns`). Its theorem: if the pool and the lane may become so by one action of the
-//! machine, the law holds between any two atomic steps, and the seat notes this action.
+//! It uses the law of a hall over a row of turns (`hall_turns`) and what actions write (`lane_events`). Its theorem: if the pool and the lane
+//! may become so by one action of the machine, the law holds between any two atomic steps, and the seat notes this action; and they may if an
+//! action of the top thread has written them ([`laws::actions_may_come`]).
 #![tactic(auto)]
 
 mod acting;
+pub mod laws;
 
 pub use acting::put_acted;
