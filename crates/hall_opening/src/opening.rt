@@ -21,21 +21,23 @@ use thread_frames::Thread;
 use thread_map::ThreadMap;
 
 /// The list of a run that has done nothing. The worker 0 is in.
-fn first_list(alloc: Global, order: Order) -> Result<ListSlot, AllocError>
+fn first_list(alloc: Global, order: Order) -> Result<Boxed<ListSlot>, AllocError>
     ensures { IfOk result (λ list. IsFirstList order list) }
 {
     let crew = vec![in alloc; 0u32; 1]?;
-    Ok(ListSlot {
-        part: ListPart {
-            order,
-            waiting: ThreadMap::new(alloc),
-            results: ThreadMap::new(alloc),
-            books: Books::new(alloc),
-            begun: 0,
-        },
+    let part = ListPart {
+        order,
+        waiting: ThreadMap::new(alloc),
+        results: ThreadMap::new(alloc),
+        books: Books::new(alloc),
+        begun: 0,
+    };
+    let list = ListSlot {
+        part,
         crew,
         end: None,
-    })
+    };
+    Boxed::new(alloc, list)
 }
 
 /// Adds so many lanes without threads.
@@ -81,7 +83,7 @@ fn first_slots(
     requires { 1 ≤ deques }
     ensures { IfOk result (λ slots. AreFirst order lane pool deques slots.items) }
 {
-    let list = Boxed::new(alloc, first_list(alloc, order)?)?;
+    let list = first_list(alloc, order)?;
     let mut slots = three_slots(alloc, list, lane, pool)?;
     add_empty_lanes(alloc, &mut slots, deques - 1)?;
     Ok(slots)

@@ -5,6 +5,7 @@ use Rattle.std.specs.Option.{option_map}
 use Rattle.std.proofs.lemmas.Option.{same_Some, none-some}
 use mathlib.Core.List.{map-append}
 use Rattle.core_parts.specs.declared.stop.Stop.{Stop}
+use Rattle.dag_order.specs.declared.finish.Finish.{Finish}
 use Rattle.dfd_core.specs.declared.run_end.RunEnd.{RunEnd}
 use Rattle.dfd_core.specs.declared.run_end.RunEnd.TheVariants.{Finished, Stopped}
 use Rattle.deque_machine.specs.Terms.{Terms, machine_of}
@@ -41,7 +42,7 @@ shown_end (Some end) stop = refl
 kept_before : (o : Option RunEnd) (stop : Stop) (end : RunEnd) → o ≡ Some end → Some (end_kept o stop) ≡ Some end
 kept_before o stop end is = ap (λ (x : Option RunEnd). Some (end_kept x stop)) is
 
-finished_before : (o : Option RunEnd) (stop : Stop) (finish : _) → Some (end_kept o stop) ≡ Some (Finished finish) → o ≡ Some (Finished finish)
+finished_before : (o : Option RunEnd) (stop : Stop) (finish : Finish) → Some (end_kept o stop) ≡ Some (Finished finish) → o ≡ Some (Finished finish)
 finished_before None stop finish is = absurd (ends_differ (same_Some (Stopped stop) (Finished finish) is))
   where
     if_stopped : RunEnd → Type 0

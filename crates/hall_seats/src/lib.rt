@@ -5,6 +5,6 @@
 //! each call keeps the law between any two atomic steps, leaves the moment as it was, and tells the seat just what it did.
 #![tactic(auto)]
 
-mod halt;
+mod halting;
 
-pub use halt::halt;
+pub use halting::halt;
