@@ -1,7 +1,7 @@
 -- That a worker may enter, and what the seats are then.
 use Rattle.std.proofs.Common.{◌≡◌, ℕ, zero, suc, ◌+◌, ◌<◌, ◌≤◌, ◌⊎◌, List, [], ◌∷◌, ◌++◌, map, inl, inr, refl, sym, ap, ◌∙◌, subst, arith}
 use Rattle.std.proofs.Math.Logic.{∥∥₁_elim}
-use Rattle.std.specs.Prelude.{Option, None, Some, false, Ok}
+use Rattle.std.specs.Prelude.{Option, None, Some, false, Result, Ok, Err}
 use Rattle.std.proofs.lemmas.Bool.{cases_lt, cases_eq}
 use mathlib.Core.Option.{some}
 use lib.ListN.{get_elem?}
@@ -28,11 +28,13 @@ use Rattle.hall_slots.specs.Shown.{view_of, value_of}
 use Rattle.hall_turns.specs.declared.key.HallKey.{HallKey}
 use Rattle.hall_turns.specs.Keys.{terms_of}
 use Rattle.hall_turns.specs.Law.{joined_note}
-use Rattle.hall_turns.specs.Takes.{HallSeat, MeetsLaw}
+use Rattle.hall_turns.specs.Takes.{HallSeat, IsTaken, MeetsLaw}
 use Rattle.hall_turns.proofs.Keeping.{Whole}
 use Rattle.hall_turns.proofs.Lone.{noted_at}
 use Rattle.hall_turns.proofs.Written.{list_at}
-use Rattle.hall_entering.specs.Entering.{MayEnter, entering_note, giving_note, worker_note, last_of, HoldsTheNamed, PutsNamed, GivesAPlace, PutsGiven, Leaves, EntersWith}
+use Rattle.hall_entering.specs.Entering.{MayEnter, entering_note, giving_note, worker_note, last_of, HoldsTheNamed, PutsNamed, GivesAPlace, PutsGiven, Leaves, EntersWith, HasEntered}
+use Rattle.hall_entering.specs.declared.refused.EnterRefused.{EnterRefused}
+use Rattle.hall_entering.specs.declared.refused.EnterRefused.TheVariants.{Busy, Over, OutOfMemory}
 use Rattle.hall_entering.proofs.Listed.{last_snoc}
 
 -- the first number from x on that is not named, or all are
@@ -102,3 +104,22 @@ module _ (key : HallKey) (seat : HallSeat) (list after : ListSlot) (workers work
     enters_of given made gives is = (worker, number_of_key, no_end,
         gives ∙ ap (λ (s : HallSeat). with_hand s (noted s.hand (giving_note s.hand.note))) named_leaves,
         is ∙ ap (λ (s : HallSeat). fresh (worker_note s.hand.note.enters)) named_leaves ∙ ap (λ (o : Option ℕ). fresh (worker_note o)) last_is)
+
+-- a seat that took the list may enter by it as before, and holds it alone
+pub may_after : (key : HallKey) (before middle : HallSeat) (list : ListSlot) (workers : ℕ) → IsTaken before 0 (slots.List list) middle → MayEnter key before workers → MayEnter key middle workers
+may_after key before middle list workers taken may = let note : middle.hand.note ≡ before.hand.note = ap (λ (s : HallSeat). s.hand.note) taken in record {
+  all_workers = may.all_workers;
+  stays = ap (λ (n : SeatNote). n.left) note ∙ may.stays;
+  many = subst (λ (n : SeatNote). 2 ≤ n.places) (sym note) may.many;
+  nobody = ap (λ (n : SeatNote). n.enters) note ∙ may.nobody;
+}
+
+pub holds_list : (before middle : HallSeat) (list : ListSlot) → IsTaken before 0 (slots.List list) middle → before.hand.holds ≡ [] → middle.hand.holds ≡ (0, slots.List list) ∷ []
+holds_list before middle list taken free = ap (λ (s : HallSeat). s.hand.holds) taken ∙ ap (λ (xs : List (ℕ × Slot)). (0, slots.List list) ∷ xs) free
+
+-- what it does with the list that it took it has done
+pub entered : (key : HallKey) (before middle after : HallSeat) (list : ListSlot) (result : Result HallSeat EnterRefused) → IsTaken before 0 (slots.List list) middle → EntersWith key list middle after result → HasEntered key before after result
+entered key before middle after list (Ok made) taken enters = (list, subst (λ (s : HallSeat). EntersWith key list s after (Ok made)) taken enters)
+entered key before middle after list (Err (Busy held)) taken enters = absurd enters
+entered key before middle after list (Err (Over end)) taken enters = (list, subst (λ (s : HallSeat). EntersWith key list s after (Err (Over end))) taken enters)
+entered key before middle after list (Err OutOfMemory) taken enters = (list, subst (λ (s : HallSeat). EntersWith key list s after (Err OutOfMemory)) taken enters)
