@@ -28,6 +28,7 @@ use Rattle.hall_slots.specs.Shown.{view_of, value_of}
 use Rattle.hall_turns.specs.declared.key.HallKey.{HallKey}
 use Rattle.hall_turns.specs.Keys.{terms_of}
 use Rattle.hall_turns.specs.Law.{joined_note}
+use Rattle.hall_turns.specs.Steps.{hall_shown}
 use Rattle.hall_turns.specs.Takes.{HallSeat, IsTaken, MeetsLaw}
 use Rattle.hall_turns.proofs.Keeping.{Whole}
 use Rattle.hall_turns.proofs.Lone.{noted_at}
@@ -43,8 +44,8 @@ first_free : (crew : List ℕ) (turns x : ℕ) → ((i : ℕ) → i < x → 0 < 
 first_free crew zero x named = inr (λ i low. named i (omega (arith, low)))
 first_free crew (suc turns) x named = elim (cases_lt 0 (times x crew)) [
   | inr none ↦ inl (x, omega arith, omega (arith, none), named)
-  | inl some ↦ elim (first_free crew turns (suc x) (λ i low. elim (cases_eq i x) [
-    | inl same ↦ subst (λ n. 0 < times n crew) (sym same) some
+  | inl here ↦ elim (first_free crew turns (suc x) (λ i low. elim (cases_eq i x) [
+    | inl same ↦ subst (λ n. 0 < times n crew) (sym same) here
     | inr other ↦ named i (omega (arith, low, other))
   ])) [
     | inl found ↦ let low = found.1 in inl (found.0, omega (arith, low), found.2, found.3)
@@ -67,10 +68,10 @@ module _ (key : HallKey) (seat : HallSeat) (list : ListSlot) (workers : ℕ) (ma
   at = (subst (λ (xs : List (ℕ × Slot)). Shows meets.0 xs) holds (st.fits.shows seat.number seat.hand st.mine)).0
 
   not_all_by : (c : Setting) → HallLaw (machine_of c (terms_of key)) (Terms.limits (terms_of key)) (map value_of meets.0) meets.1 (map view_of (notes meets.2)) → ((i : ℕ) → i < key.workers → 0 < times i list.crew.items) → ⊥
-  not_all_by c law all = let free = workers_may_enter (machine_of c (terms_of key)) (Terms.limits (terms_of key)) _ law.steps law.moment law.leads meets.1 (map view_of (notes meets.2)) seat.number (view_of seat.hand.note) law.state
-          (noted_at (notes meets.2) seat.number seat.hand.note (notes_at meets.2 seat.number seat.hand st.mine)) may.many may.nobody in
+  not_all_by c law all = let free = workers_may_enter (machine_of c (terms_of key)) (Terms.limits (terms_of key)) (hall_shown meets.0) law.steps law.moment law.leads meets.1 (map view_of (notes meets.2)) seat.number (view_of seat.hand.note) law.state
+      (noted_at (notes meets.2) seat.number seat.hand.note (notes_at meets.2 seat.number seat.hand st.mine)) may.many may.nobody in
       let none : times free.1.0 list.crew.items ≡ 0 = ap (λ (l : ListShown). times free.1.0 l.crew) (sym (list_at meets.0 list at)) ∙ free.1.1.1 in
-      let some = all free.1.0 free.1.1.0 in absurd (omega (arith, none, some))
+      let named = all free.1.0 free.1.1.0 in absurd (omega (arith, none, named))
 
   pub number_is_free : (worker : ℕ) × IsSmallestNumber workers list.crew.items worker
   number_is_free = subst (λ n. (worker : ℕ) × IsSmallestNumber n list.crew.items worker) (sym may.all_workers)
@@ -101,9 +102,13 @@ module _ (key : HallKey) (seat : HallSeat) (list after : ListSlot) (workers work
     gives_of = record { worker = worker; enters = ap (λ (s : HallSeat). s.hand.note.enters) named_leaves ∙ last_is; many = subst (λ n. 2 ≤ n) (sym (ap (λ (s : HallSeat). s.hand.note.places) named_leaves)) may.many }
 
     pub enters_of : (given made : HallSeat) → PutsGiven named given → made.hand ≡ fresh (worker_note named.hand.note.enters) → EntersWith key list seat given (Ok made)
-    enters_of given made gives is = (worker, number_of_key, no_end,
-        gives ∙ ap (λ (s : HallSeat). with_hand s (noted s.hand (giving_note s.hand.note))) named_leaves,
-        is ∙ ap (λ (s : HallSeat). fresh (worker_note s.hand.note.enters)) named_leaves ∙ ap (λ (o : Option ℕ). fresh (worker_note o)) last_is)
+    enters_of given made gives is = (
+      worker,
+      number_of_key,
+      no_end,
+      gives ∙ ap (λ (s : HallSeat). with_hand s (noted s.hand (giving_note s.hand.note))) named_leaves,
+      is ∙ ap (λ (s : HallSeat). fresh (worker_note s.hand.note.enters)) named_leaves ∙ ap (λ (o : Option ℕ). fresh (worker_note o)) last_is,
+    )
 
 -- a seat that took the list may enter by it as before, and holds it alone
 pub may_after : (key : HallKey) (before middle : HallSeat) (list : ListSlot) (workers : ℕ) → IsTaken before 0 (slots.List list) middle → MayEnter key before workers → MayEnter key middle workers

@@ -47,9 +47,13 @@ module _ (key : HallKey) (seat : HallSeat) (placed : IsPlaced seat) (list : List
   -- it shows the same
   module _ (has : HoldsTheSame seat list) where
     same_may : ListMayBecome key seat has.before list seat.hand.note
-    same_may c of h count views run is its = ∣ (run.0, run.1, run.2,
-        subst (λ (z : ListShown × List View). RunningState (machine_of c (terms_of key)) (Terms.limits (terms_of key)) (record h { list = z.0 }) run.0 run.1 run.2 count z.1)
-        (λ k. ((is ∙ sym (shows_crew has.before list has.before.crew.items has.part has.crew has.end)) k, sym (set_again views seat.number (view_of seat.hand.note) (at_of_get views seat.number (view_of seat.hand.note) its)) k)) run.3) ∣₁
+    same_may c of h count views run is its = ∣ (
+      run.0,
+      run.1,
+      run.2,
+      subst (λ (z : ListShown × List View). RunningState (machine_of c (terms_of key)) (Terms.limits (terms_of key)) (record h { list = z.0 }) run.0 run.1 run.2 count z.1)
+          (λ k. ((is ∙ sym (shows_crew has.before list has.before.crew.items has.part has.crew has.end)) k, sym (set_again views seat.number (view_of seat.hand.note) (at_of_get views seat.number (view_of seat.hand.note) its)) k)) run.3,
+    ) ∣₁
 
     pub same_keeps : PutKeeps Whole joined_note key seat 0 (slots.List list) still unchanged
     same_keeps = list_keeps key seat has.before list seat.hand.note has.holds still refl placed same_may
@@ -67,9 +71,14 @@ module _ (key : HallKey) (seat : HallSeat) (placed : IsPlaced seat) (list : List
         let kept : h.list.kept ≡ Some (end_shown has.some.0) = ap (λ (l : ListShown). l.kept) is ∙ ap (option_map end_shown) has.some.1 in
         let viewed : answered_with (view_of seat.hand.note) (end_shown has.some.0) ≡ view_of told = ap (λ (o : Option RunEnd). record (view_of seat.hand.note) { answered = option_map end_shown o }) (sym has.some.1) in
         let now : RunningState (machine_of c (terms_of key)) (Terms.limits (terms_of key)) h run.0 run.1 run.2 count (slice_set views seat.number (answered_with (view_of seat.hand.note) (end_shown has.some.0))) =
-            record { stands = run.3.stands; crew = (answers_keep_crew (machine_of c (terms_of key)) (Terms.limits (terms_of key)) h run.0 run.1 run.2 count views seat.number (view_of seat.hand.note) (end_shown has.some.0) run.3.crew its placed kept).0 } in
-        ∣ (run.0, run.1, run.2, subst (λ (z : ListShown × View). RunningState (machine_of c (terms_of key)) (Terms.limits (terms_of key)) (record h { list = z.0 }) run.0 run.1 run.2 count (slice_set views seat.number z.1))
-        (λ k. (is k, viewed k)) now) ∣₁
+        record { stands = run.3.stands; crew = (answers_keep_crew (machine_of c (terms_of key)) (Terms.limits (terms_of key)) h run.0 run.1 run.2 count views seat.number (view_of seat.hand.note) (end_shown has.some.0) run.3.crew its placed kept).0 } in
+        ∣ (
+          run.0,
+          run.1,
+          run.2,
+          subst (λ (z : ListShown × View). RunningState (machine_of c (terms_of key)) (Terms.limits (terms_of key)) (record h { list = z.0 }) run.0 run.1 run.2 count (slice_set views seat.number z.1))
+              (λ k. (is k, viewed k)) now,
+        ) ∣₁
 
     pub answered_keeps : PutKeeps Whole joined_note key seat 0 (slots.List list) (λ hand. answered_note hand.note list) unchanged
     answered_keeps = list_keeps key seat list list told has.holds (λ hand. answered_note hand.note list) refl placed answered_may
@@ -89,11 +98,16 @@ module _ (key : HallKey) (seat : HallSeat) (placed : IsPlaced seat) (list : List
         let none_kept : h.list.kept ≡ None = ap (λ (l : ListShown). l.kept) is ∙ ap (option_map end_shown) has.no_end in
         let none_named : times has.worker h.list.crew ≡ 0 = ap (λ (l : ListShown). times has.worker l.crew) is ∙ has.new in
         let list_now : record h.list { crew = has.before.crew.items ++ has.worker ∷ [] } ≡ list_shown list =
-            ap (λ (l : ListShown). record l { crew = has.before.crew.items ++ has.worker ∷ [] }) is ∙ sym (shows_crew has.before list (has.before.crew.items ++ has.worker ∷ []) has.part has.crew has.end) in
+        ap (λ (l : ListShown). record l { crew = has.before.crew.items ++ has.worker ∷ [] }) is ∙ sym (shows_crew has.before list (has.before.crew.items ++ has.worker ∷ []) has.part has.crew has.end) in
         let viewed : entering (view_of seat.hand.note) has.worker ≡ view_of named = ap (λ (o : Option ℕ). record (view_of seat.hand.note) { enters = o }) (sym last_is) in
-        ∣ (run.0, run.1, run.2, subst (λ (z : ListShown × View). RunningState (machine_of c (terms_of key)) (Terms.limits (terms_of key)) (record h { list = z.0 }) run.0 run.1 run.2 count (slice_set views seat.number z.1))
-        (λ k. (list_now k, viewed k))
-        (entering_goes_on (machine_of c (terms_of key)) (Terms.limits (terms_of key)) h run.0 run.1 run.2 count views seat.number (view_of seat.hand.note) has.worker has.before.crew.items [] run.3 its has.many has.nobody none_kept crew_is has.low none_named)) ∣₁
+        ∣ (
+          run.0,
+          run.1,
+          run.2,
+          subst (λ (z : ListShown × View). RunningState (machine_of c (terms_of key)) (Terms.limits (terms_of key)) (record h { list = z.0 }) run.0 run.1 run.2 count (slice_set views seat.number z.1))
+              (λ k. (list_now k, viewed k))
+              (entering_goes_on (machine_of c (terms_of key)) (Terms.limits (terms_of key)) h run.0 run.1 run.2 count views seat.number (view_of seat.hand.note) has.worker has.before.crew.items [] run.3 its has.many has.nobody none_kept crew_is has.low none_named),
+        ) ∣₁
 
     pub named_keeps : PutKeeps Whole joined_note key seat 0 (slots.List list) (λ hand. entering_note hand.note (last_of list.crew.items)) unchanged
     named_keeps = list_keeps key seat has.before list named has.holds (λ hand. entering_note hand.note (last_of list.crew.items)) refl placed named_may

@@ -39,6 +39,7 @@ use Rattle.hall_turns.specs.declared.key.HallKey.{HallKey}
 use Rattle.hall_turns.specs.Keys.{table_of, quota_of, terms_of}
 use Rattle.hall_turns.specs.Law.{HallHolds, places_of, joined_note}
 use Rattle.hall_turns.specs.Sound.{threads_of, thread_that_waits, ThreadsAreAtPoints, EndIsSound, PartsAreSound}
+use Rattle.hall_turns.specs.Steps.{hall_shown}
 use Rattle.hall_turns.specs.Takes.{HallSeat}
 use Rattle.hall_turns.proofs.Keeping.{Whole}
 use Rattle.hall_turns.proofs.Lone.{noted_at}
@@ -64,10 +65,14 @@ module _ (key : HallKey) (seat : HallSeat) (gives : GivesAPlace seat) where
   moved : (c : Setting) (shown : List Slot) (count : ℕ) (notes : List SeatNote) → get_elem? notes seat.number ≡ some seat.hand.note
       → HallLaw (machine_of c (terms_of key)) (Terms.limits (terms_of key)) (map value_of shown) count (map view_of notes)
       → HallLaw (machine_of c (terms_of key)) (Terms.limits (terms_of key)) (map value_of shown) count (map view_of (set notes seat.number left ++ right ∷ []))
-  moved c shown count notes mine law = record { steps = law.steps; moment = law.moment; leads = law.leads;
-      state = subst (λ (vs : List View). RunningState (machine_of c (terms_of key)) (Terms.limits (terms_of key)) _ law.steps law.moment law.leads count vs) (sym (views_are notes))
-          (splitting_goes_on (machine_of c (terms_of key)) (Terms.limits (terms_of key)) _ law.steps law.moment law.leads count (map view_of notes) seat.number (view_of seat.hand.note) gives.worker law.state
-          (noted_at notes seat.number seat.hand.note mine) gives.enters) }
+  moved c shown count notes mine law = record {
+    steps = law.steps;
+    moment = law.moment;
+    leads = law.leads;
+    state = subst (λ (vs : List View). RunningState (machine_of c (terms_of key)) (Terms.limits (terms_of key)) (hall_shown shown) law.steps law.moment law.leads count vs) (sym (views_are notes))
+        (splitting_goes_on (machine_of c (terms_of key)) (Terms.limits (terms_of key)) (hall_shown shown) law.steps law.moment law.leads count (map view_of notes) seat.number (view_of seat.hand.note) gives.worker law.state
+        (noted_at notes seat.number seat.hand.note mine) gives.enters);
+  }
 
   module _ (shown : List Slot) (notes : List SeatNote) (sound : PartsAreSound key shown notes) (mine : get_elem? notes seat.number ≡ some seat.hand.note) where
     abbrev notes_now : List SeatNote

@@ -116,8 +116,8 @@ Leaves before note after =
 -- How it is with a seat that holds this list alone: a worker of the smallest free number entered, or an end is kept, or memory was wanting.
 abbrev pub EntersWith : HallKey → ListSlot → HallSeat → HallSeat → Result HallSeat EnterRefused → Type 0
 EntersWith key list before after (Ok made) =
-    (worker : ℕ) × IsSmallestNumber key.workers list.crew.items worker × (list.end ≡ None) × Leaves before (giving_note before.hand.note) after
-    × (made.hand ≡ fresh (worker_note (Some worker)))
+    (worker : ℕ) × IsSmallestNumber key.workers list.crew.items worker × (list.end ≡ None)
+    × Leaves before (giving_note before.hand.note) after × (made.hand ≡ fresh (worker_note (Some worker)))
 EntersWith key list before after (Err (Busy held)) = ⊥
 EntersWith key list before after (Err (Over end)) = (list.end ≡ Some end) × Leaves before (answered_note before.hand.note list) after
 EntersWith key list before after (Err OutOfMemory) = (list.end ≡ None) × Leaves before before.hand.note after

@@ -69,11 +69,7 @@ fn enter_with(
 /// # Errors
 ///
 /// Another seat holds the list, an end is kept there, or there is not enough memory.
-pub fn enter(
-    row: &HallRow,
-    seat: &mut HallPlace,
-    workers: u32,
-) -> Result<HallPlace, EnterRefused>
+pub fn enter(row: &HallRow, seat: &mut HallPlace, workers: u32) -> Result<HallPlace, EnterRefused>
     requires here { IsSeatOf row.now seat.old }
     requires may { MayEnter (key_of row.now) seat.old workers }
     requires free { seat.old.hand.holds ≡ [] }

@@ -4,7 +4,8 @@ ghost use Rattle.std.specs.Prelude.{◌≡◌};
 ghost use Rattle.turn_table.specs.Hands.{fresh};
 ghost use Rattle.turn_table.specs.Tables.{key_of, IsSeatOf};
 ghost use Rattle.hall_turns.specs.Takes.{IsPlaced};
-ghost use Rattle.hall_entering.specs.Entering.{GivesAPlace, HoldsTheEnd, HoldsTheNamed, HoldsTheSame, PutsAnswered, PutsGiven, PutsNamed, PutsSame, worker_note};
+ghost use Rattle.hall_entering.specs.Entering.{GivesAPlace, HoldsTheEnd, HoldsTheNamed, HoldsTheSame};
+ghost use Rattle.hall_entering.specs.Entering.{PutsAnswered, PutsGiven, PutsNamed, PutsSame, worker_note};
 
 use boxed::Boxed;
 use hall_slots::{ListSlot, Slot};

@@ -190,6 +190,7 @@ fresh_rests n (suc j) h at none = absurd (some-ne-none h (sym at))
 pub first_keeps : (key : HallKey) → IsKey key → (order : OrderView) (lane : LaneView Thread) (pool : Region) (shown : List Slot) → order.places ≡ first_place ∷ [] → order.most ≡ key.deques
     → IsRootAlone (table_of key) (quota_of key) lane.items → pool.live ≡ 0 → pool.capacity ≡ key.capacity → AreFirst order lane pool key.deques shown
     → Whole key shown 0 (fresh (first_note key.workers) ∷ [])
-first_keeps key is_key order lane pool shown places most root unused capacity first = subst (λ (xs : List Slot). Whole key xs 0 (fresh (first_note key.workers) ∷ [])) (sym first.are)
-    (holds_first key is_key order lane pool places most root unused capacity first.list first.words first.first first.others first.is_list first.same_pool first.no_moves first.same_lane first.no_period first.as_many first.are_empty,
-    fresh_rests (first_note key.workers))
+first_keeps key is_key order lane pool shown places most root unused capacity first = subst (λ (xs : List Slot). Whole key xs 0 (fresh (first_note key.workers) ∷ [])) (sym first.are) (
+  holds_first key is_key order lane pool places most root unused capacity first.list first.words first.first first.others first.is_list first.same_pool first.no_moves first.same_lane first.no_period first.as_many first.are_empty,
+  fresh_rests (first_note key.workers),
+)

@@ -68,7 +68,11 @@ fn three_slots(
         lane,
         running: None,
     };
-    let slots = vec![in alloc; Slot::List(list), Slot::Pool(PoolSlot { pool, moves }), Slot::Lane(lane)]?;
+    let slots = vec![in alloc;
+        Slot::List(list),
+        Slot::Pool(PoolSlot { pool, moves }),
+        Slot::Lane(lane),
+    ]?;
     Ok(slots)
 }
 
@@ -89,8 +93,8 @@ fn first_slots(
     Ok(slots)
 }
 
-/// The slots of a hall in which nothing was done, and its first seat, which is that of the worker 0 and has the places of all workers. Nobody
-/// owns the one deque, and the root is alone in it.
+/// The slots of a hall in which nothing was done, and its first seat, which is that of the worker 0 and has the places of all workers.
+/// Nobody owns the one deque, and the root is alone in it.
 ///
 /// # Errors
 ///

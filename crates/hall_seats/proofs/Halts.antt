@@ -76,11 +76,15 @@ module _ (key : HallKey) (seat : HallSeat) (here : IsInHall seat) (list : ListSl
   note = halted_note seat.hand.note (Some end)
 
   may_become : ListMayBecome key seat has.before kept note
-  may_become c of h count views run is its = ∣ (run.0, run.1, run.2,
-      subst (λ (z : Hall × List View). RunningState (machine_of c (terms_of key)) (Terms.limits (terms_of key)) z.0 run.0 run.1 run.2 count z.1)
-      (λ k. (record { list = list_now k; pool = h.pool; lanes = h.lanes }, slice_set views seat.number (view_now k)))
-      (halting_goes_on (machine_of c (terms_of key)) (Terms.limits (terms_of key)) h run.0 run.1 run.2 count views seat.number (view_of seat.hand.note) (stop_shown stop) run.3
-      (record { noted = its; placed = here.placed; stays = here.stays }) (ap (option_map stop_shown) has.found))) ∣₁
+  may_become c of h count views run is its = ∣ (
+    run.0,
+    run.1,
+    run.2,
+    subst (λ (z : Hall × List View). RunningState (machine_of c (terms_of key)) (Terms.limits (terms_of key)) z.0 run.0 run.1 run.2 count z.1)
+        (λ k. (record { list = list_now k; pool = h.pool; lanes = h.lanes }, slice_set views seat.number (view_now k)))
+        (halting_goes_on (machine_of c (terms_of key)) (Terms.limits (terms_of key)) h run.0 run.1 run.2 count views seat.number (view_of seat.hand.note) (stop_shown stop) run.3
+        (record { noted = its; placed = here.placed; stays = here.stays }) (ap (option_map stop_shown) has.found)),
+  ) ∣₁
     where
       kept_now : Some (end_with h.list.kept (stop_shown stop)) ≡ Some (end_shown end)
       kept_now = ap (λ (l : ListShown). Some (end_with l.kept (stop_shown stop))) is ∙ ap (λ (e : End). Some e) (sym (shown_end has.before.end stop))
@@ -113,8 +117,8 @@ pub has_halted : (before middle after : HallSeat) (list now : ListSlot) (stop : 
 has_halted before middle after list now stop end taken free end_is is puts =
     let holds : renewed unchanged (without_slot 0 ((0, slots.List list) ∷ before.hand.holds)) ≡ [] = ap (λ (xs : List (ℕ × Slot)). renewed unchanged (without_slot 0 ((0, slots.List list) ∷ xs))) free ∙ left_of_one unchanged 0 0 (slots.List list) refl in
     let kept_now : now.end ≡ Some end = ap (λ (l : ListSlot). l.end) is in record {
-  list = list;
-  end_is = end_is;
-  after_is = puts ∙ ap (λ (s : HallSeat). with_hand s (gave (λ hand. halted_note hand.note now.end) unchanged s.hand 0)) taken
-      ∙ (λ k. with_hand before (record { seated = before.hand.seated; holds = holds k; note = halted_note before.hand.note (kept_now k); looks = before.hand.looks ++ Took 0 (slots.List list) ∷ [] }));
-}
+      list = list;
+      end_is = end_is;
+      after_is = puts ∙ ap (λ (s : HallSeat). with_hand s (gave (λ hand. halted_note hand.note now.end) unchanged s.hand 0)) taken
+          ∙ (λ k. with_hand before (record { seated = before.hand.seated; holds = holds k; note = halted_note before.hand.note (kept_now k); looks = before.hand.looks ++ Took 0 (slots.List list) ∷ [] }));
+    }

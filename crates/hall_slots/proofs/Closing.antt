@@ -21,7 +21,7 @@ module _ (before after : ListSlot) (running : Running) (crew : after.crew ≡ be
   shows_closed : (places : List Place) → Closes before.part after.part places running.period
       → list_shown after ≡ record (list_shown before) { places = places; closed = ListShown.closed (list_shown before) ++ shut (running_shown running) ∷ [] }
   shows_closed places closes = let closed : ListShown.closed (list_shown after) ≡ ListShown.closed (list_shown before) ++ shut (running_shown running) ∷ [] =
-          ap (map closed_shown) closes.closed ∙ map-append closed_shown (books_list before.part.books) (closed_of running.period ∷ []) in
+      ap (map closed_shown) closes.closed ∙ map-append closed_shown (books_list before.part.books) (closed_of running.period ∷ []) in
       λ i. record { places = closes.places_are i; crew = (crew i).items; waiting = map waiting_shown (closes.waiting i).entries; results = map result_kept (closes.results i).entries; closed = closed i; begun = closes.begun i; kept = option_map end_shown (end i) }
 
   -- the deque of a worker at work is in the middle of the places

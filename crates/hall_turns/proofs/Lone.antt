@@ -43,7 +43,7 @@ module _ (key : HallKey) (seat : HallSeat) (placed : IsPlaced seat) (has : HasAl
       let view = view_of seat.hand.note in
       let at_mine = noted_at (notes hands) seat.number seat.hand.note (notes_at hands seat.number seat.hand st.mine) in
       let alone = seats_with_all_are_alone (machine_of c (terms_of key)) (Terms.limits (terms_of key)) _ law.steps law.moment law.leads count (map view_of (notes hands)) seat.number view law.state
-          (record { noted = at_mine; placed = placed; stays = has.stays }) has.all has.alone in
+      (record { noted = at_mine; placed = placed; stays = has.stays }) has.all has.alone in
       ap (λ (v : View). v.places) (alone.others j (view_of h.note) apart (noted_at (notes hands) j h.note (notes_at hands j h at)))
 
   pub lone_is_free : (slot : ℕ) → ¬ Has slot seat.hand.holds → turn hands slot ≡ 0

@@ -38,8 +38,12 @@ use Rattle.hall_turns.proofs.Written.{list_written, list_at}
 -- what is shown of a hall in a running state keeps the law
 pub law_of : (key : HallKey) (c : Setting) (shown : List Slot) (h : Hall) (count : ℕ) (notes : List SeatNote) (views : List View) → hall_shown shown ≡ h → map view_of notes ≡ views
     → IsRunning (machine_of c (terms_of key)) (Terms.limits (terms_of key)) h count views → HallLaw (machine_of c (terms_of key)) (Terms.limits (terms_of key)) (map value_of shown) count (map view_of notes)
-law_of key c shown h count notes views is_h is_views run = record { steps = run.0; moment = run.1; leads = run.2;
-    state = subst (λ (z : Hall × List View). RunningState (machine_of c (terms_of key)) (Terms.limits (terms_of key)) z.0 run.0 run.1 run.2 count z.1) (λ k. (sym is_h k, sym is_views k)) run.3 }
+law_of key c shown h count notes views is_h is_views run = record {
+  steps = run.0;
+  moment = run.1;
+  leads = run.2;
+  state = subst (λ (z : Hall × List View). RunningState (machine_of c (terms_of key)) (Terms.limits (terms_of key)) z.0 run.0 run.1 run.2 count z.1) (λ k. (sym is_h k, sym is_views k)) run.3;
+}
 
 -- a slot is of its kind when it was written with its kind
 pub shaped_set : (shown : List Slot) (slot : ℕ) (new : Slot) → ((i : ℕ) (found : Slot) → get_elem? shown i ≡ some found → IsShaped i found) → IsShaped slot new
