@@ -1,5 +1,5 @@
 -- A list whose deque lost its owner, or is gone, shows what the event of a hall writes into it.
-use Rattle.std.proofs.Common.{◌≡◌, ℕ, Option, None, Some, List, [], ◌∷◌, ◌++◌, map, sym, ap, ◌∙◌, subst}
+use Rattle.std.proofs.Common.{◌≡◌, ℕ, Option, None, Some, List, [], ◌∷◌, ◌++◌, map, sym, ap, ◌∙◌}
 use Rattle.std.specs.Option.{option_map}
 use mathlib.Core.List.{map-append}
 use Rattle.deque_list.specs.declared.deque_id.DequeId.{DequeId}
@@ -10,7 +10,7 @@ use Rattle.period_table.specs.Tables.{closed_of, shut}
 use Rattle.list_part.specs.Parts.{Has, Closes, place_with}
 use Rattle.core_parts.specs.Held.{waiting_shown, result_kept}
 use Rattle.hall_law.specs.Values.{Hall, ListShown}
-use Rattle.hall_law.specs.Writing.{IsAtWork, list_unowned, list_without}
+use Rattle.hall_law.specs.Writing.{IsAtWork}
 use Rattle.hall_slots.specs.declared.list_slot.ListSlot.{ListSlot}
 use Rattle.hall_slots.specs.declared.lane_slot.Running.{Running}
 use Rattle.hall_slots.specs.Shown.{list_shown, running_shown, end_shown}

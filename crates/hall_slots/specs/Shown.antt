@@ -1,5 +1,5 @@
 -- What the slots of a hall show, and what a seat's note says of it.
-use Rattle.std.specs.Prelude.{ℕ, Option, None, Some, List, map, pos}
+use Rattle.std.specs.Prelude.{ℕ, map, pos}
 use Rattle.std.specs.Option.{option_map}
 use Rattle.deque_machine.specs.Play as play
 use Rattle.period_books.specs.Periods.{Period, open_shown, closed_shown}

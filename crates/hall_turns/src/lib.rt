@@ -7,8 +7,8 @@
 //! took ([`take_list`], [`take_lane_and_list`]), and puts back what is unchanged.
 //!
 //! It stands on the slots, on rows whose seats share places (`turn_places`) and on the law of a hall. Its one theorem: each call keeps the
-//! law between any two atomic steps, a refusal leaves the moment and the seat as they were, and a seat that has all places is never
-//! refused.
+//! law between any two atomic steps, a seat that is refused is as it was but for the answers that it had, and a seat that has all places is
+//! never refused.
 #![tactic(auto)]
 
 mod backs;
