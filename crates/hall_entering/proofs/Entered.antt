@@ -110,18 +110,6 @@ module _ (key : HallKey) (seat : HallSeat) (list after : ListSlot) (workers work
       is ∙ ap (λ (s : HallSeat). fresh (worker_note s.hand.note.enters)) named_leaves ∙ ap (λ (o : Option ℕ). fresh (worker_note o)) last_is,
     )
 
--- a seat that took the list may enter by it as before, and holds it alone
-pub may_after : (key : HallKey) (before middle : HallSeat) (list : ListSlot) (workers : ℕ) → IsTaken before 0 (slots.List list) middle → MayEnter key before workers → MayEnter key middle workers
-may_after key before middle list workers taken may = let note : middle.hand.note ≡ before.hand.note = ap (λ (s : HallSeat). s.hand.note) taken in record {
-  all_workers = may.all_workers;
-  stays = ap (λ (n : SeatNote). n.left) note ∙ may.stays;
-  many = subst (λ (n : SeatNote). 2 ≤ n.places) (sym note) may.many;
-  nobody = ap (λ (n : SeatNote). n.enters) note ∙ may.nobody;
-}
-
-pub holds_list : (before middle : HallSeat) (list : ListSlot) → IsTaken before 0 (slots.List list) middle → before.hand.holds ≡ [] → middle.hand.holds ≡ (0, slots.List list) ∷ []
-holds_list before middle list taken free = ap (λ (s : HallSeat). s.hand.holds) taken ∙ ap (λ (xs : List (ℕ × Slot)). (0, slots.List list) ∷ xs) free
-
 -- what it does with the list that it took it has done
 pub entered : (key : HallKey) (before middle after : HallSeat) (list : ListSlot) (result : Result HallSeat EnterRefused) → IsTaken before 0 (slots.List list) middle → EntersWith key list middle after result → HasEntered key before after result
 entered key before middle after list (Ok made) taken enters = (list, subst (λ (s : HallSeat). EntersWith key list s after (Ok made)) taken enters)

@@ -1,7 +1,7 @@
 -- A put back of the list alone keeps the law of a hall.
-use Rattle.std.proofs.Common.{◌≡◌, ◌≢◌, ℕ, suc, ◌+◌, ◌<◌, ◌≤◌, ◌⊎◌, min, List, [], ◌∷◌, map, length, set, inl, inr, refl, sym, ap, ◌∙◌, subst, arith, length-set}
+use Rattle.std.proofs.Common.{◌≡◌, ℕ, ◌<◌, ◌≤◌, List, [], ◌∷◌, map, length, set, inl, inr, refl, sym, ap, ◌∙◌, subst, arith, length-set}
 use Rattle.std.proofs.Math.Logic.{∥∥₁_elim, ∥∥₁_map, ∥∥₁_prop}
-use Rattle.std.specs.Prelude.{Some, slice_get, slice_set}
+use Rattle.std.specs.Prelude.{slice_set}
 use mathlib.Core.Option.{some}
 use lib.ListN.{get_elem?}
 use lib.Seq.{map-set}
@@ -24,11 +24,11 @@ use Rattle.hall_slots.specs.declared.slot.Slot.{Slot}
 use Rattle.hall_slots.specs.declared.slot.Slot.TheVariants as slots
 use Rattle.hall_slots.specs.declared.list_slot.ListSlot.{ListSlot}
 use Rattle.hall_slots.specs.declared.seat_note.SeatNote.{SeatNote}
-use Rattle.hall_slots.specs.Shown.{list_shown, value_of, kind_of, view_of}
+use Rattle.hall_slots.specs.Shown.{list_shown, value_of, view_of}
 use Rattle.hall_turns.specs.declared.key.HallKey.{HallKey}
 use Rattle.hall_turns.specs.Keys.{table_of, quota_of, terms_of}
 use Rattle.hall_turns.specs.Sound.{PartsAreSound}
-use Rattle.hall_turns.specs.Law.{HallHolds, IsShaped, KeepsHallLaw, places_of, joined_note}
+use Rattle.hall_turns.specs.Law.{HallHolds, IsShaped, places_of, joined_note}
 use Rattle.hall_turns.specs.Steps.{hall_shown, IsRunning, ListMayBecome}
 use Rattle.hall_turns.specs.Takes.{HallSeat}
 use Rattle.hall_turns.proofs.Keeping.{Whole}

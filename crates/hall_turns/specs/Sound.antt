@@ -1,5 +1,5 @@
 -- What holds of the parts in the slots of a hall, beside what they show of it.
-use Rattle.std.specs.Prelude.{◌≡◌, ◌≢◌, ℕ, suc, ◌≤◌, Option, None, Some, List, [], map, pos, slice_get}
+use Rattle.std.specs.Prelude.{◌≡◌, ◌≢◌, ℕ, ◌≤◌, Option, None, Some, List, [], map, pos, slice_get}
 use Rattle.std.specs.Option.{option_map}
 use Rattle.dag_order.specs.Births.{root}
 use Rattle.dag_order.specs.declared.finish.Finish.{Finish}
