@@ -1,7 +1,7 @@
 -- The law holds of the first slots of a hall.
 use Rattle.std.proofs.Common.{◌≡◌, ◌≢◌, ℕ, zero, suc, ◌+◌, ◌<◌, ◌≤◌, min, List, [], ◌∷◌, map, length, inl, inr, refl, sym, ap, ◌∙◌, subst, arith}
 use Rattle.std.proofs.Math.Logic.{∥∥₁_elim}
-use Rattle.std.specs.Prelude.{None, Some, slice_get, reverse, pos}
+use Rattle.std.specs.Prelude.{Option, None, Some, slice_get, reverse, pos}
 use Rattle.std.specs.Option.{option_map}
 use Rattle.std.proofs.lemmas.Option.{same_Some, none-some}
 use mathlib.Core.Option.{some, some-injective, some-ne-none}
@@ -17,6 +17,8 @@ use Rattle.deque_list.specs.Ids.{deque_id, first_place}
 use Rattle.deque_list.specs.Lanes.{LaneView}
 use Rattle.deque_list.specs.Orders.{OrderView}
 use Rattle.deque_machine.specs.Terms.{Terms, machine_of}
+use Rattle.dfd_core.specs.declared.run_end.RunEnd.{RunEnd}
+use Rattle.dfd_core.specs.declared.run_end.RunEnd.TheVariants.{Finished}
 use Rattle.dfd_core.specs.Parts.{HasDoneNothing, IsRootAlone}
 use Rattle.hall_crew.specs.Views.{View}
 use Rattle.hall_law.specs.Rows.{IsFirst}
@@ -141,7 +143,7 @@ module _ (key : HallKey) (is_key : IsKey key) (order : OrderView) (lane : LaneVi
       views : List View
       views = map view_of (note ∷ [])
 
-      kept : _
+      kept : Option End
       kept = option_map end_shown list.end
 
   spare_lanes : (n : ℕ) (l : LaneSlot) → deque_id 0 ≢ deque_id n → slice_get (slots.Lane first ∷ others) n ≡ Some (slots.Lane l) → (l.lane.items ≡ []) × (l.running ≡ None)
@@ -158,10 +160,10 @@ module _ (key : HallKey) (is_key : IsKey key) (order : OrderView) (lane : LaneVi
   end_is : EndIsSound (note ∷ []) list
   end_is = record {
     answered = answered_one;
-    finished = λ finish is. absurd (none-some _ (sym is_list.no_end ∙ is));
+    finished = λ finish is. absurd (none-some (Finished finish) (sym is_list.no_end ∙ is));
   }
     where
-      answered_one : (seat : ℕ) (n : SeatNote) (end : _) → slice_get (note ∷ []) seat ≡ Some n → n.answered ≡ Some end → list.end ≡ Some end
+      answered_one : (seat : ℕ) (n : SeatNote) (end : RunEnd) → slice_get (note ∷ []) seat ≡ Some n → n.answered ≡ Some end → list.end ≡ Some end
       answered_one zero n end at is = absurd (none-some end (ap (λ (x : SeatNote). x.answered) (same_Some note n at) ∙ is))
       answered_one (suc seat) n end at is = absurd (none-some n at)
 
@@ -181,13 +183,14 @@ module _ (key : HallKey) (is_key : IsKey key) (order : OrderView) (lane : LaneVi
   }
 
 -- a seat that was just made holds nothing
-fresh_rests : (n : SeatNote) → Rests places_of (fresh n ∷ [])
+fresh_rests : (n : SeatNote) → Rests {V = Slot} places_of (fresh n ∷ [])
 fresh_rests n zero h at none = ap (λ (x : Hand Slot SeatNote). x.holds) (sym (some-injective (fresh n) h at))
 fresh_rests n (suc j) h at none = absurd (some-ne-none h (sym at))
 
 pub first_keeps : (key : HallKey) → IsKey key → (order : OrderView) (lane : LaneView Thread) (pool : Region) (shown : List Slot) → order.places ≡ first_place ∷ [] → order.most ≡ key.deques
     → IsRootAlone (table_of key) (quota_of key) lane.items → pool.live ≡ 0 → pool.capacity ≡ key.capacity → AreFirst order lane pool key.deques shown
     → Whole key shown 0 (fresh (first_note key.workers) ∷ [])
-first_keeps key is_key order lane pool shown places most root unused capacity first = subst (λ (xs : List Slot). Whole key xs 0 (fresh (first_note key.workers) ∷ [])) (sym first.are)
-    (holds_first key is_key order lane pool places most root unused capacity first.list first.words first.first first.others first.is_list first.same_pool first.no_moves first.same_lane first.no_period first.as_many first.are_empty,
-    fresh_rests (first_note key.workers))
+first_keeps key is_key order lane pool shown places most root unused capacity first = subst (λ (xs : List Slot). Whole key xs 0 (fresh (first_note key.workers) ∷ [])) (sym first.are) (
+  holds_first key is_key order lane pool places most root unused capacity first.list first.words first.first first.others first.is_list first.same_pool first.no_moves first.same_lane first.no_period first.as_many first.are_empty,
+  fresh_rests (first_note key.workers),
+)

@@ -21,21 +21,23 @@ use thread_frames::Thread;
 use thread_map::ThreadMap;
 
 /// The list of a run that has done nothing. The worker 0 is in.
-fn first_list(alloc: Global, order: Order) -> Result<ListSlot, AllocError>
+fn first_list(alloc: Global, order: Order) -> Result<Boxed<ListSlot>, AllocError>
     ensures { IfOk result (λ list. IsFirstList order list) }
 {
     let crew = vec![in alloc; 0u32; 1]?;
-    Ok(ListSlot {
-        part: ListPart {
-            order,
-            waiting: ThreadMap::new(alloc),
-            results: ThreadMap::new(alloc),
-            books: Books::new(alloc),
-            begun: 0,
-        },
+    let part = ListPart {
+        order,
+        waiting: ThreadMap::new(alloc),
+        results: ThreadMap::new(alloc),
+        books: Books::new(alloc),
+        begun: 0,
+    };
+    let list = ListSlot {
+        part,
         crew,
         end: None,
-    })
+    };
+    Boxed::new(alloc, list)
 }
 
 /// Adds so many lanes without threads.
@@ -66,7 +68,11 @@ fn three_slots(
         lane,
         running: None,
     };
-    let slots = vec![in alloc; Slot::List(list), Slot::Pool(PoolSlot { pool, moves }), Slot::Lane(lane)]?;
+    let slots = vec![in alloc;
+        Slot::List(list),
+        Slot::Pool(PoolSlot { pool, moves }),
+        Slot::Lane(lane),
+    ]?;
     Ok(slots)
 }
 
@@ -81,14 +87,14 @@ fn first_slots(
     requires { 1 ≤ deques }
     ensures { IfOk result (λ slots. AreFirst order lane pool deques slots.items) }
 {
-    let list = Boxed::new(alloc, first_list(alloc, order)?)?;
+    let list = first_list(alloc, order)?;
     let mut slots = three_slots(alloc, list, lane, pool)?;
     add_empty_lanes(alloc, &mut slots, deques - 1)?;
     Ok(slots)
 }
 
-/// The slots of a hall in which nothing was done, and its first seat, which is that of the worker 0 and has the places of all workers. Nobody
-/// owns the one deque, and the root is alone in it.
+/// The slots of a hall in which nothing was done, and its first seat, which is that of the worker 0 and has the places of all workers.
+/// Nobody owns the one deque, and the root is alone in it.
 ///
 /// # Errors
 ///

@@ -5,10 +5,15 @@ use Rattle.std.specs.Option.{option_map}
 use Rattle.std.proofs.lemmas.Option.{same_Some, none-some}
 use mathlib.Core.List.{map-append}
 use Rattle.core_parts.specs.declared.stop.Stop.{Stop}
+use Rattle.dag_order.specs.declared.finish.Finish.{Finish}
 use Rattle.dfd_core.specs.declared.run_end.RunEnd.{RunEnd}
 use Rattle.dfd_core.specs.declared.run_end.RunEnd.TheVariants.{Finished, Stopped}
 use Rattle.deque_machine.specs.Terms.{Terms, machine_of}
+use Rattle.turn_table.specs.declared.look.Look.TheVariants.{Took}
+use Rattle.turn_table.specs.Hands.{gave, renewed, without_slot}
 use Rattle.turn_table.specs.Law.{PutKeeps}
+use Rattle.turn_table.specs.Seats.{with_hand}
+use Rattle.turn_table.proofs.Left.{left_of_one}
 use Rattle.turn_places.specs.Backs.{unchanged}
 use Rattle.hall_law.specs.Values.{Hall, ListShown, End}
 use Rattle.hall_law.specs.Steps.{halted}
@@ -19,6 +24,7 @@ use Rattle.hall_state.proofs.Quiet.{halting_goes_on}
 use Rattle.hall_slots.specs.declared.event.Event.TheVariants.{Halted}
 use Rattle.hall_slots.specs.declared.list_slot.ListSlot.{ListSlot}
 use Rattle.hall_slots.specs.declared.seat_note.SeatNote.{SeatNote}
+use Rattle.hall_slots.specs.declared.slot.Slot.{Slot}
 use Rattle.hall_slots.specs.declared.slot.Slot.TheVariants as slots
 use Rattle.hall_slots.specs.Lists.{end_kept}
 use Rattle.hall_slots.specs.Shown.{list_shown, view_of, stop_shown, end_shown, told_shown}
@@ -26,10 +32,10 @@ use Rattle.hall_turns.specs.declared.key.HallKey.{HallKey}
 use Rattle.hall_turns.specs.Keys.{terms_of}
 use Rattle.hall_turns.specs.Law.{joined_note}
 use Rattle.hall_turns.specs.Steps.{IsRunning, ListMayBecome}
-use Rattle.hall_turns.specs.Takes.{HallSeat}
+use Rattle.hall_turns.specs.Takes.{HallSeat, IsTaken}
 use Rattle.hall_turns.proofs.Keeping.{Whole}
 use Rattle.hall_turns.proofs.Putting.{list_keeps}
-use Rattle.hall_seats.specs.Halting.{IsInHall, halted_note, HoldsTheKept, end_in}
+use Rattle.hall_seats.specs.Halting.{IsInHall, halted_note, HoldsTheKept, PutsHalted, HasHalted}
 use Rattle.hall_seats.proofs.Ends.{parts_sound}
 
 -- the end that is kept now, as it is shown
@@ -41,7 +47,7 @@ shown_end (Some end) stop = refl
 kept_before : (o : Option RunEnd) (stop : Stop) (end : RunEnd) → o ≡ Some end → Some (end_kept o stop) ≡ Some end
 kept_before o stop end is = ap (λ (x : Option RunEnd). Some (end_kept x stop)) is
 
-finished_before : (o : Option RunEnd) (stop : Stop) (finish : _) → Some (end_kept o stop) ≡ Some (Finished finish) → o ≡ Some (Finished finish)
+finished_before : (o : Option RunEnd) (stop : Stop) (finish : Finish) → Some (end_kept o stop) ≡ Some (Finished finish) → o ≡ Some (Finished finish)
 finished_before None stop finish is = absurd (ends_differ (same_Some (Stopped stop) (Finished finish) is))
   where
     if_stopped : RunEnd → Type 0
@@ -70,11 +76,15 @@ module _ (key : HallKey) (seat : HallSeat) (here : IsInHall seat) (list : ListSl
   note = halted_note seat.hand.note (Some end)
 
   may_become : ListMayBecome key seat has.before kept note
-  may_become c of h count views run is its = ∣ (run.0, run.1, run.2,
-      subst (λ (z : Hall × List View). RunningState (machine_of c (terms_of key)) (Terms.limits (terms_of key)) z.0 run.0 run.1 run.2 count z.1)
-      (λ k. (record { list = list_now k; pool = h.pool; lanes = h.lanes }, slice_set views seat.number (view_now k)))
-      (halting_goes_on (machine_of c (terms_of key)) (Terms.limits (terms_of key)) h run.0 run.1 run.2 count views seat.number (view_of seat.hand.note) (stop_shown stop) run.3
-      (record { noted = its; placed = here.placed; stays = here.stays }) (ap (option_map stop_shown) has.found))) ∣₁
+  may_become c of h count views run is its = ∣ (
+    run.0,
+    run.1,
+    run.2,
+    subst (λ (z : Hall × List View). RunningState (machine_of c (terms_of key)) (Terms.limits (terms_of key)) z.0 run.0 run.1 run.2 count z.1)
+        (λ k. (record { list = list_now k; pool = h.pool; lanes = h.lanes }, slice_set views seat.number (view_now k)))
+        (halting_goes_on (machine_of c (terms_of key)) (Terms.limits (terms_of key)) h run.0 run.1 run.2 count views seat.number (view_of seat.hand.note) (stop_shown stop) run.3
+        (record { noted = its; placed = here.placed; stays = here.stays }) (ap (option_map stop_shown) has.found)),
+  ) ∣₁
     where
       kept_now : Some (end_with h.list.kept (stop_shown stop)) ≡ Some (end_shown end)
       kept_now = ap (λ (l : ListShown). Some (end_with l.kept (stop_shown stop))) is ∙ ap (λ (e : End). Some e) (sym (shown_end has.before.end stop))
@@ -89,3 +99,26 @@ module _ (key : HallKey) (seat : HallSeat) (here : IsInHall seat) (list : ListSl
   halt_keeps = subst (λ (l : ListSlot). PutKeeps Whole joined_note key seat 0 (slots.List l) (λ hand. halted_note hand.note l.end) unchanged) (sym has.is)
       (list_keeps key seat has.before kept note has.holds (λ hand. halted_note hand.note (Some end)) refl here.placed may_become
       (λ shown notes two sound at mine. parts_sound key seat has.before kept note has.holds refl (kept_before has.before.end stop) refl (λ left memory. (left, memory)) (λ e is. is) (finished_before has.before.end stop) shown notes sound at mine))
+
+-- a seat that took the list and kept its stop there holds this list
+pub kept_held : (before after : HallSeat) (list now : ListSlot) (stop : Stop) (end : RunEnd) → IsTaken before 0 (slots.List list) after → before.hand.holds ≡ [] → before.hand.note.found ≡ Some stop
+    → end ≡ end_kept list.end stop → now ≡ record list { end = Some end } → HoldsTheKept after now
+kept_held before after list now stop end taken free found end_is is = record {
+  before = list;
+  stop = stop;
+  holds = ap (λ (s : HallSeat). s.hand.holds) taken ∙ ap (λ (xs : List (ℕ × Slot)). (0, slots.List list) ∷ xs) free;
+  found = ap (λ (s : HallSeat). s.hand.note.found) taken ∙ found;
+  is = is ∙ ap (λ (e : RunEnd). record list { end = Some e }) end_is;
+}
+
+-- and once it has put it back it has halted
+pub has_halted : (before middle after : HallSeat) (list now : ListSlot) (stop : Stop) (end : RunEnd) → IsTaken before 0 (slots.List list) middle → before.hand.holds ≡ [] → end ≡ end_kept list.end stop
+    → now ≡ record list { end = Some end } → PutsHalted middle now after → HasHalted before stop end after
+has_halted before middle after list now stop end taken free end_is is puts =
+    let holds : renewed unchanged (without_slot 0 ((0, slots.List list) ∷ before.hand.holds)) ≡ [] = ap (λ (xs : List (ℕ × Slot)). renewed unchanged (without_slot 0 ((0, slots.List list) ∷ xs))) free ∙ left_of_one unchanged 0 0 (slots.List list) refl in
+    let kept_now : now.end ≡ Some end = ap (λ (l : ListSlot). l.end) is in record {
+      list = list;
+      end_is = end_is;
+      after_is = puts ∙ ap (λ (s : HallSeat). with_hand s (gave (λ hand. halted_note hand.note now.end) unchanged s.hand 0)) taken
+          ∙ (λ k. with_hand before (record { seated = before.hand.seated; holds = holds k; note = halted_note before.hand.note (kept_now k); looks = before.hand.looks ++ Took 0 (slots.List list) ∷ [] }));
+    }

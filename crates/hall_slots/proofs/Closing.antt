@@ -1,5 +1,5 @@
 -- A list whose deque lost its owner, or is gone, shows what the event of a hall writes into it.
-use Rattle.std.proofs.Common.{◌≡◌, ℕ, Option, None, Some, List, [], ◌∷◌, ◌++◌, map, sym, ap, ◌∙◌, subst}
+use Rattle.std.proofs.Common.{◌≡◌, ℕ, Option, None, Some, List, [], ◌∷◌, ◌++◌, map, sym, ap, ◌∙◌}
 use Rattle.std.specs.Option.{option_map}
 use mathlib.Core.List.{map-append}
 use Rattle.deque_list.specs.declared.deque_id.DequeId.{DequeId}
@@ -10,7 +10,7 @@ use Rattle.period_table.specs.Tables.{closed_of, shut}
 use Rattle.list_part.specs.Parts.{Has, Closes, place_with}
 use Rattle.core_parts.specs.Held.{waiting_shown, result_kept}
 use Rattle.hall_law.specs.Values.{Hall, ListShown}
-use Rattle.hall_law.specs.Writing.{IsAtWork, list_unowned, list_without}
+use Rattle.hall_law.specs.Writing.{IsAtWork}
 use Rattle.hall_slots.specs.declared.list_slot.ListSlot.{ListSlot}
 use Rattle.hall_slots.specs.declared.lane_slot.Running.{Running}
 use Rattle.hall_slots.specs.Shown.{list_shown, running_shown, end_shown}
@@ -21,7 +21,7 @@ module _ (before after : ListSlot) (running : Running) (crew : after.crew ≡ be
   shows_closed : (places : List Place) → Closes before.part after.part places running.period
       → list_shown after ≡ record (list_shown before) { places = places; closed = ListShown.closed (list_shown before) ++ shut (running_shown running) ∷ [] }
   shows_closed places closes = let closed : ListShown.closed (list_shown after) ≡ ListShown.closed (list_shown before) ++ shut (running_shown running) ∷ [] =
-          ap (map closed_shown) closes.closed ∙ map-append closed_shown (books_list before.part.books) (closed_of running.period ∷ []) in
+      ap (map closed_shown) closes.closed ∙ map-append closed_shown (books_list before.part.books) (closed_of running.period ∷ []) in
       λ i. record { places = closes.places_are i; crew = (crew i).items; waiting = map waiting_shown (closes.waiting i).entries; results = map result_kept (closes.results i).entries; closed = closed i; begun = closes.begun i; kept = option_map end_shown (end i) }
 
   -- the deque of a worker at work is in the middle of the places

@@ -1,16 +1,15 @@
 -- What the calls on the list do to it.
-use Rattle.std.specs.Prelude.{◌≡◌, ℕ, ◌+◌, Option, None, Some, List, [], ◌∷◌, ◌++◌}
+use Rattle.std.specs.Prelude.{◌≡◌, ℕ, Option, None, Some, List, ◌∷◌, ◌++◌}
 use Rattle.core_parts.specs.declared.stop.Stop.{Stop}
 use Rattle.dfd_core.specs.declared.run_end.RunEnd.{RunEnd}
 use Rattle.dfd_core.specs.declared.run_end.RunEnd.TheVariants.{Stopped}
 use Rattle.deque_list.specs.declared.deque_id.DequeId.{DequeId}
 use Rattle.period_table.specs.Tables.{shut}
-use Rattle.hall_law.specs.Values.{Hall, ListShown}
+use Rattle.hall_law.specs.Values.{Hall}
 use Rattle.hall_law.specs.Writing.{IsAtWork, list_unowned, list_without}
-use Rattle.hall_crew.specs.Seats.{end_with}
 use Rattle.hall_slots.specs.declared.list_slot.ListSlot.{ListSlot}
 use Rattle.hall_slots.specs.declared.lane_slot.Running.{Running}
-use Rattle.hall_slots.specs.Shown.{list_shown, running_shown, stop_shown}
+use Rattle.hall_slots.specs.Shown.{list_shown, running_shown}
 
 -- the end that is kept where a stop is to be kept: the one that was kept before, and else the stop
 abbrev pub end_kept : Option RunEnd → Stop → RunEnd

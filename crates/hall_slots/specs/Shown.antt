@@ -1,5 +1,5 @@
 -- What the slots of a hall show, and what a seat's note says of it.
-use Rattle.std.specs.Prelude.{ℕ, Option, None, Some, List, map, pos}
+use Rattle.std.specs.Prelude.{ℕ, map, pos}
 use Rattle.std.specs.Option.{option_map}
 use Rattle.deque_machine.specs.Play as play
 use Rattle.period_books.specs.Periods.{Period, open_shown, closed_shown}
@@ -11,7 +11,8 @@ use Rattle.core_parts.specs.declared.stop.Stop.TheVariants.{ArenaFull, DequesFul
 use Rattle.core_parts.specs.Held.{waiting_shown, result_kept}
 use Rattle.dfd_core.specs.declared.run_end.RunEnd.{RunEnd}
 use Rattle.dfd_core.specs.declared.run_end.RunEnd.TheVariants.{Finished, Stopped}
-use Rattle.hall_law.specs.Values.{Stop, by_rule, no_memory, End, finished, stopped, ListShown, PoolShown, LaneShown, Value, of_list, of_pool, of_lane}
+use Rattle.hall_law.specs.Values.{Stop, by_rule, no_memory, End, finished, stopped}
+use Rattle.hall_law.specs.Values.{ListShown, PoolShown, LaneShown, Value, of_list, of_pool, of_lane}
 use Rattle.hall_law.specs.Steps.{Told, stole, did, waited, gave_up, halted}
 use Rattle.hall_crew.specs.Views.{View}
 use Rattle.hall_slots.specs.declared.event.Event.{Event}
@@ -64,7 +65,7 @@ value_of (slots.List list) = of_list (list_shown list)
 value_of (slots.Pool pool) = of_pool (pool_shown pool)
 value_of (slots.Lane lane) = of_lane (lane_shown lane)
 
--- Of which kind a slot is: the list, the pool, or a lane. The slot of this number is of its kind.
+-- of which kind a slot is: the list, the pool, or a lane
 abbrev pub kind_of : Slot → ℕ
 kind_of (slots.List list) = 0
 kind_of (slots.Pool pool) = 1

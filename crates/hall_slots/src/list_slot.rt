@@ -3,8 +3,8 @@ use dfd_core::RunEnd;
 use list_part::ListPart;
 use thread_frames::{Ended, Thread};
 
-/// The list of a hall: the deques with their owners, what waits, the results and the closed periods, and besides these the workers that are in
-/// and the end of the run, if one is kept.
+/// The list of a hall: the deques with their owners, what waits, the results and the closed periods, and besides these the workers that are
+/// in, and the end of the run, if one is kept.
 #[derive(Drop)]
 pub struct ListSlot {
     pub part: ListPart<Boxed<Thread>, Ended>,

@@ -1,6 +1,5 @@
 -- Takes, refusals and put backs that change nothing keep the law of a hall.
-use Rattle.std.proofs.Common.{◌≡◌, ℕ, ◌<◌, List, refl}
-use Rattle.turn_table.specs.declared.look.Look.{Look}
+use Rattle.std.proofs.Common.{ℕ, List, refl}
 use Rattle.turn_table.specs.declared.hand.Hand.{Hand}
 use Rattle.turn_table.specs.Law.{TakeKeeps, HeldKeeps, PutKeeps}
 use Rattle.turn_table.specs.Notes.{HasAs}

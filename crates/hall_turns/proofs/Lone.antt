@@ -1,6 +1,6 @@
 -- A seat that has all places is never refused.
-use Rattle.std.proofs.Common.{◌≡◌, ◌≢◌, ℕ, ◌<◌, ◌≤◌, false, List, map, refl, sym, ap, ◌∙◌, subst, arith}
-use Rattle.std.specs.Prelude.{None, Some, slice_get, Result, Ok, Err, MatchResult, IsOk}
+use Rattle.std.proofs.Common.{◌≡◌, ℕ, ◌<◌, List, map, refl, sym, ap, ◌∙◌, subst}
+use Rattle.std.specs.Prelude.{Some, slice_get, Result, Ok, Err, MatchResult, IsOk}
 use Rattle.std.specs.Option.{option_map}
 use Rattle.std.proofs.lemmas.Option.{slice_get-map}
 use mathlib.Core.Option.{some}
@@ -9,7 +9,6 @@ use Rattle.std.proofs.Math.Logic.{∥∥₁_elim}
 use denote.Struct.Props.{props}
 use Rattle.depth_first_run.specs.States.{Setting}
 use Rattle.deque_machine.specs.Terms.{Terms, machine_of}
-use Rattle.thread_steps.specs.Settings.{IsSettingOf}
 use Rattle.turn_table.specs.declared.hand.Hand.{Hand}
 use Rattle.turn_table.specs.declared.held.Held.{Held}
 use Rattle.turn_table.specs.Hands.{Has, turn, took, refused}
@@ -20,18 +19,18 @@ use Rattle.turn_table.proofs.NoteLaws.{notes_at}
 use Rattle.turn_places.specs.Places.{OthersHaveNone}
 use Rattle.turn_places.specs.Backs.{kept}
 use Rattle.turn_places.proofs.Alone.{lone_seats_are_free}
-use Rattle.hall_crew.specs.Views.{View, joined}
+use Rattle.hall_crew.specs.Views.{View}
 use Rattle.hall_state.specs.State.{HallLaw}
 use Rattle.hall_state.proofs.Closing.{seats_with_all_are_alone}
 use Rattle.hall_slots.specs.declared.slot.Slot.{Slot}
 use Rattle.hall_slots.specs.declared.seat_note.SeatNote.{SeatNote}
 use Rattle.hall_slots.specs.Shown.{value_of, view_of}
 use Rattle.hall_turns.specs.declared.key.HallKey.{HallKey}
-use Rattle.hall_turns.specs.Keys.{table_of, quota_of, terms_of}
-use Rattle.hall_turns.specs.Law.{HallHolds, places_of, joined_note}
+use Rattle.hall_turns.specs.Keys.{terms_of}
+use Rattle.hall_turns.specs.Law.{places_of, joined_note}
 use Rattle.hall_turns.specs.Takes.{HallSeat, IsPlaced, HasAllPlaces, IsRefused}
 use Rattle.hall_turns.proofs.Keeping.{Whole}
-use Rattle.hall_turns.proofs.Reading.{at_of_get, get_of_at}
+use Rattle.hall_turns.proofs.Reading.{get_of_at}
 
 -- what the others note, where a seat has all places and the law holds
 pub noted_at : (ns : List SeatNote) (i : ℕ) (n : SeatNote) → get_elem? ns i ≡ some n → slice_get (map view_of ns) i ≡ Some (view_of n)
@@ -43,7 +42,7 @@ module _ (key : HallKey) (seat : HallSeat) (placed : IsPlaced seat) (has : HasAl
       let view = view_of seat.hand.note in
       let at_mine = noted_at (notes hands) seat.number seat.hand.note (notes_at hands seat.number seat.hand st.mine) in
       let alone = seats_with_all_are_alone (machine_of c (terms_of key)) (Terms.limits (terms_of key)) _ law.steps law.moment law.leads count (map view_of (notes hands)) seat.number view law.state
-          (record { noted = at_mine; placed = placed; stays = has.stays }) has.all has.alone in
+      (record { noted = at_mine; placed = placed; stays = has.stays }) has.all has.alone in
       ap (λ (v : View). v.places) (alone.others j (view_of h.note) apart (noted_at (notes hands) j h.note (notes_at hands j h at)))
 
   pub lone_is_free : (slot : ℕ) → ¬ Has slot seat.hand.holds → turn hands slot ≡ 0

@@ -1,7 +1,7 @@
 -- A put back of the list alone keeps the law of a hall.
-use Rattle.std.proofs.Common.{◌≡◌, ◌≢◌, ℕ, suc, ◌+◌, ◌<◌, ◌≤◌, ◌⊎◌, min, List, [], ◌∷◌, map, length, set, inl, inr, refl, sym, ap, ◌∙◌, subst, arith, length-set}
+use Rattle.std.proofs.Common.{◌≡◌, ℕ, ◌<◌, ◌≤◌, List, [], ◌∷◌, map, length, set, inl, inr, refl, sym, ap, ◌∙◌, subst, arith, length-set}
 use Rattle.std.proofs.Math.Logic.{∥∥₁_elim, ∥∥₁_map, ∥∥₁_prop}
-use Rattle.std.specs.Prelude.{Some, slice_get, slice_set}
+use Rattle.std.specs.Prelude.{slice_set}
 use mathlib.Core.Option.{some}
 use lib.ListN.{get_elem?}
 use lib.Seq.{map-set}
@@ -24,11 +24,11 @@ use Rattle.hall_slots.specs.declared.slot.Slot.{Slot}
 use Rattle.hall_slots.specs.declared.slot.Slot.TheVariants as slots
 use Rattle.hall_slots.specs.declared.list_slot.ListSlot.{ListSlot}
 use Rattle.hall_slots.specs.declared.seat_note.SeatNote.{SeatNote}
-use Rattle.hall_slots.specs.Shown.{list_shown, value_of, kind_of, view_of}
+use Rattle.hall_slots.specs.Shown.{list_shown, value_of, view_of}
 use Rattle.hall_turns.specs.declared.key.HallKey.{HallKey}
 use Rattle.hall_turns.specs.Keys.{table_of, quota_of, terms_of}
 use Rattle.hall_turns.specs.Sound.{PartsAreSound}
-use Rattle.hall_turns.specs.Law.{HallHolds, IsShaped, KeepsHallLaw, places_of, joined_note}
+use Rattle.hall_turns.specs.Law.{HallHolds, IsShaped, places_of, joined_note}
 use Rattle.hall_turns.specs.Steps.{hall_shown, IsRunning, ListMayBecome}
 use Rattle.hall_turns.specs.Takes.{HallSeat}
 use Rattle.hall_turns.proofs.Keeping.{Whole}
@@ -38,8 +38,12 @@ use Rattle.hall_turns.proofs.Written.{list_written, list_at}
 -- what is shown of a hall in a running state keeps the law
 pub law_of : (key : HallKey) (c : Setting) (shown : List Slot) (h : Hall) (count : ℕ) (notes : List SeatNote) (views : List View) → hall_shown shown ≡ h → map view_of notes ≡ views
     → IsRunning (machine_of c (terms_of key)) (Terms.limits (terms_of key)) h count views → HallLaw (machine_of c (terms_of key)) (Terms.limits (terms_of key)) (map value_of shown) count (map view_of notes)
-law_of key c shown h count notes views is_h is_views run = record { steps = run.0; moment = run.1; leads = run.2;
-    state = subst (λ (z : Hall × List View). RunningState (machine_of c (terms_of key)) (Terms.limits (terms_of key)) z.0 run.0 run.1 run.2 count z.1) (λ k. (sym is_h k, sym is_views k)) run.3 }
+law_of key c shown h count notes views is_h is_views run = record {
+  steps = run.0;
+  moment = run.1;
+  leads = run.2;
+  state = subst (λ (z : Hall × List View). RunningState (machine_of c (terms_of key)) (Terms.limits (terms_of key)) z.0 run.0 run.1 run.2 count z.1) (λ k. (sym is_h k, sym is_views k)) run.3;
+}
 
 -- a slot is of its kind when it was written with its kind
 pub shaped_set : (shown : List Slot) (slot : ℕ) (new : Slot) → ((i : ℕ) (found : Slot) → get_elem? shown i ≡ some found → IsShaped i found) → IsShaped slot new

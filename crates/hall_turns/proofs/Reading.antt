@@ -1,22 +1,18 @@
 -- What a seat reads of the law in the slots that it holds.
-use Rattle.std.proofs.Common.{◌≡◌, ◌≢◌, ℕ, zero, suc, ◌<◌, List, [], ◌∷◌, map, refl, sym, ap, ◌∙◌, subst}
+use Rattle.std.proofs.Common.{◌≡◌, ℕ, zero, suc, List, [], ◌∷◌, sym, ap, subst}
 use Rattle.std.specs.Prelude.{Some, slice_get}
 use Rattle.std.proofs.lemmas.Option.{same_Some, none-some}
 use mathlib.Core.Option.{some, some-injective, some-ne-none}
 use lib.ListN.{get_elem?}
-use Rattle.turn_table.specs.declared.hand.Hand.{Hand}
-use Rattle.turn_table.specs.Hands.{Shows, took}
-use Rattle.turn_table.specs.Seats.{with_hand}
+use Rattle.turn_table.specs.Hands.{Shows}
 use Rattle.turn_table.specs.Law.{Stands, Meets}
-use Rattle.turn_places.specs.Backs.{kept}
 use Rattle.hall_slots.specs.declared.slot.Slot.{Slot}
 use Rattle.hall_slots.specs.declared.slot.Slot.TheVariants as slots
 use Rattle.hall_slots.specs.declared.list_slot.ListSlot.{ListSlot}
 use Rattle.hall_slots.specs.declared.pool_slot.PoolSlot.{PoolSlot}
 use Rattle.hall_slots.specs.declared.lane_slot.LaneSlot.{LaneSlot}
-use Rattle.hall_slots.specs.declared.seat_note.SeatNote.{SeatNote}
 use Rattle.hall_turns.specs.declared.key.HallKey.{HallKey}
-use Rattle.hall_turns.specs.Law.{HallHolds, IsShaped, joined_note}
+use Rattle.hall_turns.specs.Law.{IsShaped, joined_note}
 use Rattle.hall_turns.specs.Takes.{HallSeat, IsTaken}
 use Rattle.hall_turns.proofs.Keeping.{Whole}
 

@@ -1,13 +1,13 @@
 -- What the slots show of a hall once some of them are written.
-use Rattle.std.proofs.Common.{◌≡◌, ℕ, zero, suc, ◌<◌, ◌≤◌, List, [], ◌∷◌, map, length, set, refl, sym, ap, ◌∙◌, subst, arith}
-use Rattle.std.specs.Prelude.{slice_index_or, slice_set}
+use Rattle.std.proofs.Common.{◌≡◌, ◌≤◌, List, [], ◌∷◌, map, length, set, refl, sym, ap, ◌∙◌, arith}
+use Rattle.std.specs.Prelude.{slice_set}
 use mathlib.Core.Option.{some, some-injective, some-ne-none}
 use lib.ListN.{get_elem?}
 use lib.Seq.{map-set}
 use Rattle.atomic_table.proofs.Lists.{at_map}
 use Rattle.turn_table.proofs.Hands.{read_at}
 use Rattle.deque_list.specs.declared.deque_id.DequeId.{DequeId}
-use Rattle.hall_law.specs.Values.{Hall, LaneShown, Value, of_lane, list_in, pool_in, lane_in, no_lane, lane_at}
+use Rattle.hall_law.specs.Values.{Hall, of_lane, list_in, pool_in, lane_in, no_lane, lane_at}
 use Rattle.hall_law.specs.Writing.{lane_slot}
 use Rattle.hall_slots.specs.declared.slot.Slot.{Slot}
 use Rattle.hall_slots.specs.declared.slot.Slot.TheVariants as slots

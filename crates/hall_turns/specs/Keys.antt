@@ -19,8 +19,8 @@ quota_of key = quota_words key.quota
 abbrev pub terms_of : HallKey → Terms
 terms_of key = given_terms key.workers key.capacity key.actions key.deques
 
--- The table is that of some program; the quota covers a record block; there is a worker and are at most 64; and no number is too large for the
--- words of the pool and for the count of actions.
+-- The table is that of some program; the quota covers a record block; there is a worker and are at most 64; and no number is too large for
+-- the words of the pool and for the count of actions.
 pub record IsKey (key : HallKey) : Type 0 where
   pub of_program : IsOfProgram (table_of key) (quota_of key)
   pub quota : record_words ≤ quota_of key

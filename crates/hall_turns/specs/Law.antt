@@ -40,8 +40,8 @@ abbrev pub KeepsHallLaw : HallKey → List Slot → ℕ → List SeatNote → Ty
 KeepsHallLaw key shown count notes = (c : Setting) → IsSettingOf (table_of key) (quota_of key) c
     → ∥ HallLaw (machine_of c (terms_of key)) (Terms.limits (terms_of key)) (map value_of shown) count (map view_of notes) ∥₁
 
--- The law: there is a slot for the list, one for the pool and one for each deque that there may be, each of its kind; what they show keeps the
--- law of a hall, with the count word and the notes; and the parts in them are sound.
+-- The law: there is a slot for the list, one for the pool and one for each deque that there may be, each of its kind; what they show keeps
+-- the law of a hall, with the count word and the notes; and the parts in them are sound.
 pub record HallHolds (key : HallKey) (shown : List Slot) (count : ℕ) (notes : List SeatNote) : Type 0 where
   pub key_is : IsKey key
   pub sized : length shown ≡ key.deques + 2

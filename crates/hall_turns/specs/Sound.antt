@@ -1,5 +1,5 @@
 -- What holds of the parts in the slots of a hall, beside what they show of it.
-use Rattle.std.specs.Prelude.{◌≡◌, ◌≢◌, ℕ, suc, ◌≤◌, Option, None, Some, List, [], map, pos, slice_get}
+use Rattle.std.specs.Prelude.{◌≡◌, ◌≢◌, ℕ, ◌≤◌, Option, None, Some, List, [], map, pos, slice_get}
 use Rattle.std.specs.Option.{option_map}
 use Rattle.dag_order.specs.Births.{root}
 use Rattle.dag_order.specs.declared.finish.Finish.{Finish}
@@ -60,19 +60,22 @@ pub record ListIsSound (key : HallKey) (list : ListSlot) : Type 0 where
 -- The threads are at their points, but for those that are excused.
 abbrev pub ThreadsAreAtPoints : HallKey → List Slot → List SeatNote → ListSlot → Type 0
 ThreadsAreAtPoints key shown notes list =
-    AreAtPoints (IsAtPoint (table_of key) (quota_of key)) (map view_of notes) (option_map end_shown list.end) list.part.order.places (threads_of shown)
-    (map thread_that_waits list.part.waiting.entries)
+    AreAtPoints (IsAtPoint (table_of key) (quota_of key)) (map view_of notes) (option_map end_shown list.end) list.part.order.places
+    (threads_of shown) (map thread_that_waits list.part.waiting.entries)
 
 -- The lane of a deque that is not in the list is empty, and no period runs in the lane of a deque that nobody owns.
 pub record LanesAreInUse (shown : List Slot) (list : ListSlot) : Type 0 where
   pub spare : (id : DequeId) (lane : LaneSlot) → Each (λ place. place.id ≢ id) list.part.order.places → IsLaneOf shown id lane
       → (lane.lane.items ≡ []) × (lane.running ≡ None)
-  pub unowned : Each (λ place. (lane : LaneSlot) → place.owner ≡ None → IsLaneOf shown place.id lane → lane.running ≡ None) list.part.order.places
+  pub unowned : Each (λ place. (lane : LaneSlot) → place.owner ≡ None → IsLaneOf shown place.id lane → lane.running ≡ None)
+      list.part.order.places
 
 -- An end that a seat was answered is kept, and a kept finish is that of the root's result.
 pub record EndIsSound (notes : List SeatNote) (list : ListSlot) : Type 0 where
-  pub answered : (seat : ℕ) (note : SeatNote) (end : RunEnd) → slice_get notes seat ≡ Some note → note.answered ≡ Some end → list.end ≡ Some end
-  pub finished : (finish : Finish) → list.end ≡ Some (Finished finish) → end_of_root (kept_under list.part.results root) ≡ Some (Finished finish)
+  pub answered : (seat : ℕ) (note : SeatNote) (end : RunEnd) → slice_get notes seat ≡ Some note → note.answered ≡ Some end
+      → list.end ≡ Some end
+  pub finished : (finish : Finish) → list.end ≡ Some (Finished finish)
+      → end_of_root (kept_under list.part.results root) ≡ Some (Finished finish)
 
 -- So it is with all slots.
 pub record PartsAreSound (key : HallKey) (shown : List Slot) (notes : List SeatNote) : Type 0 where

@@ -24,10 +24,11 @@ hall_shown shown = hall_of (map value_of shown)
 
 -- some steps lead to a moment where a hall is in a running state
 abbrev pub IsRunning : MachineSetting → Limits → Hall → ℕ → List View → Type 0
-IsRunning s limits h count views = (steps : List Step) × (m : Moment) × (leads : Leads s steps m) × RunningState s limits h steps m leads count views
+IsRunning s limits h count views =
+    (steps : List Step) × (m : Moment) × (leads : Leads s steps m) × RunningState s limits h steps m leads count views
 
--- Wherever a hall is in a running state that has this list, and the seat its note, it is in one again once the list is this one and the seat
--- notes this. So it is for each program that the key may be of.
+-- Wherever a hall is in a running state that has this list, and the seat its note, it is in one again once the list is this one and the
+-- seat notes this. So it is for each program that the key may be of.
 abbrev pub ListMayBecome : HallKey → HallSeat → (before after : ListSlot) → SeatNote → Type 0
 ListMayBecome key seat before after note =
     (c : Setting) → IsSettingOf (table_of key) (quota_of key) c → (h : Hall) (count : ℕ) (views : List View)

@@ -3,14 +3,21 @@ use Rattle.std.specs.Prelude.{◌≡◌, ℕ, ◌<◌, false, None}
 use Rattle.turn_table.specs.declared.held.Held.{Held}
 use Rattle.turn_table.specs.Hands.{took, refused, gave}
 use Rattle.turn_table.specs.Seats.{SeatView, with_hand}
+use Rattle.turn_table.specs.Law.{Meets}
 use Rattle.turn_places.specs.Backs.{kept, still, unchanged}
+use Rattle.turn_places.specs.Places.{WithPlaces}
 use Rattle.hall_slots.specs.declared.slot.Slot.{Slot}
 use Rattle.hall_slots.specs.declared.seat_note.SeatNote.{SeatNote}
 use Rattle.hall_turns.specs.declared.key.HallKey.{HallKey}
+use Rattle.hall_turns.specs.Law.{HallHolds, places_of, joined_note}
 
 -- a seat of a hall, as contracts see it
 abbrev pub HallSeat : Type 0
 HallSeat = SeatView HallKey Slot SeatNote
+
+-- some state of the slots meets the law with this seat as it is
+abbrev pub MeetsLaw : HallKey → HallSeat → Type 0
+MeetsLaw key seat = Meets (WithPlaces places_of HallHolds) joined_note key seat
 
 -- it has a place
 abbrev pub IsPlaced : HallSeat → Type 0

@@ -1,10 +1,10 @@
 //! How a seat takes its lane and another slot.
 
-ghost use Rattle.std.specs.Prelude.{◌≡◌, ◌+◌, ◌<◌, [], IsOk, MatchResult};
+ghost use Rattle.std.specs.Prelude.{◌≡◌, ◌+◌, ◌<◌, [], IfOk, IsOk, MatchResult};
 ghost use Rattle.turn_table.specs.Tables.{key_of, slot_count, IsSeatOf};
 ghost use Rattle.turn_places.specs.Backs.{IsBack};
 ghost use Rattle.hall_slots.specs.declared.slot.Slot.TheVariants as slots;
-ghost use Rattle.hall_turns.specs.Takes.{IsPlaced, HasAllPlaces, AreTaken};
+ghost use Rattle.hall_turns.specs.Takes.{IsPlaced, HasAllPlaces, MeetsLaw, AreTaken};
 
 use crate::backs::give_lane_back;
 use crate::rule::{HallPlace, HallRow};
@@ -28,7 +28,9 @@ pub fn take_lane_and_list(
     requires placed { IsPlaced seat.old }
     requires slot { deque.0 + 2 < slot_count row.now }
     requires free { seat.old.hand.holds ≡ [] }
-    ensures seat { MatchResult result (λ found. AreTaken seat.old (deque.0 + 2) (slots.Lane found.0) 0 (slots.List found.1) seat.new) (λ held. IsBack seat.old seat.new held) }
+    ensures seat { MatchResult result (λ found. AreTaken seat.old (deque.0 + 2) (slots.Lane found.0) 0 (slots.List found.1) seat.new)
+        (λ held. IsBack seat.old seat.new held) }
+    ensures meets { IfOk result (λ _. MeetsLaw (key_of row.now) seat.new) }
     ensures lone { HasAllPlaces (key_of row.now) seat.old → IsOk result }
 {
     let lane = take_lane(row, seat, deque)?;
@@ -55,7 +57,9 @@ pub fn take_lane_and_pool(
     requires placed { IsPlaced seat.old }
     requires slot { deque.0 + 2 < slot_count row.now }
     requires free { seat.old.hand.holds ≡ [] }
-    ensures seat { MatchResult result (λ found. AreTaken seat.old (deque.0 + 2) (slots.Lane found.0) 1 (slots.Pool found.1) seat.new) (λ held. IsBack seat.old seat.new held) }
+    ensures seat { MatchResult result (λ found. AreTaken seat.old (deque.0 + 2) (slots.Lane found.0) 1 (slots.Pool found.1) seat.new)
+        (λ held. IsBack seat.old seat.new held) }
+    ensures meets { IfOk result (λ _. MeetsLaw (key_of row.now) seat.new) }
     ensures lone { HasAllPlaces (key_of row.now) seat.old → IsOk result }
 {
     let lane = take_lane(row, seat, deque)?;

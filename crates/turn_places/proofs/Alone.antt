@@ -1,5 +1,5 @@
 -- A seat that alone has places finds every turn free.
-use Rattle.std.proofs.Common.{suc-ne-zero, ◌≡◌, ◌≢◌, ℕ, zero, suc, ◌+◌, List, [], ◌∷◌, refl, sym, ap, ◌∙◌, subst, arith}
+use Rattle.std.proofs.Common.{suc-ne-zero, ◌≡◌, ◌≢◌, ℕ, zero, suc, List, [], ◌∷◌, refl, sym, ap, ◌∙◌, arith}
 use mathlib.Core.Option.{some, some-injective, some-ne-none}
 use lib.ListN.{get_elem?}
 use Rattle.turn_table.specs.declared.hand.Hand.{Hand}

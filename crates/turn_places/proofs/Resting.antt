@@ -1,6 +1,6 @@
 -- Steps of a law over what is shown, counted and noted, beside which hands without places hold nothing. Each lemma leads from what a call owes
 -- for the law alone to what it owes for both.
-use Rattle.std.proofs.Common.{◌≡◌, ◌≢◌, ℕ, suc, ◌<◌, ◌^◌, List, [], ◌∷◌, ◌++◌, set, ◌⊎◌, inl, inr, refl, sym, ap, ◌∙◌, subst, arith}
+use Rattle.std.proofs.Common.{◌≡◌, ◌≢◌, ℕ, ◌<◌, List, [], ◌∷◌, ◌++◌, set, ◌⊎◌, inl, inr, refl, sym, ap, ◌∙◌, subst, arith}
 use mathlib.Core.Option.{some}
 use lib.ListN.{get_elem?}
 use Rattle.atomic_table.proofs.Lists.{at_set, at_snoc}
@@ -40,26 +40,38 @@ module _ {K V N : Type 0} (places_in : N → ℕ) (P : K → List V → ℕ → 
   alone s shown count hands st = record { fits = st.fits; kept = st.kept.0; mine = st.mine }
 
   pub take_rests : (i : ℕ) (note : Hand V N → Look V → N) → ((v : V) → 0 < places_in (note seat.hand (Took i v))) → TakeKeeps (OverNotes P) blank key seat i note → TakeKeeps F blank key seat i note
-  take_rests i note placed keeps shown count hands st free v at = (keeps shown count hands (alone seat shown count hands st) free v at,
-      rests_set places_in hands seat.number (took note seat.hand i v) st.kept.1 (λ none. let p = placed v in absurd (omega arith)))
+  take_rests i note placed keeps shown count hands st free v at = (
+    keeps shown count hands (alone seat shown count hands st) free v at,
+    rests_set places_in hands seat.number (took note seat.hand i v) st.kept.1 (λ none. let p = placed v in absurd (omega arith)),
+  )
 
   pub held_rests : (i : ℕ) (note : Hand V N → Look V → N) → 0 < places_in (note seat.hand (Refused i 1)) → HeldKeeps (OverNotes P) blank key seat i note → HeldKeeps F blank key seat i note
-  held_rests i note placed keeps shown count hands st one = (keeps shown count hands (alone seat shown count hands st) one,
-      rests_set places_in hands seat.number (refused note seat.hand i 1) st.kept.1 (λ none. absurd (omega arith)))
+  held_rests i note placed keeps shown count hands st one = (
+    keeps shown count hands (alone seat shown count hands st) one,
+    rests_set places_in hands seat.number (refused note seat.hand i 1) st.kept.1 (λ none. absurd (omega arith)),
+  )
 
   pub count_rests : (note : Hand V N → Look V → N) → ((n : ℕ) → 0 < places_in (note seat.hand (Counted n))) → CountKeeps (OverNotes P) blank key seat note → CountKeeps F blank key seat note
-  count_rests note placed keeps shown count hands st small = (keeps shown count hands (alone seat shown count hands st) small,
-      rests_set places_in hands seat.number (counted note seat.hand count) st.kept.1 (λ none. let p = placed count in absurd (omega arith)))
+  count_rests note placed keeps shown count hands st small = (
+    keeps shown count hands (alone seat shown count hands st) small,
+    rests_set places_in hands seat.number (counted note seat.hand count) st.kept.1 (λ none. let p = placed count in absurd (omega arith)),
+  )
 
   pub put_rests : (i : ℕ) (value : V) (note : Hand V N → N) (f : ℕ → V → V) → 0 < places_in (note seat.hand) → PutKeeps (OverNotes P) blank key seat i value note f → PutKeeps F blank key seat i value note f
-  put_rests i value note f placed keeps shown count hands st = (keeps shown count hands (alone seat shown count hands st),
-      rests_set places_in hands seat.number (gave note f seat.hand i) st.kept.1 (λ none. absurd (omega arith)))
+  put_rests i value note f placed keeps shown count hands st = (
+    keeps shown count hands (alone seat shown count hands st),
+    rests_set places_in hands seat.number (gave note f seat.hand i) st.kept.1 (λ none. absurd (omega arith)),
+  )
 
   pub split_rests : (left right : N) → 0 < places_in left → SplitKeeps (OverNotes P) blank key seat left right → SplitKeeps F blank key seat left right
-  split_rests left right placed keeps shown count hands st = (keeps shown count hands (alone seat shown count hands st),
-      rests_longer places_in (set hands seat.number (noted seat.hand left)) right (rests_set places_in hands seat.number (noted seat.hand left) st.kept.1 (λ none. absurd (omega arith))))
+  split_rests left right placed keeps shown count hands st = (
+    keeps shown count hands (alone seat shown count hands st),
+    rests_longer places_in (set hands seat.number (noted seat.hand left)) right (rests_set places_in hands seat.number (noted seat.hand left) st.kept.1 (λ none. absurd (omega arith))),
+  )
 
   pub join_rests : (from : SeatView K V N) (note : N) → 0 < places_in note → JoinKeeps (OverNotes P) blank key seat from note → JoinKeeps F blank key seat from note
-  join_rests from note placed keeps shown count hands st two other = (keeps shown count hands (alone seat shown count hands st) (alone from shown count hands two) other,
-      rests_set places_in (set hands seat.number (noted seat.hand note)) from.number (spent blank)
-      (rests_set places_in hands seat.number (noted seat.hand note) st.kept.1 (λ none. absurd (omega arith))) (λ none. refl))
+  join_rests from note placed keeps shown count hands st two other = (
+    keeps shown count hands (alone seat shown count hands st) (alone from shown count hands two) other,
+    rests_set places_in (set hands seat.number (noted seat.hand note)) from.number (spent blank)
+        (rests_set places_in hands seat.number (noted seat.hand note) st.kept.1 (λ none. absurd (omega arith))) (λ none. refl),
+  )

@@ -1,5 +1,5 @@
 -- A seat that puts back what it took, after a slot was refused, is back.
-use Rattle.std.proofs.Common.{◌≡◌, ℕ, List, [], ◌∷◌, ◌++◌, refl, sym, ap, ◌∙◌, subst}
+use Rattle.std.proofs.Common.{◌≡◌, ℕ, List, [], ◌∷◌, ◌++◌, refl, ap, ◌∙◌}
 use Rattle.std.proofs.lemmas.List.{append_assoc}
 use Rattle.turn_table.specs.declared.look.Look.{Look}
 use Rattle.turn_table.specs.declared.look.Look.TheVariants.{Took, Refused}
@@ -32,5 +32,5 @@ module _ {K V N : Type 0} where
       let holds : renewed unchanged (without_slot i one.hand.holds) ≡ s.hand.holds = ap (λ (x : SeatView K V N). renewed unchanged (without_slot i x.hand.holds)) is_one ∙ left_of_front i v s.hand.holds in
       let from : after ≡ with_hand one (gave still unchanged (told_more one.hand m) i) = is_after ∙ ap (λ (x : SeatView K V N). with_hand x (gave still unchanged x.hand i)) is_two.1 in
       let to : with_hand one (gave still unchanged (told_more one.hand m) i) ≡ with_hand s (told_more s.hand ((Took i v ∷ is_two.0) ++ r ∷ [])) =
-          λ k. record { table = SeatView.table (is_one k); number = SeatView.number (is_one k); key = SeatView.key (is_one k); hand = record { seated = Hand.seated (SeatView.hand (is_one k)); holds = holds k; note = Hand.note (SeatView.hand (is_one k)); looks = looks k } } in
+      λ k. record { table = SeatView.table (is_one k); number = SeatView.number (is_one k); key = SeatView.key (is_one k); hand = record { seated = Hand.seated (SeatView.hand (is_one k)); holds = holds k; note = Hand.note (SeatView.hand (is_one k)); looks = looks k } } in
       (Took i v ∷ is_two.0, from ∙ to)

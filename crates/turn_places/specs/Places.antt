@@ -1,9 +1,8 @@
 -- Seats that share places, so that a seat without places holds nothing.
-use Rattle.std.specs.Prelude.{◌≡◌, ◌≢◌, ℕ, ◌<◌, List, [], Result, MatchResult}
+use Rattle.std.specs.Prelude.{◌≡◌, ◌≢◌, ℕ, List, []}
 use mathlib.Core.Option.{some}
 use lib.ListN.{get_elem?}
 use Rattle.turn_table.specs.declared.hand.Hand.{Hand}
-use Rattle.turn_table.specs.Hands.{turn}
 use Rattle.turn_table.specs.Notes.{OverNotes}
 
 -- a hand whose note has no places holds no slot

@@ -1,5 +1,5 @@
 -- Each smaller number is that of a worker who is in.
-use Rattle.std.proofs.Common.{◌≡◌, ℕ, ◌<◌}
+use Rattle.std.proofs.Common.{ℕ, ◌<◌}
 use Rattle.lawful_books.specs.Lists.{times}
 use Rattle.hall_slots.proofs.list_slot.ListSlot.free_number.Given as goal
 

@@ -1,5 +1,5 @@
 use Rattle.std.proofs.Common.{ℕ, ◌<◌, ◌↔◌, List, sym, subst}
-use Rattle.std.specs.Prelude.{IsTrue, MatchOption, Some, slice_get, ◌≡◌}
+use Rattle.std.specs.Prelude.{IsTrue}
 use Rattle.lawful_books.specs.Lists.{times}
 use Rattle.hall_slots.proofs.Crews.{is_in}
 use Rattle.hall_slots.proofs.list_slot.ListSlot.has.Goals as goal

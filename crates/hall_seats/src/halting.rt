@@ -1,9 +1,9 @@
 //! How a seat keeps the stop that it found.
 
-ghost use Rattle.std.specs.Prelude.{◌≡◌, [], Some, MatchResult};
-ghost use Rattle.turn_table.specs.Tables.{IsSeatOf};
+ghost use Rattle.std.specs.Prelude.{◌≡◌, [], Some, IsOk, MatchResult};
+ghost use Rattle.turn_table.specs.Tables.{key_of, IsSeatOf};
 ghost use Rattle.hall_slots.specs.Lists.{end_kept};
-ghost use Rattle.hall_turns.specs.Takes.{IsRefused};
+ghost use Rattle.hall_turns.specs.Takes.{HasAllPlaces, IsRefused};
 ghost use Rattle.hall_seats.specs.Halting.{HasHalted, HoldsTheKept, IsInHall, PutsHalted};
 
 use boxed::Boxed;
@@ -42,7 +42,8 @@ pub fn halt(row: &HallRow, seat: &mut HallPlace, stop: Stop) -> Result<RunEnd, H
     requires is_in { IsInHall seat.old }
     requires found { seat.old.hand.note.found ≡ Some stop }
     requires free { seat.old.hand.holds ≡ [] }
-    ensures { MatchResult result (λ end. HasHalted seat.old stop end seat.new) (λ held. IsRefused seat.old 0 held seat.new) }
+    ensures seat { MatchResult result (λ end. HasHalted seat.old stop end seat.new) (λ held. IsRefused seat.old 0 held seat.new) }
+    ensures lone { HasAllPlaces (key_of row.now) seat.old → IsOk result }
 {
     let mut list = take_list(row, seat)?;
     let end = keep_in(&mut list, stop);

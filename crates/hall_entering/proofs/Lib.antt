@@ -1,0 +1,3 @@
+mod Listed
+mod Split
+mod Entered

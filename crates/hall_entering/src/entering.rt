@@ -1,0 +1,83 @@
+//! How a worker enters.
+
+ghost use Rattle.std.specs.Prelude.{◌≡◌, [], ◌∷◌, None, IfOk};
+ghost use Rattle.turn_table.specs.Tables.{key_of, IsSeatOf};
+ghost use Rattle.hall_slots.specs.declared.slot.Slot.TheVariants as slots;
+ghost use Rattle.hall_turns.specs.Takes.{MeetsLaw};
+ghost use Rattle.hall_entering.specs.Entering.{EntersWith, HasEntered, MayEnter};
+
+use crate::lists::{end_of, enter_in};
+use crate::puts::{put_answered, put_named, put_same, split};
+use crate::refused::EnterRefused;
+use boxed::Boxed;
+use hall_slots::ListSlot;
+use hall_turns::{HallPlace, HallRow, take_list};
+
+/// What `enter` does where no end is kept.
+fn enter_open(
+    row: &HallRow,
+    seat: &mut HallPlace,
+    list: Boxed<ListSlot>,
+    workers: u32,
+) -> Result<HallPlace, EnterRefused>
+    requires here { IsSeatOf row.now seat.old }
+    requires may { MayEnter (key_of row.now) seat.old workers }
+    requires holds { seat.old.hand.holds ≡ (0, slots.List list) ∷ [] }
+    requires meets { MeetsLaw (key_of row.now) seat.old }
+    requires no_end { list.end ≡ None }
+    ensures seat { EntersWith (key_of row.now) list seat.old seat.new result }
+    ensures made { IfOk result (λ made. IsSeatOf row.now made) }
+{
+    let mut list = list;
+    match enter_in(&mut list, workers) {
+        Ok(_) => {
+            put_named(row, seat, list);
+            Ok(split(row, seat))
+        }
+        Err(_) => {
+            put_same(row, seat, list);
+            Err(EnterRefused::OutOfMemory)
+        }
+    }
+}
+
+/// What `enter` does once it has the list.
+fn enter_with(
+    row: &HallRow,
+    seat: &mut HallPlace,
+    list: Boxed<ListSlot>,
+    workers: u32,
+) -> Result<HallPlace, EnterRefused>
+    requires here { IsSeatOf row.now seat.old }
+    requires may { MayEnter (key_of row.now) seat.old workers }
+    requires holds { seat.old.hand.holds ≡ (0, slots.List list) ∷ [] }
+    requires meets { MeetsLaw (key_of row.now) seat.old }
+    ensures seat { EntersWith (key_of row.now) list seat.old seat.new result }
+    ensures made { IfOk result (λ made. IsSeatOf row.now made) }
+{
+    match end_of(&list) {
+        Some(end) => {
+            put_answered(row, seat, list);
+            Err(EnterRefused::Over(end))
+        }
+        None => enter_open(row, seat, list, workers),
+    }
+}
+
+/// Lets a worker enter by a seat that has two places, of which it gives one to the worker's new seat.
+///
+/// # Errors
+///
+/// Another seat holds the list, an end is kept there, or there is not enough memory.
+pub fn enter(row: &HallRow, seat: &mut HallPlace, workers: u32) -> Result<HallPlace, EnterRefused>
+    requires here { IsSeatOf row.now seat.old }
+    requires may { MayEnter (key_of row.now) seat.old workers }
+    requires free { seat.old.hand.holds ≡ [] }
+    ensures seat { HasEntered (key_of row.now) seat.old seat.new result }
+    ensures made { IfOk result (λ made. IsSeatOf row.now made) }
+{
+    match take_list(row, seat) {
+        Ok(list) => enter_with(row, seat, list, workers),
+        Err(held) => Err(EnterRefused::Busy(held)),
+    }
+}

@@ -1,0 +1,32 @@
+//! What is read and written in the list.
+
+ghost use Rattle.std.specs.Prelude.{◌≡◌, ◌∷◌, ◌++◌, [], ℕ, IfOk, OnErr};
+ghost use Rattle.hall_state.specs.Numbers.{IsSmallestNumber};
+
+use boxed::Boxed;
+use dfd_core::RunEnd;
+use hall_slots::ListSlot;
+use std::alloc::AllocError;
+
+/// The end that is kept, if any.
+pub(crate) fn end_of(list: &Boxed<ListSlot>) -> Option<RunEnd>
+    ensures { result ≡ list.now.end }
+{
+    list.get().end
+}
+
+/// Lets a worker in, under the smallest number that is free.
+///
+/// # Errors
+///
+/// There is not enough memory.
+pub(crate) fn enter_in(list: &mut Boxed<ListSlot>, workers: u32) -> Result<u32, AllocError>
+    requires { (worker : ℕ) × IsSmallestNumber workers list.old.crew.items worker }
+    ensures number { IfOk result (λ worker. IsSmallestNumber workers list.old.crew.items worker) }
+    ensures crew { IfOk result (λ worker. list.new.crew.items ≡ list.old.crew.items ++ worker ∷ []) }
+    ensures err { OnErr result (list.new.crew.items ≡ list.old.crew.items) }
+    ensures part { list.new.part ≡ list.old.part }
+    ensures end { list.new.end ≡ list.old.end }
+{
+    list.get_mut().enter(workers)
+}
