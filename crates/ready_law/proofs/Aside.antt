@@ -22,7 +22,7 @@ use Rattle.ready_machine.specs.ReadyPlay.{WantsReady}
 use Rattle.ready_machine.proofs.Sharing.{kept_ready}
 use Rattle.ready_machine.proofs.Cuts.{one_only_cut}
 use Rattle.ready_machine.proofs.Coming.{IsForkEvent, IsMachinesFork, machines_fork, each_beside, no_entry, all_but_forks_are_shared, forks_are_cut, wanted_may_come}
-use Rattle.ready_law.specs.Standing.{HasOneThread, RootStandsReady, OneThreadEach, TwoAreCut, ReadyRunsGoOn}
+use Rattle.ready_law.specs.Standing.{HasOneThread, cut_moment, RootStandsReady, OneThreadEach, TwoAreCut, ReadyRunsGoOn}
 
 goes_on : (s : Setting) (run : List Pair) (first m after : Moment) (worker : ℕ) (event : Event) → ReadyReaches s first run m
     → MayReady s m worker event after → ReadyReaches s first (run ++ record { worker = worker; event = event } ∷ []) after
@@ -86,7 +86,6 @@ one_thread_each s some list before after moved m next worker event stands below 
     let ready : IsReadyList s m = record { entries = stands.entries; lawful = (stands.standing).lawful } in
     let entries : Each IsEntry next.deques = subst (λ t. Each IsEntry t) (sym (standing.shows).deques)
     (shown_entries after.parts.deques one) in (
-      next,
       as_it_came s some list m next ready worker event below wants may
           (λ fork. fork_leaves_two s some list m next ready worker event below wants may fork entries),
       record { entries = entries; standing = standing },
@@ -151,20 +150,11 @@ two_are_cut s some list before after moved m next worker event left right id new
     (λ entries. no_entry s m ready worker id upper.label lower.label []
     (each_at IsEntry (map deque_shown left) (machine.deque_of id (Some worker) (upper.label ∷ lower.label ∷ [])) (map deque_shown right)
     (subst (λ t. Each IsEntry t) whole entries))) in
-    let comes : MayReady s m worker event
-    (moment_of (map deque_shown left ++ entry id
-    (Some worker) upper.label ∷ entry new None lower.label ∷ map deque_shown right) next.waiting next.books) =
-    subst (λ e. MayReady s m worker e
-    (moment_of (map deque_shown left ++ entry id
-    (Some worker) upper.label ∷ entry new None lower.label ∷ map deque_shown right) next.waiting next.books))
-    (sym fork.2)
+    let comes : MayReady s m worker event (cut_moment next left right id new worker upper lower) =
+    subst (λ e. MayReady s m worker e (cut_moment next left right id new worker upper lower)) (sym fork.2)
     (cut_comes s some list m next ready worker fork.0 fork.1 fork.3 (subst (λ e. May s m worker e next) fork.2 may)
     (map deque_shown left) (map deque_shown right) id new upper.label lower.label whole least) in
-    let kept = kept_ready s list m ready worker event
-    (moment_of (map deque_shown left ++ entry id
-    (Some worker) upper.label ∷ entry new None lower.label ∷ map deque_shown right) next.waiting next.books) comes in (
-      moment_of (map deque_shown left ++ entry id
-          (Some worker) upper.label ∷ entry new None lower.label ∷ map deque_shown right) next.waiting next.books,
+    let kept = kept_ready s list m ready worker event (cut_moment next left right id new worker upper lower) comes in (
       comes,
       record {
         entries = kept.entries;

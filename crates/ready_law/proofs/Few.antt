@@ -13,7 +13,7 @@ use Rattle.moment_parts.specs.Parts.{Thread, Deque, deque_shown, deque_words, th
 use Rattle.ready_machine.specs.Entries.{IsEntry}
 use Rattle.ready_law.specs.Standing.{HasRecord, EntriesAreFew}
 
--- nothing is behind the root in the order
+-- nothing is after the root in the order
 none_after_root : (ds : List Deque) → Each IsEntry (map deque_shown ds) → Each (Before []) (threads_in (map deque_shown ds)) → ds ≡ []
 none_after_root [] entries behind = refl
 none_after_root (d ∷ ds) entries behind = absurd (by_threads (map label_of d.threads) (entries.0).1 behind)

@@ -4,13 +4,13 @@ use Rattle.dag_order.specs.Births.{root}
 use Rattle.depth_first_list.specs.Actions.{Action, record_words}
 use Rattle.depth_first_list.specs.Facts.{action_at}
 use Rattle.lawful_books.specs.Lists.{Each}
-use Rattle.deque_machine.specs.Moments.{Moment, opening}
+use Rattle.deque_machine.specs.Moments.{Moment, opening, moment_of}
 use Rattle.deque_machine.specs.Machine.{Setting, Event, May}
 use Rattle.deque_machine.specs.Runs.{Pair, place_of, is_move}
-use Rattle.moment_parts.specs.Parts.{Thread, Deque, parts_with_root}
+use Rattle.moment_parts.specs.Parts.{Thread, Deque, parts_with_root, deque_shown}
 use Rattle.moment_parts.specs.Cuts.{deque_with}
 use Rattle.step_laws.specs.Standing.{Showing, StandsAt}
-use Rattle.ready_machine.specs.Entries.{IsEntry, IsLeastFree}
+use Rattle.ready_machine.specs.Entries.{entry, IsEntry, IsLeastFree}
 use Rattle.ready_machine.specs.ReadyMachine.{MayReady, ReadyReaches}
 use Rattle.ready_machine.specs.ReadyPlay.{WantsReady}
 
@@ -19,9 +19,9 @@ pub record StandsReady (s : Setting) (shown : Showing) (moved : List Action) (m 
   pub entries : Each IsEntry m.deques
   pub standing : StandsAt s shown moved m
 
--- an event of a worker may come, and what is shown stands at the ready list after it, with the event's move if it is one
-abbrev pub StandsReadyAfter : Setting → Showing → List Action → Moment → (worker : ℕ) → Event → Type 0
-StandsReadyAfter s after moved m worker event = (next : Moment) × MayReady s m worker event next
+-- with an event of a worker the ready list comes to this moment, where what is shown stands, with the event's move if it is one
+abbrev pub StandsReadyAfter : Setting → Showing → List Action → Moment → (worker : ℕ) → Event → Moment → Type 0
+StandsReadyAfter s after moved m worker event next = MayReady s m worker event next
     × StandsReady s after (moved ++ filter is_move (map (action_at s.list) (place_of event))) next
 
 -- a deque of the parts has one thread
@@ -33,6 +33,11 @@ abbrev pub set_aside : Showing → (left right : List Deque) → (id new : ℕ) 
 set_aside shown left right id new owner upper lower = record shown {
   parts = record (shown.parts) { deques = left ++ deque_with id owner (upper ∷ []) ∷ deque_with new None (lower ∷ []) ∷ right };
 }
+
+-- and the moment with its deque cut so
+abbrev pub cut_moment : Moment → (left right : List Deque) → (id new worker : ℕ) → (upper lower : Thread) → Moment
+cut_moment next left right id new worker upper lower = moment_of
+    (map deque_shown left ++ entry id (Some worker) upper.label ∷ entry new None lower.label ∷ map deque_shown right) next.waiting next.books
 
 -- a root that has done nothing, alone and ready, stands at the opening moment
 abbrev pub RootStandsReady : Setting → Type 0
@@ -46,7 +51,7 @@ OneThreadEach s = (before after : Showing) (moved : List Action) (m next : Momen
     → StandsReady s before moved m
     → worker < s.workers → WantsReady s m worker event → May s m worker event next
     → StandsAt s after (moved ++ filter is_move (map (action_at s.list) (place_of event))) next
-    → Each HasOneThread after.parts.deques → StandsReadyAfter s after moved m worker event
+    → Each HasOneThread after.parts.deques → StandsReadyAfter s after moved m worker event next
 
 -- Where the worker's deque has two threads then, it came in the ready list once the deque is cut in two, under the least free id.
 abbrev pub TwoAreCut : Setting → Type 0
@@ -56,6 +61,7 @@ TwoAreCut s = (before after : Showing) (moved : List Action) (m next : Moment) (
     → StandsAt s after (moved ++ filter is_move (map (action_at s.list) (place_of event))) next
     → after.parts.deques ≡ left ++ deque_with id (Some worker) (upper ∷ lower ∷ []) ∷ right → IsLeastFree next.deques new
     → StandsReadyAfter s (set_aside after left right id new (Some worker) upper lower) moved m worker event
+    (cut_moment next left right id new worker upper lower)
 
 -- a run goes on with each event that may come at the ready list that it reaches
 abbrev pub ReadyRunsGoOn : Setting → Type 0

@@ -1,4 +1,5 @@
--- At a lawful ready list the two machines agree on who can move and on what is wanted: the thief of word 0 takes the leftmost ready entry.
+-- At a lawful ready list the two machines agree on who can move and on what is wanted. A steal with the word 0 takes the leftmost ready
+-- entry.
 use Rattle.std.proofs.Common.{◌≡◌, ℕ, suc, ◌+◌, ◌%◌, ◌<◌, ◌⊎◌, List, [], ◌∷◌, ◌++◌, length, inl, inr, refl, sym, ap, subst, ◌∙◌, arith, length-append, true≢false}
 use Rattle.std.specs.Prelude.{Option, None, Some, is_some, slice_get, unwrap_or}
 use Rattle.std.proofs.lemmas.Bool.{cases_lt}

@@ -29,7 +29,7 @@ module _ (left right : List Deque) (id worker new : ℕ) (upper lower : List ℕ
       let after = total_append (one_if_owned w) left (entry id (Some worker) upper ∷ entry new None lower ∷ right) in omega
       (arith, before, after)
 
-  -- the order is that of a theft of the lower thread by a worker that gives it up
+  -- the order is that after a steal of the lower thread by a worker that then gives it up
   parted_order : (l : List Action) (done : ℕ → ℕ) (waiting : List Waiting) (other : ℕ)
       → with_id new (joined left right id worker upper lower) ≡ 0
       → owned_by other (joined left right id worker upper lower) ≡ 0 → OrderOf l done (joined left right id worker upper lower) waiting

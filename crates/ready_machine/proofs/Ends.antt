@@ -67,7 +67,7 @@ module _ (s : Setting) where
   acts : List Book → ℕ
   acts books = length (booked books)
 
-  -- an event raises what is used up, but for a period that is no longer busy
+  -- an event raises what is used up, except that a period may no longer be busy
   Rises : Moment → List Book → List Waiting → Type 0
   Rises m books waiting = 1 + 2 * busies books + 3 * acts m.books + opens m.books + 2 * length m.waiting
       ≤ 2 * busies m.books + 3 * acts books + opens books + 2 * length waiting

@@ -15,7 +15,8 @@ module _ (s : Setting) (limits : Limits) (words : ℕ → ℕ) where
       → ReadyPlays s limits words n m (front ++ rest) last ending
   front_goes_on n drawn m here last front rest ending (stays_here n' m') plays = plays
   front_goes_on n drawn m here last front rest ending (takes_turn n' m' next last' pair later drawn' turn none may further) plays =
-      goes_on n m next last pair (later ++ rest) ending turn none may (front_goes_on (suc n) drawn next here last later rest ending further plays)
+      goes_on n m next last pair (later ++ rest) ending turn none may (front_goes_on
+      (suc n) drawn next here last later rest ending further plays)
 
   pub front_with_turn : (n drawn : ℕ) (m here next : Moment) (front : List Pair) (pair : Pair)
       → ReadyPlaysOn s limits words n m front drawn here → ReadyTurn s words drawn here pair
@@ -35,7 +36,8 @@ module _ (s : Setting) (limits : Limits) (words : ℕ → ℕ) where
       ((next, may, r.0), (forced s m pair.worker pair.event turn.wants, r.1))
 
 pub fronts_go_on : (s : Setting) → FrontsGoOn s
-fronts_go_on s limits words n drawn m here last front rest ending on plays = front_goes_on s limits words n drawn m here last front rest ending on plays
+fronts_go_on s limits words n drawn m here last front rest ending on plays = front_goes_on s limits words n drawn m here last front rest
+    ending on plays
 
 pub fronts_take_turns : (s : Setting) → FrontsTakeTurns s
 fronts_take_turns s limits words n drawn m here next front pair on turn none may =

@@ -46,7 +46,7 @@ in_reach s m lawful worker below idle left rest are run =
     ) in
     omega (arith, few, as_many)
 
--- so a Take is a theft in place
+-- so a Take is a steal in place
 pub take_is_theft : (s : Setting) (m : Moment) → IsLawful s m → (worker : ℕ) (left right : List Deque) (thread : List ℕ) (id : ℕ)
     → IsIdle s m worker
     → IsLeftmostReady m.deques left id thread right
@@ -83,7 +83,7 @@ beside s m ready worker event after (forks_left o place child new at fits least)
 beside s m ready worker event after (as_with_deques event' after' shared may) =
     record { between = after; may = may; waiting_are = refl; books_are = refl }
 
--- an id stays free whatever threads the worker's deque has
+-- an id stays free if the worker's deque changes its owner and threads
 pub still_free : (m : Moment) (worker : ℕ) (o : Owns m worker) (new : ℕ) (owner : Option ℕ) (threads : List (List ℕ))
     → with_id new m.deques ≡ 0
     → with_id new (o.left ++ deque_of o.id owner threads ∷ o.right) ≡ 0

@@ -1,7 +1,7 @@
--- The ready list of a moment: a list of deques of one thread each.
+-- The ready list of a moment: a list of deques with one thread each.
 --
--- An entry is a deque of one thread. Where it has an owner, this worker runs it; where it has none, it is ready. So a moment of a ready
--- list is a moment of deques, and what is said of threads in order, of books, births and marks is said of it as it stands.
+-- An entry is a deque with one thread. If it has an owner, that worker runs it; if not, it is ready. So a moment of a ready list is a
+-- moment of deques, and what the machine of deques says of order, books, births and marks holds for it unchanged.
 use Rattle.std.specs.Prelude.{◌≡◌, ◌≢◌, ℕ, ◌<◌, Option, None, List, [], ◌∷◌, ◌++◌}
 use Rattle.lawful_books.specs.Lists.{Each}
 use Rattle.deque_machine.specs.Moments.{Deque, Moment, deque_of, with_id}

@@ -81,16 +81,16 @@ ArenaNeverFills s = (run : List Pair) (m after : Moment) (worker place : ℕ) �
     → MayReady s m worker (does place) after
     → (live_at s.list m +ℤ weight_at s.list place) ≤ℤ pos (total words_taken s.list)
 
--- At a lawful ready list a worker that is idle can move in one machine just where it can in the other, and the thief of word 0 takes the
--- leftmost ready entry.
+-- At a lawful ready list a worker can move in one machine if and only if it can in the other.
 abbrev pub MoversAgree : Setting → Type 0
 MoversAgree s = (m : Moment) (worker : ℕ) → IsReadyList s m → worker < s.workers → CanMove s m worker ↔ CanGo m worker
 
+-- And the rules of both want the same of it with the word 0: the first deque with a thread to steal is then the leftmost ready entry.
 abbrev pub WantsAgree : Setting → Type 0
 WantsAgree s = (m : Moment) (worker : ℕ) (event : Event) → IsReadyList s m → worker < s.workers
     → Wants s m worker 0 event ↔ WantsReady s m worker event
 
--- Any event of a ready list but a Fork is one of the machine of deques, with the same moment after it.
+-- Every event of a ready list except a Fork is one of the machine of deques, with the same moment after it.
 abbrev pub AllButForksAreShared : Setting → Type 0
 AllButForksAreShared s = (m after : Moment) (worker : ℕ) (event : Event) → IsReadyList s m → MayReady s m worker event after
     → May s m worker event after ⊎ ((place child : ℕ) × (event ≡ does place) × (deed_at s.list place ≡ forks child))

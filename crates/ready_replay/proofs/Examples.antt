@@ -25,7 +25,7 @@ by worker event = record { worker = worker; event = event }
 abbrev book : Bool → Option ℕ → List ℕ → Book
 book ahead owner ran = record { ahead = ahead; owner = owner; ran = ran }
 
--- the limits by default but for the words of the arena, and a list of words that is all 0
+-- the default limits with an arena of so many words, and a list of words that are all 0
 abbrev limits : ℕ → Limits
 limits capacity = record { capacity = capacity; actions = 4000000; deques = 4096 }
 

@@ -73,7 +73,7 @@ module _ (s : Setting) (list : IsDepthFirst s.quota s.list) where
     IsSteal suspends = ⊥
     IsSteal gives_up = ⊥
 
-    -- a theft of the machine of deques, where all to the left are owned
+    -- a steal of the machine of deques, if all to the left have owners
     take_sound : (event : Event) (after : Moment) → May s m worker event after → (place id : ℕ) → event ≡ steals place id
         → all_owned place m.deques ≡ true → MayReady s m worker event after
     unfolding IsSteal

@@ -19,7 +19,7 @@ any_ready (deque ∷ right) = no_owner deque.owner || any_ready right
 abbrev pub can_go : Moment → ℕ → Bool
 can_go m worker = nat_lt 0 (owned_by worker m.deques) || any_ready m.deques
 
--- the Take of the leftmost ready entry, where the first of these stands at a place
+-- the Take of the leftmost ready entry, where the first of these is at a place
 abbrev pub take_from : ℕ → List Deque → Option Event
 take_from place [] = None
 take_from place (deque ∷ right) = cond (no_owner deque.owner) (Some (steals place deque.id)) (take_from (suc place) right)

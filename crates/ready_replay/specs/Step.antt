@@ -1,5 +1,5 @@
--- The machine of a ready list, computed: the computed machine of deques, in which a theft comes only where all to the left are owned, and
--- in which a Fork cuts the deque of two in two.
+-- The machine of a ready list, computed. It is the computed machine of deques with two changes: a steal comes only if all deques to the left
+-- have owners, and a Fork cuts the deque of two threads in two.
 use Rattle.std.specs.Prelude.{ℕ, zero, suc, Bool, true, cond, not, ◌&&◌, Option, None, Some, List, [], ◌∷◌, length}
 use Rattle.depth_first_list.specs.Actions.{Deed, forks, joins, allocates, releases, dummy, faults, ends}
 use Rattle.depth_first_list.specs.Facts.{deed_at}
