@@ -19,6 +19,13 @@ use node_table::Code;
 use std::alloc::{AllocError, Global};
 use std::snapshot::Snapshot;
 
+/// The program, for contracts alone.
+fn shown_code(code: &Code) -> Snapshot<Code>
+    ensures { result.value ≡ code.now }
+{
+    Snapshot::of(code)
+}
+
 /// The words of a pool.
 fn words_of(pool: &Pool) -> u64
     ensures value { result ≡ pool.now.capacity }
@@ -61,7 +68,7 @@ pub fn open_hall(alloc: Global, core: Core) -> Result<(HallRow, HallPlace, Code)
         ..
     } = core.into_parts();
     let key = HallKey {
-        code: Snapshot::of(&code),
+        code: shown_code(&code),
         quota,
         workers,
         capacity: words_of(&pool),
