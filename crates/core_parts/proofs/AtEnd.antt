@@ -27,7 +27,7 @@ use Rattle.core_parts.specs.declared.scheduler.Scheduler.{Scheduler}
 use Rattle.core_parts.specs.Held.{held_under, IsInOrder}
 use Rattle.core_parts.specs.Moments.{HasRun}
 use Rattle.core_parts.proofs.AtTop.{its_period, period_there}
-use Rattle.core_parts.proofs.Ids.{same_with_itself}
+use Rattle.thread_parts.proofs.Found.{same_with_itself}
 use Rattle.core_parts.proofs.Newest.{among_reversed}
 use Rattle.thread_map.proofs.KeptLemmas.{same_is_same}
 

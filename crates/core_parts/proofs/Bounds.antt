@@ -119,10 +119,6 @@ end_within x placed = placed_gives x (search props) placed (λ t k c of_table a.
         ap words_at_end (label_there c t a.functions x.run x.prepared a.own a.at a.part a.stands) in
         let block = a.record_block in omega (arith, same, block)
 
--- that a thread is at its point is known in one way
-pub point_one : (t : Table) (k : ℕ) (x : Thread) → IsProp (IsAtPoint t k x)
-point_one t k x = λ a b i. record { of_program = ∥∥₁_prop a.of_program b.of_program i; at = λ c is. ∥∥₁_prop (a.at c is) (b.at c is) i }
-
 -- ---- the deque of a seat
 
 -- a deque is that of the worker with this id, with a thread on top, or not

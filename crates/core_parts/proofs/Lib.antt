@@ -1,4 +1,3 @@
-pub mod Ids
 pub mod Lists
 pub mod Newest
 pub mod Owners

@@ -12,7 +12,7 @@ use Rattle.thread_frames.specs.declared.ended.Ended.{Ended}
 use Rattle.thread_parts.specs.Shown.{child_shown}
 use Rattle.thread_parts.proofs.Threads.{newest_last}
 use Rattle.lawful_books.proofs.Lists.{among_left, among_right, by_end}
-use Rattle.core_parts.proofs.Ids.{same_with_itself}
+use Rattle.thread_parts.proofs.Found.{same_with_itself}
 
 -- the children with the newest one at the end, which has the id
 pub record Cut (children : List Child) (id : ThreadId) : Type 0 where

@@ -16,6 +16,7 @@ use Rattle.period_table.specs.Tables.{periods_of, deque_at}
 use Rattle.moment_parts.specs.Parts as parts
 use Rattle.thread_parts.specs.Shown.{thread_shown, result_shown}
 use Rattle.deque_events.specs.Shown.{deque_shown, Stands}
+use Rattle.thread_parts.specs.Kept.{waiting_shown, result_kept, WaitsUnder, IsUnderItsId}
 use Rattle.core_parts.specs.declared.scheduler.Scheduler.{Scheduler}
 
 -- The deques; the waiting threads, each with the id of the child that it waits for; the results, each with the id of its thread; the
@@ -47,12 +48,6 @@ held_under s {worker} {id} {items} stands top =
     record (held s) { deques = stands.left ++ record { id = id; owner = Some worker; items = top ∷ items } ∷ stands.right }
 
 -- the parts that it is
-abbrev pub waiting_shown : ThreadId × Thread → parts.Thread
-waiting_shown entry = thread_shown entry.1
-
-abbrev pub result_kept : ThreadId × Ended → parts.Result
-result_kept entry = result_shown entry.1
-
 abbrev pub parts_in : Held → parts.Parts
 parts_in h = record {
   deques = map (deque_shown thread_shown) h.deques;
@@ -81,15 +76,6 @@ OwnersSit table deques = Each (λ deque. (w : ℕ) → Deque.owner deque ≡ Som
 abbrev pub OwnsNone : ℕ → List (Deque Thread) → List (Deque Thread) → Type 0
 OwnsNone worker left right =
     Each (λ deque. Deque.owner deque ≢ Some worker) left × Each (λ deque. Deque.owner deque ≢ Some worker) right
-
--- a waiting thread stands under the id of its newest open child
-abbrev pub WaitsUnder : ThreadId × Thread → Type 0
-WaitsUnder entry = (newest : parts.Child) × (older : List parts.Child)
-    × (parts.Thread.children (thread_shown entry.1) ≡ newest ∷ older) × (newest.id ≡ entry.0)
-
--- a result stands under the id of its thread
-abbrev pub IsUnderItsId : ThreadId × Ended → Type 0
-IsUnderItsId entry = Ended.id entry.1 ≡ entry.0
 
 -- What is in order beside the moment: owners sit at their deques, and what waits or is kept stands under its id.
 pub record IsInOrder (h : Held) : Type 0 where

@@ -17,8 +17,8 @@ use Rattle.period_table.specs.Tables.{periods_of}
 use Rattle.depth_first_run.specs.Run.{list_of}
 use Rattle.core_parts.specs.declared.event.Event.{Event}
 use Rattle.core_parts.specs.declared.event.Event.TheVariants.{Stole, Acted, Suspended, GaveUp}
-use Rattle.core_parts.specs.declared.stop.Stop.{Stop}
-use Rattle.core_parts.specs.declared.stop.Stop.TheVariants.{ArenaFull, DequesFull, StepsSpent, OutOfMemory}
+use Rattle.run_end.specs.declared.stop.Stop.{Stop}
+use Rattle.run_end.specs.declared.stop.Stop.TheVariants.{ArenaFull, DequesFull, StepsSpent, OutOfMemory}
 use Rattle.core_parts.specs.Held.{Held}
 use Rattle.core_parts.specs.Moments.{HasRun}
 use Rattle.deque_machine.specs.Terms.{Terms, machine_of}

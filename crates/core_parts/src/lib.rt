@@ -12,8 +12,6 @@
 
 mod event;
 mod scheduler;
-mod stop;
 
 pub use event::Event;
 pub use scheduler::Scheduler;
-pub use stop::Stop;

@@ -47,9 +47,10 @@ use Rattle.core_parts.specs.Held.{Held, parts_in}
 use Rattle.core_parts.specs.Moments.{IsSound, CanGoOn, HasRun}
 use Rattle.step_laws.specs.Moves.{AreMovesOf}
 use Rattle.deque_machine.specs.Terms.{Terms}
-use Rattle.dfd_core.specs.declared.run_end.RunEnd.{RunEnd}
-use Rattle.dfd_core.specs.declared.run_end.RunEnd.TheVariants.{Finished, Stopped}
-use Rattle.dfd_core.specs.Parts.{root_behind, IsOfWholeRun, AreOfRun, HasDoneNothing, IsRootAlone}
+use Rattle.run_end.specs.declared.ends.RunEnd.{RunEnd}
+use Rattle.run_end.specs.declared.ends.RunEnd.TheVariants.{Finished, Stopped}
+use Rattle.dfd_core.specs.Parts.{root_behind, IsOfWholeRun, AreOfRun}
+use Rattle.thread_parts.specs.Roots.{HasDoneNothing, IsRootAlone}
 use Rattle.dfd_core.specs.Running.{IsAtMoment, IsSomewhere}
 use Rattle.dfd_core.proofs.Roots.{root_result, finished_keeps, label_of_root, root_is_result}
 

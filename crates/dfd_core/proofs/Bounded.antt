@@ -16,7 +16,7 @@ use Rattle.core_parts.specs.Held.{Held}
 use Rattle.core_parts.specs.Moments.{IsSound}
 use Rattle.node_table.specs.Table.{Table}
 use Rattle.dfd_core.specs.declared.run.Core.{Core}
-use Rattle.dfd_core.specs.declared.run_end.RunEnd.{RunEnd}
+use Rattle.run_end.specs.declared.ends.RunEnd.{RunEnd}
 use Rattle.dfd_core.specs.Cores.{IsAt, terms_at}
 use Rattle.dfd_core.specs.Running.{IsSomewhere}
 

@@ -14,13 +14,13 @@ use Rattle.deque_machine.specs.Runs.{Pair}
 use Rattle.node_table.specs.Table.{Table}
 use Rattle.step_laws.proofs.Told.{tells}
 use Rattle.thread_steps.specs.Settings.{IsSettingOf}
-use Rattle.core_parts.specs.declared.stop.Stop.TheVariants.{OutOfMemory}
+use Rattle.run_end.specs.declared.stop.Stop.TheVariants.{OutOfMemory}
 use Rattle.core_parts.specs.Held.{Held}
 use Rattle.core_parts.specs.Moments.{HasRun}
 use Rattle.deque_machine.specs.Terms.{Terms, machine_of}
 use Rattle.core_parts.specs.Outcomes.{GivesDequeUp}
 use Rattle.owner_steps.specs.Steps.{GivesUpOrStays}
-use Rattle.dfd_core.specs.declared.run_end.RunEnd.{RunEnd}
+use Rattle.run_end.specs.declared.ends.RunEnd.{RunEnd}
 use Rattle.dfd_core.specs.Running.{IsAtMoment, IsSomewhere}
 use Rattle.dfd_core.specs.GiveUps.{GaveUp, GivesUp, end_without_memory, end_behind_give_up}
 use Rattle.dfd_core.proofs.Going.{stays_at}

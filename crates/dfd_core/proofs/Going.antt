@@ -18,17 +18,18 @@ use Rattle.period_table.specs.Tables.{periods_of}
 use Rattle.step_laws.proofs.Told.{actions_are_added, others_add_none}
 use Rattle.thread_steps.specs.Settings.{IsSettingOf}
 use Rattle.core_parts.specs.declared.event.Event.{Event as Told}
-use Rattle.core_parts.specs.declared.stop.Stop.{Stop}
-use Rattle.core_parts.specs.declared.stop.Stop.TheVariants.{ArenaFull, DequesFull, StepsSpent, OutOfMemory}
+use Rattle.run_end.specs.declared.stop.Stop.{Stop}
+use Rattle.run_end.specs.declared.stop.Stop.TheVariants.{ArenaFull, DequesFull, StepsSpent, OutOfMemory}
 use Rattle.core_parts.specs.Held.{Held}
 use Rattle.core_parts.specs.Moments.{IsSound, HasRun}
 use Rattle.deque_machine.specs.Terms.{Terms, machine_of}
 use Rattle.core_parts.specs.Outcomes as parts
 use Rattle.core_parts.specs.Outcomes.{StepsTo}
 use Rattle.thief_steps.specs.Thefts.{StepsBy as EventBy}
-use Rattle.dfd_core.specs.declared.run_end.RunEnd.{RunEnd}
-use Rattle.dfd_core.specs.declared.run_end.RunEnd.TheVariants.{Finished, Stopped}
-use Rattle.dfd_core.specs.Ends.{end_of_root, is_of_root, end_behind_event}
+use Rattle.run_end.specs.declared.ends.RunEnd.{RunEnd}
+use Rattle.run_end.specs.declared.ends.RunEnd.TheVariants.{Finished, Stopped}
+use Rattle.dfd_core.specs.Ends.{is_of_root, end_behind_event}
+use Rattle.thread_parts.specs.Roots.{end_of_root}
 use Rattle.depth_first_run.specs.Run.{finish_of_run}
 use Rattle.dfd_core.specs.Running.{IsAtMoment, IsSomewhere, KeepsEnd}
 use Rattle.dfd_core.specs.Steps.{GoesOn, Stops, Comes, end_behind}

@@ -21,7 +21,7 @@ use Rattle.core_parts.specs.Held.{Held}
 use Rattle.core_parts.specs.Moments.{IsSound}
 use Rattle.deque_machine.specs.Terms.{Terms}
 use Rattle.step_laws.specs.Moves.{AreMovesOf}
-use Rattle.dfd_core.specs.declared.run_end.RunEnd.{RunEnd}
+use Rattle.run_end.specs.declared.ends.RunEnd.{RunEnd}
 use Rattle.dfd_core.specs.Running.{IsAtMoment, IsSomewhere}
 use Rattle.depth_first_list.specs.Actions.{Action}
 use Rattle.lawful_books.specs.Lists.{Among, Differ, total}

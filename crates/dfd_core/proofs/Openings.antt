@@ -22,7 +22,8 @@ use Rattle.thread_frames.specs.declared.thread.Thread.{Thread}
 use Rattle.thread_frames.specs.Points.{IsAtPoint, IsResult}
 use Rattle.thread_parts.specs.Shown.{thread_shown, child_shown}
 use Rattle.deque_events.specs.Shown.{deque_shown}
-use Rattle.core_parts.specs.Held.{Held, parts_in, waiting_shown, result_kept, OwnersSit, WaitsUnder, IsUnderItsId}
+use Rattle.core_parts.specs.Held.{Held, parts_in, OwnersSit}
+use Rattle.thread_parts.specs.Kept.{waiting_shown, result_kept, WaitsUnder, IsUnderItsId}
 use Rattle.core_parts.specs.Moments.{shown, HasRun, IsSound, CanGoOn}
 use Rattle.deque_machine.specs.Terms.{Terms, machine_of}
 use Rattle.dfd_core.specs.Begun.{IsBegun}

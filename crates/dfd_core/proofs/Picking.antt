@@ -7,6 +7,7 @@ use Rattle.std.specs.Option.{option_copied}
 use Rattle.std.proofs.lemmas.Bool.{false≢true, true≢false}
 use Rattle.depth_first_run.specs.States.{Setting}
 use Rattle.deque_machine.specs.Moments.{Moment}
+use Rattle.victim_choice.proofs.Firsts.{first_below}
 use Rattle.deque_machine.specs.Play as play
 use Rattle.deque_machine.specs.Play.{IsFirst, IsReady, reach, words_drawn}
 use Rattle.deque_machine.specs.Runs.{Pair}
@@ -22,7 +23,7 @@ use Rattle.core_parts.specs.Held.{Held}
 use Rattle.core_parts.specs.Moments.{IsSound}
 use Rattle.deque_machine.specs.Terms.{Terms, machine_of}
 use Rattle.core_parts.proofs.Going.{lawful_at}
-use Rattle.dfd_core.specs.declared.run_end.RunEnd.{RunEnd}
+use Rattle.run_end.specs.declared.ends.RunEnd.{RunEnd}
 use Rattle.dfd_core.specs.Cores.{words_of_turn}
 use Rattle.dfd_core.specs.Running.{IsAtMoment, IsSomewhere}
 use Rattle.dfd_core.proofs.Turns.{can_move_is, idle_draws, owner_draws}
@@ -36,11 +37,6 @@ first_by n word P Q x same first = record {
   passes = (same x).0 first.passes;
   none_before = λ e before passes. first.none_before e before ((same _).1 passes);
 }
-
--- who is picked is one of them
-pub first_below : (n word : ℕ) (P : ℕ → Type 0) (x : ℕ) → IsFirst n word P x → x < n
-first_below n word P x first = let few = first.few in
-    subst (λ y. y < n) (sym first.is) (mod-lt (word + first.turns) (let some : 0 < n = omega (arith, few) in some))
 
 module _ (t : Table) (k : ℕ) (terms : Terms) (h : Held) (sound : IsSound t k terms h) (end : Option RunEnd) where
   -- the first that can move by what the table tells is the first that can move at the moment

@@ -28,13 +28,15 @@ use Rattle.thread_frames.specs.Points.{IsResult}
 use Rattle.thread_frames.specs.Views.{ended_label}
 use Rattle.thread_frames.proofs.Sets.{fault_set}
 use Rattle.thread_frames.proofs.Telling.{whole_told}
-use Rattle.core_parts.specs.Held.{Held, result_kept, IsUnderItsId}
+use Rattle.core_parts.specs.Held.{Held}
+use Rattle.thread_parts.specs.Kept.{result_kept, IsUnderItsId}
 use Rattle.core_parts.specs.Moments.{IsSound, HasRun}
 use Rattle.deque_machine.specs.Terms.{Terms, machine_of}
-use Rattle.core_parts.proofs.Lists.{found_among, none_found, among_mapped}
-use Rattle.dfd_core.specs.declared.run_end.RunEnd.{RunEnd}
-use Rattle.dfd_core.specs.declared.run_end.RunEnd.TheVariants.{Finished}
-use Rattle.dfd_core.specs.Ends.{end_of_root}
+use Rattle.core_parts.proofs.Lists.{among_mapped}
+use Rattle.thread_parts.proofs.Found.{found_among, none_found}
+use Rattle.run_end.specs.declared.ends.RunEnd.{RunEnd}
+use Rattle.run_end.specs.declared.ends.RunEnd.TheVariants.{Finished}
+use Rattle.thread_parts.specs.Roots.{end_of_root}
 use Rattle.dfd_core.specs.Running.{KeepsEnd, IsSomewhere}
 
 -- what stands in a list under a map comes from the list

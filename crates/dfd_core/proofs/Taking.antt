@@ -14,16 +14,16 @@ use Rattle.deque_machine.specs.Play.{IsFirst, CanMove, Wants, a_theft, a_give_up
 use Rattle.deque_machine.specs.Runs.{Pair}
 use Rattle.node_table.specs.Codes.{code_shown}
 use Rattle.core_parts.specs.declared.event.Event.{Event as Told}
-use Rattle.core_parts.specs.declared.stop.Stop.{Stop}
-use Rattle.core_parts.specs.declared.stop.Stop.TheVariants.{ArenaFull, DequesFull, StepsSpent, OutOfMemory}
+use Rattle.run_end.specs.declared.stop.Stop.{Stop}
+use Rattle.run_end.specs.declared.stop.Stop.TheVariants.{ArenaFull, DequesFull, StepsSpent, OutOfMemory}
 use Rattle.core_parts.specs.Held.{held}
 use Rattle.deque_machine.specs.Terms.{Terms, machine_of}
 use Rattle.core_parts.specs.Outcomes.{HasDequesLeft}
 use Rattle.dfd_core.specs.declared.run.Core.{Core}
-use Rattle.dfd_core.specs.declared.run_end.RunEnd.{RunEnd}
-use Rattle.dfd_core.specs.declared.run_end.RunEnd.TheVariants.{Finished, Stopped}
-use Rattle.dfd_core.specs.declared.run_end.Stepped.{Stepped}
-use Rattle.dfd_core.specs.declared.run_end.Stepped.TheVariants.{Stole, Acted, Suspended, GaveUp, Nothing, Over}
+use Rattle.run_end.specs.declared.ends.RunEnd.{RunEnd}
+use Rattle.run_end.specs.declared.ends.RunEnd.TheVariants.{Finished, Stopped}
+use Rattle.dfd_core.specs.declared.stepped.Stepped.{Stepped}
+use Rattle.dfd_core.specs.declared.stepped.Stepped.TheVariants.{Stole, Acted, Suspended, GaveUp, Nothing, Over}
 use Rattle.dfd_core.specs.Running.{KeepsEnd}
 use Rattle.dfd_core.specs.Steps.{GoesOn, Stops, Comes, IsTold}
 use Rattle.dfd_core.specs.Cores.{IsAt, end_of, terms_at, workers_of, words_of_turn}

@@ -20,16 +20,16 @@ use Rattle.step_laws.proofs.Ready.{some_ready_is_shown}
 use Rattle.victim_choice.specs.Choices.{SomeReady, CanMove}
 use Rattle.node_table.specs.Table.{Table}
 use Rattle.core_parts.specs.declared.event.Event.{Event}
-use Rattle.core_parts.specs.declared.stop.Stop.{Stop}
+use Rattle.run_end.specs.declared.stop.Stop.{Stop}
 use Rattle.core_parts.specs.Held.{Held, IsInOrder}
 use Rattle.core_parts.specs.Moments.{IsSound, HasRun}
 use Rattle.deque_machine.specs.Terms.{Terms, machine_of}
 use Rattle.core_parts.proofs.Sitting.{seat_owns as seated_owns}
 use Rattle.core_parts.proofs.Owners.{own_here, owned_shown, owner_there}
-use Rattle.dfd_core.specs.declared.run_end.RunEnd.{RunEnd}
-use Rattle.dfd_core.specs.declared.run_end.RunEnd.TheVariants.{Finished, Stopped}
-use Rattle.dfd_core.specs.declared.run_end.Stepped.{Stepped}
-use Rattle.dfd_core.specs.declared.run_end.Stepped.TheVariants.{Stole, Acted, Suspended, GaveUp, Nothing, Over}
+use Rattle.run_end.specs.declared.ends.RunEnd.{RunEnd}
+use Rattle.run_end.specs.declared.ends.RunEnd.TheVariants.{Finished, Stopped}
+use Rattle.dfd_core.specs.declared.stepped.Stepped.{Stepped}
+use Rattle.dfd_core.specs.declared.stepped.Stepped.TheVariants.{Stole, Acted, Suspended, GaveUp, Nothing, Over}
 use Rattle.dfd_core.specs.Running.{IsAtMoment}
 use Rattle.dfd_core.specs.Steps.{IsTold}
 use Rattle.dfd_core.proofs.Told.{some_or_none, ok_or_err}

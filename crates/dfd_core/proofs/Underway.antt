@@ -15,13 +15,13 @@ use Rattle.deque_machine.specs.Runs.{Pair, Reaches}
 use Rattle.deque_machine.proofs.Ends.{runs_are_short}
 use Rattle.deque_machine.specs.Fronts.{PlaysOn, stays_here}
 use Rattle.deque_machine.proofs.Playing.{front_is_run, front_goes_on, front_with_turn}
-use Rattle.core_parts.specs.declared.stop.Stop.TheVariants.{ArenaFull, DequesFull, StepsSpent, OutOfMemory}
+use Rattle.run_end.specs.declared.stop.Stop.TheVariants.{ArenaFull, DequesFull, StepsSpent, OutOfMemory}
 use Rattle.deque_machine.specs.Terms.{Terms, machine_of}
 use Rattle.core_parts.specs.Outcomes.{HasDequesLeft}
 use Rattle.core_parts.proofs.Going.{lawful_at}
 use Rattle.dfd_core.specs.declared.run.Core.{Core}
-use Rattle.dfd_core.specs.declared.run_end.RunEnd.{RunEnd}
-use Rattle.dfd_core.specs.declared.run_end.RunEnd.TheVariants.{Finished, Stopped}
+use Rattle.run_end.specs.declared.ends.RunEnd.{RunEnd}
+use Rattle.run_end.specs.declared.ends.RunEnd.TheVariants.{Finished, Stopped}
 use Rattle.dfd_core.specs.Cores.{IsAt, SameSetting, end_of, terms_at, workers_of}
 use Rattle.dfd_core.specs.Plays.{TurnGoesOn, TurnStops, TurnLacks, TurnsTo, IsDrawn, TakesTurn, PlaysToEnd, PlaysToStop, PlaysUntil, PlaysTo}
 

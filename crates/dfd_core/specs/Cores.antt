@@ -10,14 +10,14 @@ use Rattle.node_table.specs.Codes.{code_shown}
 use Rattle.period_table.specs.declared.seat.Seat.{Seat}
 use Rattle.quota_period.specs.declared.period.Period.{Period}
 use Rattle.core_parts.specs.declared.event.Event.{Event}
-use Rattle.core_parts.specs.declared.stop.Stop.{Stop}
+use Rattle.run_end.specs.declared.stop.Stop.{Stop}
 use Rattle.core_parts.specs.Held.{held}
 use Rattle.core_parts.specs.Moments.{terms_of}
 use Rattle.deque_machine.specs.Terms.{Terms}
 use Rattle.dfd_core.specs.declared.run.Core.{Core}
-use Rattle.dfd_core.specs.declared.run_end.RunEnd.{RunEnd}
-use Rattle.dfd_core.specs.declared.run_end.RunEnd.TheVariants.{Finished}
-use Rattle.dfd_core.specs.declared.run_end.Stepped.{Stepped}
+use Rattle.run_end.specs.declared.ends.RunEnd.{RunEnd}
+use Rattle.run_end.specs.declared.ends.RunEnd.TheVariants.{Finished}
+use Rattle.dfd_core.specs.declared.stepped.Stepped.{Stepped}
 use Rattle.dfd_core.specs.Running.{IsAtMoment}
 use Rattle.dfd_core.specs.Steps.{Comes, IsTold}
 use Rattle.dfd_core.specs.GiveUps as give_ups

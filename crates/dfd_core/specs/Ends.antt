@@ -5,15 +5,11 @@ use Rattle.depth_first_run.specs.Run.{finish_of}
 use Rattle.thread_frames.specs.declared.ended.Ended.{Ended}
 use Rattle.thread_output.specs.Telling.{fault_of}
 use Rattle.thread_map.specs.Kept.{same_thread}
+use Rattle.thread_parts.specs.Roots.{end_of_root}
 use Rattle.core_parts.specs.declared.event.Event.{Event}
 use Rattle.core_parts.specs.declared.event.Event.TheVariants.{Stole, Acted, Suspended, GaveUp}
-use Rattle.dfd_core.specs.declared.run_end.RunEnd.{RunEnd}
-use Rattle.dfd_core.specs.declared.run_end.RunEnd.TheVariants.{Finished}
-
--- the end that the result of the root tells, where it is kept
-abbrev pub end_of_root : Option Ended → Option RunEnd
-end_of_root None = None
-end_of_root (Some ended) = Some (Finished (finish_of (fault_of ended.told)))
+use Rattle.run_end.specs.declared.ends.RunEnd.{RunEnd}
+use Rattle.run_end.specs.declared.ends.RunEnd.TheVariants.{Finished}
 
 -- an action of the root, which ends with no other event
 abbrev pub is_of_root : Event → Bool

@@ -23,8 +23,8 @@ use Rattle.thread_frames.specs.declared.thread.Thread.{Thread}
 use Rattle.thread_frames.specs.Points.{IsAtPoint, IsResult}
 use Rattle.thread_frames.specs.Views.{label_of, done_of, children_of, thread_words, ended_label}
 use Rattle.dfd_core.specs.declared.run.Core.{Core}
-use Rattle.dfd_core.specs.declared.run_end.RunEnd.{RunEnd}
-use Rattle.dfd_core.specs.declared.run_end.RunEnd.TheVariants.{Finished, Stopped}
+use Rattle.run_end.specs.declared.ends.RunEnd.{RunEnd}
+use Rattle.run_end.specs.declared.ends.RunEnd.TheVariants.{Finished, Stopped}
 use Rattle.dfd_core.specs.Cores.{IsAt, end_of}
 
 -- no worker owns a deque
@@ -53,14 +53,3 @@ pub record AreOfRun (c : Setting) (run : List Pair) (m : Moment) (books : Books)
 abbrev pub IsFresh : Core → Type 0
 IsFresh core = (end_of core ≡ None)
     × ((c : Setting) → IsSettingOf (code_shown core.code) (quota_words core.k) c → IsAt c core [] opening)
-
--- the root has done nothing: no action is counted, no child is open, and it holds no words
-pub record HasDoneNothing (thread : Thread) : Type 0 where
-  pub done : done_of thread ≡ 0
-  pub children : children_of thread ≡ []
-  pub words : thread_words thread ≡ 0
-
--- a lane with the root alone, before its first action
-abbrev pub IsRootAlone : Table → ℕ → List Thread → Type 0
-IsRootAlone t k items = (thread : Thread) × (items ≡ thread ∷ []) × (Thread.id thread ≡ root) × (label_of thread ≡ [])
-    × HasDoneNothing thread × ∥ IsAtPoint t k thread ∥₁

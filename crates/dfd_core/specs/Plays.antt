@@ -7,12 +7,12 @@ use Rattle.deque_machine.specs.Play as play
 use Rattle.deque_machine.specs.Play.{Turn, Meets, words_drawn}
 use Rattle.deque_machine.specs.Fronts.{PlaysOn}
 use Rattle.deque_machine.specs.Runs.{Pair}
-use Rattle.core_parts.specs.declared.stop.Stop.TheVariants.{ArenaFull, DequesFull, StepsSpent, OutOfMemory}
+use Rattle.run_end.specs.declared.stop.Stop.TheVariants.{ArenaFull, DequesFull, StepsSpent, OutOfMemory}
 use Rattle.deque_machine.specs.Terms.{Terms, machine_of}
 use Rattle.core_parts.specs.Outcomes.{HasDequesLeft}
 use Rattle.dfd_core.specs.declared.run.Core.{Core}
-use Rattle.dfd_core.specs.declared.run_end.RunEnd.{RunEnd}
-use Rattle.dfd_core.specs.declared.run_end.RunEnd.TheVariants.{Finished, Stopped}
+use Rattle.run_end.specs.declared.ends.RunEnd.{RunEnd}
+use Rattle.run_end.specs.declared.ends.RunEnd.TheVariants.{Finished, Stopped}
 use Rattle.dfd_core.specs.Cores.{IsAt, terms_at, end_of}
 
 -- At the moment m of a run it is the turn of a worker, as the coming words pick it, and nothing stops its event. So many words were drawn,

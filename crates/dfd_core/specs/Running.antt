@@ -11,8 +11,8 @@ use Rattle.thread_steps.specs.Settings.{IsSettingOf}
 use Rattle.core_parts.specs.Held.{Held}
 use Rattle.core_parts.specs.Moments.{HasRun}
 use Rattle.deque_machine.specs.Terms.{Terms, machine_of}
-use Rattle.dfd_core.specs.declared.run_end.RunEnd.{RunEnd}
-use Rattle.dfd_core.specs.declared.run_end.RunEnd.TheVariants.{Finished}
+use Rattle.run_end.specs.declared.ends.RunEnd.{RunEnd}
+use Rattle.run_end.specs.declared.ends.RunEnd.TheVariants.{Finished}
 use Rattle.depth_first_run.specs.Run.{finish_of_run}
 
 -- What is held is at the moment to which a run of a program of this table leads, and no more actions are done than may be. The run may have

@@ -9,12 +9,13 @@ ghost use Rattle.node_table.specs.Codes.{code_shown};
 ghost use Rattle.period_table.specs.Tables.{seat_at};
 ghost use Rattle.thread_steps.specs.Settings.{IsSettingOf};
 ghost use Rattle.victim_choice.specs.Choices.{SomeReady};
-ghost use Rattle.core_parts.specs.declared.stop.Stop.TheVariants as stops;
+ghost use Rattle.run_end.specs.declared.stop.Stop.TheVariants as stops;
 ghost use Rattle.core_parts.specs.Held.{held};
 ghost use Rattle.core_parts.specs.Moments.{IsSound, CanGoOn, SameTerms, HasRun, terms_of};
 ghost use Rattle.thief_steps.specs.Thefts.{StepsBy};
 
-use core_parts::{Event, Scheduler, Stop};
+use core_parts::{Event, Scheduler};
+use run_end::Stop;
 use dummy_tree::Quota;
 use node_table::Code;
 use owner_steps::step_of_owner;

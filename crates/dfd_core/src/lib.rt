@@ -21,14 +21,14 @@ mod laws;
 mod parts;
 mod player;
 mod run;
-mod run_end;
+mod stepped;
 mod turn;
 
 pub use choices::{Choices, ListChoices};
-pub use core_parts::Stop;
 pub use laws::cores_are_lawful;
 pub use parts::{CoreEnd, CoreParts};
 pub use player::{most_turns, play};
 pub use run::Core;
-pub use run_end::{OutputFail, RunEnd, Stepped};
+pub use run_end::{RunEnd, Stop};
+pub use stepped::{OutputFail, Stepped};
 pub use turn::{Turn, draw_turn};

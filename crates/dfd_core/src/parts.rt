@@ -7,12 +7,13 @@ ghost use Rattle.deque_machine.specs.Runs.{Pair};
 ghost use Rattle.dummy_tree.specs.QuotaWords.{quota_words};
 ghost use Rattle.node_table.specs.Codes.{code_shown};
 ghost use Rattle.deque_list.specs.Ids.{deque_id};
-ghost use Rattle.dfd_core.specs.declared.run_end.RunEnd.{RunEnd as AnyEnd};
+ghost use Rattle.run_end.specs.declared.ends.RunEnd.{RunEnd as AnyEnd};
 ghost use Rattle.dfd_core.specs.Cores.{HasFinished, IsAt, end_of, terms_at};
-ghost use Rattle.dfd_core.specs.Parts.{AreAllIdle, AreOfRun, IsFresh, IsOfWholeRun, IsRootAlone, root_behind, root_result};
+ghost use Rattle.dfd_core.specs.Parts.{AreAllIdle, AreOfRun, IsFresh, IsOfWholeRun, root_behind, root_result};
+ghost use Rattle.thread_parts.specs.Roots.{IsRootAlone};
 
 use crate::run::Core;
-use crate::run_end::RunEnd;
+use run_end::RunEnd;
 use block_arena::Pool;
 use boxed::Boxed;
 use dag_order::ThreadId;

@@ -7,7 +7,7 @@ ghost use Rattle.dfd_core.specs.Plays.{TakesTurn, PlaysTo};
 
 use crate::choices::Choices;
 use crate::run::Core;
-use crate::run_end::RunEnd;
+use run_end::RunEnd;
 use crate::turn::draw_turn;
 
 /// Lets the worker move whose turn it is, in a run that has not ended.

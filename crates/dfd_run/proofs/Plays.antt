@@ -3,8 +3,8 @@ use Rattle.std.proofs.Common.{◌≡◌, ℕ, ℤ, List, Some, pos, Result, Ok, 
 use Rattle.std.proofs.Math.Logic.{∥∥₁_map}
 use Rattle.std.specs.declared.alloc.AllocError.{AllocError}
 use Rattle.command_line.specs.declared.command.Command.{Command}
-use Rattle.core_parts.specs.declared.stop.Stop.{Stop}
-use Rattle.core_parts.specs.declared.stop.Stop.TheVariants.{ArenaFull, DequesFull, StepsSpent, OutOfMemory}
+use Rattle.run_end.specs.declared.stop.Stop.{Stop}
+use Rattle.run_end.specs.declared.stop.Stop.TheVariants.{ArenaFull, DequesFull, StepsSpent, OutOfMemory}
 use Rattle.dag_order.specs.declared.finish.Finish.{Finish}
 use Rattle.depth_first_run.specs.States.{Setting}
 use Rattle.deque_machine.specs.Moments.{Moment}
@@ -12,7 +12,7 @@ use Rattle.deque_machine.specs.Play.{finished, stopped, arena_full, steps_spent,
 use Rattle.deque_machine.specs.Runs.{Pair}
 use Rattle.dfd_core.specs.Cores.{IsAt, end_of}
 use Rattle.dfd_core.specs.declared.run.Core.{Core}
-use Rattle.dfd_core.specs.declared.run_end.RunEnd.TheVariants.{Finished, Stopped}
+use Rattle.run_end.specs.declared.ends.RunEnd.TheVariants.{Finished, Stopped}
 use Rattle.node_table.specs.Programs.{IsTableOf}
 use Rattle.node_table.specs.Table.{Table}
 use Rattle.par_ownership.specs.Ownership.{Ownership}

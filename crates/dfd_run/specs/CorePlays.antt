@@ -5,7 +5,7 @@ use Rattle.deque_machine.specs.Moments.{opening}
 use Rattle.deque_machine.specs.Terms.{Terms}
 use Rattle.dfd_core.specs.Plays.{PlaysTo}
 use Rattle.dfd_core.specs.declared.run.Core.{Core}
-use Rattle.dfd_core.specs.declared.run_end.RunEnd.{RunEnd}
+use Rattle.run_end.specs.declared.ends.RunEnd.{RunEnd}
 use Rattle.trail_meaning.specs.declared.trail_event.TrailEvent.{TrailEvent}
 use Rattle.trail_record.specs.Recorded.{PlaysRecorded}
 

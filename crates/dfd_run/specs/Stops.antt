@@ -1,7 +1,7 @@
 -- What is told of a stop of the core.
 use Rattle.std.specs.Prelude.{◌≡◌, ℕ, List, pos}
-use Rattle.core_parts.specs.declared.stop.Stop.{Stop}
-use Rattle.core_parts.specs.declared.stop.Stop.TheVariants as stops
+use Rattle.run_end.specs.declared.stop.Stop.{Stop}
+use Rattle.run_end.specs.declared.stop.Stop.TheVariants as stops
 use Rattle.dfd_run.specs.Messages.{spent_text, arena_text, deques_text}
 use Rattle.dfd_run.specs.declared.status.Status.{Status}
 use Rattle.dfd_run.specs.declared.status.Status.TheVariants.{StepsSpent, ArenaFull, DequesFull}

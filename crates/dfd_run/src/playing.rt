@@ -4,7 +4,7 @@ ghost use Rattle.depth_first_run.specs.States.{Setting};
 ghost use Rattle.deque_machine.specs.Moments.{Moment};
 ghost use Rattle.deque_machine.specs.Runs.{Pair};
 ghost use Rattle.dfd_core.specs.Cores.{IsAt, end_of};
-ghost use Rattle.dfd_core.specs.declared.run_end.RunEnd.TheVariants.{Finished};
+ghost use Rattle.run_end.specs.declared.ends.RunEnd.TheVariants.{Finished};
 ghost use Rattle.par_ownership.specs.Ownership.{Ownership};
 ghost use Rattle.par_tree.specs.View.{program_tree};
 ghost use Rattle.dfd_run.specs.Answer.{HasRanges};

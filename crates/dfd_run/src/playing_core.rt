@@ -24,7 +24,7 @@ use crate::status::Status;
 use block_arena::{Pool, PoolError};
 use block_check::Checked;
 use command_line::Command;
-use core_parts::Stop;
+use run_end::Stop;
 use dag_order::Lines;
 use dfd_core::{Core, OutputFail, RunEnd};
 use dummy_tree::Quota;

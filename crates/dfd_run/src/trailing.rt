@@ -6,7 +6,7 @@ ghost use Rattle.deque_machine.specs.Moments.{Moment};
 ghost use Rattle.deque_machine.specs.Runs.{Pair};
 ghost use Rattle.deque_machine.specs.Terms.{machine_of};
 ghost use Rattle.dfd_core.specs.Cores.{IsAt, end_of, terms_at};
-ghost use Rattle.dfd_core.specs.declared.run_end.RunEnd.TheVariants.{Finished};
+ghost use Rattle.run_end.specs.declared.ends.RunEnd.TheVariants.{Finished};
 ghost use Rattle.good_trails.specs.Told.{events_told};
 ghost use Rattle.good_trails.specs.Verdicts.{AreNumbers};
 ghost use Rattle.par_ownership.specs.Ownership.{Ownership};

@@ -37,7 +37,7 @@ use Rattle.hall_state.specs.State.{RunningState, GoesOn}
 use Rattle.hall_state.specs.Events.{still_owning}
 use Rattle.hall_state.proofs.Owners.{lane_actions_go_on}
 use Rattle.lane_events.specs.Here.{ShowsOwn, ActsHere, TakesWords}
-use Rattle.owner_steps.specs.Acts.{IsCharged}
+use Rattle.thread_events.specs.Acts.{IsCharged}
 use Rattle.hall_slots.specs.declared.event.Event.TheVariants.{Did}
 use Rattle.hall_slots.specs.declared.lane_slot.LaneSlot.{LaneSlot}
 use Rattle.hall_slots.specs.declared.lane_slot.Running.{Running}

@@ -11,7 +11,7 @@ use Rattle.dag_order.specs.declared.action_id.ActionId.{ActionId}
 use Rattle.deque_list.specs.declared.deque_id.DequeId.{DequeId}
 use Rattle.deque_list.specs.declared.place.Place.{Place}
 use Rattle.deque_list.specs.Ids.{deque_id}
-use Rattle.dfd_core.specs.declared.run_end.RunEnd.{RunEnd}
+use Rattle.run_end.specs.declared.ends.RunEnd.{RunEnd}
 use Rattle.lawful_books.specs.Lists.{Each}
 use Rattle.lawful_books.proofs.Lists.{each_from, each_map, each_among}
 use Rattle.period_table.proofs.Lists.{set_same, set_other}

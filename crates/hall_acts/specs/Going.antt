@@ -14,7 +14,7 @@ use Rattle.thread_frames.specs.declared.next.Next.{Next}
 use Rattle.thread_frames.specs.declared.thread.Thread.{Thread}
 use Rattle.thread_steps.specs.Settings.{IsSettingOf}
 use Rattle.lane_events.specs.Here.{ActsHere, TakesWords}
-use Rattle.owner_steps.specs.Acts.{IsCharged}
+use Rattle.thread_events.specs.Acts.{IsCharged}
 use Rattle.hall_slots.specs.declared.lane_slot.LaneSlot.{LaneSlot}
 use Rattle.hall_slots.specs.declared.pool_slot.PoolSlot.{PoolSlot}
 use Rattle.hall_slots.specs.Shown.{pool_shown}

@@ -12,7 +12,7 @@ use lib.Seq.{map-set}
 use Rattle.depth_first_run.specs.States.{Setting}
 use Rattle.deque_list.specs.declared.place.Place.{Place}
 use Rattle.deque_machine.specs.Terms.{Terms, machine_of}
-use Rattle.dfd_core.specs.declared.run_end.RunEnd.{RunEnd}
+use Rattle.run_end.specs.declared.ends.RunEnd.{RunEnd}
 use Rattle.lawful_books.specs.Lists.{Each}
 use Rattle.lawful_books.proofs.Lists.{each_from}
 use Rattle.period_books.proofs.Sorting.{get_before, get_of_more}

@@ -1,7 +1,7 @@
 -- How a worker enters by a seat.
 use Rattle.std.specs.Prelude.{◌≡◌, ℕ, ◌-◌, ◌<◌, ◌≤◌, false, Option, None, Some, List, [], ◌∷◌, ◌++◌, Result, Ok, Err}
 use Rattle.std.specs.Option.{unwrap_or}
-use Rattle.dfd_core.specs.declared.run_end.RunEnd.{RunEnd}
+use Rattle.run_end.specs.declared.ends.RunEnd.{RunEnd}
 use Rattle.lawful_books.specs.Lists.{times}
 use Rattle.turn_table.specs.Hands.{fresh, noted, took, gave}
 use Rattle.turn_table.specs.Seats.{with_hand}

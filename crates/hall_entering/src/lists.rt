@@ -4,7 +4,7 @@ ghost use Rattle.std.specs.Prelude.{◌≡◌, ◌∷◌, ◌++◌, [], ℕ, IfO
 ghost use Rattle.hall_state.specs.Numbers.{IsSmallestNumber};
 
 use boxed::Boxed;
-use dfd_core::RunEnd;
+use run_end::RunEnd;
 use hall_slots::ListSlot;
 use std::alloc::AllocError;
 

@@ -1,4 +1,4 @@
-use dfd_core::RunEnd;
+use run_end::RunEnd;
 use turn_table::Held;
 
 /// Why no worker entered.

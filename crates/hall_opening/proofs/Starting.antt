@@ -7,8 +7,8 @@ use Rattle.std.proofs.lemmas.Option.{same_Some, none-some}
 use mathlib.Core.Option.{some, some-injective, some-ne-none}
 use lib.ListN.{get_elem?}
 use Rattle.block_arena.specs.Region.{Region}
-use Rattle.core_parts.specs.Held.{waiting_shown, result_kept, WaitsUnder, IsUnderItsId}
-use Rattle.core_parts.proofs.Bounds.{point_one}
+use Rattle.thread_parts.specs.Kept.{waiting_shown, result_kept, WaitsUnder, IsUnderItsId}
+use Rattle.thread_parts.proofs.Points.{point_one}
 use Rattle.depth_first_run.specs.States.{Setting}
 use Rattle.depth_first_run.proofs.Built.{whole_is_depth_first}
 use Rattle.deque_list.specs.declared.deque_id.DequeId.{DequeId}
@@ -17,9 +17,9 @@ use Rattle.deque_list.specs.Ids.{deque_id, first_place}
 use Rattle.deque_list.specs.Lanes.{LaneView}
 use Rattle.deque_list.specs.Orders.{OrderView}
 use Rattle.deque_machine.specs.Terms.{Terms, machine_of}
-use Rattle.dfd_core.specs.declared.run_end.RunEnd.{RunEnd}
-use Rattle.dfd_core.specs.declared.run_end.RunEnd.TheVariants.{Finished}
-use Rattle.dfd_core.specs.Parts.{HasDoneNothing, IsRootAlone}
+use Rattle.run_end.specs.declared.ends.RunEnd.{RunEnd}
+use Rattle.run_end.specs.declared.ends.RunEnd.TheVariants.{Finished}
+use Rattle.thread_parts.specs.Roots.{HasDoneNothing, IsRootAlone}
 use Rattle.hall_crew.specs.Views.{View}
 use Rattle.hall_law.specs.Rows.{IsFirst}
 use Rattle.hall_law.specs.Values.{End}

@@ -4,10 +4,10 @@ use Rattle.std.specs.Prelude.{Option, None, Some, false, slice_get, slice_set}
 use Rattle.std.specs.Option.{option_map}
 use Rattle.std.proofs.lemmas.Option.{same_Some, none-some}
 use mathlib.Core.List.{map-append}
-use Rattle.core_parts.specs.declared.stop.Stop.{Stop}
+use Rattle.run_end.specs.declared.stop.Stop.{Stop}
 use Rattle.dag_order.specs.declared.finish.Finish.{Finish}
-use Rattle.dfd_core.specs.declared.run_end.RunEnd.{RunEnd}
-use Rattle.dfd_core.specs.declared.run_end.RunEnd.TheVariants.{Finished, Stopped}
+use Rattle.run_end.specs.declared.ends.RunEnd.{RunEnd}
+use Rattle.run_end.specs.declared.ends.RunEnd.TheVariants.{Finished, Stopped}
 use Rattle.deque_machine.specs.Terms.{Terms, machine_of}
 use Rattle.turn_table.specs.declared.look.Look.TheVariants.{Took}
 use Rattle.turn_table.specs.Hands.{gave, renewed, without_slot}

@@ -1,7 +1,7 @@
 -- What a seat is that has kept the stop which it found.
 use Rattle.std.specs.Prelude.{◌≡◌, ℕ, ◌<◌, false, Option, None, Some, List, [], ◌∷◌, ◌++◌}
-use Rattle.core_parts.specs.declared.stop.Stop.{Stop}
-use Rattle.dfd_core.specs.declared.run_end.RunEnd.{RunEnd}
+use Rattle.run_end.specs.declared.stop.Stop.{Stop}
+use Rattle.run_end.specs.declared.ends.RunEnd.{RunEnd}
 use Rattle.turn_table.specs.declared.look.Look.TheVariants.{Took}
 use Rattle.turn_table.specs.Hands.{gave}
 use Rattle.turn_table.specs.Seats.{with_hand}

@@ -7,8 +7,7 @@ ghost use Rattle.hall_turns.specs.Takes.{HasAllPlaces, IsRefused};
 ghost use Rattle.hall_seats.specs.Halting.{HasHalted, HoldsTheKept, IsInHall, PutsHalted};
 
 use boxed::Boxed;
-use core_parts::Stop;
-use dfd_core::RunEnd;
+use run_end::{RunEnd, Stop};
 use hall_slots::{ListSlot, Slot};
 use hall_turns::{HallPlace, HallRow, take_list};
 use std::marker::Brand;

@@ -1,8 +1,8 @@
 -- What the calls on the list do to it.
 use Rattle.std.specs.Prelude.{◌≡◌, ℕ, Option, None, Some, List, ◌∷◌, ◌++◌}
-use Rattle.core_parts.specs.declared.stop.Stop.{Stop}
-use Rattle.dfd_core.specs.declared.run_end.RunEnd.{RunEnd}
-use Rattle.dfd_core.specs.declared.run_end.RunEnd.TheVariants.{Stopped}
+use Rattle.run_end.specs.declared.stop.Stop.{Stop}
+use Rattle.run_end.specs.declared.ends.RunEnd.{RunEnd}
+use Rattle.run_end.specs.declared.ends.RunEnd.TheVariants.{Stopped}
 use Rattle.deque_list.specs.declared.deque_id.DequeId.{DequeId}
 use Rattle.period_table.specs.Tables.{shut}
 use Rattle.hall_law.specs.Values.{Hall}

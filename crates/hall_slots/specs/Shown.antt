@@ -6,11 +6,11 @@ use Rattle.period_books.specs.Periods.{Period, open_shown, closed_shown}
 use Rattle.space_ledger.specs.BooksList.{books_list}
 use Rattle.space_ledger.specs.MovesList.{moves_list}
 use Rattle.thread_parts.specs.Shown.{thread_shown}
-use Rattle.core_parts.specs.declared.stop.Stop.{Stop as AnyStop}
-use Rattle.core_parts.specs.declared.stop.Stop.TheVariants.{ArenaFull, DequesFull, StepsSpent, OutOfMemory}
-use Rattle.core_parts.specs.Held.{waiting_shown, result_kept}
-use Rattle.dfd_core.specs.declared.run_end.RunEnd.{RunEnd}
-use Rattle.dfd_core.specs.declared.run_end.RunEnd.TheVariants.{Finished, Stopped}
+use Rattle.run_end.specs.declared.stop.Stop.{Stop as AnyStop}
+use Rattle.run_end.specs.declared.stop.Stop.TheVariants.{ArenaFull, DequesFull, StepsSpent, OutOfMemory}
+use Rattle.thread_parts.specs.Kept.{waiting_shown, result_kept}
+use Rattle.run_end.specs.declared.ends.RunEnd.{RunEnd}
+use Rattle.run_end.specs.declared.ends.RunEnd.TheVariants.{Finished, Stopped}
 use Rattle.hall_law.specs.Values.{Stop, by_rule, no_memory, End, finished, stopped}
 use Rattle.hall_law.specs.Values.{ListShown, PoolShown, LaneShown, Value, of_list, of_pool, of_lane}
 use Rattle.hall_law.specs.Steps.{Told, stole, did, waited, gave_up, halted}

@@ -1,6 +1,6 @@
 use dag_order::{ActionId, ThreadId};
 use deque_list::DequeId;
-use dfd_core::RunEnd;
+use run_end::RunEnd;
 
 /// What a seat of a hall did.
 #[derive(Clone, Copy, PartialEq, Eq, Debug)]

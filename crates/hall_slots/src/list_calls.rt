@@ -9,9 +9,8 @@ ghost use Rattle.hall_slots.specs.Lists.{end_kept, IsOutOf, ShowsUnowned, ShowsW
 
 use crate::lane_slot::Running;
 use crate::list_slot::ListSlot;
-use core_parts::Stop;
 use deque_list::DequeId;
-use dfd_core::RunEnd;
+use run_end::{RunEnd, Stop};
 use std::alloc::AllocError;
 
 impl ListSlot {

@@ -1,5 +1,5 @@
 use boxed::Boxed;
-use dfd_core::RunEnd;
+use run_end::RunEnd;
 use list_part::ListPart;
 use thread_frames::{Ended, Thread};
 

@@ -1,7 +1,6 @@
 use crate::event::Event;
-use core_parts::Stop;
 use deque_list::DequeId;
-use dfd_core::RunEnd;
+use run_end::{RunEnd, Stop};
 use std::collections::LinkedList;
 
 /// What a seat notes. No value of it is made: it is in contracts alone.

@@ -11,10 +11,10 @@ use Rattle.space_ledger.specs.Sums.{total_change}
 use Rattle.thread_map.specs.Kept.{kept_under}
 use Rattle.thread_frames.specs.declared.thread.Thread.{Thread}
 use Rattle.thread_frames.specs.Points.{IsAtPoint, IsResult}
-use Rattle.core_parts.specs.Held.{WaitsUnder, IsUnderItsId}
-use Rattle.dfd_core.specs.Ends.{end_of_root}
-use Rattle.dfd_core.specs.declared.run_end.RunEnd.{RunEnd}
-use Rattle.dfd_core.specs.declared.run_end.RunEnd.TheVariants.{Finished}
+use Rattle.thread_parts.specs.Kept.{WaitsUnder, IsUnderItsId}
+use Rattle.thread_parts.specs.Roots.{end_of_root}
+use Rattle.run_end.specs.declared.ends.RunEnd.{RunEnd}
+use Rattle.run_end.specs.declared.ends.RunEnd.TheVariants.{Finished}
 use Rattle.hall_law.specs.Writing.{lane_slot}
 use Rattle.hall_state.specs.Points.{AreAtPoints}
 use Rattle.hall_slots.specs.declared.list_slot.ListSlot.{ListSlot}

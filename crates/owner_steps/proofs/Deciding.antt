@@ -27,7 +27,7 @@ use Rattle.thread_frames.specs.declared.ended.Ended.{Ended}
 use Rattle.thread_frames.specs.declared.next.Next.{Next}
 use Rattle.thread_frames.specs.declared.next.Next.TheVariants.{Fork, Join, Alloc, Release, Dummy, Fault, End}
 use Rattle.thread_frames.specs.declared.thread.Thread.{Thread}
-use Rattle.thread_events.specs.Acts.{AllocIsCharged}
+use Rattle.thread_events.specs.Acts.{AllocIsCharged, IsCharged}
 use Rattle.deque_events.specs.Shown.{Stands}
 use Rattle.core_parts.specs.declared.scheduler.Scheduler.{Scheduler}
 use Rattle.core_parts.specs.declared.event.Event.{Event}
@@ -37,7 +37,6 @@ use Rattle.deque_machine.specs.Terms.{machine_of}
 use Rattle.core_parts.proofs.AtEnd.{parent_awaits}
 use Rattle.core_parts.proofs.Bounds.{release_within, end_within}
 use Rattle.core_parts.proofs.Joining.{awaited_one}
-use Rattle.owner_steps.specs.Acts.{IsCharged}
 use Rattle.owner_steps.specs.Decisions.{Decides}
 use Rattle.owner_steps.specs.Memory.{MayAct, words_taken_by}
 use Rattle.thread_events.specs.Results.{TakesResult, IsToCome, FirstAwaits}

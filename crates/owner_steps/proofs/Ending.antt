@@ -39,8 +39,10 @@ use Rattle.thread_events.specs.Acts.{Always, EndsAboveBy, EndsAndWakesBy, EndsAn
 use Rattle.core_parts.specs.declared.scheduler.Scheduler.{Scheduler}
 use Rattle.step_laws.specs.Orders.{AreSame}
 use Rattle.step_laws.specs.Standing.{Settles, as_they_are, handed_on}
-use Rattle.core_parts.specs.Held.{Held, held, held_under, parts_in, waiting_shown, result_kept, IsReordered, OwnersSit, OwnsNone, IsInOrder, WaitsUnder, IsUnderItsId, AreAtPoints, AreResults}
-use Rattle.core_parts.proofs.Lists.{each_moved, none_found}
+use Rattle.core_parts.specs.Held.{Held, held, held_under, parts_in, IsReordered, OwnersSit, OwnsNone, IsInOrder, AreAtPoints, AreResults}
+use Rattle.thread_parts.specs.Kept.{waiting_shown, result_kept, WaitsUnder, IsUnderItsId}
+use Rattle.core_parts.proofs.Lists.{each_moved}
+use Rattle.thread_parts.proofs.Found.{none_found}
 use Rattle.core_parts.proofs.AtTop.{period_is_there, seat_of_deque}
 use Rattle.owner_steps.specs.Acts.{Acted, Performs}
 use Rattle.owner_steps.specs.Ends.{EndsBy}

@@ -16,7 +16,8 @@ use Rattle.deque_events.specs.Shown.{deque_with, parts_of, Stands, Becomes}
 use Rattle.deque_events.specs.Events.{GaveUp, Suspended}
 use Rattle.deque_events.specs.Seats.{LeavesSeat}
 use Rattle.core_parts.specs.declared.scheduler.Scheduler.{Scheduler}
-use Rattle.core_parts.specs.Held.{held, held_under, parts_in, waiting_shown, result_kept, OwnersSit, WaitsUnder}
+use Rattle.core_parts.specs.Held.{held, held_under, parts_in, OwnersSit}
+use Rattle.thread_parts.specs.Kept.{waiting_shown, result_kept, WaitsUnder}
 use Rattle.core_parts.proofs.Lists.{each_moved}
 use Rattle.owner_steps.specs.Leaves.{IsIdleEvent, LeavesDeque, LeavesList}
 use Rattle.owner_steps.proofs.Places.{leave_sitting, points_change, under_is}

@@ -37,8 +37,8 @@ use Rattle.deque_events.specs.Shown.{Stands}
 use Rattle.core_parts.specs.declared.scheduler.Scheduler.{Scheduler}
 use Rattle.core_parts.specs.declared.event.Event.{Event}
 use Rattle.core_parts.specs.declared.event.Event.TheVariants as events
-use Rattle.core_parts.specs.declared.stop.Stop.{Stop}
-use Rattle.core_parts.specs.declared.stop.Stop.TheVariants.{ArenaFull, DequesFull, StepsSpent, OutOfMemory}
+use Rattle.run_end.specs.declared.stop.Stop.{Stop}
+use Rattle.run_end.specs.declared.stop.Stop.TheVariants.{ArenaFull, DequesFull, StepsSpent, OutOfMemory}
 use Rattle.core_parts.specs.Held.{Held, held, held_under, parts_in, OwnsNone, IsInOrder, AreAtPoints, AreResults}
 use Rattle.core_parts.specs.Moments.{terms_of, SameTerms, HasRun, IsSound, CanGoOn}
 use Rattle.deque_machine.specs.Terms.{Terms, machine_of}
@@ -59,7 +59,7 @@ use Rattle.thread_frames.specs.Children.{is_delivered}
 use Rattle.thread_frames.specs.Points.{IsResult}
 use Rattle.thread_frames.specs.declared.next.Next.TheVariants as nexts
 use Rattle.thread_parts.proofs.Threads.{next_actions_stand}
-use Rattle.core_parts.specs.Held.{WaitsUnder}
+use Rattle.thread_parts.specs.Kept.{WaitsUnder}
 use Rattle.core_parts.proofs.Leaving.{waited_goes_on}
 use Rattle.core_parts.proofs.Joining.{newest_child, joins_it, told_newest, unkept, waits_alone, not_waited}
 use Rattle.owner_steps.specs.Leaves.{LeavesDeque, LeavesList}

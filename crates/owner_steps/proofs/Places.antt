@@ -16,7 +16,8 @@ use Rattle.thread_parts.specs.Shown.{thread_shown}
 use Rattle.deque_events.specs.Shown.{deque_shown, deque_with, Stands, parts_under}
 use Rattle.deque_events.specs.Seats.{KeepsSeats, LeavesSeat}
 use Rattle.core_parts.specs.declared.scheduler.Scheduler.{Scheduler}
-use Rattle.core_parts.specs.Held.{held, held_under, parts_in, waiting_shown, result_kept, OwnersSit, OwnsNone}
+use Rattle.core_parts.specs.Held.{held, held_under, parts_in, OwnersSit, OwnsNone}
+use Rattle.thread_parts.specs.Kept.{waiting_shown, result_kept}
 
 -- a deque with an owner is at the owner's seat
 abbrev pub Sits : PeriodTable → Deque Thread → Type 0

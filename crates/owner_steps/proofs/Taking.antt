@@ -15,7 +15,7 @@ use Rattle.deque_events.specs.Shown.{deque_with, Stands}
 use Rattle.deque_events.proofs.Putting.{at_rank, here, set_middle}
 use Rattle.core_parts.specs.declared.event.Event.{Event}
 use Rattle.core_parts.specs.declared.scheduler.Scheduler.{Scheduler}
-use Rattle.core_parts.specs.declared.stop.Stop.{Stop}
+use Rattle.run_end.specs.declared.stop.Stop.{Stop}
 use Rattle.core_parts.specs.Held.{held, held_under, OwnsNone}
 use Rattle.core_parts.specs.Moments.{terms_of, SameTerms, HasRun, IsSound, CanGoOn}
 use Rattle.core_parts.proofs.Still.{reordered_sound, reordered_points, reordered_stands, still_sound, still_points, still_stands}
@@ -35,7 +35,8 @@ use Rattle.owner_steps.specs.Memory.{HasMemory}
 use Rattle.owner_steps.specs.Tops.{TakesTop}
 use Rattle.owner_steps.specs.Steps.{IsBeforeAction, Comes}
 use Rattle.core_parts.proofs.AtTop.{owns_none, words_within, used_within, counts_within}
-use Rattle.core_parts.proofs.Bounds.{point_one, seat_deque}
+use Rattle.core_parts.proofs.Bounds.{seat_deque}
+use Rattle.thread_parts.proofs.Points.{point_one}
 use Rattle.owner_steps.proofs.Owning.{quota_is}
 
 -- the deque without its top item

@@ -31,11 +31,13 @@ use Rattle.thread_frames.proofs.Placed.{placed_of}
 use Rattle.deque_events.specs.Shown.{deque_with, Stands}
 use Rattle.core_parts.specs.declared.scheduler.Scheduler.{Scheduler}
 use Rattle.core_parts.specs.declared.event.Event.{Event}
-use Rattle.core_parts.specs.Held.{held_under, IsInOrder, IsUnderItsId, AreAtPoints}
+use Rattle.core_parts.specs.Held.{held_under, IsInOrder, AreAtPoints}
+use Rattle.thread_parts.specs.Kept.{IsUnderItsId}
 use Rattle.core_parts.specs.Moments.{terms_of, HasRun, IsSound}
 use Rattle.deque_machine.specs.Terms.{machine_of}
-use Rattle.core_parts.proofs.Lists.{each_moved, found_among}
-use Rattle.core_parts.proofs.Bounds.{point_one}
+use Rattle.core_parts.proofs.Lists.{each_moved}
+use Rattle.thread_parts.proofs.Found.{found_among}
+use Rattle.thread_parts.proofs.Points.{point_one}
 use Rattle.core_parts.proofs.Joining.{newest_child, joins_it, told, ended_when_delivered, ended_when_kept, awaited_one, to_come, given, handed}
 use Rattle.owner_steps.specs.Steps.{IsBeforeAction, Comes}
 use Rattle.thread_events.specs.Results.{HasCome}

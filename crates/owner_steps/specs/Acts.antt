@@ -53,16 +53,6 @@ pub record Acted (next : Next) (Where : ℕ → Period → ℕ → Type 0) (work
   pub results : (t : Table) (k : ℕ) (items : List Thread) (stands : Stands before.list worker id items)
       → AreAtPoints t k (held_under before stands top) → AreResults t k (held before) → AreResults t k after
 
--- what an action asks of the period and the quota, where an Alloc uses so many words of it
-abbrev pub IsCharged : (charge : ℕ) → Next → ℕ → Period → ℕ → Type 0
-IsCharged charge Fork k period words = ForkFits k period words
-IsCharged charge (Join child) k period words = Always k period words
-IsCharged charge (Alloc asked) k period words = AllocIsCharged charge k period words
-IsCharged charge (Release given) k period words = Always k period words
-IsCharged charge Dummy k period words = Always k period words
-IsCharged charge (Fault fault) k period words = Always k period words
-IsCharged charge End k period words = Always k period words
-
 -- it did it with its words, and the answer is whether it is a move; it is not counted or noted yet
 pub record Performs (next : Next) (Where : ℕ → Period → ℕ → Type 0) (worker : ℕ) (id : DequeId) (top : Thread) (before after : Scheduler)
     (moved : Bool) : Type 0 where

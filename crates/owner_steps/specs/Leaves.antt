@@ -14,7 +14,8 @@ use Rattle.thread_parts.specs.Shown.{thread_shown}
 use Rattle.deque_events.specs.Shown.{Stands}
 use Rattle.core_parts.specs.declared.scheduler.Scheduler.{Scheduler}
 use Rattle.step_laws.specs.Orders.{AreSame}
-use Rattle.core_parts.specs.Held.{held, held_under, parts_in, IsInOrder, AreAtPoints, WaitsUnder, OwnsNone}
+use Rattle.core_parts.specs.Held.{held, held_under, parts_in, IsInOrder, AreAtPoints, OwnsNone}
+use Rattle.thread_parts.specs.Kept.{WaitsUnder}
 use Rattle.core_parts.specs.Moments.{SameTerms}
 
 -- what stays where nothing is done

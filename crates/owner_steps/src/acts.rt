@@ -6,9 +6,9 @@ ghost use Rattle.space_ledger.specs.MovesList.{moves_list, moves_spare};
 ghost use Rattle.space_ledger.specs.Sums.{total_change};
 ghost use Rattle.thread_frames.specs.Views.{done_of};
 ghost use Rattle.thread_frames.specs.declared.next.Next.TheVariants as nexts;
-ghost use Rattle.thread_events.specs.Acts.{AllocIsCharged, ForkFits, Always};
+ghost use Rattle.thread_events.specs.Acts.{AllocIsCharged, ForkFits, Always, IsCharged};
 ghost use Rattle.owner_steps.specs.Memory.{CanAct, MayAct};
-ghost use Rattle.owner_steps.specs.Acts.{Acts, Performs, IsCharged, change, noted};
+ghost use Rattle.owner_steps.specs.Acts.{Acts, Performs, change, noted};
 
 use crate::ends::end;
 use boxed::Boxed;

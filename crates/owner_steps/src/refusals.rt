@@ -3,7 +3,8 @@
 ghost use Rattle.std.specs.Prelude.{◌≤◌, ◌<◌, ◌+◌, OnOk, IfErr};
 ghost use Rattle.owner_steps.specs.Refusals.{Refuses};
 
-use core_parts::{Scheduler, Stop};
+use core_parts::Scheduler;
+use run_end::Stop;
 
 /// Whether an action may come which takes so many words.
 ///

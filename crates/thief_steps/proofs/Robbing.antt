@@ -17,7 +17,8 @@ use Rattle.deque_events.specs.Shown.{Holds, Becomes, deque_with, deque_shown, pa
 use Rattle.deque_events.specs.Seats.{TakesSeat}
 use Rattle.deque_events.specs.Events.{StoleBeside, TookOver}
 use Rattle.core_parts.specs.declared.scheduler.Scheduler.{Scheduler}
-use Rattle.core_parts.specs.Held.{held, parts_in, waiting_shown, result_kept}
+use Rattle.core_parts.specs.Held.{held, parts_in}
+use Rattle.thread_parts.specs.Kept.{waiting_shown, result_kept}
 use Rattle.thief_steps.specs.Thefts.{KeepsRest, Robs, takes_bottom, takes_deque}
 
 module _ (worker : ℕ) (before after : Scheduler) (id : DequeId) (number : ℕ) (rest : KeepsRest before after) (seats : TakesSeat worker id before.table after.table)

@@ -32,18 +32,20 @@ use Rattle.victim_choice.specs.Choices.{IsReadyAt, reach_of}
 use Rattle.step_laws.proofs.Ready.{first_is_shown, owners_are_shown}
 use Rattle.core_parts.specs.declared.event.Event.{Event}
 use Rattle.core_parts.specs.declared.event.Event.TheVariants.{Stole, Acted, Suspended, GaveUp}
-use Rattle.core_parts.specs.declared.stop.Stop.{Stop}
-use Rattle.core_parts.specs.declared.stop.Stop.TheVariants.{ArenaFull, DequesFull, StepsSpent, OutOfMemory}
+use Rattle.run_end.specs.declared.stop.Stop.{Stop}
+use Rattle.run_end.specs.declared.stop.Stop.TheVariants.{ArenaFull, DequesFull, StepsSpent, OutOfMemory}
 use Rattle.core_parts.specs.declared.scheduler.Scheduler.{Scheduler}
 use Rattle.step_laws.specs.Orders.{AreSame}
-use Rattle.core_parts.specs.Held.{Held, held, parts_in, OwnersSit, IsInOrder, AreAtPoints, WaitsUnder, IsUnderItsId}
+use Rattle.core_parts.specs.Held.{Held, held, parts_in, OwnersSit, IsInOrder, AreAtPoints}
+use Rattle.thread_parts.specs.Kept.{WaitsUnder, IsUnderItsId}
 use Rattle.core_parts.specs.Moments.{HasRun, IsSound, CanGoOn, SameTerms, terms_of}
 use Rattle.deque_machine.specs.Terms.{machine_of}
 use Rattle.core_parts.specs.Outcomes.{GoesOn, Stops, StopsBy}
 use Rattle.core_parts.proofs.Going.{lawful_at}
 use Rattle.core_parts.proofs.Leaving.{IsIdle, stole_goes_on}
 use Rattle.thief_steps.specs.Thefts.{Theft, takes_bottom, takes_deque, Robs, StaysAt, StopsTheft, OnlyMemory, Thieves}
-use Rattle.thief_steps.proofs.Wanting.{one_first, first_below, theft_of, shown_as, same_length, shown_at, shown_stays, id_of_thief, has_room, full_at, stays_in_list}
+use Rattle.thief_steps.proofs.Wanting.{theft_of, shown_as, same_length, shown_at, shown_stays, id_of_thief, has_room, full_at, stays_in_list}
+use Rattle.victim_choice.proofs.Firsts.{one_first, first_below}
 
 -- an idle worker owns no deque
 pub unowned : (table : PeriodTable) (worker : ℕ) → seat_at table worker ≡ None → (deques : List (Deque Thread)) → OwnersSit table deques

@@ -7,13 +7,14 @@ ghost use Rattle.thread_steps.specs.Settings.{IsSettingOf};
 ghost use Rattle.period_table.specs.Tables.{seat_at};
 ghost use Rattle.deque_events.specs.Shown.{Holds};
 ghost use Rattle.victim_choice.specs.Choices.{SomeReady, IsReadyAt};
-ghost use Rattle.core_parts.specs.declared.stop.Stop.{Stop as AnyStop};
-ghost use Rattle.core_parts.specs.declared.stop.Stop.TheVariants as stops;
+ghost use Rattle.run_end.specs.declared.stop.Stop.{Stop as AnyStop};
+ghost use Rattle.run_end.specs.declared.stop.Stop.TheVariants as stops;
 ghost use Rattle.core_parts.specs.Held.{held};
 ghost use Rattle.core_parts.specs.Moments.{IsSound, CanGoOn, SameTerms, HasRun, terms_of};
 ghost use Rattle.thief_steps.specs.Thefts.{Thieves, StepsBy};
 
-use core_parts::{Event, Scheduler, Stop};
+use core_parts::{Event, Scheduler};
+use run_end::Stop;
 use deque_list::{DequeId, InsertRefused};
 use period_table::PeriodTable;
 use quota_period::Period;

@@ -20,6 +20,7 @@ use Rattle.thread_frames.specs.Actions.{IsOfTheList}
 use Rattle.thread_frames.specs.declared.ended.Ended.{Ended}
 use Rattle.thread_frames.specs.declared.next.Next.{Next}
 use Rattle.thread_frames.specs.declared.next.Next.TheVariants as nexts
+use Rattle.thread_frames.specs.declared.next.Next.TheVariants.{Fork, Join, Alloc, Release, Dummy, Fault, End}
 use Rattle.thread_frames.specs.declared.thread.Thread.{Thread}
 use Rattle.node_table.specs.Table.{Table}
 use Rattle.thread_frames.specs.Points.{IsAtPoint}
@@ -50,6 +51,16 @@ Always k period words = Unit {0}
 -- a Fork is within the quota
 abbrev pub ForkFits : ℕ → Period → ℕ → Type 0
 ForkFits k period words = period.used + record_words ≤ k
+
+-- what an action asks of the period and the quota, where an Alloc uses so many words of it
+abbrev pub IsCharged : (charge : ℕ) → Next → ℕ → Period → ℕ → Type 0
+IsCharged charge Fork k period words = ForkFits k period words
+IsCharged charge (Join child) k period words = Always k period words
+IsCharged charge (Alloc asked) k period words = AllocIsCharged charge k period words
+IsCharged charge (Release given) k period words = Always k period words
+IsCharged charge Dummy k period words = Always k period words
+IsCharged charge (Fault fault) k period words = Always k period words
+IsCharged charge End k period words = Always k period words
 
 -- The top thread ends, and its result is kept: with its parent directly below;
 abbrev pub EndsAboveBy : (worker : ℕ) → DequeId → Thread → ListView Thread → PeriodTable → PeriodTable → Ended → Type 0

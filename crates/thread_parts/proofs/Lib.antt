@@ -1,1 +1,3 @@
 pub mod Threads
+pub mod Found
+pub mod Points

@@ -1,2 +1,4 @@
 pub mod Shown
+pub mod Kept
+pub mod Roots
 pub mod Laws

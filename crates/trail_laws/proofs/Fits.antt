@@ -8,12 +8,8 @@ use Rattle.deque_machine.specs.Play.{Limits, Ending, IsFirst, IsReady, reach, Wa
 use Rattle.deque_machine.specs.Runs.{Pair}
 use Rattle.good_trails.specs.Told.{kind_told, events_told}
 use Rattle.language_limits.specs.declared.TheConstants.{MOST_DEQUES}
+use Rattle.victim_choice.proofs.Firsts.{first_below}
 use Rattle.trail_meaning.specs.Ranges.{FitsKind, FitEvents}
-
--- the first that passes is one of those that may
-first_below : (n word : ℕ) (Passes : ℕ → Type 0) (x : ℕ) → IsFirst n word Passes x → x < n
-first_below n word Passes x first =
-    let few = first.few in subst (λ t. t < n) (sym first.is) (mod-lt (word + first.turns) (let some : 0 < n = omega (arith, few) in some))
 
 fits_kind : (s : Setting) (m : Moment) (worker word : ℕ) (event : Event) → s.workers ≤ MOST_DEQUES → Wants s m worker word event → FitsKind (kind_told event)
 fits_kind s m worker word event few (a_theft place id idle first named) =

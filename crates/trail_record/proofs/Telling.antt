@@ -18,23 +18,23 @@ use Rattle.period_books.specs.Periods.{Period}
 use Rattle.period_table.specs.Tables.{periods_of}
 use Rattle.core_parts.specs.declared.event.Event.{Event}
 use Rattle.core_parts.specs.declared.event.Event.TheVariants as events
-use Rattle.core_parts.specs.declared.stop.Stop.{Stop}
+use Rattle.run_end.specs.declared.stop.Stop.{Stop}
 use Rattle.core_parts.specs.Held.{held}
 use Rattle.core_parts.specs.Outcomes.{Tells, tells_theft, tells_action, tells_wait, tells_give_up}
 use Rattle.dfd_core.specs.declared.run.Core.{Core}
-use Rattle.dfd_core.specs.declared.run_end.RunEnd.{RunEnd}
-use Rattle.dfd_core.specs.declared.run_end.RunEnd.TheVariants.{Finished, Stopped}
-use Rattle.dfd_core.specs.declared.run_end.Stepped.{Stepped}
-use Rattle.dfd_core.specs.declared.run_end.Stepped.TheVariants.{Stole, Acted, Suspended, GaveUp, Nothing, Over}
+use Rattle.run_end.specs.declared.ends.RunEnd.{RunEnd}
+use Rattle.run_end.specs.declared.ends.RunEnd.TheVariants.{Finished, Stopped}
+use Rattle.dfd_core.specs.declared.stepped.Stepped.{Stepped}
+use Rattle.dfd_core.specs.declared.stepped.Stepped.TheVariants.{Stole, Acted, Suspended, GaveUp, Nothing, Over}
 use Rattle.dfd_core.specs.Cores.{IsAt, end_of, terms_at, workers_of, words_of_turn}
 use Rattle.dfd_core.specs.Plays.{TurnsTo}
 use Rattle.dfd_core.specs.Running.{KeepsEnd}
 use Rattle.dfd_core.specs.Steps.{GoesOn, Comes, IsTold}
 use Rattle.dfd_core.proofs.Told.{ok_or_err, some_or_none}
-use Rattle.dfd_core.proofs.Picking.{first_below}
+use Rattle.victim_choice.proofs.Firsts.{first_below}
 use Rattle.dfd_core.proofs.Taking.{goes, no_stop_kept, stop_told, turns_to}
 use Rattle.dfd_core.proofs.Turns.{nothing_told}
-use Rattle.thief_steps.proofs.Wanting.{one_first}
+use Rattle.victim_choice.proofs.Firsts.{one_first}
 use Rattle.good_trails.specs.Told.{event_told, kind_told}
 use Rattle.trail_meaning.specs.declared.trail_kind.TrailKind.{TrailKind}
 use Rattle.trail_meaning.specs.declared.trail_kind.TrailKind.TheVariants.{Steal, Act, Suspend, GiveUp}

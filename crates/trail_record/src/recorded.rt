@@ -1,4 +1,4 @@
-use dfd_core::RunEnd;
+use run_end::RunEnd;
 use trail_meaning::Events;
 
 /// A recorded play.

@@ -7,7 +7,8 @@ use Rattle.thread_frames.specs.Actions.{deed_of}
 use Rattle.thread_frames.specs.Views.{label_of}
 use Rattle.core_parts.specs.declared.scheduler.Scheduler.{Scheduler}
 use Rattle.core_parts.specs.Held.{held}
-use Rattle.owner_steps.specs.Acts.{IsCharged, noted, change}
+use Rattle.owner_steps.specs.Acts.{noted, change}
+use Rattle.thread_events.specs.Acts.{IsCharged}
 use Rattle.owner_steps.proofs.Ending.{acted_moved}
 use Rattle.owner_steps.proofs.acts.act.Goals as goal
 

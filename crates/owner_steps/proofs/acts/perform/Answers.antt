@@ -1,6 +1,7 @@
 use Rattle.std.proofs.Common.{sym, subst}
 use Rattle.thread_frames.specs.declared.next.Next.{Next}
-use Rattle.owner_steps.specs.Acts.{Performs, IsCharged}
+use Rattle.owner_steps.specs.Acts.{Performs}
+use Rattle.thread_events.specs.Acts.{IsCharged}
 use Rattle.owner_steps.proofs.acts.perform.Goals as goal
 
 pub returns-in-Fork : goal.returns-in-Fork

@@ -3,7 +3,7 @@ use Rattle.std.specs.Prelude.{◌+◌}
 use Rattle.dummy_tree.specs.QuotaWords.{quota_words}
 use Rattle.core_parts.specs.declared.event.Event.TheVariants.{Acted}
 use Rattle.core_parts.specs.declared.scheduler.Scheduler.{Scheduler}
-use Rattle.owner_steps.specs.Acts.{IsCharged}
+use Rattle.thread_events.specs.Acts.{IsCharged}
 use Rattle.owner_steps.specs.Memory.{words_taken_by}
 use Rattle.owner_steps.specs.Refusals.{Refuses}
 use Rattle.owner_steps.proofs.Owning.{refused_comes, acted_comes}

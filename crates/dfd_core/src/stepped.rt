@@ -1,14 +1,6 @@
-use core_parts::Stop;
-use dag_order::{ActionId, Finish, ThreadId};
+use dag_order::{ActionId, ThreadId};
 use deque_list::DequeId;
-
-/// How a run ended.
-#[derive(Clone, Copy, PartialEq, Eq, Debug)]
-pub enum RunEnd {
-    /// The root came to its end.
-    Finished(Finish),
-    Stopped(Stop),
-}
+use run_end::RunEnd;
 
 /// What a step did.
 #[derive(Clone, Copy, PartialEq, Eq, Debug)]

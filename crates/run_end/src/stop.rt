@@ -1,7 +1,7 @@
-/// What stops a run before it ends. Behind it nothing more is done.
+/// What stops a run before it ends. After it nothing more is done.
 #[derive(Clone, Copy, PartialEq, Eq, Debug)]
 pub enum Stop {
-    /// `asked` words do not fit beside the `live` ones that are out.
+    /// `asked` words do not fit beside the `live` words in use.
     ArenaFull { live: u64, asked: u64 },
     /// One more deque than is allowed would stand in the list.
     DequesFull { deques: u32 },
