@@ -15,8 +15,8 @@ use Rattle.period_books.specs.Periods.{closed_shown}
 use Rattle.quota_period.specs.declared.period.Period.{Period}
 use Rattle.space_ledger.specs.BooksList.{books_list}
 use Rattle.thread_frames.specs.declared.thread.Thread.{Thread}
-use Rattle.thread_parts.specs.Kept.{waiting_shown, result_kept}
-use Rattle.thread_parts.specs.Shown.{thread_shown}
+use Rattle.thread_frames.specs.Kept.{waiting_shown, result_kept}
+use Rattle.thread_frames.specs.Shown.{thread_shown}
 use Rattle.hall_law.specs.Writing.{place_of, lane_with, new_period}
 use Rattle.hall_law.specs.Rows.{list_stolen}
 use Rattle.hall_slots.specs.declared.list_slot.ListSlot.{ListSlot}
