@@ -120,6 +120,7 @@ pub fn step_of_owner(
         → HasRun c (terms_of scheduler.old limit) (held scheduler.old) run m
         → StepsTo c (terms_of scheduler.old limit) (held scheduler.new) worker word run m result }
     ensures terms { SameTerms scheduler.old scheduler.new }
+    ensures spare { scheduler.new.list.spare ≡ scheduler.old.list.spare }
 {
     let Ok((deque, mut top)) = take_top(scheduler, alloc, worker) else {
         return Err(Stop::OutOfMemory);
