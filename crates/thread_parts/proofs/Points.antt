@@ -1,5 +1,5 @@
 -- Being at a point is a proposition.
-use Rattle.std.proofs.Common.{ℕ, IsProp}
+use Rattle.std.proofs.Common.{ℕ}
 use Rattle.std.proofs.Math.Logic.{∥∥₁_prop}
 use Rattle.node_table.specs.Table.{Table}
 use Rattle.thread_frames.specs.declared.thread.Thread.{Thread}
