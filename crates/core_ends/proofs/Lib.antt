@@ -6,3 +6,4 @@ pub mod Begins
 pub mod Marked
 pub mod Events
 pub mod Movers
+pub mod Seats

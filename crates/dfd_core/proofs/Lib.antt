@@ -1,4 +1,3 @@
-pub mod Seats
 pub mod Openings
 pub mod Finished
 pub mod Going
