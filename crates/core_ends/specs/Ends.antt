@@ -8,7 +8,7 @@ use Rattle.deque_machine.specs.Moments.{Moment}
 use Rattle.deque_machine.specs.Terms.{Terms, machine_of}
 use Rattle.thread_frames.specs.declared.ended.Ended.{Ended}
 use Rattle.thread_map.specs.Kept.{same_thread}
-use Rattle.thread_parts.specs.Roots.{end_of_root}
+use Rattle.thread_frames.specs.Roots.{end_of_root}
 use Rattle.core_parts.specs.declared.event.Event.{Event}
 use Rattle.core_parts.specs.declared.event.Event.TheVariants.{Stole, Acted, Suspended, GaveUp}
 use Rattle.run_end.specs.declared.ends.RunEnd.{RunEnd}

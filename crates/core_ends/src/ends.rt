@@ -5,7 +5,7 @@ ghost use Rattle.dag_order.specs.Births.{root};
 ghost use Rattle.dag_order.specs.declared.finish.Finish.{Finish as AnyFinish};
 ghost use Rattle.thread_map.specs.Kept.{kept_under};
 ghost use Rattle.core_ends.specs.Ends.{is_of_root, end_behind_event, end_without_memory};
-ghost use Rattle.thread_parts.specs.Roots.{end_of_root};
+ghost use Rattle.thread_frames.specs.Roots.{end_of_root};
 ghost use Rattle.depth_first_run.specs.Run.{finish_of};
 
 use core_parts::Event;

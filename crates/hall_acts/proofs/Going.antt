@@ -25,8 +25,8 @@ use Rattle.thread_frames.specs.Actions.{IsOfTheList, IsStill}
 use Rattle.thread_frames.specs.Views.{children_of}
 use Rattle.thread_frames.specs.declared.next.Next.{Next}
 use Rattle.thread_frames.specs.declared.thread.Thread.{Thread}
-use Rattle.thread_parts.specs.Shown.{child_shown, thread_shown}
-use Rattle.thread_steps.specs.Settings.{IsSettingOf}
+use Rattle.thread_frames.specs.Shown.{child_shown, thread_shown}
+use Rattle.thread_run.specs.Settings.{IsSettingOf}
 use Rattle.hall_crew.specs.Views.{View}
 use Rattle.hall_crew.specs.Crew.{SeatStands}
 use Rattle.hall_law.specs.Values.{Hall, LaneShown, PoolShown, lane_at}

@@ -11,7 +11,7 @@ use Rattle.deque_list.specs.declared.place.Place.{Place}
 use Rattle.deque_machine.specs.Terms.{Terms, machine_of}
 use Rattle.lawful_books.specs.Lists.{Among, Each}
 use Rattle.lawful_books.proofs.Lists.{each_among}
-use Rattle.thread_steps.specs.Settings.{IsSettingOf}
+use Rattle.thread_run.specs.Settings.{IsSettingOf}
 use Rattle.hall_crew.specs.Views.{View}
 use Rattle.hall_crew.specs.Crew.{SeatStands}
 use Rattle.hall_law.specs.Values.{Hall}

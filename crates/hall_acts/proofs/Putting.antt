@@ -9,7 +9,7 @@ use Rattle.dag_order.specs.declared.action_id.ActionId.{ActionId}
 use Rattle.deque_list.specs.declared.deque_id.DequeId.{DequeId}
 use Rattle.deque_machine.specs.Terms.{Terms, machine_of}
 use Rattle.depth_first_run.specs.States.{Setting}
-use Rattle.thread_steps.specs.Settings.{IsSettingOf}
+use Rattle.thread_run.specs.Settings.{IsSettingOf}
 use Rattle.turn_table.specs.Hands.{Shows, showing, without_slot, renewed, shown_by, gave}
 use Rattle.turn_table.specs.Seats.{with_hand}
 use Rattle.turn_table.specs.Notes.{PutMay}

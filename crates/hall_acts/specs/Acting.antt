@@ -10,7 +10,7 @@ use Rattle.lawful_books.specs.Lists.{Each}
 use Rattle.space_ledger.specs.declared.moved.Moved.{Moved}
 use Rattle.space_ledger.specs.MovesList.{moves_list}
 use Rattle.thread_frames.specs.Points.{IsAtPoint}
-use Rattle.thread_steps.specs.Settings.{IsSettingOf}
+use Rattle.thread_run.specs.Settings.{IsSettingOf}
 use Rattle.turn_table.specs.Seats.{with_hand}
 use Rattle.hall_crew.specs.Views.{View}
 use Rattle.hall_law.specs.Values.{Hall, lane_at}

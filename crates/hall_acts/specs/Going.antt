@@ -12,7 +12,7 @@ use Rattle.quota_period.specs.declared.period.Period.{Period as OpenPeriod}
 use Rattle.thread_frames.specs.Actions.{IsOfTheList, IsStill}
 use Rattle.thread_frames.specs.declared.next.Next.{Next}
 use Rattle.thread_frames.specs.declared.thread.Thread.{Thread}
-use Rattle.thread_steps.specs.Settings.{IsSettingOf}
+use Rattle.thread_run.specs.Settings.{IsSettingOf}
 use Rattle.lane_events.specs.Here.{ActsHere, TakesWords}
 use Rattle.thread_events.specs.Acts.{IsCharged}
 use Rattle.hall_slots.specs.declared.lane_slot.LaneSlot.{LaneSlot}

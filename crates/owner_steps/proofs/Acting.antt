@@ -22,7 +22,7 @@ use Rattle.thread_frames.specs.declared.next.Next.{Next}
 use Rattle.thread_frames.specs.declared.thread.Thread.{Thread}
 use Rattle.thread_frames.specs.declared.ended.Ended.{Ended}
 use Rattle.thread_frames.specs.Points.{IsAtPoint, IsResult}
-use Rattle.thread_parts.specs.Shown.{thread_shown}
+use Rattle.thread_frames.specs.Shown.{thread_shown}
 use Rattle.deque_events.specs.Shown.{deque_with, Stands, parts_under}
 use Rattle.deque_events.specs.Seats.{KeepsSeats, LeavesSeat}
 use Rattle.thread_events.specs.Acts.{ActsBy, GoesBack, GoesBackUnowned, GoesBackWithChild}
@@ -30,7 +30,7 @@ use Rattle.core_parts.specs.declared.scheduler.Scheduler.{Scheduler}
 use Rattle.step_laws.specs.Standing.{Settles, as_they_are}
 use Rattle.step_laws.proofs.Standing.{the_same}
 use Rattle.core_parts.specs.Held.{Held, held, held_under, parts_in, IsReordered, OwnersSit, OwnsNone, IsInOrder, AreAtPoints, AreResults}
-use Rattle.thread_parts.specs.Kept.{waiting_shown, result_kept}
+use Rattle.thread_frames.specs.Kept.{waiting_shown, result_kept}
 use Rattle.depth_first_list.specs.Actions.{weight_of}
 use Rattle.deque_machine.specs.Runs.{moves_words}
 use Rattle.owner_steps.specs.Acts.{Acted, Performs}
@@ -79,8 +79,8 @@ module _ (next : Next) (Where : ℕ → Period → ℕ → Type 0) (worker : ℕ
   waiting_order : (items : List Thread) (stands : Stands before.list worker id items) → IsInOrder (held_under before stands top) → OwnersSit after.table after.list.deques → IsInOrder (held after)
   waiting_order items stands o sit = record {
     owners = sit;
-    waiting = subst (λ w. Each Rattle.thread_parts.specs.Kept.WaitsUnder w.entries) (sym aside.waiting) o.waiting;
-    results = subst (λ r. Each Rattle.thread_parts.specs.Kept.IsUnderItsId r.entries) (sym aside.results) o.results;
+    waiting = subst (λ w. Each Rattle.thread_frames.specs.Kept.WaitsUnder w.entries) (sym aside.waiting) o.waiting;
+    results = subst (λ r. Each Rattle.thread_frames.specs.Kept.IsUnderItsId r.entries) (sym aside.results) o.results;
   }
 
   waiting_points : (t : Table) (k : ℕ) (items : List Thread) (stands : Stands before.list worker id items) → AreAtPoints t k (held_under before stands top)

@@ -11,13 +11,13 @@ use Rattle.lawful_books.proofs.Lists.{each_at}
 use Rattle.moment_parts.specs.Events.{GivesUp, Suspends}
 use Rattle.thread_frames.specs.declared.thread.Thread.{Thread}
 use Rattle.thread_frames.specs.Points.{IsAtPoint}
-use Rattle.thread_parts.specs.Shown.{thread_shown}
+use Rattle.thread_frames.specs.Shown.{thread_shown}
 use Rattle.deque_events.specs.Shown.{deque_with, parts_of, Stands, Becomes}
 use Rattle.deque_events.specs.Events.{GaveUp, Suspended}
 use Rattle.deque_events.specs.Seats.{LeavesSeat}
 use Rattle.core_parts.specs.declared.scheduler.Scheduler.{Scheduler}
 use Rattle.core_parts.specs.Held.{held, held_under, parts_in, OwnersSit}
-use Rattle.thread_parts.specs.Kept.{waiting_shown, result_kept, WaitsUnder}
+use Rattle.thread_frames.specs.Kept.{waiting_shown, result_kept, WaitsUnder}
 use Rattle.core_parts.proofs.Lists.{each_moved}
 use Rattle.owner_steps.specs.Leaves.{IsIdleEvent, LeavesDeque, LeavesList}
 use Rattle.owner_steps.proofs.Places.{leave_sitting, points_change, under_is}
@@ -51,7 +51,7 @@ module _ (worker : ℕ) (id : DequeId) (top : Thread) (before after : Scheduler)
       owners = subst (OwnersSit after.table) (sym (becomes items stands).deques)
           (leave_sitting before.table after.table worker id (top ∷ items) stands.left stands.right o.owners seats none (deque_with id None (top ∷ items) ∷ []) (refl, tt));
       waiting = subst (λ w. Each WaitsUnder w.entries) (sym waiting) o.waiting;
-      results = subst (λ r. Each Rattle.thread_parts.specs.Kept.IsUnderItsId r.entries) (sym results) o.results;
+      results = subst (λ r. Each Rattle.thread_frames.specs.Kept.IsUnderItsId r.entries) (sym results) o.results;
     };
     points = λ t k items stands are. record {
       in_deques = subst (Each (λ d. Each (IsAtPoint t k) (Deque.items d))) (sym (becomes items stands).deques)
@@ -83,7 +83,7 @@ module _ (worker : ℕ) (id : DequeId) (top : Thread) (before after : Scheduler)
       owners = subst (OwnersSit after.table) (sym (becomes stands).deques)
           (leave_sitting before.table after.table worker id (top ∷ []) stands.left stands.right o.owners seats none [] tt);
       waiting = each_moved WaitsUnder ((child, top) ∷ before.waiting.entries) after.waiting.entries waiting (under, o.waiting);
-      results = subst (λ r. Each Rattle.thread_parts.specs.Kept.IsUnderItsId r.entries) (sym results) o.results;
+      results = subst (λ r. Each Rattle.thread_frames.specs.Kept.IsUnderItsId r.entries) (sym results) o.results;
     };
     points = λ t k stands are. record {
       in_deques = subst (Each (λ d. Each (IsAtPoint t k) (Deque.items d))) (sym (becomes stands).deques)
