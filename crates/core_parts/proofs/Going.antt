@@ -10,14 +10,11 @@ use Rattle.depth_first_list.specs.Runs.{IsDepthFirst}
 use Rattle.depth_first_run.specs.States.{Setting}
 use Rattle.depth_first_run.proofs.Built.{whole_is_depth_first}
 use Rattle.lawful_books.specs.Books.{booked}
-use Rattle.deque_machine.specs.Moments.{Moment, opening, live_at}
+use Rattle.deque_machine.specs.Moments.{Moment, live_at}
 use Rattle.deque_machine.specs.Machine as machine
-use Rattle.deque_machine.specs.LawfulOrder.{IsLawful}
 use Rattle.deque_machine.specs.Play as play
 use Rattle.deque_machine.specs.Play.{Meets, words_taken, no_words, no_steps}
-use Rattle.deque_machine.specs.Runs.{Pair, Reaches, moves}
-use Rattle.deque_machine.proofs.Kept.{opening_is_lawful}
-use Rattle.deque_machine.proofs.Reached.{lawful_along, moves_are_live}
+use Rattle.deque_machine.specs.Runs.{Pair, moves}
 use Rattle.period_books.specs.Periods.{Period}
 use Rattle.period_books.specs.Names.{HasLabel, IsNamed}
 use Rattle.period_table.specs.Tables.{periods_of}
@@ -28,28 +25,16 @@ use Rattle.space_ledger.specs.declared.moved.Moved.{Moved}
 use Rattle.space_ledger.specs.Sums.{total_change}
 use Rattle.step_laws.specs.Moves.{AreMovesOf}
 use Rattle.step_laws.specs.Standing.{StandsAt, StandsAfter, Counts, Settles}
-use Rattle.step_laws.proofs.Going.{runs_go_on, moves_go_on}
+use Rattle.step_laws.proofs.Going.{moves_go_on}
 use Rattle.step_laws.proofs.Labels.{does_keeps_labels}
 use Rattle.step_laws.proofs.Standing.{actions_stand, settled_periods}
+use Rattle.step_laws.proofs.Sums.{sums_go_on}
 use Rattle.step_laws.proofs.Told.{actions_are_added, coming_is_wanted}
 use Rattle.core_parts.specs.declared.event.Event.TheVariants.{Acted}
 use Rattle.core_parts.specs.Held.{Held, parts_in}
 use Rattle.core_parts.specs.Moments.{shown, HasRun}
 use Rattle.deque_machine.specs.Terms.{Terms, machine_of}
 use Rattle.core_parts.specs.Outcomes.{GoesOn, tells_action}
-
-module _ (c : Setting) (terms : Terms) where
-  -- the run goes on by an event after which what is shown stands
-  pub has_run_on : (h after : Held) (run : List Pair) (m : Moment) → HasRun c terms h run m → (worker : ℕ) (event : machine.Event)
-      → (behind : StandsAfter (machine_of c terms) (shown after) (moves (list_of c) run) m worker event) → after.done ≡ length (booked (behind.0).books)
-      → HasRun c terms after (run ++ record { worker = worker; event = event } ∷ []) behind.0
-  has_run_on h after run m at worker event behind done =
-      let pair : Pair = record { worker = worker; event = event } in
-      record {
-        reaches = runs_go_on (machine_of c terms) run m behind.0 worker event at.reaches behind.1;
-        standing = subst (λ ms. StandsAt (machine_of c terms) (shown after) ms behind.0) (sym (moves_go_on (list_of c) run pair)) behind.2;
-        done = done;
-      }
 
 module _ (c : Setting) (terms : Terms) (quota : record_words ≤ c.quota) where
   pub some_quota : 0 < c.quota
@@ -58,8 +43,17 @@ module _ (c : Setting) (terms : Terms) (quota : record_words ≤ c.quota) where
   pub listed : IsDepthFirst c.quota (list_of c)
   listed = whole_is_depth_first c
 
-  pub lawful_at : (run : List Pair) (m : Moment) → Reaches (machine_of c terms) opening run m → IsLawful (machine_of c terms) m
-  lawful_at run m reaches = lawful_along (machine_of c terms) listed run opening m (opening_is_lawful (machine_of c terms) listed) reaches
+  -- what is held goes on by an event after which what is shown stands
+  pub has_run_on : (h after : Held) (run : List Pair) (m : Moment) → HasRun c terms h run m → (worker : ℕ) (event : machine.Event)
+      → (behind : StandsAfter (machine_of c terms) (shown after) (moves (list_of c) run) m worker event) → after.done ≡ length (booked (behind.0).books)
+      → HasRun c terms after (run ++ record { worker = worker; event = event } ∷ []) behind.0
+  has_run_on h after run m at worker event behind done =
+      let pair : Pair = record { worker = worker; event = event } in
+      record {
+        sum = sums_go_on (machine_of c terms) some_quota listed run m behind.0 worker event at.sum behind.1;
+        standing = subst (λ ms. StandsAt (machine_of c terms) (shown after) ms behind.0) (sym (moves_go_on (list_of c) run pair)) behind.2;
+        done = done;
+      }
 
   -- with no stop the run goes on by the action
   module _ (h after : Held) (run : List Pair) (m : Moment) (at : HasRun c terms h run m) (worker place : ℕ) (next : Parts)
@@ -82,7 +76,7 @@ module _ (c : Setting) (terms : Terms) (quota : record_words ≤ c.quota) where
           wants = coming_is_wanted (machine_of c terms) m behind.0 worker word place at.standing.lawful behind.1;
           free = λ stop meets. no_stop stop meets;
           may = behind.1;
-          stands = has_run_on c terms h after run m at worker (machine.does place) behind
+          stands = has_run_on h after run m at worker (machine.does place) behind
               (done ∙ ap (λ n. n + 1) at.done ∙ sym (actions_are_added (machine_of c terms) m behind.0 worker place behind.1).booked);
           tells = tells_action place name (record { inside = named.inside; by = label_stays name.by (label_at (list_of c) place) named.by; index = named.index });
         }
@@ -105,6 +99,6 @@ moves_sum periods (m ∷ ms) (a ∷ actions) are = let rest = moves_sum periods 
     sums : (a b x y : ℤ) → a ≡ b → x ≡ y → a +ℤ x ≡ b +ℤ y
     sums a b x y p q = λ i. p i +ℤ q i
 
-pub sum_is : (c : Setting) (terms : Terms) → record_words ≤ c.quota → (h : Held) (run : List Pair) (m : Moment) → HasRun c terms h run m → total_change h.moves ≡ pos h.live
-sum_is c terms quota h run m at = moves_sum (periods_of h.table) h.moves (moves (list_of c) run) at.standing.moves
-    ∙ moves_are_live (machine_of c terms) (omega (arith, quota)) (whole_is_depth_first c) run m at.reaches ∙ sym at.standing.live
+pub sum_is : (c : Setting) (terms : Terms) (h : Held) (run : List Pair) (m : Moment) → HasRun c terms h run m → total_change h.moves ≡ pos h.live
+sum_is c terms h run m at = moves_sum (periods_of h.table) h.moves (moves (list_of c) run) at.standing.moves
+    ∙ at.sum ∙ sym at.standing.live

@@ -64,7 +64,7 @@ module _ (c : Setting) (terms : Terms) (quota : record_words ≤ c.quota) (h aft
       record {
         next = behind.0;
         may = behind.1;
-        stands = has_run_on c terms h after run m at worker machine.gives_up behind (idle.done ∙ at.done ∙ sym ((others_add_none s m behind.0 worker).1 behind.1).booked);
+        stands = has_run_on c terms quota h after run m at worker machine.gives_up behind (idle.done ∙ at.done ∙ sym ((others_add_none s m behind.0 worker).1 behind.1).booked);
         tells = tells_give_up (own s (whole_is_depth_first c) m lawful (parts_in h) at.standing.shows worker o) id is;
       }
 
@@ -98,7 +98,7 @@ module _ (c : Setting) (terms : Terms) (quota : record_words ≤ c.quota) (h aft
         wants = wait_is_wanted s m behind.0 worker word behind.1;
         free = waits_free;
         may = behind.1;
-        stands = has_run_on c terms h after run m at worker machine.suspends behind (idle.done ∙ at.done ∙ sym ((others_add_none s m behind.0 worker).0 behind.1).booked);
+        stands = has_run_on c terms quota h after run m at worker machine.suspends behind (idle.done ∙ at.done ∙ sym ((others_add_none s m behind.0 worker).0 behind.1).booked);
         tells = tells_wait (own s (whole_is_depth_first c) m lawful (parts_in h) at.standing.shows worker o) id
             (subst (λ ps. HasLabel ps id o.top.label) (sym same.periods) (subst (λ x. HasLabel next.periods x o.top.label) is
             (stays o.top.id o.top.label (top_stands s (whole_is_depth_first c) m lawful (parts_in h) at.standing.shows worker o).labelled)));
@@ -118,7 +118,7 @@ module _ (c : Setting) (terms : Terms) (quota : record_words ≤ c.quota) (h aft
         wants = a_theft place id.0 owns_none first its_id;
         free = λ stop meets. no_stop stop meets;
         may = behind.1;
-        stands = has_run_on c terms h after run m at worker (machine.steals place id.0) behind
+        stands = has_run_on c terms quota h after run m at worker (machine.steals place id.0) behind
             (idle.done ∙ at.done ∙ sym ((others_add_none s m behind.0 worker).2 place id.0 behind.1).booked);
         tells = subst (λ n. Rattle.core_parts.specs.Outcomes.Tells (list_of c) (periods_of after.table) m worker (machine.steals place id.0) (Stole id n))
             (sym (next_number number h.table.begun (length m.books) number_is at.standing.begun)) (tells_theft place id);

@@ -1,11 +1,15 @@
--- Who has a seat owns a deque, and is no thief.
-use Rattle.std.proofs.Common.{◌≡◌, ℕ, ◌<◌, ◌≤◌, List, ◌∷◌, ◌++◌, ap, arith}
-use Rattle.std.specs.Prelude.{Some}
+-- Who has a seat owns a deque, and is no thief; and who has none owns none.
+use Rattle.std.proofs.Common.{◌≡◌, ℕ, ◌<◌, ◌≤◌, List, ◌∷◌, ◌++◌, sym, ap, ◌∙◌, arith}
+use Rattle.std.proofs.Math.Logic.{∥∥₁_elim}
+use Rattle.std.proofs.lemmas.Option.{none-some}
+use Rattle.std.specs.Prelude.{None, Some}
 use Rattle.depth_first_list.specs.Actions.{record_words}
 use Rattle.depth_first_run.specs.States.{Setting}
 use Rattle.depth_first_run.specs.Run.{list_of}
+use Rattle.deque_list.specs.Deques.{Deque}
 use Rattle.lawful_books.specs.Books.{Book}
-use Rattle.lawful_books.proofs.Lists.{total_middle}
+use Rattle.lawful_books.specs.Lists.{total}
+use Rattle.lawful_books.proofs.Lists.{total_middle, each_among}
 use Rattle.deque_machine.specs.Moments.{Moment, owned_by, open_for, one_if_open}
 use Rattle.deque_machine.specs.Machine as machine
 use Rattle.deque_machine.specs.LawfulOrder.{IsLawful}
@@ -15,12 +19,12 @@ use Rattle.deque_machine.specs.Terms.{Terms, machine_of}
 use Rattle.period_books.specs.Periods.{Period, open_shown}
 use Rattle.period_books.proofs.Changes.{each_has_its_book}
 use Rattle.period_table.specs.declared.seat.Seat.{Seat}
-use Rattle.period_table.specs.Tables.{seat_at, shown_of, periods_of}
-use Rattle.core_parts.specs.Held.{Held}
+use Rattle.period_table.specs.Tables.{seat_at, deque_at, deque_of, shown_of, periods_of}
+use Rattle.core_parts.specs.Held.{Held, IsInOrder}
 use Rattle.core_parts.specs.Moments.{HasRun}
 use Rattle.core_parts.specs.Outcomes.{HasDequesLeft}
 use Rattle.core_parts.proofs.AtTop.{period_is_there}
-use Rattle.core_parts.proofs.Owners.{own_one}
+use Rattle.core_parts.proofs.Owners.{own_one, own_here, owned_shown, owner_there}
 
 -- an event is a theft
 unfoldable pub IsTheft : machine.Event → Type 0
@@ -64,6 +68,14 @@ module _ (c : Setting) (terms : Terms) (quota : record_words ≤ c.quota) (h : H
       let sum = total_middle (one_if_open worker) book.older book.book book.newer in
       let opened : open_for worker m.books ≡ open_for worker (book.older ++ book.book ∷ book.newer) = ap (open_for worker) book.books_are in
       let each = lawful.periods.one_each worker in omega (arith, one, sum, opened, each)
+
+  -- and who has none owns none
+  pub idle_owns_none : ∥ IsInOrder h ∥₁ → seat_at h.table worker ≡ None → 0 < owned_by worker m.deques → ⊥
+  idle_owns_none ordered idle some = ∥∥₁_elim ordered (λ x y. absurd x) (λ o.
+      let same : owned_by worker m.deques ≡ total (own_here worker) h.deques = ap (owned_by worker) at.standing.shows.deques ∙ owned_shown worker h.deques in
+      let found = owner_there worker h.deques (omega (arith, same, some)) in
+      let sits = each_among (λ d. (w : ℕ) → Deque.owner d ≡ Some w → deque_at h.table w ≡ Some (Deque.id d)) found.0 h.deques o.owners found.1 worker found.2 in
+      none-some (Deque.id found.0) (sym (ap deque_of idle) ∙ sits))
 
   -- so the limit of deques does not stop what is wanted of it
   pub owner_has_deques_left : (word : ℕ) (seat : Seat) → seat_at h.table worker ≡ Some seat → HasDequesLeft c terms worker word m

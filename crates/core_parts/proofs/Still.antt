@@ -51,7 +51,7 @@ pub same_stands : (c : Setting) (terms : Terms) (before after : Held) (run : Lis
     → after.live ≡ before.live → after.done ≡ before.done → after.table.begun ≡ before.table.begun → after.moves ≡ before.moves
     → HasRun c terms before run m → HasRun c terms after run m
 same_stands c terms before after run m same live done begun moved at = record {
-  reaches = at.reaches;
+  sum = at.sum;
   standing = law.same_stands (machine_of c terms) (shown before) (shown after) (moves (list_of c) run) m at.standing same (record { live = live; begun = begun ∙ none_more before.table.begun; moves = moved });
   done = done ∙ at.done;
 }
@@ -156,7 +156,7 @@ pub handed_stands : (c : Setting) (terms : Terms) → record_words ≤ c.quota �
     → HasRun c terms before run m → HandsOver (parts_in before) worker next → AreSame next (parts_in after)
     → after.live ≡ before.live → after.done ≡ before.done → after.table.begun ≡ before.table.begun → after.moves ≡ before.moves → HasRun c terms after run m
 handed_stands c terms quota before after run m worker next at hands same live done begun moved = record {
-  reaches = at.reaches;
+  sum = at.sum;
   standing = handings_stand (machine_of c terms) (omega (arith, quota)) (whole_is_depth_first c) (shown before) (shown after) (moves (list_of c) run) m worker next at.standing hands same
       (record { live = live; begun = begun ∙ none_more before.table.begun; moves = moved });
   done = done ∙ at.done;

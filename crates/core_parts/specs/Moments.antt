@@ -1,10 +1,10 @@
--- At which moment of which run a scheduler stands.
+-- At which moment, with the moves of which events, a scheduler stands.
 use Rattle.std.specs.Prelude.{◌≡◌, ◌≤◌, ℕ, List, length, pos}
-use Rattle.depth_first_list.specs.Actions.{record_words}
+use Rattle.depth_first_list.specs.Actions.{live_words, record_words}
 use Rattle.depth_first_run.specs.States.{Setting}
 use Rattle.lawful_books.specs.Books.{booked}
-use Rattle.deque_machine.specs.Moments.{Moment, opening}
-use Rattle.deque_machine.specs.Runs.{Pair, Reaches, moves}
+use Rattle.deque_machine.specs.Moments.{Moment, live_at}
+use Rattle.deque_machine.specs.Runs.{Pair, moves}
 use Rattle.space_ledger.specs.Sums.{total_change}
 use Rattle.node_table.specs.Table.{Table}
 use Rattle.depth_first_run.specs.Run.{list_of}
@@ -30,18 +30,18 @@ SameTerms before after = (actions : ℕ) → terms_of after actions ≡ terms_of
 abbrev pub shown : Held → Showing
 shown h = record { parts = parts_in h; live = h.live; begun = h.table.begun; moves = h.moves }
 
--- What is held has come by this run of the machine to this moment: the run leads there, what is shown stands there with the moves of the
--- run, and as many actions are done.
+-- What is held is at this moment with the moves of these events, which sum up to the words in use, and as many actions are done. Whether the
+-- events are a run of a machine to this moment is not asked.
 pub record HasRun (c : Setting) (terms : Terms) (h : Held) (run : List Pair) (m : Moment) : Type 0 where
-  pub reaches : Reaches (machine_of c terms) opening run m
+  pub sum : live_words (moves (list_of c) run) ≡ live_at (list_of c) m
   pub standing : StandsAt (machine_of c terms) (shown h) (moves (list_of c) run) m
   pub done : h.done ≡ length (booked m.books)
 
--- whichever program it is that the table is of, it has come by some run to some moment
+-- whichever program it is that the table is of, it is so at some moment with some events
 abbrev pub StandsSomewhere : Table → ℕ → Terms → Held → Type 0
 StandsSomewhere t k terms h = (c : Setting) → IsSettingOf t k c → ∥ ((run : List Pair) × (m : Moment) × HasRun c terms h run m) ∥₁
 
--- What is held is sound: it is of a run of a program of this table, with a quota that covers a record block.
+-- What is held is sound: it is at a moment of a program of this table, with a quota that covers a record block.
 pub record IsSound (t : Table) (k : ℕ) (terms : Terms) (h : Held) : Type 0 where
   pub of_program : IsOfProgram t k
   pub quota : record_words ≤ k

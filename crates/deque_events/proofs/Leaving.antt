@@ -5,7 +5,7 @@ use Rattle.std.proofs.lemmas.List.{map-append}
 use Rattle.dag_order.specs.declared.action_id.ActionId.{ActionId}
 use Rattle.deque_list.specs.declared.deque_id.DequeId.{DequeId}
 use Rattle.deque_list.specs.Deques.{Deque, DequeAt}
-use Rattle.deque_list.specs.DequeLists.{ListView}
+use Rattle.deque_list.specs.DequeLists.{ListView, SameElsewhere}
 use Rattle.depth_first_list.specs.Actions.{ends, Action}
 use Rattle.depth_first_list.specs.Facts.{words_at}
 use Rattle.lawful_books.specs.Books.{charge, charge_at}
@@ -36,8 +36,8 @@ module _ {T : Type 0} {worker : ℕ} {id : DequeId} (before : ListView T) (table
       ∙ remove_middle stands.left (here stands) stands.right
 
   pub gone : (stands : Stands before worker id []) → ((rank : ℕ) (deque : Deque T) → DequeAt before.deques id rank deque → next.deques ≡ remove before.deques rank)
-      → next.most ≡ before.most → Becomes stands next []
-  gone stands clause most = record { deques = left_out stands clause; most = most }
+      → SameElsewhere before next id → Becomes stands next []
+  gone stands clause rest = record { deques = left_out stands clause; most = rest.most; spare = rest.spare }
 
   pub gave_up : (items : List T) (top : T) (mid : ListView T)
       → ((rank : ℕ) (deque : Deque T) → DequeAt before.deques id rank deque → mid.deques ≡ slice_set before.deques rank (record deque { items = top ∷ deque.items }))

@@ -8,7 +8,7 @@ use Rattle.dag_order.specs.declared.action_id.ActionId.{ActionId}
 use Rattle.dag_order.specs.declared.birth.Birth.{Birth}
 use Rattle.deque_list.specs.declared.deque_id.DequeId.{DequeId}
 use Rattle.deque_list.specs.Deques.{Deque, DequeAt, deque_ids}
-use Rattle.deque_list.specs.DequeLists.{ListView}
+use Rattle.deque_list.specs.DequeLists.{ListView, SameElsewhere, SameRoom}
 use Rattle.depth_first_list.specs.Actions.{Action}
 use Rattle.lawful_books.specs.Lists.{Among}
 use Rattle.lawful_books.specs.Books.{charge_at}
@@ -63,21 +63,28 @@ module _ {T : Type 0} where
   -- what the deque has become, with one item more, with two, and with one and without an owner
   pub one_back : {list : ListView T} {worker : ℕ} {id : DequeId} {items : List T} (stands : Stands list worker id items) (next : ListView T) (item : T)
       → ((rank : ℕ) (deque : Deque T) → DequeAt list.deques id rank deque → next.deques ≡ slice_set list.deques rank (record deque { items = item ∷ deque.items }))
-      → next.most ≡ list.most → Becomes stands next (deque_with id (Some worker) (item ∷ items) ∷ [])
-  one_back stands next item push most = record { deques = (pushed stands next item push).deques_are; most = most }
+      → SameElsewhere list next id → Becomes stands next (deque_with id (Some worker) (item ∷ items) ∷ [])
+  one_back stands next item push rest = record { deques = (pushed stands next item push).deques_are; most = rest.most; spare = rest.spare }
 
   pub both_back : {list : ListView T} {worker : ℕ} {id : DequeId} {items : List T} (stands : Stands list worker id items) (mid next : ListView T) (item child : T)
       → ((rank : ℕ) (deque : Deque T) → DequeAt list.deques id rank deque → mid.deques ≡ slice_set list.deques rank (record deque { items = item ∷ deque.items }))
       → ((rank : ℕ) (deque : Deque T) → DequeAt mid.deques id rank deque → next.deques ≡ slice_set mid.deques rank (record deque { items = child ∷ deque.items }))
-      → mid.most ≡ list.most → next.most ≡ mid.most → Becomes stands next (deque_with id (Some worker) (child ∷ item ∷ items) ∷ [])
-  both_back stands mid next item child push push_child most most_next =
-      record { deques = (pushed (pushed stands mid item push) next child push_child).deques_are; most = most_next ∙ most }
+      → SameElsewhere list mid id → SameElsewhere mid next id → Becomes stands next (deque_with id (Some worker) (child ∷ item ∷ items) ∷ [])
+  both_back stands mid next item child push push_child rest rest_next = record {
+    deques = (pushed (pushed stands mid item push) next child push_child).deques_are;
+    most = rest_next.most ∙ rest.most;
+    spare = rest_next.spare ∙ rest.spare;
+  }
 
   pub back_unowned : {list : ListView T} {worker : ℕ} {id : DequeId} {items : List T} (stands : Stands list worker id items) (mid next : ListView T) (item : T)
       → ((rank : ℕ) (deque : Deque T) → DequeAt list.deques id rank deque → mid.deques ≡ slice_set list.deques rank (record deque { items = item ∷ deque.items }))
       → ((rank : ℕ) (deque : Deque T) → DequeAt mid.deques id rank deque → next.deques ≡ slice_set mid.deques rank (record deque { owner = None }))
-      → mid.most ≡ list.most → next.most ≡ mid.most → Becomes stands next (deque_with id None (item ∷ items) ∷ [])
-  back_unowned stands mid next item push give most most_next = record { deques = given_up (pushed stands mid item push) next give; most = most_next ∙ most }
+      → SameElsewhere list mid id → SameRoom mid next → Becomes stands next (deque_with id None (item ∷ items) ∷ [])
+  back_unowned stands mid next item push give rest rest_next = record {
+    deques = given_up (pushed stands mid item push) next give;
+    most = rest_next.most ∙ rest.most;
+    spare = rest_next.spare ∙ rest.spare;
+  }
 
   -- what a list with a deque in the middle shows
   pub shown_middle : (shown : T → parts.Thread) (left right : List (Deque T)) (d : Deque T)

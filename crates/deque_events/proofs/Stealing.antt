@@ -10,7 +10,7 @@ use Rattle.bounded_list.specs.BoundedList.{entries}
 use Rattle.deque_list.specs.declared.deque_id.DequeId.{DequeId}
 use Rattle.deque_list.specs.Ids.{IsLive}
 use Rattle.deque_list.specs.Deques.{Deque, DequeAt, deque_ids}
-use Rattle.deque_list.specs.DequeLists.{ListView}
+use Rattle.deque_list.specs.DequeLists.{ListView, SameRoom}
 use Rattle.lawful_books.specs.Lists.{Each}
 use Rattle.lawful_books.proofs.Lists.{each_from}
 use Rattle.quota_period.specs.declared.period.Period.{Period as OpenPeriod}
@@ -21,7 +21,7 @@ use Rattle.period_table.specs.Tables.{periods_of}
 use Rattle.period_table.proofs.Lists.{place_of_among}
 use Rattle.moment_parts.specs.Parts as parts
 use Rattle.moment_parts.specs.Events.{Begins, Steals, steals_beside, takes_over}
-use Rattle.deque_events.specs.Shown.{deque_shown, parts_of, deque_with, Holds, Becomes}
+use Rattle.deque_events.specs.Shown.{deque_shown, parts_of, deque_with, Holds, Becomes, IsCut}
 use Rattle.deque_events.specs.Events.{StoleBeside, TookOver}
 use Rattle.deque_events.proofs.Putting.{set_middle}
 
@@ -82,7 +82,7 @@ module _ {T : Type 0} {before : ListView T} {victim : DequeId} (owner : Option �
       → ((rank : ℕ) (deque : Deque T) → DequeAt before.deques victim rank deque → mid.deques ≡ slice_set before.deques rank (record deque { items = take (length deque.items - 1) deque.items }))
       → ((rank : ℕ) (deque : Deque T) → DequeAt mid.deques victim rank deque → next.deques ≡ insert mid.deques (rank + 1) (record { id = new; owner = Some worker; items = taken ∷ [] }))
       → next.most ≡ before.most
-      → Becomes holds next (deque_with victim owner (first ∷ others) ∷ deque_with new (Some worker) (bottom ∷ []) ∷ [])
+      → IsCut holds next (deque_with victim owner (first ∷ others)) (deque_with new (Some worker) (bottom ∷ []))
   put_beside worker mid next taken new item cut put most =
       let middle = without_bottom mid cut in
       record {
@@ -96,12 +96,13 @@ module _ {T : Type 0} {before : ListView T} {victim : DequeId} (owner : Option �
 -- a deque has an owner from now on
 pub owned : {T : Type 0} {before : ListView T} {victim : DequeId} (worker : ℕ) (next : ListView T) (thread : T)
     → ((rank : ℕ) (deque : Deque T) → DequeAt before.deques victim rank deque → next.deques ≡ slice_set before.deques rank (record deque { owner = Some worker }))
-    → next.most ≡ before.most → (holds : Holds before victim None (thread ∷ [])) → Becomes holds next (deque_with victim (Some worker) (thread ∷ []) ∷ [])
-owned {T} {before} {victim} worker next thread take most holds = record {
+    → SameRoom before next → (holds : Holds before victim None (thread ∷ [])) → Becomes holds next (deque_with victim (Some worker) (thread ∷ []) ∷ [])
+owned {T} {before} {victim} worker next thread take rest holds = record {
   deques = take (length holds.left) (held holds) (rank_of holds)
       ∙ ap (λ ds. slice_set ds (length holds.left) (deque_with victim (Some worker) (thread ∷ []))) holds.deques_are
       ∙ set_middle holds.left (held holds) (deque_with victim (Some worker) (thread ∷ [])) holds.right;
-  most = most;
+  most = rest.most;
+  spare = rest.spare;
 }
 
 -- with room for one more deque no refusal comes
@@ -146,7 +147,7 @@ module _ {T : Type 0} (worker : ℕ) (victim : DequeId) (before : ListView T) (t
     (none : entries period.book ≡ []) (born : entries period.births ≡ []) where
   pub stole_beside : (new : DequeId) → period.ahead ≡ true
       → ((owner : Option ℕ) (first : T) (others : List T) (bottom : T) (holds : Holds before victim owner (first ∷ (others ++ bottom ∷ [])))
-      → Becomes holds next (deque_with victim owner (first ∷ others) ∷ deque_with new (Some worker) (bottom ∷ []) ∷ []))
+      → IsCut holds next (deque_with victim owner (first ∷ others)) (deque_with new (Some worker) (bottom ∷ [])))
       → (¬ IsLive (deque_ids before.deques) new)
       → StoleBeside worker victim before table next after new
   stole_beside new marked become free owner first others bottom holds shown waiting results workers below unowned reach =

@@ -34,10 +34,18 @@ pub record Holds {T : Type 0} (list : ListView T) (id : DequeId) (owner : Option
 abbrev pub Stands : {T : Type 0} → ListView T → (worker : ℕ) → DequeId → List T → Type 0
 Stands list worker id items = Holds list id (Some worker) items
 
--- the deque in the middle has become these, the others are as they were, and as many deques are allowed
+-- the deque in the middle has become these, and the rest is unchanged: the other deques, how many are allowed, and whether the list takes one
+-- more deque without memory
 pub record Becomes {T : Type 0} {before : ListView T} {id : DequeId} {owner : Option ℕ} {items : List T}
     (holds : Holds before id owner items) (after : ListView T) (middle : List (Deque T)) : Type 0 where
   pub deques : after.deques ≡ holds.left ++ (middle ++ holds.right)
+  pub most : after.most ≡ before.most
+  pub spare : after.spare ≡ before.spare
+
+-- the deque in the middle was cut in two, which used the room for one more deque, and the other deques are unchanged
+pub record IsCut {T : Type 0} {before : ListView T} {id : DequeId} {owner : Option ℕ} {items : List T}
+    (holds : Holds before id owner items) (after : ListView T) (left right : Deque T) : Type 0 where
+  pub deques : after.deques ≡ holds.left ++ left ∷ right ∷ holds.right
   pub most : after.most ≡ before.most
 
 -- the parts in which the worker's deque has another thread on top of its items

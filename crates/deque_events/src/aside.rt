@@ -3,7 +3,7 @@
 ghost use Rattle.std.specs.Prelude.{◌≡◌, ◌<◌, ◌∷◌, [], ℕ, Option, None, length};
 ghost use Rattle.deque_list.specs.Ids.{IsSmallestFree};
 ghost use Rattle.deque_list.specs.Deques.{deque_ids};
-ghost use Rattle.deque_events.specs.Shown.{Holds, Becomes, deque_with};
+ghost use Rattle.deque_events.specs.Shown.{Holds, IsCut, deque_with};
 
 use deque_list::{DequeId, List};
 
@@ -14,7 +14,7 @@ pub fn set_aside<T: Drop>(list: &mut List<T>, deque: DequeId) -> DequeId
     requires room { list.old.spare ≡ 1 }
     requires few_deques { length list.old.deques < list.old.most }
     ensures deques { (owner : Option ℕ) (top : T) (bottom : T) (holds : Holds list.old deque owner (top ∷ bottom ∷ []))
-        → Becomes holds list.new (deque_with deque owner (top ∷ []) ∷ deque_with result None (bottom ∷ []) ∷ []) }
+        → IsCut holds list.new (deque_with deque owner (top ∷ [])) (deque_with result None (bottom ∷ [])) }
     ensures id { IsSmallestFree (deque_ids list.old.deques) result }
     ensures spent { list.new.spare ≡ 0 }
 {

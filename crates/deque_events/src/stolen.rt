@@ -5,7 +5,7 @@ ghost use Rattle.bounded_list.specs.BoundedList.{entries};
 ghost use Rattle.period_table.specs.Tables.{seat_at};
 ghost use Rattle.deque_list.specs.Ids.{IsSmallestFree};
 ghost use Rattle.deque_list.specs.Deques.{deque_ids};
-ghost use Rattle.deque_events.specs.Shown.{Holds, Becomes, deque_with};
+ghost use Rattle.deque_events.specs.Shown.{Holds, Becomes, IsCut, deque_with};
 ghost use Rattle.deque_events.specs.Seats.{TakesSeat};
 ghost use Rattle.deque_events.specs.Events.{StoleBeside, TookOver};
 
@@ -37,7 +37,7 @@ pub fn steal_beside<T: Drop>(
     ensures steals { StoleBeside worker victim list.old table.old list.new table.new result }
     ensures deques { (owner : Option ℕ) (first : T) (others : AnyList T) (bottom : T)
         (holds : Holds list.old victim owner (first ∷ (others ++ bottom ∷ [])))
-        → Becomes holds list.new (deque_with victim owner (first ∷ others) ∷ deque_with result (Some worker) (bottom ∷ []) ∷ []) }
+        → IsCut holds list.new (deque_with victim owner (first ∷ others)) (deque_with result (Some worker) (bottom ∷ [])) }
     ensures seats { TakesSeat worker result table.old table.new }
     ensures id { IsSmallestFree (deque_ids list.old.deques) result }
 {

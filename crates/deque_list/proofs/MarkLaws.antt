@@ -109,7 +109,7 @@ none_counted zero = refl
 none_counted (suc n) = let rest = none_counted n in let first = sum_by-cons (λ mark. cond mark 1 0) false (replicate n false) in omega (arith, rest, first)
 
 -- no id is in use
-none_sound : (most : ℕ) → most ≤ 4096 → IsSound [] (replicate most false)
+none_sound : (most : ℕ) → most ≤ 4194305 → IsSound [] (replicate most false)
 none_sound most few = record {
   differ = λ r s id at_r at_s. cc;
   marked = λ id live. let clash = live.1 in cc;
@@ -119,6 +119,6 @@ none_sound most few = record {
 }
 
 -- the id 0 alone is in use
-pub first_sound : (most : ℕ) → 1 ≤ most → most ≤ 4096 → IsSound (deque_id 0 ∷ []) (slice_set (replicate most false) 0 true)
+pub first_sound : (most : ℕ) → 1 ≤ most → most ≤ 4194305 → IsSound (deque_id 0 ∷ []) (slice_set (replicate most false) 0 true)
 first_sound zero some few = absurd (omega arith)
 first_sound (suc more) some few = sound_inserted [] (replicate (suc more) false) 0 0 (none_sound (suc more) few) (omega arith) refl

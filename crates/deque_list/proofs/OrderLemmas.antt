@@ -29,7 +29,7 @@ sound_is_lawful order places marks p m sound =
     }
 
 -- a rank is a small number
-pub rank_is_small : (places : List Place) (marks : List Bool) (rank : ℕ) (id : DequeId) → IsSound (place_ids places) marks → slice_get (place_ids places) rank ≡ Some id → rank < 4096
+pub rank_is_small : (places : List Place) (marks : List Bool) (rank : ℕ) (id : DequeId) → IsSound (place_ids places) marks → slice_get (place_ids places) rank ≡ Some id → rank < 4194305
 rank_is_small places marks rank id sound here =
     let within = slice_get_within (place_ids places) rank id here in let long = length-map places (λ place. place.id) in
     let few = places_within places marks sound in let most = sound.few in omega arith

@@ -8,7 +8,7 @@ use Rattle.deque_list.specs.LaneTables.{LaneTable, HasLane}
 use Rattle.deque_list.specs.Ids.{IsLive, IdsDiffer, deque_id, place_ids}
 use Rattle.deque_list.specs.Orders.{OrderView}
 use Rattle.deque_list.specs.Deques.{Deque, deque_code, deque_ids}
-use Rattle.language_limits.specs.declared.TheConstants.{MOST_DEQUES}
+use Rattle.deque_list.specs.declared.TheConstants.{MOST_ENTRIES}
 
 -- the deques from left to right, how many are allowed, whether the list takes one more deque without memory
 -- (1, else 0), and for each id how many more items its lane takes without memory
@@ -71,7 +71,7 @@ pub record IsLawfulList {T : Type 0} (list : ListView T) : Type 0 where
   pub differ : IdsDiffer (deque_ids list.deques)
   pub below : (id : DequeId) → IsLive (deque_ids list.deques) id → id.0 < list.most
   pub within : length list.deques ≤ list.most
-  pub few : list.most ≤ MOST_DEQUES
+  pub few : list.most ≤ MOST_ENTRIES
   pub at_most_one : list.spare ≤ 1
   pub prepared : list.spare ≡ 1 → length list.deques < list.most
 

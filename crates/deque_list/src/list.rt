@@ -4,6 +4,7 @@ ghost use Rattle.deque_list.specs.Ids.{IsLive, IsSmallestFree, deque_id};
 ghost use Rattle.deque_list.specs.Deques.{Deque, DequeAt, IsReady, deque_ids, place_of};
 ghost use Rattle.deque_list.specs.DequeLists.{lane_room, IsLawfulList, SameRoom, SameElsewhere};
 
+use crate::MOST_ENTRIES;
 use crate::deque_id::DequeId;
 use crate::insert_refused::InsertRefused;
 use crate::lane::Lane;
@@ -11,7 +12,6 @@ use crate::lanes::Lanes;
 use crate::order::Order;
 use crate::place::Place;
 use crate::spare_lane::SpareLane;
-use language_limits::MOST_DEQUES;
 use std::alloc::{AllocError, Global};
 use std::marker::Model;
 
@@ -47,9 +47,9 @@ impl<T> List<T> {
     ghost use Rattle.deque_list.specs.ListLends.{lends_top_item};
 
     /// A list of one deque without an owner, which holds `first`. At most `most` deques are allowed, from 1
-    /// to 4,096.
+    /// to 4,194,305.
     pub fn new(alloc: Global, first: T, most: u32) -> Result<List<T>, (T, AllocError)>
-        requires { (1 ≤ most) × (most ≤ MOST_DEQUES) }
+        requires { (1 ≤ most) × (most ≤ MOST_ENTRIES) }
         ensures deques { IfOk result (λ list. list.deques ≡ (record { id = deque_id 0; owner = None; items = first ∷ [] }) ∷ []) }
         ensures most { IfOk result (λ list. list.most ≡ most) }
         ensures spare { IfOk result (λ list. list.spare ≡ 0) }

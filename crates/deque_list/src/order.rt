@@ -3,10 +3,10 @@ ghost use Rattle.std.specs.Option.{option_map};
 ghost use Rattle.deque_list.specs.Ids.{IsLive, IdsDiffer, IsSmallestFree, StandsAt, place_ids};
 ghost use Rattle.deque_list.specs.declared.place.Place.{Place};
 
+use crate::MOST_ENTRIES;
 use crate::deque_id::DequeId;
 use crate::place::Place;
 use crate::search::{first_unmarked, rank_in};
-use language_limits::MOST_DEQUES;
 use std::alloc::{AllocError, Global};
 use std::marker::Model;
 
@@ -53,7 +53,7 @@ impl Order {
 
     // An order of one deque, with the id 0 and no owner.
     pub(crate) fn new(alloc: Global, most: u32) -> Result<Order, AllocError>
-        requires { (1 ≤ most) × (most ≤ MOST_DEQUES) }
+        requires { (1 ≤ most) × (most ≤ MOST_ENTRIES) }
         ensures places { IfOk result (λ order. order.places ≡ first_place ∷ []) }
         ensures most { IfOk result (λ order. order.most ≡ most) }
     {

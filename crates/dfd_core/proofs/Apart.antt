@@ -52,7 +52,8 @@ use Rattle.run_end.specs.declared.ends.RunEnd.TheVariants.{Finished, Stopped}
 use Rattle.dfd_core.specs.Parts.{root_behind, IsOfWholeRun, AreOfRun}
 use Rattle.thread_frames.specs.Roots.{HasDoneNothing, IsRootAlone}
 use Rattle.dfd_core.specs.Running.{IsAtMoment, IsSomewhere}
-use Rattle.dfd_core.proofs.Roots.{root_result, finished_keeps, label_of_root, root_is_result}
+use Rattle.core_ends.proofs.Roots.{root_result, label_of_root, root_is_result}
+use Rattle.dfd_core.proofs.Finished.{finished_keeps}
 
 -- ---- at an end
 
@@ -77,7 +78,7 @@ module _ (t : Table) (k : ℕ) (terms : Terms) (h : Held) (sound : IsSound t k t
   its_result None is = tt
   its_result (Some ended) is = (
     root_is_result t k terms h sound ended is,
-    ∥∥₁_elim sound.of_program (search props) (λ p. label_of_root t k terms h sound kept_end somewhere ended is p.0 p.1),
+    ∥∥₁_elim sound.of_program (search props) (λ p. label_of_root t k terms h sound ended is p.0 p.1),
   )
 
   pub of_whole_run : (end : RunEnd) → IfSome (root_behind end (root_result h)) (IsOfWholeRun t k)

@@ -10,7 +10,7 @@ use Rattle.deque_machine.specs.LawfulOrder.{IsLawful}
 use Rattle.deque_machine.specs.Moments.{Moment, done_at, live_at}
 use Rattle.deque_machine.specs.Runs.{Pair, high_water_mark}
 use Rattle.deque_machine.specs.Terms.{Terms, machine_of}
-use Rattle.deque_machine.proofs.Reached.{reached_is_lawful, bound_always, marked_bound}
+use Rattle.deque_machine.proofs.Reached.{bound_always, marked_bound}
 use Rattle.lawful_books.specs.Books.{IsPrefix, bound, periods_ahead, periods_marked}
 use Rattle.core_parts.specs.Held.{Held}
 use Rattle.core_parts.specs.Moments.{IsSound}
@@ -25,13 +25,13 @@ module _ (core : Core) (c : Setting) (run : List Pair) (m : Moment) (at : IsAt c
   some_quota = let covers = core.sound.quota in let same = at.setting.quota in omega (arith, covers, same)
 
   pub is_lawful : IsLawful (machine_of c (terms_at core)) m
-  is_lawful = reached_is_lawful (machine_of c (terms_at core)) some_quota (whole_is_depth_first c) run m at.stands.reaches
+  is_lawful = at.stands.standing.lawful
 
   pub is_bounded : (n : ℕ) → IsPrefix (list_of c) (done_at m) n → live_at (list_of c) m ≤ℤ bound c.quota (list_of c) (periods_ahead n m.books)
-  is_bounded n prefix = bound_always (machine_of c (terms_at core)) some_quota (whole_is_depth_first c) run m n at.stands.reaches prefix
+  is_bounded n prefix = bound_always (machine_of c (terms_at core)) some_quota (whole_is_depth_first c) run m n at.reaches prefix
 
   pub is_marked : high_water_mark (list_of c) run ≤ℤ bound c.quota (list_of c) (periods_marked m.books)
-  is_marked = marked_bound (machine_of c (terms_at core)) some_quota (whole_is_depth_first c) run m at.stands.reaches
+  is_marked = marked_bound (machine_of c (terms_at core)) some_quota (whole_is_depth_first c) run m at.reaches
 
 -- no more actions are done than may be
 pub done_within : (t : Table) (k : ℕ) (terms : Terms) (h : Held) → IsSound t k terms h → (end : Option RunEnd) → IsSomewhere t k terms h end

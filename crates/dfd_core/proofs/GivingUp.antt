@@ -12,6 +12,7 @@ use Rattle.deque_machine.specs.Machine as machine
 use Rattle.deque_machine.specs.Machine.{gives_up, May, HasEnded}
 use Rattle.deque_machine.specs.Runs.{Pair}
 use Rattle.node_table.specs.Table.{Table}
+use Rattle.step_laws.proofs.Going.{runs_go_on}
 use Rattle.step_laws.proofs.Told.{tells}
 use Rattle.thread_run.specs.Settings.{IsSettingOf}
 use Rattle.run_end.specs.declared.stop.Stop.TheVariants.{OutOfMemory}
@@ -22,7 +23,8 @@ use Rattle.core_parts.specs.Outcomes.{GivesDequeUp}
 use Rattle.owner_steps.specs.Steps.{GivesUpOrStays}
 use Rattle.run_end.specs.declared.ends.RunEnd.{RunEnd}
 use Rattle.dfd_core.specs.Running.{IsAtMoment, IsSomewhere}
-use Rattle.dfd_core.specs.GiveUps.{GaveUp, GivesUp, end_without_memory, end_behind_give_up}
+use Rattle.core_ends.specs.Ends.{end_without_memory}
+use Rattle.dfd_core.specs.GiveUps.{GaveUp, GivesUp, end_behind_give_up}
 use Rattle.dfd_core.proofs.Going.{stays_at}
 
 -- the same is done behind a give up
@@ -40,6 +42,7 @@ module _ (t : Table) (k : ℕ) (terms : Terms) (before after : Held) (c : Settin
         tells = g.tells;
         is_at = record {
           setting = at.setting;
+          reaches = runs_go_on (machine_of c terms) run m g.next worker gives_up at.reaches g.may;
           stands = g.stands;
           within = let few = at.within in let as_many = ap Rattle.std.specs.Prelude.length same in omega (arith, few, as_many);
           going = λ none has. at.going none (has.0, has.1, has.2, has.3, subst (λ places. 0 < times has.0 places) same has.4);
@@ -53,6 +56,7 @@ module _ (t : Table) (k : ℕ) (terms : Terms) (before after : Held) (c : Settin
   stays None at stands = stays_at t k terms before after c run m OutOfMemory at stands
   stays (Some end) at stands = record {
     setting = at.setting;
+    reaches = at.reaches;
     stands = stands;
     within = at.within;
     going = λ none. absurd (none-some _ (sym none));

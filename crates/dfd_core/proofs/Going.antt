@@ -1,21 +1,15 @@
 -- How a core goes on by an event, or stays.
-use Rattle.std.proofs.Common.{◌≡◌, ℕ, ◌≤◌, List, length, inl, inr, refl, sym, ap, subst, ◌∙◌, arith}
+use Rattle.std.proofs.Common.{◌≡◌, ℕ, List, inl, inr, refl, sym, ap, subst, ◌∙◌}
 use Rattle.std.proofs.Math.Logic.{∥∥₁_elim, ∥∥₁_map, ∥∥₁_prop}
-use Rattle.std.specs.Prelude.{Bool, true, false, cond, Option, None, Some, Result, Ok, Err, pos}
-use Rattle.std.proofs.lemmas.Bool.{cases_lt}
+use Rattle.std.specs.Prelude.{Option, None, Some, Result, Ok, Err, pos}
 use Rattle.std.proofs.lemmas.Option.{none-some, same_Some}
 use Rattle.dag_order.specs.declared.finish.Finish.{Finish}
 use Rattle.depth_first_run.specs.States.{Setting}
-use Rattle.lawful_books.specs.Books.{booked}
 use Rattle.deque_machine.specs.Moments.{Moment}
-use Rattle.deque_machine.specs.Machine as machine
-use Rattle.deque_machine.specs.Machine.{Event, steals, does, suspends, gives_up, May, HasEnded}
 use Rattle.deque_machine.specs.Play as play
-use Rattle.deque_machine.specs.Play.{Limits, IsForced, NoneFree, Wants, a_theft, a_give_up, a_wait, an_action, Meets, no_words, no_steps}
 use Rattle.deque_machine.specs.Runs.{Pair}
 use Rattle.node_table.specs.Table.{Table}
-use Rattle.period_table.specs.Tables.{periods_of}
-use Rattle.step_laws.proofs.Told.{actions_are_added, others_add_none}
+use Rattle.step_laws.proofs.Going.{runs_go_on}
 use Rattle.thread_run.specs.Settings.{IsSettingOf}
 use Rattle.core_parts.specs.declared.event.Event.{Event as Told}
 use Rattle.run_end.specs.declared.stop.Stop.{Stop}
@@ -28,32 +22,20 @@ use Rattle.core_parts.specs.Outcomes.{StepsTo}
 use Rattle.thief_steps.specs.Thefts.{StepsBy as EventBy}
 use Rattle.run_end.specs.declared.ends.RunEnd.{RunEnd}
 use Rattle.run_end.specs.declared.ends.RunEnd.TheVariants.{Finished, Stopped}
-use Rattle.dfd_core.specs.Ends.{is_of_root, end_behind_event}
-use Rattle.thread_frames.specs.Roots.{end_of_root}
+use Rattle.core_ends.specs.Ends.{end_behind_event}
 use Rattle.depth_first_run.specs.Run.{finish_of_run}
-use Rattle.dfd_core.specs.Running.{IsAtMoment, IsSomewhere, KeepsEnd}
-use Rattle.dfd_core.specs.Steps.{GoesOn, Stops, Comes, end_behind}
-use Rattle.dfd_core.proofs.Roots.{root_result, end_is_kept}
-use Rattle.dfd_core.proofs.RootActs.{not_ended_by}
-
--- no event makes more actions than may be done
-few_done : (s : machine.Setting) (limits : Limits) (m next : Moment) (worker : ℕ) (event : Event) → May s m worker event next
-    → ((stop : play.Stop) → ¬ Meets s limits m event stop) → length (booked m.books) ≤ limits.actions → length (booked next.books) ≤ limits.actions
-few_done s limits m next worker (does place) may free few =
-    let added = (actions_are_added s m next worker place may).booked in
-    elim (cases_lt (length (booked m.books)) limits.actions) [
-      | inl less ↦ omega (arith, added, less)
-      | inr spent ↦ absurd (free _ (no_steps place (λ fills. free _ (no_words place fills)) (omega (arith, spent))))
-    ]
-few_done s limits m next worker suspends may free few = let added = ((others_add_none s m next worker).0 may).booked in omega (arith, added, few)
-few_done s limits m next worker gives_up may free few = let added = ((others_add_none s m next worker).1 may).booked in omega (arith, added, few)
-few_done s limits m next worker (steals place id) may free few = let added = ((others_add_none s m next worker).2 place id may).booked in omega (arith, added, few)
+use Rattle.core_ends.specs.Told.{end_behind}
+use Rattle.core_ends.proofs.Roots.{root_result}
+use Rattle.core_ends.proofs.Events.{few_done, event_keeps_end}
+use Rattle.dfd_core.specs.Running.{IsAtMoment, IsSomewhere}
+use Rattle.dfd_core.specs.Steps.{GoesOn, Stops, Comes}
 
 -- a run in which nothing was kept is where it was, with a stop too
 pub stays_at : (t : Table) (k : ℕ) (terms : Terms) (before after : Held) (c : Setting) (run : List Pair) (m : Moment) (stop : Stop)
     → IsAtMoment t k terms before None c run m → HasRun c terms after run m → IsAtMoment t k terms after (Some (Stopped stop)) c run m
 stays_at t k terms before after c run m stop at stands = record {
   setting = at.setting;
+  reaches = at.reaches;
   stands = stands;
   within = at.within;
   going = λ none. absurd (none-some _ (sym none));
@@ -69,18 +51,10 @@ stays_at t k terms before after c run m stop at stands = record {
 
 module _ (t : Table) (k : ℕ) (terms : Terms) (before after : Held) (sound : IsSound t k terms after) (c : Setting) (run : List Pair) (m : Moment)
     (at : IsAtMoment t k terms before None c run m) (worker word : ℕ) where
-  -- what is kept behind an event
-  kept : (told : Told) (g : parts.GoesOn c terms after worker word run m told) → KeepsEnd c terms (end_behind_event told (root_result after)) g.next
-  kept told g = by_root (is_of_root told) refl
-    where
-      by_root : (b : Bool) → is_of_root told ≡ b → KeepsEnd c terms (cond b (end_of_root (root_result after)) None) g.next
-      by_root true is = end_is_kept t k terms after sound c at.setting _ g.next g.stands
-      by_root false is = inl (not_ended_by (machine_of c terms) m g.next worker (periods_of after.table) g.event told g.may g.tells is (at.going refl), refl)
-
   goes_on : (told : Told) → parts.GoesOn c terms after worker word run m told
       → GoesOn t k terms after (end_behind_event told (root_result after)) c worker word run m told
   goes_on told g =
-      let ends = kept told g in
+      let ends = event_keeps_end t k terms after sound c at.setting run m worker word (at.going refl) told g in
       record {
         event = g.event;
         next = g.next;
@@ -90,6 +64,7 @@ module _ (t : Table) (k : ℕ) (terms : Terms) (before after : Held) (sound : Is
         tells = g.tells;
         is_at = record {
           setting = at.setting;
+          reaches = runs_go_on (machine_of c terms) run m g.next worker g.event at.reaches g.may;
           stands = g.stands;
           within = few_done (machine_of c terms) terms.limits m g.next worker g.event g.may g.free at.within;
           going = λ none. elim ends [ inl going ↦ going.0 | inr over ↦ absurd (none-some _ (sym none ∙ over.1)) ];
@@ -116,6 +91,7 @@ module _ (t : Table) (k : ℕ) (terms : Terms) (before after : Held) (sound : Is
       → Comes t k terms after (end_behind result (root_result after)) c worker word run m result
   comes (Ok None) by = record {
     setting = at.setting;
+    reaches = at.reaches;
     stands = by;
     within = at.within;
     going = at.going;

@@ -1,13 +1,9 @@
-pub mod Told
-pub mod Seats
-pub mod Roots
-pub mod RootActs
+pub mod Openings
+pub mod Finished
 pub mod Going
 pub mod GivingUp
 pub mod Apart
 pub mod Turns
-pub mod Openings
-pub mod Marks
 pub mod Picking
 pub mod Taking
 pub mod Underway

@@ -1,7 +1,6 @@
 -- Who moves next, and how many words are drawn for it.
-use Rattle.std.proofs.Common.{◌≡◌, ◌↔◌, ℕ, ◌+◌, ◌≤◌, ◌<◌, List, sym, subst, arith, Bor}
+use Rattle.std.proofs.Common.{◌≡◌, ◌↔◌, ℕ, ◌≤◌, ◌<◌, List, sym, arith, Bor}
 use Rattle.std.proofs.Math.Logic.{∥∥₁_elim}
-use Rattle.std.proofs.Math.Nat.{mod-lt}
 use Rattle.std.specs.Prelude.{Option, None, Some, Bool, true, false, is_some, not, IsTrue, MatchOption}
 use Rattle.std.specs.Option.{option_copied}
 use Rattle.std.proofs.lemmas.Bool.{false≢true, true≢false}
@@ -22,11 +21,11 @@ use Rattle.step_laws.proofs.Ready.{first_is_shown, some_ready_is_shown}
 use Rattle.core_parts.specs.Held.{Held}
 use Rattle.core_parts.specs.Moments.{IsSound}
 use Rattle.deque_machine.specs.Terms.{Terms, machine_of}
-use Rattle.core_parts.proofs.Going.{lawful_at}
 use Rattle.run_end.specs.declared.ends.RunEnd.{RunEnd}
 use Rattle.dfd_core.specs.Cores.{words_of_turn}
 use Rattle.dfd_core.specs.Running.{IsAtMoment, IsSomewhere}
-use Rattle.dfd_core.proofs.Turns.{can_move_is, idle_draws, owner_draws}
+use Rattle.core_ends.proofs.Movers.{can_move_is}
+use Rattle.dfd_core.proofs.Turns.{idle_draws, owner_draws}
 
 -- who passes may be told by what passes as well
 first_by : (n word : ℕ) (P Q : ℕ → Type 0) (x : ℕ) → ((i : ℕ) → P i ↔ Q i) → IsFirst n word P x → IsFirst n word Q x
@@ -55,7 +54,7 @@ module _ (t : Table) (k : ℕ) (terms : Terms) (h : Held) (sound : IsSound t k t
       ∥∥₁_elim (somewhere p.0 p.1) (λ x y. absurd x) (λ w.
       let covers = sound.quota in let same = p.1.quota in
       let turn = somebodys_turn (machine_of p.0 terms) (omega (arith, covers, same)) (whole_is_depth_first p.0) (λ i. i) 0 w.1
-      (lawful_at p.0 terms (omega (arith, covers, same)) w.0 w.1 w.2.stands.reaches) (omega (arith, some)) (w.2.going none) in
+      w.2.stands.standing.lawful (omega (arith, some)) (w.2.going none) in
       nobody turn.0.worker (first_below terms.workers 0 (play.CanMove (machine_of p.0 terms) w.1) turn.0.worker turn.1.first)
       ((can_move_is p.0 terms (omega (arith, covers, same)) h w.0 w.1 w.2.stands turn.0.worker sound.in_order some_ready ready).1 turn.1.first.passes)))
 

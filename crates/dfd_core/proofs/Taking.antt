@@ -1,9 +1,8 @@
 -- What one turn comes to.
-use Rattle.std.proofs.Common.{◌≡◌, ◌↔◌, ℕ, List, inl, inr, refl, sym, ap, subst, arith}
+use Rattle.std.proofs.Common.{◌≡◌, ◌↔◌, ℕ, List, refl, sym, ap, subst, arith}
 use Rattle.std.proofs.Math.Logic.{∥∥₁_elim, ∥∥₁_map}
 use Rattle.std.specs.Prelude.{Option, None, Some, Bool, true, false, Result, Ok, Err, cond, pos, is_some, unwrap_or}
 use Rattle.std.proofs.lemmas.Bool.{eq-eqb, false≢true}
-use Rattle.std.proofs.lemmas.Option.{none-some, same_Some}
 use Rattle.dummy_tree.specs.QuotaWords.{quota_words}
 use Rattle.depth_first_run.specs.States.{Setting}
 use Rattle.deque_machine.specs.Moments.{Moment, owned_by}
@@ -17,19 +16,19 @@ use Rattle.core_parts.specs.declared.event.Event.{Event as Told}
 use Rattle.run_end.specs.declared.stop.Stop.{Stop}
 use Rattle.run_end.specs.declared.stop.Stop.TheVariants.{ArenaFull, DequesFull, StepsSpent, OutOfMemory}
 use Rattle.core_parts.specs.Held.{held}
-use Rattle.deque_machine.specs.Terms.{Terms, machine_of}
+use Rattle.deque_machine.specs.Terms.{machine_of}
 use Rattle.core_parts.specs.Outcomes.{HasDequesLeft}
 use Rattle.dfd_core.specs.declared.run.Core.{Core}
 use Rattle.run_end.specs.declared.ends.RunEnd.{RunEnd}
 use Rattle.run_end.specs.declared.ends.RunEnd.TheVariants.{Finished, Stopped}
-use Rattle.dfd_core.specs.declared.stepped.Stepped.{Stepped}
-use Rattle.dfd_core.specs.declared.stepped.Stepped.TheVariants.{Stole, Acted, Suspended, GaveUp, Nothing, Over}
-use Rattle.dfd_core.specs.Running.{KeepsEnd}
-use Rattle.dfd_core.specs.Steps.{GoesOn, Stops, Comes, IsTold}
+use Rattle.core_ends.specs.declared.stepped.Stepped.{Stepped}
+use Rattle.core_ends.specs.declared.stepped.Stepped.TheVariants.{Nothing, Over}
+use Rattle.core_ends.specs.Ends.{KeepsEnd}
+use Rattle.core_ends.specs.Told.{IsTold}
+use Rattle.dfd_core.specs.Steps.{GoesOn, Stops, Comes}
 use Rattle.dfd_core.specs.Cores.{IsAt, end_of, terms_at, workers_of, words_of_turn}
 use Rattle.dfd_core.specs.Plays.{TurnGoesOn, TurnStops, TurnsTo}
-use Rattle.dfd_core.proofs.Told.{ok_or_err, same_err}
-use Rattle.dfd_core.proofs.Turns.{nothing_told}
+use Rattle.core_ends.proofs.Answering.{nothing_told, stop_told, no_stop_kept}
 
 -- the word of a theft is the second that comes
 pub word_drawn : (words : ℕ → ℕ) (word : Option ℕ) → ((w : ℕ) → word ≡ Some w → w ≡ words 1) → is_some word ≡ true → unwrap_or word 0 ≡ words 1
@@ -44,28 +43,6 @@ wanted_of_owner s m worker word other event one (a_theft place id idle first nam
 wanted_of_owner s m worker word other event one (a_give_up forced) = a_give_up forced
 wanted_of_owner s m worker word other event one (a_wait o place child at none) = a_wait o place child at none
 wanted_of_owner s m worker word other event one (an_action o place next has fits) = an_action o place next has fits
-
--- a step that met a stop answers that it is over
-pub stop_told : (stepped : Stepped) (stop : Stop) → IsTold stepped (Err stop) → stepped ≡ Over (Stopped stop)
-stop_told (Stole deque period) stop told = absurd (ok_or_err _ _ (sym told))
-stop_told (Acted id) stop told = absurd (ok_or_err _ _ (sym told))
-stop_told (Suspended id) stop told = absurd (ok_or_err _ _ (sym told))
-stop_told (GaveUp deque) stop told = absurd (ok_or_err _ _ (sym told))
-stop_told Nothing stop told = absurd (ok_or_err _ _ (sym told))
-stop_told (Over (Finished finish)) stop told = absurd told
-stop_told (Over (Stopped other)) stop told = ap (λ s. Over (Stopped s)) (sym (same_err stop other told))
-
-is_stop : RunEnd → Type 0
-is_stop (Finished finish) = ⊥
-is_stop (Stopped stop) = Unit {0}
-
--- an event leaves no stop
-pub no_stop_kept : (c : Setting) (terms : Terms) (m : Moment) (stop : Stop) → KeepsEnd c terms (Some (Stopped stop)) m → ⊥
-unfolding is_stop
-no_stop_kept c terms m stop keeps = elim keeps [
-  | inl going ↦ none-some _ (sym going.1)
-  | inr over ↦ subst is_stop (same_Some _ _ over.1) tt
-]
 
 module _ (c : Setting) (before after : Core) (same : terms_at after ≡ terms_at before) (words : ℕ → ℕ) (worker word : ℕ) (idle : Bool)
     (none : end_of before ≡ None) (run : List Pair) (m : Moment) (at : IsAt c before run m)

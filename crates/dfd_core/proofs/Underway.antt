@@ -18,7 +18,6 @@ use Rattle.deque_machine.proofs.Playing.{front_is_run, front_goes_on, front_with
 use Rattle.run_end.specs.declared.stop.Stop.TheVariants.{ArenaFull, DequesFull, StepsSpent, OutOfMemory}
 use Rattle.deque_machine.specs.Terms.{Terms, machine_of}
 use Rattle.core_parts.specs.Outcomes.{HasDequesLeft}
-use Rattle.core_parts.proofs.Going.{lawful_at}
 use Rattle.dfd_core.specs.declared.run.Core.{Core}
 use Rattle.run_end.specs.declared.ends.RunEnd.{RunEnd}
 use Rattle.run_end.specs.declared.ends.RunEnd.TheVariants.{Finished, Stopped}
@@ -189,7 +188,7 @@ too_many words coming start now events u many = ∥∥₁_elim start.sound.of_pr
     let covers = start.sound.quota in let same = p.1.quota in
     let fork : record_words ≤ p.0.quota = omega (arith, covers, same) in
     let short = runs_are_short (machine_of p.0 (terms_at start)) (omega (arith, fork)) (whole_is_depth_first p.0) fork w.1 a.last a.later (on_run p.0 w.1 a).0
-    (lawful_at p.0 (terms_at start) fork w.0 w.1 w.2.stands.reaches) (on_run p.0 w.1 a).1 in
+    w.2.stands.standing.lawful (on_run p.0 w.1 a).1 in
     let within = a.is_at.within in let size = a.many in
     let actions = ap (λ (x : Terms). x.limits.actions) u.setting.2 in
     absurd (omega (arith, short, within, size, actions, many)))))

@@ -1,5 +1,5 @@
 -- What it comes to that a worker gives its deque up.
-use Rattle.std.specs.Prelude.{ℕ, Option, None, Some, List, [], ◌∷◌, ◌++◌, Result, Ok, Err}
+use Rattle.std.specs.Prelude.{ℕ, Option, List, [], ◌∷◌, ◌++◌, Result, Ok, Err}
 use Rattle.depth_first_run.specs.States.{Setting}
 use Rattle.deque_list.specs.declared.deque_id.DequeId.{DequeId}
 use Rattle.deque_machine.specs.Moments.{Moment}
@@ -8,13 +8,12 @@ use Rattle.deque_machine.specs.Runs.{Pair}
 use Rattle.period_table.specs.Tables.{periods_of}
 use Rattle.depth_first_run.specs.Run.{list_of}
 use Rattle.core_parts.specs.declared.event.Event.TheVariants as events
-use Rattle.run_end.specs.declared.stop.Stop.TheVariants.{OutOfMemory}
 use Rattle.core_parts.specs.Held.{Held}
 use Rattle.deque_machine.specs.Terms.{Terms, machine_of}
 use Rattle.core_parts.specs.Outcomes.{Tells}
 use Rattle.node_table.specs.Table.{Table}
 use Rattle.run_end.specs.declared.ends.RunEnd.{RunEnd}
-use Rattle.run_end.specs.declared.ends.RunEnd.TheVariants.{Stopped}
+use Rattle.core_ends.specs.Ends.{end_without_memory}
 use Rattle.dfd_core.specs.Running.{IsAtMoment}
 
 -- At the moment m of a run the worker gives up this deque, which the machine allows at any time, and now what is held stands at the moment
@@ -31,11 +30,6 @@ abbrev pub GivesUp : {E : Type 0} → Table → (k : ℕ) → Terms → (after :
     → Moment → Result DequeId E → Type 0
 GivesUp t k terms after end c worker run m (Ok id) = ∥ GaveUp t k terms after end c worker run m id ∥₁
 GivesUp t k terms after end c worker run m (Err none) = IsAtMoment t k terms after end c run m
-
--- the end that is kept once memory was wanting: a kept end is never replaced
-abbrev pub end_without_memory : Option RunEnd → Option RunEnd
-end_without_memory None = Some (Stopped OutOfMemory)
-end_without_memory (Some end) = Some end
 
 -- the end that is kept behind a give up
 abbrev pub end_behind_give_up : {E : Type 0} → Result DequeId E → Option RunEnd → Option RunEnd

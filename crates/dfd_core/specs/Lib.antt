@@ -1,11 +1,7 @@
-pub mod Begun
-pub mod Ends
-pub mod Marks
 pub mod Running
 pub mod Steps
 pub mod GiveUps
 pub mod Cores
-pub mod ListChoices
 pub mod Plays
 pub mod Turns
 pub mod Parts

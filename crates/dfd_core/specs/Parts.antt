@@ -1,5 +1,5 @@
 -- What is left of a core that is taken apart.
-use Rattle.std.specs.Prelude.{◌≡◌, ℕ, Option, None, List, [], ◌∷◌, map}
+use Rattle.std.specs.Prelude.{◌≡◌, ℕ, Option, None, List, [], map}
 use Rattle.dag_order.specs.Births.{root}
 use Rattle.step_laws.specs.Moves.{AreMovesOf}
 use Rattle.deque_machine.specs.Moments.{Moment, opening}
@@ -19,9 +19,8 @@ use Rattle.space_ledger.specs.declared.moves.Moves.{Moves}
 use Rattle.thread_map.specs.Kept.{kept_under}
 use Rattle.thread_run.specs.Settings.{IsSettingOf}
 use Rattle.thread_frames.specs.declared.ended.Ended.{Ended}
-use Rattle.thread_frames.specs.declared.thread.Thread.{Thread}
-use Rattle.thread_frames.specs.Points.{IsAtPoint, IsResult}
-use Rattle.thread_frames.specs.Views.{label_of, done_of, children_of, thread_words, ended_label}
+use Rattle.thread_frames.specs.Points.{IsResult}
+use Rattle.thread_frames.specs.Views.{ended_label}
 use Rattle.dfd_core.specs.declared.run.Core.{Core}
 use Rattle.run_end.specs.declared.ends.RunEnd.{RunEnd}
 use Rattle.run_end.specs.declared.ends.RunEnd.TheVariants.{Finished, Stopped}

@@ -1,11 +1,11 @@
 -- At which moment of a run of the machine a core is.
-use Rattle.std.specs.Prelude.{◌≡◌, ℕ, ◌≤◌, ◌⊎◌, Option, None, Some, List, [], length}
+use Rattle.std.specs.Prelude.{◌≡◌, ℕ, ◌≤◌, Option, None, Some, List, [], length}
 use Rattle.dag_order.specs.declared.finish.Finish.{Finish}
 use Rattle.depth_first_run.specs.States.{Setting}
 use Rattle.lawful_books.specs.Books.{booked}
-use Rattle.deque_machine.specs.Moments.{Moment}
+use Rattle.deque_machine.specs.Moments.{Moment, opening}
 use Rattle.deque_machine.specs.Machine.{HasEnded}
-use Rattle.deque_machine.specs.Runs.{Pair}
+use Rattle.deque_machine.specs.Runs.{Pair, Reaches}
 use Rattle.node_table.specs.Table.{Table}
 use Rattle.thread_run.specs.Settings.{IsSettingOf}
 use Rattle.core_parts.specs.Held.{Held}
@@ -15,11 +15,12 @@ use Rattle.run_end.specs.declared.ends.RunEnd.{RunEnd}
 use Rattle.run_end.specs.declared.ends.RunEnd.TheVariants.{Finished}
 use Rattle.depth_first_run.specs.Run.{finish_of_run}
 
--- What is held is at the moment to which a run of a program of this table leads, and no more actions are done than may be. The run may have
+-- What is held is at the moment to which this run of a program of this table leads, and no more actions are done than may be. The run may have
 -- free give ups. While no end is kept the root has not ended; a kept finish is that of the depth-first run, and the root has ended.
 pub record IsAtMoment (t : Table) (k : ℕ) (terms : Terms) (h : Held) (end : Option RunEnd) (c : Setting) (run : List Pair) (m : Moment)
     : Type 0 where
   pub setting : IsSettingOf t k c
+  pub reaches : Reaches (machine_of c terms) opening run m
   pub stands : HasRun c terms h run m
   pub within : length (booked m.books) ≤ terms.limits.actions
   pub going : end ≡ None → ¬ HasEnded (machine_of c terms) m []
@@ -29,9 +30,3 @@ pub record IsAtMoment (t : Table) (k : ℕ) (terms : Terms) (h : Held) (end : Op
 abbrev pub IsSomewhere : Table → ℕ → Terms → Held → Option RunEnd → Type 0
 IsSomewhere t k terms h end =
     (c : Setting) → IsSettingOf t k c → ∥ ((run : List Pair) × (m : Moment) × IsAtMoment t k terms h end c run m) ∥₁
-
--- where the root has ended its finish is kept, and else nothing
-abbrev pub KeepsEnd : Setting → Terms → Option RunEnd → Moment → Type 0
-KeepsEnd c terms end m =
-    ((¬ HasEnded (machine_of c terms) m []) × (end ≡ None))
-    ⊎ (HasEnded (machine_of c terms) m [] × (end ≡ Some (Finished (finish_of_run c))))

@@ -1,5 +1,5 @@
 -- What a step comes to.
-use Rattle.std.specs.Prelude.{◌≡◌, ℕ, Option, None, Some, List, [], ◌∷◌, ◌++◌, pos, Result, Ok, Err}
+use Rattle.std.specs.Prelude.{ℕ, Option, None, Some, List, [], ◌∷◌, ◌++◌, pos, Result, Ok, Err}
 use Rattle.depth_first_run.specs.States.{Setting}
 use Rattle.deque_machine.specs.Moments.{Moment}
 use Rattle.deque_machine.specs.Machine as machine
@@ -10,20 +10,15 @@ use Rattle.deque_machine.specs.Runs.{Pair}
 use Rattle.node_table.specs.Table.{Table}
 use Rattle.period_table.specs.Tables.{periods_of}
 use Rattle.depth_first_run.specs.Run.{list_of}
-use Rattle.thread_frames.specs.declared.ended.Ended.{Ended}
 use Rattle.core_parts.specs.declared.event.Event.{Event}
-use Rattle.core_parts.specs.declared.event.Event.TheVariants as events
 use Rattle.run_end.specs.declared.stop.Stop.{Stop}
 use Rattle.run_end.specs.declared.stop.Stop.TheVariants.{ArenaFull, DequesFull, StepsSpent, OutOfMemory}
 use Rattle.core_parts.specs.Held.{Held}
 use Rattle.deque_machine.specs.Terms.{Terms, machine_of}
 use Rattle.core_parts.specs.Outcomes.{Tells, HasDequesLeft}
 use Rattle.run_end.specs.declared.ends.RunEnd.{RunEnd}
-use Rattle.run_end.specs.declared.ends.RunEnd.TheVariants.{Finished, Stopped}
-use Rattle.dfd_core.specs.declared.stepped.Stepped.{Stepped}
-use Rattle.dfd_core.specs.declared.stepped.Stepped.TheVariants.{Stole, Acted, Suspended, GaveUp, Nothing, Over}
-use Rattle.dfd_core.specs.Ends.{end_behind_event}
-use Rattle.dfd_core.specs.Running.{IsAtMoment, KeepsEnd}
+use Rattle.core_ends.specs.Ends.{KeepsEnd}
+use Rattle.dfd_core.specs.Running.{IsAtMoment}
 
 -- At the moment m of a run the rules of play want an event of the worker, with a word for the choice of its victim, and nothing stops it;
 -- it is what the answer tells, and now what is held stands at the moment of the run with this event more. Where the root has ended with it
@@ -65,19 +60,3 @@ abbrev pub Comes : Table → (k : ℕ) → Terms → (after : Held) → (end : O
 Comes t k terms after end c worker word run m (Ok None) = IsAtMoment t k terms after end c run m
 Comes t k terms after end c worker word run m (Ok (Some told)) = ∥ GoesOn t k terms after end c worker word run m told ∥₁
 Comes t k terms after end c worker word run m (Err stop) = StopsBy t k terms after end c worker word run m stop
-
--- the event, nothing or the stop that an answer tells; a step does not answer that the run has finished
-abbrev pub IsTold : Stepped → Result (Option Event) Stop → Type 0
-IsTold (Stole deque period) result = result ≡ Ok (Some (events.Stole deque period))
-IsTold (Acted id) result = result ≡ Ok (Some (events.Acted id))
-IsTold (Suspended id) result = result ≡ Ok (Some (events.Suspended id))
-IsTold (GaveUp deque) result = result ≡ Ok (Some (events.GaveUp deque))
-IsTold Nothing result = result ≡ Ok None
-IsTold (Over (Finished finish)) result = ⊥
-IsTold (Over (Stopped stop)) result = result ≡ Err stop
-
--- the end that is kept behind a step: that of the root, where it has ended, or the stop
-abbrev pub end_behind : Result (Option Event) Stop → Option Ended → Option RunEnd
-end_behind (Ok None) ended = None
-end_behind (Ok (Some event)) ended = end_behind_event event ended
-end_behind (Err stop) ended = Some (Stopped stop)

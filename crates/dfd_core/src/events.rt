@@ -15,10 +15,10 @@ ghost use Rattle.core_parts.specs.Moments.{IsSound, CanGoOn, SameTerms, HasRun, 
 ghost use Rattle.thief_steps.specs.Thefts.{StepsBy};
 
 use core_parts::{Event, Scheduler};
-use run_end::Stop;
 use dummy_tree::Quota;
 use node_table::Code;
 use owner_steps::step_of_owner;
+use run_end::Stop;
 use std::alloc::Global;
 use thief_steps::step_of_thief;
 

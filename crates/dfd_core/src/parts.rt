@@ -13,13 +13,13 @@ ghost use Rattle.dfd_core.specs.Parts.{AreAllIdle, AreOfRun, IsFresh, IsOfWholeR
 ghost use Rattle.thread_frames.specs.Roots.{IsRootAlone};
 
 use crate::run::Core;
-use run_end::RunEnd;
 use block_arena::Pool;
 use boxed::Boxed;
 use dag_order::ThreadId;
 use deque_list::{DequeId, Lane, Order};
 use dummy_tree::Quota;
 use node_table::Code;
+use run_end::RunEnd;
 use space_ledger::{Books, Moves};
 use thread_frames::{Ended, Thread};
 

@@ -5,10 +5,10 @@ ghost use Rattle.deque_machine.specs.Runs.{Pair};
 ghost use Rattle.dfd_core.specs.Cores.{IsAt, SameSetting, end_of, terms_at, workers_of};
 ghost use Rattle.dfd_core.specs.Plays.{TakesTurn, PlaysTo};
 
-use crate::choices::Choices;
 use crate::run::Core;
-use run_end::RunEnd;
 use crate::turn::draw_turn;
+use core_ends::Choices;
+use run_end::RunEnd;
 
 /// Lets the worker move whose turn it is, in a run that has not ended.
 fn turn<C: Choices>(core: &mut Core, choices: &mut C)

@@ -1,7 +1,6 @@
 ghost use Rattle.std.specs.Prelude.{◌≡◌, ◌<◌, ◌≤◌, ◌↔◌, ℕ, List as AnyList, [], None, Some, Ok, Err, IfOk, IsTrue, MatchOption, length, pos};
 ghost use Rattle.std.specs.Option.{option_copied, option_map};
 ghost use Rattle.bounded_list.specs.BoundedList.{entries};
-ghost use Rattle.dag_order.specs.declared.finish.Finish.{Finish as AnyFinish};
 ghost use Rattle.depth_first_run.specs.States.{Setting, State};
 ghost use Rattle.depth_first_run.specs.Run.{whole, lines_of, list_of};
 ghost use Rattle.deque_list.specs.declared.deque_id.DequeId.{DequeId as AnyDequeId};
@@ -16,29 +15,27 @@ ghost use Rattle.thread_run.specs.Settings.{IsSettingOf};
 ghost use Rattle.core_parts.specs.Held.{held};
 ghost use Rattle.core_parts.specs.Moments.{IsSound, CanGoOn, terms_of};
 ghost use Rattle.deque_machine.specs.Terms.{machine_of, given_terms};
-ghost use Rattle.dfd_core.specs.declared.stepped.OutputFail.TheVariants as fails;
-ghost use Rattle.dfd_core.specs.declared.stepped.Stepped.TheVariants as steps;
+ghost use Rattle.core_ends.specs.declared.stepped.OutputFail.TheVariants as fails;
+ghost use Rattle.core_ends.specs.declared.stepped.Stepped.TheVariants as steps;
 ghost use Rattle.dfd_core.specs.GiveUps.{end_behind_give_up};
-ghost use Rattle.dfd_core.specs.Marks.{ahead_in, open_ahead};
 ghost use Rattle.dfd_core.specs.Running.{IsSomewhere};
-ghost use Rattle.dfd_core.specs.Steps.{IsTold};
 
-use crate::begun::scheduler_of;
-use crate::ends::{end_behind, end_without_memory};
 use crate::events::event_of;
-use crate::stepped::{OutputFail, Stepped};
-use run_end::RunEnd;
 use block_arena::Pool;
 use boxed::Boxed;
-use core_parts::{Event, Scheduler};
+use core_ends::{
+    OutputFail, Stepped, end_behind, end_without_memory, is_finish, open_ahead, scheduler_of, told,
+};
+use core_parts::Scheduler;
 use dag_order::{Lines, ThreadId};
 use deque_list::{DequeId, List};
 use dummy_tree::Quota;
 use language_limits::{MOST_ACTIONS, MOST_DEQUES, MOST_WORKERS};
 use node_table::Code;
 use owner_steps::give_up_deque;
-use period_table::{PeriodTable, Seat};
+use period_table::Seat;
 use quota_period::Period;
+use run_end::RunEnd;
 use space_ledger::{Books, Moves};
 use std::alloc::{AllocError, Global};
 use thread_frames::Thread;
@@ -63,50 +60,6 @@ pub struct Core {
     pub ghost most_is: { most ≡ scheduler.list.most },
     pub ghost some_workers: { 1 ≤ length scheduler.table.seats.items },
     pub ghost few_workers: { length scheduler.table.seats.items ≤ 64 },
-}
-
-/// What a step answers that did an event.
-fn told(event: Event) -> Stepped
-    ensures { IsTold result (Ok (Some event)) }
-{
-    match event {
-        Event::Stole { deque, period } => Stepped::Stole { deque, period },
-        Event::Acted(id) => Stepped::Acted(id),
-        Event::Suspended(id) => Stepped::Suspended(id),
-        Event::GaveUp(deque) => Stepped::GaveUp(deque),
-    }
-}
-
-/// Whether a run that ended so came to the end of its root.
-fn is_finish(end: RunEnd) -> bool
-    ensures { IsTrue result ↔ ((finish : AnyFinish) × (end ≡ RunEnd.Finished finish)) }
-{
-    match end {
-        RunEnd::Finished(_) => true,
-        RunEnd::Stopped(_) => false,
-    }
-}
-
-/// Whether the period of a seat is marked ahead.
-fn ahead_in(seat: Option<&Seat>) -> bool
-    ensures { result ≡ ahead_in (option_copied seat.entry) }
-{
-    match seat {
-        None => false,
-        Some(seat) => seat.period.ahead,
-    }
-}
-
-/// How many open periods of a table are marked ahead.
-fn open_ahead(table: &PeriodTable) -> u32
-    requires { length table.now.seats.items ≤ 64 }
-    ensures { result ≡ open_ahead table.now.seats.items }
-{
-    let mut ahead = 0;
-    'seats: for worker in 0..table.workers() {
-        ahead += u32::from(ahead_in(table.seat(worker)));
-    }
-    ahead
 }
 
 impl Core {

@@ -2,8 +2,8 @@ ghost use Rattle.std.specs.Prelude.{◌≡◌, None};
 ghost use Rattle.dfd_core.specs.Cores.{end_of};
 ghost use Rattle.dfd_core.specs.Turns.{PicksTurn};
 
-use crate::choices::Choices;
 use crate::run::Core;
+use core_ends::Choices;
 
 /// Whose turn it is.
 #[derive(Clone, Copy, PartialEq, Eq, Debug)]

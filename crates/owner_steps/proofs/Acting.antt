@@ -31,10 +31,10 @@ use Rattle.step_laws.specs.Standing.{Settles, as_they_are}
 use Rattle.step_laws.proofs.Standing.{the_same}
 use Rattle.core_parts.specs.Held.{Held, held, held_under, parts_in, IsReordered, OwnersSit, OwnsNone, IsInOrder, AreAtPoints, AreResults}
 use Rattle.thread_frames.specs.Kept.{waiting_shown, result_kept}
-use Rattle.core_parts.specs.Moments.{terms_of}
 use Rattle.depth_first_list.specs.Actions.{weight_of}
 use Rattle.deque_machine.specs.Runs.{moves_words}
 use Rattle.owner_steps.specs.Acts.{Acted, Performs}
+use Rattle.owner_steps.specs.Keeping.{KeepsRoom}
 use Rattle.owner_steps.proofs.Places.{keep_sitting, leave_sitting, points_change, under_is}
 
 -- nothing in another order
@@ -79,8 +79,8 @@ module _ (next : Next) (Where : ℕ → Period → ℕ → Type 0) (worker : ℕ
   waiting_order : (items : List Thread) (stands : Stands before.list worker id items) → IsInOrder (held_under before stands top) → OwnersSit after.table after.list.deques → IsInOrder (held after)
   waiting_order items stands o sit = record {
     owners = sit;
-    waiting = subst (λ w. Each Rattle.core_parts.specs.Held.WaitsUnder w.entries) (sym aside.waiting) o.waiting;
-    results = subst (λ r. Each Rattle.core_parts.specs.Held.IsUnderItsId r.entries) (sym aside.results) o.results;
+    waiting = subst (λ w. Each Rattle.thread_frames.specs.Kept.WaitsUnder w.entries) (sym aside.waiting) o.waiting;
+    results = subst (λ r. Each Rattle.thread_frames.specs.Kept.IsUnderItsId r.entries) (sym aside.results) o.results;
   }
 
   waiting_points : (t : Table) (k : ℕ) (items : List Thread) (stands : Stands before.list worker id items) → AreAtPoints t k (held_under before stands top)
@@ -151,11 +151,14 @@ no_change n = omega (arith, ints)
 pub given_change : (before words : ℕ) → words ≤ before → pos (before - words) ≡ pos before +ℤ neg_ℤ (pos words)
 given_change before words few = omega (arith, ints, few)
 
-pub same_terms : (before after : Scheduler) (actions : ℕ) → length after.table.seats.items ≡ length before.table.seats.items → after.pool.capacity ≡ before.pool.capacity
-    → after.list.most ≡ before.list.most → terms_of after actions ≡ terms_of before actions
-same_terms before after actions workers capacity most = λ i. record {
-  workers = workers i;
-  limits = record { capacity = capacity i; actions = actions; deques = most i };
+pub keeps_room : (before after : Scheduler) → length after.table.seats.items ≡ length before.table.seats.items → after.pool.capacity ≡ before.pool.capacity
+    → after.list.most ≡ before.list.most → after.list.spare ≡ before.list.spare → KeepsRoom before after
+keeps_room before after workers capacity most spare = record {
+  terms = λ actions i. record {
+    workers = workers i;
+    limits = record { capacity = capacity i; actions = actions; deques = most i };
+  };
+  spare = spare;
 }
 
 -- an action that was done, with so many words
@@ -164,14 +167,14 @@ pub performs_of : (next : Next) (Where : ℕ → Period → ℕ → Type 0) (wor
     → pos after.pool.live ≡ pos before.pool.live +ℤ weight_of (deed_of top next) words
     → (moved : Bool) → moved ≡ moves_words (deed_of top next) (label_of top) words → after.moves ≡ before.moves → after.done ≡ before.done
     → length after.table.seats.items ≡ length before.table.seats.items → after.pool.capacity ≡ before.pool.capacity → after.list.most ≡ before.list.most
-    → Performs next Where worker id top before after moved
-performs_of next Where worker id top before after acted words tells live moved is moves done workers capacity most = record {
+    → after.list.spare ≡ before.list.spare → Performs next Where worker id top before after moved
+performs_of next Where worker id top before after acted words tells live moved is moves done workers capacity most spare = record {
   acted = acted;
   live = λ w told. live ∙ ap (λ n. pos before.pool.live +ℤ weight_of (deed_of top next) n) (sym (tells w told));
   moved_words = λ w told. is ∙ ap (moves_words (deed_of top next) (label_of top)) (sym (tells w told));
   moves = moves;
   done = done;
-  terms = λ actions. same_terms before after actions workers capacity most;
+  keeps = keeps_room before after workers capacity most spare;
 }
 
 -- where the newest child is delivered, the words of its Join are told

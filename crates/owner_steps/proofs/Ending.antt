@@ -354,4 +354,4 @@ pub end_performs : (worker : ℕ) (id : DequeId) (top : Thread) (before after : 
 end_performs worker id top before after ends few is_forked is =
     performs_of nexts.End Always worker id top before after ends.acted (words_at_end (label_of top)) (λ w told. told)
     (ap (λ r. pos r.live) ends.pool ∙ given_change before.pool.live (words_at_end (label_of top)) few) is_forked is ends.same_moves ends.same_done
-    (ap (λ t. t.workers) (ends.terms 0)) (ap (λ r. r.capacity) ends.pool) (ap (λ t. t.limits.deques) (ends.terms 0))
+    (ap (λ t. t.workers) (ends.keeps.terms 0)) (ap (λ r. r.capacity) ends.pool) (ap (λ t. t.limits.deques) (ends.keeps.terms 0)) ends.keeps.spare

@@ -4,7 +4,7 @@ use Rattle.std.proofs.lemmas.Option.{same_Some, none-some}
 use Rattle.std.specs.Prelude.{Some, drop, slice_get, slice_set}
 use Rattle.deque_list.specs.declared.deque_id.DequeId.{DequeId}
 use Rattle.deque_list.specs.Deques.{Deque, DequeAt}
-use Rattle.deque_list.specs.DequeLists.{ListView}
+use Rattle.deque_list.specs.DequeLists.{ListView, SameElsewhere}
 use Rattle.deque_events.specs.Shown.{deque_with, Stands, Becomes}
 use Rattle.deque_events.proofs.Putting.{here, at_rank, one_back}
 use Rattle.thread_frames.specs.Children.{IsAwaited}
@@ -25,17 +25,17 @@ pub comes_below : (worker : ℕ) (id : DequeId) (ended : Ended) (before between 
     → ((rank : ℕ) (deque : Deque Thread) → DequeAt before.deques id rank deque → Some parent ≡ slice_get deque.items 0)
     → ((rank : ℕ) (deque : Deque Thread) → DequeAt before.deques id rank deque → between.deques ≡ slice_set before.deques rank (record deque { items = drop 1 deque.items }))
     → ((rank : ℕ) (deque : Deque Thread) → DequeAt between.deques id rank deque → after.deques ≡ slice_set between.deques rank (record deque { items = now ∷ deque.items }))
-    → between.most ≡ before.most → after.most ≡ between.most
+    → SameElsewhere before between id → SameElsewhere between after id
     → ((first : Thread) × (below : List Thread) × Stands before worker id (first ∷ below) × IsAwaited (label_of first) ended (children_of first)) → IsGiven ended parent now
     → (items : List Thread) (stands : Stands before worker id items) → ComesBelow worker id ended before after items stands
-comes_below worker id ended before between after parent now item pop push most most_after awaits given items stands = record {
+comes_below worker id ended before between after parent now item pop push rest rest_after awaits given items stands = record {
   parent = parent;
   now = now;
   below = drop 1 items;
   items_are = items_are;
   awaited = subst (λ x. IsAwaited (label_of x) ended (children_of x)) (sym (same_Some parent awaits.0 (item _ (here awaits.2) (at_rank awaits.2)))) awaits.3;
   given = given;
-  becomes = record { deques = back.deques; most = most_after ∙ most };
+  becomes = record { deques = back.deques; most = rest_after.most ∙ rest.most; spare = rest_after.spare ∙ rest.spare };
 }
   where
     items_are : items ≡ parent ∷ drop 1 items
@@ -45,4 +45,4 @@ comes_below worker id ended before between after parent now item pop push most m
     its = record { left = stands.left; right = stands.right; deques_are = stands.deques_are ∙ ap (λ xs. stands.left ++ deque_with id (Some worker) xs ∷ stands.right) items_are }
 
     back : Becomes (popped {next = between} its pop) after (deque_with id (Some worker) (now ∷ drop 1 items) ∷ [])
-    back = one_back (popped {next = between} its pop) after now push most_after
+    back = one_back (popped {next = between} its pop) after now push rest_after

@@ -21,17 +21,17 @@ use Rattle.thread_frames.specs.Kept.{waiting_shown, result_kept, WaitsUnder}
 use Rattle.core_parts.proofs.Lists.{each_moved}
 use Rattle.owner_steps.specs.Leaves.{IsIdleEvent, LeavesDeque, LeavesList}
 use Rattle.owner_steps.proofs.Places.{leave_sitting, points_change, under_is}
-use Rattle.owner_steps.proofs.Acting.{same_terms}
+use Rattle.owner_steps.proofs.Acting.{keeps_room}
 
 module _ (worker : ℕ) (id : DequeId) (top : Thread) (before after : Scheduler) (results : after.results ≡ before.results) (moves : after.moves ≡ before.moves)
     (pool : after.pool ≡ before.pool) (done : after.done ≡ before.done) (seats : LeavesSeat worker before.table after.table) where
-  idle : after.list.most ≡ before.list.most → IsIdleEvent before after
-  idle most = record {
+  idle : after.list.most ≡ before.list.most → after.list.spare ≡ before.list.spare → IsIdleEvent before after
+  idle most spare = record {
     results = results;
     moves = moves;
     pool = pool;
     done = done;
-    terms = λ actions. same_terms before after actions seats.workers (ap (λ r. r.capacity) pool) most;
+    keeps = keeps_room before after seats.workers (ap (λ r. r.capacity) pool) most spare;
   }
 
   pub leaves_deque : after.waiting ≡ before.waiting
@@ -51,7 +51,7 @@ module _ (worker : ℕ) (id : DequeId) (top : Thread) (before after : Scheduler)
       owners = subst (OwnersSit after.table) (sym (becomes items stands).deques)
           (leave_sitting before.table after.table worker id (top ∷ items) stands.left stands.right o.owners seats none (deque_with id None (top ∷ items) ∷ []) (refl, tt));
       waiting = subst (λ w. Each WaitsUnder w.entries) (sym waiting) o.waiting;
-      results = subst (λ r. Each Rattle.core_parts.specs.Held.IsUnderItsId r.entries) (sym results) o.results;
+      results = subst (λ r. Each Rattle.thread_frames.specs.Kept.IsUnderItsId r.entries) (sym results) o.results;
     };
     points = λ t k items stands are. record {
       in_deques = subst (Each (λ d. Each (IsAtPoint t k) (Deque.items d))) (sym (becomes items stands).deques)
@@ -59,7 +59,7 @@ module _ (worker : ℕ) (id : DequeId) (top : Thread) (before after : Scheduler)
           (each_at (λ d. Each (IsAtPoint t k) (Deque.items d)) stands.left (deque_with id (Some worker) (top ∷ items)) stands.right are.in_deques, tt));
       waiting = subst (λ w. Each (λ e. IsAtPoint t k e.1) w.entries) (sym waiting) are.waiting;
     };
-    same = idle (becomes its_items its).most;
+    same = idle (becomes its_items its).most (becomes its_items its).spare;
   }
 
   pub leaves_list : (child : ThreadId) → IsPermutation ((child, top) ∷ before.waiting.entries) after.waiting.entries
@@ -83,7 +83,7 @@ module _ (worker : ℕ) (id : DequeId) (top : Thread) (before after : Scheduler)
       owners = subst (OwnersSit after.table) (sym (becomes stands).deques)
           (leave_sitting before.table after.table worker id (top ∷ []) stands.left stands.right o.owners seats none [] tt);
       waiting = each_moved WaitsUnder ((child, top) ∷ before.waiting.entries) after.waiting.entries waiting (under, o.waiting);
-      results = subst (λ r. Each Rattle.core_parts.specs.Held.IsUnderItsId r.entries) (sym results) o.results;
+      results = subst (λ r. Each Rattle.thread_frames.specs.Kept.IsUnderItsId r.entries) (sym results) o.results;
     };
     points = λ t k stands are. record {
       in_deques = subst (Each (λ d. Each (IsAtPoint t k) (Deque.items d))) (sym (becomes stands).deques)
@@ -91,5 +91,5 @@ module _ (worker : ℕ) (id : DequeId) (top : Thread) (before after : Scheduler)
       waiting = each_moved (λ e. IsAtPoint t k e.1) ((child, top) ∷ before.waiting.entries) after.waiting.entries waiting
           ((each_at (λ d. Each (IsAtPoint t k) (Deque.items d)) stands.left (deque_with id (Some worker) (top ∷ [])) stands.right are.in_deques).0, are.waiting);
     };
-    same = idle (becomes its).most;
+    same = idle (becomes its).most (becomes its).spare;
   }

@@ -44,7 +44,7 @@ use Rattle.core_parts.specs.Moments.{terms_of, SameTerms, HasRun, IsSound, CanGo
 use Rattle.deque_machine.specs.Terms.{Terms, machine_of}
 use Rattle.core_parts.specs.Outcomes.{GoesOn, GivesDequeUp, StepsTo}
 use Rattle.step_laws.proofs.Standing.{the_same}
-use Rattle.core_parts.proofs.Going.{acted_goes_on, lawful_at, sum_is}
+use Rattle.core_parts.proofs.Going.{acted_goes_on, sum_is}
 use Rattle.core_parts.proofs.Leaving.{gave_up, gave_up_goes_on}
 use Rattle.core_parts.proofs.Still.{reordered_stands}
 use Rattle.core_parts.proofs.Bounds.{join_within}
@@ -67,6 +67,7 @@ use Rattle.std.proofs.lemmas.Bool.{le-leb, lt-leb}
 use Rattle.thread_events.specs.Acts.{AllocIsCharged}
 use Rattle.owner_steps.specs.Acts.{Acts, noted, change}
 use Rattle.owner_steps.specs.Steps.{IsBeforeAction, Comes}
+use Rattle.owner_steps.specs.Keeping.{KeepsRoom}
 use Rattle.owner_steps.specs.Refusals.{Refuses}
 use Rattle.thread_frames.specs.declared.ended.Ended.{Ended}
 
@@ -96,14 +97,14 @@ module _ (t : Table) (k limit : ℕ) (s : Scheduler) {worker : ℕ} {id : DequeI
         quota = sound.quota;
         in_order = order_after (held after) in_order;
         sum = ∥∥₁_elim sound.of_program (search props) (λ p. ∥∥₁_elim (somewhere p.0 p.1) (search props) (λ a.
-            sum_is p.0 (terms_of s limit) (quota_is t k p.0 p.1 sound.quota) (held after) a.0 a.1 a.2));
+            sum_is p.0 (terms_of s limit) (held after) a.0 a.1 a.2));
         results = results;
         somewhere = somewhere;
       })
 
-  module _ (points : CanGoOn t k (held_under s stands top)) (after : Scheduler) (terms : SameTerms s after) where
+  module _ (points : CanGoOn t k (held_under s stands top)) (after : Scheduler) (keeps : KeepsRoom s after) where
     at_before : (c : Setting) (run : List Pair) (m : Moment) → HasRun c (terms_of after limit) (held_under s stands top) run m → HasRun c (terms_of s limit) (held_under s stands top) run m
-    at_before c run m at = subst (λ x. HasRun c x (held_under s stands top) run m) (terms limit) at
+    at_before c run m at = subst (λ x. HasRun c x (held_under s stands top) run m) (keeps.terms limit) at
 
     -- an event
     pub comes_in : (told : Event) → (OwnsNone worker stands.left stands.right → IsInOrder (held_under s stands top) → ∥ IsInOrder (held after) ∥₁)
@@ -113,11 +114,11 @@ module _ (t : Table) (k limit : ℕ) (s : Scheduler) {worker : ℕ} {id : DequeI
         → ∥ GoesOn c (terms_of s limit) (held after) worker word run m told ∥₁)
         → Comes t k limit worker (held_under s stands top) s after (Ok told)
     comes_in told in_order at_points results goes = record {
-      sound = sound_after after terms in_order (∥∥₁_elim points ∥∥₁_prop (λ p. ∥∥₁_map sound.results (λ r. results p r)))
+      sound = sound_after after keeps.terms in_order (∥∥₁_elim points ∥∥₁_prop (λ p. ∥∥₁_map sound.results (λ r. results p r)))
           (λ c of run m at. ∥∥₁_map (goes c of run m 0 at) (λ g. (_, g.next, g.stands)));
       points = ∥∥₁_map points at_points;
-      steps = λ c of run m word at. subst (λ x. ∥ GoesOn c x (held after) worker word run m told ∥₁) (sym (terms limit)) (goes c of run m word (at_before c run m at));
-      terms = terms;
+      steps = λ c of run m word at. subst (λ x. ∥ GoesOn c x (held after) worker word run m told ∥₁) (sym (keeps.terms limit)) (goes c of run m word (at_before c run m at));
+      keeps = keeps;
     }
 
     pub comes_by : (told : Event) → (OwnsNone worker stands.left stands.right → IsInOrder (held_under s stands top) → IsInOrder (held after))
@@ -134,11 +135,11 @@ module _ (t : Table) (k limit : ℕ) (s : Scheduler) {worker : ℕ} {id : DequeI
         → StepsTo c (terms_of s limit) (held_under s stands top) worker word run m (Err stop))
         → Comes t k limit worker (held_under s stands top) s after (Err stop)
     stops_by stop same stopped = record {
-      sound = subst (λ h. IsSound t k (terms_of after limit) h) (sym same) (subst (λ x. IsSound t k x (held_under s stands top)) (sym (terms limit)) sound);
+      sound = subst (λ h. IsSound t k (terms_of after limit) h) (sym same) (subst (λ x. IsSound t k x (held_under s stands top)) (sym (keeps.terms limit)) sound);
       points = subst (CanGoOn t k) (sym same) points;
       steps = λ c of run m word at. subst (λ h. StepsTo c (terms_of after limit) h worker word run m (Err stop)) (sym same)
-          (subst (λ x. StepsTo c x (held_under s stands top) worker word run m (Err stop)) (sym (terms limit)) (stopped c of run m word (at_before c run m at)));
-      terms = terms;
+          (subst (λ x. StepsTo c x (held_under s stands top) worker word run m (Err stop)) (sym (keeps.terms limit)) (stopped c of run m word (at_before c run m at)));
+      keeps = keeps;
     }
 
 -- ---- the deque was given up
@@ -165,7 +166,7 @@ module _ (t : Table) (k limit : ℕ) (s : Scheduler) {worker : ℕ} {id : DequeI
   gave_up_results r = subst (λ rs. Each (λ e. IsResult t k e.1) rs.entries) (sym leaves.same.results) r
 
   pub gave_up_sound : IsSound t k (terms_of after limit) (held after)
-  gave_up_sound = sound_after t k limit s stands top sound after leaves.same.terms (λ none o. ∣ leaves.in_order items stands none o ∣₁) (∥∥₁_map sound.results gave_up_results)
+  gave_up_sound = sound_after t k limit s stands top sound after leaves.same.keeps.terms (λ none o. ∣ leaves.in_order items stands none o ∣₁) (∥∥₁_map sound.results gave_up_results)
       (λ c of run m at. ∥∥₁_map (gave_up_gives c of run m at) (λ g. (_, g.next, g.stands)))
 
 -- ---- an action
@@ -243,7 +244,7 @@ module _ (t : Table) (k limit : ℕ) (s : Scheduler) {worker : ℕ} {id : DequeI
           weight_is x y w is = omega (arith, ints, is)
 
       pub acted_comes : Comes t k limit worker before s after (Ok (events.Acted name))
-      acted_comes = comes_by t k limit s stands top (b.sound items stands) (b.points items stands) after acts.terms (events.Acted name)
+      acted_comes = comes_by t k limit s stands top (b.sound items stands) (b.points items stands) after acts.keeps (events.Acted name)
           (λ none o. acts.acted.in_order items stands none o) (λ p. acts.acted.points t k items stands p) (λ p r. acts.acted.results t k items stands p r)
           (λ c of run m word at. known c of (λ x. ∣ acted_at c x run m word at ∣₁))
 
@@ -258,15 +259,15 @@ module _ (t : Table) (k limit : ℕ) (s : Scheduler) {worker : ℕ} {id : DequeI
           let quota = quota_is t k c x.of (b.sound items stands).quota in
           let period = its_period s stands top x.order in
           let o : Works (parts_in before) worker = period_there s stands top period.0 period.1 in
-          let lawful = lawful_at c now quota run m at.reaches in
+          let lawful = at.standing.lawful in
           let within = charged c x.of i period.0 period.1 in
           let used = used_is c.quota (list_of c) (parts_in before) m at.standing.shows worker o in
           let same : ◌≡◌ {A = ℕ} (charge_at c.quota (list_of c) i.place) (charge c.quota (deed_of top next) (words_at (list_of c) i.place)) = ap (λ d. charge c.quota d (words_at (list_of c) i.place)) i.deed in
           an_action (own (machine_of c now) (whole_is_depth_first c) m lawful (parts_in before) at.standing.shows worker o) i.place (next_at_top s stands top c now quota run m at next i)
           (λ child deed. ended c x run m at child (sym i.deed ∙ deed)) (omega (arith, within, used, same))
 
-      pub refused_comes : (stop : Stop) (after : Scheduler) → Refuses s limit asked stop → held after ≡ before → SameTerms s after → Comes t k limit worker before s after (Err stop)
-      refused_comes stop after refused same terms = stops_by t k limit s stands top (b.sound items stands) (b.points items stands) after terms stop same
+      pub refused_comes : (stop : Stop) (after : Scheduler) → Refuses s limit asked stop → held after ≡ before → KeepsRoom s after → Comes t k limit worker before s after (Err stop)
+      refused_comes stop after refused same keeps = stops_by t k limit s stands top (b.sound items stands) (b.points items stands) after keeps stop same
           (λ c of run m word at. by_stop c of run m word at stop refused)
         where
           by_stop : (c : Setting) → IsSettingOf t k c → (run : List Pair) (m : Moment) (word : ℕ) → HasRun c now before run m → (stop : Stop) → Refuses s limit asked stop
@@ -302,7 +303,7 @@ module _ (t : Table) (k limit : ℕ) (s : Scheduler) {worker : ℕ} {id : DequeI
       → ((c : Setting) → IsSettingOf t k c → (i : IsOfTheList c top next) → (period : Period) → period_at s.table worker ≡ Some period
       → c.quota < period.used + charge c.quota (deed_of top next) (words_at (list_of c) i.place))
       → Comes t k limit worker before s after (Ok (events.GaveUp id))
-  gave_up_comes after leaves over = comes_by t k limit s stands top (b.sound items stands) (b.points items stands) after leaves.same.terms (events.GaveUp id)
+  gave_up_comes after leaves over = comes_by t k limit s stands top (b.sound items stands) (b.points items stands) after leaves.same.keeps (events.GaveUp id)
       (λ none o. leaves.in_order items stands none o) (λ p. leaves.points t k items stands p)
       (λ p r. gave_up_results t k limit s stands top (b.sound items stands) after leaves r)
       (λ c of run m word at. known c of (λ x.
@@ -356,7 +357,7 @@ module _ (t : Table) (k limit : ℕ) (s : Scheduler) {worker : ℕ} {id : DequeI
         newest_child s stands top p.0 (terms_of s limit) (quota_is t k p.0 p.1 (b.sound [] stands).quota) a.0 a.1 a.2 child i b.newest o)))
 
     pub waited_comes : Comes t k limit worker (held_under s stands top) s after (Ok (events.Suspended (Thread.id top)))
-    waited_comes = comes_in t k limit s stands top (b.sound [] stands) (b.points [] stands) after leaves.same.terms (events.Suspended (Thread.id top))
+    waited_comes = comes_in t k limit s stands top (b.sound [] stands) (b.points [] stands) after leaves.same.keeps (events.Suspended (Thread.id top))
         (λ none o. ∥∥₁_map (under_child o) (λ under. leaves.in_order stands none under o)) (λ p. leaves.points t k stands p)
         (λ p r. subst (λ rs. Each (λ e. IsResult t k e.1) rs.entries) (sym leaves.same.results) r)
         (λ c of run m word at. ∥∥₁_elim (b.of_the_list c of) ∥∥₁_prop (λ i. ∥∥₁_map (b.sound [] stands).in_order (λ o. waited_at c of i o run m word at)))

@@ -17,7 +17,7 @@ use Rattle.core_parts.specs.declared.event.Event.{Event}
 use Rattle.core_parts.specs.declared.scheduler.Scheduler.{Scheduler}
 use Rattle.run_end.specs.declared.stop.Stop.{Stop}
 use Rattle.core_parts.specs.Held.{held, held_under, OwnsNone}
-use Rattle.core_parts.specs.Moments.{terms_of, SameTerms, HasRun, IsSound, CanGoOn}
+use Rattle.core_parts.specs.Moments.{terms_of, HasRun, IsSound, CanGoOn}
 use Rattle.core_parts.proofs.Still.{reordered_sound, reordered_points, reordered_stands, still_sound, still_points, still_stands}
 use Rattle.core_parts.specs.Held.{IsReordered}
 use Rattle.depth_first_run.specs.States.{Setting}
@@ -31,6 +31,7 @@ use Rattle.thread_frames.specs.Actions.{IsStill, IsOfTheList, JoinsNewest}
 use Rattle.thread_frames.specs.declared.next.Next.{Next}
 use Rattle.thread_frames.proofs.Placed.{placed_of}
 use Rattle.thread_run.specs.Settings.{IsSettingOf}
+use Rattle.owner_steps.specs.Keeping.{KeepsRoom}
 use Rattle.owner_steps.specs.Memory.{HasMemory}
 use Rattle.owner_steps.specs.Tops.{TakesTop}
 use Rattle.owner_steps.specs.Steps.{IsBeforeAction, Comes}
@@ -101,9 +102,9 @@ module _ (t : Table) (k limit : ℕ) (s : Scheduler) {worker : ℕ} {id : DequeI
 
 -- a worker's seat, in which its top thread is taken out behind a call that changed only memory
 module _ (s first : Scheduler) (list : ListView Thread) {worker : ℕ} {id : DequeId} {top : Thread} {items : List Thread} (stands : Stands s.list worker id (top ∷ items))
-    (same : IsReordered (held s) (held first)) (terms : SameTerms s first)
+    (same : IsReordered (held s) (held first)) (keeps : KeepsRoom s first)
     (pop : (rank : ℕ) (deque : Deque Thread) → DequeAt first.list.deques id rank deque → list.deques ≡ slice_set first.list.deques rank (record deque { items = drop 1 deque.items }))
-    (most : list.most ≡ first.list.most) where
+    (most : list.most ≡ first.list.most) (spare : list.spare ≡ first.list.spare) where
   abbrev taken : Scheduler
   taken = record first { list = list }
 
@@ -125,20 +126,23 @@ module _ (s first : Scheduler) (list : ListView Thread) {worker : ℕ} {id : Deq
     same = subst (IsReordered (held s)) (sym under_was) same;
     period = (p, period);
     memory = memory;
-    terms = λ actions. (λ i. record (terms_of first actions) { limits = record { capacity = first.pool.capacity; actions = actions; deques = most i } }) ∙ terms actions;
+    keeps = record {
+      terms = λ actions. (λ i. record (terms_of first actions) { limits = record { capacity = first.pool.capacity; actions = actions; deques = most i } }) ∙ keeps.terms actions;
+      spare = spare ∙ keeps.spare;
+    };
   }
 
 -- with the top thread on its deque all is sound and can go on as before it was taken out, and stands where it stood
 module _ (t : Table) (k limit : ℕ) (s taken : Scheduler) (worker : ℕ) (id : DequeId) (top : Thread) (takes : TakesTop worker id top s taken) where
   pub taken_sound : IsSound t k (terms_of s limit) (held s) → IsSound t k (terms_of taken limit) (held_under taken takes.stands top)
-  taken_sound sound = subst (λ x. IsSound t k x (held_under taken takes.stands top)) (sym (takes.terms limit))
+  taken_sound sound = subst (λ x. IsSound t k x (held_under taken takes.stands top)) (sym (takes.keeps.terms limit))
       (reordered_sound t k (terms_of s limit) (held s) (held_under taken takes.stands top) takes.same sound)
 
   pub taken_points : CanGoOn t k (held s) → CanGoOn t k (held_under taken takes.stands top)
   taken_points points = ∥∥₁_map points (reordered_points t k (held s) (held_under taken takes.stands top) takes.same)
 
   pub taken_at : (c : Setting) (run : List Pair) (m : Moment) → HasRun c (terms_of s limit) (held s) run m → HasRun c (terms_of taken limit) (held_under taken takes.stands top) run m
-  taken_at c run m at = subst (λ x. HasRun c x (held_under taken takes.stands top) run m) (sym (takes.terms limit))
+  taken_at c run m at = subst (λ x. HasRun c x (held_under taken takes.stands top) run m) (sym (takes.keeps.terms limit))
       (reordered_stands c (terms_of s limit) (held s) (held_under taken takes.stands top) run m takes.same at)
 
 -- the thread that is on top is at its point, and its words are out
@@ -205,8 +209,8 @@ pub comes_of_taken : (t : Table) (k limit : ℕ) (s taken after : Scheduler) (wo
 comes_of_taken t k limit s taken after worker id top now takes still result comes = record {
   sound = comes.sound;
   points = comes.points;
-  steps = λ c of run m word at. comes.steps c of run m word (subst (λ x. HasRun c x (held_under taken takes.stands now) run m) (sym (comes.terms limit))
+  steps = λ c of run m word at. comes.steps c of run m word (subst (λ x. HasRun c x (held_under taken takes.stands now) run m) (sym (comes.keeps.terms limit))
       (still_stands taken takes.stands top now still c (terms_of taken limit) run m (taken_at t k limit s taken worker id top takes c run m
-      (subst (λ x. HasRun c x (held s) run m) (comes.terms limit ∙ takes.terms limit) at))));
-  terms = λ actions. comes.terms actions ∙ takes.terms actions;
+      (subst (λ x. HasRun c x (held s) run m) (comes.keeps.terms limit ∙ takes.keeps.terms limit) at))));
+  keeps = record { terms = λ actions. comes.keeps.terms actions ∙ takes.keeps.terms actions; spare = comes.keeps.spare ∙ takes.keeps.spare };
 }

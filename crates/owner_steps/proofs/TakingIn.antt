@@ -183,7 +183,7 @@ taken_in_comes t k limit s stands top child b missing results now come after tol
   sound = comes.sound;
   points = comes.points;
   steps = λ c of run m word at. ∥∥₁_elim (b.sound _ stands).in_order ∥∥₁_prop (λ o.
-      comes.steps c of run m word (subst (λ x. HasRun c x (held_under (record s { results = results }) (record { left = stands.left; right = stands.right; deques_are = stands.deques_are }) now) run m) (sym (comes.terms limit))
-      (later_at t k limit s stands top child b missing results now come c of o run m (subst (λ x. HasRun c x (held_under s stands top) run m) (comes.terms limit) at))));
-  terms = comes.terms;
+      comes.steps c of run m word (subst (λ x. HasRun c x (held_under (record s { results = results }) (record { left = stands.left; right = stands.right; deques_are = stands.deques_are }) now) run m) (sym (comes.keeps.terms limit))
+      (later_at t k limit s stands top child b missing results now come c of o run m (subst (λ x. HasRun c x (held_under s stands top) run m) (comes.keeps.terms limit) at))));
+  keeps = record { terms = comes.keeps.terms; spare = comes.keeps.spare };
 }

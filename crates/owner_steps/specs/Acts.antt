@@ -25,7 +25,7 @@ use Rattle.core_parts.specs.declared.scheduler.Scheduler.{Scheduler}
 use Rattle.step_laws.specs.Moves.{noted_if}
 use Rattle.step_laws.specs.Standing.{Settles}
 use Rattle.core_parts.specs.Held.{Held, held, held_under, parts_in, IsReordered, OwnsNone, IsInOrder, AreAtPoints, AreResults}
-use Rattle.core_parts.specs.Moments.{SameTerms}
+use Rattle.owner_steps.specs.Keeping.{KeepsRoom}
 
 -- by how much the words that are out changed
 abbrev pub change : ℕ → ℕ → ℤ
@@ -61,7 +61,7 @@ pub record Performs (next : Next) (Where : ℕ → Period → ℕ → Type 0) (w
   pub moved_words : (words : ℕ) → TellsWords top next words → moved ≡ moves_words (deed_of top next) (label_of top) words
   pub moves : after.moves ≡ before.moves
   pub done : after.done ≡ before.done
-  pub terms : SameTerms before after
+  pub keeps : KeepsRoom before after
 
 -- and it is counted under this name, and noted where it is a move
 pub record Acts (next : Next) (Where : ℕ → Period → ℕ → Type 0) (worker : ℕ) (id : DequeId) (top : Thread) (before after : Scheduler)
@@ -73,4 +73,4 @@ pub record Acts (next : Next) (Where : ℕ → Period → ℕ → Type 0) (worke
   pub live : (words : ℕ) → TellsWords top next words → pos after.pool.live ≡ pos before.pool.live +ℤ weight_of (deed_of top next) words
   pub moves : (words : ℕ) → TellsWords top next words → moves_list after.moves ≡ moves_list before.moves
       ++ noted (moves_words (deed_of top next) (label_of top) words) name (change before.pool.live after.pool.live)
-  pub terms : SameTerms before after
+  pub keeps : KeepsRoom before after

@@ -10,7 +10,7 @@ use Rattle.thread_frames.specs.Views.{label_of}
 use Rattle.thread_events.specs.Acts.{Always}
 use Rattle.core_parts.specs.declared.scheduler.Scheduler.{Scheduler}
 use Rattle.core_parts.specs.Held.{held}
-use Rattle.core_parts.specs.Moments.{SameTerms}
+use Rattle.owner_steps.specs.Keeping.{KeepsRoom}
 use Rattle.owner_steps.specs.Acts.{Acted}
 
 -- a top thread ended with this result: once it is kept, the thread has done its End
@@ -20,7 +20,7 @@ pub record LeavesBy (worker : ℕ) (id : DequeId) (top : Thread) (before after :
   pub same_moves : after.moves ≡ before.moves
   pub same_done : after.done ≡ before.done
   pub pool : after.pool ≡ with_given before.pool (words_at_end (label_of top))
-  pub terms : SameTerms before after
+  pub keeps : KeepsRoom before after
 
 -- a top thread has done its End, with the words of its record; it is not counted or noted yet
 pub record EndsBy (worker : ℕ) (id : DequeId) (top : Thread) (before after : Scheduler) : Type 0 where
@@ -28,4 +28,4 @@ pub record EndsBy (worker : ℕ) (id : DequeId) (top : Thread) (before after : S
   pub same_moves : after.moves ≡ before.moves
   pub same_done : after.done ≡ before.done
   pub pool : after.pool ≡ with_given before.pool (words_at_end (label_of top))
-  pub terms : SameTerms before after
+  pub keeps : KeepsRoom before after

@@ -16,7 +16,7 @@ use Rattle.core_parts.specs.declared.scheduler.Scheduler.{Scheduler}
 use Rattle.step_laws.specs.Orders.{AreSame}
 use Rattle.core_parts.specs.Held.{held, held_under, parts_in, IsInOrder, AreAtPoints, OwnsNone}
 use Rattle.thread_frames.specs.Kept.{WaitsUnder}
-use Rattle.core_parts.specs.Moments.{SameTerms}
+use Rattle.owner_steps.specs.Keeping.{KeepsRoom}
 
 -- what stays where nothing is done
 pub record IsIdleEvent (before after : Scheduler) : Type 0 where
@@ -24,7 +24,7 @@ pub record IsIdleEvent (before after : Scheduler) : Type 0 where
   pub moves : after.moves ≡ before.moves
   pub pool : after.pool ≡ before.pool
   pub done : after.done ≡ before.done
-  pub terms : SameTerms before after
+  pub keeps : KeepsRoom before after
 
 -- the worker gave its deque up, with the top thread on it
 pub record LeavesDeque (worker : ℕ) (id : DequeId) (top : Thread) (before after : Scheduler) : Type 0 where

@@ -1,3 +1,4 @@
+pub mod Keeping
 pub mod Results
 pub mod Memory
 pub mod Tops

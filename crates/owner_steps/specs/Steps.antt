@@ -15,9 +15,10 @@ use Rattle.core_parts.specs.declared.event.Event.{Event}
 use Rattle.run_end.specs.declared.stop.Stop.{Stop}
 use Rattle.core_parts.specs.declared.scheduler.Scheduler.{Scheduler}
 use Rattle.core_parts.specs.Held.{Held, held, held_under}
-use Rattle.core_parts.specs.Moments.{IsSound, CanGoOn, HasRun, SameTerms, terms_of}
+use Rattle.core_parts.specs.Moments.{IsSound, CanGoOn, HasRun, terms_of}
 use Rattle.deque_machine.specs.Terms.{Terms}
 use Rattle.core_parts.specs.Outcomes.{StepsTo, GivesDequeUp}
+use Rattle.owner_steps.specs.Keeping.{KeepsRoom}
 use Rattle.owner_steps.specs.Memory.{CanAct}
 
 -- A thread that was taken from the top of a worker's deque is before its next action, and with it on top all is sound and can go on.
@@ -36,7 +37,7 @@ pub record Comes (t : Table) (k limit worker : ℕ) (before : Held) (earlier aft
   pub points : CanGoOn t k (held after)
   pub steps : (c : Setting) → IsSettingOf t k c → (run : List Pair) (m : Moment) (word : ℕ) → HasRun c (terms_of after limit) before run m
       → StepsTo c (terms_of after limit) (held after) worker word run m result
-  pub terms : SameTerms earlier after
+  pub keeps : KeepsRoom earlier after
 
 -- the same where the top thread was taken out before
 abbrev pub ComesUnder : Table → (k limit worker : ℕ) → DequeId → Thread → (before after : Scheduler) → Result Event Stop → Type 0

@@ -7,7 +7,7 @@ use Rattle.thread_frames.specs.declared.thread.Thread.{Thread}
 use Rattle.deque_events.specs.Shown.{Stands}
 use Rattle.core_parts.specs.declared.scheduler.Scheduler.{Scheduler}
 use Rattle.core_parts.specs.Held.{held, held_under, IsReordered}
-use Rattle.core_parts.specs.Moments.{SameTerms}
+use Rattle.owner_steps.specs.Keeping.{KeepsRoom}
 use Rattle.owner_steps.specs.Memory.{HasMemory}
 
 -- The top thread of the worker's deque was taken out, and there is memory for the worker's event: with the thread on top all is held as
@@ -19,4 +19,4 @@ pub record TakesTop (worker : ℕ) (id : DequeId) (top : Thread) (before after :
   pub same : IsReordered (held before) (held_under after stands top)
   pub period : (p : Period) × (period_at after.table worker ≡ Some p)
   pub memory : HasMemory 2 after worker id
-  pub terms : SameTerms before after
+  pub keeps : KeepsRoom before after

@@ -92,6 +92,7 @@ pub fn give_up_deque(
         → HasRun c (terms_of scheduler.old limit) (held scheduler.old) run m
         → GivesUpOrStays c (terms_of scheduler.old limit) (held scheduler.new) worker run m result }
     ensures terms { SameTerms scheduler.old scheduler.new }
+    ensures spare { scheduler.new.list.spare ≡ scheduler.old.list.spare }
 {
     let (deque, top) = take_top(scheduler, alloc, worker)?;
     give_up(scheduler, worker, deque, top);

@@ -28,10 +28,10 @@ use crate::tops::{put_back, take_top};
 use block_arena::PIECE_WORDS;
 use boxed::Boxed;
 use core_parts::{Event, Scheduler};
-use run_end::Stop;
 use deque_list::DequeId;
 use dummy_tree::Quota;
 use node_table::Code;
+use run_end::Stop;
 use std::alloc::Global;
 use thread_events::{advance, take_result};
 use thread_frames::{Next, Thread};
@@ -120,6 +120,7 @@ pub fn step_of_owner(
         → HasRun c (terms_of scheduler.old limit) (held scheduler.old) run m
         → StepsTo c (terms_of scheduler.old limit) (held scheduler.new) worker word run m result }
     ensures terms { SameTerms scheduler.old scheduler.new }
+    ensures spare { scheduler.new.list.spare ≡ scheduler.old.list.spare }
 {
     let Ok((deque, mut top)) = take_top(scheduler, alloc, worker) else {
         return Err(Stop::OutOfMemory);

@@ -9,7 +9,8 @@ ghost use Rattle.period_books.specs.Periods.{Period as AnyPeriod};
 ghost use Rattle.period_table.specs.Tables.{period_at, deque_at};
 ghost use Rattle.deque_events.specs.Shown.{Stands};
 ghost use Rattle.core_parts.specs.Held.{held, held_under, IsReordered};
-ghost use Rattle.core_parts.specs.Moments.{IsSound, SameTerms, terms_of};
+ghost use Rattle.core_parts.specs.Moments.{IsSound, terms_of};
+ghost use Rattle.owner_steps.specs.Keeping.{KeepsRoom};
 ghost use Rattle.owner_steps.specs.Memory.{HasMemory};
 ghost use Rattle.owner_steps.specs.Tops.{TakesTop};
 
@@ -35,7 +36,7 @@ fn reserve(
     requires period { (p : AnyPeriod) × (period_at scheduler.old.table worker ≡ Some p) }
     ensures same { IsReordered (held scheduler.old) (held scheduler.new) }
     ensures periods { (w : ℕ) → period_at scheduler.new.table w ≡ period_at scheduler.old.table w }
-    ensures terms { SameTerms scheduler.old scheduler.new }
+    ensures keeps { KeepsRoom scheduler.old scheduler.new }
     ensures room { OnOk result (HasMemory 1 scheduler.new worker deque) }
 {
     scheduler.list.reserve(deque)?;
@@ -60,7 +61,7 @@ pub(crate) fn take_top(
     requires owner { (id : DequeId) × (deque_at scheduler.old.table worker ≡ Some id) }
     ensures takes { IfOk result (λ taken. TakesTop worker taken.0 taken.1 scheduler.old scheduler.new) }
     ensures same { OnErr result (IsReordered (held scheduler.old) (held scheduler.new)) }
-    ensures terms { SameTerms scheduler.old scheduler.new }
+    ensures keeps { KeepsRoom scheduler.old scheduler.new }
 {
     let deque = match scheduler.table.seat(worker) {
         Some(seat) => seat.deque,
@@ -79,7 +80,7 @@ pub(crate) fn put_back(scheduler: &mut Scheduler, worker: usize, deque: DequeId,
     requires room { 1 ≤ lane_room scheduler.old.list deque }
     ensures held { (items : AnyList Thread) (stands : Stands scheduler.old.list worker deque items)
         → held scheduler.new ≡ held_under scheduler.old stands top }
-    ensures terms { SameTerms scheduler.old scheduler.new }
+    ensures keeps { KeepsRoom scheduler.old scheduler.new }
 {
     let _worker = worker;
     scheduler.list.push_top(deque, top);

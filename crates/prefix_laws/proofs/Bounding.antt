@@ -38,7 +38,7 @@ module _ (core : Core) (serial : Serial) (of : IsSerialOf core serial) (ahead tw
     within : live_at (list_of c) m ≤ℤ (peak (list_of c) +ℤ pos (2 * c.quota * periods_ahead n m.books))
     within =
         let quota = core.sound.quota in let same = at.setting.quota in
-        bound_always (machine_of c (terms_at core)) (omega (arith, quota, same)) (whole_is_depth_first c) run m n at.stands.reaches prefix
+        bound_always (machine_of c (terms_at core)) (omega (arith, quota, same)) (whole_is_depth_first c) run m n at.reaches prefix
 
     below_at : live ≤ most
     below_at = below_it live serial.peak (2 * c.quota * periods_ahead n m.books) most (live_at (list_of c) m) (peak (list_of c)) (live_is c run m at)

@@ -1,28 +1,31 @@
 -- A scheduler stands at one ready list after another.
-use Rattle.std.proofs.Common.{◌≡◌, ℕ, ◌<◌, List, [], ◌∷◌, ◌++◌, map, inl, inr, refl, sym, ap, subst, ◌∙◌, arith}
+use Rattle.std.proofs.Common.{◌≡◌, ℕ, ◌<◌, List, [], ◌∷◌, ◌++◌, map, length, inl, inr, refl, sym, ap, subst, ◌∙◌, arith, length-append, ◌+ℤ◌}
 use Rattle.std.specs.Prelude.{None, Some}
 use Rattle.dag_order.specs.LabelOrder.{fork_of}
 use Rattle.depth_first_list.specs.Actions.{forks}
 use Rattle.depth_first_list.specs.Facts.{deed_at}
 use Rattle.depth_first_list.specs.Runs.{IsDepthFirst}
+use Rattle.depth_first_list.proofs.Weights.{forks_take_records}
 use Rattle.lawful_books.specs.Lists.{Each}
-use Rattle.lawful_books.proofs.Lists.{each_at, total_append, same_head, same_tail}
+use Rattle.lawful_books.proofs.Lists.{each_at, total_append, one_same, same_head, same_tail}
 use Rattle.deque_machine.specs.Moments as machine
-use Rattle.deque_machine.specs.Moments.{Moment, opening, moment_of, with_id, one_if_id}
+use Rattle.deque_machine.specs.Moments.{Moment, opening, moment_of, with_id, one_if_id, owned_by, one_if_owned, live_at}
 use Rattle.deque_machine.specs.Machine.{Setting, Event, does, Owns, May}
 use Rattle.deque_machine.specs.Runs.{Pair}
+use Rattle.deque_machine.proofs.Reached.{place_inside}
 use Rattle.machine_replay.proofs.OnePlay as replay
 use Rattle.moment_parts.specs.Parts.{Deque, deque_shown}
 use Rattle.moment_parts.specs.Cuts.{deque_with}
 use Rattle.moment_parts.proofs.Cutting.{setting_aside_shows}
 use Rattle.step_laws.proofs.Standing.{root_stands}
+use Rattle.step_laws.proofs.Told.{actions_are_added}
 use Rattle.ready_machine.specs.Entries.{entry, IsEntry, IsLeastFree, IsReadyList}
 use Rattle.ready_machine.specs.ReadyMachine.{MayReady, ReadyReaches}
 use Rattle.ready_machine.specs.ReadyPlay.{WantsReady}
-use Rattle.ready_machine.proofs.Sharing.{kept_ready}
+use Rattle.ready_machine.proofs.Sharing.{alone, kept_ready}
 use Rattle.ready_machine.proofs.Cuts.{one_only_cut}
 use Rattle.ready_machine.proofs.Coming.{IsForkEvent, IsMachinesFork, machines_fork, each_beside, no_entry, all_but_forks_are_shared, forks_are_cut, wanted_may_come}
-use Rattle.ready_law.specs.Standing.{HasOneThread, cut_moment, RootStandsReady, OneThreadEach, TwoAreCut, ReadyRunsGoOn}
+use Rattle.ready_law.specs.Standing.{HasOneThread, cut_moment, RootStandsReady, OneThreadEach, TwoAreCut, ReadyRunsGoOn, LeavesTwo, OneOrTwo}
 
 goes_on : (s : Setting) (run : List Pair) (first m after : Moment) (worker : ℕ) (event : Event) → ReadyReaches s first run m
     → MayReady s m worker event after → ReadyReaches s first (run ++ record { worker = worker; event = event } ∷ []) after
@@ -168,3 +171,44 @@ two_are_cut s some list before after moved m next worker event left right id new
         };
       },
     )
+
+-- one more in the middle
+as_long : (left right : List machine.Deque) (x y : machine.Deque) → length (left ++ x ∷ right) ≡ length (left ++ y ∷ right)
+as_long left right x y = length-append left (x ∷ right) ∙ sym (length-append left (y ∷ right))
+
+pub one_or_two : (s : Setting) → 0 < s.quota → IsDepthFirst s.quota s.list → OneOrTwo s
+one_or_two s some list m next worker event ready below wants may =
+    let comes = wanted_may_come s list m worker event ready below wants in
+    elim (all_but_forks_are_shared s m comes.0 worker event ready comes.1) [
+      | inl shared ↦
+          let same : comes.0 ≡ next = replay.one_way s some list m comes.0 next worker event ready.lawful shared may in
+          inl (subst (λ x. Each IsEntry x.deques) same (kept_ready s list m ready worker event comes.0 comes.1).entries)
+      | inr fork ↦ inr (two fork)
+    ]
+  where
+    two : IsForkEvent s event → LeavesTwo s.list m next worker
+    two fork =
+        let found = machines_fork s m ready worker event next may fork.0 fork.1 fork.2 fork.3 in
+        let f : IsMachinesFork s m ready worker next = found.0 in
+        let o : Owns m worker = f.owner in
+        let forked : machine.Deque = machine.deque_of o.id (Some worker) (fork_of o.top f.child ∷ o.top ∷ o.under) in
+        let was : machine.Deque = machine.deque_of o.id (Some worker) (o.top ∷ o.under) in
+        let came : May s m worker (does fork.0) next = subst (λ e. May s m worker e next) fork.2 may in
+        let added = actions_are_added s m next worker fork.0 came in
+        record {
+          owned =
+              let middle = total_append (one_if_owned worker) o.left (was ∷ o.right) in
+              let one : one_if_owned worker was ≡ 1 = one_same worker worker refl in
+              let cut : owned_by worker m.deques ≡ owned_by worker (o.left ++ was ∷ o.right) = ap (owned_by worker) o.deques_are in
+              omega (arith, middle, one, cut);
+          left = o.left;
+          right = o.right;
+          id = o.id;
+          upper = fork_of o.top f.child;
+          lower = o.top;
+          deques_are = ap (λ x. x.deques) f.after_is
+              ∙ ap (λ t. o.left ++ machine.deque_of o.id (Some worker) (fork_of o.top f.child ∷ o.top ∷ t) ∷ o.right) (alone s m ready worker o);
+          many = ap (λ x. length x.deques) f.after_is ∙ as_long o.left o.right forked was ∙ ap length (sym o.deques_are);
+          live = added.live ∙ ap (λ w. live_at s.list m +ℤ w)
+              (forks_take_records s.quota s.list list fork.0 fork.1 (place_inside s m worker fork.0 next came) fork.3).1;
+        }

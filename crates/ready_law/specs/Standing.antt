@@ -1,16 +1,17 @@
 -- At which lawful ready list a scheduler stands, and how it goes on with each event.
-use Rattle.std.specs.Prelude.{◌≡◌, ℕ, ◌<◌, ◌≤◌, ◌+◌, ◌*◌, ◌⊎◌, Option, None, Some, List, [], ◌∷◌, ◌++◌, length, filter, map}
+use Rattle.std.specs.Prelude.{◌≡◌, ℕ, ◌<◌, ◌≤◌, ◌+◌, ◌*◌, ◌⊎◌, Option, None, Some, List, [], ◌∷◌, ◌++◌, length, filter, map, pos, ◌+ℤ◌}
 use Rattle.dag_order.specs.Births.{root}
 use Rattle.depth_first_list.specs.Actions.{Action, record_words}
 use Rattle.depth_first_list.specs.Facts.{action_at}
 use Rattle.lawful_books.specs.Lists.{Each}
-use Rattle.deque_machine.specs.Moments.{Moment, opening, moment_of}
+use Rattle.deque_machine.specs.Moments as machine
+use Rattle.deque_machine.specs.Moments.{Moment, opening, moment_of, owned_by, live_at}
 use Rattle.deque_machine.specs.Machine.{Setting, Event, May}
 use Rattle.deque_machine.specs.Runs.{Pair, place_of, is_move}
 use Rattle.moment_parts.specs.Parts.{Thread, Deque, parts_with_root, deque_shown}
 use Rattle.moment_parts.specs.Cuts.{deque_with}
 use Rattle.step_laws.specs.Standing.{Showing, StandsAt}
-use Rattle.ready_machine.specs.Entries.{entry, IsEntry, IsLeastFree}
+use Rattle.ready_machine.specs.Entries.{entry, IsEntry, IsLeastFree, IsReadyList}
 use Rattle.ready_machine.specs.ReadyMachine.{MayReady, ReadyReaches}
 use Rattle.ready_machine.specs.ReadyPlay.{WantsReady}
 
@@ -77,3 +78,20 @@ HasRecord thread = (thread.label ≡ []) ⊎ (record_words ≤ thread.words)
 abbrev pub EntriesAreFew : Setting → Type 0
 EntriesAreFew s = (shown : Showing) (moved : List Action) (m : Moment) → StandsReady s shown moved m
     → Each (λ deque. Each HasRecord deque.threads) shown.parts.deques → record_words * length m.deques ≤ record_words + shown.live
+
+-- A Fork left the worker, who ran an entry, with a deque of two. There are as many deques as before, and a record more in use.
+pub record LeavesTwo (l : List Action) (m next : Moment) (worker : ℕ) : Type 0 where
+  pub owned : 0 < owned_by worker m.deques
+  pub left : List machine.Deque
+  pub right : List machine.Deque
+  pub id : ℕ
+  pub upper : List ℕ
+  pub lower : List ℕ
+  pub deques_are : next.deques ≡ left ++ machine.deque_of id (Some worker) (upper ∷ lower ∷ []) ∷ right
+  pub many : length next.deques ≡ length m.deques
+  pub live : live_at l next ≡ live_at l m +ℤ pos record_words
+
+-- Where the rules want an event of a worker and it came in the machine of deques, each deque has one thread then, or it was a Fork.
+abbrev pub OneOrTwo : Setting → Type 0
+OneOrTwo s = (m next : Moment) (worker : ℕ) (event : Event) → IsReadyList s m → worker < s.workers → WantsReady s m worker event
+    → May s m worker event next → Each IsEntry next.deques ⊎ LeavesTwo s.list m next worker

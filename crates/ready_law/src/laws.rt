@@ -1,5 +1,5 @@
 ghost use Rattle.deque_machine.specs.Laws.{InEachSetting};
-ghost use Rattle.ready_law.specs.Standing.{RootStandsReady, OneThreadEach, TwoAreCut, ReadyRunsGoOn, EntriesAreFew};
+ghost use Rattle.ready_law.specs.Standing.{RootStandsReady, OneThreadEach, TwoAreCut, ReadyRunsGoOn, EntriesAreFew, OneOrTwo};
 
 /// A root that has done nothing, alone and ready, stands at the opening moment.
 pub fn root_stands_ready()
@@ -15,6 +15,11 @@ pub fn one_thread_each()
 /// Where the worker's deque has two threads then, it came in the ready list once that deque is cut in two.
 pub fn two_are_cut()
     ensures { InEachSetting TwoAreCut }
+{}
+
+/// One of the two is so with each event that is wanted.
+pub fn one_or_two()
+    ensures { InEachSetting OneOrTwo }
 {}
 
 /// A run of the ready list goes on with each event that may come.

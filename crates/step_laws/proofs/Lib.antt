@@ -1,5 +1,6 @@
 pub mod Going
 pub mod Told
+pub mod Sums
 pub mod Ending
 pub mod Reordered
 pub mod Labels

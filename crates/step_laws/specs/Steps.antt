@@ -1,6 +1,6 @@
 -- What one step of a run changes.
 use Rattle.std.specs.Prelude.{◌≡◌, ℕ, ◌+◌, List, [], ◌∷◌, ◌++◌, length, map, filter, ◌+ℤ◌}
-use Rattle.depth_first_list.specs.Actions.{Action}
+use Rattle.depth_first_list.specs.Actions.{Action, live_words}
 use Rattle.depth_first_list.specs.Facts.{action_at, weight_at}
 use Rattle.lawful_books.specs.Books.{booked}
 use Rattle.deque_machine.specs.Moments.{Moment, opening, live_at}
@@ -39,3 +39,8 @@ OthersAddNone s = (m after : Moment) (worker : ℕ) →
     (May s m worker suspends after → AddsNone s.list m after 0) ×
     (May s m worker gives_up after → AddsNone s.list m after 0) ×
     ((place id : ℕ) → May s m worker (steals place id) after → AddsNone s.list m after 1)
+
+-- if the moves of a run sum up to the words in use, they do so with an event more
+abbrev pub SumsGoOn : Setting → Type 0
+SumsGoOn s = (run : List Pair) (m after : Moment) (worker : ℕ) (event : Event) → live_words (moves s.list run) ≡ live_at s.list m
+    → May s m worker event after → live_words (moves s.list (run ++ record { worker = worker; event = event } ∷ [])) ≡ live_at s.list after

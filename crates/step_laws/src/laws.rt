@@ -2,7 +2,7 @@ ghost use Rattle.std.specs.Prelude.{ℕ, List};
 ghost use Rattle.depth_first_list.specs.Actions.{Action};
 ghost use Rattle.deque_machine.specs.Machine.{Setting};
 ghost use Rattle.deque_machine.specs.Laws.{InEachSetting};
-ghost use Rattle.step_laws.specs.Steps.{RunsGoOn, MovesGoOn, ActionsAreAdded, OthersAddNone};
+ghost use Rattle.step_laws.specs.Steps.{RunsGoOn, MovesGoOn, ActionsAreAdded, OthersAddNone, SumsGoOn};
 ghost use Rattle.step_laws.specs.Wanted.{ComingIsWanted, WaitIsWanted, GiveUpIsForced};
 ghost use Rattle.step_laws.specs.Results.{RootEndsOnce, RootLeavesItsResult, OthersEndNothing, ParentsAwait};
 ghost use Rattle.step_laws.specs.Orders.{OrderIsOfNoAccount};
@@ -27,6 +27,11 @@ pub fn actions_are_added()
 /// With other events nothing is added to what is done, and only a theft begins a period.
 pub fn others_add_none()
     ensures { (s : Setting) → OthersAddNone s }
+{}
+
+/// If the moves of a run sum up to the words in use, they do so with an event more.
+pub fn sums_go_on()
+    ensures { InEachSetting SumsGoOn }
 {}
 
 /// An action that may come is what the rules want of the worker.

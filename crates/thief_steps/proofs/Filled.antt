@@ -14,15 +14,12 @@ use Rattle.thread_frames.specs.Shown.{thread_shown}
 use Rattle.core_parts.specs.declared.scheduler.Scheduler.{Scheduler}
 use Rattle.core_parts.specs.Held.{held}
 use Rattle.core_parts.specs.Moments.{IsSound, terms_of}
-use Rattle.core_parts.proofs.Going.{lawful_at}
 use Rattle.thief_steps.proofs.Wanting.{shown_as, shown_at}
 
 pub never_empty : (t : Table) (k limit : ℕ) (s : Scheduler) → IsSound t k (terms_of s limit) (held s) → (place : ℕ) (deque : Deque Thread)
     → slice_get s.list.deques place ≡ Some deque → length (Deque.items deque) ≢ 0
 never_empty t k limit s sound place deque there none = ∥∥₁_elim sound.of_program (λ x y. absurd x) (λ p. ∥∥₁_elim (sound.somewhere p.0 p.1) (λ x y. absurd x) (λ a.
-    let covers = sound.quota in
-    let same = p.1.quota in
-    let lawful = lawful_at p.0 (terms_of s limit) (omega (arith, covers, same)) a.0 a.1 (a.2).reaches in
+    let lawful = (a.2).standing.lawful in
     each_among (λ (x : DequeOfMoment). x.threads ≢ []) (shown_as deque) (a.1).deques (lawful.order).none_empty
     (among_of_place (shown_as deque) (a.1).deques place (shown_at s.list.deques a.1 (a.2).standing.shows.deques place deque there))
     (ap (λ ts. map parts.label_of (map thread_shown ts)) (nil_from_length (Deque.items deque) none))))

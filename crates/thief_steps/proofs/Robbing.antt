@@ -13,7 +13,7 @@ use Rattle.moment_parts.specs.Events.{Steals}
 use Rattle.thread_frames.specs.declared.thread.Thread.{Thread}
 use Rattle.thread_frames.specs.Shown.{thread_shown}
 use Rattle.period_table.specs.Tables.{periods_of}
-use Rattle.deque_events.specs.Shown.{Holds, Becomes, deque_with, deque_shown, parts_of}
+use Rattle.deque_events.specs.Shown.{Holds, Becomes, IsCut, deque_with, deque_shown, parts_of}
 use Rattle.deque_events.specs.Seats.{TakesSeat}
 use Rattle.deque_events.specs.Events.{StoleBeside, TookOver}
 use Rattle.core_parts.specs.declared.scheduler.Scheduler.{Scheduler}
@@ -52,7 +52,7 @@ module _ (worker : ℕ) (before after : Scheduler) (id : DequeId) (number : ℕ)
 
     pub stole_beside : StoleBeside worker victim mid before.table after.list after.table id
         → ((h : Holds mid victim owner (first ∷ (others ++ bottom ∷ [])))
-        → Becomes h after.list (deque_with victim owner (first ∷ others) ∷ deque_with id (Some worker) (bottom ∷ []) ∷ []))
+        → IsCut h after.list (deque_with victim owner (first ∷ others)) (deque_with id (Some worker) (bottom ∷ [])))
         → IsSmallestFree (deque_ids mid.deques) id → length mid.deques < mid.most → Robs worker (length (Holds.left holds)) before after id number
     stole_beside stole becomes free few = record {
       theft = takes_bottom holds.left holds.right victim owner first others bottom id holds.deques_are (becomes holds_still).deques

@@ -41,7 +41,6 @@ use Rattle.thread_frames.specs.Kept.{WaitsUnder, IsUnderItsId}
 use Rattle.core_parts.specs.Moments.{HasRun, IsSound, CanGoOn, SameTerms, terms_of}
 use Rattle.deque_machine.specs.Terms.{machine_of}
 use Rattle.core_parts.specs.Outcomes.{GoesOn, Stops, StopsBy}
-use Rattle.core_parts.proofs.Going.{lawful_at}
 use Rattle.core_parts.proofs.Leaving.{IsIdle, stole_goes_on}
 use Rattle.thief_steps.specs.Thefts.{Theft, takes_bottom, takes_deque, Robs, StaysAt, StopsTheft, OnlyMemory, Thieves}
 use Rattle.thief_steps.proofs.Wanting.{theft_of, shown_as, same_length, shown_at, shown_stays, id_of_thief, has_room, full_at, stays_in_list}
@@ -198,7 +197,7 @@ module _ (workers worker : ℕ) (before : Scheduler) (many : workers ≡ length 
           → Stops c (terms_of before limit) after worker word run m (play.deques_full before.list.most)
       stopped_at none full stays =
           let near = first_below (reach s m) word (IsReady m) place first_of_moment in
-          let w = mover_wants s (whole_is_depth_first c) m (lawful_at c (terms_of before limit) listed_quota run m at.reaches) worker word (inr (place, near, first_of_moment.passes)) in
+          let w = mover_wants s (whole_is_depth_first c) m at.standing.lawful worker word (inr (place, near, first_of_moment.passes)) in
           let theft = theft_of s m worker word w.0 none w.1 in
           let same : place ≡ theft.0 = one_first (reach s m) word (IsReady m) place theft.0 first_of_moment theft.3 in
           let many = same_length before.list.deques m at.standing.shows.deques in

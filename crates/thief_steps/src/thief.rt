@@ -14,10 +14,10 @@ ghost use Rattle.core_parts.specs.Moments.{IsSound, CanGoOn, SameTerms, HasRun, 
 ghost use Rattle.thief_steps.specs.Thefts.{Thieves, StepsBy};
 
 use core_parts::{Event, Scheduler};
-use run_end::Stop;
 use deque_list::{DequeId, InsertRefused};
 use period_table::PeriodTable;
 use quota_period::Period;
+use run_end::Stop;
 use std::alloc::Global;
 use thread_frames::Thread;
 use victim_choice::first_ready;

@@ -24,16 +24,17 @@ use Rattle.core_parts.specs.Outcomes.{Tells, tells_theft, tells_action, tells_wa
 use Rattle.dfd_core.specs.declared.run.Core.{Core}
 use Rattle.run_end.specs.declared.ends.RunEnd.{RunEnd}
 use Rattle.run_end.specs.declared.ends.RunEnd.TheVariants.{Finished, Stopped}
-use Rattle.dfd_core.specs.declared.stepped.Stepped.{Stepped}
-use Rattle.dfd_core.specs.declared.stepped.Stepped.TheVariants.{Stole, Acted, Suspended, GaveUp, Nothing, Over}
+use Rattle.core_ends.specs.declared.stepped.Stepped.{Stepped}
+use Rattle.core_ends.specs.declared.stepped.Stepped.TheVariants.{Stole, Acted, Suspended, GaveUp, Nothing, Over}
 use Rattle.dfd_core.specs.Cores.{IsAt, end_of, terms_at, workers_of, words_of_turn}
 use Rattle.dfd_core.specs.Plays.{TurnsTo}
-use Rattle.dfd_core.specs.Running.{KeepsEnd}
-use Rattle.dfd_core.specs.Steps.{GoesOn, Comes, IsTold}
-use Rattle.dfd_core.proofs.Told.{ok_or_err, some_or_none}
+use Rattle.core_ends.specs.Ends.{KeepsEnd}
+use Rattle.core_ends.specs.Told.{IsTold}
+use Rattle.dfd_core.specs.Steps.{GoesOn, Comes}
+use Rattle.core_ends.proofs.Differing.{ok_or_err, some_or_none}
 use Rattle.victim_choice.proofs.Firsts.{first_below}
-use Rattle.dfd_core.proofs.Taking.{goes, no_stop_kept, stop_told, turns_to}
-use Rattle.dfd_core.proofs.Turns.{nothing_told}
+use Rattle.core_ends.proofs.Answering.{nothing_told, no_stop_kept, stop_told}
+use Rattle.dfd_core.proofs.Taking.{goes, turns_to}
 use Rattle.victim_choice.proofs.Firsts.{one_first}
 use Rattle.good_trails.specs.Told.{event_told, kind_told}
 use Rattle.trail_meaning.specs.declared.trail_kind.TrailKind.{TrailKind}

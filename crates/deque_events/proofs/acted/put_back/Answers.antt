@@ -15,7 +15,7 @@ returns-clause-joins g c items shown waiting results k l period was place stands
     shown waiting results k l period was place stands is did
 
 pub returns-clause-deques : goal.returns-clause-deques
-returns-clause-deques g c items stands = one_back stands c.push_top.new.self c.args.top c.push_top.ensures.deque c.push_top.ensures.rest.most
+returns-clause-deques g c items stands = one_back stands c.push_top.new.self c.args.top c.push_top.ensures.deque c.push_top.ensures.rest
 
 pub returns-clause-seats : goal.returns-clause-seats
 returns-clause-seats g c = record { deques = c.note.ensures.deques; begun = c.note.ensures.begun; workers = c.note.ensures.workers }

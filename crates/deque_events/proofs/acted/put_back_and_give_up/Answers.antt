@@ -25,7 +25,7 @@ returns-clause-dummy g c items shown waiting results k l period was place stands
 
 pub returns-clause-deques : goal.returns-clause-deques
 returns-clause-deques g c items stands =
-    back_unowned stands c.push_top.new.self c.give_up.new.self c.args.top c.push_top.ensures.deque c.give_up.ensures.deque c.push_top.ensures.rest.most c.give_up.ensures.rest.most
+    back_unowned stands c.push_top.new.self c.give_up.new.self c.args.top c.push_top.ensures.deque c.give_up.ensures.deque c.push_top.ensures.rest c.give_up.ensures.rest
 
 pub returns-clause-seats : goal.returns-clause-seats
 returns-clause-seats g c =

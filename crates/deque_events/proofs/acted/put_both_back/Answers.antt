@@ -15,7 +15,7 @@ returns-clause-forks g c items shown waiting results k l period was place stands
 pub returns-clause-deques : goal.returns-clause-deques
 returns-clause-deques g c items stands =
     both_back stands c.push_top.new.self c.push_top-2.new.self c.args.top c.args.child c.push_top.ensures.deque c.push_top-2.ensures.deque
-    c.push_top.ensures.rest.most c.push_top-2.ensures.rest.most
+    c.push_top.ensures.rest c.push_top-2.ensures.rest
 
 pub returns-clause-seats : goal.returns-clause-seats
 returns-clause-seats g c = record { deques = c.note.ensures.deques; begun = c.note.ensures.begun; workers = c.note.ensures.workers }

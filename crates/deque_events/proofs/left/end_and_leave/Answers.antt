@@ -20,7 +20,7 @@ pub returns-clause-ends : goal.returns-clause-ends
 returns-clause-ends g c = left_empty c.args.list.now c.args.table.now c.remove.new.self c.close.new.self c.args.name c.note.new.self c.remove.ensures.deque c.note.ensures.periods c.note.ensures.shown c.close.ensures.periods
 
 pub returns-clause-deques : goal.returns-clause-deques
-returns-clause-deques g c stands = gone c.args.list.now c.args.table.now c.remove.new.self c.close.new.self stands c.remove.ensures.deque c.remove.ensures.rest.most
+returns-clause-deques g c stands = gone c.args.list.now c.args.table.now c.remove.new.self c.close.new.self stands c.remove.ensures.deque c.remove.ensures.rest
 
 pub returns-clause-seats : goal.returns-clause-seats
 returns-clause-seats g c =

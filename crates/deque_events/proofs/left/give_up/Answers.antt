@@ -14,7 +14,7 @@ returns-clause-gives_up g c items = gave_up c.args.list.now c.args.table.now c.g
 
 pub returns-clause-deques : goal.returns-clause-deques
 returns-clause-deques g c items stands =
-    back_unowned stands c.push_top.new.self c.give_up.new.self c.args.top c.push_top.ensures.deque c.give_up.ensures.deque c.push_top.ensures.rest.most c.give_up.ensures.rest.most
+    back_unowned stands c.push_top.new.self c.give_up.new.self c.args.top c.push_top.ensures.deque c.give_up.ensures.deque c.push_top.ensures.rest c.give_up.ensures.rest
 
 pub returns-clause-seats : goal.returns-clause-seats
 returns-clause-seats g c =

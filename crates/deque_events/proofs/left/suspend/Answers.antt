@@ -11,7 +11,7 @@ pub returns-clause-suspends : goal.returns-clause-suspends
 returns-clause-suspends g c = suspended c.args.list.now c.args.table.now c.remove.new.self c.close.new.self c.remove.ensures.deque c.close.ensures.periods
 
 pub returns-clause-deques : goal.returns-clause-deques
-returns-clause-deques g c stands = gone c.args.list.now c.args.table.now c.remove.new.self c.close.new.self stands c.remove.ensures.deque c.remove.ensures.rest.most
+returns-clause-deques g c stands = gone c.args.list.now c.args.table.now c.remove.new.self c.close.new.self stands c.remove.ensures.deque c.remove.ensures.rest
 
 pub returns-clause-seats : goal.returns-clause-seats
 returns-clause-seats g c =

@@ -1,6 +1,5 @@
 use Rattle.std.proofs.Common.{◌≡◌, ℕ, ◌+◌, ap, sym, subst, ◌∙◌, arith}
 use Rattle.std.proofs.lemmas.Option.{none-some, same_Some}
-use Rattle.deque_machine.specs.Moments.{Moment}
 use Rattle.deque_machine.specs.Play.{IsFirst, CanMove, words_drawn}
 use Rattle.deque_machine.specs.Terms.{machine_of}
 use Rattle.dfd_core.specs.Cores.{terms_at, workers_of, words_of_turn}

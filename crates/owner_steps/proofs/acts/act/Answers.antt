@@ -29,5 +29,5 @@ returns c =
           ∙ ap (λ b. moves_list before.moves ++ noted b c.name_of-name.result (change c.live-before.result c.live-after.result)) (done.moved_words w told)
           ∙ ap (λ n. moves_list before.moves ++ noted (moves_words (deed_of c.args.top c.args.next) (label_of c.args.top) w) c.name_of-name.result (change n c.live-after.result)) c.live-before.ensures.value
           ∙ ap (λ n. moves_list before.moves ++ noted (moves_words (deed_of c.args.top c.args.next) (label_of c.args.top) w) c.name_of-name.result (change before.pool.live n)) c.live-after.ensures.value;
-      terms = done.terms;
+      keeps = record { terms = done.keeps.terms; spare = done.keeps.spare };
     }

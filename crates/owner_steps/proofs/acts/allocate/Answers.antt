@@ -19,4 +19,4 @@ returns c =
     c.args.words (λ w told. told)
     (ap (λ r. pos r.live) c.in-Ok.ensures.pool ∙ taken_change before.pool.live (words_asked (next_of c.args.top)) ∙ ap (λ n. pos before.pool.live +ℤ pos n) asked)
     true refl refl refl
-    c.in-Ok.ensures.seats.workers (ap (λ r. r.capacity) c.in-Ok.ensures.pool) (c.in-Ok.ensures.back.1 c.requires.can.stands.0 c.requires.can.stands.1).most
+    c.in-Ok.ensures.seats.workers (ap (λ r. r.capacity) c.in-Ok.ensures.pool) (c.in-Ok.ensures.back.1 c.requires.can.stands.0 c.requires.can.stands.1).most (c.in-Ok.ensures.back.1 c.requires.can.stands.0 c.requires.can.stands.1).spare

@@ -14,4 +14,4 @@ returns c =
     (unowned_acted Dummy Always c.args.worker c.args.deque c.args.top before after c.dummy.ensures.acts
     (record { waiting = refl; results = refl }) c.dummy.ensures.back c.dummy.ensures.seats)
     0 (λ w told. told) (no_change before.pool.live) false refl refl refl
-    c.dummy.ensures.seats.workers refl (c.dummy.ensures.back.1 c.requires.can.stands.0 c.requires.can.stands.1).most
+    c.dummy.ensures.seats.workers refl (c.dummy.ensures.back.1 c.requires.can.stands.0 c.requires.can.stands.1).most (c.dummy.ensures.back.1 c.requires.can.stands.0 c.requires.can.stands.1).spare

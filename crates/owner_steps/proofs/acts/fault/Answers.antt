@@ -17,4 +17,4 @@ returns c =
     (held_by c.args.top) (λ w told. told)
     (ap (λ r. pos r.live) c.fault.ensures.pool ∙ given_change before.pool.live (held_by c.args.top) c.requires.may)
     true refl refl refl
-    c.fault.ensures.seats.workers (ap (λ r. r.capacity) c.fault.ensures.pool) (c.fault.ensures.back.1 c.requires.can.stands.0 c.requires.can.stands.1).most
+    c.fault.ensures.seats.workers (ap (λ r. r.capacity) c.fault.ensures.pool) (c.fault.ensures.back.1 c.requires.can.stands.0 c.requires.can.stands.1).most (c.fault.ensures.back.1 c.requires.can.stands.0 c.requires.can.stands.1).spare

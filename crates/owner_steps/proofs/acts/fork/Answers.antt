@@ -17,4 +17,4 @@ returns c =
     record_words (λ w told. told)
     (ap (λ r. pos r.live) c.in-Ok.ensures.pool ∙ taken_change before.pool.live record_words)
     true refl refl refl
-    c.in-Ok.ensures.seats.workers (ap (λ r. r.capacity) c.in-Ok.ensures.pool) (c.in-Ok.ensures.back.1.1 c.requires.can.stands.0 c.requires.can.stands.1).most
+    c.in-Ok.ensures.seats.workers (ap (λ r. r.capacity) c.in-Ok.ensures.pool) (c.in-Ok.ensures.back.1.1 c.requires.can.stands.0 c.requires.can.stands.1).most (c.in-Ok.ensures.back.1.1 c.requires.can.stands.0 c.requires.can.stands.1).spare

@@ -17,4 +17,4 @@ returns c =
     (join_words_of c.args.top) (λ w told. join_told c.args.top w c.requires.may.0 told)
     (ap (λ r. pos r.live) c.join-words.ensures.pool ∙ given_change before.pool.live (join_words_of c.args.top) c.requires.may.1)
     (nat_lt 0 c.join-words.result) (ap (nat_lt 0) c.join-words.ensures.words) refl refl
-    c.join-words.ensures.seats.workers (ap (λ r. r.capacity) c.join-words.ensures.pool) (c.join-words.ensures.back.1 c.requires.can.stands.0 c.requires.can.stands.1).most
+    c.join-words.ensures.seats.workers (ap (λ r. r.capacity) c.join-words.ensures.pool) (c.join-words.ensures.back.1 c.requires.can.stands.0 c.requires.can.stands.1).most (c.join-words.ensures.back.1 c.requires.can.stands.0 c.requires.can.stands.1).spare

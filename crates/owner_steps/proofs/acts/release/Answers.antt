@@ -20,4 +20,4 @@ returns c =
     c.args.words (λ w told. told)
     (ap (λ r. pos r.live) c.release.ensures.pool ∙ given_change before.pool.live (words_asked (next_of c.args.top)) few ∙ ap (λ n. pos before.pool.live +ℤ neg_ℤ (pos n)) asked)
     true refl refl refl
-    c.release.ensures.seats.workers (ap (λ r. r.capacity) c.release.ensures.pool) (c.release.ensures.back.1 c.requires.can.stands.0 c.requires.can.stands.1).most
+    c.release.ensures.seats.workers (ap (λ r. r.capacity) c.release.ensures.pool) (c.release.ensures.back.1 c.requires.can.stands.0 c.requires.can.stands.1).most (c.release.ensures.back.1 c.requires.can.stands.0 c.requires.can.stands.1).spare

@@ -1,6 +1,6 @@
 use Rattle.std.proofs.Common.{refl, ap}
 use Rattle.core_parts.specs.declared.scheduler.Scheduler.{Scheduler}
-use Rattle.owner_steps.proofs.Acting.{same_terms}
+use Rattle.owner_steps.proofs.Acting.{keeps_room}
 use Rattle.owner_steps.proofs.Ending.{above_acted, below_awaits}
 use Rattle.owner_steps.proofs.ends.end_above.Goals as goal
 
@@ -21,5 +21,5 @@ returns c =
       same_moves = refl;
       same_done = refl;
       pool = c.end_above-ended.ensures.pool;
-      terms = λ actions. same_terms before after actions c.end_above-ended.ensures.seats.workers (ap (λ r. r.capacity) c.end_above-ended.ensures.pool) (c.give_below.ensures its.0 its.1).becomes.most;
+      keeps = keeps_room before after c.end_above-ended.ensures.seats.workers (ap (λ r. r.capacity) c.end_above-ended.ensures.pool) (c.give_below.ensures its.0 its.1).becomes.most (c.give_below.ensures its.0 its.1).becomes.spare;
     }

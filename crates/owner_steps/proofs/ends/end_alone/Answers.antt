@@ -20,5 +20,5 @@ returns c =
       same_moves = left.same_moves;
       same_done = left.same_done;
       pool = left.pool;
-      terms = left.terms;
+      keeps = record { terms = left.keeps.terms; spare = left.keeps.spare };
     }

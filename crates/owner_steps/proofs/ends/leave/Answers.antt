@@ -4,7 +4,7 @@ use Rattle.thread_frames.specs.declared.thread.Thread.{Thread}
 use Rattle.std.specs.List.Sorted.{IsPermutation}
 use Rattle.thread_map.specs.Kept.{kept_under}
 use Rattle.deque_events.specs.Shown.{Stands}
-use Rattle.owner_steps.proofs.Acting.{same_terms}
+use Rattle.owner_steps.proofs.Acting.{keeps_room}
 use Rattle.owner_steps.proofs.Ending.{wakes_acted, leaves_acted}
 use Rattle.owner_steps.proofs.ends.leave.Goals as goal
 
@@ -31,7 +31,7 @@ returns-in-Some c =
       same_moves = refl;
       same_done = refl;
       pool = c.end_and_wake.ensures.pool;
-      terms = λ actions. same_terms before after actions c.end_and_wake.ensures.seats.workers (ap (λ r. r.capacity) c.end_and_wake.ensures.pool) (c.end_and_wake.ensures.deques its).most;
+      keeps = keeps_room before after c.end_and_wake.ensures.seats.workers (ap (λ r. r.capacity) c.end_and_wake.ensures.pool) (c.end_and_wake.ensures.deques its).most (c.end_and_wake.ensures.deques its).spare;
     }
 
 pub returns-in-None : goal.returns-in-None
@@ -47,5 +47,5 @@ returns-in-None c =
       same_moves = refl;
       same_done = refl;
       pool = c.end_and_leave.ensures.pool;
-      terms = λ actions. same_terms before after actions c.end_and_leave.ensures.seats.workers (ap (λ r. r.capacity) c.end_and_leave.ensures.pool) (c.end_and_leave.ensures.deques its).most;
+      keeps = keeps_room before after c.end_and_leave.ensures.seats.workers (ap (λ r. r.capacity) c.end_and_leave.ensures.pool) (c.end_and_leave.ensures.deques its).most (c.end_and_leave.ensures.deques its).spare;
     }

@@ -17,7 +17,7 @@ give_up-requires-clause-stands c = let takes = c.in_ok-deque.ensures.takes in (t
 pub returns-in_err-deque-clause-sound : goal.returns-in_err-deque-clause-sound
 returns-in_err-deque-clause-sound c t k limit sound =
     let s : Scheduler = c.args.scheduler.now in
-    subst (λ x. IsSound t k x (held c.take_top.new.scheduler)) (sym (c.take_top.ensures.terms limit))
+    subst (λ x. IsSound t k x (held c.take_top.new.scheduler)) (sym (c.take_top.ensures.keeps.terms limit))
     (reordered_sound t k (terms_of s limit) (held s) (held c.take_top.new.scheduler) c.in_err-deque.ensures.same sound)
 
 pub returns-in_err-deque-clause-points : goal.returns-in_err-deque-clause-points
@@ -48,9 +48,9 @@ pub returns-clause-gives : goal.returns-clause-gives
 returns-clause-gives c t k limit sound setting of run m at =
     let takes = c.in_ok-deque.ensures.takes in
     let now : Scheduler = c.take_top.new.scheduler in
-    subst (λ x. ∥ GivesDequeUp setting x (held c.give_up.new.scheduler) c.args.worker run m c.in_ok-deque.deque ∥₁) (takes.terms limit)
+    subst (λ x. ∥ GivesDequeUp setting x (held c.give_up.new.scheduler) c.args.worker run m c.in_ok-deque.deque ∥₁) (takes.keeps.terms limit)
     (gave_up_gives t k limit now takes.stands c.in_ok-deque.top (taken_sound t k limit c.args.scheduler.now now c.args.worker c.in_ok-deque.deque c.in_ok-deque.top takes sound)
     c.give_up.new.scheduler c.give_up.ensures.leaves setting of run m (taken_at t k limit c.args.scheduler.now now c.args.worker c.in_ok-deque.deque c.in_ok-deque.top takes setting run m at))
 
 pub returns-clause-terms : goal.returns-clause-terms
-returns-clause-terms c actions = c.give_up.ensures.leaves.same.terms actions ∙ c.take_top.ensures.terms actions
+returns-clause-terms c actions = c.give_up.ensures.leaves.same.keeps.terms actions ∙ c.take_top.ensures.keeps.terms actions

@@ -18,7 +18,7 @@ returns-in-Err c t b items stands =
     (charged_within t k c.args.limit before stands c.args.top c.args.next b c.args.charge c.requires.decides)
     (ended_before t k c.args.limit before stands c.args.top c.args.next b c.args.charge c.requires.decides)
     c.in-Err.stop c.put_back.new.scheduler (subst (λ n. Refuses before c.args.limit n c.in-Err.stop) (c.from.ensures ∙ c.words_taken.ensures) c.in-Err.ensures.refused)
-    (c.put_back.ensures.held items stands) c.put_back.ensures.terms
+    (c.put_back.ensures.held items stands) c.put_back.ensures.keeps
 
 pub take_result-requires : goal.take_result-requires
 take_result-requires c child is missing =

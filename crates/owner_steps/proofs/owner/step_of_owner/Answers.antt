@@ -17,7 +17,7 @@ take_top-requires-clause-sound c = (code_shown c.args.code.now, quota_words c.ar
 pub returns-in_default-clause-sound : goal.returns-in_default-clause-sound
 returns-in_default-clause-sound c =
     let s : Scheduler = c.args.scheduler.now in
-    subst (λ x. IsSound (code_shown c.args.code.now) (quota_words c.args.k) x (held c.take_top.new.scheduler)) (sym (c.take_top.ensures.terms c.args.limit))
+    subst (λ x. IsSound (code_shown c.args.code.now) (quota_words c.args.k) x (held c.take_top.new.scheduler)) (sym (c.take_top.ensures.keeps.terms c.args.limit))
     (reordered_sound (code_shown c.args.code.now) (quota_words c.args.k) (terms_of s c.args.limit) (held s) (held c.take_top.new.scheduler) c.in_default.ensures.same c.requires.sound)
 
 pub returns-in_default-clause-steps : goal.returns-in_default-clause-steps
@@ -93,7 +93,18 @@ returns-in-Ok-advance-clause-terms c =
     c.in-Ok-advance.ensures.point c.in-Ok-advance.ensures.next c.in-Ok-advance.ensures.few (λ setting of. c.in-Ok-advance.ensures.list setting of) c.in-Ok-advance.ensures.newest in
     let comes = comes_of_taken (code_shown c.args.code.now) (quota_words c.args.k) c.args.limit c.args.scheduler.now c.take_top.new.scheduler c.go_on.new.scheduler c.args.worker
     c.in-Ok.deque c.in-Ok.top c.advance.new.top takes c.advance.ensures.still c.go_on.result (c.go_on.ensures (code_shown c.args.code.now) before takes.items takes.stands) in
-    comes.terms
+    comes.keeps.terms
+
+pub returns-in-Ok-advance-clause-spare : goal.returns-in-Ok-advance-clause-spare
+returns-in-Ok-advance-clause-spare c =
+    let takes = c.in-Ok.ensures.takes in
+    let before : IsBeforeAction (code_shown c.args.code.now) (quota_words c.args.k) c.args.limit c.take_top.new.scheduler c.args.worker c.in-Ok.deque c.advance.new.top c.in-Ok-advance.next =
+    is_before (code_shown c.args.code.now) (quota_words c.args.k) c.args.limit c.args.k.is_quota.2 c.requires.few c.args.scheduler.now c.take_top.new.scheduler c.args.worker
+    c.in-Ok.deque c.in-Ok.top c.advance.new.top c.in-Ok-advance.next takes c.requires.sound c.requires.points c.advance.ensures.still
+    c.in-Ok-advance.ensures.point c.in-Ok-advance.ensures.next c.in-Ok-advance.ensures.few (λ setting of. c.in-Ok-advance.ensures.list setting of) c.in-Ok-advance.ensures.newest in
+    let comes = comes_of_taken (code_shown c.args.code.now) (quota_words c.args.k) c.args.limit c.args.scheduler.now c.take_top.new.scheduler c.go_on.new.scheduler c.args.worker
+    c.in-Ok.deque c.in-Ok.top c.advance.new.top takes c.advance.ensures.still c.go_on.result (c.go_on.ensures (code_shown c.args.code.now) before takes.items takes.stands) in
+    comes.keeps.spare
 
 pub returns-in-Ok-advance-clause-steps : goal.returns-in-Ok-advance-clause-steps
 returns-in-Ok-advance-clause-steps c =
@@ -105,8 +116,8 @@ returns-in-Ok-advance-clause-steps c =
     let comes = comes_of_taken (code_shown c.args.code.now) (quota_words c.args.k) c.args.limit c.args.scheduler.now c.take_top.new.scheduler c.go_on.new.scheduler c.args.worker
     c.in-Ok.deque c.in-Ok.top c.advance.new.top takes c.advance.ensures.still c.go_on.result (c.go_on.ensures (code_shown c.args.code.now) before takes.items takes.stands) in
     λ setting of run m word at.
-    subst (λ x. StepsTo setting x (held c.go_on.new.scheduler) c.args.worker word run m c.go_on.result) (comes.terms c.args.limit)
-    (comes.steps setting of run m word (subst (λ x. HasRun setting x (held c.args.scheduler.now) run m) (sym (comes.terms c.args.limit)) at))
+    subst (λ x. StepsTo setting x (held c.go_on.new.scheduler) c.args.worker word run m c.go_on.result) (comes.keeps.terms c.args.limit)
+    (comes.steps setting of run m word (subst (λ x. HasRun setting x (held c.args.scheduler.now) run m) (sym (comes.keeps.terms c.args.limit)) at))
 
 pub returns-in-Err-clause-sound : goal.returns-in-Err-clause-sound
 returns-in-Err-clause-sound c =
@@ -114,11 +125,11 @@ returns-in-Err-clause-sound c =
     let now : Scheduler = c.take_top.new.scheduler in
     let sound = taken_sound (code_shown c.args.code.now) (quota_words c.args.k) c.args.limit c.args.scheduler.now now c.args.worker c.in-Ok.deque c.in-Ok.top takes c.requires.sound in
     let later = still_sound now takes.stands c.in-Ok.top c.advance.new.top c.advance.ensures.still (code_shown c.args.code.now) (quota_words c.args.k) (terms_of now c.args.limit) sound in
-    subst (λ x. IsSound (code_shown c.args.code.now) (quota_words c.args.k) x (held c.put_back.new.scheduler)) (sym (c.put_back.ensures.terms c.args.limit))
+    subst (λ x. IsSound (code_shown c.args.code.now) (quota_words c.args.k) x (held c.put_back.new.scheduler)) (sym (c.put_back.ensures.keeps.terms c.args.limit))
     (subst (IsSound (code_shown c.args.code.now) (quota_words c.args.k) (terms_of now c.args.limit)) (sym (c.put_back.ensures.held takes.items takes.stands)) later)
 
 pub returns-in-Err-clause-terms : goal.returns-in-Err-clause-terms
-returns-in-Err-clause-terms c actions = c.put_back.ensures.terms actions ∙ c.take_top.ensures.terms actions
+returns-in-Err-clause-terms c actions = c.put_back.ensures.keeps.terms actions ∙ c.take_top.ensures.keeps.terms actions
 
 pub returns-in-Err-clause-steps : goal.returns-in-Err-clause-steps
 returns-in-Err-clause-steps c setting of run m word at =
@@ -127,6 +138,6 @@ returns-in-Err-clause-steps c setting of run m word at =
     let at_taken = taken_at (code_shown c.args.code.now) (quota_words c.args.k) c.args.limit c.args.scheduler.now now c.args.worker c.in-Ok.deque c.in-Ok.top takes setting run m at in
     let at_now = still_stands now takes.stands c.in-Ok.top c.advance.new.top c.advance.ensures.still setting (terms_of now c.args.limit) run m at_taken in (
       subst (λ h. HasRun setting (terms_of c.args.scheduler.now c.args.limit) h run m) (sym (c.put_back.ensures.held takes.items takes.stands))
-          (subst (λ x. HasRun setting x (held_under now takes.stands c.advance.new.top) run m) (takes.terms c.args.limit) at_now),
+          (subst (λ x. HasRun setting x (held_under now takes.stands c.advance.new.top) run m) (takes.keeps.terms c.args.limit) at_now),
       seated_has_left c.requires.sound.quota setting of (terms_of c.args.scheduler.now c.args.limit) (held c.args.scheduler.now) run m at c.args.worker word c.requires.owner,
     )

@@ -25,5 +25,5 @@ push_top-requires-clause-live c = subst (λ ids. IsLive ids c.args.deque) (sym c
 pub returns : goal.returns
 returns c =
     comes_below c.args.worker c.args.deque c.args.ended c.args.list.now c.pop_top.new.self c.push_top.new.self c.in-Some.parent c.give.new.parent
-    c.in-Some.ensures.item c.pop_top.ensures.deque c.push_top.ensures.deque c.pop_top.ensures.rest.most c.push_top.ensures.rest.most c.requires
+    c.in-Some.ensures.item c.pop_top.ensures.deque c.push_top.ensures.deque c.pop_top.ensures.rest c.push_top.ensures.rest c.requires
     c.give.ensures

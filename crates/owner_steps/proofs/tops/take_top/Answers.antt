@@ -51,9 +51,9 @@ returns-clause-takes c =
     let room = c.in-Some-pop_top.ensures.room in
     let had = c.in_ok-reserve.ensures.room in
     let lane = had.lane in
-    takes_top s first c.pop_top.new.self out.1 c.reserve.ensures.same c.reserve.ensures.terms c.pop_top.ensures.deque c.pop_top.ensures.rest.most seat
+    takes_top s first c.pop_top.new.self out.1 c.reserve.ensures.same c.reserve.ensures.keeps c.pop_top.ensures.deque c.pop_top.ensures.rest.most c.pop_top.ensures.rest.spare seat
     (open_shown c.args.worker c.in-Some.seat.now.period) (c.reserve.ensures.periods c.args.worker ∙ ap (shown_of c.args.worker) (sym c.in-Some.ensures))
     (record { lane = omega (arith, room, lane); table = had.table; moves = had.moves; waiting = had.waiting; results = had.results; place = had.place })
 
-pub returns-clause-terms : goal.returns-clause-terms
-returns-clause-terms c = (returns-clause-takes c).terms
+pub returns-clause-keeps : goal.returns-clause-keeps
+returns-clause-keeps c = (returns-clause-takes c).keeps

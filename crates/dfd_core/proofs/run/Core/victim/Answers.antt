@@ -1,4 +1,4 @@
-use Rattle.std.proofs.Common.{◌≡◌, ℕ, subst}
+use Rattle.std.proofs.Common.{ℕ, subst}
 use Rattle.std.specs.Prelude.{MatchOption}
 use Rattle.deque_machine.specs.Play.{IsFirst}
 use Rattle.victim_choice.specs.Choices.{IsReadyAt, SomeReady, reach_of}

@@ -18,11 +18,9 @@ use Rattle.space_ledger.specs.Sums.{change_of, highest, IsHighest}
 use Rattle.node_table.specs.Table.{Table}
 use Rattle.depth_first_run.specs.Run.{list_of}
 use Rattle.core_parts.specs.Held.{Held}
-use Rattle.core_parts.specs.Moments.{IsSound}
+use Rattle.core_parts.specs.Moments.{IsSound, HasRun}
 use Rattle.deque_machine.specs.Terms.{Terms}
 use Rattle.step_laws.specs.Moves.{AreMovesOf}
-use Rattle.run_end.specs.declared.ends.RunEnd.{RunEnd}
-use Rattle.dfd_core.specs.Running.{IsAtMoment, IsSomewhere}
 use Rattle.depth_first_list.specs.Actions.{Action}
 use Rattle.lawful_books.specs.Lists.{Among, Differ, total}
 use Rattle.lawful_books.specs.Books.{Book, periods_marked}
@@ -38,7 +36,7 @@ use Rattle.period_table.specs.declared.table.PeriodTable.{PeriodTable}
 use Rattle.period_table.specs.Numbers.{open_periods, NumbersDiffer}
 use Rattle.period_table.specs.Tables.{periods_of, seat_in}
 use Rattle.period_table.proofs.Lists.{to_differ, among_of_place}
-use Rattle.dfd_core.specs.Marks.{ahead_in, one_if_ahead, open_ahead}
+use Rattle.core_ends.specs.Marks.{ahead_in, one_if_ahead, open_ahead}
 
 abbrev num : Period → ℕ
 num p = p.number
@@ -152,24 +150,23 @@ seat_more [] i below = absurd (omega (arith, below))
 seat_more (seat ∷ seats) zero below = refl
 seat_more (seat ∷ seats) (suc i) below = seat_more seats i (omega (arith, below))
 
--- so the sum has 32 bits, and is that of the moment
-module _ (t : Table) (k : ℕ) (terms : Terms) (h : Held) (sound : IsSound t k terms h) (end : Option RunEnd) where
-  pub marked_at : (c : Setting) (run : List Pair) (m : Moment) → IsAtMoment t k terms h end c run m → (closed open_ones : ℕ)
-      → closed ≡ count_by is_ahead (books_list h.table.books) → open_ones ≡ open_ahead h.table.seats.items
-      → closed + open_ones ≡ periods_marked m.books
-  marked_at c run m at closed open_ones closed_is open_is =
-      let all = all_marked h.table c.quota (list_of c) m.books at.stands.standing.shows.books in omega (arith, closed_is, open_is, all)
+-- so the sum is that of the moment, and has 32 bits
+pub marked_at : (c : Setting) (terms : Terms) (h : Held) (run : List Pair) (m : Moment) → HasRun c terms h run m → (closed open_ones : ℕ)
+    → closed ≡ count_by is_ahead (books_list h.table.books) → open_ones ≡ open_ahead h.table.seats.items
+    → closed + open_ones ≡ periods_marked m.books
+marked_at c terms h run m at closed open_ones closed_is open_is =
+    let all = all_marked h.table c.quota (list_of c) m.books at.standing.shows.books in omega (arith, closed_is, open_is, all)
 
-  pub marked_fits : IsSomewhere t k terms h end → h.table.begun < 4294967296 → (closed open_ones : ℕ)
-      → closed ≡ count_by is_ahead (books_list h.table.books) → open_ones ≡ open_ahead h.table.seats.items
-      → Fits w32 (closed + open_ones)
-  marked_fits somewhere few closed open_ones closed_is open_is = small (closed + open_ones) (∥∥₁_elim sound.of_program (search props) (λ p.
-      ∥∥₁_elim (somewhere p.0 p.1) (search props) (λ w.
-      let same = marked_at p.0 w.0 w.1 w.2 closed open_ones closed_is open_is in let below = marked_below w.1.books in
-      let begun = w.2.stands.standing.begun in omega (arith, same, below, begun, few))))
-    where
-      small : (n : ℕ) → n < 4294967296 → Fits w32 n
-      small n below = record { fits = below }
+pub marked_fits : (t : Table) (k : ℕ) (terms : Terms) (h : Held) → IsSound t k terms h → h.table.begun < 4294967296 → (closed open_ones : ℕ)
+    → closed ≡ count_by is_ahead (books_list h.table.books) → open_ones ≡ open_ahead h.table.seats.items
+    → Fits w32 (closed + open_ones)
+marked_fits t k terms h sound few closed open_ones closed_is open_is = small (closed + open_ones) (∥∥₁_elim sound.of_program (search props) (λ p.
+    ∥∥₁_elim (sound.somewhere p.0 p.1) (search props) (λ w.
+    let same = marked_at p.0 terms h w.0 w.1 w.2 closed open_ones closed_is open_is in let below = marked_below w.1.books in
+    let begun = w.2.standing.begun in omega (arith, same, below, begun, few))))
+  where
+    small : (n : ℕ) → n < 4294967296 → Fits w32 n
+    small n below = record { fits = below }
 
 -- the moves of the run have the same changes
 changes_are : (periods : List Period) (moves : List Moved) (actions : List Action) → AreMovesOf periods moves actions
@@ -180,13 +177,12 @@ changes_are periods (moved ∷ moves) [] are = absurd are
 changes_are periods (moved ∷ moves) (action ∷ actions) are =
     ap (λ z. z ∷ map change_of moves) are.0.change ∙ ap (λ zs. weight action ∷ zs) (changes_are periods moves actions are.1)
 
-pub high_at : (t : Table) (k : ℕ) (terms : Terms) (h : Held) (end : Option RunEnd) (c : Setting) (run : List Pair) (m : Moment)
-    → IsAtMoment t k terms h end c run m → (high : ℤ) → high ≡ highest h.moves → IsHighest h.moves high → SFits w64 high
-    → pos (nat_abs (to_z w64 (of_z w64 high))) ≡ high_water_mark (list_of c) run
-high_at t k terms h end c run m at high is greatest fits =
+pub high_at : (c : Setting) (terms : Terms) (h : Held) (run : List Pair) (m : Moment) → HasRun c terms h run m → (high : ℤ) → high ≡ highest h.moves
+    → IsHighest h.moves high → SFits w64 high → pos (nat_abs (to_z w64 (of_z w64 high))) ≡ high_water_mark (list_of c) run
+high_at c terms h run m at high is greatest fits =
     let never : pos 0 ≤ℤ high = greatest.never_above 0 in
     ap (λ z. pos (nat_abs z)) (to_z-of_z w64 high fits) ∙ positive high never ∙ is
-    ∙ ap high_water (changes_are (periods_of h.table) h.moves (moves (list_of c) run) at.stands.standing.moves)
+    ∙ ap high_water (changes_are (periods_of h.table) h.moves (moves (list_of c) run) at.standing.moves)
   where
     positive : (z : ℤ) → pos 0 ≤ℤ z → pos (nat_abs z) ≡ z
     positive (pos n) some = refl

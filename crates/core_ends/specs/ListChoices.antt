@@ -1,6 +1,6 @@
 -- The words of a list, and then 0 for ever.
 use Rattle.std.specs.Prelude.{ℕ, ◌+◌, slice_index}
-use Rattle.dfd_core.specs.declared.choices.ListChoices.{ListChoices}
+use Rattle.core_ends.specs.declared.choices.ListChoices.{ListChoices}
 
 -- the word that comes so many words later
 abbrev pub coming_word : ListChoices → ℕ → ℕ

@@ -1,16 +1,16 @@
 //! How a run ends with its root.
 
-ghost use Rattle.std.specs.Prelude.{◌≡◌, Some};
+ghost use Rattle.std.specs.Prelude.{◌≡◌, ◌↔◌, Some, IsTrue};
 ghost use Rattle.dag_order.specs.Births.{root};
+ghost use Rattle.dag_order.specs.declared.finish.Finish.{Finish as AnyFinish};
 ghost use Rattle.thread_map.specs.Kept.{kept_under};
-ghost use Rattle.dfd_core.specs.Ends.{is_of_root, end_behind_event};
+ghost use Rattle.core_ends.specs.Ends.{is_of_root, end_behind_event, end_without_memory};
 ghost use Rattle.thread_frames.specs.Roots.{end_of_root};
-ghost use Rattle.dfd_core.specs.GiveUps.{end_without_memory};
 ghost use Rattle.depth_first_run.specs.Run.{finish_of};
 
 use core_parts::Event;
-use run_end::{RunEnd, Stop};
 use dag_order::{FaultAt, Finish, ThreadId};
+use run_end::{RunEnd, Stop};
 use thread_frames::Ended;
 use thread_map::ThreadMap;
 
@@ -45,7 +45,7 @@ fn is_of_root(event: Event) -> bool
 }
 
 /// The end that is kept behind an event. The root ends by an action of its own, so the results are searched behind these alone.
-pub(crate) fn end_behind(results: &ThreadMap<Ended>, event: Event) -> Option<RunEnd>
+pub fn end_behind(results: &ThreadMap<Ended>, event: Event) -> Option<RunEnd>
     ensures { result ≡ end_behind_event event (kept_under results.now root) }
 {
     if is_of_root(event) {
@@ -56,11 +56,21 @@ pub(crate) fn end_behind(results: &ThreadMap<Ended>, event: Event) -> Option<Run
 }
 
 /// The end of a run that found no memory: a kept end is never replaced.
-pub(crate) fn end_without_memory(kept: Option<RunEnd>) -> RunEnd
+pub fn end_without_memory(kept: Option<RunEnd>) -> RunEnd
     ensures { Some result ≡ end_without_memory kept }
 {
     match kept {
         Some(end) => end,
         None => RunEnd::Stopped(Stop::OutOfMemory),
+    }
+}
+
+/// Whether a run that ended so came to the end of its root.
+pub fn is_finish(end: RunEnd) -> bool
+    ensures { IsTrue result ↔ ((finish : AnyFinish) × (end ≡ RunEnd.Finished finish)) }
+{
+    match end {
+        RunEnd::Finished(_) => true,
+        RunEnd::Stopped(_) => false,
     }
 }

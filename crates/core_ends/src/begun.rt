@@ -5,14 +5,13 @@ ghost use Rattle.node_table.specs.Codes.{code_shown};
 ghost use Rattle.thread_frames.specs.declared.thread.Thread.{Thread as AnyThread};
 ghost use Rattle.core_parts.specs.Held.{held};
 ghost use Rattle.core_parts.specs.Moments.{terms_of};
-ghost use Rattle.dfd_core.specs.Begun.{IsBegun, deques_with};
+ghost use Rattle.core_ends.specs.Begun.{IsBegun, deques_with};
 ghost use Rattle.deque_machine.specs.Terms.{given_terms};
 
 use block_arena::Pool;
 use boxed::Boxed;
 use core_parts::Scheduler;
-use deque_list::List;
-use language_limits::MOST_DEQUES;
+use deque_list::{List, MOST_ENTRIES};
 use node_table::Code;
 use period_table::PeriodTable;
 use space_ledger::Moves;
@@ -26,7 +25,7 @@ fn list_with(
     root: Boxed<Thread>,
     most: u32,
 ) -> Result<List<Boxed<Thread>>, AllocError>
-    requires { (1 ≤ most) × (most ≤ MOST_DEQUES) }
+    requires { (1 ≤ most) × (most ≤ MOST_ENTRIES) }
     ensures deques { IfOk result (λ list. list.deques ≡ deques_with root) }
     ensures most { IfOk result (λ list. list.most ≡ most) }
 {
@@ -36,15 +35,19 @@ fn list_with(
     }
 }
 
-/// The root of a program in a deque without an owner, and so many workers, who are all idle.
-pub(crate) fn scheduler_of(
+/// The root of a program in a deque without an owner, and so many workers, who are all idle. The list may have `most` deques.
+///
+/// # Errors
+///
+/// There is not enough memory.
+pub fn scheduler_of(
     alloc: Global,
     code: &Code,
     workers: u32,
     pool: Pool,
     most: u32,
 ) -> Result<Scheduler, AllocError>
-    requires most { (1 ≤ most) × (most ≤ MOST_DEQUES) }
+    requires most { (1 ≤ most) × (most ≤ MOST_ENTRIES) }
     requires pool { pool.live ≡ 0 }
     ensures begun { IfOk result (λ scheduler. (root : AnyThread) × IsBegun (code_shown code.now) (held scheduler) root) }
     ensures terms { (limit : ℕ) → IfOk result (λ scheduler. terms_of scheduler limit ≡ given_terms workers pool.capacity limit most) }

@@ -1,6 +1,6 @@
 use Rattle.std.proofs.Common.{refl, ap, ◌∙◌}
-use Rattle.dfd_core.specs.Begun.{deques_with}
-use Rattle.dfd_core.proofs.begun.scheduler_of.Goals as goal
+use Rattle.core_ends.specs.Begun.{deques_with}
+use Rattle.core_ends.proofs.begun.scheduler_of.Goals as goal
 
 pub returns-clause-begun : goal.returns-clause-begun
 returns-clause-begun c = (

@@ -1,6 +1,6 @@
 use Rattle.std.proofs.Common.{◌≡◌, ◌+◌, ◌≤◌, drop}
-use Rattle.dfd_core.specs.Marks.{open_ahead}
-use Rattle.dfd_core.proofs.run.open_ahead.Given as goal
+use Rattle.core_ends.specs.Marks.{open_ahead}
+use Rattle.core_ends.proofs.marks.open_ahead.Given as goal
 
 -- with those of the seats that are left these are all
 abbrev pub invariant-seats : goal.invariant-seats

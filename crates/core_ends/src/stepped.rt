@@ -1,3 +1,9 @@
+//! What a step answers.
+
+ghost use Rattle.std.specs.Prelude.{Some, Ok};
+ghost use Rattle.core_ends.specs.Told.{IsTold};
+
+use core_parts::Event;
 use dag_order::{ActionId, ThreadId};
 use deque_list::DequeId;
 use run_end::RunEnd;
@@ -26,4 +32,16 @@ pub enum OutputFail {
     NotFinished,
     /// There was no memory for the lines.
     OutOfMemory,
+}
+
+/// What a step answers that did an event.
+pub fn told(event: Event) -> Stepped
+    ensures { IsTold result (Ok (Some event)) }
+{
+    match event {
+        Event::Stole { deque, period } => Stepped::Stole { deque, period },
+        Event::Acted(id) => Stepped::Acted(id),
+        Event::Suspended(id) => Stepped::Suspended(id),
+        Event::GaveUp(deque) => Stepped::GaveUp(deque),
+    }
 }

@@ -1,7 +1,7 @@
 use Rattle.std.proofs.Common.{◌∙◌, ap, rules}
-use Rattle.dfd_core.specs.Marks.{ahead_in}
-use Rattle.dfd_core.proofs.Marks.{seat_counted, byte_is}
-use Rattle.dfd_core.proofs.run.open_ahead.Goals as goal
+use Rattle.core_ends.specs.Marks.{ahead_in}
+use Rattle.core_ends.proofs.Marked.{seat_counted, byte_is}
+use Rattle.core_ends.proofs.marks.open_ahead.Goals as goal
 
 pub seats-preserved : goal.seats-preserved
 seats-preserved c =

@@ -18,7 +18,7 @@ use Rattle.period_books.specs.Names.{HasLabel, of_root, of_fork}
 use Rattle.core_parts.specs.declared.event.Event.{Event as Told}
 use Rattle.thread_frames.proofs.Found.{same_with_itself}
 use Rattle.core_parts.specs.Outcomes.{Tells, tells_theft, tells_action, tells_wait, tells_give_up}
-use Rattle.dfd_core.specs.Ends.{is_of_root}
+use Rattle.core_ends.specs.Ends.{is_of_root}
 
 module _ (s : Setting) (m after : Moment) (worker : ℕ) where
   -- what is done behind an event was done before, or is its action

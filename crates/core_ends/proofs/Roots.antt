@@ -4,7 +4,6 @@ use Rattle.std.proofs.Math.Logic.{∥∥₁_elim, ∥∥₁_map}
 use Rattle.std.specs.Prelude.{Option, None, Some}
 use Rattle.std.specs.Map.{lookup}
 use denote.Struct.Props.{props}
-use Rattle.dag_order.specs.declared.finish.Finish.{Finish}
 use Rattle.dag_order.specs.declared.thread_id.ThreadId.{ThreadId}
 use Rattle.dag_order.specs.Births.{root}
 use Rattle.depth_first_run.specs.States.{Setting, State}
@@ -34,10 +33,9 @@ use Rattle.core_parts.specs.Moments.{IsSound, HasRun}
 use Rattle.deque_machine.specs.Terms.{Terms, machine_of}
 use Rattle.core_parts.proofs.Lists.{among_mapped}
 use Rattle.thread_frames.proofs.Found.{found_among, none_found}
-use Rattle.run_end.specs.declared.ends.RunEnd.{RunEnd}
 use Rattle.run_end.specs.declared.ends.RunEnd.TheVariants.{Finished}
 use Rattle.thread_frames.specs.Roots.{end_of_root}
-use Rattle.dfd_core.specs.Running.{KeepsEnd, IsSomewhere}
+use Rattle.core_ends.specs.Ends.{KeepsEnd}
 
 -- what stands in a list under a map comes from the list
 pub mapped_from : {X Y : Type 0} (f : X → Y) (y : Y) (xs : List X) → Among y (map f xs) → (x : X) × Among x xs × (y ≡ f x)
@@ -91,17 +89,11 @@ module _ (t : Table) (k : ℕ) (terms : Terms) (h : Held) (sound : IsSound t k t
       by_result None is = inl (not_ended is, refl)
       by_result (Some ended) is = inr (root_has_ended ended is, ap (λ f. Some (Finished (finish_of f))) (its_fault ended is))
 
--- a core whose run has finished keeps the result of the root
-pub finished_keeps : (t : Table) (k : ℕ) (terms : Terms) (h : Held) → IsSound t k terms h → (end : Option RunEnd) → IsSomewhere t k terms h end
-    → (finish : Finish) → end ≡ Some (Finished finish) → root_result h ≡ None → ⊥
-finished_keeps t k terms h sound end somewhere finish is none = ∥∥₁_elim sound.of_program (λ x y. absurd x) (λ p.
-    ∥∥₁_elim (somewhere p.0 p.1) (λ x y. absurd x) (λ w. not_ended t k terms h sound p.0 p.1 w.0 w.1 w.2.stands none (w.2.finished finish is).0))
-
--- which has no label
-pub label_of_root : (t : Table) (k : ℕ) (terms : Terms) (h : Held) → IsSound t k terms h → (end : Option RunEnd) → IsSomewhere t k terms h end
-    → (ended : Ended) → root_result h ≡ Some ended → (c : Setting) → IsSettingOf t k c → ended_label ended ≡ []
-label_of_root t k terms h sound end somewhere ended is c of =
-    ∥∥₁_elim (somewhere c of) (search props) (λ w. of_the_root t k terms h sound c of w.0 w.1 w.2.stands ended is)
+-- the root has no label
+pub label_of_root : (t : Table) (k : ℕ) (terms : Terms) (h : Held) → IsSound t k terms h → (ended : Ended) → root_result h ≡ Some ended
+    → (c : Setting) → IsSettingOf t k c → ended_label ended ≡ []
+label_of_root t k terms h sound ended is c of =
+    ∥∥₁_elim (sound.somewhere c of) (search props) (λ w. of_the_root t k terms h sound c of w.0 w.1 w.2 ended is)
 
 pub root_is_result : (t : Table) (k : ℕ) (terms : Terms) (h : Held) → IsSound t k terms h → (ended : Ended) → root_result h ≡ Some ended
     → ∥ IsResult t k ended ∥₁

@@ -20,7 +20,7 @@ pub struct ListChoices {
 
 impl ListChoices {
     ghost use Rattle.std.specs.Prelude.{slice_index};
-    ghost use Rattle.dfd_core.specs.ListChoices.{coming_word};
+    ghost use Rattle.core_ends.specs.ListChoices.{coming_word};
 
     pub fn new(words: Vec<u64>) -> ListChoices
         ensures { (i : ℕ) → coming_word result i ≡ slice_index words.items i }
@@ -30,7 +30,7 @@ impl ListChoices {
 }
 
 impl Choices for ListChoices {
-    ghost use Rattle.dfd_core.specs.ListChoices.{coming_word};
+    ghost use Rattle.core_ends.specs.ListChoices.{coming_word};
 
     ghost coming = { coming_word };
 
