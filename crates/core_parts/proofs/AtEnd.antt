@@ -18,8 +18,8 @@ use Rattle.thread_frames.specs.Views.{Child, children_of, label_of, ended_label}
 use Rattle.thread_frames.specs.declared.ended.Ended.{Ended}
 use Rattle.thread_frames.specs.declared.next.Next.TheVariants as nexts
 use Rattle.thread_frames.specs.declared.thread.Thread.{Thread}
-use Rattle.thread_parts.specs.Shown.{child_shown, thread_shown}
-use Rattle.thread_parts.proofs.Threads.{next_actions_stand}
+use Rattle.thread_frames.specs.Shown.{child_shown, thread_shown}
+use Rattle.thread_frames.proofs.Threads.{next_actions_stand}
 use Rattle.deque_events.specs.Shown.{Stands}
 use Rattle.step_laws.specs.Results.{IsChildOf}
 use Rattle.step_laws.proofs.Parents.{parents_await}
@@ -27,7 +27,7 @@ use Rattle.core_parts.specs.declared.scheduler.Scheduler.{Scheduler}
 use Rattle.core_parts.specs.Held.{held_under, IsInOrder}
 use Rattle.core_parts.specs.Moments.{HasRun}
 use Rattle.core_parts.proofs.AtTop.{its_period, period_there}
-use Rattle.thread_parts.proofs.Found.{same_with_itself}
+use Rattle.thread_frames.proofs.Found.{same_with_itself}
 use Rattle.core_parts.proofs.Newest.{among_reversed}
 use Rattle.thread_map.proofs.KeptLemmas.{same_is_same}
 

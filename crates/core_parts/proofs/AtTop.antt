@@ -43,17 +43,17 @@ use Rattle.thread_frames.specs.declared.ended.Ended.{Ended}
 use Rattle.thread_frames.specs.declared.next.Next.{Next}
 use Rattle.thread_frames.specs.Actions.{IsOfTheList}
 use Rattle.thread_frames.specs.Views.{label_of, done_of, thread_words}
-use Rattle.thread_parts.specs.Shown.{thread_shown}
+use Rattle.thread_frames.specs.Shown.{thread_shown}
 use Rattle.thread_map.specs.Kept.{kept_under}
 use Rattle.deque_events.specs.Shown.{deque_shown, Stands, parts_under}
 use Rattle.core_parts.specs.declared.scheduler.Scheduler.{Scheduler}
 use Rattle.core_parts.specs.Held.{held, held_under, parts_in, OwnsNone, IsInOrder}
-use Rattle.thread_parts.specs.Kept.{waiting_shown, result_kept, IsUnderItsId}
+use Rattle.thread_frames.specs.Kept.{waiting_shown, result_kept, IsUnderItsId}
 use Rattle.core_parts.specs.Moments.{HasRun}
 use Rattle.deque_machine.specs.Terms.{Terms, machine_of}
 use Rattle.core_parts.proofs.Owners.{own_here, owned_shown, own_one, none_owned}
 use Rattle.core_parts.proofs.Lists.{among_mapped}
-use Rattle.thread_parts.proofs.Found.{found_among}
+use Rattle.thread_frames.proofs.Found.{found_among}
 
 -- the period of a worker is among the periods
 pub period_is_there : (table : PeriodTable) (worker : ℕ) (p : Period) → period_at table worker ≡ Some p → Among p (periods_of table)

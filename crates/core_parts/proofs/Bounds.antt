@@ -25,7 +25,7 @@ use Rattle.thread_state.specs.Joins.{words_by}
 use Rattle.thread_state.proofs.Held.{holdings_are}
 use Rattle.thread_points.specs.Points.{words_at_end}
 use Rattle.depth_first_run.specs.Run.{list_of}
-use Rattle.thread_steps.specs.Dones.{IsRelease as IsGiven}
+use Rattle.thread_run.specs.Dones.{IsRelease as IsGiven}
 use Rattle.thread_run.specs.declared.run.ThreadRun.{ThreadRun}
 use Rattle.thread_frames.specs.declared.thread.Thread.{Thread}
 use Rattle.thread_frames.specs.declared.ended.Ended.{Ended}
@@ -38,7 +38,7 @@ use Rattle.thread_frames.specs.Views.{newest, told_as, next_of, label_of, thread
 use Rattle.thread_frames.specs.Points.{At, Stands as StandsIn, IsThreadAt, IsAtPoint, IsPlaced}
 use Rattle.thread_frames.proofs.Placed.{placed_gives}
 use Rattle.thread_frames.proofs.Doing.{is_release}
-use Rattle.thread_steps.specs.declared.ready.Ready.TheVariants as ready
+use Rattle.thread_run.specs.declared.ready.Ready.TheVariants as ready
 use Rattle.thread_run.specs.Going.{ActsBy}
 use Rattle.thread_points.specs.Points.{marked}
 use Rattle.depth_first_run.specs.Middle.{step_frame}
@@ -46,7 +46,7 @@ use Rattle.period_books.specs.Periods.{Period, open_shown}
 use Rattle.period_table.specs.Tables.{periods_of, seat_at, deque_at, shown_of}
 use Rattle.moment_parts.specs.Parts as parts
 use Rattle.deque_events.specs.Shown.{deque_shown, deque_with, Stands}
-use Rattle.thread_parts.specs.Shown.{thread_shown}
+use Rattle.thread_frames.specs.Shown.{thread_shown}
 use Rattle.core_parts.specs.declared.scheduler.Scheduler.{Scheduler}
 use Rattle.core_parts.specs.Held.{Held, held, IsInOrder}
 use Rattle.core_parts.specs.Moments.{HasRun, IsSound}

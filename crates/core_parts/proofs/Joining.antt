@@ -36,17 +36,17 @@ use Rattle.thread_frames.specs.declared.next.Next.TheVariants as nexts
 use Rattle.thread_frames.specs.Actions.{IsSame, IsOfTheList, JoinsNewest, is_there}
 use Rattle.thread_frames.specs.Children.{IsResultFor, either_of, IsAwaited, same_id, with_delivered, IsOnlyNewest, is_delivered}
 use Rattle.thread_frames.specs.Views.{Child, children_of, newest, ordinal_of as ordinal_in, label_of, done_of, thread_words, ended_words, ended_label}
-use Rattle.thread_parts.specs.Shown.{child_shown, thread_shown, result_shown}
-use Rattle.thread_parts.proofs.Threads.{newest_last, deliveries_hand_over}
+use Rattle.thread_frames.specs.Shown.{child_shown, thread_shown, result_shown}
+use Rattle.thread_frames.proofs.Threads.{newest_last, deliveries_hand_over}
 use Rattle.thread_map.specs.Kept.{kept_under}
 use Rattle.deque_events.specs.Shown.{deque_shown, deque_with, Stands}
 use Rattle.core_parts.specs.declared.scheduler.Scheduler.{Scheduler}
 use Rattle.core_parts.specs.Held.{Held, held_under, parts_in, IsInOrder}
-use Rattle.thread_parts.specs.Kept.{waiting_shown, result_kept, WaitsUnder, IsUnderItsId}
+use Rattle.thread_frames.specs.Kept.{waiting_shown, result_kept, WaitsUnder, IsUnderItsId}
 use Rattle.core_parts.specs.Moments.{HasRun}
 use Rattle.deque_machine.specs.Terms.{Terms}
 use Rattle.core_parts.proofs.Lists.{among_mapped}
-use Rattle.thread_parts.proofs.Found.{found_among, none_found}
+use Rattle.thread_frames.proofs.Found.{found_among, none_found}
 use Rattle.core_parts.proofs.Newest.{Cut, cut_newest, shown_cut, among_reversed, AreOthers, delivered_last, with_delivered_last, only_last, awaits_last}
 use Rattle.core_parts.proofs.AtTop.{own_deque, its_period, period_there, lawful, listed, stands_at_top, next_at_top, deque_there, label_there, top_is_live}
 use Rattle.core_parts.proofs.Still.{same_stands, handed_stands}

@@ -9,10 +9,10 @@ use Rattle.thread_frames.specs.Actions.{IsIdOf}
 use Rattle.thread_frames.specs.Children.{same_id, IsResultFor, either_of, IsAwaited, delivered_if, with_delivered, IsOnlyNewest, told_if, is_delivered}
 use Rattle.thread_frames.specs.Views.{Child, newest}
 use Rattle.thread_frames.specs.declared.ended.Ended.{Ended}
-use Rattle.thread_parts.specs.Shown.{child_shown}
-use Rattle.thread_parts.proofs.Threads.{newest_last}
+use Rattle.thread_frames.specs.Shown.{child_shown}
+use Rattle.thread_frames.proofs.Threads.{newest_last}
 use Rattle.lawful_books.proofs.Lists.{among_left, among_right, by_end}
-use Rattle.thread_parts.proofs.Found.{same_with_itself}
+use Rattle.thread_frames.proofs.Found.{same_with_itself}
 
 -- the children with the newest one at the end, which has the id
 pub record Cut (children : List Child) (id : ThreadId) : Type 0 where

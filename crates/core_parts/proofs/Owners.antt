@@ -8,7 +8,7 @@ use Rattle.lawful_books.proofs.Lists.{one_same, one_cases}
 use Rattle.deque_machine.specs.Moments.{owned_by, one_if_worker}
 use Rattle.moment_parts.specs.Parts as parts
 use Rattle.thread_frames.specs.declared.thread.Thread.{Thread}
-use Rattle.thread_parts.specs.Shown.{thread_shown}
+use Rattle.thread_frames.specs.Shown.{thread_shown}
 use Rattle.deque_events.specs.Shown.{deque_shown}
 
 -- 1 for a deque of the worker

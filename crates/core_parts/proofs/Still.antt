@@ -22,12 +22,12 @@ use Rattle.depth_first_run.specs.Run.{list_of}
 use Rattle.thread_frames.specs.declared.thread.Thread.{Thread}
 use Rattle.thread_frames.specs.Points.{IsAtPoint, IsResult}
 use Rattle.thread_frames.specs.Actions.{IsStill}
-use Rattle.thread_parts.specs.Shown.{thread_shown, child_shown}
+use Rattle.thread_frames.specs.Shown.{thread_shown, child_shown}
 use Rattle.deque_events.specs.Shown.{deque_shown, Stands}
 use Rattle.core_parts.specs.declared.scheduler.Scheduler.{Scheduler}
 use Rattle.step_laws.specs.Orders.{AreSame}
 use Rattle.core_parts.specs.Held.{Held, held, held_under, parts_in, IsReordered, OwnersSit, IsInOrder, AreAtPoints, AreResults}
-use Rattle.thread_parts.specs.Kept.{waiting_shown, result_kept, WaitsUnder, IsUnderItsId}
+use Rattle.thread_frames.specs.Kept.{waiting_shown, result_kept, WaitsUnder, IsUnderItsId}
 use Rattle.core_parts.specs.Moments.{shown, HasRun, IsSound}
 use Rattle.deque_machine.specs.Terms.{Terms, machine_of}
 use Rattle.core_parts.proofs.Lists.{each_moved}

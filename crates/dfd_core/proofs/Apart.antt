@@ -36,12 +36,12 @@ use Rattle.period_table.specs.Tables.{periods_of, seat_in, seat_at}
 use Rattle.space_ledger.specs.BooksList.{books_list}
 use Rattle.space_ledger.specs.MovesList.{moves_list}
 use Rattle.space_ledger.specs.declared.moves.Moves.{Moves}
-use Rattle.thread_steps.specs.Settings.{IsSettingOf}
+use Rattle.thread_run.specs.Settings.{IsSettingOf}
 use Rattle.thread_frames.specs.declared.ended.Ended.{Ended}
 use Rattle.thread_frames.specs.declared.thread.Thread.{Thread}
 use Rattle.thread_frames.specs.Points.{IsAtPoint}
 use Rattle.thread_frames.specs.Views.{label_of, done_of, children_of, thread_words}
-use Rattle.thread_parts.specs.Shown.{thread_shown, child_shown}
+use Rattle.thread_frames.specs.Shown.{thread_shown, child_shown}
 use Rattle.deque_events.specs.Shown.{deque_shown}
 use Rattle.core_parts.specs.Held.{Held, parts_in}
 use Rattle.core_parts.specs.Moments.{IsSound, CanGoOn, HasRun}
@@ -50,7 +50,7 @@ use Rattle.deque_machine.specs.Terms.{Terms}
 use Rattle.run_end.specs.declared.ends.RunEnd.{RunEnd}
 use Rattle.run_end.specs.declared.ends.RunEnd.TheVariants.{Finished, Stopped}
 use Rattle.dfd_core.specs.Parts.{root_behind, IsOfWholeRun, AreOfRun}
-use Rattle.thread_parts.specs.Roots.{HasDoneNothing, IsRootAlone}
+use Rattle.thread_frames.specs.Roots.{HasDoneNothing, IsRootAlone}
 use Rattle.dfd_core.specs.Running.{IsAtMoment, IsSomewhere}
 use Rattle.dfd_core.proofs.Roots.{root_result, finished_keeps, label_of_root, root_is_result}
 

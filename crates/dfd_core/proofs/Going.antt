@@ -16,7 +16,7 @@ use Rattle.deque_machine.specs.Runs.{Pair}
 use Rattle.node_table.specs.Table.{Table}
 use Rattle.period_table.specs.Tables.{periods_of}
 use Rattle.step_laws.proofs.Told.{actions_are_added, others_add_none}
-use Rattle.thread_steps.specs.Settings.{IsSettingOf}
+use Rattle.thread_run.specs.Settings.{IsSettingOf}
 use Rattle.core_parts.specs.declared.event.Event.{Event as Told}
 use Rattle.run_end.specs.declared.stop.Stop.{Stop}
 use Rattle.run_end.specs.declared.stop.Stop.TheVariants.{ArenaFull, DequesFull, StepsSpent, OutOfMemory}
@@ -29,7 +29,7 @@ use Rattle.thief_steps.specs.Thefts.{StepsBy as EventBy}
 use Rattle.run_end.specs.declared.ends.RunEnd.{RunEnd}
 use Rattle.run_end.specs.declared.ends.RunEnd.TheVariants.{Finished, Stopped}
 use Rattle.dfd_core.specs.Ends.{is_of_root, end_behind_event}
-use Rattle.thread_parts.specs.Roots.{end_of_root}
+use Rattle.thread_frames.specs.Roots.{end_of_root}
 use Rattle.depth_first_run.specs.Run.{finish_of_run}
 use Rattle.dfd_core.specs.Running.{IsAtMoment, IsSomewhere, KeepsEnd}
 use Rattle.dfd_core.specs.Steps.{GoesOn, Stops, Comes, end_behind}

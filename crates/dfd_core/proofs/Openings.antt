@@ -17,13 +17,13 @@ use Rattle.node_table.specs.Table.{Table}
 use Rattle.period_table.specs.Tables.{periods_of}
 use Rattle.space_ledger.specs.Sums.{total_change}
 use Rattle.depth_first_run.specs.Run.{list_of}
-use Rattle.thread_steps.specs.Settings.{IsSettingOf}
+use Rattle.thread_run.specs.Settings.{IsSettingOf}
 use Rattle.thread_frames.specs.declared.thread.Thread.{Thread}
 use Rattle.thread_frames.specs.Points.{IsAtPoint, IsResult}
-use Rattle.thread_parts.specs.Shown.{thread_shown, child_shown}
+use Rattle.thread_frames.specs.Shown.{thread_shown, child_shown}
 use Rattle.deque_events.specs.Shown.{deque_shown}
 use Rattle.core_parts.specs.Held.{Held, parts_in, OwnersSit}
-use Rattle.thread_parts.specs.Kept.{waiting_shown, result_kept, WaitsUnder, IsUnderItsId}
+use Rattle.thread_frames.specs.Kept.{waiting_shown, result_kept, WaitsUnder, IsUnderItsId}
 use Rattle.core_parts.specs.Moments.{shown, HasRun, IsSound, CanGoOn}
 use Rattle.deque_machine.specs.Terms.{Terms, machine_of}
 use Rattle.dfd_core.specs.Begun.{IsBegun}

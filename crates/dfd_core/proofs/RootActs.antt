@@ -16,7 +16,7 @@ use Rattle.thread_map.specs.Kept.{same_thread}
 use Rattle.period_books.specs.Periods.{Period}
 use Rattle.period_books.specs.Names.{HasLabel, of_root, of_fork}
 use Rattle.core_parts.specs.declared.event.Event.{Event as Told}
-use Rattle.thread_parts.proofs.Found.{same_with_itself}
+use Rattle.thread_frames.proofs.Found.{same_with_itself}
 use Rattle.core_parts.specs.Outcomes.{Tells, tells_theft, tells_action, tells_wait, tells_give_up}
 use Rattle.dfd_core.specs.Ends.{is_of_root}
 

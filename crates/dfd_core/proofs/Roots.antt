@@ -22,21 +22,21 @@ use Rattle.period_table.specs.Tables.{periods_of}
 use Rattle.node_table.specs.Table.{Table}
 use Rattle.thread_map.specs.Kept.{same_thread}
 use Rattle.thread_output.specs.Telling.{fault_of}
-use Rattle.thread_steps.specs.Settings.{IsSettingOf}
+use Rattle.thread_run.specs.Settings.{IsSettingOf}
 use Rattle.thread_frames.specs.declared.ended.Ended.{Ended}
 use Rattle.thread_frames.specs.Points.{IsResult}
 use Rattle.thread_frames.specs.Views.{ended_label}
 use Rattle.thread_frames.proofs.Sets.{fault_set}
 use Rattle.thread_frames.proofs.Telling.{whole_told}
 use Rattle.core_parts.specs.Held.{Held}
-use Rattle.thread_parts.specs.Kept.{result_kept, IsUnderItsId}
+use Rattle.thread_frames.specs.Kept.{result_kept, IsUnderItsId}
 use Rattle.core_parts.specs.Moments.{IsSound, HasRun}
 use Rattle.deque_machine.specs.Terms.{Terms, machine_of}
 use Rattle.core_parts.proofs.Lists.{among_mapped}
-use Rattle.thread_parts.proofs.Found.{found_among, none_found}
+use Rattle.thread_frames.proofs.Found.{found_among, none_found}
 use Rattle.run_end.specs.declared.ends.RunEnd.{RunEnd}
 use Rattle.run_end.specs.declared.ends.RunEnd.TheVariants.{Finished}
-use Rattle.thread_parts.specs.Roots.{end_of_root}
+use Rattle.thread_frames.specs.Roots.{end_of_root}
 use Rattle.dfd_core.specs.Running.{KeepsEnd, IsSomewhere}
 
 -- what stands in a list under a map comes from the list

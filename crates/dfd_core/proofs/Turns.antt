@@ -15,7 +15,7 @@ use Rattle.deque_machine.specs.Play.{words_drawn}
 use Rattle.deque_machine.specs.Runs.{Pair}
 use Rattle.period_table.specs.declared.seat.Seat.{Seat}
 use Rattle.period_table.specs.Tables.{seat_at, deque_at, deque_of}
-use Rattle.thread_parts.specs.Shown.{thread_shown}
+use Rattle.thread_frames.specs.Shown.{thread_shown}
 use Rattle.step_laws.proofs.Ready.{some_ready_is_shown}
 use Rattle.victim_choice.specs.Choices.{SomeReady, CanMove}
 use Rattle.node_table.specs.Table.{Table}

@@ -5,7 +5,7 @@ use Rattle.depth_first_run.specs.Run.{finish_of}
 use Rattle.thread_frames.specs.declared.ended.Ended.{Ended}
 use Rattle.thread_output.specs.Telling.{fault_of}
 use Rattle.thread_map.specs.Kept.{same_thread}
-use Rattle.thread_parts.specs.Roots.{end_of_root}
+use Rattle.thread_frames.specs.Roots.{end_of_root}
 use Rattle.core_parts.specs.declared.event.Event.{Event}
 use Rattle.core_parts.specs.declared.event.Event.TheVariants.{Stole, Acted, Suspended, GaveUp}
 use Rattle.run_end.specs.declared.ends.RunEnd.{RunEnd}

@@ -4,7 +4,7 @@ ghost use Rattle.std.specs.Prelude.{◌≡◌, Some};
 ghost use Rattle.dag_order.specs.Births.{root};
 ghost use Rattle.thread_map.specs.Kept.{kept_under};
 ghost use Rattle.dfd_core.specs.Ends.{is_of_root, end_behind_event};
-ghost use Rattle.thread_parts.specs.Roots.{end_of_root};
+ghost use Rattle.thread_frames.specs.Roots.{end_of_root};
 ghost use Rattle.dfd_core.specs.GiveUps.{end_without_memory};
 ghost use Rattle.depth_first_run.specs.Run.{finish_of};
 

@@ -10,7 +10,7 @@ ghost use Rattle.deque_list.specs.Ids.{deque_id};
 ghost use Rattle.run_end.specs.declared.ends.RunEnd.{RunEnd as AnyEnd};
 ghost use Rattle.dfd_core.specs.Cores.{HasFinished, IsAt, end_of, terms_at};
 ghost use Rattle.dfd_core.specs.Parts.{AreAllIdle, AreOfRun, IsFresh, IsOfWholeRun, root_behind, root_result};
-ghost use Rattle.thread_parts.specs.Roots.{IsRootAlone};
+ghost use Rattle.thread_frames.specs.Roots.{IsRootAlone};
 
 use crate::run::Core;
 use run_end::RunEnd;

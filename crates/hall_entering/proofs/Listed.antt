@@ -4,7 +4,7 @@ use Rattle.std.specs.Prelude.{Option, None, Some, false, slice_get, slice_set}
 use Rattle.std.specs.Option.{option_map}
 use Rattle.std.proofs.lemmas.Option.{same_Some, none-some}
 use Rattle.atomic_table.proofs.Lists.{set_again}
-use Rattle.thread_parts.specs.Kept.{waiting_shown, result_kept}
+use Rattle.thread_frames.specs.Kept.{waiting_shown, result_kept}
 use Rattle.run_end.specs.declared.ends.RunEnd.{RunEnd}
 use Rattle.deque_machine.specs.Terms.{Terms, machine_of}
 use Rattle.lawful_books.specs.Lists.{times}

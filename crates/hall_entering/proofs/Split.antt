@@ -19,7 +19,7 @@ use Rattle.period_books.proofs.Sorting.{get_before, get_of_more}
 use Rattle.period_table.proofs.Lists.{set_same, set_other}
 use Rattle.thread_frames.specs.declared.thread.Thread.{Thread}
 use Rattle.thread_frames.specs.Points.{IsAtPoint}
-use Rattle.thread_steps.specs.Settings.{IsSettingOf}
+use Rattle.thread_run.specs.Settings.{IsSettingOf}
 use Rattle.turn_table.specs.Law.{SplitKeeps}
 use Rattle.turn_table.specs.Notes.{SplitMay}
 use Rattle.turn_table.proofs.NoteLaws.{split_noted}

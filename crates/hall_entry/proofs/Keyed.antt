@@ -5,7 +5,7 @@ use Rattle.block_arena.specs.declared.size.TheConstants.{MAX_WORDS}
 use Rattle.depth_first_list.specs.Actions.{record_words}
 use Rattle.deque_machine.specs.Terms.{Terms}
 use Rattle.dfd_core.specs.Cores.{terms_at}
-use Rattle.thread_parts.specs.Roots.{IsRootAlone}
+use Rattle.thread_frames.specs.Roots.{IsRootAlone}
 use Rattle.dfd_core.specs.declared.run.Core.{Core}
 use Rattle.dummy_tree.specs.QuotaWords.{quota_words}
 use Rattle.thread_frames.specs.Points.{IsAtPoint}

@@ -27,9 +27,9 @@ use Rattle.thread_frames.specs.Views.{label_of}
 use Rattle.thread_frames.specs.declared.ended.Ended.{Ended}
 use Rattle.thread_frames.specs.declared.next.Next.TheVariants as nexts
 use Rattle.thread_frames.specs.declared.thread.Thread.{Thread}
-use Rattle.thread_parts.specs.Kept.{WaitsUnder}
-use Rattle.thread_parts.specs.Shown.{thread_shown, result_shown}
-use Rattle.thread_steps.specs.Settings.{IsSettingOf}
+use Rattle.thread_frames.specs.Kept.{WaitsUnder}
+use Rattle.thread_frames.specs.Shown.{thread_shown, result_shown}
+use Rattle.thread_run.specs.Settings.{IsSettingOf}
 use Rattle.hall_crew.specs.Changes.{after_event}
 use Rattle.hall_crew.specs.Views.{View}
 use Rattle.hall_law.specs.Values.{Hall, ListShown, PoolShown, no_lane, finished, lane_at}

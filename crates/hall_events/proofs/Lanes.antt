@@ -23,8 +23,8 @@ use Rattle.thread_frames.specs.Actions.{IsOfTheList}
 use Rattle.thread_frames.specs.declared.next.Next.{Next}
 use Rattle.thread_frames.specs.declared.next.Next.TheVariants as nexts
 use Rattle.thread_frames.specs.declared.thread.Thread.{Thread}
-use Rattle.thread_parts.specs.Shown.{thread_shown, result_shown}
-use Rattle.thread_steps.specs.Settings.{IsSettingOf}
+use Rattle.thread_frames.specs.Shown.{thread_shown, result_shown}
+use Rattle.thread_run.specs.Settings.{IsSettingOf}
 use Rattle.hall_crew.specs.Changes.{after_event}
 use Rattle.hall_crew.specs.Views.{View}
 use Rattle.hall_law.specs.Values.{Hall, PoolShown, lane_at, open_for}

@@ -20,8 +20,8 @@ use Rattle.period_table.specs.Tables.{noted}
 use Rattle.quota_period.specs.declared.period.Period.{Period as OpenPeriod}
 use Rattle.thread_frames.specs.Actions.{IsStill}
 use Rattle.thread_frames.specs.declared.thread.Thread.{Thread}
-use Rattle.thread_parts.specs.Shown.{child_shown, thread_shown}
-use Rattle.thread_steps.specs.Settings.{IsSettingOf}
+use Rattle.thread_frames.specs.Shown.{child_shown, thread_shown}
+use Rattle.thread_run.specs.Settings.{IsSettingOf}
 use Rattle.hall_crew.specs.Changes.{after_event}
 use Rattle.hall_crew.specs.Crew.{SeatStands}
 use Rattle.hall_crew.specs.Views.{View}

@@ -7,8 +7,8 @@ use Rattle.std.proofs.lemmas.Option.{same_Some, none-some}
 use mathlib.Core.Option.{some, some-injective, some-ne-none}
 use lib.ListN.{get_elem?}
 use Rattle.block_arena.specs.Region.{Region}
-use Rattle.thread_parts.specs.Kept.{waiting_shown, result_kept, WaitsUnder, IsUnderItsId}
-use Rattle.thread_parts.proofs.Points.{point_one}
+use Rattle.thread_frames.specs.Kept.{waiting_shown, result_kept, WaitsUnder, IsUnderItsId}
+use Rattle.thread_frames.proofs.Points.{point_one}
 use Rattle.depth_first_run.specs.States.{Setting}
 use Rattle.depth_first_run.proofs.Built.{whole_is_depth_first}
 use Rattle.deque_list.specs.declared.deque_id.DequeId.{DequeId}
@@ -19,7 +19,7 @@ use Rattle.deque_list.specs.Orders.{OrderView}
 use Rattle.deque_machine.specs.Terms.{Terms, machine_of}
 use Rattle.run_end.specs.declared.ends.RunEnd.{RunEnd}
 use Rattle.run_end.specs.declared.ends.RunEnd.TheVariants.{Finished}
-use Rattle.thread_parts.specs.Roots.{HasDoneNothing, IsRootAlone}
+use Rattle.thread_frames.specs.Roots.{HasDoneNothing, IsRootAlone}
 use Rattle.hall_crew.specs.Views.{View}
 use Rattle.hall_law.specs.Rows.{IsFirst}
 use Rattle.hall_law.specs.Values.{End}
@@ -46,8 +46,8 @@ use Rattle.space_ledger.specs.Sums.{total_change}
 use Rattle.period_books.specs.Periods.{closed_shown}
 use Rattle.thread_frames.specs.Points.{IsAtPoint, IsResult}
 use Rattle.thread_frames.specs.declared.thread.Thread.{Thread}
-use Rattle.thread_parts.specs.Shown.{thread_shown, child_shown}
-use Rattle.thread_steps.specs.Settings.{IsSettingOf}
+use Rattle.thread_frames.specs.Shown.{thread_shown, child_shown}
+use Rattle.thread_run.specs.Settings.{IsSettingOf}
 use Rattle.turn_places.specs.Places.{Rests}
 use Rattle.turn_table.specs.Hands.{fresh}
 use Rattle.turn_table.specs.declared.hand.Hand.{Hand}

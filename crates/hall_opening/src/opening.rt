@@ -2,7 +2,7 @@
 
 ghost use Rattle.std.specs.Prelude.{◌≡◌, ◌+◌, ◌≤◌, [], ◌∷◌, IfOk, OnOk};
 ghost use Rattle.deque_list.specs.Ids.{first_place};
-ghost use Rattle.thread_parts.specs.Roots.{IsRootAlone};
+ghost use Rattle.thread_frames.specs.Roots.{IsRootAlone};
 ghost use Rattle.turn_table.specs.Hands.{fresh};
 ghost use Rattle.turn_table.specs.Tables.{key_of, slot_count, IsSeatOf};
 ghost use Rattle.hall_turns.specs.Keys.{IsKey, table_of, quota_of};

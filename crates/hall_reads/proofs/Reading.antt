@@ -22,9 +22,9 @@ use Rattle.run_end.specs.declared.stop.Stop.TheVariants.{ArenaFull, DequesFull, 
 use Rattle.thread_frames.specs.Points.{IsAtPoint}
 use Rattle.thread_frames.specs.Views.{done_of, thread_words}
 use Rattle.thread_frames.specs.declared.thread.Thread.{Thread}
-use Rattle.thread_parts.specs.Shown.{thread_shown}
-use Rattle.thread_parts.proofs.Points.{point_one}
-use Rattle.thread_steps.specs.Settings.{IsSettingOf}
+use Rattle.thread_frames.specs.Shown.{thread_shown}
+use Rattle.thread_frames.proofs.Points.{point_one}
+use Rattle.thread_run.specs.Settings.{IsSettingOf}
 use Rattle.turn_table.specs.Hands.{Shows}
 use Rattle.turn_table.specs.Law.{Stands}
 use Rattle.turn_table.specs.Notes.{HasAs, notes}

@@ -8,7 +8,7 @@ use Rattle.space_ledger.specs.BooksList.{books_list}
 use Rattle.period_books.specs.Periods.{closed_shown}
 use Rattle.period_table.specs.Tables.{closed_of, shut}
 use Rattle.list_part.specs.Parts.{Has, Closes, place_with}
-use Rattle.thread_parts.specs.Kept.{waiting_shown, result_kept}
+use Rattle.thread_frames.specs.Kept.{waiting_shown, result_kept}
 use Rattle.hall_law.specs.Values.{Hall, ListShown}
 use Rattle.hall_law.specs.Writing.{IsAtWork}
 use Rattle.hall_slots.specs.declared.list_slot.ListSlot.{ListSlot}

@@ -5,10 +5,10 @@ use Rattle.deque_machine.specs.Play as play
 use Rattle.period_books.specs.Periods.{Period, open_shown, closed_shown}
 use Rattle.space_ledger.specs.BooksList.{books_list}
 use Rattle.space_ledger.specs.MovesList.{moves_list}
-use Rattle.thread_parts.specs.Shown.{thread_shown}
+use Rattle.thread_frames.specs.Shown.{thread_shown}
 use Rattle.run_end.specs.declared.stop.Stop.{Stop as AnyStop}
 use Rattle.run_end.specs.declared.stop.Stop.TheVariants.{ArenaFull, DequesFull, StepsSpent, OutOfMemory}
-use Rattle.thread_parts.specs.Kept.{waiting_shown, result_kept}
+use Rattle.thread_frames.specs.Kept.{waiting_shown, result_kept}
 use Rattle.run_end.specs.declared.ends.RunEnd.{RunEnd}
 use Rattle.run_end.specs.declared.ends.RunEnd.TheVariants.{Finished, Stopped}
 use Rattle.hall_law.specs.Values.{Stop, by_rule, no_memory, End, finished, stopped}

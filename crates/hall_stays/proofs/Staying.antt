@@ -11,8 +11,8 @@ use Rattle.thread_frames.specs.Points.{IsAtPoint, IsResult}
 use Rattle.thread_frames.specs.declared.ended.Ended.{Ended}
 use Rattle.thread_frames.specs.declared.thread.Thread.{Thread}
 use Rattle.thread_map.specs.Kept.{Kept}
-use Rattle.thread_parts.specs.Kept.{WaitsUnder, IsUnderItsId}
-use Rattle.thread_parts.specs.Roots.{end_of_root}
+use Rattle.thread_frames.specs.Kept.{WaitsUnder, IsUnderItsId}
+use Rattle.thread_frames.specs.Roots.{end_of_root}
 use Rattle.hall_law.specs.Values.{ListShown}
 use Rattle.hall_state.specs.Points.{LaneAtPoints}
 use Rattle.hall_turns.specs.Keys.{table_of, quota_of}

@@ -8,7 +8,7 @@ use lib.Seq.{map-set}
 use Rattle.atomic_table.proofs.Lists.{at_set}
 use Rattle.depth_first_run.specs.States.{Setting}
 use Rattle.deque_machine.specs.Terms.{Terms, machine_of}
-use Rattle.thread_steps.specs.Settings.{IsSettingOf}
+use Rattle.thread_run.specs.Settings.{IsSettingOf}
 use Rattle.turn_table.specs.Hands.{Shows, showing, without_slot, renewed}
 use Rattle.turn_table.specs.Notes.{PutMay}
 use Rattle.turn_table.specs.Law.{PutKeeps}

@@ -4,7 +4,7 @@ use mathlib.Core.Option.{some}
 use lib.ListN.{get_elem?}
 use Rattle.depth_first_run.specs.States.{Setting}
 use Rattle.deque_machine.specs.Terms.{Terms, machine_of}
-use Rattle.thread_steps.specs.Settings.{IsSettingOf}
+use Rattle.thread_run.specs.Settings.{IsSettingOf}
 use Rattle.hall_state.specs.State.{HallLaw}
 use Rattle.hall_slots.specs.declared.slot.Slot.{Slot}
 use Rattle.hall_slots.specs.declared.seat_note.SeatNote.{SeatNote}

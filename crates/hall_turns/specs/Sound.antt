@@ -11,8 +11,8 @@ use Rattle.space_ledger.specs.Sums.{total_change}
 use Rattle.thread_map.specs.Kept.{kept_under}
 use Rattle.thread_frames.specs.declared.thread.Thread.{Thread}
 use Rattle.thread_frames.specs.Points.{IsAtPoint, IsResult}
-use Rattle.thread_parts.specs.Kept.{WaitsUnder, IsUnderItsId}
-use Rattle.thread_parts.specs.Roots.{end_of_root}
+use Rattle.thread_frames.specs.Kept.{WaitsUnder, IsUnderItsId}
+use Rattle.thread_frames.specs.Roots.{end_of_root}
 use Rattle.run_end.specs.declared.ends.RunEnd.{RunEnd}
 use Rattle.run_end.specs.declared.ends.RunEnd.TheVariants.{Finished}
 use Rattle.hall_law.specs.Writing.{lane_slot}

@@ -5,7 +5,7 @@ use Rattle.deque_machine.specs.Machine.{Setting as MachineSetting}
 use Rattle.deque_machine.specs.Moments.{Moment}
 use Rattle.deque_machine.specs.Play.{Limits}
 use Rattle.deque_machine.specs.Terms.{Terms, machine_of}
-use Rattle.thread_steps.specs.Settings.{IsSettingOf}
+use Rattle.thread_run.specs.Settings.{IsSettingOf}
 use Rattle.hall_law.specs.Values.{Hall, hall_of}
 use Rattle.hall_law.specs.Steps.{Step, Leads}
 use Rattle.hall_crew.specs.Views.{View}

@@ -8,7 +8,7 @@ use lib.Seq.{map-set}
 use Rattle.deque_list.specs.declared.deque_id.DequeId.{DequeId}
 use Rattle.deque_machine.specs.Terms.{Terms, machine_of}
 use Rattle.depth_first_run.specs.States.{Setting}
-use Rattle.thread_steps.specs.Settings.{IsSettingOf}
+use Rattle.thread_run.specs.Settings.{IsSettingOf}
 use Rattle.hall_law.specs.Values.{Hall}
 use Rattle.hall_law.specs.Writing.{lane_slot}
 use Rattle.hall_state.specs.State.{HallLaw}

@@ -12,7 +12,7 @@ use Rattle.dag_order.specs.declared.finish.Finish.{Finish}
 use Rattle.deque_list.specs.declared.deque_id.DequeId.{DequeId}
 use Rattle.deque_list.specs.declared.place.Place.{Place}
 use Rattle.deque_list.specs.Ids.{deque_id}
-use Rattle.thread_parts.specs.Roots.{end_of_root}
+use Rattle.thread_frames.specs.Roots.{end_of_root}
 use Rattle.run_end.specs.declared.ends.RunEnd.{RunEnd}
 use Rattle.run_end.specs.declared.ends.RunEnd.TheVariants.{Finished}
 use Rattle.lawful_books.specs.Lists.{Among, Each}

@@ -10,13 +10,13 @@ use Rattle.deque_list.specs.declared.deque_id.DequeId.{DequeId}
 use Rattle.deque_list.specs.declared.place.Place.{Place}
 use Rattle.deque_machine.specs.Terms.{Terms, machine_of}
 use Rattle.depth_first_run.specs.States.{Setting}
-use Rattle.thread_parts.specs.Roots.{end_of_root}
+use Rattle.thread_frames.specs.Roots.{end_of_root}
 use Rattle.run_end.specs.declared.ends.RunEnd.{RunEnd}
 use Rattle.run_end.specs.declared.ends.RunEnd.TheVariants.{Finished}
 use Rattle.lawful_books.specs.Lists.{Each}
 use Rattle.thread_frames.specs.Points.{IsAtPoint}
 use Rattle.thread_map.specs.Kept.{kept_under}
-use Rattle.thread_steps.specs.Settings.{IsSettingOf}
+use Rattle.thread_run.specs.Settings.{IsSettingOf}
 use Rattle.hall_crew.specs.Views.{View}
 use Rattle.hall_law.specs.Values.{Hall, lane_at}
 use Rattle.hall_law.specs.Writing.{lane_slot, place_of}

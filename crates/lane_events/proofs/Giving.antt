@@ -6,8 +6,8 @@ use Rattle.thread_frames.specs.Children.{IsAwaited}
 use Rattle.thread_frames.specs.Views.{children_of, label_of}
 use Rattle.thread_frames.specs.declared.ended.Ended.{Ended}
 use Rattle.thread_frames.specs.declared.thread.Thread.{Thread}
-use Rattle.thread_parts.specs.Shown.{thread_shown, result_shown}
-use Rattle.thread_parts.proofs.Threads.{deliveries_hand_over}
+use Rattle.thread_frames.specs.Shown.{thread_shown, result_shown}
+use Rattle.thread_frames.proofs.Threads.{deliveries_hand_over}
 use Rattle.thread_events.specs.Results.{IsGiven}
 use Rattle.hall_law.specs.Writing.{IsHanded}
 

@@ -8,7 +8,7 @@ use Rattle.period_table.specs.Tables.{noted}
 use Rattle.quota_period.specs.declared.period.Period.{Period as OpenPeriod}
 use Rattle.moment_parts.specs.Parts as parts
 use Rattle.thread_frames.specs.declared.thread.Thread.{Thread}
-use Rattle.thread_parts.specs.Shown.{thread_shown}
+use Rattle.thread_frames.specs.Shown.{thread_shown}
 use Rattle.deque_events.specs.Events.{DidAlone, DidFork}
 use Rattle.hall_law.specs.Values.{Hall, open_for}
 use Rattle.hall_law.specs.Writing.{IsAtWork, ActsInLane, acts_alone, forks_child}

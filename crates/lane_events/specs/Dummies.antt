@@ -9,7 +9,7 @@ use Rattle.quota_period.specs.declared.period.Period.{Period as OpenPeriod}
 use Rattle.thread_frames.specs.Actions.{IsOfTheList}
 use Rattle.thread_frames.specs.declared.next.Next.TheVariants as nexts
 use Rattle.thread_frames.specs.declared.thread.Thread.{Thread}
-use Rattle.thread_parts.specs.Shown.{thread_shown}
+use Rattle.thread_frames.specs.Shown.{thread_shown}
 use Rattle.thread_events.specs.Acts.{StaysAtPoint}
 use Rattle.deque_events.specs.Events.{DidDummy}
 

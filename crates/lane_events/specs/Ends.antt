@@ -13,7 +13,7 @@ use Rattle.thread_frames.specs.Views.{label_of, ended_label}
 use Rattle.thread_frames.specs.declared.ended.Ended.{Ended}
 use Rattle.thread_frames.specs.declared.next.Next.TheVariants as nexts
 use Rattle.thread_frames.specs.declared.thread.Thread.{Thread}
-use Rattle.thread_parts.specs.Shown.{thread_shown, result_shown}
+use Rattle.thread_frames.specs.Shown.{thread_shown, result_shown}
 use Rattle.deque_events.specs.Events.{DidEnd}
 use Rattle.thread_events.specs.Results.{IsGiven}
 use Rattle.hall_law.specs.Writing.{IsHanded}

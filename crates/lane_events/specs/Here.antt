@@ -17,7 +17,7 @@ use Rattle.space_ledger.specs.Sums.{total_change}
 use Rattle.thread_frames.specs.Actions.{IsOfTheList}
 use Rattle.thread_frames.specs.declared.next.Next.{Next}
 use Rattle.thread_frames.specs.declared.thread.Thread.{Thread}
-use Rattle.thread_parts.specs.Shown.{thread_shown}
+use Rattle.thread_frames.specs.Shown.{thread_shown}
 use Rattle.thread_events.specs.Acts.{StaysAtPoint}
 use Rattle.hall_law.specs.Values.{Hall, PoolShown, open_for}
 use Rattle.hall_law.specs.Writing.{IsAtWork, ActsInLane, PoolTakes}

@@ -14,7 +14,7 @@ ghost use Rattle.thread_frames.specs.Views.{children_of, next_of, done_of, label
 ghost use Rattle.thread_frames.specs.declared.next.Next.TheVariants as nexts;
 ghost use Rattle.thread_frames.specs.declared.thread.Thread.{Thread as AnyThread};
 ghost use Rattle.thread_events.specs.Results.{FirstAwaits, IsGiven};
-ghost use Rattle.thread_parts.specs.Shown.{thread_shown, result_shown};
+ghost use Rattle.thread_frames.specs.Shown.{thread_shown, result_shown};
 ghost use Rattle.hall_law.specs.Writing.{IsHanded};
 ghost use Rattle.lane_events.specs.Here.{HasRoomIn, HasMovesFor, TakesWords, pool_with};
 ghost use Rattle.lane_events.specs.Ends.{EndsHere, EndsAbove};

@@ -7,8 +7,8 @@ use Rattle.dag_order.specs.declared.thread_id.ThreadId.{ThreadId}
 use Rattle.lawful_books.specs.Lists.{Each}
 use Rattle.moment_parts.specs.Parts.{Child}
 use Rattle.thread_frames.specs.declared.thread.Thread.{Thread}
-use Rattle.thread_parts.specs.Kept.{WaitsUnder, waiting_shown}
-use Rattle.thread_parts.proofs.Found.{none_found}
+use Rattle.thread_frames.specs.Kept.{WaitsUnder, waiting_shown}
+use Rattle.thread_frames.proofs.Found.{none_found}
 use Rattle.hall_slots.specs.declared.list_slot.ListSlot.{ListSlot}
 use Rattle.hall_slots.specs.Shown.{list_shown}
 use Rattle.list_events.specs.Calls.{TakesWaiting}

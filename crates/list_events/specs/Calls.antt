@@ -7,7 +7,7 @@ use Rattle.moment_parts.specs.Parts as parts
 use Rattle.period_table.specs.Tables.{shut}
 use Rattle.thread_frames.specs.declared.ended.Ended.{Ended}
 use Rattle.thread_frames.specs.declared.thread.Thread.{Thread}
-use Rattle.thread_parts.specs.Shown.{thread_shown, result_shown}
+use Rattle.thread_frames.specs.Shown.{thread_shown, result_shown}
 use Rattle.hall_law.specs.Values.{Hall, ListShown}
 use Rattle.hall_law.specs.Writing.{IsAtWork, IsHanded, list_without}
 use Rattle.hall_slots.specs.declared.list_slot.ListSlot.{ListSlot}

@@ -11,7 +11,7 @@ use Rattle.period_table.specs.Tables.{noted}
 use Rattle.moment_parts.specs.Parts.{Child, Thread, Result}
 use Rattle.deque_events.specs.Events.{DidJoin, DidEnd}
 use Rattle.thread_map.specs.Kept.{kept_under}
-use Rattle.thread_parts.specs.Kept.{WaitsUnder}
+use Rattle.thread_frames.specs.Kept.{WaitsUnder}
 use Rattle.hall_law.specs.Values.{PoolShown, Hall, ListShown}
 use Rattle.hall_law.specs.Steps.{Step, Leads, did}
 use Rattle.hall_law.specs.Writing.{lane_with, IsAtWork, written, step_of, PoolTakes, IsHanded}

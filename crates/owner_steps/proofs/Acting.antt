@@ -22,7 +22,7 @@ use Rattle.thread_frames.specs.declared.next.Next.{Next}
 use Rattle.thread_frames.specs.declared.thread.Thread.{Thread}
 use Rattle.thread_frames.specs.declared.ended.Ended.{Ended}
 use Rattle.thread_frames.specs.Points.{IsAtPoint, IsResult}
-use Rattle.thread_parts.specs.Shown.{thread_shown}
+use Rattle.thread_frames.specs.Shown.{thread_shown}
 use Rattle.deque_events.specs.Shown.{deque_with, Stands, parts_under}
 use Rattle.deque_events.specs.Seats.{KeepsSeats, LeavesSeat}
 use Rattle.thread_events.specs.Acts.{ActsBy, GoesBack, GoesBackUnowned, GoesBackWithChild}
@@ -30,7 +30,7 @@ use Rattle.core_parts.specs.declared.scheduler.Scheduler.{Scheduler}
 use Rattle.step_laws.specs.Standing.{Settles, as_they_are}
 use Rattle.step_laws.proofs.Standing.{the_same}
 use Rattle.core_parts.specs.Held.{Held, held, held_under, parts_in, IsReordered, OwnersSit, OwnsNone, IsInOrder, AreAtPoints, AreResults}
-use Rattle.thread_parts.specs.Kept.{waiting_shown, result_kept}
+use Rattle.thread_frames.specs.Kept.{waiting_shown, result_kept}
 use Rattle.core_parts.specs.Moments.{terms_of}
 use Rattle.depth_first_list.specs.Actions.{weight_of}
 use Rattle.deque_machine.specs.Runs.{moves_words}

@@ -31,8 +31,8 @@ use Rattle.thread_frames.specs.Points.{IsAtPoint, IsResult}
 use Rattle.thread_frames.specs.Children.{IsAwaited}
 use Rattle.thread_frames.specs.Views.{label_of, children_of, ended_label}
 use Rattle.thread_points.specs.Points.{words_at_end}
-use Rattle.thread_parts.specs.Shown.{thread_shown, result_shown}
-use Rattle.thread_parts.proofs.Threads.{deliveries_hand_over}
+use Rattle.thread_frames.specs.Shown.{thread_shown, result_shown}
+use Rattle.thread_frames.proofs.Threads.{deliveries_hand_over}
 use Rattle.deque_events.specs.Shown.{deque_shown, deque_with, parts_of, Stands, Becomes}
 use Rattle.deque_events.specs.Seats.{KeepsSeats, LeavesSeat}
 use Rattle.thread_events.specs.Acts.{Always, EndsAboveBy, EndsAndWakesBy, EndsAndLeavesBy}
@@ -40,9 +40,9 @@ use Rattle.core_parts.specs.declared.scheduler.Scheduler.{Scheduler}
 use Rattle.step_laws.specs.Orders.{AreSame}
 use Rattle.step_laws.specs.Standing.{Settles, as_they_are, handed_on}
 use Rattle.core_parts.specs.Held.{Held, held, held_under, parts_in, IsReordered, OwnersSit, OwnsNone, IsInOrder, AreAtPoints, AreResults}
-use Rattle.thread_parts.specs.Kept.{waiting_shown, result_kept, WaitsUnder, IsUnderItsId}
+use Rattle.thread_frames.specs.Kept.{waiting_shown, result_kept, WaitsUnder, IsUnderItsId}
 use Rattle.core_parts.proofs.Lists.{each_moved}
-use Rattle.thread_parts.proofs.Found.{none_found}
+use Rattle.thread_frames.proofs.Found.{none_found}
 use Rattle.core_parts.proofs.AtTop.{period_is_there, seat_of_deque}
 use Rattle.owner_steps.specs.Acts.{Acted, Performs}
 use Rattle.owner_steps.specs.Ends.{EndsBy}

@@ -11,13 +11,13 @@ use Rattle.lawful_books.proofs.Lists.{each_at}
 use Rattle.moment_parts.specs.Events.{GivesUp, Suspends}
 use Rattle.thread_frames.specs.declared.thread.Thread.{Thread}
 use Rattle.thread_frames.specs.Points.{IsAtPoint}
-use Rattle.thread_parts.specs.Shown.{thread_shown}
+use Rattle.thread_frames.specs.Shown.{thread_shown}
 use Rattle.deque_events.specs.Shown.{deque_with, parts_of, Stands, Becomes}
 use Rattle.deque_events.specs.Events.{GaveUp, Suspended}
 use Rattle.deque_events.specs.Seats.{LeavesSeat}
 use Rattle.core_parts.specs.declared.scheduler.Scheduler.{Scheduler}
 use Rattle.core_parts.specs.Held.{held, held_under, parts_in, OwnersSit}
-use Rattle.thread_parts.specs.Kept.{waiting_shown, result_kept, WaitsUnder}
+use Rattle.thread_frames.specs.Kept.{waiting_shown, result_kept, WaitsUnder}
 use Rattle.core_parts.proofs.Lists.{each_moved}
 use Rattle.owner_steps.specs.Leaves.{IsIdleEvent, LeavesDeque, LeavesList}
 use Rattle.owner_steps.proofs.Places.{leave_sitting, points_change, under_is}

@@ -28,7 +28,7 @@ use Rattle.moment_parts.specs.Events.{Works}
 use Rattle.moment_parts.proofs.Shown.{used_is}
 use Rattle.moment_parts.proofs.Placing.{own}
 use Rattle.depth_first_run.specs.Run.{list_of}
-use Rattle.thread_steps.specs.Settings.{IsSettingOf}
+use Rattle.thread_run.specs.Settings.{IsSettingOf}
 use Rattle.thread_frames.specs.Actions.{IsOfTheList, deed_of, TellsWords}
 use Rattle.thread_frames.specs.Views.{label_of, children_of, thread_words, join_words_of}
 use Rattle.thread_frames.specs.declared.next.Next.{Next}
@@ -58,8 +58,8 @@ use Rattle.thread_map.specs.Kept.{kept_under}
 use Rattle.thread_frames.specs.Children.{is_delivered}
 use Rattle.thread_frames.specs.Points.{IsResult}
 use Rattle.thread_frames.specs.declared.next.Next.TheVariants as nexts
-use Rattle.thread_parts.proofs.Threads.{next_actions_stand}
-use Rattle.thread_parts.specs.Kept.{WaitsUnder}
+use Rattle.thread_frames.proofs.Threads.{next_actions_stand}
+use Rattle.thread_frames.specs.Kept.{WaitsUnder}
 use Rattle.core_parts.proofs.Leaving.{waited_goes_on}
 use Rattle.core_parts.proofs.Joining.{newest_child, joins_it, told_newest, unkept, waits_alone, not_waited}
 use Rattle.owner_steps.specs.Leaves.{LeavesDeque, LeavesList}

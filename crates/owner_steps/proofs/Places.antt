@@ -12,12 +12,12 @@ use Rattle.period_table.specs.declared.table.PeriodTable.{PeriodTable}
 use Rattle.period_table.specs.Tables.{deque_at}
 use Rattle.thread_frames.specs.declared.thread.Thread.{Thread}
 use Rattle.thread_frames.specs.Points.{IsAtPoint}
-use Rattle.thread_parts.specs.Shown.{thread_shown}
+use Rattle.thread_frames.specs.Shown.{thread_shown}
 use Rattle.deque_events.specs.Shown.{deque_shown, deque_with, Stands, parts_under}
 use Rattle.deque_events.specs.Seats.{KeepsSeats, LeavesSeat}
 use Rattle.core_parts.specs.declared.scheduler.Scheduler.{Scheduler}
 use Rattle.core_parts.specs.Held.{held, held_under, parts_in, OwnersSit, OwnsNone}
-use Rattle.thread_parts.specs.Kept.{waiting_shown, result_kept}
+use Rattle.thread_frames.specs.Kept.{waiting_shown, result_kept}
 
 -- a deque with an owner is at the owner's seat
 abbrev pub Sits : PeriodTable → Deque Thread → Type 0

@@ -30,13 +30,13 @@ use Rattle.thread_frames.specs.Views.{thread_words, next_of, done_of, children_o
 use Rattle.thread_frames.specs.Actions.{IsStill, IsOfTheList, JoinsNewest}
 use Rattle.thread_frames.specs.declared.next.Next.{Next}
 use Rattle.thread_frames.proofs.Placed.{placed_of}
-use Rattle.thread_steps.specs.Settings.{IsSettingOf}
+use Rattle.thread_run.specs.Settings.{IsSettingOf}
 use Rattle.owner_steps.specs.Memory.{HasMemory}
 use Rattle.owner_steps.specs.Tops.{TakesTop}
 use Rattle.owner_steps.specs.Steps.{IsBeforeAction, Comes}
 use Rattle.core_parts.proofs.AtTop.{owns_none, words_within, used_within, counts_within}
 use Rattle.core_parts.proofs.Bounds.{seat_deque}
-use Rattle.thread_parts.proofs.Points.{point_one}
+use Rattle.thread_frames.proofs.Points.{point_one}
 use Rattle.owner_steps.proofs.Owning.{quota_is}
 
 -- the deque without its top item

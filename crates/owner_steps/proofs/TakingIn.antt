@@ -18,7 +18,7 @@ use Rattle.node_table.specs.Table.{Table}
 use Rattle.period_table.specs.Tables.{deque_at}
 use Rattle.moment_parts.specs.Parts as parts
 use Rattle.thread_map.specs.Kept.{Kept, kept_under}
-use Rattle.thread_steps.specs.Settings.{IsSettingOf}
+use Rattle.thread_run.specs.Settings.{IsSettingOf}
 use Rattle.thread_frames.specs.Actions.{IsOfTheList, deed_of, is_there}
 use Rattle.thread_frames.specs.Children.{is_delivered, IsAwaited}
 use Rattle.thread_frames.specs.Points.{IsAtPoint, IsResult}
@@ -32,12 +32,12 @@ use Rattle.deque_events.specs.Shown.{deque_with, Stands}
 use Rattle.core_parts.specs.declared.scheduler.Scheduler.{Scheduler}
 use Rattle.core_parts.specs.declared.event.Event.{Event}
 use Rattle.core_parts.specs.Held.{held_under, IsInOrder, AreAtPoints}
-use Rattle.thread_parts.specs.Kept.{IsUnderItsId}
+use Rattle.thread_frames.specs.Kept.{IsUnderItsId}
 use Rattle.core_parts.specs.Moments.{terms_of, HasRun, IsSound}
 use Rattle.deque_machine.specs.Terms.{machine_of}
 use Rattle.core_parts.proofs.Lists.{each_moved}
-use Rattle.thread_parts.proofs.Found.{found_among}
-use Rattle.thread_parts.proofs.Points.{point_one}
+use Rattle.thread_frames.proofs.Found.{found_among}
+use Rattle.thread_frames.proofs.Points.{point_one}
 use Rattle.core_parts.proofs.Joining.{newest_child, joins_it, told, ended_when_delivered, ended_when_kept, awaited_one, to_come, given, handed}
 use Rattle.owner_steps.specs.Steps.{IsBeforeAction, Comes}
 use Rattle.thread_events.specs.Results.{HasCome}

@@ -10,12 +10,12 @@ use Rattle.period_table.specs.Tables.{period_at}
 use Rattle.moment_parts.specs.Parts as parts
 use Rattle.moment_parts.specs.Events.{IsNextOf, GivesUp, Suspends}
 use Rattle.thread_frames.specs.declared.thread.Thread.{Thread}
-use Rattle.thread_parts.specs.Shown.{thread_shown}
+use Rattle.thread_frames.specs.Shown.{thread_shown}
 use Rattle.deque_events.specs.Shown.{Stands}
 use Rattle.core_parts.specs.declared.scheduler.Scheduler.{Scheduler}
 use Rattle.step_laws.specs.Orders.{AreSame}
 use Rattle.core_parts.specs.Held.{held, held_under, parts_in, IsInOrder, AreAtPoints, OwnsNone}
-use Rattle.thread_parts.specs.Kept.{WaitsUnder}
+use Rattle.thread_frames.specs.Kept.{WaitsUnder}
 use Rattle.core_parts.specs.Moments.{SameTerms}
 
 -- what stays where nothing is done

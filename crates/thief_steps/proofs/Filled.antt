@@ -10,7 +10,7 @@ use Rattle.moment_parts.specs.Parts as parts
 use Rattle.node_table.specs.Table.{Table}
 use Rattle.period_table.proofs.Lists.{among_of_place}
 use Rattle.thread_frames.specs.declared.thread.Thread.{Thread}
-use Rattle.thread_parts.specs.Shown.{thread_shown}
+use Rattle.thread_frames.specs.Shown.{thread_shown}
 use Rattle.core_parts.specs.declared.scheduler.Scheduler.{Scheduler}
 use Rattle.core_parts.specs.Held.{held}
 use Rattle.core_parts.specs.Moments.{IsSound, terms_of}

@@ -11,14 +11,14 @@ use Rattle.deque_list.specs.DequeLists.{ListView}
 use Rattle.lawful_books.specs.Lists.{Each}
 use Rattle.moment_parts.specs.Events.{Steals}
 use Rattle.thread_frames.specs.declared.thread.Thread.{Thread}
-use Rattle.thread_parts.specs.Shown.{thread_shown}
+use Rattle.thread_frames.specs.Shown.{thread_shown}
 use Rattle.period_table.specs.Tables.{periods_of}
 use Rattle.deque_events.specs.Shown.{Holds, Becomes, IsCut, deque_with, deque_shown, parts_of}
 use Rattle.deque_events.specs.Seats.{TakesSeat}
 use Rattle.deque_events.specs.Events.{StoleBeside, TookOver}
 use Rattle.core_parts.specs.declared.scheduler.Scheduler.{Scheduler}
 use Rattle.core_parts.specs.Held.{held, parts_in}
-use Rattle.thread_parts.specs.Kept.{waiting_shown, result_kept}
+use Rattle.thread_frames.specs.Kept.{waiting_shown, result_kept}
 use Rattle.thief_steps.specs.Thefts.{KeepsRest, Robs, takes_bottom, takes_deque}
 
 module _ (worker : ℕ) (before after : Scheduler) (id : DequeId) (number : ℕ) (rest : KeepsRest before after) (seats : TakesSeat worker id before.table after.table)

@@ -21,10 +21,10 @@ use Rattle.space_ledger.specs.Sums.{total_change}
 use Rattle.node_table.specs.Table.{Table}
 use Rattle.period_table.specs.declared.table.PeriodTable.{PeriodTable}
 use Rattle.period_table.specs.Tables.{seat_at, deque_at, deque_of}
-use Rattle.thread_steps.specs.Settings.{IsSettingOf}
+use Rattle.thread_run.specs.Settings.{IsSettingOf}
 use Rattle.thread_frames.specs.declared.thread.Thread.{Thread}
 use Rattle.thread_frames.specs.Points.{IsAtPoint, IsResult}
-use Rattle.thread_parts.specs.Shown.{thread_shown}
+use Rattle.thread_frames.specs.Shown.{thread_shown}
 use Rattle.moment_parts.specs.Parts.{Parts}
 use Rattle.deque_events.specs.Seats.{TakesSeat}
 use Rattle.deque_events.specs.Shown.{deque_with}
@@ -37,7 +37,7 @@ use Rattle.run_end.specs.declared.stop.Stop.TheVariants.{ArenaFull, DequesFull, 
 use Rattle.core_parts.specs.declared.scheduler.Scheduler.{Scheduler}
 use Rattle.step_laws.specs.Orders.{AreSame}
 use Rattle.core_parts.specs.Held.{Held, held, parts_in, OwnersSit, IsInOrder, AreAtPoints}
-use Rattle.thread_parts.specs.Kept.{WaitsUnder, IsUnderItsId}
+use Rattle.thread_frames.specs.Kept.{WaitsUnder, IsUnderItsId}
 use Rattle.core_parts.specs.Moments.{HasRun, IsSound, CanGoOn, SameTerms, terms_of}
 use Rattle.deque_machine.specs.Terms.{machine_of}
 use Rattle.core_parts.specs.Outcomes.{GoesOn, Stops, StopsBy}

@@ -15,7 +15,7 @@ use Rattle.deque_machine.specs.Play.{IsFirst, IsReady, IsThiefsId, Stays, Wants,
 use Rattle.moment_parts.specs.Parts as parts
 use Rattle.period_books.proofs.Sorting.{get_middle}
 use Rattle.thread_frames.specs.declared.thread.Thread.{Thread}
-use Rattle.thread_parts.specs.Shown.{thread_shown}
+use Rattle.thread_frames.specs.Shown.{thread_shown}
 use Rattle.deque_events.specs.Shown.{deque_shown, deque_with}
 use Rattle.core_parts.proofs.Sitting.{IsTheft}
 use Rattle.step_laws.specs.Readiness.{AreDeques}

@@ -22,8 +22,8 @@ use Rattle.thread_frames.specs.declared.ended.Ended.{Ended}
 use Rattle.thread_frames.specs.declared.next.Next.TheVariants as nexts
 use Rattle.thread_frames.specs.declared.thread.Thread.{Thread}
 use Rattle.moment_parts.specs.Parts as parts
-use Rattle.thread_parts.specs.Shown.{child_shown, thread_shown, result_shown}
-use Rattle.thread_parts.proofs.Threads.{next_actions_stand, actions_are_acted, joins_are_joined, forks_are_forked, newest_last}
+use Rattle.thread_frames.specs.Shown.{child_shown, thread_shown, result_shown}
+use Rattle.thread_frames.proofs.Threads.{next_actions_stand, actions_are_acted, joins_are_joined, forks_are_forked, newest_last}
 use Rattle.deque_events.specs.Events.{DidAlone, DidDummy, DidJoin, DidEnd, DidFork}
 
 -- the name of the next action of a thread

@@ -3,7 +3,7 @@ use Rattle.std.proofs.Common.{◌≡◌, ◌+◌, sym, ◌∙◌, ap, subst}
 use Rattle.dag_order.specs.declared.action_id.ActionId.{ActionId}
 use Rattle.depth_first_run.specs.States.{Setting}
 use Rattle.deque_events.specs.Events.{DidEnd}
-use Rattle.thread_parts.specs.Shown.{thread_shown, result_shown}
+use Rattle.thread_frames.specs.Shown.{thread_shown, result_shown}
 use Rattle.thread_points.specs.Points.{words_at_end}
 use Rattle.depth_first_run.specs.Run.{list_of}
 use Rattle.thread_frames.specs.Actions.{IsOfTheList}

@@ -24,7 +24,7 @@ use Rattle.thread_frames.specs.declared.next.Next.TheVariants.{Fork, Join, Alloc
 use Rattle.thread_frames.specs.declared.thread.Thread.{Thread}
 use Rattle.node_table.specs.Table.{Table}
 use Rattle.thread_frames.specs.Points.{IsAtPoint}
-use Rattle.thread_parts.specs.Shown.{thread_shown, result_shown}
+use Rattle.thread_frames.specs.Shown.{thread_shown, result_shown}
 use Rattle.deque_events.specs.Events.{DidAlone, DidDummy, DidJoin, DidFork, DidEnd}
 use Rattle.thread_events.specs.declared.forked.Forked.{Forked}
 use Rattle.deque_events.specs.Shown.{deque_with, parts_of, Stands, Becomes, parts_under}

@@ -30,9 +30,9 @@ use Rattle.thread_output.specs.declared.told.Told.{Told}
 use Rattle.thread_output.proofs.Both.{faults, lines}
 use Rattle.thread_state.specs.States.{IsState}
 use Rattle.thread_state.specs.declared.state.ThreadState.{ThreadState}
-use Rattle.thread_steps.specs.Stands.{InState}
-use Rattle.thread_steps.specs.declared.ready.Ready.{Ready}
-use Rattle.thread_steps.proofs.Coming.{items_aside}
+use Rattle.thread_run.specs.Stands.{InState}
+use Rattle.thread_run.specs.declared.ready.Ready.{Ready}
+use Rattle.thread_run.proofs.Coming.{items_aside}
 use Rattle.thread_run.specs.Functions.{frames_of, functions_of}
 use Rattle.thread_run.specs.Going.{ActsBy}
 use Rattle.thread_run.specs.declared.run.ThreadRun.{ThreadRun}

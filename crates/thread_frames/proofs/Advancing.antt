@@ -13,9 +13,9 @@ use Rattle.thread_points.specs.Points.{marked, words_at_end}
 use Rattle.thread_points.specs.Threads.{open_children}
 use Rattle.thread_stack.specs.declared.frame.Frame.{Frame}
 use Rattle.thread_stack.specs.Frames.{AreFrames}
-use Rattle.thread_steps.specs.Dones.{IsAction}
-use Rattle.thread_steps.specs.declared.ready.Ready.{Ready}
-use Rattle.thread_steps.specs.declared.ready.Ready.TheVariants as ready
+use Rattle.thread_run.specs.Dones.{IsAction}
+use Rattle.thread_run.specs.declared.ready.Ready.{Ready}
+use Rattle.thread_run.specs.declared.ready.Ready.TheVariants as ready
 use Rattle.thread_run.specs.Functions.{functions_of, frames_of, frames_before}
 use Rattle.thread_run.specs.Going.{IsNext, ActsBy, IsBefore, IsKnown, Comes}
 use Rattle.thread_run.specs.declared.run.ThreadRun.{ThreadRun}

@@ -10,7 +10,7 @@ use Rattle.depth_first_run.specs.Middle.{Frame}
 use Rattle.node_table.specs.Table.{Table}
 use Rattle.thread_points.specs.Threads as threads
 use Rattle.thread_points.specs.Threads.{open_children}
-use Rattle.thread_steps.specs.Stands.{InState}
+use Rattle.thread_run.specs.Stands.{InState}
 use Rattle.thread_run.specs.declared.run.ThreadRun.{ThreadRun}
 use Rattle.thread_frames.specs.Views.{newest, id_of, told_as, brought, all_brought, ended_words, ended_label, child_shown}
 use Rattle.thread_frames.specs.Children.{IsResultFor}

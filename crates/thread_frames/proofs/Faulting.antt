@@ -17,7 +17,7 @@ use Rattle.thread_state.specs.States.{IsState, rows_of, words_held}
 use Rattle.thread_state.specs.declared.state.ThreadState.{ThreadState}
 use Rattle.thread_state.proofs.Holding.{ended, ends}
 use Rattle.thread_state.proofs.Held.{holdings_are}
-use Rattle.thread_steps.specs.Stands.{InState}
+use Rattle.thread_run.specs.Stands.{InState}
 use Rattle.thread_run.specs.Going.{FaultsBy}
 use Rattle.thread_run.specs.declared.run.ThreadRun.{ThreadRun}
 use Rattle.thread_frames.specs.Points.{At}

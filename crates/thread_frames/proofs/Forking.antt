@@ -37,10 +37,10 @@ use Rattle.thread_state.specs.States.{own_row, words_held}
 use Rattle.thread_state.specs.declared.state.ThreadState.{ThreadState}
 use Rattle.thread_state.proofs.Held.{holdings_are}
 use Rattle.thread_state.proofs.Steps.{own_store}
-use Rattle.thread_steps.specs.Stands.{InState}
-use Rattle.thread_steps.specs.Dones.{IsForkBy, IsTakenBy, IsWorkOf}
-use Rattle.thread_steps.specs.declared.ready.Forking.{Forking}
-use Rattle.thread_steps.specs.declared.ready.Ready.TheVariants as ready
+use Rattle.thread_run.specs.Stands.{InState}
+use Rattle.thread_run.specs.Dones.{IsForkBy, IsTakenBy, IsWorkOf}
+use Rattle.thread_run.specs.declared.ready.Forking.{Forking}
+use Rattle.thread_run.specs.declared.ready.Ready.TheVariants as ready
 use Rattle.thread_run.specs.Functions.{forked_in, frames_of, functions_of}
 use Rattle.thread_run.specs.Going.{ActsBy, IsBefore}
 use Rattle.thread_run.specs.declared.run.ThreadRun.{ThreadRun}

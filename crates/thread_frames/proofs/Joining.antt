@@ -44,9 +44,9 @@ use Rattle.thread_state.proofs.Holding as holding
 use Rattle.thread_state.proofs.Held.{holdings_are}
 use Rattle.thread_state.proofs.Joining.{brought_are}
 use Rattle.thread_state.proofs.Steps.{own_store}
-use Rattle.thread_steps.specs.Stands.{InState}
+use Rattle.thread_run.specs.Stands.{InState}
 use Rattle.thread_run.specs.Functions.{forked_in, frames_of, functions_of}
-use Rattle.thread_steps.specs.declared.ready.Ready.TheVariants as ready
+use Rattle.thread_run.specs.declared.ready.Ready.TheVariants as ready
 use Rattle.thread_run.specs.Going.{IsBefore}
 use Rattle.thread_run.specs.declared.run.ThreadRun.{ThreadRun}
 use Rattle.thread_frames.proofs.Sets.{fits_had}

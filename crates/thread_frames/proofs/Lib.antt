@@ -13,3 +13,6 @@ pub mod Sets
 pub mod Forking
 pub mod Joining
 pub mod Beginning
+pub mod Threads
+pub mod Found
+pub mod Points

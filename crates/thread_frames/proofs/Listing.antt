@@ -30,7 +30,7 @@ use Rattle.thread_stack.specs.Frames.{AreFrames, IsJoinOf, names_now}
 use Rattle.thread_stack.specs.declared.branch.Branch.{Branch}
 use Rattle.thread_stack.specs.declared.frame.Frame.{Frame as OwnFrame}
 use Rattle.thread_stack.specs.declared.frame.Frame.TheVariants.{Joins}
-use Rattle.thread_steps.specs.Stands.{InState}
+use Rattle.thread_run.specs.Stands.{InState}
 use Rattle.thread_run.specs.Functions.{frames_of}
 use Rattle.block_arena.specs.declared.record_block.RecordBlock.{RecordBlock}
 use Rattle.thread_run.specs.declared.run.ThreadRun.{ThreadRun}

@@ -7,3 +7,7 @@ pub mod Forking
 pub mod Joining
 pub mod Points
 pub mod Actions
+pub mod Shown
+pub mod Kept
+pub mod Roots
+pub mod Laws

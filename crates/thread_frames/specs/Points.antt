@@ -16,9 +16,9 @@ use Rattle.block_arena.specs.declared.record_block.RecordBlock.{RecordBlock}
 use Rattle.thread_frames.specs.Memory.{RoomFits}
 use Rattle.thread_frames.specs.Slots.{taken_slots, assigned_slots}
 use Rattle.thread_output.specs.Telling.{Tells}
-use Rattle.thread_steps.specs.Settings.{IsSettingOf}
-use Rattle.thread_steps.specs.Stands.{InState}
-use Rattle.thread_steps.specs.declared.ready.Ready.TheVariants as ready
+use Rattle.thread_run.specs.Settings.{IsSettingOf}
+use Rattle.thread_run.specs.Stands.{InState}
+use Rattle.thread_run.specs.declared.ready.Ready.TheVariants as ready
 use Rattle.thread_stack.specs.Frames.{RunsIn}
 use Rattle.thread_run.specs.Functions.{frames_of, functions_of}
 use Rattle.thread_run.specs.Going.{IsGoing, IsBefore}

@@ -23,7 +23,7 @@ use std::mem;
 use thread_output::Told;
 use thread_stack::{Branch, Frame};
 use thread_state::{ForkRoom, ThreadState};
-use thread_steps::Forking;
+use thread_run::Forking;
 
 impl Thread {
     ghost use Rattle.thread_frames.specs.Views.{next_of, done_of};

@@ -7,8 +7,9 @@
 //!
 //! Its one theorem: at each time a thread is at its point of the depth-first run, whatever the other threads have done. What it does next
 //! is the action that the depth-first list has under its label and index, with its words; each call of an action brings it to its next
-//! point, and takes just these words from the pool, gives them back, or answers what has to go back; and its result is what the depth-first run has at its End, so that the result of the
-//! root tells the whole run. Want of memory is the one free answer: of [`Thread::root`], [`Thread::advance`] and [`Ended::lines`].
+//! point, and takes just these words from the pool, gives them back, or answers what has to go back; and its result is what the depth-first
+//! run has at its End, so that the result of the root tells the whole run. The laws of the machine's events (`moment_parts`) speak of threads
+//! as plain data: which data a thread is, is here too, and that each of its calls is what the law of its event asks for. Want of memory is the one free answer: of [`Thread::root`], [`Thread::advance`] and [`Ended::lines`].
 #![tactic(auto)]
 
 mod acts;
@@ -19,6 +20,7 @@ mod error;
 mod forks;
 mod going;
 mod joins;
+mod laws;
 mod next;
 mod open_child;
 mod place;
@@ -28,6 +30,9 @@ mod thread;
 pub use ended::Ended;
 pub use ends::give_record;
 pub use error::ArenaFull;
+pub use laws::{
+    actions_are_acted, deliveries_hand_over, forks_are_forked, joins_are_joined, next_actions_stand,
+};
 pub use next::Next;
 pub use place::Place;
 pub use thread::Thread;

@@ -2,7 +2,7 @@ use crate::child_room::ChildRoom;
 use block_arena::Shell;
 use dag_order::FaultAt;
 use thread_stack::Branch;
-use thread_steps::Forking;
+use thread_run::Forking;
 
 /// The next action of a thread that has come to it, with all the memory that it takes.
 #[derive(Drop)]

@@ -23,8 +23,8 @@ use Rattle.thread_state.specs.Calls.{CanCall}
 use Rattle.thread_state.specs.States.{own_row}
 use Rattle.thread_state.specs.declared.state.ThreadState.{ThreadState}
 use Rattle.thread_state.proofs.Steps.{own_store}
-use Rattle.thread_steps.specs.Meanings.{Meaning, IsMeant}
-use Rattle.thread_steps.proofs.Which.{OfCall, of_call}
+use Rattle.thread_run.specs.Meanings.{Meaning, IsMeant}
+use Rattle.thread_run.proofs.Which.{OfCall, of_call}
 use Rattle.thread_run.specs.Calling.{is_call, CanCallFunction, CanCallAt}
 use Rattle.thread_run.proofs.Beginning.{called}
 use Rattle.thread_run.proofs.OneProof.{can_call_one}

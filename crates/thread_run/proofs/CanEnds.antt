@@ -31,7 +31,7 @@ use Rattle.thread_state.specs.Rows.{ShowStores, Holds}
 use Rattle.thread_state.specs.States.{own_row, rows_of}
 use Rattle.thread_state.specs.Calls.{CanGoBack, CanEnd, CanEndMain, HandsItsOwn, HandsNoBlock, TakesNumber, TakesBlock, TakesAnswer, TakesValue}
 use Rattle.thread_state.specs.declared.state.ThreadState.{ThreadState}
-use Rattle.thread_steps.specs.Stands.{InState}
+use Rattle.thread_run.specs.Stands.{InState}
 use Rattle.thread_run.specs.declared.run.ThreadRun.{ThreadRun}
 use Rattle.thread_run.specs.Calling.{IsThere, CanEndFunction, CanEndAt, CanEndMainBy}
 use Rattle.thread_run.specs.Stepping.{KnowingAt, IsKnownAt}

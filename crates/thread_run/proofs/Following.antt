@@ -22,17 +22,17 @@ use Rattle.thread_points.specs.Laws.{earlier_fault}
 use Rattle.thread_output.specs.declared.told.Told.{Told}
 use Rattle.thread_output.proofs.Both.{faults, lines}
 use Rattle.thread_state.specs.declared.state.ThreadState.{ThreadState}
-use Rattle.thread_steps.specs.Costs.{done_cost, LeavesLess}
-use Rattle.thread_steps.specs.Steps.{ActsNext, StepsOn}
-use Rattle.thread_steps.specs.declared.ready.Ready.{Ready}
-use Rattle.thread_steps.specs.declared.ready.Ready.TheVariants.{Fork, Join, Alloc, Release, Dummy, Fault, End}
-use Rattle.thread_steps.specs.declared.done.Done.{Done}
-use Rattle.thread_steps.specs.declared.done.Done.TheVariants.{Silent, Prints, Acts}
+use Rattle.thread_run.specs.Costs.{done_cost, LeavesLess}
+use Rattle.thread_run.specs.Steps.{ActsNext, StepsOn}
+use Rattle.thread_run.specs.declared.ready.Ready.{Ready}
+use Rattle.thread_run.specs.declared.ready.Ready.TheVariants.{Fork, Join, Alloc, Release, Dummy, Fault, End}
+use Rattle.thread_run.specs.declared.done.Done.{Done}
+use Rattle.thread_run.specs.declared.done.Done.TheVariants.{Silent, Prints, Acts}
 use Rattle.thread_run.specs.declared.run.ThreadRun.{ThreadRun}
 use Rattle.thread_run.specs.Functions.{frames_of}
 use Rattle.thread_run.specs.Going.{IsNext}
 use Rattle.thread_run.specs.Stepping.{frames_with, ready_of, told_by, Does, DoesRun, Wants, StepsRun}
-use Rattle.thread_steps.specs.Dones.{IsAction, Comes, LeadsOrWants}
+use Rattle.thread_run.specs.Dones.{IsAction, Comes, LeadsOrWants}
 
 -- ---- what is told
 

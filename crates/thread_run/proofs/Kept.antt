@@ -16,14 +16,14 @@ use Rattle.thread_stack.specs.declared.frame.Frame.{Frame}
 use Rattle.thread_stack.specs.declared.frame.Frame.TheVariants.{Statements, Again, Tree as DummyTree, Answers, Rejoins, AnswersMain, Allocates, Joins}
 use Rattle.thread_stack.specs.Frames.{AreFrames, frames_shown, IsOne}
 use Rattle.thread_state.specs.declared.state.ThreadState.{ThreadState}
-use Rattle.thread_steps.specs.Steps.{ActsNext}
-use Rattle.thread_steps.specs.Dones.{IsAction, Comes}
-use Rattle.thread_steps.specs.Meanings.{Meaning}
-use Rattle.thread_steps.proofs.Coming.{items_aside}
-use Rattle.thread_steps.specs.declared.ready.Ready.{Ready}
-use Rattle.thread_steps.specs.declared.ready.Ready.TheVariants.{Fork, Join, Alloc, Release, Dummy, Fault, End}
-use Rattle.thread_steps.specs.declared.done.Done.{Done}
-use Rattle.thread_steps.specs.declared.done.Done.TheVariants.{Silent, Prints, Acts}
+use Rattle.thread_run.specs.Steps.{ActsNext}
+use Rattle.thread_run.specs.Dones.{IsAction, Comes}
+use Rattle.thread_run.specs.Meanings.{Meaning}
+use Rattle.thread_run.proofs.Coming.{items_aside}
+use Rattle.thread_run.specs.declared.ready.Ready.{Ready}
+use Rattle.thread_run.specs.declared.ready.Ready.TheVariants.{Fork, Join, Alloc, Release, Dummy, Fault, End}
+use Rattle.thread_run.specs.declared.done.Done.{Done}
+use Rattle.thread_run.specs.declared.done.Done.TheVariants.{Silent, Prints, Acts}
 use Rattle.thread_run.specs.declared.run.ThreadRun.{ThreadRun}
 use Rattle.thread_run.specs.Functions.{functions_of, frames_of, frames_before}
 use Rattle.thread_run.specs.Stepping.{frames_with, ready_of, Meeting, IsMet, KnowingAt, IsKnownAt, frames_left, KeepsFunctions}

@@ -28,9 +28,9 @@ use Rattle.slot_store.proofs.Agreement.{entry_is, row_length}
 use Rattle.thread_state.specs.Conditions.{CanRejoin}
 use Rattle.thread_state.specs.States.{own_row, words_held}
 use Rattle.thread_state.proofs.Steps.{own_store}
-use Rattle.thread_steps.specs.Stands.{InState}
-use Rattle.thread_steps.specs.Rejoining.{CanRejoinAt}
-use Rattle.thread_steps.proofs.Behind.{none_runs}
+use Rattle.thread_run.specs.Stands.{InState}
+use Rattle.thread_run.specs.Rejoining.{CanRejoinAt}
+use Rattle.thread_run.proofs.Behind.{none_runs}
 use Rattle.thread_run.specs.declared.run.ThreadRun.{ThreadRun}
 use Rattle.thread_run.specs.Functions.{frames_of}
 use Rattle.thread_run.specs.Stepping.{KnowingAt, IsKnownAt}

@@ -1,3 +1,10 @@
+pub mod Coming
+pub mod Which
+pub mod KnowingSteps
+pub mod Arms
+pub mod Behind
+pub mod Trees
+pub mod EndSteps
 pub mod Beginning
 pub mod Knowing
 pub mod Returning

@@ -25,13 +25,13 @@ use Rattle.thread_stack.proofs.Lists.{FirstOf, first_statement, at_place, no_sta
 use Rattle.thread_stack.proofs.Costs.{rest_costs}
 use Rattle.thread_output.specs.Telling.{Tells}
 use Rattle.thread_state.specs.declared.state.ThreadState.{ThreadState}
-use Rattle.thread_steps.specs.Settings.{IsSettingOf}
-use Rattle.thread_steps.specs.Stands.{InState}
-use Rattle.thread_steps.specs.Calling.{IsNoCall}
-use Rattle.thread_steps.proofs.Coming.{items_aside}
-use Rattle.thread_steps.proofs.Behind.{none_runs}
-use Rattle.thread_steps.specs.declared.ready.Ready.{Ready}
-use Rattle.thread_steps.specs.declared.ready.Ready.TheVariants.{Fork, Join, Alloc, Release, Dummy, Fault, End}
+use Rattle.thread_run.specs.Settings.{IsSettingOf}
+use Rattle.thread_run.specs.Stands.{InState}
+use Rattle.thread_run.specs.Called.{IsNoCall}
+use Rattle.thread_run.proofs.Coming.{items_aside}
+use Rattle.thread_run.proofs.Behind.{none_runs}
+use Rattle.thread_run.specs.declared.ready.Ready.{Ready}
+use Rattle.thread_run.specs.declared.ready.Ready.TheVariants.{Fork, Join, Alloc, Release, Dummy, Fault, End}
 use Rattle.thread_run.specs.declared.run.ThreadRun.{ThreadRun}
 use Rattle.thread_run.specs.Functions.{frames_of, functions_of}
 use Rattle.thread_run.specs.Calling.{is_call, Begins, BeginsRun}

@@ -13,14 +13,14 @@ use Rattle.thread_stack.specs.Frames.{AreFrames, RunsIn}
 use Rattle.thread_stack.specs.Measure.{left_to_do}
 use Rattle.thread_state.specs.States.{words_held}
 use Rattle.thread_state.specs.declared.state.ThreadState.{ThreadState}
-use Rattle.thread_steps.specs.Settings.{IsSettingOf}
-use Rattle.thread_steps.specs.declared.ready.Ready.{Ready}
-use Rattle.thread_steps.specs.declared.ready.Ready.TheVariants.{End}
+use Rattle.thread_run.specs.Settings.{IsSettingOf}
+use Rattle.thread_run.specs.declared.ready.Ready.{Ready}
+use Rattle.thread_run.specs.declared.ready.Ready.TheVariants.{End}
 use Rattle.thread_run.specs.declared.run.ThreadRun.{ThreadRun}
 use Rattle.thread_run.specs.Functions.{functions_of, frames_of, frames_before}
 use Rattle.thread_run.specs.Going.{IsGoing, Knowing, IsKnown, Comes, Advances}
 use Rattle.thread_run.specs.Stepping.{KnowingAt, IsKnownAt, KeepsCounts, KeepsFunctions, GoesOn, ComesTo, ComesBy, KnownAgain, FallsBy, UnderWay}
-use Rattle.thread_steps.specs.Stands.{InState}
+use Rattle.thread_run.specs.Stands.{InState}
 use Rattle.thread_output.specs.Telling.{Tells}
 
 -- what is kept twice

@@ -23,9 +23,9 @@ use Rattle.thread_output.specs.Telling.{Tells}
 use Rattle.thread_state.specs.States.{IsState}
 use Rattle.thread_state.specs.Effects.{Faults}
 use Rattle.thread_state.specs.declared.state.ThreadState.{ThreadState}
-use Rattle.thread_steps.specs.Stands.{InState}
-use Rattle.thread_steps.specs.declared.ready.Ready.TheVariants.{Fault}
-use Rattle.thread_steps.proofs.Coming.{never_faulted}
+use Rattle.thread_run.specs.Stands.{InState}
+use Rattle.thread_run.specs.declared.ready.Ready.TheVariants.{Fault}
+use Rattle.thread_run.proofs.Coming.{never_faulted}
 use Rattle.thread_run.specs.declared.run.ThreadRun.{ThreadRun}
 use Rattle.thread_run.specs.Functions.{frames_of}
 use Rattle.thread_run.specs.Stepping.{Goes, RunsBy}

@@ -4,8 +4,8 @@ use Rattle.thread_stack.specs.declared.branch.Branch.{Branch}
 use Rattle.thread_stack.specs.declared.branch.Branch.TheVariants.{Par, Dummies}
 use Rattle.thread_stack.specs.declared.frame.Frame.{Frame}
 use Rattle.thread_stack.specs.declared.frame.Frame.TheVariants.{Statements, Again, Tree as DummyTree, Answers, Rejoins, AnswersMain, Allocates, Joins}
-use Rattle.thread_steps.specs.declared.ready.Ready.{Ready}
-use Rattle.thread_steps.specs.declared.ready.Ready.TheVariants as ready
+use Rattle.thread_run.specs.declared.ready.Ready.{Ready}
+use Rattle.thread_run.specs.declared.ready.Ready.TheVariants as ready
 use Rattle.thread_run.specs.declared.run.ThreadRun.{ThreadRun}
 
 -- the frames of a thread, the next one first

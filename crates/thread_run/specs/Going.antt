@@ -13,11 +13,11 @@ use Rattle.thread_stack.specs.declared.branch.Branch.{Branch}
 use Rattle.thread_stack.specs.declared.frame.Frame.TheVariants.{Joins}
 use Rattle.thread_stack.specs.Frames.{AreFrames, RunsIn}
 use Rattle.thread_output.specs.Telling.{Tells}
-use Rattle.thread_steps.specs.Settings.{IsSettingOf}
-use Rattle.thread_steps.specs.Stands.{InState}
-use Rattle.thread_steps.specs.Dones.{IsAction}
-use Rattle.thread_steps.specs.declared.ready.Ready.{Ready}
-use Rattle.thread_steps.specs.declared.ready.Ready.TheVariants.{Fork, Join, Alloc, Release, Dummy, Fault, End}
+use Rattle.thread_run.specs.Settings.{IsSettingOf}
+use Rattle.thread_run.specs.Stands.{InState}
+use Rattle.thread_run.specs.Dones.{IsAction}
+use Rattle.thread_run.specs.declared.ready.Ready.{Ready}
+use Rattle.thread_run.specs.declared.ready.Ready.TheVariants.{Fork, Join, Alloc, Release, Dummy, Fault, End}
 use Rattle.thread_run.specs.declared.run.ThreadRun.{ThreadRun}
 use Rattle.thread_run.specs.Functions.{frames_of}
 

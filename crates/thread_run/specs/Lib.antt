@@ -1,3 +1,11 @@
+pub mod Settings
+pub mod Stands
+pub mod Dones
+pub mod Costs
+pub mod Meanings
+pub mod Steps
+pub mod Rejoining
+pub mod Called
 pub mod Going
 pub mod Functions
 pub mod Stepping

@@ -15,13 +15,13 @@ use Rattle.thread_stack.specs.Measure.{left_to_do}
 use Rattle.thread_output.specs.Telling.{Tells}
 use Rattle.thread_state.specs.States.{words_held}
 use Rattle.thread_state.specs.declared.state.ThreadState.{ThreadState}
-use Rattle.thread_steps.specs.Settings.{IsSettingOf}
-use Rattle.thread_steps.specs.Stands.{InState}
-use Rattle.thread_steps.specs.Meanings.{Meaning}
-use Rattle.thread_steps.specs.Dones.{IsAction}
-use Rattle.thread_steps.specs.declared.ready.Ready.{Ready}
-use Rattle.thread_steps.specs.declared.done.Done.{Done}
-use Rattle.thread_steps.specs.declared.done.Done.TheVariants.{Silent, Prints, Acts}
+use Rattle.thread_run.specs.Settings.{IsSettingOf}
+use Rattle.thread_run.specs.Stands.{InState}
+use Rattle.thread_run.specs.Meanings.{Meaning}
+use Rattle.thread_run.specs.Dones.{IsAction}
+use Rattle.thread_run.specs.declared.ready.Ready.{Ready}
+use Rattle.thread_run.specs.declared.done.Done.{Done}
+use Rattle.thread_run.specs.declared.done.Done.TheVariants.{Silent, Prints, Acts}
 use Rattle.thread_run.specs.declared.run.ThreadRun.{ThreadRun}
 use Rattle.thread_run.specs.Functions.{functions_of, frames_of, frames_before}
 use Rattle.thread_run.specs.Going.{IsGoing, IsNext, Comes, IsKnown}

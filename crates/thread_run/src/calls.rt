@@ -18,7 +18,7 @@ use node_table::{Code, Node, NodeKind};
 use std::alloc::{AllocError, Global};
 use thread_stack::{Frame, ListOf, frame_from};
 use thread_state::Stop;
-use thread_steps::Ready;
+use crate::Ready;
 
 /// Whether a node is a call.
 pub(crate) fn calls(node: &Node) -> bool

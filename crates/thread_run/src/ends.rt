@@ -13,7 +13,7 @@ use crate::run::ThreadRun;
 use dag_order::FaultAt;
 use node_table::{Code, CodeRet, NodeKind};
 use thread_stack::Frame;
-use thread_steps::Ready;
+use crate::Ready;
 
 /// The line of a `return`; 0 where there is none.
 fn line_of(ret: &Option<CodeRet>) -> u32

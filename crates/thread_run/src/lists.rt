@@ -13,7 +13,7 @@ use dummy_tree::Quota;
 use node_table::Code;
 use std::alloc::{AllocError, Global};
 use thread_stack::{Frame, ListOf, numbers};
-use thread_steps::{Ready, statement};
+use crate::{Ready, statement};
 
 impl ThreadRun {
     ghost use Rattle.thread_run.specs.Functions.{frames_of};

@@ -10,7 +10,7 @@ use std::alloc::{AllocError, Global};
 use thread_output::Told;
 use thread_stack::Frame;
 use thread_state::ThreadState;
-use thread_steps::Ready;
+use crate::Ready;
 
 /// What a thread runs: the function that it is in, its slots, what is left to it, and what it has printed since its newest open fork.
 #[derive(Drop)]

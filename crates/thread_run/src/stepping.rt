@@ -12,7 +12,7 @@ use dummy_tree::Quota;
 use node_table::Code;
 use std::alloc::{AllocError, Global};
 use thread_stack::Frame;
-use thread_steps::{Ready, allocates, dummies, rejoins};
+use crate::{Ready, allocates, dummies, rejoins};
 
 impl ThreadRun {
     /// One step from a frame that was taken off, which leads each thread with this code to its next point, or before its next action.

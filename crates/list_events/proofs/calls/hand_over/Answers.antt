@@ -2,7 +2,7 @@ use Rattle.std.proofs.Common.{◌∷◌, map, refl, subst}
 use Rattle.std.proofs.lemmas.List.Sorted.{IsPermutation-map}
 use Rattle.std.proofs.lemmas.Option.{same_Some}
 use Rattle.std.proofs.Common.{sym, ◌∙◌}
-use Rattle.thread_parts.specs.Kept.{result_kept}
+use Rattle.thread_frames.specs.Kept.{result_kept}
 use Rattle.thread_frames.specs.Children.{IsAwaited}
 use Rattle.thread_frames.specs.Views.{children_of, label_of}
 use Rattle.lane_events.proofs.Giving.{given_is_handed}

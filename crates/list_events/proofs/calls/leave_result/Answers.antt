@@ -1,8 +1,8 @@
 use Rattle.std.proofs.Common.{◌∷◌, map, sym, ap, subst, ◌∙◌}
 use Rattle.std.proofs.lemmas.List.Sorted.{IsPermutation-map}
 use Rattle.std.specs.List.Sorted.{IsPermutation}
-use Rattle.thread_parts.specs.Kept.{result_kept}
-use Rattle.thread_parts.specs.Shown.{result_shown}
+use Rattle.thread_frames.specs.Kept.{result_kept}
+use Rattle.thread_frames.specs.Shown.{result_shown}
 use Rattle.hall_law.specs.Values.{ListShown}
 use Rattle.list_events.proofs.calls.leave_result.Goals as goal
 

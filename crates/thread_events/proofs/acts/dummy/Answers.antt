@@ -1,4 +1,4 @@
-use Rattle.thread_parts.specs.Shown.{thread_shown}
+use Rattle.thread_frames.specs.Shown.{thread_shown}
 use Rattle.thread_events.proofs.acts.dummy.Goals as goal
 
 pub returns-clause-acts : goal.returns-clause-acts

@@ -1,6 +1,6 @@
 use Rattle.std.proofs.Common.{refl, ap, ◌∙◌, arith}
 use Rattle.block_arena.specs.Region.{with_given}
-use Rattle.thread_parts.specs.Shown.{thread_shown, result_shown}
+use Rattle.thread_frames.specs.Shown.{thread_shown, result_shown}
 use Rattle.thread_events.proofs.ends.end_and_wake.Goals as goal
 
 pub returns-clause-acts : goal.returns-clause-acts

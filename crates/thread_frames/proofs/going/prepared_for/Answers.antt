@@ -1,6 +1,6 @@
 use Rattle.std.proofs.Common.{refl, sym, subst}
 use Rattle.node_table.specs.Codes.{code_shown}
-use Rattle.thread_steps.specs.declared.ready.Ready.{Ready}
+use Rattle.thread_run.specs.declared.ready.Ready.{Ready}
 use Rattle.thread_frames.specs.Preparing.{Prepares}
 use Rattle.thread_frames.specs.declared.prepared.Prepared.TheVariants.{Fork, Join}
 use Rattle.thread_frames.proofs.going.prepared_for.Goals as goal

@@ -21,11 +21,11 @@ use Rattle.thread_state.specs.Effects.{OnStop}
 use Rattle.thread_state.specs.declared.stop.Stop.{Stop}
 use Rattle.thread_state.specs.States.{IsState}
 use Rattle.thread_state.specs.declared.state.ThreadState.{ThreadState}
-use Rattle.thread_steps.proofs.Arms.{kind_there}
+use Rattle.thread_run.proofs.Arms.{kind_there}
 use Rattle.dag_order.specs.declared.fault.FaultKind.{FaultKind}
 use Rattle.par_ownership.specs.Ownership.{function_of}
 use Rattle.depth_first_run.specs.Middle.{step_call}
-use Rattle.thread_steps.specs.declared.ready.Ready.TheVariants.{Fault}
+use Rattle.thread_run.specs.declared.ready.Ready.TheVariants.{Fault}
 use Rattle.thread_run.specs.declared.run.ThreadRun.{ThreadRun}
 use Rattle.thread_run.specs.Calling.{Begins}
 use Rattle.thread_run.specs.Functions.{frames_of}

@@ -11,7 +11,7 @@ use Rattle.node_table.specs.declared.node.Node.{Node}
 use Rattle.node_table.specs.declared.func_code.FuncCode.{FuncCode}
 use Rattle.thread_stack.specs.Lists.{kind_at}
 use Rattle.thread_state.specs.Calls.{return_line}
-use Rattle.thread_steps.proofs.Arms.{kind_there}
+use Rattle.thread_run.proofs.Arms.{kind_there}
 use Rattle.thread_run.specs.declared.run.ThreadRun.{ThreadRun}
 use Rattle.thread_run.proofs.Returning.{call_returns, call_faults}
 use Rattle.thread_run.proofs.run.ThreadRun.end_call.Goals as goal

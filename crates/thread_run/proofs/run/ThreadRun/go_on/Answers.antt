@@ -9,7 +9,7 @@ use Rattle.thread_run.proofs.CanEnds.{can_end_at, main_there, main_can_end}
 use Rattle.thread_run.proofs.Following.{acts_meaning, joins_meaning}
 use Rattle.thread_run.proofs.Kept.{acts_functions}
 use Rattle.thread_run.proofs.Outcomes.{comes_by, knows_again, keeps_counts}
-use Rattle.thread_steps.specs.declared.ready.Ready.TheVariants.{Join}
+use Rattle.thread_run.specs.declared.ready.Ready.TheVariants.{Join}
 use Rattle.thread_run.proofs.run.ThreadRun.go_on.Goals as goal
 
 pub end_call-requires-clause-can : goal.end_call-requires-clause-can

@@ -10,8 +10,8 @@ use Rattle.node_table.specs.Shown.{node_shown, kind_shown}
 use Rattle.node_table.specs.Table as tables
 use Rattle.node_table.specs.Table.{Kind}
 use Rattle.node_table.specs.declared.node.Node.{Node}
-use Rattle.thread_steps.specs.Calling.{IsNoCall}
-use Rattle.thread_steps.proofs.Arms.{kind_there}
+use Rattle.thread_run.specs.Called.{IsNoCall}
+use Rattle.thread_run.proofs.Arms.{kind_there}
 use Rattle.thread_run.specs.declared.run.ThreadRun.{ThreadRun}
 use Rattle.thread_run.specs.Calling.{is_call}
 use Rattle.thread_run.proofs.CanCalls.{can_call_at}

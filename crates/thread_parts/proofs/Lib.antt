@@ -1,3 +1,0 @@
-pub mod Threads
-pub mod Found
-pub mod Points

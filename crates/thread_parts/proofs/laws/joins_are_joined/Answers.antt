@@ -1,5 +1,0 @@
-use Rattle.thread_parts.proofs.Threads as law
-use Rattle.thread_parts.proofs.laws.joins_are_joined.Goals as goal
-
-pub returns : goal.returns
-returns c = law.joins_are_joined

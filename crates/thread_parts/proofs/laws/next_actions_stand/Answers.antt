@@ -1,5 +1,0 @@
-use Rattle.thread_parts.proofs.Threads as law
-use Rattle.thread_parts.proofs.laws.next_actions_stand.Goals as goal
-
-pub returns : goal.returns
-returns c = law.next_actions_stand

@@ -1,4 +1,0 @@
-pub mod Shown
-pub mod Kept
-pub mod Roots
-pub mod Laws
