@@ -25,15 +25,15 @@ module _ (before after : ListSlot) (running : Running) (crew : after.crew ≡ be
       λ i. record { places = closes.places_are i; crew = (crew i).items; waiting = map waiting_shown (closes.waiting i).entries; results = map result_kept (closes.results i).entries; closed = closed i; begun = closes.begun i; kept = option_map end_shown (end i) }
 
   -- the deque of a worker at work is in the middle of the places
-  abbrev has_deque : (id : DequeId) (h : Hall) (w : IsAtWork h running.worker) → h.list ≡ list_shown before → w.id ≡ id → Has before.part.order.places id (Some running.worker)
-  has_deque id h w is same = record { left = w.left; right = w.right; places_are = ap (λ (l : ListShown). l.places) (sym is) ∙ w.places_are ∙ ap (λ (d : DequeId). w.left ++ place_with d (Some running.worker) ∷ w.right) same }
+  abbrev has_deque : (id : DequeId) (worker : ℕ) (h : Hall) (w : IsAtWork h worker) → h.list ≡ list_shown before → w.id ≡ id → Has before.part.order.places id (Some worker)
+  has_deque id worker h w is same = record { left = w.left; right = w.right; places_are = ap (λ (l : ListShown). l.places) (sym is) ∙ w.places_are ∙ ap (λ (d : DequeId). w.left ++ place_with d (Some worker) ∷ w.right) same }
 
   pub shows_unowned : (id : DequeId) → ((owner : Option ℕ) (has : Has before.part.order.places id owner) → Closes before.part after.part (has.left ++ place_with id None ∷ has.right) running.period)
       → ShowsUnowned before after id running
-  shows_unowned id closes h w is same = shows_closed (w.left ++ place_with id None ∷ w.right) (closes (Some running.worker) (has_deque id h w is same))
+  shows_unowned id closes worker h w is same = shows_closed (w.left ++ place_with id None ∷ w.right) (closes (Some worker) (has_deque id worker h w is same))
       ∙ sym (λ i. record { places = w.left ++ place_with (same i) None ∷ w.right; crew = ListShown.crew (is i); waiting = ListShown.waiting (is i); results = ListShown.results (is i); closed = ListShown.closed (is i) ++ shut (running_shown running) ∷ []; begun = ListShown.begun (is i); kept = ListShown.kept (is i) })
 
   pub shows_without : (id : DequeId) → ((owner : Option ℕ) (has : Has before.part.order.places id owner) → Closes before.part after.part (has.left ++ has.right) running.period)
       → ShowsWithout before after id running
-  shows_without id closes h w is same = shows_closed (w.left ++ w.right) (closes (Some running.worker) (has_deque id h w is same))
+  shows_without id closes worker h w is same = shows_closed (w.left ++ w.right) (closes (Some worker) (has_deque id worker h w is same))
       ∙ sym (λ i. record { places = w.left ++ w.right; crew = ListShown.crew (is i); waiting = ListShown.waiting (is i); results = ListShown.results (is i); closed = ListShown.closed (is i) ++ shut (running_shown running) ∷ []; begun = ListShown.begun (is i); kept = ListShown.kept (is i) })

@@ -4,6 +4,8 @@ use Rattle.run_end.specs.declared.stop.Stop.{Stop}
 use Rattle.run_end.specs.declared.ends.RunEnd.{RunEnd}
 use Rattle.run_end.specs.declared.ends.RunEnd.TheVariants.{Stopped}
 use Rattle.deque_list.specs.declared.deque_id.DequeId.{DequeId}
+use Rattle.deque_list.specs.declared.place.Place.{Place}
+use Rattle.list_part.specs.Parts.{Has, place_with}
 use Rattle.period_table.specs.Tables.{shut}
 use Rattle.hall_law.specs.Values.{Hall}
 use Rattle.hall_law.specs.Writing.{IsAtWork, list_unowned, list_without}
@@ -23,13 +25,14 @@ pub record IsOutOf (worker : ℕ) (before after : List ℕ) : Type 0 where
   pub before_is : before ≡ front ++ worker ∷ back
   pub after_is : after ≡ front ++ back
 
--- the list shows that a deque, which was that of a worker at work, has no owner, or is gone, and that its period is closed
+-- the list shows that a deque, which was that of a worker at work, has no owner, or is gone, and that its period is closed, for whichever
+-- worker it was noted
 abbrev pub ShowsUnowned : (before after : ListSlot) → DequeId → Running → Type 0
-ShowsUnowned before after id running = (h : Hall) (w : IsAtWork h running.worker) → h.list ≡ list_shown before → w.id ≡ id
+ShowsUnowned before after id running = (worker : ℕ) (h : Hall) (w : IsAtWork h worker) → h.list ≡ list_shown before → w.id ≡ id
     → list_shown after ≡ list_unowned w (shut (running_shown running))
 
 abbrev pub ShowsWithout : (before after : ListSlot) → DequeId → Running → Type 0
-ShowsWithout before after id running = (h : Hall) (w : IsAtWork h running.worker) → h.list ≡ list_shown before → w.id ≡ id
+ShowsWithout before after id running = (worker : ℕ) (h : Hall) (w : IsAtWork h worker) → h.list ≡ list_shown before → w.id ≡ id
     → list_shown after ≡ list_without w (shut (running_shown running))
 
 -- What a call that closes a period leaves: the crew, the end, what waits, the results, and how many deques there may be.
@@ -39,3 +42,10 @@ pub record KeepsRest (before after : ListSlot) : Type 0 where
   pub waiting : after.part.waiting ≡ before.part.waiting
   pub results : after.part.results ≡ before.part.results
   pub most : after.part.order.most ≡ before.part.order.most
+
+-- the deque has no owner in the list, or is out of it, and the others are where they were
+abbrev pub HasNoOwner : DequeId → (before after : List Place) → Type 0
+HasNoOwner id before after = (owner : Option ℕ) (has : Has before id owner) → after ≡ has.left ++ place_with id None ∷ has.right
+
+abbrev pub IsGone : DequeId → (before after : List Place) → Type 0
+IsGone id before after = (owner : Option ℕ) (has : Has before id owner) → after ≡ has.left ++ has.right

@@ -1,11 +1,11 @@
 //! What the calls on the list do.
 
-ghost use Rattle.std.specs.Prelude.{◌≡◌, ◌≤◌, ◌<◌, ◌∷◌, ◌++◌, [], ℕ, Some, slice_get, ◌↔◌, IsTrue, IfOk, OnErr, MatchOption};
+ghost use Rattle.std.specs.Prelude.{◌≡◌, ◌≤◌, ◌<◌, ◌∷◌, ◌++◌, [], ℕ, Option, Some, slice_get, ◌↔◌, IsTrue, IfOk, OnErr, MatchOption};
 ghost use Rattle.space_ledger.specs.BooksList.{books_spare};
 ghost use Rattle.lawful_books.specs.Lists.{times};
 ghost use Rattle.list_part.specs.Parts.{Has};
 ghost use Rattle.hall_state.specs.Numbers.{IsSmallestNumber};
-ghost use Rattle.hall_slots.specs.Lists.{end_kept, IsOutOf, ShowsUnowned, ShowsWithout, KeepsRest};
+ghost use Rattle.hall_slots.specs.Lists.{end_kept, IsOutOf, ShowsUnowned, ShowsWithout, HasNoOwner, IsGone, KeepsRest};
 
 use crate::lane_slot::Running;
 use crate::list_slot::ListSlot;
@@ -82,9 +82,10 @@ impl ListSlot {
 
     /// Takes the owner of a deque away, and closes its period. It takes no memory.
     pub fn give_up(&mut self, id: DequeId, running: Running)
-        requires has { Has self.old.part.order.places id (Some running.worker) }
+        requires has { (owner : Option ℕ) × Has self.old.part.order.places id owner }
         requires room { 1 ≤ books_spare self.old.part.books }
         ensures shown { ShowsUnowned self.old self.new id running }
+        ensures places { HasNoOwner id self.old.part.order.places self.new.part.order.places }
         ensures rest { KeepsRest self.old self.new }
     {
         let Running { period, .. } = running;
@@ -93,9 +94,10 @@ impl ListSlot {
 
     /// Takes a deque out of the list, and closes its period. It takes no memory.
     pub fn remove(&mut self, id: DequeId, running: Running)
-        requires has { Has self.old.part.order.places id (Some running.worker) }
+        requires has { (owner : Option ℕ) × Has self.old.part.order.places id owner }
         requires room { 1 ≤ books_spare self.old.part.books }
         ensures shown { ShowsWithout self.old self.new id running }
+        ensures places { IsGone id self.old.part.order.places self.new.part.order.places }
         ensures rest { KeepsRest self.old self.new }
     {
         let Running { period, .. } = running;

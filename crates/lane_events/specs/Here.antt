@@ -19,7 +19,7 @@ use Rattle.thread_frames.specs.declared.next.Next.{Next}
 use Rattle.thread_frames.specs.declared.thread.Thread.{Thread}
 use Rattle.thread_frames.specs.Shown.{thread_shown}
 use Rattle.thread_events.specs.Acts.{StaysAtPoint}
-use Rattle.hall_law.specs.Values.{Hall, PoolShown}
+use Rattle.hall_law.specs.Values.{Hall, PoolShown, open_for}
 use Rattle.hall_law.specs.Writing.{IsAtWork, ActsInLane, PoolTakes}
 
 -- There is memory for an action and a birth in the period, where a list for so many births is ready for the first one.
@@ -41,11 +41,11 @@ pub record HasMovesFor (live : ℕ) (moves : Moves) : Type 0 where
 abbrev pub pool_with : ℕ → Moves → PoolShown
 pool_with live moves = record { live = live; moves = moves_list moves }
 
--- A worker at work has this top thread, these under it, and this period.
+-- A worker at work has this top thread, these under it, and this period, for whichever worker the lane notes it.
 pub record ShowsOwn {h : Hall} {worker : ℕ} (w : IsAtWork h worker) (top : Thread) (under : List Thread) (period : OpenPeriod) : Type 0 where
   pub top_is : w.top ≡ thread_shown top
   pub under_is : w.under ≡ map thread_shown under
-  pub period_is : w.period ≡ open_shown worker period
+  pub period_is : open_for worker w.period ≡ open_shown worker period
 
 -- The top thread did its next action, of this name, in its own lane, where its period may: now these are the threads of the lane, this is the
 -- period, which has so many words less of the quota, and these are the births.
@@ -55,7 +55,7 @@ ActsHere next Where top under before threads after name words births =
     (worker : ℕ) (c : Setting) (k : ℕ) (is : IsOfTheList c top next) → Where k (open_shown worker before) (words_at (list_of c) (IsOfTheList.place is))
     → (h : Hall) (w : IsAtWork h worker) → ShowsOwn w top under before
     → ActsInLane k (list_of c) w (IsOfTheList.place is) name (map thread_shown threads) words births
-    × (open_shown worker after ≡ noted w.period name words births)
+    × (open_shown worker after ≡ noted (open_for worker w.period) name words births)
 
 -- The pool took the words of this action or had them back, and noted the move if it is one.
 abbrev pub TakesWords : Next → Thread → ActionId → (before after : PoolShown) → Type 0

@@ -1,20 +1,26 @@
 -- What a Join does to the parts that its worker took.
-use Rattle.std.specs.Prelude.{◌≡◌, List, []}
+use Rattle.std.specs.Prelude.{◌≡◌, ℕ, List, ◌∷◌, []}
 use Rattle.dag_order.specs.declared.action_id.ActionId.{ActionId}
 use Rattle.dag_order.specs.declared.thread_id.ThreadId.{ThreadId}
 use Rattle.depth_first_list.specs.Facts.{words_at}
 use Rattle.depth_first_run.specs.Run.{list_of}
 use Rattle.depth_first_run.specs.States.{Setting}
+use Rattle.period_books.specs.Periods.{open_shown}
+use Rattle.period_table.specs.Tables.{noted}
 use Rattle.quota_period.specs.declared.period.Period.{Period as OpenPeriod}
 use Rattle.thread_frames.specs.Actions.{IsOfTheList}
 use Rattle.thread_frames.specs.declared.next.Next.TheVariants as nexts
 use Rattle.thread_frames.specs.declared.thread.Thread.{Thread}
-use Rattle.thread_events.specs.Acts.{Always}
-use Rattle.lane_events.specs.Here.{ActsHere}
+use Rattle.thread_events.specs.Acts.{ActedJoin, StaysAtPoint}
 
--- it joined a child
-abbrev pub JoinsHere : Thread → (under : List Thread) → OpenPeriod → (threads : List Thread) → OpenPeriod → ActionId → Type 0
-JoinsHere top under before threads after name = (child : ThreadId) → ActsHere (nexts.Join child) Always top under before threads after name 0 []
+-- the thread joined its newest open child under this name, and is on top of the others at its next point; the period has the name
+pub record JoinsHere (top : Thread) (under : List Thread) (before : OpenPeriod) (threads : List Thread) (after : OpenPeriod) (name : ActionId)
+    : Type 0 where
+  pub now : Thread
+  pub threads_are : threads ≡ now ∷ under
+  pub did : ActedJoin top now name
+  pub period : (worker : ℕ) → open_shown worker after ≡ noted (open_shown worker before) name 0 []
+  pub point : StaysAtPoint top now
 
 -- and the Join releases no words, by the list
 abbrev pub ReleasesNothing : Thread → Type 0

@@ -1,5 +1,5 @@
 -- What the calls on the list do to what it shows.
-use Rattle.std.specs.Prelude.{◌≡◌, List, ◌∷◌}
+use Rattle.std.specs.Prelude.{◌≡◌, ℕ, List, ◌∷◌}
 use Rattle.std.specs.List.Sorted.{IsPermutation}
 use Rattle.dag_order.specs.declared.thread_id.ThreadId.{ThreadId}
 use Rattle.deque_list.specs.declared.deque_id.DequeId.{DequeId}
@@ -16,13 +16,13 @@ use Rattle.hall_slots.specs.Shown.{list_shown, running_shown}
 
 -- the list shows that the thread on top waits, and that its deque, of a worker at work, is gone
 abbrev pub SuspendsThere : (before after : ListSlot) → DequeId → Running → Thread → Type 0
-SuspendsThere before after id running top = (h : Hall) (w : IsAtWork h running.worker) → h.list ≡ list_shown before → w.id ≡ id
+SuspendsThere before after id running top = (worker : ℕ) (h : Hall) (w : IsAtWork h worker) → h.list ≡ list_shown before → w.id ≡ id
     → w.top ≡ thread_shown top → (waiting : List parts.Thread) × IsPermutation (w.top ∷ h.list.waiting) waiting
     × (list_shown after ≡ record (list_without w (shut (running_shown running))) { waiting = waiting })
 
 -- it shows that a result is kept, and that the deque is gone
 abbrev pub LeavesThere : (before after : ListSlot) → DequeId → Running → Ended → Type 0
-LeavesThere before after id running ended = (h : Hall) (w : IsAtWork h running.worker) → h.list ≡ list_shown before → w.id ≡ id
+LeavesThere before after id running ended = (worker : ℕ) (h : Hall) (w : IsAtWork h worker) → h.list ≡ list_shown before → w.id ≡ id
     → (results : List parts.Result) × IsPermutation (result_shown ended ∷ h.list.results) results
     × (list_shown after ≡ record (list_without w (shut (running_shown running))) { results = results })
 

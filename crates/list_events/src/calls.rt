@@ -1,11 +1,12 @@
 //! The calls on the list.
 
-ghost use Rattle.std.specs.Prelude.{◌≡◌, ◌≤◌, ◌∷◌, None, Some, IfSome, IfNone};
+ghost use Rattle.std.specs.Prelude.{◌≡◌, ◌≤◌, ◌∷◌, ℕ, Option, None, Some, IfSome, IfNone};
 ghost use Rattle.std.specs.List.Sorted.{IsPermutation};
 ghost use Rattle.list_part.specs.Parts.{Has};
 ghost use Rattle.space_ledger.specs.BooksList.{books_spare};
 ghost use Rattle.thread_map.specs.Kept.{kept_under};
 ghost use Rattle.thread_events.specs.Results.{IsToCome, HasCome};
+ghost use Rattle.hall_slots.specs.Lists.{IsGone};
 ghost use Rattle.hall_slots.specs.Shown.{list_shown};
 ghost use Rattle.list_events.specs.Calls.{SuspendsThere, LeavesThere, TakesWaiting, IsHandedThere, KeepsCrew};
 
@@ -23,11 +24,12 @@ pub fn suspend(
     top: Boxed<Thread>,
     child: ThreadId,
 )
-    requires has { Has list.old.part.order.places deque (Some running.worker) }
+    requires has { (owner : Option ℕ) × Has list.old.part.order.places deque owner }
     requires books { 1 ≤ books_spare list.old.part.books }
     requires room { 1 ≤ list.old.part.waiting.spare }
     requires free { kept_under list.old.part.waiting child ≡ None }
     ensures shown { SuspendsThere list.old list.new deque running top }
+    ensures places { IsGone deque list.old.part.order.places list.new.part.order.places }
     ensures waiting { IsPermutation ((child, top) ∷ list.old.part.waiting.entries) list.new.part.waiting.entries }
     ensures results { list.new.part.results ≡ list.old.part.results }
     ensures rest { KeepsCrew list.old list.new }
@@ -45,11 +47,13 @@ pub fn leave_result(
     id: ThreadId,
     ended: Ended,
 )
-    requires has { Has list.old.part.order.places deque (Some running.worker) }
+    requires has { (owner : Option ℕ) × Has list.old.part.order.places deque owner }
     requires books { 1 ≤ books_spare list.old.part.books }
     requires room { 1 ≤ list.old.part.results.spare }
     requires free { kept_under list.old.part.results id ≡ None }
     ensures shown { LeavesThere list.old list.new deque running ended }
+    ensures places { IsGone deque list.old.part.order.places list.new.part.order.places }
+    ensures kept { kept_under list.new.part.results id ≡ Some ended }
     ensures results { IsPermutation ((id, ended) ∷ list.old.part.results.entries) list.new.part.results.entries }
     ensures waiting { list.new.part.waiting ≡ list.old.part.waiting }
     ensures rest { KeepsCrew list.old list.new }
@@ -63,6 +67,7 @@ pub fn take_waiting(list: &mut ListSlot, child: ThreadId) -> Option<Boxed<Thread
     ensures value { result ≡ kept_under list.old.part.waiting child }
     ensures taken { IfSome result (λ parent. TakesWaiting list.old list.new child parent) }
     ensures none { IfNone result (list_shown list.new ≡ list_shown list.old) }
+    ensures results { list.new.part.results ≡ list.old.part.results }
     ensures rest { KeepsCrew list.old list.new }
 {
     list.part.waiting.take(child)
@@ -73,6 +78,7 @@ pub fn hand_over(list: &mut ListSlot, top: &mut Boxed<Thread>, child: ThreadId)
     requires { IsToCome list.old.part.results top.old child }
     ensures come { HasCome list.old.part.results list.new.part.results top.old top.new child }
     ensures shown { IsHandedThere list.old list.new top.old top.new }
+    ensures waiting { list.new.part.waiting ≡ list.old.part.waiting }
     ensures rest { KeepsCrew list.old list.new }
 {
     thread_events::hand_over(&mut list.part.results, top, child);

@@ -1,4 +1,0 @@
-pub mod Going
-pub mod Owned
-pub mod Putting
-pub mod Sound

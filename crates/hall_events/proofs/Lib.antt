@@ -1,0 +1,6 @@
+mod Working
+mod Untaken
+mod Quiet
+mod Lanes
+mod Pauses
+mod Ends

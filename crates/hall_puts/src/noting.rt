@@ -1,0 +1,16 @@
+use deque_list::DequeId;
+use hall_slots::Event;
+use run_end::Stop;
+
+/// What a seat notes when it puts back what it took.
+#[derive(Clone, Copy, PartialEq, Eq, Debug)]
+pub enum Noting {
+    /// Nothing new.
+    Same,
+    /// The stop that it found.
+    Found(Stop),
+    /// Its event, after which it owns this deque, or none.
+    Does { event: Event, owns: Option<DequeId> },
+    /// That it gave up this deque where the rules did not ask for it.
+    Yields(DequeId),
+}

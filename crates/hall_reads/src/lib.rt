@@ -1,0 +1,10 @@
+//! What an owner knows of the parts that it took out of a hall.
+//!
+//! A seat that owns a deque takes its lane, and perhaps the pool. By the law of the hall it then knows that a thread is on top, at its point,
+//! and a period runs, and that the numbers of both are within the bounds that the calls on them ask for.
+//!
+//! It uses the law of a hall over its slots (`hall_turns`), and which threads are at their points (`hall_points`). Its theorem: so it is with
+//! each state of the row that meets the law ([`laws`]).
+#![tactic(auto)]
+
+pub mod laws;

@@ -1,0 +1,4 @@
+pub mod Owned
+pub mod There
+mod Sound
+pub mod Holding
