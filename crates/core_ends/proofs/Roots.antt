@@ -21,7 +21,7 @@ use Rattle.period_table.specs.Tables.{periods_of}
 use Rattle.node_table.specs.Table.{Table}
 use Rattle.thread_map.specs.Kept.{same_thread}
 use Rattle.thread_output.specs.Telling.{fault_of}
-use Rattle.thread_run.specs.Settings.{IsSettingOf}
+use Rattle.thread_state.specs.Settings.{IsSettingOf}
 use Rattle.thread_frames.specs.declared.ended.Ended.{Ended}
 use Rattle.thread_frames.specs.Points.{IsResult}
 use Rattle.thread_frames.specs.Views.{ended_label}

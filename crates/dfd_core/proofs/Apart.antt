@@ -36,7 +36,7 @@ use Rattle.period_table.specs.Tables.{periods_of, seat_in, seat_at}
 use Rattle.space_ledger.specs.BooksList.{books_list}
 use Rattle.space_ledger.specs.MovesList.{moves_list}
 use Rattle.space_ledger.specs.declared.moves.Moves.{Moves}
-use Rattle.thread_run.specs.Settings.{IsSettingOf}
+use Rattle.thread_state.specs.Settings.{IsSettingOf}
 use Rattle.thread_frames.specs.declared.ended.Ended.{Ended}
 use Rattle.thread_frames.specs.declared.thread.Thread.{Thread}
 use Rattle.thread_frames.specs.Points.{IsAtPoint}

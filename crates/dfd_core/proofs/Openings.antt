@@ -7,7 +7,7 @@ use Rattle.depth_first_run.specs.States.{Setting}
 use Rattle.deque_machine.specs.Moments.{opening}
 use Rattle.deque_machine.specs.Terms.{Terms}
 use Rattle.node_table.specs.Table.{Table}
-use Rattle.thread_run.specs.Settings.{IsSettingOf}
+use Rattle.thread_state.specs.Settings.{IsSettingOf}
 use Rattle.thread_frames.specs.declared.thread.Thread.{Thread}
 use Rattle.core_parts.specs.Held.{Held}
 use Rattle.core_ends.specs.Begun.{IsBegun}

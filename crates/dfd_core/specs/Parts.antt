@@ -17,7 +17,7 @@ use Rattle.space_ledger.specs.MovesList.{moves_list}
 use Rattle.space_ledger.specs.declared.books.Books.{Books}
 use Rattle.space_ledger.specs.declared.moves.Moves.{Moves}
 use Rattle.thread_map.specs.Kept.{kept_under}
-use Rattle.thread_run.specs.Settings.{IsSettingOf}
+use Rattle.thread_state.specs.Settings.{IsSettingOf}
 use Rattle.thread_frames.specs.declared.ended.Ended.{Ended}
 use Rattle.thread_frames.specs.Points.{IsResult}
 use Rattle.thread_frames.specs.Views.{ended_label}

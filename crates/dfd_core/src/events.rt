@@ -7,7 +7,7 @@ ghost use Rattle.deque_machine.specs.Runs.{Pair};
 ghost use Rattle.dummy_tree.specs.QuotaWords.{quota_words};
 ghost use Rattle.node_table.specs.Codes.{code_shown};
 ghost use Rattle.period_table.specs.Tables.{seat_at};
-ghost use Rattle.thread_run.specs.Settings.{IsSettingOf};
+ghost use Rattle.thread_state.specs.Settings.{IsSettingOf};
 ghost use Rattle.victim_choice.specs.Choices.{SomeReady};
 ghost use Rattle.run_end.specs.declared.stop.Stop.TheVariants as stops;
 ghost use Rattle.core_parts.specs.Held.{held};

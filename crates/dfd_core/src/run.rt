@@ -11,7 +11,7 @@ ghost use Rattle.deque_machine.specs.Runs.{Pair, high_water_mark};
 ghost use Rattle.dummy_tree.specs.QuotaWords.{quota_words};
 ghost use Rattle.node_table.specs.Codes.{code_shown};
 ghost use Rattle.period_table.specs.Tables.{deque_at, seat_at};
-ghost use Rattle.thread_run.specs.Settings.{IsSettingOf};
+ghost use Rattle.thread_state.specs.Settings.{IsSettingOf};
 ghost use Rattle.core_parts.specs.Held.{held};
 ghost use Rattle.core_parts.specs.Moments.{IsSound, CanGoOn, terms_of};
 ghost use Rattle.deque_machine.specs.Terms.{machine_of, given_terms};

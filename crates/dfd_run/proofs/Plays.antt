@@ -20,7 +20,7 @@ use Rattle.par_ownership.proofs.Law.{tells_program}
 use Rattle.par_text.specs.Judging.{IsText}
 use Rattle.par_tree.specs.Tree.{Program}
 use Rattle.run_report.specs.Texts.{report_text, summary_text}
-use Rattle.thread_run.specs.Settings.{IsSettingOf}
+use Rattle.thread_state.specs.Settings.{IsSettingOf}
 use Rattle.dfd_run.specs.Sources.{SourceGives}
 use Rattle.dfd_run.specs.CorePlays.{Played}
 use Rattle.dfd_run.specs.Peak.{finish_status}

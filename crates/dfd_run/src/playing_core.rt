@@ -11,7 +11,7 @@ ghost use Rattle.dummy_tree.specs.QuotaWords.{quota_words};
 ghost use Rattle.node_table.specs.Codes.{code_shown};
 ghost use Rattle.par_ownership.specs.Ownership.{Ownership};
 ghost use Rattle.par_tree.specs.View.{program_tree};
-ghost use Rattle.thread_run.specs.Settings.{IsSettingOf};
+ghost use Rattle.thread_state.specs.Settings.{IsSettingOf};
 ghost use Rattle.dfd_run.specs.Answer.{HasRanges};
 ghost use Rattle.dfd_run.specs.CorePlays.{Played, PlayedAs};
 ghost use Rattle.dfd_run.specs.Play.{play_setting, play_terms, seeded_words};

@@ -17,9 +17,9 @@ use Rattle.turn_table.proofs.Left.{left_of_one}
 use Rattle.turn_table.proofs.NoteLaws.{notes_at}
 use Rattle.turn_places.specs.Backs.{unchanged}
 use Rattle.hall_law.specs.Values.{Hall, ListShown}
-use Rattle.hall_state.specs.State.{HallLaw}
-use Rattle.hall_state.specs.Numbers.{IsSmallestNumber}
-use Rattle.hall_state.proofs.Numbers.{workers_may_enter}
+use Rattle.hall_law.specs.State.{HallLaw}
+use Rattle.hall_law.specs.Numbers.{IsSmallestNumber}
+use Rattle.hall_law.proofs.Numbers.{workers_may_enter}
 use Rattle.hall_slots.specs.declared.list_slot.ListSlot.{ListSlot}
 use Rattle.hall_slots.specs.declared.seat_note.SeatNote.{SeatNote}
 use Rattle.hall_slots.specs.declared.slot.Slot.{Slot}

@@ -13,11 +13,11 @@ use Rattle.space_ledger.specs.BooksList.{books_list}
 use Rattle.turn_table.specs.Law.{PutKeeps}
 use Rattle.turn_places.specs.Backs.{still, unchanged}
 use Rattle.hall_law.specs.Values.{Hall, ListShown, End}
-use Rattle.hall_crew.specs.Views.{View}
-use Rattle.hall_crew.specs.Seats.{entering, answered_with}
-use Rattle.hall_crew.proofs.Halting.{answers_keep_crew}
-use Rattle.hall_state.specs.State.{RunningState}
-use Rattle.hall_state.proofs.Quiet.{entering_goes_on}
+use Rattle.hall_law.specs.Views.{View}
+use Rattle.hall_law.specs.Seats.{entering, answered_with}
+use Rattle.hall_law.proofs.Halting.{answers_keep_crew}
+use Rattle.hall_law.specs.State.{RunningState}
+use Rattle.hall_law.proofs.Quiet.{entering_goes_on}
 use Rattle.hall_slots.specs.declared.list_slot.ListSlot.{ListSlot}
 use Rattle.hall_slots.specs.declared.seat_note.SeatNote.{SeatNote}
 use Rattle.hall_slots.specs.declared.slot.Slot.TheVariants as slots

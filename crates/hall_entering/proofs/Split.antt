@@ -19,18 +19,18 @@ use Rattle.period_books.proofs.Sorting.{get_before, get_of_more}
 use Rattle.period_table.proofs.Lists.{set_same, set_other}
 use Rattle.thread_frames.specs.declared.thread.Thread.{Thread}
 use Rattle.thread_frames.specs.Points.{IsAtPoint}
-use Rattle.thread_run.specs.Settings.{IsSettingOf}
+use Rattle.thread_state.specs.Settings.{IsSettingOf}
 use Rattle.turn_table.specs.Law.{SplitKeeps}
 use Rattle.turn_table.specs.Notes.{SplitMay}
 use Rattle.turn_table.proofs.NoteLaws.{split_noted}
 use Rattle.turn_places.proofs.Resting.{split_rests}
 use Rattle.hall_law.specs.Values.{End}
-use Rattle.hall_crew.specs.Views.{View, fresh}
-use Rattle.hall_crew.specs.Seats.{giving}
-use Rattle.hall_state.specs.State.{RunningState, HallLaw}
-use Rattle.hall_state.specs.Points.{IsExcused, AreAtPoints, StaysAtPoints}
-use Rattle.hall_state.proofs.Points.{points_go_on, excuses_stay}
-use Rattle.hall_state.proofs.Quiet.{splitting_goes_on}
+use Rattle.hall_law.specs.Views.{View, fresh}
+use Rattle.hall_law.specs.Seats.{giving}
+use Rattle.hall_law.specs.State.{RunningState, HallLaw}
+use Rattle.hall_law.specs.Points.{IsExcused, AreAtPoints, StaysAtPoints}
+use Rattle.hall_law.proofs.Points.{points_go_on, excuses_stay}
+use Rattle.hall_law.proofs.Quiet.{splitting_goes_on}
 use Rattle.hall_slots.specs.declared.list_slot.ListSlot.{ListSlot}
 use Rattle.hall_slots.specs.declared.seat_note.SeatNote.{SeatNote}
 use Rattle.hall_slots.specs.declared.slot.Slot.{Slot}

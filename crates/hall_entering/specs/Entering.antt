@@ -6,7 +6,7 @@ use Rattle.lawful_books.specs.Lists.{times}
 use Rattle.turn_table.specs.Hands.{fresh, noted, took, gave}
 use Rattle.turn_table.specs.Seats.{with_hand}
 use Rattle.turn_places.specs.Backs.{kept, unchanged}
-use Rattle.hall_state.specs.Numbers.{IsSmallestNumber}
+use Rattle.hall_law.specs.Numbers.{IsSmallestNumber}
 use Rattle.hall_slots.specs.declared.list_slot.ListSlot.{ListSlot}
 use Rattle.hall_slots.specs.declared.seat_note.SeatNote.{SeatNote}
 use Rattle.hall_slots.specs.declared.slot.Slot.{Slot}

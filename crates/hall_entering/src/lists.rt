@@ -1,7 +1,7 @@
 //! What is read and written in the list.
 
 ghost use Rattle.std.specs.Prelude.{◌≡◌, ◌∷◌, ◌++◌, [], ℕ, IfOk, OnErr};
-ghost use Rattle.hall_state.specs.Numbers.{IsSmallestNumber};
+ghost use Rattle.hall_law.specs.Numbers.{IsSmallestNumber};
 
 use boxed::Boxed;
 use run_end::RunEnd;

@@ -29,13 +29,13 @@ use Rattle.thread_frames.specs.declared.next.Next.TheVariants as nexts
 use Rattle.thread_frames.specs.declared.thread.Thread.{Thread}
 use Rattle.thread_frames.specs.Kept.{WaitsUnder}
 use Rattle.thread_frames.specs.Shown.{thread_shown, result_shown}
-use Rattle.thread_run.specs.Settings.{IsSettingOf}
-use Rattle.hall_crew.specs.Changes.{after_event}
-use Rattle.hall_crew.specs.Views.{View}
+use Rattle.thread_state.specs.Settings.{IsSettingOf}
+use Rattle.hall_law.specs.Changes.{after_event}
+use Rattle.hall_law.specs.Views.{View}
 use Rattle.hall_law.specs.Values.{Hall, ListShown, PoolShown, no_lane, finished, lane_at}
 use Rattle.hall_law.specs.Steps.{did}
 use Rattle.hall_law.specs.Writing.{IsAtWork, IsHanded, lane_with, list_without, written, step_of, PoolTakes}
-use Rattle.hall_state.specs.Events.{still_owning, idle_after}
+use Rattle.hall_law.specs.Events.{still_owning, idle_after}
 use Rattle.lane_events.specs.Here.{ShowsOwn, TakesWords}
 use Rattle.lane_events.specs.Ends.{EndsHere}
 use Rattle.lane_events.specs.Joins.{JoinsHere}
@@ -51,8 +51,8 @@ use Rattle.hall_turns.specs.Steps.{IsRunning}
 use Rattle.hall_turns.specs.Takes.{HallSeat}
 use Rattle.hall_writes.specs.Writes.{parts as three, hall_with, told_note}
 use Rattle.hall_events.specs.Taken.{IsAtAction, MayAct, IsNext}
-use Rattle.hall_state.proofs.Owners.{leaving_ends_go_on}
-use Rattle.hall_state.proofs.Roots.{root_ends_go_on}
+use Rattle.hall_law.proofs.Owners.{leaving_ends_go_on}
+use Rattle.hall_law.proofs.Roots.{root_ends_go_on}
 use Rattle.list_events.proofs.Orders.{taken_wakes_go_on, taken_joins_go_on}
 use Rattle.hall_events.specs.Lists.{IsUnawaited, LeavingEndsMayCome, RootEndsMayCome, WakingEndsMayCome, KeptJoinsMayCome}
 use Rattle.hall_events.proofs.Working.{some, work, here, own, period_told, viewed, went, hall_now}

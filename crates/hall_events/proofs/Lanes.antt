@@ -24,14 +24,14 @@ use Rattle.thread_frames.specs.declared.next.Next.{Next}
 use Rattle.thread_frames.specs.declared.next.Next.TheVariants as nexts
 use Rattle.thread_frames.specs.declared.thread.Thread.{Thread}
 use Rattle.thread_frames.specs.Shown.{thread_shown, result_shown}
-use Rattle.thread_run.specs.Settings.{IsSettingOf}
-use Rattle.hall_crew.specs.Changes.{after_event}
-use Rattle.hall_crew.specs.Views.{View}
+use Rattle.thread_state.specs.Settings.{IsSettingOf}
+use Rattle.hall_law.specs.Changes.{after_event}
+use Rattle.hall_law.specs.Views.{View}
 use Rattle.hall_law.specs.Values.{Hall, PoolShown, lane_at, open_for}
 use Rattle.hall_law.specs.Steps.{did}
 use Rattle.hall_law.specs.Writing.{IsAtWork, lane_with, written, step_of, ActsInLane, joins_handed, PoolTakes}
-use Rattle.hall_state.specs.Events.{still_owning}
-use Rattle.hall_state.proofs.Owners.{lane_actions_go_on, ends_above_go_on}
+use Rattle.hall_law.specs.Events.{still_owning}
+use Rattle.hall_law.proofs.Owners.{lane_actions_go_on, ends_above_go_on}
 use Rattle.lane_events.specs.Here.{ShowsOwn, ActsHere, TakesWords}
 use Rattle.lane_events.specs.Ends.{EndsAbove}
 use Rattle.lane_events.specs.Joins.{JoinsHere}

@@ -26,13 +26,13 @@ use Rattle.thread_frames.specs.declared.next.Next.{Next}
 use Rattle.thread_frames.specs.declared.next.Next.TheVariants as nexts
 use Rattle.thread_frames.specs.declared.thread.Thread.{Thread}
 use Rattle.thread_frames.specs.Shown.{thread_shown}
-use Rattle.thread_run.specs.Settings.{IsSettingOf}
-use Rattle.hall_crew.specs.Changes.{after_event}
-use Rattle.hall_crew.specs.Views.{View}
+use Rattle.thread_state.specs.Settings.{IsSettingOf}
+use Rattle.hall_law.specs.Changes.{after_event}
+use Rattle.hall_law.specs.Views.{View}
 use Rattle.hall_law.specs.Values.{Hall, ListShown, no_lane, lane_at}
 use Rattle.hall_law.specs.Steps.{did, waited, gave_up}
 use Rattle.hall_law.specs.Writing.{IsAtWork, lane_with, list_unowned, list_without, written, step_of}
-use Rattle.hall_state.specs.Events.{idle_after}
+use Rattle.hall_law.specs.Events.{idle_after}
 use Rattle.lane_events.specs.Here.{ShowsOwn}
 use Rattle.lane_events.specs.Dummies.{DummyHere}
 use Rattle.list_events.specs.Calls.{SuspendsThere}
@@ -48,7 +48,7 @@ use Rattle.hall_turns.specs.Steps.{IsRunning}
 use Rattle.hall_turns.specs.Takes.{HallSeat}
 use Rattle.hall_writes.specs.Writes.{parts as three, hall_with, told_note}
 use Rattle.hall_events.specs.Taken.{IsAtAction, MayAct, MayPause, IsNext}
-use Rattle.hall_state.proofs.Owners.{suspending_goes_on, forced_give_ups_go_on, giving_up_goes_on, dummies_go_on}
+use Rattle.hall_law.proofs.Owners.{suspending_goes_on, forced_give_ups_go_on, giving_up_goes_on, dummies_go_on}
 use Rattle.hall_events.specs.Lists.{SuspendsMayCome, IsTooMuch, GiveUpsMayCome, YieldsMayCome, DummiesMayCome}
 use Rattle.hall_events.proofs.Working.{some, work, here, own, period_was, period_told, viewed, went, hall_now}
 

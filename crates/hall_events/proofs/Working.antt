@@ -21,15 +21,15 @@ use Rattle.quota_period.specs.declared.period.Period.{Period as OpenPeriod}
 use Rattle.thread_frames.specs.Actions.{IsStill}
 use Rattle.thread_frames.specs.declared.thread.Thread.{Thread}
 use Rattle.thread_frames.specs.Shown.{child_shown, thread_shown}
-use Rattle.thread_run.specs.Settings.{IsSettingOf}
-use Rattle.hall_crew.specs.Changes.{after_event}
-use Rattle.hall_crew.specs.Crew.{SeatStands}
-use Rattle.hall_crew.specs.Views.{View}
+use Rattle.thread_state.specs.Settings.{IsSettingOf}
+use Rattle.hall_law.specs.Changes.{after_event}
+use Rattle.hall_law.specs.Crew.{SeatStands}
+use Rattle.hall_law.specs.Views.{View}
 use Rattle.hall_law.specs.Values.{Hall, ListShown, LaneShown, PoolShown, lane_at, open_for}
 use Rattle.hall_law.specs.Steps.{Step, Leads}
 use Rattle.hall_law.specs.Writing.{IsAtWork, place_of, lane_with, written}
 use Rattle.hall_law.proofs.Closing.{owners_are_at_work}
-use Rattle.hall_state.specs.State.{RunningState, IsIn, GoesOn}
+use Rattle.hall_law.specs.State.{RunningState, IsIn, GoesOn}
 use Rattle.lane_events.specs.Here.{ShowsOwn}
 use Rattle.hall_slots.specs.declared.event.Event.{Event}
 use Rattle.hall_slots.specs.declared.lane_slot.LaneSlot.{LaneSlot}

@@ -20,7 +20,7 @@ use Rattle.thread_frames.specs.declared.next.Next.TheVariants as nexts
 use Rattle.thread_frames.specs.declared.thread.Thread.{Thread}
 use Rattle.thread_frames.specs.Kept.{WaitsUnder}
 use Rattle.thread_frames.specs.Shown.{thread_shown, result_shown}
-use Rattle.thread_run.specs.Settings.{IsSettingOf}
+use Rattle.thread_state.specs.Settings.{IsSettingOf}
 use Rattle.hall_law.specs.Values.{ListShown}
 use Rattle.hall_law.specs.Writing.{IsHanded}
 use Rattle.lane_events.specs.Here.{TakesWords}

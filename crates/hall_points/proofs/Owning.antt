@@ -14,12 +14,12 @@ use Rattle.hall_law.specs.Steps.{Step, Leads}
 use Rattle.hall_law.specs.Writing.{place_of, IsAtWork}
 use Rattle.hall_law.proofs.Lanes.{IsElsewhere}
 use Rattle.hall_law.proofs.Own.{beside}
-use Rattle.hall_crew.specs.Views.{View}
-use Rattle.hall_crew.specs.Seats.{end_with}
-use Rattle.hall_state.specs.State.{RunningState, IsIn}
-use Rattle.hall_state.specs.Quiet.{kept_with}
-use Rattle.hall_state.specs.Points.{IsExcused, LaneAtPoints}
-use Rattle.hall_state.proofs.Owning.{stood, owns_it}
+use Rattle.hall_law.specs.Views.{View}
+use Rattle.hall_law.specs.Seats.{end_with}
+use Rattle.hall_law.specs.State.{RunningState, IsIn}
+use Rattle.hall_law.specs.Quiet.{kept_with}
+use Rattle.hall_law.specs.Points.{IsExcused, LaneAtPoints}
+use Rattle.hall_law.proofs.Owning.{stood, owns_it}
 use Rattle.hall_points.proofs.Excuses.{all_at, excuse_more, none_excused, excused_with, excused_itself}
 
 module _ {T : Type 0} (At : T → Type 0) (s : Setting) (limits : Limits) (h : Hall) (steps : List Step) (m : Moment) (leads : Leads s steps m) (count : ℕ) (views : List View) (seat : ℕ) (v : View)

@@ -9,8 +9,8 @@ use Rattle.lawful_books.proofs.Lists.{each_from, each_among, each_left, each_rig
 use Rattle.hall_law.specs.Values.{End}
 use Rattle.hall_law.specs.Writing.{place_of}
 use Rattle.hall_law.proofs.Lanes.{IsElsewhere}
-use Rattle.hall_crew.specs.Views.{View}
-use Rattle.hall_state.specs.Points.{IsExcused, LaneAtPoints}
+use Rattle.hall_law.specs.Views.{View}
+use Rattle.hall_law.specs.Points.{IsExcused, LaneAtPoints}
 use Rattle.hall_points.proofs.Excuses.{all_at, excuse_more, none_excused, excused_with}
 
 module _ {T : Type 0} (At : T → Type 0) (views : List View) (kept : Option End) (places : List Place) (lanes : DequeId → List T)

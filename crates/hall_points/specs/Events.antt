@@ -13,11 +13,11 @@ use Rattle.thread_frames.specs.declared.thread.Thread.{Thread}
 use Rattle.hall_law.specs.Values.{Hall}
 use Rattle.hall_law.specs.Steps.{Step, Told, did, gave_up, Leads}
 use Rattle.hall_law.specs.Writing.{place_of, IsAtWork}
-use Rattle.hall_crew.specs.Views.{View}
-use Rattle.hall_crew.specs.Changes.{after_event}
-use Rattle.hall_crew.specs.Seats.{with_crew, leaving}
-use Rattle.hall_state.specs.State.{RunningState, IsIn}
-use Rattle.hall_state.specs.Quiet.{kept_with}
+use Rattle.hall_law.specs.Views.{View}
+use Rattle.hall_law.specs.Changes.{after_event}
+use Rattle.hall_law.specs.Seats.{with_crew, leaving}
+use Rattle.hall_law.specs.State.{RunningState, IsIn}
+use Rattle.hall_law.specs.Quiet.{kept_with}
 use Rattle.hall_run.specs.Events.{ActsOn, PausesOn, given_up}
 use Rattle.hall_points.specs.Placed.{Threads, ArePlaced}
 

@@ -9,8 +9,8 @@ use Rattle.thread_frames.specs.declared.thread.Thread.{Thread}
 use Rattle.hall_law.specs.Values.{Hall, no_memory}
 use Rattle.hall_law.specs.Steps.{Step, Leads}
 use Rattle.hall_law.specs.Writing.{IsAtWork}
-use Rattle.hall_crew.specs.Views.{View}
-use Rattle.hall_state.specs.State.{RunningState, IsIn}
+use Rattle.hall_law.specs.Views.{View}
+use Rattle.hall_law.specs.State.{RunningState, IsIn}
 use Rattle.hall_run.specs.Events.{Snapshot}
 use Rattle.hall_run.specs.Others.{IsOther}
 use Rattle.hall_points.specs.Placed.{Threads, ArePlaced}

@@ -12,9 +12,9 @@ use Rattle.thread_frames.specs.declared.ended.Ended.{Ended}
 use Rattle.hall_law.specs.Values.{Hall, no_memory}
 use Rattle.hall_law.specs.Steps.{Step, Leads}
 use Rattle.hall_law.specs.Writing.{place_of, IsAtWork}
-use Rattle.hall_crew.specs.Views.{View}
-use Rattle.hall_state.specs.State.{RunningState, IsIn}
-use Rattle.hall_state.specs.Points.{AreAtPoints}
+use Rattle.hall_law.specs.Views.{View}
+use Rattle.hall_law.specs.State.{RunningState, IsIn}
+use Rattle.hall_law.specs.Points.{AreAtPoints}
 use Rattle.hall_run.specs.Events.{Snapshot}
 use Rattle.hall_run.specs.Sequences.{IsBeginning}
 

@@ -9,8 +9,8 @@ use Rattle.thread_frames.specs.declared.thread.Thread.{Thread}
 use Rattle.hall_law.specs.Values.{Hall, no_memory}
 use Rattle.hall_law.specs.Steps.{Step}
 use Rattle.hall_law.specs.Writing.{IsAtWork}
-use Rattle.hall_crew.specs.Views.{View}
-use Rattle.hall_state.specs.State.{IsIn}
+use Rattle.hall_law.specs.Views.{View}
+use Rattle.hall_law.specs.State.{IsIn}
 use Rattle.hall_run.specs.Events.{Snapshot, StealsOn, steals_beside, takes_over, IsEvent, does_an_action, has_to_pause, gives_up_freely, steals_a_thread, leaves_as_owner}
 use Rattle.hall_run.specs.Others.{IsOther}
 use Rattle.hall_run.specs.Sequences.{IsBeginning, Sequence}

@@ -24,7 +24,7 @@ use Rattle.thread_frames.specs.Views.{done_of, thread_words}
 use Rattle.thread_frames.specs.declared.thread.Thread.{Thread}
 use Rattle.thread_frames.specs.Shown.{thread_shown}
 use Rattle.thread_frames.proofs.Points.{point_one}
-use Rattle.thread_run.specs.Settings.{IsSettingOf}
+use Rattle.thread_state.specs.Settings.{IsSettingOf}
 use Rattle.turn_table.specs.Hands.{Shows}
 use Rattle.turn_table.specs.Law.{Stands}
 use Rattle.turn_table.specs.Notes.{HasAs, notes}
@@ -33,10 +33,10 @@ use Rattle.turn_table.proofs.Standing.{shown_as}
 use Rattle.hall_law.specs.Values.{Hall, ListShown, LaneShown, PoolShown, Stop as HallStop, by_rule, no_memory, lane_at}
 use Rattle.hall_law.specs.Writing.{IsAtWork, lane_slot, lane_with, place_of}
 use Rattle.hall_law.proofs.Closing.{owners_are_at_work}
-use Rattle.hall_crew.specs.Crew.{SeatStands}
-use Rattle.hall_crew.specs.Views.{View}
-use Rattle.hall_state.specs.Points.{IsExcused, LaneAtPoints, AreAtPoints}
-use Rattle.hall_state.specs.State.{HallLaw, IsIn}
+use Rattle.hall_law.specs.Crew.{SeatStands}
+use Rattle.hall_law.specs.Views.{View}
+use Rattle.hall_law.specs.Points.{IsExcused, LaneAtPoints, AreAtPoints}
+use Rattle.hall_law.specs.State.{HallLaw, IsIn}
 use Rattle.hall_points.proofs.Owning.{all_in_lane}
 use Rattle.hall_slots.specs.declared.lane_slot.LaneSlot.{LaneSlot}
 use Rattle.hall_slots.specs.declared.lane_slot.Running.{Running}

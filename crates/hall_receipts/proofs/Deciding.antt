@@ -20,8 +20,8 @@ use Rattle.hall_law.specs.Steps.{Step}
 use Rattle.hall_law.specs.Standing.{HallStands}
 use Rattle.hall_law.specs.Writing.{place_of, lane_with, IsAtWork}
 use Rattle.hall_law.proofs.Closing.{owners_are_at_work}
-use Rattle.hall_state.specs.Receipts.{Look, SawLane}
-use Rattle.hall_state.proofs.Owning.{stood}
+use Rattle.hall_law.specs.Receipts.{Look, SawLane}
+use Rattle.hall_law.proofs.Owning.{stood}
 use Rattle.hall_receipts.specs.Decisions.{SawList, Decides, decides_give_up, decides_wait, decides_join, decides_action, ShownAreWanted, ShownIsOne, SomeIsShown}
 use Rattle.hall_receipts.proofs.Top.{kept_or_not, some_place, used_within, joined_child, given_has_ended, kept_has_ended, has_not_ended}
 use Rattle.hall_receipts.proofs.Found.{Found, is_full, has_to_wait, may_act, found_is_wanted, join_is_free, found_is_one}

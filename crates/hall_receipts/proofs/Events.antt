@@ -18,7 +18,7 @@ use Rattle.hall_law.specs.Values.{Hall}
 use Rattle.hall_law.specs.Steps.{Step}
 use Rattle.hall_law.specs.Standing.{HallStands}
 use Rattle.hall_law.specs.Writing.{IsAtWork, ActsInLane, acts_alone, joins_handed, forks_child, IsHanded}
-use Rattle.hall_state.specs.Receipts.{Look, SawLane}
+use Rattle.hall_law.specs.Receipts.{Look, SawLane}
 use Rattle.hall_run.specs.Events.{ActsOn, acts_in_lane, joins_in_lane, runs_dummy, ends_above, ends_and_wakes, ends_and_leaves, root_ends, joins_kept, PausesOn, gives_up_forced, waits_for_child}
 use Rattle.hall_receipts.specs.Needs.{NeedsList, for_join}
 use Rattle.hall_receipts.specs.Decisions.{SawList, Decides, decides_give_up, decides_wait, decides_join, decides_action, ActionsAreShown, PausesAreShown}

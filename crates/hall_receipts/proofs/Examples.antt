@@ -9,7 +9,7 @@ use Rattle.moment_parts.specs.Events.{IsNextOf}
 use Rattle.hall_law.specs.Values.{ListShown, LaneShown}
 use Rattle.hall_law.specs.Writing.{lane_with, new_period}
 use Rattle.hall_law.proofs.Examples.{one_fork, root_thread, empty_pool, child_id, forked_root, stolen}
-use Rattle.hall_state.specs.Receipts.{ShowsBusy, held}
+use Rattle.hall_law.specs.Receipts.{ShowsBusy, held}
 use Rattle.hall_receipts.specs.Needs.{NeedsList, NeedsPool, for_join, for_move}
 use Rattle.hall_receipts.specs.Looks.{owners_looks}
 use Rattle.hall_receipts.specs.Decisions.{ShowsEvent, decides_action, decides_wait, decides_join}

@@ -9,7 +9,7 @@ use Rattle.deque_machine.specs.Machine.{Event}
 use Rattle.moment_parts.specs.Parts.{Thread}
 use Rattle.hall_law.specs.Values.{ListShown, PoolShown, LaneShown}
 use Rattle.hall_law.specs.Writing.{lane_slot}
-use Rattle.hall_state.specs.Receipts.{Look, took, held, counted}
+use Rattle.hall_law.specs.Receipts.{Look, took, held, counted}
 use Rattle.hall_receipts.specs.Needs.{NeedsList, NeedsPool}
 use Rattle.hall_receipts.specs.Looks.{look_at_list, look_at_pool, look_at_count, owners_looks}
 use Rattle.hall_receipts.specs.Turns.{MayTake, its_lane, the_list, the_pool, OwnersTakeTheirTurns}

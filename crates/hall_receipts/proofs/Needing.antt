@@ -18,7 +18,7 @@ use Rattle.hall_law.specs.Values.{Hall}
 use Rattle.hall_law.specs.Steps.{Step}
 use Rattle.hall_law.specs.Standing.{HallStands}
 use Rattle.hall_law.specs.Writing.{lane_with, IsAtWork}
-use Rattle.hall_state.specs.Receipts.{Look, SawLane}
+use Rattle.hall_law.specs.Receipts.{Look, SawLane}
 use Rattle.hall_receipts.specs.Needs.{NeedsList, for_give_up, for_wait, for_dummy, for_end, for_join}
 use Rattle.hall_receipts.specs.Decisions.{Decides, decides_join, decides_action, ShowsEvent, SawTheHall, LanesShowNeeds}
 use Rattle.hall_receipts.proofs.Top.{stands, one_place, some_place, joined_child}

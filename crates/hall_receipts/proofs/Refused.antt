@@ -5,7 +5,7 @@ use Rattle.std.proofs.lemmas.Option.{same_Some}
 use Rattle.deque_list.specs.declared.deque_id.DequeId.{DequeId}
 use Rattle.deque_machine.specs.Machine.{Setting}
 use Rattle.hall_law.specs.Values.{ListShown, PoolShown, LaneShown}
-use Rattle.hall_state.specs.Receipts.{Look, took, held, counted}
+use Rattle.hall_law.specs.Receipts.{Look, took, held, counted}
 use Rattle.hall_run.proofs.Keeping.{kept_ends_stay}
 use Rattle.hall_receipts.specs.Looks.{owners_looks}
 use Rattle.hall_receipts.specs.Refusals.{ShownEndsAreKept, OneEnd, AnswersAreKept, OneSlotIsBusy, BusyIsNoEvent}

@@ -23,7 +23,7 @@ use Rattle.hall_law.specs.Standing.{HallStands}
 use Rattle.hall_law.specs.Writing.{place_of, lane_slot, lane_with, IsAtWork, PoolTakes, ActsInLane, acts_alone, joins_handed, forks_child}
 use Rattle.hall_law.proofs.Own.{beside}
 use Rattle.hall_law.proofs.Lanes.{IsElsewhere, lane_beside}
-use Rattle.hall_state.proofs.Owned.{seats_have_their_workers}
+use Rattle.hall_law.proofs.Owned.{seats_have_their_workers}
 use Rattle.hall_run.specs.Events.{ActsOn, acts_in_lane, joins_in_lane, runs_dummy, ends_above, ends_and_wakes, ends_and_leaves, root_ends, joins_kept, gives_up_forced, waits_for_child, steals_beside, takes_over}
 use Rattle.hall_receipts.specs.Needs.{NeedsList, for_give_up, for_wait, for_dummy, for_end, NeedsPool, for_move}
 use Rattle.hall_receipts.specs.Turns.{WritesItsSlots, ActionsWriteTheirSlots, PausesWriteTheirSlots, GiveUpsWriteTheirSlots, TheftsWriteTheirSlots, MayTake, its_lane, the_list, the_pool, OwnTurnsAreApart}

@@ -17,10 +17,10 @@ use Rattle.step_laws.specs.Readiness.{AreDeques}
 use Rattle.step_laws.proofs.Ready.{ids_are_shown, first_is_shown, owners_are_shown}
 use Rattle.hall_law.specs.Values.{LaneShown, Hall, the_thread, deque_of, deques_of, lane_at}
 use Rattle.hall_law.proofs.Closing.{deques_are_shown}
-use Rattle.hall_state.specs.Receipts.{Look, SawTheLanes}
-use Rattle.hall_state.proofs.Owning.{owns_none}
-use Rattle.hall_state.proofs.Receipts.{victims_are_first}
-use Rattle.hall_state.proofs.Stops.{at_mapped}
+use Rattle.hall_law.specs.Receipts.{Look, SawTheLanes}
+use Rattle.hall_law.proofs.Owning.{owns_none}
+use Rattle.hall_law.proofs.Receipts.{victims_are_first}
+use Rattle.hall_law.proofs.Stops.{at_mapped}
 use Rattle.hall_receipts.specs.Thefts.{ShowsStaying, ShowsTakenOver, ShowsId, keeps_its_id, has_free_id, ShownTheftsAreWanted}
 
 abbrev shown_as : DequeOf Thread → Deque

@@ -14,9 +14,9 @@ use Rattle.moment_parts.specs.Events.{IsNextOf}
 use Rattle.hall_law.specs.Values.{ListShown, LaneShown, of_list, Hall, lane_at}
 use Rattle.hall_law.specs.Steps.{Step, Told, Leads}
 use Rattle.hall_law.specs.Writing.{lane_with, IsAtWork}
-use Rattle.hall_crew.specs.Views.{View}
-use Rattle.hall_state.specs.State.{RunningState, IsIn}
-use Rattle.hall_state.specs.Receipts.{Look, took, SawLane}
+use Rattle.hall_law.specs.Views.{View}
+use Rattle.hall_law.specs.State.{RunningState, IsIn}
+use Rattle.hall_law.specs.Receipts.{Look, took, SawLane}
 use Rattle.hall_run.specs.Events.{ActsOn, PausesOn}
 use Rattle.hall_receipts.specs.Needs.{NeedsList}
 

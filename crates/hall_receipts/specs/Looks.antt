@@ -3,7 +3,7 @@ use Rattle.std.specs.Prelude.{ℕ, Option, None, Some, List, [], ◌∷◌, ◌+
 use Rattle.deque_list.specs.declared.deque_id.DequeId.{DequeId}
 use Rattle.hall_law.specs.Values.{ListShown, PoolShown, LaneShown, of_list, of_pool, of_lane}
 use Rattle.hall_law.specs.Writing.{lane_slot}
-use Rattle.hall_state.specs.Receipts.{Look, took, counted}
+use Rattle.hall_law.specs.Receipts.{Look, took, counted}
 
 -- Its lane, then the list and the pool if it took them, and its count if it drew one.
 abbrev pub look_at_list : Option ListShown → List Look

@@ -6,9 +6,9 @@ use Rattle.deque_machine.specs.Machine.{Setting}
 use Rattle.deque_machine.specs.Play.{Limits}
 use Rattle.hall_law.specs.Values.{ListShown, PoolShown, LaneShown, End}
 use Rattle.hall_law.specs.Steps.{Step, Leads}
-use Rattle.hall_crew.specs.Views.{View}
-use Rattle.hall_state.specs.State.{RunningState, IsIn}
-use Rattle.hall_state.specs.Receipts.{Look, ShowsEnd, ShowsBusy}
+use Rattle.hall_law.specs.Views.{View}
+use Rattle.hall_law.specs.State.{RunningState, IsIn}
+use Rattle.hall_law.specs.Receipts.{Look, ShowsEnd, ShowsBusy}
 use Rattle.hall_run.specs.Events.{Snapshot}
 use Rattle.hall_run.specs.Sequences.{Sequence}
 use Rattle.hall_receipts.specs.Looks.{owners_looks}

@@ -8,9 +8,9 @@ use Rattle.deque_machine.specs.Machine.{Setting, steals}
 use Rattle.deque_machine.specs.Play.{Limits, Wants}
 use Rattle.hall_law.specs.Values.{LaneShown, Hall}
 use Rattle.hall_law.specs.Steps.{Step, Leads}
-use Rattle.hall_crew.specs.Views.{View}
-use Rattle.hall_state.specs.State.{RunningState, IsIn}
-use Rattle.hall_state.specs.Receipts.{Look, SawLane, ShowsVictim, SawTheLanes}
+use Rattle.hall_law.specs.Views.{View}
+use Rattle.hall_law.specs.State.{RunningState, IsIn}
+use Rattle.hall_law.specs.Receipts.{Look, SawLane, ShowsVictim, SawTheLanes}
 
 -- a deque stays after a theft from it, by these looks: it has an owner or two threads
 abbrev pub ShowsStaying : List Look → Place → Type 0

@@ -12,9 +12,9 @@ use Rattle.moment_parts.specs.Parts.{Thread}
 use Rattle.hall_law.specs.Values.{ListShown, PoolShown, LaneShown, Hall, Value, lane_at}
 use Rattle.hall_law.specs.Steps.{Step, Told, Leads}
 use Rattle.hall_law.specs.Writing.{lane_slot, IsAtWork}
-use Rattle.hall_crew.specs.Views.{View}
-use Rattle.hall_state.specs.State.{RunningState, IsIn}
-use Rattle.hall_state.specs.Receipts.{Look, took, held}
+use Rattle.hall_law.specs.Views.{View}
+use Rattle.hall_law.specs.State.{RunningState, IsIn}
+use Rattle.hall_law.specs.Receipts.{Look, took, held}
 use Rattle.hall_run.specs.Events.{ActsOn, PausesOn, StealsOn, given_up}
 use Rattle.hall_receipts.specs.Needs.{NeedsList, NeedsPool}
 use Rattle.hall_receipts.specs.Looks.{owners_looks}

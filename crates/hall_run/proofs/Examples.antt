@@ -16,11 +16,11 @@ use Rattle.hall_law.specs.Steps.{Step, stole, did, run_of, Leads}
 use Rattle.hall_law.specs.Writing.{place_of, lane_with, IsAtWork, new_period}
 use Rattle.hall_law.specs.Writing as writing
 use Rattle.hall_law.proofs.Examples.{one_fork, one_fork_is_depth_first, root_thread, first_list, empty_pool, first, taken, theft, child_id, child_thread, forked_root, first_name, fork_moved, pool_now, forked, at_work, fork, stolen, second_theft}
-use Rattle.hall_crew.specs.Views.{View, fresh, joined}
-use Rattle.hall_crew.specs.Changes.{after_event}
-use Rattle.hall_crew.specs.Seats.{with_crew, entering, leaving, with_places_of}
-use Rattle.hall_state.specs.Closing.{GivesOneRun}
-use Rattle.hall_state.proofs.Examples.{some_limits}
+use Rattle.hall_law.specs.Views.{View, fresh, joined}
+use Rattle.hall_law.specs.Changes.{after_event}
+use Rattle.hall_law.specs.Seats.{with_crew, entering, leaving, with_places_of}
+use Rattle.hall_law.specs.Closing.{GivesOneRun}
+use Rattle.hall_law.proofs.WorkedStates.{some_limits}
 use Rattle.hall_run.specs.Events.{Snapshot, seen, acts_in_lane, ends_and_leaves, joins_kept, root_ends, steals_beside, takes_over, does_an_action, steals_a_thread}
 use Rattle.hall_run.specs.Others.{counts_below, enters_by, splits_off, leaves_idle, joins_into}
 use Rattle.hall_run.specs.Sequences.{IsBeginning, Sequence, begins, then_event, then_other, ShowsMoment, EachShows}

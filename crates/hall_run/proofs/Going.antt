@@ -10,13 +10,13 @@ use Rattle.deque_machine.specs.Play.{Limits}
 use Rattle.hall_law.specs.Values.{Hall}
 use Rattle.hall_law.specs.Steps.{Step, Told, did, stole, Leads}
 use Rattle.hall_law.specs.Writing.{IsAtWork, step_of}
-use Rattle.hall_crew.specs.Views.{View}
-use Rattle.hall_crew.specs.Changes.{after_event}
-use Rattle.hall_state.specs.State.{RunningState, IsIn, GoesOn}
-use Rattle.hall_state.proofs.Owners.{lane_actions_go_on, own_joins_go_on, dummies_go_on, ends_above_go_on, waking_ends_go_on, leaving_ends_go_on, kept_joins_go_on, giving_up_goes_on, forced_give_ups_go_on, suspending_goes_on}
-use Rattle.hall_state.proofs.Roots.{root_ends_go_on}
-use Rattle.hall_state.proofs.Thieves.{thefts_beside_go_on, taking_over_goes_on}
-use Rattle.hall_state.proofs.Quiet.{leaving_owners_go_on}
+use Rattle.hall_law.specs.Views.{View}
+use Rattle.hall_law.specs.Changes.{after_event}
+use Rattle.hall_law.specs.State.{RunningState, IsIn, GoesOn}
+use Rattle.hall_law.proofs.Owners.{lane_actions_go_on, own_joins_go_on, dummies_go_on, ends_above_go_on, waking_ends_go_on, leaving_ends_go_on, kept_joins_go_on, giving_up_goes_on, forced_give_ups_go_on, suspending_goes_on}
+use Rattle.hall_law.proofs.Roots.{root_ends_go_on}
+use Rattle.hall_law.proofs.Thieves.{thefts_beside_go_on, taking_over_goes_on}
+use Rattle.hall_law.proofs.Quiet.{leaving_owners_go_on}
 use Rattle.hall_run.specs.Events.{ActsOn, acts_in_lane, joins_in_lane, runs_dummy, ends_above, ends_and_wakes, ends_and_leaves, root_ends, joins_kept, PausesOn, gives_up_forced, waits_for_child, StealsOn, steals_beside, takes_over, does_an_action, has_to_pause, gives_up_freely, steals_a_thread, leaves_as_owner}
 use Rattle.hall_run.specs.Sequences.{EventsGoOn}
 

@@ -9,8 +9,8 @@ use Rattle.deque_machine.specs.Play.{Limits}
 use Rattle.hall_law.specs.Values.{Hall, Stop, End}
 use Rattle.hall_law.specs.Steps.{Step, Told}
 use Rattle.hall_law.specs.Writing.{IsAtWork}
-use Rattle.hall_crew.specs.Seats.{end_with}
-use Rattle.hall_state.specs.Quiet.{kept_with}
+use Rattle.hall_law.specs.Seats.{end_with}
+use Rattle.hall_law.specs.Quiet.{kept_with}
 use Rattle.hall_run.specs.Events.{Snapshot, ActsOn, acts_in_lane, joins_in_lane, runs_dummy, ends_above, ends_and_wakes, ends_and_leaves, root_ends, joins_kept, PausesOn, gives_up_forced, waits_for_child, StealsOn, steals_beside, takes_over, IsEvent, does_an_action, has_to_pause, gives_up_freely, steals_a_thread, leaves_as_owner}
 use Rattle.hall_run.specs.Others.{IsOther, puts_the_same, counts_below, counts_spent, finds_a_stop, finds_and_keeps, keeps_its_stop, halts_with, is_answered, enters_by, splits_off, leaves_idle, joins_into}
 use Rattle.hall_run.specs.Sequences.{begins, then_event, then_other, KeptEndsStay, SequencesJoin}

@@ -6,10 +6,10 @@ use Rattle.deque_machine.specs.Machine.{Setting}
 use Rattle.deque_machine.specs.Play.{Limits}
 use Rattle.hall_law.specs.Steps.{Step, Leads}
 use Rattle.hall_law.proofs.Opening.{first_stands}
-use Rattle.hall_crew.specs.Views.{fresh}
-use Rattle.hall_crew.proofs.First.{first_crew}
-use Rattle.hall_state.specs.State.{RunningState}
-use Rattle.hall_state.proofs.Closing.{states_meet_the_law, halls_are_bounded, closed_give_one_run}
+use Rattle.hall_law.specs.Views.{fresh}
+use Rattle.hall_law.proofs.First.{first_crew}
+use Rattle.hall_law.specs.State.{RunningState}
+use Rattle.hall_law.proofs.Closed.{states_meet_the_law, halls_are_bounded, closed_give_one_run}
 use Rattle.hall_run.specs.Events.{Snapshot}
 use Rattle.hall_run.specs.Sequences.{IsBeginning, Sequence, begins, then_event, then_other, ShowsMoment, EachShows, SeatsMakeOneRun, SequencesShowMoments}
 use Rattle.hall_run.proofs.Going.{events_go_on}

@@ -8,14 +8,14 @@ use Rattle.deque_machine.specs.Play.{Limits}
 use Rattle.period_table.proofs.Lists.{set_same}
 use Rattle.hall_law.specs.Values.{Hall, Stop}
 use Rattle.hall_law.specs.Steps.{Step, Leads}
-use Rattle.hall_crew.specs.Views.{View}
-use Rattle.hall_crew.specs.Crew.{Crew, HasCause}
-use Rattle.hall_crew.specs.Seats.{finding, end_with}
-use Rattle.hall_crew.proofs.Noting.{crews_stand}
-use Rattle.hall_crew.proofs.Halting.{finding_keeps_crew, stops_are_kept, answers_keep_crew}
-use Rattle.hall_state.specs.State.{RunningState, IsIn}
-use Rattle.hall_state.proofs.Quiet.{quiet_puts_go_on, counts_go_on, entering_goes_on, splitting_goes_on, kept_stops_go_on, halting_goes_on, leaving_goes_on, joining_goes_on}
-use Rattle.hall_state.proofs.Stops.{spent_counts_go_on, full_arenas_go_on, full_lists_go_on}
+use Rattle.hall_law.specs.Views.{View}
+use Rattle.hall_law.specs.Crew.{Crew, HasCause}
+use Rattle.hall_law.specs.Seats.{finding, end_with}
+use Rattle.hall_law.proofs.Noting.{crews_stand}
+use Rattle.hall_law.proofs.Halting.{finding_keeps_crew, stops_are_kept, answers_keep_crew}
+use Rattle.hall_law.specs.State.{RunningState, IsIn}
+use Rattle.hall_law.proofs.Quiet.{quiet_puts_go_on, counts_go_on, entering_goes_on, splitting_goes_on, kept_stops_go_on, halting_goes_on, leaving_goes_on, joining_goes_on}
+use Rattle.hall_law.proofs.Stops.{spent_counts_go_on, full_arenas_go_on, full_lists_go_on}
 use Rattle.hall_run.specs.Others.{MayFind, wants_memory, fills_the_arena, fills_the_list, puts_the_same, counts_below, counts_spent, finds_a_stop, finds_and_keeps, keeps_its_stop, halts_with, is_answered, enters_by, splits_off, leaves_idle, joins_into}
 use Rattle.hall_run.specs.Sequences.{OthersStay}
 

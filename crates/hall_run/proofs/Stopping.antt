@@ -10,11 +10,11 @@ use Rattle.hall_law.specs.Values.{Hall, no_lane, no_memory, End, stopped}
 use Rattle.hall_law.specs.Steps.{Step, gave_up, Leads}
 use Rattle.hall_law.specs.Writing.{place_of, lane_with, IsAtWork, new_period}
 use Rattle.hall_law.proofs.Examples.{one_fork, one_fork_is_depth_first, root_thread, taken, theft}
-use Rattle.hall_crew.specs.Views.{View, fresh, joined}
-use Rattle.hall_crew.specs.Changes.{after_event}
-use Rattle.hall_crew.specs.Seats.{with_crew, finding, answered_with, halted_with, leaving, with_places_of}
-use Rattle.hall_state.specs.Closing.{GivesOneRun}
-use Rattle.hall_state.proofs.Examples.{some_limits}
+use Rattle.hall_law.specs.Views.{View, fresh, joined}
+use Rattle.hall_law.specs.Changes.{after_event}
+use Rattle.hall_law.specs.Seats.{with_crew, finding, answered_with, halted_with, leaving, with_places_of}
+use Rattle.hall_law.specs.Closing.{GivesOneRun}
+use Rattle.hall_law.proofs.WorkedStates.{some_limits}
 use Rattle.hall_run.specs.Events.{Snapshot, seen, given_up, gives_up_freely}
 use Rattle.hall_run.specs.Others.{wants_memory, finds_a_stop, halts_with, is_answered, leaves_idle, joins_into}
 use Rattle.hall_run.specs.Sequences.{Sequence, then_event, then_other, ShowsMoment}

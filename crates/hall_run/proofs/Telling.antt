@@ -9,9 +9,9 @@ use Rattle.deque_machine.specs.Play.{Limits}
 use Rattle.period_table.proofs.Lists.{set_same, set_other}
 use Rattle.hall_law.specs.Values.{by_rule}
 use Rattle.hall_law.specs.Steps.{Step, halted}
-use Rattle.hall_crew.specs.Views.{View, fresh, joined, events_told}
-use Rattle.hall_crew.specs.Seats.{entering, giving, finding, end_with, answered_with, halted_with, leaving, with_places_of}
-use Rattle.hall_crew.proofs.Acting.{events_append}
+use Rattle.hall_law.specs.Views.{View, fresh, joined, events_told}
+use Rattle.hall_law.specs.Seats.{entering, giving, finding, end_with, answered_with, halted_with, leaving, with_places_of}
+use Rattle.hall_law.proofs.Acting.{events_append}
 use Rattle.hall_run.specs.Events.{Snapshot, does_an_action, has_to_pause, gives_up_freely, steals_a_thread, leaves_as_owner}
 use Rattle.hall_run.specs.Others.{puts_the_same, counts_below, counts_spent, finds_a_stop, finds_and_keeps, keeps_its_stop, halts_with, is_answered, enters_by, splits_off, leaves_idle, joins_into}
 use Rattle.hall_run.specs.Told.{IsToldOnce, EventsAreToldOnce, OthersTellNothing}

@@ -19,11 +19,11 @@ use Rattle.hall_law.specs.Values.{PoolShown, LaneShown, Hall, finished, no_lane,
 use Rattle.hall_law.specs.Steps.{Step, Told, did, stole, waited, gave_up}
 use Rattle.hall_law.specs.Writing.{place_of, lane_with, IsAtWork, written, list_unowned, list_without, step_of, PoolTakes, ActsInLane, IsHanded, new_period}
 use Rattle.hall_law.specs.Rows.{list_stolen}
-use Rattle.hall_crew.specs.Views.{View}
-use Rattle.hall_crew.specs.Changes.{after_event}
-use Rattle.hall_crew.specs.Seats.{with_crew, leaving}
-use Rattle.hall_state.specs.State.{IsIn}
-use Rattle.hall_state.specs.Quiet.{kept_with}
+use Rattle.hall_law.specs.Views.{View}
+use Rattle.hall_law.specs.Changes.{after_event}
+use Rattle.hall_law.specs.Seats.{with_crew, leaving}
+use Rattle.hall_law.specs.State.{IsIn}
+use Rattle.hall_law.specs.Quiet.{kept_with}
 
 -- What a hall shows between two steps: what its slots hold, the count word, and what each seat notes.
 pub record Snapshot : Type 0 where

@@ -17,10 +17,10 @@ use Rattle.step_laws.specs.Standing.{Keeps}
 use Rattle.hall_law.specs.Values.{Hall, Stop, by_rule, no_memory, End, deques_of, parts_of, showing_of}
 use Rattle.hall_law.specs.Standing.{HasLane}
 use Rattle.hall_law.specs.Writing.{IsAtWork}
-use Rattle.hall_crew.specs.Views.{View, fresh, joined}
-use Rattle.hall_crew.specs.Seats.{with_crew, LooksTheSame, entering, giving, finding, end_with, answered_with, halted_with, leaving, with_places_of}
-use Rattle.hall_state.specs.State.{IsIn}
-use Rattle.hall_state.specs.Quiet.{kept_with}
+use Rattle.hall_law.specs.Views.{View, fresh, joined}
+use Rattle.hall_law.specs.Seats.{with_crew, LooksTheSame, entering, giving, finding, end_with, answered_with, halted_with, leaving, with_places_of}
+use Rattle.hall_law.specs.State.{IsIn}
+use Rattle.hall_law.specs.Quiet.{kept_with}
 use Rattle.hall_run.specs.Events.{Snapshot, seen}
 
 -- The stops that a seat may find, by what the slots show.

@@ -9,9 +9,9 @@ use Rattle.moment_parts.specs.Parts.{Thread}
 use Rattle.hall_law.specs.Values.{Value, End, hall_of}
 use Rattle.hall_law.specs.Steps.{Step, Leads}
 use Rattle.hall_law.specs.Rows.{IsFirst}
-use Rattle.hall_crew.specs.Views.{fresh}
-use Rattle.hall_state.specs.State.{RunningState, GoesOn, HallLaw}
-use Rattle.hall_state.specs.Closing.{IsBounded, GivesOneRun}
+use Rattle.hall_law.specs.Views.{fresh}
+use Rattle.hall_law.specs.State.{RunningState, GoesOn, HallLaw}
+use Rattle.hall_law.specs.Closing.{IsBounded, GivesOneRun}
 use Rattle.hall_run.specs.Events.{Snapshot, IsEvent}
 use Rattle.hall_run.specs.Others.{IsOther}
 

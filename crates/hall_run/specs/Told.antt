@@ -3,7 +3,7 @@ use Rattle.std.specs.Prelude.{◌≡◌, ◌≢◌, ◌⊎◌, ℕ, true, Some, 
 use Rattle.deque_machine.specs.Machine.{Setting}
 use Rattle.deque_machine.specs.Play.{Limits}
 use Rattle.hall_law.specs.Steps.{Step}
-use Rattle.hall_crew.specs.Views.{View, joined, events_told}
+use Rattle.hall_law.specs.Views.{View, joined, events_told}
 use Rattle.hall_run.specs.Events.{Snapshot, IsEvent}
 use Rattle.hall_run.specs.Others.{IsOther}
 

@@ -22,10 +22,10 @@ use Rattle.thread_map.specs.Kept.{kept_under}
 use Rattle.thread_frames.specs.declared.thread.Thread.{Thread}
 use Rattle.thread_frames.specs.declared.ended.Ended.{Ended}
 use Rattle.thread_frames.specs.Points.{IsAtPoint, IsResult}
-use Rattle.hall_crew.specs.Views.{View}
+use Rattle.hall_law.specs.Views.{View}
 use Rattle.hall_law.specs.Values.{no_memory, End}
-use Rattle.hall_state.specs.Points.{IsExcused, AreAtPoints, StaysAtPoints}
-use Rattle.hall_state.proofs.Points.{points_go_on, excuses_stay}
+use Rattle.hall_law.specs.Points.{IsExcused, AreAtPoints, StaysAtPoints}
+use Rattle.hall_law.proofs.Points.{points_go_on, excuses_stay}
 use Rattle.hall_slots.specs.declared.slot.Slot.{Slot}
 use Rattle.hall_slots.specs.declared.slot.Slot.TheVariants as slots
 use Rattle.hall_slots.specs.declared.list_slot.ListSlot.{ListSlot}

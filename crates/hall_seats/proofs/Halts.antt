@@ -17,10 +17,10 @@ use Rattle.turn_table.proofs.Left.{left_of_one}
 use Rattle.turn_places.specs.Backs.{unchanged}
 use Rattle.hall_law.specs.Values.{Hall, ListShown, End}
 use Rattle.hall_law.specs.Steps.{halted}
-use Rattle.hall_crew.specs.Views.{View}
-use Rattle.hall_crew.specs.Seats.{with_crew, end_with, halted_with}
-use Rattle.hall_state.specs.State.{RunningState, IsIn}
-use Rattle.hall_state.proofs.Quiet.{halting_goes_on}
+use Rattle.hall_law.specs.Views.{View}
+use Rattle.hall_law.specs.Seats.{with_crew, end_with, halted_with}
+use Rattle.hall_law.specs.State.{RunningState, IsIn}
+use Rattle.hall_law.proofs.Quiet.{halting_goes_on}
 use Rattle.hall_slots.specs.declared.event.Event.TheVariants.{Halted}
 use Rattle.hall_slots.specs.declared.list_slot.ListSlot.{ListSlot}
 use Rattle.hall_slots.specs.declared.seat_note.SeatNote.{SeatNote}

@@ -14,7 +14,7 @@ use Rattle.run_end.specs.declared.ends.RunEnd.TheVariants.{Finished, Stopped}
 use Rattle.hall_law.specs.Values.{Stop, by_rule, no_memory, End, finished, stopped}
 use Rattle.hall_law.specs.Values.{ListShown, PoolShown, LaneShown, Value, of_list, of_pool, of_lane}
 use Rattle.hall_law.specs.Steps.{Told, stole, did, waited, gave_up, halted}
-use Rattle.hall_crew.specs.Views.{View}
+use Rattle.hall_law.specs.Views.{View}
 use Rattle.hall_slots.specs.declared.event.Event.{Event}
 use Rattle.hall_slots.specs.declared.event.Event.TheVariants.{Stole, Did, Suspended, GaveUp, Halted}
 use Rattle.hall_slots.specs.declared.list_slot.ListSlot.{ListSlot}

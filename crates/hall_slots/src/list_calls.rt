@@ -4,7 +4,7 @@ ghost use Rattle.std.specs.Prelude.{◌≡◌, ◌≤◌, ◌<◌, ◌∷◌, �
 ghost use Rattle.space_ledger.specs.BooksList.{books_spare};
 ghost use Rattle.lawful_books.specs.Lists.{times};
 ghost use Rattle.list_part.specs.Parts.{Has};
-ghost use Rattle.hall_state.specs.Numbers.{IsSmallestNumber};
+ghost use Rattle.hall_law.specs.Numbers.{IsSmallestNumber};
 ghost use Rattle.hall_slots.specs.Lists.{end_kept, IsOutOf, ShowsUnowned, ShowsWithout, HasNoOwner, IsGone, KeepsRest};
 
 use crate::lane_slot::Running;

@@ -14,7 +14,7 @@ use Rattle.thread_map.specs.Kept.{Kept}
 use Rattle.thread_frames.specs.Kept.{WaitsUnder, IsUnderItsId}
 use Rattle.thread_frames.specs.Roots.{end_of_root}
 use Rattle.hall_law.specs.Values.{ListShown}
-use Rattle.hall_state.specs.Points.{LaneAtPoints}
+use Rattle.hall_law.specs.Points.{LaneAtPoints}
 use Rattle.hall_turns.specs.Keys.{table_of, quota_of}
 use Rattle.hall_turns.specs.Sound.{thread_that_waits}
 use Rattle.hall_writes.specs.Writes.{IsShort, stays, loses_owner, goes}

@@ -16,7 +16,7 @@ use Rattle.thread_frames.specs.declared.thread.Thread.{Thread}
 use Rattle.thread_map.specs.Kept.{kept_under}
 use Rattle.thread_frames.specs.Kept.{WaitsUnder, IsUnderItsId}
 use Rattle.thread_frames.specs.Roots.{end_of_root}
-use Rattle.hall_state.specs.Points.{LaneAtPoints}
+use Rattle.hall_law.specs.Points.{LaneAtPoints}
 use Rattle.list_events.specs.Calls.{KeepsCrew, TakesWaiting, IsHandedThere}
 use Rattle.hall_slots.specs.declared.lane_slot.LaneSlot.{LaneSlot}
 use Rattle.hall_slots.specs.declared.list_slot.ListSlot.{ListSlot}

@@ -19,9 +19,9 @@ use Rattle.turn_table.proofs.NoteLaws.{notes_at}
 use Rattle.turn_places.specs.Places.{OthersHaveNone}
 use Rattle.turn_places.specs.Backs.{kept}
 use Rattle.turn_places.proofs.Alone.{lone_seats_are_free}
-use Rattle.hall_crew.specs.Views.{View}
-use Rattle.hall_state.specs.State.{HallLaw}
-use Rattle.hall_state.proofs.Closing.{seats_with_all_are_alone}
+use Rattle.hall_law.specs.Views.{View}
+use Rattle.hall_law.specs.State.{HallLaw}
+use Rattle.hall_law.proofs.Closed.{seats_with_all_are_alone}
 use Rattle.hall_slots.specs.declared.slot.Slot.{Slot}
 use Rattle.hall_slots.specs.declared.seat_note.SeatNote.{SeatNote}
 use Rattle.hall_slots.specs.Shown.{value_of, view_of}

@@ -8,7 +8,7 @@ use lib.Seq.{map-set}
 use Rattle.atomic_table.proofs.Lists.{at_set}
 use Rattle.depth_first_run.specs.States.{Setting}
 use Rattle.deque_machine.specs.Terms.{Terms, machine_of}
-use Rattle.thread_run.specs.Settings.{IsSettingOf}
+use Rattle.thread_state.specs.Settings.{IsSettingOf}
 use Rattle.turn_table.specs.Hands.{Shows, showing, without_slot, renewed}
 use Rattle.turn_table.specs.Notes.{PutMay}
 use Rattle.turn_table.specs.Law.{PutKeeps}
@@ -18,8 +18,8 @@ use Rattle.turn_table.proofs.Left.{left_of_one}
 use Rattle.turn_places.specs.Backs.{unchanged}
 use Rattle.turn_places.proofs.Resting.{put_rests}
 use Rattle.hall_law.specs.Values.{Hall}
-use Rattle.hall_crew.specs.Views.{View}
-use Rattle.hall_state.specs.State.{RunningState, HallLaw}
+use Rattle.hall_law.specs.Views.{View}
+use Rattle.hall_law.specs.State.{RunningState, HallLaw}
 use Rattle.hall_slots.specs.declared.slot.Slot.{Slot}
 use Rattle.hall_slots.specs.declared.slot.Slot.TheVariants as slots
 use Rattle.hall_slots.specs.declared.list_slot.ListSlot.{ListSlot}

@@ -4,8 +4,8 @@ use mathlib.Core.Option.{some}
 use lib.ListN.{get_elem?}
 use Rattle.depth_first_run.specs.States.{Setting}
 use Rattle.deque_machine.specs.Terms.{Terms, machine_of}
-use Rattle.thread_run.specs.Settings.{IsSettingOf}
-use Rattle.hall_state.specs.State.{HallLaw}
+use Rattle.thread_state.specs.Settings.{IsSettingOf}
+use Rattle.hall_law.specs.State.{HallLaw}
 use Rattle.hall_slots.specs.declared.slot.Slot.{Slot}
 use Rattle.hall_slots.specs.declared.seat_note.SeatNote.{SeatNote}
 use Rattle.hall_slots.specs.Shown.{value_of, kind_of, view_of}

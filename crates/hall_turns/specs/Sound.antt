@@ -16,7 +16,7 @@ use Rattle.thread_frames.specs.Roots.{end_of_root}
 use Rattle.run_end.specs.declared.ends.RunEnd.{RunEnd}
 use Rattle.run_end.specs.declared.ends.RunEnd.TheVariants.{Finished}
 use Rattle.hall_law.specs.Writing.{lane_slot}
-use Rattle.hall_state.specs.Points.{AreAtPoints}
+use Rattle.hall_law.specs.Points.{AreAtPoints}
 use Rattle.hall_slots.specs.declared.list_slot.ListSlot.{ListSlot}
 use Rattle.hall_slots.specs.declared.pool_slot.PoolSlot.{PoolSlot}
 use Rattle.hall_slots.specs.declared.lane_slot.LaneSlot.{LaneSlot}

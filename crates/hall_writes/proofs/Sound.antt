@@ -21,11 +21,11 @@ use Rattle.period_table.proofs.Lists.{set_same, set_other}
 use Rattle.thread_map.specs.Kept.{kept_under}
 use Rattle.thread_frames.specs.Points.{IsAtPoint}
 use Rattle.thread_frames.specs.declared.thread.Thread.{Thread}
-use Rattle.hall_crew.specs.Views.{View}
+use Rattle.hall_law.specs.Views.{View}
 use Rattle.hall_law.specs.Values.{no_memory}
 use Rattle.hall_law.specs.Writing.{lane_slot, place_of}
-use Rattle.hall_state.specs.Points.{IsExcused, LaneAtPoints, AreAtPoints}
-use Rattle.hall_state.proofs.Points.{excuses_stay}
+use Rattle.hall_law.specs.Points.{IsExcused, LaneAtPoints, AreAtPoints}
+use Rattle.hall_law.proofs.Points.{excuses_stay}
 use Rattle.hall_slots.specs.declared.lane_slot.LaneSlot.{LaneSlot}
 use Rattle.hall_slots.specs.declared.seat_note.SeatNote.{SeatNote}
 use Rattle.hall_slots.specs.declared.slot.Slot.{Slot}

@@ -16,11 +16,11 @@ use Rattle.run_end.specs.declared.ends.RunEnd.TheVariants.{Finished}
 use Rattle.lawful_books.specs.Lists.{Each}
 use Rattle.thread_frames.specs.Points.{IsAtPoint}
 use Rattle.thread_map.specs.Kept.{kept_under}
-use Rattle.thread_run.specs.Settings.{IsSettingOf}
-use Rattle.hall_crew.specs.Views.{View}
+use Rattle.thread_state.specs.Settings.{IsSettingOf}
+use Rattle.hall_law.specs.Views.{View}
 use Rattle.hall_law.specs.Values.{Hall, lane_at}
 use Rattle.hall_law.specs.Writing.{lane_slot, place_of}
-use Rattle.hall_state.specs.Points.{LaneAtPoints}
+use Rattle.hall_law.specs.Points.{LaneAtPoints}
 use Rattle.hall_slots.specs.declared.event.Event.{Event}
 use Rattle.hall_slots.specs.declared.lane_slot.LaneSlot.{LaneSlot}
 use Rattle.hall_slots.specs.declared.list_slot.ListSlot.{ListSlot}

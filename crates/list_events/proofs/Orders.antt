@@ -11,10 +11,10 @@ use Rattle.moment_parts.specs.Parts.{Thread, Result}
 use Rattle.hall_law.specs.Values.{Hall}
 use Rattle.hall_law.specs.Steps.{Step, Leads}
 use Rattle.hall_law.specs.Writing.{IsAtWork}
-use Rattle.hall_crew.specs.Views.{View}
-use Rattle.hall_state.specs.State.{RunningState}
-use Rattle.hall_state.proofs.Quiet.{quiet_puts_go_on}
-use Rattle.hall_state.proofs.Owners.{waking_ends_go_on, kept_joins_go_on}
+use Rattle.hall_law.specs.Views.{View}
+use Rattle.hall_law.specs.State.{RunningState}
+use Rattle.hall_law.proofs.Quiet.{quiet_puts_go_on}
+use Rattle.hall_law.proofs.Owners.{waking_ends_go_on, kept_joins_go_on}
 use Rattle.list_events.specs.Taken.{TakenWakesGoOn, TakenJoinsGoOn}
 
 plus_zero : (n : ℕ) → n + 0 ≡ n

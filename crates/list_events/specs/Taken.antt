@@ -15,9 +15,9 @@ use Rattle.thread_frames.specs.Kept.{WaitsUnder}
 use Rattle.hall_law.specs.Values.{PoolShown, Hall, ListShown}
 use Rattle.hall_law.specs.Steps.{Step, Leads, did}
 use Rattle.hall_law.specs.Writing.{lane_with, IsAtWork, written, step_of, PoolTakes, IsHanded}
-use Rattle.hall_crew.specs.Views.{View}
-use Rattle.hall_state.specs.State.{RunningState, IsIn, GoesOn}
-use Rattle.hall_state.specs.Events.{still_owning}
+use Rattle.hall_law.specs.Views.{View}
+use Rattle.hall_law.specs.State.{RunningState, IsIn, GoesOn}
+use Rattle.hall_law.specs.Events.{still_owning}
 use Rattle.hall_slots.specs.declared.list_slot.ListSlot.{ListSlot}
 use Rattle.hall_slots.specs.Shown.{list_shown}
 

@@ -19,7 +19,7 @@ use Rattle.period_books.specs.Periods.{Period}
 use Rattle.period_table.specs.Tables.{period_at}
 use Rattle.depth_first_run.specs.Run.{list_of}
 use Rattle.thread_map.specs.Kept.{Kept, kept_under}
-use Rattle.thread_run.specs.Settings.{IsSettingOf}
+use Rattle.thread_state.specs.Settings.{IsSettingOf}
 use Rattle.thread_frames.specs.Actions.{IsOfTheList, deed_of, TellsWords, is_there}
 use Rattle.thread_frames.specs.Children.{is_delivered}
 use Rattle.thread_frames.specs.Views.{label_of, children_of, newest}

@@ -28,7 +28,7 @@ use Rattle.moment_parts.specs.Events.{Works}
 use Rattle.moment_parts.proofs.Shown.{used_is}
 use Rattle.moment_parts.proofs.Placing.{own}
 use Rattle.depth_first_run.specs.Run.{list_of}
-use Rattle.thread_run.specs.Settings.{IsSettingOf}
+use Rattle.thread_state.specs.Settings.{IsSettingOf}
 use Rattle.thread_frames.specs.Actions.{IsOfTheList, deed_of, TellsWords}
 use Rattle.thread_frames.specs.Views.{label_of, children_of, thread_words, join_words_of}
 use Rattle.thread_frames.specs.declared.next.Next.{Next}

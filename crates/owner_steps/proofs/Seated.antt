@@ -9,7 +9,7 @@ use Rattle.deque_machine.specs.Runs.{Pair}
 use Rattle.deque_machine.specs.Terms.{Terms}
 use Rattle.node_table.specs.Table.{Table}
 use Rattle.period_table.specs.Tables.{seat_at, deque_at}
-use Rattle.thread_run.specs.Settings.{IsSettingOf}
+use Rattle.thread_state.specs.Settings.{IsSettingOf}
 use Rattle.core_parts.specs.Held.{Held}
 use Rattle.core_parts.specs.Moments.{HasRun}
 use Rattle.core_parts.specs.Outcomes.{HasDequesLeft}

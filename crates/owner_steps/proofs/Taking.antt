@@ -30,7 +30,7 @@ use Rattle.thread_frames.specs.Views.{thread_words, next_of, done_of, children_o
 use Rattle.thread_frames.specs.Actions.{IsStill, IsOfTheList, JoinsNewest}
 use Rattle.thread_frames.specs.declared.next.Next.{Next}
 use Rattle.thread_frames.proofs.Placed.{placed_of}
-use Rattle.thread_run.specs.Settings.{IsSettingOf}
+use Rattle.thread_state.specs.Settings.{IsSettingOf}
 use Rattle.owner_steps.specs.Keeping.{KeepsRoom}
 use Rattle.owner_steps.specs.Memory.{HasMemory}
 use Rattle.owner_steps.specs.Tops.{TakesTop}

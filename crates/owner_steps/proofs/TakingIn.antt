@@ -18,7 +18,7 @@ use Rattle.node_table.specs.Table.{Table}
 use Rattle.period_table.specs.Tables.{deque_at}
 use Rattle.moment_parts.specs.Parts as parts
 use Rattle.thread_map.specs.Kept.{Kept, kept_under}
-use Rattle.thread_run.specs.Settings.{IsSettingOf}
+use Rattle.thread_state.specs.Settings.{IsSettingOf}
 use Rattle.thread_frames.specs.Actions.{IsOfTheList, deed_of, is_there}
 use Rattle.thread_frames.specs.Children.{is_delivered, IsAwaited}
 use Rattle.thread_frames.specs.Points.{IsAtPoint, IsResult}

@@ -5,7 +5,7 @@ use Rattle.depth_first_run.specs.States.{Setting}
 use Rattle.deque_machine.specs.Moments.{Moment}
 use Rattle.deque_machine.specs.Runs.{Pair}
 use Rattle.node_table.specs.Table.{Table}
-use Rattle.thread_run.specs.Settings.{IsSettingOf}
+use Rattle.thread_state.specs.Settings.{IsSettingOf}
 use Rattle.thread_frames.specs.Actions.{IsOfTheList, JoinsNewest}
 use Rattle.thread_frames.specs.Views.{children_of}
 use Rattle.thread_frames.specs.declared.next.Next.{Next}

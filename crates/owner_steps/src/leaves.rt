@@ -14,7 +14,7 @@ ghost use Rattle.depth_first_run.specs.States.{Setting};
 ghost use Rattle.deque_machine.specs.Moments.{Moment};
 ghost use Rattle.deque_machine.specs.Runs.{Pair};
 ghost use Rattle.node_table.specs.Table.{Table};
-ghost use Rattle.thread_run.specs.Settings.{IsSettingOf};
+ghost use Rattle.thread_state.specs.Settings.{IsSettingOf};
 ghost use Rattle.owner_steps.specs.Memory.{HasMemory};
 ghost use Rattle.owner_steps.specs.Leaves.{LeavesDeque, LeavesList};
 ghost use Rattle.owner_steps.specs.Steps.{GivesUpOrStays};

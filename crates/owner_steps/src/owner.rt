@@ -12,7 +12,7 @@ ghost use Rattle.core_parts.specs.Moments.{IsSound, CanGoOn, SameTerms, terms_of
 ghost use Rattle.depth_first_run.specs.States.{Setting};
 ghost use Rattle.deque_machine.specs.Moments.{Moment};
 ghost use Rattle.deque_machine.specs.Runs.{Pair};
-ghost use Rattle.thread_run.specs.Settings.{IsSettingOf};
+ghost use Rattle.thread_state.specs.Settings.{IsSettingOf};
 ghost use Rattle.core_parts.specs.Moments.{HasRun};
 ghost use Rattle.core_parts.specs.Outcomes.{StepsTo};
 ghost use Rattle.owner_steps.specs.Decisions.{Decides};

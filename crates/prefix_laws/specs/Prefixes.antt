@@ -10,7 +10,7 @@ use Rattle.lawful_books.specs.Lists.{total}
 use Rattle.node_table.specs.Codes.{code_shown}
 use Rattle.serial_journal.specs.declared.serial.Serial.{Serial}
 use Rattle.serial_journal.specs.Telling.{Tells}
-use Rattle.thread_run.specs.Settings.{IsSettingOf}
+use Rattle.thread_state.specs.Settings.{IsSettingOf}
 use Rattle.dfd_core.specs.declared.run.Core.{Core}
 
 -- it tells the depth-first run of a program

@@ -21,7 +21,7 @@ use Rattle.space_ledger.specs.Sums.{total_change}
 use Rattle.node_table.specs.Table.{Table}
 use Rattle.period_table.specs.declared.table.PeriodTable.{PeriodTable}
 use Rattle.period_table.specs.Tables.{seat_at, deque_at, deque_of}
-use Rattle.thread_run.specs.Settings.{IsSettingOf}
+use Rattle.thread_state.specs.Settings.{IsSettingOf}
 use Rattle.thread_frames.specs.declared.thread.Thread.{Thread}
 use Rattle.thread_frames.specs.Points.{IsAtPoint, IsResult}
 use Rattle.thread_frames.specs.Shown.{thread_shown}

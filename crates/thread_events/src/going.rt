@@ -5,7 +5,7 @@ ghost use Rattle.block_arena.specs.declared.size.TheConstants.{MAX_WORDS};
 ghost use Rattle.dummy_tree.specs.QuotaWords.{quota_words};
 ghost use Rattle.depth_first_run.specs.States.{Setting};
 ghost use Rattle.node_table.specs.Codes.{code_shown};
-ghost use Rattle.thread_run.specs.Settings.{IsSettingOf};
+ghost use Rattle.thread_state.specs.Settings.{IsSettingOf};
 ghost use Rattle.thread_frames.specs.Actions.{IsOfTheList, IsStill, JoinsNewest};
 ghost use Rattle.thread_frames.specs.Points.{IsAtPoint};
 ghost use Rattle.thread_frames.specs.Views.{children_of, done_of, next_of, thread_words};

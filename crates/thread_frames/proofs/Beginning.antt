@@ -27,7 +27,7 @@ use Rattle.thread_output.specs.declared.told.Told.{Told}
 use Rattle.thread_state.specs.States.{IsState}
 use Rattle.thread_state.specs.declared.state.ThreadState.{ThreadState}
 use Rattle.thread_state.proofs.Held.{holdings_are}
-use Rattle.thread_run.specs.Settings.{IsSettingOf}
+use Rattle.thread_state.specs.Settings.{IsSettingOf}
 use Rattle.thread_run.specs.Going.{IsGoing}
 use Rattle.thread_run.specs.declared.run.ThreadRun.{ThreadRun}
 use Rattle.thread_frames.specs.Preparing.{BeginsMain, AreMainFrames}

@@ -27,7 +27,7 @@ use Rattle.thread_state.specs.declared.state.ThreadState.{ThreadState}
 use Rattle.thread_state.proofs.Held.{holdings_are}
 use Rattle.thread_state.proofs.Steps.{own_store}
 use Rattle.thread_state.proofs.Totals.{block_taken, words_are}
-use Rattle.thread_run.specs.Settings.{IsSettingOf}
+use Rattle.thread_state.specs.Settings.{IsSettingOf}
 use Rattle.thread_run.specs.Stands.{InState}
 use Rattle.thread_run.specs.Dones.{IsAlloc as IsHeld, IsRelease as IsGiven}
 use Rattle.thread_run.specs.declared.ready.Ready.TheVariants as ready

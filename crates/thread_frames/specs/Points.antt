@@ -16,7 +16,7 @@ use Rattle.block_arena.specs.declared.record_block.RecordBlock.{RecordBlock}
 use Rattle.thread_frames.specs.Memory.{RoomFits}
 use Rattle.thread_frames.specs.Slots.{taken_slots, assigned_slots}
 use Rattle.thread_output.specs.Telling.{Tells}
-use Rattle.thread_run.specs.Settings.{IsSettingOf}
+use Rattle.thread_state.specs.Settings.{IsSettingOf}
 use Rattle.thread_run.specs.Stands.{InState}
 use Rattle.thread_run.specs.declared.ready.Ready.TheVariants as ready
 use Rattle.thread_stack.specs.Frames.{RunsIn}

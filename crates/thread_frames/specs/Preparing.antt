@@ -13,7 +13,7 @@ use Rattle.thread_stack.specs.declared.frame.Frame.{Frame}
 use Rattle.thread_stack.specs.Frames.{AreFrames, IsFunctionOf}
 use Rattle.thread_state.specs.States.{words_held}
 use Rattle.thread_state.specs.declared.state.ThreadState.{ThreadState}
-use Rattle.thread_run.specs.Settings.{IsSettingOf}
+use Rattle.thread_state.specs.Settings.{IsSettingOf}
 use Rattle.thread_run.specs.declared.ready.Ready.{Ready}
 use Rattle.thread_run.specs.declared.ready.Ready.TheVariants as ready
 use Rattle.thread_run.specs.Functions.{functions_of, frames_of}

@@ -8,7 +8,7 @@ ghost use Rattle.depth_first_run.specs.Run.{whole, lines_of, first_fault};
 ghost use Rattle.node_table.specs.Table.{Table};
 ghost use Rattle.thread_output.specs.Telling.{fault_of};
 ghost use Rattle.thread_points.specs.Points.{words_at_end};
-ghost use Rattle.thread_run.specs.Settings.{IsSettingOf};
+ghost use Rattle.thread_state.specs.Settings.{IsSettingOf};
 ghost use Rattle.thread_frames.specs.Views.{recorded, brought, all_brought};
 
 use crate::ended::Ended;

@@ -8,7 +8,7 @@ ghost use Rattle.dummy_tree.specs.QuotaWords.{quota_words};
 ghost use Rattle.std.specs.Prelude.{slice_get};
 ghost use Rattle.node_table.specs.Table.{Function};
 ghost use Rattle.node_table.specs.Codes.{code_shown};
-ghost use Rattle.thread_run.specs.Settings.{IsSettingOf};
+ghost use Rattle.thread_state.specs.Settings.{IsSettingOf};
 ghost use Rattle.block_arena.specs.Size.{words_taken};
 ghost use Rattle.thread_frames.specs.Views.{newest, id_of};
 ghost use Rattle.thread_frames.specs.Memory.{RoomFits, frames_put, children_put};

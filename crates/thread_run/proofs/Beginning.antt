@@ -26,7 +26,7 @@ use Rattle.node_table.proofs.Finding.{callee}
 use Rattle.thread_state.specs.States.{IsState}
 use Rattle.thread_state.specs.Calls.{begun}
 use Rattle.thread_state.specs.declared.state.ThreadState.{ThreadState}
-use Rattle.thread_run.specs.Settings.{IsSettingOf}
+use Rattle.thread_state.specs.Settings.{IsSettingOf}
 use Rattle.thread_run.specs.Stands.{InState}
 use Rattle.thread_run.proofs.Coming.{never_faulted}
 use Rattle.thread_run.specs.declared.ready.Ready.TheVariants.{Fault}

@@ -25,7 +25,7 @@ use Rattle.thread_stack.proofs.Lists.{FirstOf, first_statement, at_place, no_sta
 use Rattle.thread_stack.proofs.Costs.{rest_costs}
 use Rattle.thread_output.specs.Telling.{Tells}
 use Rattle.thread_state.specs.declared.state.ThreadState.{ThreadState}
-use Rattle.thread_run.specs.Settings.{IsSettingOf}
+use Rattle.thread_state.specs.Settings.{IsSettingOf}
 use Rattle.thread_run.specs.Stands.{InState}
 use Rattle.thread_run.specs.Called.{IsNoCall}
 use Rattle.thread_run.proofs.Coming.{items_aside}

@@ -13,7 +13,7 @@ use Rattle.thread_stack.specs.Frames.{AreFrames, RunsIn}
 use Rattle.thread_stack.specs.Measure.{left_to_do}
 use Rattle.thread_state.specs.States.{words_held}
 use Rattle.thread_state.specs.declared.state.ThreadState.{ThreadState}
-use Rattle.thread_run.specs.Settings.{IsSettingOf}
+use Rattle.thread_state.specs.Settings.{IsSettingOf}
 use Rattle.thread_run.specs.declared.ready.Ready.{Ready}
 use Rattle.thread_run.specs.declared.ready.Ready.TheVariants.{End}
 use Rattle.thread_run.specs.declared.run.ThreadRun.{ThreadRun}

@@ -12,7 +12,7 @@ use Rattle.node_table.specs.Table.{Kind, call_node, Function, Table}
 use Rattle.thread_stack.specs.Frames.{AreFrames, IsNode, RunsIn}
 use Rattle.slot_store.specs.Rows.{Entry}
 use Rattle.thread_state.specs.Calls.{CanCall, CanEnd, CanEndMain}
-use Rattle.thread_run.specs.Settings.{IsSettingOf}
+use Rattle.thread_state.specs.Settings.{IsSettingOf}
 use Rattle.thread_run.specs.Stands.{InState}
 use Rattle.thread_run.specs.declared.ready.Ready.{Ready}
 use Rattle.thread_run.specs.declared.ready.Ready.TheVariants.{Fault}

@@ -13,7 +13,7 @@ use Rattle.thread_stack.specs.declared.branch.Branch.{Branch}
 use Rattle.thread_stack.specs.declared.frame.Frame.TheVariants.{Joins}
 use Rattle.thread_stack.specs.Frames.{AreFrames, RunsIn}
 use Rattle.thread_output.specs.Telling.{Tells}
-use Rattle.thread_run.specs.Settings.{IsSettingOf}
+use Rattle.thread_state.specs.Settings.{IsSettingOf}
 use Rattle.thread_run.specs.Stands.{InState}
 use Rattle.thread_run.specs.Dones.{IsAction}
 use Rattle.thread_run.specs.declared.ready.Ready.{Ready}

@@ -1,4 +1,3 @@
-pub mod Settings
 pub mod Stands
 pub mod Dones
 pub mod Costs

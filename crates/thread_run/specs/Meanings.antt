@@ -9,7 +9,7 @@ use Rattle.node_table.specs.Table.{Table}
 use Rattle.thread_stack.specs.Frames.{IsNode}
 use Rattle.thread_points.specs.Points.{IsAt}
 use Rattle.thread_state.specs.declared.state.ThreadState.{ThreadState}
-use Rattle.thread_run.specs.Settings.{IsSettingOf}
+use Rattle.thread_state.specs.Settings.{IsSettingOf}
 use Rattle.thread_run.specs.Stands.{InState}
 
 -- the node n is the next statement of a thread in which g runs, and which no fault has ended

@@ -15,7 +15,7 @@ use Rattle.thread_stack.specs.Measure.{left_to_do}
 use Rattle.thread_output.specs.Telling.{Tells}
 use Rattle.thread_state.specs.States.{words_held}
 use Rattle.thread_state.specs.declared.state.ThreadState.{ThreadState}
-use Rattle.thread_run.specs.Settings.{IsSettingOf}
+use Rattle.thread_state.specs.Settings.{IsSettingOf}
 use Rattle.thread_run.specs.Stands.{InState}
 use Rattle.thread_run.specs.Meanings.{Meaning}
 use Rattle.thread_run.specs.Dones.{IsAction}

@@ -10,7 +10,7 @@ use Rattle.thread_points.specs.Points.{marked}
 use Rattle.thread_stack.specs.declared.frame.Frame.{Frame}
 use Rattle.thread_stack.specs.Frames.{AreFrames, IsFrame, functions_behind}
 use Rattle.thread_state.specs.declared.state.ThreadState.{ThreadState}
-use Rattle.thread_run.specs.Settings.{IsSettingOf}
+use Rattle.thread_state.specs.Settings.{IsSettingOf}
 use Rattle.thread_run.specs.Stands.{InState}
 use Rattle.thread_run.specs.Dones.{IsAction}
 use Rattle.thread_run.specs.declared.ready.Ready.{Ready}

@@ -6,3 +6,4 @@ pub mod Cuts
 pub mod Joins
 pub mod Forks
 pub mod Calls
+pub mod Settings

@@ -1,4 +1,0 @@
-pub mod Views
-pub mod Crew
-pub mod Changes
-pub mod Seats
