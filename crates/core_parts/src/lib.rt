@@ -4,7 +4,7 @@
 //! the machine's laws these are, when they stand at the moment to which a run of the machine leads, and what an event must have done so
 //! that the run goes on by it.
 //!
-//! It stands on threads as parts (`thread_parts`) and on the laws of the machine's events (`moment_parts`, `step_laws`). Its lemmas, for the
+//! It stands on threads as parts (`thread_frames`) and on the laws of the machine's events (`moment_parts`, `step_laws`). Its lemmas, for the
 //! proofs of the steps above: if the parts are at the moment of a run, and a worker did on them what the machine does, they are at the
 //! moment of the run with this event more, and it is the event that the rules of play want of the worker. No call here states this; the
 //! contracts of `owner_steps`, `thief_steps` and `dfd_core` do.

@@ -10,8 +10,8 @@ use Rattle.depth_first_run.specs.States.{Setting}
 use Rattle.deque_machine.specs.Moments.{Moment}
 use Rattle.deque_machine.specs.Play.{finished, stopped, arena_full, steps_spent, deques_full}
 use Rattle.deque_machine.specs.Runs.{Pair}
-use Rattle.dfd_core.specs.Cores.{IsAt, end_of}
-use Rattle.dfd_core.specs.declared.run.Core.{Core}
+use Rattle.trail_record.specs.Played.Cores.{IsAt, end_of}
+use Rattle.trail_record.specs.Played.CoreType.{Core}
 use Rattle.run_end.specs.declared.ends.RunEnd.TheVariants.{Finished, Stopped}
 use Rattle.node_table.specs.Programs.{IsTableOf}
 use Rattle.node_table.specs.Table.{Table}

@@ -11,8 +11,8 @@ use Rattle.deque_machine.specs.Moments.{Moment, opening}
 use Rattle.deque_machine.specs.Play.{finished}
 use Rattle.deque_machine.specs.Runs.{Pair}
 use Rattle.deque_machine.specs.Terms.{Terms}
-use Rattle.dfd_core.specs.Cores.{IsAt, end_of}
-use Rattle.dfd_core.specs.declared.run.Core.{Core}
+use Rattle.trail_record.specs.Played.Cores.{IsAt, end_of}
+use Rattle.trail_record.specs.Played.CoreType.{Core}
 use Rattle.run_end.specs.declared.ends.RunEnd.{RunEnd}
 use Rattle.run_end.specs.declared.ends.RunEnd.TheVariants.{Finished, Stopped}
 use Rattle.good_trails.specs.Told.{events_told}

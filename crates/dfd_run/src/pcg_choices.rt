@@ -1,4 +1,4 @@
-use dfd_core::Choices;
+use trail_record::Choices;
 use rand_core::SeedableRng;
 use rand_core::utils::NextWord;
 use rand_pcg::Lcg64Xsh32;

@@ -3,7 +3,7 @@ ghost use Rattle.block_check.specs.Checked.{program_of};
 ghost use Rattle.depth_first_run.specs.States.{Setting};
 ghost use Rattle.deque_machine.specs.Moments.{Moment};
 ghost use Rattle.deque_machine.specs.Runs.{Pair};
-ghost use Rattle.dfd_core.specs.Cores.{IsAt, end_of};
+ghost use Rattle.trail_record.specs.Played.Cores.{IsAt, end_of};
 ghost use Rattle.run_end.specs.declared.ends.RunEnd.TheVariants.{Finished};
 ghost use Rattle.par_ownership.specs.Ownership.{Ownership};
 ghost use Rattle.par_tree.specs.View.{program_tree};
@@ -20,7 +20,7 @@ use accepted_source::accept;
 use block_check::Checked;
 use command_line::Command;
 use dag_order::Finish;
-use dfd_core::{Core, RunEnd};
+use trail_record::{Core, RunEnd};
 use run_report::{Report, report_text};
 use std::alloc::{AllocError, Global};
 

@@ -6,7 +6,7 @@ ghost use Rattle.bounded_list.specs.BoundedList.{entries};
 ghost use Rattle.depth_first_run.specs.Run.{whole, lines_of};
 ghost use Rattle.depth_first_run.specs.States.{Setting};
 ghost use Rattle.deque_machine.specs.Moments.{opening};
-ghost use Rattle.dfd_core.specs.Cores.{HasFinished, IsAt, end_of, terms_at};
+ghost use Rattle.trail_record.specs.Played.Cores.{HasFinished, IsAt, end_of, terms_at};
 ghost use Rattle.dummy_tree.specs.QuotaWords.{quota_words};
 ghost use Rattle.node_table.specs.Codes.{code_shown};
 ghost use Rattle.par_ownership.specs.Ownership.{Ownership};
@@ -26,7 +26,7 @@ use block_check::Checked;
 use command_line::Command;
 use run_end::Stop;
 use dag_order::Lines;
-use dfd_core::{Core, OutputFail, RunEnd};
+use trail_record::{Core, OutputFail, RunEnd};
 use dummy_tree::Quota;
 use frame_code::lower;
 use std::alloc::{AllocError, Global};
@@ -76,7 +76,7 @@ pub fn run_program(
 {
     let mut core = begun(alloc, command, program)?;
     let mut choices = PcgChoices::new(command.seed);
-    let end = dfd_core::play(&mut core, &mut choices);
+    let end = trail_record::play(&mut core, &mut choices);
     Ok((core, end))
 }
 

@@ -4,7 +4,7 @@
 //! `list_events`, and puts them back at one step. Here it is shown, for each event and for each program that the key of the hall may be of,
 //! that with these parts in their slots the hall is in a running state again, and that the seat notes this event.
 //!
-//! It uses the events of a running state (`hall_state`), and what a hall is once it is written (`hall_writes`). Its theorem has a case for
+//! It uses the events of a running state (`hall_law`), and what a hall is once it is written (`hall_writes`). Its theorem has a case for
 //! each event ([`laws`]).
 #![tactic(auto)]
 

@@ -6,7 +6,7 @@
 //! the list do to what it shows: a worker enters or leaves, an end is kept, a deque is given up or taken out. A seat's note ([`SeatNote`])
 //! is in contracts alone.
 //!
-//! It stands on the list's part (`list_part`), the lanes (`deque_list`), threads as parts (`thread_parts`) and the values of a hall. Its
+//! It stands on the list's part (`list_part`), the lanes (`deque_list`), threads as parts (`thread_frames`) and the values of a hall. Its
 //! one theorem: each call changes what the list shows as its event writes it, and nothing else.
 #![tactic(auto)]
 

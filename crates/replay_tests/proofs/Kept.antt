@@ -5,8 +5,8 @@ use Rattle.dummy_tree.specs.QuotaWords.{quota_words}
 use Rattle.node_table.specs.Codes.{code_shown}
 use Rattle.serial_journal.specs.declared.serial.Serial.{Serial}
 use Rattle.thread_state.specs.Settings.{IsSettingOf}
-use Rattle.dfd_core.specs.declared.run.Core.{Core}
-use Rattle.dfd_core.specs.Cores.{SameSetting}
+use Rattle.trail_record.specs.Played.CoreType.{Core}
+use Rattle.trail_record.specs.Played.Cores.{SameSetting}
 use Rattle.prefix_laws.specs.Prefixes.{IsSerialOf}
 
 pub serial_stays : (before after : Core) (serial : Serial) → SameSetting before after → IsSerialOf before serial → IsSerialOf after serial

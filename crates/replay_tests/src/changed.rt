@@ -9,7 +9,7 @@ use crate::answers::{Setting, add_event, answer_of, trail_of};
 use crate::listed::Listed;
 use crate::replays::{PROGRAMS, Play, change_at, core_and_serial, machine_step, next_word};
 use dag_order::Label;
-use dfd_core::{Core, ListChoices, RunEnd};
+use trail_record::{Core, ListChoices, RunEnd};
 use machine_replay::runs::opening;
 use machine_replay::{Deque, Event, Moment, Pair};
 use std::alloc::{AllocError, Global};

@@ -5,7 +5,7 @@ ghost use Rattle.prefix_laws.specs.Prefixes.{IsSerialOf};
 
 use accepted_source::accept;
 use block_arena::Pool;
-use dfd_core::Core;
+use trail_record::Core;
 use dummy_tree::Quota;
 use frame_code::lower;
 use prefix_laws::{ahead_now, bound_margin, leaves, prefix_split};

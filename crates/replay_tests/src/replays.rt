@@ -4,7 +4,7 @@
 use crate::listed::{Listed, label_of};
 use crate::prefixes::{Compared, begun};
 use dag_order::{ActionId, Births, Kind, Label};
-use dfd_core::{Core, RunEnd, Stepped};
+use trail_record::{Core, RunEnd, Stepped};
 use machine_replay::runs::{opening, replay, step};
 use machine_replay::{Event, Moment, Pair};
 use serial_meaning::Serial;

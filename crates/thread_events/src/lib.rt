@@ -6,7 +6,7 @@
 //! scheduler, whatever it holds its parts in. The others put the thread back into a list as well, and write the action into the worker's
 //! period.
 //!
-//! It stands on threads (`thread_frames`, `thread_parts`) and on what an event does to the list and the periods (`deque_events`). Its one
+//! It stands on threads (`thread_frames`) and on what an event does to the list and the periods (`deque_events`). Its one
 //! theorem: each call does on the parts what the machine does with this action, for each program that the thread is of. Beside it each call
 //! says which deques are in the list afterwards, and which deque each worker has.
 #![tactic(auto)]

@@ -2,7 +2,7 @@ use Rattle.std.proofs.Common.{[], subst, ap}
 use Rattle.block_check.specs.Checked.{program_of}
 use Rattle.bounded_list.specs.BoundedList.{entries}
 use Rattle.deque_machine.specs.Moments.{opening}
-use Rattle.dfd_core.specs.Cores.{terms_at}
+use Rattle.trail_record.specs.Played.Cores.{terms_at}
 use Rattle.par_tree.specs.View.{program_tree}
 use Rattle.dfd_run.specs.CorePlays.{PlayedAs}
 use Rattle.dfd_run.specs.PcgChoices.{coming_output}
