@@ -7,3 +7,4 @@ pub mod Marked
 pub mod Events
 pub mod Movers
 pub mod Seats
+pub mod Sounds

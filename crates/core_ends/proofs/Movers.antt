@@ -1,10 +1,11 @@
 -- Who can move, by the seats and by whether something is ready.
-use Rattle.std.proofs.Common.{◌≡◌, ◌↔◌, ℕ, ◌≤◌, ◌<◌, List, inl, inr, refl}
+use Rattle.std.proofs.Common.{◌≡◌, ◌↔◌, ℕ, ◌+◌, ◌≤◌, ◌<◌, List, inl, inr, refl, arith, mod-lt}
 use Rattle.std.specs.Prelude.{Option, None, Some, Bool, IsTrue}
 use Rattle.depth_first_list.specs.Actions.{record_words}
 use Rattle.depth_first_run.specs.States.{Setting}
 use Rattle.deque_machine.specs.Moments.{Moment, owned_by}
 use Rattle.deque_machine.specs.Play as play
+use Rattle.deque_machine.specs.Play.{IsFirst}
 use Rattle.deque_machine.specs.Runs.{Pair}
 use Rattle.deque_machine.specs.Terms.{Terms, machine_of}
 use Rattle.period_table.specs.declared.seat.Seat.{Seat}
@@ -12,9 +13,22 @@ use Rattle.period_table.specs.Tables.{seat_at}
 use Rattle.thread_frames.specs.Shown.{thread_shown}
 use Rattle.step_laws.proofs.Ready.{some_ready_is_shown}
 use Rattle.victim_choice.specs.Choices.{SomeReady, CanMove}
+use Rattle.victim_choice.proofs.Firsts.{first_below}
 use Rattle.core_parts.specs.Held.{Held, IsInOrder}
 use Rattle.core_parts.specs.Moments.{HasRun}
 use Rattle.core_parts.proofs.Sitting.{seat_owns, idle_owns_none}
+
+-- the first that passes does so by what passes below the bound as well
+pub first_by : (n word : ℕ) (P Q : ℕ → Type 0) (x : ℕ) → ((i : ℕ) → i < n → P i ↔ Q i) → IsFirst n word P x → IsFirst n word Q x
+first_by n word P Q x same first =
+    let some : 0 < n = (let few = first.few in omega (arith, few)) in
+    record {
+      turns = first.turns;
+      few = first.few;
+      is = first.is;
+      passes = (same x (first_below n word P x first)).0 first.passes;
+      none_before = λ e before passes. first.none_before e before ((same _ (mod-lt (word + e) some)).1 passes);
+    }
 
 module _ (c : Setting) (terms : Terms) (quota : record_words ≤ c.quota) (h : Held) (run : List Pair) (m : Moment) (at : HasRun c terms h run m) (worker : ℕ) where
   module _ (ordered : ∥ IsInOrder h ∥₁) where

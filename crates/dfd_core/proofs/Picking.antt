@@ -24,18 +24,8 @@ use Rattle.deque_machine.specs.Terms.{Terms, machine_of}
 use Rattle.run_end.specs.declared.ends.RunEnd.{RunEnd}
 use Rattle.dfd_core.specs.Cores.{words_of_turn}
 use Rattle.dfd_core.specs.Running.{IsAtMoment, IsSomewhere}
-use Rattle.core_ends.proofs.Movers.{can_move_is}
+use Rattle.core_ends.proofs.Movers.{can_move_is, first_by}
 use Rattle.dfd_core.proofs.Turns.{idle_draws, owner_draws}
-
--- who passes may be told by what passes as well
-first_by : (n word : ℕ) (P Q : ℕ → Type 0) (x : ℕ) → ((i : ℕ) → P i ↔ Q i) → IsFirst n word P x → IsFirst n word Q x
-first_by n word P Q x same first = record {
-  turns = first.turns;
-  few = first.few;
-  is = first.is;
-  passes = (same x).0 first.passes;
-  none_before = λ e before passes. first.none_before e before ((same _).1 passes);
-}
 
 module _ (t : Table) (k : ℕ) (terms : Terms) (h : Held) (sound : IsSound t k terms h) (end : Option RunEnd) where
   -- the first that can move by what the table tells is the first that can move at the moment
@@ -45,7 +35,7 @@ module _ (t : Table) (k : ℕ) (terms : Terms) (h : Held) (sound : IsSound t k t
   first_at c run m at some_ready ready word worker first =
       let covers = sound.quota in let same = at.setting.quota in
       first_by terms.workers word (CanMove h.table some_ready) (play.CanMove (machine_of c terms) m) worker
-      (λ w. can_move_is c terms (omega (arith, covers, same)) h run m at.stands w sound.in_order some_ready ready) first
+      (λ w below. can_move_is c terms (omega (arith, covers, same)) h run m at.stands w sound.in_order some_ready ready) first
 
   -- while no end is kept somebody can move
   pub somebody_can : IsSomewhere t k terms h end → end ≡ None → 1 ≤ terms.workers → (some_ready : Bool) → (IsTrue some_ready ↔ SomeReady terms.workers h.deques)

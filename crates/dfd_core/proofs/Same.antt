@@ -1,29 +1,15 @@
 -- Two cores whose parts are the same are the same core: what a core has beside its parts are facts, and each fact has one proof.
-use Rattle.std.specs.Prelude.{◌≡◌, ◌≤◌, ◌<◌, ℕ, None, length, pos}
+use Rattle.std.specs.Prelude.{◌≡◌, ◌≤◌, ◌<◌, None, length}
 use Rattle.std.proofs.Math.Logic.{∥∥₁_prop}
 use mathlib.Core.HLevel.{is_prop→PathP}
 use denote.Struct.Props.{props}
 use Rattle.node_table.specs.Codes.{code_shown}
 use Rattle.dummy_tree.specs.QuotaWords.{quota_words}
-use Rattle.depth_first_list.specs.Actions.{record_words}
-use Rattle.node_table.specs.Table.{Table}
-use Rattle.space_ledger.specs.Sums.{total_change}
-use Rattle.deque_machine.specs.Terms.{Terms}
-use Rattle.core_parts.specs.Held.{Held, held}
+use Rattle.core_parts.specs.Held.{held}
+use Rattle.core_ends.proofs.Sounds.{sound_one}
 use Rattle.core_parts.specs.Moments.{IsSound, CanGoOn, terms_of}
 use Rattle.dfd_core.specs.Running.{IsSomewhere}
 use Rattle.dfd_core.specs.declared.run.Core.{Core}
-
--- what is held is known to be sound in one way
-sound_one : (t : Table) (k : ℕ) (terms : Terms) (h : Held) → IsProp (IsSound t k terms h)
-sound_one t k terms h = λ a b i. record {
-  of_program = ∥∥₁_prop a.of_program b.of_program i;
-  quota = (let one : IsProp (record_words ≤ k) = search props in one a.quota b.quota i);
-  in_order = ∥∥₁_prop a.in_order b.in_order i;
-  sum = (let one : IsProp (total_change h.moves ≡ pos h.live) = search props in one a.sum b.sum i);
-  results = ∥∥₁_prop a.results b.results i;
-  somewhere = λ c is. ∥∥₁_prop (a.somewhere c is) (b.somewhere c is) i;
-}
 
 pub same_core : (x y : Core) → x.scheduler ≡ y.scheduler → x.code ≡ y.code → x.k ≡ y.k → x.limit ≡ y.limit → x.most ≡ y.most → x.alloc ≡ y.alloc → x.end ≡ y.end → x ≡ y
 same_core x y s c k l m a e = λ i. record {

@@ -1,9 +1,7 @@
 -- What is recorded of a play that finishes is good.
-use Rattle.std.proofs.Common.{◌≡◌, ◌≤◌, ◌<◌, sym, subst, arith}
+use Rattle.std.proofs.Common.{sym, subst, arith}
 use Rattle.std.proofs.Math.Logic.{∥∥₁_map}
-use Rattle.depth_first_list.specs.Actions.{record_words}
 use Rattle.depth_first_run.proofs.Built.{whole_is_depth_first}
-use Rattle.deque_machine.specs.Moments.{opening}
 use Rattle.deque_machine.specs.Terms.{machine_of}
 use Rattle.good_trails.specs.Good.{IsGood}
 use Rattle.good_trails.proofs.Recorded.{plays_are_followed}

@@ -1,9 +1,8 @@
 -- A play whose events are being recorded.
-use Rattle.std.proofs.Common.{◌≡◌, ℕ, ◌+◌, ◌*◌, ◌≤◌, List, [], ◌∷◌, ◌++◌, map, refl, sym, ap, subst, ◌∙◌, arith, append-nil}
+use Rattle.std.proofs.Common.{◌≡◌, ℕ, ◌+◌, ◌*◌, ◌≤◌, List, [], ◌∷◌, ◌++◌, refl, sym, ap, subst, ◌∙◌, arith, append-nil}
 use Rattle.std.proofs.Math.Logic.{∥∥₁_elim, ∥∥₁_map, ∥∥₁_prop}
 use Rattle.std.specs.Prelude.{Option, None, Some, pos, Result, Ok, Err, IsErrAnd, MatchResult}
 use Rattle.std.proofs.lemmas.List.{map-append}
-use Rattle.dag_order.specs.declared.finish.Finish.{Finish}
 use Rattle.depth_first_run.specs.States.{Setting}
 use Rattle.deque_machine.specs.Moments.{Moment}
 use Rattle.deque_machine.specs.Play as play
@@ -15,7 +14,7 @@ use Rattle.dfd_core.specs.declared.run.Core.{Core}
 use Rattle.run_end.specs.declared.ends.RunEnd.{RunEnd}
 use Rattle.run_end.specs.declared.ends.RunEnd.TheVariants.{Finished, Stopped}
 use Rattle.dfd_core.specs.Cores.{IsAt, SameSetting, end_of, terms_at, workers_of}
-use Rattle.dfd_core.specs.Plays.{TurnGoesOn, TurnsTo, IsDrawn, PlaysToEnd, PlaysToStop, PlaysUntil}
+use Rattle.dfd_core.specs.Plays.{IsDrawn}
 use Rattle.dfd_core.proofs.Underway.{Along, further, stopped_at, ended_at, lacks_at, same_setting, too_many as no_more_turns}
 use Rattle.good_trails.specs.Told.{event_told, events_told}
 use Rattle.trail_meaning.specs.declared.trail_event.TrailEvent.{TrailEvent}

@@ -1,9 +1,8 @@
 -- What is recorded of a step is the event of the turn.
-use Rattle.std.proofs.Common.{◌≡◌, ◌↔◌, ℕ, ◌≤◌, ◌<◌, ◌+◌, List, refl, sym, ap, subst, ◌∙◌, arith}
+use Rattle.std.proofs.Common.{◌≡◌, ◌↔◌, ℕ, List, refl, sym, ap, subst, ◌∙◌, arith}
 use Rattle.std.proofs.Math.Logic.{∥∥₁_elim, ∥∥₁_map}
-use Rattle.std.specs.Prelude.{Option, None, Some, Bool, true, false, is_some, unwrap_or, option_map, cond, Result, Ok, Err, pos}
+use Rattle.std.specs.Prelude.{Option, None, Some, true, is_some, unwrap_or, option_map, cond, Result, Ok, Err}
 use Rattle.std.proofs.lemmas.Bool.{eq-eqb}
-use Rattle.std.proofs.lemmas.Option.{same_Some}
 use Rattle.depth_first_list.specs.Actions.{Action}
 use Rattle.depth_first_run.specs.States.{Setting}
 use Rattle.depth_first_run.specs.Run.{list_of}
@@ -11,7 +10,7 @@ use Rattle.deque_machine.specs.Machine as machine
 use Rattle.deque_machine.specs.Moments.{Moment, owned_by}
 use Rattle.deque_machine.specs.Play.{IsFirst, IsReady, CanMove, Wants, a_theft, a_give_up, a_wait, an_action, reach, words_drawn}
 use Rattle.deque_machine.specs.Runs.{Pair}
-use Rattle.deque_machine.specs.Terms.{Terms, machine_of}
+use Rattle.deque_machine.specs.Terms.{machine_of}
 use Rattle.dummy_tree.specs.QuotaWords.{quota_words}
 use Rattle.node_table.specs.Codes.{code_shown}
 use Rattle.period_books.specs.Periods.{Period}
@@ -36,7 +35,7 @@ use Rattle.victim_choice.proofs.Firsts.{first_below}
 use Rattle.core_ends.proofs.Answering.{nothing_told, no_stop_kept, stop_told}
 use Rattle.dfd_core.proofs.Taking.{goes, turns_to}
 use Rattle.victim_choice.proofs.Firsts.{one_first}
-use Rattle.good_trails.specs.Told.{event_told, kind_told}
+use Rattle.good_trails.specs.Told.{kind_told}
 use Rattle.trail_meaning.specs.declared.trail_kind.TrailKind.{TrailKind}
 use Rattle.trail_meaning.specs.declared.trail_kind.TrailKind.TheVariants.{Steal, Act, Suspend, GiveUp}
 use Rattle.trail_record.specs.Turns.{IsVictimOf, kind_recorded, event_recorded, TurnRecorded, RecordsTo}

@@ -1,6 +1,5 @@
 -- What holds of recorded plays.
-use Rattle.std.specs.Prelude.{◌≡◌, ℕ, ◌<◌, List, []}
-use Rattle.bounded_list.specs.BoundedList.{entries}
+use Rattle.std.specs.Prelude.{ℕ, ◌<◌, List, []}
 use Rattle.dag_order.specs.declared.finish.Finish.{Finish}
 use Rattle.depth_first_run.specs.States.{Setting}
 use Rattle.deque_machine.specs.Moments.{Moment, opening}

@@ -1,0 +1,13 @@
+pub mod Seating
+pub mod Lists
+pub mod Parting
+pub mod Rooms
+pub mod Wents
+pub mod Entering
+pub mod Taking
+pub mod Going
+pub mod Openings
+pub mod Movings
+pub mod Same
+pub mod Turning
+pub mod Underway
