@@ -1,7 +1,7 @@
 -- What is held at the start is sound and stands at the opening moment.
 use Rattle.std.proofs.Common.{◌≡◌, ℕ, ◌≤◌, [], map, reverse, refl, sym, ap, subst, ◌∙◌, arith}
 use Rattle.std.proofs.lemmas.Option.{none-some}
-use Rattle.std.specs.Prelude.{None, pos}
+use Rattle.std.specs.Prelude.{pos}
 use Rattle.depth_first_list.specs.Actions.{record_words}
 use Rattle.depth_first_run.specs.States.{Setting}
 use Rattle.depth_first_run.proofs.Built.{whole_is_depth_first}
@@ -11,12 +11,9 @@ use Rattle.deque_machine.specs.Moments.{opening}
 use Rattle.deque_machine.specs.Machine.{HasEnded}
 use Rattle.deque_machine.specs.Runs.{moves}
 use Rattle.moment_parts.specs.Parts.{parts_with_root}
-use Rattle.moment_parts.specs.Standing.{Shows}
 use Rattle.step_laws.proofs.Standing.{root_stands}
 use Rattle.node_table.specs.Table.{Table}
-use Rattle.period_table.specs.Tables.{periods_of}
 use Rattle.space_ledger.specs.Sums.{total_change}
-use Rattle.depth_first_run.specs.Run.{list_of}
 use Rattle.thread_state.specs.Settings.{IsSettingOf}
 use Rattle.thread_frames.specs.declared.thread.Thread.{Thread}
 use Rattle.thread_frames.specs.Points.{IsAtPoint, IsResult}

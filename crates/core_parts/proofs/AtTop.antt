@@ -33,7 +33,7 @@ use Rattle.period_table.proofs.Lists.{cut_table}
 use Rattle.space_ledger.specs.BooksList.{books_list}
 use Rattle.moment_parts.proofs.Counting.{threads_count_within}
 use Rattle.moment_parts.specs.Parts as parts
-use Rattle.moment_parts.specs.Parts.{IsIn, words_of, deque_words, thread_words as words_of_thread, label_of as label_shown}
+use Rattle.moment_parts.specs.Parts.{IsIn, deque_words}
 use Rattle.moment_parts.specs.Standing.{ThreadStands}
 use Rattle.moment_parts.specs.Events.{Works}
 use Rattle.moment_parts.proofs.Shown.{used_is, book_of_it, deque_words_middle}

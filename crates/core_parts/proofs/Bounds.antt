@@ -1,6 +1,6 @@
 -- What a thread has at least, without a moment, and where the deque of a seat stands.
 use Rattle.std.proofs.Common.{◌≡◌, ◌≢◌, ℕ, ◌+◌, ◌≤◌, ◌<◌, ◌⊎◌, List, [], ◌∷◌, ◌++◌, map, inl, inr, refl, sym, ap, subst, ◌∙◌, arith}
-use Rattle.std.proofs.Math.Logic.{∥∥₁_elim, ∥∥₁_prop}
+use Rattle.std.proofs.Math.Logic.{∥∥₁_elim}
 use Rattle.std.specs.Prelude.{Option, None, Some, Bool, true, false}
 use Rattle.std.proofs.lemmas.Bool.{cases_eq}
 use Rattle.std.proofs.lemmas.Option.{same_Some, none-some}
@@ -35,7 +35,7 @@ use Rattle.thread_frames.specs.declared.prepared.Prepared.{Prepared}
 use Rattle.thread_frames.specs.declared.prepared.Prepared.TheVariants.{Nothing, Fork, Join, Alloc, Release, Dummy, Fault, End}
 use Rattle.thread_frames.specs.Actions.{IsRelease}
 use Rattle.thread_frames.specs.Views.{newest, told_as, next_of, label_of, thread_words, join_words_of, released_by, result_of, all_brought, brought, words_asked}
-use Rattle.thread_frames.specs.Points.{At, Stands as StandsIn, IsThreadAt, IsAtPoint, IsPlaced}
+use Rattle.thread_frames.specs.Points.{At, Stands as StandsIn, IsThreadAt, IsPlaced}
 use Rattle.thread_frames.proofs.Placed.{placed_gives}
 use Rattle.thread_frames.proofs.Doing.{is_release}
 use Rattle.thread_run.specs.declared.ready.Ready.TheVariants as ready

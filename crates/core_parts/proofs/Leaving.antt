@@ -1,6 +1,6 @@
 -- How a run goes on by an event that does nothing: a deque that is given up, a thread that waits, a theft.
 use Rattle.std.proofs.Common.{◌≡◌, ℕ, ◌+◌, ◌≤◌, ◌<◌, List, length, sym, subst, ◌∙◌, arith}
-use Rattle.std.specs.Prelude.{None, Some, slice_get, nat_lt}
+use Rattle.std.specs.Prelude.{Some, slice_get}
 use Rattle.dag_order.specs.declared.thread_id.ThreadId.{ThreadId}
 use Rattle.depth_first_list.specs.Actions.{Deed, record_words}
 use Rattle.depth_first_run.specs.States.{Setting}
@@ -9,7 +9,6 @@ use Rattle.deque_list.specs.declared.deque_id.DequeId.{DequeId}
 use Rattle.lawful_books.specs.Books.{charge_at}
 use Rattle.deque_machine.specs.Moments.{Moment, Deque, owned_by}
 use Rattle.deque_machine.specs.Machine as machine
-use Rattle.deque_machine.specs.Machine.{Owns, May}
 use Rattle.deque_machine.specs.LawfulOrder.{IsLawful}
 use Rattle.deque_machine.specs.Play as play
 use Rattle.deque_machine.specs.Play.{Meets, IsFirst, IsReady, IsThiefsId, Stays, reach, a_give_up, a_theft, no_deque}

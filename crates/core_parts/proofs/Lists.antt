@@ -1,16 +1,10 @@
 -- Facts of each element of a list, in another order, under a map, and by a lookup.
-use Rattle.std.proofs.Common.{◌≡◌, ◌≢◌, List, [], ◌∷◌, map, inl, inr, refl, sym, ap, ◌∙◌, true≢false}
-use Rattle.std.specs.Prelude.{Bool, true, false, cond, Some, None}
-use Rattle.std.specs.Map.{lookup}
+use Rattle.std.proofs.Common.{List, [], ◌∷◌, map, inl, inr, ap}
 use Rattle.std.specs.List.Sorted.{IsPermutation}
 use Rattle.std.proofs.lemmas.List.Sorted.{IsPermutation-sym}
-use Rattle.std.proofs.lemmas.Option.{same_Some, none-some}
-use Rattle.dag_order.specs.declared.thread_id.ThreadId.{ThreadId}
 use Rattle.lawful_books.specs.Lists.{Among, Each}
 use Rattle.lawful_books.proofs.Lists.{each_from, each_among}
 use Rattle.step_laws.proofs.Reordered.{among_moved}
-use Rattle.thread_map.specs.Kept.{same_thread}
-use Rattle.thread_map.proofs.KeptLemmas.{same_is_same}
 
 module _ {X : Type 0} where
   -- what holds of each element holds of each in another order

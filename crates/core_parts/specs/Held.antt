@@ -14,7 +14,7 @@ use Rattle.thread_frames.specs.Points.{IsAtPoint, IsResult}
 use Rattle.period_table.specs.declared.table.PeriodTable.{PeriodTable}
 use Rattle.period_table.specs.Tables.{periods_of, deque_at}
 use Rattle.moment_parts.specs.Parts as parts
-use Rattle.thread_frames.specs.Shown.{thread_shown, result_shown}
+use Rattle.thread_frames.specs.Shown.{thread_shown}
 use Rattle.deque_events.specs.Shown.{deque_shown, Stands}
 use Rattle.thread_frames.specs.Kept.{waiting_shown, result_kept, WaitsUnder, IsUnderItsId}
 use Rattle.core_parts.specs.declared.scheduler.Scheduler.{Scheduler}

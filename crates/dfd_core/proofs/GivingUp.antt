@@ -9,7 +9,7 @@ use Rattle.lawful_books.specs.Books.{booked}
 use Rattle.lawful_books.specs.Lists.{times}
 use Rattle.deque_machine.specs.Moments.{Moment}
 use Rattle.deque_machine.specs.Machine as machine
-use Rattle.deque_machine.specs.Machine.{gives_up, May, HasEnded}
+use Rattle.deque_machine.specs.Machine.{gives_up, May}
 use Rattle.deque_machine.specs.Runs.{Pair}
 use Rattle.node_table.specs.Table.{Table}
 use Rattle.step_laws.proofs.Going.{runs_go_on}

@@ -18,7 +18,6 @@ use Rattle.core_parts.specs.Held.{Held}
 use Rattle.core_parts.specs.Moments.{IsSound, HasRun}
 use Rattle.deque_machine.specs.Terms.{Terms, machine_of}
 use Rattle.core_parts.specs.Outcomes as parts
-use Rattle.core_parts.specs.Outcomes.{StepsTo}
 use Rattle.thief_steps.specs.Thefts.{StepsBy as EventBy}
 use Rattle.run_end.specs.declared.ends.RunEnd.{RunEnd}
 use Rattle.run_end.specs.declared.ends.RunEnd.TheVariants.{Finished, Stopped}

@@ -305,6 +305,13 @@ impl Core {
         self.scheduler.done
     }
 
+    /// What the run holds between two events.
+    pub fn scheduler(&self) -> &Scheduler
+        ensures { result.now ≡ self.now.scheduler }
+    {
+        &self.scheduler
+    }
+
     /// The deques, with the threads that are ready or run.
     pub fn list(&self) -> &List<Boxed<Thread>>
         ensures { result.now ≡ self.now.scheduler.list }

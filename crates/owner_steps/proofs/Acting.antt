@@ -29,7 +29,7 @@ use Rattle.thread_events.specs.Acts.{ActsBy, GoesBack, GoesBackUnowned, GoesBack
 use Rattle.core_parts.specs.declared.scheduler.Scheduler.{Scheduler}
 use Rattle.step_laws.specs.Standing.{Settles, as_they_are}
 use Rattle.step_laws.proofs.Standing.{the_same}
-use Rattle.core_parts.specs.Held.{Held, held, held_under, parts_in, IsReordered, OwnersSit, OwnsNone, IsInOrder, AreAtPoints, AreResults}
+use Rattle.core_parts.specs.Held.{Held, held, held_under, parts_in, IsReordered, OwnersSit, IsInOrder, AreAtPoints, AreResults}
 use Rattle.thread_frames.specs.Kept.{waiting_shown, result_kept}
 use Rattle.depth_first_list.specs.Actions.{weight_of}
 use Rattle.deque_machine.specs.Runs.{moves_words}

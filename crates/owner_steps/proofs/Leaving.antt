@@ -16,7 +16,7 @@ use Rattle.deque_events.specs.Shown.{deque_with, parts_of, Stands, Becomes}
 use Rattle.deque_events.specs.Events.{GaveUp, Suspended}
 use Rattle.deque_events.specs.Seats.{LeavesSeat}
 use Rattle.core_parts.specs.declared.scheduler.Scheduler.{Scheduler}
-use Rattle.core_parts.specs.Held.{held, held_under, parts_in, OwnersSit}
+use Rattle.core_parts.specs.Held.{held, parts_in, OwnersSit}
 use Rattle.thread_frames.specs.Kept.{waiting_shown, result_kept, WaitsUnder}
 use Rattle.core_parts.proofs.Lists.{each_moved}
 use Rattle.owner_steps.specs.Leaves.{IsIdleEvent, LeavesDeque, LeavesList}

@@ -16,7 +16,7 @@ use Rattle.deque_machine.specs.Moments.{Moment, live_at}
 use Rattle.deque_machine.specs.Machine as machine
 use Rattle.deque_machine.specs.Machine.{HasEnded}
 use Rattle.deque_machine.specs.Play as play
-use Rattle.deque_machine.specs.Play.{Wants, Meets, Fills, taken_by, words_taken, an_action, no_words, no_steps}
+use Rattle.deque_machine.specs.Play.{Wants, Meets, taken_by, words_taken, an_action, no_words, no_steps}
 use Rattle.deque_machine.specs.Runs.{Pair, is_move, moves_words}
 use Rattle.space_ledger.specs.MovesList.{moves_list}
 use Rattle.node_table.specs.Table.{Table}

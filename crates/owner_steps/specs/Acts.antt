@@ -16,11 +16,9 @@ use Rattle.moment_parts.specs.Events.{Does}
 use Rattle.depth_first_run.specs.Run.{list_of}
 use Rattle.thread_frames.specs.Actions.{IsOfTheList, deed_of, TellsWords}
 use Rattle.thread_frames.specs.declared.next.Next.{Next}
-use Rattle.thread_frames.specs.declared.next.Next.TheVariants.{Fork, Join, Alloc, Release, Dummy, Fault, End}
 use Rattle.thread_frames.specs.declared.thread.Thread.{Thread}
 use Rattle.thread_frames.specs.Views.{label_of, done_of}
 use Rattle.deque_events.specs.Shown.{Stands}
-use Rattle.thread_events.specs.Acts.{AllocIsCharged, ForkFits, Always}
 use Rattle.core_parts.specs.declared.scheduler.Scheduler.{Scheduler}
 use Rattle.step_laws.specs.Moves.{noted_if}
 use Rattle.step_laws.specs.Standing.{Settles}

@@ -41,7 +41,7 @@ pub(crate) fn core_of(
 }
 
 /// The table of a text.
-fn code_of(alloc: Global, text: &str) -> Result<Code, AllocError> {
+pub(crate) fn code_of(alloc: Global, text: &str) -> Result<Code, AllocError> {
     match accept(alloc, text.as_bytes()) {
         Ok(program) => lower(alloc, program),
         Err(_) => Err(AllocError),
@@ -61,12 +61,12 @@ impl Drop for Run {
 
 /// The numbers of a run: its quota, the workers, the words of the arena, the most actions and the most deques.
 #[derive(Clone, Copy)]
-struct Numbers {
-    k: u32,
-    workers: u32,
-    arena: u32,
-    limit: u32,
-    most: u32,
+pub(crate) struct Numbers {
+    pub k: u32,
+    pub workers: u32,
+    pub arena: u32,
+    pub limit: u32,
+    pub most: u32,
 }
 
 /// The run of a text, before its first step. It hands no clause on, since each goal of its callers would carry it.
@@ -78,7 +78,7 @@ fn run_of(rt: &impl Abort, alloc: Global, text: &str, of: Numbers) -> Run {
 }
 
 /// The numbers of a row.
-fn numbers_of(numbers: &str) -> Numbers {
+pub(crate) fn numbers_of(numbers: &str) -> Numbers {
     let mut all = [0u32; 5];
     for (place, word) in numbers.split_whitespace().enumerate() {
         if place < 5 {
@@ -96,7 +96,7 @@ fn numbers_of(numbers: &str) -> Numbers {
 }
 
 /// The words of a row, one digit each.
-fn words_of(rt: &impl Abort, alloc: Global, digits: &str) -> ListChoices {
+pub(crate) fn words_of(rt: &impl Abort, alloc: Global, digits: &str) -> ListChoices {
     let mut words = Vec::new(alloc);
     for digit in digits.trim().bytes() {
         words
@@ -127,7 +127,7 @@ fn tell_fault(rt: &impl Abort, text: &mut String, at: FaultAt) {
 }
 
 /// Writes how a run finished, in front of what it printed.
-fn tell_finish(rt: &impl Abort, text: &mut String, finish: Finish) {
+pub(crate) fn tell_finish(rt: &impl Abort, text: &mut String, finish: Finish) {
     match finish {
         Finish::Done => put(rt, text, "done, prints"),
         Finish::Faulted(at) => tell_fault(rt, text, at),
@@ -135,7 +135,7 @@ fn tell_finish(rt: &impl Abort, text: &mut String, finish: Finish) {
 }
 
 /// Writes the lines that a run printed.
-fn tell_lines(rt: &impl Abort, text: &mut String, lines: &[i64]) {
+pub(crate) fn tell_lines(rt: &impl Abort, text: &mut String, lines: &[i64]) {
     for line in lines {
         write!(text, " {line}").expect(rt, "memory");
     }
@@ -196,15 +196,15 @@ fn played_text(
 /// A row of a table: the quota, the workers, the words of the arena, the most actions and the most deques; the words of choice; what the
 /// play comes to; and the program.
 #[derive(Drop)]
-struct Row<'a> {
-    numbers: &'a str,
-    digits: &'a str,
-    want: &'a str,
-    text: &'a str,
+pub(crate) struct Row<'a> {
+    pub numbers: &'a str,
+    pub digits: &'a str,
+    pub want: &'a str,
+    pub text: &'a str,
 }
 
 /// The parts of a row; None in front of the first row.
-fn row_of(row: &str) -> Option<Row<'_>> {
+pub(crate) fn row_of(row: &str) -> Option<Row<'_>> {
     let mut parts = row.split('|');
     Some(Row {
         numbers: parts.next()?,

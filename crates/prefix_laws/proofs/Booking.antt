@@ -1,4 +1,4 @@
--- What a core's books are by the places of the depth-first list.
+-- What the books of a table are by the places of the depth-first list.
 use Rattle.std.proofs.Common.{◌≡◌, ℕ, List, map, sym, subst}
 use Rattle.std.specs.List.{AllZip}
 use Rattle.std.proofs.Math.Logic.{∥∥₁_elim, ∥∥₁_map, ∥∥₁_prop}
@@ -8,55 +8,53 @@ use Rattle.depth_first_list.proofs.ThreadLaws.{names_differ}
 use Rattle.depth_first_run.specs.States.{Setting, State, Item}
 use Rattle.depth_first_run.specs.Run.{whole, actions_of, list_of}
 use Rattle.depth_first_run.proofs.Built.{whole_is_depth_first}
-use Rattle.deque_machine.specs.Moments.{Moment}
-use Rattle.deque_machine.specs.Runs.{Pair}
+use Rattle.lawful_books.specs.Books.{Book}
 use Rattle.lawful_books.specs.Lists.{Each}
 use Rattle.lawful_books.proofs.Lists.{each_from, each_among}
 use Rattle.period_books.specs.Periods.{Period}
+use Rattle.period_table.specs.declared.table.PeriodTable.{PeriodTable}
 use Rattle.period_table.specs.Tables.{periods_of}
 use Rattle.serial_journal.specs.declared.serial.Serial.{Serial}
 use Rattle.serial_journal.specs.Telling.{Tells}
-use Rattle.dfd_core.specs.declared.run.Core.{Core}
-use Rattle.dfd_core.specs.Cores.{IsAt}
 use Rattle.prefix_laws.specs.declared.names.Name.{Name}
-use Rattle.prefix_laws.specs.Listing.{AreListed, born_in, ran_in}
+use Rattle.prefix_laws.specs.Listing.{AreBooked, AreListed, born_in, ran_in}
 use Rattle.prefix_laws.specs.Naming.{name_shown, ArePlaced, IsKnown}
-use Rattle.prefix_laws.specs.Prefixes.{IsSerialOf, TellsRun, ran_of}
+use Rattle.prefix_laws.specs.Prefixes.{StandsBeside, TellsRun, ran_of}
 use Rattle.prefix_laws.proofs.Naming.{places_are, all_known}
 use Rattle.prefix_laws.proofs.Sorting.{listed_at}
 
-module _ (core : Core) (serial : Serial) (of : IsSerialOf core serial) where
+module _ (table : PeriodTable) (serial : Serial) (beside : StandsBeside table serial) where
   -- the run tells the items of some program
   pub some_items : ∥ ((items : List Item) × Tells items serial) ∥₁
-  some_items = ∥∥₁_map of (λ p. (State.items (whole p.0), p.2))
+  some_items = ∥∥₁_map beside (λ p. (State.items (whole p.0), p.3))
 
-  -- and a core is at the moment of a run of this program
-  pub beside : ∥ ((c : Setting) × (run : List Pair) × (m : Moment) × IsAt c core run m × TellsRun c serial) ∥₁
-  beside = ∥∥₁_elim of ∥∥₁_prop (λ p. ∥∥₁_map (core.somewhere p.0 p.1) (λ w. (p.0, w.0, w.1, w.2, p.2)))
+  -- and its periods are listed
+  pub beside_listed : ∥ ((sorted : List Period) × AreListed table sorted) ∥₁
+  beside_listed = ∥∥₁_map beside (λ p. (p.2.tell.sorted, listed_at p.0 table p.1 p.2))
 
-  module _ (births : List (List Birth)) (born : (sorted : List Period) → AreListed core.scheduler.table sorted → births ≡ map born_in sorted)
-      (ran : List (List ActionId)) (ran_so : (sorted : List Period) → AreListed core.scheduler.table sorted → ran ≡ map ran_in sorted)
+  module _ (births : List (List Birth)) (born : (sorted : List Period) → AreListed table sorted → births ≡ map born_in sorted)
+      (ran : List (List ActionId)) (ran_so : (sorted : List Period) → AreListed table sorted → ran ≡ map ran_in sorted)
       (names : List Name) (named : (items : List Item) → Tells items serial → names ≡ map name_shown (actions_of items)) where
-    known_at : (c : Setting) (run : List Pair) (m : Moment) → IsAt c core run m → TellsRun c serial → Each (Each (IsKnown births names)) ran
-    known_at c run m at tells =
-        let tell = at.stands.standing.shows.books in let listed = listed_at core c run m at in
+    known_at : (c : Setting) (books : List Book) → AreBooked c table books → TellsRun c serial → Each (Each (IsKnown births names)) ran
+    known_at c books b tells =
+        let tell = b.tell in let listed = listed_at c table books b in
         subst (λ bs. Each (Each (IsKnown bs names)) ran) (sym (born tell.sorted listed))
         (subst (λ ns. Each (Each (IsKnown (map born_in tell.sorted) ns)) ran) (sym (named (State.items (whole c)) tells))
         (subst (Each (Each (IsKnown (map born_in tell.sorted) (map name_shown (list_of c))))) (sym (ran_so tell.sorted listed))
-        (all_known c.quota (list_of c) (periods_of core.scheduler.table) m.books tell)))
+        (all_known c.quota (list_of c) (periods_of table) books tell)))
 
     -- so each action of the books is known
     pub names_known : Each (Each (IsKnown births names)) ran
     names_known = each_from (Each (IsKnown births names)) ran (λ ids ids_there. each_from (IsKnown births names) ids (λ id id_there.
         ∥∥₁_elim beside ∥∥₁_prop (λ w.
-        each_among (IsKnown births names) id ids (each_among (Each (IsKnown births names)) ids ran (known_at w.0 w.1 w.2 w.3 w.4) ids_there) id_there)))
+        each_among (IsKnown births names) id ids (each_among (Each (IsKnown births names)) ids ran (known_at w.0 w.1 w.2 w.3) ids_there) id_there)))
 
-    -- and the places are those of the moment's books
-    pub places_at : (c : Setting) (run : List Pair) (m : Moment) → IsAt c core run m → TellsRun c serial → (all : List (List ℕ))
-        → AllZip (ArePlaced births names) ran all → all ≡ map ran_of m.books
-    places_at c run m at tells all so =
-        let tell = at.stands.standing.shows.books in let listed = listed_at core c run m at in
-        places_are c.quota (list_of c) (periods_of core.scheduler.table) m.books tell (names_differ c.quota (list_of c) (whole_is_depth_first c)) all
+    -- and the places are those of the books
+    pub places_at : (c : Setting) (books : List Book) → AreBooked c table books → TellsRun c serial → (all : List (List ℕ))
+        → AllZip (ArePlaced births names) ran all → all ≡ map ran_of books
+    places_at c books b tells all so =
+        let tell = b.tell in let listed = listed_at c table books b in
+        places_are c.quota (list_of c) (periods_of table) books tell (names_differ c.quota (list_of c) (whole_is_depth_first c)) all
         (subst (λ rs. AllZip (ArePlaced (map born_in tell.sorted) (map name_shown (list_of c))) rs all) (ran_so tell.sorted listed)
         (subst (λ ns. AllZip (ArePlaced (map born_in tell.sorted) ns) ran all) (named (State.items (whole c)) tells)
         (subst (λ bs. AllZip (ArePlaced bs names) ran all) (born tell.sorted listed) so)))

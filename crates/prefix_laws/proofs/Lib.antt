@@ -6,3 +6,4 @@ pub mod Naming
 pub mod Booking
 pub mod Counting
 pub mod Bounding
+pub mod Cores

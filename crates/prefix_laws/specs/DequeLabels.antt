@@ -3,9 +3,20 @@ use Rattle.std.specs.Prelude.{ℕ, List, [], ◌∷◌, ◌++◌, map}
 use Rattle.dag_order.specs.declared.birth.Birth.{Birth}
 use Rattle.dag_order.specs.Births.{HasLabel}
 use Rattle.deque_list.specs.Deques.{Deque}
+use Rattle.depth_first_run.specs.States.{Setting}
+use Rattle.deque_machine.specs.Moments.{Moment}
+use Rattle.deque_machine.specs.Runs.{Pair}
+use Rattle.deque_machine.specs.Terms.{Terms}
 use Rattle.lawful_books.specs.Lists.{Each}
 use Rattle.thread_frames.specs.declared.thread.Thread.{Thread}
 use Rattle.thread_frames.specs.Views.{label_of}
+use Rattle.core_parts.specs.declared.scheduler.Scheduler.{Scheduler}
+use Rattle.core_parts.specs.Held.{held}
+use Rattle.core_parts.specs.Moments.{HasRun}
+
+-- what a scheduler holds is at some moment of a program
+abbrev pub HasSomeRun : Scheduler → Type 0
+HasSomeRun s = ∥ ((c : Setting) × (terms : Terms) × (run : List Pair) × (m : Moment) × HasRun c terms (held s) run m) ∥₁
 
 -- by these births each of the threads has its own label
 abbrev pub AreLabelled : List (List Birth) → List Thread → Type 0

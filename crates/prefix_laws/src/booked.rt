@@ -1,22 +1,20 @@
-//! The books of a core, by the places of the actions in the depth-first list.
+//! The books of a table, by the places of the actions in the depth-first list.
 
 ghost use Rattle.std.specs.Prelude.{◌≡◌, List as AnyList, IfOk, map};
 ghost use Rattle.std.specs.List.{AllZip};
 ghost use Rattle.bounded_list.specs.BoundedList.{entries};
 ghost use Rattle.depth_first_run.specs.States.{Setting};
-ghost use Rattle.deque_machine.specs.Moments.{Moment};
-ghost use Rattle.deque_machine.specs.Runs.{Pair};
+ghost use Rattle.lawful_books.specs.Books.{Book as AnyBook};
 ghost use Rattle.lawful_books.specs.Lists.{Each};
-ghost use Rattle.dfd_core.specs.Cores.{IsAt};
-ghost use Rattle.prefix_laws.specs.Listing.{births_behind, books_behind};
+ghost use Rattle.prefix_laws.specs.Listing.{AreBooked, births_behind, books_behind};
 ghost use Rattle.prefix_laws.specs.Naming.{ArePlaced, IsKnown};
-ghost use Rattle.prefix_laws.specs.Prefixes.{IsSerialOf, TellsRun, ran_of, places_behind};
+ghost use Rattle.prefix_laws.specs.Prefixes.{StandsBeside, TellsRun, ran_of, places_behind};
 
 use crate::names::{Name, name_of, names_in, place_of};
 use crate::numbered::in_order;
 use bounded_list::BoundedList;
 use dag_order::Births;
-use dfd_core::Core;
+use period_table::PeriodTable;
 use serial_journal::Serial;
 use space_ledger::Book;
 use std::alloc::{AllocError, Global};
@@ -71,14 +69,14 @@ fn all_places(
 /// Each action that was done is looked for among all actions of the depth-first run.
 pub(crate) fn booked(
     alloc: Global,
-    core: &Core,
+    table: &PeriodTable,
     serial: &Serial,
 ) -> Result<BoundedList<Places>, AllocError>
-    requires { IsSerialOf core.now serial.now }
-    ensures { (c : Setting) (run : AnyList Pair) (m : Moment) → IsAt c core.now run m → TellsRun c serial.now
-        → IfOk result (λ all. places_behind (entries all) ≡ map ran_of m.books) }
+    requires { StandsBeside table.now serial.now }
+    ensures { (c : Setting) (books : AnyList AnyBook) → AreBooked c table.now books → TellsRun c serial.now
+        → IfOk result (λ all. places_behind (entries all) ≡ map ran_of books) }
 {
-    let periods = in_order(alloc, core)?;
+    let periods = in_order(alloc, table)?;
     let names = names_in(alloc, serial)?;
     all_places(alloc, &periods.births, &names, &periods.books)
 }

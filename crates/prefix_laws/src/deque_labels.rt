@@ -4,18 +4,20 @@ ghost use Rattle.std.specs.Prelude.{◌≡◌, ◌++◌, List as AnyList, IfOk, 
 ghost use Rattle.depth_first_run.specs.States.{Setting};
 ghost use Rattle.deque_machine.specs.Moments.{Moment, threads_in, Rises};
 ghost use Rattle.deque_machine.specs.Runs.{Pair};
+ghost use Rattle.deque_machine.specs.Terms.{Terms};
 ghost use Rattle.lawful_books.specs.Lists.{Each};
-ghost use Rattle.dfd_core.specs.Cores.{IsAt};
+ghost use Rattle.core_parts.specs.Held.{held};
+ghost use Rattle.core_parts.specs.Moments.{HasRun};
 ghost use Rattle.thread_frames.specs.Views.{label_of as label_shown};
 ghost use Rattle.prefix_laws.specs.Listing.{births_behind};
-ghost use Rattle.prefix_laws.specs.DequeLabels.{AreLabelled, labels_in};
+ghost use Rattle.prefix_laws.specs.DequeLabels.{AreLabelled, HasSomeRun, labels_in};
 
 use crate::labels::label_of;
 use crate::numbered::in_order;
 use boxed::Boxed;
+use core_parts::Scheduler;
 use dag_order::{Births, Label};
 use deque_list::{Lane, List};
-use dfd_core::Core;
 use std::alloc::{AllocError, Global};
 use thread_frames::Thread;
 
@@ -58,15 +60,12 @@ fn labels_in(
 }
 
 /// The labels of the threads in the deques, from left to right and in each from top to bottom.
-///
-/// # Errors
-///
-/// There is not enough memory.
-pub fn leaves(alloc: Global, core: &Core) -> Result<Vec<Label>, AllocError>
-    ensures moment { (c : Setting) (run : AnyList Pair) (m : Moment) → IsAt c core.now run m
+pub(crate) fn labels_of(alloc: Global, s: &Scheduler) -> Result<Vec<Label>, AllocError>
+    requires { HasSomeRun s.now }
+    ensures moment { (c : Setting) (terms : Terms) (run : AnyList Pair) (m : Moment) → HasRun c terms (held s.now) run m
         → IfOk result (λ labels. labels.items ≡ threads_in m.deques) }
     ensures rise { IfOk result (λ labels. Rises labels.items) }
 {
-    let periods = in_order(alloc, core)?;
-    labels_in(alloc, &periods.births, core.list())
+    let periods = in_order(alloc, &s.table)?;
+    labels_in(alloc, &periods.births, &s.list)
 }

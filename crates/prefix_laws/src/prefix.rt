@@ -3,17 +3,15 @@
 ghost use Rattle.std.specs.Prelude.{◌≡◌, ◌<◌, ◌≤◌, ◌↔◌, ℕ, List as AnyList, IfOk, IsTrue};
 ghost use Rattle.bounded_list.specs.BoundedList.{entries};
 ghost use Rattle.depth_first_run.specs.States.{Setting};
-ghost use Rattle.deque_machine.specs.Moments.{Moment, done_at};
-ghost use Rattle.deque_machine.specs.Runs.{Pair};
-ghost use Rattle.lawful_books.specs.Books.{IsPrefix, goes_past, periods_ahead};
+ghost use Rattle.lawful_books.specs.Books.{Book as AnyBook, IsPrefix, done_in, goes_past, periods_ahead};
 ghost use Rattle.lawful_books.specs.Lists.{Among};
 ghost use Rattle.depth_first_run.specs.Run.{list_of};
-ghost use Rattle.dfd_core.specs.Cores.{IsAt};
-ghost use Rattle.prefix_laws.specs.Prefixes.{IsSerialOf, TellsRun, all_ran, many_past, places_behind};
+ghost use Rattle.prefix_laws.specs.Listing.{AreBooked};
+ghost use Rattle.prefix_laws.specs.Prefixes.{StandsBeside, TellsRun, all_ran, many_past, places_behind};
 
 use crate::booked::{Places, booked};
 use bounded_list::BoundedList;
-use dfd_core::Core;
+use period_table::PeriodTable;
 use serial_journal::Serial;
 use std::alloc::{AllocError, Global};
 
@@ -88,34 +86,22 @@ fn count_past(books: &BoundedList<Places>, prefix: u32) -> u32
 }
 
 /// How many actions of the depth-first run stand in books, from the first on and without a gap.
-///
-/// The time goes with the product of the actions that were done and those of the depth-first run.
-///
-/// # Errors
-///
-/// There is not enough memory.
-pub fn prefix_split(alloc: Global, core: &Core, serial: &Serial) -> Result<u32, AllocError>
-    requires { IsSerialOf core.now serial.now }
-    ensures { (c : Setting) (run : AnyList Pair) (m : Moment) → IsAt c core.now run m → TellsRun c serial.now
-        → IfOk result (λ n. IsPrefix (list_of c) (done_at m) n) }
+pub(crate) fn prefix_of(alloc: Global, table: &PeriodTable, serial: &Serial) -> Result<u32, AllocError>
+    requires { StandsBeside table.now serial.now }
+    ensures { (c : Setting) (books : AnyList AnyBook) → AreBooked c table.now books → TellsRun c serial.now
+        → IfOk result (λ n. IsPrefix (list_of c) (done_in books) n) }
 {
-    let books = booked(alloc, core, serial)?;
+    let books = booked(alloc, table, serial)?;
     Ok(prefix_in(&books, serial.actions.len()))
 }
 
 /// How many periods, closed or open, ran an action that is not among these.
-///
-/// It takes time as [`prefix_split`] does.
-///
-/// # Errors
-///
-/// There is not enough memory.
-pub fn ahead_now(alloc: Global, core: &Core, serial: &Serial) -> Result<u32, AllocError>
-    requires { IsSerialOf core.now serial.now }
-    ensures { (c : Setting) (run : AnyList Pair) (m : Moment) (n : ℕ) → IsAt c core.now run m → TellsRun c serial.now
-        → IsPrefix (list_of c) (done_at m) n → IfOk result (λ ahead. ahead ≡ periods_ahead n m.books) }
+pub(crate) fn ahead_of(alloc: Global, table: &PeriodTable, serial: &Serial) -> Result<u32, AllocError>
+    requires { StandsBeside table.now serial.now }
+    ensures { (c : Setting) (books : AnyList AnyBook) (n : ℕ) → AreBooked c table.now books → TellsRun c serial.now
+        → IsPrefix (list_of c) (done_in books) n → IfOk result (λ ahead. ahead ≡ periods_ahead n books) }
 {
-    let books = booked(alloc, core, serial)?;
+    let books = booked(alloc, table, serial)?;
     let prefix = prefix_in(&books, serial.actions.len());
     Ok(count_past(&books, prefix))
 }

@@ -185,6 +185,13 @@ impl AsyncCore {
         }
     }
 
+    /// The words that a worker may allocate between two steals.
+    pub fn quota(&self) -> Quota
+        ensures { result ≡ self.now.k }
+    {
+        self.k
+    }
+
     /// How many workers there are.
     pub fn workers(&self) -> u32
         ensures value { result ≡ workers_of self.now }
@@ -213,6 +220,13 @@ impl AsyncCore {
         ensures { (c : Setting) (run : AnyList Pair) (m : Moment) → IsAt c self.now run m → result ≡ length (booked m.books) }
     {
         self.scheduler.done
+    }
+
+    /// What the run holds between two events.
+    pub fn scheduler(&self) -> &Scheduler
+        ensures { result.now ≡ self.now.scheduler }
+    {
+        &self.scheduler
     }
 
     /// By how much each action changed the words in use.

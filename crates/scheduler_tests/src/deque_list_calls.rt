@@ -60,7 +60,7 @@ fn told(rt: &(impl Abort + AllocGlobal), list: &List<u32>) -> String {
 }
 
 // Checks that the list shows these deques, and nothing behind them.
-fn shows(rt: &(impl Abort + AllocGlobal), list: &List<u32>, want: &str) {
+pub(crate) fn shows(rt: &(impl Abort + AllocGlobal), list: &List<u32>, want: &str) {
     assert_eq!(rt; told(rt, list).as_str(), want);
     let len = list.len();
     assert_eq!(rt;

@@ -6,6 +6,8 @@
 #![tactic(auto)]
 
 #[cfg(test)]
+mod cut_calls;
+#[cfg(test)]
 mod deque_list_calls;
 #[cfg(test)]
 mod machine_replay_calls;

@@ -1,5 +1,5 @@
 -- No deque is without threads where a scheduler stands at the moment of a run.
-use Rattle.std.proofs.Common.{◌≡◌, ◌≢◌, ℕ, [], length, map, ap, arith}
+use Rattle.std.proofs.Common.{◌≡◌, ◌≢◌, ℕ, [], length, map, ap}
 use Rattle.std.proofs.Math.Logic.{∥∥₁_elim}
 use Rattle.std.proofs.lemmas.List.{nil_from_length}
 use Rattle.std.specs.Prelude.{Some, slice_get}

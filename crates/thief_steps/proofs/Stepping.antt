@@ -14,7 +14,7 @@ use Rattle.lawful_books.proofs.Lists.{each_left, each_right, each_join, each_at,
 use Rattle.deque_machine.specs.Moments.{Moment, owned_by}
 use Rattle.deque_machine.specs.Machine as machine
 use Rattle.deque_machine.specs.Play as play
-use Rattle.deque_machine.specs.Play.{IsFirst, IsReady, Wants, Meets, reach, no_deque}
+use Rattle.deque_machine.specs.Play.{IsFirst, IsReady, Meets, reach, no_deque}
 use Rattle.deque_machine.specs.Runs.{Pair}
 use Rattle.deque_machine.proofs.Movers.{mover_wants}
 use Rattle.space_ledger.specs.Sums.{total_change}
