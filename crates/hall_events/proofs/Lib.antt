@@ -1,6 +1,6 @@
 mod Working
-mod Untaken
-mod Quiet
-mod Lanes
-mod Pauses
-mod Ends
+pub mod Untaken
+pub mod Quiet
+pub mod Lanes
+pub mod Pauses
+pub mod Ends

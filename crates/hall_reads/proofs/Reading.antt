@@ -1,5 +1,5 @@
 -- What an owner knows of its lane and of the pool by the law of its hall.
-use Rattle.std.proofs.Common.{◌≡◌, ◌≢◌, IsProp, ℕ, suc, ◌+◌, ◌≤◌, ◌<◌, List, [], ◌∷◌, map, length, refl, sym, ap, ◌∙◌, subst, arith}
+use Rattle.std.proofs.Common.{◌≡◌, ◌≢◌, ℕ, ◌+◌, ◌≤◌, ◌<◌, List, [], ◌∷◌, map, length, refl, sym, ap, ◌∙◌, subst, arith}
 use Rattle.std.proofs.Math.Logic.{∥∥₁_elim}
 use Rattle.std.proofs.lemmas.Option.{same_Some, none-some}
 use Rattle.std.specs.Option.{option_map}
@@ -15,8 +15,7 @@ use Rattle.lawful_books.specs.Lists.{Each}
 use Rattle.lawful_books.proofs.Lists.{cons_is_not_nil, same_head}
 use Rattle.moment_parts.specs.Parts as parts
 use Rattle.node_table.specs.Table.{Table}
-use Rattle.period_books.specs.Periods.{Period, open_shown}
-use Rattle.quota_period.specs.declared.period.Period.{Period as OpenPeriod}
+use Rattle.period_books.specs.Periods.{Period}
 use Rattle.run_end.specs.declared.stop.Stop.{Stop}
 use Rattle.run_end.specs.declared.stop.Stop.TheVariants.{ArenaFull, DequesFull, StepsSpent, OutOfMemory}
 use Rattle.thread_frames.specs.Points.{IsAtPoint}
@@ -34,9 +33,8 @@ use Rattle.hall_law.specs.Values.{Hall, ListShown, LaneShown, PoolShown, Stop as
 use Rattle.hall_law.specs.Writing.{IsAtWork, lane_slot, lane_with, place_of}
 use Rattle.hall_law.proofs.Closing.{owners_are_at_work}
 use Rattle.hall_law.specs.Crew.{SeatStands}
-use Rattle.hall_law.specs.Views.{View}
 use Rattle.hall_law.specs.Points.{IsExcused, LaneAtPoints, AreAtPoints}
-use Rattle.hall_law.specs.State.{HallLaw, IsIn}
+use Rattle.hall_law.specs.State.{HallLaw}
 use Rattle.hall_points.proofs.Owning.{all_in_lane}
 use Rattle.hall_slots.specs.declared.lane_slot.LaneSlot.{LaneSlot}
 use Rattle.hall_slots.specs.declared.lane_slot.Running.{Running}
@@ -44,7 +42,7 @@ use Rattle.hall_slots.specs.declared.list_slot.ListSlot.{ListSlot}
 use Rattle.hall_slots.specs.declared.pool_slot.PoolSlot.{PoolSlot}
 use Rattle.hall_slots.specs.declared.slot.Slot.{Slot}
 use Rattle.hall_slots.specs.declared.slot.Slot.TheVariants as slots
-use Rattle.hall_slots.specs.Shown.{value_of, view_of, lane_shown, pool_shown, running_shown, stop_shown, end_shown}
+use Rattle.hall_slots.specs.Shown.{value_of, view_of, lane_shown, running_shown, stop_shown}
 use Rattle.hall_turns.specs.declared.key.HallKey.{HallKey}
 use Rattle.hall_turns.specs.Keys.{table_of, quota_of, terms_of}
 use Rattle.hall_turns.specs.Law.{HallHolds, joined_note}
@@ -53,7 +51,7 @@ use Rattle.hall_turns.specs.Steps.{hall_shown}
 use Rattle.hall_turns.specs.Takes.{HallSeat, MeetsLaw}
 use Rattle.hall_turns.proofs.Keeping.{Whole}
 use Rattle.hall_turns.proofs.Lone.{noted_at}
-use Rattle.hall_turns.proofs.Reading.{at_of_get, get_of_at}
+use Rattle.hall_turns.proofs.Reading.{get_of_at}
 use Rattle.hall_turns.proofs.Written.{list_at, pool_at, lane_shown_at}
 use Rattle.hall_writes.proofs.Owned.{split}
 use Rattle.hall_writes.proofs.There.{slot_is, list_there, pool_there}
@@ -158,7 +156,7 @@ module _ (key : HallKey) (seat : HallSeat) (deque : DequeId) (lane : LaneSlot) (
     used_is : IsSettingOf (table_of key) (quota_of key) c → (running : Running) → lane.running ≡ Some running → running.period.used ≤ quota_of key
     used_is of running is =
         let period : IsAtWork.period at_work.0 ≡ running_shown running = same_Some (IsAtWork.period at_work.0) (running_shown running)
-            (ap (λ (l : LaneShown). l.period) (lane_is at_work.0 at_work.1) ∙ ap (option_map running_shown) is) in
+        (ap (λ (l : LaneShown). l.period) (lane_is at_work.0 at_work.1) ∙ ap (option_map running_shown) is) in
         subst (λ n. running.period.used ≤ n) (IsSettingOf.quota of) (subst (λ (p : Period). p.used ≤ c.quota) period (within of).used)
 
   long : 2 ≤ length shown
@@ -181,6 +179,7 @@ module _ (key : HallKey) (seat : HallSeat) (deque : DequeId) (lane : LaneSlot) (
   reads =
       let cut = not_empty lane.lane.items (λ empty. never (λ c law. some_thread c law empty)) in
       let runs = not_none lane.running (λ idle. never (λ c law. some_period c law idle)) in record {
+        quota = holds.key_is.quota;
         top = cut.0;
         under = cut.1;
         items = cut.2;

@@ -10,14 +10,14 @@ use Rattle.lawful_books.specs.Books.{booked}
 use Rattle.lawful_books.specs.Lawful.{IsWithin}
 use Rattle.lawful_books.specs.Lists.{Among, Each, total}
 use Rattle.lawful_books.proofs.Lists.{each_at, among_here}
-use Rattle.moment_parts.specs.Parts.{Deque, Parts, IsIn, deque_words, words_of}
+use Rattle.moment_parts.specs.Parts.{Deque, Parts, IsIn, deque_words}
 use Rattle.moment_parts.proofs.Counting.{threads_count_within}
 use Rattle.moment_parts.proofs.Shown.{used_is, book_of_it, deque_words_middle}
 use Rattle.hall_law.specs.Views.{View, one_if_counting}
-use Rattle.hall_law.specs.Values.{Hall, parts_of, deque_at}
+use Rattle.hall_law.specs.Values.{Hall, parts_of}
 use Rattle.hall_law.specs.Steps.{Step, Leads}
 use Rattle.hall_law.specs.Writing.{IsAtWork}
-use Rattle.hall_law.proofs.Own.{works, deque_with, lefts, rights, deques_were}
+use Rattle.hall_law.proofs.Own.{works, lefts, rights, deques_were}
 use Rattle.hall_law.specs.State.{RunningState}
 use Rattle.hall_reads.specs.Within.{OwnersAreWithin}
 

@@ -1,6 +1,7 @@
 -- What an owner knows of its lane and of the pool once it took them.
 use Rattle.std.specs.Prelude.{◌≡◌, ◌≢◌, ℕ, ◌+◌, ◌≤◌, ◌<◌, false, Some, List, ◌∷◌}
 use Rattle.deque_list.specs.declared.deque_id.DequeId.{DequeId}
+use Rattle.depth_first_list.specs.Actions.{record_words}
 use Rattle.lawful_books.specs.Lists.{Each}
 use Rattle.quota_period.specs.declared.period.Period.{Period as OpenPeriod}
 use Rattle.run_end.specs.declared.stop.Stop.TheVariants.{OutOfMemory}
@@ -15,9 +16,10 @@ use Rattle.hall_turns.specs.declared.key.HallKey.{HallKey}
 use Rattle.hall_turns.specs.Keys.{table_of, quota_of}
 use Rattle.hall_turns.specs.Takes.{HallSeat, MeetsLaw}
 
--- The lane has a thread on top and a period that runs. Unless the seat found that memory was wanting, all its threads are at their points.
+-- The quota covers a record block. The lane has a thread on top and a period that runs. Unless the seat found that memory was wanting, all its threads are at their points.
 -- The top thread has no more words than the pool and has done no more actions than may be done, and the period has used no more than the quota.
 pub record ReadsLane (key : HallKey) (seat : HallSeat) (lane : LaneSlot) : Type 0 where
+  pub quota : record_words ≤ quota_of key
   pub top : Thread
   pub under : List Thread
   pub items : lane.lane.items ≡ top ∷ under

@@ -26,7 +26,7 @@ module _ {X : Type 0} where
   each_moved P xs ys moved all = each_from P ys (λ y there. each_among P y xs all (among_moved ys xs (IsPermutation-sym xs ys moved) y there))
 
 -- threads at their points are so in a lane
-all_at : {T : Type 0} (At : T → Type 0) (Excused : Type 0) (threads : List T) → Each At threads → LaneAtPoints At Excused threads
+pub all_at : {T : Type 0} (At : T → Type 0) (Excused : Type 0) (threads : List T) → Each At threads → LaneAtPoints At Excused threads
 all_at At Excused [] all = tt
 all_at At Excused (top ∷ under) all = (inl all.0, all.1)
 

@@ -1,0 +1,5 @@
+mod Taken
+mod FromLanes
+mod FromPools
+mod FromLists
+mod FromAll

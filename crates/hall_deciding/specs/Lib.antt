@@ -1,0 +1,5 @@
+pub mod Taken
+pub mod Own
+pub mod Pools
+pub mod Lists
+pub mod Wholes

@@ -1,0 +1,52 @@
+-- An event that is written into the lane alone, and lanes in which nothing is decided.
+use Rattle.std.specs.Prelude.{◌≡◌, ◌<◌, None, Some, List, ◌∷◌}
+use Rattle.dag_order.specs.declared.action_id.ActionId.{ActionId}
+use Rattle.dag_order.specs.declared.thread_id.ThreadId.{ThreadId}
+use Rattle.deque_list.specs.declared.deque_id.DequeId.{DequeId}
+use Rattle.quota_period.specs.declared.period.Period.{Period as OpenPeriod}
+use Rattle.thread_frames.specs.declared.next.Next.TheVariants as nexts
+use Rattle.thread_frames.specs.declared.thread.Thread.{Thread}
+use Rattle.thread_frames.specs.Points.{IsAtPoint}
+use Rattle.lawful_books.specs.Lists.{Each}
+use Rattle.lane_events.specs.Joins.{JoinsHere, ReleasesNothing}
+use Rattle.hall_slots.specs.declared.lane_slot.LaneSlot.{LaneSlot}
+use Rattle.hall_turns.specs.declared.key.HallKey.{HallKey}
+use Rattle.hall_slots.specs.Shown.{lane_shown}
+use Rattle.hall_turns.specs.Keys.{table_of, quota_of}
+use Rattle.hall_turns.specs.Takes.{HallSeat}
+use Rattle.hall_events.specs.Taken.{MayAct, MayPause, IsNext}
+use Rattle.hall_stays.specs.Staying.{AllAtPoints}
+use Rattle.hall_deciding.specs.Taken.{IsAtEvent, its_lane}
+
+-- the Join of a child that was handed over before, which releases no words
+pub record JoinsAlone (key : HallKey) (seat : HallSeat) (deque : DequeId) (lane : LaneSlot) (name : ActionId) : Type 0 where
+  pub was : IsAtEvent key seat (its_lane deque)
+  pub may : MayAct seat deque
+  pub child : ThreadId
+  pub after : OpenPeriod
+  pub running : lane.running ≡ Some (record { worker = IsAtEvent.holder was; period = after })
+  pub acts : JoinsHere (IsAtEvent.top was) (IsAtEvent.under was) (IsAtEvent.period was) lane.lane.items after name
+  pub nothing : ReleasesNothing (IsAtEvent.top was)
+  pub next : IsNext key (IsAtEvent.top was) (nexts.Join child)
+  pub points : AllAtPoints key lane
+
+-- A lane in which nothing was done: it shows what it showed, and its threads are at their points.
+pub record IsStillThere (key : HallKey) (seat : HallSeat) (deque : DequeId) (lane : LaneSlot) : Type 0 where
+  pub placed : 0 < seat.hand.note.places
+  pub owns : seat.hand.note.deque ≡ Some deque
+  pub lane_was : LaneSlot
+  pub holds : seat.hand.holds ≡ its_lane deque lane_was
+  pub same : lane_shown lane ≡ lane_shown lane_was
+  pub points : AllAtPoints key lane
+
+-- one whose top thread may have stopped anywhere, since memory was wanting; the seat has found no stop before
+pub record IsShortThere (key : HallKey) (seat : HallSeat) (deque : DequeId) (lane : LaneSlot) : Type 0 where
+  pub may : MayPause seat deque
+  pub none : seat.hand.note.found ≡ None
+  pub lane_was : LaneSlot
+  pub holds : seat.hand.holds ≡ its_lane deque lane_was
+  pub same : lane_shown lane ≡ lane_shown lane_was
+  pub top : Thread
+  pub under : List Thread
+  pub items : lane.lane.items ≡ top ∷ under
+  pub points : Each (IsAtPoint (table_of key) (quota_of key)) under

@@ -1,0 +1,39 @@
+-- What a seat holds whose top thread has come to an event.
+use Rattle.std.specs.Prelude.{◌≡◌, ℕ, ◌+◌, ◌≤◌, List, [], ◌∷◌}
+use Rattle.deque_list.specs.declared.deque_id.DequeId.{DequeId}
+use Rattle.depth_first_list.specs.Actions.{record_words}
+use Rattle.quota_period.specs.declared.period.Period.{Period as OpenPeriod}
+use Rattle.thread_frames.specs.declared.thread.Thread.{Thread}
+use Rattle.hall_slots.specs.declared.lane_slot.LaneSlot.{LaneSlot}
+use Rattle.hall_slots.specs.declared.list_slot.ListSlot.{ListSlot}
+use Rattle.hall_slots.specs.declared.pool_slot.PoolSlot.{PoolSlot}
+use Rattle.hall_slots.specs.declared.slot.Slot.{Slot}
+use Rattle.hall_slots.specs.declared.slot.Slot.TheVariants as slots
+use Rattle.hall_turns.specs.declared.key.HallKey.{HallKey}
+use Rattle.hall_turns.specs.Keys.{quota_of}
+use Rattle.hall_turns.specs.Takes.{HallSeat}
+use Rattle.hall_events.specs.Taken.{IsAtAction}
+
+-- It holds these slots, among them its lane as it took it, whose top thread has come to its next action since; the quota covers a record block.
+pub record IsAtEvent (key : HallKey) (seat : HallSeat) (taken : LaneSlot → List (ℕ × Slot)) : Type 0 where
+  pub quota : record_words ≤ quota_of key
+  pub lane : LaneSlot
+  pub top : Thread
+  pub under : List Thread
+  pub holder : ℕ
+  pub period : OpenPeriod
+  pub at : IsAtAction lane top under holder period
+  pub holds : seat.hand.holds ≡ taken lane
+
+-- the lane of its deque alone; the pool and the lane; the list and the lane; all three
+abbrev pub its_lane : DequeId → LaneSlot → List (ℕ × Slot)
+its_lane deque lane = (deque.0 + 2, slots.Lane lane) ∷ []
+
+abbrev pub pool_and_lane : DequeId → PoolSlot → LaneSlot → List (ℕ × Slot)
+pool_and_lane deque pool lane = (1, slots.Pool pool) ∷ (deque.0 + 2, slots.Lane lane) ∷ []
+
+abbrev pub list_and_lane : DequeId → ListSlot → LaneSlot → List (ℕ × Slot)
+list_and_lane deque list lane = (0, slots.List list) ∷ (deque.0 + 2, slots.Lane lane) ∷ []
+
+abbrev pub all_three : DequeId → ListSlot → PoolSlot → LaneSlot → List (ℕ × Slot)
+all_three deque list pool lane = (1, slots.Pool pool) ∷ (0, slots.List list) ∷ (deque.0 + 2, slots.Lane lane) ∷ []

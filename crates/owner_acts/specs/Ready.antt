@@ -1,0 +1,43 @@
+-- What an owner's call has in its hands when it does an action.
+use Rattle.std.specs.Prelude.{◌≡◌, ℕ, ◌≤◌, ◌<◌, List}
+use Rattle.deque_list.specs.Lanes.{LaneView}
+use Rattle.depth_first_list.specs.Actions.{record_words}
+use Rattle.language_limits.specs.declared.TheConstants.{GREATEST_QUOTA}
+use Rattle.lawful_books.specs.Lists.{Each}
+use Rattle.space_ledger.specs.MovesList.{moves_spare}
+use Rattle.thread_frames.specs.Points.{IsAtPoint}
+use Rattle.thread_frames.specs.Views.{done_of, thread_words}
+use Rattle.thread_frames.specs.declared.thread.Thread.{Thread}
+use Rattle.lane_events.specs.Here.{HasRoomHere}
+use Rattle.hall_slots.specs.declared.lane_slot.LaneSlot.{LaneSlot}
+use Rattle.hall_slots.specs.declared.lane_slot.Running.{Running}
+use Rattle.hall_slots.specs.declared.pool_slot.PoolSlot.{PoolSlot}
+use Rattle.hall_slots.specs.declared.slot.Slot.{Slot}
+use Rattle.hall_turns.specs.declared.key.HallKey.{HallKey}
+use Rattle.hall_turns.specs.Keys.{table_of, quota_of}
+use Rattle.hall_turns.specs.Sound.{PoolIsSound}
+use Rattle.hall_turns.specs.Takes.{HallSeat}
+use Rattle.hall_events.specs.Taken.{IsAtAction}
+
+-- It holds these slots, among them its lane as it took it. Of this it has the threads without the top one, the period that runs, and the top
+-- thread, which has come to its next action since. All are at their points, the numbers are within their bounds, and there is memory for so
+-- many threads more, an action and a birth.
+pub record IsReady (key : HallKey) (seat : HallSeat) (taken : LaneSlot → List (ℕ × Slot)) (threads : LaneView Thread) (running : Running)
+    (top : Thread) (more ready : ℕ) : Type 0 where
+  pub quota : record_words ≤ quota_of key
+  pub small : quota_of key ≤ GREATEST_QUOTA
+  pub few : key.actions < 4294967295
+  pub lane : LaneSlot
+  pub at : IsAtAction lane top threads.items running.worker running.period
+  pub holds : seat.hand.holds ≡ taken lane
+  pub used : running.period.used ≤ quota_of key
+  pub done : done_of top ≤ key.actions
+  pub point : IsAtPoint (table_of key) (quota_of key) top
+  pub under : Each (IsAtPoint (table_of key) (quota_of key)) threads.items
+  pub room : HasRoomHere more threads running.period ready
+
+-- The pool is sound, there is memory for a move, and the words of this thread are in use.
+pub record PoolIsReady (key : HallKey) (pool : PoolSlot) (top : Thread) : Type 0 where
+  pub sound : PoolIsSound key pool
+  pub room : 1 ≤ moves_spare pool.moves
+  pub words : thread_words top ≤ pool.pool.live
