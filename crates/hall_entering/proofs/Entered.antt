@@ -1,27 +1,23 @@
 -- That a worker may enter, and what the seats are then.
-use Rattle.std.proofs.Common.{◌≡◌, ℕ, zero, suc, ◌+◌, ◌<◌, ◌≤◌, ◌⊎◌, List, [], ◌∷◌, ◌++◌, map, inl, inr, refl, sym, ap, ◌∙◌, subst, arith}
+use Rattle.std.proofs.Common.{◌≡◌, ℕ, zero, suc, ◌+◌, ◌<◌, ◌≤◌, ◌⊎◌, List, [], ◌∷◌, ◌++◌, map, inl, inr, sym, ap, ◌∙◌, subst, arith}
 use Rattle.std.proofs.Math.Logic.{∥∥₁_elim}
-use Rattle.std.specs.Prelude.{Option, None, Some, false, Result, Ok, Err}
+use Rattle.std.specs.Prelude.{Option, None, Some, Result, Ok, Err}
 use Rattle.std.proofs.lemmas.Bool.{cases_lt, cases_eq}
 use mathlib.Core.Option.{some}
 use lib.ListN.{get_elem?}
 use Rattle.depth_first_run.specs.States.{Setting}
 use Rattle.deque_machine.specs.Terms.{Terms, machine_of}
 use Rattle.lawful_books.specs.Lists.{times}
-use Rattle.turn_table.specs.declared.hand.Hand.{Hand}
-use Rattle.turn_table.specs.Hands.{Shows, fresh, noted, gave, renewed, without_slot}
+use Rattle.turn_table.specs.Hands.{Shows, fresh, noted}
 use Rattle.turn_table.specs.Law.{Stands}
 use Rattle.turn_table.specs.Notes.{notes}
 use Rattle.turn_table.specs.Seats.{with_hand}
-use Rattle.turn_table.proofs.Left.{left_of_one}
 use Rattle.turn_table.proofs.NoteLaws.{notes_at}
-use Rattle.turn_places.specs.Backs.{unchanged}
-use Rattle.hall_law.specs.Values.{Hall, ListShown}
+use Rattle.hall_law.specs.Values.{ListShown}
 use Rattle.hall_law.specs.State.{HallLaw}
 use Rattle.hall_law.specs.Numbers.{IsSmallestNumber}
 use Rattle.hall_law.proofs.Numbers.{workers_may_enter}
 use Rattle.hall_slots.specs.declared.list_slot.ListSlot.{ListSlot}
-use Rattle.hall_slots.specs.declared.seat_note.SeatNote.{SeatNote}
 use Rattle.hall_slots.specs.declared.slot.Slot.{Slot}
 use Rattle.hall_slots.specs.declared.slot.Slot.TheVariants as slots
 use Rattle.hall_slots.specs.Shown.{view_of, value_of}
@@ -33,7 +29,9 @@ use Rattle.hall_turns.specs.Takes.{HallSeat, IsTaken, MeetsLaw}
 use Rattle.hall_turns.proofs.Keeping.{Whole}
 use Rattle.hall_turns.proofs.Lone.{noted_at}
 use Rattle.hall_turns.proofs.Written.{list_at}
-use Rattle.hall_entering.specs.Entering.{MayEnter, entering_note, giving_note, worker_note, last_of, HoldsTheNamed, PutsNamed, GivesAPlace, PutsGiven, Leaves, EntersWith, HasEntered}
+use Rattle.hall_seats.specs.Lists.{Leaves}
+use Rattle.hall_seats.proofs.Listed.{leaves_of}
+use Rattle.hall_entering.specs.Entering.{MayEnter, entering_note, giving_note, worker_note, last_of, HoldsTheNamed, PutsNamed, GivesAPlace, PutsGiven, EntersWith, HasEntered}
 use Rattle.hall_entering.specs.declared.refused.EnterRefused.{EnterRefused}
 use Rattle.hall_entering.specs.declared.refused.EnterRefused.TheVariants.{Busy, Over, OutOfMemory}
 use Rattle.hall_entering.proofs.Listed.{last_snoc}
@@ -77,12 +75,6 @@ module _ (key : HallKey) (seat : HallSeat) (list : ListSlot) (workers : ℕ) (ma
   number_is_free = subst (λ n. (worker : ℕ) × IsSmallestNumber n list.crew.items worker) (sym may.all_workers)
       (free_number key.workers list.crew.items (λ all. ∥∥₁_elim st.kept.0.key_is.of_program (λ x y. absurd x) (λ p. ∥∥₁_elim (st.kept.0.state p.0 p.1) (λ x y. absurd x) (λ law. not_all_by p.0 law all))))
 
--- a seat that put the list back holds nothing
-pub leaves_of : (before after : HallSeat) (list : ListSlot) (pick : Hand Slot SeatNote → SeatNote) → before.hand.holds ≡ (0, slots.List list) ∷ []
-    → after ≡ with_hand before (gave pick unchanged before.hand 0) → Leaves before (pick before.hand) after
-leaves_of before after list pick holds is = is ∙ ap (λ (xs : List (ℕ × Slot)). with_hand before (record { seated = before.hand.seated; holds = xs; note = pick before.hand; looks = before.hand.looks }))
-    (ap (λ (xs : List (ℕ × Slot)). renewed unchanged (without_slot 0 xs)) holds ∙ left_of_one unchanged 0 0 (slots.List list) refl)
-
 module _ (key : HallKey) (seat : HallSeat) (list after : ListSlot) (workers worker : ℕ) (may : MayEnter key seat workers) (holds : seat.hand.holds ≡ (0, slots.List list) ∷ []) (no_end : list.end ≡ None)
     (number : IsSmallestNumber workers list.crew.items worker) (crew : after.crew.items ≡ list.crew.items ++ worker ∷ []) where
   number_of_key : IsSmallestNumber key.workers list.crew.items worker
@@ -101,9 +93,8 @@ module _ (key : HallKey) (seat : HallSeat) (list after : ListSlot) (workers work
     pub gives_of : GivesAPlace named
     gives_of = record { worker = worker; enters = ap (λ (s : HallSeat). s.hand.note.enters) named_leaves ∙ last_is; many = subst (λ n. 2 ≤ n) (sym (ap (λ (s : HallSeat). s.hand.note.places) named_leaves)) may.many }
 
-    pub enters_of : (given made : HallSeat) → PutsGiven named given → made.hand ≡ fresh (worker_note named.hand.note.enters) → EntersWith key list seat given (Ok made)
+    pub enters_of : (given made : HallSeat) → PutsGiven named given → made.hand ≡ fresh (worker_note named.hand.note.enters) → EntersWith key list seat given (Ok (made, worker))
     enters_of given made gives is = (
-      worker,
       number_of_key,
       no_end,
       gives ∙ ap (λ (s : HallSeat). with_hand s (noted s.hand (giving_note s.hand.note))) named_leaves,
@@ -111,7 +102,7 @@ module _ (key : HallKey) (seat : HallSeat) (list after : ListSlot) (workers work
     )
 
 -- what it does with the list that it took it has done
-pub entered : (key : HallKey) (before middle after : HallSeat) (list : ListSlot) (result : Result HallSeat EnterRefused) → IsTaken before 0 (slots.List list) middle → EntersWith key list middle after result → HasEntered key before after result
+pub entered : (key : HallKey) (before middle after : HallSeat) (list : ListSlot) (result : Result (HallSeat × ℕ) EnterRefused) → IsTaken before 0 (slots.List list) middle → EntersWith key list middle after result → HasEntered key before after result
 entered key before middle after list (Ok made) taken enters = (list, subst (λ (s : HallSeat). EntersWith key list s after (Ok made)) taken enters)
 entered key before middle after list (Err (Busy held)) taken enters = absurd enters
 entered key before middle after list (Err (Over end)) taken enters = (list, subst (λ (s : HallSeat). EntersWith key list s after (Err (Over end))) taken enters)

@@ -1,21 +1,14 @@
--- Lists that are put back by a seat by which a worker enters.
-use Rattle.std.proofs.Common.{◌≡◌, ℕ, ◌+◌, ◌<◌, ◌≤◌, List, [], ◌∷◌, ◌++◌, map, set, refl, sym, ap, ◌∙◌, subst, arith, append-nil}
-use Rattle.std.specs.Prelude.{Option, None, Some, false, slice_get, slice_set}
+-- A list that is put back by a seat by which a worker enters.
+use Rattle.std.proofs.Common.{◌≡◌, ℕ, List, [], ◌∷◌, ◌++◌, refl, sym, ap, ◌∙◌, subst, append-nil}
+use Rattle.std.specs.Prelude.{Option, None, Some, slice_set}
 use Rattle.std.specs.Option.{option_map}
-use Rattle.std.proofs.lemmas.Option.{same_Some, none-some}
-use Rattle.atomic_table.proofs.Lists.{set_again}
-use Rattle.thread_frames.specs.Kept.{waiting_shown, result_kept}
-use Rattle.run_end.specs.declared.ends.RunEnd.{RunEnd}
 use Rattle.deque_machine.specs.Terms.{Terms, machine_of}
 use Rattle.lawful_books.specs.Lists.{times}
-use Rattle.period_books.specs.Periods.{closed_shown}
-use Rattle.space_ledger.specs.BooksList.{books_list}
 use Rattle.turn_table.specs.Law.{PutKeeps}
-use Rattle.turn_places.specs.Backs.{still, unchanged}
-use Rattle.hall_law.specs.Values.{Hall, ListShown, End}
+use Rattle.turn_places.specs.Backs.{unchanged}
+use Rattle.hall_law.specs.Values.{ListShown}
 use Rattle.hall_law.specs.Views.{View}
-use Rattle.hall_law.specs.Seats.{entering, answered_with}
-use Rattle.hall_law.proofs.Halting.{answers_keep_crew}
+use Rattle.hall_law.specs.Seats.{entering}
 use Rattle.hall_law.specs.State.{RunningState}
 use Rattle.hall_law.proofs.Quiet.{entering_goes_on}
 use Rattle.hall_slots.specs.declared.list_slot.ListSlot.{ListSlot}
@@ -30,13 +23,10 @@ use Rattle.hall_turns.specs.Steps.{ListMayBecome}
 use Rattle.hall_turns.specs.Takes.{HallSeat, IsPlaced}
 use Rattle.hall_turns.proofs.Keeping.{Whole}
 use Rattle.hall_turns.proofs.Putting.{list_keeps}
-use Rattle.hall_turns.proofs.Reading.{at_of_get, get_of_at}
+use Rattle.hall_turns.proofs.Reading.{get_of_at}
 use Rattle.hall_seats.proofs.Ends.{parts_sound}
-use Rattle.hall_entering.specs.Entering.{entering_note, answered_note, last_of, HoldsTheSame, HoldsTheEnd, HoldsTheNamed}
-
--- a list with the same part and the same end shows the same, but for its crew
-shows_crew : (before list : ListSlot) (crew : List ℕ) → list.part ≡ before.part → list.crew.items ≡ crew → list.end ≡ before.end → list_shown list ≡ record (list_shown before) { crew = crew }
-shows_crew before list crew part is end = λ k. record { places = (part k).order.places; crew = is k; waiting = map waiting_shown (part k).waiting.entries; results = map result_kept (part k).results.entries; closed = map closed_shown (books_list (part k).books); begun = (part k).begun; kept = option_map end_shown (end k) }
+use Rattle.hall_seats.proofs.Listed.{shows_crew}
+use Rattle.hall_entering.specs.Entering.{entering_note, last_of, HoldsTheNamed}
 
 pub last_snoc : (crew : List ℕ) (worker : ℕ) → last_of (crew ++ worker ∷ []) ≡ Some worker
 last_snoc [] worker = refl
@@ -44,46 +34,6 @@ last_snoc (x ∷ []) worker = refl
 last_snoc (x ∷ y ∷ crew) worker = last_snoc (y ∷ crew) worker
 
 module _ (key : HallKey) (seat : HallSeat) (placed : IsPlaced seat) (list : ListSlot) where
-  -- it shows the same
-  module _ (has : HoldsTheSame seat list) where
-    same_may : ListMayBecome key seat has.before list seat.hand.note
-    same_may c of h count views run is its = ∣ (
-      run.0,
-      run.1,
-      run.2,
-      subst (λ (z : ListShown × List View). RunningState (machine_of c (terms_of key)) (Terms.limits (terms_of key)) (record h { list = z.0 }) run.0 run.1 run.2 count z.1)
-          (λ k. ((is ∙ sym (shows_crew has.before list has.before.crew.items has.part has.crew has.end)) k, sym (set_again views seat.number (view_of seat.hand.note) (at_of_get views seat.number (view_of seat.hand.note) its)) k)) run.3,
-    ) ∣₁
-
-    pub same_keeps : PutKeeps Whole joined_note key seat 0 (slots.List list) still unchanged
-    same_keeps = list_keeps key seat has.before list seat.hand.note has.holds still refl placed same_may
-        (λ shown notes two sound at mine. parts_sound key seat has.before list seat.hand.note has.holds has.part (λ e is. has.end ∙ is) refl (λ left memory. (left, memory))
-        (λ e is. has.end ∙ EndIsSound.answered (sound.end has.before (get_of_at shown 0 (slots.List has.before) at)) seat.number seat.hand.note e (get_of_at notes seat.number seat.hand.note mine) is)
-        (λ f is. sym has.end ∙ is) shown notes sound at mine)
-
-  -- an end is kept, which the seat is answered
-  module _ (has : HoldsTheEnd seat list) where
-    abbrev told : SeatNote
-    told = answered_note seat.hand.note list
-
-    answered_may : ListMayBecome key seat list list told
-    answered_may c of h count views run is its =
-        let kept : h.list.kept ≡ Some (end_shown has.some.0) = ap (λ (l : ListShown). l.kept) is ∙ ap (option_map end_shown) has.some.1 in
-        let viewed : answered_with (view_of seat.hand.note) (end_shown has.some.0) ≡ view_of told = ap (λ (o : Option RunEnd). record (view_of seat.hand.note) { answered = option_map end_shown o }) (sym has.some.1) in
-        let now : RunningState (machine_of c (terms_of key)) (Terms.limits (terms_of key)) h run.0 run.1 run.2 count (slice_set views seat.number (answered_with (view_of seat.hand.note) (end_shown has.some.0))) =
-        record { stands = run.3.stands; crew = (answers_keep_crew (machine_of c (terms_of key)) (Terms.limits (terms_of key)) h run.0 run.1 run.2 count views seat.number (view_of seat.hand.note) (end_shown has.some.0) run.3.crew its placed kept).0 } in
-        ∣ (
-          run.0,
-          run.1,
-          run.2,
-          subst (λ (z : ListShown × View). RunningState (machine_of c (terms_of key)) (Terms.limits (terms_of key)) (record h { list = z.0 }) run.0 run.1 run.2 count (slice_set views seat.number z.1))
-              (λ k. (is k, viewed k)) now,
-        ) ∣₁
-
-    pub answered_keeps : PutKeeps Whole joined_note key seat 0 (slots.List list) (λ hand. answered_note hand.note list) unchanged
-    answered_keeps = list_keeps key seat list list told has.holds (λ hand. answered_note hand.note list) refl placed answered_may
-        (λ shown notes two sound at mine. parts_sound key seat list list told has.holds refl (λ e is. is) refl (λ left memory. (left, memory)) (λ e is. is) (λ f is. is) shown notes sound at mine)
-
   -- it names one worker more
   module _ (has : HoldsTheNamed key seat list) where
     abbrev named : SeatNote
@@ -98,7 +48,7 @@ module _ (key : HallKey) (seat : HallSeat) (placed : IsPlaced seat) (list : List
         let none_kept : h.list.kept ≡ None = ap (λ (l : ListShown). l.kept) is ∙ ap (option_map end_shown) has.no_end in
         let none_named : times has.worker h.list.crew ≡ 0 = ap (λ (l : ListShown). times has.worker l.crew) is ∙ has.new in
         let list_now : record h.list { crew = has.before.crew.items ++ has.worker ∷ [] } ≡ list_shown list =
-        ap (λ (l : ListShown). record l { crew = has.before.crew.items ++ has.worker ∷ [] }) is ∙ sym (shows_crew has.before list (has.before.crew.items ++ has.worker ∷ []) has.part has.crew has.end) in
+        ap (λ (l : ListShown). record l { crew = has.before.crew.items ++ has.worker ∷ [] }) is ∙ sym (shows_crew has.before list (has.before.crew.items ++ has.worker ∷ []) (option_map end_shown has.before.end) has.part has.crew (ap (option_map end_shown) has.end)) in
         let viewed : entering (view_of seat.hand.note) has.worker ≡ view_of named = ap (λ (o : Option ℕ). record (view_of seat.hand.note) { enters = o }) (sym last_is) in
         ∣ (
           run.0,
@@ -111,6 +61,6 @@ module _ (key : HallKey) (seat : HallSeat) (placed : IsPlaced seat) (list : List
 
     pub named_keeps : PutKeeps Whole joined_note key seat 0 (slots.List list) (λ hand. entering_note hand.note (last_of list.crew.items)) unchanged
     named_keeps = list_keeps key seat has.before list named has.holds (λ hand. entering_note hand.note (last_of list.crew.items)) refl placed named_may
-        (λ shown notes two sound at mine. parts_sound key seat has.before list named has.holds has.part (λ e is. has.end ∙ is) refl (λ left memory. (left, memory))
+        (λ shown notes two sound at mine. parts_sound key seat has.before list named has.part (λ e is. has.end ∙ is) refl (λ left memory. (left, memory))
         (λ e is. has.end ∙ EndIsSound.answered (sound.end has.before (get_of_at shown 0 (slots.List has.before) at)) seat.number seat.hand.note e (get_of_at notes seat.number seat.hand.note mine) is)
         (λ f is. sym has.end ∙ is) shown notes sound at mine)

@@ -1,10 +1,9 @@
 -- A seat gives a place to the seat of a worker who enters.
-use Rattle.std.proofs.Common.{◌≡◌, ◌≢◌, ℕ, ◌+◌, ◌-◌, ◌<◌, ◌≤◌, List, [], ◌∷◌, ◌++◌, map, length, set, inl, inr, refl, sym, ap, ◌∙◌, subst, arith}
+use Rattle.std.proofs.Common.{◌≡◌, ℕ, List, [], ◌∷◌, ◌++◌, map, set, inl, inr, refl, sym, ap, ◌∙◌, subst, arith}
 use Rattle.std.proofs.Math.Logic.{∥∥₁_map}
-use Rattle.std.specs.Prelude.{Option, None, Some, false, slice_get, slice_set}
+use Rattle.std.specs.Prelude.{Option, None, Some, slice_get, slice_set}
 use Rattle.std.specs.Option.{option_map}
-use Rattle.std.proofs.lemmas.Bool.{cases_eq}
-use Rattle.std.proofs.lemmas.Option.{same_Some, none-some}
+use Rattle.std.proofs.lemmas.Option.{none-some}
 use mathlib.Core.Option.{some}
 use mathlib.Core.List.{map-append}
 use lib.ListN.{get_elem?}
@@ -13,13 +12,8 @@ use Rattle.depth_first_run.specs.States.{Setting}
 use Rattle.deque_list.specs.declared.place.Place.{Place}
 use Rattle.deque_machine.specs.Terms.{Terms, machine_of}
 use Rattle.run_end.specs.declared.ends.RunEnd.{RunEnd}
-use Rattle.lawful_books.specs.Lists.{Each}
-use Rattle.lawful_books.proofs.Lists.{each_from}
+use Rattle.lawful_books.specs.Lists.{Among}
 use Rattle.period_books.proofs.Sorting.{get_before, get_of_more}
-use Rattle.period_table.proofs.Lists.{set_same, set_other}
-use Rattle.thread_frames.specs.declared.thread.Thread.{Thread}
-use Rattle.thread_frames.specs.Points.{IsAtPoint}
-use Rattle.thread_state.specs.Settings.{IsSettingOf}
 use Rattle.turn_table.specs.Law.{SplitKeeps}
 use Rattle.turn_table.specs.Notes.{SplitMay}
 use Rattle.turn_table.proofs.NoteLaws.{split_noted}
@@ -28,21 +22,22 @@ use Rattle.hall_law.specs.Values.{End}
 use Rattle.hall_law.specs.Views.{View, fresh}
 use Rattle.hall_law.specs.Seats.{giving}
 use Rattle.hall_law.specs.State.{RunningState, HallLaw}
-use Rattle.hall_law.specs.Points.{IsExcused, AreAtPoints, StaysAtPoints}
-use Rattle.hall_law.proofs.Points.{points_go_on, excuses_stay}
+use Rattle.hall_law.specs.Points.{IsExcused}
 use Rattle.hall_law.proofs.Quiet.{splitting_goes_on}
 use Rattle.hall_slots.specs.declared.list_slot.ListSlot.{ListSlot}
 use Rattle.hall_slots.specs.declared.seat_note.SeatNote.{SeatNote}
 use Rattle.hall_slots.specs.declared.slot.Slot.{Slot}
+use Rattle.hall_slots.specs.declared.slot.Slot.TheVariants as slots
 use Rattle.hall_slots.specs.Shown.{view_of, value_of, end_shown}
 use Rattle.hall_turns.specs.declared.key.HallKey.{HallKey}
-use Rattle.hall_turns.specs.Keys.{table_of, quota_of, terms_of}
+use Rattle.hall_turns.specs.Keys.{terms_of}
 use Rattle.hall_turns.specs.Law.{HallHolds, places_of, joined_note}
-use Rattle.hall_turns.specs.Sound.{threads_of, thread_that_waits, ThreadsAreAtPoints, EndIsSound, PartsAreSound}
+use Rattle.hall_turns.specs.Sound.{EndIsSound, PartsAreSound}
 use Rattle.hall_turns.specs.Steps.{hall_shown}
 use Rattle.hall_turns.specs.Takes.{HallSeat}
 use Rattle.hall_turns.proofs.Keeping.{Whole}
 use Rattle.hall_turns.proofs.Lone.{noted_at}
+use Rattle.hall_turns.proofs.Noting.{excused_set, answered_set, notes_sound}
 use Rattle.hall_turns.proofs.Reading.{get_of_at}
 use Rattle.hall_entering.specs.Entering.{giving_note, worker_note, GivesAPlace}
 
@@ -78,41 +73,20 @@ module _ (key : HallKey) (seat : HallSeat) (gives : GivesAPlace seat) where
     abbrev notes_now : List SeatNote
     notes_now = set notes seat.number left ++ right ∷ []
 
-    excused_now : (kept : Option End) (owner : Option ℕ) → IsExcused (map view_of notes) kept owner → IsExcused (map view_of notes_now) kept owner
-    excused_now kept owner excused = subst (λ (vs : List View). IsExcused vs kept owner) (sym (views_are notes))
-        (excused_longer (slice_set (map view_of notes) seat.number (giving (view_of seat.hand.note))) (fresh gives.worker 1) kept owner
-        (excuses_stay (map view_of notes) seat.number (view_of seat.hand.note) (giving (view_of seat.hand.note)) kept kept owner (noted_at notes seat.number seat.hand.note mine) refl (λ stays memory. (stays, memory)) (λ e is. is) excused))
+    excused_now : (list : ListSlot) → slice_get shown 0 ≡ Some (slots.List list) → (place : Place) → Among place list.part.order.places
+        → IsExcused (map view_of notes) (option_map end_shown list.end) place.owner → IsExcused (map view_of notes_now) (option_map end_shown list.end) place.owner
+    excused_now list first place there excused = let kept = option_map end_shown list.end in
+        subst (λ (vs : List View). IsExcused vs kept place.owner) (sym (map-append view_of (set notes seat.number left) (right ∷ [])))
+        (excused_longer (map view_of (set notes seat.number left)) (view_of right) kept place.owner
+        (excused_set notes seat.number seat.hand.note left mine kept place.owner refl (λ stays memory. (stays, memory)) excused))
 
-    points_now : (list : ListSlot) → ThreadsAreAtPoints key shown notes list → ThreadsAreAtPoints key shown notes_now list
-    points_now list were = points_go_on (IsAtPoint (table_of key) (quota_of key)) (map view_of notes) (map view_of notes_now) (option_map end_shown list.end) (option_map end_shown list.end) list.part.order.places list.part.order.places
-        (threads_of shown) (threads_of shown) (map thread_that_waits list.part.waiting.entries) (map thread_that_waits list.part.waiting.entries) were
-        (each_from (StaysAtPoints (IsAtPoint (table_of key) (quota_of key)) (map view_of notes) (map view_of notes_now) (option_map end_shown list.end) (option_map end_shown list.end) list.part.order.places (threads_of shown) (threads_of shown)) list.part.order.places
-        (λ (place : Place) there. inr (place.owner, there, refl, excused_now (option_map end_shown list.end) place.owner)))
-        (AreAtPoints.that_wait were)
-
-    answered_set : (list : ListSlot) → EndIsSound notes list → (i : ℕ) (m : SeatNote) (end : RunEnd) → slice_get (set notes seat.number left) i ≡ Some m → m.answered ≡ Some end → list.end ≡ Some end
-    answered_set list was i m end there is = elim (cases_eq i seat.number) [
-      | inl same ↦ was.answered seat.number seat.hand.note end (get_of_at notes seat.number seat.hand.note mine) (ap (λ (n : SeatNote). n.answered) (same_Some left m (sym (set_same notes seat.number left seat.hand.note (get_of_at notes seat.number seat.hand.note mine)) ∙ ap (slice_get (set notes seat.number left)) (sym same) ∙ there)) ∙ is)
-      | inr other ↦ was.answered i m end (sym (set_other notes seat.number i left other) ∙ there) is
-    ]
-
-    end_now : (list : ListSlot) → EndIsSound notes list → EndIsSound notes_now list
-    end_now list was = record {
-      answered = λ i m end there is. elim (get_of_more (set notes seat.number left) right m i there) [
-        | inl before ↦ answered_set list was i m end before is
-        | inr last ↦ absurd (none-some end (sym (ap (λ (n : SeatNote). n.answered) last.1) ∙ is))
-      ];
-      finished = was.finished;
-    }
-
-    parts_now : PartsAreSound key shown notes_now
-    parts_now = record {
-      pool = sound.pool;
-      list = sound.list;
-      points = λ list is. points_now list (sound.points list is);
-      lanes = sound.lanes;
-      end = λ list is. end_now list (sound.end list is);
-    }
+    answered_now : (list : ListSlot) → slice_get shown 0 ≡ Some (slots.List list) → (i : ℕ) (m : SeatNote) (end : RunEnd) → slice_get notes_now i ≡ Some m → m.answered ≡ Some end → list.end ≡ Some end
+    answered_now list first i m end there is = let was = EndIsSound.answered (sound.end list first) in
+        let its = get_of_at notes seat.number seat.hand.note mine in
+        elim (get_of_more (set notes seat.number left) right m i there) [
+          | inl before ↦ answered_set notes seat.number seat.hand.note left list.end its (λ e answers. was seat.number seat.hand.note e its answers) was i m end before is
+          | inr last ↦ absurd (none-some end (sym (ap (λ (n : SeatNote). n.answered) last.1) ∙ is))
+        ]
 
   split_may : SplitMay HallHolds key seat left right
   split_may shown count notes holds long shows mine = record {
@@ -120,7 +94,7 @@ module _ (key : HallKey) (seat : HallSeat) (gives : GivesAPlace seat) where
     sized = holds.sized;
     shaped = holds.shaped;
     state = λ c of. ∥∥₁_map (holds.state c of) (moved c shown count notes mine);
-    parts = parts_now shown notes holds.parts mine;
+    parts = notes_sound key shown notes (notes_now shown notes holds.parts mine) (excused_now shown notes holds.parts mine) (answered_now shown notes holds.parts mine) holds.parts;
   }
 
   pub split_keeps : SplitKeeps Whole joined_note key seat left right

@@ -1,18 +1,18 @@
 -- How a worker enters by a seat.
 use Rattle.std.specs.Prelude.{◌≡◌, ℕ, ◌-◌, ◌<◌, ◌≤◌, false, Option, None, Some, List, [], ◌∷◌, ◌++◌, Result, Ok, Err}
 use Rattle.std.specs.Option.{unwrap_or}
-use Rattle.run_end.specs.declared.ends.RunEnd.{RunEnd}
 use Rattle.lawful_books.specs.Lists.{times}
-use Rattle.turn_table.specs.Hands.{fresh, noted, took, gave}
+use Rattle.turn_table.specs.Hands.{fresh, noted, gave}
 use Rattle.turn_table.specs.Seats.{with_hand}
-use Rattle.turn_places.specs.Backs.{kept, unchanged}
+use Rattle.turn_places.specs.Backs.{unchanged}
 use Rattle.hall_law.specs.Numbers.{IsSmallestNumber}
 use Rattle.hall_slots.specs.declared.list_slot.ListSlot.{ListSlot}
 use Rattle.hall_slots.specs.declared.seat_note.SeatNote.{SeatNote}
 use Rattle.hall_slots.specs.declared.slot.Slot.{Slot}
 use Rattle.hall_slots.specs.declared.slot.Slot.TheVariants as slots
 use Rattle.hall_turns.specs.declared.key.HallKey.{HallKey}
-use Rattle.hall_turns.specs.Takes.{HallSeat, IsRefused, IsGiven}
+use Rattle.hall_turns.specs.Takes.{HallSeat, IsRefused}
+use Rattle.hall_seats.specs.Lists.{answered_note, Leaves, with_list}
 use Rattle.hall_entering.specs.declared.refused.EnterRefused.{EnterRefused}
 use Rattle.hall_entering.specs.declared.refused.EnterRefused.TheVariants.{Busy, Over, OutOfMemory}
 
@@ -29,10 +29,6 @@ entering_note note worker = record note { enters = worker }
 
 abbrev pub giving_note : SeatNote → SeatNote
 giving_note note = record note { places = note.places - 1; enters = None }
-
--- the note of a seat that was answered an end
-abbrev pub answered_note : SeatNote → ListSlot → SeatNote
-answered_note note list = record note { answered = list.end }
 
 -- the first note of a worker that entered
 abbrev pub worker_note : Option ℕ → SeatNote
@@ -61,20 +57,7 @@ last_in (slots.List list) = last_of list.crew.items
 last_in (slots.Pool pool) = None
 last_in (slots.Lane lane) = None
 
--- The seat holds the list alone, and this list shows the same, perhaps with other room;
-pub record HoldsTheSame (seat : HallSeat) (list : ListSlot) : Type 0 where
-  pub before : ListSlot
-  pub holds : seat.hand.holds ≡ (0, slots.List before) ∷ []
-  pub part : list.part ≡ before.part
-  pub crew : list.crew.items ≡ before.crew.items
-  pub end : list.end ≡ before.end
-
--- or it is this list, in which an end is kept;
-pub record HoldsTheEnd (seat : HallSeat) (list : ListSlot) : Type 0 where
-  pub holds : seat.hand.holds ≡ (0, slots.List list) ∷ []
-  pub some : (end : RunEnd) × (list.end ≡ Some end)
-
--- or this list names one worker more, whom it did not name, and no end is kept
+-- The seat holds the list alone, and this list names one worker more, whom it did not name, and no end is kept.
 pub record HoldsTheNamed (key : HallKey) (seat : HallSeat) (list : ListSlot) : Type 0 where
   pub before : ListSlot
   pub worker : ℕ
@@ -89,12 +72,6 @@ pub record HoldsTheNamed (key : HallKey) (seat : HallSeat) (list : ListSlot) : T
   pub nobody : seat.hand.note.enters ≡ None
 
 -- what the seat is after it put the list back
-abbrev pub PutsSame : HallSeat → HallSeat → Type 0
-PutsSame before after = IsGiven before 0 after
-
-abbrev pub PutsAnswered : HallSeat → ListSlot → HallSeat → Type 0
-PutsAnswered before list after = after ≡ with_hand before (gave (λ hand. answered_note hand.note list) unchanged before.hand 0)
-
 abbrev pub PutsNamed : HallSeat → ListSlot → HallSeat → Type 0
 PutsNamed before list after =
     after ≡ with_hand before (gave (λ hand. entering_note hand.note (last_of list.crew.items)) unchanged before.hand 0)
@@ -108,26 +85,17 @@ pub record GivesAPlace (seat : HallSeat) : Type 0 where
 abbrev pub PutsGiven : HallSeat → HallSeat → Type 0
 PutsGiven before after = after ≡ with_hand before (noted before.hand (giving_note before.hand.note))
 
--- a seat that held the list alone holds nothing, and notes this
-abbrev pub Leaves : HallSeat → SeatNote → HallSeat → Type 0
-Leaves before note after =
-    after ≡ with_hand before (record { seated = before.hand.seated; holds = []; note = note; looks = before.hand.looks })
-
 -- How it is with a seat that holds this list alone: a worker of the smallest free number entered, or an end is kept, or memory was wanting.
-abbrev pub EntersWith : HallKey → ListSlot → HallSeat → HallSeat → Result HallSeat EnterRefused → Type 0
+abbrev pub EntersWith : HallKey → ListSlot → HallSeat → HallSeat → Result (HallSeat × ℕ) EnterRefused → Type 0
 EntersWith key list before after (Ok made) =
-    (worker : ℕ) × IsSmallestNumber key.workers list.crew.items worker × (list.end ≡ None)
-    × Leaves before (giving_note before.hand.note) after × (made.hand ≡ fresh (worker_note (Some worker)))
+    IsSmallestNumber key.workers list.crew.items made.1 × (list.end ≡ None) × Leaves before (giving_note before.hand.note) after
+    × (made.0.hand ≡ fresh (worker_note (Some made.1)))
 EntersWith key list before after (Err (Busy held)) = ⊥
 EntersWith key list before after (Err (Over end)) = (list.end ≡ Some end) × Leaves before (answered_note before.hand.note list) after
 EntersWith key list before after (Err OutOfMemory) = (list.end ≡ None) × Leaves before before.hand.note after
 
--- the seat after it took the list
-abbrev pub with_list : HallSeat → ListSlot → HallSeat
-with_list seat list = with_hand seat (took kept seat.hand 0 (slots.List list))
-
 -- so it is with the list that a seat took, or it was refused the list
-abbrev pub HasEntered : HallKey → HallSeat → HallSeat → Result HallSeat EnterRefused → Type 0
+abbrev pub HasEntered : HallKey → HallSeat → HallSeat → Result (HallSeat × ℕ) EnterRefused → Type 0
 HasEntered key before after (Ok made) = (list : ListSlot) × EntersWith key list (with_list before list) after (Ok made)
 HasEntered key before after (Err (Busy held)) = IsRefused before 0 held after
 HasEntered key before after (Err (Over end)) = (list : ListSlot) × EntersWith key list (with_list before list) after (Err (Over end))

@@ -6,10 +6,11 @@ ghost use Rattle.hall_slots.specs.declared.slot.Slot.TheVariants as slots;
 ghost use Rattle.hall_turns.specs.Takes.{MeetsLaw};
 ghost use Rattle.hall_entering.specs.Entering.{EntersWith, HasEntered, MayEnter};
 
-use crate::lists::{end_of, enter_in};
-use crate::puts::{put_answered, put_named, put_same, split};
+use crate::lists::enter_in;
+use crate::puts::{put_named, split};
 use crate::refused::EnterRefused;
 use boxed::Boxed;
+use hall_seats::{end_of, put_answered, put_same};
 use hall_slots::ListSlot;
 use hall_turns::{HallPlace, HallRow, take_list};
 
@@ -19,20 +20,20 @@ fn enter_open(
     seat: &mut HallPlace,
     list: Boxed<ListSlot>,
     workers: u32,
-) -> Result<HallPlace, EnterRefused>
+) -> Result<(HallPlace, u32), EnterRefused>
     requires here { IsSeatOf row.now seat.old }
     requires may { MayEnter (key_of row.now) seat.old workers }
     requires holds { seat.old.hand.holds ≡ (0, slots.List list) ∷ [] }
     requires meets { MeetsLaw (key_of row.now) seat.old }
     requires no_end { list.end ≡ None }
     ensures seat { EntersWith (key_of row.now) list seat.old seat.new result }
-    ensures made { IfOk result (λ made. IsSeatOf row.now made) }
+    ensures made { IfOk result (λ made. IsSeatOf row.now made.0) }
 {
     let mut list = list;
     match enter_in(&mut list, workers) {
-        Ok(_) => {
+        Ok(worker) => {
             put_named(row, seat, list);
-            Ok(split(row, seat))
+            Ok((split(row, seat), worker))
         }
         Err(_) => {
             put_same(row, seat, list);
@@ -47,13 +48,13 @@ fn enter_with(
     seat: &mut HallPlace,
     list: Boxed<ListSlot>,
     workers: u32,
-) -> Result<HallPlace, EnterRefused>
+) -> Result<(HallPlace, u32), EnterRefused>
     requires here { IsSeatOf row.now seat.old }
     requires may { MayEnter (key_of row.now) seat.old workers }
     requires holds { seat.old.hand.holds ≡ (0, slots.List list) ∷ [] }
     requires meets { MeetsLaw (key_of row.now) seat.old }
     ensures seat { EntersWith (key_of row.now) list seat.old seat.new result }
-    ensures made { IfOk result (λ made. IsSeatOf row.now made) }
+    ensures made { IfOk result (λ made. IsSeatOf row.now made.0) }
 {
     match end_of(&list) {
         Some(end) => {
@@ -64,17 +65,21 @@ fn enter_with(
     }
 }
 
-/// Lets a worker enter by a seat that has two places, of which it gives one to the worker's new seat.
+/// Lets a worker enter by a seat that has two places, of which it gives one to the worker's new seat. Answers this seat and the worker.
 ///
 /// # Errors
 ///
 /// Another seat holds the list, an end is kept there, or there is not enough memory.
-pub fn enter(row: &HallRow, seat: &mut HallPlace, workers: u32) -> Result<HallPlace, EnterRefused>
+pub fn enter(
+    row: &HallRow,
+    seat: &mut HallPlace,
+    workers: u32,
+) -> Result<(HallPlace, u32), EnterRefused>
     requires here { IsSeatOf row.now seat.old }
     requires may { MayEnter (key_of row.now) seat.old workers }
     requires free { seat.old.hand.holds ≡ [] }
     ensures seat { HasEntered (key_of row.now) seat.old seat.new result }
-    ensures made { IfOk result (λ made. IsSeatOf row.now made) }
+    ensures made { IfOk result (λ made. IsSeatOf row.now made.0) }
 {
     match take_list(row, seat) {
         Ok(list) => enter_with(row, seat, list, workers),

@@ -1,19 +1,11 @@
-//! What is read and written in the list.
+//! What is written in the list.
 
 ghost use Rattle.std.specs.Prelude.{◌≡◌, ◌∷◌, ◌++◌, [], ℕ, IfOk, OnErr};
 ghost use Rattle.hall_law.specs.Numbers.{IsSmallestNumber};
 
 use boxed::Boxed;
-use run_end::RunEnd;
 use hall_slots::ListSlot;
 use std::alloc::AllocError;
-
-/// The end that is kept, if any.
-pub(crate) fn end_of(list: &Boxed<ListSlot>) -> Option<RunEnd>
-    ensures { result ≡ list.now.end }
-{
-    list.get().end
-}
 
 /// Lets a worker in, under the smallest number that is free.
 ///

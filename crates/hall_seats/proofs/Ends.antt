@@ -1,10 +1,9 @@
 -- The parts stay sound where the list keeps an end and a seat notes something else.
-use Rattle.std.proofs.Common.{◌≡◌, ◌≢◌, suc-ne-zero, ℕ, zero, suc, ◌<◌, ◌≤◌, List, [], ◌∷◌, map, length, set, inl, inr, refl, sym, ap, ◌∙◌, subst, arith}
-use Rattle.std.specs.Prelude.{Option, None, Some, false, slice_get, slice_set}
+use Rattle.std.proofs.Common.{◌≡◌, ◌≢◌, suc-ne-zero, ℕ, suc, List, map, set, inr, refl, sym, ap, ◌∙◌, subst}
+use Rattle.std.specs.Prelude.{Option, None, Some, false, slice_get}
 use Rattle.std.specs.Option.{option_map}
-use Rattle.std.proofs.lemmas.Bool.{cases_eq}
 use Rattle.std.proofs.lemmas.Option.{same_Some, none-some}
-use mathlib.Core.Option.{some, some-injective, some-ne-none}
+use mathlib.Core.Option.{some}
 use lib.ListN.{get_elem?}
 use lib.Seq.{map-set}
 use Rattle.thread_frames.specs.Kept.{WaitsUnder, IsUnderItsId}
@@ -34,22 +33,22 @@ use Rattle.hall_slots.specs.declared.seat_note.SeatNote.{SeatNote}
 use Rattle.hall_slots.specs.Shown.{view_of, end_shown}
 use Rattle.hall_turns.specs.declared.key.HallKey.{HallKey}
 use Rattle.hall_turns.specs.Keys.{table_of, quota_of}
-use Rattle.hall_turns.specs.Sound.{threads_in, threads_of, IsLaneOf, thread_that_waits, PoolIsSound, ListIsSound, ThreadsAreAtPoints, LanesAreInUse, EndIsSound, PartsAreSound}
+use Rattle.hall_turns.specs.Sound.{threads_in, threads_of, IsLaneOf, thread_that_waits, ListIsSound, ThreadsAreAtPoints, LanesAreInUse, EndIsSound, PartsAreSound}
 use Rattle.hall_turns.specs.Takes.{HallSeat}
 use Rattle.hall_turns.proofs.Reading.{IfList, get_of_at}
 use Rattle.hall_turns.proofs.Lone.{noted_at}
-use Rattle.hall_turns.proofs.Putting.{PartsStay}
+use Rattle.hall_turns.proofs.Noting.{answered_set}
 
 -- what is kept stays shown
-kept_more : (o now : Option RunEnd) → ((end : RunEnd) → o ≡ Some end → now ≡ Some end) → (shown : End) → option_map end_shown o ≡ Some shown → option_map end_shown now ≡ Some shown
+pub kept_more : (o now : Option RunEnd) → ((end : RunEnd) → o ≡ Some end → now ≡ Some end) → (shown : End) → option_map end_shown o ≡ Some shown → option_map end_shown now ≡ Some shown
 kept_more None now keeps shown is = absurd (none-some shown is)
 kept_more (Some end) now keeps shown is = ap (option_map end_shown) (keeps end refl) ∙ is
 
-module _ (key : HallKey) (seat : HallSeat) (before after : ListSlot) (note : SeatNote) (held : seat.hand.holds ≡ (0, slots.List before) ∷ [])
-    (part : after.part ≡ before.part) (keeps : (end : RunEnd) → before.end ≡ Some end → after.end ≡ Some end) (worker : note.worker ≡ seat.hand.note.worker)
-    (memory : seat.hand.note.left ≡ false → View.found (view_of seat.hand.note) ≡ Some no_memory → (note.left ≡ false) × (View.found (view_of note) ≡ Some no_memory))
+module _ (key : HallKey) (seat : HallSeat) (before after : ListSlot) (note : SeatNote) (part : after.part ≡ before.part) (keeps : (end : RunEnd) → before.end ≡ Some end → after.end ≡ Some end)
     (answered : (end : RunEnd) → note.answered ≡ Some end → after.end ≡ Some end) (finished : (finish : Finish) → after.end ≡ Some (Finished finish) → before.end ≡ Some (Finished finish))
-    (shown : List Slot) (notes : List SeatNote) (sound : PartsAreSound key shown notes) (at : get_elem? shown 0 ≡ some (slots.List before)) (mine : get_elem? notes seat.number ≡ some seat.hand.note) where
+    (shown : List Slot) (notes : List SeatNote) (sound : PartsAreSound key shown notes) (at : get_elem? shown 0 ≡ some (slots.List before)) (mine : get_elem? notes seat.number ≡ some seat.hand.note)
+    (excused : (place : Place) → Among place before.part.order.places → IsExcused (map view_of notes) (option_map end_shown before.end) place.owner
+    → IsExcused (map view_of (set notes seat.number note)) (option_map end_shown after.end) place.owner) where
   abbrev shown_now : List Slot
   shown_now = set shown 0 (slots.List after)
 
@@ -76,16 +75,12 @@ module _ (key : HallKey) (seat : HallSeat) (before after : ListSlot) (note : Sea
   abbrev At : Thread → Type 0
   At = IsAtPoint (table_of key) (quota_of key)
 
-  excused_now : (owner : Option ℕ) → IsExcused (map view_of notes) (option_map end_shown before.end) owner → IsExcused (map view_of notes_now) (option_map end_shown after.end) owner
-  excused_now owner excused = subst (λ (vs : List View). IsExcused vs (option_map end_shown after.end) owner) (sym (map-set view_of notes seat.number note))
-      (excuses_stay (map view_of notes) seat.number (view_of seat.hand.note) (view_of note) (option_map end_shown before.end) (option_map end_shown after.end) owner
-      (noted_at notes seat.number seat.hand.note mine) worker memory (kept_more before.end after.end keeps) excused)
-
   points_sound : ThreadsAreAtPoints key shown_now notes_now after
   points_sound = points_go_on At (map view_of notes) (map view_of notes_now) (option_map end_shown before.end) (option_map end_shown after.end) before.part.order.places after.part.order.places
       (threads_of shown) (threads_of shown_now) (map thread_that_waits before.part.waiting.entries) (map thread_that_waits after.part.waiting.entries) (sound.points before first)
       (each_from (StaysAtPoints At (map view_of notes) (map view_of notes_now) (option_map end_shown before.end) (option_map end_shown after.end) before.part.order.places (threads_of shown) (threads_of shown_now)) after.part.order.places
-      (λ place there. inr (place.owner, subst (λ (p : ListPart Thread Ended). Among place p.order.places) part there, ap threads_in (later_same (suc place.id.0)), excused_now place.owner)))
+      (λ place there. let was = subst (λ (p : ListPart Thread Ended). Among place p.order.places) part there in
+      inr (place.owner, was, ap threads_in (later_same (suc place.id.0)), excused place was)))
       (subst (λ (p : ListPart Thread Ended). Each At (map thread_that_waits p.waiting.entries)) (sym part) (AreAtPoints.that_wait (sound.points before first)))
 
   lanes_sound : LanesAreInUse shown_now after
@@ -97,23 +92,32 @@ module _ (key : HallKey) (seat : HallSeat) (before after : ListSlot) (note : Sea
         (subst (λ (p : ListPart Thread Ended). Each (λ (place : Place). (lane : LaneSlot) → place.owner ≡ None → IsLaneOf shown place.id lane → lane.running ≡ None) p.order.places) (sym part) s.unowned);
   }
 
-  answered_now : (i : ℕ) (m : SeatNote) (end : RunEnd) → slice_get notes_now i ≡ Some m → m.answered ≡ Some end → after.end ≡ Some end
-  answered_now i m end there is = elim (cases_eq i seat.number) [
-    | inl same ↦ answered end (ap (λ (n : SeatNote). n.answered) (same_Some note m (sym (set_same notes seat.number note seat.hand.note (get_of_at notes seat.number seat.hand.note mine)) ∙ ap (slice_get notes_now) (sym same) ∙ there)) ∙ is)
-    | inr other ↦ keeps end (EndIsSound.answered (sound.end before first) i m end (sym (set_other notes seat.number i note other) ∙ there) is)
-  ]
-
   end_sound : EndIsSound notes_now after
   end_sound = record {
-    answered = answered_now;
+    answered = answered_set notes seat.number seat.hand.note note after.end (get_of_at notes seat.number seat.hand.note mine) answered (λ i m end there is. keeps end (EndIsSound.answered (sound.end before first) i m end there is));
     finished = λ finish is. ap (λ (p : ListPart Thread Ended). end_of_root (kept_under p.results root)) part ∙ EndIsSound.finished (sound.end before first) finish (finished finish is);
   }
 
-  pub parts_sound : PartsAreSound key shown_now notes_now
-  parts_sound = record {
+  pub sound_by_excuses : PartsAreSound key shown_now notes_now
+  sound_by_excuses = record {
     pool = λ pool is. sound.pool pool (sym (later_same 0) ∙ is);
     list = λ list is. subst (IfList (ListIsSound key)) (same_Some (slots.List after) (slots.List list) (sym first_now ∙ is)) list_sound;
     points = λ list is. subst (IfList (ThreadsAreAtPoints key shown_now notes_now)) (same_Some (slots.List after) (slots.List list) (sym first_now ∙ is)) points_sound;
     lanes = λ list is. subst (IfList (LanesAreInUse shown_now)) (same_Some (slots.List after) (slots.List list) (sym first_now ∙ is)) lanes_sound;
     end = λ list is. subst (IfList (EndIsSound notes_now)) (same_Some (slots.List after) (slots.List list) (sym first_now ∙ is)) end_sound;
   }
+
+-- So it is where the seat notes its worker, and its want of memory if it noted one.
+module _ (key : HallKey) (seat : HallSeat) (before after : ListSlot) (note : SeatNote) (part : after.part ≡ before.part) (keeps : (end : RunEnd) → before.end ≡ Some end → after.end ≡ Some end)
+    (worker : note.worker ≡ seat.hand.note.worker)
+    (memory : seat.hand.note.left ≡ false → View.found (view_of seat.hand.note) ≡ Some no_memory → (note.left ≡ false) × (View.found (view_of note) ≡ Some no_memory))
+    (answered : (end : RunEnd) → note.answered ≡ Some end → after.end ≡ Some end) (finished : (finish : Finish) → after.end ≡ Some (Finished finish) → before.end ≡ Some (Finished finish))
+    (shown : List Slot) (notes : List SeatNote) (sound : PartsAreSound key shown notes) (at : get_elem? shown 0 ≡ some (slots.List before)) (mine : get_elem? notes seat.number ≡ some seat.hand.note) where
+  excused_now : (place : Place) → Among place before.part.order.places → IsExcused (map view_of notes) (option_map end_shown before.end) place.owner
+      → IsExcused (map view_of (set notes seat.number note)) (option_map end_shown after.end) place.owner
+  excused_now place there excused = subst (λ (vs : List View). IsExcused vs (option_map end_shown after.end) place.owner) (sym (map-set view_of notes seat.number note))
+      (excuses_stay (map view_of notes) seat.number (view_of seat.hand.note) (view_of note) (option_map end_shown before.end) (option_map end_shown after.end) place.owner
+      (noted_at notes seat.number seat.hand.note mine) worker memory (kept_more before.end after.end keeps) excused)
+
+  pub parts_sound : PartsAreSound key (set shown 0 (slots.List after)) (set notes seat.number note)
+  parts_sound = sound_by_excuses key seat before after note part keeps answered finished shown notes sound at mine excused_now

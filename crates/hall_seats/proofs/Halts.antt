@@ -1,8 +1,8 @@
 -- A list in which a stop is kept leaves a hall in a running state.
-use Rattle.std.proofs.Common.{◌≡◌, ℕ, ◌<◌, List, [], ◌∷◌, ◌++◌, map, set, refl, sym, ap, ◌∙◌, subst}
-use Rattle.std.specs.Prelude.{Option, None, Some, false, slice_get, slice_set}
+use Rattle.std.proofs.Common.{◌≡◌, ℕ, List, [], ◌∷◌, ◌++◌, refl, sym, ap, ◌∙◌, subst}
+use Rattle.std.specs.Prelude.{Option, None, Some, slice_set}
 use Rattle.std.specs.Option.{option_map}
-use Rattle.std.proofs.lemmas.Option.{same_Some, none-some}
+use Rattle.std.proofs.lemmas.Option.{same_Some}
 use mathlib.Core.List.{map-append}
 use Rattle.run_end.specs.declared.stop.Stop.{Stop}
 use Rattle.dag_order.specs.declared.finish.Finish.{Finish}
@@ -16,10 +16,9 @@ use Rattle.turn_table.specs.Seats.{with_hand}
 use Rattle.turn_table.proofs.Left.{left_of_one}
 use Rattle.turn_places.specs.Backs.{unchanged}
 use Rattle.hall_law.specs.Values.{Hall, ListShown, End}
-use Rattle.hall_law.specs.Steps.{halted}
 use Rattle.hall_law.specs.Views.{View}
-use Rattle.hall_law.specs.Seats.{with_crew, end_with, halted_with}
-use Rattle.hall_law.specs.State.{RunningState, IsIn}
+use Rattle.hall_law.specs.Seats.{end_with, halted_with}
+use Rattle.hall_law.specs.State.{RunningState}
 use Rattle.hall_law.proofs.Quiet.{halting_goes_on}
 use Rattle.hall_slots.specs.declared.event.Event.TheVariants.{Halted}
 use Rattle.hall_slots.specs.declared.list_slot.ListSlot.{ListSlot}
@@ -31,7 +30,7 @@ use Rattle.hall_slots.specs.Shown.{list_shown, view_of, stop_shown, end_shown, t
 use Rattle.hall_turns.specs.declared.key.HallKey.{HallKey}
 use Rattle.hall_turns.specs.Keys.{terms_of}
 use Rattle.hall_turns.specs.Law.{joined_note}
-use Rattle.hall_turns.specs.Steps.{IsRunning, ListMayBecome}
+use Rattle.hall_turns.specs.Steps.{ListMayBecome}
 use Rattle.hall_turns.specs.Takes.{HallSeat, IsTaken}
 use Rattle.hall_turns.proofs.Keeping.{Whole}
 use Rattle.hall_turns.proofs.Putting.{list_keeps}
@@ -39,15 +38,15 @@ use Rattle.hall_seats.specs.Halting.{IsInHall, halted_note, HoldsTheKept, PutsHa
 use Rattle.hall_seats.proofs.Ends.{parts_sound}
 
 -- the end that is kept now, as it is shown
-shown_end : (o : Option RunEnd) (stop : Stop) → end_shown (end_kept o stop) ≡ end_with (option_map end_shown o) (stop_shown stop)
+pub shown_end : (o : Option RunEnd) (stop : Stop) → end_shown (end_kept o stop) ≡ end_with (option_map end_shown o) (stop_shown stop)
 shown_end None stop = refl
 shown_end (Some end) stop = refl
 
 -- an end that was kept is the one that is kept, and a finish was kept before
-kept_before : (o : Option RunEnd) (stop : Stop) (end : RunEnd) → o ≡ Some end → Some (end_kept o stop) ≡ Some end
+pub kept_before : (o : Option RunEnd) (stop : Stop) (end : RunEnd) → o ≡ Some end → Some (end_kept o stop) ≡ Some end
 kept_before o stop end is = ap (λ (x : Option RunEnd). Some (end_kept x stop)) is
 
-finished_before : (o : Option RunEnd) (stop : Stop) (finish : Finish) → Some (end_kept o stop) ≡ Some (Finished finish) → o ≡ Some (Finished finish)
+pub finished_before : (o : Option RunEnd) (stop : Stop) (finish : Finish) → Some (end_kept o stop) ≡ Some (Finished finish) → o ≡ Some (Finished finish)
 finished_before None stop finish is = absurd (ends_differ (same_Some (Stopped stop) (Finished finish) is))
   where
     if_stopped : RunEnd → Type 0
@@ -98,7 +97,7 @@ module _ (key : HallKey) (seat : HallSeat) (here : IsInHall seat) (list : ListSl
   pub halt_keeps : PutKeeps Whole joined_note key seat 0 (slots.List list) (λ hand. halted_note hand.note list.end) unchanged
   halt_keeps = subst (λ (l : ListSlot). PutKeeps Whole joined_note key seat 0 (slots.List l) (λ hand. halted_note hand.note l.end) unchanged) (sym has.is)
       (list_keeps key seat has.before kept note has.holds (λ hand. halted_note hand.note (Some end)) refl here.placed may_become
-      (λ shown notes two sound at mine. parts_sound key seat has.before kept note has.holds refl (kept_before has.before.end stop) refl (λ left memory. (left, memory)) (λ e is. is) (finished_before has.before.end stop) shown notes sound at mine))
+      (λ shown notes two sound at mine. parts_sound key seat has.before kept note refl (kept_before has.before.end stop) refl (λ left memory. (left, memory)) (λ e is. is) (finished_before has.before.end stop) shown notes sound at mine))
 
 -- a seat that took the list and kept its stop there holds this list
 pub kept_held : (before after : HallSeat) (list now : ListSlot) (stop : Stop) (end : RunEnd) → IsTaken before 0 (slots.List list) after → before.hand.holds ≡ [] → before.hand.note.found ≡ Some stop

@@ -1,5 +1,5 @@
 -- What a seat is that has kept the stop which it found.
-use Rattle.std.specs.Prelude.{◌≡◌, ℕ, ◌<◌, false, Option, None, Some, List, [], ◌∷◌, ◌++◌}
+use Rattle.std.specs.Prelude.{◌≡◌, ◌<◌, false, Option, None, Some, List, [], ◌∷◌, ◌++◌}
 use Rattle.run_end.specs.declared.stop.Stop.{Stop}
 use Rattle.run_end.specs.declared.ends.RunEnd.{RunEnd}
 use Rattle.turn_table.specs.declared.look.Look.TheVariants.{Took}

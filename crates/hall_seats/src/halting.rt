@@ -1,20 +1,20 @@
 //! How a seat keeps the stop that it found.
 
-ghost use Rattle.std.specs.Prelude.{◌≡◌, [], Some, IsOk, MatchResult};
+ghost use Rattle.std.specs.Prelude.{◌≡◌, [], Some, IfOk, IsOk, MatchResult};
 ghost use Rattle.turn_table.specs.Tables.{key_of, IsSeatOf};
 ghost use Rattle.hall_slots.specs.Lists.{end_kept};
-ghost use Rattle.hall_turns.specs.Takes.{HasAllPlaces, IsRefused};
+ghost use Rattle.hall_turns.specs.Takes.{HasAllPlaces, IsRefused, MeetsLaw};
 ghost use Rattle.hall_seats.specs.Halting.{HasHalted, HoldsTheKept, IsInHall, PutsHalted};
 
 use boxed::Boxed;
-use run_end::{RunEnd, Stop};
 use hall_slots::{ListSlot, Slot};
 use hall_turns::{HallPlace, HallRow, take_list};
+use run_end::{RunEnd, Stop};
 use std::marker::Brand;
 use turn_table::Held;
 
 /// Keeps a stop in the list, unless an end is kept already. Returns the end that is kept then.
-fn keep_in(list: &mut Boxed<ListSlot>, stop: Stop) -> RunEnd
+pub fn keep_in(list: &mut Boxed<ListSlot>, stop: Stop) -> RunEnd
     ensures kept { result ≡ end_kept list.old.end stop }
     ensures list { list.new ≡ record list.old { end = Some result } }
 {
@@ -26,7 +26,8 @@ fn put_halted(row: &HallRow, seat: &mut HallPlace, list: Boxed<ListSlot>)
     requires here { IsSeatOf row.now seat.old }
     requires is_in { IsInHall seat.old }
     requires holds { HoldsTheKept seat.old list }
-    ensures { PutsHalted seat.old list seat.new }
+    ensures seat { PutsHalted seat.old list seat.new }
+    ensures meets { MeetsLaw (key_of row.now) seat.new }
 {
     row.put_back::<Brand>(seat, 0, Slot::List(list));
 }
@@ -42,6 +43,7 @@ pub fn halt(row: &HallRow, seat: &mut HallPlace, stop: Stop) -> Result<RunEnd, H
     requires found { seat.old.hand.note.found ≡ Some stop }
     requires free { seat.old.hand.holds ≡ [] }
     ensures seat { MatchResult result (λ end. HasHalted seat.old stop end seat.new) (λ held. IsRefused seat.old 0 held seat.new) }
+    ensures meets { IfOk result (λ _. MeetsLaw (key_of row.now) seat.new) }
     ensures lone { HasAllPlaces (key_of row.now) seat.old → IsOk result }
 {
     let mut list = take_list(row, seat)?;

@@ -4,3 +4,4 @@ pub mod Lone
 pub mod Pairing
 pub mod Written
 pub mod Putting
+pub mod Noting

@@ -1,4 +1,4 @@
-use Rattle.std.proofs.Common.{arith, ◌<◌}
+use Rattle.std.proofs.Common.{arith}
 use Rattle.turn_table.specs.Tables.{key_of}
 use Rattle.hall_entering.proofs.Listed.{named_keeps}
 use Rattle.hall_entering.proofs.puts.put_named.Goals as goal

@@ -1,0 +1,6 @@
+-- The seat has the places of both.
+use Rattle.hall_leaving.specs.Leaving.{with_places}
+use Rattle.hall_leaving.proofs.joining.join.Given as goal
+
+abbrev pub ghosts-join_seat : goal.ghosts-join_seat
+ghosts-join_seat a = record { note = λ hand other. with_places hand.note other.note }

@@ -1,0 +1,9 @@
+use Rattle.hall_leaving.proofs.Left.{gone_of}
+use Rattle.hall_leaving.proofs.Joined.{joined_of}
+use Rattle.hall_leaving.proofs.leaving.leave.Goals as goal
+
+pub join-requires-clause-gone : goal.join-requires-clause-gone
+join-requires-clause-gone c = gone_of c.args.seat c.leave_list.new.seat c.requires.may.is_idle c.in-Ok.ensures.seat
+
+pub returns-in-Ok-clause-seat : goal.returns-in-Ok-clause-seat
+returns-in-Ok-clause-seat c = joined_of c.args.seat c.leave_list.new.seat c.args.into.now c.join.new.into c.in-Ok.ensures.seat c.join.ensures

@@ -1,0 +1,5 @@
+mod Robbed
+mod Over
+mod PutOver
+mod Beside
+mod PutBeside
