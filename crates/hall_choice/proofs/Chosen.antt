@@ -17,11 +17,11 @@ use Rattle.hall_law.specs.Values.{LaneShown, of_lane}
 use Rattle.hall_law.specs.Writing.{lane_slot}
 use Rattle.hall_law.specs.Receipts as shown
 use Rattle.hall_law.specs.Receipts.{SawLane, ShowsReady, ShowsUnready, ShowsVictim, ShowsNothing}
-use Rattle.hall_slots.specs.declared.lane_slot.LaneSlot.{LaneSlot}
-use Rattle.hall_slots.specs.declared.list_slot.ListSlot.{ListSlot}
-use Rattle.hall_slots.specs.declared.slot.Slot.{Slot}
-use Rattle.hall_slots.specs.declared.slot.Slot.TheVariants as slots
-use Rattle.hall_slots.specs.Shown.{lane_shown}
+use Rattle.hall_turns.specs.declared.lane_slot.LaneSlot.{LaneSlot}
+use Rattle.hall_turns.specs.declared.list_slot.ListSlot.{ListSlot}
+use Rattle.hall_turns.specs.declared.slot.Slot.{Slot}
+use Rattle.hall_turns.specs.declared.slot.Slot.TheVariants as slots
+use Rattle.hall_turns.specs.Shown.{lane_shown}
 use Rattle.hall_turns.specs.Takes.{HallSeat}
 use Rattle.hall_choice.specs.Choosing.{look_shown, IsToldMore, IsReadyBy, took_lane, HasTried, NoneReady, HasVictim}
 

@@ -14,10 +14,10 @@ use Rattle.turn_table.specs.Notes.{notes}
 use Rattle.hall_law.specs.Values.{Hall, ListShown, lane_in}
 use Rattle.hall_law.specs.Standing.{HasLane}
 use Rattle.hall_law.specs.State.{HallLaw}
-use Rattle.hall_slots.specs.declared.list_slot.ListSlot.{ListSlot}
-use Rattle.hall_slots.specs.declared.slot.Slot.{Slot}
-use Rattle.hall_slots.specs.declared.slot.Slot.TheVariants as slots
-use Rattle.hall_slots.specs.Shown.{value_of, view_of}
+use Rattle.hall_turns.specs.declared.list_slot.ListSlot.{ListSlot}
+use Rattle.hall_turns.specs.declared.slot.Slot.{Slot}
+use Rattle.hall_turns.specs.declared.slot.Slot.TheVariants as slots
+use Rattle.hall_turns.specs.Shown.{value_of, view_of}
 use Rattle.hall_turns.specs.declared.key.HallKey.{HallKey}
 use Rattle.hall_turns.specs.Keys.{terms_of}
 use Rattle.hall_turns.specs.Law.{joined_note}
@@ -36,7 +36,7 @@ module _ (key : HallKey) (seat : HallSeat) (list : ListSlot) (holds : seat.hand.
   st : Stands Whole joined_note key seat meets.0 meets.1 meets.2
   st = meets.3
 
-  shown_list : Hall.list (hall_shown meets.0) ≡ Rattle.hall_slots.specs.Shown.list_shown list
+  shown_list : Hall.list (hall_shown meets.0) ≡ Rattle.hall_turns.specs.Shown.list_shown list
   shown_list = list_at meets.0 list (subst (λ (xs : List (ℕ × Slot)). Shows meets.0 xs) holds (st.fits.shows seat.number seat.hand st.mine)).0
 
   inside_by : (c : Setting) → HallLaw (machine_of c (terms_of key)) (Terms.limits (terms_of key)) (map value_of meets.0) meets.1 (map view_of (notes meets.2)) → (at : ℕ) (place : Place)

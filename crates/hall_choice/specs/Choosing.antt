@@ -8,11 +8,11 @@ use Rattle.turn_table.specs.Seats.{with_hand}
 use Rattle.turn_places.specs.Backs.{kept, told_more}
 use Rattle.hall_law.specs.Receipts as shown
 use Rattle.hall_law.specs.Receipts.{ShowsUnready, ShowsVictim, ShowsNothing}
-use Rattle.hall_slots.specs.declared.lane_slot.LaneSlot.{LaneSlot}
-use Rattle.hall_slots.specs.declared.list_slot.ListSlot.{ListSlot}
-use Rattle.hall_slots.specs.declared.slot.Slot.{Slot}
-use Rattle.hall_slots.specs.declared.slot.Slot.TheVariants as slots
-use Rattle.hall_slots.specs.Shown.{value_of}
+use Rattle.hall_turns.specs.declared.lane_slot.LaneSlot.{LaneSlot}
+use Rattle.hall_turns.specs.declared.list_slot.ListSlot.{ListSlot}
+use Rattle.hall_turns.specs.declared.slot.Slot.{Slot}
+use Rattle.hall_turns.specs.declared.slot.Slot.TheVariants as slots
+use Rattle.hall_turns.specs.Shown.{value_of}
 use Rattle.hall_turns.specs.Takes.{HallSeat, IsTaken}
 
 -- what an answer shows

@@ -3,13 +3,13 @@
 ghost use Rattle.std.specs.Prelude.{◌≡◌, ◌+◌, ◌%◌, ◌<◌, ◌≤◌, ◌⊎◌, ◌↔◌, ◌∷◌, [], None, IsTrue, IfOk, IsOk, MatchResult, length};
 ghost use Rattle.turn_table.specs.Tables.{key_of, slot_count, IsSeatOf};
 ghost use Rattle.turn_places.specs.Backs.{IsBack};
-ghost use Rattle.hall_slots.specs.declared.slot.Slot.TheVariants as slots;
+ghost use Rattle.hall_turns.specs.declared.slot.Slot.TheVariants as slots;
 ghost use Rattle.hall_turns.specs.Takes.{HasAllPlaces, IsPlaced, IsRefused, MeetsLaw};
 ghost use Rattle.hall_choice.specs.Choosing.{HasChosen, HasTried, HoldsTheList, IsReadyBy};
 
 use boxed::Boxed;
 use deque_list::Place;
-use hall_slots::{LaneSlot, ListSlot};
+use hall_turns::{LaneSlot, ListSlot};
 use hall_turns::{HallPlace, HallRow, give_lane_back, take_lane};
 use turn_table::Held;
 

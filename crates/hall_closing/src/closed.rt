@@ -1,5 +1,5 @@
 use boxed::Boxed;
-use hall_slots::{ListSlot, PoolSlot};
+use hall_turns::{ListSlot, PoolSlot};
 use run_end::RunEnd;
 
 /// What comes out of a hall that is closed.

@@ -2,15 +2,15 @@
 
 ghost use Rattle.std.specs.Prelude.{◌≡◌, ◌<◌, [], ◌∷◌, List, None, IfErr, IfOk};
 ghost use Rattle.turn_table.specs.Tables.{key_of, IsSeatOf};
-ghost use Rattle.hall_slots.specs.declared.slot.Slot.{Slot as AnySlot};
-ghost use Rattle.hall_slots.specs.declared.slot.Slot.TheVariants as slots;
+ghost use Rattle.hall_turns.specs.declared.slot.Slot.{Slot as AnySlot};
+ghost use Rattle.hall_turns.specs.declared.slot.Slot.TheVariants as slots;
 ghost use Rattle.hall_turns.specs.Takes.{HasAllPlaces};
 ghost use Rattle.hall_closing.specs.Closing.{AreLast, BeginWithTwo, HasSeen, IsClosed, MayClose};
 
 use crate::closed::ClosedHall;
 use crate::seeing::see_end;
 use boxed::Boxed;
-use hall_slots::{ListSlot, PoolSlot, Slot};
+use hall_turns::{ListSlot, PoolSlot, Slot};
 use hall_turns::{HallPlace, HallRow};
 
 /// The list and the pool, which are the first two of these slots.

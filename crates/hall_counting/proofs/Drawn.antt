@@ -24,9 +24,9 @@ use Rattle.hall_law.proofs.Leaving.{counts_are_few}
 use Rattle.hall_law.specs.State.{IsIn, HallLaw}
 use Rattle.hall_law.proofs.Quiet.{counts_go_on}
 use Rattle.hall_law.proofs.Stops.{spent_counts_go_on}
-use Rattle.hall_slots.specs.declared.seat_note.SeatNote.{SeatNote}
-use Rattle.hall_slots.specs.declared.slot.Slot.{Slot}
-use Rattle.hall_slots.specs.Shown.{view_of, value_of, stop_shown, end_shown}
+use Rattle.hall_turns.specs.declared.seat_note.SeatNote.{SeatNote}
+use Rattle.hall_turns.specs.declared.slot.Slot.{Slot}
+use Rattle.hall_turns.specs.Shown.{view_of, value_of, stop_shown, end_shown}
 use Rattle.hall_turns.specs.declared.key.HallKey.{HallKey}
 use Rattle.hall_turns.specs.Keys.{table_of, quota_of, terms_of}
 use Rattle.hall_turns.specs.Law.{HallHolds, places_of, joined_note}

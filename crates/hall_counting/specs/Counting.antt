@@ -6,8 +6,8 @@ use Rattle.run_end.specs.declared.stop.Stop.TheVariants.{StepsSpent}
 use Rattle.turn_table.specs.declared.look.Look.{Look}
 use Rattle.turn_table.specs.declared.look.Look.TheVariants.{Took, Refused, Counted}
 use Rattle.turn_table.specs.Seats.{with_hand}
-use Rattle.hall_slots.specs.declared.seat_note.SeatNote.{SeatNote}
-use Rattle.hall_slots.specs.declared.slot.Slot.{Slot}
+use Rattle.hall_turns.specs.declared.seat_note.SeatNote.{SeatNote}
+use Rattle.hall_turns.specs.declared.slot.Slot.{Slot}
 use Rattle.hall_turns.specs.Takes.{HallSeat}
 
 -- the note of a seat that holds a count, and of one that found that the steps are spent

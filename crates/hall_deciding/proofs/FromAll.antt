@@ -3,10 +3,10 @@ use Rattle.std.proofs.Common.{List, refl, subst}
 use Rattle.std.specs.Prelude.{None, Some}
 use Rattle.dag_order.specs.declared.action_id.ActionId.{ActionId}
 use Rattle.deque_list.specs.declared.deque_id.DequeId.{DequeId}
-use Rattle.hall_slots.specs.declared.event.Event.TheVariants.{Did}
-use Rattle.hall_slots.specs.declared.lane_slot.LaneSlot.{LaneSlot}
-use Rattle.hall_slots.specs.declared.list_slot.ListSlot.{ListSlot}
-use Rattle.hall_slots.specs.declared.pool_slot.PoolSlot.{PoolSlot}
+use Rattle.hall_turns.specs.declared.event.Event.TheVariants.{Did}
+use Rattle.hall_turns.specs.declared.lane_slot.LaneSlot.{LaneSlot}
+use Rattle.hall_turns.specs.declared.list_slot.ListSlot.{ListSlot}
+use Rattle.hall_turns.specs.declared.pool_slot.PoolSlot.{PoolSlot}
 use Rattle.hall_turns.specs.declared.key.HallKey.{HallKey}
 use Rattle.hall_turns.specs.Takes.{HallSeat}
 use Rattle.hall_writes.specs.Writes.{told_note}
@@ -14,7 +14,7 @@ use Rattle.thread_frames.specs.declared.ended.Ended.{Ended}
 use Rattle.thread_frames.specs.declared.thread.Thread.{Thread}
 use Rattle.hall_events.specs.Taken.{IsAtAction}
 use Rattle.hall_events.proofs.Ends.{leaving_ends_may_come, waking_ends_may_come, kept_joins_may_come}
-use Rattle.hall_stays.proofs.Staying.{left_stays_sound, woken_stays_sound, handed_stays_sound}
+use Rattle.hall_events.proofs.Staying.{left_stays_sound, woken_stays_sound, handed_stays_sound}
 use Rattle.hall_puts.specs.Puts.{MayPutAll}
 use Rattle.hall_deciding.specs.Wholes.{EndsAndLeaves, EndsAndWakes, JoinsFromAll}
 use Rattle.hall_deciding.proofs.Taken.{on, owner_of}

@@ -3,9 +3,9 @@ use Rattle.std.proofs.Common.{inr, refl, sym, ◌∙◌, subst}
 use Rattle.std.specs.Prelude.{Some}
 use Rattle.dag_order.specs.declared.action_id.ActionId.{ActionId}
 use Rattle.deque_list.specs.declared.deque_id.DequeId.{DequeId}
-use Rattle.hall_slots.specs.declared.event.Event.TheVariants.{Did}
-use Rattle.hall_slots.specs.declared.lane_slot.LaneSlot.{LaneSlot}
-use Rattle.hall_slots.specs.declared.seat_note.SeatNote.{SeatNote}
+use Rattle.hall_turns.specs.declared.event.Event.TheVariants.{Did}
+use Rattle.hall_turns.specs.declared.lane_slot.LaneSlot.{LaneSlot}
+use Rattle.hall_turns.specs.declared.seat_note.SeatNote.{SeatNote}
 use Rattle.hall_turns.specs.declared.key.HallKey.{HallKey}
 use Rattle.hall_turns.specs.Keys.{table_of, quota_of}
 use Rattle.hall_turns.specs.Takes.{HallSeat}
@@ -17,7 +17,7 @@ use Rattle.hall_law.specs.Points.{LaneAtPoints}
 use Rattle.hall_events.proofs.Lanes.{joins_may_come}
 use Rattle.hall_events.proofs.Untaken.{nothing_is_taken}
 use Rattle.hall_events.proofs.Quiet.{statements_may_come, wants_of_memory_may_come}
-use Rattle.hall_stays.proofs.Staying.{all_at, lanes_stay_sound}
+use Rattle.hall_events.proofs.Staying.{all_at, lanes_stay_sound}
 use Rattle.hall_puts.specs.Puts.{MayPutLane}
 use Rattle.hall_deciding.specs.Own.{JoinsAlone, IsStillThere, IsShortThere}
 use Rattle.hall_deciding.proofs.Taken.{on, owner_of}

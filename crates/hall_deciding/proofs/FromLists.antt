@@ -7,9 +7,9 @@ use Rattle.dag_order.specs.declared.thread_id.ThreadId.{ThreadId}
 use Rattle.dag_order.specs.Births.{root}
 use Rattle.dag_order.specs.declared.action_id.ActionId.{ActionId}
 use Rattle.deque_list.specs.declared.deque_id.DequeId.{DequeId}
-use Rattle.hall_slots.specs.declared.event.Event.TheVariants.{Did, Suspended, GaveUp}
-use Rattle.hall_slots.specs.declared.lane_slot.LaneSlot.{LaneSlot}
-use Rattle.hall_slots.specs.declared.list_slot.ListSlot.{ListSlot}
+use Rattle.hall_turns.specs.declared.event.Event.TheVariants.{Did, Suspended, GaveUp}
+use Rattle.hall_turns.specs.declared.lane_slot.LaneSlot.{LaneSlot}
+use Rattle.hall_turns.specs.declared.list_slot.ListSlot.{ListSlot}
 use Rattle.hall_turns.specs.declared.key.HallKey.{HallKey}
 use Rattle.hall_turns.specs.Takes.{HallSeat}
 use Rattle.hall_writes.specs.Writes.{told_note}
@@ -21,12 +21,12 @@ use Rattle.thread_frames.specs.declared.thread.Thread.{Thread}
 use Rattle.thread_map.specs.Kept.{kept_under}
 use Rattle.thread_frames.proofs.Found.{none_found}
 use Rattle.hall_law.specs.Values.{ListShown}
-use Rattle.hall_slots.specs.Shown.{list_shown}
+use Rattle.hall_turns.specs.Shown.{list_shown}
 use Rattle.hall_events.specs.Taken.{IsAtAction}
 use Rattle.hall_events.proofs.Pauses.{suspends_may_come, give_ups_may_come, yields_may_come, dummies_may_come}
 use Rattle.hall_events.proofs.Ends.{root_ends_may_come, kept_joins_may_come}
 use Rattle.hall_events.proofs.Untaken.{nothing_is_taken}
-use Rattle.hall_stays.proofs.Staying.{given_up_stays_sound, suspended_stays_sound, root_stays_sound, handed_stays_sound}
+use Rattle.hall_events.proofs.Staying.{given_up_stays_sound, suspended_stays_sound, root_stays_sound, handed_stays_sound}
 use Rattle.hall_puts.specs.Puts.{MayPutListAndLane}
 use Rattle.hall_deciding.specs.Lists.{Suspends, GivesUp, Yields, DoesDummy, EndsRoot, JoinsFromList}
 use Rattle.hall_deciding.proofs.Taken.{on, owner_of, unkept}

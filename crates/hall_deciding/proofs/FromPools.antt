@@ -3,9 +3,9 @@ use Rattle.std.proofs.Common.{List, subst}
 use Rattle.std.specs.Prelude.{Some}
 use Rattle.dag_order.specs.declared.action_id.ActionId.{ActionId}
 use Rattle.deque_list.specs.declared.deque_id.DequeId.{DequeId}
-use Rattle.hall_slots.specs.declared.event.Event.TheVariants.{Did}
-use Rattle.hall_slots.specs.declared.lane_slot.LaneSlot.{LaneSlot}
-use Rattle.hall_slots.specs.declared.pool_slot.PoolSlot.{PoolSlot}
+use Rattle.hall_turns.specs.declared.event.Event.TheVariants.{Did}
+use Rattle.hall_turns.specs.declared.lane_slot.LaneSlot.{LaneSlot}
+use Rattle.hall_turns.specs.declared.pool_slot.PoolSlot.{PoolSlot}
 use Rattle.hall_turns.specs.declared.key.HallKey.{HallKey}
 use Rattle.hall_turns.specs.Keys.{table_of, quota_of}
 use Rattle.hall_turns.specs.Takes.{HallSeat}
@@ -15,7 +15,7 @@ use Rattle.thread_frames.specs.declared.thread.Thread.{Thread}
 use Rattle.lane_events.specs.Ends.{EndsAbove}
 use Rattle.hall_events.specs.Taken.{IsAtAction}
 use Rattle.hall_events.proofs.Lanes.{actions_may_come, joins_may_come, ends_above_may_come}
-use Rattle.hall_stays.proofs.Staying.{all_at, lanes_stay_sound}
+use Rattle.hall_events.proofs.Staying.{all_at, lanes_stay_sound}
 use Rattle.hall_puts.specs.Puts.{MayPutPoolAndLane}
 use Rattle.hall_deciding.specs.Pools.{ActsWithPool, JoinsWithPool, EndsWithPool}
 use Rattle.hall_deciding.proofs.Taken.{on, owner_of}

@@ -7,12 +7,12 @@ use Rattle.lawful_books.specs.Lists.{Each}
 use Rattle.moment_parts.specs.Parts as shown
 use Rattle.thread_frames.specs.declared.ended.Ended.{Ended}
 use Rattle.thread_frames.specs.Kept.{IsUnderItsId, result_kept}
-use Rattle.hall_slots.specs.declared.event.Event.{Event}
-use Rattle.hall_slots.specs.declared.seat_note.SeatNote.{SeatNote}
+use Rattle.hall_turns.specs.declared.event.Event.{Event}
+use Rattle.hall_turns.specs.declared.seat_note.SeatNote.{SeatNote}
 use Rattle.hall_turns.specs.Takes.{HallSeat}
 use Rattle.hall_writes.specs.Writes.{told_note, IsOwner}
 use Rattle.hall_events.specs.Taken.{MayGoOn}
-use Rattle.hall_stays.specs.Staying.{NotesOn}
+use Rattle.hall_events.specs.Staying.{NotesOn}
 
 -- the note of an event is of the same seat
 pub on : (note : SeatNote) (owns : Option DequeId) (event : Event) → NotesOn note (told_note note owns event)

@@ -28,15 +28,15 @@ use Rattle.lane_events.specs.Dummies.{DummyHere}
 use Rattle.lane_events.specs.Ends.{EndsHere}
 use Rattle.lane_events.specs.Joins.{JoinsHere, ReleasesNothing}
 use Rattle.list_events.specs.Calls.{SuspendsThere, LeavesThere, IsHandedThere, KeepsCrew}
-use Rattle.hall_slots.specs.declared.lane_slot.LaneSlot.{LaneSlot}
-use Rattle.hall_slots.specs.declared.list_slot.ListSlot.{ListSlot}
-use Rattle.hall_slots.specs.Lists.{ShowsUnowned, HasNoOwner, IsGone, KeepsRest}
+use Rattle.hall_turns.specs.declared.lane_slot.LaneSlot.{LaneSlot}
+use Rattle.hall_turns.specs.declared.list_slot.ListSlot.{ListSlot}
+use Rattle.hall_turns.specs.Lists.{ShowsUnowned, HasNoOwner, IsGone, KeepsRest}
 use Rattle.hall_turns.specs.declared.key.HallKey.{HallKey}
 use Rattle.hall_turns.specs.Keys.{table_of, quota_of}
 use Rattle.hall_turns.specs.Takes.{HallSeat}
 use Rattle.hall_events.specs.Taken.{MayAct, MayPause, IsNext}
 use Rattle.hall_events.specs.Lists.{IsTooMuch, IsUnawaited}
-use Rattle.hall_stays.specs.Staying.{AllAtPoints}
+use Rattle.hall_events.specs.Staying.{AllAtPoints}
 use Rattle.hall_deciding.specs.Taken.{IsAtEvent, list_and_lane}
 
 -- the wait of a thread that is alone in its deque

@@ -9,13 +9,13 @@ use Rattle.thread_frames.specs.declared.thread.Thread.{Thread}
 use Rattle.thread_frames.specs.Points.{IsAtPoint}
 use Rattle.lawful_books.specs.Lists.{Each}
 use Rattle.lane_events.specs.Joins.{JoinsHere, ReleasesNothing}
-use Rattle.hall_slots.specs.declared.lane_slot.LaneSlot.{LaneSlot}
+use Rattle.hall_turns.specs.declared.lane_slot.LaneSlot.{LaneSlot}
 use Rattle.hall_turns.specs.declared.key.HallKey.{HallKey}
-use Rattle.hall_slots.specs.Shown.{lane_shown}
+use Rattle.hall_turns.specs.Shown.{lane_shown}
 use Rattle.hall_turns.specs.Keys.{table_of, quota_of}
 use Rattle.hall_turns.specs.Takes.{HallSeat}
 use Rattle.hall_events.specs.Taken.{MayAct, MayPause, IsNext}
-use Rattle.hall_stays.specs.Staying.{AllAtPoints}
+use Rattle.hall_events.specs.Staying.{AllAtPoints}
 use Rattle.hall_deciding.specs.Taken.{IsAtEvent, its_lane}
 
 -- the Join of a child that was handed over before, which releases no words

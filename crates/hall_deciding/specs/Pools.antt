@@ -12,13 +12,13 @@ use Rattle.thread_frames.specs.declared.thread.Thread.{Thread}
 use Rattle.lane_events.specs.Here.{ActsHere, TakesWords}
 use Rattle.lane_events.specs.Ends.{EndsAbove}
 use Rattle.lane_events.specs.Joins.{JoinsHere}
-use Rattle.hall_slots.specs.declared.lane_slot.LaneSlot.{LaneSlot}
-use Rattle.hall_slots.specs.declared.pool_slot.PoolSlot.{PoolSlot}
-use Rattle.hall_slots.specs.Shown.{pool_shown}
+use Rattle.hall_turns.specs.declared.lane_slot.LaneSlot.{LaneSlot}
+use Rattle.hall_turns.specs.declared.pool_slot.PoolSlot.{PoolSlot}
+use Rattle.hall_turns.specs.Shown.{pool_shown}
 use Rattle.hall_turns.specs.declared.key.HallKey.{HallKey}
 use Rattle.hall_turns.specs.Takes.{HallSeat}
 use Rattle.hall_events.specs.Taken.{MayAct, IsNext, MayDoNext}
-use Rattle.hall_stays.specs.Staying.{AllAtPoints, StaysSoundPool}
+use Rattle.hall_events.specs.Staying.{AllAtPoints, StaysSoundPool}
 use Rattle.hall_deciding.specs.Taken.{IsAtEvent, pool_and_lane}
 
 -- an Alloc, a Release, a Fault or a Fork

@@ -15,15 +15,15 @@ use Rattle.lane_events.specs.Here.{TakesWords}
 use Rattle.lane_events.specs.Ends.{EndsHere}
 use Rattle.lane_events.specs.Joins.{JoinsHere}
 use Rattle.list_events.specs.Calls.{TakesWaiting, IsHandedThere, KeepsCrew}
-use Rattle.hall_slots.specs.declared.lane_slot.LaneSlot.{LaneSlot}
-use Rattle.hall_slots.specs.declared.list_slot.ListSlot.{ListSlot}
-use Rattle.hall_slots.specs.declared.pool_slot.PoolSlot.{PoolSlot}
-use Rattle.hall_slots.specs.Shown.{pool_shown}
+use Rattle.hall_turns.specs.declared.lane_slot.LaneSlot.{LaneSlot}
+use Rattle.hall_turns.specs.declared.list_slot.ListSlot.{ListSlot}
+use Rattle.hall_turns.specs.declared.pool_slot.PoolSlot.{PoolSlot}
+use Rattle.hall_turns.specs.Shown.{pool_shown}
 use Rattle.hall_turns.specs.declared.key.HallKey.{HallKey}
 use Rattle.hall_turns.specs.Takes.{HallSeat}
 use Rattle.hall_events.specs.Taken.{MayAct, IsNext}
 use Rattle.hall_events.specs.Lists.{IsUnawaited}
-use Rattle.hall_stays.specs.Staying.{AllAtPoints, StaysSoundPool}
+use Rattle.hall_events.specs.Staying.{AllAtPoints, StaysSoundPool}
 use Rattle.hall_deciding.specs.Taken.{IsAtEvent, all_three}
 use Rattle.hall_deciding.specs.Lists.{IsLeft}
 

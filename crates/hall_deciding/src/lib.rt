@@ -5,7 +5,7 @@
 //! and `list_events` said of the parts.
 //!
 //! It uses the put backs (`hall_puts`), and that what an event wrote is one event of the machine (`hall_events`) and leaves the parts sound
-//! (`hall_stays`). Its theorem: each call keeps the law of the hall between any two atomic steps, and the seat notes its event and holds
+//! (`hall_events`). Its theorem: each call keeps the law of the hall between any two atomic steps, and the seat notes its event and holds
 //! nothing.
 #![tactic(auto)]
 

@@ -2,7 +2,7 @@
 
 ghost use Rattle.std.specs.Prelude.{◌≡◌, ◌+◌, ◌<◌, [], true, None, Some};
 ghost use Rattle.turn_table.specs.Tables.{key_of, slot_count, IsSeatOf};
-ghost use Rattle.hall_slots.specs.declared.event.Event.TheVariants.{Did, Suspended, GaveUp};
+ghost use Rattle.hall_turns.specs.declared.event.Event.TheVariants.{Did, Suspended, GaveUp};
 ghost use Rattle.run_end.specs.declared.ends.RunEnd.TheVariants.{Finished};
 ghost use Rattle.hall_writes.specs.Writes.{told_note};
 ghost use Rattle.hall_puts.specs.Puts.{HasPut};
@@ -12,7 +12,7 @@ use boxed::Boxed;
 use dag_order::{ActionId, Finish, ThreadId};
 use deque_list::DequeId;
 use hall_puts::{Noting, put_list_and_lane};
-use hall_slots::{Event, LaneSlot, ListSlot};
+use hall_turns::{Event, LaneSlot, ListSlot};
 use hall_turns::{HallPlace, HallRow};
 use run_end::RunEnd;
 

@@ -2,7 +2,7 @@
 
 ghost use Rattle.std.specs.Prelude.{◌+◌, ◌<◌, [], Some};
 ghost use Rattle.turn_table.specs.Tables.{key_of, slot_count, IsSeatOf};
-ghost use Rattle.hall_slots.specs.declared.event.Event.TheVariants.{Did};
+ghost use Rattle.hall_turns.specs.declared.event.Event.TheVariants.{Did};
 ghost use Rattle.hall_writes.specs.Writes.{told_note};
 ghost use Rattle.hall_puts.specs.Puts.{HasPut};
 ghost use Rattle.hall_deciding.specs.Own.{JoinsAlone, IsStillThere, IsShortThere};
@@ -11,7 +11,7 @@ ghost use Rattle.run_end.specs.declared.stop.Stop.TheVariants.{OutOfMemory as No
 use dag_order::ActionId;
 use deque_list::DequeId;
 use hall_puts::{Noting, put_lane};
-use hall_slots::{Event, LaneSlot};
+use hall_turns::{Event, LaneSlot};
 use hall_turns::{HallPlace, HallRow};
 use run_end::Stop;
 

@@ -2,7 +2,7 @@
 
 ghost use Rattle.std.specs.Prelude.{◌+◌, ◌<◌, [], Some};
 ghost use Rattle.turn_table.specs.Tables.{key_of, slot_count, IsSeatOf};
-ghost use Rattle.hall_slots.specs.declared.event.Event.TheVariants.{Did};
+ghost use Rattle.hall_turns.specs.declared.event.Event.TheVariants.{Did};
 ghost use Rattle.hall_writes.specs.Writes.{told_note};
 ghost use Rattle.hall_puts.specs.Puts.{HasPut};
 ghost use Rattle.hall_deciding.specs.Pools.{ActsWithPool, JoinsWithPool, EndsWithPool};
@@ -10,7 +10,7 @@ ghost use Rattle.hall_deciding.specs.Pools.{ActsWithPool, JoinsWithPool, EndsWit
 use dag_order::ActionId;
 use deque_list::DequeId;
 use hall_puts::{Noting, put_pool_and_lane};
-use hall_slots::{Event, LaneSlot, PoolSlot};
+use hall_turns::{Event, LaneSlot, PoolSlot};
 use hall_turns::{HallPlace, HallRow};
 
 /// Decides an Alloc, a Release, a Fault or a Fork.

@@ -2,7 +2,7 @@
 
 ghost use Rattle.std.specs.Prelude.{◌+◌, ◌<◌, [], None, Some};
 ghost use Rattle.turn_table.specs.Tables.{key_of, slot_count, IsSeatOf};
-ghost use Rattle.hall_slots.specs.declared.event.Event.TheVariants.{Did};
+ghost use Rattle.hall_turns.specs.declared.event.Event.TheVariants.{Did};
 ghost use Rattle.hall_writes.specs.Writes.{told_note};
 ghost use Rattle.hall_puts.specs.Puts.{HasPut};
 ghost use Rattle.hall_deciding.specs.Wholes.{EndsAndLeaves, EndsAndWakes, JoinsFromAll};
@@ -11,7 +11,7 @@ use boxed::Boxed;
 use dag_order::ActionId;
 use deque_list::DequeId;
 use hall_puts::{Noting, put_all};
-use hall_slots::{Event, LaneSlot, ListSlot, PoolSlot};
+use hall_turns::{Event, LaneSlot, ListSlot, PoolSlot};
 use hall_turns::{HallPlace, HallRow};
 
 /// Decides the End of a forked thread, alone in its deque, for which nobody waits.

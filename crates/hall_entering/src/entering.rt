@@ -2,7 +2,7 @@
 
 ghost use Rattle.std.specs.Prelude.{◌≡◌, [], ◌∷◌, None, IfOk};
 ghost use Rattle.turn_table.specs.Tables.{key_of, IsSeatOf};
-ghost use Rattle.hall_slots.specs.declared.slot.Slot.TheVariants as slots;
+ghost use Rattle.hall_turns.specs.declared.slot.Slot.TheVariants as slots;
 ghost use Rattle.hall_turns.specs.Takes.{MeetsLaw};
 ghost use Rattle.hall_entering.specs.Entering.{EntersWith, HasEntered, MayEnter};
 
@@ -11,7 +11,7 @@ use crate::puts::{put_named, split};
 use crate::refused::EnterRefused;
 use boxed::Boxed;
 use hall_seats::{end_of, put_answered, put_same};
-use hall_slots::ListSlot;
+use hall_turns::ListSlot;
 use hall_turns::{HallPlace, HallRow, take_list};
 
 /// What `enter` does where no end is kept.

@@ -4,7 +4,7 @@ ghost use Rattle.std.specs.Prelude.{◌≡◌, ◌∷◌, ◌++◌, [], ℕ, IfO
 ghost use Rattle.hall_law.specs.Numbers.{IsSmallestNumber};
 
 use boxed::Boxed;
-use hall_slots::ListSlot;
+use hall_turns::ListSlot;
 use std::alloc::AllocError;
 
 /// Lets a worker in, under the smallest number that is free.

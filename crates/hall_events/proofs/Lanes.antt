@@ -35,11 +35,11 @@ use Rattle.hall_law.proofs.Owners.{lane_actions_go_on, ends_above_go_on}
 use Rattle.lane_events.specs.Here.{ShowsOwn, ActsHere, TakesWords}
 use Rattle.lane_events.specs.Ends.{EndsAbove}
 use Rattle.lane_events.specs.Joins.{JoinsHere}
-use Rattle.hall_slots.specs.declared.event.Event.TheVariants.{Did}
-use Rattle.hall_slots.specs.declared.lane_slot.LaneSlot.{LaneSlot}
-use Rattle.hall_slots.specs.declared.list_slot.ListSlot.{ListSlot}
-use Rattle.hall_slots.specs.declared.pool_slot.PoolSlot.{PoolSlot}
-use Rattle.hall_slots.specs.Shown.{list_shown, lane_shown, pool_shown, running_shown, view_of}
+use Rattle.hall_turns.specs.declared.event.Event.TheVariants.{Did}
+use Rattle.hall_turns.specs.declared.lane_slot.LaneSlot.{LaneSlot}
+use Rattle.hall_turns.specs.declared.list_slot.ListSlot.{ListSlot}
+use Rattle.hall_turns.specs.declared.pool_slot.PoolSlot.{PoolSlot}
+use Rattle.hall_turns.specs.Shown.{list_shown, lane_shown, pool_shown, running_shown, view_of}
 use Rattle.hall_turns.specs.declared.key.HallKey.{HallKey}
 use Rattle.hall_turns.specs.Keys.{table_of, quota_of, terms_of}
 use Rattle.hall_turns.specs.Steps.{IsRunning}

@@ -4,3 +4,4 @@ pub mod Quiet
 pub mod Lanes
 pub mod Pauses
 pub mod Ends
+pub mod Staying

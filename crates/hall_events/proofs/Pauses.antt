@@ -36,12 +36,12 @@ use Rattle.hall_law.specs.Events.{idle_after}
 use Rattle.lane_events.specs.Here.{ShowsOwn}
 use Rattle.lane_events.specs.Dummies.{DummyHere}
 use Rattle.list_events.specs.Calls.{SuspendsThere}
-use Rattle.hall_slots.specs.declared.event.Event.TheVariants.{Did, Suspended, GaveUp}
-use Rattle.hall_slots.specs.declared.lane_slot.LaneSlot.{LaneSlot}
-use Rattle.hall_slots.specs.declared.list_slot.ListSlot.{ListSlot}
-use Rattle.hall_slots.specs.declared.pool_slot.PoolSlot.{PoolSlot}
-use Rattle.hall_slots.specs.Lists.{ShowsUnowned}
-use Rattle.hall_slots.specs.Shown.{list_shown, lane_shown, pool_shown, running_shown, view_of}
+use Rattle.hall_turns.specs.declared.event.Event.TheVariants.{Did, Suspended, GaveUp}
+use Rattle.hall_turns.specs.declared.lane_slot.LaneSlot.{LaneSlot}
+use Rattle.hall_turns.specs.declared.list_slot.ListSlot.{ListSlot}
+use Rattle.hall_turns.specs.declared.pool_slot.PoolSlot.{PoolSlot}
+use Rattle.hall_turns.specs.Lists.{ShowsUnowned}
+use Rattle.hall_turns.specs.Shown.{list_shown, lane_shown, pool_shown, running_shown, view_of}
 use Rattle.hall_turns.specs.declared.key.HallKey.{HallKey}
 use Rattle.hall_turns.specs.Keys.{table_of, quota_of, terms_of}
 use Rattle.hall_turns.specs.Steps.{IsRunning}

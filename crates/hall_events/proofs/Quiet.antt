@@ -9,7 +9,7 @@ use Rattle.hall_law.specs.Views.{View}
 use Rattle.hall_law.proofs.Halting.{finding_keeps_crew}
 use Rattle.hall_law.specs.Values.{Hall, LaneShown, no_lane, no_memory, lane_at}
 use Rattle.hall_law.specs.State.{RunningState}
-use Rattle.hall_slots.specs.Shown.{lane_shown, stop_shown, view_of}
+use Rattle.hall_turns.specs.Shown.{lane_shown, stop_shown, view_of}
 use Rattle.hall_turns.specs.Keys.{terms_of}
 use Rattle.hall_turns.proofs.Reading.{at_of_get}
 use Rattle.hall_events.specs.Lanes.{StatementsMayCome, WantsOfMemoryMayCome}

@@ -17,8 +17,8 @@ use Rattle.thread_points.specs.Points.{words_at_end}
 use Rattle.hall_law.specs.Values.{PoolShown}
 use Rattle.hall_law.specs.Writing.{PoolTakes}
 use Rattle.lane_events.specs.Here.{TakesWords}
-use Rattle.hall_slots.specs.declared.pool_slot.PoolSlot.{PoolSlot}
-use Rattle.hall_slots.specs.Shown.{pool_shown}
+use Rattle.hall_turns.specs.declared.pool_slot.PoolSlot.{PoolSlot}
+use Rattle.hall_turns.specs.Shown.{pool_shown}
 use Rattle.hall_events.specs.Lanes.{NothingIsTaken}
 
 unweighed : (x y : ℤ) → y ≡ pos 0 → x ≡ x +ℤ y

@@ -31,10 +31,10 @@ use Rattle.hall_law.specs.Writing.{IsAtWork, place_of, lane_with, written}
 use Rattle.hall_law.proofs.Closing.{owners_are_at_work}
 use Rattle.hall_law.specs.State.{RunningState, IsIn, GoesOn}
 use Rattle.lane_events.specs.Here.{ShowsOwn}
-use Rattle.hall_slots.specs.declared.event.Event.{Event}
-use Rattle.hall_slots.specs.declared.lane_slot.LaneSlot.{LaneSlot}
-use Rattle.hall_slots.specs.declared.seat_note.SeatNote.{SeatNote}
-use Rattle.hall_slots.specs.Shown.{list_shown, lane_shown, pool_shown, running_shown, told_shown, view_of}
+use Rattle.hall_turns.specs.declared.event.Event.{Event}
+use Rattle.hall_turns.specs.declared.lane_slot.LaneSlot.{LaneSlot}
+use Rattle.hall_turns.specs.declared.seat_note.SeatNote.{SeatNote}
+use Rattle.hall_turns.specs.Shown.{list_shown, lane_shown, pool_shown, running_shown, told_shown, view_of}
 use Rattle.hall_turns.specs.declared.key.HallKey.{HallKey}
 use Rattle.hall_turns.specs.Keys.{table_of, quota_of, terms_of}
 use Rattle.hall_turns.specs.Steps.{IsRunning}

@@ -14,11 +14,11 @@ use Rattle.thread_frames.specs.declared.thread.Thread.{Thread}
 use Rattle.lane_events.specs.Here.{ActsHere, TakesWords}
 use Rattle.lane_events.specs.Ends.{EndsAbove}
 use Rattle.lane_events.specs.Joins.{JoinsHere, ReleasesNothing}
-use Rattle.hall_slots.specs.declared.event.Event.TheVariants.{Did}
-use Rattle.hall_slots.specs.declared.lane_slot.LaneSlot.{LaneSlot}
-use Rattle.hall_slots.specs.declared.list_slot.ListSlot.{ListSlot}
-use Rattle.hall_slots.specs.declared.pool_slot.PoolSlot.{PoolSlot}
-use Rattle.hall_slots.specs.Shown.{pool_shown, lane_shown}
+use Rattle.hall_turns.specs.declared.event.Event.TheVariants.{Did}
+use Rattle.hall_turns.specs.declared.lane_slot.LaneSlot.{LaneSlot}
+use Rattle.hall_turns.specs.declared.list_slot.ListSlot.{ListSlot}
+use Rattle.hall_turns.specs.declared.pool_slot.PoolSlot.{PoolSlot}
+use Rattle.hall_turns.specs.Shown.{pool_shown, lane_shown}
 use Rattle.hall_turns.specs.declared.key.HallKey.{HallKey}
 use Rattle.hall_turns.specs.Keys.{quota_of}
 use Rattle.hall_turns.specs.Takes.{HallSeat}

@@ -1,3 +1,4 @@
 pub mod Taken
 pub mod Lanes
 pub mod Lists
+pub mod Staying

@@ -2,7 +2,7 @@
 use Rattle.std.specs.Prelude.{◌≡◌, ◌+◌, ◌<◌, ◌≤◌, false, None, Some, [], Result, Ok, Err}
 use Rattle.turn_table.specs.Tables.{key_of, IsSeatOf}
 use Rattle.hall_law.specs.Numbers.{IsSmallestNumber}
-use Rattle.hall_slots.specs.declared.list_slot.ListSlot.{ListSlot}
+use Rattle.hall_turns.specs.declared.list_slot.ListSlot.{ListSlot}
 use Rattle.hall_turns.specs.Takes.{IsRefused}
 use Rattle.hall_seats.specs.Lists.{answered_note, Leaves, with_list}
 use Rattle.hall_handles.specs.declared.hall.Hall.{Hall}

@@ -22,12 +22,12 @@ use Rattle.hall_law.specs.State.{RunningState}
 use Rattle.hall_law.specs.Points.{IsExcused}
 use Rattle.hall_law.specs.Quiet.{kept_with}
 use Rattle.hall_law.proofs.Quiet.{leaving_goes_on}
-use Rattle.hall_slots.specs.declared.list_slot.ListSlot.{ListSlot}
-use Rattle.hall_slots.specs.declared.seat_note.SeatNote.{SeatNote}
-use Rattle.hall_slots.specs.declared.slot.Slot.{Slot}
-use Rattle.hall_slots.specs.declared.slot.Slot.TheVariants as slots
-use Rattle.hall_slots.specs.Lists.{IsOutOf}
-use Rattle.hall_slots.specs.Shown.{list_shown, view_of, stop_shown, end_shown}
+use Rattle.hall_turns.specs.declared.list_slot.ListSlot.{ListSlot}
+use Rattle.hall_turns.specs.declared.seat_note.SeatNote.{SeatNote}
+use Rattle.hall_turns.specs.declared.slot.Slot.{Slot}
+use Rattle.hall_turns.specs.declared.slot.Slot.TheVariants as slots
+use Rattle.hall_turns.specs.Lists.{IsOutOf}
+use Rattle.hall_turns.specs.Shown.{list_shown, view_of, stop_shown, end_shown}
 use Rattle.hall_turns.specs.declared.key.HallKey.{HallKey}
 use Rattle.hall_turns.specs.Keys.{terms_of}
 use Rattle.hall_turns.specs.Law.{joined_note}

@@ -22,10 +22,10 @@ use Rattle.hall_law.specs.Crew.{SeatStands}
 use Rattle.hall_law.proofs.First.{is_in}
 use Rattle.hall_law.proofs.Notes.{total_at}
 use Rattle.hall_law.specs.State.{HallLaw}
-use Rattle.hall_slots.specs.declared.list_slot.ListSlot.{ListSlot}
-use Rattle.hall_slots.specs.declared.slot.Slot.{Slot}
-use Rattle.hall_slots.specs.declared.slot.Slot.TheVariants as slots
-use Rattle.hall_slots.specs.Shown.{view_of, value_of}
+use Rattle.hall_turns.specs.declared.list_slot.ListSlot.{ListSlot}
+use Rattle.hall_turns.specs.declared.slot.Slot.{Slot}
+use Rattle.hall_turns.specs.declared.slot.Slot.TheVariants as slots
+use Rattle.hall_turns.specs.Shown.{view_of, value_of}
 use Rattle.hall_turns.specs.declared.key.HallKey.{HallKey}
 use Rattle.hall_turns.specs.Keys.{terms_of}
 use Rattle.hall_turns.specs.Law.{joined_note}
@@ -46,7 +46,7 @@ module _ (key : HallKey) (seat : HallSeat) (list : ListSlot) (idle : IsIdle seat
   abbrev view : View
   view = view_of seat.hand.note
 
-  shown_list : Hall.list (hall_shown meets.0) ≡ Rattle.hall_slots.specs.Shown.list_shown list
+  shown_list : Hall.list (hall_shown meets.0) ≡ Rattle.hall_turns.specs.Shown.list_shown list
   shown_list = list_at meets.0 list (subst (λ (xs : List (ℕ × Slot)). Shows meets.0 xs) holds (st.fits.shows seat.number seat.hand st.mine)).0
 
   its_view : Rattle.std.specs.Prelude.slice_get (map view_of (notes meets.2)) seat.number ≡ Some view

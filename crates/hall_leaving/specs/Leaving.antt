@@ -8,10 +8,10 @@ use Rattle.turn_table.specs.Hands.{noted, gave}
 use Rattle.turn_table.specs.Seats.{with_hand}
 use Rattle.turn_places.specs.Backs.{unchanged}
 use Rattle.hall_law.specs.Seats.{or_else}
-use Rattle.hall_slots.specs.declared.list_slot.ListSlot.{ListSlot}
-use Rattle.hall_slots.specs.declared.seat_note.SeatNote.{SeatNote}
-use Rattle.hall_slots.specs.declared.slot.Slot.TheVariants as slots
-use Rattle.hall_slots.specs.Lists.{end_kept, IsOutOf}
+use Rattle.hall_turns.specs.declared.list_slot.ListSlot.{ListSlot}
+use Rattle.hall_turns.specs.declared.seat_note.SeatNote.{SeatNote}
+use Rattle.hall_turns.specs.declared.slot.Slot.TheVariants as slots
+use Rattle.hall_turns.specs.Lists.{end_kept, IsOutOf}
 use Rattle.hall_turns.specs.Takes.{HallSeat}
 
 -- the end that is kept where a seat leaves that found this stop, or none

@@ -3,14 +3,14 @@
 ghost use Rattle.std.specs.Prelude.{◌≡◌, ◌<◌, [], ◌∷◌, IfErr, IsOk, MatchResult, ℕ};
 ghost use Rattle.lawful_books.specs.Lists.{times};
 ghost use Rattle.turn_table.specs.Tables.{key_of, IsSeatOf};
-ghost use Rattle.hall_slots.specs.declared.slot.Slot.TheVariants as slots;
-ghost use Rattle.hall_slots.specs.Lists.{IsOutOf};
+ghost use Rattle.hall_turns.specs.declared.slot.Slot.TheVariants as slots;
+ghost use Rattle.hall_turns.specs.Lists.{IsOutOf};
 ghost use Rattle.hall_turns.specs.Takes.{HasAllPlaces, IsPlaced, IsRefused, MeetsLaw};
 ghost use Rattle.hall_leaving.specs.Leaving.{end_left, HasJoined, HasLeft, HoldsTheLeft, MayLeave, PutsLeft};
 
 use crate::joining::join;
 use boxed::Boxed;
-use hall_slots::{ListSlot, Slot};
+use hall_turns::{ListSlot, Slot};
 use hall_turns::{HallPlace, HallRow, take_list};
 use run_end::Stop;
 use std::marker::Brand;

@@ -4,8 +4,8 @@ use Rattle.block_arena.specs.Region.{Region}
 use Rattle.deque_list.specs.Lanes.{LaneView}
 use Rattle.deque_list.specs.Orders.{OrderView}
 use Rattle.thread_frames.specs.declared.thread.Thread.{Thread}
-use Rattle.hall_slots.specs.declared.list_slot.ListSlot.{ListSlot}
-use Rattle.hall_slots.specs.declared.slot.Slot.{Slot}
+use Rattle.hall_turns.specs.declared.list_slot.ListSlot.{ListSlot}
+use Rattle.hall_turns.specs.declared.slot.Slot.{Slot}
 use Rattle.hall_opening.specs.First.{IsFirstList, AddsEmptyLanes, AreThree, AreFirst}
 
 pub first_of : (order : OrderView) (lane : LaneView Thread) (pool : Region) (deques : ℕ) (list : ListSlot) (three all : List Slot) → 1 ≤ deques → IsFirstList order list

@@ -23,13 +23,13 @@ use Rattle.thread_frames.specs.Roots.{HasDoneNothing, IsRootAlone}
 use Rattle.hall_law.specs.Views.{View}
 use Rattle.hall_law.specs.Rows.{IsFirst}
 use Rattle.hall_law.specs.Values.{End}
-use Rattle.hall_slots.specs.Shown.{view_of, value_of, kind_of, end_shown}
-use Rattle.hall_slots.specs.declared.lane_slot.LaneSlot.{LaneSlot}
-use Rattle.hall_slots.specs.declared.list_slot.ListSlot.{ListSlot}
-use Rattle.hall_slots.specs.declared.pool_slot.PoolSlot.{PoolSlot}
-use Rattle.hall_slots.specs.declared.seat_note.SeatNote.{SeatNote}
-use Rattle.hall_slots.specs.declared.slot.Slot.TheVariants as slots
-use Rattle.hall_slots.specs.declared.slot.Slot.{Slot}
+use Rattle.hall_turns.specs.Shown.{view_of, value_of, kind_of, end_shown}
+use Rattle.hall_turns.specs.declared.lane_slot.LaneSlot.{LaneSlot}
+use Rattle.hall_turns.specs.declared.list_slot.ListSlot.{ListSlot}
+use Rattle.hall_turns.specs.declared.pool_slot.PoolSlot.{PoolSlot}
+use Rattle.hall_turns.specs.declared.seat_note.SeatNote.{SeatNote}
+use Rattle.hall_turns.specs.declared.slot.Slot.TheVariants as slots
+use Rattle.hall_turns.specs.declared.slot.Slot.{Slot}
 use Rattle.hall_law.proofs.Closed.{first_hall_stands}
 use Rattle.hall_law.specs.Points.{IsExcused, LaneAtPoints, AreAtPoints}
 use Rattle.hall_turns.proofs.Keeping.{Whole}

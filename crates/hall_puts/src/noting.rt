@@ -1,5 +1,5 @@
 use deque_list::DequeId;
-use hall_slots::Event;
+use hall_turns::Event;
 use run_end::Stop;
 
 /// What a seat notes when it puts back what it took.

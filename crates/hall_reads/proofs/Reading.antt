@@ -36,13 +36,13 @@ use Rattle.hall_law.specs.Crew.{SeatStands}
 use Rattle.hall_law.specs.Points.{IsExcused, LaneAtPoints, AreAtPoints}
 use Rattle.hall_law.specs.State.{HallLaw}
 use Rattle.hall_points.proofs.Owning.{all_in_lane}
-use Rattle.hall_slots.specs.declared.lane_slot.LaneSlot.{LaneSlot}
-use Rattle.hall_slots.specs.declared.lane_slot.Running.{Running}
-use Rattle.hall_slots.specs.declared.list_slot.ListSlot.{ListSlot}
-use Rattle.hall_slots.specs.declared.pool_slot.PoolSlot.{PoolSlot}
-use Rattle.hall_slots.specs.declared.slot.Slot.{Slot}
-use Rattle.hall_slots.specs.declared.slot.Slot.TheVariants as slots
-use Rattle.hall_slots.specs.Shown.{value_of, view_of, lane_shown, running_shown, stop_shown}
+use Rattle.hall_turns.specs.declared.lane_slot.LaneSlot.{LaneSlot}
+use Rattle.hall_turns.specs.declared.lane_slot.Running.{Running}
+use Rattle.hall_turns.specs.declared.list_slot.ListSlot.{ListSlot}
+use Rattle.hall_turns.specs.declared.pool_slot.PoolSlot.{PoolSlot}
+use Rattle.hall_turns.specs.declared.slot.Slot.{Slot}
+use Rattle.hall_turns.specs.declared.slot.Slot.TheVariants as slots
+use Rattle.hall_turns.specs.Shown.{value_of, view_of, lane_shown, running_shown, stop_shown}
 use Rattle.hall_turns.specs.declared.key.HallKey.{HallKey}
 use Rattle.hall_turns.specs.Keys.{table_of, quota_of, terms_of}
 use Rattle.hall_turns.specs.Law.{HallHolds, joined_note}

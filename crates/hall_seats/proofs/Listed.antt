@@ -15,10 +15,10 @@ use Rattle.hall_law.specs.Views.{View}
 use Rattle.hall_law.specs.Seats.{answered_with}
 use Rattle.hall_law.proofs.Halting.{answers_keep_crew}
 use Rattle.hall_law.specs.State.{RunningState}
-use Rattle.hall_slots.specs.declared.list_slot.ListSlot.{ListSlot}
-use Rattle.hall_slots.specs.declared.seat_note.SeatNote.{SeatNote}
-use Rattle.hall_slots.specs.declared.slot.Slot.TheVariants as slots
-use Rattle.hall_slots.specs.Shown.{list_shown, view_of, end_shown}
+use Rattle.hall_turns.specs.declared.list_slot.ListSlot.{ListSlot}
+use Rattle.hall_turns.specs.declared.seat_note.SeatNote.{SeatNote}
+use Rattle.hall_turns.specs.declared.slot.Slot.TheVariants as slots
+use Rattle.hall_turns.specs.Shown.{list_shown, view_of, end_shown}
 use Rattle.hall_turns.specs.declared.key.HallKey.{HallKey}
 use Rattle.hall_turns.specs.Keys.{terms_of}
 use Rattle.hall_turns.specs.Law.{joined_note}
@@ -32,7 +32,7 @@ use Rattle.turn_table.specs.declared.hand.Hand.{Hand}
 use Rattle.turn_table.specs.Hands.{gave, renewed, without_slot}
 use Rattle.turn_table.specs.Seats.{with_hand}
 use Rattle.turn_table.proofs.Left.{left_of_one}
-use Rattle.hall_slots.specs.declared.slot.Slot.{Slot}
+use Rattle.hall_turns.specs.declared.slot.Slot.{Slot}
 use Rattle.hall_seats.specs.Lists.{answered_note, HoldsTheSame, HoldsTheEnd, Leaves}
 use Rattle.hall_seats.proofs.Ends.{parts_sound}
 

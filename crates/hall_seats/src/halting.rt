@@ -2,12 +2,12 @@
 
 ghost use Rattle.std.specs.Prelude.{◌≡◌, [], Some, IfOk, IsOk, MatchResult};
 ghost use Rattle.turn_table.specs.Tables.{key_of, IsSeatOf};
-ghost use Rattle.hall_slots.specs.Lists.{end_kept};
+ghost use Rattle.hall_turns.specs.Lists.{end_kept};
 ghost use Rattle.hall_turns.specs.Takes.{HasAllPlaces, IsRefused, MeetsLaw};
 ghost use Rattle.hall_seats.specs.Halting.{HasHalted, HoldsTheKept, IsInHall, PutsHalted};
 
 use boxed::Boxed;
-use hall_slots::{ListSlot, Slot};
+use hall_turns::{ListSlot, Slot};
 use hall_turns::{HallPlace, HallRow, take_list};
 use run_end::{RunEnd, Stop};
 use std::marker::Brand;

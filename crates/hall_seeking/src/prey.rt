@@ -1,5 +1,5 @@
 use boxed::Boxed;
-use hall_slots::{LaneSlot, ListSlot};
+use hall_turns::{LaneSlot, ListSlot};
 use run_end::RunEnd;
 use turn_table::Held;
 

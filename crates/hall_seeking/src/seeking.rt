@@ -2,7 +2,7 @@
 
 ghost use Rattle.std.specs.Prelude.{◌≡◌, [], ◌∷◌, IfOk};
 ghost use Rattle.turn_table.specs.Tables.{key_of, IsSeatOf};
-ghost use Rattle.hall_slots.specs.declared.slot.Slot.TheVariants as slots;
+ghost use Rattle.hall_turns.specs.declared.slot.Slot.TheVariants as slots;
 ghost use Rattle.hall_turns.specs.Takes.{IsPlaced, MeetsLaw};
 ghost use Rattle.hall_seeking.specs.Seeking.{HasSought, SeeksWith};
 
@@ -10,7 +10,7 @@ use crate::prey::{Prey, SeekRefused};
 use boxed::Boxed;
 use hall_choice::choose;
 use hall_seats::{end_of, put_answered};
-use hall_slots::ListSlot;
+use hall_turns::ListSlot;
 use hall_turns::{HallPlace, HallRow, give_list_back, take_list};
 
 /// What `seek` does once it has the list.

@@ -13,7 +13,7 @@ use Rattle.deque_list.specs.Ids.{IsLive, place_ids}
 use Rattle.deque_list.specs.Orders.{OrderView}
 use Rattle.period_books.proofs.Sorting.{get_middle}
 use Rattle.space_ledger.specs.BooksList.{books_list}
-use Rattle.hall_slots.specs.declared.list_slot.ListSlot.{ListSlot}
+use Rattle.hall_turns.specs.declared.list_slot.ListSlot.{ListSlot}
 use Rattle.hall_thefts.specs.Thefts.{IsRobbed}
 
 module _ {places : List Place} {id : DequeId} where

@@ -12,8 +12,8 @@ use Rattle.quota_period.specs.declared.period.Period.{Period}
 use Rattle.thread_frames.specs.declared.thread.Thread.{Thread}
 use Rattle.turn_table.specs.Seats.{with_hand}
 use Rattle.hall_law.specs.Writing.{new_period}
-use Rattle.hall_slots.specs.declared.lane_slot.LaneSlot.{LaneSlot}
-use Rattle.hall_slots.specs.declared.list_slot.ListSlot.{ListSlot}
+use Rattle.hall_turns.specs.declared.lane_slot.LaneSlot.{LaneSlot}
+use Rattle.hall_turns.specs.declared.list_slot.ListSlot.{ListSlot}
 use Rattle.hall_turns.specs.declared.key.HallKey.{HallKey}
 use Rattle.hall_turns.specs.Takes.{HallSeat}
 use Rattle.hall_thefts.specs.Thefts.{stolen_note, IsRobbed, Begins, HasTakenOver, HasTakenBottom, HasStolen}

@@ -8,7 +8,7 @@ ghost use Rattle.hall_thefts.specs.Thefts.{IsRobbed};
 
 use boxed::Boxed;
 use deque_list::DequeId;
-use hall_slots::{LaneSlot, ListSlot, Running};
+use hall_turns::{LaneSlot, ListSlot, Running};
 use quota_period::Period;
 
 /// Begins a period for a worker in a lane.

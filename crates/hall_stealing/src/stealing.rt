@@ -8,7 +8,7 @@ ghost use Rattle.hall_stealing.specs.Stealing.{HasStolenIn, MayTakeBottom, MayTa
 use crate::parts::{begin_in, insert_in, move_bottom, own_in};
 use boxed::Boxed;
 use deque_list::DequeId;
-use hall_slots::{LaneSlot, ListSlot};
+use hall_turns::{LaneSlot, ListSlot};
 use hall_thefts::{put_beside, put_over};
 use hall_turns::{HallPlace, HallRow};
 use quota_period::Period;

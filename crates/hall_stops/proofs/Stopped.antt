@@ -16,12 +16,12 @@ use Rattle.hall_law.specs.Values.{ListShown, no_memory}
 use Rattle.hall_law.specs.Seats.{end_with}
 use Rattle.hall_law.specs.State.{RunningState}
 use Rattle.hall_law.proofs.Quiet.{kept_stops_go_on}
-use Rattle.hall_slots.specs.declared.list_slot.ListSlot.{ListSlot}
-use Rattle.hall_slots.specs.declared.seat_note.SeatNote.{SeatNote}
-use Rattle.hall_slots.specs.declared.slot.Slot.{Slot}
-use Rattle.hall_slots.specs.declared.slot.Slot.TheVariants as slots
-use Rattle.hall_slots.specs.Lists.{end_kept}
-use Rattle.hall_slots.specs.Shown.{list_shown, view_of, stop_shown, end_shown}
+use Rattle.hall_turns.specs.declared.list_slot.ListSlot.{ListSlot}
+use Rattle.hall_turns.specs.declared.seat_note.SeatNote.{SeatNote}
+use Rattle.hall_turns.specs.declared.slot.Slot.{Slot}
+use Rattle.hall_turns.specs.declared.slot.Slot.TheVariants as slots
+use Rattle.hall_turns.specs.Lists.{end_kept}
+use Rattle.hall_turns.specs.Shown.{list_shown, view_of, stop_shown, end_shown}
 use Rattle.hall_turns.specs.declared.key.HallKey.{HallKey}
 use Rattle.hall_turns.specs.Keys.{terms_of}
 use Rattle.hall_turns.specs.Law.{joined_note}

@@ -1,13 +1,13 @@
 //! How a stop is kept.
 
 ghost use Rattle.turn_table.specs.Tables.{key_of, IsSeatOf};
-ghost use Rattle.hall_slots.specs.declared.seat_note.SeatNote.{SeatNote as AnyNote};
+ghost use Rattle.hall_turns.specs.declared.seat_note.SeatNote.{SeatNote as AnyNote};
 ghost use Rattle.hall_turns.specs.Takes.{MeetsLaw};
 ghost use Rattle.hall_stops.specs.Stopping.{found_note, HasStopped, HoldsTheStopped, MayStop};
 
 use boxed::Boxed;
 use hall_seats::keep_in;
-use hall_slots::{ListSlot, Slot};
+use hall_turns::{ListSlot, Slot};
 use hall_turns::{HallPlace, HallRow};
 use run_end::Stop;
 use std::marker::Brand;

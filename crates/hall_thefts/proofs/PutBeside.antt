@@ -12,11 +12,11 @@ use Rattle.turn_table.proofs.Left.{second_of_two, third_of_three}
 use Rattle.turn_table.proofs.NoteLaws.{put_writes}
 use Rattle.turn_places.specs.Backs.{unchanged}
 use Rattle.turn_places.proofs.Resting.{put_rests}
-use Rattle.hall_slots.specs.declared.lane_slot.LaneSlot.{LaneSlot}
-use Rattle.hall_slots.specs.declared.list_slot.ListSlot.{ListSlot}
-use Rattle.hall_slots.specs.declared.seat_note.SeatNote.{SeatNote}
-use Rattle.hall_slots.specs.declared.slot.Slot.{Slot}
-use Rattle.hall_slots.specs.declared.slot.Slot.TheVariants as slots
+use Rattle.hall_turns.specs.declared.lane_slot.LaneSlot.{LaneSlot}
+use Rattle.hall_turns.specs.declared.list_slot.ListSlot.{ListSlot}
+use Rattle.hall_turns.specs.declared.seat_note.SeatNote.{SeatNote}
+use Rattle.hall_turns.specs.declared.slot.Slot.{Slot}
+use Rattle.hall_turns.specs.declared.slot.Slot.TheVariants as slots
 use Rattle.hall_turns.specs.declared.key.HallKey.{HallKey}
 use Rattle.hall_turns.specs.Law.{HallHolds, places_of, joined_note}
 use Rattle.hall_turns.specs.Takes.{HallSeat, IsGiven}

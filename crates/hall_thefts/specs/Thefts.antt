@@ -9,12 +9,12 @@ use Rattle.space_ledger.specs.BooksList.{books_list}
 use Rattle.thread_frames.specs.declared.thread.Thread.{Thread}
 use Rattle.turn_table.specs.Seats.{with_hand}
 use Rattle.hall_law.specs.Writing.{place_of, new_period}
-use Rattle.hall_slots.specs.declared.event.Event.TheVariants.{Stole}
-use Rattle.hall_slots.specs.declared.lane_slot.LaneSlot.{LaneSlot}
-use Rattle.hall_slots.specs.declared.list_slot.ListSlot.{ListSlot}
-use Rattle.hall_slots.specs.declared.seat_note.SeatNote.{SeatNote}
-use Rattle.hall_slots.specs.declared.slot.Slot.{Slot}
-use Rattle.hall_slots.specs.declared.slot.Slot.TheVariants as slots
+use Rattle.hall_turns.specs.declared.event.Event.TheVariants.{Stole}
+use Rattle.hall_turns.specs.declared.lane_slot.LaneSlot.{LaneSlot}
+use Rattle.hall_turns.specs.declared.list_slot.ListSlot.{ListSlot}
+use Rattle.hall_turns.specs.declared.seat_note.SeatNote.{SeatNote}
+use Rattle.hall_turns.specs.declared.slot.Slot.{Slot}
+use Rattle.hall_turns.specs.declared.slot.Slot.TheVariants as slots
 use Rattle.hall_turns.specs.declared.key.HallKey.{HallKey}
 use Rattle.hall_turns.specs.Takes.{HallSeat}
 

@@ -2,15 +2,15 @@
 
 ghost use Rattle.std.specs.Prelude.{◌≡◌, ◌+◌, ◌<◌, ◌∷◌, []};
 ghost use Rattle.turn_table.specs.Tables.{key_of, slot_count, IsSeatOf};
-ghost use Rattle.hall_slots.specs.declared.lane_slot.LaneSlot.{LaneSlot as AnyLane};
-ghost use Rattle.hall_slots.specs.declared.seat_note.SeatNote.{SeatNote as AnyNote};
-ghost use Rattle.hall_slots.specs.declared.slot.Slot.TheVariants as slots;
+ghost use Rattle.hall_turns.specs.declared.lane_slot.LaneSlot.{LaneSlot as AnyLane};
+ghost use Rattle.hall_turns.specs.declared.seat_note.SeatNote.{SeatNote as AnyNote};
+ghost use Rattle.hall_turns.specs.declared.slot.Slot.TheVariants as slots;
 ghost use Rattle.hall_turns.specs.Takes.{MeetsLaw};
 ghost use Rattle.hall_thefts.specs.Thefts.{HasStolen, HasTakenBottom, HasTakenOver, StealsInto, stolen_note};
 
 use boxed::Boxed;
 use deque_list::DequeId;
-use hall_slots::{LaneSlot, ListSlot, Slot};
+use hall_turns::{LaneSlot, ListSlot, Slot};
 use hall_turns::{HallPlace, HallRow, give_lane_back};
 use std::marker::Brand;
 

@@ -7,8 +7,8 @@ use Rattle.turn_table.proofs.NoteLaws.{take_quiet, held_quiet, put_quiet}
 use Rattle.turn_places.specs.Places.{WithPlaces}
 use Rattle.turn_places.specs.Backs.{kept, still, unchanged}
 use Rattle.turn_places.proofs.Resting.{take_rests, held_rests, put_rests}
-use Rattle.hall_slots.specs.declared.slot.Slot.{Slot}
-use Rattle.hall_slots.specs.declared.seat_note.SeatNote.{SeatNote}
+use Rattle.hall_turns.specs.declared.slot.Slot.{Slot}
+use Rattle.hall_turns.specs.declared.seat_note.SeatNote.{SeatNote}
 use Rattle.hall_turns.specs.declared.key.HallKey.{HallKey}
 use Rattle.hall_turns.specs.Law.{HallHolds, places_of, joined_note}
 use Rattle.hall_turns.specs.Takes.{HallSeat, IsPlaced}

@@ -5,3 +5,5 @@ pub mod Pairing
 pub mod Written
 pub mod Putting
 pub mod Noting
+mod Closing
+mod Crews

@@ -22,9 +22,9 @@ use Rattle.turn_places.proofs.Alone.{lone_seats_are_free}
 use Rattle.hall_law.specs.Views.{View}
 use Rattle.hall_law.specs.State.{HallLaw}
 use Rattle.hall_law.proofs.Closed.{seats_with_all_are_alone}
-use Rattle.hall_slots.specs.declared.slot.Slot.{Slot}
-use Rattle.hall_slots.specs.declared.seat_note.SeatNote.{SeatNote}
-use Rattle.hall_slots.specs.Shown.{value_of, view_of}
+use Rattle.hall_turns.specs.declared.slot.Slot.{Slot}
+use Rattle.hall_turns.specs.declared.seat_note.SeatNote.{SeatNote}
+use Rattle.hall_turns.specs.Shown.{value_of, view_of}
 use Rattle.hall_turns.specs.declared.key.HallKey.{HallKey}
 use Rattle.hall_turns.specs.Keys.{terms_of}
 use Rattle.hall_turns.specs.Law.{places_of, joined_note}

@@ -18,11 +18,11 @@ use Rattle.hall_law.specs.Views.{View}
 use Rattle.hall_law.specs.Values.{no_memory, End}
 use Rattle.hall_law.specs.Points.{IsExcused, AreAtPoints, StaysAtPoints}
 use Rattle.hall_law.proofs.Points.{points_go_on, excuses_stay}
-use Rattle.hall_slots.specs.declared.list_slot.ListSlot.{ListSlot}
-use Rattle.hall_slots.specs.declared.seat_note.SeatNote.{SeatNote}
-use Rattle.hall_slots.specs.declared.slot.Slot.{Slot}
-use Rattle.hall_slots.specs.declared.slot.Slot.TheVariants as slots
-use Rattle.hall_slots.specs.Shown.{view_of, end_shown}
+use Rattle.hall_turns.specs.declared.list_slot.ListSlot.{ListSlot}
+use Rattle.hall_turns.specs.declared.seat_note.SeatNote.{SeatNote}
+use Rattle.hall_turns.specs.declared.slot.Slot.{Slot}
+use Rattle.hall_turns.specs.declared.slot.Slot.TheVariants as slots
+use Rattle.hall_turns.specs.Shown.{view_of, end_shown}
 use Rattle.hall_turns.specs.declared.key.HallKey.{HallKey}
 use Rattle.hall_turns.specs.Keys.{table_of, quota_of}
 use Rattle.hall_turns.specs.Sound.{threads_of, thread_that_waits, ThreadsAreAtPoints, EndIsSound, PartsAreSound}

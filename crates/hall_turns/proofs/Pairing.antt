@@ -6,8 +6,8 @@ use Rattle.turn_table.specs.Notes.{HasAs}
 use Rattle.turn_table.specs.Seats.{with_hand}
 use Rattle.turn_places.specs.Backs.{kept, IsBack}
 use Rattle.turn_places.proofs.Returning.{back_of_none, back_of_one}
-use Rattle.hall_slots.specs.declared.slot.Slot.{Slot}
-use Rattle.hall_slots.specs.declared.seat_note.SeatNote.{SeatNote}
+use Rattle.hall_turns.specs.declared.slot.Slot.{Slot}
+use Rattle.hall_turns.specs.declared.seat_note.SeatNote.{SeatNote}
 use Rattle.hall_turns.specs.declared.key.HallKey.{HallKey}
 use Rattle.hall_turns.specs.Takes.{HallSeat, IsPlaced, HasAllPlaces, IsTaken, AreTaken, IsRefused, IsGiven}
 

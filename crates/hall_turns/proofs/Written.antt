@@ -9,12 +9,12 @@ use Rattle.turn_table.proofs.Hands.{read_at}
 use Rattle.deque_list.specs.declared.deque_id.DequeId.{DequeId}
 use Rattle.hall_law.specs.Values.{Hall, of_lane, list_in, pool_in, lane_in, no_lane, lane_at}
 use Rattle.hall_law.specs.Writing.{lane_slot}
-use Rattle.hall_slots.specs.declared.slot.Slot.{Slot}
-use Rattle.hall_slots.specs.declared.slot.Slot.TheVariants as slots
-use Rattle.hall_slots.specs.declared.list_slot.ListSlot.{ListSlot}
-use Rattle.hall_slots.specs.declared.pool_slot.PoolSlot.{PoolSlot}
-use Rattle.hall_slots.specs.declared.lane_slot.LaneSlot.{LaneSlot}
-use Rattle.hall_slots.specs.Shown.{list_shown, pool_shown, lane_shown, value_of}
+use Rattle.hall_turns.specs.declared.slot.Slot.{Slot}
+use Rattle.hall_turns.specs.declared.slot.Slot.TheVariants as slots
+use Rattle.hall_turns.specs.declared.list_slot.ListSlot.{ListSlot}
+use Rattle.hall_turns.specs.declared.pool_slot.PoolSlot.{PoolSlot}
+use Rattle.hall_turns.specs.declared.lane_slot.LaneSlot.{LaneSlot}
+use Rattle.hall_turns.specs.Shown.{list_shown, pool_shown, lane_shown, value_of}
 use Rattle.hall_turns.specs.Steps.{hall_shown}
 
 -- a written slot is a written part of the hall

@@ -6,9 +6,9 @@ use Rattle.depth_first_run.specs.States.{Setting}
 use Rattle.deque_machine.specs.Terms.{Terms, machine_of}
 use Rattle.thread_state.specs.Settings.{IsSettingOf}
 use Rattle.hall_law.specs.State.{HallLaw}
-use Rattle.hall_slots.specs.declared.slot.Slot.{Slot}
-use Rattle.hall_slots.specs.declared.seat_note.SeatNote.{SeatNote}
-use Rattle.hall_slots.specs.Shown.{value_of, kind_of, view_of}
+use Rattle.hall_turns.specs.declared.slot.Slot.{Slot}
+use Rattle.hall_turns.specs.declared.seat_note.SeatNote.{SeatNote}
+use Rattle.hall_turns.specs.Shown.{value_of, kind_of, view_of}
 use Rattle.hall_turns.specs.declared.key.HallKey.{HallKey}
 use Rattle.hall_turns.specs.Keys.{table_of, quota_of, terms_of, IsKey}
 use Rattle.hall_turns.specs.Sound.{PartsAreSound}

@@ -3,3 +3,5 @@ pub mod Sound
 pub mod Law
 pub mod Takes
 pub mod Steps
+pub mod Shown
+pub mod Lists

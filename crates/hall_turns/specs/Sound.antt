@@ -17,13 +17,13 @@ use Rattle.run_end.specs.declared.ends.RunEnd.{RunEnd}
 use Rattle.run_end.specs.declared.ends.RunEnd.TheVariants.{Finished}
 use Rattle.hall_law.specs.Writing.{lane_slot}
 use Rattle.hall_law.specs.Points.{AreAtPoints}
-use Rattle.hall_slots.specs.declared.list_slot.ListSlot.{ListSlot}
-use Rattle.hall_slots.specs.declared.pool_slot.PoolSlot.{PoolSlot}
-use Rattle.hall_slots.specs.declared.lane_slot.LaneSlot.{LaneSlot}
-use Rattle.hall_slots.specs.declared.slot.Slot.{Slot}
-use Rattle.hall_slots.specs.declared.slot.Slot.TheVariants as slots
-use Rattle.hall_slots.specs.declared.seat_note.SeatNote.{SeatNote}
-use Rattle.hall_slots.specs.Shown.{view_of, end_shown}
+use Rattle.hall_turns.specs.declared.list_slot.ListSlot.{ListSlot}
+use Rattle.hall_turns.specs.declared.pool_slot.PoolSlot.{PoolSlot}
+use Rattle.hall_turns.specs.declared.lane_slot.LaneSlot.{LaneSlot}
+use Rattle.hall_turns.specs.declared.slot.Slot.{Slot}
+use Rattle.hall_turns.specs.declared.slot.Slot.TheVariants as slots
+use Rattle.hall_turns.specs.declared.seat_note.SeatNote.{SeatNote}
+use Rattle.hall_turns.specs.Shown.{view_of, end_shown}
 use Rattle.hall_turns.specs.declared.key.HallKey.{HallKey}
 use Rattle.hall_turns.specs.Keys.{table_of, quota_of}
 

@@ -6,8 +6,8 @@ use Rattle.turn_table.specs.Seats.{SeatView, with_hand}
 use Rattle.turn_table.specs.Law.{Meets}
 use Rattle.turn_places.specs.Backs.{kept, still, unchanged}
 use Rattle.turn_places.specs.Places.{WithPlaces}
-use Rattle.hall_slots.specs.declared.slot.Slot.{Slot}
-use Rattle.hall_slots.specs.declared.seat_note.SeatNote.{SeatNote}
+use Rattle.hall_turns.specs.declared.slot.Slot.{Slot}
+use Rattle.hall_turns.specs.declared.seat_note.SeatNote.{SeatNote}
 use Rattle.hall_turns.specs.declared.key.HallKey.{HallKey}
 use Rattle.hall_turns.specs.Law.{HallHolds, places_of, joined_note}
 

@@ -3,13 +3,13 @@
 ghost use Rattle.std.specs.Prelude.{◌≡◌, ◌+◌, ◌<◌};
 ghost use Rattle.turn_table.specs.Notes.{HasAs};
 ghost use Rattle.turn_table.specs.Tables.{key_of, slot_count, IsSeatOf};
-ghost use Rattle.hall_slots.specs.declared.slot.Slot.TheVariants as slots;
+ghost use Rattle.hall_turns.specs.declared.slot.Slot.TheVariants as slots;
 ghost use Rattle.hall_turns.specs.Takes.{IsPlaced, IsGiven, MeetsLaw};
 
 use crate::rule::{HallPlace, HallRow};
 use boxed::Boxed;
 use deque_list::DequeId;
-use hall_slots::{LaneSlot, ListSlot, PoolSlot, Slot};
+use crate::{LaneSlot, ListSlot, PoolSlot, Slot};
 use turn_table::Keep;
 
 /// Puts back what is in a slot as it was.

@@ -3,7 +3,7 @@
 ghost use Rattle.std.specs.Prelude.{◌≡◌, ◌+◌, ◌<◌, [], IfOk, IsOk, MatchResult};
 ghost use Rattle.turn_table.specs.Tables.{key_of, slot_count, IsSeatOf};
 ghost use Rattle.turn_places.specs.Backs.{IsBack};
-ghost use Rattle.hall_slots.specs.declared.slot.Slot.TheVariants as slots;
+ghost use Rattle.hall_turns.specs.declared.slot.Slot.TheVariants as slots;
 ghost use Rattle.hall_turns.specs.Takes.{IsPlaced, HasAllPlaces, MeetsLaw, AreTaken};
 
 use crate::backs::give_lane_back;
@@ -11,7 +11,7 @@ use crate::rule::{HallPlace, HallRow};
 use crate::takes::{take_lane, take_list, take_pool};
 use boxed::Boxed;
 use deque_list::DequeId;
-use hall_slots::{LaneSlot, ListSlot, PoolSlot};
+use crate::{LaneSlot, ListSlot, PoolSlot};
 use turn_table::Held;
 
 /// Takes the lane of a deque, and the list.

@@ -1,5 +1,5 @@
 use crate::key::HallKey;
-use hall_slots::{SeatNote, Slot};
+use crate::{SeatNote, Slot};
 use turn_table::{TurnLaw, TurnSeat, Turns};
 
 /// The law of a hall, as a row of turns keeps it.

@@ -5,14 +5,14 @@ ghost use Rattle.turn_table.specs.Hands.{Has, took, refused};
 ghost use Rattle.turn_table.specs.Seats.{with_hand};
 ghost use Rattle.turn_table.specs.Tables.{key_of, slot_count, IsSeatOf};
 ghost use Rattle.turn_places.specs.Backs.{kept};
-ghost use Rattle.hall_slots.specs.declared.slot.Slot.TheVariants as slots;
+ghost use Rattle.hall_turns.specs.declared.slot.Slot.TheVariants as slots;
 ghost use Rattle.hall_turns.specs.Law.{IsShaped};
 ghost use Rattle.hall_turns.specs.Takes.{IsPlaced, HasAllPlaces, MeetsLaw, IsTaken, IsRefused};
 
 use crate::rule::{HallPlace, HallRow};
 use boxed::Boxed;
 use deque_list::DequeId;
-use hall_slots::{LaneSlot, ListSlot, PoolSlot, Slot};
+use crate::{LaneSlot, ListSlot, PoolSlot, Slot};
 use turn_table::{Held, Keep};
 
 /// Takes the turn of a slot, and what is in it.

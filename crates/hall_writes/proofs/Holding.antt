@@ -12,10 +12,10 @@ use Rattle.thread_state.specs.Settings.{IsSettingOf}
 use Rattle.hall_law.specs.Values.{Hall}
 use Rattle.hall_law.specs.Writing.{lane_slot}
 use Rattle.hall_law.specs.State.{HallLaw}
-use Rattle.hall_slots.specs.declared.seat_note.SeatNote.{SeatNote}
-use Rattle.hall_slots.specs.declared.slot.Slot.{Slot}
-use Rattle.hall_slots.specs.declared.slot.Slot.TheVariants as slots
-use Rattle.hall_slots.specs.Shown.{value_of, view_of, list_shown, pool_shown}
+use Rattle.hall_turns.specs.declared.seat_note.SeatNote.{SeatNote}
+use Rattle.hall_turns.specs.declared.slot.Slot.{Slot}
+use Rattle.hall_turns.specs.declared.slot.Slot.TheVariants as slots
+use Rattle.hall_turns.specs.Shown.{value_of, view_of, list_shown, pool_shown}
 use Rattle.hall_turns.specs.declared.key.HallKey.{HallKey}
 use Rattle.hall_turns.specs.Keys.{table_of, quota_of, terms_of}
 use Rattle.hall_turns.specs.Law.{HallHolds, IsShaped}

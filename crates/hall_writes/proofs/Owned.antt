@@ -20,11 +20,11 @@ use Rattle.hall_law.specs.Values.{Hall, ListShown, finished}
 use Rattle.hall_law.specs.Writing.{place_of}
 use Rattle.hall_law.proofs.Lanes.{IsElsewhere, apart}
 use Rattle.hall_law.specs.State.{HallLaw}
-use Rattle.hall_slots.specs.declared.list_slot.ListSlot.{ListSlot}
-use Rattle.hall_slots.specs.declared.seat_note.SeatNote.{SeatNote}
-use Rattle.hall_slots.specs.declared.slot.Slot.{Slot}
-use Rattle.hall_slots.specs.declared.slot.Slot.TheVariants as slots
-use Rattle.hall_slots.specs.Shown.{value_of, view_of, end_shown}
+use Rattle.hall_turns.specs.declared.list_slot.ListSlot.{ListSlot}
+use Rattle.hall_turns.specs.declared.seat_note.SeatNote.{SeatNote}
+use Rattle.hall_turns.specs.declared.slot.Slot.{Slot}
+use Rattle.hall_turns.specs.declared.slot.Slot.TheVariants as slots
+use Rattle.hall_turns.specs.Shown.{value_of, view_of, end_shown}
 use Rattle.hall_turns.specs.declared.key.HallKey.{HallKey}
 use Rattle.hall_turns.specs.Keys.{terms_of}
 use Rattle.hall_turns.specs.Law.{HallHolds}

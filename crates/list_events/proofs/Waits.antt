@@ -9,8 +9,8 @@ use Rattle.moment_parts.specs.Parts.{Child}
 use Rattle.thread_frames.specs.declared.thread.Thread.{Thread}
 use Rattle.thread_frames.specs.Kept.{WaitsUnder, waiting_shown}
 use Rattle.thread_frames.proofs.Found.{none_found}
-use Rattle.hall_slots.specs.declared.list_slot.ListSlot.{ListSlot}
-use Rattle.hall_slots.specs.Shown.{list_shown}
+use Rattle.hall_turns.specs.declared.list_slot.ListSlot.{ListSlot}
+use Rattle.hall_turns.specs.Shown.{list_shown}
 use Rattle.list_events.specs.Calls.{TakesWaiting}
 use Rattle.list_events.specs.Taken.{NobodyWaits}
 

@@ -10,9 +10,9 @@ use Rattle.thread_frames.specs.declared.thread.Thread.{Thread}
 use Rattle.thread_frames.specs.Shown.{thread_shown, result_shown}
 use Rattle.hall_law.specs.Values.{Hall, ListShown}
 use Rattle.hall_law.specs.Writing.{IsAtWork, IsHanded, list_without}
-use Rattle.hall_slots.specs.declared.list_slot.ListSlot.{ListSlot}
-use Rattle.hall_slots.specs.declared.lane_slot.Running.{Running}
-use Rattle.hall_slots.specs.Shown.{list_shown, running_shown}
+use Rattle.hall_turns.specs.declared.list_slot.ListSlot.{ListSlot}
+use Rattle.hall_turns.specs.declared.lane_slot.Running.{Running}
+use Rattle.hall_turns.specs.Shown.{list_shown, running_shown}
 
 -- the list shows that the thread on top waits, and that its deque, of a worker at work, is gone
 abbrev pub SuspendsThere : (before after : ListSlot) → DequeId → Running → Thread → Type 0

@@ -18,8 +18,8 @@ use Rattle.hall_law.specs.Writing.{lane_with, IsAtWork, written, step_of, PoolTa
 use Rattle.hall_law.specs.Views.{View}
 use Rattle.hall_law.specs.State.{RunningState, IsIn, GoesOn}
 use Rattle.hall_law.specs.Events.{still_owning}
-use Rattle.hall_slots.specs.declared.list_slot.ListSlot.{ListSlot}
-use Rattle.hall_slots.specs.Shown.{list_shown}
+use Rattle.hall_turns.specs.declared.list_slot.ListSlot.{ListSlot}
+use Rattle.hall_turns.specs.Shown.{list_shown}
 
 -- the End of a thread, alone in its deque, whose parent waits for it, where the others wait in this order once the parent is taken out
 abbrev pub TakenWakesGoOn : Setting → Type 0

@@ -6,14 +6,14 @@ ghost use Rattle.list_part.specs.Parts.{Has};
 ghost use Rattle.space_ledger.specs.BooksList.{books_spare};
 ghost use Rattle.thread_map.specs.Kept.{kept_under};
 ghost use Rattle.thread_events.specs.Results.{IsToCome, HasCome};
-ghost use Rattle.hall_slots.specs.Lists.{IsGone};
-ghost use Rattle.hall_slots.specs.Shown.{list_shown};
+ghost use Rattle.hall_turns.specs.Lists.{IsGone};
+ghost use Rattle.hall_turns.specs.Shown.{list_shown};
 ghost use Rattle.list_events.specs.Calls.{SuspendsThere, LeavesThere, TakesWaiting, IsHandedThere, KeepsCrew};
 
 use boxed::Boxed;
 use dag_order::ThreadId;
 use deque_list::DequeId;
-use hall_slots::{ListSlot, Running};
+use hall_turns::{ListSlot, Running};
 use thread_frames::{Ended, Thread};
 
 /// Lets a thread, alone in its deque, wait for a child: the deque is gone, and the period is closed. It takes no memory.

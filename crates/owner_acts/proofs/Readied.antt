@@ -9,12 +9,12 @@ use Rattle.space_ledger.specs.Sums.{total_change}
 use Rattle.thread_frames.specs.Points.{IsAtPoint, IsPlaced}
 use Rattle.thread_frames.specs.Views.{done_of}
 use Rattle.thread_frames.specs.declared.thread.Thread.{Thread}
-use Rattle.hall_slots.specs.declared.lane_slot.LaneSlot.{LaneSlot}
-use Rattle.hall_slots.specs.declared.lane_slot.Running.{Running}
+use Rattle.hall_turns.specs.declared.lane_slot.LaneSlot.{LaneSlot}
+use Rattle.hall_turns.specs.declared.lane_slot.Running.{Running}
 use Rattle.lane_events.specs.Here.{GoesOnTop}
 use Rattle.lane_events.specs.Forks.{GoBothOnTop}
-use Rattle.hall_slots.specs.declared.pool_slot.PoolSlot.{PoolSlot}
-use Rattle.hall_slots.specs.declared.slot.Slot.{Slot}
+use Rattle.hall_turns.specs.declared.pool_slot.PoolSlot.{PoolSlot}
+use Rattle.hall_turns.specs.declared.slot.Slot.{Slot}
 use Rattle.hall_turns.specs.declared.key.HallKey.{HallKey}
 use Rattle.hall_turns.specs.Keys.{table_of, quota_of}
 use Rattle.hall_turns.specs.Sound.{PoolIsSound}

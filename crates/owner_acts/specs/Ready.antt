@@ -9,10 +9,10 @@ use Rattle.thread_frames.specs.Points.{IsAtPoint}
 use Rattle.thread_frames.specs.Views.{done_of, thread_words}
 use Rattle.thread_frames.specs.declared.thread.Thread.{Thread}
 use Rattle.lane_events.specs.Here.{HasRoomHere}
-use Rattle.hall_slots.specs.declared.lane_slot.LaneSlot.{LaneSlot}
-use Rattle.hall_slots.specs.declared.lane_slot.Running.{Running}
-use Rattle.hall_slots.specs.declared.pool_slot.PoolSlot.{PoolSlot}
-use Rattle.hall_slots.specs.declared.slot.Slot.{Slot}
+use Rattle.hall_turns.specs.declared.lane_slot.LaneSlot.{LaneSlot}
+use Rattle.hall_turns.specs.declared.lane_slot.Running.{Running}
+use Rattle.hall_turns.specs.declared.pool_slot.PoolSlot.{PoolSlot}
+use Rattle.hall_turns.specs.declared.slot.Slot.{Slot}
 use Rattle.hall_turns.specs.declared.key.HallKey.{HallKey}
 use Rattle.hall_turns.specs.Keys.{table_of, quota_of}
 use Rattle.hall_turns.specs.Sound.{PoolIsSound}

@@ -1,14 +1,19 @@
-//! The actions of an owner, from the parts that it took to its put back.
+//! The events of an owner, from the parts that it took to its put back.
 //!
-//! A call of an owner has the threads of its lane, the period that runs there, the top thread before its next action, and the pool if the
-//! action needs it. Here the action is done to these parts (`lane_events`), and they are put back (`hall_deciding`): the seat notes the
-//! action, and holds nothing.
+//! A call of an owner has the threads of its lane, the period that runs there, the top thread before its next action, and the pool or the
+//! list if the event needs them. Here the event is done to these parts (`lane_events`, `list_events`), and they are put back
+//! (`hall_deciding`): the seat notes the event, and holds nothing. There is a call for each action in the lane ([`act_fork`]), and one for
+//! each event after which the deque has no owner ([`act_wait`], [`act_give_up`], [`act_dummy`]).
 //!
-//! Its theorem: so it is with each action, and the law of the hall holds between any two atomic steps.
+//! Its theorem: so it is with each event, and the law of the hall holds between any two atomic steps.
 #![tactic(auto)]
 
+mod give_ups;
 mod joins;
+mod waits;
 mod words;
 
 pub use joins::{act_join_giving, act_own_join};
 pub use words::{act_alloc, act_fault, act_fork, act_release};
+pub use give_ups::{act_dummy, act_give_up, act_yield};
+pub use waits::act_wait;

@@ -9,7 +9,7 @@ ghost use Rattle.thread_frames.specs.Actions.{IsAlloc, IsRelease, IsFault, IsFor
 ghost use Rattle.thread_frames.specs.Views.{next_of, words_asked, held_by};
 ghost use Rattle.thread_frames.specs.declared.next.Next.TheVariants as nexts;
 ghost use Rattle.turn_table.specs.Tables.{key_of, slot_count, IsSeatOf};
-ghost use Rattle.hall_slots.specs.declared.event.Event.TheVariants.{Did};
+ghost use Rattle.hall_turns.specs.declared.event.Event.TheVariants.{Did};
 ghost use Rattle.hall_writes.specs.Writes.{told_note};
 ghost use Rattle.hall_puts.specs.Puts.{HasPut};
 ghost use Rattle.hall_events.specs.Taken.{MayAct, MayDoNext};
@@ -20,7 +20,7 @@ use boxed::Boxed;
 use dag_order::{ActionId, Births};
 use deque_list::{DequeId, Lane};
 use hall_deciding::decide_action;
-use hall_slots::{LaneSlot, PoolSlot, Running};
+use hall_turns::{LaneSlot, PoolSlot, Running};
 use hall_turns::{HallPlace, HallRow};
 use lane_events::{do_alloc, do_fault, do_fork, do_release};
 use thread_frames::{Place, Thread};

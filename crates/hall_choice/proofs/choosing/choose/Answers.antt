@@ -2,8 +2,8 @@ use Rattle.std.proofs.Common.{◌+◌, ◌<◌, [], ◌∷◌, ◌++◌, sym, ap
 use Rattle.std.specs.Prelude.{Option, min, length, slice_get}
 use Rattle.turn_table.specs.Tables.{key_of}
 use Rattle.turn_table.proofs.Standing.{slots_of_seat}
-use Rattle.hall_slots.specs.declared.lane_slot.LaneSlot.{LaneSlot}
-use Rattle.hall_slots.specs.declared.list_slot.ListSlot.{ListSlot}
+use Rattle.hall_turns.specs.declared.lane_slot.LaneSlot.{LaneSlot}
+use Rattle.hall_turns.specs.declared.list_slot.ListSlot.{ListSlot}
 use Rattle.hall_turns.specs.Takes.{HallSeat}
 use Rattle.hall_choice.specs.Choosing.{took_lane, HasTried}
 use Rattle.hall_choice.proofs.Inside.{slot_inside}

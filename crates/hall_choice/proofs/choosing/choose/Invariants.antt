@@ -2,7 +2,7 @@
 use Rattle.std.proofs.Common.{List}
 use Rattle.turn_table.specs.Tables.{key_of}
 use Rattle.turn_table.specs.declared.look.Look.{Look}
-use Rattle.hall_slots.specs.declared.slot.Slot.{Slot}
+use Rattle.hall_turns.specs.declared.slot.Slot.{Slot}
 use Rattle.hall_turns.specs.Takes.{MeetsLaw}
 use Rattle.hall_choice.specs.Choosing.{IsToldMore, NoneReady}
 use Rattle.hall_choice.proofs.choosing.choose.Given as goal

@@ -5,7 +5,7 @@ use Rattle.deque_list.specs.declared.place.Place.{Place}
 use Rattle.deque_list.specs.Ids.{IsSmallestFree, StandsAt, place_ids}
 use Rattle.deque_list.proofs.LawLemmas.{one_smallest_free}
 use Rattle.list_part.specs.Parts.{place_with}
-use Rattle.hall_slots.specs.declared.list_slot.ListSlot.{ListSlot}
+use Rattle.hall_turns.specs.declared.list_slot.ListSlot.{ListSlot}
 use Rattle.hall_stealing.proofs.Parted.{beside, robbed_of, live_in}
 use Rattle.hall_stealing.proofs.parts.insert_in.Goals as goal
 

@@ -3,7 +3,7 @@ use Rattle.std.specs.Prelude.{◌≡◌, None, Some, slice_set}
 use Rattle.deque_list.specs.declared.place.Place.{Place}
 use Rattle.deque_list.specs.Ids.{StandsAt}
 use Rattle.list_part.specs.Parts.{place_with}
-use Rattle.hall_slots.specs.declared.list_slot.ListSlot.{ListSlot}
+use Rattle.hall_turns.specs.declared.list_slot.ListSlot.{ListSlot}
 use Rattle.hall_stealing.proofs.Parted.{owned, robbed_of, stands_in}
 use Rattle.hall_stealing.proofs.parts.own_in.Goals as goal
 

@@ -1,7 +1,7 @@
 use Rattle.std.proofs.Common.{◌+◌, inl, refl, sym, ap, subst}
 use Rattle.turn_table.specs.Notes.{HasAs}
 use Rattle.turn_table.specs.Tables.{key_of}
-use Rattle.hall_slots.specs.declared.slot.Slot.TheVariants as slots
+use Rattle.hall_turns.specs.declared.slot.Slot.TheVariants as slots
 use Rattle.hall_turns.specs.Takes.{HallSeat}
 use Rattle.hall_thefts.proofs.PutOver.{stolen_back}
 use Rattle.hall_thefts.proofs.PutBeside.{victim_back}

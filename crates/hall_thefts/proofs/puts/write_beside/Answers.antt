@@ -1,7 +1,7 @@
 use Rattle.std.proofs.Common.{◌+◌, [], ◌∷◌, sym, ◌∙◌, subst}
 use Rattle.turn_table.specs.Hands.{shown_by}
 use Rattle.turn_table.specs.Tables.{key_of}
-use Rattle.hall_slots.specs.declared.slot.Slot.{Slot}
+use Rattle.hall_turns.specs.declared.slot.Slot.{Slot}
 use Rattle.hall_thefts.specs.Thefts.{StealsInto}
 use Rattle.hall_thefts.proofs.Beside.{ids_apart}
 use Rattle.hall_thefts.proofs.PutBeside.{named_first, named_second, beside_keeps, beside_stolen}

@@ -1,5 +1,5 @@
 use Rattle.std.proofs.Common.{◌+◌}
-use Rattle.hall_slots.specs.declared.slot.Slot.TheVariants as slots
+use Rattle.hall_turns.specs.declared.slot.Slot.TheVariants as slots
 use Rattle.hall_turns.proofs.Pairing.{is_back}
 use Rattle.hall_turns.proofs.pairs.take_lane_and_list.Goals as goal
 
