@@ -1,5 +1,5 @@
 -- What an owner's call has in its hands when its deque is given up, or its thread waits.
-use Rattle.std.specs.Prelude.{◌≡◌, ℕ, ◌≤◌, Option, false, None, List, [], ◌∷◌}
+use Rattle.std.specs.Prelude.{◌≡◌, ℕ, ◌≤◌, Option, false, None, List, ◌∷◌}
 use Rattle.dag_order.specs.declared.thread_id.ThreadId.{ThreadId}
 use Rattle.deque_list.specs.declared.deque_id.DequeId.{DequeId}
 use Rattle.depth_first_list.specs.Actions.{joins}

@@ -24,8 +24,8 @@ use hall_turns::{HallPlace, HallRow};
 use list_events::suspend;
 use thread_frames::Thread;
 
-/// The id of a thread.
-fn id_of(top: &Boxed<Thread>) -> ThreadId
+/// Returns the id of a thread.
+pub fn id_of(top: &Boxed<Thread>) -> ThreadId
     ensures { result ≡ AnyThread.id top.now }
 {
     top.get().id()

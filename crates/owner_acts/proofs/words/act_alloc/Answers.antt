@@ -1,6 +1,6 @@
-use Rattle.std.proofs.Common.{[], ◌∷◌, refl}
+use Rattle.std.proofs.Common.{[], refl}
 use Rattle.bounded_list.specs.BoundedList.{spare}
-use Rattle.thread_frames.specs.Views.{next_of, words_asked, held_by}
+use Rattle.thread_frames.specs.Views.{next_of, words_asked}
 use Rattle.thread_frames.specs.declared.next.Next.TheVariants as nexts
 use Rattle.turn_table.specs.Tables.{key_of}
 use Rattle.hall_deciding.specs.Taken.{pool_and_lane}

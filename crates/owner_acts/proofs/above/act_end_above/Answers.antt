@@ -1,0 +1,37 @@
+use Rattle.std.proofs.Common.{refl, sym, subst}
+use Rattle.bounded_list.specs.BoundedList.{spare}
+use Rattle.lawful_books.specs.Lists.{Each}
+use Rattle.thread_frames.specs.Points.{IsAtPoint}
+use Rattle.thread_frames.specs.Views.{label_of}
+use Rattle.thread_points.specs.Points.{words_at_end}
+use Rattle.turn_table.specs.Tables.{key_of}
+use Rattle.hall_turns.specs.Keys.{table_of, quota_of}
+use Rattle.hall_deciding.specs.Taken.{pool_and_lane}
+use Rattle.owner_acts.proofs.Readied.{was, given_sound}
+use Rattle.owner_acts.proofs.above.act_end_above.Goals as goal
+
+pub decide_end_above-requires-clause-event : goal.decide_end_above-requires-clause-event
+decide_end_above-requires-clause-event c =
+    let acts = c.end_above-name.ensures.acts in
+    let above = c.requires.above in
+    let given = acts.given above.0 above.1 above.2 in
+    let under = subst (Each (IsAtPoint (table_of (key_of c.args.row.now)) (quota_of (key_of c.args.row.now)))) above.2 c.requires.ready.under in record {
+      pool_was = c.args.pool;
+      was = was (key_of c.args.row.now) c.args.seat.now (pool_and_lane c.args.deque c.args.pool) c.args.lane c.args.running c.args.top 0 (spare c.args.first.now) c.requires.ready;
+      may = c.requires.may;
+      parent = above.0;
+      below = above.1;
+      under_is = above.2;
+      after = c.end_above-name.new.period;
+      running = refl;
+      acts = acts;
+      takes = c.end_above-name.ensures.words;
+      next = c.requires.listed;
+      pool_sound = λ sound. given_sound (key_of c.args.row.now) c.args.pool (record { pool = c.end_above-name.new.pool; moves = c.end_above-name.new.moves }) (words_at_end (label_of c.args.top))
+          c.end_above-name.ensures.sum sound c.end_above-name.ensures.pool;
+      points = subst (Each (IsAtPoint (table_of (key_of c.args.row.now)) (quota_of (key_of c.args.row.now)))) (sym given.1) (
+        given.2.point (table_of (key_of c.args.row.now)) (quota_of (key_of c.args.row.now)) under.0
+            (acts.ends.result (table_of (key_of c.args.row.now)) (quota_of (key_of c.args.row.now)) c.requires.ready.point),
+        under.1,
+      );
+    }
