@@ -110,7 +110,7 @@ const PLAYS: &str = "
 @ 16 1 1048576 4000000 0 | | done, prints, periods 7, ahead 0, high 48 | fn main() { alloc b = 40; free b; }
 @ 16 1 32 4000000 0 | | ArenaFull { live: 0, asked: 48 } | fn main() { alloc b = 40; free b; }
 @ 64 1 1048576 2 0 | | StepsSpent { limit: 2 } | fn main() { alloc b = 20; b[3] = 7; print b[3]; free b; }
-@ 16 2 1048576 4000000 0 | 000101000 | done, prints 1 2 3, periods 2, ahead 1, high 16 | fn main() { par { print 1; } and { print 2; } print 3; }
+@ 16 2 1048576 4000000 0 | 001000000 | done, prints 1 2 3, periods 2, ahead 1, high 16 | fn main() { par { print 1; } and { print 2; } print 3; }
 ";
 
 #[test]

@@ -74,5 +74,11 @@ pub fn bound_margin(alloc: Global, core: &Core, serial: &Serial) -> Result<u64, 
         → IsPrefix (list_of c) (done_at m) n
         → IfOk result (λ margin. pos margin +ℤ live_at (list_of c) m ≡ bound c.quota (list_of c) (periods_ahead n m.books)) }
 {
-    margin_of(alloc, &core.scheduler().table, serial, core.quota(), core.live())
+    margin_of(
+        alloc,
+        &core.scheduler().table,
+        serial,
+        core.quota(),
+        core.live(),
+    )
 }

@@ -86,7 +86,11 @@ fn count_past(books: &BoundedList<Places>, prefix: u32) -> u32
 }
 
 /// How many actions of the depth-first run stand in books, from the first on and without a gap.
-pub(crate) fn prefix_of(alloc: Global, table: &PeriodTable, serial: &Serial) -> Result<u32, AllocError>
+pub(crate) fn prefix_of(
+    alloc: Global,
+    table: &PeriodTable,
+    serial: &Serial,
+) -> Result<u32, AllocError>
     requires { StandsBeside table.now serial.now }
     ensures { (c : Setting) (books : AnyList AnyBook) → AreBooked c table.now books → TellsRun c serial.now
         → IfOk result (λ n. IsPrefix (list_of c) (done_in books) n) }
@@ -96,7 +100,11 @@ pub(crate) fn prefix_of(alloc: Global, table: &PeriodTable, serial: &Serial) -> 
 }
 
 /// How many periods, closed or open, ran an action that is not among these.
-pub(crate) fn ahead_of(alloc: Global, table: &PeriodTable, serial: &Serial) -> Result<u32, AllocError>
+pub(crate) fn ahead_of(
+    alloc: Global,
+    table: &PeriodTable,
+    serial: &Serial,
+) -> Result<u32, AllocError>
     requires { StandsBeside table.now serial.now }
     ensures { (c : Setting) (books : AnyList AnyBook) (n : ℕ) → AreBooked c table.now books → TellsRun c serial.now
         → IsPrefix (list_of c) (done_in books) n → IfOk result (λ ahead. ahead ≡ periods_ahead n books) }

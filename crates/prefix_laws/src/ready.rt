@@ -40,5 +40,11 @@ pub fn async_margin(alloc: Global, core: &AsyncCore, serial: &Serial) -> Result<
         → IsPrefix (list_of c) (done_at m) n
         → IfOk result (λ margin. pos margin +ℤ live_at (list_of c) m ≡ bound c.quota (list_of c) (periods_ahead n m.books)) }
 {
-    margin_of(alloc, &core.scheduler().table, serial, core.quota(), core.live())
+    margin_of(
+        alloc,
+        &core.scheduler().table,
+        serial,
+        core.quota(),
+        core.live(),
+    )
 }

@@ -25,5 +25,5 @@ give_lane_back-requires-clause-held c =
 pub returns : goal.returns
 returns c =
     given_back c.args.seat.now c.write_pool.new.seat c.give_lane_back.new.seat (note_of c.args.seat.now.hand.note c.args.noting) (c.args.deque.0 + 2)
-    ((c.args.deque.0 + 2, slots.Lane c.args.lane) ∷ []) [] (c.write_pool.ensures c.args.lane refl) c.give_lane_back.ensures
+    ((c.args.deque.0 + 2, slots.Lane c.args.lane) ∷ []) [] (c.write_pool.ensures c.args.lane refl) c.give_lane_back.ensures.seat
     (left_of_one unchanged (c.args.deque.0 + 2) (c.args.deque.0 + 2) (slots.Lane c.args.lane) refl)

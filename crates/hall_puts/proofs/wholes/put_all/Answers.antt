@@ -29,21 +29,21 @@ pub give_lane_back-requires-clause-here : goal.give_lane_back-requires-clause-he
 give_lane_back-requires-clause-here c =
     let put = given_back c.args.seat.now c.write_all.new.seat c.give_list_back.new.seat (note_of c.args.seat.now.hand.note c.args.noting) 0
     ((0, slots.List c.args.list) ∷ (c.args.deque.0 + 2, slots.Lane c.args.lane) ∷ []) ((c.args.deque.0 + 2, slots.Lane c.args.lane) ∷ [])
-    (c.write_all.ensures c.args.list c.args.lane refl refl) c.give_list_back.ensures (first_of_two unchanged 0 (c.args.deque.0 + 2) (slots.List c.args.list) (slots.Lane c.args.lane)) in
+    (c.write_all.ensures c.args.list c.args.lane refl refl) c.give_list_back.ensures.seat (first_of_two unchanged 0 (c.args.deque.0 + 2) (slots.List c.args.list) (slots.Lane c.args.lane)) in
     (ap (λ (s : HallSeat). s.table) put ∙ c.requires.here.0, ap (λ (s : HallSeat). s.key) put ∙ c.requires.here.1)
 
 pub give_lane_back-requires-clause-placed : goal.give_lane_back-requires-clause-placed
 give_lane_back-requires-clause-placed c =
     let put = given_back c.args.seat.now c.write_all.new.seat c.give_list_back.new.seat (note_of c.args.seat.now.hand.note c.args.noting) 0
     ((0, slots.List c.args.list) ∷ (c.args.deque.0 + 2, slots.Lane c.args.lane) ∷ []) ((c.args.deque.0 + 2, slots.Lane c.args.lane) ∷ [])
-    (c.write_all.ensures c.args.list c.args.lane refl refl) c.give_list_back.ensures (first_of_two unchanged 0 (c.args.deque.0 + 2) (slots.List c.args.list) (slots.Lane c.args.lane)) in
+    (c.write_all.ensures c.args.list c.args.lane refl refl) c.give_list_back.ensures.seat (first_of_two unchanged 0 (c.args.deque.0 + 2) (slots.List c.args.list) (slots.Lane c.args.lane)) in
     subst (λ (n : SeatNote). 0 < n.places) (sym (ap (λ (s : HallSeat). s.hand.note) put)) c.requires.may.placed
 
 pub give_lane_back-requires-clause-held : goal.give_lane_back-requires-clause-held
 give_lane_back-requires-clause-held c =
     let put = given_back c.args.seat.now c.write_all.new.seat c.give_list_back.new.seat (note_of c.args.seat.now.hand.note c.args.noting) 0
     ((0, slots.List c.args.list) ∷ (c.args.deque.0 + 2, slots.Lane c.args.lane) ∷ []) ((c.args.deque.0 + 2, slots.Lane c.args.lane) ∷ [])
-    (c.write_all.ensures c.args.list c.args.lane refl refl) c.give_list_back.ensures (first_of_two unchanged 0 (c.args.deque.0 + 2) (slots.List c.args.list) (slots.Lane c.args.lane)) in
+    (c.write_all.ensures c.args.list c.args.lane refl refl) c.give_list_back.ensures.seat (first_of_two unchanged 0 (c.args.deque.0 + 2) (slots.List c.args.list) (slots.Lane c.args.lane)) in
     subst (HasAs (c.args.deque.0 + 2) (slots.Lane c.lane_of.result)) (sym (ap (λ (s : HallSeat). s.hand.holds) put)) (inl (refl, c.lane_of.ensures))
 
 pub returns : goal.returns
@@ -52,5 +52,5 @@ returns c =
     ((c.args.deque.0 + 2, slots.Lane c.args.lane) ∷ []) []
     (given_back c.args.seat.now c.write_all.new.seat c.give_list_back.new.seat (note_of c.args.seat.now.hand.note c.args.noting) 0
     ((0, slots.List c.args.list) ∷ (c.args.deque.0 + 2, slots.Lane c.args.lane) ∷ []) ((c.args.deque.0 + 2, slots.Lane c.args.lane) ∷ [])
-    (c.write_all.ensures c.args.list c.args.lane refl refl) c.give_list_back.ensures (first_of_two unchanged 0 (c.args.deque.0 + 2) (slots.List c.args.list) (slots.Lane c.args.lane)))
-    c.give_lane_back.ensures (left_of_one unchanged (c.args.deque.0 + 2) (c.args.deque.0 + 2) (slots.Lane c.args.lane) refl)
+    (c.write_all.ensures c.args.list c.args.lane refl refl) c.give_list_back.ensures.seat (first_of_two unchanged 0 (c.args.deque.0 + 2) (slots.List c.args.list) (slots.Lane c.args.lane)))
+    c.give_lane_back.ensures.seat (left_of_one unchanged (c.args.deque.0 + 2) (c.args.deque.0 + 2) (slots.Lane c.args.lane) refl)

@@ -15,6 +15,6 @@ ahead_of-requires c = subst (λ (q : Scheduler). StandsBeside q.table c.args.ser
     (beside_it (code_shown c.args.core.now.code) (quota_words c.args.core.now.k) (terms_at c.args.core.now) c.args.core.now.scheduler c.args.core.now.sound c.args.serial.now c.requires)
 
 pub returns : goal.returns
-returns c = λ s run m n at told prefix. c.ahead_of.ensures s m.books n 
+returns c = λ s run m n at told prefix. c.ahead_of.ensures s m.books n
     (subst (λ (q : Scheduler). AreBooked s q.table m.books) (sym c.scheduler.ensures)
     (booked_at s (terms_at c.args.core.now) (held c.args.core.now.scheduler) run m at.stands)) told prefix

@@ -15,6 +15,6 @@ prefix_of-requires c = subst (λ (q : Scheduler). StandsBeside q.table c.args.se
     (beside_it (code_shown c.args.core.now.code) (quota_words c.args.core.now.k) (terms_at c.args.core.now) c.args.core.now.scheduler c.args.core.now.sound c.args.serial.now c.requires)
 
 pub returns : goal.returns
-returns c = λ s run m at told. c.prefix_of.ensures s m.books 
+returns c = λ s run m at told. c.prefix_of.ensures s m.books
     (subst (λ (q : Scheduler). AreBooked s q.table m.books) (sym c.scheduler.ensures)
     (booked_at s (terms_at c.args.core.now) (held c.args.core.now.scheduler) run m at.stands)) told
