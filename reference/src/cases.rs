@@ -1,5 +1,5 @@
-//! Random cases: the words of a command and a source, by kinds. There are four series: one of what the program can do on a whole source of
-//! every kind, one of the machine, one of parallel loops, and one of trails.
+//! Random cases: the words of a command and a source, by kinds. There are five series: one of what the program can do on a whole source of
+//! every kind, one of the machine, one of parallel loops, one of trails, and one of ready lists.
 
 use crate::author::{program, Style};
 use crate::edges::edge;
@@ -18,6 +18,7 @@ pub struct Case {
 pub const KINDS: [&str; 9] = ["good", "faulty", "blocks", "deep", "ill-formed", "ill-typed", "tiny", "prints", "words"];
 pub const KINDS_OF_MACHINE: [&str; 5] = ["played", "in threads", "made", "printed", "words of the machine"];
 pub const KINDS_OF_TRAILS: [&str; 3] = ["mended trails", "trailed", "words of trails"];
+pub const KINDS_OF_READY: [&str; 2] = ["with a ready list", "words of ready lists"];
 pub const KINDS_OF_LOOPS: [&str; 5] = ["looped", "mistaken loops", "broken loops", "loops at limits", "words of loops"];
 
 /// The case of a number. The same number gives the same case.
@@ -88,6 +89,22 @@ pub fn trail_case(number: u64) -> Case {
             any_words_of(&mut random, &["trail", "trail", "trail", "verify", "verify", "Trail", "trails", "--k"])
         }
         _ => [vec!["trail".to_string()], machine_options(&mut random, true).concat()].concat(),
+    };
+    Case { kind, words, source }
+}
+
+/// The case of a number that has a ready list: `async` with all its options.
+pub fn ready_case(number: u64) -> Case {
+    let mut random = Random(number.wrapping_mul(0xc2b2_ae3d_27d4_eb4f));
+    let kind = KINDS_OF_READY[usize::from(number.is_multiple_of(6))];
+    let of_source = *random.pick(&["good", "faulty", "blocks", "deep", "tiny", "prints"]);
+    let source = source_of(&mut random, of_source);
+    let words = if kind == "words of ready lists" {
+        any_words_of(&mut random, &["async", "async", "async", "Async", "asyn", "--deques"])
+    } else {
+        let mut options = machine_options(&mut random, true);
+        options.retain(|option| !option[0].starts_with("--deques"));
+        [vec!["async".to_string()], options.concat()].concat()
     };
     Case { kind, words, source }
 }

@@ -1,6 +1,8 @@
 //! Runs the program and the reference on random cases, and prints where they differ with the smallest source that shows it.
 
-use crate::cases::{case, loop_case, machine_case, trail_case, Case, KINDS, KINDS_OF_LOOPS, KINDS_OF_MACHINE, KINDS_OF_TRAILS};
+use crate::cases::{
+    case, loop_case, machine_case, ready_case, trail_case, Case, KINDS, KINDS_OF_LOOPS, KINDS_OF_MACHINE, KINDS_OF_READY, KINDS_OF_TRAILS,
+};
 use crate::command::{accepted, answer_to, command_of, Answer, USAGE};
 use crate::depth_first::depth_first;
 use crate::resolve::resolve;
@@ -17,8 +19,8 @@ struct Plan {
     product: String,
     count: u64,
     from: u64,
-    /// Whether only trails are compared: then each number has one.
-    is_of_trails: bool,
+    /// Whether only trails, or only ready lists, are compared: then each number has one.
+    only: Option<fn(u64) -> Case>,
 }
 
 const MOST_DIFFERENCES: u64 = 10;
@@ -29,7 +31,7 @@ const MACHINE_ONE_IN: u64 = 4;
 /// The exit status: 0 where nothing differs, 1 where something does, 2 where the words are wrong.
 pub fn compare(words: &[String]) -> u8 {
     let Some(plan) = read_plan(words) else {
-        eprintln!("usage: reference/compare [--product FILE] [--count N] [--from N] [--only trails]");
+        eprintln!("usage: reference/compare [--product FILE] [--count N] [--from N] [--only trails|async]");
         return 2;
     };
     if !Path::new(&plan.product).exists() {
@@ -39,8 +41,8 @@ pub fn compare(words: &[String]) -> u8 {
     std::panic::set_hook(Box::new(|_| {}));
     let (began, mut tally) = (Instant::now(), Tally::default());
     for number in plan.from..plan.from + plan.count {
-        if plan.is_of_trails {
-            one_case(&plan, number, &trail_case(number), &mut tally);
+        if let Some(only) = plan.only {
+            one_case(&plan, number, &only(number), &mut tally);
         } else {
             all_of(&plan, number, &mut tally);
         }
@@ -62,18 +64,20 @@ fn all_of(plan: &Plan, number: u64, tally: &mut Tally) {
         one_case(plan, number, &machine_case(number), tally);
         one_case(plan, number, &loop_case(number / MACHINE_ONE_IN), tally);
         one_case(plan, number, &trail_case(number / MACHINE_ONE_IN), tally);
+        one_case(plan, number, &ready_case(number / MACHINE_ONE_IN), tally);
     }
 }
 
 fn read_plan(words: &[String]) -> Option<Plan> {
-    let mut plan = Plan { product: String::new(), count: 1_000, from: 1, is_of_trails: false };
+    let mut plan = Plan { product: String::new(), count: 1_000, from: 1, only: None };
     for pair in words.chunks(2) {
         let [name, value] = pair else { return None };
         match name.as_str() {
             "--product" => plan.product = value.clone(),
             "--count" => plan.count = value.parse().ok()?,
             "--from" => plan.from = value.parse().ok()?,
-            "--only" if value == "trails" => plan.is_of_trails = true,
+            "--only" if value == "trails" => plan.only = Some(trail_case),
+            "--only" if value == "async" => plan.only = Some(ready_case),
             _ => return None,
         }
     }
@@ -98,7 +102,7 @@ impl Tally {
     }
 
     fn print(&self, seconds: u64) {
-        for kind in KINDS.iter().chain(&KINDS_OF_MACHINE).chain(&KINDS_OF_LOOPS).chain(&KINDS_OF_TRAILS) {
+        for kind in KINDS.iter().chain(&KINDS_OF_MACHINE).chain(&KINDS_OF_LOOPS).chain(&KINDS_OF_TRAILS).chain(&KINDS_OF_READY) {
             let of_kind = self.compared.iter().filter(|((it, _, _), _)| it == kind);
             let counts: Vec<String> =
                 of_kind.map(|((_, command, status), count)| format!("{command} with status {status}: {count}")).collect();
@@ -107,13 +111,14 @@ impl Tally {
         let answers: Vec<String> = self.answers.iter().map(|(answer, count)| format!("{answer} {count}")).collect();
         println!("answers: {}", answers.join(", "));
         println!(
-            "compare: {} cases, {} of the machine, {} of parallel loops, {} of trails, {} differences, {seconds} s; \
+            "compare: {} cases, {} of the machine, {} of parallel loops, {} of trails, {} of ready lists, {} differences, {seconds} s; \
              {} runs that the program does not have yet; {} runs in threads whose end depends on the order of events; \
              {} programs run by the reference's own workers, all within the bound if nothing differs",
             self.compared_of(&KINDS),
             self.compared_of(&KINDS_OF_MACHINE),
             self.compared_of(&KINDS_OF_LOOPS),
             self.compared_of(&KINDS_OF_TRAILS),
+            self.compared_of(&KINDS_OF_READY),
             self.differences,
             self.not_yet,
             self.left_open,

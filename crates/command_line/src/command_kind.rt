@@ -10,6 +10,8 @@ use language_limits::{MOST_ACTIONS, MOST_TRAIL_ACTIONS};
 pub enum CommandKind {
     /// `play`: a program is run by the scheduler, one event after the other.
     Play,
+    /// `async`: a program is run by the scheduler with one ready list, one event after the other.
+    Async,
     /// `peak`: a program is run depth-first.
     Peak,
     /// `check`: a program is checked, and its text is written in one layout.
@@ -33,6 +35,8 @@ impl CommandKind {
     {
         if word == b"play".as_slice() {
             Some(CommandKind::Play)
+        } else if word == b"async".as_slice() {
+            Some(CommandKind::Async)
         } else if word == b"peak".as_slice() {
             Some(CommandKind::Peak)
         } else if word == b"check".as_slice() {
@@ -58,6 +62,7 @@ impl CommandKind {
     {
         match self {
             CommandKind::Play | CommandKind::Make | CommandKind::Loops | CommandKind::Trail => true,
+            CommandKind::Async => !matches!(setting, Setting::Deques),
             CommandKind::Peak => matches!(setting, Setting::Quota | Setting::Steps),
             CommandKind::Check | CommandKind::Expand | CommandKind::Verify => false,
         }

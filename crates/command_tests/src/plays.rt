@@ -1,4 +1,4 @@
-//! The command `play`.
+//! The commands `play` and `async`.
 use crate::calls::{BLOCK, LONGEST, SMALL, all_answer_so, answers_so, call, is_right, padded};
 use dfd_run::Status;
 use std::alloc::{AllocError, Global};
@@ -58,9 +58,27 @@ fn main() { par { alloc a = 16; free a; alloc b = 16; free b; } and { } }
 @play|4|syntax BadToken at 20~|fn main() { print 1 ! 2; }
 @play|4|syntax NumberTooLarge at 18~|fn main() { print 9223372036854775808; }";
 
+/// Plays with one ready list, by one worker and by more, and how they end.
+const READY: &str = "async --k 16 --p 1|0|1~2~3~--~end done~periods 2~ahead 0~high 16~|\
+fn main() { par { print 1; } and { print 2; } print 3; }
+@async --k 16 --p 1|0|--~end done~periods 3~ahead 0~high 32~|\
+fn main() { par { alloc a = 16; free a; } and { alloc b = 16; free b; } }
+@async --k 16 --p 1|0|--~end done~periods 7~ahead 0~high 48~|fn main() { alloc b = 40; free b; }
+@async --k 16 --p 4 --seed 3|0|--~end done~periods 7~ahead 4~high 48~|fn main() { alloc b = 40; free b; }
+@async --k 16 --p 4 --seed 3|0|1~2~3~4~5~--~end done~periods 11~ahead 8~high 48~|\
+fn main() { par { par { print 1; } and { print 2; } } and { par { print 3; } and { alloc b = 40; print 4; free b; } } print 5; }
+@async --k 16 --p 1 --arena 32|8|stop ArenaFull live 0 asked 48~|fn main() { alloc b = 40; free b; }
+@async --p 1 --steps 9|7|stop StepsSpent limit 9~|\
+fn main() { let i = 0; while i < 3 { par { } and { } i = i + 1; } }
+@async --p 2|6|--~end fault Divide line 1~periods 2~ahead 1~high 16~|\
+fn main() { par { print 1 / 0; } and { print 2 % 0; } }
+@async|5|check NotFreed line 1 name b~|fn main() { alloc b = 1; }
+@async|4|syntax Expected at 11~|fn main() {";
+
 #[test]
 fn programs_are_played(rt: HostRuntime) -> Result<(), Fail> {
     all_answer_so(&rt, rt.alloc(), SPACE)?;
+    all_answer_so(&rt, rt.alloc(), READY)?;
     all_answer_so(&rt, rt.alloc(), ENDS)
 }
 

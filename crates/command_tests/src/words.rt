@@ -3,7 +3,7 @@ use crate::calls::{SMALL, all_answer_so, answers_so};
 use dfd_run::Status;
 use std::test::Fail;
 
-const USAGE: &str = "usage: dfd play|run|peak|check|make|trail|verify|loops|expand [options]~";
+const USAGE: &str = "usage: dfd play|async|run|peak|check|make|trail|verify|loops|expand [options]~";
 
 /// Words that are no command, a line each; the first line is empty.
 const NO_COMMANDS: &str = "
@@ -39,6 +39,9 @@ peak 1
 check --k 16
 check --
 check check
+async --k 24
+async --deques 16
+async 1
 loops --k 24
 loops 1
 Loops

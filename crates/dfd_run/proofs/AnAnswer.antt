@@ -6,7 +6,7 @@ use borrow.Author.Tests.{leb-true, leb-false}
 use Rattle.canonical_text.specs.Canonical.{canonical}
 use Rattle.command_line.specs.declared.command.Command.{Command}
 use Rattle.command_line.specs.declared.command_kind.CommandKind.{CommandKind}
-use Rattle.command_line.specs.declared.command_kind.CommandKind.TheVariants.{Play, Peak, Check as Checks, Make, Loops, Expand, Trail, Verify}
+use Rattle.command_line.specs.declared.command_kind.CommandKind.TheVariants.{Play, Async, Peak, Check as Checks, Make, Loops, Expand, Trail, Verify}
 use Rattle.dag_order.specs.declared.fault.FaultAt.{FaultAt}
 use Rattle.command_line.specs.declared.setting.Setting.TheVariants.{Quota, Workers}
 use Rattle.depth_first_list.specs.Actions.{peak}
@@ -44,7 +44,9 @@ use Rattle.dfd_run.specs.Trails.{Records, TrailMakes, VerifyMakes, VerifyGives}
 use Rattle.dfd_run.specs.Messages.{syntax_text, bad_loop_text, name_taken_text, check_text, spent_text, arena_text, deques_text}
 use Rattle.dfd_run.specs.Make.{MakeMakes, Summarizes}
 use Rattle.dfd_run.specs.Peak.{RunText, PeakMakes, finish_status}
-use Rattle.dfd_run.specs.Play.{IsPlay, TellsPlay, Reports, PlayMakes, play_setting, play_terms, play_machine, seeded_words}
+use Rattle.ready_machine.proofs.Playing.{plays_end as ready_plays_end}
+use Rattle.dfd_run.specs.Async.{IsAsyncPlay, AsyncMakes, async_terms, async_machine}
+use Rattle.dfd_run.specs.Play.{IsPlay, TellsRun, TellsPlay, Reports, PlayMakes, play_setting, play_terms, play_machine, seeded_words}
 use Rattle.dfd_run.specs.declared.status.Status.{Status}
 use Rattle.dfd_run.specs.declared.status.Status.TheVariants.{Done, Syntax, Check, UserFault, StepsSpent, ArenaFull, DequesFull, TrailRefused}
 
@@ -117,11 +119,11 @@ some_report c run last = let high = number_of_words c run in (_, (high.0, (high.
 some_summary : (bytes : ℕ) (c : Setting) (run : List Pair) (last : Moment) → (t : List ℕ) × Summarizes bytes c run last t
 some_summary bytes c run last = let high = number_of_words c run in (_, (high.0, (high.1, refl)))
 
-module _ (tells : Setting → List Pair → Moment → List ℕ → Type 0)
+module _ (IsRun : Command → Program → List Pair → Moment → Ending → Type 0) (tells : Setting → List Pair → Moment → List ℕ → Type 0)
     (some : (c : Setting) (run : List Pair) (last : Moment) → (t : List ℕ) × tells c run last t)
-    (command : Command) (ranges : HasRanges command) (bytes : List ℕ) (p : Program) (is : IsText bytes p) (own : IsAccepted p) where
-  by_fault : (run : List Pair) (last : Moment) → IsPlay command p run last finished →
-      (o : Option FaultAt) → first_fault (whole (play_setting command p)).items ≡ o → Some_answer (SourceGives (TellsPlay tells command) bytes)
+    (command : Command) (bytes : List ℕ) (p : Program) (is : IsText bytes p) (own : IsAccepted p) where
+  by_fault : (run : List Pair) (last : Moment) → IsRun command p run last finished →
+      (o : Option FaultAt) → first_fault (whole (play_setting command p)).items ≡ o → Some_answer (SourceGives (TellsRun IsRun tells command) bytes)
   by_fault run last plays None e =
       let t = some (play_setting command p) run last in
       (Done, (t.0, (p, (is, (own, ∣ (run, last, finished, plays, (sym (ap (λ f. finish_status (finish_of f)) e), t.1)) ∣₁)))))
@@ -129,8 +131,8 @@ module _ (tells : Setting → List Pair → Moment → List ℕ → Type 0)
       let t = some (play_setting command p) run last in
       (UserFault, (t.0, (p, (is, (own, ∣ (run, last, finished, plays, (sym (ap (λ f. finish_status (finish_of f)) e), t.1)) ∣₁)))))
 
-  by_ending : (run : List Pair) (last : Moment) (ending : Ending) → IsPlay command p run last ending →
-      Some_answer (SourceGives (TellsPlay tells command) bytes)
+  by_ending : (run : List Pair) (last : Moment) (ending : Ending) → IsRun command p run last ending →
+      Some_answer (SourceGives (TellsRun IsRun tells command) bytes)
   by_ending run last finished plays = by_fault run last plays (first_fault (whole (play_setting command p)).items) refl
   by_ending run last (stopped (arena_full live asked)) plays =
       (ArenaFull, (arena_text live asked, (p, (is, (own, ∣ (run, last, stopped (arena_full live asked), plays, (refl, refl)) ∣₁)))))
@@ -139,12 +141,22 @@ module _ (tells : Setting → List Pair → Moment → List ℕ → Type 0)
   by_ending run last (stopped (deques_full deques)) plays =
       (DequesFull, (deques_text deques, (p, (is, (own, ∣ (run, last, stopped (deques_full deques), plays, (refl, refl)) ∣₁)))))
 
+module _ (tells : Setting → List Pair → Moment → List ℕ → Type 0)
+    (some : (c : Setting) (run : List Pair) (last : Moment) → (t : List ℕ) × tells c run last t)
+    (command : Command) (ranges : HasRanges command) (bytes : List ℕ) (p : Program) (is : IsText bytes p) (own : IsAccepted p) where
   play_made : Some_answer (SourceGives (TellsPlay tells command) bytes)
   play_made =
       let played = plays_end (play_machine command p) (omega (arith, (ranges.numbers Quota).0)) (whole_is_depth_first (play_setting command p))
       (omega (arith, (ranges.numbers Quota).0)) (omega (arith, (ranges.numbers Workers).0)) (play_terms command).limits
       (seeded_words command.seed) in
-      by_ending played.0 played.1 played.2 played.3
+      by_ending IsPlay tells some command bytes p is own played.0 played.1 played.2 played.3
+
+  async_made : Some_answer (SourceGives (TellsRun IsAsyncPlay tells command) bytes)
+  async_made =
+      let played = ready_plays_end (async_machine command p) (omega (arith, (ranges.numbers Quota).0)) (whole_is_depth_first (play_setting command p))
+      (omega (arith, (ranges.numbers Quota).0)) (omega (arith, (ranges.numbers Workers).0)) (async_terms command).limits
+      (seeded_words command.seed) in
+      by_ending IsAsyncPlay tells some command bytes p is own played.0 played.1 played.2 played.3
 
 -- `loops` and `expand`: bytes have an expansion, or a refusal with a line
 no_want : (bytes : List ℕ) → ¬ Expands bytes (Err NoMemory)
@@ -205,6 +217,7 @@ verify_answer bytes = elim (each_read bytes) [
 
 kind_answer : (kind : CommandKind) (command : Command) → HasRanges command → (bytes : List ℕ) → Some_answer (KindGives kind command bytes)
 kind_answer Play command ranges bytes = play_answer command ranges bytes
+kind_answer Async command ranges bytes = source_answer (AsyncMakes command) bytes (async_made Reports some_report command ranges bytes)
 kind_answer Peak command ranges bytes = peak_answer command.k command.steps bytes
 kind_answer Checks command ranges bytes = check_answer bytes
 kind_answer Make command ranges bytes =

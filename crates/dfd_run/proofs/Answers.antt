@@ -10,7 +10,7 @@ use Rattle.command_line.specs.Words.{IsCommand, number_of, values_of, wants_grou
 use Rattle.command_line.proofs.Commands.{sets_in_range, groups_in_range}
 use Rattle.command_line.specs.declared.command.Command.{Command}
 use Rattle.command_line.specs.declared.command_kind.CommandKind.{CommandKind}
-use Rattle.command_line.specs.declared.command_kind.CommandKind.TheVariants.{Play, Peak, Check as Checks, Make, Loops, Expand, Trail, Verify}
+use Rattle.command_line.specs.declared.command_kind.CommandKind.TheVariants.{Play, Async, Peak, Check as Checks, Make, Loops, Expand, Trail, Verify}
 use Rattle.dag_order.specs.declared.finish.Finish.{Finish}
 use Rattle.dag_order.specs.declared.finish.Finish.TheVariants.{Done as EndDone, Faulted}
 use Rattle.depth_first_run.specs.States.{Setting as RunSetting}
@@ -25,7 +25,8 @@ use Rattle.dfd_run.specs.Counts.{Counts}
 use Rattle.dfd_run.specs.Expanding.{OfExpansion, ExpandMakes}
 use Rattle.dfd_run.specs.Make.{Summarizes, source_of}
 use Rattle.dfd_run.specs.Peak.{PeakMakes, finish_status}
-use Rattle.dfd_run.specs.Play.{TellsPlay, TellsEnding, Reports, PlayMakes, play_setting, stop_status}
+use Rattle.dfd_run.specs.Async.{IsAsyncPlay, AsyncMakes}
+use Rattle.dfd_run.specs.Play.{IsPlay, TellsRun, TellsEnding, Reports, PlayMakes, play_setting, stop_status}
 use Rattle.dfd_run.specs.Trails.{TellsCheck, VerifyMakes, VerifyGives, Records}
 use Rattle.trail_check.specs.declared.verify_fail.VerifyFail.{VerifyFail}
 use Rattle.trail_check.specs.declared.verify_fail.VerifyFail.TheVariants.{LongRun, BadEvent, NotEnded, WrongNumbers, OutOfMemory as NoMemory}
@@ -92,9 +93,9 @@ of_play : (tells : List Pair → Moment → List ℕ → Type 0) (c : RunSetting
 of_play tells c run last finished status text told = subst IsOfARun (sym told.0) (of_finish (finish_of_run c))
 of_play tells c run last (stopped stop) status text told = subst IsOfARun (sym told.0) (of_stop stop)
 
-pub not_of_a_play : (tells : RunSetting → List Pair → Moment → List ℕ → Type 0) (command : Command) (p : Program) (status : Status)
-    (text : List ℕ) → ¬ IsOfARun status → ¬ TellsPlay tells command p status text
-not_of_a_play tells command p status text not makes =
+pub not_of_a_play : (IsRun : Command → Program → List Pair → Moment → Ending → Type 0) (tells : RunSetting → List Pair → Moment → List ℕ → Type 0)
+    (command : Command) (p : Program) (status : Status) (text : List ℕ) → ¬ IsOfARun status → ¬ TellsRun IsRun tells command p status text
+not_of_a_play IsRun tells command p status text not makes =
     ∥∥₁_elim makes (λ x y. absurd x)
     (λ w. not (of_play (tells (play_setting command p)) (play_setting command p) w.0 w.1 w.2 status text w.4))
 
@@ -147,11 +148,12 @@ not_of_a_source makes bytes text not OutOfMemory none gives = not gives.0 OutOfM
 not_of_a_source makes bytes text not TrailRefused none gives = absurd none
 
 not_of_a_played_source :
-    (tells : RunSetting → List Pair → Moment → List ℕ → Type 0) (command : Command) (bytes text : List ℕ) (status : Status) →
-    IsOfNoBytes status → ¬ SourceGives (TellsPlay tells command) bytes status text
-not_of_a_played_source tells command bytes text status none =
-    not_of_a_source (TellsPlay tells command) bytes text
-    (λ p s no. not_of_a_play tells command p s text (not_of_a_run s no)) status none
+    (IsRun : Command → Program → List Pair → Moment → Ending → Type 0) (tells : RunSetting → List Pair → Moment → List ℕ → Type 0)
+    (command : Command) (bytes text : List ℕ) (status : Status) →
+    IsOfNoBytes status → ¬ SourceGives (TellsRun IsRun tells command) bytes status text
+not_of_a_played_source IsRun tells command bytes text status none =
+    not_of_a_source (TellsRun IsRun tells command) bytes text
+    (λ p s no. not_of_a_play IsRun tells command p s text (not_of_a_run s no)) status none
 
 not_of_a_peak : (k limit : ℕ) (text : List ℕ) (p : Program) (status : Status) → IsOfNoBytes status → ¬ PeakMakes k limit p status text
 not_of_a_peak k limit text p Done none = absurd none
@@ -203,18 +205,19 @@ not_of_a_trail bytes text status none (inr of) =
 
 not_given : (kind : CommandKind) (command : Command) (bytes text : List ℕ) (status : Status) → IsOfNoBytes status →
     ¬ KindGives kind command bytes status text
-not_given Play command bytes text status none gives = not_of_a_played_source Reports command bytes text status none gives
+not_given Play command bytes text status none gives = not_of_a_played_source IsPlay Reports command bytes text status none gives
+not_given Async command bytes text status none gives = not_of_a_played_source IsAsyncPlay Reports command bytes text status none gives
 not_given Peak command bytes text status none gives =
     not_of_a_source (PeakMakes command.k command.steps) bytes text (not_of_a_peak command.k command.steps text) status none gives
 not_given Checks command bytes text status none gives = not_of_a_source CheckMakes bytes text (not_of_a_check text) status none gives
 not_given Make command bytes text status none gives =
-    not_of_a_played_source (Summarizes (length bytes)) command bytes text status none gives
+    not_of_a_played_source IsPlay (Summarizes (length bytes)) command bytes text status none gives
 not_given Loops command bytes text status none gives =
     not_of_an_expansion (SourceGives (PlayMakes command)) text status none
-    (λ expanded. not_of_a_played_source Reports command expanded text status none) gives.0 gives.2
+    (λ expanded. not_of_a_played_source IsPlay Reports command expanded text status none) gives.0 gives.2
 not_given Expand command bytes text status none gives =
     not_of_an_expansion ExpandMakes text status none (λ expanded made. subst IsOfNoBytes made.0 none) gives.0 gives.2
-not_given Trail command bytes text status none gives = not_of_a_played_source (Records command bytes) command bytes text status none gives
+not_given Trail command bytes text status none gives = not_of_a_played_source IsPlay (Records command bytes) command bytes text status none gives
 not_given Verify command bytes text status none gives = not_of_a_trail bytes text status none gives
 
 -- what is made of bytes ends a call with its text
@@ -281,6 +284,7 @@ pub command_of_read :
     (kind : CommandKind) (command : Command) (failed : Type 0) (left left' : Option (List ℕ)) → ¬ (kind ≡ Make) →
     (status : Status) (text : List ℕ) → ReadGives command failed left left' status text → KindAnswers kind command failed left left' status text
 command_of_read Play command failed left left' reads status text gives = gives
+command_of_read Async command failed left left' reads status text gives = gives
 command_of_read Peak command failed left left' reads status text gives = gives
 command_of_read Checks command failed left left' reads status text gives = gives
 command_of_read Make command failed left left' reads status text gives = absurd (reads refl)
@@ -300,6 +304,7 @@ command_of_made kind command failed left left' made status text gives =
 no_usage : (kind : CommandKind) (command : Command) (failed : Type 0) (left left' : Option (List ℕ)) (text : List ℕ) →
     ¬ KindAnswers kind command failed left left' Usage text
 no_usage Play command failed left left' text gives = not_given command.kind command gives.0 text Usage tt gives.1.1
+no_usage Async command failed left left' text gives = not_given command.kind command gives.0 text Usage tt gives.1.1
 no_usage Peak command failed left left' text gives = not_given command.kind command gives.0 text Usage tt gives.1.1
 no_usage Checks command failed left left' text gives = not_given command.kind command gives.0 text Usage tt gives.1.1
 no_usage Make command failed left left' text gives = not_given command.kind command (source_of command) text Usage tt gives

@@ -100,7 +100,7 @@ module _ (command : Command) (p : Program) (ranges : HasRanges command) where
       }
 
   -- the status of a play that was stopped is not that of one that ended
-  no_stop : (stop : Stop) (status : Status) → status ≡ stop_status stop → (status ≡ Done) ⊎ (status ≡ UserFault) → ⊥
+  pub no_stop : (stop : Stop) (status : Status) → status ≡ stop_status stop → (status ≡ Done) ⊎ (status ≡ UserFault) → ⊥
   no_stop (arena_full live asked) status is (inl other) = omega (arith, ap code_of (sym is ∙ other))
   no_stop (arena_full live asked) status is (inr other) = omega (arith, ap code_of (sym is ∙ other))
   no_stop (steps_spent limit) status is (inl other) = omega (arith, ap code_of (sym is ∙ other))

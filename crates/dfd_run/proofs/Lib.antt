@@ -9,3 +9,5 @@ pub mod Headline
 pub mod Sums
 pub mod Trails
 pub mod TrailLaws
+pub mod AsyncPlays
+pub mod AsyncHeadline

@@ -6,7 +6,7 @@ use denote.Struct.Props.{props}
 use Rattle.canonical_text.specs.Canonical.{canonical}
 use Rattle.command_line.specs.declared.command.Command.{Command}
 use Rattle.command_line.specs.declared.command_kind.CommandKind.{CommandKind}
-use Rattle.command_line.specs.declared.command_kind.CommandKind.TheVariants.{Play, Peak, Check as Checks, Make, Loops, Expand, Trail, Verify}
+use Rattle.command_line.specs.declared.command_kind.CommandKind.TheVariants.{Play, Async, Peak, Check as Checks, Make, Loops, Expand, Trail, Verify}
 use Rattle.dag_order.specs.declared.fault.FaultAt.{FaultAt}
 use Rattle.command_line.specs.declared.setting.Setting.TheVariants.{Quota as QuotaSetting}
 use Rattle.depth_first_run.proofs.Built.{whole_is_depth_first}
@@ -43,7 +43,9 @@ use Rattle.dfd_run.specs.Trails.{Records, TrailMakes, TellsCheck, VerifyMakes, V
 use Rattle.dfd_run.specs.Messages.{syntax_text, check_text, spent_text}
 use Rattle.dfd_run.specs.Make.{MakeMakes, Summarizes, sum_of}
 use Rattle.dfd_run.specs.Peak.{RunText, RunMakes, PeakMakes}
-use Rattle.dfd_run.specs.Play.{IsPlay, TellsPlay, TellsEnding, Reports, PlayMakes, play_setting, play_terms, play_machine, seeded_words}
+use Rattle.ready_replay.proofs.Ones.{one_play as one_ready_play}
+use Rattle.dfd_run.specs.Async.{IsAsyncPlay, AsyncMakes, async_terms, async_machine}
+use Rattle.dfd_run.specs.Play.{IsPlay, TellsRun, TellsPlay, TellsEnding, Reports, PlayMakes, play_setting, play_terms, play_machine, seeded_words}
 use Rattle.dfd_run.specs.Status.{code_of}
 use Rattle.dfd_run.specs.declared.status.Status.{Status}
 use Rattle.dfd_run.specs.declared.status.Status.TheVariants.{Done, Usage, ReadFault, WriteFault, Syntax, Check, UserFault, StepsSpent, ArenaFull, DequesFull, OutOfMemory, TrailRefused}
@@ -227,31 +229,51 @@ one_record command bytes c run last t t' told told' =
     let same : told.0 ≡ told'.0 = ap size_of (told.1.0 ∙ sym told'.1.0) in
     told.1.1 ∙ ap (λ (n : ℕ). trail_text (trail_of command bytes run last n)) same ∙ sym told'.1.1
 
-module _ (tells : Setting → List Pair → Moment → List ℕ → Type 0)
+-- what is told of a run, of a kind of which there is one, is one answer
+module _ (IsRun : Command → Program → List Pair → Moment → Ending → Type 0) (tells : Setting → List Pair → Moment → List ℕ → Type 0)
     (one : (c : Setting) (run : List Pair) (last : Moment) (t t' : List ℕ) → tells c run last t → tells c run last t' → t ≡ t')
-    (command : Command) (ranges : HasRanges command) (p : Program) where
-  some_quota : 0 < command.k
-  some_quota = omega (arith, (ranges.numbers QuotaSetting).0)
-
+    (command : Command) (one_run : (p : Program) (run run' : List Pair) (last last' : Moment) (ending ending' : Ending) → IsRun command p run last ending
+    → IsRun command p run' last' ending' → (run ≡ run') × (last ≡ last') × (ending ≡ ending')) (p : Program) where
   same_told : (s s' : Status) (t t' : List ℕ) (run run' : List Pair) (last last' : Moment) (ending ending' : Ending) →
-      IsPlay command p run last ending → TellsEnding (tells (play_setting command p)) (play_setting command p) run last ending s t →
-      IsPlay command p run' last' ending' → TellsEnding (tells (play_setting command p)) (play_setting command p) run' last' ending' s' t' →
+      IsRun command p run last ending → TellsEnding (tells (play_setting command p)) (play_setting command p) run last ending s t →
+      IsRun command p run' last' ending' → TellsEnding (tells (play_setting command p)) (play_setting command p) run' last' ending' s' t' →
       Same s s' t t'
   same_told s s' t t' run run' last last' ending ending' plays told plays' told' =
-      let same = one_play (play_machine command p) some_quota (whole_is_depth_first (play_setting command p)) (play_terms command).limits
-      (seeded_words command.seed) run run' last last' ending ending' plays plays' in
+      let same = one_run p run run' last last' ending ending' plays plays' in
       one_ending (tells (play_setting command p)) (one (play_setting command p)) (play_setting command p) run last ending s s' t t' told
       (subst (λ r. TellsEnding (tells (play_setting command p)) (play_setting command p) r last ending s' t') (sym same.0)
       (subst (λ l. TellsEnding (tells (play_setting command p)) (play_setting command p) run' l ending s' t') (sym same.1)
       (subst (λ e. TellsEnding (tells (play_setting command p)) (play_setting command p) run' last' e s' t') (sym same.2) told')))
 
-  one_play_answer : (s s' : Status) (t t' : List ℕ) → TellsPlay tells command p s t → TellsPlay tells command p s' t' → Same s s' t t'
-  one_play_answer s s' t t' makes makes' = (
+  one_run_answer : (s s' : Status) (t t' : List ℕ) → TellsRun IsRun tells command p s t → TellsRun IsRun tells command p s' t' → Same s s' t t'
+  one_run_answer s s' t t' makes makes' = (
     same_status s s' (∥∥₁_elim makes (search props) (λ w. ∥∥₁_elim makes' (search props) (λ w'.
         ap code_of (same_told s s' t t' w.0 w'.0 w.1 w'.1 w.2 w'.2 w.3 w.4 w'.3 w'.4).0))),
     ∥∥₁_elim makes (search props) (λ w. ∥∥₁_elim makes' (search props) (λ w'.
         (same_told s s' t t' w.0 w'.0 w.1 w'.1 w.2 w'.2 w.3 w.4 w'.3 w'.4).1)),
   )
+
+module _ (command : Command) (ranges : HasRanges command) where
+  some_quota : 0 < command.k
+  some_quota = omega (arith, (ranges.numbers QuotaSetting).0)
+
+  -- a command has one play of a program, with deques, and with a ready list
+  one_play_of : (p : Program) (run run' : List Pair) (last last' : Moment) (ending ending' : Ending) → IsPlay command p run last ending →
+      IsPlay command p run' last' ending' → (run ≡ run') × (last ≡ last') × (ending ≡ ending')
+  one_play_of p run run' last last' ending ending' =
+      one_play (play_machine command p) some_quota (whole_is_depth_first (play_setting command p)) (play_terms command).limits
+      (seeded_words command.seed) run run' last last' ending ending'
+
+  one_async_play_of : (p : Program) (run run' : List Pair) (last last' : Moment) (ending ending' : Ending) → IsAsyncPlay command p run last ending →
+      IsAsyncPlay command p run' last' ending' → (run ≡ run') × (last ≡ last') × (ending ≡ ending')
+  one_async_play_of p =
+      one_ready_play (async_machine command p) some_quota (whole_is_depth_first (play_setting command p)) (async_terms command).limits
+      (seeded_words command.seed)
+
+one_play_answer : (tells : Setting → List Pair → Moment → List ℕ → Type 0) →
+    ((c : Setting) (run : List Pair) (last : Moment) (t t' : List ℕ) → tells c run last t → tells c run last t' → t ≡ t') →
+    (command : Command) → HasRanges command → IsOne (TellsPlay tells command)
+one_play_answer tells one command ranges = one_run_answer IsPlay tells one command (one_play_of command ranges)
 
 -- `peak`
 abbrev fault_status : Option FaultAt → Status
@@ -346,6 +368,8 @@ one_kind : (kind : CommandKind) (command : Command) → HasRanges command → (b
     KindGives kind command bytes s t → KindGives kind command bytes s' t' → Same s s' t t'
 one_kind Play command ranges bytes s s' t t' =
     one_source (PlayMakes command) (one_play_answer Reports one_report command ranges) bytes s s' t t'
+one_kind Async command ranges bytes s s' t t' =
+    one_source (AsyncMakes command) (one_run_answer IsAsyncPlay Reports one_report command (one_async_play_of command ranges)) bytes s s' t t'
 one_kind Peak command ranges bytes s s' t t' =
     one_source (PeakMakes command.k command.steps) (one_peak command.k command.steps) bytes s s' t t'
 one_kind Checks command ranges bytes s s' t t' = one_source CheckMakes one_check bytes s s' t t'

@@ -8,7 +8,7 @@ use Rattle.run_end.specs.declared.stop.Stop.TheVariants.{ArenaFull, DequesFull, 
 use Rattle.dag_order.specs.declared.finish.Finish.{Finish}
 use Rattle.depth_first_run.specs.States.{Setting}
 use Rattle.deque_machine.specs.Moments.{Moment}
-use Rattle.deque_machine.specs.Play.{finished, stopped, arena_full, steps_spent, deques_full}
+use Rattle.deque_machine.specs.Play.{Ending, finished, stopped, arena_full, steps_spent, deques_full}
 use Rattle.deque_machine.specs.Runs.{Pair}
 use Rattle.trail_record.specs.Played.Cores.{IsAt, end_of}
 use Rattle.trail_record.specs.Played.CoreType.{Core}
@@ -24,7 +24,7 @@ use Rattle.thread_state.specs.Settings.{IsSettingOf}
 use Rattle.dfd_run.specs.Sources.{SourceGives}
 use Rattle.dfd_run.specs.CorePlays.{Played}
 use Rattle.dfd_run.specs.Peak.{finish_status}
-use Rattle.dfd_run.specs.Play.{TellsPlay, play_setting, play_terms, seeded_words}
+use Rattle.dfd_run.specs.Play.{TellsRun, TellsPlay, play_setting, play_terms, seeded_words}
 use Rattle.dfd_run.specs.Stops.{TellsStop}
 use Rattle.dfd_run.specs.declared.answer.Answer.{Answer}
 use Rattle.dfd_run.specs.declared.status.Status.{Status}
@@ -56,20 +56,21 @@ stopped_makes tells command p after (StepsSpent limit) status text plays told =
 stopped_makes tells command p after OutOfMemory status text plays told = absurd told
 
 -- what is made of the program of the bytes is made of the bytes
-pub source_of_play : (tells : Setting → List Pair → Moment → List ℕ → Type 0) (command : Command) (bytes : List ℕ) (p : Program) (status : Status) (text : List ℕ) → IsText bytes p → Ownership p →
-    TellsPlay tells command p status text → SourceGives (TellsPlay tells command) bytes status text
-source_of_play tells command bytes p Done text is own makes = (p, (is, ((tells_program p).complete own, makes)))
-source_of_play tells command bytes p Usage text is own makes = (p, (is, ((tells_program p).complete own, makes)))
-source_of_play tells command bytes p ReadFault text is own makes = (p, (is, ((tells_program p).complete own, makes)))
-source_of_play tells command bytes p WriteFault text is own makes = (p, (is, ((tells_program p).complete own, makes)))
-source_of_play tells command bytes p Syntax text is own makes = absurd (not_of_a_play tells command p Syntax text (λ no. no) makes)
-source_of_play tells command bytes p Check text is own makes = absurd (not_of_a_play tells command p Check text (λ no. no) makes)
-source_of_play tells command bytes p UserFault text is own makes = (p, (is, ((tells_program p).complete own, makes)))
-source_of_play tells command bytes p LimitSpent text is own makes = (p, (is, ((tells_program p).complete own, makes)))
-source_of_play tells command bytes p ArenaStatus text is own makes = (p, (is, ((tells_program p).complete own, makes)))
-source_of_play tells command bytes p DequesStatus text is own makes = (p, (is, ((tells_program p).complete own, makes)))
-source_of_play tells command bytes p NoMemory text is own makes = (p, (is, ((tells_program p).complete own, makes)))
-source_of_play tells command bytes p TrailRefused text is own makes = (p, (is, ((tells_program p).complete own, makes)))
+pub source_of_play : (IsRun : Command → Program → List Pair → Moment → Ending → Type 0) (tells : Setting → List Pair → Moment → List ℕ → Type 0)
+    (command : Command) (bytes : List ℕ) (p : Program) (status : Status) (text : List ℕ) → IsText bytes p → Ownership p →
+    TellsRun IsRun tells command p status text → SourceGives (TellsRun IsRun tells command) bytes status text
+source_of_play IsRun tells command bytes p Done text is own makes = (p, (is, ((tells_program p).complete own, makes)))
+source_of_play IsRun tells command bytes p Usage text is own makes = (p, (is, ((tells_program p).complete own, makes)))
+source_of_play IsRun tells command bytes p ReadFault text is own makes = (p, (is, ((tells_program p).complete own, makes)))
+source_of_play IsRun tells command bytes p WriteFault text is own makes = (p, (is, ((tells_program p).complete own, makes)))
+source_of_play IsRun tells command bytes p Syntax text is own makes = absurd (not_of_a_play IsRun tells command p Syntax text (λ no. no) makes)
+source_of_play IsRun tells command bytes p Check text is own makes = absurd (not_of_a_play IsRun tells command p Check text (λ no. no) makes)
+source_of_play IsRun tells command bytes p UserFault text is own makes = (p, (is, ((tells_program p).complete own, makes)))
+source_of_play IsRun tells command bytes p LimitSpent text is own makes = (p, (is, ((tells_program p).complete own, makes)))
+source_of_play IsRun tells command bytes p ArenaStatus text is own makes = (p, (is, ((tells_program p).complete own, makes)))
+source_of_play IsRun tells command bytes p DequesStatus text is own makes = (p, (is, ((tells_program p).complete own, makes)))
+source_of_play IsRun tells command bytes p NoMemory text is own makes = (p, (is, ((tells_program p).complete own, makes)))
+source_of_play IsRun tells command bytes p TrailRefused text is own makes = (p, (is, ((tells_program p).complete own, makes)))
 
 -- the report of equal parts
 pub same_report : (lines lines' : List ℤ) (finish finish' : Finish) (periods periods' ahead ahead' high : ℕ) → lines ≡ lines' →

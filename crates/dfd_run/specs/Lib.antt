@@ -2,12 +2,14 @@ pub mod Answer
 pub mod Counts
 pub mod Expanding
 pub mod Headline
+pub mod AsyncHeadline
 pub mod Laws
 pub mod Make
 pub mod Messages
 pub mod PcgChoices
 pub mod Peak
 pub mod Play
+pub mod Async
 pub mod Program
 pub mod Status
 pub mod Sources

@@ -72,11 +72,16 @@ abbrev pub TellsEnding : (tells : List Pair → Moment → List ℕ → Type 0) 
 TellsEnding tells c run last finished status text = (status ≡ finish_status (finish_of_run c)) × tells run last text
 TellsEnding tells c run last (stopped stop) status text = (status ≡ stop_status stop) × (text ≡ stop_text stop)
 
--- the play of a program comes to some ending, and this is told of it
-abbrev pub TellsPlay : (tells : Setting → List Pair → Moment → List ℕ → Type 0) → Command → Program → Status → List ℕ → Type 0
-TellsPlay tells command p status text =
-    ∥ ((run : List Pair) × (last : Moment) × (ending : Ending) × IsPlay command p run last ending
+-- a run of a program, of this kind, comes to some ending, and this is told of it
+abbrev pub TellsRun : (IsRun : Command → Program → List Pair → Moment → Ending → Type 0)
+    → (tells : Setting → List Pair → Moment → List ℕ → Type 0) → Command → Program → Status → List ℕ → Type 0
+TellsRun IsRun tells command p status text =
+    ∥ ((run : List Pair) × (last : Moment) × (ending : Ending) × IsRun command p run last ending
     × TellsEnding (tells (play_setting command p)) (play_setting command p) run last ending status text) ∥₁
+
+-- so it is told of the play of a program
+abbrev pub TellsPlay : (tells : Setting → List Pair → Moment → List ℕ → Type 0) → Command → Program → Status → List ℕ → Type 0
+TellsPlay = TellsRun IsPlay
 
 -- what `play` makes of a program: a report of its play
 abbrev pub PlayMakes : Command → Program → Status → List ℕ → Type 0

@@ -7,6 +7,7 @@ use crate::expanding::{expand, loops};
 use crate::making::make;
 use crate::peaking::peak;
 use crate::playing::play;
+use crate::ready_playing::play_ready;
 use crate::trailing::trail;
 use crate::verifying::verify;
 use command_line::{Command, CommandKind};
@@ -30,6 +31,7 @@ pub fn answer_to(alloc: Global, command: &Command, bytes: &[u8]) -> Result<Answe
 {
     match command.kind {
         CommandKind::Play => play(alloc, command, bytes),
+        CommandKind::Async => play_ready(alloc, command, bytes),
         CommandKind::Peak => peak(alloc, command.k, command.steps, bytes),
         CommandKind::Check => check(alloc, bytes),
         CommandKind::Make => make(alloc, command, bytes),

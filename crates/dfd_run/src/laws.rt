@@ -1,3 +1,4 @@
+ghost use Rattle.dfd_run.specs.AsyncHeadline.{AsyncMomentsAreBounded, AsyncReportsAreBounded, AsyncListsNeverFill};
 ghost use Rattle.dfd_run.specs.Headline.{ActionsSuffice, ArenasStopLate, ArenasSuffice, DequesSuffice, MomentsAreBounded, PlaysWithRoomFinish, ReportsAreBounded, StatusesWithRoom, SummariesAreBounded};
 ghost use Rattle.dfd_run.specs.Laws.{AcceptedTrailsAreBounded, AnAnswer, CommandsHaveRanges, LoopsArePlays, OneAnswer, RecordedTrailsAreAccepted};
 
@@ -33,6 +34,22 @@ pub fn moments_are_bounded()
 /// depth-first peak and two quotas for each period that is told as ahead.
 pub fn reports_are_bounded()
     ensures { ReportsAreBounded }
+{}
+
+/// At each moment of each play of `async` the words in use are at most the depth-first peak, and two quotas for each period that by then ran an
+/// action ahead of the prefix; the threads stand in depth-first order; and no action was done twice.
+pub fn async_moments_are_bounded()
+    ensures { AsyncMomentsAreBounded }
+{}
+
+/// `async` reports a play that ends with the lines and the finish of the depth-first run, and with a high-water mark within the bound.
+pub fn async_reports_are_bounded()
+    ensures { AsyncReportsAreBounded }
+{}
+
+/// No play of `async` ends for want of a place in the list.
+pub fn async_lists_never_fill()
+    ensures { AsyncListsNeverFill }
 {}
 
 /// So is the high-water mark of a play of `make`, as its summary tells it.

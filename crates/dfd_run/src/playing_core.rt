@@ -29,16 +29,24 @@ use dag_order::Lines;
 use trail_record::{Core, OutputFail, RunEnd};
 use dummy_tree::Quota;
 use frame_code::lower;
+use node_table::Code;
 use std::alloc::{AllocError, Global};
 use trail_record::{Recorded, record_play};
 
-/// The run of a program by the workers of a command, at its start.
-fn begun(alloc: Global, command: &Command, program: Checked) -> Result<Core, AllocError>
+/// What a run of a program begins with: its table, the quota and the pool of the command.
+pub struct Start {
+    pub code: Code,
+    pub quota: Quota,
+    pub pool: Pool,
+}
+
+/// What the run of a program by the workers of a command begins with.
+pub fn start_of(alloc: Global, command: &Command, program: Checked) -> Result<Start, AllocError>
     requires ranges { HasRanges command.now }
     requires owned { Ownership (program_tree (program_of program)) }
-    ensures opening { IfOk result (λ core. IsAt (play_setting command.now (program_tree (program_of program))) core [] opening) }
-    ensures going { IfOk result (λ core. end_of core ≡ None) }
-    ensures terms { IfOk result (λ core. terms_at core ≡ play_terms command.now) }
+    ensures setting { IfOk result (λ start. IsSettingOf (code_shown start.code) (quota_words start.quota)
+        (play_setting command.now (program_tree (program_of program)))) }
+    ensures pool { IfOk result (λ start. (start.pool.live ≡ 0) × (start.pool.capacity ≡ command.now.arena)) }
 {
     let Some(quota) = Quota::new(command.k) else {
         unreachable!();
@@ -51,6 +59,18 @@ fn begun(alloc: Global, command: &Command, program: Checked) -> Result<Core, All
         Err(PoolError::NotWhole) => unreachable!(),
         Err(PoolError::TooLarge) => unreachable!(),
     };
+    Ok(Start { code, quota, pool })
+}
+
+/// The run of a program by the workers of a command, at its start.
+fn begun(alloc: Global, command: &Command, program: Checked) -> Result<Core, AllocError>
+    requires ranges { HasRanges command.now }
+    requires owned { Ownership (program_tree (program_of program)) }
+    ensures opening { IfOk result (λ core. IsAt (play_setting command.now (program_tree (program_of program))) core [] opening) }
+    ensures going { IfOk result (λ core. end_of core ≡ None) }
+    ensures terms { IfOk result (λ core. terms_at core ≡ play_terms command.now) }
+{
+    let Start { code, quota, pool } = start_of(alloc, command, program)?;
     Core::new(
         alloc,
         code,

@@ -1,32 +1,15 @@
-use Rattle.std.proofs.Common.{inl, inr, ap, ◌∙◌, arith, Err}
-use Rattle.std.proofs.lemmas.Bool.{false≢true}
+use Rattle.std.proofs.Common.{arith}
 use Rattle.command_line.proofs.Commands.{few_steps}
-use Rattle.command_line.specs.declared.setting.Setting.TheVariants.{Quota, Workers, Arena, Steps, Deques}
-use Rattle.dfd_run.proofs.Peaks.{quota_of_range}
+use Rattle.command_line.specs.declared.setting.Setting.TheVariants.{Workers, Steps, Deques}
 use Rattle.dfd_run.proofs.playing_core.begun.Goals as goal
 
-pub unreachable-requires : goal.unreachable-requires
-unreachable-requires c = false≢true (c.in_default.ensures.some.1 (quota_of_range c.args.command.now.kind c.args.command.now.k (c.requires.ranges.numbers Quota)))
+pub new-requires-clause-workers : goal.new-requires-clause-workers
+new-requires-clause-workers c = ((c.requires.ranges.numbers Workers).0, (c.requires.ranges.numbers Workers).1)
 
-pub new-requires-3-clause-workers : goal.new-requires-3-clause-workers
-new-requires-3-clause-workers c = ((c.requires.ranges.numbers Workers).0, (c.requires.ranges.numbers Workers).1)
-
-pub new-requires-3-clause-limit : goal.new-requires-3-clause-limit
-new-requires-3-clause-limit c =
+pub new-requires-clause-limit : goal.new-requires-clause-limit
+new-requires-clause-limit c =
     let range = c.requires.ranges.numbers Steps in let few = few_steps c.args.command.now.kind in
     let most = range.1 in (range.0, omega (arith, most, few))
 
-pub new-requires-3-clause-most : goal.new-requires-3-clause-most
-new-requires-3-clause-most c = ((c.requires.ranges.numbers Deques).0, (c.requires.ranges.numbers Deques).1)
-
-pub unreachable-requires-in-Err-NotWhole : goal.unreachable-requires-in-Err-NotWhole
-unreachable-requires-in-Err-NotWhole c =
-    let range = c.requires.ranges.numbers Arena in
-    elim (c.new-2.ensures.not_whole.0 (c.in-Err-NotWhole.is ∙ ap Err c.in-Err-NotWhole.field-0-is))
-    [ inl part ↦ part range.2 | inr none ↦ let some = range.0 in omega (arith, some, none) ]
-
-pub unreachable-requires-in-Err-TooLarge : goal.unreachable-requires-in-Err-TooLarge
-unreachable-requires-in-Err-TooLarge c =
-    let few = (c.requires.ranges.numbers Arena).1 in
-    let many = (c.new-2.ensures.too_large.0 (c.in-Err-TooLarge.is ∙ ap Err c.in-Err-TooLarge.field-0-is)).1 in
-    omega (arith, few, many)
+pub new-requires-clause-most : goal.new-requires-clause-most
+new-requires-clause-most c = ((c.requires.ranges.numbers Deques).0, (c.requires.ranges.numbers Deques).1)
