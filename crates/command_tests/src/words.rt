@@ -3,7 +3,8 @@ use crate::calls::{SMALL, all_answer_so, answers_so};
 use dfd_run::Status;
 use std::test::Fail;
 
-const USAGE: &str = "usage: dfd play|async|run|peak|check|make|trail|verify|loops|expand [options]~";
+const USAGE: &str =
+    "usage: dfd play|async|run|peak|check|make|trail|verify|loops|expand [options]~";
 
 /// Words that are no command, a line each; the first line is empty.
 const NO_COMMANDS: &str = "

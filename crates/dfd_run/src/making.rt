@@ -20,10 +20,10 @@ use accepted_source::accept;
 use block_check::Checked;
 use command_line::Command;
 use dag_order::Finish;
-use trail_record::{Core, RunEnd};
 use language_limits::LONGEST_TEXT;
 use run_report::{Summary, summary_text};
 use std::alloc::{AllocError, Global};
+use trail_record::{Core, RunEnd};
 
 /// The sum of numbers, which wraps at 64 bits.
 fn wrapping_sum(numbers: &[i64]) -> i64

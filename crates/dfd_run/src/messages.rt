@@ -10,7 +10,8 @@ use par_syntax::{SyntaxError, SyntaxKind};
 use std::alloc::{AllocError, Global};
 
 /// The line of words that are no command.
-pub const USAGE: &str = "usage: dfd play|async|run|peak|check|make|trail|verify|loops|expand [options]\n";
+pub const USAGE: &str =
+    "usage: dfd play|async|run|peak|check|make|trail|verify|loops|expand [options]\n";
 
 /// The line of a source that failed.
 pub const READ_FAULT: &str = "read fault\n";

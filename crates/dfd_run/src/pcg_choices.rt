@@ -1,7 +1,7 @@
-use trail_record::Choices;
 use rand_core::SeedableRng;
 use rand_core::utils::NextWord;
 use rand_pcg::Lcg64Xsh32;
+use trail_record::Choices;
 
 /// Words from a random generator that a number seeds: its successive outputs of 32 bits (M. O'Neill, "PCG: A Family of
 /// Simple Fast Space-Efficient Statistically Good Algorithms for Random Number Generation").

@@ -20,9 +20,9 @@ use accepted_source::accept;
 use block_check::Checked;
 use command_line::Command;
 use dag_order::Finish;
-use trail_record::{Core, RunEnd};
 use run_report::{Report, report_text};
 use std::alloc::{AllocError, Global};
+use trail_record::{Core, RunEnd};
 
 /// The report of a run that has finished.
 fn report_answer(alloc: Global, core: &Core, finish: Finish) -> Result<Answer, AllocError>

@@ -24,14 +24,13 @@ use crate::status::Status;
 use block_arena::{Pool, PoolError};
 use block_check::Checked;
 use command_line::Command;
-use run_end::Stop;
 use dag_order::Lines;
-use trail_record::{Core, OutputFail, RunEnd};
 use dummy_tree::Quota;
 use frame_code::lower;
 use node_table::Code;
+use run_end::Stop;
 use std::alloc::{AllocError, Global};
-use trail_record::{Recorded, record_play};
+use trail_record::{Core, OutputFail, Recorded, RunEnd, record_play};
 
 /// What a run of a program begins with: its table, the quota and the pool of the command.
 pub struct Start {

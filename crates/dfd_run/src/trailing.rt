@@ -24,9 +24,9 @@ use accepted_source::accept;
 use block_check::Checked;
 use command_line::Command;
 use dag_order::Finish;
-use trail_record::{Core, RunEnd};
 use std::alloc::{AllocError, Global};
 use trail_meaning::{Events, Trail, TrailNumbers};
+use trail_record::{Core, RunEnd};
 use trail_text::trail_text;
 
 /// The numbers that a run ended with.

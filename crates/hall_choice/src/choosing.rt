@@ -9,8 +9,7 @@ ghost use Rattle.hall_choice.specs.Choosing.{HasChosen, HasTried, HoldsTheList, 
 
 use boxed::Boxed;
 use deque_list::Place;
-use hall_turns::{LaneSlot, ListSlot};
-use hall_turns::{HallPlace, HallRow, give_lane_back, take_lane};
+use hall_turns::{HallPlace, HallRow, LaneSlot, ListSlot, give_lane_back, take_lane};
 use turn_table::Held;
 
 /// The number that the turn `turn` of a word picks of `n`.

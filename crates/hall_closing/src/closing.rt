@@ -10,8 +10,7 @@ ghost use Rattle.hall_closing.specs.Closing.{AreLast, BeginWithTwo, HasSeen, IsC
 use crate::closed::ClosedHall;
 use crate::seeing::see_end;
 use boxed::Boxed;
-use hall_turns::{ListSlot, PoolSlot, Slot};
-use hall_turns::{HallPlace, HallRow};
+use hall_turns::{HallPlace, HallRow, ListSlot, PoolSlot, Slot};
 
 /// The list and the pool, which are the first two of these slots.
 fn parts_of(mut values: Vec<Slot>) -> (Boxed<ListSlot>, PoolSlot)

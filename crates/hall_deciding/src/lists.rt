@@ -12,8 +12,7 @@ use boxed::Boxed;
 use dag_order::{ActionId, Finish, ThreadId};
 use deque_list::DequeId;
 use hall_puts::{Noting, put_list_and_lane};
-use hall_turns::{Event, LaneSlot, ListSlot};
-use hall_turns::{HallPlace, HallRow};
+use hall_turns::{Event, HallPlace, HallRow, LaneSlot, ListSlot};
 use run_end::RunEnd;
 
 /// Decides the wait of a thread that is alone in its deque.

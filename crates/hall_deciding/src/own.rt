@@ -11,8 +11,7 @@ ghost use Rattle.run_end.specs.declared.stop.Stop.TheVariants.{OutOfMemory as No
 use dag_order::ActionId;
 use deque_list::DequeId;
 use hall_puts::{Noting, put_lane};
-use hall_turns::{Event, LaneSlot};
-use hall_turns::{HallPlace, HallRow};
+use hall_turns::{Event, HallPlace, HallRow, LaneSlot};
 use run_end::Stop;
 
 /// Decides a Join of a child whose result was handed over, which releases no words. Of the slots it needs its lane alone.

@@ -10,8 +10,7 @@ ghost use Rattle.hall_deciding.specs.Pools.{ActsWithPool, JoinsWithPool, EndsWit
 use dag_order::ActionId;
 use deque_list::DequeId;
 use hall_puts::{Noting, put_pool_and_lane};
-use hall_turns::{Event, LaneSlot, PoolSlot};
-use hall_turns::{HallPlace, HallRow};
+use hall_turns::{Event, HallPlace, HallRow, LaneSlot, PoolSlot};
 
 /// Decides an Alloc, a Release, a Fault or a Fork.
 pub fn decide_action(

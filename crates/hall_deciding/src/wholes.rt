@@ -11,8 +11,7 @@ use boxed::Boxed;
 use dag_order::ActionId;
 use deque_list::DequeId;
 use hall_puts::{Noting, put_all};
-use hall_turns::{Event, LaneSlot, ListSlot, PoolSlot};
-use hall_turns::{HallPlace, HallRow};
+use hall_turns::{Event, HallPlace, HallRow, LaneSlot, ListSlot, PoolSlot};
 
 /// Decides the End of a forked thread, alone in its deque, for which nobody waits.
 pub fn decide_leaving_end(

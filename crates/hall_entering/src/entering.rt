@@ -11,8 +11,7 @@ use crate::puts::{put_named, split};
 use crate::refused::EnterRefused;
 use boxed::Boxed;
 use hall_seats::{end_of, put_answered, put_same};
-use hall_turns::ListSlot;
-use hall_turns::{HallPlace, HallRow, take_list};
+use hall_turns::{HallPlace, HallRow, ListSlot, take_list};
 
 /// What `enter` does where no end is kept.
 fn enter_open(

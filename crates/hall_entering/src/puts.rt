@@ -6,8 +6,7 @@ ghost use Rattle.turn_table.specs.Tables.{key_of, IsSeatOf};
 ghost use Rattle.hall_entering.specs.Entering.{GivesAPlace, HoldsTheNamed, PutsGiven, PutsNamed, worker_note};
 
 use boxed::Boxed;
-use hall_turns::{ListSlot, Slot};
-use hall_turns::{HallPlace, HallRow};
+use hall_turns::{HallPlace, HallRow, ListSlot, Slot};
 use std::marker::Brand;
 
 /// Puts back the list that names a worker who has no seat yet, and enters by this one.

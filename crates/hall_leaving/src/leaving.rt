@@ -10,8 +10,7 @@ ghost use Rattle.hall_leaving.specs.Leaving.{end_left, HasJoined, HasLeft, Holds
 
 use crate::joining::join;
 use boxed::Boxed;
-use hall_turns::{ListSlot, Slot};
-use hall_turns::{HallPlace, HallRow, take_list};
+use hall_turns::{HallPlace, HallRow, ListSlot, Slot, take_list};
 use run_end::Stop;
 use std::marker::Brand;
 use turn_table::Held;

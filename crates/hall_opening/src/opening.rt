@@ -11,8 +11,7 @@ ghost use Rattle.hall_opening.specs.First.{AddsEmptyLanes, AreFirst, AreThree, I
 use block_arena::Pool;
 use boxed::Boxed;
 use deque_list::{Lane, Order};
-use hall_turns::{LaneSlot, ListSlot, PoolSlot, Slot};
-use hall_turns::{HallKey, HallPlace, HallRow};
+use hall_turns::{HallKey, HallPlace, HallRow, LaneSlot, ListSlot, PoolSlot, Slot};
 use list_part::ListPart;
 use space_ledger::{Books, Moves};
 use std::alloc::{AllocError, Global};

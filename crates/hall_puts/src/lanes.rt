@@ -7,8 +7,7 @@ ghost use Rattle.hall_puts.specs.Puts.{note_of, MayPutLane, HasPut};
 
 use crate::noting::Noting;
 use deque_list::DequeId;
-use hall_turns::{LaneSlot, Slot};
-use hall_turns::{HallPlace, HallRow};
+use hall_turns::{HallPlace, HallRow, LaneSlot, Slot};
 use std::marker::Brand;
 
 /// Puts the lane back, and notes this.

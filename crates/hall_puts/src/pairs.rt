@@ -11,8 +11,7 @@ use crate::noting::Noting;
 use crate::parts::lane_of;
 use boxed::Boxed;
 use deque_list::DequeId;
-use hall_turns::{LaneSlot, ListSlot, PoolSlot, Slot};
-use hall_turns::{HallPlace, HallRow, give_lane_back};
+use hall_turns::{HallPlace, HallRow, LaneSlot, ListSlot, PoolSlot, Slot, give_lane_back};
 use std::marker::Brand;
 
 /// Puts the pool back, and notes this; from this step on the lane shows what it is to be.

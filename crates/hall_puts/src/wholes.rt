@@ -12,8 +12,9 @@ use crate::noting::Noting;
 use crate::parts::{lane_of, list_of};
 use boxed::Boxed;
 use deque_list::DequeId;
-use hall_turns::{LaneSlot, ListSlot, PoolSlot, Slot};
-use hall_turns::{HallPlace, HallRow, give_lane_back, give_list_back};
+use hall_turns::{
+    HallPlace, HallRow, LaneSlot, ListSlot, PoolSlot, Slot, give_lane_back, give_list_back,
+};
 use std::marker::Brand;
 
 /// Puts the pool back, and notes this; from this step on the list and the lane show what they are to be.

@@ -7,8 +7,7 @@ ghost use Rattle.hall_turns.specs.Takes.{HasAllPlaces, IsRefused, MeetsLaw};
 ghost use Rattle.hall_seats.specs.Halting.{HasHalted, HoldsTheKept, IsInHall, PutsHalted};
 
 use boxed::Boxed;
-use hall_turns::{ListSlot, Slot};
-use hall_turns::{HallPlace, HallRow, take_list};
+use hall_turns::{HallPlace, HallRow, ListSlot, Slot, take_list};
 use run_end::{RunEnd, Stop};
 use std::marker::Brand;
 use turn_table::Held;

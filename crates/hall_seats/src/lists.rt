@@ -6,8 +6,7 @@ ghost use Rattle.hall_turns.specs.Takes.{IsPlaced, MeetsLaw};
 ghost use Rattle.hall_seats.specs.Lists.{HoldsTheEnd, HoldsTheSame, PutsAnswered, PutsSame};
 
 use boxed::Boxed;
-use hall_turns::{ListSlot, Slot};
-use hall_turns::{HallPlace, HallRow};
+use hall_turns::{HallPlace, HallRow, ListSlot, Slot};
 use run_end::RunEnd;
 use std::marker::Brand;
 use turn_table::Keep;

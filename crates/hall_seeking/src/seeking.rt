@@ -10,8 +10,7 @@ use crate::prey::{Prey, SeekRefused};
 use boxed::Boxed;
 use hall_choice::choose;
 use hall_seats::{end_of, put_answered};
-use hall_turns::ListSlot;
-use hall_turns::{HallPlace, HallRow, give_list_back, take_list};
+use hall_turns::{HallPlace, HallRow, ListSlot, give_list_back, take_list};
 
 /// What `seek` does once it has the list.
 fn seek_with(

@@ -8,9 +8,8 @@ ghost use Rattle.hall_stealing.specs.Stealing.{HasStolenIn, MayTakeBottom, MayTa
 use crate::parts::{begin_in, insert_in, move_bottom, own_in};
 use boxed::Boxed;
 use deque_list::DequeId;
-use hall_turns::{LaneSlot, ListSlot};
 use hall_thefts::{put_beside, put_over};
-use hall_turns::{HallPlace, HallRow};
+use hall_turns::{HallPlace, HallRow, LaneSlot, ListSlot};
 use quota_period::Period;
 
 /// Takes a deque over that nobody owns and that has one thread, in the period that begins with it, and puts the slots back.

@@ -7,8 +7,7 @@ ghost use Rattle.hall_stops.specs.Stopping.{found_note, HasStopped, HoldsTheStop
 
 use boxed::Boxed;
 use hall_seats::keep_in;
-use hall_turns::{ListSlot, Slot};
-use hall_turns::{HallPlace, HallRow};
+use hall_turns::{HallPlace, HallRow, ListSlot, Slot};
 use run_end::Stop;
 use std::marker::Brand;
 

@@ -10,8 +10,7 @@ ghost use Rattle.hall_thefts.specs.Thefts.{HasStolen, HasTakenBottom, HasTakenOv
 
 use boxed::Boxed;
 use deque_list::DequeId;
-use hall_turns::{LaneSlot, ListSlot, Slot};
-use hall_turns::{HallPlace, HallRow, give_lane_back};
+use hall_turns::{HallPlace, HallRow, LaneSlot, ListSlot, Slot, give_lane_back};
 use std::marker::Brand;
 
 /// The lane in a slot that is one.

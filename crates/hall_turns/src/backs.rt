@@ -7,9 +7,9 @@ ghost use Rattle.hall_turns.specs.declared.slot.Slot.TheVariants as slots;
 ghost use Rattle.hall_turns.specs.Takes.{IsPlaced, IsGiven, MeetsLaw};
 
 use crate::rule::{HallPlace, HallRow};
+use crate::{LaneSlot, ListSlot, PoolSlot, Slot};
 use boxed::Boxed;
 use deque_list::DequeId;
-use crate::{LaneSlot, ListSlot, PoolSlot, Slot};
 use turn_table::Keep;
 
 /// Puts back what is in a slot as it was.

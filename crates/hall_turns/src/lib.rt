@@ -30,13 +30,13 @@ mod slot;
 mod takes;
 
 pub use backs::{give_lane_back, give_list_back, give_pool_back};
-pub use key::HallKey;
-pub use pairs::{take_lane_and_list, take_lane_and_pool};
-pub use rule::{HallPlace, HallRow, HallRule};
-pub use takes::{take_lane, take_list, take_pool};
 pub use event::Event;
+pub use key::HallKey;
 pub use lane_slot::{LaneSlot, Running};
 pub use list_slot::ListSlot;
+pub use pairs::{take_lane_and_list, take_lane_and_pool};
 pub use pool_slot::PoolSlot;
+pub use rule::{HallPlace, HallRow, HallRule};
 pub use seat_note::SeatNote;
 pub use slot::Slot;
+pub use takes::{take_lane, take_list, take_pool};

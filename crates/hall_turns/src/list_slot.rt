@@ -1,6 +1,6 @@
 use boxed::Boxed;
-use run_end::RunEnd;
 use list_part::ListPart;
+use run_end::RunEnd;
 use thread_frames::{Ended, Thread};
 
 /// The list of a hall: the deques with their owners, what waits, the results and the closed periods, and besides these the workers that are

@@ -9,9 +9,9 @@ ghost use Rattle.hall_turns.specs.Takes.{IsPlaced, HasAllPlaces, MeetsLaw, AreTa
 use crate::backs::give_lane_back;
 use crate::rule::{HallPlace, HallRow};
 use crate::takes::{take_lane, take_list, take_pool};
+use crate::{LaneSlot, ListSlot, PoolSlot};
 use boxed::Boxed;
 use deque_list::DequeId;
-use crate::{LaneSlot, ListSlot, PoolSlot};
 use turn_table::Held;
 
 /// Takes the lane of a deque, and the list.

@@ -10,9 +10,9 @@ ghost use Rattle.hall_turns.specs.Law.{IsShaped};
 ghost use Rattle.hall_turns.specs.Takes.{IsPlaced, HasAllPlaces, MeetsLaw, IsTaken, IsRefused};
 
 use crate::rule::{HallPlace, HallRow};
+use crate::{LaneSlot, ListSlot, PoolSlot, Slot};
 use boxed::Boxed;
 use deque_list::DequeId;
-use crate::{LaneSlot, ListSlot, PoolSlot, Slot};
 use turn_table::{Held, Keep};
 
 /// Takes the turn of a slot, and what is in it.

@@ -20,8 +20,7 @@ use boxed::Boxed;
 use dag_order::{ActionId, Births};
 use deque_list::{DequeId, Lane};
 use hall_deciding::decide_end_above;
-use hall_turns::{LaneSlot, PoolSlot, Running};
-use hall_turns::{HallPlace, HallRow};
+use hall_turns::{HallPlace, HallRow, LaneSlot, PoolSlot, Running};
 use lane_events::end_above;
 use thread_frames::Thread;
 

@@ -21,8 +21,7 @@ use boxed::Boxed;
 use dag_order::{ActionId, Births};
 use deque_list::{DequeId, Lane};
 use hall_deciding::{decide_dummy, decide_give_up, decide_yield};
-use hall_turns::{LaneSlot, ListSlot, Running};
-use hall_turns::{HallPlace, HallRow};
+use hall_turns::{HallPlace, HallRow, LaneSlot, ListSlot, Running};
 use lane_events::do_dummy;
 use thread_frames::Thread;
 

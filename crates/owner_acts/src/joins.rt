@@ -18,8 +18,7 @@ use boxed::Boxed;
 use dag_order::{ActionId, Births};
 use deque_list::{DequeId, Lane};
 use hall_deciding::{decide_join_giving, decide_own_join};
-use hall_turns::{LaneSlot, PoolSlot, Running};
-use hall_turns::{HallPlace, HallRow};
+use hall_turns::{HallPlace, HallRow, LaneSlot, PoolSlot, Running};
 use lane_events::{do_join, do_join_giving};
 use thread_frames::Thread;
 

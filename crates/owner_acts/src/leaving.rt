@@ -21,15 +21,14 @@ ghost use Rattle.owner_acts.specs.Ready.{IsReady, PoolIsReady};
 ghost use Rattle.owner_acts.specs.Pauses.{CanClose};
 ghost use Rattle.owner_acts.specs.Ends.{CanLeave};
 
+use crate::id_of;
 use boxed::Boxed;
 use dag_order::{ActionId, Births, ThreadId};
 use deque_list::{DequeId, Lane};
 use hall_deciding::decide_leaving_end;
-use hall_turns::{LaneSlot, ListSlot, PoolSlot, Running};
-use hall_turns::{HallPlace, HallRow};
+use hall_turns::{HallPlace, HallRow, LaneSlot, ListSlot, PoolSlot, Running};
 use lane_events::end_forked;
 use list_events::leave_result;
-use crate::id_of;
 use thread_frames::{Ended, Thread};
 
 /// Keeps the result of a thread in the list, and closes the period of its deque, which is gone.

@@ -15,9 +15,9 @@ mod leaving;
 mod waits;
 mod words;
 
-pub use joins::{act_join_giving, act_own_join};
-pub use words::{act_alloc, act_fault, act_fork, act_release};
-pub use give_ups::{act_dummy, act_give_up, act_yield};
-pub use waits::{act_wait, id_of};
 pub use above::act_end_above;
+pub use give_ups::{act_dummy, act_give_up, act_yield};
+pub use joins::{act_join_giving, act_own_join};
 pub use leaving::act_leaving_end;
+pub use waits::{act_wait, id_of};
+pub use words::{act_alloc, act_fault, act_fork, act_release};

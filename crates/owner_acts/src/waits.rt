@@ -19,8 +19,7 @@ use boxed::Boxed;
 use dag_order::ThreadId;
 use deque_list::{DequeId, Lane};
 use hall_deciding::decide_wait;
-use hall_turns::{LaneSlot, ListSlot, Running};
-use hall_turns::{HallPlace, HallRow};
+use hall_turns::{HallPlace, HallRow, LaneSlot, ListSlot, Running};
 use list_events::suspend;
 use thread_frames::Thread;
 

@@ -20,8 +20,7 @@ use boxed::Boxed;
 use dag_order::{ActionId, Births};
 use deque_list::{DequeId, Lane};
 use hall_deciding::decide_action;
-use hall_turns::{LaneSlot, PoolSlot, Running};
-use hall_turns::{HallPlace, HallRow};
+use hall_turns::{HallPlace, HallRow, LaneSlot, PoolSlot, Running};
 use lane_events::{do_alloc, do_fault, do_fork, do_release};
 use thread_frames::{Place, Thread};
 

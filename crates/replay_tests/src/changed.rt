@@ -9,14 +9,13 @@ use crate::answers::{Setting, add_event, answer_of, trail_of};
 use crate::listed::Listed;
 use crate::replays::{PROGRAMS, Play, change_at, core_and_serial, machine_step, next_word};
 use dag_order::Label;
-use trail_record::{Core, ListChoices, RunEnd};
 use machine_replay::runs::opening;
 use machine_replay::{Deque, Event, Moment, Pair};
 use std::alloc::{AllocError, Global};
 use std::process::Abort;
 use trail_check::VerifyFail;
 use trail_meaning::{Events, TrailEvent, TrailKind, TrailNumbers};
-use trail_record::record_play;
+use trail_record::{Core, ListChoices, RunEnd, record_play};
 
 /// A play that was recorded.
 #[derive(Drop)]

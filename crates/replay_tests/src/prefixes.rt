@@ -5,7 +5,6 @@ ghost use Rattle.prefix_laws.specs.Prefixes.{IsSerialOf};
 
 use accepted_source::accept;
 use block_arena::Pool;
-use trail_record::Core;
 use dummy_tree::Quota;
 use frame_code::lower;
 use prefix_laws::{ahead_now, bound_margin, leaves, prefix_split};
@@ -13,6 +12,7 @@ use serial_meaning::{Serial, depth_first};
 use std::alloc::{AllocError, Global};
 use std::fmt::Write;
 use std::process::Abort;
+use trail_record::Core;
 
 /// A core, and the depth-first run that it is compared with. Both are let go by a call, so that the steps of that are proved once, and not at each exit of what owns them.
 pub(crate) struct Compared {

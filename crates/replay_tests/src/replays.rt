@@ -4,7 +4,6 @@
 use crate::listed::{Listed, label_of};
 use crate::prefixes::{Compared, begun};
 use dag_order::{ActionId, Births, Kind, Label};
-use trail_record::{Core, RunEnd, Stepped};
 use machine_replay::runs::{opening, replay, step};
 use machine_replay::{Event, Moment, Pair};
 use serial_meaning::Serial;
@@ -12,6 +11,7 @@ use space_ledger::{Book, NumberedBooks};
 use std::alloc::Global;
 use std::fmt::Write;
 use std::process::Abort;
+use trail_record::{Core, RunEnd, Stepped};
 
 /// More turns than these plays have.
 const TURNS: u32 = 5_000;

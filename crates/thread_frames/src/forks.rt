@@ -21,9 +21,9 @@ use boxed::Boxed;
 use dag_order::ThreadId;
 use std::mem;
 use thread_output::Told;
+use thread_run::Forking;
 use thread_stack::{Branch, Frame};
 use thread_state::{ForkRoom, ThreadState};
-use thread_run::Forking;
 
 impl Thread {
     ghost use Rattle.thread_frames.specs.Views.{next_of, done_of};

@@ -26,10 +26,9 @@ use dummy_tree::Quota;
 use node_table::{Code, NodeKind};
 use std::alloc::{AllocError, Global};
 use thread_output::Told;
-use thread_run::ThreadRun;
+use thread_run::{Ready, ThreadRun};
 use thread_stack::{Branch, Frame, ListOf, frame_from};
 use thread_state::ThreadState;
-use thread_run::Ready;
 
 impl Placed for Thread {
     ghost use Rattle.thread_frames.specs.Views.{label_of as its_label};

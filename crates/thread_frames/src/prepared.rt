@@ -1,8 +1,8 @@
 use crate::child_room::ChildRoom;
 use block_arena::Shell;
 use dag_order::FaultAt;
-use thread_stack::Branch;
 use thread_run::Forking;
+use thread_stack::Branch;
 
 /// The next action of a thread that has come to it, with all the memory that it takes.
 #[derive(Drop)]

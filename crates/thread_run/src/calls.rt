@@ -12,13 +12,13 @@ ghost use Rattle.thread_run.specs.Calling.{is_call, CanCallAt, BeginsRun};
 ghost use Rattle.thread_run.specs.Functions.{functions_of};
 ghost use Rattle.thread_run.specs.Stepping.{frames_left};
 
+use crate::Ready;
 use crate::run::ThreadRun;
 use dag_order::FaultAt;
 use node_table::{Code, Node, NodeKind};
 use std::alloc::{AllocError, Global};
 use thread_stack::{Frame, ListOf, frame_from};
 use thread_state::Stop;
-use crate::Ready;
 
 /// Whether a node is a call.
 pub(crate) fn calls(node: &Node) -> bool

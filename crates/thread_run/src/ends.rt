@@ -9,11 +9,11 @@ ghost use Rattle.thread_state.specs.States.{own_row, rows_of};
 ghost use Rattle.thread_run.specs.Calling.{HasCallee, CanEndAt, IsThere, main_code, CanEndMainBy};
 ghost use Rattle.thread_run.specs.Stepping.{StepsRun, KeepsFunctions, RunsLess};
 
+use crate::Ready;
 use crate::run::ThreadRun;
 use dag_order::FaultAt;
 use node_table::{Code, CodeRet, NodeKind};
 use thread_stack::Frame;
-use crate::Ready;
 
 /// The line of a `return`; 0 where there is none.
 fn line_of(ret: &Option<CodeRet>) -> u32

@@ -9,11 +9,11 @@ ghost use Rattle.thread_run.specs.Stepping.{IsKnownAt, IsMet, DoesRun, StepsRun,
 
 use crate::calls::calls;
 use crate::run::ThreadRun;
+use crate::{Ready, statement};
 use dummy_tree::Quota;
 use node_table::Code;
 use std::alloc::{AllocError, Global};
 use thread_stack::{Frame, ListOf, numbers};
-use crate::{Ready, statement};
 
 impl ThreadRun {
     ghost use Rattle.thread_run.specs.Functions.{frames_of};

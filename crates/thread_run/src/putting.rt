@@ -7,9 +7,9 @@ ghost use Rattle.thread_output.specs.Telling.{Tells};
 ghost use Rattle.thread_run.specs.Stepping.{frames_with, ready_of, told_by};
 
 use crate::run::ThreadRun;
+use crate::{Done, Ready};
 use std::alloc::AllocError;
 use thread_stack::{Frame, ListOf};
-use crate::{Done, Ready};
 
 impl ThreadRun {
     ghost use Rattle.thread_run.specs.Functions.{frames_of};

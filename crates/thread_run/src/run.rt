@@ -4,13 +4,13 @@ ghost use Rattle.dummy_tree.specs.QuotaWords.{quota_words};
 ghost use Rattle.node_table.specs.Codes.{code_shown};
 ghost use Rattle.thread_state.specs.States.{words_held};
 
+use crate::Ready;
 use dummy_tree::Quota;
 use node_table::Code;
 use std::alloc::{AllocError, Global};
 use thread_output::Told;
 use thread_stack::Frame;
 use thread_state::ThreadState;
-use crate::Ready;
 
 /// What a thread runs: the function that it is in, its slots, what is left to it, and what it has printed since its newest open fork.
 #[derive(Drop)]

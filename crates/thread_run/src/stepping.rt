@@ -8,11 +8,11 @@ ghost use Rattle.thread_state.specs.States.{words_held};
 ghost use Rattle.thread_run.specs.Stepping.{IsKnownAt, StepsRun, KeepsFunctions, KeepsCounts, RunsLess, ComesBy, KnownAgain};
 
 use crate::run::ThreadRun;
+use crate::{Ready, allocates, dummies, rejoins};
 use dummy_tree::Quota;
 use node_table::Code;
 use std::alloc::{AllocError, Global};
 use thread_stack::Frame;
-use crate::{Ready, allocates, dummies, rejoins};
 
 impl ThreadRun {
     /// One step from a frame that was taken off, which leads each thread with this code to its next point, or before its next action.
