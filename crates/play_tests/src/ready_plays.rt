@@ -149,3 +149,42 @@ fn the_parent_of_a_fork_is_ready(rt: HostRuntime) {
     assert!(rt; takes(step_of(&rt, &mut run.core, 1), 2));
     assert!(rt; run.core.live() == 16);
 }
+
+/// 64 leaves of a tree of forks, each of which takes 60 blocks one after another, forks 100 times deep, and takes 60 more. So each leaf is
+/// begun before one has forked, and each has forked before one has ended.
+const WIDE: &str = "
+fn hold(n) { while n > 0 { alloc a = 16; free a; n = n - 1; } }
+fn chain(n) { if n > 0 { par { call chain(n - 1); } and { } } else { call hold(60); } }
+fn spread(n) { if n > 0 { par { call spread(n - 1); } and { call spread(n - 1); } } else { call hold(60); call chain(100); } }
+fn main() { call spread(6); }
+";
+
+/// The most entries that there are at once while each worker moves so often, one after another in the order of their numbers.
+fn most_entries(rt: &impl Abort, core: &mut AsyncCore, times: u32) -> u32 {
+    let workers = core.workers();
+    let mut most = 0;
+    for turn in 0..workers.saturating_mul(times) {
+        step_of(rt, core, turn % workers);
+        most = most.max(core.scheduler().list.len());
+    }
+    most
+}
+
+/// A ready list has a place for each thread, though a list of deques has 4,096: here are the 6,463 forked ones and the root.
+#[test]
+fn a_ready_list_has_a_place_for_each_thread(rt: HostRuntime) {
+    let mut run = run_of(
+        &rt,
+        rt.alloc(),
+        WIDE,
+        numbers_of("65536 64 1048576 4000000 0"),
+    );
+    assert_eq!(rt; most_entries(&rt, &mut run.core, 300), 6_464);
+    let mut choices = words_of(&rt, rt.alloc(), "0");
+    let end = play_to_end(&mut run.core, &mut choices);
+    let got = told(&rt, rt.alloc(), &run.core, end);
+    assert_eq!(rt;
+        got.as_str(),
+        "done, prints, periods 6464, ahead 6363, high 104432"
+    );
+}

@@ -13,4 +13,6 @@ mod listed;
 #[cfg(test)]
 mod prefixes;
 #[cfg(test)]
+mod ready_moments;
+#[cfg(test)]
 mod replays;

@@ -106,12 +106,12 @@ fn tell_bound(rt: &impl Abort, text: &mut String, bound: &Bound, live: u64) {
 
 /// A row of a table: the quota; the workers; the workers that move, one after another; what the core shows then; and the program.
 #[derive(Drop)]
-struct Row<'a> {
-    k: u32,
-    workers: u32,
-    moves: &'a str,
-    want: &'a str,
-    text: &'a str,
+pub(crate) struct Row<'a> {
+    pub k: u32,
+    pub workers: u32,
+    pub moves: &'a str,
+    pub want: &'a str,
+    pub text: &'a str,
 }
 
 /// The number in a part of a row.
@@ -120,7 +120,7 @@ fn number(part: &str) -> u32 {
 }
 
 /// The parts of a row; None in front of the first row.
-fn row_of(row: &str) -> Option<Row<'_>> {
+pub(crate) fn row_of(row: &str) -> Option<Row<'_>> {
     let mut parts = row.split('|');
     Some(Row {
         k: number(parts.next()?),
