@@ -9,7 +9,7 @@ use Rattle.hall_turns.specs.declared.list_slot.ListSlot.{ListSlot}
 use Rattle.hall_turns.specs.declared.pool_slot.PoolSlot.{PoolSlot}
 use Rattle.hall_turns.specs.declared.key.HallKey.{HallKey}
 use Rattle.hall_turns.specs.Takes.{HallSeat}
-use Rattle.hall_writes.specs.Writes.{told_note}
+use Rattle.hall_events.specs.PartEvents.Writes.{told_note}
 use Rattle.thread_frames.specs.declared.ended.Ended.{Ended}
 use Rattle.thread_frames.specs.declared.thread.Thread.{Thread}
 use Rattle.hall_events.specs.Taken.{IsAtAction}

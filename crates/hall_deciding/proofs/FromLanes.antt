@@ -9,7 +9,7 @@ use Rattle.hall_turns.specs.declared.seat_note.SeatNote.{SeatNote}
 use Rattle.hall_turns.specs.declared.key.HallKey.{HallKey}
 use Rattle.hall_turns.specs.Keys.{table_of, quota_of}
 use Rattle.hall_turns.specs.Takes.{HallSeat}
-use Rattle.hall_writes.specs.Writes.{told_note, IsShort}
+use Rattle.hall_events.specs.PartEvents.Writes.{told_note, IsShort}
 use Rattle.run_end.specs.declared.stop.Stop.TheVariants.{OutOfMemory}
 use Rattle.std.proofs.lemmas.Option.{none-some}
 use Rattle.thread_frames.specs.Points.{IsAtPoint}

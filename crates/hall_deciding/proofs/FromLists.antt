@@ -12,7 +12,7 @@ use Rattle.hall_turns.specs.declared.lane_slot.LaneSlot.{LaneSlot}
 use Rattle.hall_turns.specs.declared.list_slot.ListSlot.{ListSlot}
 use Rattle.hall_turns.specs.declared.key.HallKey.{HallKey}
 use Rattle.hall_turns.specs.Takes.{HallSeat}
-use Rattle.hall_writes.specs.Writes.{told_note}
+use Rattle.hall_events.specs.PartEvents.Writes.{told_note}
 use Rattle.lawful_books.specs.Lists.{Each}
 use Rattle.moment_parts.specs.Parts as shown
 use Rattle.run_end.specs.declared.ends.RunEnd.TheVariants.{Finished}

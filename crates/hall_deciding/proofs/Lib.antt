@@ -3,3 +3,4 @@ mod FromLanes
 mod FromPools
 mod FromLists
 mod FromAll
+pub mod Waits

@@ -10,7 +10,7 @@ use Rattle.thread_frames.specs.Kept.{IsUnderItsId, result_kept}
 use Rattle.hall_turns.specs.declared.event.Event.{Event}
 use Rattle.hall_turns.specs.declared.seat_note.SeatNote.{SeatNote}
 use Rattle.hall_turns.specs.Takes.{HallSeat}
-use Rattle.hall_writes.specs.Writes.{told_note, IsOwner}
+use Rattle.hall_events.specs.PartEvents.Writes.{told_note, IsOwner}
 use Rattle.hall_events.specs.Taken.{MayGoOn}
 use Rattle.hall_events.specs.Staying.{NotesOn}
 

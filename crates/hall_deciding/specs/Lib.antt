@@ -3,3 +3,4 @@ pub mod Own
 pub mod Pools
 pub mod Lists
 pub mod Wholes
+pub mod PartEvents

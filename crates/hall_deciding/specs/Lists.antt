@@ -8,11 +8,11 @@ use Rattle.dag_order.specs.declared.thread_id.ThreadId.{ThreadId}
 use Rattle.deque_list.specs.declared.deque_id.DequeId.{DequeId}
 use Rattle.depth_first_list.specs.Actions.{joins}
 use Rattle.lawful_books.specs.Lists.{Each}
-use Rattle.list_part.specs.Parts.{Has}
+use Rattle.hall_events.specs.PartEvents.Parts.{Has}
 use Rattle.moment_parts.specs.Parts as shown
 use Rattle.quota_period.specs.declared.period.Period.{Period as OpenPeriod}
 use Rattle.run_end.specs.declared.ends.RunEnd.TheVariants.{Finished}
-use Rattle.thread_events.specs.Results.{HasCome}
+use Rattle.hall_events.specs.PartEvents.Results.{HasCome}
 use Rattle.thread_frames.specs.Actions.{deed_of}
 use Rattle.thread_frames.specs.Points.{IsAtPoint, IsResult}
 use Rattle.thread_frames.specs.Views.{label_of}
@@ -24,10 +24,10 @@ use Rattle.thread_map.specs.Kept.{kept_under}
 use Rattle.thread_frames.specs.Kept.{IsUnderItsId}
 use Rattle.thread_frames.specs.Roots.{end_of_root}
 use Rattle.thread_frames.specs.Shown.{thread_shown}
-use Rattle.lane_events.specs.Dummies.{DummyHere}
-use Rattle.lane_events.specs.Ends.{EndsHere}
-use Rattle.lane_events.specs.Joins.{JoinsHere, ReleasesNothing}
-use Rattle.list_events.specs.Calls.{SuspendsThere, LeavesThere, IsHandedThere, KeepsCrew}
+use Rattle.hall_events.specs.PartEvents.Dummies.{DummyHere}
+use Rattle.hall_events.specs.PartEvents.Ends.{EndsHere}
+use Rattle.hall_events.specs.PartEvents.Joins.{JoinsHere, ReleasesNothing}
+use Rattle.hall_events.specs.PartEvents.ListCalls.{SuspendsThere, LeavesThere, IsHandedThere, KeepsCrew}
 use Rattle.hall_turns.specs.declared.lane_slot.LaneSlot.{LaneSlot}
 use Rattle.hall_turns.specs.declared.list_slot.ListSlot.{ListSlot}
 use Rattle.hall_turns.specs.Lists.{ShowsUnowned, HasNoOwner, IsGone, KeepsRest}

@@ -8,7 +8,7 @@ use Rattle.thread_frames.specs.declared.next.Next.TheVariants as nexts
 use Rattle.thread_frames.specs.declared.thread.Thread.{Thread}
 use Rattle.thread_frames.specs.Points.{IsAtPoint}
 use Rattle.lawful_books.specs.Lists.{Each}
-use Rattle.lane_events.specs.Joins.{JoinsHere, ReleasesNothing}
+use Rattle.hall_events.specs.PartEvents.Joins.{JoinsHere, ReleasesNothing}
 use Rattle.hall_turns.specs.declared.lane_slot.LaneSlot.{LaneSlot}
 use Rattle.hall_turns.specs.declared.key.HallKey.{HallKey}
 use Rattle.hall_turns.specs.Shown.{lane_shown}

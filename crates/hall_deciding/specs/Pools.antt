@@ -5,13 +5,13 @@ use Rattle.dag_order.specs.declared.birth.Birth.{Birth}
 use Rattle.dag_order.specs.declared.thread_id.ThreadId.{ThreadId}
 use Rattle.deque_list.specs.declared.deque_id.DequeId.{DequeId}
 use Rattle.quota_period.specs.declared.period.Period.{Period as OpenPeriod}
-use Rattle.thread_events.specs.Acts.{IsCharged}
+use Rattle.hall_events.specs.PartEvents.Acts.{IsCharged}
 use Rattle.thread_frames.specs.declared.next.Next.{Next}
 use Rattle.thread_frames.specs.declared.next.Next.TheVariants as nexts
 use Rattle.thread_frames.specs.declared.thread.Thread.{Thread}
-use Rattle.lane_events.specs.Here.{ActsHere, TakesWords}
-use Rattle.lane_events.specs.Ends.{EndsAbove}
-use Rattle.lane_events.specs.Joins.{JoinsHere}
+use Rattle.hall_events.specs.PartEvents.Here.{ActsHere, TakesWords}
+use Rattle.hall_events.specs.PartEvents.Ends.{EndsAbove}
+use Rattle.hall_events.specs.PartEvents.Joins.{JoinsHere}
 use Rattle.hall_turns.specs.declared.lane_slot.LaneSlot.{LaneSlot}
 use Rattle.hall_turns.specs.declared.pool_slot.PoolSlot.{PoolSlot}
 use Rattle.hall_turns.specs.Shown.{pool_shown}

@@ -4,17 +4,17 @@ use Rattle.dag_order.specs.declared.action_id.ActionId.{ActionId}
 use Rattle.dag_order.specs.declared.thread_id.ThreadId.{ThreadId}
 use Rattle.deque_list.specs.declared.deque_id.DequeId.{DequeId}
 use Rattle.quota_period.specs.declared.period.Period.{Period as OpenPeriod}
-use Rattle.thread_events.specs.Results.{HasCome}
+use Rattle.hall_events.specs.PartEvents.Results.{HasCome}
 use Rattle.thread_frames.specs.declared.ended.Ended.{Ended}
 use Rattle.thread_frames.specs.declared.next.Next.TheVariants as nexts
 use Rattle.thread_frames.specs.declared.thread.Thread.{Thread}
 use Rattle.thread_frames.specs.Kept.{WaitsUnder}
 use Rattle.thread_frames.specs.Shown.{thread_shown, result_shown}
 use Rattle.hall_law.specs.Writing.{IsHanded}
-use Rattle.lane_events.specs.Here.{TakesWords}
-use Rattle.lane_events.specs.Ends.{EndsHere}
-use Rattle.lane_events.specs.Joins.{JoinsHere}
-use Rattle.list_events.specs.Calls.{TakesWaiting, IsHandedThere, KeepsCrew}
+use Rattle.hall_events.specs.PartEvents.Here.{TakesWords}
+use Rattle.hall_events.specs.PartEvents.Ends.{EndsHere}
+use Rattle.hall_events.specs.PartEvents.Joins.{JoinsHere}
+use Rattle.hall_events.specs.PartEvents.ListCalls.{TakesWaiting, IsHandedThere, KeepsCrew}
 use Rattle.hall_turns.specs.declared.lane_slot.LaneSlot.{LaneSlot}
 use Rattle.hall_turns.specs.declared.list_slot.ListSlot.{ListSlot}
 use Rattle.hall_turns.specs.declared.pool_slot.PoolSlot.{PoolSlot}

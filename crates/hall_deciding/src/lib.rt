@@ -4,8 +4,8 @@
 //! the event is decided at the first put back, and the seat notes it. What each call asks for is a record of what the calls of `lane_events`
 //! and `list_events` said of the parts.
 //!
-//! It uses the put backs (`hall_puts`), and that what an event wrote is one event of the machine (`hall_events`) and leaves the parts sound
-//! (`hall_events`). Its theorem: each call keeps the law of the hall between any two atomic steps, and the seat notes its event and holds
+//! It uses the put backs (`hall_puts`), and that what an event wrote is one event of the machine and leaves the parts sound (`hall_events`). It
+//! hands the calls of the events on, so that a call of an owner names one crate. Its theorem: each call keeps the law of the hall between any two atomic steps, and the seat notes its event and holds
 //! nothing.
 #![tactic(auto)]
 
@@ -14,6 +14,10 @@ mod own;
 mod pools;
 mod wholes;
 
+pub use hall_events::{
+    do_alloc, do_dummy, do_fault, do_fork, do_join, do_join_giving, do_release, end_above,
+    end_forked, leave_result, suspend,
+};
 pub use lists::{
     decide_dummy, decide_give_up, decide_kept_join, decide_root_end, decide_wait, decide_yield,
 };

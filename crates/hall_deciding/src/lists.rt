@@ -4,7 +4,7 @@ ghost use Rattle.std.specs.Prelude.{◌≡◌, ◌+◌, ◌<◌, [], true, None,
 ghost use Rattle.turn_table.specs.Tables.{key_of, slot_count, IsSeatOf};
 ghost use Rattle.hall_turns.specs.declared.event.Event.TheVariants.{Did, Suspended, GaveUp};
 ghost use Rattle.run_end.specs.declared.ends.RunEnd.TheVariants.{Finished};
-ghost use Rattle.hall_writes.specs.Writes.{told_note};
+ghost use Rattle.hall_events.specs.PartEvents.Writes.{told_note};
 ghost use Rattle.hall_puts.specs.Puts.{HasPut};
 ghost use Rattle.hall_deciding.specs.Lists.{Suspends, GivesUp, Yields, DoesDummy, EndsRoot, JoinsFromList};
 

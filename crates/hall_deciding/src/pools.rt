@@ -3,7 +3,7 @@
 ghost use Rattle.std.specs.Prelude.{◌+◌, ◌<◌, [], Some};
 ghost use Rattle.turn_table.specs.Tables.{key_of, slot_count, IsSeatOf};
 ghost use Rattle.hall_turns.specs.declared.event.Event.TheVariants.{Did};
-ghost use Rattle.hall_writes.specs.Writes.{told_note};
+ghost use Rattle.hall_events.specs.PartEvents.Writes.{told_note};
 ghost use Rattle.hall_puts.specs.Puts.{HasPut};
 ghost use Rattle.hall_deciding.specs.Pools.{ActsWithPool, JoinsWithPool, EndsWithPool};
 

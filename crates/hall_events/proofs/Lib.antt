@@ -5,3 +5,4 @@ pub mod Lanes
 pub mod Pauses
 pub mod Ends
 pub mod Staying
+pub mod Waits

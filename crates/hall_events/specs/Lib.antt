@@ -2,3 +2,4 @@ pub mod Taken
 pub mod Lanes
 pub mod Lists
 pub mod Staying
+pub mod PartEvents

@@ -6,9 +6,15 @@
 //! parts stay sound with it: threads at their points, what waits and is kept under its id, lanes of deques that are gone empty
 //! ([`sound_laws`]).
 //!
-//! It uses the events of a running state (`hall_law`), and what a hall is once it is written (`hall_writes`). Its theorem has a case for
-//! each event.
+//! It uses the events of a running state (`hall_law`), and what a hall is once it is written (`hall_writes`). It hands on the calls that write,
+//! and the definitions of what they write. Its theorem has a case for each event.
 #![tactic(auto)]
 
 pub mod laws;
 pub mod sound_laws;
+
+pub use lane_events::{
+    do_alloc, do_dummy, do_fault, do_fork, do_join, do_join_giving, do_release, end_above,
+    end_forked,
+};
+pub use list_events::{leave_result, suspend};

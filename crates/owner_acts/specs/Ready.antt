@@ -8,7 +8,7 @@ use Rattle.space_ledger.specs.MovesList.{moves_spare}
 use Rattle.thread_frames.specs.Points.{IsAtPoint}
 use Rattle.thread_frames.specs.Views.{done_of, thread_words}
 use Rattle.thread_frames.specs.declared.thread.Thread.{Thread}
-use Rattle.lane_events.specs.Here.{HasRoomHere}
+use Rattle.hall_deciding.specs.PartEvents.Here.{HasRoomHere}
 use Rattle.hall_turns.specs.declared.lane_slot.LaneSlot.{LaneSlot}
 use Rattle.hall_turns.specs.declared.lane_slot.Running.{Running}
 use Rattle.hall_turns.specs.declared.pool_slot.PoolSlot.{PoolSlot}
@@ -17,7 +17,7 @@ use Rattle.hall_turns.specs.declared.key.HallKey.{HallKey}
 use Rattle.hall_turns.specs.Keys.{table_of, quota_of}
 use Rattle.hall_turns.specs.Sound.{PoolIsSound}
 use Rattle.hall_turns.specs.Takes.{HallSeat}
-use Rattle.hall_events.specs.Taken.{IsAtAction}
+use Rattle.hall_deciding.specs.PartEvents.TakenParts.{IsAtAction}
 
 -- It holds these slots, among them its lane as it took it. Of this it has the threads without the top one, the period that runs, and the top
 -- thread, which has come to its next action since. All are at their points, the numbers are within their bounds, and there is memory for so

@@ -2,7 +2,7 @@
 
 ghost use Rattle.std.specs.Prelude.{◌≡◌, ◌≤◌, ◌+◌, ◌<◌, ◌∷◌, [], Some, List as AnyList, length};
 ghost use Rattle.bounded_list.specs.BoundedList.{entries, spare};
-ghost use Rattle.thread_events.specs.Results.{FirstAwaits};
+ghost use Rattle.hall_deciding.specs.PartEvents.Results.{FirstAwaits};
 ghost use Rattle.thread_frames.specs.Actions.{IsEnd};
 ghost use Rattle.thread_frames.specs.Views.{next_of, label_of};
 ghost use Rattle.thread_frames.specs.declared.next.Next.TheVariants as nexts;
@@ -10,18 +10,17 @@ ghost use Rattle.thread_frames.specs.declared.thread.Thread.{Thread as AnyThread
 ghost use Rattle.thread_points.specs.Points.{words_at_end};
 ghost use Rattle.turn_table.specs.Tables.{key_of, slot_count, IsSeatOf};
 ghost use Rattle.hall_turns.specs.declared.event.Event.TheVariants.{Did};
-ghost use Rattle.hall_writes.specs.Writes.{told_note};
-ghost use Rattle.hall_puts.specs.Puts.{HasPut};
-ghost use Rattle.hall_events.specs.Taken.{MayAct, IsNext};
+ghost use Rattle.hall_deciding.specs.PartEvents.Writes.{told_note};
+ghost use Rattle.hall_deciding.specs.PartEvents.Puts.{HasPut};
+ghost use Rattle.hall_deciding.specs.PartEvents.TakenParts.{MayAct, IsNext};
 ghost use Rattle.hall_deciding.specs.Taken.{pool_and_lane};
 ghost use Rattle.owner_acts.specs.Ready.{IsReady, PoolIsReady};
 
 use boxed::Boxed;
 use dag_order::{ActionId, Births};
 use deque_list::{DequeId, Lane};
-use hall_deciding::decide_end_above;
+use hall_deciding::{decide_end_above, end_above};
 use hall_turns::{HallPlace, HallRow, LaneSlot, PoolSlot, Running};
-use lane_events::end_above;
 use thread_frames::Thread;
 
 /// Does the End of a forked thread whose parent is directly below: this has the result at once, and runs next. Returns its name, and the

@@ -9,10 +9,10 @@ ghost use Rattle.thread_frames.specs.declared.next.Next.TheVariants as nexts;
 ghost use Rattle.turn_table.specs.Tables.{key_of, slot_count, IsSeatOf};
 ghost use Rattle.hall_turns.specs.declared.event.Event.TheVariants.{Did, GaveUp};
 ghost use Rattle.hall_turns.specs.Lists.{ShowsUnowned, HasNoOwner, KeepsRest};
-ghost use Rattle.hall_writes.specs.Writes.{told_note};
-ghost use Rattle.hall_puts.specs.Puts.{HasPut};
-ghost use Rattle.hall_events.specs.Taken.{MayAct, MayPause, IsNext};
-ghost use Rattle.hall_events.specs.Lists.{IsTooMuch};
+ghost use Rattle.hall_deciding.specs.PartEvents.Writes.{told_note};
+ghost use Rattle.hall_deciding.specs.PartEvents.Puts.{HasPut};
+ghost use Rattle.hall_deciding.specs.PartEvents.TakenParts.{MayAct, MayPause, IsNext};
+ghost use Rattle.hall_deciding.specs.PartEvents.ListsTaken.{IsTooMuch};
 ghost use Rattle.hall_deciding.specs.Taken.{list_and_lane};
 ghost use Rattle.owner_acts.specs.Ready.{IsReady};
 ghost use Rattle.owner_acts.specs.Pauses.{CanClose};
@@ -20,9 +20,8 @@ ghost use Rattle.owner_acts.specs.Pauses.{CanClose};
 use boxed::Boxed;
 use dag_order::{ActionId, Births};
 use deque_list::{DequeId, Lane};
-use hall_deciding::{decide_dummy, decide_give_up, decide_yield};
+use hall_deciding::{decide_dummy, decide_give_up, decide_yield, do_dummy};
 use hall_turns::{HallPlace, HallRow, LaneSlot, ListSlot, Running};
-use lane_events::do_dummy;
 use thread_frames::Thread;
 
 /// Takes the owner of a deque away, and closes its period.

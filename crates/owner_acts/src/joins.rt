@@ -8,18 +8,17 @@ ghost use Rattle.thread_frames.specs.Views.{next_of, children_of, newest, join_w
 ghost use Rattle.thread_frames.specs.declared.next.Next.TheVariants as nexts;
 ghost use Rattle.turn_table.specs.Tables.{key_of, slot_count, IsSeatOf};
 ghost use Rattle.hall_turns.specs.declared.event.Event.TheVariants.{Did};
-ghost use Rattle.hall_writes.specs.Writes.{told_note};
-ghost use Rattle.hall_puts.specs.Puts.{HasPut};
-ghost use Rattle.hall_events.specs.Taken.{MayAct, IsNext};
+ghost use Rattle.hall_deciding.specs.PartEvents.Writes.{told_note};
+ghost use Rattle.hall_deciding.specs.PartEvents.Puts.{HasPut};
+ghost use Rattle.hall_deciding.specs.PartEvents.TakenParts.{MayAct, IsNext};
 ghost use Rattle.hall_deciding.specs.Taken.{its_lane, pool_and_lane};
 ghost use Rattle.owner_acts.specs.Ready.{IsReady, PoolIsReady};
 
 use boxed::Boxed;
 use dag_order::{ActionId, Births};
 use deque_list::{DequeId, Lane};
-use hall_deciding::{decide_join_giving, decide_own_join};
+use hall_deciding::{decide_join_giving, decide_own_join, do_join, do_join_giving};
 use hall_turns::{HallPlace, HallRow, LaneSlot, PoolSlot, Running};
-use lane_events::{do_join, do_join_giving};
 use thread_frames::Thread;
 
 /// Does a Join that releases no words, for which the seat holds its lane alone. Returns its name.

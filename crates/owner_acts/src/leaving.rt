@@ -12,10 +12,10 @@ ghost use Rattle.thread_points.specs.Points.{words_at_end};
 ghost use Rattle.turn_table.specs.Tables.{key_of, slot_count, IsSeatOf};
 ghost use Rattle.hall_turns.specs.declared.event.Event.TheVariants.{Did};
 ghost use Rattle.hall_turns.specs.Lists.{IsGone};
-ghost use Rattle.list_events.specs.Calls.{LeavesThere, KeepsCrew};
-ghost use Rattle.hall_writes.specs.Writes.{told_note};
-ghost use Rattle.hall_puts.specs.Puts.{HasPut};
-ghost use Rattle.hall_events.specs.Taken.{MayAct, IsNext};
+ghost use Rattle.hall_deciding.specs.PartEvents.ListCalls.{LeavesThere, KeepsCrew};
+ghost use Rattle.hall_deciding.specs.PartEvents.Writes.{told_note};
+ghost use Rattle.hall_deciding.specs.PartEvents.Puts.{HasPut};
+ghost use Rattle.hall_deciding.specs.PartEvents.TakenParts.{MayAct, IsNext};
 ghost use Rattle.hall_deciding.specs.Taken.{all_three};
 ghost use Rattle.owner_acts.specs.Ready.{IsReady, PoolIsReady};
 ghost use Rattle.owner_acts.specs.Pauses.{CanClose};
@@ -25,10 +25,8 @@ use crate::id_of;
 use boxed::Boxed;
 use dag_order::{ActionId, Births, ThreadId};
 use deque_list::{DequeId, Lane};
-use hall_deciding::decide_leaving_end;
+use hall_deciding::{decide_leaving_end, end_forked, leave_result};
 use hall_turns::{HallPlace, HallRow, LaneSlot, ListSlot, PoolSlot, Running};
-use lane_events::end_forked;
-use list_events::leave_result;
 use thread_frames::{Ended, Thread};
 
 /// Keeps the result of a thread in the list, and closes the period of its deque, which is gone.

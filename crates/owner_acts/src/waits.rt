@@ -3,14 +3,14 @@
 ghost use Rattle.std.specs.Prelude.{◌≡◌, ◌≤◌, ◌+◌, ◌<◌, ◌∷◌, [], None};
 ghost use Rattle.std.specs.List.Sorted.{IsPermutation};
 ghost use Rattle.thread_map.specs.Kept.{kept_under};
-ghost use Rattle.list_events.specs.Calls.{SuspendsThere, KeepsCrew};
+ghost use Rattle.hall_deciding.specs.PartEvents.ListCalls.{SuspendsThere, KeepsCrew};
 ghost use Rattle.hall_turns.specs.Lists.{IsGone};
 ghost use Rattle.thread_frames.specs.declared.thread.Thread.{Thread as AnyThread};
 ghost use Rattle.turn_table.specs.Tables.{key_of, slot_count, IsSeatOf};
 ghost use Rattle.hall_turns.specs.declared.event.Event.TheVariants.{Suspended};
-ghost use Rattle.hall_writes.specs.Writes.{told_note};
-ghost use Rattle.hall_puts.specs.Puts.{HasPut};
-ghost use Rattle.hall_events.specs.Taken.{MayPause};
+ghost use Rattle.hall_deciding.specs.PartEvents.Writes.{told_note};
+ghost use Rattle.hall_deciding.specs.PartEvents.Puts.{HasPut};
+ghost use Rattle.hall_deciding.specs.PartEvents.TakenParts.{MayPause};
 ghost use Rattle.hall_deciding.specs.Taken.{list_and_lane};
 ghost use Rattle.owner_acts.specs.Ready.{IsReady};
 ghost use Rattle.owner_acts.specs.Pauses.{CanClose, CanWait};
@@ -18,9 +18,8 @@ ghost use Rattle.owner_acts.specs.Pauses.{CanClose, CanWait};
 use boxed::Boxed;
 use dag_order::ThreadId;
 use deque_list::{DequeId, Lane};
-use hall_deciding::decide_wait;
+use hall_deciding::{decide_wait, suspend};
 use hall_turns::{HallPlace, HallRow, LaneSlot, ListSlot, Running};
-use list_events::suspend;
 use thread_frames::Thread;
 
 /// Returns the id of a thread.

@@ -10,18 +10,17 @@ ghost use Rattle.thread_frames.specs.Views.{next_of, words_asked, held_by};
 ghost use Rattle.thread_frames.specs.declared.next.Next.TheVariants as nexts;
 ghost use Rattle.turn_table.specs.Tables.{key_of, slot_count, IsSeatOf};
 ghost use Rattle.hall_turns.specs.declared.event.Event.TheVariants.{Did};
-ghost use Rattle.hall_writes.specs.Writes.{told_note};
-ghost use Rattle.hall_puts.specs.Puts.{HasPut};
-ghost use Rattle.hall_events.specs.Taken.{MayAct, MayDoNext};
+ghost use Rattle.hall_deciding.specs.PartEvents.Writes.{told_note};
+ghost use Rattle.hall_deciding.specs.PartEvents.Puts.{HasPut};
+ghost use Rattle.hall_deciding.specs.PartEvents.TakenParts.{MayAct, MayDoNext};
 ghost use Rattle.hall_deciding.specs.Taken.{pool_and_lane};
 ghost use Rattle.owner_acts.specs.Ready.{IsReady, PoolIsReady};
 
 use boxed::Boxed;
 use dag_order::{ActionId, Births};
 use deque_list::{DequeId, Lane};
-use hall_deciding::decide_action;
+use hall_deciding::{decide_action, do_alloc, do_fault, do_fork, do_release};
 use hall_turns::{HallPlace, HallRow, LaneSlot, PoolSlot, Running};
-use lane_events::{do_alloc, do_fault, do_fork, do_release};
 use thread_frames::{Place, Thread};
 
 /// Does an Alloc that fits the arena, and uses `charge` words of the quota. Returns its name.

@@ -8,7 +8,7 @@ use Rattle.thread_frames.specs.declared.ended.Ended.{Ended}
 use Rattle.thread_map.specs.Kept.{kept_under}
 use Rattle.thread_points.specs.Points.{words_at_end}
 use Rattle.turn_table.specs.Tables.{key_of}
-use Rattle.list_events.proofs.Waits.{nobody_waits}
+use Rattle.hall_deciding.proofs.Waits.Waits.{nobody_waits}
 use Rattle.hall_turns.specs.Keys.{table_of, quota_of}
 use Rattle.hall_deciding.specs.Taken.{all_three}
 use Rattle.owner_acts.proofs.Readied.{was, given_sound}
