@@ -4,9 +4,9 @@
 //! the event is decided at the first put back, and the seat notes it. What each call asks for is a record of what the calls of `lane_events`
 //! and `list_events` said of the parts.
 //!
-//! It uses the put backs (`hall_puts`), and that what an event wrote is one event of the machine and leaves the parts sound (`hall_events`). It
-//! hands the calls of the events on, so that a call of an owner names one crate. Its theorem: each call keeps the law of the hall between any two atomic steps, and the seat notes its event and holds
-//! nothing.
+//! It uses the put backs (`hall_puts`), and that what an event wrote is one event of the machine and leaves the parts sound (`hall_events`).
+//! It hands the calls of the events on, so that a call of an owner names one crate. Its theorem: each call keeps the law of the hall between
+//! any two atomic steps, and the seat notes its event and holds nothing.
 #![tactic(auto)]
 
 mod lists;

@@ -6,8 +6,8 @@
 //! parts stay sound with it: threads at their points, what waits and is kept under its id, lanes of deques that are gone empty
 //! ([`sound_laws`]).
 //!
-//! It uses the events of a running state (`hall_law`), and what a hall is once it is written (`hall_writes`). It hands on the calls that write,
-//! and the definitions of what they write. Its theorem has a case for each event.
+//! It uses the events of a running state (`hall_law`), and what a hall is once it is written (`hall_writes`). It hands on the calls that
+//! write, and the definitions of what they write. Its theorem has a case for each event.
 #![tactic(auto)]
 
 pub mod laws;
