@@ -6,7 +6,7 @@ use Rattle.language_limits.specs.declared.TheConstants.{GREATEST_QUOTA}
 use Rattle.lawful_books.specs.Lists.{Each}
 use Rattle.space_ledger.specs.MovesList.{moves_spare}
 use Rattle.thread_frames.specs.Points.{IsAtPoint}
-use Rattle.thread_frames.specs.Views.{done_of, thread_words}
+use Rattle.thread_frames.specs.Views.{done_of}
 use Rattle.thread_frames.specs.declared.thread.Thread.{Thread}
 use Rattle.hall_deciding.specs.PartEvents.Here.{HasRoomHere}
 use Rattle.hall_turns.specs.declared.lane_slot.LaneSlot.{LaneSlot}
@@ -36,8 +36,7 @@ pub record IsReady (key : HallKey) (seat : HallSeat) (taken : LaneSlot → List 
   pub under : Each (IsAtPoint (table_of key) (quota_of key)) threads.items
   pub room : HasRoomHere more threads running.period ready
 
--- The pool is sound, there is memory for a move, and the words of this thread are in use.
-pub record PoolIsReady (key : HallKey) (pool : PoolSlot) (top : Thread) : Type 0 where
+-- The pool is sound, and there is memory for a move.
+pub record PoolIsReady (key : HallKey) (pool : PoolSlot) : Type 0 where
   pub sound : PoolIsSound key pool
   pub room : 1 ≤ moves_spare pool.moves
-  pub words : thread_words top ≤ pool.pool.live

@@ -69,7 +69,7 @@ pub fn act_join_giving(
     requires slot { deque.0 + 2 < slot_count row.now }
     requires may { MayAct seat.old deque }
     requires ready { IsReady (key_of row.now) seat.old (pool_and_lane deque pool) lane running top 1 (spare first.old) }
-    requires pool { PoolIsReady (key_of row.now) pool top }
+    requires pool { PoolIsReady (key_of row.now) pool }
     requires next { IsJoin (next_of top) }
     requires delivered { IsTrue (is_there (newest (children_of top))) }
     requires words { 0 < join_words_of top }

@@ -67,7 +67,7 @@ pub fn act_leaving_end(
     requires slot { deque.0 + 2 < slot_count row.now }
     requires may { MayAct seat.old deque }
     requires ready { IsReady (key_of row.now) seat.old (all_three deque list pool) lane running top 0 (spare first.old) }
-    requires pool { PoolIsReady (key_of row.now) pool top }
+    requires pool { PoolIsReady (key_of row.now) pool }
     requires next { IsEnd (next_of top) }
     requires live { words_at_end (label_of top) ≤ pool.pool.live }
     requires forked { 0 < length (label_of top) }

@@ -39,7 +39,7 @@ pub fn act_alloc(
     requires slot { deque.0 + 2 < slot_count row.now }
     requires may { MayAct seat.old deque }
     requires ready { IsReady (key_of row.now) seat.old (pool_and_lane deque pool) lane running top 1 (spare first.old) }
-    requires pool { PoolIsReady (key_of row.now) pool top }
+    requires pool { PoolIsReady (key_of row.now) pool }
     requires next { IsAlloc (next_of top) }
     requires fits { running.period.used + charge ≤ GREATEST_QUOTA }
     requires arena { pool.pool.live + words_asked (next_of top) ≤ pool.pool.capacity }
@@ -83,7 +83,7 @@ pub fn act_release(
     requires slot { deque.0 + 2 < slot_count row.now }
     requires may { MayAct seat.old deque }
     requires ready { IsReady (key_of row.now) seat.old (pool_and_lane deque pool) lane running top 1 (spare first.old) }
-    requires pool { PoolIsReady (key_of row.now) pool top }
+    requires pool { PoolIsReady (key_of row.now) pool }
     requires next { IsRelease (next_of top) }
     requires live { words_asked (next_of top) ≤ pool.pool.live }
     requires listed { MayDoNext (key_of row.now) seat.old.hand.note.worker (nexts.Release (words_asked (next_of top))) 0 top running.period }
@@ -125,7 +125,7 @@ pub fn act_fault(
     requires slot { deque.0 + 2 < slot_count row.now }
     requires may { MayAct seat.old deque }
     requires ready { IsReady (key_of row.now) seat.old (pool_and_lane deque pool) lane running top 1 (spare first.old) }
-    requires pool { PoolIsReady (key_of row.now) pool top }
+    requires pool { PoolIsReady (key_of row.now) pool }
     requires next { IsFault (next_of top) }
     requires live { held_by top ≤ pool.pool.live }
     requires listed { (at : FaultAt) × MayDoNext (key_of row.now) seat.old.hand.note.worker (nexts.Fault at) 0 top running.period }
@@ -168,7 +168,7 @@ pub fn act_fork(
     requires slot { deque.0 + 2 < slot_count row.now }
     requires may { MayAct seat.old deque }
     requires ready { IsReady (key_of row.now) seat.old (pool_and_lane deque pool) lane running top 2 (spare first.old) }
-    requires pool { PoolIsReady (key_of row.now) pool top }
+    requires pool { PoolIsReady (key_of row.now) pool }
     requires next { IsFork (next_of top) }
     requires fits { running.period.used + record_words ≤ GREATEST_QUOTA }
     requires arena { pool.pool.live + record_words ≤ pool.pool.capacity }
