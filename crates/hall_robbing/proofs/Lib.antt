@@ -1,1 +1,1 @@
-mod Robbing
+pub mod Robbing

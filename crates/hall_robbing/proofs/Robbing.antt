@@ -56,9 +56,10 @@ found_may_be_taken_over key before seat list word place worker lane period threa
 }
 
 pub found_bottoms_may_be_taken : FoundBottomsMayBeTaken
-found_bottoms_may_be_taken key before middle seat list word place worker lane new id period first bottom others alone has taken opened more next few empty room period_new = record {
+found_bottoms_may_be_taken key before middle seat list word place worker lane new_was new id period first bottom others alone has taken opened more next few empty room period_new = record {
   open_to = opened;
-  holds = ap (λ (s : HallSeat). s.hand.holds) taken ∙ ap (λ (xs : List (ℕ × Slot)). (id.0 + 2, slots.Lane new) ∷ xs) (holds_both key before middle list word place lane has alone);
+  new_was = new_was;
+  holds = ap (λ (s : HallSeat). s.hand.holds) taken ∙ ap (λ (xs : List (ℕ × Slot)). (id.0 + 2, slots.Lane new_was) ∷ xs) (holds_both key before middle list word place lane has alone);
   owner = (HasVictim.victim has).owner;
   has = middle_of key before middle list word place lane has (HasVictim.victim has).owner refl;
   near = in_reach key before middle list word place lane has;

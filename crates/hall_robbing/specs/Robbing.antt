@@ -19,11 +19,11 @@ FoundMayBeTakenOver = (key : HallKey) (before seat : HallSeat) (list : ListSlot)
     → IsOpenTo seat list worker → lane.lane.items ≡ thread ∷ [] → IsNew period (nat_lt 0 place) (list.part.begun + 1)
     → MayTakeOver key seat list (HasVictim.victim has).id lane worker period
 
--- Or it has more, and the seat took the lane of the next free deque besides, which is empty and has room.
+-- Or it has more, and the seat took the lane of the next free deque besides, for which there is an empty one with room.
 abbrev pub FoundBottomsMayBeTaken : Type 0
-FoundBottomsMayBeTaken = (key : HallKey) (before middle seat : HallSeat) (list : ListSlot) (word place worker : ℕ) (lane new : LaneSlot)
+FoundBottomsMayBeTaken = (key : HallKey) (before middle seat : HallSeat) (list : ListSlot) (word place worker : ℕ) (lane new_was new : LaneSlot)
     (id : DequeId) (period : Period) (first bottom : Thread) (others : List Thread) → before.hand.holds ≡ (0, slots.List list) ∷ []
-    → (has : HasVictim key.workers word list before place lane middle) → IsTaken middle (id.0 + 2) (slots.Lane new) seat
+    → (has : HasVictim key.workers word list before place lane middle) → IsTaken middle (id.0 + 2) (slots.Lane new_was) seat
     → IsOpenTo seat list worker → lane.lane.items ≡ first ∷ (others ++ bottom ∷ []) → IsSmallestFree (place_ids list.part.order.places) id
     → length list.part.order.places ≢ list.part.order.most → new.lane.items ≡ [] → 1 ≤ new.lane.spare
     → IsNew period true (list.part.begun + 1) → MayTakeBottom key seat list (HasVictim.victim has).id lane id new worker period

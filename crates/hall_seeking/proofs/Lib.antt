@@ -1,1 +1,1 @@
-mod Sought
+pub mod Sought

@@ -45,3 +45,10 @@ HasSought workers word before after (Err Nothing) =
     (list : ListSlot) × SeeksWith workers word list (with_list before list) after (Err Nothing)
 HasSought workers word before after (Err (Over end)) =
     (list : ListSlot) × SeeksWith workers word list (with_list before list) after (Err (Over end))
+
+-- no slot was refused to it
+abbrev pub IsNotBusy : Result Prey SeekRefused → Type 0
+IsNotBusy (Ok prey) = Unit {0}
+IsNotBusy (Err (Busy held)) = ⊥
+IsNotBusy (Err Nothing) = Unit {0}
+IsNotBusy (Err (Over end)) = Unit {0}

@@ -3,8 +3,8 @@
 ghost use Rattle.std.specs.Prelude.{◌≡◌, [], ◌∷◌, IfOk};
 ghost use Rattle.turn_table.specs.Tables.{key_of, IsSeatOf};
 ghost use Rattle.hall_turns.specs.declared.slot.Slot.TheVariants as slots;
-ghost use Rattle.hall_turns.specs.Takes.{IsPlaced, MeetsLaw};
-ghost use Rattle.hall_seeking.specs.Seeking.{HasSought, SeeksWith};
+ghost use Rattle.hall_turns.specs.Takes.{HasAllPlaces, IsPlaced, MeetsLaw};
+ghost use Rattle.hall_seeking.specs.Seeking.{HasSought, IsNotBusy, SeeksWith};
 
 use crate::prey::{Prey, SeekRefused};
 use boxed::Boxed;
@@ -26,6 +26,7 @@ fn seek_with(
     requires meets { MeetsLaw (key_of row.now) seat.old }
     ensures seat { SeeksWith workers word list seat.old seat.new result }
     ensures meets { IfOk result (λ _. MeetsLaw (key_of row.now) seat.new) }
+    ensures lone { HasAllPlaces (key_of row.now) seat.old → IsNotBusy result }
 {
     if let Some(end) = end_of(&list) {
         put_answered(row, seat, list);
@@ -62,6 +63,7 @@ pub fn seek(
     requires free { seat.old.hand.holds ≡ [] }
     ensures seat { HasSought workers word seat.old seat.new result }
     ensures meets { IfOk result (λ _. MeetsLaw (key_of row.now) seat.new) }
+    ensures lone { HasAllPlaces (key_of row.now) seat.old → IsNotBusy result }
 {
     match take_list(row, seat) {
         Ok(list) => seek_with(row, seat, list, workers, word),

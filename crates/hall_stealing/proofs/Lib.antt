@@ -1,2 +1,2 @@
 mod Parted
-mod Stolen
+pub mod Stolen

@@ -56,7 +56,7 @@ over_of key seat list now id lane begun worker period may robbed same running = 
 }
 
 -- a free id is that of no place
-free_of : (places : List Place) (id : DequeId) → IsSmallestFree (place_ids places) id → Each (λ place. place.id.0 ≢ id.0) places
+pub free_of : (places : List Place) (id : DequeId) → IsSmallestFree (place_ids places) id → Each (λ place. place.id.0 ≢ id.0) places
 free_of places id next = each_from (λ place. place.id.0 ≢ id.0) places (λ place there same. next.0 (is_live places place there id same))
   where
     is_live : (ps : List Place) (place : Place) → Among place ps → (d : DequeId) → place.id.0 ≡ d.0 → IsLive (place_ids ps) d
@@ -76,7 +76,7 @@ bottom_of key seat list now victim lane left_lane id new moved begun worker peri
   thief = may.open_to.thief;
   list_was = list;
   lane_was = lane;
-  new_was = new;
+  new_was = may.new_was;
   holds = may.holds;
   left = Has.left may.has;
   right = Has.right may.has;

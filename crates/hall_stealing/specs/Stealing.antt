@@ -40,12 +40,13 @@ pub record MayTakeOver (key : HallKey) (seat : HallSeat) (list : ListSlot) (id :
   pub one : lane.lane.items ≡ thread ∷ []
   pub new : IsNew period (nat_lt 0 (length (Has.left has))) (list.part.begun + 1)
 
--- It holds the list, the lane of a deque in reach that has two threads at least, and the empty lane of the next free deque, in which there is
--- room. The period is the next one, and is marked.
+-- It holds the list, the lane of a deque in reach that has two threads at least, and the lane of the next free deque, for which there is an
+-- empty one with room. The period is the next one, and is marked.
 pub record MayTakeBottom (key : HallKey) (seat : HallSeat) (list : ListSlot) (victim : DequeId) (lane : LaneSlot) (id : DequeId)
     (new : LaneSlot) (worker : ℕ) (period : Period) : Type 0 where
   pub open_to : IsOpenTo seat list worker
-  pub holds : seat.hand.holds ≡ (id.0 + 2, slots.Lane new) ∷ (victim.0 + 2, slots.Lane lane) ∷ (0, slots.List list) ∷ []
+  pub new_was : LaneSlot
+  pub holds : seat.hand.holds ≡ (id.0 + 2, slots.Lane new_was) ∷ (victim.0 + 2, slots.Lane lane) ∷ (0, slots.List list) ∷ []
   pub owner : Option ℕ
   pub has : Has list.part.order.places victim owner
   pub near : length (Has.left has) < key.workers

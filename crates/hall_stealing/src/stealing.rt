@@ -36,6 +36,7 @@ pub fn take_over(
 }
 
 /// Takes the bottom thread of a deque that has two at least into a free one, in the period that begins with it, and puts the slots back.
+/// `new` is to be the lane of the free deque, and has room.
 pub fn take_bottom(
     row: &HallRow,
     seat: &mut HallPlace,

@@ -1,1 +1,1 @@
-mod Stopped
+pub mod Stopped

@@ -22,7 +22,7 @@ fn write_stopped(row: &HallRow, seat: &mut HallPlace, list: Boxed<ListSlot>, _st
     row.put_back::<Brand>(seat, 0, Slot::List(list));
 }
 
-/// Keeps the stop that the seat has found in the list, where no end is kept, and puts the list back.
+/// Keeps the stop that the seat has found in the list, where no end is kept, and puts the list back. It holds its other slots still.
 pub fn put_stopped(row: &HallRow, seat: &mut HallPlace, list: Boxed<ListSlot>, stop: Stop)
     requires here { IsSeatOf row.now seat.old }
     requires may { MayStop (key_of row.now) seat.old list stop }

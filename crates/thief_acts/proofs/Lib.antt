@@ -1,0 +1,6 @@
+mod Causes
+mod Ended
+mod Known
+mod SameLanes
+mod Robbed
+mod Slots

@@ -1,0 +1,4 @@
+pub mod Lanes
+pub mod Prey
+pub mod Refusals
+pub mod Steals
