@@ -1,6 +1,7 @@
 -- What holds between the calls of a seat of a hall.
 use Rattle.std.specs.Prelude.{◌≡◌, ◌+◌, ◌<◌, ◌≤◌, false, None, Some, [], Result, Ok, Err}
-use Rattle.turn_table.specs.Tables.{key_of, IsSeatOf}
+use Rattle.deque_list.specs.declared.deque_id.DequeId.{DequeId}
+use Rattle.turn_table.specs.Tables.{key_of, slot_count, IsSeatOf}
 use Rattle.hall_law.specs.Numbers.{IsSmallestNumber}
 use Rattle.hall_turns.specs.declared.list_slot.ListSlot.{ListSlot}
 use Rattle.hall_turns.specs.Takes.{IsRefused}
@@ -17,7 +18,7 @@ pub record IsHall (hall : Hall) : Type 0 where
   pub workers : (key_of hall.row).workers ≡ hall.workers
   pub limit : (key_of hall.row).actions ≡ hall.limit
 
--- It is a seat of this hall, which holds nothing, and is in; what it says of itself is what it notes.
+-- It is a seat of this hall, which holds nothing, and is in; what it says of itself is what it notes. Its deque has a slot.
 pub record IsIn (hall : Hall) (seat : Seat) : Type 0 where
   pub is_hall : IsHall hall
   pub here : IsSeatOf hall.row seat.place
@@ -31,6 +32,7 @@ pub record IsIn (hall : Hall) (seat : Seat) : Type 0 where
   pub few : seat.places ≤ hall.workers
   pub its_deque : seat.place.hand.note.deque ≡ seat.owned
   pub its_stop : seat.place.hand.note.found ≡ seat.stop
+  pub inside : (id : DequeId) → seat.owned ≡ Some id → id.0 + 2 < slot_count hall.row
 
 -- it says the same of itself
 pub record SameSeat (before after : Seat) : Type 0 where

@@ -1,4 +1,4 @@
-use run_end::RunEnd;
+use run_end::{RunEnd, Stop};
 use turn_table::Held;
 
 /// Why no worker entered.
@@ -10,5 +10,26 @@ pub enum EnterRefused {
     Busy(Held),
     /// The run has ended so.
     Over(RunEnd),
+    OutOfMemory,
+}
+
+/// Why a seat did no event.
+#[derive(Clone, Copy, PartialEq, Eq, Debug)]
+pub enum EventRefused {
+    /// Another seat holds a slot that the event needs.
+    Busy(Held),
+    /// No deque in reach has a thread to steal.
+    Nothing,
+    /// The run has ended so.
+    Over(RunEnd),
+    /// The seat found this stop, now or before.
+    Stopped(Stop),
+}
+
+/// Why a seat did not leave.
+#[derive(Clone, Copy, PartialEq, Eq, Debug)]
+pub enum LeaveRefused {
+    /// Another seat holds a slot that the seat needs.
+    Busy(Held),
     OutOfMemory,
 }
