@@ -1,0 +1,47 @@
+//! How a hall begins.
+
+ghost use Rattle.std.specs.Prelude.{IfOk};
+ghost use Rattle.dfd_core.specs.Parts.{IsFresh};
+ghost use Rattle.hall_handles.specs.Opening.{IsFirstSeat, IsHallOf};
+ghost use Rattle.hall_handles.specs.Seated.{IsIn};
+
+use crate::hall::Hall;
+use crate::seat::Seat;
+use dfd_core::Core;
+use hall_entry::open_hall;
+use std::alloc::{AllocError, Global};
+
+impl Hall {
+    /// The hall of a core that has done no step, and its first seat, which has the places of all workers.
+    ///
+    /// # Errors
+    ///
+    /// There is not enough memory.
+    pub fn new(alloc: Global, core: Core) -> Result<(Hall, Seat), AllocError>
+        requires { IsFresh core }
+        ensures here { IfOk result (λ made. IsIn made.0 made.1) }
+        ensures hall { IfOk result (λ made. IsHallOf core made.0) }
+        ensures seat { IfOk result (λ made. IsFirstSeat made.0 made.1) }
+    {
+        let quota = core.quota();
+        let workers = core.workers();
+        let limit = core.limit();
+        let (row, place, code) = open_hall(alloc, core)?;
+        let hall = Hall {
+            row,
+            code,
+            quota,
+            workers,
+            limit,
+            alloc,
+        };
+        let seat = Seat {
+            place,
+            worker: 0,
+            places: workers,
+            owned: None,
+            stop: None,
+        };
+        Ok((hall, seat))
+    }
+}
