@@ -33,3 +33,13 @@ pub enum LeaveRefused {
     Busy(Held),
     OutOfMemory,
 }
+
+/// Why a hall was not closed.
+#[derive(Clone, Copy, PartialEq, Eq, Debug)]
+pub enum CloseRefused {
+    /// The seat has so many places, and not all.
+    StillIn { places: u32 },
+    /// No end is kept.
+    NotOver,
+    OutOfMemory,
+}

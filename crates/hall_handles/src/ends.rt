@@ -1,0 +1,113 @@
+//! How a hall is closed.
+
+ghost use Rattle.std.specs.Prelude.{◌≡◌, None, IfErr};
+ghost use Rattle.dfd_core.specs.Parts.{root_behind};
+ghost use Rattle.hall_handles.specs.Closing.{Closes, GivesClosing};
+ghost use Rattle.hall_handles.specs.Seated.{IsIn};
+
+use crate::closing::Closing;
+use crate::hall::Hall;
+use crate::refused::CloseRefused;
+use crate::seat::Seat;
+use dag_order::ThreadId;
+use hall_closing::{ClosedHall, close};
+use hall_turns::{ListSlot, PoolSlot};
+use list_part::ListPart;
+use run_end::RunEnd;
+use thread_frames::Ended;
+
+/// The result of the root of a run that ended so.
+fn root_of(end: RunEnd, kept: Option<Ended>) -> Option<Ended>
+    ensures { result ≡ root_behind end kept }
+{
+    match end {
+        RunEnd::Finished(_) => kept,
+        RunEnd::Stopped(_) => None,
+    }
+}
+
+/// What is left of a hall that is closed.
+fn closing_of(closed: ClosedHall) -> Closing
+    ensures { GivesClosing closed.list closed.pool closed.end result }
+{
+    let ClosedHall { end, list, pool } = closed;
+    let ListSlot { part, .. } = list.into_inner();
+    let ListPart {
+        mut results,
+        books,
+        ..
+    } = part;
+    let PoolSlot { moves, .. } = pool;
+    Closing {
+        end,
+        root: root_of(end, results.take(ThreadId::ROOT)),
+        books,
+        moves,
+    }
+}
+
+impl Hall {
+    /// Closes the hall with the seat that has all places, and gives what is left of its run.
+    ///
+    /// # Errors
+    ///
+    /// Another seat has places, or no end is kept. The hall and the seat come back.
+    pub fn close(self, last: Seat) -> Result<Closing, (Hall, Seat, CloseRefused)>
+        requires here { IsIn self last }
+        requires idle { last.owned ≡ None }
+        ensures closed { Closes self last result }
+        ensures here { IfErr result (λ back. IsIn back.0 back.1) }
+    {
+        if last.places < self.workers {
+            let places = last.places;
+            return Err((self, last, CloseRefused::StillIn { places }));
+        }
+        close_alone(self, last)
+    }
+}
+
+/// What `close` does once the seat is the only one.
+fn close_alone(hall: Hall, last: Seat) -> Result<Closing, (Hall, Seat, CloseRefused)>
+    requires here { IsIn hall last }
+    requires idle { last.owned ≡ None }
+    requires alone { last.places ≡ hall.workers }
+    ensures closed { Closes hall last result }
+    ensures here { IfErr result (λ back. IsIn back.0 back.1) }
+{
+    let Hall {
+        row,
+        code,
+        quota,
+        workers,
+        limit,
+        alloc,
+    } = hall;
+    let Seat {
+        place,
+        worker,
+        places,
+        owned,
+        stop,
+    } = last;
+    match close(row, place) {
+        Ok(closed) => Ok(closing_of(closed)),
+        Err((row, place)) => Err((
+            Hall {
+                row,
+                code,
+                quota,
+                workers,
+                limit,
+                alloc,
+            },
+            Seat {
+                place,
+                worker,
+                places,
+                owned,
+                stop,
+            },
+            CloseRefused::NotOver,
+        )),
+    }
+}
