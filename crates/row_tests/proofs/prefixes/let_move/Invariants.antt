@@ -1,5 +1,5 @@
 use Rattle.prefix_laws.specs.Prefixes.{IsSerialOf}
-use Rattle.replay_tests.proofs.prefixes.let_move.Given as goal
+use Rattle.row_tests.proofs.prefixes.let_move.Given as goal
 
 -- it is still the depth-first run of the core's program
 abbrev pub invariant-digits : goal.invariant-digits

@@ -18,7 +18,7 @@ const QUOTA: u32 = 16;
 
 /// The quota, the workers, and the most words, actions and deques of a trail.
 #[derive(Clone, Copy)]
-pub(crate) struct Setting {
+struct Setting {
     pub k: u32,
     pub p: u32,
     pub arena: u32,
@@ -57,7 +57,7 @@ fn is_kind(kind: TrailKind) -> bool
 }
 
 /// Adds an event, if a trail of so many workers may have it.
-pub(crate) fn add_event(events: &mut Events, event: TrailEvent, p: u32) -> Result<(), AllocError>
+fn add_event(events: &mut Events, event: TrailEvent, p: u32) -> Result<(), AllocError>
     ensures { FitEvents p (entries events.old) → IfOk result (λ _. FitEvents p (entries events.new)) }
 {
     if p <= event.worker {
@@ -107,12 +107,7 @@ fn fits(of: Setting) -> bool
 }
 
 /// The trail with these events, or None if the setting is out of its ranges.
-pub(crate) fn trail_of(
-    alloc: Global,
-    of: Setting,
-    events: Events,
-    numbers: TrailNumbers,
-) -> Option<Trail>
+fn trail_of(alloc: Global, of: Setting, events: Events, numbers: TrailNumbers) -> Option<Trail>
     requires { FitEvents of.p (entries events) }
     ensures { IfSome result (λ trail. HasTrailRanges (shown_by_trail trail)) }
 {
@@ -185,12 +180,7 @@ fn told(alloc: Global, answer: Result<u32, VerifyFail>) -> String {
 }
 
 /// The answer to a trail of a program. It hands no clause on.
-pub(crate) fn answer_of(
-    rt: &impl Abort,
-    alloc: Global,
-    source: &str,
-    trail: &Trail,
-) -> Result<u32, VerifyFail>
+fn answer_of(rt: &impl Abort, alloc: Global, source: &str, trail: &Trail) -> Result<u32, VerifyFail>
     requires { HasTrailRanges (shown_by_trail trail.now) }
 {
     match accept(alloc, source.as_bytes()) {

@@ -1,7 +1,7 @@
 use Rattle.std.proofs.Common.{◌∙◌, ◌++◌, ◌∷◌, [], ap, arith}
 use Rattle.bounded_list.specs.BoundedList.{entries}
 use Rattle.replay_tests.proofs.Fitting.{fit_after}
-use Rattle.replay_tests.proofs.answers.add_event.Goals as goal
+use Rattle.replay_tests.proofs.trails.add_event.Goals as goal
 
 pub returns : goal.returns
 returns c = λ fit.

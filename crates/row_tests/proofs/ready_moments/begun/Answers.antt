@@ -5,7 +5,7 @@ use Rattle.node_table.specs.Codes.{code_shown}
 use Rattle.node_table.specs.Programs.{IsTableOf}
 use Rattle.par_tree.specs.View.{program_tree}
 use Rattle.serial_meaning.specs.Settings.{setting_of}
-use Rattle.replay_tests.proofs.prefixes.begun.Goals as goal
+use Rattle.row_tests.proofs.ready_moments.begun.Goals as goal
 
 pub returns : goal.returns
 returns c =
