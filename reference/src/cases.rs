@@ -38,7 +38,7 @@ pub fn machine_case(number: u64) -> Case {
         "made" => Vec::new(),
         "printed" => source_of(&mut random, "prints"),
         _ => {
-            let of_source = *random.pick(&["good", "faulty", "blocks", "deep", "tiny"]);
+            let of_source = source_kind(&mut random);
             source_of(&mut random, of_source)
         }
     };
@@ -79,7 +79,7 @@ pub fn trail_case(number: u64) -> Case {
     let source = match kind {
         "mended trails" => mended_trail(&mut random),
         _ => {
-            let of_source = *random.pick(&["good", "faulty", "blocks", "deep", "tiny", "prints"]);
+            let of_source = source_kind(&mut random);
             source_of(&mut random, of_source)
         }
     };
@@ -97,7 +97,7 @@ pub fn trail_case(number: u64) -> Case {
 pub fn ready_case(number: u64) -> Case {
     let mut random = Random(number.wrapping_mul(0xc2b2_ae3d_27d4_eb4f));
     let kind = KINDS_OF_READY[usize::from(number.is_multiple_of(6))];
-    let of_source = *random.pick(&["good", "faulty", "blocks", "deep", "tiny", "prints"]);
+    let of_source = source_kind(&mut random);
     let source = source_of(&mut random, of_source);
     let words = if kind == "words of ready lists" {
         any_words_of(&mut random, &["async", "async", "async", "Async", "asyn", "--deques"])
@@ -117,6 +117,15 @@ pub fn short_play(random: &mut Random) -> (Vec<String>, Vec<u8>) {
     options.retain(|option| option[0] != "--steps");
     options.push(option("steps", 400));
     (options.concat(), source)
+}
+
+/// The kind of a source that is played: most are accepted, and some are refused.
+fn source_kind(random: &mut Random) -> &'static str {
+    if random.once_in(12) {
+        *random.pick(&["ill-formed", "ill-typed"])
+    } else {
+        *random.pick(&["good", "faulty", "blocks", "deep", "tiny", "prints"])
+    }
 }
 
 /// A source of a kind.

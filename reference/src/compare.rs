@@ -19,7 +19,7 @@ struct Plan {
     product: String,
     count: u64,
     from: u64,
-    /// Whether only trails, or only ready lists, are compared: then each number has one.
+    /// The one series that is compared, if not all are: then each number has a case of it.
     only: Option<fn(u64) -> Case>,
 }
 
@@ -31,7 +31,7 @@ const MACHINE_ONE_IN: u64 = 4;
 /// The exit status: 0 where nothing differs, 1 where something does, 2 where the words are wrong.
 pub fn compare(words: &[String]) -> u8 {
     let Some(plan) = read_plan(words) else {
-        eprintln!("usage: reference/compare [--product FILE] [--count N] [--from N] [--only trails|async]");
+        eprintln!("usage: reference/compare [--product FILE] [--count N] [--from N] [--only machine|loops|trails|async]");
         return 2;
     };
     if !Path::new(&plan.product).exists() {
@@ -76,6 +76,8 @@ fn read_plan(words: &[String]) -> Option<Plan> {
             "--product" => plan.product = value.clone(),
             "--count" => plan.count = value.parse().ok()?,
             "--from" => plan.from = value.parse().ok()?,
+            "--only" if value == "machine" => plan.only = Some(machine_case),
+            "--only" if value == "loops" => plan.only = Some(loop_case),
             "--only" if value == "trails" => plan.only = Some(trail_case),
             "--only" if value == "async" => plan.only = Some(ready_case),
             _ => return None,
@@ -101,6 +103,15 @@ impl Tally {
         self.compared.iter().filter(|((kind, _, _), _)| kinds.contains(kind)).map(|(_, count)| count).sum()
     }
 
+    /// How many cases of each command were compared. Those whose words are no command are under `words`.
+    fn by_command(&self) -> BTreeMap<&str, u64> {
+        let mut counts = BTreeMap::new();
+        for ((_, command, _), count) in &self.compared {
+            *counts.entry(command.as_str()).or_default() += count;
+        }
+        counts
+    }
+
     fn print(&self, seconds: u64) {
         for kind in KINDS.iter().chain(&KINDS_OF_MACHINE).chain(&KINDS_OF_LOOPS).chain(&KINDS_OF_TRAILS).chain(&KINDS_OF_READY) {
             let of_kind = self.compared.iter().filter(|((it, _, _), _)| it == kind);
@@ -110,6 +121,8 @@ impl Tally {
         }
         let answers: Vec<String> = self.answers.iter().map(|(answer, count)| format!("{answer} {count}")).collect();
         println!("answers: {}", answers.join(", "));
+        let counts: Vec<String> = self.by_command().iter().map(|(command, count)| format!("{command} {count}")).collect();
+        println!("commands: {}", counts.join(", "));
         println!(
             "compare: {} cases, {} of the machine, {} of parallel loops, {} of trails, {} of ready lists, {} differences, {seconds} s; \
              {} runs that the program does not have yet; {} runs in threads whose end depends on the order of events; \

@@ -12,7 +12,7 @@ use crate::entry::Entry;
 use crate::environment::{unless, want_block, want_fresh, want_integer, want_not_lent};
 use crate::expressions::check_expression;
 use crate::mentions::is_name;
-use crate::refusal::Fail;
+use crate::refusal::Tested;
 use par_ownership::CheckKind;
 use par_tree::{Arg, Func, Name, Param, ParamKind, Ret, RetValue, Target};
 
@@ -52,7 +52,7 @@ fn takes_answer(target: &Target, handed: bool) -> bool
 }
 
 /// The target of a call.
-fn target<'a>(line: u32, env: &[Entry], target: &'a Target) -> Result<(), Fail<'a>>
+fn target<'a>(line: u32, env: &[Entry], target: &'a Target) -> Tested<'a>
     ensures { Tests result (target_refusal line (entries_shown env.now) (target_tree target.now)) }
 {
     match target {
@@ -85,14 +85,14 @@ fn is_passed(name: &[u8], before: &[Arg]) -> bool
 }
 
 /// A block is passed once in a call.
-fn not_shared<'a>(line: u32, before: &[Arg], name: &'a [u8]) -> Result<(), Fail<'a>>
+fn not_shared<'a>(line: u32, before: &[Arg], name: &'a [u8]) -> Tested<'a>
     ensures { Tests result (shared_refusal line (args_tree before.now) name.now) }
 {
     unless(!is_passed(name, before), CheckKind::SharedBlock, line, name)
 }
 
 /// A block that a call lends.
-fn lent_block<'a>(line: u32, env: &[Entry], before: &[Arg], name: &'a Name) -> Result<(), Fail<'a>>
+fn lent_block<'a>(line: u32, env: &[Entry], before: &[Arg], name: &'a Name) -> Tested<'a>
     ensures { Tests result (first_of (block_refusal line (entries_shown env.now) (name_tree name.now))
         (shared_refusal line (args_tree before.now) (name_tree name.now))) }
 {
@@ -101,7 +101,7 @@ fn lent_block<'a>(line: u32, env: &[Entry], before: &[Arg], name: &'a Name) -> R
 }
 
 /// A block that a call gives away.
-fn given_block<'a>(line: u32, env: &[Entry], before: &[Arg], name: &'a Name) -> Result<(), Fail<'a>>
+fn given_block<'a>(line: u32, env: &[Entry], before: &[Arg], name: &'a Name) -> Tested<'a>
     ensures { Tests result (first_of (block_refusal line (entries_shown env.now) (name_tree name.now))
         (first_of (shared_refusal line (args_tree before.now) (name_tree name.now))
         (lent_refusal line (entries_shown env.now) (name_tree name.now)))) }
@@ -118,7 +118,7 @@ fn argument<'a>(
     before: &[Arg],
     param: &'a Param,
     arg: &'a Arg,
-) -> Result<(), Fail<'a>>
+) -> Tested<'a>
     ensures { Tests result (arg_refusal line (entries_shown env.now) (args_tree before.now) (name_tree param.now.name)
         (param_kind_tree param.now.kind) (arg_tree arg.now)) }
 {
@@ -140,12 +140,7 @@ fn argument<'a>(
 }
 
 /// The arguments of a call, in order.
-fn arguments<'a>(
-    line: u32,
-    env: &[Entry],
-    params: &'a [Param],
-    args: &'a [Arg],
-) -> Result<(), Fail<'a>>
+fn arguments<'a>(line: u32, env: &[Entry], params: &'a [Param], args: &'a [Arg]) -> Tested<'a>
     requires { length args.now ≡ length params.now }
     ensures { Tests result (args_refusal line (entries_shown env.now) [] (params_tree params.now) (args_tree args.now)) }
 {
@@ -163,7 +158,7 @@ pub(crate) fn call<'a>(
     answer: &'a Target,
     name: &'a Name,
     args: &'a [Arg],
-) -> Result<(), Fail<'a>>
+) -> Tested<'a>
     ensures { Tests result (call_refusal (funcs_tree funcs.now) line (entries_shown env.now) (target_tree answer.now) (name_tree name.now)
         (args_tree args.now)) }
 {

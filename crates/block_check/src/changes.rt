@@ -9,7 +9,7 @@ ghost use Rattle.block_check.specs.Shown.{entry_shown, entries_shown, env_shown,
 use crate::entry::Entry;
 use crate::environment::unless;
 use crate::kind::Kind;
-use crate::refusal::Fail;
+use crate::refusal::{Tested, Walked};
 use par_ownership::CheckKind;
 use par_tree::{Param, ParamKind};
 use std::alloc::Global;
@@ -62,10 +62,7 @@ pub(crate) fn param_entry<'a>(param: &'a Param, line: u32) -> Entry<'a>
 }
 
 /// Declares a name behind the others.
-pub(crate) fn with_entry<'a>(
-    mut env: Vec<Entry<'a>>,
-    entry: Entry<'a>,
-) -> Result<Vec<Entry<'a>>, Fail<'a>>
+pub(crate) fn with_entry<'a>(mut env: Vec<Entry<'a>>, entry: Entry<'a>) -> Walked<'a>
     ensures { Walks env_shown result (Ok (with_entry (env_shown env.entry) (entry_shown entry.entry))) }
 {
     env.push(entry)?;
@@ -73,7 +70,7 @@ pub(crate) fn with_entry<'a>(
 }
 
 /// The same names once more.
-pub(crate) fn copy_of<'a>(alloc: Global, env: &[Entry<'a>]) -> Result<Vec<Entry<'a>>, Fail<'a>>
+pub(crate) fn copy_of<'a>(alloc: Global, env: &[Entry<'a>]) -> Walked<'a>
     ensures { Walks env_shown result (Ok (entries_shown env.now)) }
 {
     Ok(env.iter().copied().collect(alloc)?)
@@ -89,11 +86,7 @@ pub(crate) fn mark(env: &mut [Entry], name: &[u8], held: bool)
 }
 
 /// The names of both, each block held where it is held in both.
-pub(crate) fn held_in_both<'a>(
-    alloc: Global,
-    left: &[Entry<'a>],
-    right: &[Entry],
-) -> Result<Vec<Entry<'a>>, Fail<'a>>
+pub(crate) fn held_in_both<'a>(alloc: Global, left: &[Entry<'a>], right: &[Entry]) -> Walked<'a>
     ensures { Walks env_shown result (Ok (held_in_both (entries_shown left.now) (entries_shown right.now))) }
 {
     let mut both = Vec::new(alloc);
@@ -104,7 +97,7 @@ pub(crate) fn held_in_both<'a>(
 }
 
 /// Refuses the first owned block behind the visible names that is still held where its list ends.
-pub(crate) fn all_released<'a>(visible: usize, env: &[Entry<'a>]) -> Result<(), Fail<'a>>
+pub(crate) fn all_released<'a>(visible: usize, env: &[Entry<'a>]) -> Tested<'a>
     ensures { Tests result (end_refusal (drop visible (entries_shown env.now))) }
 {
     for i in visible..env.len() {
@@ -116,7 +109,7 @@ pub(crate) fn all_released<'a>(visible: usize, env: &[Entry<'a>]) -> Result<(), 
 }
 
 /// The end of a list that began with so many visible names.
-pub(crate) fn ended<'a>(visible: usize, mut env: Vec<Entry<'a>>) -> Result<Vec<Entry<'a>>, Fail<'a>>
+pub(crate) fn ended<'a>(visible: usize, mut env: Vec<Entry<'a>>) -> Walked<'a>
     ensures { Walks env_shown result (ended visible (Ok (env_shown env.entry))) }
 {
     all_released(visible, &env)?;
@@ -125,7 +118,7 @@ pub(crate) fn ended<'a>(visible: usize, mut env: Vec<Entry<'a>>) -> Result<Vec<E
 }
 
 /// Refuses the first block that is held on one side alone.
-pub(crate) fn same_held<'a>(line: u32, env: &[Entry<'a>], other: &[Entry]) -> Result<(), Fail<'a>>
+pub(crate) fn same_held<'a>(line: u32, env: &[Entry<'a>], other: &[Entry]) -> Tested<'a>
     ensures { Tests result (arms_refusal line (entries_shown env.now) (entries_shown other.now)) }
 {
     for i in 0..env.len().min(other.len()) {

@@ -8,7 +8,7 @@ ghost use Rattle.block_check.specs.Shown.{entry_shown, entries_shown, Tests};
 
 use crate::entry::Entry;
 use crate::kind::Kind;
-use crate::refusal::{Fail, Refusal};
+use crate::refusal::{Fail, Refusal, Tested};
 use par_ownership::CheckKind;
 
 /// What is declared under a name.
@@ -24,12 +24,7 @@ fn entry_of<'a>(env: &[Entry<'a>], name: &[u8]) -> Option<Entry<'a>>
 }
 
 /// Refuses where a test fails.
-pub(crate) fn unless<'a>(
-    passed: bool,
-    kind: CheckKind,
-    line: u32,
-    name: &'a [u8],
-) -> Result<(), Fail<'a>>
+pub(crate) fn unless<'a>(passed: bool, kind: CheckKind, line: u32, name: &'a [u8]) -> Tested<'a>
     ensures { Tests result (unless passed kind line name.now) }
 {
     if passed {
@@ -40,7 +35,7 @@ pub(crate) fn unless<'a>(
 }
 
 /// The name of a declaration must not be visible yet.
-pub(crate) fn want_fresh<'a>(line: u32, env: &[Entry], name: &'a [u8]) -> Result<(), Fail<'a>>
+pub(crate) fn want_fresh<'a>(line: u32, env: &[Entry], name: &'a [u8]) -> Tested<'a>
     ensures { Tests result (fresh_refusal line (entries_shown env.now) name.now) }
 {
     unless(
@@ -52,7 +47,7 @@ pub(crate) fn want_fresh<'a>(line: u32, env: &[Entry], name: &'a [u8]) -> Result
 }
 
 /// A name is read as an integer.
-pub(crate) fn want_integer<'a>(line: u32, env: &[Entry], name: &'a [u8]) -> Result<(), Fail<'a>>
+pub(crate) fn want_integer<'a>(line: u32, env: &[Entry], name: &'a [u8]) -> Tested<'a>
     ensures { Tests result (integer_refusal line (entries_shown env.now) name.now) }
 {
     match entry_of(env, name) {
@@ -62,7 +57,7 @@ pub(crate) fn want_integer<'a>(line: u32, env: &[Entry], name: &'a [u8]) -> Resu
 }
 
 /// A name is read as a block.
-pub(crate) fn want_block<'a>(line: u32, env: &[Entry], name: &'a [u8]) -> Result<(), Fail<'a>>
+pub(crate) fn want_block<'a>(line: u32, env: &[Entry], name: &'a [u8]) -> Tested<'a>
     ensures { Tests result (block_refusal line (entries_shown env.now) name.now) }
 {
     match entry_of(env, name) {
@@ -75,7 +70,7 @@ pub(crate) fn want_block<'a>(line: u32, env: &[Entry], name: &'a [u8]) -> Result
 }
 
 /// A block that is freed or given away must not be lent.
-pub(crate) fn want_not_lent<'a>(line: u32, env: &[Entry], name: &'a [u8]) -> Result<(), Fail<'a>>
+pub(crate) fn want_not_lent<'a>(line: u32, env: &[Entry], name: &'a [u8]) -> Tested<'a>
     ensures { Tests result (lent_refusal line (entries_shown env.now) name.now) }
 {
     match entry_of(env, name) {

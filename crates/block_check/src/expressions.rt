@@ -7,12 +7,12 @@ ghost use Rattle.block_check.specs.Shown.{entries_shown, Tests};
 
 use crate::entry::Entry;
 use crate::environment::{want_block, want_integer};
-use crate::refusal::Fail;
+use crate::refusal::Tested;
 use par_tree::{Expr, Link};
 
 /// An expression is read from left to right.
 #[cycle(check_expression)]
-pub(crate) fn check_expression<'a>(line: u32, env: &[Entry], expr: &'a Expr) -> Result<(), Fail<'a>>
+pub(crate) fn check_expression<'a>(line: u32, env: &[Entry], expr: &'a Expr) -> Tested<'a>
     ensures { Tests result (expr_refusal line (entries_shown env.now) (expr_tree expr.now)) }
 {
     match expr {
@@ -37,7 +37,7 @@ pub(crate) fn check_expression<'a>(line: u32, env: &[Entry], expr: &'a Expr) -> 
 
 /// The operands of a chain behind its first one.
 #[cycle(check_expression)]
-fn check_links<'a>(line: u32, env: &[Entry], rest: &'a [Link]) -> Result<(), Fail<'a>>
+fn check_links<'a>(line: u32, env: &[Entry], rest: &'a [Link]) -> Tested<'a>
     ensures { Tests result (links_refusal line (entries_shown env.now) (links_tree rest.now)) }
 {
     for link in rest {

@@ -11,18 +11,14 @@ use crate::changes::{all_released, param_entry, with_entry};
 use crate::entry::Entry;
 use crate::environment::{unless, want_fresh};
 use crate::expressions::check_expression;
-use crate::refusal::Fail;
+use crate::refusal::{Tested, Walked};
 use crate::statements::{check_statements, free};
 use par_ownership::CheckKind;
 use par_tree::{Func, Param, Ret, RetValue};
 use std::alloc::Global;
 
 /// The parameters of a function are declared in order.
-fn parameters<'a>(
-    line: u32,
-    mut env: Vec<Entry<'a>>,
-    params: &'a [Param],
-) -> Result<Vec<Entry<'a>>, Fail<'a>>
+fn parameters<'a>(line: u32, mut env: Vec<Entry<'a>>, params: &'a [Param]) -> Walked<'a>
     ensures { Walks env_shown result (walk_params line (params_tree params.now) (env_shown env.entry)) }
 {
     for param in params {
@@ -33,11 +29,7 @@ fn parameters<'a>(
 }
 
 /// What a `return` gives back.
-fn returned_value<'a>(
-    line: u32,
-    env: Vec<Entry<'a>>,
-    value: &'a RetValue,
-) -> Result<Vec<Entry<'a>>, Fail<'a>>
+fn returned_value<'a>(line: u32, env: Vec<Entry<'a>>, value: &'a RetValue) -> Walked<'a>
     ensures { Walks env_shown result (walk_value line (ret_value_tree value.now) (env_shown env.entry)) }
 {
     match value {
@@ -50,7 +42,7 @@ fn returned_value<'a>(
 }
 
 /// The `return` of a function.
-fn returned<'a>(env: Vec<Entry<'a>>, ret: &'a Option<Ret>) -> Result<Vec<Entry<'a>>, Fail<'a>>
+fn returned<'a>(env: Vec<Entry<'a>>, ret: &'a Option<Ret>) -> Walked<'a>
     ensures { Walks env_shown result (walk_return (ret_tree ret.now) (env_shown env.entry)) }
 {
     match ret {
@@ -60,7 +52,7 @@ fn returned<'a>(env: Vec<Entry<'a>>, ret: &'a Option<Ret>) -> Result<Vec<Entry<'
 }
 
 /// A function, from its parameters to its lent blocks.
-fn function<'a>(alloc: Global, funcs: &'a [Func], func: &'a Func) -> Result<(), Fail<'a>>
+fn function<'a>(alloc: Global, funcs: &'a [Func], func: &'a Func) -> Tested<'a>
     ensures { Tests result (func_refusal (funcs_tree funcs.now) (func_tree func.now)) }
 {
     let start = parameters(func.line, Vec::new(alloc), &func.params)?;
@@ -70,7 +62,7 @@ fn function<'a>(alloc: Global, funcs: &'a [Func], func: &'a Func) -> Result<(), 
 }
 
 /// The functions, in the order of the text.
-fn functions<'a>(alloc: Global, funcs: &'a [Func]) -> Result<(), Fail<'a>>
+fn functions<'a>(alloc: Global, funcs: &'a [Func]) -> Tested<'a>
     ensures { Tests result (funcs_refusal (funcs_tree funcs.now) (funcs_tree funcs.now)) }
 {
     for func in funcs {
@@ -80,7 +72,7 @@ fn functions<'a>(alloc: Global, funcs: &'a [Func]) -> Result<(), Fail<'a>>
 }
 
 /// No function has the name of one before it.
-fn have_new_names<'a>(funcs: &'a [Func]) -> Result<(), Fail<'a>>
+fn have_new_names<'a>(funcs: &'a [Func]) -> Tested<'a>
     ensures { Tests result (names_refusal [] (funcs_tree funcs.now)) }
 {
     for i in 0..funcs.len() {
@@ -100,7 +92,7 @@ fn begins(func: &Func) -> bool
 }
 
 /// A run can begin with `main`.
-fn main_begins<'a>(funcs: &'a [Func]) -> Result<(), Fail<'a>>
+fn main_begins<'a>(funcs: &'a [Func]) -> Tested<'a>
     ensures { Tests result (main_case (function_of (funcs_tree funcs.now) main_name)) }
 {
     let name = b"main";
@@ -111,7 +103,7 @@ fn main_begins<'a>(funcs: &'a [Func]) -> Result<(), Fail<'a>>
 }
 
 /// The first refusal of a program.
-pub(crate) fn program<'a>(alloc: Global, funcs: &'a [Func]) -> Result<(), Fail<'a>>
+pub(crate) fn program<'a>(alloc: Global, funcs: &'a [Func]) -> Tested<'a>
     ensures { Tests result (program_refusal (funcs_tree funcs.now)) }
 {
     have_new_names(funcs)?;

@@ -1,8 +1,15 @@
 ghost use Rattle.std.specs.Prelude.{◌≡◌};
 ghost use Rattle.block_check.specs.declared.refusal.Fail.TheVariants.{Memory};
 
+use crate::entry::Entry;
 use par_ownership::CheckKind;
 use std::alloc::{AllocError, AllocFailed};
+
+/// That a rule is kept, or why the walk ends.
+pub(crate) type Tested<'a> = Result<(), Fail<'a>>;
+
+/// The visible names after a step of the walk, or why it ends.
+pub(crate) type Walked<'a> = Result<Vec<Entry<'a>>, Fail<'a>>;
 
 /// Why the walk ends.
 #[derive(Drop)]

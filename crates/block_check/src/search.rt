@@ -10,18 +10,14 @@ ghost use Rattle.block_check.specs.Sought.{Seeks};
 use crate::changes::{block_entry, integer_entry, lent_entry, param_entry, with_entry};
 use crate::entry::Entry;
 use crate::fork::Fork;
-use crate::refusal::Fail;
+use crate::refusal::{Fail, Walked};
 use crate::sought::Sought;
 use crate::statements::take_answer;
 use par_tree::{Body, Func, Name, Param, Stmt, StmtKind};
 use std::alloc::Global;
 
 /// The names that are visible behind a statement.
-fn declared_by<'a>(
-    line: u32,
-    names: Vec<Entry<'a>>,
-    kind: &'a StmtKind,
-) -> Result<Vec<Entry<'a>>, Fail<'a>>
+fn declared_by<'a>(line: u32, names: Vec<Entry<'a>>, kind: &'a StmtKind) -> Walked<'a>
     ensures { Walks env_shown result (Ok (declared_by (env_shown names.entry) line (stmt_tree kind.now))) }
 {
     match kind {
@@ -40,12 +36,7 @@ fn declared_by<'a>(
 }
 
 /// The names of a `split` are visible in its body.
-fn with_parts<'a>(
-    line: u32,
-    names: Vec<Entry<'a>>,
-    left: &'a Name,
-    right: &'a Name,
-) -> Result<Vec<Entry<'a>>, Fail<'a>>
+fn with_parts<'a>(line: u32, names: Vec<Entry<'a>>, left: &'a Name, right: &'a Name) -> Walked<'a>
     ensures { Walks env_shown result (Ok (split_names (env_shown names.entry) line (name_tree left.now) (name_tree right.now))) }
 {
     let inner = with_entry(names, lent_entry(&left.bytes, line))?;
@@ -137,11 +128,7 @@ fn seek_in_list<'a>(
 }
 
 /// The parameters of a function are visible in its body.
-fn with_params<'a>(
-    line: u32,
-    mut names: Vec<Entry<'a>>,
-    params: &'a [Param],
-) -> Result<Vec<Entry<'a>>, Fail<'a>>
+fn with_params<'a>(line: u32, mut names: Vec<Entry<'a>>, params: &'a [Param]) -> Walked<'a>
     ensures { Walks env_shown result (Ok (with_params (env_shown names.entry) line (params_tree params.now))) }
 {
     for param in params {

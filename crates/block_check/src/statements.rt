@@ -18,7 +18,7 @@ use crate::entry::Entry;
 use crate::environment::{unless, want_block, want_fresh, want_integer, want_not_lent};
 use crate::expressions::check_expression;
 use crate::mentions::{NamedBody, named};
-use crate::refusal::Fail;
+use crate::refusal::{Tested, Walked};
 use par_ownership::CheckKind;
 use par_tree::{Arg, Body, Expr, Func, Name, Stmt, StmtKind, Target};
 use std::alloc::Global;
@@ -37,12 +37,7 @@ fn are_apart(left: &NamedBody, right: &NamedBody, entry: Entry) -> bool
 }
 
 /// Refuses the first name that two branches share.
-fn want_apart<'a>(
-    line: u32,
-    left: &NamedBody,
-    right: &NamedBody,
-    env: &[Entry<'a>],
-) -> Result<(), Fail<'a>>
+fn want_apart<'a>(line: u32, left: &NamedBody, right: &NamedBody, env: &[Entry<'a>]) -> Tested<'a>
     ensures { Tests result (branches_refusal line (body_of left.now) (body_of right.now) (entries_shown env.now)) }
 {
     for entry in env {
@@ -63,7 +58,7 @@ fn want_branches_apart<'a>(
     left: &'a Body,
     right: &'a Body,
     env: &[Entry<'a>],
-) -> Result<(), Fail<'a>>
+) -> Tested<'a>
     ensures { Tests result (branches_refusal line (rows_tree left.now) (rows_tree right.now) (entries_shown env.now)) }
 {
     let left_names = named(alloc, env, left)?;
@@ -72,12 +67,7 @@ fn want_branches_apart<'a>(
 }
 
 /// `let x = e;`
-fn let_integer<'a>(
-    line: u32,
-    env: Vec<Entry<'a>>,
-    name: &'a Name,
-    value: &'a Expr,
-) -> Result<Vec<Entry<'a>>, Fail<'a>>
+fn let_integer<'a>(line: u32, env: Vec<Entry<'a>>, name: &'a Name, value: &'a Expr) -> Walked<'a>
     ensures { Walks env_shown result (guarded (fresh_refusal line (env_shown env.entry) (name_tree name.now))
         (guarded (expr_refusal line (env_shown env.entry) (expr_tree value.now))
         (Ok (with_entry (env_shown env.entry) (integer_entry (name_tree name.now) line))))) }
@@ -88,12 +78,7 @@ fn let_integer<'a>(
 }
 
 /// `alloc b = e;`
-fn alloc_block<'a>(
-    line: u32,
-    env: Vec<Entry<'a>>,
-    name: &'a Name,
-    size: &'a Expr,
-) -> Result<Vec<Entry<'a>>, Fail<'a>>
+fn alloc_block<'a>(line: u32, env: Vec<Entry<'a>>, name: &'a Name, size: &'a Expr) -> Walked<'a>
     ensures { Walks env_shown result (guarded (fresh_refusal line (env_shown env.entry) (name_tree name.now))
         (guarded (expr_refusal line (env_shown env.entry) (expr_tree size.now))
         (Ok (with_entry (env_shown env.entry) (block_entry (name_tree name.now) line))))) }
@@ -104,12 +89,7 @@ fn alloc_block<'a>(
 }
 
 /// `x = e;`
-fn assign<'a>(
-    line: u32,
-    env: Vec<Entry<'a>>,
-    name: &'a Name,
-    value: &'a Expr,
-) -> Result<Vec<Entry<'a>>, Fail<'a>>
+fn assign<'a>(line: u32, env: Vec<Entry<'a>>, name: &'a Name, value: &'a Expr) -> Walked<'a>
     ensures { Walks env_shown result (guarded (integer_refusal line (env_shown env.entry) (name_tree name.now))
         (guarded (expr_refusal line (env_shown env.entry) (expr_tree value.now)) (Ok (env_shown env.entry)))) }
 {
@@ -119,7 +99,7 @@ fn assign<'a>(
 }
 
 /// `print e;`
-fn print<'a>(line: u32, env: Vec<Entry<'a>>, value: &'a Expr) -> Result<Vec<Entry<'a>>, Fail<'a>>
+fn print<'a>(line: u32, env: Vec<Entry<'a>>, value: &'a Expr) -> Walked<'a>
     ensures { Walks env_shown result (guarded (expr_refusal line (env_shown env.entry) (expr_tree value.now)) (Ok (env_shown env.entry))) }
 {
     check_expression(line, &env, value)?;
@@ -133,7 +113,7 @@ fn put<'a>(
     name: &'a Name,
     index: &'a Expr,
     value: &'a Expr,
-) -> Result<Vec<Entry<'a>>, Fail<'a>>
+) -> Walked<'a>
     ensures { Walks env_shown result (guarded (block_refusal line (env_shown env.entry) (name_tree name.now))
         (guarded (expr_refusal line (env_shown env.entry) (expr_tree index.now))
         (guarded (expr_refusal line (env_shown env.entry) (expr_tree value.now)) (Ok (env_shown env.entry))))) }
@@ -145,11 +125,7 @@ fn put<'a>(
 }
 
 /// A block is freed, or handed back.
-pub(crate) fn free<'a>(
-    line: u32,
-    mut env: Vec<Entry<'a>>,
-    name: &'a Name,
-) -> Result<Vec<Entry<'a>>, Fail<'a>>
+pub(crate) fn free<'a>(line: u32, mut env: Vec<Entry<'a>>, name: &'a Name) -> Walked<'a>
     ensures { Walks env_shown result (guarded (block_refusal line (env_shown env.entry) (name_tree name.now))
         (guarded (lent_refusal line (env_shown env.entry) (name_tree name.now))
         (Ok (without (env_shown env.entry) (name_tree name.now))))) }
@@ -172,11 +148,7 @@ fn give_all(env: &mut [Entry], args: &[Arg])
 }
 
 /// The block that a call hands back is declared.
-pub(crate) fn take_answer<'a>(
-    line: u32,
-    env: Vec<Entry<'a>>,
-    answer: &'a Target,
-) -> Result<Vec<Entry<'a>>, Fail<'a>>
+pub(crate) fn take_answer<'a>(line: u32, env: Vec<Entry<'a>>, answer: &'a Target) -> Walked<'a>
     ensures { Walks env_shown result (Ok (after_answer (env_shown env.entry) (target_tree answer.now) line)) }
 {
     match answer {
@@ -193,7 +165,7 @@ fn call_function<'a>(
     answer: &'a Target,
     name: &'a Name,
     args: &'a [Arg],
-) -> Result<Vec<Entry<'a>>, Fail<'a>>
+) -> Walked<'a>
     ensures { Walks env_shown result (guarded (call_refusal (funcs_tree funcs.now) line (env_shown env.entry) (target_tree answer.now)
         (name_tree name.now) (args_tree args.now))
         (Ok (after_answer (after_gives (env_shown env.entry) (args_tree args.now)) (target_tree answer.now) line))) }
@@ -211,7 +183,7 @@ fn parts<'a>(
     at: &'a Expr,
     left: &'a Name,
     right: &'a Name,
-) -> Result<Vec<Entry<'a>>, Fail<'a>>
+) -> Walked<'a>
     ensures { Walks env_shown result (split_opened line (env_shown env.entry) (name_tree name.now) (expr_tree at.now) (name_tree left.now)
         (name_tree right.now)) }
 {
@@ -226,7 +198,7 @@ fn parts<'a>(
 }
 
 /// Behind a `split` its block is held again.
-fn after_split<'a>(mut env: Vec<Entry<'a>>, name: &Name) -> Result<Vec<Entry<'a>>, Fail<'a>>
+fn after_split<'a>(mut env: Vec<Entry<'a>>, name: &Name) -> Walked<'a>
     ensures { Walks env_shown result (Ok (regained (env_shown env.entry) (name_tree name.now))) }
 {
     mark(&mut env, &name.bytes, true);
@@ -234,11 +206,7 @@ fn after_split<'a>(mut env: Vec<Entry<'a>>, name: &Name) -> Result<Vec<Entry<'a>
 }
 
 /// The arms of an `if` leave the same blocks.
-fn after_arms<'a>(
-    line: u32,
-    env: Vec<Entry<'a>>,
-    other: Vec<Entry<'a>>,
-) -> Result<Vec<Entry<'a>>, Fail<'a>>
+fn after_arms<'a>(line: u32, env: Vec<Entry<'a>>, other: Vec<Entry<'a>>) -> Walked<'a>
     ensures { Walks env_shown result (guarded (arms_refusal line (env_shown env.entry) (env_shown other.entry))
         (Ok (env_shown env.entry))) }
 {
@@ -254,7 +222,7 @@ fn check_statement<'a>(
     line: u32,
     env: Vec<Entry<'a>>,
     kind: &'a StmtKind,
-) -> Result<Vec<Entry<'a>>, Fail<'a>>
+) -> Walked<'a>
     ensures { Walks env_shown result (walk (funcs_tree funcs.now) line (stmt_tree kind.now) (env_shown env.entry)) }
 {
     let visible = env.len();
@@ -314,7 +282,7 @@ fn check_nested<'a>(
     visible: usize,
     env: Vec<Entry<'a>>,
     body: &'a Body,
-) -> Result<Vec<Entry<'a>>, Fail<'a>>
+) -> Walked<'a>
     ensures { Walks env_shown result (ended visible (walk_all (funcs_tree funcs.now) (rows_tree body.now) (env_shown env.entry))) }
 {
     check_list(alloc, funcs, visible, env, body)
@@ -328,7 +296,7 @@ fn check_list<'a>(
     visible: usize,
     env: Vec<Entry<'a>>,
     body: &'a [Stmt],
-) -> Result<Vec<Entry<'a>>, Fail<'a>>
+) -> Walked<'a>
     ensures { Walks env_shown result (ended visible (walk_all (funcs_tree funcs.now) (body_tree body.now) (env_shown env.entry))) }
 {
     let end = check_statements(alloc, funcs, env, body)?;
@@ -342,7 +310,7 @@ pub(crate) fn check_statements<'a>(
     funcs: &'a [Func],
     mut env: Vec<Entry<'a>>,
     body: &'a [Stmt],
-) -> Result<Vec<Entry<'a>>, Fail<'a>>
+) -> Walked<'a>
     ensures { Walks env_shown result (walk_all (funcs_tree funcs.now) (body_tree body.now) (env_shown env.entry)) }
 {
     for stmt in body {

@@ -6,21 +6,21 @@ use Rattle.std.proofs.lemmas.Bool.{cases_eq}
 use denote.Struct.Props.{props}
 use Rattle.std.specs.Prelude.{◌≤ℤ◌, ◌<ℤ◌, ◌+ℤ◌}
 use Rattle.command_line.specs.declared.command.Command.{Command}
-use Rattle.command_line.specs.declared.setting.Setting.TheVariants.{Quota}
+use Rattle.command_line.specs.declared.setting.Setting.TheVariants.{Quota, Workers}
 use Rattle.dag_order.specs.declared.finish.Finish.{Finish}
 use Rattle.dag_order.specs.declared.finish.Finish.TheVariants as finishes
-use Rattle.depth_first_list.specs.Actions.{Deed, forks, joins, allocates, releases, dummy, faults, ends, weight_of}
 use Rattle.depth_first_list.specs.Facts.{deed_at, words_at}
 use Rattle.depth_first_list.specs.Runs.{IsDepthFirst}
 use Rattle.depth_first_run.proofs.Built.{whole_is_depth_first}
 use Rattle.depth_first_run.specs.Run.{whole, lines_of, finish_of_run}
+use Rattle.deque_machine.proofs.Ends.{runs_end}
 use Rattle.deque_machine.proofs.Kept.{opening_is_lawful}
-use Rattle.deque_machine.proofs.Playing.{Excluded, excluded, plays_are_runs, plays_finish, wanted_may_come}
+use Rattle.deque_machine.proofs.Playing.{Excluded, excluded, plays_are_runs, plays_end, plays_finish, wanted_may_come}
 use Rattle.deque_machine.proofs.Reached.{lawful_along, events_keep_lawful, bound_always, ahead_is_marked, marks_never_fall, marked_bound, arena_refuses}
 use Rattle.deque_machine.specs.LawfulOrder.{IsLawful}
-use Rattle.deque_machine.specs.Machine.{Setting, Event, steals, does, suspends, gives_up, May}
+use Rattle.deque_machine.specs.Machine.{Setting, does, May}
 use Rattle.deque_machine.specs.Moments.{Moment, opening, live_at}
-use Rattle.deque_machine.specs.Play.{Stop, arena_full, steps_spent, deques_full, Ending, finished, stopped, IsFirst, CanMove, Meets, no_deque, no_words, no_steps, Turn, Fills, taken_by, words_taken, one_if_fork}
+use Rattle.deque_machine.specs.Play.{Stop, arena_full, steps_spent, deques_full, Ending, finished, stopped, IsFirst, CanMove, Turn, words_taken, one_if_fork}
 use Rattle.deque_machine.specs.Runs.{Pair, Reaches}
 use Rattle.lawful_books.specs.Books.{periods_marked, bound, booked}
 use Rattle.lawful_books.specs.Lists.{total}
@@ -30,12 +30,13 @@ use Rattle.run_report.specs.Shown.{Shown}
 use Rattle.run_report.specs.declared.summary.Summary.{Summary}
 use Rattle.dfd_run.specs.Make.{MakeMakes, Summarizes, sum_of}
 use Rattle.dfd_run.specs.Answer.{HasRanges}
-use Rattle.dfd_run.specs.Headline.{play_list, HoldsAt, AreBounded, StopsLate, LastsInArena, LastsInActions, LastsInDeques, IsBoundedReport, IsBoundedSummary}
+use Rattle.dfd_run.specs.Headline.{play_list, HoldsAt, AreBounded, HasShortPlays, StopsLate, LastsInArena, LastsInActions, LastsInDeques, IsBoundedReport, IsBoundedSummary}
 use Rattle.dfd_run.specs.Peak.{finish_status}
 use Rattle.dfd_run.specs.Play.{IsPlay, TellsEnding, Reports, PlayMakes, play_setting, play_terms, play_machine, seeded_words, stop_status}
 use Rattle.dfd_run.specs.Status.{code_of}
 use Rattle.dfd_run.specs.declared.status.Status.{Status}
 use Rattle.dfd_run.specs.declared.status.Status.TheVariants.{Done, UserFault, DequesFull}
+use Rattle.dfd_run.proofs.ArenaStops.{taken_is_weight, filled, asked_at}
 use Rattle.dfd_run.proofs.OneAnswer.{same_status}
 
 -- a front of a run reaches a moment, and the rest goes on from there
@@ -55,7 +56,7 @@ one_reached s some list (pair ∷ run) first one other lawful reaches reaches' =
     (subst (λ m. Reaches s m run other) (sym same) reaches'.2)
 
 -- the first that passes is below n
-in_range : (n word : ℕ) (Passes : ℕ → Type 0) (x : ℕ) → IsFirst n word Passes x → x < n
+pub in_range : (n word : ℕ) (Passes : ℕ → Type 0) (x : ℕ) → IsFirst n word Passes x → x < n
 in_range n word Passes x first =
     let few = first.few in subst (λ t. t < n) (sym first.is) (mod-lt (word + first.turns) (let some : 0 < n = omega arith in some))
 
@@ -97,6 +98,17 @@ module _ (command : Command) (p : Program) (ranges : HasRanges command) where
             let ahead = ahead_is_marked s some_quota listed front m n reached prefix in
             let marked = marks_never_fall s some_quota listed rest m last (subst (λ x. Reaches s x rest last) (sym same) cut.2) in
             omega (arith, ahead, marked);
+      }
+
+  pub plays_end_soon : HasShortPlays IsPlay command p
+  plays_end_soon =
+      let s = play_machine command p in
+      let quota = (ranges.numbers Quota).0 in
+      let workers = (ranges.numbers Workers).0 in record {
+        there_is_one = plays_end s some_quota listed (omega (arith, quota)) (omega (arith, workers)) (play_terms command).limits (seeded_words command.seed);
+        each_is_short = λ run last ending plays.
+            let reaches = plays_are_runs s some_quota listed (play_terms command).limits (seeded_words command.seed) run last ending plays in
+            runs_end s some_quota listed (omega (arith, quota)) run last reaches.0 reaches.1;
       }
 
   -- the status of a play that was stopped is not that of one that ended
@@ -171,50 +183,15 @@ module _ (command : Command) (p : Program) (ranges : HasRanges command) where
   summaries_are_bounded bytes status text makes ended =
       ∥∥₁_map makes (λ w. summed_up bytes w.0 w.1 w.2 status text w.3 w.4 ended)
 
-  -- the event that an arena stops is an action that it has no room for
-  filled : (m : Moment) (event : Event) (live : ℤ) (asked : ℕ) → Meets (play_machine command p) (play_terms command).limits m event (arena_full live asked) →
-      (place : ℕ) × (event ≡ does place) × Fills (play_machine command p) (play_terms command).limits m place
-  filled m event live asked (no_words place fills) = (place, refl, fills)
-
-  -- an action that takes words has them as its weight
-  taken_is_weight : (deed : Deed) (words : ℕ) → 0 < taken_by deed words → weight_of deed words ≡ pos words
-  taken_is_weight (forks child) words some = refl
-  taken_is_weight (joins child) words some = absurd (omega (arith, some))
-  taken_is_weight allocates words some = refl
-  taken_is_weight releases words some = absurd (omega (arith, some))
-  taken_is_weight dummy words some = absurd (omega (arith, some))
-  taken_is_weight faults words some = absurd (omega (arith, some))
-  taken_is_weight ends words some = absurd (omega (arith, some))
-
-  -- the numbers of the stop of an arena
-  IsAsked : Moment → (place : ℕ) → Stop → Type 0
-  IsAsked m place (arena_full live asked) = (live ≡ live_at (play_list command p) m) × (asked ≡ words_at (play_list command p) place)
-  IsAsked m place (steps_spent limit) = Unit {0}
-  IsAsked m place (deques_full deques) = Unit {0}
-
-  place_done : Event → ℕ
-  place_done (steals place id) = 0
-  place_done (does place) = place
-  place_done suspends = 0
-  place_done gives_up = 0
-
-  asked_at : (m : Moment) (event : Event) (stop : Stop) → Meets (play_machine command p) (play_terms command).limits m event stop →
-      IsAsked m (place_done event) stop
-  unfolding IsAsked place_done
-  asked_at m event stop (no_deque place id deque there stays many) = tt
-  asked_at m event stop (no_words place fills) = (refl, refl)
-  asked_at m event stop (no_steps place room many) = tt
-
   pub arenas_stop_late : (run : List Pair) (last : Moment) (live : ℤ) (asked : ℕ) → IsPlay command p run last (stopped (arena_full live asked)) →
       (periods : ℕ) → bound command.k (play_list command p) periods ≤ℤ pos command.arena → StopsLate command p last live asked periods
-  unfolding IsAsked place_done
   arenas_stop_late run last live asked plays periods room =
       let s = play_machine command p in
       let cause = endings_have_causes s some_quota listed (play_terms command).limits (seeded_words command.seed)
       run last (stopped (arena_full live asked)) plays in
       let lawful = lawful_last run last (stopped (arena_full live asked)) plays in
-      let fills = filled last (cause.1).event live asked cause.3 in
-      let asks : IsAsked last (place_done (cause.1).event) (arena_full live asked) = asked_at last (cause.1).event (arena_full live asked) cause.3 in
+      let fills = filled s (play_terms command).limits last (cause.1).event live asked cause.3 in
+      let asks = asked_at s (play_terms command).limits last (cause.1).event live asked fills.0 fills.1 cause.3 in
       let below = in_range command.p (seeded_words command.seed cause.0) (CanMove s last) (cause.1).worker (cause.2).first in
       let comes = wanted_may_come s some_quota listed last (cause.1).worker (seeded_words command.seed (suc cause.0))
       (cause.1).event lawful below (cause.2).wants in
@@ -226,7 +203,7 @@ module _ (command : Command) (p : Program) (ranges : HasRanges command) where
         place = fills.0;
         turn = subst (λ e. Turn s (seeded_words command.seed) cause.0 last (record { worker = (cause.1).worker; event = e })) fills.1 cause.2;
         live_is = asks.0;
-        asked_is = asks.1 ∙ ap (λ e. words_at (play_list command p) (place_done e)) fills.1;
+        asked_is = asks.1;
         fills = fills.2;
         after = comes.0;
         may = may;

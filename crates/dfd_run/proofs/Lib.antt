@@ -5,6 +5,7 @@ pub mod Peaks
 pub mod Plays
 pub mod Expansions
 pub mod GivenWords
+pub mod ArenaStops
 pub mod Headline
 pub mod Sums
 pub mod Trails

@@ -1,5 +1,5 @@
 -- What holds of each play of a command.
-use Rattle.std.specs.Prelude.{◌≡◌, ◌≢◌, ◌⊎◌, ℕ, ◌<◌, ◌≤◌, List, ◌++◌, length, ℤ, pos, ◌≤ℤ◌}
+use Rattle.std.specs.Prelude.{◌≡◌, ◌≢◌, ◌⊎◌, ℕ, ◌+◌, ◌*◌, ◌<◌, ◌≤◌, List, ◌++◌, length, ℤ, pos, ◌≤ℤ◌}
 use Rattle.command_line.specs.declared.command.Command.{Command}
 use Rattle.depth_first_list.specs.Actions.{Action}
 use Rattle.depth_first_list.specs.Facts.{words_at}
@@ -94,10 +94,23 @@ ArenasStopLate = (command : Command) (p : Program) → HasRanges command → IsA
     → (run : List Pair) (last : Moment) (live : ℤ) (asked : ℕ) → IsPlay command p run last (stopped (arena_full live asked))
     → (periods : ℕ) → bound command.k (play_list command p) periods ≤ℤ pos command.arena → StopsLate command p last live asked periods
 
--- a fact of each play of each command, by its last moment and its ending
-abbrev pub OfEachPlay : (Command → Program → Moment → Ending → Type 0) → Type 0
-OfEachPlay Fact = (command : Command) (p : Program) → HasRanges command → IsAccepted p
-    → (run : List Pair) (last : Moment) (ending : Ending) → IsPlay command p run last ending → Fact command p last ending
+-- a fact of each play of each command, of this kind of play, by its last moment and its ending
+abbrev pub OfEach : (IsRun : Command → Program → List Pair → Moment → Ending → Type 0) → (Command → Program → Moment → Ending → Type 0) → Type 0
+OfEach IsRun Fact = (command : Command) (p : Program) → HasRanges command → IsAccepted p
+    → (run : List Pair) (last : Moment) (ending : Ending) → IsRun command p run last ending → Fact command p last ending
+
+-- Each command has a play of this kind, and it ends: a play has at most three events for each action of the depth-first run, and one for each
+-- worker.
+pub record HasShortPlays (IsRun : Command → Program → List Pair → Moment → Ending → Type 0) (command : Command) (p : Program) : Type 0 where
+  pub there_is_one : (run : List Pair) × (last : Moment) × (ending : Ending) × IsRun command p run last ending
+  pub each_is_short : (run : List Pair) (last : Moment) (ending : Ending) → IsRun command p run last ending
+      → length run ≤ 3 * length (play_list command p) + command.p
+
+abbrev pub AllEnd : (IsRun : Command → Program → List Pair → Moment → Ending → Type 0) → Type 0
+AllEnd IsRun = (command : Command) (p : Program) → HasRanges command → IsAccepted p → HasShortPlays IsRun command p
+
+abbrev pub PlaysEnd : Type 0
+PlaysEnd = AllEnd IsPlay
 
 -- The arena stops no play where it has room for all words that the depth-first list takes, or where at the last moment it has room for the
 -- peak and two quotas for each period ahead, with the next Alloc or Fork counted.
@@ -107,7 +120,7 @@ LastsInArena command p last ending =
     → (live : ℤ) (asked : ℕ) → ending ≢ stopped (arena_full live asked)
 
 abbrev pub ArenasSuffice : Type 0
-ArenasSuffice = OfEachPlay LastsInArena
+ArenasSuffice = OfEach IsPlay LastsInArena
 
 -- with as many actions as the list has, their limit stops no play
 abbrev pub LastsInActions : Command → Program → Moment → Ending → Type 0
@@ -115,7 +128,7 @@ LastsInActions command p last ending =
     length (play_list command p) ≤ command.steps → (limit : ℕ) → ending ≢ stopped (steps_spent limit)
 
 abbrev pub ActionsSuffice : Type 0
-ActionsSuffice = OfEachPlay LastsInActions
+ActionsSuffice = OfEach IsPlay LastsInActions
 
 -- and with more deques than the list has Forks, their limit stops none
 abbrev pub LastsInDeques : Command → Program → Moment → Ending → Type 0
@@ -123,7 +136,7 @@ LastsInDeques command p last ending =
     total one_if_fork (play_list command p) < command.deques → (deques : ℕ) → ending ≢ stopped (deques_full deques)
 
 abbrev pub DequesSuffice : Type 0
-DequesSuffice = OfEachPlay LastsInDeques
+DequesSuffice = OfEach IsPlay LastsInDeques
 
 -- With room for all words and all actions, a play ends well, or with the fault of the program, or at the limit of deques.
 abbrev pub StatusesWithRoom : Type 0

@@ -1,5 +1,5 @@
-ghost use Rattle.dfd_run.specs.AsyncHeadline.{AsyncMomentsAreBounded, AsyncReportsAreBounded, AsyncListsNeverFill};
-ghost use Rattle.dfd_run.specs.Headline.{ActionsSuffice, ArenasStopLate, ArenasSuffice, DequesSuffice, MomentsAreBounded, PlaysWithRoomFinish, ReportsAreBounded, StatusesWithRoom, SummariesAreBounded};
+ghost use Rattle.dfd_run.specs.AsyncHeadline.{AsyncActionsSuffice, AsyncArenasStopLate, AsyncArenasSuffice, AsyncListsNeverFill, AsyncMomentsAreBounded, AsyncPlaysEnd, AsyncPlaysWithRoomFinish, AsyncReportsAreBounded, AsyncStatusesWithRoom};
+ghost use Rattle.dfd_run.specs.Headline.{ActionsSuffice, ArenasStopLate, ArenasSuffice, DequesSuffice, MomentsAreBounded, PlaysEnd, PlaysWithRoomFinish, ReportsAreBounded, StatusesWithRoom, SummariesAreBounded};
 ghost use Rattle.dfd_run.specs.Laws.{AcceptedTrailsAreBounded, AnAnswer, CommandsHaveRanges, LoopsArePlays, OneAnswer, RecordedTrailsAreAccepted};
 
 /// The status and the text of a command are a function of the command and of the bytes that it reads.
@@ -52,6 +52,38 @@ pub fn async_lists_never_fill()
     ensures { AsyncListsNeverFill }
 {}
 
+/// Each command and program have a play of `async`, and it ends, after at most three events for each action of the depth-first run and one for
+/// each worker.
+pub fn async_plays_end()
+    ensures { AsyncPlaysEnd }
+{}
+
+/// An arena with room for the depth-first peak and two quotas for each of so many periods stops a play of `async` only at an action of the turn
+/// that does not fit, and after which more periods would be ahead.
+pub fn async_arenas_stop_late()
+    ensures { AsyncArenasStopLate }
+{}
+
+/// With room for all words that the depth-first run takes, or for the bound after the next action, the arena stops no play of `async`.
+pub fn async_arenas_suffice()
+    ensures { AsyncArenasSuffice }
+{}
+
+/// With as many actions as the depth-first run has, their limit stops no play of `async`.
+pub fn async_actions_suffice()
+    ensures { AsyncActionsSuffice }
+{}
+
+/// With room for all words that the depth-first run takes and for its actions, a play of `async` finishes.
+pub fn async_plays_with_room_finish()
+    ensures { AsyncPlaysWithRoomFinish }
+{}
+
+/// So with this room `async` ends well, or with the program's fault: with status 0 or 6.
+pub fn async_statuses_with_room()
+    ensures { AsyncStatusesWithRoom }
+{}
+
 /// So is the high-water mark of a play of `make`, as its summary tells it.
 pub fn summaries_are_bounded()
     ensures { SummariesAreBounded }
@@ -61,6 +93,12 @@ pub fn summaries_are_bounded()
 /// does not fit, and after which more periods would be ahead.
 pub fn arenas_stop_late()
     ensures { ArenasStopLate }
+{}
+
+/// Each command and program have a play, and it ends, after at most three events for each action of the depth-first run and one for each
+/// worker.
+pub fn plays_end()
+    ensures { PlaysEnd }
 {}
 
 /// With room for all words that the depth-first run takes, for its actions and for a deque a fork, a play finishes.

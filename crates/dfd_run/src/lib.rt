@@ -45,10 +45,12 @@ pub use call::{dfd, serve};
 pub use command_line::{Command, CommandKind, read_words};
 pub use laws::{
     a_command_has_an_answer, a_command_has_one_answer, accepted_trails_are_bounded,
-    actions_suffice, arenas_stop_late, arenas_suffice, async_lists_never_fill,
-    async_moments_are_bounded, async_reports_are_bounded, commands_have_ranges, deques_suffice,
-    loops_are_plays, moments_are_bounded, plays_with_room_finish, recorded_trails_are_accepted,
-    reports_are_bounded, statuses_with_room, summaries_are_bounded,
+    actions_suffice, arenas_stop_late, arenas_suffice, async_actions_suffice,
+    async_arenas_stop_late, async_arenas_suffice, async_lists_never_fill,
+    async_moments_are_bounded, async_plays_end, async_plays_with_room_finish,
+    async_reports_are_bounded, async_statuses_with_room, commands_have_ranges, deques_suffice,
+    loops_are_plays, moments_are_bounded, plays_end, plays_with_room_finish,
+    recorded_trails_are_accepted, reports_are_bounded, statuses_with_room, summaries_are_bounded,
 };
 pub use pcg_choices::PcgChoices;
 pub use program::exit_code;

@@ -4,44 +4,40 @@ ghost use Rattle.depth_first_run.specs.States.{Setting};
 ghost use Rattle.deque_machine.specs.Moments.{Moment};
 ghost use Rattle.deque_machine.specs.Runs.{Pair};
 ghost use Rattle.trail_record.specs.Played.Cores.{IsAt, end_of};
+ghost use Rattle.run_report.specs.Shown.{shown_by_report};
+ghost use Rattle.run_report.specs.Texts.{report_text};
 ghost use Rattle.run_end.specs.declared.ends.RunEnd.TheVariants.{Finished};
 ghost use Rattle.par_ownership.specs.Ownership.{Ownership};
 ghost use Rattle.par_tree.specs.View.{program_tree};
 ghost use Rattle.dfd_run.specs.Answer.{HasRanges};
 ghost use Rattle.dfd_run.specs.Sources.{SourceGives};
-ghost use Rattle.dfd_run.specs.Peak.{finish_status};
 ghost use Rattle.dfd_run.specs.Play.{PlayMakes, Reports};
 
 use crate::answer::Answer;
-use crate::finishing::finish_status;
+use crate::finishing::report_answer;
 use crate::playing_core::{lines_of, run_program, stop_answer};
 use crate::refusal::refusal_answer;
 use accepted_source::accept;
 use block_check::Checked;
 use command_line::Command;
 use dag_order::Finish;
-use run_report::{Report, report_text};
+use run_report::Report;
 use std::alloc::{AllocError, Global};
 use trail_record::{Core, RunEnd};
 
-/// The report of a run that has finished.
-fn report_answer(alloc: Global, core: &Core, finish: Finish) -> Result<Answer, AllocError>
+/// What is reported of a run that has finished.
+fn report_of(core: &Core, finish: Finish) -> Result<Report, AllocError>
     requires { end_of core.now ≡ Some (Finished finish) }
-    ensures status { IfOk result (λ answer. answer.status ≡ finish_status finish) }
-    ensures text { IfOk result (λ answer. (c : Setting) (run : AnyList Pair) (m : Moment) → IsAt c core.now run m
-        → Reports c run m answer.text.items) }
+    ensures finish { IfOk result (λ report. report.finish ≡ finish) }
+    ensures reports { IfOk result (λ report. (c : Setting) (run : AnyList Pair) (m : Moment) → IsAt c core.now run m
+        → Reports c run m (report_text (shown_by_report report))) }
 {
-    let report = Report {
+    Ok(Report {
         lines: lines_of(core)?,
         finish,
         periods: core.periods(),
         ahead: core.ahead(),
         high: core.high(),
-    };
-    let text = report_text(alloc, &report)?;
-    Ok(Answer {
-        status: finish_status(finish),
-        text,
     })
 }
 
@@ -53,7 +49,7 @@ fn play_program(alloc: Global, command: &Command, program: Checked) -> Result<An
 {
     let (core, end) = run_program(alloc, command, program)?;
     match end {
-        RunEnd::Finished(finish) => report_answer(alloc, &core, finish),
+        RunEnd::Finished(finish) => report_answer(alloc, &report_of(&core, finish)?),
         RunEnd::Stopped(stop) => stop_answer(alloc, stop),
     }
 }

@@ -12,16 +12,17 @@ ghost use Rattle.node_table.specs.Codes.{code_shown};
 ghost use Rattle.par_ownership.specs.Ownership.{Ownership};
 ghost use Rattle.par_tree.specs.View.{program_tree};
 ghost use Rattle.ready_core.specs.Cores.{HasFinished, IsAt, end_of, terms_at};
+ghost use Rattle.run_report.specs.Shown.{shown_by_report};
+ghost use Rattle.run_report.specs.Texts.{report_text};
 ghost use Rattle.run_end.specs.declared.ends.RunEnd.TheVariants.{Finished};
 ghost use Rattle.thread_state.specs.Settings.{IsSettingOf};
 ghost use Rattle.dfd_run.specs.Answer.{HasRanges};
 ghost use Rattle.dfd_run.specs.Async.{AsyncMakes, AsyncPlayed, async_terms};
-ghost use Rattle.dfd_run.specs.Peak.{finish_status};
 ghost use Rattle.dfd_run.specs.Play.{Reports, play_setting, seeded_words};
 ghost use Rattle.dfd_run.specs.Sources.{SourceGives};
 
 use crate::answer::Answer;
-use crate::finishing::finish_status;
+use crate::finishing::report_answer;
 use crate::pcg_choices::PcgChoices;
 use crate::playing_core::{Start, start_of, stop_answer};
 use crate::refusal::refusal_answer;
@@ -31,7 +32,7 @@ use command_line::Command;
 use dag_order::{Finish, Lines};
 use ready_core::{AsyncCore, play_async};
 use run_end::RunEnd;
-use run_report::{Report, report_text};
+use run_report::Report;
 use std::alloc::{AllocError, Global};
 use trail_record::OutputFail;
 
@@ -78,24 +79,19 @@ fn lines_of(core: &AsyncCore) -> Result<Lines, AllocError>
     }
 }
 
-/// The report of a run that has finished.
-fn report_answer(alloc: Global, core: &AsyncCore, finish: Finish) -> Result<Answer, AllocError>
+/// What is reported of a run that has finished.
+fn report_of(core: &AsyncCore, finish: Finish) -> Result<Report, AllocError>
     requires { end_of core.now ≡ Some (Finished finish) }
-    ensures status { IfOk result (λ answer. answer.status ≡ finish_status finish) }
-    ensures text { IfOk result (λ answer. (c : Setting) (run : AnyList Pair) (m : Moment) → IsAt c core.now run m
-        → Reports c run m answer.text.items) }
+    ensures finish { IfOk result (λ report. report.finish ≡ finish) }
+    ensures reports { IfOk result (λ report. (c : Setting) (run : AnyList Pair) (m : Moment) → IsAt c core.now run m
+        → Reports c run m (report_text (shown_by_report report))) }
 {
-    let report = Report {
+    Ok(Report {
         lines: lines_of(core)?,
         finish,
         periods: core.periods(),
         ahead: core.ahead(),
         high: core.high(),
-    };
-    let text = report_text(alloc, &report)?;
-    Ok(Answer {
-        status: finish_status(finish),
-        text,
     })
 }
 
@@ -107,7 +103,7 @@ fn async_program(alloc: Global, command: &Command, program: Checked) -> Result<A
 {
     let (core, end) = run_async(alloc, command, program)?;
     match end {
-        RunEnd::Finished(finish) => report_answer(alloc, &core, finish),
+        RunEnd::Finished(finish) => report_answer(alloc, &report_of(&core, finish)?),
         RunEnd::Stopped(stop) => stop_answer(alloc, stop),
     }
 }

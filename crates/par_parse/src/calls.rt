@@ -9,7 +9,7 @@ ghost use Rattle.par_lex.specs.Words.{words};
 ghost use Rattle.par_parse.specs.Gives.{Gives, option_name};
 
 use crate::expressions::parse_expression;
-use crate::parse_error::ParseError;
+use crate::parse_error::Parsed;
 use crate::words::{name, open, peek, take};
 use par_lex::Lexeme;
 use par_text::Kind;
@@ -18,12 +18,7 @@ use std::alloc::Global;
 
 /// An argument. The parenthesis of its call is one of the `depth` constructs that may open.
 #[tactic(auto, using(crate::proofs::Inner::inner_expression), unfolding(par_text::specs::Grammar::arg_rule))]
-fn arg<'a>(
-    alloc: Global,
-    text: &[u8],
-    depth: u32,
-    tokens: &'a [Lexeme],
-) -> Result<(Arg, &'a [Lexeme]), ParseError>
+fn arg<'a>(alloc: Global, text: &[u8], depth: u32, tokens: &'a [Lexeme]) -> Parsed<'a, Arg>
     requires { 0 < depth }
     ensures { Gives (λ x. (arg_tree x.0, words text.now x.1.now)) result (read depth arg_rule (words text.now tokens.now)) }
 {
@@ -47,12 +42,7 @@ fn arg<'a>(
 
 /// A comma and an argument.
 #[tactic(auto, unfolding(par_text::specs::Grammar::next_arg))]
-fn next_arg<'a>(
-    alloc: Global,
-    text: &[u8],
-    depth: u32,
-    tokens: &'a [Lexeme],
-) -> Result<(Arg, &'a [Lexeme]), ParseError>
+fn next_arg<'a>(alloc: Global, text: &[u8], depth: u32, tokens: &'a [Lexeme]) -> Parsed<'a, Arg>
     requires { 0 < depth }
     ensures { Gives (λ x. (arg_tree x.0, words text.now x.1.now)) result (read depth next_arg (words text.now tokens.now)) }
 {
@@ -68,7 +58,7 @@ fn more_args<'a>(
     depth: u32,
     first: Arg,
     tokens: &'a [Lexeme],
-) -> Result<(Args, &'a [Lexeme]), ParseError>
+) -> Parsed<'a, Args>
     requires { 0 < depth }
     ensures { Gives (λ x. (args_tree x.0.items, words text.now x.1.now)) result
         (read_as (listed (arg_tree first)) (read depth more_args) (words text.now tokens.now)) }
@@ -89,12 +79,7 @@ fn more_args<'a>(
 
 /// The arguments of a call, which may be none.
 #[tactic(auto, unfolding(par_text::specs::Grammar::arg_list))]
-fn arg_list<'a>(
-    alloc: Global,
-    text: &[u8],
-    depth: u32,
-    tokens: &'a [Lexeme],
-) -> Result<(Args, &'a [Lexeme]), ParseError>
+fn arg_list<'a>(alloc: Global, text: &[u8], depth: u32, tokens: &'a [Lexeme]) -> Parsed<'a, Args>
     requires { 0 < depth }
     ensures { Gives (λ x. (args_tree x.0.items, words text.now x.1.now)) result (read depth arg_list (words text.now tokens.now)) }
 {
@@ -107,12 +92,7 @@ fn arg_list<'a>(
 
 /// The arguments of a call in their parentheses.
 #[tactic(auto, unfolding(par_text::specs::Grammar::args_rule))]
-fn args<'a>(
-    alloc: Global,
-    text: &[u8],
-    depth: u32,
-    tokens: &'a [Lexeme],
-) -> Result<(Args, &'a [Lexeme]), ParseError>
+fn args<'a>(alloc: Global, text: &[u8], depth: u32, tokens: &'a [Lexeme]) -> Parsed<'a, Args>
     ensures { Gives (λ x. (args_tree x.0.items, words text.now x.1.now)) result (read depth args_rule (words text.now tokens.now)) }
 {
     let (_, rest) = open(depth, tokens, Kind::LeftParen)?;
@@ -123,11 +103,7 @@ fn args<'a>(
 
 /// `= f` behind the name of a target, or nothing.
 #[tactic(auto, unfolding(par_text::specs::Grammar::callee_rule))]
-fn callee<'a>(
-    alloc: Global,
-    text: &[u8],
-    tokens: &'a [Lexeme],
-) -> Result<(Option<Name>, &'a [Lexeme]), ParseError>
+fn callee<'a>(alloc: Global, text: &[u8], tokens: &'a [Lexeme]) -> Parsed<'a, Option<Name>>
     ensures { (n : ℕ) → Gives (λ x. (option_name x.0, words text.now x.1.now)) result (read n callee_rule (words text.now tokens.now)) }
 {
     if !peek(tokens).is(Kind::Assign) {
@@ -145,7 +121,7 @@ fn owning_call<'a>(
     text: &[u8],
     depth: u32,
     tokens: &'a [Lexeme],
-) -> Result<(StmtKind, &'a [Lexeme]), ParseError>
+) -> Parsed<'a, StmtKind>
     ensures { Gives (λ x. (stmt_tree x.0, words text.now x.1.now)) result (read depth owning_call (words text.now tokens.now)) }
 {
     let (_, rest) = take(tokens, Kind::Own)?;
@@ -164,7 +140,7 @@ fn plain_call<'a>(
     text: &[u8],
     depth: u32,
     tokens: &'a [Lexeme],
-) -> Result<(StmtKind, &'a [Lexeme]), ParseError>
+) -> Parsed<'a, StmtKind>
     ensures { Gives (λ x. (stmt_tree x.0, words text.now x.1.now)) result (read depth plain_call (words text.now tokens.now)) }
 {
     let (first, rest) = name(alloc, text, tokens)?;
@@ -184,7 +160,7 @@ pub(crate) fn call<'a>(
     text: &[u8],
     depth: u32,
     tokens: &'a [Lexeme],
-) -> Result<(StmtKind, &'a [Lexeme]), ParseError>
+) -> Parsed<'a, StmtKind>
     ensures { Gives (λ x. (stmt_tree x.0, words text.now x.1.now)) result (read depth any_call (words text.now tokens.now)) }
 {
     match peek(tokens) {

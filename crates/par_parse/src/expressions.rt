@@ -7,7 +7,7 @@ ghost use Rattle.par_tree.specs.View.{expr_tree, links_tree, chain_op_tree, cmp_
 ghost use Rattle.par_lex.specs.Words.{words};
 ghost use Rattle.par_parse.specs.Gives.{Gives, link_pair, option_expr};
 
-use crate::parse_error::ParseError;
+use crate::parse_error::Parsed;
 use crate::words::{name, open, peek, take};
 use par_lex::Lexeme;
 use par_text::Kind;
@@ -16,7 +16,7 @@ use std::alloc::{AllocError, Global};
 
 /// `+` or `-`.
 #[tactic(auto, unfolding(par_text::specs::Grammar::sum_operator))]
-fn sum_operator<'a>(tokens: &'a [Lexeme]) -> Result<(ChainOp, &'a [Lexeme]), ParseError>
+fn sum_operator<'a>(tokens: &'a [Lexeme]) -> Parsed<'a, ChainOp>
     ensures { (n : ℕ) (text : List ℕ)
         → Gives (λ x. (chain_op_tree x.0, words text x.1.now)) result (read n sum_operator (words text tokens.now)) }
 {
@@ -41,7 +41,7 @@ fn is_sum_operator(kind: Kind) -> bool
 
 /// `*`, `/` or `%`.
 #[tactic(auto, unfolding(par_text::specs::Grammar::term_operator))]
-fn term_operator<'a>(tokens: &'a [Lexeme]) -> Result<(ChainOp, &'a [Lexeme]), ParseError>
+fn term_operator<'a>(tokens: &'a [Lexeme]) -> Parsed<'a, ChainOp>
     ensures { (n : ℕ) (text : List ℕ)
         → Gives (λ x. (chain_op_tree x.0, words text x.1.now)) result (read n term_operator (words text tokens.now)) }
 {
@@ -70,7 +70,7 @@ fn is_term_operator(kind: Kind) -> bool
 
 /// A comparison.
 #[tactic(auto, unfolding(par_text::specs::Grammar::comparison))]
-fn comparison<'a>(tokens: &'a [Lexeme]) -> Result<(CmpOp, &'a [Lexeme]), ParseError>
+fn comparison<'a>(tokens: &'a [Lexeme]) -> Parsed<'a, CmpOp>
     ensures { (n : ℕ) (text : List ℕ)
         → Gives (λ x. (cmp_op_tree x.0, words text x.1.now)) result (read n comparison (words text tokens.now)) }
 {
@@ -104,7 +104,7 @@ fn is_comparison(kind: Kind) -> bool
 
 /// A number.
 #[tactic(auto, unfolding(par_text::specs::Grammar::number_rule))]
-fn number<'a>(tokens: &'a [Lexeme]) -> Result<(Expr, &'a [Lexeme]), ParseError>
+fn number<'a>(tokens: &'a [Lexeme]) -> Parsed<'a, Expr>
     ensures { (n : ℕ) (text : List ℕ)
         → Gives (λ x. (expr_tree x.0, words text x.1.now)) result (read n number_rule (words text tokens.now)) }
 {
@@ -114,12 +114,7 @@ fn number<'a>(tokens: &'a [Lexeme]) -> Result<(Expr, &'a [Lexeme]), ParseError>
 
 /// `len(b)`.
 #[tactic(auto, unfolding(par_text::specs::Grammar::extent_rule))]
-fn extent<'a>(
-    alloc: Global,
-    text: &[u8],
-    depth: u32,
-    tokens: &'a [Lexeme],
-) -> Result<(Expr, &'a [Lexeme]), ParseError>
+fn extent<'a>(alloc: Global, text: &[u8], depth: u32, tokens: &'a [Lexeme]) -> Parsed<'a, Expr>
     ensures { Gives (λ x. (expr_tree x.0, words text.now x.1.now)) result (read depth extent_rule (words text.now tokens.now)) }
 {
     let (_, rest) = take(tokens, Kind::Len)?;
@@ -137,7 +132,7 @@ pub(crate) fn index<'a>(
     text: &[u8],
     depth: u32,
     tokens: &'a [Lexeme],
-) -> Result<(Option<Expr>, &'a [Lexeme]), ParseError>
+) -> Parsed<'a, Option<Expr>>
     ensures { Gives (λ x. (option_expr x.0, words text.now x.1.now)) result (read depth index_rule (words text.now tokens.now)) }
 {
     if !peek(tokens).is(Kind::LeftBracket) {
@@ -152,12 +147,7 @@ pub(crate) fn index<'a>(
 /// `(e)`.
 #[tactic(auto, unfolding(par_text::specs::Grammar::group_rule))]
 #[cycle(parse_expression)]
-fn group<'a>(
-    alloc: Global,
-    text: &[u8],
-    depth: u32,
-    tokens: &'a [Lexeme],
-) -> Result<(Expr, &'a [Lexeme]), ParseError>
+fn group<'a>(alloc: Global, text: &[u8], depth: u32, tokens: &'a [Lexeme]) -> Parsed<'a, Expr>
     ensures { Gives (λ x. (expr_tree x.0, words text.now x.1.now)) result (read depth group_rule (words text.now tokens.now)) }
 {
     let (depth, rest) = open(depth, tokens, Kind::LeftParen)?;
@@ -169,12 +159,7 @@ fn group<'a>(
 /// A sign and its factor.
 #[tactic(auto, unfolding(par_text::specs::Grammar::sign_rule))]
 #[cycle(parse_expression)]
-fn sign<'a>(
-    alloc: Global,
-    text: &[u8],
-    depth: u32,
-    tokens: &'a [Lexeme],
-) -> Result<(Expr, &'a [Lexeme]), ParseError>
+fn sign<'a>(alloc: Global, text: &[u8], depth: u32, tokens: &'a [Lexeme]) -> Parsed<'a, Expr>
     ensures { Gives (λ x. (expr_tree x.0, words text.now x.1.now)) result (read depth sign_rule (words text.now tokens.now)) }
 {
     let (depth, rest) = open(depth, tokens, Kind::Minus)?;
@@ -185,12 +170,7 @@ fn sign<'a>(
 /// A factor.
 #[tactic(auto, unfolding(par_text::specs::Grammar::factor_rule))]
 #[cycle(parse_expression)]
-fn factor<'a>(
-    alloc: Global,
-    text: &[u8],
-    depth: u32,
-    tokens: &'a [Lexeme],
-) -> Result<(Expr, &'a [Lexeme]), ParseError>
+fn factor<'a>(alloc: Global, text: &[u8], depth: u32, tokens: &'a [Lexeme]) -> Parsed<'a, Expr>
     ensures { Gives (λ x. (expr_tree x.0, words text.now x.1.now)) result (read depth factor_rule (words text.now tokens.now)) }
 {
     match peek(tokens) {
@@ -212,12 +192,7 @@ fn factor<'a>(
 /// An operator of a term, and its factor.
 #[tactic(auto, unfolding(par_text::specs::Grammar::term_link))]
 #[cycle(parse_expression)]
-fn term_link<'a>(
-    alloc: Global,
-    text: &[u8],
-    depth: u32,
-    tokens: &'a [Lexeme],
-) -> Result<(Link, &'a [Lexeme]), ParseError>
+fn term_link<'a>(alloc: Global, text: &[u8], depth: u32, tokens: &'a [Lexeme]) -> Parsed<'a, Link>
     ensures { Gives (λ x. (link_pair x.0, words text.now x.1.now)) result (read depth term_link (words text.now tokens.now)) }
 {
     let (op, rest) = term_operator(tokens)?;
@@ -228,12 +203,7 @@ fn term_link<'a>(
 /// The operators of a term, with their factors.
 #[tactic(auto, unfolding(par_text::specs::Grammar::term_links))]
 #[cycle(parse_expression)]
-fn term_links<'a>(
-    alloc: Global,
-    text: &[u8],
-    depth: u32,
-    tokens: &'a [Lexeme],
-) -> Result<(Rest, &'a [Lexeme]), ParseError>
+fn term_links<'a>(alloc: Global, text: &[u8], depth: u32, tokens: &'a [Lexeme]) -> Parsed<'a, Rest>
     ensures { Gives (λ x. (links_tree x.0.items, words text.now x.1.now)) result (read depth term_links (words text.now tokens.now)) }
 {
     let mut links = Vec::new(alloc);
@@ -252,12 +222,7 @@ fn term_links<'a>(
 /// A term.
 #[tactic(auto, unfolding(par_text::specs::Grammar::term_rule))]
 #[cycle(parse_expression)]
-fn term<'a>(
-    alloc: Global,
-    text: &[u8],
-    depth: u32,
-    tokens: &'a [Lexeme],
-) -> Result<(Expr, &'a [Lexeme]), ParseError>
+fn term<'a>(alloc: Global, text: &[u8], depth: u32, tokens: &'a [Lexeme]) -> Parsed<'a, Expr>
     ensures { Gives (λ x. (expr_tree x.0, words text.now x.1.now)) result (read depth term_rule (words text.now tokens.now)) }
 {
     let (first, rest) = factor(alloc, text, depth, tokens)?;
@@ -268,12 +233,7 @@ fn term<'a>(
 /// An operator of a sum, and its term.
 #[tactic(auto, unfolding(par_text::specs::Grammar::sum_link))]
 #[cycle(parse_expression)]
-fn sum_link<'a>(
-    alloc: Global,
-    text: &[u8],
-    depth: u32,
-    tokens: &'a [Lexeme],
-) -> Result<(Link, &'a [Lexeme]), ParseError>
+fn sum_link<'a>(alloc: Global, text: &[u8], depth: u32, tokens: &'a [Lexeme]) -> Parsed<'a, Link>
     ensures { Gives (λ x. (link_pair x.0, words text.now x.1.now)) result (read depth sum_link (words text.now tokens.now)) }
 {
     let (op, rest) = sum_operator(tokens)?;
@@ -284,12 +244,7 @@ fn sum_link<'a>(
 /// The operators of a sum, with their terms.
 #[tactic(auto, unfolding(par_text::specs::Grammar::sum_links))]
 #[cycle(parse_expression)]
-fn sum_links<'a>(
-    alloc: Global,
-    text: &[u8],
-    depth: u32,
-    tokens: &'a [Lexeme],
-) -> Result<(Rest, &'a [Lexeme]), ParseError>
+fn sum_links<'a>(alloc: Global, text: &[u8], depth: u32, tokens: &'a [Lexeme]) -> Parsed<'a, Rest>
     ensures { Gives (λ x. (links_tree x.0.items, words text.now x.1.now)) result (read depth sum_links (words text.now tokens.now)) }
 {
     let mut links = Vec::new(alloc);
@@ -308,12 +263,7 @@ fn sum_links<'a>(
 /// A sum.
 #[tactic(auto, unfolding(par_text::specs::Grammar::sum_rule))]
 #[cycle(parse_expression)]
-fn sum<'a>(
-    alloc: Global,
-    text: &[u8],
-    depth: u32,
-    tokens: &'a [Lexeme],
-) -> Result<(Expr, &'a [Lexeme]), ParseError>
+fn sum<'a>(alloc: Global, text: &[u8], depth: u32, tokens: &'a [Lexeme]) -> Parsed<'a, Expr>
     ensures { Gives (λ x. (expr_tree x.0, words text.now x.1.now)) result (read depth sum_rule (words text.now tokens.now)) }
 {
     let (first, rest) = term(alloc, text, depth, tokens)?;
@@ -329,7 +279,7 @@ pub(crate) fn parse_expression<'a>(
     text: &[u8],
     depth: u32,
     tokens: &'a [Lexeme],
-) -> Result<(Expr, &'a [Lexeme]), ParseError>
+) -> Parsed<'a, Expr>
     ensures { Gives (λ x. (expr_tree x.0, words text.now x.1.now)) result (read depth expr_rule (words text.now tokens.now)) }
 {
     let (left, rest) = sum(alloc, text, depth, tokens)?;

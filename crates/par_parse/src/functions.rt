@@ -9,7 +9,7 @@ ghost use Rattle.par_lex.specs.Words.{words};
 ghost use Rattle.par_parse.specs.Gives.{Gives, func_trees};
 
 use crate::expressions::parse_expression;
-use crate::parse_error::ParseError;
+use crate::parse_error::{ParseError, Parsed};
 use crate::statements::statements;
 use crate::words::{name, open, peek, take};
 use par_lex::Lexeme;
@@ -19,11 +19,7 @@ use std::alloc::Global;
 
 /// A parameter.
 #[tactic(auto, unfolding(par_text::specs::Grammar::param_rule))]
-fn param<'a>(
-    alloc: Global,
-    text: &[u8],
-    tokens: &'a [Lexeme],
-) -> Result<(Param, &'a [Lexeme]), ParseError>
+fn param<'a>(alloc: Global, text: &[u8], tokens: &'a [Lexeme]) -> Parsed<'a, Param>
     ensures { (n : ℕ) → Gives (λ x. (param_tree x.0, words text.now x.1.now)) result (read n param_rule (words text.now tokens.now)) }
 {
     match peek(tokens) {
@@ -49,11 +45,7 @@ fn param<'a>(
 
 /// A comma and a parameter.
 #[tactic(auto, unfolding(par_text::specs::Grammar::next_param))]
-fn next_param<'a>(
-    alloc: Global,
-    text: &[u8],
-    tokens: &'a [Lexeme],
-) -> Result<(Param, &'a [Lexeme]), ParseError>
+fn next_param<'a>(alloc: Global, text: &[u8], tokens: &'a [Lexeme]) -> Parsed<'a, Param>
     ensures { (n : ℕ) → Gives (λ x. (param_tree x.0, words text.now x.1.now)) result (read n next_param (words text.now tokens.now)) }
 {
     let (_, rest) = take(tokens, Kind::Comma)?;
@@ -67,7 +59,7 @@ fn more_params<'a>(
     text: &[u8],
     first: Param,
     tokens: &'a [Lexeme],
-) -> Result<(Params, &'a [Lexeme]), ParseError>
+) -> Parsed<'a, Params>
     ensures { (n : ℕ) → Gives (λ x. (params_tree x.0.items, words text.now x.1.now)) result
         (read_as (listed (param_tree first)) (read n more_params) (words text.now tokens.now)) }
 {
@@ -87,11 +79,7 @@ fn more_params<'a>(
 
 /// The parameters of a function, which may be none.
 #[tactic(auto, unfolding(par_text::specs::Grammar::param_list))]
-fn param_list<'a>(
-    alloc: Global,
-    text: &[u8],
-    tokens: &'a [Lexeme],
-) -> Result<(Params, &'a [Lexeme]), ParseError>
+fn param_list<'a>(alloc: Global, text: &[u8], tokens: &'a [Lexeme]) -> Parsed<'a, Params>
     ensures { (n : ℕ) → Gives (λ x. (params_tree x.0.items, words text.now x.1.now)) result
         (read n param_list (words text.now tokens.now)) }
 {
@@ -104,12 +92,7 @@ fn param_list<'a>(
 
 /// The parameters of a function in their parentheses.
 #[tactic(auto, unfolding(par_text::specs::Grammar::params_rule))]
-fn params<'a>(
-    alloc: Global,
-    text: &[u8],
-    depth: u32,
-    tokens: &'a [Lexeme],
-) -> Result<(Params, &'a [Lexeme]), ParseError>
+fn params<'a>(alloc: Global, text: &[u8], depth: u32, tokens: &'a [Lexeme]) -> Parsed<'a, Params>
     ensures { Gives (λ x. (params_tree x.0.items, words text.now x.1.now)) result (read depth params_rule (words text.now tokens.now)) }
 {
     let (_, rest) = open(depth, tokens, Kind::LeftParen)?;
@@ -125,7 +108,7 @@ fn ret_value<'a>(
     text: &[u8],
     depth: u32,
     tokens: &'a [Lexeme],
-) -> Result<(RetValue, &'a [Lexeme]), ParseError>
+) -> Parsed<'a, RetValue>
     requires { 0 < depth }
     ensures { Gives (λ x. (ret_value_tree x.0, words text.now x.1.now)) result (read depth ret_value (words text.now tokens.now)) }
 {
@@ -144,12 +127,7 @@ fn ret_value<'a>(
 
 /// The `return` of a function, or nothing.
 #[tactic(auto, unfolding(par_text::specs::Grammar::ret_rule))]
-fn ret<'a>(
-    alloc: Global,
-    text: &[u8],
-    depth: u32,
-    tokens: &'a [Lexeme],
-) -> Result<(Option<Ret>, &'a [Lexeme]), ParseError>
+fn ret<'a>(alloc: Global, text: &[u8], depth: u32, tokens: &'a [Lexeme]) -> Parsed<'a, Option<Ret>>
     requires { 0 < depth }
     ensures { Gives (λ x. (ret_tree x.0, words text.now x.1.now)) result (read depth ret_rule (words text.now tokens.now)) }
 {
@@ -170,7 +148,7 @@ fn func_body<'a>(
     text: &[u8],
     depth: u32,
     tokens: &'a [Lexeme],
-) -> Result<((Body, Option<Ret>), &'a [Lexeme]), ParseError>
+) -> Parsed<'a, (Body, Option<Ret>)>
     ensures { Gives (λ x. ((body_tree x.0.0.items, ret_tree x.0.1), words text.now x.1.now)) result
         (read depth func_body (words text.now tokens.now)) }
 {
@@ -183,12 +161,7 @@ fn func_body<'a>(
 
 /// A function.
 #[tactic(auto, unfolding(par_text::specs::Grammar::func_rule))]
-fn func<'a>(
-    alloc: Global,
-    text: &[u8],
-    depth: u32,
-    tokens: &'a [Lexeme],
-) -> Result<(Func, &'a [Lexeme]), ParseError>
+fn func<'a>(alloc: Global, text: &[u8], depth: u32, tokens: &'a [Lexeme]) -> Parsed<'a, Func>
     ensures { Gives (λ x. (func_tree x.0, words text.now x.1.now)) result (read depth func_rule (words text.now tokens.now)) }
 {
     let (first, rest) = take(tokens, Kind::Fn)?;
@@ -214,7 +187,7 @@ fn more_funcs<'a>(
     depth: u32,
     first: Func,
     tokens: &'a [Lexeme],
-) -> Result<(Funcs, &'a [Lexeme]), ParseError>
+) -> Parsed<'a, Funcs>
     ensures { Gives (λ x. (func_trees x.0.items, words text.now x.1.now)) result
         (read_as (listed (func_tree first)) (read depth more_funcs) (words text.now tokens.now)) }
 {
@@ -234,12 +207,7 @@ fn more_funcs<'a>(
 
 /// Functions, at least one.
 #[tactic(auto, unfolding(par_text::specs::Grammar::program_rule))]
-fn funcs<'a>(
-    alloc: Global,
-    text: &[u8],
-    depth: u32,
-    tokens: &'a [Lexeme],
-) -> Result<(Program, &'a [Lexeme]), ParseError>
+fn funcs<'a>(alloc: Global, text: &[u8], depth: u32, tokens: &'a [Lexeme]) -> Parsed<'a, Program>
     ensures { Gives (λ x. (program_tree x.0, words text.now x.1.now)) result (read depth program_rule (words text.now tokens.now)) }
 {
     let (first, rest) = func(alloc, text, depth, tokens)?;

@@ -1,8 +1,12 @@
 ghost use Rattle.std.specs.Prelude.{◌≡◌};
 ghost use Rattle.par_parse.specs.declared.parse_error.ParseError.TheVariants.{Memory};
 
+use par_lex::Lexeme;
 use par_text::Stop;
 use std::alloc::{AllocError, AllocFailed};
+
+/// What the first tokens make, and the tokens after them.
+pub(crate) type Parsed<'a, T> = Result<(T, &'a [Lexeme]), ParseError>;
 
 /// Why no tree is read, and at how many tokens before the end.
 #[derive(Drop)]

@@ -9,7 +9,7 @@ ghost use Rattle.par_parse.specs.Gives.{Gives, option_expr, line_and_tree};
 
 use crate::calls::call;
 use crate::expressions::{index, parse_expression};
-use crate::parse_error::ParseError;
+use crate::parse_error::Parsed;
 use crate::words::{name, name_from, open, peek, take};
 use par_lex::Lexeme;
 use par_text::Kind;
@@ -23,7 +23,7 @@ fn named_value<'a>(
     text: &[u8],
     depth: u32,
     tokens: &'a [Lexeme],
-) -> Result<((Name, Expr), &'a [Lexeme]), ParseError>
+) -> Parsed<'a, (Name, Expr)>
     ensures { Gives (λ x. ((name_tree x.0.0, expr_tree x.0.1), words text.now x.1.now)) result
         (read depth named_value (words text.now tokens.now)) }
 {
@@ -41,7 +41,7 @@ fn let_statement<'a>(
     text: &[u8],
     depth: u32,
     tokens: &'a [Lexeme],
-) -> Result<(Stmt, &'a [Lexeme]), ParseError>
+) -> Parsed<'a, Stmt>
     ensures { Gives (λ x. (line_and_tree x.0, words text.now x.1.now)) result (read depth let_rule (words text.now tokens.now)) }
 {
     let (first, rest) = take(tokens, Kind::Let)?;
@@ -58,7 +58,7 @@ fn alloc_statement<'a>(
     text: &[u8],
     depth: u32,
     tokens: &'a [Lexeme],
-) -> Result<(Stmt, &'a [Lexeme]), ParseError>
+) -> Parsed<'a, Stmt>
     ensures { Gives (λ x. (line_and_tree x.0, words text.now x.1.now)) result (read depth alloc_rule (words text.now tokens.now)) }
 {
     let (first, rest) = take(tokens, Kind::Alloc)?;
@@ -70,11 +70,7 @@ fn alloc_statement<'a>(
 
 /// `free b;`.
 #[tactic(auto, unfolding(par_text::specs::Grammar::free_rule))]
-fn free_statement<'a>(
-    alloc: Global,
-    text: &[u8],
-    tokens: &'a [Lexeme],
-) -> Result<(Stmt, &'a [Lexeme]), ParseError>
+fn free_statement<'a>(alloc: Global, text: &[u8], tokens: &'a [Lexeme]) -> Parsed<'a, Stmt>
     ensures { (n : ℕ) → Gives (λ x. (line_and_tree x.0, words text.now x.1.now)) result (read n free_rule (words text.now tokens.now)) }
 {
     let (first, rest) = take(tokens, Kind::Free)?;
@@ -92,7 +88,7 @@ fn print_statement<'a>(
     text: &[u8],
     depth: u32,
     tokens: &'a [Lexeme],
-) -> Result<(Stmt, &'a [Lexeme]), ParseError>
+) -> Parsed<'a, Stmt>
     ensures { Gives (λ x. (line_and_tree x.0, words text.now x.1.now)) result (read depth print_rule (words text.now tokens.now)) }
 {
     let (first, rest) = take(tokens, Kind::Print)?;
@@ -110,7 +106,7 @@ fn call_statement<'a>(
     text: &[u8],
     depth: u32,
     tokens: &'a [Lexeme],
-) -> Result<(Stmt, &'a [Lexeme]), ParseError>
+) -> Parsed<'a, Stmt>
     ensures { Gives (λ x. (line_and_tree x.0, words text.now x.1.now)) result (read depth call_rule (words text.now tokens.now)) }
 {
     let (first, rest) = take(tokens, Kind::Call)?;
@@ -127,7 +123,7 @@ fn write_statement<'a>(
     text: &[u8],
     depth: u32,
     tokens: &'a [Lexeme],
-) -> Result<(Stmt, &'a [Lexeme]), ParseError>
+) -> Parsed<'a, Stmt>
     ensures { Gives (λ x. (line_and_tree x.0, words text.now x.1.now)) result (read depth write_rule (words text.now tokens.now)) }
 {
     let (first, rest) = take(tokens, Kind::Name)?;
@@ -151,12 +147,7 @@ fn write_statement<'a>(
 /// Statements in braces.
 #[tactic(auto, unfolding(par_text::specs::Grammar::body_rule))]
 #[cycle(statement)]
-fn body<'a>(
-    alloc: Global,
-    text: &[u8],
-    depth: u32,
-    tokens: &'a [Lexeme],
-) -> Result<(Body, &'a [Lexeme]), ParseError>
+fn body<'a>(alloc: Global, text: &[u8], depth: u32, tokens: &'a [Lexeme]) -> Parsed<'a, Body>
     ensures { Gives (λ x. (body_tree x.0.items, words text.now x.1.now)) result (read depth body_rule (words text.now tokens.now)) }
 {
     let (depth, rest) = open(depth, tokens, Kind::LeftBrace)?;
@@ -168,12 +159,7 @@ fn body<'a>(
 /// The body behind `else`, empty where there is no `else`.
 #[tactic(auto, unfolding(par_text::specs::Grammar::else_rule))]
 #[cycle(statement)]
-fn else_part<'a>(
-    alloc: Global,
-    text: &[u8],
-    depth: u32,
-    tokens: &'a [Lexeme],
-) -> Result<(Body, &'a [Lexeme]), ParseError>
+fn else_part<'a>(alloc: Global, text: &[u8], depth: u32, tokens: &'a [Lexeme]) -> Parsed<'a, Body>
     ensures { Gives (λ x. (body_tree x.0.items, words text.now x.1.now)) result (read depth else_rule (words text.now tokens.now)) }
 {
     if !peek(tokens).is(Kind::Else) {
@@ -191,7 +177,7 @@ fn if_statement<'a>(
     text: &[u8],
     depth: u32,
     tokens: &'a [Lexeme],
-) -> Result<(Stmt, &'a [Lexeme]), ParseError>
+) -> Parsed<'a, Stmt>
     ensures { Gives (λ x. (line_and_tree x.0, words text.now x.1.now)) result (read depth if_rule (words text.now tokens.now)) }
 {
     let (first, rest) = take(tokens, Kind::If)?;
@@ -211,7 +197,7 @@ fn while_statement<'a>(
     text: &[u8],
     depth: u32,
     tokens: &'a [Lexeme],
-) -> Result<(Stmt, &'a [Lexeme]), ParseError>
+) -> Parsed<'a, Stmt>
     ensures { Gives (λ x. (line_and_tree x.0, words text.now x.1.now)) result (read depth while_rule (words text.now tokens.now)) }
 {
     let (first, rest) = take(tokens, Kind::While)?;
@@ -230,7 +216,7 @@ fn par_statement<'a>(
     text: &[u8],
     depth: u32,
     tokens: &'a [Lexeme],
-) -> Result<(Stmt, &'a [Lexeme]), ParseError>
+) -> Parsed<'a, Stmt>
     ensures { Gives (λ x. (line_and_tree x.0, words text.now x.1.now)) result (read depth par_rule (words text.now tokens.now)) }
 {
     let (first, rest) = take(tokens, Kind::Par)?;
@@ -244,11 +230,7 @@ fn par_statement<'a>(
 
 /// The names of the two parts of a block.
 #[tactic(auto, unfolding(par_text::specs::Grammar::parts_rule))]
-fn parts<'a>(
-    alloc: Global,
-    text: &[u8],
-    tokens: &'a [Lexeme],
-) -> Result<((Name, Name), &'a [Lexeme]), ParseError>
+fn parts<'a>(alloc: Global, text: &[u8], tokens: &'a [Lexeme]) -> Parsed<'a, (Name, Name)>
     ensures { (n : ℕ) → Gives (λ x. ((name_tree x.0.0, name_tree x.0.1), words text.now x.1.now)) result
         (read n parts_rule (words text.now tokens.now)) }
 {
@@ -266,7 +248,7 @@ fn split_statement<'a>(
     text: &[u8],
     depth: u32,
     tokens: &'a [Lexeme],
-) -> Result<(Stmt, &'a [Lexeme]), ParseError>
+) -> Parsed<'a, Stmt>
     ensures { Gives (λ x. (line_and_tree x.0, words text.now x.1.now)) result (read depth split_rule (words text.now tokens.now)) }
 {
     let (first, rest) = take(tokens, Kind::Split)?;
@@ -290,12 +272,7 @@ fn split_statement<'a>(
 /// A statement.
 #[tactic(auto, unfolding(par_text::specs::Grammar::stmt_rule))]
 #[cycle(statement)]
-fn statement<'a>(
-    alloc: Global,
-    text: &[u8],
-    depth: u32,
-    tokens: &'a [Lexeme],
-) -> Result<(Stmt, &'a [Lexeme]), ParseError>
+fn statement<'a>(alloc: Global, text: &[u8], depth: u32, tokens: &'a [Lexeme]) -> Parsed<'a, Stmt>
     ensures { Gives (λ x. (line_and_tree x.0, words text.now x.1.now)) result (read depth stmt_rule (words text.now tokens.now)) }
 {
     match peek(tokens) {
@@ -339,7 +316,7 @@ pub(crate) fn statements<'a>(
     text: &[u8],
     depth: u32,
     tokens: &'a [Lexeme],
-) -> Result<(Body, &'a [Lexeme]), ParseError>
+) -> Parsed<'a, Body>
     ensures { Gives (λ x. (body_tree x.0.items, words text.now x.1.now)) result (read depth stmts_rule (words text.now tokens.now)) }
 {
     let mut body = Vec::new(alloc);

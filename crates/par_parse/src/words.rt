@@ -9,7 +9,7 @@ ghost use Rattle.par_text.specs.Rule.{Token};
 ghost use Rattle.par_lex.specs.Words.{words, word_of};
 ghost use Rattle.par_parse.specs.Gives.{Gives, Inside};
 
-use crate::parse_error::ParseError;
+use crate::parse_error::{ParseError, Parsed};
 use par_lex::Lexeme;
 use par_text::{Kind, Stop};
 use par_tree::{Expr, Name};
@@ -28,10 +28,7 @@ pub(crate) fn peek(tokens: &[Lexeme]) -> Kind
 
 /// One token of this kind.
 #[tactic(auto, unfolding(par_lex::specs::Words::words))]
-pub(crate) fn take<'a>(
-    tokens: &'a [Lexeme],
-    kind: Kind,
-) -> Result<(&'a Lexeme, &'a [Lexeme]), ParseError>
+pub(crate) fn take<'a>(tokens: &'a [Lexeme], kind: Kind) -> Parsed<'a, &'a Lexeme>
     ensures { (text : List ℕ) → Gives (λ x. (word_of text x.0.now, words text x.1.now)) result (read_token kind (words text tokens.now)) }
 {
     if let Some((token, rest)) = tokens.split_first() {
@@ -47,11 +44,7 @@ pub(crate) fn take<'a>(
 
 /// One token of this kind, which opens a construct; with how many more may open inside.
 #[tactic(auto, unfolding(par_lex::specs::Words::words))]
-pub(crate) fn open<'a>(
-    depth: u32,
-    tokens: &'a [Lexeme],
-    kind: Kind,
-) -> Result<(u32, &'a [Lexeme]), ParseError>
+pub(crate) fn open<'a>(depth: u32, tokens: &'a [Lexeme], kind: Kind) -> Parsed<'a, u32>
     ensures gives { (text : List ℕ) → Gives (λ x. (x.0, words text x.1.now)) result (read_open depth kind (words text tokens.now)) }
     ensures less { IfOk result (λ x. x.0 + 1 ≡ depth) }
     ensures inside { IfOk result (λ x. (ts : List Token) → Inside depth x.0 ts) }
@@ -68,11 +61,7 @@ pub(crate) fn open<'a>(
 
 /// A name.
 #[tactic(auto, unfolding(par_lex::specs::Words::words, par_text::specs::Grammar::name))]
-pub(crate) fn name<'a>(
-    alloc: Global,
-    text: &[u8],
-    tokens: &'a [Lexeme],
-) -> Result<(Name, &'a [Lexeme]), ParseError>
+pub(crate) fn name<'a>(alloc: Global, text: &[u8], tokens: &'a [Lexeme]) -> Parsed<'a, Name>
     ensures { (n : ℕ) → Gives (λ x. (name_tree x.0, words text.now x.1.now)) result (read n name (words text.now tokens.now)) }
 {
     let (token, rest) = take(tokens, Kind::Name)?;

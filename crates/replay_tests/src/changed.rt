@@ -5,9 +5,10 @@ ghost use Rattle.std.specs.Prelude.{IfOk};
 ghost use Rattle.bounded_list.specs.BoundedList.{entries};
 ghost use Rattle.trail_meaning.specs.Ranges.{FitEvents};
 
-use crate::answers::{Setting, add_event, answer_of, trail_of};
 use crate::listed::Listed;
-use crate::replays::{PROGRAMS, Play, change_at, core_and_serial, machine_step, next_word};
+use crate::players::{Lists, Player, core_and_serial};
+use crate::replays::{PROGRAMS, Play, change_at, machine_step, next_word};
+use crate::trails::{add_event, answer_of, trail_of};
 use dag_order::Label;
 use machine_replay::runs::opening;
 use machine_replay::{Deque, Event, Moment, Pair};
@@ -109,13 +110,6 @@ fn put_all(rt: &impl Abort, all: &mut Vec<TrailEvent>, events: &[Option<TrailEve
     }
 }
 
-/// Adds these events.
-fn put_each(rt: &impl Abort, all: &mut Vec<TrailEvent>, events: &[TrailEvent]) {
-    for event in events {
-        all.push(*event).expect(rt, "memory");
-    }
-}
-
 /// The events of a play with a change at this place.
 fn with_change(
     rt: &impl Abort,
@@ -129,7 +123,8 @@ fn with_change(
     let Some(event) = events.get(at) else {
         panic!(rt; "no event {at}");
     };
-    put_each(rt, &mut all, events.get(..at).unwrap_or(&[]));
+    all.extend_from_slice(events.get(..at).unwrap_or(&[]))
+        .expect(rt, "memory");
     let next = events.get(at.saturating_add(1)).copied();
     put_all(
         rt,
@@ -137,11 +132,8 @@ fn with_change(
         &changed(*event, next, change, recording.play.workers),
     );
     if !matches!(change, Change::IsTheLast) {
-        put_each(
-            rt,
-            &mut all,
-            events.get(at.saturating_add(2)..).unwrap_or(&[]),
-        );
+        all.extend_from_slice(events.get(at.saturating_add(2)..).unwrap_or(&[]))
+            .expect(rt, "memory");
     }
     all
 }
@@ -227,7 +219,7 @@ fn moment_after(
     told: TrailEvent,
 ) -> Option<Moment> {
     let pair = pair_of(&moment, &play.listed, told)?;
-    machine_step(rt, alloc, play, moment, pair)
+    machine_step(rt, alloc, play, play.workers, moment, pair)
 }
 
 /// The words in use at a moment, and how many actions were done.
@@ -314,17 +306,11 @@ fn checked(
     recording: &Recording,
     events: &[TrailEvent],
 ) -> Result<u32, VerifyFail> {
-    let of = Setting {
-        k: recording.play.k,
-        p: recording.play.workers,
-        arena: 1_024,
-        steps: 1_000,
-        deques: 64,
-    };
-    let Ok(events) = events_of(alloc, events, of.p) else {
+    let p = recording.play.workers;
+    let Ok(events) = events_of(alloc, events, p) else {
         panic!(rt; "no memory");
     };
-    let Some(trail) = trail_of(alloc, of, events, recording.numbers) else {
+    let Some(trail) = trail_of(alloc, recording.play.k, p, events, recording.numbers) else {
         panic!(rt; "out of range");
     };
     answer_of(rt, alloc, recording.play.text, &trail)
@@ -399,6 +385,14 @@ fn recorded(rt: &impl Abort, alloc: Global, core: &mut Core, seed: u64) -> Vec<T
     played.events.into_vec()
 }
 
+/// The core of deques.
+fn core_of<'a>(rt: &impl Abort, player: &'a mut Player) -> &'a mut Core {
+    match player {
+        Player::Deques(core) => core,
+        Player::Ready(_) => panic!(rt; "a ready list"),
+    }
+}
+
 /// The numbers of a play that has ended.
 fn numbers_of(core: &Core) -> TrailNumbers {
     TrailNumbers {
@@ -419,8 +413,10 @@ fn record_and_compare(
     workers: u32,
     seed: u64,
 ) {
-    let mut both = core_and_serial(rt, alloc, text, k, workers);
-    let events = recorded(rt, alloc, &mut both.core, seed);
+    let mut both = core_and_serial(rt, alloc, text, Lists::Deques, k, workers);
+    let core = core_of(rt, &mut both.player);
+    let events = recorded(rt, alloc, core, seed);
+    let numbers = numbers_of(core);
     let picked = next_word(seed ^ u64::from(k)) >> 32;
     let at = picked.checked_rem(events.len() as u64).unwrap_or(0);
     let recording = Recording {
@@ -428,11 +424,12 @@ fn record_and_compare(
             text,
             serial: &both.serial,
             listed: Listed::of(rt, alloc, &both.serial),
+            lists: Lists::Deques,
             k,
             workers,
         },
         events,
-        numbers: numbers_of(&both.core),
+        numbers,
     };
     compare_each(rt, alloc, &recording, at as usize, tally);
 }

@@ -1,8 +1,9 @@
-use Rattle.std.proofs.Common.{Some, subst, ap, ◌∙◌}
+use Rattle.std.proofs.Common.{Some, subst, sym, ap, ◌∙◌}
 use Rattle.std.proofs.lemmas.Result.{IfOk-weaker}
 use Rattle.block_check.specs.Checked.{program_of}
 use Rattle.par_tree.specs.View.{program_tree}
 use Rattle.dfd_run.specs.CorePlays.{Played}
+use Rattle.dfd_run.specs.Peak.{finish_status}
 use Rattle.dfd_run.specs.Play.{Reports, play_setting, play_terms, seeded_words}
 use Rattle.dfd_run.proofs.Plays.{finished_makes, stopped_makes, both_ok}
 use Rattle.dfd_run.proofs.playing.play_program.Goals as goal
@@ -15,7 +16,8 @@ returns-in-Finished c =
     (λ answer status text. finished_makes Reports command p c.in_ok-core.core c.in-Finished.finish answer.status answer.text.items
     (subst (λ e. Played (play_setting command p) (play_terms command) (seeded_words command.seed) c.in_ok-core.core e)
     c.in-Finished.is c.in_ok-core.ensures.plays)
-    (c.in_ok-core.ensures.end ∙ ap Some c.in-Finished.is) status text)
+    (c.in_ok-core.ensures.end ∙ ap Some c.in-Finished.is) (status ∙ ap finish_status c.in_ok-report_of-in-Finished.ensures.finish)
+    (λ s run m at. subst (Reports s run m) (sym text) (c.in_ok-report_of-in-Finished.ensures.reports s run m at)))
 
 pub returns : goal.returns
 returns c =

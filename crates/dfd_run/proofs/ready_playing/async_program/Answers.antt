@@ -1,9 +1,10 @@
-use Rattle.std.proofs.Common.{Some, subst, ap, ◌∙◌}
+use Rattle.std.proofs.Common.{Some, subst, sym, ap, ◌∙◌}
 use Rattle.std.proofs.lemmas.Result.{IfOk-weaker}
 use Rattle.block_check.specs.Checked.{program_of}
 use Rattle.par_tree.specs.View.{program_tree}
 use Rattle.dfd_run.specs.Async.{AsyncPlayed}
-use Rattle.dfd_run.specs.Play.{play_setting, seeded_words}
+use Rattle.dfd_run.specs.Peak.{finish_status}
+use Rattle.dfd_run.specs.Play.{Reports, play_setting, seeded_words}
 use Rattle.dfd_run.specs.Async.{async_terms}
 use Rattle.dfd_run.proofs.AsyncPlays.{finished_makes, stopped_makes}
 use Rattle.dfd_run.proofs.Plays.{both_ok}
@@ -17,7 +18,8 @@ returns-in-Finished c =
     (λ answer status text. finished_makes command p c.in_ok-core.core c.in-Finished.finish answer.status answer.text.items
     (subst (λ e. AsyncPlayed (play_setting command p) (async_terms command) (seeded_words command.seed) c.in_ok-core.core e)
     c.in-Finished.is c.in_ok-core.ensures.plays)
-    (c.in_ok-core.ensures.end ∙ ap Some c.in-Finished.is) status text)
+    (c.in_ok-core.ensures.end ∙ ap Some c.in-Finished.is) (status ∙ ap finish_status c.in_ok-report_of-in-Finished.ensures.finish)
+    (λ s run m at. subst (Reports s run m) (sym text) (c.in_ok-report_of-in-Finished.ensures.reports s run m at)))
 
 pub returns : goal.returns
 returns c =
