@@ -1,2 +1,11 @@
 mod Within
 mod Reading
+mod Places
+mod Awaiting
+mod AtJoin
+mod AtEnd
+mod Listing
+mod Topped
+mod Joining
+mod Ending
+mod InUse

@@ -44,7 +44,7 @@ use Rattle.hall_turns.specs.declared.slot.Slot.{Slot}
 use Rattle.hall_turns.specs.declared.slot.Slot.TheVariants as slots
 use Rattle.hall_turns.specs.Shown.{value_of, view_of, lane_shown, running_shown, stop_shown}
 use Rattle.hall_turns.specs.declared.key.HallKey.{HallKey}
-use Rattle.hall_turns.specs.Keys.{table_of, quota_of, terms_of}
+use Rattle.hall_turns.specs.Keys.{table_of, quota_of, terms_of, IsKey}
 use Rattle.hall_turns.specs.Law.{HallHolds, joined_note}
 use Rattle.hall_turns.specs.Sound.{threads_in, threads_of, PoolIsSound}
 use Rattle.hall_turns.specs.Steps.{hall_shown}
@@ -56,7 +56,7 @@ use Rattle.hall_turns.proofs.Written.{list_at, pool_at, lane_shown_at}
 use Rattle.hall_writes.proofs.Owned.{split}
 use Rattle.hall_writes.proofs.There.{slot_is, list_there, pool_there}
 use Rattle.hall_reads.specs.Within.{AreWithin}
-use Rattle.hall_reads.specs.Reads.{ReadsLane, HoldsItsLane, OwnersRead, OwnersReadPools}
+use Rattle.hall_reads.specs.Reads.{ReadsLane, HoldsItsLane, OwnersRead, OwnersReadPools, PoolsAreSound, KeysAreSound}
 use Rattle.hall_reads.proofs.Within.{owners_are_within}
 
 -- that all of some threads are at their points is a proposition
@@ -86,16 +86,16 @@ not_none None never = absurd (never refl)
 not_none (Some x) never = (x, refl)
 
 module _ (key : HallKey) (seat : HallSeat) (deque : DequeId) (lane : LaneSlot) (has : HoldsItsLane seat deque lane) (meets : MeetsLaw key seat) where
-  st : Stands Whole joined_note key seat meets.0 meets.1 meets.2
+  pub st : Stands Whole joined_note key seat meets.0 meets.1 meets.2
   st = meets.3
 
-  abbrev shown : List Slot
+  abbrev pub shown : List Slot
   shown = meets.0
 
-  holds : HallHolds key shown meets.1 (notes meets.2)
+  pub holds : HallHolds key shown meets.1 (notes meets.2)
   holds = st.kept.0
 
-  shows : Shows shown seat.hand.holds
+  pub shows : Shows shown seat.hand.holds
   shows = st.fits.shows seat.number seat.hand st.mine
 
   mine : slice_get (map view_of (notes meets.2)) seat.number ≡ Some (view_of seat.hand.note)
@@ -105,12 +105,12 @@ module _ (key : HallKey) (seat : HallSeat) (deque : DequeId) (lane : LaneSlot) (
   own = ap (get_elem? shown) (sym (slot_is deque.0)) ∙ shown_as shown (deque.0 + 2) (slots.Lane lane) seat.hand.holds shows has.holds
 
   module _ (c : Setting) (law : HallLaw (machine_of c (terms_of key)) (Terms.limits (terms_of key)) (map value_of shown) meets.1 (map view_of (notes meets.2))) where
-    at_work : (w : IsAtWork (hall_shown shown) seat.hand.note.worker) × (w.id ≡ deque)
+    pub at_work : (w : IsAtWork (hall_shown shown) seat.hand.note.worker) × (w.id ≡ deque)
     at_work = let cut = split (place_of deque (Some seat.hand.note.worker)) (ListShown.places (Hall.list (hall_shown shown)))
         (SeatStands.owns (law.state.crew.seats seat.number (view_of seat.hand.note) mine has.placed) deque has.owns) in
         owners_are_at_work (machine_of c (terms_of key)) (hall_shown shown) law.steps law.moment law.state.stands cut.left cut.right deque seat.hand.note.worker cut.is
 
-    lane_is : (w : IsAtWork (hall_shown shown) seat.hand.note.worker) → w.id ≡ deque → lane_with (w.top ∷ w.under) (Some w.period) ≡ lane_shown lane
+    pub lane_is : (w : IsAtWork (hall_shown shown) seat.hand.note.worker) → w.id ≡ deque → lane_with (w.top ∷ w.under) (Some w.period) ≡ lane_shown lane
     lane_is w id_is = sym w.lane_is ∙ ap (lane_at (Hall.lanes (hall_shown shown))) id_is ∙ lane_shown_at shown deque lane own
 
     some_thread : lane.lane.items ≡ [] → ⊥
@@ -134,7 +134,7 @@ module _ (key : HallKey) (seat : HallSeat) (deque : DequeId) (lane : LaneSlot) (
         (map view_of (notes meets.2)) seat.number (view_of seat.hand.note) law.state (record { noted = mine; placed = has.placed; stays = has.stays }) w.0 (threads_of shown) (first_is list first)
         (λ is. short (shown_memory seat.hand.note.found is)))
 
-    some_quota : IsSettingOf (table_of key) (quota_of key) c → 0 < c.quota
+    pub some_quota : IsSettingOf (table_of key) (quota_of key) c → 0 < c.quota
     some_quota of = let least = holds.key_is.quota in let same = IsSettingOf.quota of in omega (arith, least, same)
 
     within : IsSettingOf (table_of key) (quota_of key) c → AreWithin (machine_of c (terms_of key)) (Terms.limits (terms_of key)) (hall_shown shown) at_work.0
@@ -203,3 +203,23 @@ owners_read = reads
 
 pub owners_read_pools : OwnersReadPools
 owners_read_pools key seat deque lane pool top under has second meets items = reads_pool key seat deque lane has meets pool top under second items
+
+-- without a lane
+module _ (key : HallKey) (seat : HallSeat) (meets : MeetsLaw key seat) where
+  stood : Stands Whole joined_note key seat meets.0 meets.1 meets.2
+  stood = meets.3
+
+  held_by_seat : Shows meets.0 seat.hand.holds
+  held_by_seat = stood.fits.shows seat.number seat.hand stood.mine
+
+  key_is : IsKey key
+  key_is = stood.kept.0.key_is
+
+  pool_is : (pool : PoolSlot) → HasAs 1 (slots.Pool pool) seat.hand.holds → PoolIsSound key pool
+  pool_is pool second = stood.kept.0.parts.pool pool (get_of_at meets.0 1 (slots.Pool pool) (shown_as meets.0 1 (slots.Pool pool) seat.hand.holds held_by_seat second))
+
+pub pools_are_sound : PoolsAreSound
+pools_are_sound key seat pool second meets = pool_is key seat meets pool second
+
+pub keys_are_sound : KeysAreSound
+keys_are_sound key seat meets = key_is key seat meets

@@ -13,7 +13,8 @@ use Rattle.hall_turns.specs.declared.lane_slot.LaneSlot.{LaneSlot}
 use Rattle.hall_turns.specs.declared.pool_slot.PoolSlot.{PoolSlot}
 use Rattle.hall_turns.specs.declared.slot.Slot.TheVariants as slots
 use Rattle.hall_turns.specs.declared.key.HallKey.{HallKey}
-use Rattle.hall_turns.specs.Keys.{table_of, quota_of}
+use Rattle.hall_turns.specs.Keys.{table_of, quota_of, IsKey}
+use Rattle.hall_turns.specs.Sound.{PoolIsSound}
 use Rattle.hall_turns.specs.Takes.{HallSeat, MeetsLaw}
 
 -- The quota covers a record block. The lane has a thread on top and a period that runs. Unless the seat found that memory was wanting, all its threads are at their points.
@@ -48,3 +49,11 @@ abbrev pub OwnersReadPools : Type 0
 OwnersReadPools = (key : HallKey) (seat : HallSeat) (deque : DequeId) (lane : LaneSlot) (pool : PoolSlot) (top : Thread) (under : List Thread)
     → HoldsItsLane seat deque lane → HasAs 1 (slots.Pool pool) seat.hand.holds → MeetsLaw key seat → lane.lane.items ≡ top ∷ under
     → thread_words top ≤ pool.pool.live
+
+-- A pool that a seat holds is sound, and so is the key of the hall.
+abbrev pub PoolsAreSound : Type 0
+PoolsAreSound = (key : HallKey) (seat : HallSeat) (pool : PoolSlot) → HasAs 1 (slots.Pool pool) seat.hand.holds → MeetsLaw key seat
+    → PoolIsSound key pool
+
+abbrev pub KeysAreSound : Type 0
+KeysAreSound = (key : HallKey) (seat : HallSeat) → MeetsLaw key seat → IsKey key
