@@ -11,4 +11,5 @@ pub use Rattle.hall_events.specs.PartEvents.Results as Results
 pub use Rattle.hall_events.specs.PartEvents.Parts as Parts
 pub use Rattle.hall_events.specs.Taken as TakenParts
 pub use Rattle.hall_events.specs.Lists as ListsTaken
+pub use Rattle.hall_events.specs.Rooms as Rooms
 pub use Rattle.hall_puts.specs.Puts as Puts

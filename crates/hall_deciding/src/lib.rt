@@ -16,7 +16,7 @@ mod wholes;
 
 pub use hall_events::{
     do_alloc, do_dummy, do_fault, do_fork, do_join, do_join_giving, do_release, end_above,
-    end_forked, leave_result, suspend,
+    end_forked, end_root, hand_over, leave_result, suspend, take_waiting,
 };
 pub use lists::{
     decide_dummy, decide_give_up, decide_kept_join, decide_root_end, decide_wait, decide_yield,

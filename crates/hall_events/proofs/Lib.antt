@@ -1,4 +1,5 @@
-mod Working
+pub mod Working
+pub mod Rooms
 pub mod Untaken
 pub mod Quiet
 pub mod Lanes

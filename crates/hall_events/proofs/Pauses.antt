@@ -53,7 +53,7 @@ use Rattle.hall_events.specs.Lists.{SuspendsMayCome, IsTooMuch, GiveUpsMayCome, 
 use Rattle.hall_events.proofs.Working.{some, work, here, own, period_was, period_told, viewed, went, hall_now}
 
 -- the next action of a thread, as the machine has it
-next_of_it : (c : Setting) (top : Thread) (next : Next) (x : shown.Thread) → x ≡ thread_shown top → (is : IsOfTheList c top next) → IsNextOf (list_of c) x is.place (deed_of top next)
+pub next_of_it : (c : Setting) (top : Thread) (next : Next) (x : shown.Thread) → x ≡ thread_shown top → (is : IsOfTheList c top next) → IsNextOf (list_of c) x is.place (deed_of top next)
 next_of_it c top next x same is = record {
   inside = is.inside;
   by = is.labelled ∙ sym (ap (λ t. shown.Thread.label t) same);

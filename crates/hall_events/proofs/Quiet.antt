@@ -20,7 +20,7 @@ written_again [] n = refl
 written_again (x ∷ xs) zero = refl
 written_again (x ∷ xs) (suc n) = ap (λ ys. x ∷ ys) (written_again xs n)
 
-same_hall : (h : Hall) (deque : DequeId) (lane : LaneShown) → lane_at h.lanes deque ≡ lane → slice_set h.lanes deque.0 lane ≡ h.lanes
+pub same_hall : (h : Hall) (deque : DequeId) (lane : LaneShown) → lane_at h.lanes deque ≡ lane → slice_set h.lanes deque.0 lane ≡ h.lanes
 same_hall h deque lane is = ap (slice_set h.lanes deque.0) (sym is) ∙ written_again h.lanes deque.0
 
 pub statements_may_come : StatementsMayCome

@@ -22,7 +22,7 @@ use Rattle.hall_events.specs.Staying.{LanesStaySound, GivenUpStaysSound, Suspend
 
 module _ {X : Type 0} where
   -- what holds of each element holds of each in another order
-  each_moved : (P : X → Type 0) (xs ys : List X) → IsPermutation xs ys → Each P xs → Each P ys
+  pub each_moved : (P : X → Type 0) (xs ys : List X) → IsPermutation xs ys → Each P xs → Each P ys
   each_moved P xs ys moved all = each_from P ys (λ y there. each_among P y xs all (among_moved ys xs (IsPermutation-sym xs ys moved) y there))
 
 -- threads at their points are so in a lane

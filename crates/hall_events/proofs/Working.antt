@@ -1,7 +1,6 @@
 -- A seat at work, what its lane shows, and the hall after an event.
 use Rattle.std.proofs.Common.{◌≡◌, ℕ, ◌<◌, ◌≤◌, List, [], ◌∷◌, map, false, sym, ap, ◌∙◌, subst, arith, reverse}
 use Rattle.std.proofs.lemmas.Option.{same_Some}
-use Rattle.std.specs.Option.{option_map}
 use Rattle.std.specs.Prelude.{Option, Some, slice_get, slice_set}
 use mathlib.Core.List.{map-append}
 use Rattle.dag_order.specs.declared.action_id.ActionId.{ActionId}
@@ -34,7 +33,7 @@ use Rattle.lane_events.specs.Here.{ShowsOwn}
 use Rattle.hall_turns.specs.declared.event.Event.{Event}
 use Rattle.hall_turns.specs.declared.lane_slot.LaneSlot.{LaneSlot}
 use Rattle.hall_turns.specs.declared.seat_note.SeatNote.{SeatNote}
-use Rattle.hall_turns.specs.Shown.{list_shown, lane_shown, pool_shown, running_shown, told_shown, view_of}
+use Rattle.hall_turns.specs.Shown.{list_shown, lane_shown, pool_shown, told_shown, view_of}
 use Rattle.hall_turns.specs.declared.key.HallKey.{HallKey}
 use Rattle.hall_turns.specs.Keys.{table_of, quota_of, terms_of}
 use Rattle.hall_turns.specs.Steps.{IsRunning}
@@ -77,7 +76,7 @@ module _ {h : Hall} {worker : ℕ} (w : IsAtWork h worker) (deque : DequeId) (la
   threads_are = ap (λ (l : LaneShown). l.threads) lane_is ∙ ap (map thread_shown) at.items
 
   pub period_was : w.period ≡ open_shown holder before
-  period_was = same_Some w.period (open_shown holder before) (ap (λ (l : LaneShown). l.period) lane_is ∙ ap (option_map running_shown) at.running)
+  period_was = same_Some w.period (open_shown holder before) (ap (λ (l : LaneShown). l.period) lane_is ∙ at.running)
 
   pub own : ShowsOwn w top under before
   own = record {

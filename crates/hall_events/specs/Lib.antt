@@ -3,3 +3,4 @@ pub mod Lanes
 pub mod Lists
 pub mod Staying
 pub mod PartEvents
+pub mod Rooms

@@ -1,5 +1,6 @@
 -- What an owner's call has in its hands when it comes to its event.
 use Rattle.std.specs.Prelude.{◌≡◌, ℕ, ◌<◌, true, false, Some, List, ◌∷◌}
+use Rattle.std.specs.Option.{option_map}
 use Rattle.deque_list.specs.declared.deque_id.DequeId.{DequeId}
 use Rattle.depth_first_list.specs.Facts.{words_at}
 use Rattle.depth_first_run.specs.Run.{list_of}
@@ -14,15 +15,16 @@ use Rattle.thread_state.specs.Settings.{IsSettingOf}
 use Rattle.hall_turns.specs.declared.lane_slot.LaneSlot.{LaneSlot}
 use Rattle.hall_turns.specs.declared.key.HallKey.{HallKey}
 use Rattle.hall_turns.specs.Keys.{table_of, quota_of}
+use Rattle.hall_turns.specs.Shown.{running_shown}
 use Rattle.hall_turns.specs.Takes.{HallSeat}
 
--- The lane that was taken has these threads under its top one, which has come to its next action without doing any, and this period, whichever
--- worker it is noted for.
+-- The lane that was taken has these threads under its top one, which has come to its next action without doing any, and shows this period,
+-- whichever worker it is noted for. The period may have more room than it had in the lane.
 pub record IsAtAction (lane : LaneSlot) (top : Thread) (under : List Thread) (holder : ℕ) (period : OpenPeriod) : Type 0 where
   pub top_was : Thread
   pub items : lane.lane.items ≡ top_was ∷ under
   pub still : IsStill top_was top
-  pub running : lane.running ≡ Some (record { worker = holder; period = period })
+  pub running : option_map running_shown lane.running ≡ Some (open_shown holder period)
 
 -- The seat is in and owns the deque.
 pub record MayGoOn (seat : HallSeat) (deque : DequeId) : Type 0 where

@@ -15,6 +15,6 @@ pub mod sound_laws;
 
 pub use lane_events::{
     do_alloc, do_dummy, do_fault, do_fork, do_join, do_join_giving, do_release, end_above,
-    end_forked,
+    end_forked, end_root,
 };
-pub use list_events::{leave_result, suspend};
+pub use list_events::{hand_over, leave_result, suspend, take_waiting};

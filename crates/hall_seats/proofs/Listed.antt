@@ -67,10 +67,10 @@ module _ (key : HallKey) (seat : HallSeat) (placed : IsPlaced seat) (list : List
 
   -- an end is kept, which the seat is answered
   module _ (has : HoldsTheEnd seat list) where
-    abbrev told : SeatNote
+    abbrev pub told : SeatNote
     told = answered_note seat.hand.note list
 
-    answered_may : ListMayBecome key seat list list told
+    pub answered_may : ListMayBecome key seat list list told
     answered_may c of h count views run is its =
         let kept : h.list.kept ≡ Some (end_shown has.some.0) = ap (λ (l : ListShown). l.kept) is ∙ ap (option_map end_shown) has.some.1 in
         let viewed : answered_with (view_of seat.hand.note) (end_shown has.some.0) ≡ view_of told = ap (λ (o : Option RunEnd). record (view_of seat.hand.note) { answered = option_map end_shown o }) (sym has.some.1) in

@@ -5,7 +5,11 @@ ghost use Rattle.std.specs.List.Sorted.{IsPermutation};
 ghost use Rattle.list_part.specs.Parts.{Has};
 ghost use Rattle.space_ledger.specs.BooksList.{books_spare};
 ghost use Rattle.thread_map.specs.Kept.{kept_under};
-ghost use Rattle.thread_events.specs.Results.{IsToCome, HasCome};
+ghost use Rattle.thread_events.specs.Results.{IsToCome, HasCome, IsGiven};
+ghost use Rattle.thread_frames.specs.Children.{IsAwaited, IsOnlyNewest};
+ghost use Rattle.thread_frames.specs.Views.{children_of, join_words_of, label_of};
+ghost use Rattle.thread_frames.specs.declared.ended.Ended.{Ended as AnyEnded};
+ghost use Rattle.thread_state.specs.Joins.{released};
 ghost use Rattle.hall_turns.specs.Lists.{IsGone};
 ghost use Rattle.hall_turns.specs.Shown.{list_shown};
 ghost use Rattle.list_events.specs.Calls.{SuspendsThere, LeavesThere, TakesWaiting, IsHandedThere, KeepsCrew};
@@ -73,13 +77,28 @@ pub fn take_waiting(list: &mut ListSlot, child: ThreadId) -> Option<Boxed<Thread
     list.part.waiting.take(child)
 }
 
-/// Hands the kept result of a child to the thread that joins it.
+/// Delivers the result of a child to its parent. The words that its Join gives back are then those that the result would release.
+fn deliver(top: &mut Boxed<Thread>, ended: Ended)
+    requires { IsAwaited (label_of top.old) ended (children_of top.old) }
+    ensures given { IsGiven ended top.old top.new }
+    ensures releases { IsOnlyNewest ended.id (children_of top.old) → join_words_of top.new ≡ released top.old.run.state ended.state }
+{
+    top.get_mut().deliver(ended);
+}
+
+/// Hands the kept result of a child to the thread that joins it. If this has no other open child of its id, the words that the Join gives back
+/// are then those that the result would release.
 pub fn hand_over(list: &mut ListSlot, top: &mut Boxed<Thread>, child: ThreadId)
     requires { IsToCome list.old.part.results top.old child }
     ensures come { HasCome list.old.part.results list.new.part.results top.old top.new child }
     ensures shown { IsHandedThere list.old list.new top.old top.new }
+    ensures releases { (ended : AnyEnded) → kept_under list.old.part.results child ≡ Some ended → IsOnlyNewest ended.id (children_of top.old)
+        → join_words_of top.new ≡ released top.old.run.state ended.state }
     ensures waiting { list.new.part.waiting ≡ list.old.part.waiting }
     ensures rest { KeepsCrew list.old list.new }
 {
-    thread_events::hand_over(&mut list.part.results, top, child);
+    let Some(ended) = list.part.results.take(child) else {
+        unreachable!();
+    };
+    deliver(top, ended);
 }
