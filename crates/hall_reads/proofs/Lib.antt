@@ -1,11 +1,11 @@
 mod Within
-mod Reading
+pub mod Reading
 mod Places
 mod Awaiting
 mod AtJoin
 mod AtEnd
-mod Listing
+pub mod Listing
 mod Topped
-mod Joining
-mod Ending
-mod InUse
+pub mod Joining
+pub mod Ending
+pub mod InUse

@@ -1,1 +1,4 @@
 pub mod Readied
+pub mod Roomier
+pub mod Charging
+mod Handed

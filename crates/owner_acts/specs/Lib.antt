@@ -1,3 +1,5 @@
 pub mod Ready
 pub mod Pauses
 pub mod Ends
+pub mod Kept
+pub mod Quotas

@@ -13,8 +13,7 @@ ghost use Rattle.hall_turns.specs.declared.event.Event.TheVariants.{Did};
 ghost use Rattle.hall_deciding.specs.PartEvents.Writes.{told_note};
 ghost use Rattle.hall_deciding.specs.PartEvents.Puts.{HasPut};
 ghost use Rattle.hall_deciding.specs.PartEvents.TakenParts.{MayAct, IsNext};
-ghost use Rattle.hall_deciding.specs.Taken.{pool_and_lane};
-ghost use Rattle.owner_acts.specs.Ready.{IsReady, PoolIsReady};
+ghost use Rattle.owner_acts.specs.Ready.{IsReadyWithPool, PoolIsReady};
 
 use boxed::Boxed;
 use dag_order::{ActionId, Births};
@@ -38,7 +37,7 @@ pub fn act_end_above(
     requires here { IsSeatOf row.now seat.old }
     requires slot { deque.0 + 2 < slot_count row.now }
     requires may { MayAct seat.old deque }
-    requires ready { IsReady (key_of row.now) seat.old (pool_and_lane deque pool) lane running top 0 (spare first.old) }
+    requires ready { IsReadyWithPool (key_of row.now) seat.old deque pool lane running top 0 (spare first.old) }
     requires pool { PoolIsReady (key_of row.now) pool }
     requires next { IsEnd (next_of top) }
     requires live { words_at_end (label_of top) ≤ pool.pool.live }

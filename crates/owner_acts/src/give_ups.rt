@@ -13,8 +13,8 @@ ghost use Rattle.hall_deciding.specs.PartEvents.Writes.{told_note};
 ghost use Rattle.hall_deciding.specs.PartEvents.Puts.{HasPut};
 ghost use Rattle.hall_deciding.specs.PartEvents.TakenParts.{MayAct, MayPause, IsNext};
 ghost use Rattle.hall_deciding.specs.PartEvents.ListsTaken.{IsTooMuch};
-ghost use Rattle.hall_deciding.specs.Taken.{list_and_lane};
-ghost use Rattle.owner_acts.specs.Ready.{IsReady};
+ghost use Rattle.owner_acts.specs.Ready.{IsReadyWithList};
+ghost use Rattle.hall_deciding.specs.PartEvents.Rooms.{HasMoreBooks};
 ghost use Rattle.owner_acts.specs.Pauses.{CanClose};
 
 use boxed::Boxed;
@@ -47,7 +47,7 @@ pub fn act_give_up(
     requires here { IsSeatOf row.now seat.old }
     requires slot { deque.0 + 2 < slot_count row.now }
     requires may { MayPause seat.old deque }
-    requires ready { IsReady (key_of row.now) seat.old (list_and_lane deque list) lane running top 1 1 }
+    requires ready { IsReadyWithList HasMoreBooks (key_of row.now) seat.old deque list lane running top 1 1 }
     requires closes { CanClose deque list }
     requires asks { (next : AnyNext) × IsTooMuch (key_of row.now) next top running.period }
     ensures { HasPut seat.old (told_note seat.old.hand.note None (GaveUp deque)) [] seat.new }
@@ -76,7 +76,7 @@ pub fn act_yield(
     requires here { IsSeatOf row.now seat.old }
     requires slot { deque.0 + 2 < slot_count row.now }
     requires may { MayPause seat.old deque }
-    requires ready { IsReady (key_of row.now) seat.old (list_and_lane deque list) lane running top 1 1 }
+    requires ready { IsReadyWithList HasMoreBooks (key_of row.now) seat.old deque list lane running top 1 1 }
     requires closes { CanClose deque list }
     ensures { HasPut seat.old (record (told_note seat.old.hand.note None (GaveUp deque)) { yielded = true }) [] seat.new }
 {
@@ -105,7 +105,7 @@ pub fn act_dummy(
     requires here { IsSeatOf row.now seat.old }
     requires slot { deque.0 + 2 < slot_count row.now }
     requires may { MayAct seat.old deque }
-    requires ready { IsReady (key_of row.now) seat.old (list_and_lane deque list) lane running top 1 (spare first.old) }
+    requires ready { IsReadyWithList HasMoreBooks (key_of row.now) seat.old deque list lane running top 1 (spare first.old) }
     requires closes { CanClose deque list }
     requires next { IsDummy (next_of top) }
     requires listed { IsNext (key_of row.now) top nexts.Dummy }

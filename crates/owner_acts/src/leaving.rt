@@ -16,8 +16,8 @@ ghost use Rattle.hall_deciding.specs.PartEvents.ListCalls.{LeavesThere, KeepsCre
 ghost use Rattle.hall_deciding.specs.PartEvents.Writes.{told_note};
 ghost use Rattle.hall_deciding.specs.PartEvents.Puts.{HasPut};
 ghost use Rattle.hall_deciding.specs.PartEvents.TakenParts.{MayAct, IsNext};
-ghost use Rattle.hall_deciding.specs.Taken.{all_three};
-ghost use Rattle.owner_acts.specs.Ready.{IsReady, PoolIsReady};
+ghost use Rattle.owner_acts.specs.Ready.{IsReadyWithAll, PoolIsReady};
+ghost use Rattle.hall_deciding.specs.PartEvents.Rooms.{HasMoreToLeave};
 ghost use Rattle.owner_acts.specs.Pauses.{CanClose};
 ghost use Rattle.owner_acts.specs.Ends.{CanLeave};
 
@@ -30,7 +30,7 @@ use hall_turns::{HallPlace, HallRow, LaneSlot, ListSlot, PoolSlot, Running};
 use thread_frames::{Ended, Thread};
 
 /// Keeps the result of a thread in the list, and closes the period of its deque, which is gone.
-fn leave_in(
+pub(crate) fn leave_in(
     list: &mut Boxed<ListSlot>,
     deque: DequeId,
     running: Running,
@@ -66,7 +66,7 @@ pub fn act_leaving_end(
     requires here { IsSeatOf row.now seat.old }
     requires slot { deque.0 + 2 < slot_count row.now }
     requires may { MayAct seat.old deque }
-    requires ready { IsReady (key_of row.now) seat.old (all_three deque list pool) lane running top 0 (spare first.old) }
+    requires ready { IsReadyWithAll HasMoreToLeave (key_of row.now) seat.old deque list pool lane running top 0 (spare first.old) }
     requires pool { PoolIsReady (key_of row.now) pool }
     requires next { IsEnd (next_of top) }
     requires live { words_at_end (label_of top) ≤ pool.pool.live }

@@ -11,8 +11,8 @@ ghost use Rattle.hall_turns.specs.declared.event.Event.TheVariants.{Suspended};
 ghost use Rattle.hall_deciding.specs.PartEvents.Writes.{told_note};
 ghost use Rattle.hall_deciding.specs.PartEvents.Puts.{HasPut};
 ghost use Rattle.hall_deciding.specs.PartEvents.TakenParts.{MayPause};
-ghost use Rattle.hall_deciding.specs.Taken.{list_and_lane};
-ghost use Rattle.owner_acts.specs.Ready.{IsReady};
+ghost use Rattle.owner_acts.specs.Ready.{IsReadyWithList};
+ghost use Rattle.hall_deciding.specs.PartEvents.Rooms.{HasMoreToWait};
 ghost use Rattle.owner_acts.specs.Pauses.{CanClose, CanWait};
 
 use boxed::Boxed;
@@ -63,7 +63,7 @@ pub fn act_wait(
     requires here { IsSeatOf row.now seat.old }
     requires slot { deque.0 + 2 < slot_count row.now }
     requires may { MayPause seat.old deque }
-    requires ready { IsReady (key_of row.now) seat.old (list_and_lane deque list) lane running top 0 1 }
+    requires ready { IsReadyWithList HasMoreToWait (key_of row.now) seat.old deque list lane running top 0 1 }
     requires alone { lane.items ≡ [] }
     requires closes { CanClose deque list }
     requires waits { CanWait (key_of row.now) list top child }

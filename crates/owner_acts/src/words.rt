@@ -13,8 +13,7 @@ ghost use Rattle.hall_turns.specs.declared.event.Event.TheVariants.{Did};
 ghost use Rattle.hall_deciding.specs.PartEvents.Writes.{told_note};
 ghost use Rattle.hall_deciding.specs.PartEvents.Puts.{HasPut};
 ghost use Rattle.hall_deciding.specs.PartEvents.TakenParts.{MayAct, MayDoNext};
-ghost use Rattle.hall_deciding.specs.Taken.{pool_and_lane};
-ghost use Rattle.owner_acts.specs.Ready.{IsReady, PoolIsReady};
+ghost use Rattle.owner_acts.specs.Ready.{IsReadyWithPool, PoolIsReady};
 
 use boxed::Boxed;
 use dag_order::{ActionId, Births};
@@ -38,7 +37,7 @@ pub fn act_alloc(
     requires here { IsSeatOf row.now seat.old }
     requires slot { deque.0 + 2 < slot_count row.now }
     requires may { MayAct seat.old deque }
-    requires ready { IsReady (key_of row.now) seat.old (pool_and_lane deque pool) lane running top 1 (spare first.old) }
+    requires ready { IsReadyWithPool (key_of row.now) seat.old deque pool lane running top 1 (spare first.old) }
     requires pool { PoolIsReady (key_of row.now) pool }
     requires next { IsAlloc (next_of top) }
     requires fits { running.period.used + charge ≤ GREATEST_QUOTA }
@@ -82,7 +81,7 @@ pub fn act_release(
     requires here { IsSeatOf row.now seat.old }
     requires slot { deque.0 + 2 < slot_count row.now }
     requires may { MayAct seat.old deque }
-    requires ready { IsReady (key_of row.now) seat.old (pool_and_lane deque pool) lane running top 1 (spare first.old) }
+    requires ready { IsReadyWithPool (key_of row.now) seat.old deque pool lane running top 1 (spare first.old) }
     requires pool { PoolIsReady (key_of row.now) pool }
     requires next { IsRelease (next_of top) }
     requires live { words_asked (next_of top) ≤ pool.pool.live }
@@ -124,7 +123,7 @@ pub fn act_fault(
     requires here { IsSeatOf row.now seat.old }
     requires slot { deque.0 + 2 < slot_count row.now }
     requires may { MayAct seat.old deque }
-    requires ready { IsReady (key_of row.now) seat.old (pool_and_lane deque pool) lane running top 1 (spare first.old) }
+    requires ready { IsReadyWithPool (key_of row.now) seat.old deque pool lane running top 1 (spare first.old) }
     requires pool { PoolIsReady (key_of row.now) pool }
     requires next { IsFault (next_of top) }
     requires live { held_by top ≤ pool.pool.live }
@@ -167,7 +166,7 @@ pub fn act_fork(
     requires here { IsSeatOf row.now seat.old }
     requires slot { deque.0 + 2 < slot_count row.now }
     requires may { MayAct seat.old deque }
-    requires ready { IsReady (key_of row.now) seat.old (pool_and_lane deque pool) lane running top 2 (spare first.old) }
+    requires ready { IsReadyWithPool (key_of row.now) seat.old deque pool lane running top 2 (spare first.old) }
     requires pool { PoolIsReady (key_of row.now) pool }
     requires next { IsFork (next_of top) }
     requires fits { running.period.used + record_words ≤ GREATEST_QUOTA }

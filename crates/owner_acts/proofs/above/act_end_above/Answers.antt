@@ -3,10 +3,13 @@ use Rattle.bounded_list.specs.BoundedList.{spare}
 use Rattle.lawful_books.specs.Lists.{Each}
 use Rattle.thread_frames.specs.Points.{IsAtPoint}
 use Rattle.thread_frames.specs.Views.{label_of}
+use Rattle.thread_frames.specs.declared.next.Next.TheVariants as nexts
 use Rattle.thread_points.specs.Points.{words_at_end}
 use Rattle.turn_table.specs.Tables.{key_of}
 use Rattle.hall_turns.specs.Keys.{table_of, quota_of}
+use Rattle.hall_deciding.specs.PartEvents.Here.{pool_with}
 use Rattle.hall_deciding.specs.Taken.{pool_and_lane}
+use Rattle.owner_acts.proofs.Roomier.{takes_from}
 use Rattle.owner_acts.proofs.Readied.{was, given_sound}
 use Rattle.owner_acts.proofs.above.act_end_above.Goals as goal
 
@@ -15,9 +18,9 @@ decide_end_above-requires-clause-event c =
     let acts = c.end_above-name.ensures.acts in
     let above = c.requires.above in
     let given = acts.given above.0 above.1 above.2 in
-    let under = subst (Each (IsAtPoint (table_of (key_of c.args.row.now)) (quota_of (key_of c.args.row.now)))) above.2 c.requires.ready.under in record {
-      pool_was = c.args.pool;
-      was = was (key_of c.args.row.now) c.args.seat.now (pool_and_lane c.args.deque c.args.pool) c.args.lane c.args.running c.args.top 0 (spare c.args.first.now) c.requires.ready;
+    let under = subst (Each (IsAtPoint (table_of (key_of c.args.row.now)) (quota_of (key_of c.args.row.now)))) above.2 c.requires.ready.2.under in record {
+      pool_was = c.requires.ready.0;
+      was = was (key_of c.args.row.now) c.args.seat.now (pool_and_lane c.args.deque c.requires.ready.0) c.args.lane c.args.running c.args.top 0 (spare c.args.first.now) c.requires.ready.2;
       may = c.requires.may;
       parent = above.0;
       below = above.1;
@@ -25,13 +28,13 @@ decide_end_above-requires-clause-event c =
       after = c.end_above-name.new.period;
       running = refl;
       acts = acts;
-      takes = c.end_above-name.ensures.words;
+      takes = takes_from (nexts.End) c.args.top c.end_above-name.result c.requires.ready.0 c.args.pool (pool_with c.end_above-name.new.pool.live c.end_above-name.new.moves) c.requires.ready.1 (c.end_above-name.ensures.words);
       next = c.requires.listed;
-      pool_sound = λ sound. given_sound (key_of c.args.row.now) c.args.pool (record { pool = c.end_above-name.new.pool; moves = c.end_above-name.new.moves }) (words_at_end (label_of c.args.top))
-          c.end_above-name.ensures.sum sound c.end_above-name.ensures.pool;
+      pool_sound = λ before. given_sound (key_of c.args.row.now) c.args.pool (record { pool = c.end_above-name.new.pool; moves = c.end_above-name.new.moves }) (words_at_end (label_of c.args.top))
+          c.end_above-name.ensures.sum c.requires.pool.sound c.end_above-name.ensures.pool;
       points = subst (Each (IsAtPoint (table_of (key_of c.args.row.now)) (quota_of (key_of c.args.row.now)))) (sym given.1) (
         given.2.point (table_of (key_of c.args.row.now)) (quota_of (key_of c.args.row.now)) under.0
-            (acts.ends.result (table_of (key_of c.args.row.now)) (quota_of (key_of c.args.row.now)) c.requires.ready.point),
+            (acts.ends.result (table_of (key_of c.args.row.now)) (quota_of (key_of c.args.row.now)) c.requires.ready.2.point),
         under.1,
       );
     }

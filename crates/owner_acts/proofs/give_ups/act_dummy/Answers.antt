@@ -6,12 +6,13 @@ use Rattle.turn_table.specs.Tables.{key_of}
 use Rattle.hall_turns.specs.Keys.{table_of, quota_of}
 use Rattle.hall_deciding.specs.Taken.{list_and_lane}
 use Rattle.owner_acts.proofs.Readied.{was}
+use Rattle.owner_acts.proofs.Roomier.{has_from, rest_from, shows_unowned_from, unowned_from}
 use Rattle.owner_acts.proofs.give_ups.act_dummy.Goals as goal
 
 pub decide_dummy-requires-clause-event : goal.decide_dummy-requires-clause-event
 decide_dummy-requires-clause-event c = let closes = c.requires.closes in let acts = c.do_dummy-name.ensures.acts in record {
-  list_was = c.args.list;
-  was = was (key_of c.args.row.now) c.args.seat.now (list_and_lane c.args.deque c.args.list) c.args.lane c.args.running c.args.top 1 (spare c.args.first.now) c.requires.ready;
+  list_was = c.requires.ready.0;
+  was = was (key_of c.args.row.now) c.args.seat.now (list_and_lane c.args.deque c.requires.ready.0) c.args.lane c.args.running c.args.top 1 (spare c.args.first.now) c.requires.ready.2;
   may = c.requires.may;
   after = c.do_dummy-name.new.period;
   acts = acts;
@@ -19,11 +20,11 @@ decide_dummy-requires-clause-event c = let closes = c.requires.closes in let act
   given = record {
     idle = refl;
     owner = closes.owner;
-    has = closes.has;
-    written = c.give_up_in.ensures.shown;
-    unowned = c.give_up_in.ensures.places;
-    rest = c.give_up_in.ensures.rest;
+    has = has_from c.requires.ready.0 c.args.list c.args.deque closes.owner c.requires.ready.1.deques closes.has;
+    written = shows_unowned_from c.requires.ready.0 c.args.list c.give_up_in.new.list c.args.deque (record { worker = c.args.running.worker; period = c.do_dummy-name.new.period }) c.requires.ready.1 c.give_up_in.ensures.shown;
+    unowned = unowned_from c.requires.ready.0 c.args.list c.give_up_in.new.list c.args.deque c.requires.ready.1.deques c.give_up_in.ensures.places;
+    rest = rest_from c.requires.ready.0 c.args.list c.give_up_in.new.list c.args.deque c.requires.ready.1.deques c.requires.ready.1.waiting c.requires.ready.1.results c.give_up_in.ensures.rest;
   };
   points = subst (Each (IsAtPoint (table_of (key_of c.args.row.now)) (quota_of (key_of c.args.row.now)))) (sym acts.threads_are)
-      (acts.point (table_of (key_of c.args.row.now)) (quota_of (key_of c.args.row.now)) c.requires.ready.point, c.requires.ready.under);
+      (acts.point (table_of (key_of c.args.row.now)) (quota_of (key_of c.args.row.now)) c.requires.ready.2.point, c.requires.ready.2.under);
 }

@@ -1,17 +1,24 @@
-use Rattle.std.proofs.Common.{◌≡◌, ◌∷◌, refl, sym, ◌∙◌, subst}
+use Rattle.std.proofs.Common.{◌≡◌, ◌∷◌, refl, sym, ap, ◌∙◌, subst}
+use Rattle.std.proofs.lemmas.List.Sorted.{IsPermutation-cons, IsPermutation-trans}
 use Rattle.std.specs.List.Sorted.{IsPermutation}
 use Rattle.std.specs.Prelude.{None, Some}
 use Rattle.bounded_list.specs.BoundedList.{spare}
 use Rattle.dag_order.specs.declared.thread_id.ThreadId.{ThreadId}
 use Rattle.thread_frames.specs.Views.{label_of}
 use Rattle.thread_frames.specs.declared.ended.Ended.{Ended}
-use Rattle.thread_map.specs.Kept.{kept_under}
+use Rattle.thread_map.specs.Kept.{Kept, kept_under}
+use Rattle.lawful_books.specs.Lists.{Each}
+use Rattle.thread_frames.specs.Kept.{WaitsUnder}
+use Rattle.thread_frames.specs.declared.next.Next.TheVariants as nexts
+use Rattle.thread_frames.specs.declared.thread.Thread.{Thread}
+use Rattle.hall_deciding.specs.PartEvents.Here.{pool_with}
 use Rattle.thread_points.specs.Points.{words_at_end}
 use Rattle.turn_table.specs.Tables.{key_of}
 use Rattle.hall_deciding.proofs.Waits.Waits.{nobody_waits}
 use Rattle.hall_turns.specs.Keys.{table_of, quota_of}
 use Rattle.hall_deciding.specs.Taken.{all_three}
 use Rattle.owner_acts.proofs.Readied.{was, given_sound}
+use Rattle.owner_acts.proofs.Roomier.{crew_from, gone_from, has_from, leaves_from, takes_from}
 use Rattle.owner_acts.proofs.leaving.act_leaving_end.Goals as goal
 
 pub leave_in-requires-clause-free : goal.leave_in-requires-clause-free
@@ -22,10 +29,12 @@ decide_leaving_end-requires-clause-event c =
     let ends = c.end_forked-ended in
     let acts = ends.ensures.acts in
     let closes = c.requires.closes in
+    let ready = c.requires.ready in
+    let more = ready.1 in
     let same : c.id_of-id.result ≡ Ended.id ends.result.1 = c.id_of-id.ensures ∙ sym acts.id in record {
-      list_was = c.args.list;
-      pool_was = c.args.pool;
-      was = was (key_of c.args.row.now) c.args.seat.now (all_three c.args.deque c.args.list c.args.pool) c.args.lane c.args.running c.args.top 0 (spare c.args.first.now) c.requires.ready;
+      list_was = ready.0;
+      pool_was = ready.2;
+      was = was (key_of c.args.row.now) c.args.seat.now (all_three c.args.deque ready.0 ready.2) c.args.lane c.args.running c.args.top 0 (spare c.args.first.now) ready.4;
       may = c.requires.may;
       alone = c.requires.alone;
       after = ends.new.period;
@@ -35,17 +44,20 @@ decide_leaving_end-requires-clause-event c =
         empty = c.requires.alone;
         idle = refl;
         owner = closes.owner;
-        has = closes.has;
-        written = c.leave_in.ensures.shown;
-        gone = c.leave_in.ensures.places;
-        results = subst (λ (i : ThreadId). IsPermutation ((i, ends.result.1) ∷ c.args.list.part.results.entries) c.leave_in.new.list.part.results.entries) same c.leave_in.ensures.results;
+        has = has_from ready.0 c.args.list c.args.deque closes.owner more.deques closes.has;
+        written = leaves_from ready.0 c.args.list c.leave_in.new.list c.args.deque (record { worker = c.args.running.worker; period = ends.new.period }) ends.result.1 more c.leave_in.ensures.shown;
+        gone = gone_from ready.0 c.args.list c.leave_in.new.list c.args.deque more.deques c.leave_in.ensures.places;
+        results = IsPermutation-trans ((Ended.id ends.result.1, ends.result.1) ∷ ready.0.part.results.entries) ((Ended.id ends.result.1, ends.result.1) ∷ c.args.list.part.results.entries) c.leave_in.new.list.part.results.entries
+            (IsPermutation-cons (Ended.id ends.result.1, ends.result.1) ready.0.part.results.entries c.args.list.part.results.entries more.results.0)
+            (subst (λ (i : ThreadId). IsPermutation ((i, ends.result.1) ∷ c.args.list.part.results.entries) c.leave_in.new.list.part.results.entries) same c.leave_in.ensures.results);
         kept = subst (λ (i : ThreadId). kept_under c.leave_in.new.list.part.results i ≡ Some ends.result.1) same c.leave_in.ensures.kept;
-        waiting = c.leave_in.ensures.waiting;
-        rest = c.leave_in.ensures.rest;
-        result = acts.result (table_of (key_of c.args.row.now)) (quota_of (key_of c.args.row.now)) c.requires.ready.point;
+        waiting = c.leave_in.ensures.waiting ∙ more.waiting;
+        rest = crew_from ready.0 c.args.list c.leave_in.new.list c.args.deque more.deques c.leave_in.ensures.rest;
+        result = acts.result (table_of (key_of c.args.row.now)) (quota_of (key_of c.args.row.now)) ready.4.point;
       };
-      unawaited = nobody_waits c.args.list c.args.top.id c.requires.leaves.waiting c.requires.leaves.nobody;
-      takes = ends.ensures.words;
+      unawaited = nobody_waits ready.0 c.args.top.id (subst (λ (k : Kept Thread). Each WaitsUnder k.entries) more.waiting c.requires.leaves.waiting)
+          (ap (λ (k : Kept Thread). kept_under k c.args.top.id) (sym more.waiting) ∙ c.requires.leaves.nobody);
+      takes = takes_from nexts.End c.args.top ends.result.0 ready.2 c.args.pool (pool_with ends.new.pool.live ends.new.moves) ready.3 ends.ensures.words;
       next = c.requires.listed;
-      pool_sound = λ sound. given_sound (key_of c.args.row.now) c.args.pool (record { pool = ends.new.pool; moves = ends.new.moves }) (words_at_end (label_of c.args.top)) ends.ensures.sum sound ends.ensures.pool;
+      pool_sound = λ before. given_sound (key_of c.args.row.now) c.args.pool (record { pool = ends.new.pool; moves = ends.new.moves }) (words_at_end (label_of c.args.top)) ends.ensures.sum c.requires.pool.sound ends.ensures.pool;
     }

@@ -1,0 +1,82 @@
+//! The End of the root.
+
+ghost use Rattle.std.specs.Prelude.{◌≡◌, ◌+◌, ◌<◌, [], None, Some};
+ghost use Rattle.bounded_list.specs.BoundedList.{entries, spare};
+ghost use Rattle.dag_order.specs.Births.{root};
+ghost use Rattle.run_end.specs.declared.ends.RunEnd.TheVariants.{Finished};
+ghost use Rattle.thread_frames.specs.Actions.{IsEnd};
+ghost use Rattle.thread_frames.specs.Roots.{end_of_root};
+ghost use Rattle.thread_frames.specs.Views.{next_of, label_of};
+ghost use Rattle.thread_frames.specs.declared.next.Next.TheVariants as nexts;
+ghost use Rattle.thread_frames.specs.declared.thread.Thread.{Thread as AnyThread};
+ghost use Rattle.turn_table.specs.Tables.{key_of, slot_count, IsSeatOf};
+ghost use Rattle.hall_turns.specs.declared.event.Event.TheVariants.{Did};
+ghost use Rattle.hall_deciding.specs.PartEvents.Writes.{told_note};
+ghost use Rattle.hall_deciding.specs.PartEvents.Puts.{HasPut};
+ghost use Rattle.hall_deciding.specs.PartEvents.TakenParts.{MayAct, IsNext};
+ghost use Rattle.hall_deciding.specs.PartEvents.Rooms.{HasMoreToLeave};
+ghost use Rattle.owner_acts.specs.Ready.{IsReadyWithList};
+ghost use Rattle.owner_acts.specs.Pauses.{CanClose};
+ghost use Rattle.owner_acts.specs.Ends.{CanLeave};
+
+use crate::id_of;
+use crate::leaving::leave_in;
+use boxed::Boxed;
+use dag_order::{ActionId, Births, Finish};
+use deque_list::{DequeId, Lane};
+use hall_deciding::{decide_root_end, end_root};
+use hall_turns::{HallPlace, HallRow, LaneSlot, ListSlot, Running};
+use thread_frames::{Ended, Thread};
+
+/// Returns how a run finishes with this result of its root.
+fn finish_of(ended: &Ended) -> Finish
+    ensures { end_of_root (Some ended.now) ≡ Some (Finished result) }
+{
+    match ended.fault() {
+        None => Finish::Done,
+        Some(at) => Finish::Faulted(at),
+    }
+}
+
+/// Does the End of the root, which is alone in its deque, and keeps in the list that the run has finished: the deque is gone. Returns its
+/// name, and the thread, whose place can be used again.
+pub fn act_root_end(
+    row: &HallRow,
+    seat: &mut HallPlace,
+    deque: DequeId,
+    lane: Lane<Boxed<Thread>>,
+    running: Running,
+    list: Boxed<ListSlot>,
+    top: Boxed<Thread>,
+    first: &mut Births,
+) -> (ActionId, Boxed<Thread>)
+    requires here { IsSeatOf row.now seat.old }
+    requires slot { deque.0 + 2 < slot_count row.now }
+    requires may { MayAct seat.old deque }
+    requires ready { IsReadyWithList HasMoreToLeave (key_of row.now) seat.old deque list lane running top 0 (spare first.old) }
+    requires next { IsEnd (next_of top) }
+    requires alone { lane.items ≡ [] }
+    requires root_id { AnyThread.id top ≡ root }
+    requires root_label { label_of top ≡ [] }
+    requires closes { CanClose deque list }
+    requires leaves { CanLeave list (AnyThread.id top) }
+    requires no_end { list.end ≡ None }
+    requires listed { IsNext (key_of row.now) top nexts.End }
+    requires none { entries first.old ≡ [] }
+    ensures seat { HasPut seat.old (told_note seat.old.hand.note None (Did result.0)) [] seat.new }
+    ensures none { entries first.new ≡ [] }
+{
+    let mut list = list;
+    let mut running = running;
+    let mut top = top;
+    let id = id_of(&top);
+    let (name, ended) = end_root(&mut running.period, first, &mut top);
+    let finish = finish_of(&ended);
+    leave_in(&mut list, deque, running, id, ended);
+    let lane = LaneSlot {
+        lane,
+        running: None,
+    };
+    decide_root_end(row, seat, deque, list, lane, name, finish);
+    (name, top)
+}
