@@ -1,0 +1,3 @@
+pub mod Noting
+mod Returned
+mod Answered

@@ -1,0 +1,4 @@
+mod Given
+pub mod Following
+pub mod Counted
+pub mod Trying
