@@ -1,0 +1,81 @@
+-- What the next action of an owner asks for, by what it may do.
+use Rattle.std.proofs.Common.{◌≡◌, ℕ, ◌+◌, ◌<◌, true, false, [], ◌∷◌, sym, ap, ◌∙◌, subst}
+use Rattle.std.specs.Prelude.{IsTrue}
+use Rattle.bounded_list.specs.BoundedList.{entries, spare}
+use Rattle.dag_order.specs.declared.thread_id.ThreadId.{ThreadId}
+use Rattle.deque_list.specs.declared.deque_id.DequeId.{DequeId}
+use Rattle.hall_deciding.specs.PartEvents.ListsTaken.{IsTooMuch}
+use Rattle.hall_deciding.specs.Taken.{its_lane}
+use Rattle.hall_reads.proofs.Joining.{joins_are_read}
+use Rattle.hall_turns.specs.Keys.{quota_of}
+use Rattle.hall_turns.specs.Takes.{HallSeat, IsTaken, MeetsLaw}
+use Rattle.hall_turns.specs.declared.key.HallKey.{HallKey}
+use Rattle.hall_turns.specs.declared.lane_slot.LaneSlot.{LaneSlot}
+use Rattle.hall_turns.specs.declared.slot.Slot.TheVariants as slots
+use Rattle.owner_acts.proofs.Charging.{ready_may_be_done, spent_is_too_much}
+use Rattle.owner_acts.specs.Quotas.{MayUse}
+use Rattle.owner_advance.specs.Advancing.{IsAtNext, MayCome}
+use Rattle.owner_advance.specs.declared.at_next.AtNext.{AtNext}
+use Rattle.owner_advance.specs.declared.memory.SeatMemory.{SeatMemory}
+use Rattle.owner_events.proofs.Held.{comes, with_lane}
+use Rattle.owner_events.specs.Ready.{IsReadyTo}
+use Rattle.owner_takes.proofs.Following.{note}
+use Rattle.thread_events.specs.Readiness.{IsReadiness}
+use Rattle.thread_events.specs.declared.readiness.Readiness.TheVariants.{Ready, Spent, Missing}
+use Rattle.thread_frames.specs.Actions.{is_there}
+use Rattle.thread_frames.specs.Children.{is_delivered}
+use Rattle.thread_frames.specs.Views.{children_of, newest}
+use Rattle.thread_frames.specs.declared.next.Next.{Next}
+use Rattle.thread_frames.specs.declared.next.Next.TheVariants.{Fork, Join, Alloc, Release, Dummy, Fault, End}
+use Rattle.thread_frames.specs.declared.thread.Thread.{Thread}
+
+-- a Join whose result is missing
+pub missing_is : (used k : ℕ) (top : Thread) (next : Next) (child : ThreadId) → IsReadiness used k top next (Missing child)
+    → (next ≡ Join child) × (is_delivered child (children_of top) ≡ false)
+missing_is used k top Fork child is = absurd is
+missing_is used k top (Join its) child is = (λ i. Join (sym is.0 i), subst (λ id. is_delivered id (children_of top) ≡ false) (sym is.0) is.1)
+missing_is used k top (Alloc words) child is = absurd is
+missing_is used k top (Release words) child is = absurd is
+missing_is used k top Dummy child is = absurd is
+missing_is used k top (Fault fault) child is = absurd is
+missing_is used k top End child is = absurd is
+
+module _ (key : HallKey) (seat : HallSeat) (deque : DequeId) (at : AtNext) (next : Next) (memory : SeatMemory) (r : IsReadyTo key seat deque at next memory) where
+  pub may_use : (charge : ℕ) → IsReadiness at.running.period.used (quota_of key) at.top next (Ready charge)
+      → MayUse key seat.hand.note.worker next charge at.top at.running.period
+  may_use charge ready = let w = r.before.holding.is_next.within in
+      ready_may_be_done key seat.hand.note.worker charge next at.top at.running.period w.quota w.small w.used r.before.holding.is_next.listed ready
+
+  pub too_much : IsReadiness at.running.period.used (quota_of key) at.top next Spent → IsTooMuch key next at.top at.running.period
+  too_much spent = spent_is_too_much key next at.top at.running.period r.before.holding.is_next.listed spent
+
+-- a Join whose result was handed over
+pub there_by : (key : HallKey) (seat : HallSeat) (deque : DequeId) (at : AtNext) (child : ThreadId) (memory : SeatMemory)
+    → IsReadyTo key seat deque at (Join child) memory → is_delivered child (children_of at.top) ≡ true → IsTrue (is_there (newest (children_of at.top)))
+there_by key seat deque at child memory r is = let h = r.before.holding in
+    let reads = joins_are_read key seat deque h.lane at.top at.lane.items child (with_lane key seat deque at (Join child) (spare memory.births) h) r.meets
+    (comes key seat deque (its_lane deque) at (Join child) (spare memory.births) h) in
+    reads.there ∙ sym reads.delivered ∙ is
+
+-- a seat whose top thread has come to its next action
+pub ready_to : (key : HallKey) (before middle : HallSeat) (deque : DequeId) (lane : LaneSlot) (at : AtNext) (next : Next) (memory : SeatMemory)
+    → MayCome before deque → IsTaken before (deque.0 + 2) (slots.Lane lane) middle → IsAtNext key lane at next (spare memory.births) → MeetsLaw key middle
+    → entries memory.births ≡ [] → IsReadyTo key middle deque at next memory
+ready_to key before middle deque lane at next memory may taken is_next meets births = record {
+  before = record {
+    holding = record {
+      goes = record {
+        placed = subst (λ n. 0 < n) (sym (ap (λ s. s.places) (note before middle (deque.0 + 2) (slots.Lane lane) taken))) may.may.goes.placed;
+        stays = ap (λ s. s.left) (note before middle (deque.0 + 2) (slots.Lane lane) taken) ∙ may.may.goes.stays;
+        owns = ap (λ s. s.deque) (note before middle (deque.0 + 2) (slots.Lane lane) taken) ∙ may.may.goes.owns;
+      };
+      lane = lane;
+      holds = ap (λ (s : HallSeat). s.hand.holds) taken ∙ ap (λ xs. (deque.0 + 2, slots.Lane lane) ∷ xs) may.free;
+      is_next = is_next;
+    };
+    free = ap (λ s. s.counting) (note before middle (deque.0 + 2) (slots.Lane lane) taken) ∙ may.may.counting;
+    none = ap (λ s. s.found) (note before middle (deque.0 + 2) (slots.Lane lane) taken) ∙ may.none;
+  };
+  meets = meets;
+  births = births;
+}

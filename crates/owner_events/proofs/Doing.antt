@@ -1,0 +1,76 @@
+-- How a seat leaves once its event was put back.
+use Rattle.std.proofs.Common.{◌≡◌, ◌≢◌, ℕ, Option, List, [], ◌∷◌, ◌++◌, refl, sym, ap, ◌∙◌, subst}
+use Rattle.std.specs.Result.{IsErrAnd}
+use Rattle.std.specs.Prelude.{Some, Result, Ok, Err}
+use Rattle.deque_list.specs.declared.deque_id.DequeId.{DequeId}
+use Rattle.thread_events.specs.Results.{FirstAwaits}
+use Rattle.thread_frames.specs.declared.next.Next.{Next}
+use Rattle.thread_frames.specs.declared.thread.Thread.{Thread}
+use Rattle.turn_table.specs.declared.look.Look.{Look}
+use Rattle.turn_table.specs.declared.look.Look.TheVariants.{Took, Counted}
+use Rattle.turn_table.specs.Seats.{SeatView, with_hand}
+use Rattle.turn_table.specs.Tables.{IsSeatOf}
+use Rattle.turn_table.specs.declared.hand.Hand.{Hand}
+use Rattle.turn_table.specs.declared.turns.Turns.{Turns}
+use Rattle.hall_deciding.specs.PartEvents.Puts.{HasPut}
+use Rattle.hall_deciding.specs.PartEvents.Writes.{told_note}
+use Rattle.hall_turns.specs.Takes.{HallSeat, IsTaken}
+use Rattle.hall_turns.specs.declared.event.Event.{Event}
+use Rattle.hall_turns.specs.declared.key.HallKey.{HallKey}
+use Rattle.hall_turns.specs.declared.lane_slot.LaneSlot.{LaneSlot}
+use Rattle.hall_turns.specs.declared.list_slot.ListSlot.{ListSlot}
+use Rattle.hall_turns.specs.declared.slot.Slot.{Slot}
+use Rattle.hall_turns.specs.declared.slot.Slot.TheVariants as slots
+use Rattle.owner_advance.specs.Advancing.{HasLooked}
+use Rattle.owner_advance.specs.declared.at_next.AtNext.{AtNext}
+use Rattle.owner_takes.proofs.Following.{fails, looked, note}
+use Rattle.owner_takes.specs.Taking.{Draws}
+use Rattle.owner_takes.specs.declared.refused.ActRefused.{ActRefused}
+use Rattle.owner_events.specs.Acting.{Does, DoesWithList, look_at_pool, look_at_count}
+use Rattle.owner_events.specs.declared.acted.Acted.{Acted}
+
+-- an exit by `?`
+pub exit : {T : Type 0} (P : Result T ActRefused → Type 0) (r : Result T ActRefused) (refused : ActRefused) → IsErrAnd r (λ y. y ≡ refused)
+    → P (Err refused) → P r
+exit P (Ok value) refused is p = absurd is
+exit P (Err found) refused is p = subst (λ y. P (Err y)) (sym is) p
+
+-- it is a seat of the same table
+pub here_too : {V L K N : Type 0} (turns : Turns V L K N) (before after : SeatView K V N) {hand : Hand V N} → after ≡ with_hand before hand
+    → IsSeatOf turns before → IsSeatOf turns after
+here_too turns before after is here = (ap (λ s. s.table) is ∙ here.0, ap (λ s. s.key) is ∙ here.1)
+
+module _ (before middle after : HallSeat) (owned : Option DequeId) (event : Event) where
+  -- after an action, for which it drew a count;
+  pub counted_leaves : (key : HallKey) (deque : DequeId) (others : LaneSlot → List (ℕ × Slot)) (at : AtNext) (next : Next) (ready : ℕ)
+      (d : Draws key before deque others at next ready middle) → HasPut middle (told_note middle.hand.note owned event) [] after
+      → HasLooked before (Counted d.found ∷ []) (told_note before.hand.note owned event) after
+  counted_leaves key deque others at next ready d put = put
+      ∙ ap (λ (s : HallSeat). with_hand s (record { seated = s.hand.seated; holds = []; note = told_note s.hand.note owned event; looks = s.hand.looks })) d.drew
+
+  -- if it had taken a slot more.
+  pub taken_leaves : (slot : ℕ) (found : Slot) (taken : IsTaken before slot found middle) (more : List (Look Slot))
+      → HasLooked middle more (told_note middle.hand.note owned event) after
+      → HasLooked before (Took slot found ∷ more) (told_note before.hand.note owned event) after
+  taken_leaves slot found taken more leaves = subst (λ n. HasLooked before (Took slot found ∷ more) (told_note n owned event) after) (note before middle slot found taken)
+      (looked before middle slot found taken after more (told_note middle.hand.note owned event) leaves)
+
+-- what it did with the list that it took
+pub does_with_list : (before middle after : HallSeat) (deque : DequeId) (at : AtNext) (next : Next) (list : ListSlot)
+    → IsTaken before 0 (slots.List list) middle → (r : Result Acted ActRefused) → DoesWithList middle deque at next r after → Does before deque at next r after
+does_with_list before middle after deque at next list taken (Ok acted) d = record {
+  list = Some list;
+  pool = d.pool;
+  count = d.count;
+  owns = d.owns;
+  lists = λ _. d.lists;
+  pools = d.pools;
+  leaves = taken_leaves before middle after acted.owned acted.event 0 (slots.List list) taken (look_at_pool d.pool ++ look_at_count d.count) d.leaves;
+}
+does_with_list before middle after deque at next list taken (Err refused) d = fails before middle 0 (slots.List list) taken after refused d
+
+-- who is directly below, and waits for the result
+pub first_below : (top : Thread) (under : List Thread) → under ≢ [] → FirstAwaits top under
+    → (parent : Thread) × (below : List Thread) × (under ≡ parent ∷ below) × FirstAwaits top (parent ∷ below)
+first_below top [] some awaits = absurd (some refl)
+first_below top (parent ∷ below) some awaits = (parent, below, refl, awaits)

@@ -1,0 +1,11 @@
+mod Held
+mod Doing
+mod Asking
+mod FromList
+mod FromPool
+mod FromCount
+mod Counts
+mod WithList
+mod WithAll
+mod Deciding
+mod Called

@@ -1,0 +1,10 @@
+use Rattle.bounded_list.specs.BoundedList.{spare}
+use Rattle.thread_frames.specs.declared.next.Next.TheVariants as nexts
+use Rattle.turn_table.specs.Tables.{key_of}
+use Rattle.hall_deciding.specs.Taken.{its_lane}
+use Rattle.hall_reads.proofs.Ending.{ends_are_read}
+use Rattle.owner_events.proofs.Held.{comes, with_lane}
+use Rattle.owner_events.proofs.ends.end.Goals as goal
+
+pub end_above-requires-clause-reads : goal.end_above-requires-clause-reads
+end_above-requires-clause-reads c = let h = c.requires.ready.before.holding in ends_are_read (key_of c.args.row.now) c.args.seat.now c.args.deque h.lane c.args.at.top c.args.at.lane.items (with_lane (key_of c.args.row.now) c.args.seat.now c.args.deque c.args.at nexts.End (spare c.args.memory.now.births) h) c.requires.ready.meets (comes (key_of c.args.row.now) c.args.seat.now c.args.deque (its_lane c.args.deque) c.args.at nexts.End (spare c.args.memory.now.births) h)

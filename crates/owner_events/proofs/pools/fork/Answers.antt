@@ -1,0 +1,51 @@
+use Rattle.std.proofs.Common.{◌+◌, ◌≤◌, refl, sym, subst, arith}
+use Rattle.std.specs.Prelude.{Ok}
+use Rattle.bounded_list.specs.BoundedList.{spare}
+use Rattle.thread_frames.specs.declared.next.Next.TheVariants as nexts
+use Rattle.turn_table.specs.Tables.{key_of}
+use Rattle.owner_events.proofs.Asking.{asks_fork}
+use Rattle.owner_events.proofs.Doing.{exit, here_too}
+use Rattle.owner_events.proofs.FromPool as pool
+use Rattle.owner_events.specs.Acting.{Does}
+use Rattle.depth_first_list.specs.Actions.{record_words}
+use Rattle.language_limits.specs.declared.TheConstants.{GREATEST_QUOTA}
+use Rattle.thread_frames.specs.Actions.{IsFork}
+use Rattle.hall_deciding.specs.PartEvents.TakenParts.{MayDoNext}
+use Rattle.owner_events.proofs.pools.fork.Goals as goal
+
+pub take_counted_pool-requires-clause-asks : goal.take_counted_pool-requires-clause-asks
+take_counted_pool-requires-clause-asks c = asks_fork (key_of c.args.row.now) c.args.at c.args.seat.now.hand.note.worker c.args.charge c.requires.uses.may
+
+pub returns-in_err-at-clause-seat : goal.returns-in_err-at-clause-seat
+returns-in_err-at-clause-seat c = exit (λ r. Does c.args.seat.now c.args.deque c.args.at nexts.Fork r c.take_counted_pool.new.seat)
+    c.from_residual.result c.in_err-at.field-0.0 c.from_residual.ensures.1 (c.in_err-at.ensures.seat (spare c.args.memory.now.births) c.requires.ready.before)
+
+pub act_fork-name-requires-clause-here : goal.act_fork-name-requires-clause-here
+act_fork-name-requires-clause-here c = here_too c.args.row.now c.args.seat.now c.take_counted_pool.new.seat (c.in_ok-at.ensures.seat (spare c.args.memory.now.births) c.requires.ready.before).1.drew c.requires.here
+
+pub act_fork-name-requires-clause-may : goal.act_fork-name-requires-clause-may
+act_fork-name-requires-clause-may c = pool.may (key_of c.args.row.now) c.args.seat.now c.args.deque c.args.at nexts.Fork (spare c.args.memory.now.births) c.in_ok-at.at c.in_ok-at.pool c.take_counted_pool.new.seat (c.in_ok-at.ensures.seat (spare c.args.memory.now.births) c.requires.ready.before)
+
+pub act_fork-name-requires-clause-ready : goal.act_fork-name-requires-clause-ready
+act_fork-name-requires-clause-ready c = pool.ready_for (key_of c.args.row.now) c.args.seat.now c.args.deque c.args.at nexts.Fork (spare c.args.memory.now.births) c.in_ok-at.at c.in_ok-at.pool c.take_counted_pool.new.seat (c.in_ok-at.ensures.seat (spare c.args.memory.now.births) c.requires.ready.before) 2 (omega (arith))
+
+pub act_fork-name-requires-clause-pool : goal.act_fork-name-requires-clause-pool
+act_fork-name-requires-clause-pool c = pool.pool_ready (key_of c.args.row.now) c.args.seat.now c.args.deque c.args.at nexts.Fork (spare c.args.memory.now.births) c.in_ok-at.at c.in_ok-at.pool c.take_counted_pool.new.seat (c.in_ok-at.ensures.seat (spare c.args.memory.now.births) c.requires.ready.before)
+
+pub act_fork-name-requires-clause-next : goal.act_fork-name-requires-clause-next
+act_fork-name-requires-clause-next c = subst IsFork (sym (pool.next_is (key_of c.args.row.now) c.args.seat.now c.args.deque c.args.at nexts.Fork (spare c.args.memory.now.births) c.in_ok-at.at c.in_ok-at.pool c.take_counted_pool.new.seat (c.in_ok-at.ensures.seat (spare c.args.memory.now.births) c.requires.ready.before))) tt
+
+pub act_fork-name-requires-clause-fits : goal.act_fork-name-requires-clause-fits
+act_fork-name-requires-clause-fits c = pool.so (key_of c.args.row.now) c.args.seat.now c.args.deque c.args.at nexts.Fork (spare c.args.memory.now.births) c.in_ok-at.at c.in_ok-at.pool c.take_counted_pool.new.seat (c.in_ok-at.ensures.seat (spare c.args.memory.now.births) c.requires.ready.before)
+    (λ a. a.running.period.used + record_words ≤ GREATEST_QUOTA) (subst (λ n. c.args.at.running.period.used + n ≤ GREATEST_QUOTA) (c.requires.uses.forks refl) c.requires.uses.fits)
+
+pub act_fork-name-requires-clause-arena : goal.act_fork-name-requires-clause-arena
+act_fork-name-requires-clause-arena c = pool.fits (key_of c.args.row.now) c.args.seat.now c.args.deque c.args.at nexts.Fork (spare c.args.memory.now.births) c.in_ok-at.at c.in_ok-at.pool c.take_counted_pool.new.seat (c.in_ok-at.ensures.seat (spare c.args.memory.now.births) c.requires.ready.before)
+
+pub act_fork-name-requires-clause-listed : goal.act_fork-name-requires-clause-listed
+act_fork-name-requires-clause-listed c = subst (λ n. MayDoNext (key_of c.args.row.now) c.take_counted_pool.new.seat.hand.note.worker nexts.Fork n c.in_ok-at.at.top c.in_ok-at.at.running.period) (c.requires.uses.forks refl)
+    (pool.may_do (key_of c.args.row.now) c.args.seat.now c.args.deque c.args.at nexts.Fork (spare c.args.memory.now.births) c.in_ok-at.at c.in_ok-at.pool c.take_counted_pool.new.seat (c.in_ok-at.ensures.seat (spare c.args.memory.now.births) c.requires.ready.before) c.args.charge c.requires.uses.may)
+
+pub returns-clause-seat : goal.returns-clause-seat
+returns-clause-seat c = subst (λ a. Does c.args.seat.now c.args.deque c.args.at nexts.Fork (Ok a) c.act_fork-name.new.seat) (sym c.did.ensures) (pool.done (key_of c.args.row.now) c.args.seat.now c.args.deque c.args.at nexts.Fork (spare c.args.memory.now.births) c.in_ok-at.at c.in_ok-at.pool c.take_counted_pool.new.seat (c.in_ok-at.ensures.seat (spare c.args.memory.now.births) c.requires.ready.before)
+    c.act_fork-name.result c.act_fork-name.new.seat tt c.act_fork-name.ensures.seat)

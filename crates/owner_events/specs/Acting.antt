@@ -1,0 +1,83 @@
+-- What the call of an owner comes to.
+use Rattle.std.specs.Prelude.{◌≡◌, ◌≢◌, ◌⊎◌, ℕ, Option, None, Some, List, [], ◌∷◌, ◌++◌, Result, Ok, Err}
+use Rattle.deque_list.specs.declared.deque_id.DequeId.{DequeId}
+use Rattle.thread_frames.specs.declared.next.Next.{Next}
+use Rattle.turn_table.specs.declared.look.Look.{Look}
+use Rattle.turn_table.specs.declared.look.Look.TheVariants.{Took, Counted}
+use Rattle.hall_deciding.specs.PartEvents.Writes.{told_note}
+use Rattle.hall_turns.specs.Takes.{HallSeat}
+use Rattle.hall_turns.specs.declared.key.HallKey.{HallKey}
+use Rattle.hall_turns.specs.declared.lane_slot.LaneSlot.{LaneSlot}
+use Rattle.hall_turns.specs.declared.list_slot.ListSlot.{ListSlot}
+use Rattle.hall_turns.specs.declared.pool_slot.PoolSlot.{PoolSlot}
+use Rattle.hall_turns.specs.declared.slot.Slot.{Slot}
+use Rattle.hall_turns.specs.declared.slot.Slot.TheVariants as slots
+use Rattle.owner_advance.specs.Advancing.{IsAtNext, HasLooked, took_lane}
+use Rattle.owner_advance.specs.declared.at_next.AtNext.{AtNext}
+use Rattle.owner_takes.specs.Holding.{Fails}
+use Rattle.owner_takes.specs.declared.refused.ActRefused.{ActRefused}
+use Rattle.owner_events.specs.Needs.{NeedsList, NeedsPool}
+use Rattle.owner_events.specs.declared.acted.Acted.{Acted}
+
+-- its answers at the list and at the pool, if it took them, and at its count, if it drew one
+abbrev pub look_at_list : Option ListSlot → List (Look Slot)
+look_at_list None = []
+look_at_list (Some list) = Took 0 (slots.List list) ∷ []
+
+abbrev pub look_at_pool : Option PoolSlot → List (Look Slot)
+look_at_pool None = []
+look_at_pool (Some pool) = Took 1 (slots.Pool pool) ∷ []
+
+abbrev pub look_at_count : Option ℕ → List (Look Slot)
+look_at_count None = []
+look_at_count (Some found) = Counted found ∷ []
+
+-- The seat that held its lane did this: it took the list and the pool only if the event needs them, notes the event, owns its deque or none, and
+-- holds nothing.
+pub record HasDone (before : HallSeat) (deque : DequeId) (at : AtNext) (next : Next) (acted : Acted) (after : HallSeat) : Type 0 where
+  pub list : Option ListSlot
+  pub pool : Option PoolSlot
+  pub count : Option ℕ
+  pub owns : (acted.owned ≡ None) ⊎ (acted.owned ≡ Some deque)
+  pub lists : list ≢ None → NeedsList at next acted.event
+  pub pools : pool ≢ None → NeedsPool at next acted.event
+  pub leaves : HasLooked before (look_at_list list ++ (look_at_pool pool ++ look_at_count count))
+      (told_note before.hand.note acted.owned acted.event) after
+
+-- So it is with a seat that held its lane: it did its event or failed.
+abbrev pub Does : HallSeat → DequeId → AtNext → Next → Result Acted ActRefused → HallSeat → Type 0
+Does before deque at next (Ok acted) after = HasDone before deque at next acted after
+Does before deque at next (Err refused) after = Fails before refused after
+
+-- What the call answers: what the owner did, by what its lane showed; or why it failed.
+pub record HasActed (key : HallKey) (before : HallSeat) (deque : DequeId) (acted : Acted) (after : HallSeat) : Type 0 where
+  pub lane : LaneSlot
+  pub at : AtNext
+  pub next : Next
+  pub ready : ℕ
+  pub is_next : IsAtNext key lane at next ready
+  pub list : Option ListSlot
+  pub pool : Option PoolSlot
+  pub count : Option ℕ
+  pub owns : (acted.owned ≡ None) ⊎ (acted.owned ≡ Some deque)
+  pub lists : list ≢ None → NeedsList at next acted.event
+  pub pools : pool ≢ None → NeedsPool at next acted.event
+  pub leaves : HasLooked before (took_lane deque lane ∷ (look_at_list list ++ (look_at_pool pool ++ look_at_count count)))
+      (told_note before.hand.note acted.owned acted.event) after
+
+abbrev pub Acts : HallKey → HallSeat → DequeId → Result Acted ActRefused → HallSeat → Type 0
+Acts key before deque (Ok acted) after = HasActed key before deque acted after
+Acts key before deque (Err refused) after = Fails before refused after
+
+-- So it is with a seat that held its lane and the list: it did an event that needs the list, or failed.
+pub record HasDoneWithList (before : HallSeat) (deque : DequeId) (at : AtNext) (next : Next) (acted : Acted) (after : HallSeat) : Type 0 where
+  pub pool : Option PoolSlot
+  pub count : Option ℕ
+  pub owns : (acted.owned ≡ None) ⊎ (acted.owned ≡ Some deque)
+  pub lists : NeedsList at next acted.event
+  pub pools : pool ≢ None → NeedsPool at next acted.event
+  pub leaves : HasLooked before (look_at_pool pool ++ look_at_count count) (told_note before.hand.note acted.owned acted.event) after
+
+abbrev pub DoesWithList : HallSeat → DequeId → AtNext → Next → Result Acted ActRefused → HallSeat → Type 0
+DoesWithList before deque at next (Ok acted) after = HasDoneWithList before deque at next acted after
+DoesWithList before deque at next (Err refused) after = Fails before refused after

@@ -1,0 +1,124 @@
+//! The next event of an owner, in one call.
+
+ghost use Rattle.std.specs.Prelude.{◌≡◌, ◌+◌, ◌<◌, [], IsSome};
+ghost use Rattle.bounded_list.specs.BoundedList.{entries};
+ghost use Rattle.turn_table.specs.Tables.{key_of, slot_count, IsSeatOf};
+ghost use Rattle.owner_advance.specs.Advancing.{IsRunBy, MayCome};
+ghost use Rattle.hall_turns.specs.Takes.{HasAllPlaces};
+ghost use Rattle.owner_takes.specs.Holding.{IsNotBusy};
+ghost use Rattle.owner_events.specs.Acting.{Acts, Does};
+ghost use Rattle.owner_events.specs.Ready.{IsReadyTo};
+ghost use Rattle.hall_turns.specs.Keys.{quota_of};
+ghost use Rattle.thread_events.specs.Readiness.{IsReadiness};
+ghost use Rattle.thread_events.specs.declared.readiness.Readiness.TheVariants.{Ready};
+
+use crate::acted::Acted;
+use crate::ends::end;
+use crate::joins::{join_delivered, join_missing};
+use crate::lists::{dummy, give_up};
+use crate::pools::{alloc, fault, fork, release};
+use deque_list::DequeId;
+use dummy_tree::Quota;
+use hall_turns::{HallPlace, HallRow};
+use node_table::Code;
+use owner_advance::{AdvanceRefused, AtNext, SeatMemory, come_to_next};
+use owner_takes::ActRefused;
+use run_end::Stop;
+use std::alloc::Global;
+use thread_events::{Readiness, readiness_of};
+use thread_frames::Next;
+
+/// Does the next action of the top thread, which its period may do and which uses `charge` words of the quota.
+fn do_next(
+    row: &HallRow,
+    seat: &mut HallPlace,
+    deque: DequeId,
+    limit: u32,
+    memory: &mut SeatMemory,
+    at: AtNext,
+    next: Next,
+    charge: u32,
+) -> Result<Acted, ActRefused>
+    requires here { IsSeatOf row.now seat.old }
+    requires slot { deque.0 + 2 < slot_count row.now }
+    requires limit { limit ≡ (key_of row.now).actions }
+    requires ready { IsReadyTo (key_of row.now) seat.old deque at next memory.old }
+    requires place { IsSome memory.old.place }
+    requires uses { IsReadiness at.running.period.used (quota_of (key_of row.now)) at.top next (Ready charge) }
+    ensures seat { Does seat.old deque at next result seat.new }
+    ensures births { entries memory.new.births ≡ [] }
+    ensures lone { HasAllPlaces (key_of row.now) seat.old → IsNotBusy result }
+{
+    match next {
+        Next::Fork => fork(row, seat, deque, limit, memory, at, charge),
+        Next::Join { child } => join_delivered(row, seat, deque, limit, memory, at, child),
+        Next::Alloc { words } => alloc(row, seat, deque, limit, memory, at, words, charge),
+        Next::Release { words } => release(row, seat, deque, limit, memory, at, words),
+        Next::Dummy => dummy(row, seat, deque, limit, memory, at),
+        Next::Fault(found) => fault(row, seat, deque, limit, memory, at, found),
+        Next::End => end(row, seat, deque, limit, memory, at),
+    }
+}
+
+/// Does the event for which the action asks before which the top thread is.
+fn go_on(
+    row: &HallRow,
+    seat: &mut HallPlace,
+    deque: DequeId,
+    quota: Quota,
+    limit: u32,
+    memory: &mut SeatMemory,
+    at: AtNext,
+    next: Next,
+) -> Result<Acted, ActRefused>
+    requires here { IsSeatOf row.now seat.old }
+    requires slot { deque.0 + 2 < slot_count row.now }
+    requires quota { (key_of row.now).quota ≡ quota }
+    requires limit { limit ≡ (key_of row.now).actions }
+    requires ready { IsReadyTo (key_of row.now) seat.old deque at next memory.old }
+    requires place { IsSome memory.old.place }
+    ensures seat { Does seat.old deque at next result seat.new }
+    ensures births { entries memory.new.births ≡ [] }
+    ensures lone { HasAllPlaces (key_of row.now) seat.old → IsNotBusy result }
+{
+    match readiness_of(&at.running.period, &at.top, next, quota) {
+        Readiness::Ready { charge } => {
+            do_next(row, seat, deque, limit, memory, at, next, charge)
+        }
+        Readiness::Spent => give_up(row, seat, deque, at),
+        Readiness::Missing { child } => join_missing(row, seat, deque, limit, memory, at, child),
+    }
+}
+
+/// Does the next event of a seat that owns a deque: its top thread does its next action, or waits for a child, or the deque is given up.
+///
+/// # Errors
+///
+/// Another seat holds a slot that the event needs, an end is kept in the list that it took, or the seat found a stop. The moment of the hall is what
+/// it was, and the seat holds nothing.
+pub fn act(
+    row: &HallRow,
+    seat: &mut HallPlace,
+    deque: DequeId,
+    code: &Code,
+    quota: Quota,
+    limit: u32,
+    alloc: Global,
+    memory: &mut SeatMemory,
+) -> Result<Acted, ActRefused>
+    requires here { IsSeatOf row.now seat.old }
+    requires slot { deque.0 + 2 < slot_count row.now }
+    requires terms { IsRunBy (key_of row.now) code.now quota }
+    requires limit { limit ≡ (key_of row.now).actions }
+    requires may { MayCome seat.old deque }
+    requires births { entries memory.old.births ≡ [] }
+    ensures seat { Acts (key_of row.now) seat.old deque result seat.new }
+    ensures births { entries memory.new.births ≡ [] }
+    ensures lone { HasAllPlaces (key_of row.now) seat.old → IsNotBusy result }
+{
+    match come_to_next(row, seat, deque, code, quota, alloc, memory) {
+        Ok((at, next)) => go_on(row, seat, deque, quota, limit, memory, at, next),
+        Err(AdvanceRefused::Busy(held)) => Err(ActRefused::Busy(held)),
+        Err(AdvanceRefused::OutOfMemory) => Err(ActRefused::Stopped(Stop::OutOfMemory)),
+    }
+}

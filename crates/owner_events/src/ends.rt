@@ -1,0 +1,82 @@
+//! The End, by where the parent is.
+
+ghost use Rattle.std.specs.Prelude.{◌≡◌, ◌+◌, ◌<◌, [], IsTrue, IsSome, ◌↔◌};
+ghost use Rattle.bounded_list.specs.BoundedList.{entries};
+ghost use Rattle.thread_frames.specs.declared.next.Next.TheVariants as nexts;
+ghost use Rattle.thread_frames.specs.declared.thread.Thread.{Thread as AnyThread};
+ghost use Rattle.thread_map.specs.Kept.{kept_under};
+ghost use Rattle.turn_table.specs.Tables.{key_of, slot_count, IsSeatOf};
+ghost use Rattle.hall_turns.specs.Takes.{HasAllPlaces};
+ghost use Rattle.owner_takes.specs.Holding.{IsNotBusy};
+ghost use Rattle.owner_events.specs.Acting.{Does};
+ghost use Rattle.owner_events.specs.Ready.{IsReadyTo};
+
+use crate::acted::Acted;
+use crate::lists::root_end;
+use crate::pools::end_above;
+use crate::wholes::{leaving_end, waking_end};
+use boxed::Boxed;
+use dag_order::Placed;
+use deque_list::DequeId;
+use hall_turns::{HallPlace, HallRow, ListSlot};
+use owner_advance::{AtNext, SeatMemory};
+use owner_takes::{ActRefused, take_open_list};
+use thread_frames::Thread;
+
+/// Whether the parent of a thread waits for it in the list.
+fn is_awaited(list: &Boxed<ListSlot>, top: &Boxed<Thread>) -> bool
+    ensures { IsTrue result ↔ IsSome (kept_under list.now.part.waiting (AnyThread.id top.now)) }
+{
+    list.get().part.waiting.has(top.get().id())
+}
+
+/// Does the End of a thread that is alone in its deque.
+fn end_alone(
+    row: &HallRow,
+    seat: &mut HallPlace,
+    deque: DequeId,
+    limit: u32,
+    memory: &mut SeatMemory,
+    at: AtNext,
+) -> Result<Acted, ActRefused>
+    requires here { IsSeatOf row.now seat.old }
+    requires slot { deque.0 + 2 < slot_count row.now }
+    requires limit { limit ≡ (key_of row.now).actions }
+    requires ready { IsReadyTo (key_of row.now) seat.old deque at nexts.End memory.old }
+    requires alone { at.lane.items ≡ [] }
+    ensures seat { Does seat.old deque at nexts.End result seat.new }
+    ensures births { entries memory.new.births ≡ [] }
+    ensures lone { HasAllPlaces (key_of row.now) seat.old → IsNotBusy result }
+{
+    let (at, list) = take_open_list(row, seat, deque, at)?;
+    if at.top.get().label().is_empty() {
+        return root_end(row, seat, deque, limit, memory, at, list);
+    }
+    if is_awaited(&list, &at.top) {
+        return waking_end(row, seat, deque, limit, memory, at, list);
+    }
+    leaving_end(row, seat, deque, limit, memory, at, list)
+}
+
+/// Does the End of a thread.
+pub(crate) fn end(
+    row: &HallRow,
+    seat: &mut HallPlace,
+    deque: DequeId,
+    limit: u32,
+    memory: &mut SeatMemory,
+    at: AtNext,
+) -> Result<Acted, ActRefused>
+    requires here { IsSeatOf row.now seat.old }
+    requires slot { deque.0 + 2 < slot_count row.now }
+    requires limit { limit ≡ (key_of row.now).actions }
+    requires ready { IsReadyTo (key_of row.now) seat.old deque at nexts.End memory.old }
+    ensures seat { Does seat.old deque at nexts.End result seat.new }
+    ensures births { entries memory.new.births ≡ [] }
+    ensures lone { HasAllPlaces (key_of row.now) seat.old → IsNotBusy result }
+{
+    if at.lane.len() > 0 {
+        return end_above(row, seat, deque, limit, memory, at);
+    }
+    end_alone(row, seat, deque, limit, memory, at)
+}
