@@ -2,3 +2,4 @@ pub mod Closing
 pub mod Opening
 pub mod Seated
 pub mod Thieves
+pub mod Owners

@@ -1,5 +1,6 @@
 -- What holds between the calls of a seat of a hall.
 use Rattle.std.specs.Prelude.{◌≡◌, ◌+◌, ◌<◌, ◌≤◌, false, None, Some, [], Result, Ok, Err}
+use Rattle.bounded_list.specs.BoundedList.{entries}
 use Rattle.deque_list.specs.declared.deque_id.DequeId.{DequeId}
 use Rattle.turn_table.specs.Tables.{key_of, slot_count, IsSeatOf}
 use Rattle.hall_law.specs.Numbers.{IsSmallestNumber}
@@ -18,7 +19,8 @@ pub record IsHall (hall : Hall) : Type 0 where
   pub workers : (key_of hall.row).workers ≡ hall.workers
   pub limit : (key_of hall.row).actions ≡ hall.limit
 
--- It is a seat of this hall, which holds nothing, and is in; what it says of itself is what it notes. Its deque has a slot.
+-- It is a seat of this hall, which holds nothing, and is in; what it says of itself is what it notes. Its deque has a slot, and the list of births
+-- that it keeps ready has none.
 pub record IsIn (hall : Hall) (seat : Seat) : Type 0 where
   pub is_hall : IsHall hall
   pub here : IsSeatOf hall.row seat.place
@@ -33,6 +35,7 @@ pub record IsIn (hall : Hall) (seat : Seat) : Type 0 where
   pub its_deque : seat.place.hand.note.deque ≡ seat.owned
   pub its_stop : seat.place.hand.note.found ≡ seat.stop
   pub inside : (id : DequeId) → seat.owned ≡ Some id → id.0 + 2 < slot_count hall.row
+  pub births : entries seat.memory.births ≡ []
 
 -- it says the same of itself
 pub record SameSeat (before after : Seat) : Type 0 where

@@ -10,6 +10,7 @@ use crate::refused::EnterRefused;
 use crate::seat::Seat;
 use hall_entering::enter;
 use hall_seats::halt;
+use owner_advance::SeatMemory;
 use run_end::{RunEnd, Stop};
 use turn_table::Held;
 
@@ -37,6 +38,7 @@ impl Hall {
                     places: 1,
                     owned: None,
                     stop: None,
+                    memory: SeatMemory::new(self.alloc),
                 })
             }
             Err(hall_entering::EnterRefused::Busy(held)) => Err(EnterRefused::Busy(held)),

@@ -88,6 +88,7 @@ fn close_alone(hall: Hall, last: Seat) -> Result<Closing, (Hall, Seat, CloseRefu
         places,
         owned,
         stop,
+        memory,
     } = last;
     match close(row, place) {
         Ok(closed) => Ok(closing_of(closed)),
@@ -106,6 +107,7 @@ fn close_alone(hall: Hall, last: Seat) -> Result<Closing, (Hall, Seat, CloseRefu
                 places,
                 owned,
                 stop,
+                memory,
             },
             CloseRefused::NotOver,
         )),

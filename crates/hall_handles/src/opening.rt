@@ -9,6 +9,7 @@ use crate::hall::Hall;
 use crate::seat::Seat;
 use dfd_core::Core;
 use hall_entry::open_hall;
+use owner_advance::SeatMemory;
 use std::alloc::{AllocError, Global};
 
 impl Hall {
@@ -41,6 +42,7 @@ impl Hall {
             places: workers,
             owned: None,
             stop: None,
+            memory: SeatMemory::new(alloc),
         };
         Ok((hall, seat))
     }

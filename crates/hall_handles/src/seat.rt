@@ -2,6 +2,7 @@ ghost use Rattle.std.specs.Prelude.{◌≡◌};
 
 use deque_list::DequeId;
 use hall_turns::HallPlace;
+use owner_advance::SeatMemory;
 use run_end::Stop;
 
 /// The right of one worker to work in a hall.
@@ -14,6 +15,8 @@ pub struct Seat {
     pub owned: Option<DequeId>,
     /// The stop that it found, if any.
     pub stop: Option<Stop>,
+    /// The memory that it has for its next event.
+    pub memory: SeatMemory,
 }
 
 impl Seat {

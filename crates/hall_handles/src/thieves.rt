@@ -84,6 +84,7 @@ impl Hall {
             places,
             owned,
             stop,
+            memory,
         } = seat;
         match leave(&self.row, place, &mut into.place, worker, stop) {
             Ok(()) => {
@@ -97,6 +98,7 @@ impl Hall {
                     places,
                     owned,
                     stop,
+                    memory,
                 },
                 LeaveRefused::Busy(held),
             )),
