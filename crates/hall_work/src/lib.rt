@@ -1,0 +1,14 @@
+//! How a worker works in a hall of threads.
+//!
+//! A worker of a hall has a seat and the words by which it picks its victims ([`HallWorker`]). Each try of it is one call of its seat: it keeps
+//! the stop that it found, acts if it owns a deque, and otherwise steals. So it is a worker of `work_loop`, whose loops let it try until its
+//! run has ended, in a thread of its own.
+//!
+//! It stands on the calls of a seat (`hall_handles`) and on the loops (`work_loop`). Its one theorem: whatever the other seats do, a worker whose
+//! loop returns was answered the end that it returns, and its seat is of the same hall, with the same number and places.
+#![tactic(auto)]
+
+mod tries;
+mod worker;
+
+pub use worker::HallWorker;
