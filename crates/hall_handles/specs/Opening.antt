@@ -3,17 +3,18 @@ use Rattle.std.specs.Prelude.{◌≡◌, ◌+◌, None}
 use Rattle.dfd_core.specs.Cores.{terms_at, workers_of}
 use Rattle.dfd_core.specs.declared.run.Core.{Core}
 use Rattle.turn_table.specs.Hands.{fresh}
+use Rattle.node_table.specs.declared.code.Code.{Code}
 use Rattle.turn_table.specs.Tables.{key_of, slot_count}
 use Rattle.hall_entry.specs.Entry.{IsKeyOf}
 use Rattle.hall_opening.specs.First.{first_note}
 use Rattle.hall_handles.specs.declared.hall.Hall.{Hall}
 use Rattle.hall_handles.specs.declared.seat.Seat.{Seat}
 
--- A hall of this core: it has its program, its quota and its terms, and a slot for each deque that there may be.
-pub record IsHallOf (core : Core) (hall : Hall) : Type 0 where
+-- A hall of this core, and its program: they have its program, its quota and its terms, and a slot for each deque that there may be.
+pub record IsHallOf (core : Core) (hall : Hall) (code : Code) : Type 0 where
   pub key : IsKeyOf core (key_of hall.row)
   pub slots : slot_count hall.row ≡ (terms_at core).limits.deques + 2
-  pub code : hall.code ≡ core.code
+  pub program : code ≡ core.code
   pub quota : hall.quota ≡ core.k
   pub workers : hall.workers ≡ workers_of core
   pub limit : hall.limit ≡ (terms_at core).limits.actions

@@ -2,6 +2,7 @@
 use Rattle.std.specs.Prelude.{◌≡◌, ◌+◌, ◌<◌, ◌≤◌, false, None, Some, [], Result, Ok, Err}
 use Rattle.bounded_list.specs.BoundedList.{entries}
 use Rattle.deque_list.specs.declared.deque_id.DequeId.{DequeId}
+use Rattle.node_table.specs.declared.code.Code.{Code}
 use Rattle.turn_table.specs.Tables.{key_of, slot_count, IsSeatOf}
 use Rattle.hall_law.specs.Numbers.{IsSmallestNumber}
 use Rattle.hall_turns.specs.declared.list_slot.ListSlot.{ListSlot}
@@ -14,10 +15,13 @@ use Rattle.hall_handles.specs.declared.refused.EnterRefused.TheVariants.{Crowded
 
 -- what a hall says of its terms is what its law is about
 pub record IsHall (hall : Hall) : Type 0 where
-  pub code : (key_of hall.row).code.value ≡ hall.code
   pub quota : (key_of hall.row).quota ≡ hall.quota
   pub workers : (key_of hall.row).workers ≡ hall.workers
   pub limit : (key_of hall.row).actions ≡ hall.limit
+
+-- the program that the hall runs
+abbrev pub IsProgramOf : Hall → Code → Type 0
+IsProgramOf hall code = (key_of hall.row).code.value ≡ code
 
 -- It is a seat of this hall, which holds nothing, and is in; what it says of itself is what it notes. Its deque has a slot, and the list of births
 -- that it keeps ready has none.

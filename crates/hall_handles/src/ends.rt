@@ -76,7 +76,6 @@ fn close_alone(hall: Hall, last: Seat) -> Result<Closing, (Hall, Seat, CloseRefu
 {
     let Hall {
         row,
-        code,
         quota,
         workers,
         limit,
@@ -95,7 +94,6 @@ fn close_alone(hall: Hall, last: Seat) -> Result<Closing, (Hall, Seat, CloseRefu
         Err((row, place)) => Err((
             Hall {
                 row,
-                code,
                 quota,
                 workers,
                 limit,

@@ -1,13 +1,11 @@
 use dummy_tree::Quota;
 use hall_turns::HallRow;
-use node_table::Code;
 use std::alloc::Global;
 
-/// A scheduler that threads share: its slots, its program, and what bounds its run.
+/// A scheduler that threads share: its slots, and what bounds its run. Its program stands beside it.
 #[derive(Drop)]
 pub struct Hall {
     pub row: HallRow,
-    pub code: Code,
     /// The words that a worker may allocate between two steals.
     pub quota: Quota,
     pub workers: u32,

@@ -1,6 +1,6 @@
 //! A hall of threads, and the seats by which they work in it.
 //!
-//! A [`Hall`] is the slots of a scheduler with its program and its terms; a [`Seat`] is the right of one worker to work there. A hall is made of
+//! A [`Hall`] is the slots of a scheduler with its terms, beside its program; a [`Seat`] is the right of one worker to work there. A hall is made of
 //! a core that has done no step ([`Hall::new`]), with a seat for the worker 0, which has the places of all workers. A worker enters by a seat
 //! that has two places, steals, acts, keeps the stop that it found, and leaves into another seat. The seat that has all places closes the hall.
 //!

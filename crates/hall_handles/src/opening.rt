@@ -3,26 +3,28 @@
 ghost use Rattle.std.specs.Prelude.{IfOk};
 ghost use Rattle.dfd_core.specs.Parts.{IsFresh};
 ghost use Rattle.hall_handles.specs.Opening.{IsFirstSeat, IsHallOf};
-ghost use Rattle.hall_handles.specs.Seated.{IsIn};
+ghost use Rattle.hall_handles.specs.Seated.{IsIn, IsProgramOf};
 
 use crate::hall::Hall;
 use crate::seat::Seat;
 use dfd_core::Core;
 use hall_entry::open_hall;
+use node_table::Code;
 use owner_advance::SeatMemory;
 use std::alloc::{AllocError, Global};
 
 impl Hall {
-    /// The hall of a core that has done no step, and its first seat, which has the places of all workers.
+    /// The hall of a core that has done no step, its program, and its first seat, which has the places of all workers.
     ///
     /// # Errors
     ///
     /// There is not enough memory.
-    pub fn new(alloc: Global, core: Core) -> Result<(Hall, Seat), AllocError>
+    pub fn new(alloc: Global, core: Core) -> Result<(Hall, Code, Seat), AllocError>
         requires { IsFresh core }
-        ensures here { IfOk result (λ made. IsIn made.0 made.1) }
-        ensures hall { IfOk result (λ made. IsHallOf core made.0) }
-        ensures seat { IfOk result (λ made. IsFirstSeat made.0 made.1) }
+        ensures here { IfOk result (λ made. IsIn made.0 made.2) }
+        ensures program { IfOk result (λ made. IsProgramOf made.0 made.1) }
+        ensures hall { IfOk result (λ made. IsHallOf core made.0 made.1) }
+        ensures seat { IfOk result (λ made. IsFirstSeat made.0 made.2) }
     {
         let quota = core.quota();
         let workers = core.workers();
@@ -30,7 +32,6 @@ impl Hall {
         let (row, place, code) = open_hall(alloc, core)?;
         let hall = Hall {
             row,
-            code,
             quota,
             workers,
             limit,
@@ -44,6 +45,6 @@ impl Hall {
             stop: None,
             memory: SeatMemory::new(alloc),
         };
-        Ok((hall, seat))
+        Ok((hall, code, seat))
     }
 }

@@ -2,7 +2,7 @@
 
 ghost use Rattle.std.specs.Prelude.{◌≡◌, Some};
 ghost use Rattle.hall_handles.specs.Owners.{ActsIn};
-ghost use Rattle.hall_handles.specs.Seated.{IsIn};
+ghost use Rattle.hall_handles.specs.Seated.{IsIn, IsProgramOf};
 ghost use Rattle.hall_handles.specs.Thieves.{IsNotBusy};
 
 use crate::hall::Hall;
@@ -10,6 +10,7 @@ use crate::refused::EventRefused;
 use crate::seat::Seat;
 use deque_list::DequeId;
 use hall_turns::Event;
+use node_table::Code;
 use owner_events::act;
 use owner_takes::ActRefused;
 
@@ -22,7 +23,8 @@ impl Hall {
     /// Another seat holds a slot that the event needs (never, if this one has all places), or an end is kept in the list that it took. Or the
     /// seat found a stop before, or finds one now: the words of the action do not fit the arena, there is not enough memory, or as many actions as
     /// are allowed were counted. The stop is not kept in the list yet. The moment of the hall is what it was.
-    pub fn act(&self, seat: &mut Seat) -> Result<Event, EventRefused>
+    pub fn act(&self, code: &Code, seat: &mut Seat) -> Result<Event, EventRefused>
+        requires program { IsProgramOf self.now code.now }
         requires here { IsIn self.now seat.old }
         requires owns { (deque : DequeId) × (seat.old.owned ≡ Some deque) }
         ensures here { IsIn self.now seat.new }
@@ -39,7 +41,7 @@ impl Hall {
             &self.row,
             &mut seat.place,
             deque,
-            &self.code,
+            code,
             self.quota,
             self.limit,
             self.alloc,

@@ -1,6 +1,7 @@
 use crate::tries::try_next;
 use core_ends::Choices;
 use hall_handles::{Hall, Seat};
+use node_table::Code;
 use run_end::RunEnd;
 use work_loop::{Tried, Works};
 
@@ -12,12 +13,12 @@ pub struct HallWorker<C> {
     pub choices: C,
 }
 
-impl<C: Choices> Works<Hall, RunEnd> for HallWorker<C> {
-    ghost use Rattle.hall_handles.specs.Seated.{IsIn};
+impl<C: Choices> Works<Hall, Code, RunEnd> for HallWorker<C> {
+    ghost use Rattle.hall_handles.specs.Seated.{IsIn, IsProgramOf};
     ghost use Rattle.hall_work.specs.Working.{HasSeen, IsSameWorker, same_worker, same_on};
     ghost use Rattle.hall_work.specs.declared.worker.HallWorker.{HallWorker as AnyWorker};
 
-    ghost may_try = { λ hall worker. IsIn hall (AnyWorker.seat worker) };
+    ghost may_try = { λ hall code worker. IsProgramOf hall code × IsIn hall (AnyWorker.seat worker) };
 
     ghost is_same = { λ before after. IsSameWorker (AnyWorker.seat before) (AnyWorker.seat after) };
 
@@ -27,8 +28,8 @@ impl<C: Choices> Works<Hall, RunEnd> for HallWorker<C> {
         self.seat.worker()
     }
 
-    fn try_once(&mut self, hall: &Hall) -> Tried<RunEnd> {
-        try_next(hall, &mut self.seat, &mut self.choices)
+    fn try_once(&mut self, table: &Hall, code: &Code) -> Tried<RunEnd> {
+        try_next(table, code, &mut self.seat, &mut self.choices)
     }
 
     ghost same_itself = { λ worker. same_worker (AnyWorker.seat worker) };

@@ -12,16 +12,17 @@ use std::thread;
 use std::thread::Threads;
 
 /// Works one member until its work has ended.
-fn let_work<R: Wait, T, E: Drop, W: Works<T, E>, G: Gate>(
+fn let_work<R: Wait, T, K, E: Drop, W: Works<T, K, E>, G: Gate>(
     rt: &R,
-    shared: &T,
+    table: &T,
+    code: &K,
     member: &mut Member<W, E>,
     gate: &G,
 )
-    requires { W.may_try shared.now member.old.worker }
-    ensures { HasWorked (W.may_try shared.now) W.is_same W.has_ended member.old member.new }
+    requires { W.may_try table.now code.now member.old.worker }
+    ensures { HasWorked (W.may_try table.now code.now) W.is_same W.has_ended member.old member.new }
 {
-    let end = work(rt, shared, &mut member.worker, gate);
+    let end = work(rt, table, code, &mut member.worker, gate);
     member.end = Some(end);
 }
 
@@ -30,12 +31,13 @@ fn let_work<R: Wait, T, E: Drop, W: Works<T, E>, G: Gate>(
 pub fn work_all<
     R: Threads + Wait + Sync,
     T: Sync,
+    K: Sync,
     E: Send + Drop,
-    W: Works<T, E> + Send,
+    W: Works<T, K, E> + Send,
     G: Gate + Sync,
->(rt: &R, shared: &T, crew: &mut [Member<W, E>], gate: &G)
-    requires { All (λ member. W.may_try shared.now (AnyMember.worker member)) crew.old }
-    ensures { (i : ℕ) (d : AnyMember W E) → i < length crew.old → HasWorked (W.may_try shared.now) W.is_same W.has_ended (slice_index_or crew.old i d) (slice_index_or crew.new i d) }
+>(rt: &R, table: &T, code: &K, crew: &mut [Member<W, E>], gate: &G)
+    requires { All (λ member. W.may_try table.now code.now (AnyMember.worker member)) crew.old }
+    ensures { (i : ℕ) (d : AnyMember W E) → i < length crew.old → HasWorked (W.may_try table.now code.now) W.is_same W.has_ended (slice_index_or crew.old i d) (slice_index_or crew.new i d) }
 {
     if crew.is_empty() {
         return;
@@ -46,7 +48,7 @@ pub fn work_all<
         crew,
         threads,
         &|_, member| {
-            let_work(rt, shared, member, gate);
+            let_work(rt, table, code, member, gate);
         },
     );
 }

@@ -1,6 +1,6 @@
 //! Workers in threads of the system, each of which tries one thing after another until its work has ended.
 //!
-//! A scheduler whose parts threads share lets each of its workers try an event, again and again. A try may find that a part is held
+//! A scheduler whose parts are shared by threads lets each of its workers try an event, again and again. A try may find that a part is held
 //! by another worker, or that there is nothing to do. What a try is, is the scheduler's ([`Works`]); here are the loop around it ([`work`]),
 //! one thread for each worker ([`work_all`]), the pause after tries that did nothing, and the gate that a test may put before each try
 //! ([`Gate`]).

@@ -6,21 +6,22 @@ use crate::works::{Tried, Works};
 use std::sync::Wait;
 
 /// Works until the work has ended, and returns how. Before each try the worker passes the gate; after a try that did nothing it pauses.
-pub fn work<R: Wait, T, E, W: Works<T, E>, G: Gate>(
+pub fn work<R: Wait, T, K, E, W: Works<T, K, E>, G: Gate>(
     rt: &R,
-    shared: &T,
+    table: &T,
+    code: &K,
     worker: &mut W,
     gate: &G,
 ) -> E
-    requires { W.may_try shared.now worker.old }
-    ensures again { W.may_try shared.now worker.new }
+    requires { W.may_try table.now code.now worker.old }
+    ensures again { W.may_try table.now code.now worker.new }
     ensures same { W.is_same worker.old worker.new }
     ensures ended { W.has_ended worker.new result }
 {
     let mut pause = Pause::new();
     'tries: for _ in rt.forever() {
         gate.pass(worker.number());
-        match worker.try_once(shared) {
+        match worker.try_once(table, code) {
             Tried::Did => pause.end(),
             Tried::Waits => pause.wait(),
             Tried::Ended(end) => return end,

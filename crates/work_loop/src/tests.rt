@@ -21,8 +21,8 @@ struct Tries {
     waited: AtomicU64,
 }
 
-impl Works<Tries, u32> for Countdown {
-    ghost may_try = { λ shared x. Unit {0} };
+impl Works<Tries, u32, u32> for Countdown {
+    ghost may_try = { λ table code x. Unit {0} };
 
     ghost is_same = { λ x y. Unit {0} };
 
@@ -32,13 +32,13 @@ impl Works<Tries, u32> for Countdown {
         self.number
     }
 
-    fn try_once(&mut self, shared: &Tries) -> Tried<u32> {
+    fn try_once(&mut self, table: &Tries, code: &u32) -> Tried<u32> {
         self.is_idle = !self.is_idle;
         if self.is_idle {
-            shared.waited.fetch_add(1, Ordering::SeqCst);
+            table.waited.fetch_add(1, Ordering::SeqCst);
             return Tried::Waits;
         }
-        shared.did.fetch_add(1, Ordering::SeqCst);
+        table.did.fetch_add(u64::from(*code), Ordering::SeqCst);
         match self.left.checked_sub(1) {
             Some(left) => {
                 self.left = left;
@@ -86,9 +86,9 @@ fn one_worker_passes_the_gate_before_each_try(rt: HostRuntime) -> Result<(), Fai
         passed: AtomicU64::new(0),
     };
     let mut alone = member(1, 9).worker;
-    let end = work(&rt, &tries, &mut alone, &gate);
+    let end = work(&rt, &tries, &3, &mut alone, &gate);
     assert_eq!(rt; end, 1);
-    assert_eq!(rt; tries.did.load(Ordering::SeqCst), 10);
+    assert_eq!(rt; tries.did.load(Ordering::SeqCst), 30);
     assert_eq!(rt; tries.waited.load(Ordering::SeqCst), 10);
     assert_eq!(rt; gate.passed.load(Ordering::SeqCst), 20);
     Ok(())
@@ -101,13 +101,13 @@ fn each_member_has_its_end(rt: HostRuntime) -> Result<(), Fail> {
         waited: AtomicU64::new(0),
     };
     let mut crew = [member(0, 1000), member(1, 0), member(2, 300), member(3, 50)];
-    work_all(&rt, &tries, &mut crew, &FreeGate);
+    work_all(&rt, &tries, &1, &mut crew, &FreeGate);
     for (place, member) in (0..4).zip(crew.iter()) {
         assert_eq!(rt; member.end, Some(place));
     }
     assert_eq!(rt; tries.did.load(Ordering::SeqCst), 1354);
     assert_eq!(rt; tries.waited.load(Ordering::SeqCst), 1354);
     let mut none: [Member<Countdown, u32>; 0] = [];
-    work_all(&rt, &tries, &mut none, &FreeGate);
+    work_all(&rt, &tries, &1, &mut none, &FreeGate);
     Ok(())
 }

@@ -12,10 +12,10 @@ pub enum Tried<E> {
     Ended(E),
 }
 
-/// A worker that tries one thing at a time, with a `T` that it shares with others. What ends its work is an `E`.
-pub trait Works<T, E> {
-    /// That the worker may try with these shared parts.
-    ghost may_try: { T → Self → Type 0 };
+/// A worker that tries one thing at a time, with a table and a program that it shares with others. What ends its work is an `E`.
+pub trait Works<T, K, E> {
+    /// That the worker may try with this table and this program.
+    ghost may_try: { T → K → Self → Type 0 };
 
     /// That both are the same worker, before and after some tries.
     ghost is_same: { Self → Self → Type 0 };
@@ -27,9 +27,9 @@ pub trait Works<T, E> {
     fn number(&self) -> u32;
 
     /// Tries one thing.
-    fn try_once(&mut self, shared: &T) -> Tried<E>
-        requires { may_try shared.now self.old }
-        ensures again { may_try shared.now self.new }
+    fn try_once(&mut self, table: &T, code: &K) -> Tried<E>
+        requires { may_try table.now code.now self.old }
+        ensures again { may_try table.now code.now self.new }
         ensures same { is_same self.old self.new }
         ensures ended { EndsAs result (has_ended self.new) };
 
