@@ -13,7 +13,8 @@ use Rattle.hall_handles.specs.declared.refused.EventRefused.{EventRefused}
 use Rattle.hall_handles.specs.declared.refused.EventRefused.TheVariants.{Busy, Nothing, Over, Stopped}
 use Rattle.hall_handles.specs.Seated.{SameSeat}
 
--- It did this event, as the next action of the top thread of its deque asks; it owns then what the event leaves it.
+-- It did this event and notes it, so the law of the hall says that it is the one for which the next action of its top thread asks; it owns then
+-- what the event leaves it.
 pub record HasActedIn (hall : Hall) (before after : Seat) (event : Event) : Type 0 where
   pub none : before.stop ≡ None
   pub deque : DequeId

@@ -33,7 +33,7 @@ look_at_count None = []
 look_at_count (Some found) = Counted found ∷ []
 
 -- The seat that held its lane did this: it took the list and the pool only if the event needs them, notes the event, owns its deque or none, and
--- holds nothing.
+-- holds nothing. That the event is the one for which its next action asks, and which deque it owns then, the law of the hall says of what it notes.
 pub record HasDone (before : HallSeat) (deque : DequeId) (at : AtNext) (next : Next) (acted : Acted) (after : HallSeat) : Type 0 where
   pub list : Option ListSlot
   pub pool : Option PoolSlot

@@ -6,7 +6,8 @@
 //!
 //! It stands on the way to the action (`owner_advance`), on how its slots are taken and given back (`owner_takes`), on what an owner knows of
 //! them (`hall_reads`), and on the events themselves (`owner_acts`). Its theorem: the seat notes the event for which the next action of its top
-//! thread asks, or why it came to none; it took no slot that this event does not need; and the law of the hall holds between any two atomic steps.
+//! thread asks, or why it came to none; if it did the event, it took no slot that this does not need; and the law of the hall holds between any two
+//! atomic steps.
 #![tactic(auto)]
 
 mod acted;

@@ -45,7 +45,8 @@ abbrev pub found_note : SeatNote → Stop → SeatNote
 found_note note stop = record note { found = Some stop }
 
 -- How a seat fails that held some slots: a slot that it needed was held by another seat; or the end that the list kept is that of the run, which it
--- was answered; or it found a stop. It holds nothing then.
+-- was answered; or it found a stop. It holds nothing then. Which slots it looked at before is left open, and so is when there is not enough
+-- memory; of each other stop the law of the hall says that it has its cause.
 abbrev pub Fails : HallSeat → ActRefused → HallSeat → Type 0
 Fails before (Busy held) after =
     (more : List (Look Slot)) × HasLooked before (more ++ Refused held.slot held.seen ∷ []) before.hand.note after
