@@ -35,7 +35,7 @@ fn core_of(alloc: Global, text: &str, workers: u32) -> Result<Core, AllocError>
         return Err(AllocError);
     };
     let code = code_of(alloc, text)?;
-    let Ok(pool) = Pool::new(alloc, 4_096) else {
+    let Ok(pool) = Pool::new(alloc, 400_000) else {
         return Err(AllocError);
     };
     Core::new(alloc, code, k, workers, pool, 100_000, 1_024)
@@ -79,5 +79,15 @@ pub(crate) fn worker_of(alloc: Global, seat: Seat) -> HallWorker<ListChoices>
     HallWorker {
         seat,
         choices: ListChoices::new(Vec::new(alloc)),
+    }
+}
+
+/// The core of a text for so many workers.
+pub(crate) fn core_of_text(rt: &impl Abort, alloc: Global, text: &str, workers: u32) -> Core
+    ensures { IsFresh result }
+{
+    match core_of(alloc, text, workers) {
+        Ok(core) => core,
+        Err(_) => panic!(rt; "no core"),
     }
 }

@@ -8,3 +8,5 @@
 mod halls;
 #[cfg(test)]
 mod runs;
+#[cfg(test)]
+mod threads;

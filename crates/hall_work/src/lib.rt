@@ -8,7 +8,12 @@
 //! loop returns was answered the end that it returns, and its seat is of the same hall, with the same number and places.
 #![tactic(auto)]
 
+mod crew;
 mod tries;
 mod worker;
 
+pub use crew::work_crew;
+pub use hall_handles::{
+    CloseRefused, Closing, EnterRefused, EventRefused, Hall, LeaveRefused, Seat,
+};
 pub use worker::HallWorker;
