@@ -8,7 +8,7 @@ use Rattle.std.specs.declared.string.String.{String}
 use Rattle.std.specs.declared.alloc.Global.{Global}
 use Rattle.command_line.specs.declared.command.Command.{Command}
 use Rattle.command_line.specs.declared.command_kind.CommandKind.{CommandKind}
-use Rattle.command_line.specs.declared.command_kind.CommandKind.TheVariants.{Play, Async, Peak, Check, Make, Loops, Expand, Trail, Verify}
+use Rattle.command_line.specs.declared.command_kind.CommandKind.TheVariants.{Play, Async, Run, Peak, Check, Make, Loops, Expand, Trail, Verify}
 use Rattle.command_line.specs.declared.numbers.Numbers.{Numbers}
 use Rattle.command_line.specs.declared.setting.Setting.{Setting}
 use Rattle.command_line.specs.declared.setting.Setting.TheVariants.{Quota, Workers, Arena, Steps, Deques, Seed}
@@ -82,6 +82,7 @@ abbrev kind_of : List ℕ → Option CommandKind
 kind_of word =
     if bytes_eq word (codes "play") then Some Play
     else if bytes_eq word (codes "async") then Some Async
+    else if bytes_eq word (codes "run") then Some Run
     else if bytes_eq word (codes "peak") then Some Peak
     else if bytes_eq word (codes "check") then Some Check
     else if bytes_eq word (codes "make") then Some Make
@@ -94,6 +95,7 @@ kind_of word =
 kind_back : (kind : CommandKind) → kind_of (kind_word kind) ≡ Some kind
 kind_back Play = refl
 kind_back Async = refl
+kind_back Run = refl
 kind_back Peak = refl
 kind_back Check = refl
 kind_back Make = refl
@@ -235,6 +237,7 @@ sets_in_range kind s (v ∷ w ∷ vs) n sets = absurd sets
 pub few_steps : (kind : CommandKind) → most_steps kind ≤ MOST_ACTIONS
 few_steps Play = omega arith
 few_steps Async = omega arith
+few_steps Run = omega arith
 few_steps Peak = omega arith
 few_steps Check = omega arith
 few_steps Make = omega arith

@@ -10,7 +10,7 @@ use Rattle.language_limits.specs.declared.TheConstants.{GREATEST_QUOTA, LEAST_QU
 use Rattle.made_source.specs.declared.TheConstants.{MOST_GROUPS}
 use Rattle.command_line.specs.declared.command.Command.{Command}
 use Rattle.command_line.specs.declared.command_kind.CommandKind.{CommandKind}
-use Rattle.command_line.specs.declared.command_kind.CommandKind.TheVariants.{Play, Async, Peak, Check, Make, Loops, Expand, Trail, Verify}
+use Rattle.command_line.specs.declared.command_kind.CommandKind.TheVariants.{Play, Async, Run, Peak, Check, Make, Loops, Expand, Trail, Verify}
 use Rattle.command_line.specs.declared.rule.Rule.{Rule}
 use Rattle.command_line.specs.declared.rule.TheConstants.{GREATEST_SEED}
 use Rattle.command_line.specs.declared.setting.Setting.{Setting}
@@ -24,6 +24,7 @@ words_of words = map string_bytes words
 abbrev pub kind_word : CommandKind → List ℕ
 kind_word Play = codes "play"
 kind_word Async = codes "async"
+kind_word Run = codes "run"
 kind_word Peak = codes "peak"
 kind_word Check = codes "check"
 kind_word Make = codes "make"
@@ -55,11 +56,12 @@ rule_of kind Steps = record { least = 1; most = most_steps kind; unit = 1; defau
 rule_of kind Deques = record { least = 1; most = MOST_DEQUES; unit = 1; default = MOST_DEQUES }
 rule_of kind Seed = record { least = 0; most = GREATEST_SEED; unit = 1; default = 1 }
 
--- whether a command has an option: those that play have each, but a ready list has no limit of deques; and `peak` has two
+-- whether a command has an option: those that play or run have each, but a ready list has no limit of deques; and `peak` has two
 abbrev pub has : CommandKind → Setting → Bool
 has Play s = true
 has Async Deques = false
 has Async s = true
+has Run s = true
 has Make s = true
 has Loops s = true
 has Trail s = true

@@ -12,6 +12,8 @@ pub enum CommandKind {
     Play,
     /// `async`: a program is run by the scheduler with one ready list, one event after the other.
     Async,
+    /// `run`: a program is run by the scheduler with a thread for each worker.
+    Run,
     /// `peak`: a program is run depth-first.
     Peak,
     /// `check`: a program is checked, and its text is written in one layout.
@@ -37,6 +39,8 @@ impl CommandKind {
             Some(CommandKind::Play)
         } else if word == b"async".as_slice() {
             Some(CommandKind::Async)
+        } else if word == b"run".as_slice() {
+            Some(CommandKind::Run)
         } else if word == b"peak".as_slice() {
             Some(CommandKind::Peak)
         } else if word == b"check".as_slice() {
@@ -61,7 +65,11 @@ impl CommandKind {
         ensures { result ≡ has self setting }
     {
         match self {
-            CommandKind::Play | CommandKind::Make | CommandKind::Loops | CommandKind::Trail => true,
+            CommandKind::Play
+            | CommandKind::Run
+            | CommandKind::Make
+            | CommandKind::Loops
+            | CommandKind::Trail => true,
             CommandKind::Async => !matches!(setting, Setting::Deques),
             CommandKind::Peak => matches!(setting, Setting::Quota | Setting::Steps),
             CommandKind::Check | CommandKind::Expand | CommandKind::Verify => false,

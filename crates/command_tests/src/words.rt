@@ -25,7 +25,9 @@ make 0
 make 1 2
 make 8001
 make --k 16
-run
+run --k 24
+run 1
+Run
 Play
 --p 1
 peak --k 24

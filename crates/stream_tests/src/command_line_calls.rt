@@ -70,6 +70,8 @@ make --p 2 --seed=7 65| Make k 4096 p 2 arena 1048576 steps 4000000 deques 4096 
 make --k 16 --p 16 00000000000000000016| Make k 16 p 16 arena 1048576 steps 4000000 deques 4096 seed 1 groups 16
 async| Async k 4096 p 4 arena 1048576 steps 4000000 deques 4096 seed 1 groups 0
 async --k=16 --p 1 --arena 48 --steps 9 --seed 7| Async k 16 p 1 arena 48 steps 9 deques 4096 seed 7 groups 0
+run| Run k 4096 p 4 arena 1048576 steps 4000000 deques 4096 seed 1 groups 0
+run --seed 7 --deques=3 --steps 9 --arena=48 --p 2 --k=32| Run k 32 p 2 arena 48 steps 9 deques 3 seed 7 groups 0
 loops| Loops k 4096 p 4 arena 1048576 steps 4000000 deques 4096 seed 1 groups 0
 loops --k=016 --p 1| Loops k 16 p 1 arena 1048576 steps 4000000 deques 4096 seed 1 groups 0
 loops --seed 7 --deques=3 --steps 9 --arena=48 --p 2 --k=32| Loops k 32 p 2 arena 48 steps 9 deques 3 seed 7 groups 0
@@ -155,7 +157,9 @@ expand --k 16
 expand --
 expand 1
 loop
-run
+run --k 24
+run 1
+Run
 Play
 --k 16 play";
 
