@@ -2,10 +2,17 @@
 
 ghost use Rattle.std.specs.Prelude.{◌≤◌};
 
-use dfd_run::{CleanSink, CleanSource, MemorySink, MemorySource, Status, dfd};
+use dfd_run::{CleanSink, CleanSource, FreeGate, MemorySink, MemorySource, Status, dfd};
 use std::alloc::{AllocError, Global};
 use std::process::Abort;
+use std::sync::Wait;
 use std::test::Fail;
+use std::thread::Threads;
+
+/// What a test runs in: it may stop there, start threads and wait for them.
+pub trait Host: Abort + Threads + Wait + Sync {}
+
+impl<R: Abort + Threads + Wait + Sync> Host for R {}
 
 /// A block that is written and read: 57 bytes.
 pub const BLOCK: &str = "fn main() { alloc b = 20; b[3] = 7; print b[3]; free b; }";
@@ -49,12 +56,19 @@ pub fn lines_of(alloc: Global, text: &str) -> Result<Vec<u8>, AllocError> {
 }
 
 /// Does what words ask for, with streams that never fail. It hands no clause on, since each goal of its callers would carry it.
-fn done(alloc: Global, words: &[String], source: &mut CleanSource, sink: &mut CleanSink) -> Status {
-    dfd(alloc, words, source, sink)
+fn done(
+    rt: &impl Host,
+    alloc: Global,
+    words: &[String],
+    source: &mut CleanSource,
+    sink: &mut CleanSink,
+) -> Status {
+    dfd(rt, alloc, words, source, sink, &FreeGate)
 }
 
 /// The status of a call into a sink.
 fn call_into(
+    rt: &impl Host,
     alloc: Global,
     line: &str,
     source: Vec<u8>,
@@ -62,13 +76,18 @@ fn call_into(
 ) -> Result<Status, AllocError> {
     let mut source = CleanSource::new(source);
     let words = words_of(alloc, line)?;
-    Ok(done(alloc, &words, &mut source, sink))
+    Ok(done(rt, alloc, &words, &mut source, sink))
 }
 
 /// The status of a call with the words of a line and the text that it writes, with streams that never fail.
-pub fn call(alloc: Global, line: &str, source: Vec<u8>) -> Result<(Status, Vec<u8>), AllocError> {
+pub fn call(
+    rt: &impl Host,
+    alloc: Global,
+    line: &str,
+    source: Vec<u8>,
+) -> Result<(Status, Vec<u8>), AllocError> {
     let mut sink = CleanSink::new(alloc, ROOM)?;
-    let status = call_into(alloc, line, source, &mut sink)?;
+    let status = call_into(rt, alloc, line, source, &mut sink)?;
     Ok((status, Vec::from_slice(alloc, sink.kept())?))
 }
 
@@ -89,16 +108,18 @@ fn source_failing(alloc: Global, source: &str, read: u32) -> Result<MemorySource
 
 /// Does what words ask for, with streams that fail. It hands no clause on, as `done`.
 fn done_failing(
+    rt: &impl Host,
     alloc: Global,
     words: &[String],
     source: &mut MemorySource,
     sink: &mut MemorySink,
 ) -> Status {
-    dfd(alloc, words, source, sink)
+    dfd(rt, alloc, words, source, sink, &FreeGate)
 }
 
 /// The status of a call into a sink, with streams that fail.
 fn call_failing_into(
+    rt: &impl Host,
     alloc: Global,
     line: &str,
     source: &str,
@@ -107,11 +128,12 @@ fn call_failing_into(
 ) -> Result<Status, AllocError> {
     let mut source = source_failing(alloc, source, read)?;
     let words = words_of(alloc, line)?;
-    Ok(done_failing(alloc, &words, &mut source, sink))
+    Ok(done_failing(rt, alloc, &words, &mut source, sink))
 }
 
 /// The status of a call with the words of a line and the text that it writes, with streams that fail.
 pub fn call_failing(
+    rt: &impl Host,
     alloc: Global,
     line: &str,
     source: &str,
@@ -121,7 +143,7 @@ pub fn call_failing(
 {
     let calls = vec![in alloc; failing.write]?;
     let mut sink = MemorySink::new(alloc, failing.most, calls);
-    let status = call_failing_into(alloc, line, source, failing.read, &mut sink)?;
+    let status = call_failing_into(rt, alloc, line, source, failing.read, &mut sink)?;
     Ok((status, Vec::from_slice(alloc, sink.kept())?))
 }
 
@@ -156,14 +178,14 @@ pub fn is_due(
 
 /// Compares a call with what is due, as `is_due`.
 pub fn answers_so(
-    rt: &impl Abort,
+    rt: &impl Host,
     alloc: Global,
     line: &str,
     code: &str,
     text: &str,
     source: Vec<u8>,
 ) -> Result<(), Fail> {
-    let told = call(alloc, line, source)?;
+    let told = call(rt, alloc, line, source)?;
     is_due(rt, alloc, line, &told, code, text)
 }
 
@@ -178,14 +200,14 @@ pub fn parts_of(row: &str) -> [&str; 7] {
     parts
 }
 
-fn row_answers_so(rt: &impl Abort, alloc: Global, row: &str) -> Result<(), Fail> {
+fn row_answers_so(rt: &impl Host, alloc: Global, row: &str) -> Result<(), Fail> {
     let [line, code, text, source, ..] = parts_of(row);
     let source = Vec::from_slice(alloc, source.as_bytes())?;
     answers_so(rt, alloc, line, code, text, source)
 }
 
 /// Compares the calls of a table. A row is the words, the number of the status, the text, and the source.
-pub fn all_answer_so(rt: &impl Abort, alloc: Global, rows: &str) -> Result<(), Fail> {
+pub fn all_answer_so(rt: &impl Host, alloc: Global, rows: &str) -> Result<(), Fail> {
     for row in rows.split('@') {
         row_answers_so(rt, alloc, row)?;
     }

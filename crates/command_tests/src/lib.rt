@@ -16,6 +16,8 @@ mod peaks;
 #[cfg(test)]
 mod plays;
 #[cfg(test)]
+mod runs;
+#[cfg(test)]
 mod streams;
 #[cfg(test)]
 mod trails;

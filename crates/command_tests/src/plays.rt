@@ -1,8 +1,9 @@
 //! The commands `play` and `async`.
-use crate::calls::{BLOCK, LONGEST, SMALL, all_answer_so, answers_so, call, is_right, padded};
+use crate::calls::{
+    BLOCK, Host, LONGEST, SMALL, all_answer_so, answers_so, call, is_right, padded,
+};
 use dfd_run::Status;
 use std::alloc::{AllocError, Global};
-use std::process::Abort;
 use std::test::Fail;
 
 /// Blocks, large allocations, give ups and thefts, by one worker.
@@ -98,7 +99,7 @@ fn nested(alloc: Global, forks: u32) -> Result<Vec<u8>, AllocError> {
 }
 
 fn nested_so(
-    rt: &impl Abort,
+    rt: &impl Host,
     alloc: Global,
     forks: u32,
     code: &str,
@@ -108,7 +109,7 @@ fn nested_so(
 }
 
 fn padded_so(
-    rt: &impl Abort,
+    rt: &impl Host,
     alloc: Global,
     source: &str,
     len: usize,
@@ -135,7 +136,7 @@ fn sources_have_limits(rt: HostRuntime) -> Result<(), Fail> {
 }
 
 /// A front of a source is refused at this place.
-fn is_cut(rt: &impl Abort, alloc: Global, front: &[u8], place: usize) -> Result<(), Fail> {
+fn is_cut(rt: &impl Host, alloc: Global, front: &[u8], place: usize) -> Result<(), Fail> {
     let text = format!(in alloc; "syntax Expected at {place}~")?;
     let source = Vec::from_slice(alloc, front)?;
     answers_so(rt, alloc, "play", "4", &text, source)
@@ -169,7 +170,7 @@ fn forks_in_a_row(alloc: Global, forks: u32) -> Result<(Vec<u8>, Vec<u8>), Alloc
 
 /// A program prints these lines with so many workers.
 fn prints_so(
-    rt: &impl Abort,
+    rt: &impl Host,
     alloc: Global,
     program: &[u8],
     front: &[u8],
@@ -177,7 +178,7 @@ fn prints_so(
 ) -> Result<(), Fail> {
     let seed = workers.saturating_mul(77);
     let words = format!(in alloc; "play --k 16 --p {workers} --seed {seed}")?;
-    let (status, written) = call(alloc, &words, Vec::from_slice(alloc, program)?)?;
+    let (status, written) = call(rt, alloc, &words, Vec::from_slice(alloc, program)?)?;
     is_right(rt, status == Status::Done, &words, "done");
     is_right(rt, written.starts_with(front), &words, "the same lines");
     Ok(())

@@ -1,8 +1,7 @@
 //! Streams that fail.
-use crate::calls::{BLOCK, Failing, call_failing, is_due, is_right, lines_of, parts_of};
+use crate::calls::{BLOCK, Failing, Host, call_failing, is_due, is_right, lines_of, parts_of};
 use dfd_run::Status;
 use std::alloc::Global;
-use std::process::Abort;
 use std::test::Fail;
 
 /// What `play` writes of `BLOCK`: 40 bytes.
@@ -13,7 +12,7 @@ const READ_FAULT: &str = "read fault~";
 
 /// Compares a call with streams that fail with what is due.
 fn fails_so(
-    rt: &impl Abort,
+    rt: &impl Host,
     alloc: Global,
     line: &str,
     source: &str,
@@ -22,7 +21,7 @@ fn fails_so(
     text: &str,
 ) -> Result<(), Fail> {
     assert!(rt; failing.most >= 1);
-    let told = call_failing(alloc, line, source, failing)?;
+    let told = call_failing(rt, alloc, line, source, failing)?;
     is_due(rt, alloc, line, &told, code, text)
 }
 
@@ -56,7 +55,7 @@ fn number(part: &str) -> Result<u32, Fail> {
     Ok(part.parse::<u32>().ok().ok_or("no number")?)
 }
 
-fn row_fails_so(rt: &impl Abort, alloc: Global, row: &str) -> Result<(), Fail> {
+fn row_fails_so(rt: &impl Host, alloc: Global, row: &str) -> Result<(), Fail> {
     let [line, read, most, write, code, text, source] = parts_of(row);
     let failing = Failing {
         read: number(read)?,
@@ -77,9 +76,11 @@ play --k 64 --p 1|0|10|1|3||fn main() { alloc b = 20; b[3] = 7; print b[3]; free
 @play --k 64 --p 1|0|4|2|3|1~2~|fn main() { par { print 1; } and { print 2; } print 3; }
 @play --k 64 --p 1|1|4|2|3|read|fn main() { par { print 1; } and { print 2; } print 3; }
 @play --k 64 --p 1|0|4|2|3|synt|
+@run --p 1|0|4|2|3|1~2~|fn main() { par { print 1; } and { print 2; } print 3; }
+@run --p 1|1|4|4|2|read fault~|
 @play --k 64 --p 1|1|4|4|2|read fault~|";
 
-fn all_fail_so(rt: &impl Abort, alloc: Global, rows: &str) -> Result<(), Fail> {
+fn all_fail_so(rt: &impl Host, alloc: Global, rows: &str) -> Result<(), Fail> {
     for row in rows.split('@') {
         row_fails_so(rt, alloc, row)?;
     }
@@ -105,7 +106,7 @@ fn a_peak_is_cut_at_a_fault(rt: HostRuntime) -> Result<(), Fail> {
 
 /// A sink of 7 bytes a call that fails took a front of the text: a piece for each call before.
 fn took_a_front(
-    rt: &impl Abort,
+    rt: &impl Host,
     alloc: Global,
     line: &str,
     source: &str,
@@ -117,7 +118,7 @@ fn took_a_front(
         most: 7,
         write: before.saturating_add(1),
     };
-    let (status, written) = call_failing(alloc, line, source, failing)?;
+    let (status, written) = call_failing(rt, alloc, line, source, failing)?;
     is_right(rt, status == Status::WriteFault, line, "a write fault");
     let pieces = 7 * u64::from(before);
     is_right(rt, written.len() as u64 == pieces, line, "as many pieces");
@@ -127,7 +128,7 @@ fn took_a_front(
 }
 
 /// The source fails at each of its calls in turn, and then the sink does.
-fn each_call_fails(rt: &impl Abort, alloc: Global, row: &str) -> Result<(), Fail> {
+fn each_call_fails(rt: &impl Host, alloc: Global, row: &str) -> Result<(), Fail> {
     let [line, reads, code, text, writes, source, _] = parts_of(row);
     for before in 0..number(reads)? {
         let failing = Failing {
@@ -158,6 +159,7 @@ fn main() { alloc b = 20; b[3] = 7; print b[3]; free b; }
 @check|4|5|check UnknownName line 1 name b~|5|fn main() { free b; }
 @check|3|4|syntax Expected at 11~|4|fn main() {
 @peak|7|0|7~--~end done~actions 3~peak 32~|5|fn main() { alloc b = 20; b[3] = 7; print b[3]; free b; }
+@run --k 64 --p 1|7|0|7~--~end done~periods 1~ahead 0~high 32~|6|fn main() { alloc b = 20; b[3] = 7; print b[3]; free b; }
 @peak|4|6|--~end fault Divide line 1~actions 2~peak 0~|7|fn main() { print 1 / 0; }
 @peak|3|4|syntax Expected at 11~|4|fn main() {
 @expand|7|0|fn main() { alloc b = 20; b[3] = 7; print b[3]; free b; }|9|fn main() { alloc b = 20; b[3] = 7; print b[3]; free b; }

@@ -1,8 +1,7 @@
 //! The commands `trail` and `verify`.
-use crate::calls::{SMALL, all_answer_so, answers_so, call, is_right, lines_of, parts_of};
+use crate::calls::{Host, SMALL, all_answer_so, answers_so, call, is_right, lines_of, parts_of};
 use dfd_run::Status;
 use std::alloc::Global;
-use std::process::Abort;
 use std::test::Fail;
 
 /// Plays that are recorded, stopped or refused.
@@ -61,7 +60,7 @@ trail k 16 p 1 arena 16 steps 1 deques 1~source 1~x~0 act~end periods 1 ahead 0 
 @5|check UnknownName line 1 name x~|\
 trail k 16 p 1 arena 16 steps 1 deques 1~source 22~fn main() { print x; }~0 act~end periods 1 ahead 0 high 0~";
 
-fn row_is_verified_so(rt: &impl Abort, alloc: Global, row: &str) -> Result<(), Fail> {
+fn row_is_verified_so(rt: &impl Host, alloc: Global, row: &str) -> Result<(), Fail> {
     let [code, text, trail, ..] = parts_of(row);
     let trail = lines_of(alloc, trail)?;
     answers_so(rt, alloc, "verify", code, text, trail)
@@ -76,10 +75,10 @@ fn trails_are_accepted_or_refused(rt: HostRuntime) -> Result<(), Fail> {
 }
 
 /// The trail of each seed is accepted.
-fn is_accepted(rt: &impl Abort, alloc: Global, line: &str) -> Result<(), Fail> {
+fn is_accepted(rt: &impl Host, alloc: Global, line: &str) -> Result<(), Fail> {
     let source = Vec::from_slice(alloc, SMALL.as_bytes())?;
-    let (_, trail) = call(alloc, line, source)?;
-    let (status, _) = call(alloc, "verify", trail)?;
+    let (_, trail) = call(rt, alloc, line, source)?;
+    let (status, _) = call(rt, alloc, "verify", trail)?;
     is_right(rt, status == Status::Done, line, "0");
     Ok(())
 }

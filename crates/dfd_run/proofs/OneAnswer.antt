@@ -42,7 +42,7 @@ use Rattle.dfd_run.specs.TrailMessages.{not_trail_text}
 use Rattle.dfd_run.specs.Trails.{Records, TrailMakes, TellsCheck, VerifyMakes, VerifyGives, trail_of}
 use Rattle.dfd_run.specs.Messages.{syntax_text, check_text, spent_text}
 use Rattle.dfd_run.specs.Make.{MakeMakes, Summarizes, sum_of}
-use Rattle.dfd_run.specs.Peak.{RunText, RunMakes, PeakMakes}
+use Rattle.dfd_run.specs.Peak.{RunText, ItemsMake, PeakMakes}
 use Rattle.ready_replay.proofs.Ones.{one_play as one_ready_play}
 use Rattle.dfd_run.specs.Async.{IsAsyncPlay, AsyncMakes, async_terms, async_machine}
 use Rattle.dfd_run.specs.Play.{IsPlay, TellsRun, TellsPlay, TellsEnding, Reports, PlayMakes, play_setting, play_terms, play_machine, seeded_words}
@@ -285,7 +285,7 @@ data RunWay (items : List Item) (limit : ℕ) (s : Status) (t : List ℕ) : Type
   within : length (actions_of items) ≤ limit → s ≡ fault_status (first_fault items) → RunText items t → RunWay items limit s t
   beyond : limit < length (actions_of items) → s ≡ StepsSpent → t ≡ spent_text limit → RunWay items limit s t
 
-run_way_of : (items : List Item) (limit : ℕ) (s : Status) (t : List ℕ) → RunMakes items limit s t → RunWay items limit s t
+run_way_of : (items : List Item) (limit : ℕ) (s : Status) (t : List ℕ) → ItemsMake items limit s t → RunWay items limit s t
 run_way_of items limit Done t m = within m.0 (sym (ap fault_status m.1.0)) m.1.1
 run_way_of items limit Usage t m = absurd m
 run_way_of items limit ReadFault t m = absurd m

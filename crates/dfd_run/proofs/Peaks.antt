@@ -18,7 +18,7 @@ use Rattle.par_ownership.proofs.Law.{tells_program}
 use Rattle.par_text.specs.Judging.{IsText}
 use Rattle.par_tree.specs.Tree.{Program}
 use Rattle.dfd_run.specs.Sources.{SourceGives}
-use Rattle.dfd_run.specs.Peak.{RunText, RunMakes, PeakMakes, finish_status}
+use Rattle.dfd_run.specs.Peak.{RunText, ItemsMake, PeakMakes, finish_status}
 use Rattle.dfd_run.specs.declared.status.Status.{Status}
 use Rattle.dfd_run.specs.declared.status.Status.TheVariants.{Syntax, Check}
 
@@ -39,21 +39,21 @@ run_text items finish output actions births high told =
 run_makes :
     (items : List Item) (limit : ℕ) (finish : Finish) (output : List ℤ) (actions : List Shown) (births : List Birth) (high : ℕ) →
     Told items finish output actions births high → length (actions_of items) ≤ limit →
-    RunMakes items limit (finish_status finish) (peak_text output finish (length actions) high)
+    ItemsMake items limit (finish_status finish) (peak_text output finish (length actions) high)
 run_makes items limit finish output actions births high told within =
-    subst (λ (f : Finish). RunMakes items limit (finish_status f) (peak_text output finish (length actions) high))
+    subst (λ (f : Finish). ItemsMake items limit (finish_status f) (peak_text output finish (length actions) high))
     (sym told.finish_is) (by_fault (first_fault items) refl)
   where
     text : RunText items (peak_text output finish (length actions) high)
     text = run_text items finish output actions births high told
 
     by_fault : (o : Option FaultAt) → first_fault items ≡ o →
-        RunMakes items limit (finish_status (finish_of (first_fault items))) (peak_text output finish (length actions) high)
+        ItemsMake items limit (finish_status (finish_of (first_fault items))) (peak_text output finish (length actions) high)
     by_fault None e =
-        subst (λ (o : Option FaultAt). RunMakes items limit (finish_status (finish_of o)) (peak_text output finish (length actions) high))
+        subst (λ (o : Option FaultAt). ItemsMake items limit (finish_status (finish_of o)) (peak_text output finish (length actions) high))
         (sym e) (within, (e, text))
     by_fault (Some fault) e =
-        subst (λ (o : Option FaultAt). RunMakes items limit (finish_status (finish_of o)) (peak_text output finish (length actions) high))
+        subst (λ (o : Option FaultAt). ItemsMake items limit (finish_status (finish_of o)) (peak_text output finish (length actions) high))
         (sym e) (within, ((fault, e), text))
 
 -- the answer is made of what is told
@@ -61,10 +61,10 @@ pub run_answers :
     (items : List Item) (limit : ℕ) (finish : Finish) (output : List ℤ) (actions : List Shown) (births : List Birth) (high count : ℕ)
     (status : Status) (text : List ℕ) →
     Told items finish output actions births high → length (actions_of items) ≤ limit → status ≡ finish_status finish →
-    count ≡ length actions → text ≡ peak_text output finish count high → RunMakes items limit status text
+    count ≡ length actions → text ≡ peak_text output finish count high → ItemsMake items limit status text
 run_answers items limit finish output actions births high count status text told within is_status is_count is_text =
-    subst (λ (s : Status). RunMakes items limit s text) (sym is_status)
-    (subst (λ (t : List ℕ). RunMakes items limit (finish_status finish) t)
+    subst (λ (s : Status). ItemsMake items limit s text) (sym is_status)
+    (subst (λ (t : List ℕ). ItemsMake items limit (finish_status finish) t)
     (sym (is_text ∙ ap (λ (n : ℕ). peak_text output finish n high) is_count))
     (run_makes items limit finish output actions births high told within))
 

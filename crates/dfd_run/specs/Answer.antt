@@ -4,7 +4,7 @@ use Rattle.canonical_text.specs.Canonical.{canonical}
 use Rattle.command_line.specs.Words.{IsCommand, InRange, number_of, wants_groups}
 use Rattle.command_line.specs.declared.command.Command.{Command}
 use Rattle.command_line.specs.declared.command_kind.CommandKind.{CommandKind}
-use Rattle.command_line.specs.declared.command_kind.CommandKind.TheVariants.{Play, Async, Peak, Check as Checks, Make, Loops, Expand, Trail, Verify}
+use Rattle.command_line.specs.declared.command_kind.CommandKind.TheVariants.{Play, Async, Run, Peak, Check as Checks, Make, Loops, Expand, Trail, Verify}
 use Rattle.command_line.specs.declared.setting.Setting.{Setting}
 use Rattle.language_limits.specs.declared.TheConstants.{LONGEST_TEXT, MOST_TRAIL}
 use Rattle.made_source.specs.declared.TheConstants.{MOST_GROUPS}
@@ -14,6 +14,7 @@ use Rattle.dfd_run.specs.Make.{MakeMakes, source_of}
 use Rattle.dfd_run.specs.Peak.{PeakMakes}
 use Rattle.dfd_run.specs.Async.{AsyncMakes}
 use Rattle.dfd_run.specs.Play.{PlayMakes}
+use Rattle.dfd_run.specs.Threads.{RunMakes}
 use Rattle.dfd_run.specs.Messages.{usage_text, read_fault_text}
 use Rattle.dfd_run.specs.Sources.{SourceGives}
 use Rattle.dfd_run.specs.Trails.{TrailMakes, VerifyGives}
@@ -32,6 +33,7 @@ CheckMakes p status text = ⊥
 abbrev pub KindGives : CommandKind → Command → (bytes : List ℕ) → Status → List ℕ → Type 0
 KindGives Play command bytes = SourceGives (PlayMakes command) bytes
 KindGives Async command bytes = SourceGives (AsyncMakes command) bytes
+KindGives Run command bytes = SourceGives (RunMakes command) bytes
 KindGives Peak command bytes = SourceGives (PeakMakes command.k command.steps) bytes
 KindGives Checks command bytes = SourceGives CheckMakes bytes
 KindGives Make command bytes = SourceGives (MakeMakes command bytes) bytes

@@ -14,6 +14,7 @@ pub mod Program
 pub mod Status
 pub mod Sources
 pub mod Stops
+pub mod Threads
 pub mod TrailMessages
 pub mod Trails
 pub mod CorePlays

@@ -27,13 +27,13 @@ RunText items text =
 
 -- what is made of a run that left these items: where it has no more actions than the limit, its text, by whether it
 -- has a fault; else the line of the limit
-abbrev pub RunMakes : List Item → (limit : ℕ) → Status → List ℕ → Type 0
-RunMakes items limit Done text = (length (actions_of items) ≤ limit) × ((first_fault items ≡ None) × RunText items text)
-RunMakes items limit UserFault text =
+abbrev pub ItemsMake : List Item → (limit : ℕ) → Status → List ℕ → Type 0
+ItemsMake items limit Done text = (length (actions_of items) ≤ limit) × ((first_fault items ≡ None) × RunText items text)
+ItemsMake items limit UserFault text =
     (length (actions_of items) ≤ limit) × (((fault : FaultAt) × (first_fault items ≡ Some fault)) × RunText items text)
-RunMakes items limit StepsSpent text = (limit < length (actions_of items)) × (text ≡ spent_text limit)
-RunMakes items limit status text = ⊥
+ItemsMake items limit StepsSpent text = (limit < length (actions_of items)) × (text ≡ spent_text limit)
+ItemsMake items limit status text = ⊥
 
 -- what is made of a program: that of its depth-first run with the quota k
 abbrev pub PeakMakes : (k limit : ℕ) → Program → Status → List ℕ → Type 0
-PeakMakes k limit p status text = RunMakes (whole (setting_of p k)).items limit status text
+PeakMakes k limit p status text = ItemsMake (whole (setting_of p k)).items limit status text

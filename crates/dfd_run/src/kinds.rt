@@ -1,4 +1,5 @@
-ghost use Rattle.std.specs.Prelude.{◌≡◌, IfOk};
+ghost use Rattle.std.specs.Prelude.{◌≡◌, ◌≢◌, IfOk};
+ghost use Rattle.command_line.specs.declared.command_kind.CommandKind.TheVariants.{Run};
 ghost use Rattle.dfd_run.specs.Answer.{BytesGive, HasRanges, most_read};
 
 use crate::answer::Answer;
@@ -24,14 +25,16 @@ pub fn most_read(kind: CommandKind) -> usize
     }
 }
 
-/// What a command makes of the bytes of a source.
+/// What a command other than `run` makes of the bytes of a source.
 pub fn answer_to(alloc: Global, command: &Command, bytes: &[u8]) -> Result<Answer, AllocError>
-    requires { HasRanges command.now }
+    requires ranges { HasRanges command.now }
+    requires alone { command.now.kind ≢ Run }
     ensures { IfOk result (λ answer. BytesGive command.now bytes.now answer.status answer.text.items) }
 {
     match command.kind {
         CommandKind::Play => play(alloc, command, bytes),
         CommandKind::Async => play_ready(alloc, command, bytes),
+        CommandKind::Run => unreachable!(),
         CommandKind::Peak => peak(alloc, command.k, command.steps, bytes),
         CommandKind::Check => check(alloc, bytes),
         CommandKind::Make => make(alloc, command, bytes),

@@ -5,11 +5,11 @@
 //!
 //! It uses `command_line`, which says which words are a command; `accepted_source`, which reads bytes as a program that keeps the rules of
 //! ownership or says why not; `canonical_text` and `par_print`, the text of a program in one layout; `serial_meaning`, the depth-first run of a
-//! program; `frame_code`, its table of nodes, and `dfd_core` and `ready_core`, by which workers play it; `loop_expand`, which writes parallel loops out before a
+//! program; `frame_code`, its table of nodes, and `dfd_core` and `ready_core`, by which workers play it; `hall_runs`, in which they run it in threads; `loop_expand`, which writes parallel loops out before a
 //! program is read; `trail_record`, which records a play, `trail_text`, its text, and `trail_check`, which checks one; and `run_report`, the
 //! texts of runs.
 //!
-//! Its theorem is the contract of `dfd`, and of [`serve`], which does what `dfd` does for a command: the status and the text that the sink took
+//! Its theorem is the contract of `dfd`, and of [`serve`], which does what `dfd` does for a command other than `run`: the status and the text that the sink took
 //! are those that `CallGives` of `specs/Answer.antt` gives for the words and the bytes read, and each fault has its cause. The laws of
 //! `specs/Headline.antt` and `specs/AsyncHeadline.antt` say what holds of each play, and [`loops_are_plays`] that `loops` is one, of the expansion. Of trails say
 //! [`recorded_trails_are_accepted`] and [`accepted_trails_are_bounded`]. [`a_command_has_an_answer`] and [`a_command_has_one_answer`] say that
@@ -32,6 +32,7 @@ mod playing_core;
 mod program;
 mod ready_playing;
 mod refusal;
+mod running;
 mod status;
 mod trail_messages;
 mod trailing;
@@ -55,3 +56,4 @@ pub use laws::{
 pub use pcg_choices::PcgChoices;
 pub use program::exit_code;
 pub use status::Status;
+pub use work_loop::{FreeGate, Gate};

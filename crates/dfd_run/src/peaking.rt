@@ -8,7 +8,7 @@ ghost use Rattle.depth_first_run.specs.States.{Item};
 ghost use Rattle.depth_first_run.specs.Run.{actions_of};
 ghost use Rattle.serial_journal.specs.Telling.{Tells};
 ghost use Rattle.dfd_run.specs.Sources.{SourceGives};
-ghost use Rattle.dfd_run.specs.Peak.{finish_status, RunMakes, PeakMakes};
+ghost use Rattle.dfd_run.specs.Peak.{finish_status, ItemsMake, PeakMakes};
 
 use crate::answer::Answer;
 use crate::finishing::finish_status;
@@ -25,7 +25,7 @@ use std::alloc::{AllocError, Global};
 /// The answer of a run within its limit.
 fn run_answer(alloc: Global, run: Serial) -> Result<Answer, AllocError>
     ensures { IfOk result (λ answer. (limit : ℕ) (items : List Item) → Tells items run → length (actions_of items) ≤ limit →
-        RunMakes items limit answer.status answer.text.items) }
+        ItemsMake items limit answer.status answer.text.items) }
 {
     let status = finish_status(run.finish);
     let report = PeakReport {

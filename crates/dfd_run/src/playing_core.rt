@@ -7,6 +7,7 @@ ghost use Rattle.depth_first_run.specs.Run.{whole, lines_of};
 ghost use Rattle.depth_first_run.specs.States.{Setting};
 ghost use Rattle.deque_machine.specs.Moments.{opening};
 ghost use Rattle.trail_record.specs.Played.Cores.{HasFinished, IsAt, end_of, terms_at};
+ghost use Rattle.dfd_core.specs.Parts.{IsFresh};
 ghost use Rattle.dummy_tree.specs.QuotaWords.{quota_words};
 ghost use Rattle.node_table.specs.Codes.{code_shown};
 ghost use Rattle.par_ownership.specs.Ownership.{Ownership};
@@ -62,12 +63,13 @@ pub fn start_of(alloc: Global, command: &Command, program: Checked) -> Result<St
 }
 
 /// The run of a program by the workers of a command, at its start.
-fn begun(alloc: Global, command: &Command, program: Checked) -> Result<Core, AllocError>
+pub fn begun(alloc: Global, command: &Command, program: Checked) -> Result<Core, AllocError>
     requires ranges { HasRanges command.now }
     requires owned { Ownership (program_tree (program_of program)) }
     ensures opening { IfOk result (λ core. IsAt (play_setting command.now (program_tree (program_of program))) core [] opening) }
     ensures going { IfOk result (λ core. end_of core ≡ None) }
     ensures terms { IfOk result (λ core. terms_at core ≡ play_terms command.now) }
+    ensures fresh { IfOk result IsFresh }
 {
     let Start { code, quota, pool } = start_of(alloc, command, program)?;
     Core::new(

@@ -14,6 +14,9 @@ use byte_streams::{Sink, Source};
 use std::alloc::{AllocError, Global};
 use std::env::Args;
 use std::io;
+use std::sync::Wait;
+use std::thread::Threads;
+use work_loop::Gate;
 
 /// The words behind the first one, which is the program's own name.
 fn behind_the_name(alloc: Global, mut args: Args) -> Result<Vec<String>, AllocError>
@@ -41,11 +44,13 @@ fn words(alloc: Global, args: io::Result<Args>) -> Result<Vec<String>, AllocErro
 /// Does what the program does, and answers its exit code: [`dfd`] with the words that the system gave.
 ///
 /// Words that cannot be read are no command, and want of memory for them is that of the call.
-pub fn exit_code<S: Source, W: Sink>(
+pub fn exit_code<R: Threads + Wait + Sync, S: Source, W: Sink, G: Gate + Sync>(
+    rt: &R,
     alloc: Global,
     args: io::Result<Args>,
     source: &mut S,
     sink: &mut W,
+    gate: &G,
 ) -> u8
     ensures ends { (status : StatusType) × ((result ≡ code_of status) × (
         Ends
@@ -59,5 +64,5 @@ pub fn exit_code<S: Source, W: Sink>(
     let Ok(words) = words(alloc, args) else {
         return Status::OutOfMemory.code();
     };
-    dfd(alloc, &words, source, sink).code()
+    dfd(rt, alloc, &words, source, sink, gate).code()
 }
