@@ -6,7 +6,7 @@ use borrow.Author.Tests.{leb-true, leb-false}
 use Rattle.canonical_text.specs.Canonical.{canonical}
 use Rattle.command_line.specs.declared.command.Command.{Command}
 use Rattle.command_line.specs.declared.command_kind.CommandKind.{CommandKind}
-use Rattle.command_line.specs.declared.command_kind.CommandKind.TheVariants.{Play, Async, Peak, Check as Checks, Make, Loops, Expand, Trail, Verify}
+use Rattle.command_line.specs.declared.command_kind.CommandKind.TheVariants.{Play, Async, Run, Peak, Check as Checks, Make, Loops, Expand, Trail, Verify}
 use Rattle.dag_order.specs.declared.fault.FaultAt.{FaultAt}
 use Rattle.command_line.specs.declared.setting.Setting.TheVariants.{Quota, Workers}
 use Rattle.depth_first_list.specs.Actions.{peak}
@@ -47,8 +47,10 @@ use Rattle.dfd_run.specs.Peak.{RunText, PeakMakes, finish_status}
 use Rattle.ready_machine.proofs.Playing.{plays_end as ready_plays_end}
 use Rattle.dfd_run.specs.Async.{IsAsyncPlay, AsyncMakes, async_terms, async_machine}
 use Rattle.dfd_run.specs.Play.{IsPlay, TellsRun, TellsPlay, Reports, PlayMakes, play_setting, play_terms, play_machine, seeded_words}
+use Rattle.dfd_run.specs.Threads.{IsRunByThreads, RunMakes}
 use Rattle.dfd_run.specs.declared.status.Status.{Status}
 use Rattle.dfd_run.specs.declared.status.Status.TheVariants.{Done, Syntax, Check, UserFault, StepsSpent, ArenaFull, DequesFull, TrailRefused}
+use Rattle.dfd_run.proofs.ThreadPlays.{plays_in_threads}
 
 abbrev Some_answer : (Status → List ℕ → Type 0) → Type 0
 Some_answer gives = (s : Status) × ((t : List ℕ) × gives s t)
@@ -151,6 +153,15 @@ module _ (tells : Setting → List Pair → Moment → List ℕ → Type 0)
       (seeded_words command.seed) in
       by_ending IsPlay tells some command bytes p is own played.0 played.1 played.2 played.3
 
+  -- threads may come to the run of a play
+  run_made : Some_answer (SourceGives (TellsRun IsRunByThreads tells command) bytes)
+  run_made =
+      let played = plays_end (play_machine command p) (omega (arith, (ranges.numbers Quota).0)) (whole_is_depth_first (play_setting command p))
+      (omega (arith, (ranges.numbers Quota).0)) (omega (arith, (ranges.numbers Workers).0)) (play_terms command).limits
+      (seeded_words command.seed) in
+      by_ending IsRunByThreads tells some command bytes p is own played.0 played.1 played.2
+      (plays_in_threads command p ranges played.0 played.1 played.2 played.3)
+
   async_made : Some_answer (SourceGives (TellsRun IsAsyncPlay tells command) bytes)
   async_made =
       let played = ready_plays_end (async_machine command p) (omega (arith, (ranges.numbers Quota).0)) (whole_is_depth_first (play_setting command p))
@@ -218,6 +229,7 @@ verify_answer bytes = elim (each_read bytes) [
 kind_answer : (kind : CommandKind) (command : Command) → HasRanges command → (bytes : List ℕ) → Some_answer (KindGives kind command bytes)
 kind_answer Play command ranges bytes = play_answer command ranges bytes
 kind_answer Async command ranges bytes = source_answer (AsyncMakes command) bytes (async_made Reports some_report command ranges bytes)
+kind_answer Run command ranges bytes = source_answer (RunMakes command) bytes (run_made Reports some_report command ranges bytes)
 kind_answer Peak command ranges bytes = peak_answer command.k command.steps bytes
 kind_answer Checks command ranges bytes = check_answer bytes
 kind_answer Make command ranges bytes =

@@ -1,6 +1,7 @@
 -- The answer of a command is the answer of its call, and a front of an answer's text ends a call at a fault.
-use Rattle.std.proofs.Common.{◌≡◌, ℕ, ◌≤◌, List, length, take, Option, ap, refl, sym, subst, inl, inr}
+use Rattle.std.proofs.Common.{◌≡◌, ℕ, ◌≤◌, List, length, take, Option, ap, refl, sym, ◌∙◌, subst, inl, inr}
 use Rattle.std.proofs.Math.Logic.{∥∥₁_elim}
+use Rattle.std.proofs.lemmas.Bool.{false≢true}
 use Rattle.std.proofs.lemmas.Result.{IfOk-weaker}
 use Rattle.std.specs.Prelude.{Result, Ok, Err, IfOk}
 use Rattle.std.specs.declared.alloc.AllocError.{AllocError}
@@ -10,7 +11,7 @@ use Rattle.command_line.specs.Words.{IsCommand, number_of, values_of, wants_grou
 use Rattle.command_line.proofs.Commands.{sets_in_range, groups_in_range}
 use Rattle.command_line.specs.declared.command.Command.{Command}
 use Rattle.command_line.specs.declared.command_kind.CommandKind.{CommandKind}
-use Rattle.command_line.specs.declared.command_kind.CommandKind.TheVariants.{Play, Async, Peak, Check as Checks, Make, Loops, Expand, Trail, Verify}
+use Rattle.command_line.specs.declared.command_kind.CommandKind.TheVariants.{Play, Async, Run, Peak, Check as Checks, Make, Loops, Expand, Trail, Verify}
 use Rattle.dag_order.specs.declared.finish.Finish.{Finish}
 use Rattle.dag_order.specs.declared.finish.Finish.TheVariants.{Done as EndDone, Faulted}
 use Rattle.depth_first_run.specs.States.{Setting as RunSetting}
@@ -27,6 +28,7 @@ use Rattle.dfd_run.specs.Make.{Summarizes, source_of}
 use Rattle.dfd_run.specs.Peak.{PeakMakes, finish_status}
 use Rattle.dfd_run.specs.Async.{IsAsyncPlay, AsyncMakes}
 use Rattle.dfd_run.specs.Play.{IsPlay, TellsRun, TellsEnding, Reports, PlayMakes, play_setting, stop_status}
+use Rattle.dfd_run.specs.Threads.{IsRunByThreads}
 use Rattle.dfd_run.specs.Trails.{TellsCheck, VerifyMakes, VerifyGives, Records}
 use Rattle.trail_check.specs.declared.verify_fail.VerifyFail.{VerifyFail}
 use Rattle.trail_check.specs.declared.verify_fail.VerifyFail.TheVariants.{LongRun, BadEvent, NotEnded, WrongNumbers, OutOfMemory as NoMemory}
@@ -207,6 +209,7 @@ not_given : (kind : CommandKind) (command : Command) (bytes text : List ℕ) (st
     ¬ KindGives kind command bytes status text
 not_given Play command bytes text status none gives = not_of_a_played_source IsPlay Reports command bytes text status none gives
 not_given Async command bytes text status none gives = not_of_a_played_source IsAsyncPlay Reports command bytes text status none gives
+not_given Run command bytes text status none gives = not_of_a_played_source IsRunByThreads Reports command bytes text status none gives
 not_given Peak command bytes text status none gives =
     not_of_a_source (PeakMakes command.k command.steps) bytes text (not_of_a_peak command.k command.steps text) status none gives
 not_given Checks command bytes text status none gives = not_of_a_source CheckMakes bytes text (not_of_a_check text) status none gives
@@ -279,12 +282,17 @@ read_of_kind command failed left left' bytes DequesFull text read gives = (bytes
 read_of_kind command failed left left' bytes OutOfMemory text read gives = (bytes, (read, gives))
 read_of_kind command failed left left' bytes TrailRefused text read gives = (bytes, (read, gives))
 
+-- `run` is not `make`
+pub run_is_not_made : (kind : CommandKind) → kind ≡ Run → ¬ (kind ≡ Make)
+run_is_not_made kind runs made = false≢true (ap wants_groups (sym runs ∙ made))
+
 -- and a command that is not `make` reads
 pub command_of_read :
     (kind : CommandKind) (command : Command) (failed : Type 0) (left left' : Option (List ℕ)) → ¬ (kind ≡ Make) →
     (status : Status) (text : List ℕ) → ReadGives command failed left left' status text → KindAnswers kind command failed left left' status text
 command_of_read Play command failed left left' reads status text gives = gives
 command_of_read Async command failed left left' reads status text gives = gives
+command_of_read Run command failed left left' reads status text gives = gives
 command_of_read Peak command failed left left' reads status text gives = gives
 command_of_read Checks command failed left left' reads status text gives = gives
 command_of_read Make command failed left left' reads status text gives = absurd (reads refl)
@@ -305,6 +313,7 @@ no_usage : (kind : CommandKind) (command : Command) (failed : Type 0) (left left
     ¬ KindAnswers kind command failed left left' Usage text
 no_usage Play command failed left left' text gives = not_given command.kind command gives.0 text Usage tt gives.1.1
 no_usage Async command failed left left' text gives = not_given command.kind command gives.0 text Usage tt gives.1.1
+no_usage Run command failed left left' text gives = not_given command.kind command gives.0 text Usage tt gives.1.1
 no_usage Peak command failed left left' text gives = not_given command.kind command gives.0 text Usage tt gives.1.1
 no_usage Checks command failed left left' text gives = not_given command.kind command gives.0 text Usage tt gives.1.1
 no_usage Make command failed left left' text gives = not_given command.kind command (source_of command) text Usage tt gives

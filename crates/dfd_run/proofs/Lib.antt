@@ -3,6 +3,8 @@ pub mod OneAnswer
 pub mod AnAnswer
 pub mod Peaks
 pub mod Plays
+pub mod Threads
+pub mod ThreadPlays
 pub mod Expansions
 pub mod GivenWords
 pub mod ArenaStops

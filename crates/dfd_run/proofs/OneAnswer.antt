@@ -6,7 +6,7 @@ use denote.Struct.Props.{props}
 use Rattle.canonical_text.specs.Canonical.{canonical}
 use Rattle.command_line.specs.declared.command.Command.{Command}
 use Rattle.command_line.specs.declared.command_kind.CommandKind.{CommandKind}
-use Rattle.command_line.specs.declared.command_kind.CommandKind.TheVariants.{Play, Async, Peak, Check as Checks, Make, Loops, Expand, Trail, Verify}
+use Rattle.command_line.specs.declared.command_kind.CommandKind.TheVariants.{Play, Async, Run, Peak, Check as Checks, Make, Loops, Expand, Trail, Verify}
 use Rattle.dag_order.specs.declared.fault.FaultAt.{FaultAt}
 use Rattle.command_line.specs.declared.setting.Setting.TheVariants.{Quota as QuotaSetting}
 use Rattle.depth_first_run.proofs.Built.{whole_is_depth_first}
@@ -364,28 +364,29 @@ one_trail_answer bytes s s' u u' (inr of) (inr of') =
     one_source (VerifyMakes of.0) (one_verify of.0 (quota_of_trail of.0 of.1.0.0)) of.0.source s s' u u' of.1.1
     (subst (λ t. SourceGives (VerifyMakes t) t.source s' u') (one_trail bytes of'.0 of.0 of'.1.0 of.1.0) of'.1.1)
 
-one_kind : (kind : CommandKind) (command : Command) → HasRanges command → (bytes : List ℕ) (s s' : Status) (t t' : List ℕ) →
+one_kind : (kind : CommandKind) (command : Command) → HasRanges command → kind ≢ Run → (bytes : List ℕ) (s s' : Status) (t t' : List ℕ) →
     KindGives kind command bytes s t → KindGives kind command bytes s' t' → Same s s' t t'
-one_kind Play command ranges bytes s s' t t' =
+one_kind Play command ranges alone bytes s s' t t' =
     one_source (PlayMakes command) (one_play_answer Reports one_report command ranges) bytes s s' t t'
-one_kind Async command ranges bytes s s' t t' =
+one_kind Async command ranges alone bytes s s' t t' =
     one_source (AsyncMakes command) (one_run_answer IsAsyncPlay Reports one_report command (one_async_play_of command ranges)) bytes s s' t t'
-one_kind Peak command ranges bytes s s' t t' =
+one_kind Run command ranges alone bytes s s' t t' = absurd (alone refl)
+one_kind Peak command ranges alone bytes s s' t t' =
     one_source (PeakMakes command.k command.steps) (one_peak command.k command.steps) bytes s s' t t'
-one_kind Checks command ranges bytes s s' t t' = one_source CheckMakes one_check bytes s s' t t'
-one_kind Make command ranges bytes s s' t t' =
+one_kind Checks command ranges alone bytes s s' t t' = one_source CheckMakes one_check bytes s s' t t'
+one_kind Make command ranges alone bytes s s' t t' =
     one_source (MakeMakes command bytes) (one_play_answer (Summarizes (length bytes)) (one_summary (length bytes)) command ranges) bytes
     s s' t t'
-one_kind Loops command ranges bytes s s' t t' =
+one_kind Loops command ranges alone bytes s s' t t' =
     one_expansion (SourceGives (PlayMakes command)) bytes s s' t t'
     (λ expanded. one_source (PlayMakes command) (one_play_answer Reports one_report command ranges) expanded s s' t t')
-one_kind Expand command ranges bytes s s' t t' =
+one_kind Expand command ranges alone bytes s s' t t' =
     one_expansion ExpandMakes bytes s s' t t' (λ expanded m m'. (m.0 ∙ sym m'.0, m.1 ∙ sym m'.1))
-one_kind Trail command ranges bytes s s' t t' =
+one_kind Trail command ranges alone bytes s s' t t' =
     one_source (TrailMakes command bytes) (one_play_answer (Records command bytes) (one_record command bytes) command ranges) bytes s s' t t'
-one_kind Verify command ranges bytes s s' t t' = one_trail_answer bytes s s' t t'
+one_kind Verify command ranges alone bytes s s' t t' = one_trail_answer bytes s s' t t'
 
 pub one_answer :
-    (command : Command) (bytes : List ℕ) (s s' : Status) (t t' : List ℕ) → HasRanges command →
+    (command : Command) (bytes : List ℕ) (s s' : Status) (t t' : List ℕ) → HasRanges command → command.kind ≢ Run →
     BytesGive command bytes s t → BytesGive command bytes s' t' → Same s s' t t'
-one_answer command bytes s s' t t' ranges = one_kind command.kind command ranges bytes s s' t t'
+one_answer command bytes s s' t t' ranges alone = one_kind command.kind command ranges alone bytes s s' t t'

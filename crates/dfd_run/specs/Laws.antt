@@ -1,8 +1,8 @@
 -- What a caller may use.
-use Rattle.std.specs.Prelude.{◌≡◌, ◌↔◌, ◌⊎◌, ℕ, List, Ok}
+use Rattle.std.specs.Prelude.{◌≡◌, ◌≢◌, ◌↔◌, ◌⊎◌, ℕ, List, Ok}
 use Rattle.command_line.specs.Words.{IsCommand}
 use Rattle.command_line.specs.declared.command.Command.{Command}
-use Rattle.command_line.specs.declared.command_kind.CommandKind.TheVariants.{Play, Loops, Trail, Verify}
+use Rattle.command_line.specs.declared.command_kind.CommandKind.TheVariants.{Play, Run, Loops, Trail, Verify}
 use Rattle.loop_expand.specs.Expansion.{Expands}
 use Rattle.dfd_run.specs.Answer.{BytesGive, HasRanges}
 use Rattle.par_ownership.specs.Accepted.{IsAccepted}
@@ -15,10 +15,10 @@ use Rattle.trail_text.specs.TrailText.{IsTrail}
 use Rattle.dfd_run.specs.declared.status.Status.{Status}
 use Rattle.dfd_run.specs.declared.status.Status.TheVariants.{Done, UserFault}
 
--- a command has one answer to the bytes of a source, one status and one text
+-- a command that starts no threads has one answer to the bytes of a source, one status and one text
 abbrev pub OneAnswer : Type 0
 OneAnswer =
-    (command : Command) (bytes : List ℕ) (s s' : Status) (t t' : List ℕ) → HasRanges command →
+    (command : Command) (bytes : List ℕ) (s s' : Status) (t t' : List ℕ) → HasRanges command → command.kind ≢ Run →
     BytesGive command bytes s t → BytesGive command bytes s' t' → (s ≡ s') × (t ≡ t')
 
 -- a command has an answer to the bytes of a source

@@ -22,15 +22,15 @@ use std::thread::Threads;
 use work_loop::Gate;
 
 /// Writes what a command made of bytes. Where there was no memory for that, nothing is written.
-fn write_answer<W: Sink>(answer: Result<Answer, AllocError>, sink: &mut W) -> Status
-    ensures ends { (command : AnyCommand) (bytes : List ℕ) → IfOk answer (λ made. BytesGive command bytes made.status made.text.items)
+fn write_answer<W: Sink>(made: Result<Answer, AllocError>, sink: &mut W) -> Status
+    ensures ends { (command : AnyCommand) (bytes : List ℕ) → IfOk made (λ answer. BytesGive command bytes answer.status answer.text.items)
         → Ends (BytesGive command bytes) (W.taken sink.old) (W.taken sink.new) result }
-    ensures no_memory { (command : AnyCommand) (bytes : List ℕ) → IfOk answer (λ made. BytesGive command bytes made.status made.text.items)
+    ensures no_memory { (command : AnyCommand) (bytes : List ℕ) → IfOk made (λ answer. BytesGive command bytes answer.status answer.text.items)
         → result ≡ OutOfMemory → sink.new ≡ sink.old }
-    ensures counts { (command : AnyCommand) (bytes : List ℕ) → IfOk answer (λ made. BytesGive command bytes made.status made.text.items)
+    ensures counts { (command : AnyCommand) (bytes : List ℕ) → IfOk made (λ answer. BytesGive command bytes answer.status answer.text.items)
         → (reads : ℕ) → Counts result reads reads (W.faults sink.old) (W.faults sink.new) }
 {
-    let Ok(answer) = answer else {
+    let Ok(answer) = made else {
         return Status::OutOfMemory;
     };
     match write_text(sink, &answer.text) {

@@ -2,7 +2,7 @@ ghost use Rattle.dfd_run.specs.AsyncHeadline.{AsyncActionsSuffice, AsyncArenasSt
 ghost use Rattle.dfd_run.specs.Headline.{ActionsSuffice, ArenasStopLate, ArenasSuffice, DequesSuffice, MomentsAreBounded, PlaysEnd, PlaysWithRoomFinish, ReportsAreBounded, StatusesWithRoom, SummariesAreBounded};
 ghost use Rattle.dfd_run.specs.Laws.{AcceptedTrailsAreBounded, AnAnswer, CommandsHaveRanges, LoopsArePlays, OneAnswer, RecordedTrailsAreAccepted};
 
-/// The status and the text of a command are a function of the command and of the bytes that it reads.
+/// The status and the text of a command other than `run` are a function of the command and of the bytes that it reads.
 pub fn a_command_has_one_answer()
     ensures { OneAnswer }
 {}
