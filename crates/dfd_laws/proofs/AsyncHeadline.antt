@@ -1,6 +1,6 @@
 -- What holds of each play of `async`, by the laws of the ready list.
 use Rattle.std.proofs.Common.{◌≡◌, ◌⊎◌, inl, inr, ℕ, ◌<◌, ◌≤◌, ℤ, List, [], ◌∷◌, ◌++◌, length, pos, arith, refl, sym, ap, subst, ◌∙◌}
-use Rattle.std.proofs.Math.Logic.{∥∥₁_elim, ∥∥₁_map}
+use Rattle.std.proofs.Math.Logic.{∥∥₁_elim}
 use denote.Struct.Props.{props}
 use Rattle.std.specs.Prelude.{◌≤ℤ◌, ◌<ℤ◌, ◌+ℤ◌}
 use Rattle.command_line.specs.declared.command.Command.{Command}
@@ -10,11 +10,11 @@ use Rattle.dag_order.specs.declared.finish.Finish.TheVariants as finishes
 use Rattle.depth_first_list.specs.Facts.{deed_at, words_at}
 use Rattle.depth_first_list.specs.Runs.{IsDepthFirst}
 use Rattle.depth_first_run.proofs.Built.{whole_is_depth_first}
-use Rattle.depth_first_run.specs.Run.{whole, lines_of, finish_of_run}
+use Rattle.depth_first_run.specs.Run.{finish_of_run}
 use Rattle.deque_machine.specs.Machine.{Setting, does}
 use Rattle.deque_machine.specs.Moments.{Moment, opening, live_at}
 use Rattle.deque_machine.specs.Play.{Ending, finished, stopped, arena_full, steps_spent, deques_full, words_taken}
-use Rattle.deque_machine.specs.Runs.{Pair}
+use Rattle.deque_machine.specs.Runs.{Pair, high_water_mark}
 use Rattle.lawful_books.specs.Books.{periods_marked, bound}
 use Rattle.lawful_books.specs.Lists.{total}
 use Rattle.par_tree.specs.Tree.{Program}
@@ -24,22 +24,22 @@ use Rattle.ready_machine.proofs.Ends.{runs_end}
 use Rattle.ready_machine.proofs.Playing.{plays_are_runs, plays_end, plays_finish, endings_have_causes, lists_never_fill, actions_suffice, arenas_with_room_last, arenas_with_the_bound_last}
 use Rattle.ready_machine.proofs.Sharing.{opening_is_ready}
 use Rattle.ready_machine.specs.Entries.{IsReadyList}
+use Rattle.ready_machine.specs.PlayLaws.{CoversNext}
 use Rattle.ready_machine.specs.ReadyMachine.{MayReady, ReadyReaches}
 use Rattle.ready_machine.specs.ReadyPlay.{CanGo, ReadyTurn}
 use Rattle.ready_replay.proofs.Ones.{one_way}
 use Rattle.run_report.specs.Shown.{Shown}
 use Rattle.dfd_run.specs.Answer.{HasRanges}
 use Rattle.dfd_run.specs.Async.{IsAsyncPlay, AsyncMakes, async_terms, async_machine}
-use Rattle.dfd_laws.specs.AsyncHeadline.{AreAsyncBounded, AsyncStopsLate, AsyncLastsInArena}
-use Rattle.dfd_laws.specs.Headline.{play_list, HoldsAt, IsBoundedReport, HasShortPlays, LastsInActions}
+use Rattle.dfd_laws.specs.Headline.{play_list, HoldsAt, AreBounded, IsBoundedReport, HasShortPlays, StopsLate, LastsInArena, LastsInActions}
 use Rattle.dfd_run.specs.Peak.{finish_status}
 use Rattle.dfd_run.specs.Play.{TellsEnding, Reports, play_setting, seeded_words}
 use Rattle.dfd_run.specs.Status.{code_of}
 use Rattle.dfd_run.specs.declared.status.Status.{Status}
 use Rattle.dfd_run.specs.declared.status.Status.TheVariants.{Done, UserFault, DequesFull}
 use Rattle.dfd_laws.proofs.ArenaStops.{taken_is_weight, filled, asked_at}
-use Rattle.dfd_laws.proofs.Headline.{in_range, no_stop}
-use Rattle.dfd_laws.proofs.OneAnswer.{same_status}
+use Rattle.dfd_laws.proofs.Headline.{in_range, bounded_reports}
+use Rattle.dfd_laws.proofs.Statuses.{same_status}
 
 -- a front of a run reaches a moment, and the rest goes on from there
 reached_front : (s : Setting) (front rest : List Pair) (first last : Moment) → ReadyReaches s first (front ++ rest) last →
@@ -77,7 +77,7 @@ module _ (command : Command) (p : Program) (ranges : HasRanges command) where
   }
 
   pub async_moments_are_bounded : (run : List Pair) (last : Moment) (ending : Ending) → IsAsyncPlay command p run last ending →
-      (front rest : List Pair) → run ≡ front ++ rest → AreAsyncBounded command p front last
+      (front rest : List Pair) → run ≡ front ++ rest → AreBounded (ReadyReaches (async_machine command p) opening) command p front last
   async_moments_are_bounded run last ending plays front rest is =
       let s = async_machine command p in
       let reaches = (plays_are_runs s (async_terms command).limits (seeded_words command.seed) run last ending plays).0 in
@@ -94,38 +94,16 @@ module _ (command : Command) (p : Program) (ranges : HasRanges command) where
             omega (arith, ahead, marked);
       }
 
-  reported : (run : List Pair) (last : Moment) (ending : Ending) (status : Status) (text : List ℕ) → IsAsyncPlay command p run last ending →
-      TellsEnding (Reports (play_setting command p)) (play_setting command p) run last ending status text → (status ≡ Done) ⊎ (status ≡ UserFault) →
-      (status ≡ finish_status (finish_of_run (play_setting command p))) × ((shown : Shown) × IsBoundedReport command p text shown)
-  reported run last (stopped stop) status text plays told ended = absurd (no_stop command p ranges stop status told.0 ended)
-  reported run last finished status text plays told ended =
-      let reaches = (plays_are_runs (async_machine command p) (async_terms command).limits (seeded_words command.seed) run last finished plays).0 in (
-        told.0,
-        (
-          record {
-            lines = lines_of (whole (play_setting command p)).items;
-            finish = finish_of_run (play_setting command p);
-            periods = length last.books;
-            ahead = periods_marked last.books;
-            high = told.1.0;
-          },
-          record {
-            is = told.1.1.1;
-            lines = refl;
-            finish = refl;
-            bounded = subst (λ z. z ≤ℤ bound command.k (play_list command p) (periods_marked last.books)) (sym told.1.1.0)
-                (marked_bound (async_machine command p) some_quota listed run last reaches);
-          },
-        ),
-      )
+  -- the high-water mark of a play is within the bound of its marked periods
+  marks_bound : (run : List Pair) (last : Moment) (ending : Ending) → IsAsyncPlay command p run last ending →
+      high_water_mark (play_list command p) run ≤ℤ bound command.k (play_list command p) (periods_marked last.books)
+  marks_bound run last ending plays =
+      let reaches = (plays_are_runs (async_machine command p) (async_terms command).limits (seeded_words command.seed) run last ending plays).0 in
+      marked_bound (async_machine command p) some_quota listed run last reaches
 
   pub async_reports_are_bounded : (status : Status) (text : List ℕ) → AsyncMakes command p status text → (status ≡ Done) ⊎ (status ≡ UserFault) →
       (status ≡ finish_status (finish_of_run (play_setting command p))) × ∥ ((shown : Shown) × IsBoundedReport command p text shown) ∥₁
-  async_reports_are_bounded status text makes ended = (
-    same_status status (finish_status (finish_of_run (play_setting command p)))
-        (∥∥₁_elim makes (search props) (λ w. ap code_of (reported w.0 w.1 w.2 status text w.3 w.4 ended).0)),
-    ∥∥₁_map makes (λ w. (reported w.0 w.1 w.2 status text w.3 w.4 ended).1),
-  )
+  async_reports_are_bounded = bounded_reports IsAsyncPlay command p marks_bound
 
   -- the status of a play that ended otherwise is another one
   full : (run : List Pair) (last : Moment) (ending : Ending) (status : Status) (text : List ℕ) → IsAsyncPlay command p run last ending →
@@ -153,7 +131,7 @@ module _ (command : Command) (p : Program) (ranges : HasRanges command) where
       }
 
   pub async_arenas_stop_late : (run : List Pair) (last : Moment) (live : ℤ) (asked : ℕ) → IsAsyncPlay command p run last (stopped (arena_full live asked)) →
-      (periods : ℕ) → bound command.k (play_list command p) periods ≤ℤ pos command.arena → AsyncStopsLate command p last live asked periods
+      (periods : ℕ) → bound command.k (play_list command p) periods ≤ℤ pos command.arena → StopsLate ReadyTurn MayReady command p last live asked periods
   async_arenas_stop_late run last live asked plays periods room =
       let s = async_machine command p in
       let cause = endings_have_causes s (async_terms command).limits (seeded_words command.seed) run last (stopped (arena_full live asked)) plays in
@@ -179,7 +157,7 @@ module _ (command : Command) (p : Program) (ranges : HasRanges command) where
             (sym (taken_is_weight (deed_at (play_list command p) fills.0) (words_at (play_list command p) fills.0) (fills.2).0)) (fills.2).1) prefix;
       }
 
-  pub async_arenas_suffice : (run : List Pair) (last : Moment) (ending : Ending) → IsAsyncPlay command p run last ending → AsyncLastsInArena command p last ending
+  pub async_arenas_suffice : (run : List Pair) (last : Moment) (ending : Ending) → IsAsyncPlay command p run last ending → LastsInArena CoversNext command p last ending
   async_arenas_suffice run last ending plays (inl room) live asked is =
       arenas_with_room_last (async_machine command p) some_quota listed (async_terms command).limits (seeded_words command.seed) run last live asked room
       (subst (λ e. IsAsyncPlay command p run last e) is plays)

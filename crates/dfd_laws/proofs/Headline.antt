@@ -17,11 +17,12 @@ use Rattle.deque_machine.proofs.Ends.{runs_end}
 use Rattle.deque_machine.proofs.Kept.{opening_is_lawful}
 use Rattle.deque_machine.proofs.Playing.{Excluded, excluded, plays_are_runs, plays_end, plays_finish, wanted_may_come}
 use Rattle.deque_machine.proofs.Reached.{lawful_along, events_keep_lawful, bound_always, ahead_is_marked, marks_never_fall, marked_bound, arena_refuses}
+use Rattle.deque_machine.specs.Completeness.{CoversNext}
 use Rattle.deque_machine.specs.LawfulOrder.{IsLawful}
 use Rattle.deque_machine.specs.Machine.{Setting, does, May}
 use Rattle.deque_machine.specs.Moments.{Moment, opening, live_at}
 use Rattle.deque_machine.specs.Play.{Stop, arena_full, steps_spent, deques_full, Ending, finished, stopped, IsFirst, CanMove, Turn, words_taken, one_if_fork}
-use Rattle.deque_machine.specs.Runs.{Pair, Reaches}
+use Rattle.deque_machine.specs.Runs.{Pair, Reaches, high_water_mark}
 use Rattle.lawful_books.specs.Books.{periods_marked, bound, booked}
 use Rattle.lawful_books.specs.Lists.{total}
 use Rattle.machine_replay.proofs.OnePlay.{one_way, endings_have_causes}
@@ -32,12 +33,12 @@ use Rattle.dfd_run.specs.Make.{MakeMakes, Summarizes, sum_of}
 use Rattle.dfd_run.specs.Answer.{HasRanges}
 use Rattle.dfd_laws.specs.Headline.{play_list, HoldsAt, AreBounded, HasShortPlays, StopsLate, LastsInArena, LastsInActions, LastsInDeques, IsBoundedReport, IsBoundedSummary}
 use Rattle.dfd_run.specs.Peak.{finish_status}
-use Rattle.dfd_run.specs.Play.{IsPlay, TellsEnding, Reports, PlayMakes, play_setting, play_terms, play_machine, seeded_words, stop_status}
+use Rattle.dfd_run.specs.Play.{IsPlay, TellsRun, TellsEnding, Reports, PlayMakes, play_setting, play_terms, play_machine, seeded_words}
 use Rattle.dfd_run.specs.Status.{code_of}
 use Rattle.dfd_run.specs.declared.status.Status.{Status}
 use Rattle.dfd_run.specs.declared.status.Status.TheVariants.{Done, UserFault, DequesFull}
 use Rattle.dfd_laws.proofs.ArenaStops.{taken_is_weight, filled, asked_at}
-use Rattle.dfd_laws.proofs.OneAnswer.{same_status}
+use Rattle.dfd_laws.proofs.Statuses.{same_status, not_stopped}
 
 -- a front of a run reaches a moment, and the rest goes on from there
 reached_front : (s : Setting) (front rest : List Pair) (first last : Moment) → Reaches s first (front ++ rest) last →
@@ -59,6 +60,42 @@ one_reached s some list (pair ∷ run) first one other lawful reaches reaches' =
 pub in_range : (n word : ℕ) (Passes : ℕ → Type 0) (x : ℕ) → IsFirst n word Passes x → x < n
 in_range n word Passes x first =
     let few = first.few in subst (λ t. t < n) (sym first.is) (mod-lt (word + first.turns) (let some : 0 < n = omega arith in some))
+
+-- what is reported of runs of a kind whose high-water marks are within the bound
+module _ (IsRun : Command → Program → List Pair → Moment → Ending → Type 0) (command : Command) (p : Program)
+    (marked : (run : List Pair) (last : Moment) (ending : Ending) → IsRun command p run last ending →
+    high_water_mark (play_list command p) run ≤ℤ bound command.k (play_list command p) (periods_marked last.books)) where
+  reported : (run : List Pair) (last : Moment) (ending : Ending) (status : Status) (text : List ℕ) → IsRun command p run last ending →
+      TellsEnding (Reports (play_setting command p)) (play_setting command p) run last ending status text → (status ≡ Done) ⊎ (status ≡ UserFault) →
+      (status ≡ finish_status (finish_of_run (play_setting command p))) × ((shown : Shown) × IsBoundedReport command p text shown)
+  reported run last (stopped stop) status text plays told ended = absurd (not_stopped status stop told.0 ended)
+  reported run last finished status text plays told ended = (
+    told.0,
+    (
+      record {
+        lines = lines_of (whole (play_setting command p)).items;
+        finish = finish_of_run (play_setting command p);
+        periods = length last.books;
+        ahead = periods_marked last.books;
+        high = told.1.0;
+      },
+      record {
+        is = told.1.1.1;
+        lines = refl;
+        finish = refl;
+        bounded = subst (λ z. z ≤ℤ bound command.k (play_list command p) (periods_marked last.books)) (sym told.1.1.0)
+            (marked run last finished plays);
+      },
+    ),
+  )
+
+  pub bounded_reports : (status : Status) (text : List ℕ) → TellsRun IsRun Reports command p status text → (status ≡ Done) ⊎ (status ≡ UserFault) →
+      (status ≡ finish_status (finish_of_run (play_setting command p))) × ∥ ((shown : Shown) × IsBoundedReport command p text shown) ∥₁
+  bounded_reports status text makes ended = (
+    same_status status (finish_status (finish_of_run (play_setting command p)))
+        (∥∥₁_elim makes (search props) (λ w. ap code_of (reported w.0 w.1 w.2 status text w.3 w.4 ended).0)),
+    ∥∥₁_map makes (λ w. (reported w.0 w.1 w.2 status text w.3 w.4 ended).1),
+  )
 
 module _ (command : Command) (p : Program) (ranges : HasRanges command) where
   some_quota : 0 < command.k
@@ -84,7 +121,7 @@ module _ (command : Command) (p : Program) (ranges : HasRanges command) where
       lawful_along (play_machine command p) listed run opening last (opening_is_lawful (play_machine command p) listed) reaches
 
   pub moments_are_bounded : (run : List Pair) (last : Moment) (ending : Ending) → IsPlay command p run last ending →
-      (front rest : List Pair) → run ≡ front ++ rest → AreBounded command p front last
+      (front rest : List Pair) → run ≡ front ++ rest → AreBounded (Reaches (play_machine command p) opening) command p front last
   moments_are_bounded run last ending plays front rest is =
       let s = play_machine command p in
       let reaches = (plays_are_runs s some_quota listed (play_terms command).limits (seeded_words command.seed) run last ending plays).0 in
@@ -111,72 +148,39 @@ module _ (command : Command) (p : Program) (ranges : HasRanges command) where
             runs_end s some_quota listed (omega (arith, quota)) run last reaches.0 reaches.1;
       }
 
-  -- the status of a play that was stopped is not that of one that ended
-  pub no_stop : (stop : Stop) (status : Status) → status ≡ stop_status stop → (status ≡ Done) ⊎ (status ≡ UserFault) → ⊥
-  no_stop (arena_full live asked) status is (inl other) = omega (arith, ap code_of (sym is ∙ other))
-  no_stop (arena_full live asked) status is (inr other) = omega (arith, ap code_of (sym is ∙ other))
-  no_stop (steps_spent limit) status is (inl other) = omega (arith, ap code_of (sym is ∙ other))
-  no_stop (steps_spent limit) status is (inr other) = omega (arith, ap code_of (sym is ∙ other))
-  no_stop (deques_full deques) status is (inl other) = omega (arith, ap code_of (sym is ∙ other))
-  no_stop (deques_full deques) status is (inr other) = omega (arith, ap code_of (sym is ∙ other))
-
-  reported : (run : List Pair) (last : Moment) (ending : Ending) (status : Status) (text : List ℕ) → IsPlay command p run last ending →
-      TellsEnding (Reports (play_setting command p)) (play_setting command p) run last ending status text → (status ≡ Done) ⊎ (status ≡ UserFault) →
-      (status ≡ finish_status (finish_of_run (play_setting command p))) × ((shown : Shown) × IsBoundedReport command p text shown)
-  reported run last (stopped stop) status text plays told ended = absurd (no_stop stop status told.0 ended)
-  reported run last finished status text plays told ended =
+  -- the high-water mark of a play is within the bound of its marked periods
+  marks_bound : (run : List Pair) (last : Moment) (ending : Ending) → IsPlay command p run last ending →
+      high_water_mark (play_list command p) run ≤ℤ bound command.k (play_list command p) (periods_marked last.books)
+  marks_bound run last ending plays =
       let reaches = (plays_are_runs (play_machine command p) some_quota listed (play_terms command).limits (seeded_words command.seed)
-      run last finished plays).0 in (
-        told.0,
-        (
-          record {
-            lines = lines_of (whole (play_setting command p)).items;
-            finish = finish_of_run (play_setting command p);
-            periods = length last.books;
-            ahead = periods_marked last.books;
-            high = told.1.0;
-          },
-          record {
-            is = told.1.1.1;
-            lines = refl;
-            finish = refl;
-            bounded = subst (λ z. z ≤ℤ bound command.k (play_list command p) (periods_marked last.books)) (sym told.1.1.0)
-                (marked_bound (play_machine command p) some_quota listed run last reaches);
-          },
-        ),
-      )
+      run last ending plays).0 in
+      marked_bound (play_machine command p) some_quota listed run last reaches
 
   pub reports_are_bounded : (status : Status) (text : List ℕ) → PlayMakes command p status text → (status ≡ Done) ⊎ (status ≡ UserFault) →
       (status ≡ finish_status (finish_of_run (play_setting command p))) × ∥ ((shown : Shown) × IsBoundedReport command p text shown) ∥₁
-  reports_are_bounded status text makes ended = (
-    same_status status (finish_status (finish_of_run (play_setting command p)))
-        (∥∥₁_elim makes (search props) (λ w. ap code_of (reported w.0 w.1 w.2 status text w.3 w.4 ended).0)),
-    ∥∥₁_map makes (λ w. (reported w.0 w.1 w.2 status text w.3 w.4 ended).1),
-  )
+  reports_are_bounded = bounded_reports IsPlay command p marks_bound
 
   summed_up : (bytes : List ℕ) (run : List Pair) (last : Moment) (ending : Ending) (status : Status) (text : List ℕ) →
       IsPlay command p run last ending →
       TellsEnding (Summarizes (length bytes) (play_setting command p)) (play_setting command p) run last ending status text →
       (status ≡ Done) ⊎ (status ≡ UserFault) → (shown : Summary) × IsBoundedSummary command p text shown
-  summed_up bytes run last (stopped stop) status text plays told ended = absurd (no_stop stop status told.0 ended)
-  summed_up bytes run last finished status text plays told ended =
-      let reaches = (plays_are_runs (play_machine command p) some_quota listed (play_terms command).limits (seeded_words command.seed)
-      run last finished plays).0 in (
-        record {
-          bytes = length bytes;
-          lines = length (lines_of (whole (play_setting command p)).items);
-          total = sum_of (lines_of (whole (play_setting command p)).items);
-          actions = length (booked last.books);
-          periods = length last.books;
-          ahead = periods_marked last.books;
-          high = told.1.0;
-        },
-        record {
-          is = told.1.1.1;
-          bounded = subst (λ z. z ≤ℤ bound command.k (play_list command p) (periods_marked last.books)) (sym told.1.1.0)
-              (marked_bound (play_machine command p) some_quota listed run last reaches);
-        },
-      )
+  summed_up bytes run last (stopped stop) status text plays told ended = absurd (not_stopped status stop told.0 ended)
+  summed_up bytes run last finished status text plays told ended = (
+    record {
+      bytes = length bytes;
+      lines = length (lines_of (whole (play_setting command p)).items);
+      total = sum_of (lines_of (whole (play_setting command p)).items);
+      actions = length (booked last.books);
+      periods = length last.books;
+      ahead = periods_marked last.books;
+      high = told.1.0;
+    },
+    record {
+      is = told.1.1.1;
+      bounded = subst (λ z. z ≤ℤ bound command.k (play_list command p) (periods_marked last.books)) (sym told.1.1.0)
+          (marks_bound run last finished plays);
+    },
+  )
 
   pub summaries_are_bounded : (bytes : List ℕ) (status : Status) (text : List ℕ) → MakeMakes command bytes p status text →
       (status ≡ Done) ⊎ (status ≡ UserFault) → ∥ ((shown : Summary) × IsBoundedSummary command p text shown) ∥₁
@@ -184,7 +188,7 @@ module _ (command : Command) (p : Program) (ranges : HasRanges command) where
       ∥∥₁_map makes (λ w. summed_up bytes w.0 w.1 w.2 status text w.3 w.4 ended)
 
   pub arenas_stop_late : (run : List Pair) (last : Moment) (live : ℤ) (asked : ℕ) → IsPlay command p run last (stopped (arena_full live asked)) →
-      (periods : ℕ) → bound command.k (play_list command p) periods ≤ℤ pos command.arena → StopsLate command p last live asked periods
+      (periods : ℕ) → bound command.k (play_list command p) periods ≤ℤ pos command.arena → StopsLate Turn May command p last live asked periods
   arenas_stop_late run last live asked plays periods room =
       let s = play_machine command p in
       let cause = endings_have_causes s some_quota listed (play_terms command).limits (seeded_words command.seed)
@@ -220,7 +224,7 @@ module _ (command : Command) (p : Program) (ranges : HasRanges command) where
       excluded (play_machine command p) some_quota listed (play_terms command).limits (seeded_words command.seed) run last stop none
       (subst (λ e. IsPlay command p run last e) is plays)
 
-  pub arenas_suffice : (run : List Pair) (last : Moment) (ending : Ending) → IsPlay command p run last ending → LastsInArena command p last ending
+  pub arenas_suffice : (run : List Pair) (last : Moment) (ending : Ending) → IsPlay command p run last ending → LastsInArena CoversNext command p last ending
   arenas_suffice run last ending plays room live asked = none_of run last ending (arena_full live asked) plays room
 
   pub actions_suffice : (run : List Pair) (last : Moment) (ending : Ending) → IsPlay command p run last ending → LastsInActions command p last ending

@@ -1,3 +1,4 @@
+pub mod Statuses
 pub mod OneAnswer
 pub mod AnAnswer
 pub mod Expansions

@@ -1,5 +1,5 @@
 -- A command has one answer to the bytes of a source.
-use Rattle.std.proofs.Common.{◌≡◌, ◌≢◌, inl, inr, ℕ, ℤ, pos, negsuc, ◌≤◌, ◌<◌, length, arith, List, [], ◌∷◌, get_or, Option, Some, None, ap, sym, ◌∙◌, refl, subst}
+use Rattle.std.proofs.Common.{◌≡◌, ◌≢◌, inl, inr, ℕ, ℤ, pos, negsuc, ◌≤◌, ◌<◌, length, arith, List, Option, Some, None, ap, sym, ◌∙◌, refl, subst}
 use Rattle.std.specs.Prelude.{Result, Ok, Err}
 use Rattle.std.proofs.Math.Logic.{∥∥₁_elim}
 use denote.Struct.Props.{props}
@@ -49,6 +49,7 @@ use Rattle.dfd_run.specs.Play.{IsPlay, TellsRun, TellsPlay, TellsEnding, Reports
 use Rattle.dfd_run.specs.Status.{code_of}
 use Rattle.dfd_run.specs.declared.status.Status.{Status}
 use Rattle.dfd_run.specs.declared.status.Status.TheVariants.{Done, Usage, ReadFault, WriteFault, Syntax, Check, UserFault, StepsSpent, ArenaFull, DequesFull, OutOfMemory, TrailRefused}
+use Rattle.dfd_laws.proofs.Statuses.{same_status}
 
 abbrev program_in : Program → Verdict → Program
 program_in default (tree p) = p
@@ -160,28 +161,7 @@ one_check p s s' t t' m m' =
     let d' = is_done p s' t' m' in
     (d.0 ∙ sym d'.0, d.1 ∙ sym d'.1)
 
--- `play`: two statuses of one number are one
-abbrev with_code : ℕ → Status
-with_code code = get_or
-    (Done ∷ Usage ∷ ReadFault ∷ WriteFault ∷ Syntax ∷ Check ∷ UserFault ∷ StepsSpent ∷ ArenaFull ∷ DequesFull ∷ OutOfMemory ∷ TrailRefused ∷ []) code Done
-
-code_back : (s : Status) → with_code (code_of s) ≡ s
-code_back Done = refl
-code_back Usage = refl
-code_back ReadFault = refl
-code_back WriteFault = refl
-code_back Syntax = refl
-code_back Check = refl
-code_back UserFault = refl
-code_back StepsSpent = refl
-code_back ArenaFull = refl
-code_back DequesFull = refl
-code_back OutOfMemory = refl
-code_back TrailRefused = refl
-
-pub same_status : (s s' : Status) → code_of s ≡ code_of s' → s ≡ s'
-same_status s s' same = sym (code_back s) ∙ ap with_code same ∙ code_back s'
-
+-- `play`
 abbrev size_of : ℤ → ℕ
 size_of (pos n) = n
 size_of (negsuc n) = n

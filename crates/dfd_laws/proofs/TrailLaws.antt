@@ -1,5 +1,5 @@
 -- Recorded trails are accepted, and accepted trails are bounded.
-use Rattle.std.proofs.Common.{◌≡◌, ℕ, List, inl, inr, refl, sym, ap, subst, ◌∙◌, arith, ◌⊎◌}
+use Rattle.std.proofs.Common.{◌≡◌, ℕ, List, inl, inr, refl, sym, ap, subst, arith, ◌⊎◌}
 use Rattle.std.specs.Prelude.{Result, Ok, Err}
 use Rattle.std.proofs.Math.Logic.{∥∥₁_elim}
 use denote.Struct.Props.{props}
@@ -7,7 +7,7 @@ use Rattle.command_line.specs.declared.command.Command.{Command}
 use Rattle.command_line.specs.declared.command_kind.CommandKind.TheVariants.{Trail}
 use Rattle.command_line.specs.declared.setting.Setting.TheVariants.{Quota, Workers, Arena, Steps, Deques}
 use Rattle.deque_machine.specs.Moments.{Moment}
-use Rattle.deque_machine.specs.Play.{Stop, Ending, finished, stopped, arena_full, steps_spent, deques_full}
+use Rattle.deque_machine.specs.Play.{Ending, finished, stopped}
 use Rattle.deque_machine.specs.Runs.{Pair}
 use Rattle.par_ownership.specs.Accepted.{IsAccepted}
 use Rattle.par_text.specs.Judging.{IsText}
@@ -24,24 +24,16 @@ use Rattle.trail_laws.specs.Laws.{IsOfPlay}
 use Rattle.trail_laws.proofs.Accepted as laws
 use Rattle.dfd_run.specs.Answer.{BytesGive, HasRanges}
 use Rattle.dfd_laws.specs.Laws.{RecordedTrailsAreAccepted, AcceptedTrailsAreBounded}
-use Rattle.dfd_run.specs.Play.{IsPlay, TellsEnding, TellsPlay, play_setting, seeded_words, stop_status}
+use Rattle.dfd_run.specs.Play.{IsPlay, TellsEnding, TellsPlay, play_setting, seeded_words}
 use Rattle.dfd_run.specs.Status.{code_of}
 use Rattle.dfd_run.specs.Trails.{Records, TellsCheck, VerifyGives, trail_of}
 use Rattle.dfd_run.specs.declared.status.Status.{Status}
 use Rattle.dfd_run.specs.declared.status.Status.TheVariants.{Done, UserFault, TrailRefused}
 use Rattle.dfd_run.specs.TrailMessages.{trail_ok_text}
 use Rattle.dfd_laws.proofs.AnAnswer.{verify_answer}
-use Rattle.dfd_laws.proofs.OneAnswer.{one_trail_answer, same_status}
+use Rattle.dfd_laws.proofs.OneAnswer.{one_trail_answer}
+use Rattle.dfd_laws.proofs.Statuses.{same_status, not_stopped}
 use Rattle.dfd_run.proofs.Sums.{short_text}
-
--- the status of a play that was stopped is not that of one that ended
-not_stopped : (status : Status) (stop : Stop) → status ≡ stop_status stop → (status ≡ Done) ⊎ (status ≡ UserFault) → ⊥
-not_stopped status (arena_full live asked) is (inl other) = omega (arith, ap code_of (sym is ∙ other))
-not_stopped status (arena_full live asked) is (inr other) = omega (arith, ap code_of (sym is ∙ other))
-not_stopped status (steps_spent limit) is (inl other) = omega (arith, ap code_of (sym is ∙ other))
-not_stopped status (steps_spent limit) is (inr other) = omega (arith, ap code_of (sym is ∙ other))
-not_stopped status (deques_full deques) is (inl other) = omega (arith, ap code_of (sym is ∙ other))
-not_stopped status (deques_full deques) is (inr other) = omega (arith, ap code_of (sym is ∙ other))
 
 module _ (command : Command) (bytes trail : List ℕ) (ranges : HasRanges (record command { kind = Trail })) (p : Program) (is : IsText bytes p)
     (own : IsAccepted p) where

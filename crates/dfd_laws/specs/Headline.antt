@@ -1,10 +1,10 @@
--- What holds of each play of a command.
+-- What holds of each play of a command. What is the same for plays with deques and with a ready list has the kind of play as an argument.
 use Rattle.std.specs.Prelude.{◌≡◌, ◌≢◌, ◌⊎◌, ℕ, ◌+◌, ◌*◌, ◌<◌, ◌≤◌, List, ◌++◌, length, ℤ, pos, ◌≤ℤ◌}
 use Rattle.command_line.specs.declared.command.Command.{Command}
 use Rattle.depth_first_list.specs.Actions.{Action}
 use Rattle.depth_first_list.specs.Facts.{words_at}
 use Rattle.depth_first_run.specs.Run.{whole, lines_of, list_of, finish_of_run}
-use Rattle.deque_machine.specs.Machine.{does, May}
+use Rattle.deque_machine.specs.Machine.{Setting, Event, does, May}
 use Rattle.deque_machine.specs.Moments.{Moment, opening, done_at, live_at, threads_in, Rises}
 use Rattle.deque_machine.specs.Completeness.{CoversNext}
 use Rattle.deque_machine.specs.Play.{Ending, finished, stopped, arena_full, steps_spent, deques_full, Fills, Turn, words_taken, one_if_fork}
@@ -37,17 +37,17 @@ pub record HoldsAt (command : Command) (p : Program) (m : Moment) : Type 0 where
 
 -- So it is at each moment of each play, whatever events came up to there, and whatever comes then. There is a moment after each front of
 -- the events; and the periods that are marked at the end of the play are at least those ahead there.
-pub record AreBounded (command : Command) (p : Program) (front : List Pair) (last : Moment) : Type 0 where
+pub record AreBounded (Reached : List Pair → Moment → Type 0) (command : Command) (p : Program) (front : List Pair) (last : Moment) : Type 0 where
   pub moment : Moment
-  pub reached : Reaches (play_machine command p) opening front moment
-  pub each : (m : Moment) → Reaches (play_machine command p) opening front m → HoldsAt command p m
-  pub told : (m : Moment) (n : ℕ) → Reaches (play_machine command p) opening front m → IsPrefix (play_list command p) (done_at m) n
+  pub reached : Reached front moment
+  pub each : (m : Moment) → Reached front m → HoldsAt command p m
+  pub told : (m : Moment) (n : ℕ) → Reached front m → IsPrefix (play_list command p) (done_at m) n
       → periods_ahead n m.books ≤ periods_marked last.books
 
 abbrev pub MomentsAreBounded : Type 0
 MomentsAreBounded = (command : Command) (p : Program) → HasRanges command → IsAccepted p
     → (run : List Pair) (last : Moment) (ending : Ending) → IsPlay command p run last ending
-    → (front rest : List Pair) → run ≡ front ++ rest → AreBounded command p front last
+    → (front rest : List Pair) → run ≡ front ++ rest → AreBounded (Reaches (play_machine command p) opening) command p front last
 
 -- The text is a report with the lines and the finish of the depth-first run, and with a high-water mark of at most the peak and two quotas
 -- for each marked period.
@@ -57,10 +57,10 @@ pub record IsBoundedReport (command : Command) (p : Program) (text : List ℕ) (
   pub finish : shown.finish ≡ finish_of_run (play_setting command p)
   pub bounded : pos shown.high ≤ℤ bound command.k (play_list command p) shown.ahead
 
--- a play that came to the end of its root is reported so, with a status by the fault of the depth-first run
-abbrev pub ReportsAreBounded : Type 0
-ReportsAreBounded = (command : Command) (p : Program) → HasRanges command → IsAccepted p
-    → (status : Status) (text : List ℕ) → PlayMakes command p status text → (status ≡ Done) ⊎ (status ≡ UserFault)
+-- What is made of a program whose play came to the end of its root is such a report, with a status by the fault of the depth-first run.
+abbrev pub ReportsAreBounded : (makes : Command → Program → Status → List ℕ → Type 0) → Type 0
+ReportsAreBounded makes = (command : Command) (p : Program) → HasRanges command → IsAccepted p
+    → (status : Status) (text : List ℕ) → makes command p status text → (status ≡ Done) ⊎ (status ≡ UserFault)
     → (status ≡ finish_status (finish_of_run (play_setting command p))) × ∥ ((shown : Shown) × IsBoundedReport command p text shown) ∥₁
 
 -- The text is a summary with a high-water mark of at most the peak and two quotas for each marked period.
@@ -75,24 +75,25 @@ SummariesAreBounded = (command : Command) (bytes : List ℕ) (p : Program) → H
     → ∥ ((shown : Summary) × IsBoundedSummary command p text shown) ∥₁
 
 -- At the last moment of a play the action of the turn asks for so many words beside so many in use, which the arena has no room for. It might
--- come, and after it more than so many periods would be ahead.
-pub record StopsLate (command : Command) (p : Program) (last : Moment) (live : ℤ) (asked periods : ℕ) : Type 0 where
+-- come, and after it more than so many periods would be ahead. Which event a turn is and which may come is by the rules of the kind of play.
+pub record StopsLate (IsTurn : Setting → (ℕ → ℕ) → ℕ → Moment → Pair → Type 0) (MayDo : Setting → Moment → ℕ → Event → Moment → Type 0)
+    (command : Command) (p : Program) (last : Moment) (live : ℤ) (asked periods : ℕ) : Type 0 where
   pub drawn : ℕ
   pub worker : ℕ
   pub place : ℕ
-  pub turn : Turn (play_machine command p) (seeded_words command.seed) drawn last (record { worker = worker; event = does place })
+  pub turn : IsTurn (play_machine command p) (seeded_words command.seed) drawn last (record { worker = worker; event = does place })
   pub live_is : live ≡ live_at (play_list command p) last
   pub asked_is : asked ≡ words_at (play_list command p) place
   pub fills : Fills (play_machine command p) (play_terms command).limits last place
   pub after : Moment
-  pub may : May (play_machine command p) last worker (does place) after
+  pub may : MayDo (play_machine command p) last worker (does place) after
   pub more_ahead : (n : ℕ) → IsPrefix (play_list command p) (done_at after) n → periods < periods_ahead n after.books
 
 -- So an arena with room for the peak and two quotas for each of so many periods stops a play.
 abbrev pub ArenasStopLate : Type 0
 ArenasStopLate = (command : Command) (p : Program) → HasRanges command → IsAccepted p
     → (run : List Pair) (last : Moment) (live : ℤ) (asked : ℕ) → IsPlay command p run last (stopped (arena_full live asked))
-    → (periods : ℕ) → bound command.k (play_list command p) periods ≤ℤ pos command.arena → StopsLate command p last live asked periods
+    → (periods : ℕ) → bound command.k (play_list command p) periods ≤ℤ pos command.arena → StopsLate Turn May command p last live asked periods
 
 -- a fact of each play of each command, of this kind of play, by its last moment and its ending
 abbrev pub OfEach : (IsRun : Command → Program → List Pair → Moment → Ending → Type 0) → (Command → Program → Moment → Ending → Type 0) → Type 0
@@ -113,14 +114,14 @@ abbrev pub PlaysEnd : Type 0
 PlaysEnd = AllEnd IsPlay
 
 -- The arena stops no play where it has room for all words that the depth-first list takes, or where at the last moment it has room for the
--- peak and two quotas for each period ahead, with the next Alloc or Fork counted.
-abbrev pub LastsInArena : Command → Program → Moment → Ending → Type 0
-LastsInArena command p last ending =
-    (total words_taken (play_list command p) ≤ command.arena) ⊎ CoversNext (play_machine command p) command.arena last
+-- peak and two quotas for each period ahead, with the next Alloc or Fork counted, as `Covers` says.
+abbrev pub LastsInArena : (Covers : Setting → (capacity : ℕ) → Moment → Type 0) → Command → Program → Moment → Ending → Type 0
+LastsInArena Covers command p last ending =
+    (total words_taken (play_list command p) ≤ command.arena) ⊎ Covers (play_machine command p) command.arena last
     → (live : ℤ) (asked : ℕ) → ending ≢ stopped (arena_full live asked)
 
 abbrev pub ArenasSuffice : Type 0
-ArenasSuffice = OfEach IsPlay LastsInArena
+ArenasSuffice = OfEach IsPlay (LastsInArena CoversNext)
 
 -- with as many actions as the list has, their limit stops no play
 abbrev pub LastsInActions : Command → Program → Moment → Ending → Type 0

@@ -1,4 +1,6 @@
-ghost use Rattle.dfd_laws.specs.AsyncHeadline.{AsyncActionsSuffice, AsyncArenasStopLate, AsyncArenasSuffice, AsyncListsNeverFill, AsyncMomentsAreBounded, AsyncPlaysEnd, AsyncPlaysWithRoomFinish, AsyncReportsAreBounded, AsyncStatusesWithRoom};
+ghost use Rattle.dfd_run.specs.Async.{AsyncMakes};
+ghost use Rattle.dfd_run.specs.Play.{PlayMakes};
+ghost use Rattle.dfd_laws.specs.AsyncHeadline.{AsyncActionsSuffice, AsyncArenasStopLate, AsyncArenasSuffice, AsyncListsNeverFill, AsyncMomentsAreBounded, AsyncPlaysEnd, AsyncPlaysWithRoomFinish, AsyncStatusesWithRoom};
 ghost use Rattle.dfd_laws.specs.Headline.{ActionsSuffice, ArenasStopLate, ArenasSuffice, DequesSuffice, MomentsAreBounded, PlaysEnd, PlaysWithRoomFinish, ReportsAreBounded, StatusesWithRoom, SummariesAreBounded};
 ghost use Rattle.dfd_laws.specs.Laws.{AcceptedTrailsAreBounded, AnAnswer, CommandsHaveRanges, LoopsArePlays, OneAnswer, RecordedTrailsAreAccepted};
 
@@ -33,7 +35,7 @@ pub fn moments_are_bounded()
 /// A play that comes to its end is reported with the lines and the finish of the depth-first run, and its high-water mark is at most the
 /// depth-first peak and two quotas for each period that is told as ahead.
 pub fn reports_are_bounded()
-    ensures { ReportsAreBounded }
+    ensures { ReportsAreBounded PlayMakes }
 {}
 
 /// So is the high-water mark of a play of `make`, as its summary tells it.
@@ -87,7 +89,7 @@ pub fn async_moments_are_bounded()
 
 /// `async` reports a play that ends with the lines and the finish of the depth-first run, and with a high-water mark within the bound.
 pub fn async_reports_are_bounded()
-    ensures { AsyncReportsAreBounded }
+    ensures { ReportsAreBounded AsyncMakes }
 {}
 
 /// No play of `async` ends for want of a place in the list.
