@@ -4,18 +4,18 @@ ghost use Rattle.dfd_laws.specs.AsyncHeadline.{AsyncActionsSuffice, AsyncArenasS
 ghost use Rattle.dfd_laws.specs.Headline.{ActionsSuffice, ArenasStopLate, ArenasSuffice, DequesSuffice, MomentsAreBounded, PlaysEnd, PlaysWithRoomFinish, ReportsAreBounded, StatusesWithRoom, SummariesAreBounded};
 ghost use Rattle.dfd_laws.specs.Laws.{AcceptedTrailsAreBounded, AnAnswer, CommandsHaveRanges, LoopsArePlays, OneAnswer, RecordedTrailsAreAccepted};
 
-/// The status and the text of a command are a function of the command and of the bytes that it reads.
+/// A command has at most one answer to the bytes that it reads: one status and one text.
 pub fn a_command_has_one_answer()
     ensures { OneAnswer }
 {}
 
-/// A command has an answer to whatever bytes it reads: where streams do not fail and there is memory, one comes.
+/// A command has an answer to whatever bytes it reads.
 pub fn a_command_has_an_answer()
     ensures { AnAnswer }
 {}
 
-/// `loops` does what `play` with the same numbers does with the expansion of the bytes, where they have one. So what the laws below say of
-/// plays of a program holds for it, of the program of the expansion.
+/// `loops` answers what `play` with the same numbers answers to the expansion of the bytes, if they have one. So the laws below on plays
+/// hold for it, with the program of the expansion.
 pub fn loops_are_plays()
     ensures { LoopsArePlays }
 {}
@@ -25,20 +25,20 @@ pub fn commands_have_ranges()
     ensures { CommandsHaveRanges }
 {}
 
-/// At each moment of each play of a command the words in use are at most the depth-first peak, and two quotas for each period that by then
-/// ran an action ahead of the prefix; the threads in the deques stand in depth-first order; and no action was done twice. At most as many
-/// periods are ahead there as are marked at the end of the play.
+/// At each moment of each play the words in use are at most the depth-first peak, and two quotas for each period that by then ran an action
+/// ahead of the prefix. The threads in the deques are in depth-first order, and no action was done twice. At most as many periods are ahead
+/// as are marked at the end of the play.
 pub fn moments_are_bounded()
     ensures { MomentsAreBounded }
 {}
 
-/// A play that comes to its end is reported with the lines and the finish of the depth-first run, and its high-water mark is at most the
-/// depth-first peak and two quotas for each period that is told as ahead.
+/// A play that comes to its end is reported with the lines and the finish of the depth-first run. Its high-water mark is at most the
+/// depth-first peak, and two quotas for each period that the report counts as ahead.
 pub fn reports_are_bounded()
     ensures { ReportsAreBounded PlayMakes }
 {}
 
-/// So is the high-water mark of a play of `make`, as its summary tells it.
+/// The high-water mark in a summary of `make` has the same bound.
 pub fn summaries_are_bounded()
     ensures { SummariesAreBounded }
 {}
@@ -69,8 +69,8 @@ pub fn plays_with_room_finish()
     ensures { PlaysWithRoomFinish }
 {}
 
-/// With room for all words and all actions, `play` ends well, or with the program's fault, or at the limit of deques: a call whose streams do
-/// not fail has status 0, 6 or 9 then, or 10 where there is not enough memory.
+/// With room for all words and all actions `play` ends well, with the program's fault, or at the limit of deques. So a call whose streams
+/// do not fail has status 0, 6 or 9 then, or 10 if there is not enough memory.
 pub fn statuses_with_room()
     ensures { StatusesWithRoom }
 {}
@@ -81,13 +81,14 @@ pub fn plays_end()
     ensures { PlaysEnd }
 {}
 
-/// At each moment of each play of `async` the words in use are at most the depth-first peak, and two quotas for each period that by then ran an
-/// action ahead of the prefix; the threads stand in depth-first order; and no action was done twice.
+/// At each moment of each play of `async` the words in use are at most the depth-first peak, and two quotas for each period that by then
+/// ran an action ahead of the prefix. The threads are in depth-first order, and no action was done twice.
 pub fn async_moments_are_bounded()
     ensures { AsyncMomentsAreBounded }
 {}
 
-/// `async` reports a play that ends with the lines and the finish of the depth-first run, and with a high-water mark within the bound.
+/// `async` reports a play that comes to its end with the lines and the finish of the depth-first run, and with a high-water mark within the
+/// bound.
 pub fn async_reports_are_bounded()
     ensures { ReportsAreBounded AsyncMakes }
 {}
@@ -97,8 +98,8 @@ pub fn async_lists_never_fill()
     ensures { AsyncListsNeverFill }
 {}
 
-/// An arena with room for the depth-first peak and two quotas for each of so many periods stops a play of `async` only at an action of the turn
-/// that does not fit, and after which more periods would be ahead.
+/// An arena with room for the depth-first peak and two quotas for each of so many periods stops a play of `async` only at an action of the
+/// turn that does not fit, and after which more periods would be ahead.
 pub fn async_arenas_stop_late()
     ensures { AsyncArenasStopLate }
 {}
@@ -118,13 +119,13 @@ pub fn async_plays_with_room_finish()
     ensures { AsyncPlaysWithRoomFinish }
 {}
 
-/// So with this room `async` ends well, or with the program's fault: with status 0 or 6.
+/// With this room `async` ends well or with the program's fault: with status 0 or 6.
 pub fn async_statuses_with_room()
     ensures { AsyncStatusesWithRoom }
 {}
 
-/// Each command and program have a play of `async`, and it ends, after at most three events for each action of the depth-first run and one for
-/// each worker.
+/// Each command and program have a play of `async`, and it ends, after at most three events for each action of the depth-first run and one
+/// for each worker.
 pub fn async_plays_end()
     ensures { AsyncPlaysEnd }
 {}
@@ -134,9 +135,9 @@ pub fn recorded_trails_are_accepted()
     ensures { RecordedTrailsAreAccepted }
 {}
 
-/// What `verify` accepts is the trail of an accepted program. After each of its events the words in use are at most the depth-first peak, and
-/// two quotas for each period that by then ran an action ahead of the prefix; the threads in the deques stand in depth-first order; and no
-/// action was done twice.
+/// What `verify` accepts is the trail of an accepted program. After each of its events the words in use are at most the depth-first peak,
+/// and two quotas for each period that by then ran an action ahead of the prefix. The threads in the deques are in depth-first order, and
+/// no action was done twice.
 pub fn accepted_trails_are_bounded()
     ensures { AcceptedTrailsAreBounded }
 {}
