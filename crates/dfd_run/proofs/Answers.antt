@@ -26,7 +26,7 @@ use Rattle.dfd_run.specs.Counts.{Counts}
 use Rattle.dfd_run.specs.Expanding.{OfExpansion, ExpandMakes}
 use Rattle.dfd_run.specs.Make.{Summarizes, source_of}
 use Rattle.dfd_run.specs.Peak.{PeakMakes, finish_status}
-use Rattle.dfd_run.specs.Async.{IsAsyncPlay, AsyncMakes}
+use Rattle.dfd_run.specs.Async.{IsAsyncPlay}
 use Rattle.dfd_run.specs.Play.{IsPlay, TellsRun, TellsEnding, Reports, PlayMakes, play_setting, stop_status}
 use Rattle.dfd_run.specs.Threads.{IsRunByThreads}
 use Rattle.dfd_run.specs.Trails.{TellsCheck, VerifyMakes, VerifyGives, Records}

@@ -1,5 +1,5 @@
 -- What the play of a core with one ready list comes to is told as the play of the program.
-use Rattle.std.proofs.Common.{◌≡◌, ℕ, List, Some, pos, refl, ap, ◌∙◌}
+use Rattle.std.proofs.Common.{◌≡◌, ℕ, List, Some, pos, ap, ◌∙◌}
 use Rattle.std.proofs.Math.Logic.{∥∥₁_map}
 use Rattle.command_line.specs.declared.command.Command.{Command}
 use Rattle.dag_order.specs.declared.finish.Finish.{Finish}

@@ -1,16 +1,9 @@
 pub mod Answers
-pub mod OneAnswer
-pub mod AnAnswer
 pub mod Peaks
 pub mod Plays
 pub mod Threads
-pub mod ThreadPlays
 pub mod Expansions
 pub mod GivenWords
-pub mod ArenaStops
-pub mod Headline
 pub mod Sums
 pub mod Trails
-pub mod TrailLaws
 pub mod AsyncPlays
-pub mod AsyncHeadline

@@ -1,32 +1,28 @@
 -- What is recorded of a play of the core is the trail of the play of the program, and what is told of a trail.
 use Rattle.std.proofs.Common.{◌≡◌, ℕ, List, Some, ap, ◌∙◌, sym, subst}
 use Rattle.std.proofs.Math.Logic.{∥∥₁_map}
-use Rattle.std.specs.Prelude.{pos, Result, Ok, Err}
+use Rattle.std.specs.Prelude.{Result, Ok, Err}
 use Rattle.command_line.specs.declared.command.Command.{Command}
 use Rattle.run_end.specs.declared.stop.Stop.{Stop}
 use Rattle.run_end.specs.declared.stop.Stop.TheVariants.{ArenaFull, DequesFull, StepsSpent, OutOfMemory}
 use Rattle.dag_order.specs.declared.finish.Finish.{Finish}
 use Rattle.depth_first_run.specs.States.{Setting}
-use Rattle.deque_machine.specs.Moments.{Moment, opening}
+use Rattle.deque_machine.specs.Moments.{Moment}
 use Rattle.deque_machine.specs.Play.{finished}
 use Rattle.deque_machine.specs.Runs.{Pair}
 use Rattle.deque_machine.specs.Terms.{Terms}
 use Rattle.trail_record.specs.Played.Cores.{IsAt, end_of}
 use Rattle.trail_record.specs.Played.CoreType.{Core}
-use Rattle.run_end.specs.declared.ends.RunEnd.{RunEnd}
 use Rattle.run_end.specs.declared.ends.RunEnd.TheVariants.{Finished, Stopped}
 use Rattle.good_trails.specs.Told.{events_told}
 use Rattle.par_ownership.specs.Ownership.{Ownership}
 use Rattle.par_ownership.proofs.Law.{tells_program}
 use Rattle.par_text.specs.Judging.{IsText}
 use Rattle.par_tree.specs.Tree.{Program}
-use Rattle.serial_meaning.specs.Settings.{setting_of}
-use Rattle.trail_check.specs.Checking.{Checks}
 use Rattle.trail_check.specs.declared.verify_fail.VerifyFail.{VerifyFail}
 use Rattle.trail_check.specs.declared.verify_fail.VerifyFail.TheVariants.{LongRun, BadEvent, NotEnded, WrongNumbers, OutOfMemory as NoRoom}
 use Rattle.trail_meaning.specs.Shown.{Shown}
 use Rattle.trail_meaning.specs.declared.trail_event.TrailEvent.{TrailEvent}
-use Rattle.trail_record.specs.Recorded.{PlaysRecorded}
 use Rattle.dfd_run.specs.CorePlays.{Played, PlayedAs}
 use Rattle.dfd_run.specs.Peak.{finish_status}
 use Rattle.dfd_run.specs.Play.{TellsPlay, play_setting, play_terms, seeded_words}

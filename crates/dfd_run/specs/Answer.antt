@@ -1,5 +1,5 @@
 -- What a call of the program answers, and why.
-use Rattle.std.specs.Prelude.{◌≡◌, ℕ, suc, ◌≤◌, true, List, Option, Some, take}
+use Rattle.std.specs.Prelude.{◌≡◌, ℕ, suc, ◌≤◌, true, List, Option, take}
 use Rattle.canonical_text.specs.Canonical.{canonical}
 use Rattle.command_line.specs.Words.{IsCommand, InRange, number_of, wants_groups}
 use Rattle.command_line.specs.declared.command.Command.{Command}

@@ -1,9 +1,6 @@
 pub mod Answer
 pub mod Counts
 pub mod Expanding
-pub mod Headline
-pub mod AsyncHeadline
-pub mod Laws
 pub mod Make
 pub mod Messages
 pub mod PcgChoices

@@ -4,16 +4,14 @@
 //! and writes its text to a [`Sink`]. The kinds and contracts of both are those of `byte_streams`.
 //!
 //! It uses `command_line`, which says which words are a command; `accepted_source`, which reads bytes as a program that keeps the rules of
-//! ownership or says why not; `canonical_text` and `par_print`, the text of a program in one layout; `serial_meaning`, the depth-first run of a
-//! program; `frame_code`, its table of nodes, and `dfd_core` and `ready_core`, by which workers play it; `hall_runs`, in which they run it in threads; `loop_expand`, which writes parallel loops out before a
-//! program is read; `trail_record`, which records a play, `trail_text`, its text, and `trail_check`, which checks one; and `run_report`, the
-//! texts of runs.
+//! ownership or says why not; `canonical_text` and `par_print`, the text of a program in one layout; `serial_meaning`, the depth-first run
+//! of a program; `frame_code`, its table of nodes, and `dfd_core` and `ready_core`, by which workers play it; `hall_runs`, by which
+//! they run it in threads; `loop_expand`, which writes parallel loops out before a program is read; `trail_record`, which records a play,
+//! `trail_text`, its text, and `trail_check`, which checks one; and `run_report`, the texts of runs.
 //!
-//! Its theorem is the contract of `dfd`, and of [`serve`], which does what `dfd` does for a command other than `run`: the status and the text that the sink took
-//! are those that `CallGives` of `specs/Answer.antt` gives for the words and the bytes read, and each fault has its cause. The laws of
-//! `specs/Headline.antt` and `specs/AsyncHeadline.antt` say what holds of each play, and [`loops_are_plays`] that `loops` is one, of the expansion. Of trails say
-//! [`recorded_trails_are_accepted`] and [`accepted_trails_are_bounded`]. [`a_command_has_an_answer`] and [`a_command_has_one_answer`] say that
-//! the answers are a function of the command and the bytes.
+//! Its theorem is the contract of `dfd`, and of [`serve`], which does what `dfd` does for a command other than `run`: the status and the
+//! text that the sink took are those that `CallGives` of `specs/Answer.antt` gives for the words and the bytes read, and each fault has its
+//! cause. What follows from these definitions, of answers, plays and trails, is in `dfd_laws`.
 #![tactic(auto)]
 
 mod answer;
@@ -22,7 +20,6 @@ mod checking;
 mod expanding;
 mod finishing;
 mod kinds;
-mod laws;
 mod making;
 mod messages;
 mod pcg_choices;
@@ -44,15 +41,6 @@ pub use byte_streams::{
 };
 pub use call::{dfd, serve};
 pub use command_line::{Command, CommandKind, read_words};
-pub use laws::{
-    a_command_has_an_answer, a_command_has_one_answer, accepted_trails_are_bounded,
-    actions_suffice, arenas_stop_late, arenas_suffice, async_actions_suffice,
-    async_arenas_stop_late, async_arenas_suffice, async_lists_never_fill,
-    async_moments_are_bounded, async_plays_end, async_plays_with_room_finish,
-    async_reports_are_bounded, async_statuses_with_room, commands_have_ranges, deques_suffice,
-    loops_are_plays, moments_are_bounded, plays_end, plays_with_room_finish,
-    recorded_trails_are_accepted, reports_are_bounded, statuses_with_room, summaries_are_bounded,
-};
 pub use pcg_choices::PcgChoices;
 pub use program::exit_code;
 pub use status::Status;

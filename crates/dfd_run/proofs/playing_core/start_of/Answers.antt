@@ -1,7 +1,6 @@
 use Rattle.std.proofs.Common.{inl, inr, ap, ◌∙◌, arith, Err}
 use Rattle.std.proofs.lemmas.Bool.{false≢true}
-use Rattle.command_line.proofs.Commands.{few_steps}
-use Rattle.command_line.specs.declared.setting.Setting.TheVariants.{Quota, Workers, Arena, Steps, Deques}
+use Rattle.command_line.specs.declared.setting.Setting.TheVariants.{Quota, Arena}
 use Rattle.dfd_run.proofs.Peaks.{quota_of_range}
 use Rattle.dfd_run.proofs.playing_core.start_of.Goals as goal
 

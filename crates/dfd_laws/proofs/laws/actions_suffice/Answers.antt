@@ -1,0 +1,5 @@
+use Rattle.dfd_laws.proofs.Headline as law
+use Rattle.dfd_laws.proofs.laws.actions_suffice.Goals as goal
+
+pub returns : goal.returns
+returns c = λ command p ranges owned. law.actions_suffice command p ranges

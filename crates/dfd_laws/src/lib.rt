@@ -1,0 +1,23 @@
+//! What holds of the answers of `dfd`, by the definitions that its contract cites.
+//!
+//! A caller gets laws on a command and the bytes that it reads: it has one answer; at every moment of its play the words in use are within
+//! the bound; the play ends, and it finishes if nothing runs out; and `verify` accepts the trails of plays.
+//!
+//! The crate has laws alone. It uses `dfd_run`, whose definitions they are about, and the laws of what these are made of: the two machines
+//! (`deque_machine`, `machine_replay`, `ready_machine`, `ready_replay`), expansions (`loop_expand`) and trails (`trail_check`,
+//! `trail_laws`).
+//!
+//! Its theorem is [`moments_are_bounded`], and [`async_moments_are_bounded`] for a ready list.
+#![tactic(auto)]
+
+mod laws;
+
+pub use laws::{
+    a_command_has_an_answer, a_command_has_one_answer, accepted_trails_are_bounded,
+    actions_suffice, arenas_stop_late, arenas_suffice, async_actions_suffice,
+    async_arenas_stop_late, async_arenas_suffice, async_lists_never_fill,
+    async_moments_are_bounded, async_plays_end, async_plays_with_room_finish,
+    async_reports_are_bounded, async_statuses_with_room, commands_have_ranges, deques_suffice,
+    loops_are_plays, moments_are_bounded, plays_end, plays_with_room_finish,
+    recorded_trails_are_accepted, reports_are_bounded, statuses_with_room, summaries_are_bounded,
+};

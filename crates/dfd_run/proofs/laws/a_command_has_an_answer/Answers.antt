@@ -1,5 +1,0 @@
-use Rattle.dfd_run.proofs.AnAnswer.{an_answer}
-use Rattle.dfd_run.proofs.laws.a_command_has_an_answer.Goals as goal
-
-pub returns : goal.returns
-returns c = an_answer

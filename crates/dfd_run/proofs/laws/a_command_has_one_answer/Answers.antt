@@ -1,5 +1,0 @@
-use Rattle.dfd_run.proofs.OneAnswer.{one_answer}
-use Rattle.dfd_run.proofs.laws.a_command_has_one_answer.Goals as goal
-
-pub returns : goal.returns
-returns c = one_answer

@@ -1,5 +1,0 @@
-use Rattle.dfd_run.proofs.Headline as law
-use Rattle.dfd_run.proofs.laws.actions_suffice.Goals as goal
-
-pub returns : goal.returns
-returns c = λ command p ranges owned. law.actions_suffice command p ranges

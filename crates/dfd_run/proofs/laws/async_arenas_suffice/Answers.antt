@@ -1,5 +1,0 @@
-use Rattle.dfd_run.proofs.AsyncHeadline as law
-use Rattle.dfd_run.proofs.laws.async_arenas_suffice.Goals as goal
-
-pub returns : goal.returns
-returns c = λ command p ranges owned. law.async_arenas_suffice command p ranges

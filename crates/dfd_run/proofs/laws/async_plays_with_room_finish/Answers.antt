@@ -1,5 +1,0 @@
-use Rattle.dfd_run.proofs.AsyncHeadline as law
-use Rattle.dfd_run.proofs.laws.async_plays_with_room_finish.Goals as goal
-
-pub returns : goal.returns
-returns c = λ command p ranges owned. law.async_plays_with_room_finish command p ranges

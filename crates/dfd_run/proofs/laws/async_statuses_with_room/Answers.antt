@@ -1,5 +1,0 @@
-use Rattle.dfd_run.proofs.AsyncHeadline as law
-use Rattle.dfd_run.proofs.laws.async_statuses_with_room.Goals as goal
-
-pub returns : goal.returns
-returns c = λ command p ranges owned. law.async_statuses_with_room command p ranges

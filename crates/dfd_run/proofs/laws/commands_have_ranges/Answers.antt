@@ -1,5 +1,0 @@
-use Rattle.dfd_run.proofs.Answers as law
-use Rattle.dfd_run.proofs.laws.commands_have_ranges.Goals as goal
-
-pub returns : goal.returns
-returns c = law.command_ranges

@@ -1,5 +1,0 @@
-use Rattle.dfd_run.proofs.Headline as law
-use Rattle.dfd_run.proofs.laws.moments_are_bounded.Goals as goal
-
-pub returns : goal.returns
-returns c = λ command p ranges owned. law.moments_are_bounded command p ranges

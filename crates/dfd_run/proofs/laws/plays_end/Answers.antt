@@ -1,5 +1,0 @@
-use Rattle.dfd_run.proofs.Headline as law
-use Rattle.dfd_run.proofs.laws.plays_end.Goals as goal
-
-pub returns : goal.returns
-returns c = λ command p ranges owned. law.plays_end_soon command p ranges

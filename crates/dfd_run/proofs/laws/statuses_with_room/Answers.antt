@@ -1,5 +1,0 @@
-use Rattle.dfd_run.proofs.Headline as law
-use Rattle.dfd_run.proofs.laws.statuses_with_room.Goals as goal
-
-pub returns : goal.returns
-returns c = λ command p ranges owned. law.statuses_with_room command p ranges

@@ -1,5 +1,0 @@
-use Rattle.dfd_run.proofs.Headline as law
-use Rattle.dfd_run.proofs.laws.summaries_are_bounded.Goals as goal
-
-pub returns : goal.returns
-returns c = λ command bytes p ranges owned. law.summaries_are_bounded command p ranges bytes
