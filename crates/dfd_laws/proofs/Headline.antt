@@ -120,11 +120,11 @@ module _ (command : Command) (p : Program) (ranges : HasRanges command) where
       run last ending plays).0 in
       lawful_along (play_machine command p) listed run opening last (opening_is_lawful (play_machine command p) listed) reaches
 
-  pub moments_are_bounded : (run : List Pair) (last : Moment) (ending : Ending) → IsPlay command p run last ending →
+  -- whatever picks the events of a run
+  pub run_is_bounded : (run : List Pair) (last : Moment) → Reaches (play_machine command p) opening run last →
       (front rest : List Pair) → run ≡ front ++ rest → AreBounded (Reaches (play_machine command p) opening) command p front last
-  moments_are_bounded run last ending plays front rest is =
+  run_is_bounded run last reaches front rest is =
       let s = play_machine command p in
-      let reaches = (plays_are_runs s some_quota listed (play_terms command).limits (seeded_words command.seed) run last ending plays).0 in
       let cut = reached_front s front rest opening last (subst (λ r. Reaches s opening r last) is reaches) in
       record {
         moment = cut.0;
@@ -137,6 +137,12 @@ module _ (command : Command) (p : Program) (ranges : HasRanges command) where
             omega (arith, ahead, marked);
       }
 
+  pub moments_are_bounded : (run : List Pair) (last : Moment) (ending : Ending) → IsPlay command p run last ending →
+      (front rest : List Pair) → run ≡ front ++ rest → AreBounded (Reaches (play_machine command p) opening) command p front last
+  moments_are_bounded run last ending plays =
+      run_is_bounded run last
+      (plays_are_runs (play_machine command p) some_quota listed (play_terms command).limits (seeded_words command.seed) run last ending plays).0
+
   pub plays_end_soon : HasShortPlays IsPlay command p
   plays_end_soon =
       let s = play_machine command p in
@@ -148,13 +154,16 @@ module _ (command : Command) (p : Program) (ranges : HasRanges command) where
             runs_end s some_quota listed (omega (arith, quota)) run last reaches.0 reaches.1;
       }
 
-  -- the high-water mark of a play is within the bound of its marked periods
+  -- the high-water mark of a run, and so of a play, is within the bound of its marked periods
+  pub mark_is_bounded : (run : List Pair) (last : Moment) → Reaches (play_machine command p) opening run last →
+      high_water_mark (play_list command p) run ≤ℤ bound command.k (play_list command p) (periods_marked last.books)
+  mark_is_bounded run last reaches = marked_bound (play_machine command p) some_quota listed run last reaches
+
   marks_bound : (run : List Pair) (last : Moment) (ending : Ending) → IsPlay command p run last ending →
       high_water_mark (play_list command p) run ≤ℤ bound command.k (play_list command p) (periods_marked last.books)
   marks_bound run last ending plays =
-      let reaches = (plays_are_runs (play_machine command p) some_quota listed (play_terms command).limits (seeded_words command.seed)
-      run last ending plays).0 in
-      marked_bound (play_machine command p) some_quota listed run last reaches
+      mark_is_bounded run last
+      (plays_are_runs (play_machine command p) some_quota listed (play_terms command).limits (seeded_words command.seed) run last ending plays).0
 
   pub reports_are_bounded : (status : Status) (text : List ℕ) → PlayMakes command p status text → (status ≡ Done) ⊎ (status ≡ UserFault) →
       (status ≡ finish_status (finish_of_run (play_setting command p))) × ∥ ((shown : Shown) × IsBoundedReport command p text shown) ∥₁

@@ -5,4 +5,6 @@ pub mod Expansions
 pub mod ArenaStops
 pub mod Headline
 pub mod AsyncHeadline
+pub mod RunHeadline
+pub mod ThreadPlays
 pub mod TrailLaws

@@ -1,3 +1,4 @@
 pub mod Headline
 pub mod AsyncHeadline
+pub mod RunHeadline
 pub mod Laws

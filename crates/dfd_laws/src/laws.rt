@@ -1,7 +1,9 @@
 ghost use Rattle.dfd_run.specs.Async.{AsyncMakes};
 ghost use Rattle.dfd_run.specs.Play.{PlayMakes};
+ghost use Rattle.dfd_run.specs.Threads.{RunMakes};
 ghost use Rattle.dfd_laws.specs.AsyncHeadline.{AsyncActionsSuffice, AsyncArenasStopLate, AsyncArenasSuffice, AsyncListsNeverFill, AsyncMomentsAreBounded, AsyncPlaysEnd, AsyncPlaysWithRoomFinish, AsyncStatusesWithRoom};
 ghost use Rattle.dfd_laws.specs.Headline.{ActionsSuffice, ArenasStopLate, ArenasSuffice, DequesSuffice, MomentsAreBounded, PlaysEnd, PlaysWithRoomFinish, ReportsAreBounded, StatusesWithRoom, SummariesAreBounded};
+ghost use Rattle.dfd_laws.specs.RunHeadline.{RunMomentsAreBounded};
 ghost use Rattle.dfd_laws.specs.Laws.{AcceptedTrailsAreBounded, AnAnswer, CommandsHaveRanges, LoopsArePlays, OneAnswer, RecordedTrailsAreAccepted};
 
 /// A command other than `run` has at most one answer to the bytes that it reads: one status and one text.
@@ -36,6 +38,19 @@ pub fn moments_are_bounded()
 /// depth-first peak, and two quotas for each period that the report counts as ahead.
 pub fn reports_are_bounded()
     ensures { ReportsAreBounded PlayMakes }
+{}
+
+/// After each first part of the events of a run that threads come to the words in use are at most the depth-first peak, and two quotas for
+/// each period that by then ran an action ahead of the prefix. The threads in the deques are in depth-first order, and no action was done
+/// twice. At most as many periods are ahead there as are marked at the end of the run.
+pub fn run_moments_are_bounded()
+    ensures { RunMomentsAreBounded }
+{}
+
+/// `run` reports what comes to its end with the lines and the finish of the depth-first run. The high-water mark in the report is at most
+/// the depth-first peak, and two quotas for each period that the report counts as ahead.
+pub fn run_reports_are_bounded()
+    ensures { ReportsAreBounded RunMakes }
 {}
 
 /// The high-water mark in a summary of `make` has the same bound.

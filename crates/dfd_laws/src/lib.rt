@@ -4,10 +4,11 @@
 //! the bound; the play ends, and it finishes if nothing runs out; and `verify` accepts the trails of plays.
 //!
 //! The crate has laws alone. It uses `dfd_run`, whose definitions they are about, and the laws of what these are made of: the two machines
-//! (`deque_machine`, `machine_replay`, `ready_machine`, `ready_replay`), expansions (`loop_expand`) and trails (`trail_check`,
-//! `trail_laws`).
+//! (`deque_machine`, `machine_replay`, `ready_machine`, `ready_replay`), runs by threads (`hall_runs`), expansions (`loop_expand`) and trails
+//! (`trail_check`, `trail_laws`).
 //!
-//! Its theorem is [`moments_are_bounded`], and [`async_moments_are_bounded`] for a ready list.
+//! Its theorem is [`moments_are_bounded`], with [`async_moments_are_bounded`] for a ready list and [`run_moments_are_bounded`] for runs in
+//! threads.
 #![tactic(auto)]
 
 mod laws;
@@ -19,5 +20,6 @@ pub use laws::{
     async_moments_are_bounded, async_plays_end, async_plays_with_room_finish,
     async_reports_are_bounded, async_statuses_with_room, commands_have_ranges, deques_suffice,
     loops_are_plays, moments_are_bounded, plays_end, plays_with_room_finish,
-    recorded_trails_are_accepted, reports_are_bounded, statuses_with_room, summaries_are_bounded,
+    recorded_trails_are_accepted, reports_are_bounded, run_moments_are_bounded,
+    run_reports_are_bounded, statuses_with_room, summaries_are_bounded,
 };
