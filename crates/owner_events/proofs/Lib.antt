@@ -9,3 +9,4 @@ mod WithList
 mod WithAll
 mod Deciding
 mod Called
+mod Yielded

@@ -1,3 +1,4 @@
 pub mod Needs
 pub mod Ready
 pub mod Acting
+pub mod Yielding

@@ -17,6 +17,8 @@ mod joins;
 mod lists;
 mod pools;
 mod wholes;
+mod yields;
 
 pub use acted::Acted;
 pub use acting::act;
+pub use yields::{YieldRefused, yield_deque};
