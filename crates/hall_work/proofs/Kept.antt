@@ -35,7 +35,7 @@ steals_keep hall word before after (Ok event) steals =
 steals_keep hall word before after (Err (Busy held)) steals =
     record { worker = steals.2.worker; places = steals.2.places; yields = ap (λ (s : HallSeat). s.hand.note.yielded) steals.1.1 }
 steals_keep hall word before after (Err Nothing) steals =
-    record { worker = steals.2.worker; places = steals.2.places; yields = ap (λ (s : HallSeat). s.hand.note.yielded) steals.1.1.1.1 }
+    record { worker = steals.2.worker; places = steals.2.places; yields = ap (λ (s : HallSeat). s.hand.note.yielded) steals.1.1.2 }
 steals_keep hall word before after (Err (Over end)) steals =
     record { worker = steals.2.worker; places = steals.2.places; yields = ap (λ (s : HallSeat). s.hand.note.yielded) steals.1.1.1 }
 steals_keep hall word before after (Err (Stopped stop)) steals = elim steals [
