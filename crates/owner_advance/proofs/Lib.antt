@@ -1,2 +1,5 @@
+pub mod Noting
+mod Returned
+mod Answered
 mod Readable
 mod Coming

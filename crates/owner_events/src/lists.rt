@@ -27,8 +27,9 @@ use deque_list::DequeId;
 use hall_puts::Noting;
 use hall_turns::{Event, HallPlace, HallRow, ListSlot};
 use owner_acts::{act_dummy, act_give_up, act_kept_join, act_root_end, act_wait};
-use owner_advance::{AtNext, SeatMemory};
-use owner_returns::{make_room_to_close, make_room_to_leave, make_room_to_wait};
+use owner_advance::{
+    AtNext, SeatMemory, make_room_to_close, make_room_to_leave, make_room_to_wait,
+};
 use owner_takes::{ActRefused, count_with_list, give_list, take_open_list};
 use run_end::Stop;
 

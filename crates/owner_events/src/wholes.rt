@@ -26,8 +26,7 @@ use deque_list::DequeId;
 use hall_puts::Noting;
 use hall_turns::{Event, HallPlace, HallRow, ListSlot, PoolSlot};
 use owner_acts::{act_kept_join_giving, act_leaving_end, act_waking_end};
-use owner_advance::{AtNext, SeatMemory};
-use owner_returns::make_room_to_leave;
+use owner_advance::{AtNext, SeatMemory, make_room_to_leave};
 use owner_takes::{ActRefused, count_with_all, give_all, take_pool_too};
 use run_end::Stop;
 

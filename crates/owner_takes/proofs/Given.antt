@@ -22,7 +22,7 @@ use Rattle.hall_turns.specs.declared.pool_slot.PoolSlot.{PoolSlot}
 use Rattle.hall_turns.specs.declared.slot.Slot.{Slot}
 use Rattle.hall_writes.specs.Writes.{Parts, parts}
 use Rattle.owner_advance.specs.declared.at_next.AtNext.{AtNext}
-use Rattle.owner_returns.specs.Returning.{MayNote, ReturnsLane, ReturnsPool, ReturnsList, ReturnsAll}
+use Rattle.owner_advance.specs.Returning.{MayNote, ReturnsLane, ReturnsPool, ReturnsList, ReturnsAll}
 use Rattle.owner_takes.specs.Holding.{IsHolding}
 
 module _ (key : HallKey) (seat : HallSeat) (deque : DequeId) (taken : LaneSlot → List (ℕ × Slot)) (at : AtNext) (next : Next) (ready : ℕ)

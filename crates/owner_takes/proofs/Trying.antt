@@ -27,8 +27,8 @@ use Rattle.hall_turns.specs.declared.slot.Slot.{Slot}
 use Rattle.hall_turns.specs.declared.slot.Slot.TheVariants as slots
 use Rattle.hall_writes.specs.Writes.{Parts}
 use Rattle.owner_advance.specs.declared.at_next.AtNext.{AtNext}
-use Rattle.owner_returns.proofs.Noting.{full_arenas_may_be_noted, memory_may_be_noted}
-use Rattle.owner_returns.specs.Returning.{MayNote, ReturnsPool}
+use Rattle.owner_advance.proofs.Noting.{full_arenas_may_be_noted, memory_may_be_noted}
+use Rattle.owner_advance.specs.Returning.{MayNote, ReturnsPool}
 use Rattle.owner_takes.proofs.Following.{is_before}
 use Rattle.owner_takes.proofs.Given.{lane_back}
 use Rattle.owner_takes.specs.Holding.{Fails, IsHolding, IsBefore}

@@ -21,7 +21,7 @@ use Rattle.hall_turns.specs.declared.pool_slot.PoolSlot.{PoolSlot}
 use Rattle.hall_turns.specs.declared.slot.Slot.{Slot}
 use Rattle.hall_turns.specs.declared.slot.Slot.TheVariants as slots
 use Rattle.owner_advance.specs.declared.at_next.AtNext.{AtNext}
-use Rattle.owner_returns.specs.Causes.{IsTooLarge}
+use Rattle.owner_advance.specs.Causes.{IsTooLarge}
 use Rattle.owner_takes.specs.Holding.{Fails, IsBefore, IsCounted}
 use Rattle.owner_takes.specs.declared.refused.ActRefused.{ActRefused}
 

@@ -16,8 +16,7 @@ use deque_list::DequeId;
 use hall_counting::count_action;
 use hall_puts::Noting;
 use hall_turns::{HallPlace, HallRow, ListSlot, PoolSlot};
-use owner_advance::AtNext;
-use owner_returns::make_room_for_move;
+use owner_advance::{AtNext, make_room_for_move};
 use run_end::Stop;
 
 /// Counts the action for which the seat holds its lane alone.

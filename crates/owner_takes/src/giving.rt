@@ -10,7 +10,7 @@ ghost use Rattle.hall_puts.specs.Puts.{note_of};
 ghost use Rattle.hall_turns.specs.declared.list_slot.ListSlot.{ListSlot as AnyList};
 ghost use Rattle.hall_turns.specs.declared.pool_slot.PoolSlot.{PoolSlot as AnyPool};
 ghost use Rattle.hall_writes.specs.Writes.{Parts};
-ghost use Rattle.owner_returns.specs.Returning.{MayNote};
+ghost use Rattle.owner_advance.specs.Returning.{MayNote};
 ghost use Rattle.owner_takes.specs.Holding.{IsHolding};
 
 use boxed::Boxed;
@@ -18,8 +18,7 @@ use deque_list::DequeId;
 use hall_deciding::give_still_back;
 use hall_puts::Noting;
 use hall_turns::{HallPlace, HallRow, ListSlot, PoolSlot};
-use owner_advance::{AtNext, put_together};
-use owner_returns::{return_all, return_list, return_pool};
+use owner_advance::{AtNext, put_together, return_all, return_list, return_pool};
 
 /// Gives the lane back.
 pub fn give_lane(row: &HallRow, seat: &mut HallPlace, deque: DequeId, at: AtNext)

@@ -4,8 +4,7 @@
 //! ([`take_open_list`]), and counts the action once there is memory for it ([`count_lane`] and the calls beside it). If a slot is held by another
 //! seat, the run is over, memory is wanting, or a limit of the run is met, the seat gives all slots back and holds nothing ([`ActRefused`]).
 //!
-//! It stands on the way to the action (`owner_advance`), on what is put back if no event comes (`owner_returns`), and on the count
-//! (`hall_counting`). Its theorem: each call keeps the law of the hall between any two atomic steps; a seat that fails has the note that says why,
+//! It stands on the way to the action and on what is put back if no event comes (`owner_advance`), and on the count (`hall_counting`). Its theorem: each call keeps the law of the hall between any two atomic steps; a seat that fails has the note that says why,
 //! and the answers that show it.
 #![tactic(auto)]
 

@@ -16,8 +16,7 @@ use deque_list::DequeId;
 use hall_puts::Noting;
 use hall_seats::end_of;
 use hall_turns::{HallPlace, HallRow, ListSlot, PoolSlot, take_list, take_pool};
-use owner_advance::{AtNext, put_together};
-use owner_returns::{return_answered, return_pool};
+use owner_advance::{AtNext, put_together, return_answered, return_pool};
 use run_end::Stop;
 use thread_frames::Next;
 

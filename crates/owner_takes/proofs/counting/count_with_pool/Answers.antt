@@ -1,6 +1,6 @@
 use Rattle.turn_table.specs.Tables.{key_of}
 use Rattle.hall_deciding.specs.Taken.{pool_and_lane}
-use Rattle.owner_returns.proofs.Noting.{nothing_may_be_noted}
+use Rattle.owner_advance.proofs.Noting.{nothing_may_be_noted}
 use Rattle.owner_takes.proofs.Counted.{still_holds}
 use Rattle.owner_takes.proofs.Trying.{may_want}
 use Rattle.owner_takes.proofs.counting.count_with_pool.Goals as goal

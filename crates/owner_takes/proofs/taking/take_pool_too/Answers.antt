@@ -2,7 +2,7 @@ use Rattle.std.proofs.Common.{refl}
 use Rattle.turn_table.specs.Tables.{key_of}
 use Rattle.hall_deciding.specs.Taken.{list_and_lane}
 use Rattle.hall_turns.specs.declared.slot.Slot.TheVariants as slots
-use Rattle.owner_returns.proofs.Noting.{nothing_may_be_noted}
+use Rattle.owner_advance.proofs.Noting.{nothing_may_be_noted}
 use Rattle.owner_takes.proofs.Following.{is_before}
 use Rattle.owner_takes.proofs.Trying.{pool_sound, same_list, still_holding}
 use Rattle.owner_takes.proofs.taking.take_pool_too.Goals as goal
