@@ -42,8 +42,8 @@ use Rattle.hall_turns.proofs.Reading.{get_of_at}
 use Rattle.owner_acts.specs.Pauses.{CanClose}
 use Rattle.owner_acts.proofs.Roomier.{has_from, rest_from, shows_unowned_from, unowned_from}
 use Rattle.owner_advance.specs.Advancing.{HasLooked, took_lane}
-use Rattle.owner_returns.specs.Returning.{ReturnsList}
-use Rattle.owner_returns.proofs.Noting.{nothing_may_be_noted}
+use Rattle.owner_advance.specs.Returning.{ReturnsList}
+use Rattle.owner_advance.proofs.Noting.{nothing_may_be_noted}
 use Rattle.owner_events.specs.Yielding.{MayYield, yielded_note}
 use Rattle.owner_events.proofs.FromList as from
 use Rattle.owner_events.proofs.WithList.{more_books}

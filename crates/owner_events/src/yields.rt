@@ -11,7 +11,7 @@ use deque_list::DequeId;
 use hall_deciding::decide_yield;
 use hall_puts::Noting;
 use hall_turns::{HallPlace, HallRow, LaneSlot, take_lane_and_list};
-use owner_returns::{make_room_to_close, return_list};
+use owner_advance::{make_room_to_close, return_list};
 use turn_table::Held;
 
 /// Why no deque was given up.
