@@ -73,7 +73,7 @@ pub(crate) fn enter_all<R: Wait, C: Choices + Drop>(
     requires { IsCrew hall.now first.old crew.old.items }
     ensures { OnOk result (IsCrew hall.now first.new crew.new.items) }
 {
-    'workers: for its in choices {
+    for its in choices {
         enter_one(rt, hall, first, its, crew)?;
     }
     Ok(())

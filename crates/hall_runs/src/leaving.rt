@@ -95,7 +95,7 @@ pub(crate) fn leave_all<R: Wait, C: Drop>(
     ensures { IfOk result (λ left. AreLeft hall.now left []) }
 {
     let mut stays = last;
-    'members: for member in crew {
+    for member in crew {
         stays = leave_one(rt, hall, stays, member)?;
     }
     Ok(stays)
