@@ -1,5 +1,5 @@
 -- A seat that took its lane and the list to give its deque up.
-use Rattle.std.proofs.Common.{◌≡◌, ◌≢◌, ℕ, ◌+◌, ◌≤◌, List, [], ◌∷◌, ◌++◌, inl, inr, refl, sym, ap, ◌∙◌, subst, append_assoc}
+use Rattle.std.proofs.Common.{◌≡◌, ◌≢◌, ℕ, ◌+◌, ◌≤◌, ◌<◌, List, [], ◌∷◌, ◌++◌, inl, inr, refl, sym, ap, ◌∙◌, subst, append_assoc}
 use Rattle.std.specs.Prelude.{Option, None, Some}
 use Rattle.std.specs.Option.{option_map}
 use Rattle.dag_order.specs.declared.finish.Finish.{Finish}
@@ -82,7 +82,7 @@ module _ (key : HallKey) (before middle : HallSeat) (deque : DequeId) (lane : La
   has_list : HasAs 0 (slots.List list) middle.hand.holds
   has_list = subst (HasAs 0 (slots.List list)) (sym holding) (inl (refl, refl))
 
-  reads : ReadsLane key middle lane
+  pub reads : ReadsLane key middle lane
   reads = owners_read key middle deque lane held meets
 
   pub runs : lane.running ≡ Some (record { worker = reads.holder; period = reads.period })
