@@ -1,3 +1,4 @@
 mod Seen
 mod Parts
 mod OneRun
+mod Told

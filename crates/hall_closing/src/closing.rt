@@ -1,6 +1,7 @@
 //! How the slots of a hall come out.
 
-ghost use Rattle.std.specs.Prelude.{◌≡◌, ◌<◌, [], ◌∷◌, List, None, IfErr, IfOk};
+ghost use Rattle.std.specs.Prelude.{◌≡◌, ◌<◌, [], ◌∷◌, List, None, Some, IfErr, IfOk, MatchResult};
+ghost use Rattle.run_end.specs.declared.ends.RunEnd.{RunEnd as AnyEnd};
 ghost use Rattle.turn_table.specs.Tables.{key_of, IsSeatOf};
 ghost use Rattle.hall_turns.specs.declared.slot.Slot.{Slot as AnySlot};
 ghost use Rattle.hall_turns.specs.declared.slot.Slot.TheVariants as slots;
@@ -40,7 +41,7 @@ fn close_row(row: HallRow, seat: HallPlace) -> (Boxed<ListSlot>, PoolSlot)
     }
 }
 
-/// Closes a hall with the seat that has all places and owns no deque.
+/// Closes a hall with the seat that has all places and owns no deque. If the seat was answered an end, this is the end that is kept.
 ///
 /// # Errors
 ///
@@ -50,6 +51,7 @@ pub fn close(row: HallRow, seat: HallPlace) -> Result<ClosedHall, (HallRow, Hall
     requires may { MayClose (key_of row) seat }
     requires free { seat.hand.holds ≡ [] }
     ensures closed { IfOk result (λ closed. IsClosed (key_of row) seat closed.list closed.pool closed.end) }
+    ensures told { (end : AnyEnd) → seat.hand.note.answered ≡ Some end → MatchResult result (λ closed. closed.end ≡ end) (λ back. ⊥) }
     ensures open { IfErr result (λ back. HasSeen seat None back.1) }
     ensures here { IfErr result (λ back. IsSeatOf back.0 back.1) }
     ensures key { IfErr result (λ back. key_of back.0 ≡ key_of row) }

@@ -3,3 +3,4 @@ pub mod Opening
 pub mod Seated
 pub mod Thieves
 pub mod Owners
+pub mod Leaving

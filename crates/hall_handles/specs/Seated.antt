@@ -3,8 +3,10 @@ use Rattle.std.specs.Prelude.{◌≡◌, ◌+◌, ◌<◌, ◌≤◌, false, Non
 use Rattle.bounded_list.specs.BoundedList.{entries}
 use Rattle.deque_list.specs.declared.deque_id.DequeId.{DequeId}
 use Rattle.node_table.specs.declared.code.Code.{Code}
+use Rattle.turn_table.specs.Hands.{fresh}
 use Rattle.turn_table.specs.Tables.{key_of, slot_count, IsSeatOf}
 use Rattle.hall_law.specs.Numbers.{IsSmallestNumber}
+use Rattle.hall_entering.specs.Entering.{giving_note, worker_note}
 use Rattle.hall_turns.specs.declared.list_slot.ListSlot.{ListSlot}
 use Rattle.hall_turns.specs.Takes.{IsRefused}
 use Rattle.hall_seats.specs.Lists.{answered_note, Leaves, with_list}
@@ -52,6 +54,8 @@ pub record SameSeat (before after : Seat) : Type 0 where
 abbrev pub Enters : Hall → Seat → Seat → Result Seat EnterRefused → Type 0
 Enters hall before after (Ok made) = (list : ListSlot) × IsSmallestNumber hall.workers list.crew.items made.worker × (list.end ≡ None)
     × (made.places ≡ 1) × (made.owned ≡ None) × (made.stop ≡ None) × (after.places + 1 ≡ before.places)
+    × Leaves (with_list before.place list) (giving_note before.place.hand.note) after.place
+    × (made.place.hand ≡ fresh (worker_note (Some made.worker)))
 Enters hall before after (Err (Crowded places)) = (before.places ≡ 1) × (places ≡ 1) × (after ≡ before)
 Enters hall before after (Err (Busy held)) = IsRefused before.place 0 held after.place × SameSeat before after
 Enters hall before after (Err (Over end)) = (list : ListSlot) × (list.end ≡ Some end)

@@ -1,11 +1,9 @@
--- What a steal and a leave answer of a seat that owns no deque.
-use Rattle.std.specs.Prelude.{◌≡◌, ◌⊎◌, ℕ, ◌+◌, Option, None, Some, Result, Ok, Err}
+-- What a steal answers of a seat that owns no deque.
+use Rattle.std.specs.Prelude.{◌≡◌, ◌⊎◌, ℕ, Option, None, Some, Result, Ok, Err}
 use Rattle.deque_list.specs.declared.deque_id.DequeId.{DequeId}
 use Rattle.turn_places.specs.Backs.{IsBack}
 use Rattle.hall_turns.specs.declared.event.Event.{Event}
 use Rattle.hall_turns.specs.declared.event.Event.TheVariants.{Stole, Did, Suspended, GaveUp, Halted}
-use Rattle.hall_turns.specs.Takes.{IsRefused}
-use Rattle.hall_leaving.specs.Leaving.{HasJoined}
 use Rattle.hall_seeking.specs.Seeking.{HasSought}
 use Rattle.hall_seeking.specs.declared.prey.SeekRefused.TheVariants as sought
 use Rattle.thief_acts.specs.Steals.{HasMetStop, HasStolenBy}
@@ -13,8 +11,6 @@ use Rattle.hall_handles.specs.declared.hall.Hall.{Hall}
 use Rattle.hall_handles.specs.declared.seat.Seat.{Seat}
 use Rattle.hall_handles.specs.declared.refused.EventRefused.{EventRefused}
 use Rattle.hall_handles.specs.declared.refused.EventRefused.TheVariants.{Busy, Nothing, Over, Stopped}
-use Rattle.hall_handles.specs.declared.refused.LeaveRefused.{LeaveRefused}
-use Rattle.hall_handles.specs.declared.refused.LeaveRefused.TheVariants as leaving
 use Rattle.hall_handles.specs.Seated.{SameSeat}
 
 -- the deque that an event gives
@@ -47,11 +43,3 @@ IsNotBusy (Err (Busy held)) = ⊥
 IsNotBusy (Err Nothing) = Unit {0}
 IsNotBusy (Err (Over end)) = Unit {0}
 IsNotBusy (Err (Stopped stop)) = Unit {0}
-
--- How it is with a seat that left into another: this has its places besides its own; or it was refused the list, and both are what they were.
-abbrev pub LeavesHall : Seat → Seat → Seat → Result (Unit {0}) (Seat × LeaveRefused) → Type 0
-LeavesHall seat before after (Ok done) = HasJoined before.place seat.place.hand.note after.place × (after.worker ≡ before.worker)
-    × (after.places ≡ before.places + seat.places) × (after.owned ≡ before.owned) × (after.stop ≡ before.stop)
-LeavesHall seat before after (Err (back, leaving.Busy held)) =
-    IsRefused seat.place 0 held back.place × SameSeat seat back × (after ≡ before)
-LeavesHall seat before after (Err (back, leaving.OutOfMemory)) = ⊥

@@ -1,7 +1,8 @@
 //! How a hall is closed.
 
-ghost use Rattle.std.specs.Prelude.{◌≡◌, None, IfErr};
+ghost use Rattle.std.specs.Prelude.{◌≡◌, ◌<◌, None, Some, IfErr, MatchResult};
 ghost use Rattle.dfd_core.specs.Parts.{root_behind};
+ghost use Rattle.run_end.specs.declared.ends.RunEnd.{RunEnd as AnyEnd};
 ghost use Rattle.hall_handles.specs.Closing.{Closes, GivesClosing};
 ghost use Rattle.hall_handles.specs.Seated.{IsIn};
 
@@ -47,7 +48,8 @@ fn closing_of(closed: ClosedHall) -> Closing
 }
 
 impl Hall {
-    /// Closes the hall with the seat that has all places, and gives what is left of its run.
+    /// Closes the hall with the seat that has all places, and gives what is left of its run. Its end is the one that the seat was answered, if it was
+    /// answered one.
     ///
     /// # Errors
     ///
@@ -56,6 +58,8 @@ impl Hall {
         requires here { IsIn self last }
         requires idle { last.owned ≡ None }
         ensures closed { Closes self last result }
+        ensures told { (end : AnyEnd) → last.place.hand.note.answered ≡ Some end
+            → MatchResult result (λ closing. closing.end ≡ end) (λ back. last.places < self.workers) }
         ensures here { IfErr result (λ back. IsIn back.0 back.1) }
     {
         if last.places < self.workers {
@@ -72,6 +76,7 @@ fn close_alone(hall: Hall, last: Seat) -> Result<Closing, (Hall, Seat, CloseRefu
     requires idle { last.owned ≡ None }
     requires alone { last.places ≡ hall.workers }
     ensures closed { Closes hall last result }
+    ensures told { (end : AnyEnd) → last.place.hand.note.answered ≡ Some end → MatchResult result (λ closing. closing.end ≡ end) (λ back. ⊥) }
     ensures here { IfErr result (λ back. IsIn back.0 back.1) }
 {
     let Hall {

@@ -1,14 +1,13 @@
-//! How a worker that owns no deque steals, and how it leaves.
+//! How a worker that owns no deque steals.
 
-ghost use Rattle.std.specs.Prelude.{◌≡◌, ◌+◌, ◌≤◌, None, IfErr};
+ghost use Rattle.std.specs.Prelude.{◌≡◌, None};
 ghost use Rattle.hall_handles.specs.Seated.{IsIn};
-ghost use Rattle.hall_handles.specs.Thieves.{deque_of, IsNotBusy, LeavesHall, StealsIn};
+ghost use Rattle.hall_handles.specs.Thieves.{deque_of, IsNotBusy, StealsIn};
 
 use crate::hall::Hall;
-use crate::refused::{EventRefused, LeaveRefused};
+use crate::refused::EventRefused;
 use crate::seat::Seat;
 use deque_list::DequeId;
-use hall_leaving::leave;
 use hall_turns::Event;
 use thief_acts::{StealRefused, steal};
 
@@ -60,48 +59,6 @@ impl Hall {
                 seat.stop = Some(stop);
                 Err(EventRefused::Stopped(stop))
             }
-        }
-    }
-
-    /// Lets the worker of a seat leave that owns no deque: the stop that it found is kept unless an end is, and `into` has its places besides
-    /// its own.
-    ///
-    /// # Errors
-    ///
-    /// Another seat holds the list. The seat comes back.
-    pub fn leave(&self, seat: Seat, into: &mut Seat) -> Result<(), (Seat, LeaveRefused)>
-        requires here { IsIn self.now seat }
-        requires into { IsIn self.now into.old }
-        requires idle { seat.owned ≡ None }
-        requires few { into.old.places + seat.places ≤ self.now.workers }
-        ensures into { IsIn self.now into.new }
-        ensures here { IfErr result (λ back. IsIn self.now back.0) }
-        ensures seat { LeavesHall seat into.old into.new result }
-    {
-        let Seat {
-            place,
-            worker,
-            places,
-            owned,
-            stop,
-            memory,
-        } = seat;
-        match leave(&self.row, place, &mut into.place, worker, stop) {
-            Ok(()) => {
-                into.places += places;
-                Ok(())
-            }
-            Err((place, held)) => Err((
-                Seat {
-                    place,
-                    worker,
-                    places,
-                    owned,
-                    stop,
-                    memory,
-                },
-                LeaveRefused::Busy(held),
-            )),
         }
     }
 }

@@ -1,2 +1,4 @@
+pub mod Crews
+pub mod Closed
 pub mod Runs
 pub mod Reports

@@ -12,6 +12,7 @@ mod entering;
 mod leaving;
 mod ran;
 mod running;
+mod telling;
 
 pub use ran::Ran;
 pub use running::run_in_threads;

@@ -1,26 +1,65 @@
 //! A whole run.
 
-ghost use Rattle.std.specs.Prelude.{◌≡◌, ◌+◌, length, IfOk};
+ghost use Rattle.std.specs.Prelude.{◌≡◌, All, IfOk};
 ghost use Rattle.depth_first_run.specs.States.{Setting};
-ghost use Rattle.dfd_core.specs.Cores.{terms_at, workers_of};
+ghost use Rattle.dfd_core.specs.Cores.{terms_at};
 ghost use Rattle.dfd_core.specs.Parts.{IsFresh};
 ghost use Rattle.dummy_tree.specs.QuotaWords.{quota_words};
+ghost use Rattle.hall_runs.specs.Closed.{HaveWorked, IsClosedBy, IsLeftOf};
+ghost use Rattle.hall_runs.specs.Crews.{HasItsEnd, IsFreshIn, seat_of};
 ghost use Rattle.hall_runs.specs.Reports.{ComesTo};
+ghost use Rattle.hall_work.specs.Passed.{IsProgramOf, Seat as AnySeat};
 ghost use Rattle.node_table.specs.Codes.{code_shown};
 ghost use Rattle.thread_state.specs.Settings.{IsSettingOf};
 
 use crate::entering::{enter_all, member_of};
-use crate::leaving::leave_all;
+use crate::leaving::{leave_all, let_go};
 use crate::ran::Ran;
+use crate::telling::ran_of;
 use core_ends::Choices;
 use dfd_core::Core;
 use hall_work::{Closing, Hall, HallWorker, work_crew};
-use run_end::{RunEnd, Stop};
-use run_report::Report;
+use node_table::Code;
+use run_end::RunEnd;
 use std::alloc::{AllocError, Global};
 use std::sync::Wait;
 use std::thread::Threads;
 use work_loop::{Gate, Member};
+
+/// Works a crew, each member in a thread of its own, until the run has ended for each.
+fn work_to_end<R: Threads + Wait + Sync, C: Choices + Send + Drop, G: Gate + Sync>(
+    rt: &R,
+    hall: &Hall,
+    code: &Code,
+    crew: &mut Vec<Member<HallWorker<C>, RunEnd>>,
+    gate: &G,
+)
+    requires program { IsProgramOf hall.now code.now }
+    requires fresh { All (λ member. IsFreshIn hall.now (seat_of member)) crew.old.items }
+    ensures { HaveWorked hall.now crew.old.items crew.new.items }
+{
+    work_crew(rt, hall, code, crew, gate);
+}
+
+/// Closes a hall with the one member that is left.
+fn close_by<R: Wait, C: Drop>(
+    rt: &R,
+    hall: Hall,
+    last: Member<HallWorker<C>, RunEnd>,
+) -> Result<Closing, AllocError>
+    requires end { HasItsEnd hall last }
+    requires all { (seat_of last).places ≡ hall.workers }
+    ensures { IfOk result (λ closing. (seat : AnySeat) × IsClosedBy hall seat closing) }
+{
+    let Member { worker, .. } = last;
+    let HallWorker { seat, .. } = worker;
+    let mut seat = seat;
+    let_go(rt, &hall, &mut seat)?;
+    match hall.close(seat) {
+        Ok(closing) => Ok(closing),
+        Err(_) => unreachable!(),
+    }
+}
 
 /// Runs the program of a core that has done no step, with a thread for each worker, and gives what is left of the run.
 fn close_run<R: Threads + Wait + Sync, C: Choices + Send + Drop, G: Gate + Sync>(
@@ -30,53 +69,26 @@ fn close_run<R: Threads + Wait + Sync, C: Choices + Send + Drop, G: Gate + Sync>
     own: C,
     others: Vec<C>,
     gate: &G,
-) -> Result<Closing, AllocError> {
+) -> Result<Closing, AllocError>
+    requires { IsFresh core }
+    ensures { IfOk result (IsLeftOf core) }
+{
     let (hall, code, seat) = Hall::new(alloc, core)?;
     let mut first = seat;
-    let mut crew = Vec::with_capacity(alloc, others.len() + 1)?;
+    let mut crew = Vec::new(alloc);
     enter_all(rt, &hall, &mut first, others, &mut crew)?;
     crew.push(member_of(first, own))?;
-    work_crew(rt, &hall, &code, &mut crew, gate);
+    work_to_end(rt, &hall, &code, &mut crew, gate);
     let Some(last) = crew.pop() else {
         unreachable!();
     };
-    let Member { worker, .. } = last;
-    let HallWorker { seat, .. } = worker;
-    let mut last = seat;
-    leave_all(rt, &hall, crew, &mut last);
-    match hall.close(last) {
-        Ok(closing) => Ok(closing),
-        Err(_) => unreachable!(),
-    }
-}
-
-/// What is told of a run whose hall is closed.
-fn ran_of(alloc: Global, closing: Closing) -> Result<Ran, AllocError> {
-    let Closing {
-        end,
-        books,
-        moves,
-        root,
-    } = closing;
-    let finish = match end {
-        RunEnd::Finished(finish) => finish,
-        RunEnd::Stopped(Stop::OutOfMemory) => return Err(AllocError),
-        RunEnd::Stopped(stop) => return Ok(Ran::Stopped(stop)),
-    };
-    let Some(ended) = root else {
-        unreachable!();
-    };
-    Ok(Ran::Finished(Report {
-        lines: ended.lines(alloc)?,
-        finish,
-        periods: books.periods(),
-        ahead: books.ahead(),
-        high: moves.high() as u64,
-    }))
+    let last = leave_all(rt, &hall, last, crew)?;
+    close_by(rt, hall, last)
 }
 
 /// Runs the program of a core that has done no step, with a thread for each worker, and says what it comes to. A worker picks its victims by its
-/// own choices: the first one by `own`, each other one by one of `others`. Before each try a worker passes the gate.
+/// own choices: the first one by `own`, each further one by one of `others`, as many of which enter as the core has workers. Before each try a
+/// worker passes the gate.
 ///
 /// # Errors
 ///
@@ -89,8 +101,7 @@ pub fn run_in_threads<R: Threads + Wait + Sync, C: Choices + Send + Drop, G: Gat
     others: Vec<C>,
     gate: &G,
 ) -> Result<Ran, AllocError>
-    requires fresh { IsFresh core }
-    requires workers { length others.items + 1 ≡ workers_of core }
+    requires { IsFresh core }
     ensures { (c : Setting) → IsSettingOf (code_shown core.code) (quota_words core.k) c → IfOk result (ComesTo c (terms_at core)) }
 {
     let closing = close_run(rt, alloc, core, own, others, gate)?;

@@ -15,6 +15,27 @@ use hall_work::HallWorker;
 use std::alloc::{AllocError, Global};
 use std::process::Abort;
 
+/// What bounds a run: its quota, its workers, the words of its arena, its actions and its deques.
+#[derive(Clone, Copy)]
+pub(crate) struct Bounds {
+    pub k: u32,
+    pub workers: u32,
+    pub arena: u32,
+    pub limit: u32,
+    pub most: u32,
+}
+
+/// Bounds that no small program meets, for so many workers.
+pub(crate) fn ample(workers: u32) -> Bounds {
+    Bounds {
+        k: 16,
+        workers,
+        arena: 65_536,
+        limit: 100_000,
+        most: 1_024,
+    }
+}
+
 /// The table of a text.
 fn code_of(alloc: Global, text: &str) -> Result<Code, AllocError> {
     match accept(alloc, text.as_bytes()) {
@@ -23,22 +44,35 @@ fn code_of(alloc: Global, text: &str) -> Result<Code, AllocError> {
     }
 }
 
-/// The core of a run of a text by so many workers, with the quota 16 and room for 4,096 words, before its first step. A text that is no
-/// accepted program counts as want of memory.
-fn core_of(alloc: Global, text: &str, workers: u32) -> Result<Core, AllocError>
+/// The core of a run of a text within these bounds, before its first step. Bounds that are out of their ranges, and a text that is no accepted
+/// program, count as want of memory.
+fn fresh_core(alloc: Global, text: &str, of: Bounds) -> Result<Core, AllocError>
     ensures { IfOk result IsFresh }
 {
-    if workers < 1 || 64 < workers {
+    if of.workers < 1 || 64 < of.workers || of.limit < 1 || 4_000_000 < of.limit {
         return Err(AllocError);
     }
-    let Some(k) = Quota::new(16) else {
+    if of.most < 1 || 4_096 < of.most {
+        return Err(AllocError);
+    }
+    let Some(k) = Quota::new(of.k) else {
         return Err(AllocError);
     };
     let code = code_of(alloc, text)?;
-    let Ok(pool) = Pool::new(alloc, 400_000) else {
+    let Ok(pool) = Pool::new(alloc, of.arena) else {
         return Err(AllocError);
     };
-    Core::new(alloc, code, k, workers, pool, 100_000, 1_024)
+    Core::new(alloc, code, k, of.workers, pool, of.limit, of.most)
+}
+
+/// The core of a run of a text within these bounds, before its first step.
+pub(crate) fn core_of(rt: &impl Abort, alloc: Global, text: &str, of: Bounds) -> Core
+    ensures { IsFresh result }
+{
+    match fresh_core(alloc, text, of) {
+        Ok(core) => core,
+        Err(_) => panic!(rt; "no core"),
+    }
 }
 
 /// The hall of a text for so many workers, its program, and its first seat.
@@ -51,9 +85,7 @@ pub(crate) fn hall_of(
     ensures program { IsProgramOf result.0 result.1 }
     ensures here { IsIn result.0 result.2 }
 {
-    let Ok(core) = core_of(alloc, text, workers) else {
-        panic!(rt; "no core");
-    };
+    let core = core_of(rt, alloc, text, ample(workers));
     let Ok(made) = Hall::new(alloc, core) else {
         panic!(rt; "no hall");
     };
@@ -72,22 +104,17 @@ pub(crate) fn entered(rt: &impl Abort, hall: &Hall, by: &mut Seat) -> Seat
     }
 }
 
+/// Choices that rob the first deque in reach.
+pub(crate) fn first_choices(alloc: Global) -> ListChoices {
+    ListChoices::new(Vec::new(alloc))
+}
+
 /// The worker of a seat, which robs the first deque in reach.
 pub(crate) fn worker_of(alloc: Global, seat: Seat) -> HallWorker<ListChoices>
     ensures { result.seat ≡ seat }
 {
     HallWorker {
         seat,
-        choices: ListChoices::new(Vec::new(alloc)),
-    }
-}
-
-/// The core of a text for so many workers.
-pub(crate) fn core_of_text(rt: &impl Abort, alloc: Global, text: &str, workers: u32) -> Core
-    ensures { IsFresh result }
-{
-    match core_of(alloc, text, workers) {
-        Ok(core) => core,
-        Err(_) => panic!(rt; "no core"),
+        choices: first_choices(alloc),
     }
 }

@@ -10,10 +10,11 @@ use Rattle.work_loop.specs.Working.{HasWorked}
 use Rattle.work_loop.specs.declared.member.Member.{Member}
 use Rattle.hall_work.specs.declared.worker.HallWorker.{HallWorker}
 
--- the seat is that of the same worker, and has as many places
+-- The seat is that of the same worker, and has as many places; and it has given up no deque but where the rules ask for it.
 pub record IsSameWorker (before after : Seat) : Type 0 where
   pub worker : after.worker ≡ before.worker
   pub places : after.places ≡ before.places
+  pub yields : after.place.hand.note.yielded ≡ before.place.hand.note.yielded
 
 -- the seat was answered this end of the run
 abbrev pub HasSeen : Seat → RunEnd → Type 0
@@ -21,10 +22,14 @@ HasSeen seat end = seat.place.hand.note.answered ≡ Some end
 
 -- so it is before the first try, and over one more
 pub same_worker : (seat : Seat) → IsSameWorker seat seat
-same_worker seat = record { worker = refl; places = refl }
+same_worker seat = record { worker = refl; places = refl; yields = refl }
 
 pub same_on : (x y z : Seat) → IsSameWorker x y → IsSameWorker y z → IsSameWorker x z
-same_on x y z first second = record { worker = second.worker ∙ first.worker; places = second.places ∙ first.places }
+same_on x y z first second = record {
+  worker = second.worker ∙ first.worker;
+  places = second.places ∙ first.places;
+  yields = second.yields ∙ first.yields;
+}
 
 -- a worker of a hall and its program, which may try its next event there
 abbrev pub MayWork : {C : Type 0} → Hall → Code → HallWorker C → Type 0

@@ -1,6 +1,6 @@
 //! Deques that are given up.
 
-ghost use Rattle.std.specs.Prelude.{◌≡◌, ◌+◌, ◌<◌, [], true, None};
+ghost use Rattle.std.specs.Prelude.{◌≡◌, ◌+◌, ◌<◌, [], None};
 ghost use Rattle.bounded_list.specs.BoundedList.{entries, spare};
 ghost use Rattle.thread_frames.specs.Actions.{IsDummy};
 ghost use Rattle.thread_frames.specs.Views.{next_of};
@@ -20,7 +20,7 @@ ghost use Rattle.owner_acts.specs.Pauses.{CanClose};
 use boxed::Boxed;
 use dag_order::{ActionId, Births};
 use deque_list::{DequeId, Lane};
-use hall_deciding::{decide_dummy, decide_give_up, decide_yield, do_dummy};
+use hall_deciding::{decide_dummy, decide_give_up, do_dummy};
 use hall_turns::{HallPlace, HallRow, LaneSlot, ListSlot, Running};
 use thread_frames::Thread;
 
@@ -61,34 +61,6 @@ pub fn act_give_up(
         running: None,
     };
     decide_give_up(row, seat, deque, list, lane);
-}
-
-/// Gives the deque up though nothing asks for it.
-pub fn act_yield(
-    row: &HallRow,
-    seat: &mut HallPlace,
-    deque: DequeId,
-    lane: Lane<Boxed<Thread>>,
-    running: Running,
-    list: Boxed<ListSlot>,
-    top: Boxed<Thread>,
-)
-    requires here { IsSeatOf row.now seat.old }
-    requires slot { deque.0 + 2 < slot_count row.now }
-    requires may { MayPause seat.old deque }
-    requires ready { IsReadyWithList HasMoreBooks (key_of row.now) seat.old deque list lane running top 1 1 }
-    requires closes { CanClose deque list }
-    ensures { HasPut seat.old (record (told_note seat.old.hand.note None (GaveUp deque)) { yielded = true }) [] seat.new }
-{
-    let mut lane = lane;
-    let mut list = list;
-    lane.push_top(top);
-    give_up_in(&mut list, deque, running);
-    let lane = LaneSlot {
-        lane,
-        running: None,
-    };
-    decide_yield(row, seat, deque, list, lane);
 }
 
 /// Does a Dummy, with which the deque is given up. Returns its name.

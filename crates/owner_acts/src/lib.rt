@@ -22,7 +22,7 @@ mod waking;
 mod words;
 
 pub use above::act_end_above;
-pub use give_ups::{act_dummy, act_give_up, act_yield};
+pub use give_ups::{act_dummy, act_give_up};
 pub use joins::{act_join_giving, act_own_join};
 pub use kept_joins::{act_kept_join, act_kept_join_giving};
 pub use leaving::act_leaving_end;

@@ -1,2 +1,5 @@
-mod Readable
+pub mod Noting
+pub mod Returned
+mod Answered
+pub mod Readable
 mod Coming

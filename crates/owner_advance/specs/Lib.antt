@@ -1,2 +1,5 @@
 pub mod Rooms
+pub mod Returning
+pub mod Causes
+pub mod Answers
 pub mod Advancing

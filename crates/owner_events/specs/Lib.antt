@@ -1,3 +1,6 @@
+pub mod Holding
+pub mod Taking
 pub mod Needs
 pub mod Ready
 pub mod Acting
+pub mod Yielding

@@ -15,6 +15,8 @@ returns-in-Ok-clause-seat c = let entered = c.in-Ok.ensures.seat in let many = c
   refl,
   refl,
   omega (arith, many),
+  entered.1.2,
+  entered.1.3,
 )
 
 pub returns-in-Err-Over-clause-seat : goal.returns-in-Err-Over-clause-seat

@@ -1,0 +1,4 @@
+mod Counted
+mod High
+mod Causes
+mod Told

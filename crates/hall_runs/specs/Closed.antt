@@ -1,0 +1,35 @@
+-- What is left of a run by threads, once its hall is closed.
+use Rattle.std.specs.Prelude.{◌≡◌, List, [], ◌∷◌, Ok}
+use Rattle.dag_order.specs.declared.finish.Finish.{Finish}
+use Rattle.dfd_core.specs.declared.run.Core.{Core}
+use Rattle.node_table.specs.declared.code.Code.{Code}
+use Rattle.run_end.specs.declared.ends.RunEnd.{RunEnd}
+use Rattle.run_end.specs.declared.ends.RunEnd.TheVariants.{Finished}
+use Rattle.work_loop.specs.declared.member.Member.{Member}
+use Rattle.hall_work.specs.Passed.{Hall, Seat, Closing}
+use Rattle.hall_work.specs.Passed.Closings.{Closes}
+use Rattle.hall_work.specs.Passed.Opening.{IsHallOf}
+use Rattle.hall_work.specs.declared.worker.HallWorker.{HallWorker}
+use Rattle.hall_runs.specs.Crews.{HasItsEnd, HasKeptRules, seat_of}
+
+-- The member worked until the run had ended for it: it has the places that it had, and its seat has given up no deque but where the rules ask for it.
+pub record HasWorked {C : Type 0} (hall : Hall) (before after : Member (HallWorker C) RunEnd) : Type 0 where
+  pub has_end : HasItsEnd hall after
+  pub rules : HasKeptRules (seat_of after)
+  pub places : (seat_of after).places ≡ (seat_of before).places
+
+-- so it is with each member of a crew
+abbrev pub HaveWorked : {C : Type 0} → Hall → (before after : List (Member (HallWorker C) RunEnd)) → Type 0
+HaveWorked hall [] [] = Unit {0}
+HaveWorked hall [] (after ∷ later) = ⊥
+HaveWorked hall (before ∷ earlier) [] = ⊥
+HaveWorked hall (before ∷ earlier) (after ∷ later) = HasWorked hall before after × HaveWorked hall earlier later
+
+-- The seat has closed the hall, and this is what is left. If the run has finished, the seats have given up no deque but where the rules ask for it.
+pub record IsClosedBy (hall : Hall) (last : Seat) (closing : Closing) : Type 0 where
+  pub closes : Closes hall last (Ok closing)
+  pub rules : (finish : Finish) → closing.end ≡ Finished finish → HasKeptRules last
+
+-- This is left of a run of the hall of a core.
+abbrev pub IsLeftOf : Core → Closing → Type 0
+IsLeftOf core closing = (hall : Hall) × (code : Code) × IsHallOf core hall code × (last : Seat) × IsClosedBy hall last closing

@@ -1,0 +1,52 @@
+-- The calls of a worker keep it the same worker.
+use Rattle.std.proofs.Common.{◌≡◌, ℕ, inl, inr, refl, ap, ◌∙◌}
+use Rattle.std.specs.Prelude.{None, Some, Result, Ok, Err}
+use Rattle.run_end.specs.declared.ends.RunEnd.{RunEnd}
+use Rattle.run_end.specs.declared.stop.Stop.{Stop}
+use Rattle.turn_table.specs.declared.held.Held.{Held}
+use Rattle.hall_handles.specs.Owners.{ActsIn}
+use Rattle.hall_handles.specs.Seated.{SameSeat}
+use Rattle.hall_handles.specs.Thieves.{StealsIn}
+use Rattle.hall_handles.specs.declared.hall.Hall.{Hall}
+use Rattle.hall_handles.specs.declared.refused.EventRefused.{EventRefused}
+use Rattle.hall_handles.specs.declared.refused.EventRefused.TheVariants.{Busy, Nothing, Over, Stopped}
+use Rattle.hall_handles.specs.declared.seat.Seat.{Seat}
+use Rattle.hall_seats.specs.Halting.{HasHalted}
+use Rattle.hall_turns.specs.Takes.{HallSeat, IsRefused}
+use Rattle.hall_turns.specs.declared.event.Event.{Event}
+use Rattle.hall_work.specs.Working.{IsSameWorker, same_worker}
+
+pub acts_keep : (hall : Hall) (before after : Seat) (r : Result Event EventRefused) → ActsIn hall before after r → IsSameWorker before after
+acts_keep hall before after (Ok event) acts =
+    record { worker = acts.worker; places = acts.places; yields = ap (λ (s : HallSeat). s.hand.note.yielded) acts.its_place.leaves }
+acts_keep hall before after (Err (Busy held)) acts =
+    record { worker = acts.2.worker; places = acts.2.places; yields = ap (λ (s : HallSeat). s.hand.note.yielded) acts.1.1 }
+acts_keep hall before after (Err Nothing) acts = absurd acts
+acts_keep hall before after (Err (Over end)) acts =
+    record { worker = acts.2.worker; places = acts.2.places; yields = ap (λ (s : HallSeat). s.hand.note.yielded) acts.1.3 }
+acts_keep hall before after (Err (Stopped stop)) acts = elim acts [
+  | inl same ↦ record { worker = ap (λ (s : Seat). s.worker) same.1; places = ap (λ (s : Seat). s.places) same.1; yields = ap (λ (s : Seat). s.place.hand.note.yielded) same.1 }
+  | inr fails ↦ record { worker = fails.2; places = fails.3; yields = ap (λ (s : HallSeat). s.hand.note.yielded) fails.1.1 }
+]
+
+pub steals_keep : (hall : Hall) (word : ℕ) (before after : Seat) (r : Result Event EventRefused) → StealsIn hall word before after r → IsSameWorker before after
+steals_keep hall word before after (Ok event) steals =
+    record { worker = steals.2; places = steals.3; yields = ap (λ (s : HallSeat). s.hand.note.yielded) steals.1.leaves.2 }
+steals_keep hall word before after (Err (Busy held)) steals =
+    record { worker = steals.2.worker; places = steals.2.places; yields = ap (λ (s : HallSeat). s.hand.note.yielded) steals.1.1 }
+steals_keep hall word before after (Err Nothing) steals =
+    record { worker = steals.2.worker; places = steals.2.places; yields = ap (λ (s : HallSeat). s.hand.note.yielded) steals.1.1.2 }
+steals_keep hall word before after (Err (Over end)) steals =
+    record { worker = steals.2.worker; places = steals.2.places; yields = ap (λ (s : HallSeat). s.hand.note.yielded) steals.1.1.1 }
+steals_keep hall word before after (Err (Stopped stop)) steals = elim steals [
+  | inl same ↦ record { worker = ap (λ (s : Seat). s.worker) same.1; places = ap (λ (s : Seat). s.places) same.1; yields = ap (λ (s : Seat). s.place.hand.note.yielded) same.1 }
+  | inr met ↦ record { worker = met.2; places = met.3; yields = ap (λ (s : HallSeat). s.hand.note.yielded) met.1.leaves }
+]
+
+pub halt_keeps : (before after : Seat) (stop : Stop) (end : RunEnd) → SameSeat before after → HasHalted before.place stop end after.place → IsSameWorker before after
+halt_keeps before after stop end same halted =
+    record { worker = same.worker; places = same.places; yields = ap (λ (s : HallSeat). s.hand.note.yielded) halted.after_is }
+
+pub refused_keeps : (before after : Seat) (held : Held) → SameSeat before after → IsRefused before.place 0 held after.place → IsSameWorker before after
+refused_keeps before after held same refused =
+    record { worker = same.worker; places = same.places; yields = ap (λ (s : HallSeat). s.hand.note.yielded) refused.1 }

@@ -1,0 +1,9 @@
+-- What callers need of the hall in which the workers are.
+pub use Rattle.hall_handles.specs.declared.hall.Hall.{Hall}
+pub use Rattle.hall_handles.specs.declared.seat.Seat.{Seat}
+pub use Rattle.hall_handles.specs.declared.closing.Closing.{Closing}
+pub use Rattle.hall_handles.specs.Seated.{IsIn, IsProgramOf}
+pub use Rattle.hall_handles.specs.Seated as Seated
+pub use Rattle.hall_handles.specs.Leaving as Leaving
+pub use Rattle.hall_handles.specs.Closing as Closings
+pub use Rattle.hall_handles.specs.Opening as Opening

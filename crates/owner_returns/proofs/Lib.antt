@@ -1,3 +1,0 @@
-pub mod Noting
-mod Returned
-mod Answered

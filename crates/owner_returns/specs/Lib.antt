@@ -1,3 +1,0 @@
-pub mod Returning
-pub mod Causes
-pub mod Answers
