@@ -28,7 +28,7 @@ use Rattle.dfd_run.specs.Make.{Summarizes, source_of}
 use Rattle.dfd_run.specs.Peak.{PeakMakes, finish_status}
 use Rattle.dfd_run.specs.Async.{IsAsyncPlay}
 use Rattle.dfd_run.specs.Play.{IsPlay, TellsRun, TellsEnding, Reports, PlayMakes, play_setting, stop_status}
-use Rattle.dfd_run.specs.Threads.{IsRunByThreads}
+use Rattle.dfd_run.specs.Threads.{IsRunByThreads, RunMakes}
 use Rattle.dfd_run.specs.Trails.{TellsCheck, VerifyMakes, VerifyGives, Records}
 use Rattle.trail_check.specs.declared.verify_fail.VerifyFail.{VerifyFail}
 use Rattle.trail_check.specs.declared.verify_fail.VerifyFail.TheVariants.{LongRun, BadEvent, NotEnded, WrongNumbers, OutOfMemory as NoMemory}
@@ -281,6 +281,13 @@ read_of_kind command failed left left' bytes ArenaFull text read gives = (bytes,
 read_of_kind command failed left left' bytes DequesFull text read gives = (bytes, (read, gives))
 read_of_kind command failed left left' bytes OutOfMemory text read gives = (bytes, (read, gives))
 read_of_kind command failed left left' bytes TrailRefused text read gives = (bytes, (read, gives))
+
+-- what `run` makes of bytes is what its command makes of them
+pub bytes_of_run : (command : Command) (bytes : List ℕ) (result : Result Answer AllocError) → command.kind ≡ Run →
+    IfOk result (λ answer. SourceGives (RunMakes command) bytes answer.status answer.text.items) →
+    IfOk result (λ answer. BytesGive command bytes answer.status answer.text.items)
+bytes_of_run command bytes result runs gives =
+    subst (λ (k : CommandKind). IfOk result (λ answer. KindGives k command bytes answer.status answer.text.items)) (sym runs) gives
 
 -- `run` is not `make`
 pub run_is_not_made : (kind : CommandKind) → kind ≡ Run → ¬ (kind ≡ Make)

@@ -22,16 +22,16 @@ returns-in-Finished g c =
     both_ok c.report_answer.result _ _ _ c.report_answer.ensures.status c.report_answer.ensures.text
     (λ answer status text. finished_run command p c.in-Finished.report answer.status answer.text.items
     (subst (λ t. ComesTo setting t (Finished c.in-Finished.report)) c.in_ok-core.ensures.terms
-    (subst (ComesTo setting (terms_at c.in_ok-core.core)) c.in-Finished.is (c.in_ok-run_in_threads.ensures setting (c.in_ok-core.ensures.opening).setting)))
+    (subst (ComesTo setting (terms_at c.in_ok-core.core)) c.in-Finished.is (c.in_ok-report.ensures setting (c.in_ok-core.ensures.opening).setting)))
     status text)
 
-pub returns : goal.returns
-returns g c =
+pub returns-in-Stopped : goal.returns-in-Stopped
+returns-in-Stopped g c =
     let command = c.args.command.now in
     let p = program_tree (program_of c.args.program) in
     let setting = play_setting command p in
     IfOk-weaker c.stop_answer.result _ _
     (λ answer told. stopped_run command p c.in-Stopped.stop answer.status answer.text.items
     (subst (λ t. ComesTo setting t (Stopped c.in-Stopped.stop)) c.in_ok-core.ensures.terms
-    (subst (ComesTo setting (terms_at c.in_ok-core.core)) c.in-Stopped.is (c.in_ok-run_in_threads.ensures setting (c.in_ok-core.ensures.opening).setting)))
+    (subst (ComesTo setting (terms_at c.in_ok-core.core)) c.in-Stopped.is (c.in_ok-report.ensures setting (c.in_ok-core.ensures.opening).setting)))
     told) c.stop_answer.ensures
