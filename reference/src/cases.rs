@@ -17,6 +17,8 @@ pub struct Case {
 
 pub const KINDS: [&str; 9] = ["good", "faulty", "blocks", "deep", "ill-formed", "ill-typed", "tiny", "prints", "words"];
 pub const KINDS_OF_MACHINE: [&str; 5] = ["played", "in threads", "made", "printed", "words of the machine"];
+/// The place of `run` among the kinds of the machine.
+const IN_THREADS: u64 = 1;
 pub const KINDS_OF_TRAILS: [&str; 3] = ["mended trails", "trailed", "words of trails"];
 pub const KINDS_OF_READY: [&str; 2] = ["with a ready list", "words of ready lists"];
 pub const KINDS_OF_LOOPS: [&str; 5] = ["looped", "mistaken loops", "broken loops", "loops at limits", "words of loops"];
@@ -47,6 +49,12 @@ pub fn machine_case(number: u64) -> Case {
         _ => machine_words(&mut random, kind),
     };
     Case { kind, words, source }
+}
+
+/// The case of a number that runs in threads.
+pub fn run_case(number: u64) -> Case {
+    let kinds = KINDS_OF_MACHINE.len() as u64;
+    machine_case(number.wrapping_mul(kinds).wrapping_add(IN_THREADS))
 }
 
 /// The case of a number that has parallel loops: `expand`, and `loops` with all its options.

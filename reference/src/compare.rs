@@ -1,9 +1,10 @@
 //! Runs the program and the reference on random cases, and prints where they differ with the smallest source that shows it.
 
 use crate::cases::{
-    case, loop_case, machine_case, ready_case, trail_case, Case, KINDS, KINDS_OF_LOOPS, KINDS_OF_MACHINE, KINDS_OF_READY, KINDS_OF_TRAILS,
+    case, loop_case, machine_case, ready_case, run_case, trail_case, Case, KINDS, KINDS_OF_LOOPS, KINDS_OF_MACHINE,
+    KINDS_OF_READY, KINDS_OF_TRAILS,
 };
-use crate::command::{accepted, answer_to, command_of, Answer, USAGE};
+use crate::command::{accepted, answer_to, command_of, Answer};
 use crate::depth_first::depth_first;
 use crate::resolve::resolve;
 use crate::selfcheck;
@@ -31,7 +32,7 @@ const MACHINE_ONE_IN: u64 = 4;
 /// The exit status: 0 where nothing differs, 1 where something does, 2 where the words are wrong.
 pub fn compare(words: &[String]) -> u8 {
     let Some(plan) = read_plan(words) else {
-        eprintln!("usage: reference/compare [--product FILE] [--count N] [--from N] [--only machine|loops|trails|async]");
+        eprintln!("usage: reference/compare [--product FILE] [--count N] [--from N] [--only machine|run|loops|trails|async]");
         return 2;
     };
     if !Path::new(&plan.product).exists() {
@@ -77,6 +78,7 @@ fn read_plan(words: &[String]) -> Option<Plan> {
             "--count" => plan.count = value.parse().ok()?,
             "--from" => plan.from = value.parse().ok()?,
             "--only" if value == "machine" => plan.only = Some(machine_case),
+            "--only" if value == "run" => plan.only = Some(run_case),
             "--only" if value == "loops" => plan.only = Some(loop_case),
             "--only" if value == "trails" => plan.only = Some(trail_case),
             "--only" if value == "async" => plan.only = Some(ready_case),
@@ -92,7 +94,6 @@ struct Tally {
     compared: BTreeMap<(&'static str, String, i32), u64>,
     /// By what is answered: a refusal, a fault, a stop, or that the work was done.
     answers: BTreeMap<String, u64>,
-    not_yet: u64,
     left_open: u64,
     played: u64,
     differences: u64,
@@ -125,7 +126,7 @@ impl Tally {
         println!("commands: {}", counts.join(", "));
         println!(
             "compare: {} cases, {} of the machine, {} of parallel loops, {} of trails, {} of ready lists, {} differences, {seconds} s; \
-             {} runs that the program does not have yet; {} runs in threads whose end depends on the order of events; \
+             {} runs in threads whose end depends on the order of events; \
              {} programs run by the reference's own workers, all within the bound if nothing differs",
             self.compared_of(&KINDS),
             self.compared_of(&KINDS_OF_MACHINE),
@@ -133,7 +134,6 @@ impl Tally {
             self.compared_of(&KINDS_OF_TRAILS),
             self.compared_of(&KINDS_OF_READY),
             self.differences,
-            self.not_yet,
             self.left_open,
             self.played
         );
@@ -143,8 +143,6 @@ impl Tally {
 enum Verdict {
     Same,
     Different,
-    /// The program does not have what was asked for yet.
-    NotYet,
     /// The order in which threads came decides.
     Open,
 }
@@ -153,7 +151,6 @@ fn one_case(plan: &Plan, number: u64, case: &Case, tally: &mut Tally) {
     let got = product_answer(&plan.product, &case.words, &case.source);
     let due = reference_answer(&case.words, &case.source);
     match verdict(&case.words, &case.source, &due, &got) {
-        Verdict::NotYet => tally.not_yet += 1,
         Verdict::Open => tally.left_open += 1,
         Verdict::Different => {
             tally.differences += 1;
@@ -227,18 +224,11 @@ fn verdict(words: &[String], source: &[u8], due: &Answer, got: &Answer) -> Verdi
     let depends_on_order = |it: &Answer| command_name(words) == "run" && matches!(it.status, 8 | 9);
     if agree(words, source, due, got) {
         Verdict::Same
-    } else if is_not_yet(words, got) {
-        Verdict::NotYet
     } else if depends_on_order(due) || depends_on_order(got) {
         Verdict::Open
     } else {
         Verdict::Different
     }
-}
-
-/// Whether the words are such as the product does not know today: the command `run`.
-fn is_not_yet(words: &[String], got: &Answer) -> bool {
-    command_name(words) == "run" && got.status == 1 && got.text == USAGE
 }
 
 /// Answers are the same to the byte. But of a run in threads the numbers after the finish depend on the order of its events, and
