@@ -1,5 +1,5 @@
 -- The answer of a command is the answer of its call, and a front of an answer's text ends a call at a fault.
-use Rattle.std.proofs.Common.{◌≡◌, ℕ, ◌≤◌, List, length, take, Option, ap, refl, sym, ◌∙◌, subst, inl, inr}
+use Rattle.std.proofs.Common.{◌≡◌, ℕ, List, length, take, Option, ap, refl, sym, ◌∙◌, subst, inl, inr}
 use Rattle.std.proofs.Math.Logic.{∥∥₁_elim}
 use Rattle.std.proofs.lemmas.Bool.{false≢true}
 use Rattle.std.proofs.lemmas.Result.{IfOk-weaker}
@@ -7,8 +7,7 @@ use Rattle.std.specs.Prelude.{Result, Ok, Err, IfOk}
 use Rattle.std.specs.declared.alloc.AllocError.{AllocError}
 use Rattle.accepted_source.specs.Sources.{ReadsSource}
 use Rattle.accepted_source.specs.declared.source_fail.SourceFail.{SourceFail}
-use Rattle.command_line.specs.Words.{IsCommand, number_of, values_of, wants_groups}
-use Rattle.command_line.proofs.Commands.{sets_in_range, groups_in_range}
+use Rattle.command_line.specs.Words.{IsCommand, wants_groups}
 use Rattle.command_line.specs.declared.command.Command.{Command}
 use Rattle.command_line.specs.declared.command_kind.CommandKind.{CommandKind}
 use Rattle.command_line.specs.declared.command_kind.CommandKind.TheVariants.{Play, Async, Run, Peak, Check as Checks, Make, Loops, Expand, Trail, Verify}
@@ -20,7 +19,6 @@ use Rattle.deque_machine.specs.Play.{Stop, arena_full, steps_spent, deques_full,
 use Rattle.deque_machine.specs.Runs.{Pair}
 use Rattle.depth_first_run.specs.Run.{finish_of_run}
 use Rattle.loop_expand.specs.declared.expand_fail.ExpandFail.{ExpandFail}
-use Rattle.made_source.specs.declared.TheConstants.{MOST_GROUPS}
 use Rattle.par_tree.specs.Tree.{Program}
 use Rattle.dfd_run.specs.Counts.{Counts}
 use Rattle.dfd_run.specs.Expanding.{OfExpansion, ExpandMakes}
@@ -33,7 +31,7 @@ use Rattle.dfd_run.specs.Trails.{TellsCheck, VerifyMakes, VerifyGives, Records}
 use Rattle.trail_check.specs.declared.verify_fail.VerifyFail.{VerifyFail}
 use Rattle.trail_check.specs.declared.verify_fail.VerifyFail.TheVariants.{LongRun, BadEvent, NotEnded, WrongNumbers, OutOfMemory as NoMemory}
 use Rattle.trail_meaning.specs.Shown.{Shown}
-use Rattle.dfd_run.specs.Answer.{most_read, CheckMakes, KindGives, BytesGive, ReadGives, KindAnswers, CommandGives, CallGives, Ends, HasRanges}
+use Rattle.dfd_run.specs.Answer.{most_read, CheckMakes, KindGives, BytesGive, ReadGives, KindAnswers, CommandGives, CallGives, Ends}
 use Rattle.dfd_run.specs.Sources.{RefusalGives, SourceGives}
 use Rattle.byte_streams.specs.Sink.{Takes}
 use Rattle.byte_streams.specs.Source.{IsRead}
@@ -369,14 +367,3 @@ ends_more gives gives' taken taken' ArenaFull more ends = (ends.0, (more ArenaFu
 ends_more gives gives' taken taken' DequesFull more ends = (ends.0, (more DequesFull ends.0 ends.1.0, ends.1.1))
 ends_more gives gives' taken taken' OutOfMemory more ends = tt
 ends_more gives gives' taken taken' TrailRefused more ends = (ends.0, (more TrailRefused ends.0 ends.1.0, ends.1.1))
-
--- the numbers of a command that words are
-pub command_ranges : (words : List (List ℕ)) (command : Command) → IsCommand words command → HasRanges command
-command_ranges words command is = record {
-  numbers = λ s. sets_in_range command.kind s (values_of s is.items) (number_of command s) (is.sets s);
-  groups = groups_in_range words command is;
-}
-
--- and `make` has groups
-pub made_groups : (command : Command) → HasRanges command → command.kind ≡ Make → (1 ≤ command.groups) × (command.groups ≤ MOST_GROUPS)
-made_groups command ranges made = ranges.groups (ap wants_groups made)
