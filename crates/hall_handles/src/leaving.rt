@@ -56,14 +56,27 @@ impl Hall {
         ensures here { IfErr result (λ back. IsIn self.now back.0) }
         ensures seat { LeavesHall seat into.old into.new result }
     {
-        let mut seat = seat;
-        if let Some(_) = seat.owned {
-            match self.give_up(&mut seat) {
-                Ok(_) => (),
-                Err(refused) => return Err((seat, refused)),
-            }
+        match seat.owned {
+            Some(_) => leave_owner(self, seat, into),
+            None => leave_idle(self, seat, into),
         }
-        leave_idle(self, seat, into)
+    }
+}
+
+/// What `leave` does of a seat that owns a deque.
+fn leave_owner(hall: &Hall, seat: Seat, into: &mut Seat) -> Result<(), (Seat, LeaveRefused)>
+    requires here { IsIn hall.now seat }
+    requires into { IsIn hall.now into.old }
+    requires owns { (deque : DequeId) × (seat.owned ≡ Some deque) }
+    requires few { into.old.places + seat.places ≤ hall.now.workers }
+    ensures into { IsIn hall.now into.new }
+    ensures here { IfErr result (λ back. IsIn hall.now back.0) }
+    ensures seat { LeavesHall seat into.old into.new result }
+{
+    let mut seat = seat;
+    match hall.give_up(&mut seat) {
+        Ok(_) => leave_idle(hall, seat, into),
+        Err(refused) => Err((seat, refused)),
     }
 }
 

@@ -2,3 +2,4 @@ mod Counted
 mod High
 mod Causes
 mod Told
+mod Crews

@@ -1,5 +1,5 @@
 -- What is left of a run by threads, once its hall is closed.
-use Rattle.std.specs.Prelude.{◌≡◌, List, [], ◌∷◌, Ok}
+use Rattle.std.specs.Prelude.{◌≡◌, Ok}
 use Rattle.dag_order.specs.declared.finish.Finish.{Finish}
 use Rattle.dfd_core.specs.declared.run.Core.{Core}
 use Rattle.node_table.specs.declared.code.Code.{Code}
@@ -17,13 +17,6 @@ pub record HasWorked {C : Type 0} (hall : Hall) (before after : Member (HallWork
   pub has_end : HasItsEnd hall after
   pub rules : HasKeptRules (seat_of after)
   pub places : (seat_of after).places ≡ (seat_of before).places
-
--- so it is with each member of a crew
-abbrev pub HaveWorked : {C : Type 0} → Hall → (before after : List (Member (HallWorker C) RunEnd)) → Type 0
-HaveWorked hall [] [] = Unit {0}
-HaveWorked hall [] (after ∷ later) = ⊥
-HaveWorked hall (before ∷ earlier) [] = ⊥
-HaveWorked hall (before ∷ earlier) (after ∷ later) = HasWorked hall before after × HaveWorked hall earlier later
 
 -- The seat has closed the hall, and this is what is left. If the run has finished, the seats have given up no deque but where the rules ask for it.
 pub record IsClosedBy (hall : Hall) (last : Seat) (closing : Closing) : Type 0 where

@@ -1,11 +1,12 @@
 //! A whole run.
 
 ghost use Rattle.std.specs.Prelude.{◌≡◌, All, IfOk};
+ghost use Rattle.core.specs.List.{AllZip};
 ghost use Rattle.depth_first_run.specs.States.{Setting};
 ghost use Rattle.dfd_core.specs.Cores.{terms_at};
 ghost use Rattle.dfd_core.specs.Parts.{IsFresh};
 ghost use Rattle.dummy_tree.specs.QuotaWords.{quota_words};
-ghost use Rattle.hall_runs.specs.Closed.{HaveWorked, IsClosedBy, IsLeftOf};
+ghost use Rattle.hall_runs.specs.Closed.{HasWorked, IsClosedBy, IsLeftOf};
 ghost use Rattle.hall_runs.specs.Crews.{HasItsEnd, IsFreshIn, seat_of};
 ghost use Rattle.hall_runs.specs.Reports.{ComesTo};
 ghost use Rattle.hall_work.specs.Passed.{IsProgramOf, Seat as AnySeat};
@@ -36,7 +37,7 @@ fn work_to_end<R: Threads + Wait + Sync, C: Choices + Send + Drop, G: Gate + Syn
 )
     requires program { IsProgramOf hall.now code.now }
     requires fresh { All (λ member. IsFreshIn hall.now (seat_of member)) crew.old.items }
-    ensures { HaveWorked hall.now crew.old.items crew.new.items }
+    ensures { AllZip (HasWorked hall.now) crew.old.items crew.new.items }
 {
     work_crew(rt, hall, code, crew, gate);
 }

@@ -4,7 +4,6 @@ ghost use Rattle.std.specs.Prelude.{ℕ, ◌<◌, length, slice_index_or, All};
 ghost use Rattle.hall_work.specs.Working.{MayWork, HasWorkedIn};
 ghost use Rattle.hall_work.specs.declared.worker.HallWorker.{HallWorker as AnyWorker};
 ghost use Rattle.run_end.specs.declared.ends.RunEnd.{RunEnd as AnyEnd};
-ghost use Rattle.work_loop.specs.Working.{HasWorked};
 ghost use Rattle.work_loop.specs.declared.member.Member.{Member as AnyMember};
 
 use crate::worker::HallWorker;
@@ -14,18 +13,19 @@ use node_table::Code;
 use run_end::RunEnd;
 use std::sync::Wait;
 use std::thread::Threads;
-use work_loop::{Gate, Member, Works, work_all};
+use work_loop::{Gate, Member, WorksToEnd, work_all};
 
-/// Works a crew of a program. The table that it shares is any one here: what threads may share of the program, of the table and of a member is
-/// shown one after the other, since each takes a search of its own.
-fn work_program<
-    R: Threads + Wait + Sync,
-    T: Sync,
-    W: Works<T, Code, RunEnd> + Send,
-    G: Gate + Sync,
->(rt: &R, table: &T, code: &Code, crew: &mut [Member<W, RunEnd>], gate: &G)
-    requires { All (λ member. W.may_try table.now code.now (AnyMember.worker member)) crew.old }
-    ensures { (i : ℕ) (d : AnyMember W AnyEnd) → i < length crew.old → HasWorked (W.may_try table.now code.now) W.is_same W.has_ended (slice_index_or crew.old i d) (slice_index_or crew.new i d) }
+/// Works a crew with a program. The table that it shares is any one here: what threads may share of the program, and of the table, is shown one
+/// after the other, since each takes a search of its own.
+fn work_program<R: Threads + Sync, T: Sync, M: WorksToEnd<R, T, Code, G> + Send, G: Sync>(
+    rt: &R,
+    table: &T,
+    code: &Code,
+    crew: &mut [M],
+    gate: &G,
+)
+    requires { All (M.may_work table.now code.now) crew.old }
+    ensures { (i : ℕ) (d : M) → i < length crew.old → M.has_worked table.now code.now (slice_index_or crew.old i d) (slice_index_or crew.new i d) }
 {
     work_all(rt, table, code, crew, gate);
 }
