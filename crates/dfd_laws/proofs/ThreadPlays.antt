@@ -1,5 +1,5 @@
 -- Each play is a run that threads may come to.
-use Rattle.std.proofs.Common.{◌≡◌, ℕ, suc, ◌<◌, ◌≤◌, Bool, true, false, List, [], ◌++◌, length, append-nil, ℤ, arith, refl, sym, subst}
+use Rattle.std.proofs.Common.{◌≡◌, ℕ, suc, ◌<◌, Bool, true, false, List, [], length, append-nil, arith, refl, sym, subst}
 use Rattle.std.specs.Prelude.{nat_le}
 use borrow.Author.Tests.{leb-true, leb-false}
 use Rattle.command_line.specs.declared.command.Command.{Command}
@@ -10,7 +10,7 @@ use Rattle.depth_first_run.specs.Run.{list_of}
 use Rattle.deque_machine.proofs.Playing.{excluded, plays_are_runs}
 use Rattle.deque_machine.specs.Machine.{Setting, Event}
 use Rattle.deque_machine.specs.Moments.{Moment}
-use Rattle.deque_machine.specs.Play.{Limits, Stop, arena_full, steps_spent, deques_full, Ending, finished, stopped, Meets, no_deque, no_words, no_steps}
+use Rattle.deque_machine.specs.Play.{Limits, Stop, arena_full, steps_spent, deques_full, Ending, finished, stopped, Meets, no_steps}
 use Rattle.deque_machine.specs.Runs.{Pair}
 use Rattle.hall_runs.specs.Runs.{MeetsOnTheWay, HasCause as HasThreadCause}
 use Rattle.machine_replay.proofs.OnePlay.{endings_have_causes}
@@ -51,8 +51,9 @@ module _ (command : Command) (p : Program) (ranges : HasRanges command) where
     where
       by_length : (b : Bool) → nat_le (length (list_of (play_setting command p))) command.steps ≡ b →
           command.steps < length (list_of (play_setting command p))
-      by_length true e = absurd (excluded (play_machine command p) some_quota listed (play_terms command).limits (seeded_words command.seed)
-      run last (steps_spent limit) (leb-true (length (list_of (play_setting command p))) command.steps e) plays)
+      by_length true e =
+          absurd (excluded (play_machine command p) some_quota listed (play_terms command).limits (seeded_words command.seed) run last
+          (steps_spent limit) (leb-true (length (list_of (play_setting command p))) command.steps e) plays)
       by_length false e = leb-false (length (list_of (play_setting command p))) command.steps e
 
   stop_has_cause : (run : List Pair) (last : Moment) (stop : Stop) → IsPlay command p run last (stopped stop) →
