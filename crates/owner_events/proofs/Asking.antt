@@ -13,7 +13,7 @@ use Rattle.hall_turns.specs.declared.key.HallKey.{HallKey}
 use Rattle.lawful_books.specs.Books.{charge}
 use Rattle.moment_parts.specs.Events.{MayDo}
 use Rattle.owner_advance.specs.declared.at_next.AtNext.{AtNext}
-use Rattle.owner_takes.specs.Taking.{AsksByTheList, words_asked_by}
+use Rattle.owner_events.specs.Taking.{AsksByTheList, words_asked_by}
 use Rattle.thread_frames.specs.declared.next.Next.{Next}
 use Rattle.thread_frames.specs.declared.next.Next.TheVariants.{Fork, Alloc}
 

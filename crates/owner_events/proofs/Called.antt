@@ -11,8 +11,8 @@ use Rattle.owner_advance.specs.declared.at_next.AtNext.{AtNext}
 use Rattle.owner_events.proofs.Doing.{taken_leaves}
 use Rattle.owner_events.specs.Acting.{Acts, Does, look_at_count, look_at_list, look_at_pool}
 use Rattle.owner_events.specs.declared.acted.Acted.{Acted}
-use Rattle.owner_takes.proofs.Following.{fails}
-use Rattle.owner_takes.specs.declared.refused.ActRefused.{ActRefused}
+use Rattle.owner_events.proofs.Following.{fails}
+use Rattle.owner_events.specs.declared.refused.ActRefused.{ActRefused}
 use Rattle.thread_frames.specs.declared.next.Next.{Next}
 
 pub acts : (key : HallKey) (before middle : HallSeat) (deque : DequeId) (lane : LaneSlot) (at : AtNext) (next : Next) (ready : ℕ)

@@ -19,7 +19,7 @@ use Rattle.owner_advance.specs.declared.at_next.AtNext.{AtNext}
 use Rattle.owner_advance.specs.declared.memory.SeatMemory.{SeatMemory}
 use Rattle.owner_events.proofs.Held.{comes, with_lane}
 use Rattle.owner_events.specs.Ready.{IsReadyTo}
-use Rattle.owner_takes.proofs.Following.{note}
+use Rattle.owner_events.proofs.Following.{note}
 use Rattle.thread_events.specs.Readiness.{IsReadiness}
 use Rattle.thread_events.specs.declared.readiness.Readiness.TheVariants.{Ready, Spent, Missing}
 use Rattle.thread_frames.specs.Actions.{is_there}

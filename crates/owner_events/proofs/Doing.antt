@@ -23,9 +23,9 @@ use Rattle.hall_turns.specs.declared.slot.Slot.{Slot}
 use Rattle.hall_turns.specs.declared.slot.Slot.TheVariants as slots
 use Rattle.owner_advance.specs.Advancing.{HasLooked}
 use Rattle.owner_advance.specs.declared.at_next.AtNext.{AtNext}
-use Rattle.owner_takes.proofs.Following.{fails, looked, note}
-use Rattle.owner_takes.specs.Taking.{Draws}
-use Rattle.owner_takes.specs.declared.refused.ActRefused.{ActRefused}
+use Rattle.owner_events.proofs.Following.{fails, looked, note}
+use Rattle.owner_events.specs.Taking.{Draws}
+use Rattle.owner_events.specs.declared.refused.ActRefused.{ActRefused}
 use Rattle.owner_events.specs.Acting.{Does, DoesWithList, look_at_pool, look_at_count}
 use Rattle.owner_events.specs.declared.acted.Acted.{Acted}
 

@@ -10,7 +10,7 @@ use Rattle.hall_turns.specs.declared.slot.Slot.{Slot}
 use Rattle.owner_acts.specs.Ready.{IsReady}
 use Rattle.owner_advance.specs.declared.at_next.AtNext.{AtNext}
 use Rattle.owner_events.proofs.Held.{is_ready}
-use Rattle.owner_takes.specs.Taking.{Draws}
+use Rattle.owner_events.specs.Taking.{Draws}
 use Rattle.thread_frames.specs.Views.{next_of}
 use Rattle.thread_frames.specs.declared.next.Next.{Next}
 

@@ -18,7 +18,7 @@ use Rattle.hall_turns.specs.declared.slot.Slot.{Slot}
 use Rattle.hall_turns.specs.declared.slot.Slot.TheVariants as slots
 use Rattle.owner_acts.specs.Ready.{IsReady}
 use Rattle.owner_advance.specs.declared.at_next.AtNext.{AtNext}
-use Rattle.owner_takes.specs.Holding.{IsHolding}
+use Rattle.owner_events.specs.Holding.{IsHolding}
 
 -- a period that has room with any list of births that is ready has it with a list for one
 pub room_with_one : (births : List Birth) (own ready : ℕ) → 1 ≤ birth_room births own ready → 1 ≤ birth_room births own 1

@@ -1,10 +1,14 @@
+mod Given
+mod Following
+mod Counted
+mod Trying
 mod Held
 mod Doing
 mod Asking
 mod FromList
 mod FromPool
 mod FromCount
-mod Counts
+mod CountedPool
 mod WithList
 mod WithAll
 mod Deciding

@@ -18,12 +18,12 @@ use Rattle.hall_turns.specs.declared.slot.Slot.TheVariants as slots
 use Rattle.owner_acts.specs.Ready.{IsReady, PoolIsReady}
 use Rattle.owner_advance.specs.Advancing.{HasLooked}
 use Rattle.owner_advance.specs.declared.at_next.AtNext.{AtNext}
-use Rattle.owner_events.proofs.Counts.{same_sound}
+use Rattle.owner_events.proofs.CountedPool.{same_sound}
 use Rattle.owner_events.proofs.Doing.{counted_leaves, taken_leaves}
 use Rattle.owner_events.proofs.FromCount as count
 use Rattle.owner_events.proofs.Held.{all_list, all_pool, comes, with_all}
-use Rattle.owner_takes.specs.Holding.{IsBefore}
-use Rattle.owner_takes.specs.Taking.{CountsWithAll, HasPoolToo}
+use Rattle.owner_events.specs.Holding.{IsBefore}
+use Rattle.owner_events.specs.Taking.{CountsWithAll, HasPoolToo}
 use Rattle.thread_frames.specs.Views.{next_of}
 use Rattle.thread_frames.specs.declared.next.Next.{Next}
 use Rattle.turn_table.specs.Notes.{HasAs}

@@ -22,7 +22,7 @@ use Rattle.owner_advance.specs.Advancing.{HasLooked}
 use Rattle.owner_advance.specs.declared.at_next.AtNext.{AtNext}
 use Rattle.owner_events.proofs.FromList as from
 use Rattle.owner_events.proofs.Held.{comes, is_ready_bare, list_held, with_list}
-use Rattle.owner_takes.specs.Holding.{IsBefore}
+use Rattle.owner_events.specs.Holding.{IsBefore}
 use Rattle.space_ledger.specs.BooksList.{books_spare}
 use Rattle.owner_events.specs.Ready.{IsKeptFor}
 use Rattle.thread_frames.specs.declared.ended.Ended.{Ended}

@@ -14,8 +14,8 @@ use Rattle.hall_turns.specs.declared.slot.Slot.{Slot}
 use Rattle.hall_turns.specs.declared.slot.Slot.TheVariants as slots
 use Rattle.owner_advance.specs.Advancing.{IsAtNext, HasLooked, took_lane}
 use Rattle.owner_advance.specs.declared.at_next.AtNext.{AtNext}
-use Rattle.owner_takes.specs.Holding.{Fails}
-use Rattle.owner_takes.specs.declared.refused.ActRefused.{ActRefused}
+use Rattle.owner_events.specs.Holding.{Fails}
+use Rattle.owner_events.specs.declared.refused.ActRefused.{ActRefused}
 use Rattle.owner_events.specs.Needs.{NeedsList, NeedsPool}
 use Rattle.owner_events.specs.declared.acted.Acted.{Acted}
 

@@ -1,3 +1,5 @@
+pub mod Holding
+pub mod Taking
 pub mod Needs
 pub mod Ready
 pub mod Acting

@@ -22,9 +22,9 @@ use Rattle.hall_turns.specs.declared.slot.Slot.TheVariants as slots
 use Rattle.owner_acts.specs.Ready.{PoolIsReady}
 use Rattle.owner_advance.specs.declared.at_next.AtNext.{AtNext}
 use Rattle.owner_advance.specs.declared.memory.SeatMemory.{SeatMemory}
-use Rattle.owner_takes.specs.Holding.{Fails, IsBefore, IsCounted}
-use Rattle.owner_takes.specs.Taking.{words_asked_by}
-use Rattle.owner_takes.specs.declared.refused.ActRefused.{ActRefused}
+use Rattle.owner_events.specs.Holding.{Fails, IsBefore, IsCounted}
+use Rattle.owner_events.specs.Taking.{words_asked_by}
+use Rattle.owner_events.specs.declared.refused.ActRefused.{ActRefused}
 
 -- The seat holds its lane, whose top thread has come to this action, and meets the law.
 pub record IsReadyTo (key : HallKey) (seat : HallSeat) (deque : DequeId) (at : AtNext) (next : Next) (memory : SeatMemory) : Type 0 where

@@ -7,20 +7,21 @@ ghost use Rattle.thread_frames.specs.declared.thread.Thread.{Thread as AnyThread
 ghost use Rattle.thread_map.specs.Kept.{kept_under};
 ghost use Rattle.turn_table.specs.Tables.{key_of, slot_count, IsSeatOf};
 ghost use Rattle.hall_turns.specs.Takes.{HasAllPlaces};
-ghost use Rattle.owner_takes.specs.Holding.{IsNotBusy};
+ghost use Rattle.owner_events.specs.Holding.{IsNotBusy};
 ghost use Rattle.owner_events.specs.Acting.{Does};
 ghost use Rattle.owner_events.specs.Ready.{IsReadyTo};
 
 use crate::acted::Acted;
 use crate::lists::root_end;
 use crate::pools::end_above;
+use crate::refused::ActRefused;
+use crate::taking::take_open_list;
 use crate::wholes::{leaving_end, waking_end};
 use boxed::Boxed;
 use dag_order::Placed;
 use deque_list::DequeId;
 use hall_turns::{HallPlace, HallRow, ListSlot};
 use owner_advance::{AtNext, SeatMemory};
-use owner_takes::{ActRefused, take_open_list};
 use thread_frames::Thread;
 
 /// Whether the parent of a thread waits for it in the list.

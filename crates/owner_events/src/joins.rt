@@ -8,13 +8,16 @@ ghost use Rattle.thread_frames.specs.Views.{children_of, join_words_of, newest};
 ghost use Rattle.thread_frames.specs.declared.next.Next.TheVariants as nexts;
 ghost use Rattle.turn_table.specs.Tables.{key_of, slot_count, IsSeatOf};
 ghost use Rattle.hall_turns.specs.Takes.{HasAllPlaces};
-ghost use Rattle.owner_takes.specs.Holding.{IsNotBusy};
+ghost use Rattle.owner_events.specs.Holding.{IsNotBusy};
 ghost use Rattle.owner_events.specs.Acting.{Does};
 ghost use Rattle.owner_events.specs.Ready.{IsKeptFor, IsReadyTo};
 
 use crate::acted::Acted;
+use crate::counting::count_lane;
 use crate::lists::{kept_join, wait};
 use crate::pools::join_giving;
+use crate::refused::ActRefused;
+use crate::taking::take_open_list;
 use crate::wholes::kept_join_giving;
 use boxed::Boxed;
 use dag_order::ThreadId;
@@ -22,7 +25,6 @@ use deque_list::DequeId;
 use hall_turns::{Event, HallPlace, HallRow, ListSlot};
 use owner_acts::act_own_join;
 use owner_advance::{AtNext, SeatMemory};
-use owner_takes::{ActRefused, count_lane, take_open_list};
 use thread_frames::Thread;
 
 /// Does the Join of a child whose result was handed over, which releases no words. It needs the lane alone.

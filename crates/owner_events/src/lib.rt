@@ -1,22 +1,31 @@
 //! The next event of an owner of a hall, in one call.
 //!
-//! A seat that owns a deque lets its top thread come to its next action, and does the event for which this asks ([`act`]): the action itself, a wait
-//! for a child, or a give up of the deque. It takes the slots that the event needs in one order, its lane first, then the list, then the pool;
-//! counts the action; does it to the parts; and puts them back, by which the event is decided.
+//! A seat that owns a deque lets its top thread reach its next action, and does the event for which this asks ([`act`]): the action itself,
+//! a wait for a child, or a give up of the deque. It takes the slots that the event needs in one order, its lane first, then the list, then
+//! the pool; counts the action once there is memory for it; does it to the parts; and puts them back, by which the event is decided. If a
+//! slot is held by another seat, the run is over, there is not enough memory, or a limit of the run is met, it gives all slots back
+//! ([`ActRefused`]).
 //!
-//! It stands on the way to the action (`owner_advance`), on how its slots are taken and given back (`owner_takes`), on what an owner knows of
-//! them (`hall_reads`), and on the events themselves (`owner_acts`). Its theorem: the seat notes the event for which the next action of its top
-//! thread asks, or why it came to none; if it did the event, it took no slot that this does not need; and the law of the hall holds between any two
-//! atomic steps.
+//! It uses the way to the action and what is put back if no event comes (`owner_advance`), the count (`hall_counting`), what an owner knows
+//! of its slots (`hall_reads`), and the events themselves (`owner_acts`). It hands the memory of a seat on ([`SeatMemory`]), so its callers
+//! name one crate. Its theorem: the seat notes the event for which the next action of its top thread asks, or its note and its answers say
+//! why it did none; if it did the event, it took no slot that this does not need; and the law of the hall holds between any two atomic
+//! steps.
 #![tactic(auto)]
 
 mod acted;
 mod acting;
+mod counting;
 mod ends;
+mod giving;
 mod joins;
 mod lists;
 mod pools;
+mod refused;
+mod taking;
 mod wholes;
 
 pub use acted::Acted;
 pub use acting::act;
+pub use owner_advance::SeatMemory;
+pub use refused::ActRefused;

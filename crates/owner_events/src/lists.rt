@@ -14,13 +14,17 @@ ghost use Rattle.hall_deciding.specs.PartEvents.Rooms.{HasMoreRoom};
 ghost use Rattle.hall_deciding.specs.Taken.{list_and_lane};
 ghost use Rattle.hall_turns.specs.declared.list_slot.ListSlot.{ListSlot as AnyList};
 ghost use Rattle.run_end.specs.declared.stop.Stop.TheVariants.{OutOfMemory};
-ghost use Rattle.owner_takes.specs.declared.refused.ActRefused.TheVariants.{Stopped};
-ghost use Rattle.owner_takes.specs.Holding.{Fails, IsBefore, IsNotBusy};
+ghost use Rattle.owner_events.specs.declared.refused.ActRefused.TheVariants.{Stopped};
+ghost use Rattle.owner_events.specs.Holding.{Fails, IsBefore, IsNotBusy};
 ghost use Rattle.hall_turns.specs.Takes.{HasAllPlaces};
 ghost use Rattle.owner_events.specs.Acting.{Does, DoesWithList};
 ghost use Rattle.owner_events.specs.Ready.{IsKeptFor, IsReadyTo, IsReadyWith};
 
 use crate::acted::Acted;
+use crate::counting::count_with_list;
+use crate::giving::give_list;
+use crate::refused::ActRefused;
+use crate::taking::take_open_list;
 use boxed::Boxed;
 use dag_order::ThreadId;
 use deque_list::DequeId;
@@ -30,7 +34,6 @@ use owner_acts::{act_dummy, act_give_up, act_kept_join, act_root_end, act_wait};
 use owner_advance::{
     AtNext, SeatMemory, make_room_to_close, make_room_to_leave, make_room_to_wait,
 };
-use owner_takes::{ActRefused, count_with_list, give_list, take_open_list};
 use run_end::Stop;
 
 /// An event after which the seat owns no deque.

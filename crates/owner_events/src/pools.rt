@@ -10,19 +10,21 @@ ghost use Rattle.hall_deciding.specs.Taken.{its_lane};
 ghost use Rattle.hall_reads.specs.Lists.{ReadsEnd};
 ghost use Rattle.hall_turns.specs.declared.event.Event.TheVariants.{Did};
 ghost use Rattle.owner_acts.specs.Quotas.{MayUse};
-ghost use Rattle.owner_takes.specs.Holding.{IsBefore, IsNotBusy};
-ghost use Rattle.owner_takes.specs.Taking.{AsksByTheList};
+ghost use Rattle.owner_events.specs.Holding.{IsBefore, IsNotBusy};
+ghost use Rattle.owner_events.specs.Taking.{AsksByTheList};
 ghost use Rattle.hall_turns.specs.Takes.{HasAllPlaces};
 ghost use Rattle.owner_events.specs.Acting.{Does};
 ghost use Rattle.owner_events.specs.Ready.{CountsPool, IsReadyTo};
 
 use crate::acted::Acted;
+use crate::counting::count_with_pool;
+use crate::refused::ActRefused;
+use crate::taking::take_pool_for;
 use dag_order::{ActionId, FaultAt, ThreadId};
 use deque_list::DequeId;
 use hall_turns::{Event, HallPlace, HallRow, PoolSlot};
 use owner_acts::{act_alloc, act_end_above, act_fault, act_fork, act_join_giving, act_release};
 use owner_advance::{AtNext, SeatMemory};
-use owner_takes::{ActRefused, count_with_pool, take_pool_for};
 use thread_frames::Next;
 
 /// An action of the top thread, after which the seat owns its deque.

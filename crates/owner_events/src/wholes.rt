@@ -10,16 +10,20 @@ ghost use Rattle.hall_deciding.specs.PartEvents.Rooms.{HasMoreRoom};
 ghost use Rattle.hall_deciding.specs.Taken.{all_three};
 ghost use Rattle.hall_turns.specs.declared.list_slot.ListSlot.{ListSlot as AnyList};
 ghost use Rattle.run_end.specs.declared.stop.Stop.TheVariants.{OutOfMemory};
-ghost use Rattle.owner_takes.specs.declared.refused.ActRefused.TheVariants.{Stopped};
+ghost use Rattle.owner_events.specs.declared.refused.ActRefused.TheVariants.{Stopped};
 ghost use Rattle.thread_frames.specs.declared.thread.Thread.{Thread as AnyThread};
 ghost use Rattle.thread_map.specs.Kept.{kept_under};
 ghost use Rattle.turn_table.specs.Tables.{key_of, slot_count, IsSeatOf};
 ghost use Rattle.hall_turns.specs.Takes.{HasAllPlaces};
-ghost use Rattle.owner_takes.specs.Holding.{Fails, IsBefore, IsNotBusy};
+ghost use Rattle.owner_events.specs.Holding.{Fails, IsBefore, IsNotBusy};
 ghost use Rattle.owner_events.specs.Acting.{DoesWithList};
 ghost use Rattle.owner_events.specs.Ready.{IsKeptFor, IsReadyWith};
 
 use crate::acted::Acted;
+use crate::counting::count_with_all;
+use crate::giving::give_all;
+use crate::refused::ActRefused;
+use crate::taking::take_pool_too;
 use boxed::Boxed;
 use dag_order::ThreadId;
 use deque_list::DequeId;
@@ -27,7 +31,6 @@ use hall_puts::Noting;
 use hall_turns::{Event, HallPlace, HallRow, ListSlot, PoolSlot};
 use owner_acts::{act_kept_join_giving, act_leaving_end, act_waking_end};
 use owner_advance::{AtNext, SeatMemory, make_room_to_leave};
-use owner_takes::{ActRefused, count_with_all, give_all, take_pool_too};
 use run_end::Stop;
 
 /// Gives the list, the pool and the lane back, since there is not enough memory.

@@ -2,7 +2,7 @@ use Rattle.std.proofs.Common.{◌+◌, ◌∙◌}
 use Rattle.bounded_list.specs.BoundedList.{spare}
 use Rattle.turn_table.specs.Tables.{key_of}
 use Rattle.hall_turns.specs.declared.slot.Slot.TheVariants as slots
-use Rattle.owner_takes.proofs.Following.{all_too}
+use Rattle.owner_events.proofs.Following.{all_too}
 use Rattle.owner_events.proofs.Doing.{here_too}
 use Rattle.owner_events.proofs.Called.{acts}
 use Rattle.owner_events.proofs.Deciding as deciding

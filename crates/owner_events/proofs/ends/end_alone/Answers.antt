@@ -4,8 +4,8 @@ use Rattle.thread_frames.specs.declared.next.Next.TheVariants as nexts
 use Rattle.turn_table.specs.Tables.{key_of}
 use Rattle.hall_deciding.specs.Taken.{list_and_lane}
 use Rattle.hall_turns.specs.declared.slot.Slot.TheVariants as slots
-use Rattle.owner_takes.proofs.Following.{all_too}
-use Rattle.owner_takes.specs.Holding.{IsBefore}
+use Rattle.owner_events.proofs.Following.{all_too}
+use Rattle.owner_events.specs.Holding.{IsBefore}
 use Rattle.owner_events.proofs.Doing.{exit, here_too, does_with_list}
 use Rattle.owner_events.specs.Acting.{Does, DoesWithList}
 use Rattle.owner_events.proofs.ends.end_alone.Goals as goal

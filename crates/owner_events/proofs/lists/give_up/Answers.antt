@@ -10,8 +10,8 @@ use Rattle.hall_deciding.specs.Taken.{list_and_lane}
 use Rattle.hall_turns.specs.Takes.{HallSeat}
 use Rattle.hall_turns.specs.declared.event.Event.TheVariants.{GaveUp}
 use Rattle.hall_turns.specs.declared.slot.Slot.TheVariants as slots
-use Rattle.owner_takes.proofs.Following.{fails}
-use Rattle.owner_takes.specs.Holding.{IsBefore}
+use Rattle.owner_events.proofs.Following.{fails}
+use Rattle.owner_events.specs.Holding.{IsBefore}
 use Rattle.owner_events.proofs.Doing.{exit, here_too}
 use Rattle.owner_events.proofs.WithList as with
 use Rattle.owner_events.specs.Acting.{Does, HasDone}

@@ -1,6 +1,6 @@
 use Rattle.turn_table.specs.Tables.{key_of}
 use Rattle.hall_deciding.specs.Taken.{list_and_lane}
-use Rattle.owner_takes.proofs.Trying.{may_want}
+use Rattle.owner_events.proofs.Trying.{may_want}
 use Rattle.owner_events.proofs.lists.stop_short.Goals as goal
 
 pub give_list-requires-clause-note : goal.give_list-requires-clause-note

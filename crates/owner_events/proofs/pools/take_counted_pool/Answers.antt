@@ -1,11 +1,11 @@
 use Rattle.std.proofs.Common.{sym, subst}
 use Rattle.turn_table.specs.Tables.{key_of}
 use Rattle.hall_deciding.specs.Taken.{pool_and_lane}
-use Rattle.owner_events.proofs.Counts.{counts_pool}
+use Rattle.owner_events.proofs.CountedPool.{counts_pool}
 use Rattle.owner_events.proofs.Doing.{exit, here_too}
 use Rattle.owner_events.specs.Ready.{CountsPool}
-use Rattle.owner_takes.specs.Holding.{IsBefore}
-use Rattle.owner_takes.specs.Taking.{CountsWithPool}
+use Rattle.owner_events.specs.Holding.{IsBefore}
+use Rattle.owner_events.specs.Taking.{CountsWithPool}
 use Rattle.owner_events.proofs.pools.take_counted_pool.Goals as goal
 
 pub returns-in_err-at-clause-seat : goal.returns-in_err-at-clause-seat

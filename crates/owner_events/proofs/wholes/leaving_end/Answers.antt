@@ -10,7 +10,7 @@ use Rattle.hall_turns.specs.declared.event.Event.TheVariants.{Did}
 use Rattle.hall_turns.specs.declared.slot.Slot.TheVariants as slots
 use Rattle.owner_acts.specs.Ends.{CanLeave}
 use Rattle.owner_acts.specs.Pauses.{CanClose}
-use Rattle.owner_takes.proofs.Following.{fails}
+use Rattle.owner_events.proofs.Following.{fails}
 use Rattle.owner_events.proofs.Doing.{exit, here_too}
 use Rattle.owner_events.proofs.FromList as from
 use Rattle.owner_events.proofs.WithAll as all

@@ -1,6 +1,6 @@
 use Rattle.turn_table.specs.Tables.{key_of}
 use Rattle.hall_deciding.specs.Taken.{all_three}
-use Rattle.owner_takes.proofs.Trying.{may_want}
+use Rattle.owner_events.proofs.Trying.{may_want}
 use Rattle.owner_events.proofs.wholes.stop_with_all.Goals as goal
 
 pub give_all-requires-clause-note : goal.give_all-requires-clause-note

@@ -1,0 +1,69 @@
+-- A seat that drew a count: what it holds, and how it fails if there is none for it.
+use Rattle.std.proofs.Common.{ℕ, List, [], ◌∷◌, ◌++◌, sym, ap, ◌∙◌, subst}
+use Rattle.std.specs.Prelude.{Some}
+use Rattle.deque_list.specs.declared.deque_id.DequeId.{DequeId}
+use Rattle.run_end.specs.declared.stop.Stop.{Stop}
+use Rattle.thread_frames.specs.declared.next.Next.{Next}
+use Rattle.turn_table.specs.declared.look.Look.TheVariants.{Counted}
+use Rattle.turn_table.specs.Seats.{with_hand}
+use Rattle.hall_counting.specs.Counting.{HasCounted, HasFoundSpent, MayDraw}
+use Rattle.hall_deciding.specs.PartEvents.Puts.{HasPut}
+use Rattle.hall_deciding.specs.PartEvents.TakenParts.{MayGoOn}
+use Rattle.hall_turns.specs.Takes.{HallSeat}
+use Rattle.hall_turns.specs.declared.key.HallKey.{HallKey}
+use Rattle.hall_turns.specs.declared.lane_slot.LaneSlot.{LaneSlot}
+use Rattle.hall_turns.specs.declared.slot.Slot.{Slot}
+use Rattle.owner_advance.specs.declared.at_next.AtNext.{AtNext}
+use Rattle.owner_events.specs.Holding.{Fails, IsHolding, IsBefore}
+use Rattle.owner_events.specs.Taking.{Draws}
+use Rattle.owner_events.specs.declared.refused.ActRefused.TheVariants.{Stopped}
+
+module _ (key : HallKey) (before : HallSeat) (deque : DequeId) (others : LaneSlot → List (ℕ × Slot)) (at : AtNext) (next : Next) (ready : ℕ)
+    (is : IsBefore key before deque others at next ready) where
+  pub may_draw : MayDraw before
+  may_draw = record {
+    placed = is.holding.goes.placed;
+    stays = is.holding.goes.stays;
+    owns = (deque, is.holding.goes.owns);
+    free = is.free;
+    none = is.none;
+  }
+
+  module _ (limit : ℕ) (middle : HallSeat) where
+    pub draws : HasCounted limit before middle → Draws key before deque others at next ready middle
+    draws counted = record {
+      found = counted.0;
+      drew = counted.2;
+      counted = record {
+        holding = record {
+          goes = subst (λ (s : HallSeat). MayGoOn s deque) (sym counted.2) (record { placed = is.holding.goes.placed; stays = is.holding.goes.stays; owns = is.holding.goes.owns });
+          lane = is.holding.lane;
+          holds = ap (λ (s : HallSeat). s.hand.holds) counted.2 ∙ is.holding.holds;
+          is_next = is.holding.is_next;
+        };
+        counting = ap (λ (s : HallSeat). s.hand.note.counting) counted.2;
+      };
+    }
+
+    -- if the steps are spent
+    module _ (stop : Stop) (spent : HasFoundSpent limit before stop middle) where
+      pub still_holds : IsHolding key middle deque others at next ready
+      still_holds = record {
+        goes = subst (λ (s : HallSeat). MayGoOn s deque) (sym spent.3) (record { placed = is.holding.goes.placed; stays = is.holding.goes.stays; owns = is.holding.goes.owns });
+        lane = is.holding.lane;
+        holds = ap (λ (s : HallSeat). s.hand.holds) spent.3 ∙ is.holding.holds;
+        is_next = is.holding.is_next;
+      }
+
+      pub stopped : (after : HallSeat) → HasPut middle middle.hand.note [] after → Fails before (Stopped stop) after
+      stopped after put = (
+        Counted spent.0 ∷ [],
+        put
+            ∙ ap (λ (s : HallSeat). with_hand s (record { seated = s.hand.seated; holds = []; note = s.hand.note; looks = s.hand.looks })) spent.3
+            ∙ ap (λ (stop : Stop). with_hand before (record {
+              seated = before.hand.seated;
+              holds = [];
+              note = record before.hand.note { found = Some stop };
+              looks = before.hand.looks ++ Counted spent.0 ∷ [];
+            })) (sym spent.2),
+      )

@@ -1,0 +1,86 @@
+-- A lane whose top thread came to its next action shows what it showed.
+use Rattle.std.proofs.Common.{◌≡◌, ℕ, List, ◌∷◌, map, sym, ap, ◌∙◌, subst}
+use Rattle.std.specs.Option.{option_map}
+use Rattle.std.specs.Prelude.{Some}
+use Rattle.deque_list.specs.declared.deque_id.DequeId.{DequeId}
+use Rattle.lawful_books.specs.Lists.{Each}
+use Rattle.thread_frames.specs.Points.{IsAtPoint}
+use Rattle.thread_frames.specs.Shown.{thread_shown}
+use Rattle.thread_frames.specs.declared.next.Next.{Next}
+use Rattle.hall_deciding.specs.Own.{IsStillThere}
+use Rattle.hall_deciding.specs.Taken.{its_lane, pool_and_lane, list_and_lane, all_three}
+use Rattle.hall_events.proofs.Working.{still_shows}
+use Rattle.hall_events.specs.Rooms.{HasMoreRoom, IsSamePool}
+use Rattle.hall_puts.specs.declared.noting.Noting.{Noting}
+use Rattle.hall_turns.specs.Keys.{table_of, quota_of}
+use Rattle.hall_turns.specs.Shown.{running_shown}
+use Rattle.hall_turns.specs.Takes.{HallSeat}
+use Rattle.hall_turns.specs.declared.key.HallKey.{HallKey}
+use Rattle.hall_turns.specs.declared.lane_slot.LaneSlot.{LaneSlot}
+use Rattle.hall_turns.specs.declared.list_slot.ListSlot.{ListSlot}
+use Rattle.hall_turns.specs.declared.pool_slot.PoolSlot.{PoolSlot}
+use Rattle.hall_turns.specs.declared.slot.Slot.{Slot}
+use Rattle.hall_writes.specs.Writes.{Parts, parts}
+use Rattle.owner_advance.specs.declared.at_next.AtNext.{AtNext}
+use Rattle.owner_advance.specs.Returning.{MayNote, ReturnsLane, ReturnsPool, ReturnsList, ReturnsAll}
+use Rattle.owner_events.specs.Holding.{IsHolding}
+
+module _ (key : HallKey) (seat : HallSeat) (deque : DequeId) (taken : LaneSlot → List (ℕ × Slot)) (at : AtNext) (next : Next) (ready : ℕ)
+    (is : IsHolding key seat deque taken at next ready) (lane : LaneSlot) (items : lane.lane.items ≡ at.top ∷ at.lane.items) (running : lane.running ≡ Some at.running) where
+  threads : map thread_shown lane.lane.items ≡ map thread_shown is.lane.lane.items
+  threads = ap (map thread_shown) items
+      ∙ ap (λ t. t ∷ map thread_shown at.lane.items) (still_shows is.is_next.at_action.top_was at.top is.is_next.at_action.still)
+      ∙ ap (map thread_shown) (sym is.is_next.at_action.items)
+
+  pub lane_back : ReturnsLane key seat deque is.lane lane
+  lane_back = record {
+    goes = is.goes;
+    same = λ i. record { threads = threads i; period = (ap (option_map running_shown) running ∙ sym is.is_next.at_action.running) i };
+    points = subst (Each (IsAtPoint (table_of key) (quota_of key))) (sym items) (is.is_next.point, is.is_next.under);
+  }
+
+module _ (key : HallKey) (seat : HallSeat) (deque : DequeId) (at : AtNext) (next : Next) (ready : ℕ) (lane : LaneSlot) (items : lane.lane.items ≡ at.top ∷ at.lane.items)
+    (running : lane.running ≡ Some at.running) where
+  pub still_there : IsHolding key seat deque (its_lane deque) at next ready → IsStillThere key seat deque lane
+  still_there is = let back = lane_back key seat deque (its_lane deque) at next ready is lane items running in record {
+    placed = is.goes.placed;
+    owns = is.goes.owns;
+    lane_was = is.lane;
+    holds = is.holds;
+    same = back.same;
+    points = back.points;
+  }
+
+  module _ (noting : Noting) (note : (was : Parts) → MayNote key seat deque was noting) where
+    pub pool_back : (was pool : PoolSlot) → IsSamePool was pool → IsHolding key seat deque (pool_and_lane deque was) at next ready → ReturnsPool key seat deque pool lane noting
+    pool_back was pool same is = record {
+      pool_was = was;
+      lane_was = is.lane;
+      holds = is.holds;
+      pool_same = same;
+      lane_same = lane_back key seat deque (pool_and_lane deque was) at next ready is lane items running;
+      may = λ list. note (parts list was is.lane);
+    }
+
+    pub list_back : (was list : ListSlot) → HasMoreRoom was list → IsHolding key seat deque (list_and_lane deque was) at next ready → ReturnsList key seat deque list lane noting
+    list_back was list same is = record {
+      list_was = was;
+      lane_was = is.lane;
+      holds = is.holds;
+      list_same = same;
+      lane_same = lane_back key seat deque (list_and_lane deque was) at next ready is lane items running;
+      may = λ pool. note (parts was pool is.lane);
+    }
+
+    pub all_back : (was list : ListSlot) → HasMoreRoom was list → (pool_was pool : PoolSlot) → IsSamePool pool_was pool → IsHolding key seat deque (all_three deque was pool_was) at next ready
+        → ReturnsAll key seat deque list pool lane noting
+    all_back was list same pool_was pool pool_same is = record {
+      list_was = was;
+      pool_was = pool_was;
+      lane_was = is.lane;
+      holds = is.holds;
+      list_same = same;
+      pool_same = pool_same;
+      lane_same = lane_back key seat deque (all_three deque was pool_was) at next ready is lane items running;
+      may = note (parts was pool_was is.lane);
+    }

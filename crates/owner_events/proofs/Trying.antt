@@ -1,0 +1,115 @@
+-- A seat that tries to take the list or the pool beside what it holds.
+use Rattle.std.proofs.Common.{◌≡◌, ℕ, ◌+◌, ◌≤◌, ◌<◌, List, [], ◌∷◌, inl, refl, sym, ap, ◌∙◌, subst}
+use Rattle.std.proofs.lemmas.List.Sorted.{IsPermutation-refl}
+use Rattle.std.specs.Prelude.{Some}
+use Rattle.deque_list.specs.declared.deque_id.DequeId.{DequeId}
+use Rattle.run_end.specs.declared.ends.RunEnd.{RunEnd}
+use Rattle.run_end.specs.declared.stop.Stop.{Stop}
+use Rattle.run_end.specs.declared.stop.Stop.TheVariants.{ArenaFull, OutOfMemory}
+use Rattle.thread_frames.specs.declared.next.Next.{Next}
+use Rattle.turn_table.specs.Notes.{HasAs}
+use Rattle.turn_table.specs.declared.held.Held.{Held}
+use Rattle.turn_table.specs.Seats.{with_hand}
+use Rattle.hall_deciding.specs.PartEvents.Puts.{HasPut}
+use Rattle.hall_deciding.specs.PartEvents.Rooms.{HasMoreRoom}
+use Rattle.hall_deciding.specs.PartEvents.TakenParts.{MayGoOn, MayPause}
+use Rattle.hall_deciding.specs.Taken.{its_lane}
+use Rattle.hall_puts.specs.declared.noting.Noting.TheVariants.{Found}
+use Rattle.hall_reads.proofs.Reading.{pools_are_sound}
+use Rattle.hall_seats.specs.Lists.{answered_note}
+use Rattle.hall_turns.specs.Sound.{PoolIsSound}
+use Rattle.hall_turns.specs.Takes.{HallSeat, IsTaken, IsRefused, MeetsLaw}
+use Rattle.hall_turns.specs.declared.key.HallKey.{HallKey}
+use Rattle.hall_turns.specs.declared.lane_slot.LaneSlot.{LaneSlot}
+use Rattle.hall_turns.specs.declared.list_slot.ListSlot.{ListSlot}
+use Rattle.hall_turns.specs.declared.pool_slot.PoolSlot.{PoolSlot}
+use Rattle.hall_turns.specs.declared.slot.Slot.{Slot}
+use Rattle.hall_turns.specs.declared.slot.Slot.TheVariants as slots
+use Rattle.hall_writes.specs.Writes.{Parts}
+use Rattle.owner_advance.specs.declared.at_next.AtNext.{AtNext}
+use Rattle.owner_advance.proofs.Noting.{full_arenas_may_be_noted, memory_may_be_noted}
+use Rattle.owner_advance.specs.Returning.{MayNote, ReturnsPool}
+use Rattle.owner_events.proofs.Following.{is_before}
+use Rattle.owner_events.proofs.Given.{lane_back}
+use Rattle.owner_events.specs.Holding.{Fails, IsHolding, IsBefore}
+use Rattle.owner_events.specs.Taking.{AsksByTheList, words_asked_by}
+use Rattle.owner_events.specs.declared.refused.ActRefused.TheVariants.{Over}
+
+-- a list is as it was
+pub same_list : (list : ListSlot) → HasMoreRoom list list
+same_list list = record {
+  deques = record { order = refl; closed = refl; begun = refl; crew = refl; end = refl };
+  waiting = (IsPermutation-refl list.part.waiting.entries, λ id. refl);
+  results = (IsPermutation-refl list.part.results.entries, λ id. refl);
+}
+
+-- it may ask for memory
+pub may_pause : (key : HallKey) (seat : HallSeat) (deque : DequeId) (others : LaneSlot → List (ℕ × Slot)) (at : AtNext) (next : Next) (ready : ℕ)
+    → IsBefore key seat deque others at next ready → MayPause seat deque
+may_pause key seat deque others at next ready b = record { goes = b.holding.goes; counting = b.free }
+
+pub may_want : (key : HallKey) (seat : HallSeat) (deque : DequeId) (others : LaneSlot → List (ℕ × Slot)) (at : AtNext) (next : Next) (ready : ℕ)
+    → IsBefore key seat deque others at next ready → (was : Parts) → MayNote key seat deque was (Found OutOfMemory)
+may_want key seat deque others at next ready b was = memory_may_be_noted key seat deque was (may_pause key seat deque others at next ready b) b.none
+
+-- a slot that it was refused
+module _ (before middle : HallSeat) (slot : ℕ) (held : Held) (refused : IsRefused before slot held middle) where
+  pub still_holding : (key : HallKey) (deque : DequeId) (others : LaneSlot → List (ℕ × Slot)) (at : AtNext) (next : Next) (ready : ℕ)
+      → IsHolding key before deque others at next ready → IsHolding key middle deque others at next ready
+  still_holding key deque others at next ready is = record {
+    goes = subst (λ (s : HallSeat). MayGoOn s deque) (sym refused.1) (record { placed = is.goes.placed; stays = is.goes.stays; owns = is.goes.owns });
+    lane = is.lane;
+    holds = ap (λ (s : HallSeat). s.hand.holds) refused.1 ∙ is.holds;
+    is_next = is.is_next;
+  }
+
+-- the list that it took, in which an end is kept
+module _ (before middle : HallSeat) (list : ListSlot) (end : RunEnd) (kept : list.end ≡ Some end) (taken : IsTaken before 0 (slots.List list) middle) where
+  pub over : (after : HallSeat) → HasPut middle (answered_note middle.hand.note list) [] after → Fails before (Over end) after
+  over after put = (
+    [],
+    list,
+    kept,
+    put
+        ∙ ap (λ (s : HallSeat). with_hand s (record { seated = s.hand.seated; holds = []; note = answered_note s.hand.note list; looks = s.hand.looks })) taken,
+  )
+
+-- the pool that it took
+module _ (key : HallKey) (before middle : HallSeat) (deque : DequeId) (pool : PoolSlot) (taken : IsTaken before 1 (slots.Pool pool) middle)
+    (meets : MeetsLaw key middle) where
+  holds : HasAs 1 (slots.Pool pool) middle.hand.holds
+  holds = subst (λ (s : HallSeat). HasAs 1 (slots.Pool pool) s.hand.holds) (sym taken) (inl (refl, refl))
+
+  pub pool_sound : PoolIsSound key pool
+  pool_sound = pools_are_sound key middle pool holds meets
+
+  -- which has no room for the words of the action
+  module _ (at : AtNext) (next : Next) (ready : ℕ) (b : IsBefore key before deque (its_lane deque) at next ready) (asks : AsksByTheList key at next)
+      (full : pool.pool.capacity < pool.pool.live + words_asked_by next) where
+    then : IsBefore key middle deque (λ lane. (1, slots.Pool pool) ∷ its_lane deque lane) at next ready
+    then = is_before before middle 1 (slots.Pool pool) taken key deque (its_lane deque) at next ready b
+
+    too_full : key.capacity < pool.pool.live + words_asked_by next
+    too_full = subst (λ n. n < pool.pool.live + words_asked_by next) pool_sound.capacity full
+
+    few : pool.pool.live ≤ key.capacity
+    few = subst (λ n. pool.pool.live ≤ n) pool_sound.capacity pool_sound.within
+
+    pub full_back : (lane : LaneSlot) → lane.lane.items ≡ at.top ∷ at.lane.items → lane.running ≡ Some at.running
+        → ReturnsPool key middle deque pool lane (Found (ArenaFull pool.pool.live (words_asked_by next)))
+    full_back lane items running = record {
+      pool_was = pool;
+      lane_was = then.holding.lane;
+      holds = then.holding.holds;
+      pool_same = record { pool = refl; moves = refl };
+      lane_same = lane_back key middle deque (λ lane. (1, slots.Pool pool) ∷ its_lane deque lane) at next ready then.holding lane items running;
+      may = λ list. full_arenas_may_be_noted key middle deque list pool then.holding.lane next at.top at.lane.items at.running.worker at.running.period (words_asked_by next)
+          b.holding.is_next.within.quota (may_pause key middle deque (λ lane. (1, slots.Pool pool) ∷ its_lane deque lane) at next ready then) then.none then.holding.is_next.at_action
+          (asks pool.pool.live few too_full);
+    }
+
+    -- as the stop that was found
+    pub stop_back : (asked : ℕ) → asked ≡ words_asked_by next → (stop : Stop) → stop ≡ ArenaFull pool.pool.live asked → (lane : LaneSlot)
+        → lane.lane.items ≡ at.top ∷ at.lane.items → lane.running ≡ Some at.running → ReturnsPool key middle deque pool lane (Found stop)
+    stop_back asked asked_is stop is lane items running = subst (λ s. ReturnsPool key middle deque pool lane (Found s)) (sym (is ∙ ap (ArenaFull pool.pool.live) asked_is))
+        (full_back lane items running)

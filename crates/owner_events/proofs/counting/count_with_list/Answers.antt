@@ -1,0 +1,17 @@
+use Rattle.turn_table.specs.Tables.{key_of}
+use Rattle.hall_deciding.specs.Taken.{list_and_lane}
+use Rattle.owner_advance.proofs.Noting.{nothing_may_be_noted}
+use Rattle.owner_events.proofs.Counted.{still_holds}
+use Rattle.owner_events.proofs.counting.count_with_list.Goals as goal
+
+pub give_list-requires-clause-holding : goal.give_list-requires-clause-holding
+give_list-requires-clause-holding c = (
+  c.requires.before.0,
+  c.requires.before.1,
+  c.requires.before.2,
+  c.requires.before.3,
+  still_holds (key_of c.args.row.now) c.args.seat.now c.args.deque (list_and_lane c.args.deque c.requires.before.2) c.args.at c.requires.before.0 c.requires.before.1 c.requires.before.4 c.args.limit c.count_action.new.seat c.in-Err.stop c.in-Err.ensures.seat,
+)
+
+pub give_list-requires-clause-note : goal.give_list-requires-clause-note
+give_list-requires-clause-note c = nothing_may_be_noted (key_of c.args.row.now) c.count_action.new.seat c.args.deque

@@ -1,0 +1,21 @@
+use Rattle.turn_table.specs.Tables.{key_of}
+use Rattle.hall_deciding.specs.Taken.{pool_and_lane}
+use Rattle.owner_advance.proofs.Noting.{nothing_may_be_noted}
+use Rattle.owner_events.proofs.Counted.{still_holds}
+use Rattle.owner_events.proofs.Trying.{may_want}
+use Rattle.owner_events.proofs.counting.count_with_pool.Goals as goal
+
+pub give_pool-requires-clause-note : goal.give_pool-requires-clause-note
+give_pool-requires-clause-note c = may_want (key_of c.args.row.now) c.args.seat.now c.args.deque (pool_and_lane c.args.deque c.args.pool) c.args.at c.requires.before.0 c.requires.before.1 c.requires.before.2
+
+pub give_pool-requires-in-Err-clause-holding : goal.give_pool-requires-in-Err-clause-holding
+give_pool-requires-in-Err-clause-holding c = (
+  c.requires.before.0,
+  c.requires.before.1,
+  c.args.pool,
+  c.make_room_for_move.ensures.same,
+  still_holds (key_of c.args.row.now) c.args.seat.now c.args.deque (pool_and_lane c.args.deque c.args.pool) c.args.at c.requires.before.0 c.requires.before.1 c.requires.before.2 c.args.limit c.count_action.new.seat c.in-Err.stop c.in-Err.ensures.seat,
+)
+
+pub give_pool-requires-in-Err-clause-note : goal.give_pool-requires-in-Err-clause-note
+give_pool-requires-in-Err-clause-note c = nothing_may_be_noted (key_of c.args.row.now) c.count_action.new.seat c.args.deque

@@ -1,4 +1,0 @@
-mod Given
-pub mod Following
-pub mod Counted
-pub mod Trying
