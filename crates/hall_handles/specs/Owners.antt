@@ -4,9 +4,9 @@ use Rattle.deque_list.specs.declared.deque_id.DequeId.{DequeId}
 use Rattle.turn_table.specs.Tables.{key_of}
 use Rattle.hall_turns.specs.declared.event.Event.{Event}
 use Rattle.owner_events.specs.Acting.{HasActed}
+use Rattle.owner_events.specs.Holding.{Fails}
 use Rattle.owner_events.specs.declared.acted.Acted.{Acted}
-use Rattle.owner_takes.specs.Holding.{Fails}
-use Rattle.owner_takes.specs.declared.refused.ActRefused.TheVariants as failed
+use Rattle.owner_events.specs.declared.refused.ActRefused.TheVariants as failed
 use Rattle.hall_handles.specs.declared.hall.Hall.{Hall}
 use Rattle.hall_handles.specs.declared.seat.Seat.{Seat}
 use Rattle.hall_handles.specs.declared.refused.EventRefused.{EventRefused}

@@ -10,7 +10,7 @@ use crate::refused::EnterRefused;
 use crate::seat::Seat;
 use hall_entering::enter;
 use hall_seats::halt;
-use owner_advance::SeatMemory;
+use owner_events::SeatMemory;
 use run_end::{RunEnd, Stop};
 use turn_table::Held;
 

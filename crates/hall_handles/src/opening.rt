@@ -10,7 +10,7 @@ use crate::seat::Seat;
 use dfd_core::Core;
 use hall_entry::open_hall;
 use node_table::Code;
-use owner_advance::SeatMemory;
+use owner_events::SeatMemory;
 use std::alloc::{AllocError, Global};
 
 impl Hall {

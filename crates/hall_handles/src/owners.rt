@@ -11,8 +11,7 @@ use crate::seat::Seat;
 use deque_list::DequeId;
 use hall_turns::Event;
 use node_table::Code;
-use owner_events::act;
-use owner_takes::ActRefused;
+use owner_events::{ActRefused, act};
 
 impl Hall {
     /// Does the next event of a worker that owns a deque: its top thread does its next action, or waits for a child, or the deque is given up. The

@@ -2,7 +2,7 @@ ghost use Rattle.std.specs.Prelude.{◌≡◌};
 
 use deque_list::DequeId;
 use hall_turns::HallPlace;
-use owner_advance::SeatMemory;
+use owner_events::SeatMemory;
 use run_end::Stop;
 
 /// The right of one worker to work in a hall.
