@@ -1,5 +1,5 @@
 pub mod Noting
-mod Returned
+pub mod Returned
 mod Answered
-mod Readable
+pub mod Readable
 mod Coming

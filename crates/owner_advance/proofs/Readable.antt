@@ -23,6 +23,7 @@ use Rattle.thread_state.specs.Settings.{IsSettingOf}
 use Rattle.depth_first_run.specs.States.{Setting}
 use Rattle.lane_events.specs.Here.{HasRoomIn}
 use Rattle.hall_deciding.specs.Own.{IsShortThere}
+use Rattle.hall_deciding.specs.PartEvents.TakenParts.{IsAtAction}
 use Rattle.hall_events.proofs.Working.{still_shows}
 use Rattle.hall_turns.specs.Keys.{table_of, quota_of}
 use Rattle.hall_turns.specs.Shown.{lane_shown, running_shown}
@@ -36,6 +37,14 @@ use Rattle.owner_advance.specs.declared.at_next.AtNext.{AtNext}
 some_running : (r : Option Running) (shown : Period) → option_map running_shown r ≡ Some shown → (running : Running) × (r ≡ Some running)
 some_running None shown is = absurd (none-some shown is)
 some_running (Some running) shown is = (running, refl)
+
+-- a lane whose top thread has come to its next action shows what it showed
+pub shows_the_same : (was now : LaneSlot) (top : Thread) (under : List Thread) (running : Running) → IsAtAction was top under running.worker running.period
+    → now.lane.items ≡ top ∷ under → now.running ≡ Some running → lane_shown now ≡ lane_shown was
+shows_the_same was now top under running at items runs = λ i. record {
+  threads = (ap (map thread_shown) items ∙ ap (λ t. t ∷ map thread_shown under) (still_shows at.top_was top at.still) ∙ ap (map thread_shown) (sym at.items)) i;
+  period = (ap (option_map running_shown) runs ∙ sym at.running) i;
+}
 
 module _ (key : HallKey) (seat : HallSeat) (deque : DequeId) (was lane : LaneSlot) (r : IsReadable key seat deque was lane) where
   abbrev At : Thread → Type 0
@@ -100,16 +109,16 @@ module _ (key : HallKey) (seat : HallSeat) (deque : DequeId) (was lane : LaneSlo
 
     -- and ran on, perhaps not to its next action
     module _ (now : Thread) (still : IsStill top now) where
+      abbrev at_action : IsAtAction was now under running.worker running.period
+      at_action = record { top_was = top; items = was_items; still = still; running = period_is }
+
       pub short_now : (back : LaneSlot) → back.lane.items ≡ now ∷ under → back.running ≡ Some running → IsShortThere key seat deque back
       short_now back back_items back_runs = record {
         may = r.may;
         none = r.none;
         lane_was = was;
         holds = r.holds;
-        same = λ i. record {
-          threads = (ap (map thread_shown) back_items ∙ ap (λ t. t ∷ map thread_shown under) (still_shows top now still) ∙ ap (map thread_shown) (sym was_items)) i;
-          period = (ap (option_map running_shown) back_runs ∙ sym period_is) i;
-        };
+        same = shows_the_same was back now under running at_action back_items back_runs;
         top = now;
         under = under;
         items = back_items;
@@ -122,7 +131,7 @@ module _ (key : HallKey) (seat : HallSeat) (deque : DequeId) (was lane : LaneSlo
       at_next next ready spare small point is_next newest listed room runs_on at top_is lane_is running_is =
           subst (λ (z : Thread × (LaneView Thread × Running)). IsAtNext key was (record at { top = z.0; lane = z.1.0; running = z.1.1 }) next ready) (λ i. (sym top_is i, (sym lane_is i, sym running_is i))) (record {
             within = record { quota = r.is_key.quota; small = small; few = r.is_key.few_actions; used = used; done = subst (λ n. n ≤ key.actions) (sym still.done) done };
-            at_action = record { top_was = top; items = was_items; still = still; running = period_is };
+            at_action = at_action;
             point = point;
             under = points.1;
             room = record { lane = room; period = runs_on };

@@ -24,7 +24,7 @@ use Rattle.hall_puts.specs.declared.noting.Noting.{Noting}
 use Rattle.hall_puts.specs.declared.noting.Noting.TheVariants.{Same, Found, Does, Yields}
 use Rattle.hall_turns.specs.Keys.{table_of, quota_of, terms_of}
 use Rattle.hall_turns.specs.Shown.{list_shown, view_of}
-use Rattle.hall_turns.specs.Sound.{thread_that_waits}
+use Rattle.hall_turns.specs.Sound.{thread_that_waits, PoolIsSound}
 use Rattle.hall_turns.specs.Steps.{IsRunning}
 use Rattle.hall_turns.specs.Takes.{HallSeat}
 use Rattle.hall_turns.specs.declared.key.HallKey.{HallKey}
@@ -36,15 +36,23 @@ use Rattle.hall_writes.specs.Writes.{Parts, parts, hall_with, IsShort, MayBecome
 use Rattle.owner_advance.specs.Returning.{MayNote, ReturnsLane, ReturnsPool, ReturnsList, ReturnsAll}
 
 -- parts that are as they were have no less room than they had
-same_list : (list : ListSlot) → HasMoreRoom list list
+pub same_list : (list : ListSlot) → HasMoreRoom list list
 same_list list = record {
   deques = record { order = refl; closed = refl; begun = refl; crew = refl; end = refl };
   waiting = (IsPermutation-refl list.part.waiting.entries, λ id. refl);
   results = (IsPermutation-refl list.part.results.entries, λ id. refl);
 }
 
-same_pool : (pool : PoolSlot) → IsSamePool pool pool
+pub same_pool : (pool : PoolSlot) → IsSamePool pool pool
 same_pool pool = record { pool = refl; moves = refl }
+
+-- a pool that is what it was, perhaps with more room, is as sound
+pub same_sound : (key : HallKey) (was now : PoolSlot) → IsSamePool was now → PoolIsSound key was → PoolIsSound key now
+same_sound key was now same sound = record {
+  capacity = ap (λ (r : Region). r.capacity) same.pool ∙ sound.capacity;
+  within = subst (λ (r : Region). r.live ≤ r.capacity) (sym same.pool) sound.within;
+  sum = ap total_change same.moves ∙ sound.sum ∙ ap (λ (r : Region). pos r.live) (sym same.pool);
+}
 
 -- a seat keeps its places, whatever it notes
 places_stay : (note : SeatNote) (noting : Noting) → (note_of note noting).places ≡ note.places
@@ -103,11 +111,7 @@ module _ (key : HallKey) (seat : HallSeat) (deque : DequeId) (was now : Parts) (
 
   pub stay : StaySound key seat deque was now note
   stay = record {
-    pool = λ sound. record {
-      capacity = ap (λ (r : Region). r.capacity) pool.pool ∙ sound.capacity;
-      within = subst (λ (r : Region). r.live ≤ r.capacity) (sym pool.pool) sound.within;
-      sum = ap total_change pool.moves ∙ sound.sum ∙ ap (λ (r : Region). pos r.live) (sym pool.pool);
-    };
+    pool = same_sound key was.pool now.pool pool;
     list = λ sound. record {
       most = ap (λ (o : OrderView). o.most) more.deques.order ∙ sound.most;
       waiting = each_moved WaitsUnder was.list.part.waiting.entries now.list.part.waiting.entries more.waiting.0 sound.waiting;

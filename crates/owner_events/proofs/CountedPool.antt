@@ -1,16 +1,15 @@
 -- A seat that took the pool and drew a count, as one call.
-use Rattle.std.proofs.Common.{ℕ, ◌+◌, ◌≤◌, [], ◌∷◌, ◌++◌, sym, ap, ◌∙◌, subst, append_assoc, pos}
+use Rattle.std.proofs.Common.{ℕ, ◌+◌, ◌≤◌, [], ◌∷◌, ◌++◌, sym, ap, ◌∙◌, subst, append_assoc}
 use Rattle.std.specs.Prelude.{Result, Ok, Err}
 use Rattle.deque_list.specs.declared.deque_id.DequeId.{DequeId}
 use Rattle.hall_counting.specs.Counting.{counting_note}
-use Rattle.hall_deciding.specs.PartEvents.Rooms.{IsSamePool}
 use Rattle.hall_reads.proofs.InUse.{words_are_in_use}
 use Rattle.hall_reads.specs.Lists.{words_back}
-use Rattle.hall_turns.specs.Sound.{PoolIsSound}
 use Rattle.hall_turns.specs.Takes.{HallSeat, MeetsLaw}
 use Rattle.hall_turns.specs.declared.key.HallKey.{HallKey}
 use Rattle.hall_turns.specs.declared.pool_slot.PoolSlot.{PoolSlot}
 use Rattle.hall_turns.specs.declared.slot.Slot.TheVariants as slots
+use Rattle.owner_advance.proofs.Returned.{same_sound}
 use Rattle.owner_advance.specs.declared.at_next.AtNext.{AtNext}
 use Rattle.owner_events.proofs.Held.{comes, pool_held, with_pool}
 use Rattle.hall_deciding.specs.Taken.{pool_and_lane}
@@ -18,17 +17,9 @@ use Rattle.owner_events.specs.Ready.{CountsPool}
 use Rattle.owner_events.proofs.Following.{fails}
 use Rattle.owner_events.specs.Taking.{CountsWithPool, HasPool, words_asked_by}
 use Rattle.owner_events.specs.declared.refused.ActRefused.{ActRefused}
-use Rattle.space_ledger.specs.Sums.{total_change}
 use Rattle.thread_frames.specs.declared.next.Next.{Next}
 use Rattle.turn_table.specs.declared.look.Look.TheVariants.{Took, Counted}
 use Rattle.turn_table.specs.Seats.{with_hand}
-
-pub same_sound : (key : HallKey) (was now : PoolSlot) → IsSamePool was now → PoolIsSound key was → PoolIsSound key now
-same_sound key was now same sound = record {
-  capacity = ap (λ p. p.capacity) same.pool ∙ sound.capacity;
-  within = subst (λ p. p.live ≤ p.capacity) (sym same.pool) sound.within;
-  sum = ap total_change same.moves ∙ sound.sum ∙ ap (λ p. pos p.live) (sym same.pool);
-}
 
 module _ (key : HallKey) (before : HallSeat) (deque : DequeId) (at : AtNext) (next : Next) (ready : ℕ) (pool : PoolSlot) (middle : HallSeat)
     (has : HasPool key before deque at next ready pool middle) (meets : MeetsLaw key middle) (after : HallSeat) where

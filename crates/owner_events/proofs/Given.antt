@@ -1,41 +1,33 @@
--- A lane whose top thread came to its next action shows what it showed.
-use Rattle.std.proofs.Common.{◌≡◌, ℕ, List, ◌∷◌, map, sym, ap, ◌∙◌, subst}
-use Rattle.std.specs.Option.{option_map}
+-- A lane whose top thread came to its next action may go back.
+use Rattle.std.proofs.Common.{◌≡◌, ℕ, List, ◌∷◌, sym, subst}
 use Rattle.std.specs.Prelude.{Some}
 use Rattle.deque_list.specs.declared.deque_id.DequeId.{DequeId}
 use Rattle.lawful_books.specs.Lists.{Each}
 use Rattle.thread_frames.specs.Points.{IsAtPoint}
-use Rattle.thread_frames.specs.Shown.{thread_shown}
 use Rattle.thread_frames.specs.declared.next.Next.{Next}
 use Rattle.hall_deciding.specs.Own.{IsStillThere}
+use Rattle.hall_deciding.specs.PartEvents.Rooms.{HasMoreRoom, IsSamePool}
+use Rattle.hall_deciding.specs.PartEvents.Writes.{Parts, parts}
 use Rattle.hall_deciding.specs.Taken.{its_lane, pool_and_lane, list_and_lane, all_three}
-use Rattle.hall_events.proofs.Working.{still_shows}
-use Rattle.hall_events.specs.Rooms.{HasMoreRoom, IsSamePool}
 use Rattle.hall_puts.specs.declared.noting.Noting.{Noting}
 use Rattle.hall_turns.specs.Keys.{table_of, quota_of}
-use Rattle.hall_turns.specs.Shown.{running_shown}
 use Rattle.hall_turns.specs.Takes.{HallSeat}
 use Rattle.hall_turns.specs.declared.key.HallKey.{HallKey}
 use Rattle.hall_turns.specs.declared.lane_slot.LaneSlot.{LaneSlot}
 use Rattle.hall_turns.specs.declared.list_slot.ListSlot.{ListSlot}
 use Rattle.hall_turns.specs.declared.pool_slot.PoolSlot.{PoolSlot}
 use Rattle.hall_turns.specs.declared.slot.Slot.{Slot}
-use Rattle.hall_writes.specs.Writes.{Parts, parts}
+use Rattle.owner_advance.proofs.Readable.{shows_the_same}
 use Rattle.owner_advance.specs.declared.at_next.AtNext.{AtNext}
 use Rattle.owner_advance.specs.Returning.{MayNote, ReturnsLane, ReturnsPool, ReturnsList, ReturnsAll}
 use Rattle.owner_events.specs.Holding.{IsHolding}
 
 module _ (key : HallKey) (seat : HallSeat) (deque : DequeId) (taken : LaneSlot → List (ℕ × Slot)) (at : AtNext) (next : Next) (ready : ℕ)
     (is : IsHolding key seat deque taken at next ready) (lane : LaneSlot) (items : lane.lane.items ≡ at.top ∷ at.lane.items) (running : lane.running ≡ Some at.running) where
-  threads : map thread_shown lane.lane.items ≡ map thread_shown is.lane.lane.items
-  threads = ap (map thread_shown) items
-      ∙ ap (λ t. t ∷ map thread_shown at.lane.items) (still_shows is.is_next.at_action.top_was at.top is.is_next.at_action.still)
-      ∙ ap (map thread_shown) (sym is.is_next.at_action.items)
-
   pub lane_back : ReturnsLane key seat deque is.lane lane
   lane_back = record {
     goes = is.goes;
-    same = λ i. record { threads = threads i; period = (ap (option_map running_shown) running ∙ sym is.is_next.at_action.running) i };
+    same = shows_the_same is.lane lane at.top at.lane.items at.running is.is_next.at_action items running;
     points = subst (Each (IsAtPoint (table_of key) (quota_of key))) (sym items) (is.is_next.point, is.is_next.under);
   }
 

@@ -1,6 +1,5 @@
 -- A seat that tries to take the list or the pool beside what it holds.
 use Rattle.std.proofs.Common.{◌≡◌, ℕ, ◌+◌, ◌≤◌, ◌<◌, List, [], ◌∷◌, inl, refl, sym, ap, ◌∙◌, subst}
-use Rattle.std.proofs.lemmas.List.Sorted.{IsPermutation-refl}
 use Rattle.std.specs.Prelude.{Some}
 use Rattle.deque_list.specs.declared.deque_id.DequeId.{DequeId}
 use Rattle.run_end.specs.declared.ends.RunEnd.{RunEnd}
@@ -11,8 +10,8 @@ use Rattle.turn_table.specs.Notes.{HasAs}
 use Rattle.turn_table.specs.declared.held.Held.{Held}
 use Rattle.turn_table.specs.Seats.{with_hand}
 use Rattle.hall_deciding.specs.PartEvents.Puts.{HasPut}
-use Rattle.hall_deciding.specs.PartEvents.Rooms.{HasMoreRoom}
 use Rattle.hall_deciding.specs.PartEvents.TakenParts.{MayGoOn, MayPause}
+use Rattle.hall_deciding.specs.PartEvents.Writes.{Parts}
 use Rattle.hall_deciding.specs.Taken.{its_lane}
 use Rattle.hall_puts.specs.declared.noting.Noting.TheVariants.{Found}
 use Rattle.hall_reads.proofs.Reading.{pools_are_sound}
@@ -25,23 +24,15 @@ use Rattle.hall_turns.specs.declared.list_slot.ListSlot.{ListSlot}
 use Rattle.hall_turns.specs.declared.pool_slot.PoolSlot.{PoolSlot}
 use Rattle.hall_turns.specs.declared.slot.Slot.{Slot}
 use Rattle.hall_turns.specs.declared.slot.Slot.TheVariants as slots
-use Rattle.hall_writes.specs.Writes.{Parts}
 use Rattle.owner_advance.specs.declared.at_next.AtNext.{AtNext}
 use Rattle.owner_advance.proofs.Noting.{full_arenas_may_be_noted, memory_may_be_noted}
+use Rattle.owner_advance.proofs.Returned.{same_pool}
 use Rattle.owner_advance.specs.Returning.{MayNote, ReturnsPool}
 use Rattle.owner_events.proofs.Following.{is_before}
 use Rattle.owner_events.proofs.Given.{lane_back}
 use Rattle.owner_events.specs.Holding.{Fails, IsHolding, IsBefore}
 use Rattle.owner_events.specs.Taking.{AsksByTheList, words_asked_by}
 use Rattle.owner_events.specs.declared.refused.ActRefused.TheVariants.{Over}
-
--- a list is as it was
-pub same_list : (list : ListSlot) → HasMoreRoom list list
-same_list list = record {
-  deques = record { order = refl; closed = refl; begun = refl; crew = refl; end = refl };
-  waiting = (IsPermutation-refl list.part.waiting.entries, λ id. refl);
-  results = (IsPermutation-refl list.part.results.entries, λ id. refl);
-}
 
 -- it may ask for memory
 pub may_pause : (key : HallKey) (seat : HallSeat) (deque : DequeId) (others : LaneSlot → List (ℕ × Slot)) (at : AtNext) (next : Next) (ready : ℕ)
@@ -101,7 +92,7 @@ module _ (key : HallKey) (before middle : HallSeat) (deque : DequeId) (pool : Po
       pool_was = pool;
       lane_was = then.holding.lane;
       holds = then.holding.holds;
-      pool_same = record { pool = refl; moves = refl };
+      pool_same = same_pool pool;
       lane_same = lane_back key middle deque (λ lane. (1, slots.Pool pool) ∷ its_lane deque lane) at next ready then.holding lane items running;
       may = λ list. full_arenas_may_be_noted key middle deque list pool then.holding.lane next at.top at.lane.items at.running.worker at.running.period (words_asked_by next)
           b.holding.is_next.within.quota (may_pause key middle deque (λ lane. (1, slots.Pool pool) ∷ its_lane deque lane) at next ready then) then.none then.holding.is_next.at_action

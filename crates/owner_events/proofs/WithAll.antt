@@ -16,9 +16,9 @@ use Rattle.hall_turns.specs.declared.list_slot.ListSlot.{ListSlot}
 use Rattle.hall_turns.specs.declared.pool_slot.PoolSlot.{PoolSlot}
 use Rattle.hall_turns.specs.declared.slot.Slot.TheVariants as slots
 use Rattle.owner_acts.specs.Ready.{IsReady, PoolIsReady}
+use Rattle.owner_advance.proofs.Returned.{same_sound}
 use Rattle.owner_advance.specs.Advancing.{HasLooked}
 use Rattle.owner_advance.specs.declared.at_next.AtNext.{AtNext}
-use Rattle.owner_events.proofs.CountedPool.{same_sound}
 use Rattle.owner_events.proofs.Doing.{counted_leaves, taken_leaves}
 use Rattle.owner_events.proofs.FromCount as count
 use Rattle.owner_events.proofs.Held.{all_list, all_pool, comes, with_all}

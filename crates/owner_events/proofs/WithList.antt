@@ -6,7 +6,6 @@ use Rattle.dag_order.specs.declared.thread_id.ThreadId.{ThreadId}
 use Rattle.deque_list.specs.declared.deque_id.DequeId.{DequeId}
 use Rattle.hall_deciding.specs.PartEvents.Puts.{HasPut}
 use Rattle.hall_deciding.specs.PartEvents.Rooms.{KeepsDeques, HasMoreBooks, HasMoreRoom, HasMoreToLeave, HasMoreToWait}
-use Rattle.hall_deciding.specs.PartEvents.TakenParts.{MayPause}
 use Rattle.hall_deciding.specs.PartEvents.Writes.{told_note}
 use Rattle.hall_deciding.specs.Taken.{list_and_lane}
 use Rattle.hall_reads.specs.Lists.{ComesTo}
@@ -74,9 +73,6 @@ module _ (key : HallKey) (seat : HallSeat) (deque : DequeId) (at : AtNext) (next
 
   pub come : ComesTo key b.holding.lane at.top at.lane.items next
   come = comes key seat deque (list_and_lane deque list) at next ready b.holding
-
-  pub may_pause : MayPause seat deque
-  may_pause = record { goes = b.holding.goes; counting = b.free }
 
   pub closes : (now : ListSlot) → KeepsDeques list now → 1 ≤ books_spare now.part.books → CanClose deque now
   closes = from.closes key seat deque b.holding.lane list lane_held has_list meets

@@ -3,13 +3,12 @@
 ghost use Rattle.std.specs.Prelude.{◌+◌, ◌<◌, ℕ, []};
 ghost use Rattle.thread_frames.specs.declared.next.Next.{Next as AnyNext};
 ghost use Rattle.turn_table.specs.Tables.{key_of, slot_count, IsSeatOf};
-ghost use Rattle.hall_deciding.specs.PartEvents.Puts.{HasPut};
+ghost use Rattle.hall_deciding.specs.PartEvents.Puts.{note_of, HasPut};
 ghost use Rattle.hall_deciding.specs.PartEvents.Rooms.{HasMoreRoom, IsSamePool};
+ghost use Rattle.hall_deciding.specs.PartEvents.Writes.{Parts};
 ghost use Rattle.hall_deciding.specs.Taken.{its_lane, pool_and_lane, list_and_lane, all_three};
-ghost use Rattle.hall_puts.specs.Puts.{note_of};
 ghost use Rattle.hall_turns.specs.declared.list_slot.ListSlot.{ListSlot as AnyList};
 ghost use Rattle.hall_turns.specs.declared.pool_slot.PoolSlot.{PoolSlot as AnyPool};
-ghost use Rattle.hall_writes.specs.Writes.{Parts};
 ghost use Rattle.owner_advance.specs.Returning.{MayNote};
 ghost use Rattle.owner_events.specs.Holding.{IsHolding};
 

@@ -13,6 +13,7 @@ use Rattle.hall_turns.specs.declared.slot.Slot.TheVariants as slots
 use Rattle.owner_events.proofs.Following.{fails}
 use Rattle.owner_events.specs.Holding.{IsBefore}
 use Rattle.owner_events.proofs.Doing.{exit, here_too}
+use Rattle.owner_events.proofs.Trying.{may_pause}
 use Rattle.owner_events.proofs.WithList as with
 use Rattle.owner_events.specs.Acting.{Does, HasDone}
 use Rattle.owner_events.proofs.lists.give_up.Goals as goal
@@ -33,7 +34,7 @@ pub act_give_up-requires-clause-here : goal.act_give_up-requires-clause-here
 act_give_up-requires-clause-here c = here_too c.args.row.now c.args.seat.now c.take_open_list.new.seat (c.in_ok-at.ensures.seat c.requires.ready.0 (spare c.requires.ready.1.births) c.requires.ready.2.before).1.taken c.requires.here
 
 pub act_give_up-requires-clause-may : goal.act_give_up-requires-clause-may
-act_give_up-requires-clause-may c = with.may_pause (key_of c.args.row.now) c.take_open_list.new.seat c.args.deque c.in_ok-at.at c.requires.ready.0 (spare c.requires.ready.1.births) c.in_ok-at.list (subst (λ a. IsBefore (key_of c.args.row.now) c.take_open_list.new.seat c.args.deque (list_and_lane c.args.deque c.in_ok-at.list) a c.requires.ready.0 (spare c.requires.ready.1.births)) (sym (c.in_ok-at.ensures.seat c.requires.ready.0 (spare c.requires.ready.1.births) c.requires.ready.2.before).0) (c.in_ok-at.ensures.seat c.requires.ready.0 (spare c.requires.ready.1.births) c.requires.ready.2.before).1.is_before) c.in_ok-at.ensures.meets
+act_give_up-requires-clause-may c = may_pause (key_of c.args.row.now) c.take_open_list.new.seat c.args.deque (list_and_lane c.args.deque c.in_ok-at.list) c.in_ok-at.at c.requires.ready.0 (spare c.requires.ready.1.births) (subst (λ a. IsBefore (key_of c.args.row.now) c.take_open_list.new.seat c.args.deque (list_and_lane c.args.deque c.in_ok-at.list) a c.requires.ready.0 (spare c.requires.ready.1.births)) (sym (c.in_ok-at.ensures.seat c.requires.ready.0 (spare c.requires.ready.1.births) c.requires.ready.2.before).0) (c.in_ok-at.ensures.seat c.requires.ready.0 (spare c.requires.ready.1.births) c.requires.ready.2.before).1.is_before)
 
 pub act_give_up-requires-clause-ready : goal.act_give_up-requires-clause-ready
 act_give_up-requires-clause-ready c = with.bare (key_of c.args.row.now) c.take_open_list.new.seat c.args.deque c.in_ok-at.at c.requires.ready.0 (spare c.requires.ready.1.births) c.in_ok-at.list (subst (λ a. IsBefore (key_of c.args.row.now) c.take_open_list.new.seat c.args.deque (list_and_lane c.args.deque c.in_ok-at.list) a c.requires.ready.0 (spare c.requires.ready.1.births)) (sym (c.in_ok-at.ensures.seat c.requires.ready.0 (spare c.requires.ready.1.births) c.requires.ready.2.before).0) (c.in_ok-at.ensures.seat c.requires.ready.0 (spare c.requires.ready.1.births) c.requires.ready.2.before).1.is_before) c.in_ok-at.ensures.meets HasMoreBooks c.make_room_to_close.new.list c.make_room_to_close.ensures.same 1 (omega (arith))

@@ -10,7 +10,7 @@ use Rattle.hall_deciding.specs.Taken.{list_and_lane}
 use Rattle.hall_turns.specs.declared.event.Event.TheVariants.{Did}
 use Rattle.owner_acts.specs.Kept.{CanJoinKept}
 use Rattle.owner_acts.specs.Ready.{IsReady}
-use Rattle.owner_events.proofs.Trying.{same_list}
+use Rattle.owner_advance.proofs.Returned.{same_list}
 use Rattle.owner_events.proofs.Doing.{exit, here_too, counted_leaves}
 use Rattle.owner_events.proofs.FromCount as count
 use Rattle.owner_events.proofs.FromList as from

@@ -4,8 +4,10 @@ use Rattle.bounded_list.specs.BoundedList.{spare}
 use Rattle.thread_frames.specs.declared.next.Next.TheVariants as nexts
 use Rattle.turn_table.specs.Tables.{key_of}
 use Rattle.hall_deciding.specs.PartEvents.Rooms.{HasMoreToWait}
+use Rattle.hall_deciding.specs.Taken.{list_and_lane}
 use Rattle.hall_turns.specs.declared.event.Event.TheVariants.{Suspended}
 use Rattle.owner_events.proofs.FromList as from
+use Rattle.owner_events.proofs.Trying.{may_pause}
 use Rattle.owner_events.proofs.WithList as with
 use Rattle.owner_events.specs.Acting.{HasDoneWithList}
 use Rattle.owner_events.proofs.lists.wait.Goals as goal
@@ -14,7 +16,7 @@ pub stop_short-requires-clause-before : goal.stop_short-requires-clause-before
 stop_short-requires-clause-before c = ((nexts.Join c.args.child), (spare c.requires.ready.0.births), c.args.list, with.more_to_wait c.args.list c.make_room_to_wait.new.list c.make_room_to_wait.ensures.same, c.requires.ready.1.before)
 
 pub act_wait-thread-requires-clause-may : goal.act_wait-thread-requires-clause-may
-act_wait-thread-requires-clause-may c = with.may_pause (key_of c.args.row.now) c.args.seat.now c.args.deque c.args.at (nexts.Join c.args.child) (spare c.requires.ready.0.births) c.args.list c.requires.ready.1.before c.requires.ready.1.meets
+act_wait-thread-requires-clause-may c = may_pause (key_of c.args.row.now) c.args.seat.now c.args.deque (list_and_lane c.args.deque c.args.list) c.args.at (nexts.Join c.args.child) (spare c.requires.ready.0.births) c.requires.ready.1.before
 
 pub act_wait-thread-requires-clause-ready : goal.act_wait-thread-requires-clause-ready
 act_wait-thread-requires-clause-ready c = with.bare (key_of c.args.row.now) c.args.seat.now c.args.deque c.args.at (nexts.Join c.args.child) (spare c.requires.ready.0.births) c.args.list c.requires.ready.1.before c.requires.ready.1.meets HasMoreToWait c.make_room_to_wait.new.list c.make_room_to_wait.ensures.same 0 (omega (arith))

@@ -3,8 +3,9 @@ use Rattle.turn_table.specs.Tables.{key_of}
 use Rattle.hall_deciding.specs.Taken.{list_and_lane}
 use Rattle.hall_turns.specs.declared.slot.Slot.TheVariants as slots
 use Rattle.owner_advance.proofs.Noting.{nothing_may_be_noted}
+use Rattle.owner_advance.proofs.Returned.{same_list}
 use Rattle.owner_events.proofs.Following.{is_before}
-use Rattle.owner_events.proofs.Trying.{pool_sound, same_list, still_holding}
+use Rattle.owner_events.proofs.Trying.{pool_sound, still_holding}
 use Rattle.owner_events.proofs.taking.take_pool_too.Goals as goal
 
 pub give_list-requires-clause-holding : goal.give_list-requires-clause-holding

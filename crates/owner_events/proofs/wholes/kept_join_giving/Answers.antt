@@ -13,7 +13,7 @@ use Rattle.hall_turns.specs.declared.slot.Slot.TheVariants as slots
 use Rattle.owner_acts.specs.Kept.{CanJoinKept}
 use Rattle.owner_acts.specs.Ready.{IsReady}
 use Rattle.owner_events.proofs.Following.{fails}
-use Rattle.owner_events.proofs.Trying.{same_list}
+use Rattle.owner_advance.proofs.Returned.{same_list}
 use Rattle.owner_events.proofs.Doing.{exit, here_too}
 use Rattle.owner_events.proofs.FromList as from
 use Rattle.owner_events.proofs.WithAll as all
