@@ -1,7 +1,6 @@
 -- What a closed hall gives is told of one run.
-use Rattle.std.proofs.Common.{◌≡◌, ◌≢◌, ℕ, ℤ, ◌≤ℤ◌, pos, to_z, of_z, w64, SFits, Bool, true, false, List, [], ◌++◌, map, length, inl, inr, refl, sym, ap, ◌∙◌, subst, append-nil}
+use Rattle.std.proofs.Common.{◌≡◌, ◌≢◌, ℕ, pos, false, List, [], ◌++◌, map, length, inl, inr, refl, sym, ap, ◌∙◌, subst, append-nil}
 use Rattle.std.proofs.Math.Logic.{∥∥₁_elim, ∥∥₁_map}
-use Rattle.std.proofs.Math.IntN.{nat_abs}
 use Rattle.std.proofs.lemmas.Option.{same_Some}
 use Rattle.std.specs.Option.{option_map}
 use Rattle.std.specs.Prelude.{Option, None, Some, count_by}
@@ -36,7 +35,7 @@ use Rattle.run_report.specs.declared.report.Report.{Report}
 use Rattle.space_ledger.specs.BooksList.{books_list}
 use Rattle.space_ledger.specs.Counts.{is_ahead}
 use Rattle.space_ledger.specs.MovesList.{moves_list}
-use Rattle.space_ledger.specs.Sums.{highest, IsHighest}
+use Rattle.space_ledger.specs.Sums.{highest}
 use Rattle.thread_frames.specs.Kept.{result_kept, IsUnderItsId}
 use Rattle.thread_frames.specs.Points.{IsResult}
 use Rattle.thread_frames.specs.Roots.{end_of_root}
@@ -131,13 +130,9 @@ module _ (key : HallKey) (seat : HallSeat) (list : ListSlot) (pool : PoolSlot) (
       pub marked_are : count_by is_ahead (books_list list.part.books) ≡ periods_marked (Moment.books r.moment)
       marked_are = marked_counted c.quota (list_of c) (books_list list.part.books) (Moment.books r.moment) tell differ
 
-    pub high_are : (high : ℤ) → high ≡ highest (moves_list pool.moves) → IsHighest (moves_list pool.moves) high → SFits w64 high
-        → pos (nat_abs (to_z w64 (of_z w64 high))) ≡ high_water_mark (list_of c) (run_of r.steps)
-    high_are high high_is_it greatest fits = high_is (list_of c) (run_of r.steps) (ListShown.closed (Hall.list r.h)) (PoolShown.moves (Hall.pool r.h)) r.gives.moved high
-        (high_is_it ∙ ap highest (sym moves_are)) (subst (λ ms. IsHighest ms high) (sym moves_are) greatest) fits
-      where
-        moves_are : PoolShown.moves (Hall.pool r.h) ≡ moves_list pool.moves
-        moves_are = ap (λ (p : PoolShown). p.moves) r.pool_is
+    pub high_are : highest (moves_list pool.moves) ≡ high_water_mark (list_of c) (run_of r.steps)
+    high_are = ap highest (sym (ap (λ (p : PoolShown). p.moves) r.pool_is))
+        ∙ high_is (list_of c) (run_of r.steps) (ListShown.closed (Hall.list r.h)) (PoolShown.moves (Hall.pool r.h)) r.gives.moved
 
     -- the root's result has no label
     module _ (ended : Ended) (is : kept_under list.part.results root ≡ Some ended) where
@@ -186,11 +181,10 @@ module _ (key : HallKey) (seat : HallSeat) (list : ListSlot) (pool : PoolSlot) (
   -- and so is the report
   module _ (finish : Finish) (is : end ≡ Finished finish) (rules : seat.hand.note.yielded ≡ false) (ended : Ended)
       (kept : kept_under list.part.results root ≡ Some ended) where
-    pub tells_report : (report : Report) (high : ℤ) → entries report.lines ≡ lines_of (State.items (whole c)) → report.finish ≡ finish
+    pub tells_report : (report : Report) → entries report.lines ≡ lines_of (State.items (whole c)) → report.finish ≡ finish
         → report.periods ≡ length (books_list list.part.books) → report.ahead ≡ count_by is_ahead (books_list list.part.books)
-        → report.high ≡ nat_abs (to_z w64 (of_z w64 high)) → high ≡ highest (moves_list pool.moves) → IsHighest (moves_list pool.moves) high → SFits w64 high
-        → SomeRun c (terms_of key) finished (λ run last. IsReportOf c run last report)
-    tells_report report high lines finishes periods ahead high_at highest_is greatest fits = ∥∥₁_map (closed.run c of) (λ r. (
+        → pos report.high ≡ highest (moves_list pool.moves) → SomeRun c (terms_of key) finished (λ run last. IsReportOf c run last report)
+    tells_report report lines finishes periods ahead high = ∥∥₁_map (closed.run c of) (λ r. (
       run_of r.steps,
       r.moment,
       finished_run r finish is rules,
@@ -199,6 +193,6 @@ module _ (key : HallKey) (seat : HallSeat) (list : ListSlot) (pool : PoolSlot) (
         finish = finishes ∙ finish_is ended kept finish is;
         periods = periods ∙ periods_are r finish is;
         ahead = ahead ∙ marked_are r finish is;
-        high = ap pos high_at ∙ high_are r high highest_is greatest fits;
+        high = high ∙ high_are r;
       },
     ))
