@@ -7,10 +7,10 @@
 //! ([`ActRefused`]). A seat may also give its deque up though nothing asks for it ([`yield_deque`]).
 //!
 //! It uses the way to the action and what is put back if no event comes (`owner_advance`), the count (`hall_counting`), what an owner knows
-//! of its slots (`hall_reads`), and the events themselves (`owner_acts`). It hands the memory of a seat on ([`SeatMemory`]), so its callers
-//! name one crate. Its theorem: the seat notes the event for which the next action of its top thread asks, or its note and its answers say
-//! why it did none; if it did the event, it took no slot that this does not need; and the law of the hall holds between any two atomic
-//! steps.
+//! of its slots (`hall_reads`), and the events themselves (`owner_acts`). It hands the memory of a seat on ([`SeatMemory`]), so that who
+//! calls it names one crate. Its theorem: the seat notes the event for which the next action of its top thread asks, or why it did none; if
+//! it did the event, it took no slot that this does not need; if it did none, its answers show why; and the law of the hall holds between
+//! any two atomic steps.
 #![tactic(auto)]
 
 mod acted;
