@@ -1,6 +1,6 @@
 -- The members of a crew, one by one and together.
-use Rattle.std.proofs.Common.{◌≡◌, ℕ, suc, ◌+◌, ◌<◌, List, [], ◌∷◌, ◌++◌, length, take, drop, append-nil, refl, sym, ap, ◌∙◌, subst, arith}
-use Rattle.std.proofs.lemmas.List.Elements.{All-append, All-head, All-nil, All-cons, All-push, All-tail}
+use Rattle.std.proofs.Common.{◌≡◌, ℕ, suc, ◌+◌, ◌<◌, List, [], ◌∷◌, ◌++◌, length, take, drop, append-nil, refl, sym, ap, ◌∙◌, arith}
+use Rattle.std.proofs.lemmas.List.Elements.{All-head, All-nil, All-cons, All-push, All-tail}
 use Rattle.std.specs.Prelude.{All, slice_index_or}
 use Rattle.std.specs.List.{AllZip}
 use Rattle.node_table.specs.declared.code.Code.{Code}
@@ -10,7 +10,7 @@ use Rattle.hall_work.specs.Passed.{Hall, Seat}
 use Rattle.hall_work.specs.Working.{HasWorkedIn}
 use Rattle.hall_work.specs.declared.worker.HallWorker.{HallWorker}
 use Rattle.hall_runs.specs.Closed.{HasWorked}
-use Rattle.hall_runs.specs.Crews.{AreLeft, HasItsEnd, HasKeptRules, IsCrew, IsFreshIn, IsOfCrew, IsToLeave, seat_of}
+use Rattle.hall_runs.specs.Crews.{AreLeft, HasItsEnd, IsCrew, IsFreshIn, IsOfCrew, IsToLeave, seat_of}
 
 module _ {C : Type 0} (hall : Hall) where
   -- one member that has worked

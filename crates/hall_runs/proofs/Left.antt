@@ -7,7 +7,6 @@ use Rattle.dag_order.specs.declared.finish.Finish.{Finish}
 use Rattle.depth_first_run.specs.States.{Setting, State}
 use Rattle.depth_first_run.specs.Run.{whole, lines_of}
 use Rattle.deque_machine.specs.Play as play
-use Rattle.deque_machine.specs.Terms.{Terms}
 use Rattle.dfd_core.specs.Cores.{terms_at}
 use Rattle.dfd_core.specs.Parts.{root_behind}
 use Rattle.dfd_core.specs.declared.run.Core.{Core}
@@ -37,7 +36,7 @@ use Rattle.hall_closing.specs.Closing.{IsClosed}
 use Rattle.hall_turns.specs.declared.key.HallKey.{HallKey}
 use Rattle.hall_turns.specs.declared.list_slot.ListSlot.{ListSlot}
 use Rattle.hall_turns.specs.declared.pool_slot.PoolSlot.{PoolSlot}
-use Rattle.hall_turns.specs.Keys.{table_of, quota_of, terms_of}
+use Rattle.hall_turns.specs.Keys.{table_of, quota_of}
 use Rattle.hall_work.specs.Passed.{Closing}
 use Rattle.hall_work.specs.Passed.Closings.{GivesClosing}
 use Rattle.hall_runs.specs.Closed.{IsLeftOf}

@@ -1,7 +1,6 @@
 -- What a closed hall gives is told of one run.
-use Rattle.std.proofs.Common.{◌≡◌, ◌≢◌, ℕ, pos, false, List, [], ◌++◌, map, length, inl, inr, refl, sym, ap, ◌∙◌, subst, append-nil}
+use Rattle.std.proofs.Common.{◌≡◌, ◌≢◌, pos, false, List, [], ◌++◌, map, length, sym, ap, ◌∙◌, subst, append-nil}
 use Rattle.std.proofs.Math.Logic.{∥∥₁_elim, ∥∥₁_map}
-use Rattle.std.proofs.lemmas.Option.{same_Some}
 use Rattle.std.specs.Option.{option_map}
 use Rattle.std.specs.Prelude.{Option, None, Some, count_by}
 use denote.Struct.Props.{props}
@@ -13,19 +12,18 @@ use Rattle.dag_order.specs.declared.thread_id.ThreadId.{ThreadId}
 use Rattle.depth_first_run.specs.States.{Setting, State}
 use Rattle.depth_first_run.specs.Run.{whole, first_fault, list_of, lines_of, finish_of, finish_of_run}
 use Rattle.deque_list.specs.declared.place.Place.{Place}
-use Rattle.deque_machine.specs.Machine.{HasEnded}
-use Rattle.deque_machine.specs.Moments.{Moment, opening}
+use Rattle.deque_machine.specs.Moments.{Moment}
 use Rattle.deque_machine.specs.Play as play
 use Rattle.deque_machine.specs.Play.{Ending, finished, stopped}
-use Rattle.deque_machine.specs.Runs.{Pair, high_water_mark}
+use Rattle.deque_machine.specs.Runs.{high_water_mark}
 use Rattle.deque_machine.specs.Terms.{Terms, machine_of}
 use Rattle.lawful_books.specs.Books.{periods_marked}
-use Rattle.lawful_books.specs.Lists.{Among, Each}
+use Rattle.lawful_books.specs.Lists.{Among}
 use Rattle.lawful_books.proofs.Lists.{each_among}
 use Rattle.moment_parts.specs.Parts as parts
 use Rattle.period_books.specs.Names.{HasLabel, of_root}
 use Rattle.period_books.proofs.Labels.{one_label}
-use Rattle.period_books.specs.Periods.{Period, closed_shown}
+use Rattle.period_books.specs.Periods.{closed_shown}
 use Rattle.period_books.specs.Telling.{Tell}
 use Rattle.period_table.specs.Numbers.{NumbersDiffer}
 use Rattle.run_end.specs.declared.ends.RunEnd.{RunEnd}
@@ -50,13 +48,12 @@ use Rattle.thread_state.specs.Settings.{IsSettingOf}
 use Rattle.hall_law.specs.Crew.{MayBeKept}
 use Rattle.hall_law.specs.Steps.{run_of}
 use Rattle.hall_law.specs.Values.{Hall, ListShown, LaneShown, PoolShown, End, by_rule, running}
-use Rattle.hall_law.specs.Views.{View}
 use Rattle.hall_closing.specs.Closing.{IsClosed, IsOfOneRun, seen_note}
 use Rattle.hall_turns.specs.declared.key.HallKey.{HallKey}
 use Rattle.hall_turns.specs.declared.list_slot.ListSlot.{ListSlot}
 use Rattle.hall_turns.specs.declared.pool_slot.PoolSlot.{PoolSlot}
 use Rattle.hall_turns.specs.Keys.{table_of, quota_of, terms_of}
-use Rattle.hall_turns.specs.Shown.{end_shown, stop_shown, list_shown}
+use Rattle.hall_turns.specs.Shown.{end_shown, stop_shown}
 use Rattle.hall_turns.specs.Takes.{HallSeat}
 use Rattle.hall_runs.specs.Reports.{IsReportOf, SomeRun}
 use Rattle.hall_runs.specs.Runs.{IsThreadRun}

@@ -1,4 +1,4 @@
-use Rattle.std.proofs.Common.{List, ◌∷◌, ◌++◌, [], length, sym, ap, ◌∙◌, subst, arith}
+use Rattle.std.proofs.Common.{List, ◌∷◌, ◌++◌, [], sym, subst, arith}
 use Rattle.std.proofs.lemmas.Result.{IfOk-weaker}
 use Rattle.std.specs.Prelude.{All}
 use Rattle.std.specs.List.{AllZip}
@@ -20,7 +20,7 @@ work_to_end-requires-clause-fresh g c κs outlives =
 pub unreachable-requires : goal.unreachable-requires
 unreachable-requires g c =
     let some = some_left c.in_ok-hall.hall c.enter_all.new.crew.items c.work_to_end.new.crew.items c.member_of.result
-        (subst (λ (xs : List (Member (HallWorker g.row.C.Denot) RunEnd)). AllZip (HasWorked c.in_ok-hall.hall) xs c.work_to_end.new.crew.items) c.in_ok-push.ensures.items c.work_to_end.ensures) in
+    (subst (λ (xs : List (Member (HallWorker g.row.C.Denot) RunEnd)). AllZip (HasWorked c.in_ok-hall.hall) xs c.work_to_end.new.crew.items) c.in_ok-push.ensures.items c.work_to_end.ensures) in
     let long = c.work_to_end.new.crew.ok.0 in
     let wrong = c.in_default.ensures.variant.1 (omega (arith, some, long)) in
     let no : ⊥ = cc in no

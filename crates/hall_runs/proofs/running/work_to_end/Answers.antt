@@ -14,7 +14,7 @@ returns g c =
     let is = c.deref_mut.ensures.value in
     let same = c.work_crew.auto.crew ∙ ap length is in
     let each = subst (λ (xs : List (Member (HallWorker g.row.C.Denot) RunEnd)). (i : ℕ) (d : Member (HallWorker g.row.C.Denot) RunEnd) → i < length xs
-        → HasWorkedIn c.args.hall.now c.args.code.now (slice_index_or xs i d) (slice_index_or c.work_crew.new.crew i d)) is c.work_crew.ensures in
+    → HasWorkedIn c.args.hall.now c.args.code.now (slice_index_or xs i d) (slice_index_or c.work_crew.new.crew i d)) is c.work_crew.ensures in
     subst (AllZip (HasWorked c.args.hall.now) c.args.crew.now.items)
     (sym (written c.args.crew.now.items c.work_crew.new.crew c.args.crew.now.len c.args.crew.now.ok.0 same))
     (all_worked c.args.hall.now c.args.code.now c.args.crew.now.items c.work_crew.new.crew same c.requires.fresh each)
