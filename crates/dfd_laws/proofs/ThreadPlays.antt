@@ -10,7 +10,7 @@ use Rattle.depth_first_run.specs.Run.{list_of}
 use Rattle.deque_machine.proofs.Playing.{excluded, plays_are_runs}
 use Rattle.deque_machine.specs.Machine.{Setting, Event}
 use Rattle.deque_machine.specs.Moments.{Moment}
-use Rattle.deque_machine.specs.Play.{Limits, Stop, arena_full, steps_spent, deques_full, Ending, finished, stopped, Meets, no_steps}
+use Rattle.deque_machine.specs.Play.{Limits, Stop, arena_full, steps_spent, deques_full, Ending, stopped, Meets, no_steps}
 use Rattle.deque_machine.specs.Runs.{Pair}
 use Rattle.hall_runs.specs.Runs.{MeetsOnTheWay, HasCause as HasThreadCause}
 use Rattle.machine_replay.proofs.OnePlay.{endings_have_causes}

@@ -1,4 +1,3 @@
-use Rattle.std.proofs.Common.{inr}
 use Rattle.dfd_run.proofs.Answers.{ends_at_fault}
 use Rattle.dfd_run.specs.declared.status.Status.TheVariants.{ReadFault}
 use Rattle.dfd_run.proofs.call.write_read_fault.Goals as goal
