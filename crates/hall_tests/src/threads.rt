@@ -103,7 +103,12 @@ fn threads_print_what_the_depth_first_run_prints(rt: HostRuntime) {
 /// A run that is stopped for any number of workers, and the stop.
 fn check_stop<R: Abort + Threads + Wait + Sync>(rt: &R, alloc: Global, of: Bounds, want: &str) {
     for workers in WORKERS {
-        let ran = ran_of(rt, alloc, "fn main() { alloc b = 40; free b; }", Bounds { workers, ..of });
+        let ran = ran_of(
+            rt,
+            alloc,
+            "fn main() { alloc b = 40; free b; }",
+            Bounds { workers, ..of },
+        );
         let got = told(rt, alloc, ran);
         assert_eq!(rt; got.as_str(), want);
     }
@@ -112,10 +117,7 @@ fn check_stop<R: Abort + Threads + Wait + Sync>(rt: &R, alloc: Global, of: Bound
 /// A block of 40 words in an arena of 32; one action too few; and one deque, where the children of the tree of dummies need a second one.
 #[test]
 fn stops_are_told(rt: HostRuntime) {
-    let all = Bounds {
-        k: 64,
-        ..ample(1)
-    };
+    let all = Bounds { k: 64, ..ample(1) };
     check_stop(
         &rt,
         rt.alloc(),
