@@ -139,10 +139,10 @@ LastsInDeques command p last ending =
 abbrev pub DequesSuffice : Type 0
 DequesSuffice = OfEach IsPlay LastsInDeques
 
--- With room for all words and all actions, a play ends well, or with the fault of the program, or at the limit of deques.
-abbrev pub StatusesWithRoom : Type 0
-StatusesWithRoom = (command : Command) (p : Program) → HasRanges command → IsAccepted p
-    → (status : Status) (text : List ℕ) → PlayMakes command p status text
+-- With room for all words and all actions, what is made of a program is that it ended well, or with its fault, or at the limit of deques.
+abbrev pub StatusesWithRoom : (makes : Command → Program → Status → List ℕ → Type 0) → Type 0
+StatusesWithRoom makes = (command : Command) (p : Program) → HasRanges command → IsAccepted p
+    → (status : Status) (text : List ℕ) → makes command p status text
     → total words_taken (play_list command p) ≤ command.arena → length (play_list command p) ≤ command.steps
     → (status ≡ Done) ⊎ ((status ≡ UserFault) ⊎ (status ≡ DequesFull))
 
