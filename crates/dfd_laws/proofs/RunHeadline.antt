@@ -13,7 +13,7 @@ use Rattle.deque_machine.proofs.Playing.{wanted_may_come}
 use Rattle.deque_machine.proofs.Reached.{lawful_along}
 use Rattle.deque_machine.proofs.Sizes.{arena_never_fills}
 use Rattle.deque_machine.specs.LawfulOrder.{IsLawful}
-use Rattle.deque_machine.specs.Machine.{Setting, does, Owns, May}
+use Rattle.deque_machine.specs.Machine.{Setting, does, Owns}
 use Rattle.deque_machine.specs.Moments.{Moment, Deque, opening, live_at, owned_by, one_if_owned}
 use Rattle.deque_machine.specs.Play.{Ending, stopped, arena_full, steps_spent, Wants, an_action, words_taken}
 use Rattle.deque_machine.specs.Runs.{Pair, Reaches}

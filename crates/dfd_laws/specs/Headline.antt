@@ -19,7 +19,7 @@ use Rattle.run_report.specs.declared.summary.Summary.{Summary}
 use Rattle.dfd_run.specs.Answer.{HasRanges}
 use Rattle.dfd_run.specs.Make.{MakeMakes}
 use Rattle.dfd_run.specs.Peak.{finish_status}
-use Rattle.dfd_run.specs.Play.{IsPlay, PlayMakes, play_terms, play_setting, play_machine, seeded_words}
+use Rattle.dfd_run.specs.Play.{IsPlay, play_terms, play_setting, play_machine, seeded_words}
 use Rattle.dfd_run.specs.declared.status.Status.{Status}
 use Rattle.dfd_run.specs.declared.status.Status.TheVariants.{Done, UserFault, DequesFull}
 
