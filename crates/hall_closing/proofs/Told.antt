@@ -1,6 +1,6 @@
 -- A seat that holds the list was answered no other end than the one that is kept there.
-use Rattle.std.proofs.Common.{◌≡◌, List, [], ◌∷◌, inl, refl, sym, ap, ◌∙◌, subst}
-use Rattle.std.specs.Prelude.{ℕ, Some}
+use Rattle.std.proofs.Common.{◌≡◌, [], inl, refl, sym, ap, ◌∙◌, subst}
+use Rattle.std.specs.Prelude.{Some}
 use Rattle.run_end.specs.declared.ends.RunEnd.{RunEnd}
 use Rattle.turn_table.specs.Notes.{HasAs, notes}
 use Rattle.turn_table.proofs.NoteLaws.{notes_at}
@@ -8,7 +8,6 @@ use Rattle.turn_table.proofs.Standing.{shown_as}
 use Rattle.hall_turns.specs.declared.key.HallKey.{HallKey}
 use Rattle.hall_turns.specs.declared.list_slot.ListSlot.{ListSlot}
 use Rattle.hall_turns.specs.declared.seat_note.SeatNote.{SeatNote}
-use Rattle.hall_turns.specs.declared.slot.Slot.{Slot}
 use Rattle.hall_turns.specs.declared.slot.Slot.TheVariants as slots
 use Rattle.hall_turns.specs.Sound.{EndIsSound}
 use Rattle.hall_turns.specs.Takes.{HallSeat, IsTaken, MeetsLaw}
@@ -18,7 +17,7 @@ pub answers_kept : (key : HallKey) (seat : HallSeat) (list : ListSlot) → HasAs
     → (end : RunEnd) → seat.hand.note.answered ≡ Some end → list.end ≡ Some end
 answers_kept key seat list has meets end is = let st = meets.3 in
     EndIsSound.answered (st.kept.0.parts.end list (get_of_at meets.0 0 (slots.List list)
-        (shown_as meets.0 0 (slots.List list) seat.hand.holds (st.fits.shows seat.number seat.hand st.mine) has)))
+    (shown_as meets.0 0 (slots.List list) seat.hand.holds (st.fits.shows seat.number seat.hand st.mine) has)))
     seat.number seat.hand.note end (get_of_at (notes meets.2) seat.number seat.hand.note (notes_at meets.2 seat.number seat.hand st.mine)) is
 
 -- so it is with the list that it took

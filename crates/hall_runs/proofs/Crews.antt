@@ -1,8 +1,8 @@
 -- The members of a crew, one by one and together.
-use Rattle.std.proofs.Common.{◌≡◌, ℕ, suc, ◌+◌, ◌<◌, List, [], ◌∷◌, ◌++◌, length, refl, sym, ap, ◌∙◌, subst, arith}
-use Rattle.std.proofs.lemmas.List.Elements.{All-append, All-head, All-nil, All-cons, All-push, All-tail}
+use Rattle.std.proofs.Common.{◌≡◌, ℕ, suc, ◌+◌, ◌<◌, List, [], ◌∷◌, ◌++◌, length, take, drop, append-nil, refl, sym, ap, ◌∙◌, arith}
+use Rattle.std.proofs.lemmas.List.Elements.{All-head, All-nil, All-cons, All-push, All-tail}
 use Rattle.std.specs.Prelude.{All, slice_index_or}
-use Rattle.core.specs.List.{AllZip}
+use Rattle.std.specs.List.{AllZip}
 use Rattle.node_table.specs.declared.code.Code.{Code}
 use Rattle.run_end.specs.declared.ends.RunEnd.{RunEnd}
 use Rattle.work_loop.specs.declared.member.Member.{Member}
@@ -10,7 +10,7 @@ use Rattle.hall_work.specs.Passed.{Hall, Seat}
 use Rattle.hall_work.specs.Working.{HasWorkedIn}
 use Rattle.hall_work.specs.declared.worker.HallWorker.{HallWorker}
 use Rattle.hall_runs.specs.Closed.{HasWorked}
-use Rattle.hall_runs.specs.Crews.{AreLeft, HasItsEnd, HasKeptRules, IsCrew, IsFreshIn, IsOfCrew, IsToLeave, seat_of}
+use Rattle.hall_runs.specs.Crews.{AreLeft, HasItsEnd, IsCrew, IsFreshIn, IsOfCrew, IsToLeave, seat_of}
 
 module _ {C : Type 0} (hall : Hall) where
   -- one member that has worked
@@ -100,3 +100,23 @@ module _ {C : Type 0} (hall : Hall) where
   pub head_of : (stays member : Member (HallWorker C) RunEnd) (crew : List (Member (HallWorker C) RunEnd)) → AreLeft hall stays (member ∷ crew)
       → IsToLeave hall member
   head_of stays member crew is = All-head (IsToLeave hall) member crew is.members
+
+  -- a crew that has worked is not empty
+  pub some_left : (crew ys : List (Member (HallWorker C) RunEnd)) (first : Member (HallWorker C) RunEnd) → AllZip (HasWorked hall) (crew ++ first ∷ []) ys → 0 < length ys
+  some_left [] [] first zip = absurd zip
+  some_left [] (y ∷ ys) first zip = omega arith
+  some_left (x ∷ crew) [] first zip = absurd zip
+  some_left (x ∷ crew) (y ∷ ys) first zip = omega arith
+
+-- a slice that is written back over a list of its length
+drop_length : {X : Type 0} (xs : List X) → drop (length xs) xs ≡ []
+drop_length [] = refl
+drop_length (x ∷ xs) = drop_length xs
+
+take_length : {X : Type 0} (xs : List X) → take (length xs) xs ≡ xs
+take_length [] = refl
+take_length (x ∷ xs) = ap (λ ys. x ∷ ys) (take_length xs)
+
+pub written : {X : Type 0} (xs ws : List X) (n : ℕ) → n ≡ length xs → length ws ≡ length xs → take n (ws ++ drop (length ws) xs) ≡ ws
+written xs ws n long same = ap (λ k. take n (ws ++ drop k xs)) same ∙ ap (λ zs. take n (ws ++ zs)) (drop_length xs) ∙ ap (take n) (append-nil ws)
+    ∙ ap (λ k. take k ws) (long ∙ sym same) ∙ take_length ws

@@ -19,11 +19,15 @@ changes_are periods (moved ∷ rest) (action ∷ actions) are =
     ap (λ z. z ∷ map change_of rest) are.0.change ∙ ap (λ zs. weight action ∷ zs) (changes_are periods rest actions are.1)
 
 pub high_is : (l : List Action) (run : List Pair) (periods : List Period) (moved : List Moved) → AreMovesOf periods moved (moves l run)
-    → (high : ℤ) → high ≡ highest moved → IsHighest moved high → SFits w64 high → pos (nat_abs (to_z w64 (of_z w64 high))) ≡ high_water_mark l run
-high_is l run periods moved are high is greatest fits =
-    let never : pos 0 ≤ℤ high = greatest.never_above 0 in
-    ap (λ z. pos (nat_abs z)) (to_z-of_z w64 high fits) ∙ positive high never ∙ is ∙ ap high_water (changes_are periods moved (moves l run) are)
-  where
-    positive : (z : ℤ) → pos 0 ≤ℤ z → pos (nat_abs z) ≡ z
-    positive (pos n) some = refl
-    positive (negsuc n) some = absurd (omega (arith, ints, some))
+    → highest moved ≡ high_water_mark l run
+high_is l run periods moved are = ap high_water (changes_are periods moved (moves l run) are)
+
+-- it is a number from 0 on, and so it is as a word
+positive : (z : ℤ) → pos 0 ≤ℤ z → pos (nat_abs z) ≡ z
+positive (pos n) some = refl
+positive (negsuc n) some = absurd (omega (arith, ints, some))
+
+pub as_word : (moved : List Moved) (high : ℤ) → high ≡ highest moved → IsHighest moved high → SFits w64 high
+    → pos (nat_abs (to_z w64 (of_z w64 high))) ≡ highest moved
+as_word moved high is greatest fits =
+    ap (λ z. pos (nat_abs z)) (to_z-of_z w64 high fits) ∙ positive high (greatest.never_above 0) ∙ is

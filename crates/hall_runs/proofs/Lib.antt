@@ -3,3 +3,5 @@ mod High
 mod Causes
 mod Told
 mod Crews
+mod Ending
+mod Left

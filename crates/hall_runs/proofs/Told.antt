@@ -1,8 +1,6 @@
 -- What a closed hall gives is told of one run.
-use Rattle.std.proofs.Common.{◌≡◌, ◌≢◌, ℕ, ℤ, ◌≤ℤ◌, pos, to_z, of_z, w64, SFits, Bool, true, false, List, [], ◌++◌, map, length, inl, inr, refl, sym, ap, ◌∙◌, subst, append-nil}
+use Rattle.std.proofs.Common.{◌≡◌, ◌≢◌, pos, false, List, [], ◌++◌, map, length, sym, ap, ◌∙◌, subst, append-nil}
 use Rattle.std.proofs.Math.Logic.{∥∥₁_elim, ∥∥₁_map}
-use Rattle.std.proofs.Math.IntN.{nat_abs}
-use Rattle.std.proofs.lemmas.Option.{same_Some}
 use Rattle.std.specs.Option.{option_map}
 use Rattle.std.specs.Prelude.{Option, None, Some, count_by}
 use denote.Struct.Props.{props}
@@ -14,19 +12,18 @@ use Rattle.dag_order.specs.declared.thread_id.ThreadId.{ThreadId}
 use Rattle.depth_first_run.specs.States.{Setting, State}
 use Rattle.depth_first_run.specs.Run.{whole, first_fault, list_of, lines_of, finish_of, finish_of_run}
 use Rattle.deque_list.specs.declared.place.Place.{Place}
-use Rattle.deque_machine.specs.Machine.{HasEnded}
-use Rattle.deque_machine.specs.Moments.{Moment, opening}
+use Rattle.deque_machine.specs.Moments.{Moment}
 use Rattle.deque_machine.specs.Play as play
 use Rattle.deque_machine.specs.Play.{Ending, finished, stopped}
-use Rattle.deque_machine.specs.Runs.{Pair, high_water_mark}
+use Rattle.deque_machine.specs.Runs.{high_water_mark}
 use Rattle.deque_machine.specs.Terms.{Terms, machine_of}
 use Rattle.lawful_books.specs.Books.{periods_marked}
-use Rattle.lawful_books.specs.Lists.{Among, Each}
+use Rattle.lawful_books.specs.Lists.{Among}
 use Rattle.lawful_books.proofs.Lists.{each_among}
 use Rattle.moment_parts.specs.Parts as parts
 use Rattle.period_books.specs.Names.{HasLabel, of_root}
 use Rattle.period_books.proofs.Labels.{one_label}
-use Rattle.period_books.specs.Periods.{Period, closed_shown}
+use Rattle.period_books.specs.Periods.{closed_shown}
 use Rattle.period_books.specs.Telling.{Tell}
 use Rattle.period_table.specs.Numbers.{NumbersDiffer}
 use Rattle.run_end.specs.declared.ends.RunEnd.{RunEnd}
@@ -36,7 +33,7 @@ use Rattle.run_report.specs.declared.report.Report.{Report}
 use Rattle.space_ledger.specs.BooksList.{books_list}
 use Rattle.space_ledger.specs.Counts.{is_ahead}
 use Rattle.space_ledger.specs.MovesList.{moves_list}
-use Rattle.space_ledger.specs.Sums.{highest, IsHighest}
+use Rattle.space_ledger.specs.Sums.{highest}
 use Rattle.thread_frames.specs.Kept.{result_kept, IsUnderItsId}
 use Rattle.thread_frames.specs.Points.{IsResult}
 use Rattle.thread_frames.specs.Roots.{end_of_root}
@@ -51,13 +48,12 @@ use Rattle.thread_state.specs.Settings.{IsSettingOf}
 use Rattle.hall_law.specs.Crew.{MayBeKept}
 use Rattle.hall_law.specs.Steps.{run_of}
 use Rattle.hall_law.specs.Values.{Hall, ListShown, LaneShown, PoolShown, End, by_rule, running}
-use Rattle.hall_law.specs.Views.{View}
 use Rattle.hall_closing.specs.Closing.{IsClosed, IsOfOneRun, seen_note}
 use Rattle.hall_turns.specs.declared.key.HallKey.{HallKey}
 use Rattle.hall_turns.specs.declared.list_slot.ListSlot.{ListSlot}
 use Rattle.hall_turns.specs.declared.pool_slot.PoolSlot.{PoolSlot}
 use Rattle.hall_turns.specs.Keys.{table_of, quota_of, terms_of}
-use Rattle.hall_turns.specs.Shown.{end_shown, stop_shown, list_shown}
+use Rattle.hall_turns.specs.Shown.{end_shown, stop_shown}
 use Rattle.hall_turns.specs.Takes.{HallSeat}
 use Rattle.hall_runs.specs.Reports.{IsReportOf, SomeRun}
 use Rattle.hall_runs.specs.Runs.{IsThreadRun}
@@ -131,13 +127,9 @@ module _ (key : HallKey) (seat : HallSeat) (list : ListSlot) (pool : PoolSlot) (
       pub marked_are : count_by is_ahead (books_list list.part.books) ≡ periods_marked (Moment.books r.moment)
       marked_are = marked_counted c.quota (list_of c) (books_list list.part.books) (Moment.books r.moment) tell differ
 
-    pub high_are : (high : ℤ) → high ≡ highest (moves_list pool.moves) → IsHighest (moves_list pool.moves) high → SFits w64 high
-        → pos (nat_abs (to_z w64 (of_z w64 high))) ≡ high_water_mark (list_of c) (run_of r.steps)
-    high_are high high_is_it greatest fits = high_is (list_of c) (run_of r.steps) (ListShown.closed (Hall.list r.h)) (PoolShown.moves (Hall.pool r.h)) r.gives.moved high
-        (high_is_it ∙ ap highest (sym moves_are)) (subst (λ ms. IsHighest ms high) (sym moves_are) greatest) fits
-      where
-        moves_are : PoolShown.moves (Hall.pool r.h) ≡ moves_list pool.moves
-        moves_are = ap (λ (p : PoolShown). p.moves) r.pool_is
+    pub high_are : highest (moves_list pool.moves) ≡ high_water_mark (list_of c) (run_of r.steps)
+    high_are = ap highest (sym (ap (λ (p : PoolShown). p.moves) r.pool_is))
+        ∙ high_is (list_of c) (run_of r.steps) (ListShown.closed (Hall.list r.h)) (PoolShown.moves (Hall.pool r.h)) r.gives.moved
 
     -- the root's result has no label
     module _ (ended : Ended) (is : kept_under list.part.results root ≡ Some ended) where
@@ -186,11 +178,10 @@ module _ (key : HallKey) (seat : HallSeat) (list : ListSlot) (pool : PoolSlot) (
   -- and so is the report
   module _ (finish : Finish) (is : end ≡ Finished finish) (rules : seat.hand.note.yielded ≡ false) (ended : Ended)
       (kept : kept_under list.part.results root ≡ Some ended) where
-    pub tells_report : (report : Report) (high : ℤ) → entries report.lines ≡ lines_of (State.items (whole c)) → report.finish ≡ finish
+    pub tells_report : (report : Report) → entries report.lines ≡ lines_of (State.items (whole c)) → report.finish ≡ finish
         → report.periods ≡ length (books_list list.part.books) → report.ahead ≡ count_by is_ahead (books_list list.part.books)
-        → report.high ≡ nat_abs (to_z w64 (of_z w64 high)) → high ≡ highest (moves_list pool.moves) → IsHighest (moves_list pool.moves) high → SFits w64 high
-        → SomeRun c (terms_of key) finished (λ run last. IsReportOf c run last report)
-    tells_report report high lines finishes periods ahead high_at highest_is greatest fits = ∥∥₁_map (closed.run c of) (λ r. (
+        → pos report.high ≡ highest (moves_list pool.moves) → SomeRun c (terms_of key) finished (λ run last. IsReportOf c run last report)
+    tells_report report lines finishes periods ahead high = ∥∥₁_map (closed.run c of) (λ r. (
       run_of r.steps,
       r.moment,
       finished_run r finish is rules,
@@ -199,6 +190,6 @@ module _ (key : HallKey) (seat : HallSeat) (list : ListSlot) (pool : PoolSlot) (
         finish = finishes ∙ finish_is ended kept finish is;
         periods = periods ∙ periods_are r finish is;
         ahead = ahead ∙ marked_are r finish is;
-        high = ap pos high_at ∙ high_are r high highest_is greatest fits;
+        high = high ∙ high_are r;
       },
     ))

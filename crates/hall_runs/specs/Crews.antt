@@ -1,5 +1,5 @@
 -- The members of a crew before and after they work, and the seats that they have together.
-use Rattle.std.specs.Prelude.{◌≡◌, ◌⊎◌, ℕ, ◌+◌, false, Option, None, Some, List, length, All}
+use Rattle.std.specs.Prelude.{◌≡◌, ◌+◌, false, Option, None, Some, List, length, All}
 use Rattle.dag_order.specs.declared.finish.Finish.{Finish}
 use Rattle.run_end.specs.declared.ends.RunEnd.{RunEnd}
 use Rattle.run_end.specs.declared.ends.RunEnd.TheVariants.{Finished}

@@ -24,7 +24,7 @@ pub(crate) fn member_of<C>(seat: Seat, choices: C) -> Member<HallWorker<C>, RunE
 fn enter_by<R: Wait>(rt: &R, hall: &Hall, by: &mut Seat) -> Result<Option<Seat>, AllocError>
     requires fresh { IsFreshIn hall.now by.old }
     requires many { 2 ≤ by.old.places }
-    ensures fresh { IsFreshIn hall.now by.new }
+    ensures fresh { OnOk result (IsFreshIn hall.now by.new) }
     ensures entered { IfOk result (EntersBy hall.now by.old by.new) }
 {
     'tries: for _ in rt.forever() {

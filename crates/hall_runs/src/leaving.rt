@@ -13,12 +13,7 @@ use std::sync::Wait;
 use work_loop::Member;
 
 /// Lets a seat leave into another, once no third one holds a slot that this needs.
-fn leave_into<R: Wait>(
-    rt: &R,
-    hall: &Hall,
-    seat: Seat,
-    into: &mut Seat,
-) -> Result<(), AllocError>
+fn leave_into<R: Wait>(rt: &R, hall: &Hall, seat: Seat, into: &mut Seat) -> Result<(), AllocError>
     requires here { IsIn hall.now seat }
     requires into { IsIn hall.now into.old }
     requires few { into.old.places + seat.places ≤ hall.now.workers }

@@ -1,7 +1,7 @@
 //! A whole run.
 
 ghost use Rattle.std.specs.Prelude.{◌≡◌, All, IfOk};
-ghost use Rattle.core.specs.List.{AllZip};
+ghost use Rattle.std.specs.List.{AllZip};
 ghost use Rattle.depth_first_run.specs.States.{Setting};
 ghost use Rattle.dfd_core.specs.Cores.{terms_at};
 ghost use Rattle.dfd_core.specs.Parts.{IsFresh};
@@ -106,5 +106,5 @@ pub fn run_in_threads<R: Threads + Wait + Sync, C: Choices + Send + Drop, G: Gat
     ensures { (c : Setting) → IsSettingOf (code_shown core.code) (quota_words core.k) c → IfOk result (ComesTo c (terms_at core)) }
 {
     let closing = close_run(rt, alloc, core, own, others, gate)?;
-    ran_of(alloc, closing)
+    ran_of(alloc, &closing)
 }

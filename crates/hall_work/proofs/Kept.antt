@@ -1,6 +1,6 @@
 -- The calls of a worker keep it the same worker.
-use Rattle.std.proofs.Common.{◌≡◌, ℕ, inl, inr, refl, ap, ◌∙◌}
-use Rattle.std.specs.Prelude.{None, Some, Result, Ok, Err}
+use Rattle.std.proofs.Common.{ℕ, inl, inr, ap}
+use Rattle.std.specs.Prelude.{Result, Ok, Err}
 use Rattle.run_end.specs.declared.ends.RunEnd.{RunEnd}
 use Rattle.run_end.specs.declared.stop.Stop.{Stop}
 use Rattle.turn_table.specs.declared.held.Held.{Held}
@@ -14,7 +14,7 @@ use Rattle.hall_handles.specs.declared.seat.Seat.{Seat}
 use Rattle.hall_seats.specs.Halting.{HasHalted}
 use Rattle.hall_turns.specs.Takes.{HallSeat, IsRefused}
 use Rattle.hall_turns.specs.declared.event.Event.{Event}
-use Rattle.hall_work.specs.Working.{IsSameWorker, same_worker}
+use Rattle.hall_work.specs.Working.{IsSameWorker}
 
 pub acts_keep : (hall : Hall) (before after : Seat) (r : Result Event EventRefused) → ActsIn hall before after r → IsSameWorker before after
 acts_keep hall before after (Ok event) acts =

@@ -1,36 +1,32 @@
 -- A seat that took its lane and the list to give its deque up.
-use Rattle.std.proofs.Common.{◌≡◌, ◌≢◌, ℕ, ◌+◌, ◌≤◌, ◌<◌, List, [], ◌∷◌, ◌++◌, inl, inr, refl, sym, ap, ◌∙◌, subst, append_assoc}
-use Rattle.std.specs.Prelude.{Option, None, Some}
+use Rattle.std.proofs.Common.{◌≡◌, ◌≢◌, ℕ, ◌+◌, ◌≤◌, ◌<◌, List, [], ◌∷◌, inl, inr, refl, sym, ap, ◌∙◌, subst, append_assoc}
+use Rattle.std.specs.Prelude.{None, Some}
 use Rattle.std.specs.Option.{option_map}
 use Rattle.dag_order.specs.declared.finish.Finish.{Finish}
 use Rattle.deque_list.specs.declared.deque_id.DequeId.{DequeId}
 use Rattle.lawful_books.specs.Lists.{Each}
-use Rattle.run_end.specs.declared.ends.RunEnd.{RunEnd}
 use Rattle.run_end.specs.declared.ends.RunEnd.TheVariants.{Finished}
-use Rattle.run_end.specs.declared.stop.Stop.TheVariants.{OutOfMemory}
 use Rattle.space_ledger.specs.BooksList.{books_spare}
 use Rattle.thread_frames.specs.Actions.{IsStill}
 use Rattle.thread_frames.specs.Points.{IsAtPoint}
 use Rattle.thread_frames.specs.declared.thread.Thread.{Thread}
 use Rattle.turn_table.specs.Notes.{HasAs, notes}
 use Rattle.turn_table.proofs.NoteLaws.{notes_at}
-use Rattle.turn_table.specs.declared.look.Look.{Look}
 use Rattle.turn_table.specs.declared.look.Look.TheVariants.{Took}
 use Rattle.turn_table.specs.Seats.{with_hand}
 use Rattle.hall_deciding.specs.Lists as deciding
-use Rattle.hall_deciding.specs.PartEvents.Parts.{Has}
 use Rattle.hall_deciding.specs.PartEvents.Puts.{HasPut}
-use Rattle.hall_deciding.specs.PartEvents.Rooms.{HasMoreBooks, KeepsDeques}
+use Rattle.hall_deciding.specs.PartEvents.Rooms.{HasMoreBooks}
 use Rattle.hall_deciding.specs.PartEvents.TakenParts.{MayPause}
-use Rattle.hall_deciding.specs.Taken.{IsAtEvent, list_and_lane}
+use Rattle.hall_deciding.specs.Taken.{list_and_lane}
 use Rattle.hall_puts.specs.declared.noting.Noting.TheVariants.{Same}
 use Rattle.hall_reads.specs.Reads.{HoldsItsLane, ReadsLane}
-use Rattle.hall_reads.proofs.Reading.{st, shown, holds as law_holds, shows, owners_read}
+use Rattle.hall_reads.proofs.Reading.{st, shown, holds as law_holds, owners_read}
 use Rattle.hall_reads.proofs.Listing.{at, lists_are_read}
 use Rattle.hall_turns.specs.Keys.{table_of, quota_of}
 use Rattle.hall_turns.specs.Lists.{ShowsUnowned, HasNoOwner, KeepsRest}
 use Rattle.hall_turns.specs.Shown.{running_shown}
-use Rattle.hall_turns.specs.Takes.{HallSeat, HasAllPlaces, AreTaken, MeetsLaw}
+use Rattle.hall_turns.specs.Takes.{HallSeat, AreTaken, MeetsLaw}
 use Rattle.hall_turns.specs.declared.key.HallKey.{HallKey}
 use Rattle.hall_turns.specs.declared.lane_slot.LaneSlot.{LaneSlot}
 use Rattle.hall_turns.specs.declared.lane_slot.Running.{Running}
@@ -44,7 +40,7 @@ use Rattle.owner_acts.proofs.Roomier.{has_from, rest_from, shows_unowned_from, u
 use Rattle.owner_advance.specs.Advancing.{HasLooked, took_lane}
 use Rattle.owner_advance.specs.Returning.{ReturnsList}
 use Rattle.owner_advance.proofs.Noting.{nothing_may_be_noted}
-use Rattle.owner_events.specs.Yielding.{MayYield, yielded_note}
+use Rattle.owner_events.specs.Yielding.{MayYield}
 use Rattle.owner_events.proofs.FromList as from
 use Rattle.owner_events.proofs.WithList.{more_books}
 

@@ -29,11 +29,7 @@ pub enum YieldRefused {
 ///
 /// Another seat holds the lane or the list (never, if this one has all places), or there is not enough memory to close the period. The moment of
 /// the hall is what it was, and the seat holds nothing.
-pub fn yield_deque(
-    row: &HallRow,
-    seat: &mut HallPlace,
-    deque: DequeId,
-) -> Result<(), YieldRefused>
+pub fn yield_deque(row: &HallRow, seat: &mut HallPlace, deque: DequeId) -> Result<(), YieldRefused>
     requires here { IsSeatOf row.now seat.old }
     requires slot { deque.0 + 2 < slot_count row.now }
     requires may { MayYield seat.old deque }
