@@ -97,6 +97,54 @@ module _ (IsRun : Command → Program → List Pair → Moment → Ending → Ty
     ∥∥₁_map makes (λ w. (reported w.0 w.1 w.2 status text w.3 w.4 ended).1),
   )
 
+-- which statuses are left to runs of a kind that neither an arena nor a limit of actions stops
+module _ (IsRun : Command → Program → List Pair → Moment → Ending → Type 0) (command : Command) (p : Program)
+    (fits : (run : List Pair) (last : Moment) (ending : Ending) → IsRun command p run last ending → (live : ℤ) (asked : ℕ) →
+    ending ≢ stopped (arena_full live asked))
+    (lasts : (run : List Pair) (last : Moment) (ending : Ending) → IsRun command p run last ending → (limit : ℕ) →
+    ending ≢ stopped (steps_spent limit)) where
+  status_left : (run : List Pair) (last : Moment) (ending : Ending) (status : Status) (text : List ℕ) → IsRun command p run last ending →
+      TellsEnding (Reports (play_setting command p)) (play_setting command p) run last ending status text →
+      (status ≡ Done) ⊎ ((status ≡ UserFault) ⊎ (status ≡ DequesFull))
+  status_left run last finished status text runs told = elim (finish_status_is (finish_of_run (play_setting command p))) [
+    | inl done ↦ inl (told.0 ∙ done)
+    | inr fault ↦ inr (inl (told.0 ∙ fault))
+  ]
+    where
+      finish_status_is : (finish : Finish) → (finish_status finish ≡ Done) ⊎ (finish_status finish ≡ UserFault)
+      finish_status_is finishes.Done = inl refl
+      finish_status_is (finishes.Faulted fault) = inr refl
+  status_left run last (stopped (arena_full live asked)) status text runs told =
+      absurd (fits run last (stopped (arena_full live asked)) runs live asked refl)
+  status_left run last (stopped (steps_spent limit)) status text runs told =
+      absurd (lasts run last (stopped (steps_spent limit)) runs limit refl)
+  status_left run last (stopped (deques_full deques)) status text runs told = inr (inr told.0)
+
+  some_status : (n : ℕ) → (n ≡ 0) ⊎ ((n ≡ 6) ⊎ (n ≡ 9)) → (status : Status) → n ≡ code_of status →
+      (status ≡ Done) ⊎ ((status ≡ UserFault) ⊎ (status ≡ DequesFull))
+  some_status n among status is = elim among [
+    | inl zero_is ↦ inl (same_status status Done (sym is ∙ zero_is))
+    | inr other ↦ elim other [
+      | inl six ↦ inr (inl (same_status status UserFault (sym is ∙ six)))
+      | inr nine ↦ inr (inr (same_status status DequesFull (sym is ∙ nine)))
+    ]
+  ]
+
+  pub statuses_left : (status : Status) (text : List ℕ) → TellsRun IsRun Reports command p status text →
+      (status ≡ Done) ⊎ ((status ≡ UserFault) ⊎ (status ≡ DequesFull))
+  statuses_left status text makes = some_status (code_of status) (among (cases_eq (code_of status) 0) (cases_eq (code_of status) 6)) status refl
+    where
+      of_one : (code : ℕ) → (status : Status) → (status ≡ Done) ⊎ ((status ≡ UserFault) ⊎ (status ≡ DequesFull)) → (code_of status ≡ 0 → ⊥) → (code_of status ≡ 6 → ⊥) → code_of status ≡ 9
+      of_one code status (inl is) no_zero no_six = absurd (no_zero (ap code_of is))
+      of_one code status (inr (inl is)) no_zero no_six = absurd (no_six (ap code_of is))
+      of_one code status (inr (inr is)) no_zero no_six = ap code_of is
+
+      among : (code_of status ≡ 0) ⊎ (code_of status ≢ 0) → (code_of status ≡ 6) ⊎ (code_of status ≢ 6) → (code_of status ≡ 0) ⊎ ((code_of status ≡ 6) ⊎ (code_of status ≡ 9))
+      among (inl zero_is) six = inl zero_is
+      among (inr no_zero) (inl six) = inr (inl six)
+      among (inr no_zero) (inr no_six) = inr (inr (∥∥₁_elim makes (search props)
+          (λ w. of_one 0 status (status_left w.0 w.1 w.2 status text w.3 w.4) no_zero no_six)))
+
 module _ (command : Command) (p : Program) (ranges : HasRanges command) where
   some_quota : 0 < command.k
   some_quota = omega (arith, (ranges.numbers Quota).0)
@@ -243,49 +291,12 @@ module _ (command : Command) (p : Program) (ranges : HasRanges command) where
   deques_suffice run last ending plays room deques = none_of run last ending (deques_full deques) plays room
 
   -- so these statuses are left
-  status_left : (run : List Pair) (last : Moment) (ending : Ending) (status : Status) (text : List ℕ) → IsPlay command p run last ending →
-      TellsEnding (Reports (play_setting command p)) (play_setting command p) run last ending status text →
-      total words_taken (play_list command p) ≤ command.arena → length (play_list command p) ≤ command.steps →
-      (status ≡ Done) ⊎ ((status ≡ UserFault) ⊎ (status ≡ DequesFull))
-  status_left run last finished status text plays told words actions = elim (finish_status_is (finish_of_run (play_setting command p))) [
-    | inl done ↦ inl (told.0 ∙ done)
-    | inr fault ↦ inr (inl (told.0 ∙ fault))
-  ]
-    where
-      finish_status_is : (finish : Finish) → (finish_status finish ≡ Done) ⊎ (finish_status finish ≡ UserFault)
-      finish_status_is finishes.Done = inl refl
-      finish_status_is (finishes.Faulted fault) = inr refl
-  status_left run last (stopped (arena_full live asked)) status text plays told words actions =
-      absurd (arenas_suffice run last (stopped (arena_full live asked)) plays (inl words) live asked refl)
-  status_left run last (stopped (steps_spent limit)) status text plays told words actions =
-      absurd (actions_suffice run last (stopped (steps_spent limit)) plays actions limit refl)
-  status_left run last (stopped (deques_full deques)) status text plays told words actions = inr (inr told.0)
-
-  some_status : (n : ℕ) → (n ≡ 0) ⊎ ((n ≡ 6) ⊎ (n ≡ 9)) → (status : Status) → n ≡ code_of status →
-      (status ≡ Done) ⊎ ((status ≡ UserFault) ⊎ (status ≡ DequesFull))
-  some_status n among status is = elim among [
-    | inl zero_is ↦ inl (same_status status Done (sym is ∙ zero_is))
-    | inr other ↦ elim other [
-      | inl six ↦ inr (inl (same_status status UserFault (sym is ∙ six)))
-      | inr nine ↦ inr (inr (same_status status DequesFull (sym is ∙ nine)))
-    ]
-  ]
-
   pub statuses_with_room : (status : Status) (text : List ℕ) → PlayMakes command p status text →
       total words_taken (play_list command p) ≤ command.arena → length (play_list command p) ≤ command.steps →
       (status ≡ Done) ⊎ ((status ≡ UserFault) ⊎ (status ≡ DequesFull))
-  statuses_with_room status text makes words actions = some_status (code_of status) (among (cases_eq (code_of status) 0) (cases_eq (code_of status) 6)) status refl
-    where
-      of_one : (code : ℕ) → (status : Status) → (status ≡ Done) ⊎ ((status ≡ UserFault) ⊎ (status ≡ DequesFull)) → (code_of status ≡ 0 → ⊥) → (code_of status ≡ 6 → ⊥) → code_of status ≡ 9
-      of_one code status (inl is) no_zero no_six = absurd (no_zero (ap code_of is))
-      of_one code status (inr (inl is)) no_zero no_six = absurd (no_six (ap code_of is))
-      of_one code status (inr (inr is)) no_zero no_six = ap code_of is
-
-      among : (code_of status ≡ 0) ⊎ (code_of status ≢ 0) → (code_of status ≡ 6) ⊎ (code_of status ≢ 6) → (code_of status ≡ 0) ⊎ ((code_of status ≡ 6) ⊎ (code_of status ≡ 9))
-      among (inl zero_is) six = inl zero_is
-      among (inr no_zero) (inl six) = inr (inl six)
-      among (inr no_zero) (inr no_six) = inr (inr (∥∥₁_elim makes (search props)
-          (λ w. of_one 0 status (status_left w.0 w.1 w.2 status text w.3 w.4 words actions) no_zero no_six)))
+  statuses_with_room status text makes words actions =
+      statuses_left IsPlay command p (λ run last ending plays. arenas_suffice run last ending plays (inl words))
+      (λ run last ending plays. actions_suffice run last ending plays actions) status text makes
 
   pub plays_with_room_finish : (run : List Pair) (last : Moment) (ending : Ending) → IsPlay command p run last ending →
       total words_taken (play_list command p) ≤ command.arena → length (play_list command p) ≤ command.steps →

@@ -19,7 +19,7 @@ use Rattle.run_report.specs.declared.summary.Summary.{Summary}
 use Rattle.dfd_run.specs.Answer.{HasRanges}
 use Rattle.dfd_run.specs.Make.{MakeMakes}
 use Rattle.dfd_run.specs.Peak.{finish_status}
-use Rattle.dfd_run.specs.Play.{IsPlay, PlayMakes, play_terms, play_setting, play_machine, seeded_words}
+use Rattle.dfd_run.specs.Play.{IsPlay, play_terms, play_setting, play_machine, seeded_words}
 use Rattle.dfd_run.specs.declared.status.Status.{Status}
 use Rattle.dfd_run.specs.declared.status.Status.TheVariants.{Done, UserFault, DequesFull}
 
@@ -139,10 +139,10 @@ LastsInDeques command p last ending =
 abbrev pub DequesSuffice : Type 0
 DequesSuffice = OfEach IsPlay LastsInDeques
 
--- With room for all words and all actions, a play ends well, or with the fault of the program, or at the limit of deques.
-abbrev pub StatusesWithRoom : Type 0
-StatusesWithRoom = (command : Command) (p : Program) → HasRanges command → IsAccepted p
-    → (status : Status) (text : List ℕ) → PlayMakes command p status text
+-- With room for all words and all actions, what is made of a program is that it ended well, or with its fault, or at the limit of deques.
+abbrev pub StatusesWithRoom : (makes : Command → Program → Status → List ℕ → Type 0) → Type 0
+StatusesWithRoom makes = (command : Command) (p : Program) → HasRanges command → IsAccepted p
+    → (status : Status) (text : List ℕ) → makes command p status text
     → total words_taken (play_list command p) ≤ command.arena → length (play_list command p) ≤ command.steps
     → (status ≡ Done) ⊎ ((status ≡ UserFault) ⊎ (status ≡ DequesFull))
 

@@ -53,6 +53,12 @@ pub fn run_reports_are_bounded()
     ensures { ReportsAreBounded RunMakes }
 {}
 
+/// With room for all words that the depth-first run takes and for its actions, `run` ends well, or with the fault of the program, or at the
+/// limit of deques.
+pub fn run_statuses_with_room()
+    ensures { StatusesWithRoom RunMakes }
+{}
+
 /// The high-water mark in a summary of `make` has the same bound.
 pub fn summaries_are_bounded()
     ensures { SummariesAreBounded }
@@ -87,7 +93,7 @@ pub fn plays_with_room_finish()
 /// With room for all words and all actions `play` ends well, with the program's fault, or at the limit of deques. So a call whose streams
 /// do not fail has status 0, 6 or 9 then, or 10 if there is not enough memory.
 pub fn statuses_with_room()
-    ensures { StatusesWithRoom }
+    ensures { StatusesWithRoom PlayMakes }
 {}
 
 /// Each command and program have a play, and it ends, after at most three events for each action of the depth-first run and one for each

@@ -21,5 +21,5 @@ pub use laws::{
     async_reports_are_bounded, async_statuses_with_room, commands_have_ranges, deques_suffice,
     loops_are_plays, moments_are_bounded, plays_end, plays_with_room_finish,
     recorded_trails_are_accepted, reports_are_bounded, run_moments_are_bounded,
-    run_reports_are_bounded, statuses_with_room, summaries_are_bounded,
+    run_reports_are_bounded, run_statuses_with_room, statuses_with_room, summaries_are_bounded,
 };
