@@ -8,6 +8,8 @@ mod calls;
 #[cfg(test)]
 mod checks;
 #[cfg(test)]
+mod gates;
+#[cfg(test)]
 mod loops;
 #[cfg(test)]
 mod makes;
