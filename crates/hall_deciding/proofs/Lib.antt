@@ -4,3 +4,4 @@ mod FromPools
 mod FromLists
 mod FromAll
 pub mod Waits
+pub mod PartLemmas

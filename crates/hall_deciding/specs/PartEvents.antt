@@ -13,3 +13,5 @@ pub use Rattle.hall_events.specs.Taken as TakenParts
 pub use Rattle.hall_events.specs.Lists as ListsTaken
 pub use Rattle.hall_events.specs.Rooms as Rooms
 pub use Rattle.hall_puts.specs.Puts as Puts
+pub use Rattle.hall_events.specs.Staying as Staying
+pub use Rattle.hall_puts.specs.declared.noting.Noting as Notings

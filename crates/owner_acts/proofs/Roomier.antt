@@ -24,7 +24,7 @@ use Rattle.thread_frames.specs.declared.next.Next.{Next}
 use Rattle.thread_frames.specs.declared.thread.Thread.{Thread}
 use Rattle.thread_map.specs.Kept.{Kept}
 use Rattle.hall_deciding.specs.PartEvents.Rooms.{KeepsDeques, HasMoreBooks, HasMoreToWait, HasMoreToLeave, IsSamePool}
-use Rattle.hall_events.proofs.Rooms.{pool_same, shown_with}
+use Rattle.hall_deciding.proofs.PartLemmas.Rooms.{pool_same, shown_with}
 
 pub takes_from : (next : Next) (top : Thread) (name : ActionId) (was now : PoolSlot) (after : PoolShown) → IsSamePool was now
     → TakesWords next top name (pool_shown now) after → TakesWords next top name (pool_shown was) after

@@ -7,7 +7,7 @@
 //! ([`act_wait`], [`act_give_up`], [`act_dummy`], [`act_leaving_end`], [`act_root_end`]). Whether the quota covers an action is asked of its
 //! period before ([`laws`]).
 //!
-//! Its theorem: so it is with each event, and the law of the hall holds between any two atomic steps.
+//! It hands on what a caller needs of `hall_deciding`. Its theorem: so it is with each event, and the law of the hall holds between any two atomic steps.
 #![tactic(auto)]
 
 mod above;
@@ -23,6 +23,7 @@ mod words;
 
 pub use above::act_end_above;
 pub use give_ups::{act_dummy, act_give_up};
+pub use hall_deciding::{Noting, decide_yield, give_still_back};
 pub use joins::{act_join_giving, act_own_join};
 pub use kept_joins::{act_kept_join, act_kept_join_giving};
 pub use leaving::act_leaving_end;

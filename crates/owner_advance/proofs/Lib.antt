@@ -3,3 +3,4 @@ pub mod Returned
 mod Answered
 pub mod Readable
 mod Coming
+pub mod ReadLemmas

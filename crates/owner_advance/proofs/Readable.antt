@@ -24,7 +24,7 @@ use Rattle.depth_first_run.specs.States.{Setting}
 use Rattle.lane_events.specs.Here.{HasRoomIn}
 use Rattle.hall_deciding.specs.Own.{IsShortThere}
 use Rattle.hall_deciding.specs.PartEvents.TakenParts.{IsAtAction}
-use Rattle.hall_events.proofs.Working.{still_shows}
+use Rattle.hall_deciding.proofs.PartLemmas.Working.{still_shows}
 use Rattle.hall_turns.specs.Keys.{table_of, quota_of}
 use Rattle.hall_turns.specs.Shown.{lane_shown, running_shown}
 use Rattle.hall_turns.specs.Takes.{HallSeat}

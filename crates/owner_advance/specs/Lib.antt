@@ -3,3 +3,4 @@ pub mod Returning
 pub mod Causes
 pub mod Answers
 pub mod Advancing
+pub mod ReadThere

@@ -10,7 +10,7 @@
 //! this end ([`return_answered`]).
 //!
 //! It uses what an owner knows of its lane (`hall_reads`), the way of a thread to its action (`thread_events`), how a seat puts back what
-//! it took (`hall_puts`, `hall_deciding`), and the laws of the running state (`hall_law`). Its theorem: the thread is at its point before
+//! it took (`hall_deciding`), and the laws of the running state (`hall_law`). Its theorem: the thread is at its point before
 //! the action that the depth-first list has for it, nothing is done yet, and there is memory for what it does; each put back keeps the law
 //! of the hall between any two atomic steps and leaves its moment, the seat holds nothing then, and a stop that it notes has its cause
 //! ([`laws`]).

@@ -2,12 +2,12 @@
 
 ghost use Rattle.std.specs.Prelude.{◌+◌, ◌<◌, []};
 ghost use Rattle.turn_table.specs.Tables.{key_of, slot_count, IsSeatOf};
-ghost use Rattle.hall_puts.specs.Puts.{note_of, HasPut};
+ghost use Rattle.hall_deciding.specs.PartEvents.Puts.{note_of, HasPut};
 ghost use Rattle.owner_advance.specs.Returning.{ReturnsPool, ReturnsList, ReturnsAll};
 
 use boxed::Boxed;
 use deque_list::DequeId;
-use hall_puts::{Noting, put_all, put_list_and_lane, put_pool_and_lane};
+use hall_deciding::{Noting, put_all, put_list_and_lane, put_pool_and_lane};
 use hall_turns::{HallPlace, HallRow, LaneSlot, ListSlot, PoolSlot};
 
 /// Puts the pool and the lane of the seat's deque back, which show what they showed.

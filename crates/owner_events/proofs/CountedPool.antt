@@ -3,8 +3,8 @@ use Rattle.std.proofs.Common.{ℕ, ◌+◌, ◌≤◌, [], ◌∷◌, ◌++◌, 
 use Rattle.std.specs.Prelude.{Result, Ok, Err}
 use Rattle.deque_list.specs.declared.deque_id.DequeId.{DequeId}
 use Rattle.hall_counting.specs.Counting.{counting_note}
-use Rattle.hall_reads.proofs.InUse.{words_are_in_use}
-use Rattle.hall_reads.specs.Lists.{words_back}
+use Rattle.owner_advance.proofs.ReadLemmas.InUse.{words_are_in_use}
+use Rattle.owner_advance.specs.ReadThere.Lists.{words_back}
 use Rattle.hall_turns.specs.Takes.{HallSeat, MeetsLaw}
 use Rattle.hall_turns.specs.declared.key.HallKey.{HallKey}
 use Rattle.hall_turns.specs.declared.pool_slot.PoolSlot.{PoolSlot}
@@ -12,7 +12,7 @@ use Rattle.hall_turns.specs.declared.slot.Slot.TheVariants as slots
 use Rattle.owner_advance.proofs.Returned.{same_sound}
 use Rattle.owner_advance.specs.declared.at_next.AtNext.{AtNext}
 use Rattle.owner_events.proofs.Held.{comes, pool_held, with_pool}
-use Rattle.hall_deciding.specs.Taken.{pool_and_lane}
+use Rattle.owner_acts.specs.Decided.Taken.{pool_and_lane}
 use Rattle.owner_events.specs.Ready.{CountsPool}
 use Rattle.owner_events.proofs.Following.{fails}
 use Rattle.owner_events.specs.Taking.{CountsWithPool, HasPool, words_asked_by}

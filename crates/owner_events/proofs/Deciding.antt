@@ -4,9 +4,9 @@ use Rattle.std.specs.Prelude.{IsTrue}
 use Rattle.bounded_list.specs.BoundedList.{entries, spare}
 use Rattle.dag_order.specs.declared.thread_id.ThreadId.{ThreadId}
 use Rattle.deque_list.specs.declared.deque_id.DequeId.{DequeId}
-use Rattle.hall_deciding.specs.PartEvents.ListsTaken.{IsTooMuch}
-use Rattle.hall_deciding.specs.Taken.{its_lane}
-use Rattle.hall_reads.proofs.Joining.{joins_are_read}
+use Rattle.owner_acts.specs.Decided.PartEvents.ListsTaken.{IsTooMuch}
+use Rattle.owner_acts.specs.Decided.Taken.{its_lane}
+use Rattle.owner_advance.proofs.ReadLemmas.Joining.{joins_are_read}
 use Rattle.hall_turns.specs.Keys.{quota_of}
 use Rattle.hall_turns.specs.Takes.{HallSeat, IsTaken, MeetsLaw}
 use Rattle.hall_turns.specs.declared.key.HallKey.{HallKey}

@@ -3,11 +3,11 @@ use Rattle.std.proofs.Common.{◌≡◌, ℕ, ◌+◌, ◌≤◌, [], inr, refl,
 use Rattle.std.specs.Prelude.{None, Some, Ok}
 use Rattle.dag_order.specs.declared.action_id.ActionId.{ActionId}
 use Rattle.deque_list.specs.declared.deque_id.DequeId.{DequeId}
-use Rattle.hall_deciding.specs.PartEvents.Puts.{HasPut}
-use Rattle.hall_deciding.specs.PartEvents.TakenParts.{IsNext, MayAct, MayDoNext}
-use Rattle.hall_deciding.specs.PartEvents.Writes.{told_note}
-use Rattle.hall_deciding.specs.Taken.{pool_and_lane}
-use Rattle.hall_reads.specs.Lists.{words_back}
+use Rattle.owner_acts.specs.Decided.PartEvents.Puts.{HasPut}
+use Rattle.owner_acts.specs.Decided.PartEvents.TakenParts.{IsNext, MayAct, MayDoNext}
+use Rattle.owner_acts.specs.Decided.PartEvents.Writes.{told_note}
+use Rattle.owner_acts.specs.Decided.Taken.{pool_and_lane}
+use Rattle.owner_advance.specs.ReadThere.Lists.{words_back}
 use Rattle.hall_turns.specs.Takes.{HallSeat}
 use Rattle.hall_turns.specs.declared.event.Event.TheVariants.{Did}
 use Rattle.hall_turns.specs.declared.key.HallKey.{HallKey}

@@ -9,12 +9,12 @@ use Rattle.thread_frames.specs.declared.next.Next.{Next}
 use Rattle.turn_table.specs.Notes.{HasAs}
 use Rattle.turn_table.specs.declared.held.Held.{Held}
 use Rattle.turn_table.specs.Seats.{with_hand}
-use Rattle.hall_deciding.specs.PartEvents.Puts.{HasPut}
-use Rattle.hall_deciding.specs.PartEvents.TakenParts.{MayGoOn, MayPause}
-use Rattle.hall_deciding.specs.PartEvents.Writes.{Parts}
-use Rattle.hall_deciding.specs.Taken.{its_lane}
-use Rattle.hall_puts.specs.declared.noting.Noting.TheVariants.{Found}
-use Rattle.hall_reads.proofs.Reading.{pools_are_sound}
+use Rattle.owner_acts.specs.Decided.PartEvents.Puts.{HasPut}
+use Rattle.owner_acts.specs.Decided.PartEvents.TakenParts.{MayGoOn, MayPause}
+use Rattle.owner_acts.specs.Decided.PartEvents.Writes.{Parts}
+use Rattle.owner_acts.specs.Decided.Taken.{its_lane}
+use Rattle.owner_acts.specs.Decided.PartEvents.Notings.TheVariants.{Found}
+use Rattle.owner_advance.proofs.ReadLemmas.Reading.{pools_are_sound}
 use Rattle.hall_seats.specs.Lists.{answered_note}
 use Rattle.hall_turns.specs.Sound.{PoolIsSound}
 use Rattle.hall_turns.specs.Takes.{HallSeat, IsTaken, IsRefused, MeetsLaw}

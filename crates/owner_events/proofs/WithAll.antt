@@ -2,13 +2,13 @@
 use Rattle.std.proofs.Common.{◌≡◌, ℕ, ◌≤◌, [], ◌∷◌, sym, ◌∙◌, subst}
 use Rattle.std.specs.Prelude.{Option, Some, Ok}
 use Rattle.deque_list.specs.declared.deque_id.DequeId.{DequeId}
-use Rattle.hall_deciding.specs.PartEvents.Puts.{HasPut}
-use Rattle.hall_deciding.specs.PartEvents.TakenParts.{IsNext, MayAct}
-use Rattle.hall_deciding.specs.PartEvents.Writes.{told_note}
-use Rattle.hall_deciding.specs.Taken.{all_three}
-use Rattle.hall_reads.proofs.InUse.{words_are_in_use}
-use Rattle.hall_reads.specs.Lists.{words_back, ComesTo}
-use Rattle.hall_reads.specs.Reads.{HoldsItsLane}
+use Rattle.owner_acts.specs.Decided.PartEvents.Puts.{HasPut}
+use Rattle.owner_acts.specs.Decided.PartEvents.TakenParts.{IsNext, MayAct}
+use Rattle.owner_acts.specs.Decided.PartEvents.Writes.{told_note}
+use Rattle.owner_acts.specs.Decided.Taken.{all_three}
+use Rattle.owner_advance.proofs.ReadLemmas.InUse.{words_are_in_use}
+use Rattle.owner_advance.specs.ReadThere.Lists.{words_back, ComesTo}
+use Rattle.owner_advance.specs.ReadThere.Reads.{HoldsItsLane}
 use Rattle.hall_turns.specs.Takes.{HallSeat, MeetsLaw}
 use Rattle.hall_turns.specs.declared.event.Event.{Event}
 use Rattle.hall_turns.specs.declared.key.HallKey.{HallKey}

@@ -4,12 +4,12 @@ use Rattle.std.proofs.lemmas.List.Sorted.{IsPermutation-refl}
 use Rattle.std.specs.Prelude.{Option, None, Some, IsSome}
 use Rattle.dag_order.specs.declared.thread_id.ThreadId.{ThreadId}
 use Rattle.deque_list.specs.declared.deque_id.DequeId.{DequeId}
-use Rattle.hall_deciding.specs.PartEvents.Puts.{HasPut}
-use Rattle.hall_deciding.specs.PartEvents.Rooms.{KeepsDeques, HasMoreBooks, HasMoreRoom, HasMoreToLeave, HasMoreToWait}
-use Rattle.hall_deciding.specs.PartEvents.Writes.{told_note}
-use Rattle.hall_deciding.specs.Taken.{list_and_lane}
-use Rattle.hall_reads.specs.Lists.{ComesTo}
-use Rattle.hall_reads.specs.Reads.{HoldsItsLane}
+use Rattle.owner_acts.specs.Decided.PartEvents.Puts.{HasPut}
+use Rattle.owner_acts.specs.Decided.PartEvents.Rooms.{KeepsDeques, HasMoreBooks, HasMoreRoom, HasMoreToLeave, HasMoreToWait}
+use Rattle.owner_acts.specs.Decided.PartEvents.Writes.{told_note}
+use Rattle.owner_acts.specs.Decided.Taken.{list_and_lane}
+use Rattle.owner_advance.specs.ReadThere.Lists.{ComesTo}
+use Rattle.owner_advance.specs.ReadThere.Reads.{HoldsItsLane}
 use Rattle.hall_turns.specs.Takes.{HallSeat, MeetsLaw}
 use Rattle.hall_turns.specs.declared.event.Event.{Event}
 use Rattle.hall_turns.specs.declared.key.HallKey.{HallKey}

@@ -14,15 +14,15 @@ use Rattle.turn_table.specs.Notes.{HasAs, notes}
 use Rattle.turn_table.proofs.NoteLaws.{notes_at}
 use Rattle.turn_table.specs.declared.look.Look.TheVariants.{Took}
 use Rattle.turn_table.specs.Seats.{with_hand}
-use Rattle.hall_deciding.specs.Lists as deciding
-use Rattle.hall_deciding.specs.PartEvents.Puts.{HasPut}
-use Rattle.hall_deciding.specs.PartEvents.Rooms.{HasMoreBooks}
-use Rattle.hall_deciding.specs.PartEvents.TakenParts.{MayPause}
-use Rattle.hall_deciding.specs.Taken.{list_and_lane}
-use Rattle.hall_puts.specs.declared.noting.Noting.TheVariants.{Same}
-use Rattle.hall_reads.specs.Reads.{HoldsItsLane, ReadsLane}
-use Rattle.hall_reads.proofs.Reading.{st, shown, holds as law_holds, owners_read}
-use Rattle.hall_reads.proofs.Listing.{at, lists_are_read}
+use Rattle.owner_acts.specs.Decided.Lists as deciding
+use Rattle.owner_acts.specs.Decided.PartEvents.Puts.{HasPut}
+use Rattle.owner_acts.specs.Decided.PartEvents.Rooms.{HasMoreBooks}
+use Rattle.owner_acts.specs.Decided.PartEvents.TakenParts.{MayPause}
+use Rattle.owner_acts.specs.Decided.Taken.{list_and_lane}
+use Rattle.owner_acts.specs.Decided.PartEvents.Notings.TheVariants.{Same}
+use Rattle.owner_advance.specs.ReadThere.Reads.{HoldsItsLane, ReadsLane}
+use Rattle.owner_advance.proofs.ReadLemmas.Reading.{st, shown, holds as law_holds, owners_read}
+use Rattle.owner_advance.proofs.ReadLemmas.Listing.{at, lists_are_read}
 use Rattle.hall_turns.specs.Keys.{table_of, quota_of}
 use Rattle.hall_turns.specs.Lists.{ShowsUnowned, HasNoOwner, KeepsRest}
 use Rattle.hall_turns.specs.Shown.{running_shown}

@@ -4,8 +4,8 @@ use Rattle.deque_list.specs.declared.deque_id.DequeId.{DequeId}
 use Rattle.run_end.specs.declared.stop.Stop.TheVariants as stops
 use Rattle.turn_table.specs.declared.look.Look.TheVariants.{Took}
 use Rattle.turn_places.specs.Backs.{IsBack}
-use Rattle.hall_deciding.specs.PartEvents.TakenParts.{MayPause}
-use Rattle.hall_deciding.specs.PartEvents.Writes.{told_note}
+use Rattle.owner_acts.specs.Decided.PartEvents.TakenParts.{MayPause}
+use Rattle.owner_acts.specs.Decided.PartEvents.Writes.{told_note}
 use Rattle.hall_turns.specs.Takes.{HallSeat}
 use Rattle.hall_turns.specs.declared.event.Event.TheVariants.{GaveUp}
 use Rattle.hall_turns.specs.declared.lane_slot.LaneSlot.{LaneSlot}

@@ -3,8 +3,8 @@
 ghost use Rattle.std.specs.Prelude.{◌≡◌, ◌+◌, ◌<◌, ℕ};
 ghost use Rattle.thread_frames.specs.declared.next.Next.{Next as AnyNext};
 ghost use Rattle.turn_table.specs.Tables.{key_of, slot_count, IsSeatOf};
-ghost use Rattle.hall_deciding.specs.PartEvents.Rooms.{HasMoreRoom};
-ghost use Rattle.hall_deciding.specs.Taken.{its_lane, pool_and_lane, list_and_lane, all_three};
+ghost use Rattle.owner_acts.specs.Decided.PartEvents.Rooms.{HasMoreRoom};
+ghost use Rattle.owner_acts.specs.Decided.Taken.{its_lane, pool_and_lane, list_and_lane, all_three};
 ghost use Rattle.hall_turns.specs.declared.list_slot.ListSlot.{ListSlot as AnyList};
 ghost use Rattle.owner_events.specs.Holding.{IsBefore, IsNotBusy};
 ghost use Rattle.owner_events.specs.Taking.{CountsLane, CountsWithAll, CountsWithList, CountsWithPool};
@@ -14,8 +14,8 @@ use crate::refused::ActRefused;
 use boxed::Boxed;
 use deque_list::DequeId;
 use hall_counting::count_action;
-use hall_puts::Noting;
 use hall_turns::{HallPlace, HallRow, ListSlot, PoolSlot};
+use owner_acts::Noting;
 use owner_advance::{AtNext, make_room_for_move};
 use run_end::Stop;
 

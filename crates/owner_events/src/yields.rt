@@ -8,9 +8,8 @@ ghost use Rattle.hall_turns.specs.Takes.{HasAllPlaces};
 ghost use Rattle.owner_events.specs.Yielding.{IsNotBusy, MayYield, Yields};
 
 use deque_list::DequeId;
-use hall_deciding::decide_yield;
-use hall_puts::Noting;
 use hall_turns::{HallPlace, HallRow, LaneSlot, take_lane_and_list};
+use owner_acts::{Noting, decide_yield};
 use owner_advance::{make_room_to_close, return_list};
 use turn_table::Held;
 

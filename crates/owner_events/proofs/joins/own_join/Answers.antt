@@ -5,7 +5,7 @@ use Rattle.thread_frames.specs.Actions.{IsJoin, is_there}
 use Rattle.thread_frames.specs.Views.{children_of, join_words_of, newest}
 use Rattle.thread_frames.specs.declared.next.Next.TheVariants as nexts
 use Rattle.turn_table.specs.Tables.{key_of}
-use Rattle.hall_deciding.specs.Taken.{its_lane}
+use Rattle.owner_acts.specs.Decided.Taken.{its_lane}
 use Rattle.hall_turns.specs.declared.event.Event.TheVariants.{Did}
 use Rattle.owner_events.proofs.Doing.{exit, here_too, counted_leaves}
 use Rattle.owner_events.proofs.FromCount as count

@@ -3,10 +3,10 @@ use Rattle.std.specs.Prelude.{None, Some}
 use Rattle.bounded_list.specs.BoundedList.{spare}
 use Rattle.turn_table.specs.Tables.{key_of}
 use Rattle.turn_table.specs.Seats.{with_hand}
-use Rattle.hall_deciding.specs.PartEvents.ListsTaken.{IsTooMuch}
-use Rattle.hall_deciding.specs.PartEvents.Rooms.{HasMoreBooks}
-use Rattle.hall_deciding.specs.PartEvents.Writes.{told_note}
-use Rattle.hall_deciding.specs.Taken.{list_and_lane}
+use Rattle.owner_acts.specs.Decided.PartEvents.ListsTaken.{IsTooMuch}
+use Rattle.owner_acts.specs.Decided.PartEvents.Rooms.{HasMoreBooks}
+use Rattle.owner_acts.specs.Decided.PartEvents.Writes.{told_note}
+use Rattle.owner_acts.specs.Decided.Taken.{list_and_lane}
 use Rattle.hall_turns.specs.Takes.{HallSeat}
 use Rattle.hall_turns.specs.declared.event.Event.TheVariants.{GaveUp}
 use Rattle.hall_turns.specs.declared.slot.Slot.TheVariants as slots

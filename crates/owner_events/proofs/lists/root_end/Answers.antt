@@ -6,8 +6,8 @@ use Rattle.thread_frames.specs.Actions.{IsEnd}
 use Rattle.thread_frames.specs.Views.{label_of}
 use Rattle.thread_frames.specs.declared.next.Next.TheVariants as nexts
 use Rattle.turn_table.specs.Tables.{key_of}
-use Rattle.hall_deciding.specs.PartEvents.Rooms.{HasMoreToLeave}
-use Rattle.hall_deciding.specs.Taken.{list_and_lane}
+use Rattle.owner_acts.specs.Decided.PartEvents.Rooms.{HasMoreToLeave}
+use Rattle.owner_acts.specs.Decided.Taken.{list_and_lane}
 use Rattle.hall_turns.specs.declared.event.Event.TheVariants.{Did}
 use Rattle.hall_turns.specs.declared.list_slot.ListSlot.{ListSlot}
 use Rattle.owner_acts.specs.Ends.{CanLeave}

@@ -3,8 +3,8 @@ use Rattle.std.specs.Prelude.{None}
 use Rattle.bounded_list.specs.BoundedList.{spare}
 use Rattle.thread_frames.specs.declared.next.Next.TheVariants as nexts
 use Rattle.turn_table.specs.Tables.{key_of}
-use Rattle.hall_deciding.specs.PartEvents.Rooms.{HasMoreToWait}
-use Rattle.hall_deciding.specs.Taken.{list_and_lane}
+use Rattle.owner_acts.specs.Decided.PartEvents.Rooms.{HasMoreToWait}
+use Rattle.owner_acts.specs.Decided.Taken.{list_and_lane}
 use Rattle.hall_turns.specs.declared.event.Event.TheVariants.{Suspended}
 use Rattle.owner_events.proofs.FromList as from
 use Rattle.owner_events.proofs.Trying.{may_pause}

@@ -1,6 +1,6 @@
 use Rattle.std.proofs.Common.{◌+◌, ◌≤◌, ◌<◌, refl, subst}
 use Rattle.turn_table.specs.Tables.{key_of}
-use Rattle.hall_deciding.specs.Taken.{its_lane}
+use Rattle.owner_acts.specs.Decided.Taken.{its_lane}
 use Rattle.hall_turns.specs.declared.slot.Slot.TheVariants as slots
 use Rattle.owner_events.proofs.Following.{is_before}
 use Rattle.owner_events.proofs.Trying.{pool_sound, stop_back}

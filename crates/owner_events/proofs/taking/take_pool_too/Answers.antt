@@ -1,6 +1,6 @@
 use Rattle.std.proofs.Common.{refl}
 use Rattle.turn_table.specs.Tables.{key_of}
-use Rattle.hall_deciding.specs.Taken.{list_and_lane}
+use Rattle.owner_acts.specs.Decided.Taken.{list_and_lane}
 use Rattle.hall_turns.specs.declared.slot.Slot.TheVariants as slots
 use Rattle.owner_advance.proofs.Noting.{nothing_may_be_noted}
 use Rattle.owner_advance.proofs.Returned.{same_list}

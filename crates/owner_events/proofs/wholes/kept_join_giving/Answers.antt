@@ -6,8 +6,8 @@ use Rattle.thread_frames.specs.declared.next.Next.TheVariants as nexts
 use Rattle.thread_map.specs.Kept.{kept_under}
 use Rattle.thread_state.specs.Joins.{released}
 use Rattle.turn_table.specs.Tables.{key_of}
-use Rattle.hall_deciding.specs.PartEvents.Rooms.{HasMoreRoom}
-use Rattle.hall_deciding.specs.Taken.{all_three}
+use Rattle.owner_acts.specs.Decided.PartEvents.Rooms.{HasMoreRoom}
+use Rattle.owner_acts.specs.Decided.Taken.{all_three}
 use Rattle.hall_turns.specs.declared.event.Event.TheVariants.{Did}
 use Rattle.hall_turns.specs.declared.slot.Slot.TheVariants as slots
 use Rattle.owner_acts.specs.Kept.{CanJoinKept}
@@ -19,7 +19,7 @@ use Rattle.owner_events.proofs.FromList as from
 use Rattle.owner_events.proofs.WithAll as all
 use Rattle.owner_events.proofs.WithList as with
 use Rattle.owner_events.specs.Acting.{DoesWithList}
-use Rattle.hall_reads.proofs.InUse.{kept_words_are_in_use}
+use Rattle.owner_advance.proofs.ReadLemmas.InUse.{kept_words_are_in_use}
 use Rattle.owner_events.proofs.wholes.kept_join_giving.Goals as goal
 
 pub returns-in_err-at-clause-seat : goal.returns-in_err-at-clause-seat
