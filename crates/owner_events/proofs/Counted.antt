@@ -1,5 +1,5 @@
 -- A seat that drew a count: what it holds, and how it fails if there is none for it.
-use Rattle.std.proofs.Common.{ℕ, List, [], ◌∷◌, ◌++◌, sym, ap, ◌∙◌, subst}
+use Rattle.std.proofs.Common.{ℕ, List, [], ◌∷◌, ◌++◌, inl, inr, sym, ap, ◌∙◌, subst}
 use Rattle.std.specs.Prelude.{Some}
 use Rattle.deque_list.specs.declared.deque_id.DequeId.{DequeId}
 use Rattle.run_end.specs.declared.stop.Stop.{Stop}
@@ -14,7 +14,7 @@ use Rattle.hall_turns.specs.declared.key.HallKey.{HallKey}
 use Rattle.hall_turns.specs.declared.lane_slot.LaneSlot.{LaneSlot}
 use Rattle.hall_turns.specs.declared.slot.Slot.{Slot}
 use Rattle.owner_advance.specs.declared.at_next.AtNext.{AtNext}
-use Rattle.owner_events.specs.Holding.{Fails, IsHolding, IsBefore}
+use Rattle.owner_events.specs.Holding.{Fails, IsHolding, IsBefore, IsNoSlot, Shows}
 use Rattle.owner_events.specs.Taking.{Draws}
 use Rattle.owner_events.specs.declared.refused.ActRefused.TheVariants.{Stopped}
 
@@ -55,9 +55,11 @@ module _ (key : HallKey) (before : HallSeat) (deque : DequeId) (others : LaneSlo
         is_next = is.holding.is_next;
       }
 
-      pub stopped : (after : HallSeat) → HasPut middle middle.hand.note [] after → Fails before (Stopped stop) after
+      pub stopped : (after : HallSeat) → HasPut middle middle.hand.note [] after → Fails IsNoSlot before (Stopped stop) after
       stopped after put = (
         Counted spent.0 ∷ [],
+        (tt, tt),
+        inr (inl (subst (λ s. Shows s (Counted spent.0)) (sym spent.2) spent.1)),
         put
             ∙ ap (λ (s : HallSeat). with_hand s (record { seated = s.hand.seated; holds = []; note = s.hand.note; looks = s.hand.looks })) spent.3
             ∙ ap (λ (stop : Stop). with_hand before (record {

@@ -1,5 +1,5 @@
 -- A seat that took the pool and drew a count, as one call.
-use Rattle.std.proofs.Common.{ℕ, ◌+◌, ◌≤◌, [], ◌∷◌, ◌++◌, sym, ap, ◌∙◌, subst, append_assoc}
+use Rattle.std.proofs.Common.{ℕ, ◌+◌, ◌≤◌, [], ◌∷◌, ◌++◌, refl, sym, ap, ◌∙◌, subst, append_assoc}
 use Rattle.std.specs.Prelude.{Result, Ok, Err}
 use Rattle.deque_list.specs.declared.deque_id.DequeId.{DequeId}
 use Rattle.hall_counting.specs.Counting.{counting_note}
@@ -14,7 +14,9 @@ use Rattle.owner_advance.specs.declared.at_next.AtNext.{AtNext}
 use Rattle.owner_events.proofs.Held.{comes, pool_held, with_pool}
 use Rattle.owner_acts.specs.Decided.Taken.{pool_and_lane}
 use Rattle.owner_events.specs.Ready.{CountsPool}
+use Rattle.owner_events.proofs.Failing.{at_none}
 use Rattle.owner_events.proofs.Following.{fails}
+use Rattle.owner_events.specs.Holding.{IsPoolSlot}
 use Rattle.owner_events.specs.Taking.{CountsWithPool, HasPool, words_asked_by}
 use Rattle.owner_events.specs.declared.refused.ActRefused.{ActRefused}
 use Rattle.thread_frames.specs.declared.next.Next.{Next}
@@ -45,4 +47,4 @@ module _ (key : HallKey) (before : HallSeat) (deque : DequeId) (at : AtNext) (ne
       back = subst (λ p. words_back at.top next ≤ p.live) (sym c.1.pool) in_use;
     },
   )
-  counts_pool (Err refused) c = fails before middle 1 (slots.Pool pool) has.taken after refused c
+  counts_pool (Err refused) c = fails before middle 1 (slots.Pool pool) has.taken after IsPoolSlot refl refused (at_none IsPoolSlot middle after refused c)

@@ -1,5 +1,5 @@
 -- How a seat leaves once its event was put back.
-use Rattle.std.proofs.Common.{◌≡◌, ◌≢◌, ℕ, Option, List, [], ◌∷◌, ◌++◌, refl, sym, ap, ◌∙◌, subst}
+use Rattle.std.proofs.Common.{◌≡◌, ◌≢◌, ℕ, Option, List, [], ◌∷◌, ◌++◌, inl, refl, sym, ap, ◌∙◌, subst}
 use Rattle.std.specs.Result.{IsErrAnd}
 use Rattle.std.specs.Prelude.{Some, Result, Ok, Err}
 use Rattle.deque_list.specs.declared.deque_id.DequeId.{DequeId}
@@ -24,6 +24,7 @@ use Rattle.hall_turns.specs.declared.slot.Slot.TheVariants as slots
 use Rattle.owner_advance.specs.Advancing.{HasLooked}
 use Rattle.owner_advance.specs.declared.at_next.AtNext.{AtNext}
 use Rattle.owner_events.proofs.Following.{fails, looked, note}
+use Rattle.owner_events.specs.Needs.{ActionNeedsList, MayTry}
 use Rattle.owner_events.specs.Taking.{Draws}
 use Rattle.owner_events.specs.declared.refused.ActRefused.{ActRefused}
 use Rattle.owner_events.specs.Acting.{Does, DoesWithList, look_at_pool, look_at_count}
@@ -56,9 +57,9 @@ module _ (before middle after : HallSeat) (owned : Option DequeId) (event : Even
       (looked before middle slot found taken after more (told_note middle.hand.note owned event) leaves)
 
 -- what it did with the list that it took
-pub does_with_list : (before middle after : HallSeat) (deque : DequeId) (at : AtNext) (next : Next) (list : ListSlot)
-    → IsTaken before 0 (slots.List list) middle → (r : Result Acted ActRefused) → DoesWithList middle deque at next r after → Does before deque at next r after
-does_with_list before middle after deque at next list taken (Ok acted) d = record {
+pub does_with_list : (key : HallKey) (before middle after : HallSeat) (deque : DequeId) (at : AtNext) (next : Next) (list : ListSlot) → ActionNeedsList at next
+    → IsTaken before 0 (slots.List list) middle → (r : Result Acted ActRefused) → DoesWithList key middle deque at next r after → Does key before deque at next r after
+does_with_list key before middle after deque at next list needs taken (Ok acted) d = record {
   list = Some list;
   pool = d.pool;
   count = d.count;
@@ -67,7 +68,8 @@ does_with_list before middle after deque at next list taken (Ok acted) d = recor
   pools = d.pools;
   leaves = taken_leaves before middle after acted.owned acted.event 0 (slots.List list) taken (look_at_pool d.pool ++ look_at_count d.count) d.leaves;
 }
-does_with_list before middle after deque at next list taken (Err refused) d = fails before middle 0 (slots.List list) taken after refused d
+does_with_list key before middle after deque at next list needs taken (Err refused) d =
+    fails before middle 0 (slots.List list) taken after (MayTry key at next) (inl (refl, inl needs)) refused d
 
 -- who is directly below, and waits for the result
 pub first_below : (top : Thread) (under : List Thread) → under ≢ [] → FirstAwaits top under

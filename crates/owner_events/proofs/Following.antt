@@ -15,6 +15,7 @@ use Rattle.hall_turns.specs.declared.slot.Slot.{Slot}
 use Rattle.hall_turns.specs.declared.slot.Slot.TheVariants as slots
 use Rattle.owner_advance.specs.Advancing.{HasLooked}
 use Rattle.owner_advance.specs.declared.at_next.AtNext.{AtNext}
+use Rattle.owner_events.proofs.Failing.{of_stop_too}
 use Rattle.owner_events.specs.Holding.{Fails, IsHolding, IsBefore, found_note}
 use Rattle.owner_events.specs.declared.refused.ActRefused.{ActRefused}
 use Rattle.owner_events.specs.declared.refused.ActRefused.TheVariants.{Busy, Over, Stopped}
@@ -54,13 +55,26 @@ module _ (before middle : HallSeat) (slot : ℕ) (found : Slot) (taken : IsTaken
         ∙ ap (λ (s : HallSeat). with_hand s (record { seated = s.hand.seated; holds = []; note = new; looks = s.hand.looks ++ more })) taken
         ∙ ap (λ looks. with_hand before (record { seated = before.hand.seated; holds = []; note = new; looks = looks })) (append_assoc before.hand.looks (Took slot found ∷ []) more)
 
-    pub fails : (refused : ActRefused) → Fails middle refused after → Fails before refused after
-    fails (Busy held) f = (Took slot found ∷ f.0, subst (λ n. HasLooked before (Took slot found ∷ (f.0 ++ Refused held.slot held.seen ∷ [])) n after) note (looked (f.0 ++ Refused held.slot held.seen ∷ []) middle.hand.note f.1))
-    fails (Over end) f = (
+    pub fails : (May : ℕ → Type 0) → May slot → (refused : ActRefused) → Fails May middle refused after → Fails May before refused after
+    fails May may (Busy held) f = (
+      Took slot found ∷ f.0,
+      (may, f.1),
+      f.2,
+      subst (λ n. HasLooked before (Took slot found ∷ (f.0 ++ Refused held.slot held.seen ∷ [])) n after) note
+          (looked (f.0 ++ Refused held.slot held.seen ∷ []) middle.hand.note f.3),
+    )
+    fails May may (Over end) f = (
       Took slot found ∷ f.0,
       f.1,
-      f.2,
+      (may, f.2),
+      f.3,
+      f.4,
       subst (λ n. HasLooked before (Took slot found ∷ (f.0 ++ Took 0 (slots.List f.1) ∷ [])) (answered_note n f.1) after) note
-          (looked (f.0 ++ Took 0 (slots.List f.1) ∷ []) (answered_note middle.hand.note f.1) f.3),
+          (looked (f.0 ++ Took 0 (slots.List f.1) ∷ []) (answered_note middle.hand.note f.1) f.5),
     )
-    fails (Stopped stop) f = (Took slot found ∷ f.0, subst (λ n. HasLooked before (Took slot found ∷ f.0) (found_note n stop) after) note (looked f.0 (found_note middle.hand.note stop) f.1))
+    fails May may (Stopped stop) f = (
+      Took slot found ∷ f.0,
+      (may, f.1),
+      of_stop_too stop (Took slot found) f.0 f.2,
+      subst (λ n. HasLooked before (Took slot found ∷ f.0) (found_note n stop) after) note (looked f.0 (found_note middle.hand.note stop) f.3),
+    )

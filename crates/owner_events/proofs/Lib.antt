@@ -1,4 +1,5 @@
 mod Given
+mod Failing
 mod Following
 mod Counted
 mod Trying
@@ -12,5 +13,5 @@ mod CountedPool
 mod WithList
 mod WithAll
 mod Deciding
-mod Called
+pub mod Called
 mod Yielded

@@ -1,5 +1,5 @@
 -- A seat that tries to take the list or the pool beside what it holds.
-use Rattle.std.proofs.Common.{◌≡◌, ℕ, ◌+◌, ◌≤◌, ◌<◌, List, [], ◌∷◌, inl, refl, sym, ap, ◌∙◌, subst}
+use Rattle.std.proofs.Common.{◌≡◌, ℕ, ◌+◌, ◌≤◌, ◌<◌, List, [], ◌∷◌, ◌++◌, inl, inr, refl, sym, ap, ◌∙◌, subst, append-nil}
 use Rattle.std.specs.Prelude.{Some}
 use Rattle.deque_list.specs.declared.deque_id.DequeId.{DequeId}
 use Rattle.run_end.specs.declared.ends.RunEnd.{RunEnd}
@@ -8,6 +8,7 @@ use Rattle.run_end.specs.declared.stop.Stop.TheVariants.{ArenaFull, OutOfMemory}
 use Rattle.thread_frames.specs.declared.next.Next.{Next}
 use Rattle.turn_table.specs.Notes.{HasAs}
 use Rattle.turn_table.specs.declared.held.Held.{Held}
+use Rattle.turn_table.specs.declared.look.Look.TheVariants.{Took, Refused}
 use Rattle.turn_table.specs.Seats.{with_hand}
 use Rattle.owner_acts.specs.Decided.PartEvents.Puts.{HasPut}
 use Rattle.owner_acts.specs.Decided.PartEvents.TakenParts.{MayGoOn, MayPause}
@@ -30,9 +31,9 @@ use Rattle.owner_advance.proofs.Returned.{same_pool}
 use Rattle.owner_advance.specs.Returning.{MayNote, ReturnsPool}
 use Rattle.owner_events.proofs.Following.{is_before}
 use Rattle.owner_events.proofs.Given.{lane_back}
-use Rattle.owner_events.specs.Holding.{Fails, IsHolding, IsBefore}
+use Rattle.owner_events.specs.Holding.{Fails, IsHolding, IsBefore, IsListSlot, IsNoSlot, IsPoolSlot, Shows, found_note}
 use Rattle.owner_events.specs.Taking.{AsksByTheList, words_asked_by}
-use Rattle.owner_events.specs.declared.refused.ActRefused.TheVariants.{Over}
+use Rattle.owner_events.specs.declared.refused.ActRefused.TheVariants.{Busy, Over, Stopped}
 
 -- it may ask for memory
 pub may_pause : (key : HallKey) (seat : HallSeat) (deque : DequeId) (others : LaneSlot → List (ℕ × Slot)) (at : AtNext) (next : Next) (ready : ℕ)
@@ -56,10 +57,12 @@ module _ (before middle : HallSeat) (slot : ℕ) (held : Held) (refused : IsRefu
 
 -- the list that it took, in which an end is kept
 module _ (before middle : HallSeat) (list : ListSlot) (end : RunEnd) (kept : list.end ≡ Some end) (taken : IsTaken before 0 (slots.List list) middle) where
-  pub over : (after : HallSeat) → HasPut middle (answered_note middle.hand.note list) [] after → Fails before (Over end) after
+  pub over : (after : HallSeat) → HasPut middle (answered_note middle.hand.note list) [] after → Fails IsListSlot before (Over end) after
   over after put = (
     [],
     list,
+    tt,
+    refl,
     kept,
     put
         ∙ ap (λ (s : HallSeat). with_hand s (record { seated = s.hand.seated; holds = []; note = answered_note s.hand.note list; looks = s.hand.looks })) taken,
@@ -104,3 +107,13 @@ module _ (key : HallKey) (before middle : HallSeat) (deque : DequeId) (pool : Po
         → lane.lane.items ≡ at.top ∷ at.lane.items → lane.running ≡ Some at.running → ReturnsPool key middle deque pool lane (Found stop)
     stop_back asked asked_is stop is lane items running = subst (λ s. ReturnsPool key middle deque pool lane (Found s)) (sym (is ∙ ap (ArenaFull pool.pool.live) asked_is))
         (full_back lane items running)
+
+    -- so it fails
+    pub full_fails : (asked : ℕ) → asked ≡ words_asked_by next → (stop : Stop) → stop ≡ ArenaFull pool.pool.live asked → (after : HallSeat)
+        → HasPut middle (found_note middle.hand.note stop) [] after → Fails IsPoolSlot before (Stopped stop) after
+    full_fails asked asked_is stop is after put = (
+      Took 1 (slots.Pool pool) ∷ [],
+      (refl, tt),
+      inr (inl (subst (λ s. Shows s (Took 1 (slots.Pool pool))) (sym is) (refl, subst (λ n. pool.pool.capacity < pool.pool.live + n) (sym asked_is) full))),
+      put ∙ ap (λ (s : HallSeat). with_hand s (record { seated = s.hand.seated; holds = []; note = found_note s.hand.note stop; looks = s.hand.looks })) taken,
+    )

@@ -22,7 +22,7 @@ use Rattle.hall_turns.specs.declared.slot.Slot.TheVariants as slots
 use Rattle.owner_acts.specs.Ready.{PoolIsReady}
 use Rattle.owner_advance.specs.declared.at_next.AtNext.{AtNext}
 use Rattle.owner_advance.specs.declared.memory.SeatMemory.{SeatMemory}
-use Rattle.owner_events.specs.Holding.{Fails, IsBefore, IsCounted}
+use Rattle.owner_events.specs.Holding.{Fails, IsBefore, IsCounted, IsPoolSlot}
 use Rattle.owner_events.specs.Taking.{words_asked_by}
 use Rattle.owner_events.specs.declared.refused.ActRefused.{ActRefused}
 
@@ -52,7 +52,7 @@ pub record HasCountedPool (key : HallKey) (before : HallSeat) (deque : DequeId) 
 
 abbrev pub CountsPool : HallKey → HallSeat → DequeId → AtNext → Next → (ready : ℕ) → Result (AtNext × PoolSlot) ActRefused → HallSeat → Type 0
 CountsPool key before deque at next ready (Ok taken) after = (taken.0 ≡ at) × HasCountedPool key before deque at next ready taken.1 after
-CountsPool key before deque at next ready (Err refused) after = Fails before refused after
+CountsPool key before deque at next ready (Err refused) after = Fails IsPoolSlot before refused after
 
 -- The seat holds its lane and the list, in which no end is kept, and meets the law.
 pub record IsReadyWith (key : HallKey) (seat : HallSeat) (deque : DequeId) (at : AtNext) (next : Next) (memory : SeatMemory) (list : ListSlot)

@@ -45,7 +45,7 @@ fn do_next(
     requires ready { IsReadyTo (key_of row.now) seat.old deque at next memory.old }
     requires place { IsSome memory.old.place }
     requires uses { IsReadiness at.running.period.used (quota_of (key_of row.now)) at.top next (Ready charge) }
-    ensures seat { Does seat.old deque at next result seat.new }
+    ensures seat { Does (key_of row.now) seat.old deque at next result seat.new }
     ensures births { entries memory.new.births ≡ [] }
     ensures lone { HasAllPlaces (key_of row.now) seat.old → IsNotBusy result }
 {
@@ -77,7 +77,7 @@ fn go_on(
     requires limit { limit ≡ (key_of row.now).actions }
     requires ready { IsReadyTo (key_of row.now) seat.old deque at next memory.old }
     requires place { IsSome memory.old.place }
-    ensures seat { Does seat.old deque at next result seat.new }
+    ensures seat { Does (key_of row.now) seat.old deque at next result seat.new }
     ensures births { entries memory.new.births ≡ [] }
     ensures lone { HasAllPlaces (key_of row.now) seat.old → IsNotBusy result }
 {

@@ -45,7 +45,7 @@ fn end_alone(
     requires limit { limit ≡ (key_of row.now).actions }
     requires ready { IsReadyTo (key_of row.now) seat.old deque at nexts.End memory.old }
     requires alone { at.lane.items ≡ [] }
-    ensures seat { Does seat.old deque at nexts.End result seat.new }
+    ensures seat { Does (key_of row.now) seat.old deque at nexts.End result seat.new }
     ensures births { entries memory.new.births ≡ [] }
     ensures lone { HasAllPlaces (key_of row.now) seat.old → IsNotBusy result }
 {
@@ -72,7 +72,7 @@ pub(crate) fn end(
     requires slot { deque.0 + 2 < slot_count row.now }
     requires limit { limit ≡ (key_of row.now).actions }
     requires ready { IsReadyTo (key_of row.now) seat.old deque at nexts.End memory.old }
-    ensures seat { Does seat.old deque at nexts.End result seat.new }
+    ensures seat { Does (key_of row.now) seat.old deque at nexts.End result seat.new }
     ensures births { entries memory.new.births ≡ [] }
     ensures lone { HasAllPlaces (key_of row.now) seat.old → IsNotBusy result }
 {

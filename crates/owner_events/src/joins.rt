@@ -43,7 +43,7 @@ fn own_join(
     requires ready { IsReadyTo (key_of row.now) seat.old deque at (nexts.Join child) memory.old }
     requires delivered { IsTrue (is_there (newest (children_of at.top))) }
     requires words { join_words_of at.top ≡ 0 }
-    ensures seat { Does seat.old deque at (nexts.Join child) result seat.new }
+    ensures seat { Does (key_of row.now) seat.old deque at (nexts.Join child) result seat.new }
     ensures births { entries memory.new.births ≡ [] }
     ensures never { IsNotBusy result }
 {
@@ -73,7 +73,7 @@ pub(crate) fn join_delivered(
     requires limit { limit ≡ (key_of row.now).actions }
     requires ready { IsReadyTo (key_of row.now) seat.old deque at (nexts.Join child) memory.old }
     requires delivered { IsTrue (is_there (newest (children_of at.top))) }
-    ensures seat { Does seat.old deque at (nexts.Join child) result seat.new }
+    ensures seat { Does (key_of row.now) seat.old deque at (nexts.Join child) result seat.new }
     ensures births { entries memory.new.births ≡ [] }
     ensures lone { HasAllPlaces (key_of row.now) seat.old → IsNotBusy result }
 {
@@ -108,7 +108,7 @@ pub(crate) fn join_missing(
     requires limit { limit ≡ (key_of row.now).actions }
     requires ready { IsReadyTo (key_of row.now) seat.old deque at (nexts.Join child) memory.old }
     requires missing { is_delivered child (children_of at.top) ≡ false }
-    ensures seat { Does seat.old deque at (nexts.Join child) result seat.new }
+    ensures seat { Does (key_of row.now) seat.old deque at (nexts.Join child) result seat.new }
     ensures births { entries memory.new.births ≡ [] }
     ensures lone { HasAllPlaces (key_of row.now) seat.old → IsNotBusy result }
 {

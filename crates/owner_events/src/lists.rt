@@ -15,7 +15,7 @@ ghost use Rattle.owner_acts.specs.Decided.Taken.{list_and_lane};
 ghost use Rattle.hall_turns.specs.declared.list_slot.ListSlot.{ListSlot as AnyList};
 ghost use Rattle.run_end.specs.declared.stop.Stop.TheVariants.{OutOfMemory};
 ghost use Rattle.owner_events.specs.declared.refused.ActRefused.TheVariants.{Stopped};
-ghost use Rattle.owner_events.specs.Holding.{Fails, IsBefore, IsNotBusy};
+ghost use Rattle.owner_events.specs.Holding.{Fails, IsBefore, IsNoSlot, IsNotBusy};
 ghost use Rattle.hall_turns.specs.Takes.{HasAllPlaces};
 ghost use Rattle.owner_events.specs.Acting.{Does, DoesWithList};
 ghost use Rattle.owner_events.specs.Ready.{IsKeptFor, IsReadyTo, IsReadyWith};
@@ -54,7 +54,7 @@ fn stop_short(
     requires slot { deque.0 + 2 < slot_count row.now }
     requires before { (next : AnyNext) × (ready : ℕ) × (was : AnyList) × HasMoreRoom was list
         × IsBefore (key_of row.now) seat.old deque (list_and_lane deque was) at next ready }
-    ensures seat { Fails seat.old result seat.new }
+    ensures seat { Fails IsNoSlot seat.old result seat.new }
     ensures memory { result ≡ Stopped OutOfMemory }
 {
     let noting = Noting::Found(Stop::OutOfMemory);
@@ -74,7 +74,7 @@ pub(crate) fn give_up(
     requires ready { (next : AnyNext) × (memory : AnyMemory) × IsReadyTo (key_of row.now) seat.old deque at next memory
         × IsTooMuch (key_of row.now) next at.top at.running.period }
     ensures seat { (next : AnyNext) (memory : AnyMemory) → IsReadyTo (key_of row.now) seat.old deque at next memory
-        → Does seat.old deque at next result seat.new }
+        → IsTooMuch (key_of row.now) next at.top at.running.period → Does (key_of row.now) seat.old deque at next result seat.new }
     ensures lone { HasAllPlaces (key_of row.now) seat.old → IsNotBusy result }
 {
     let (at, list) = take_open_list(row, seat, deque, at)?;
@@ -101,7 +101,7 @@ pub(crate) fn dummy(
     requires slot { deque.0 + 2 < slot_count row.now }
     requires limit { limit ≡ (key_of row.now).actions }
     requires ready { IsReadyTo (key_of row.now) seat.old deque at nexts.Dummy memory.old }
-    ensures seat { Does seat.old deque at nexts.Dummy result seat.new }
+    ensures seat { Does (key_of row.now) seat.old deque at nexts.Dummy result seat.new }
     ensures births { entries memory.new.births ≡ [] }
     ensures lone { HasAllPlaces (key_of row.now) seat.old → IsNotBusy result }
 {
@@ -132,7 +132,7 @@ pub(crate) fn wait(
     requires ready { (memory : AnyMemory) × IsReadyWith (key_of row.now) seat.old deque at (nexts.Join child) memory list }
     requires missing { is_delivered child (children_of at.top) ≡ false }
     requires none { kept_under list.part.results child ≡ None }
-    ensures seat { DoesWithList seat.old deque at (nexts.Join child) result seat.new }
+    ensures seat { DoesWithList (key_of row.now) seat.old deque at (nexts.Join child) result seat.new }
     ensures never { IsNotBusy result }
 {
     let mut list = list;
@@ -162,7 +162,7 @@ pub(crate) fn kept_join(
     requires ready { IsReadyWith (key_of row.now) seat.old deque at (nexts.Join child) memory.old list }
     requires missing { is_delivered child (children_of at.top) ≡ false }
     requires kept { (words : ℕ) × (words ≡ 0) × IsKeptFor list at.top child (Some words) }
-    ensures seat { DoesWithList seat.old deque at (nexts.Join child) result seat.new }
+    ensures seat { DoesWithList (key_of row.now) seat.old deque at (nexts.Join child) result seat.new }
     ensures births { entries memory.new.births ≡ [] }
     ensures never { IsNotBusy result }
 {
@@ -192,7 +192,7 @@ pub(crate) fn root_end(
     requires ready { IsReadyWith (key_of row.now) seat.old deque at nexts.End memory.old list }
     requires root { label_of at.top ≡ [] }
     requires alone { at.lane.items ≡ [] }
-    ensures seat { DoesWithList seat.old deque at nexts.End result seat.new }
+    ensures seat { DoesWithList (key_of row.now) seat.old deque at nexts.End result seat.new }
     ensures births { entries memory.new.births ≡ [] }
     ensures never { IsNotBusy result }
 {

@@ -79,7 +79,7 @@ pub(crate) fn fork(
     requires ready { IsReadyTo (key_of row.now) seat.old deque at (nexts.Fork) memory.old }
     requires uses { MayUse (key_of row.now) seat.old.hand.note.worker (nexts.Fork) charge at.top at.running.period }
     requires place { IsSome memory.old.place }
-    ensures seat { Does seat.old deque at (nexts.Fork) result seat.new }
+    ensures seat { Does (key_of row.now) seat.old deque at (nexts.Fork) result seat.new }
     ensures births { entries memory.new.births ≡ [] }
     ensures lone { HasAllPlaces (key_of row.now) seat.old → IsNotBusy result }
 {
@@ -109,7 +109,7 @@ pub(crate) fn alloc(
     requires limit { limit ≡ (key_of row.now).actions }
     requires ready { IsReadyTo (key_of row.now) seat.old deque at (nexts.Alloc words) memory.old }
     requires uses { MayUse (key_of row.now) seat.old.hand.note.worker (nexts.Alloc words) charge at.top at.running.period }
-    ensures seat { Does seat.old deque at (nexts.Alloc words) result seat.new }
+    ensures seat { Does (key_of row.now) seat.old deque at (nexts.Alloc words) result seat.new }
     ensures births { entries memory.new.births ≡ [] }
     ensures lone { HasAllPlaces (key_of row.now) seat.old → IsNotBusy result }
 {
@@ -136,7 +136,7 @@ pub(crate) fn release(
     requires limit { limit ≡ (key_of row.now).actions }
     requires ready { IsReadyTo (key_of row.now) seat.old deque at (nexts.Release words) memory.old }
     requires uses { MayUse (key_of row.now) seat.old.hand.note.worker (nexts.Release words) 0 at.top at.running.period }
-    ensures seat { Does seat.old deque at (nexts.Release words) result seat.new }
+    ensures seat { Does (key_of row.now) seat.old deque at (nexts.Release words) result seat.new }
     ensures births { entries memory.new.births ≡ [] }
     ensures lone { HasAllPlaces (key_of row.now) seat.old → IsNotBusy result }
 {
@@ -163,7 +163,7 @@ pub(crate) fn fault(
     requires limit { limit ≡ (key_of row.now).actions }
     requires ready { IsReadyTo (key_of row.now) seat.old deque at (nexts.Fault fault) memory.old }
     requires uses { MayUse (key_of row.now) seat.old.hand.note.worker (nexts.Fault fault) 0 at.top at.running.period }
-    ensures seat { Does seat.old deque at (nexts.Fault fault) result seat.new }
+    ensures seat { Does (key_of row.now) seat.old deque at (nexts.Fault fault) result seat.new }
     ensures births { entries memory.new.births ≡ [] }
     ensures lone { HasAllPlaces (key_of row.now) seat.old → IsNotBusy result }
 {
@@ -191,7 +191,7 @@ pub(crate) fn join_giving(
     requires ready { IsReadyTo (key_of row.now) seat.old deque at (nexts.Join child) memory.old }
     requires delivered { IsTrue (is_there (newest (children_of at.top))) }
     requires words { 0 < join_words_of at.top }
-    ensures seat { Does seat.old deque at (nexts.Join child) result seat.new }
+    ensures seat { Does (key_of row.now) seat.old deque at (nexts.Join child) result seat.new }
     ensures births { entries memory.new.births ≡ [] }
     ensures lone { HasAllPlaces (key_of row.now) seat.old → IsNotBusy result }
 {
@@ -218,7 +218,7 @@ pub(crate) fn end_above(
     requires ready { IsReadyTo (key_of row.now) seat.old deque at (nexts.End) memory.old }
     requires above { at.lane.items ≢ [] }
     requires reads { ReadsEnd at.top at.lane.items }
-    ensures seat { Does seat.old deque at (nexts.End) result seat.new }
+    ensures seat { Does (key_of row.now) seat.old deque at (nexts.End) result seat.new }
     ensures births { entries memory.new.births ≡ [] }
     ensures lone { HasAllPlaces (key_of row.now) seat.old → IsNotBusy result }
 {

@@ -15,7 +15,7 @@ ghost use Rattle.thread_frames.specs.declared.thread.Thread.{Thread as AnyThread
 ghost use Rattle.thread_map.specs.Kept.{kept_under};
 ghost use Rattle.turn_table.specs.Tables.{key_of, slot_count, IsSeatOf};
 ghost use Rattle.hall_turns.specs.Takes.{HasAllPlaces};
-ghost use Rattle.owner_events.specs.Holding.{Fails, IsBefore, IsNotBusy};
+ghost use Rattle.owner_events.specs.Holding.{Fails, IsBefore, IsNoSlot, IsNotBusy};
 ghost use Rattle.owner_events.specs.Acting.{DoesWithList};
 ghost use Rattle.owner_events.specs.Ready.{IsKeptFor, IsReadyWith};
 
@@ -45,7 +45,7 @@ fn stop_with_all(
     requires slot { deque.0 + 2 < slot_count row.now }
     requires before { (next : AnyNext) × (ready : ℕ) × (was : AnyList) × HasMoreRoom was list
         × IsBefore (key_of row.now) seat.old deque (all_three deque was pool) at next ready }
-    ensures seat { Fails seat.old result seat.new }
+    ensures seat { Fails IsNoSlot seat.old result seat.new }
     ensures memory { result ≡ Stopped OutOfMemory }
 {
     let noting = Noting::Found(Stop::OutOfMemory);
@@ -70,7 +70,7 @@ pub(crate) fn kept_join_giving(
     requires ready { IsReadyWith (key_of row.now) seat.old deque at (nexts.Join child) memory.old list }
     requires missing { is_delivered child (children_of at.top) ≡ false }
     requires kept { (words : ℕ) × (0 < words) × IsKeptFor list at.top child (Some words) }
-    ensures seat { DoesWithList seat.old deque at (nexts.Join child) result seat.new }
+    ensures seat { DoesWithList (key_of row.now) seat.old deque at (nexts.Join child) result seat.new }
     ensures births { entries memory.new.births ≡ [] }
     ensures lone { HasAllPlaces (key_of row.now) seat.old → IsNotBusy result }
 {
@@ -104,7 +104,7 @@ pub(crate) fn waking_end(
     requires forked { 0 < length (label_of at.top) }
     requires alone { at.lane.items ≡ [] }
     requires waits { IsSome (kept_under list.part.waiting (AnyThread.id at.top)) }
-    ensures seat { DoesWithList seat.old deque at nexts.End result seat.new }
+    ensures seat { DoesWithList (key_of row.now) seat.old deque at nexts.End result seat.new }
     ensures births { entries memory.new.births ≡ [] }
     ensures lone { HasAllPlaces (key_of row.now) seat.old → IsNotBusy result }
 {
@@ -137,7 +137,7 @@ pub(crate) fn leaving_end(
     requires forked { 0 < length (label_of at.top) }
     requires alone { at.lane.items ≡ [] }
     requires nobody { kept_under list.part.waiting (AnyThread.id at.top) ≡ None }
-    ensures seat { DoesWithList seat.old deque at nexts.End result seat.new }
+    ensures seat { DoesWithList (key_of row.now) seat.old deque at nexts.End result seat.new }
     ensures births { entries memory.new.births ≡ [] }
     ensures lone { HasAllPlaces (key_of row.now) seat.old → IsNotBusy result }
 {

@@ -22,7 +22,8 @@ pub join_missing-requires-clause-missing : goal.join_missing-requires-clause-mis
 join_missing-requires-clause-missing c = (deciding.missing_is c.args.at.running.period.used (quota_of (key_of c.args.row.now)) c.args.at.top c.args.next c.in-Missing.child (subst (λ k. IsReadiness c.args.at.running.period.used (quota_words k) c.args.at.top c.args.next (Missing c.in-Missing.child)) (sym c.requires.quota) c.in-Missing.ensures)).1
 
 pub returns-in-Missing-clause-seat : goal.returns-in-Missing-clause-seat
-returns-in-Missing-clause-seat c = subst (λ n. Does c.args.seat.now c.args.deque c.args.at n c.join_missing.result c.join_missing.new.seat) (sym (deciding.missing_is c.args.at.running.period.used (quota_of (key_of c.args.row.now)) c.args.at.top c.args.next c.in-Missing.child (subst (λ k. IsReadiness c.args.at.running.period.used (quota_words k) c.args.at.top c.args.next (Missing c.in-Missing.child)) (sym c.requires.quota) c.in-Missing.ensures)).0) c.join_missing.ensures.seat
+returns-in-Missing-clause-seat c = subst (λ n. Does (key_of c.args.row.now) c.args.seat.now c.args.deque c.args.at n c.join_missing.result c.join_missing.new.seat) (sym (deciding.missing_is c.args.at.running.period.used (quota_of (key_of c.args.row.now)) c.args.at.top c.args.next c.in-Missing.child (subst (λ k. IsReadiness c.args.at.running.period.used (quota_words k) c.args.at.top c.args.next (Missing c.in-Missing.child)) (sym c.requires.quota) c.in-Missing.ensures)).0) c.join_missing.ensures.seat
 
 pub returns-in-Spent-clause-seat : goal.returns-in-Spent-clause-seat
 returns-in-Spent-clause-seat c = c.give_up.ensures.seat c.args.next c.args.memory.now c.requires.ready
+    (deciding.too_much (key_of c.args.row.now) c.args.seat.now c.args.deque c.args.at c.args.next c.args.memory.now c.requires.ready (subst (λ k. IsReadiness c.args.at.running.period.used (quota_words k) c.args.at.top c.args.next Spent) (sym c.requires.quota) c.in-Spent.ensures))

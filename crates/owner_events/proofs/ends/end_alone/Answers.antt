@@ -6,12 +6,14 @@ use Rattle.owner_acts.specs.Decided.Taken.{list_and_lane}
 use Rattle.hall_turns.specs.declared.slot.Slot.TheVariants as slots
 use Rattle.owner_events.proofs.Following.{all_too}
 use Rattle.owner_events.specs.Holding.{IsBefore}
+use Rattle.owner_events.proofs.Failing.{at_list}
 use Rattle.owner_events.proofs.Doing.{exit, here_too, does_with_list}
 use Rattle.owner_events.specs.Acting.{Does, DoesWithList}
 use Rattle.owner_events.proofs.ends.end_alone.Goals as goal
 
 pub returns-in_err-at-clause-seat : goal.returns-in_err-at-clause-seat
-returns-in_err-at-clause-seat c = exit (λ r. Does c.args.seat.now c.args.deque c.args.at nexts.End r c.take_open_list.new.seat) c.from_residual.result c.in_err-at.field-0.0 c.from_residual.ensures.1 (c.in_err-at.ensures.seat nexts.End (spare c.args.memory.now.births) c.requires.ready.before)
+returns-in_err-at-clause-seat c = exit (λ r. Does (key_of c.args.row.now) c.args.seat.now c.args.deque c.args.at nexts.End r c.take_open_list.new.seat) c.from_residual.result c.in_err-at.field-0.0 c.from_residual.ensures.1
+    (at_list (key_of c.args.row.now) c.args.at nexts.End c.args.seat.now c.take_open_list.new.seat c.in_err-at.field-0.0 (inl c.requires.alone) (c.in_err-at.ensures.seat nexts.End (spare c.args.memory.now.births) c.requires.ready.before))
 
 pub root_end-requires-clause-here : goal.root_end-requires-clause-here
 root_end-requires-clause-here c = here_too c.args.row.now c.args.seat.now c.take_open_list.new.seat (c.in_ok-at.ensures.seat nexts.End (spare c.args.memory.now.births) c.requires.ready.before).1.taken c.requires.here
@@ -41,16 +43,16 @@ pub leaving_end-requires-clause-alone : goal.leaving_end-requires-clause-alone
 leaving_end-requires-clause-alone c = subst (λ a. a.lane.items ≡ []) (sym (c.in_ok-at.ensures.seat nexts.End (spare c.args.memory.now.births) c.requires.ready.before).0) c.requires.alone
 
 pub returns-then-is_empty-clause-seat : goal.returns-then-is_empty-clause-seat
-returns-then-is_empty-clause-seat c = does_with_list c.args.seat.now c.take_open_list.new.seat c.root_end.new.seat c.args.deque c.args.at nexts.End c.in_ok-at.list (c.in_ok-at.ensures.seat nexts.End (spare c.args.memory.now.births) c.requires.ready.before).1.taken c.root_end.result
-    (subst (λ a. DoesWithList c.take_open_list.new.seat c.args.deque a nexts.End c.root_end.result c.root_end.new.seat) (c.in_ok-at.ensures.seat nexts.End (spare c.args.memory.now.births) c.requires.ready.before).0 c.root_end.ensures.seat)
+returns-then-is_empty-clause-seat c = does_with_list (key_of c.args.row.now) c.args.seat.now c.take_open_list.new.seat c.root_end.new.seat c.args.deque c.args.at nexts.End c.in_ok-at.list c.requires.alone (c.in_ok-at.ensures.seat nexts.End (spare c.args.memory.now.births) c.requires.ready.before).1.taken c.root_end.result
+    (subst (λ a. DoesWithList (key_of c.args.row.now) c.take_open_list.new.seat c.args.deque a nexts.End c.root_end.result c.root_end.new.seat) (c.in_ok-at.ensures.seat nexts.End (spare c.args.memory.now.births) c.requires.ready.before).0 c.root_end.ensures.seat)
 
 pub returns-then-is_awaited-clause-seat : goal.returns-then-is_awaited-clause-seat
-returns-then-is_awaited-clause-seat c = does_with_list c.args.seat.now c.take_open_list.new.seat c.waking_end.new.seat c.args.deque c.args.at nexts.End c.in_ok-at.list (c.in_ok-at.ensures.seat nexts.End (spare c.args.memory.now.births) c.requires.ready.before).1.taken c.waking_end.result
-    (subst (λ a. DoesWithList c.take_open_list.new.seat c.args.deque a nexts.End c.waking_end.result c.waking_end.new.seat) (c.in_ok-at.ensures.seat nexts.End (spare c.args.memory.now.births) c.requires.ready.before).0 c.waking_end.ensures.seat)
+returns-then-is_awaited-clause-seat c = does_with_list (key_of c.args.row.now) c.args.seat.now c.take_open_list.new.seat c.waking_end.new.seat c.args.deque c.args.at nexts.End c.in_ok-at.list c.requires.alone (c.in_ok-at.ensures.seat nexts.End (spare c.args.memory.now.births) c.requires.ready.before).1.taken c.waking_end.result
+    (subst (λ a. DoesWithList (key_of c.args.row.now) c.take_open_list.new.seat c.args.deque a nexts.End c.waking_end.result c.waking_end.new.seat) (c.in_ok-at.ensures.seat nexts.End (spare c.args.memory.now.births) c.requires.ready.before).0 c.waking_end.ensures.seat)
 
 pub returns-clause-seat : goal.returns-clause-seat
-returns-clause-seat c = does_with_list c.args.seat.now c.take_open_list.new.seat c.leaving_end.new.seat c.args.deque c.args.at nexts.End c.in_ok-at.list (c.in_ok-at.ensures.seat nexts.End (spare c.args.memory.now.births) c.requires.ready.before).1.taken c.leaving_end.result
-    (subst (λ a. DoesWithList c.take_open_list.new.seat c.args.deque a nexts.End c.leaving_end.result c.leaving_end.new.seat) (c.in_ok-at.ensures.seat nexts.End (spare c.args.memory.now.births) c.requires.ready.before).0 c.leaving_end.ensures.seat)
+returns-clause-seat c = does_with_list (key_of c.args.row.now) c.args.seat.now c.take_open_list.new.seat c.leaving_end.new.seat c.args.deque c.args.at nexts.End c.in_ok-at.list c.requires.alone (c.in_ok-at.ensures.seat nexts.End (spare c.args.memory.now.births) c.requires.ready.before).1.taken c.leaving_end.result
+    (subst (λ a. DoesWithList (key_of c.args.row.now) c.take_open_list.new.seat c.args.deque a nexts.End c.leaving_end.result c.leaving_end.new.seat) (c.in_ok-at.ensures.seat nexts.End (spare c.args.memory.now.births) c.requires.ready.before).0 c.leaving_end.ensures.seat)
 
 pub returns-then-is_awaited-clause-lone : goal.returns-then-is_awaited-clause-lone
 returns-then-is_awaited-clause-lone c all = c.waking_end.ensures.lone (all_too c.args.seat.now c.take_open_list.new.seat 0 (slots.List c.in_ok-at.list) (c.in_ok-at.ensures.seat nexts.End (spare c.args.memory.now.births) c.requires.ready.before).1.taken (key_of c.args.row.now) all)

@@ -7,13 +7,16 @@ use Rattle.thread_frames.specs.declared.next.Next.TheVariants as nexts
 use Rattle.turn_table.specs.Tables.{key_of}
 use Rattle.owner_acts.specs.Decided.Taken.{its_lane}
 use Rattle.hall_turns.specs.declared.event.Event.TheVariants.{Did}
+use Rattle.owner_events.proofs.Failing.{at_none}
+use Rattle.owner_events.specs.Needs.{MayTry}
 use Rattle.owner_events.proofs.Doing.{exit, here_too, counted_leaves}
 use Rattle.owner_events.proofs.FromCount as count
 use Rattle.owner_events.specs.Acting.{Does}
 use Rattle.owner_events.proofs.joins.own_join.Goals as goal
 
 pub returns-in_err-at-clause-seat : goal.returns-in_err-at-clause-seat
-returns-in_err-at-clause-seat c = exit (λ r. Does c.args.seat.now c.args.deque c.args.at (nexts.Join c.args.child) r c.count_lane.new.seat) c.from_residual.result c.in_err-at.field-0.0 c.from_residual.ensures.1 (c.in_err-at.ensures.seat (nexts.Join c.args.child) (spare c.args.memory.now.births) c.requires.ready.before)
+returns-in_err-at-clause-seat c = exit (λ r. Does (key_of c.args.row.now) c.args.seat.now c.args.deque c.args.at (nexts.Join c.args.child) r c.count_lane.new.seat) c.from_residual.result c.in_err-at.field-0.0 c.from_residual.ensures.1
+    (at_none (MayTry (key_of c.args.row.now) c.args.at (nexts.Join c.args.child)) c.args.seat.now c.count_lane.new.seat c.in_err-at.field-0.0 (c.in_err-at.ensures.seat (nexts.Join c.args.child) (spare c.args.memory.now.births) c.requires.ready.before))
 
 pub act_own_join-name-requires-clause-here : goal.act_own_join-name-requires-clause-here
 act_own_join-name-requires-clause-here c = here_too c.args.row.now c.args.seat.now c.count_lane.new.seat (c.in_ok-at.ensures.seat (nexts.Join c.args.child) (spare c.args.memory.now.births) c.requires.ready.before).1.drew c.requires.here

@@ -12,6 +12,8 @@ use Rattle.hall_turns.specs.declared.slot.Slot.TheVariants as slots
 use Rattle.owner_acts.specs.Pauses.{CanClose}
 use Rattle.owner_events.proofs.Following.{fails}
 use Rattle.owner_events.specs.Holding.{IsBefore}
+use Rattle.owner_events.proofs.Failing.{at_list, at_none}
+use Rattle.owner_events.specs.Needs.{MayTry}
 use Rattle.owner_events.proofs.Doing.{exit, here_too, counted_leaves, taken_leaves}
 use Rattle.owner_events.proofs.FromCount as count
 use Rattle.owner_events.proofs.WithList as with
@@ -19,7 +21,8 @@ use Rattle.owner_events.specs.Acting.{Does, HasDone}
 use Rattle.owner_events.proofs.lists.dummy.Goals as goal
 
 pub returns-in_err-at-clause-seat : goal.returns-in_err-at-clause-seat
-returns-in_err-at-clause-seat c = exit (λ r. Does c.args.seat.now c.args.deque c.args.at nexts.Dummy r c.take_open_list.new.seat) c.from_residual.result c.in_err-at.field-0.0 c.from_residual.ensures.1 (c.in_err-at.ensures.seat nexts.Dummy (spare c.args.memory.now.births) c.requires.ready.before)
+returns-in_err-at-clause-seat c = exit (λ r. Does (key_of c.args.row.now) c.args.seat.now c.args.deque c.args.at nexts.Dummy r c.take_open_list.new.seat) c.from_residual.result c.in_err-at.field-0.0 c.from_residual.ensures.1
+    (at_list (key_of c.args.row.now) c.args.at nexts.Dummy c.args.seat.now c.take_open_list.new.seat c.in_err-at.field-0.0 (inl tt) (c.in_err-at.ensures.seat nexts.Dummy (spare c.args.memory.now.births) c.requires.ready.before))
 
 pub stop_short-requires-clause-here : goal.stop_short-requires-clause-here
 stop_short-requires-clause-here c = here_too c.args.row.now c.args.seat.now c.take_open_list.new.seat (c.in_ok-at.ensures.seat nexts.Dummy (spare c.args.memory.now.births) c.requires.ready.before).1.taken c.requires.here
@@ -28,7 +31,8 @@ pub stop_short-requires-clause-before : goal.stop_short-requires-clause-before
 stop_short-requires-clause-before c = (nexts.Dummy, (spare c.args.memory.now.births), c.in_ok-at.list, (with.more_books c.in_ok-at.list c.make_room_to_close.new.list c.make_room_to_close.ensures.same), (subst (λ a. IsBefore (key_of c.args.row.now) c.take_open_list.new.seat c.args.deque (list_and_lane c.args.deque c.in_ok-at.list) a nexts.Dummy (spare c.args.memory.now.births)) (sym (c.in_ok-at.ensures.seat nexts.Dummy (spare c.args.memory.now.births) c.requires.ready.before).0) (c.in_ok-at.ensures.seat nexts.Dummy (spare c.args.memory.now.births) c.requires.ready.before).1.is_before))
 
 pub returns-in-Err-clause-seat : goal.returns-in-Err-clause-seat
-returns-in-Err-clause-seat c = fails c.args.seat.now c.take_open_list.new.seat 0 (slots.List c.in_ok-at.list) (c.in_ok-at.ensures.seat nexts.Dummy (spare c.args.memory.now.births) c.requires.ready.before).1.taken c.stop_short.new.seat c.stop_short.result c.stop_short.ensures.seat
+returns-in-Err-clause-seat c = fails c.args.seat.now c.take_open_list.new.seat 0 (slots.List c.in_ok-at.list) (c.in_ok-at.ensures.seat nexts.Dummy (spare c.args.memory.now.births) c.requires.ready.before).1.taken c.stop_short.new.seat (MayTry (key_of c.args.row.now) c.args.at nexts.Dummy) (inl (refl, inl tt)) c.stop_short.result
+    (at_none (MayTry (key_of c.args.row.now) c.args.at nexts.Dummy) c.take_open_list.new.seat c.stop_short.new.seat c.stop_short.result c.stop_short.ensures.seat)
 
 pub count_with_list-requires-clause-here : goal.count_with_list-requires-clause-here
 count_with_list-requires-clause-here c = here_too c.args.row.now c.args.seat.now c.take_open_list.new.seat (c.in_ok-at.ensures.seat nexts.Dummy (spare c.args.memory.now.births) c.requires.ready.before).1.taken c.requires.here
@@ -37,8 +41,9 @@ pub count_with_list-requires-clause-before : goal.count_with_list-requires-claus
 count_with_list-requires-clause-before c = (nexts.Dummy, (spare c.args.memory.now.births), c.in_ok-at.list, (with.more_books c.in_ok-at.list c.make_room_to_close.new.list c.make_room_to_close.ensures.same), (subst (λ a. IsBefore (key_of c.args.row.now) c.take_open_list.new.seat c.args.deque (list_and_lane c.args.deque c.in_ok-at.list) a nexts.Dummy (spare c.args.memory.now.births)) (sym (c.in_ok-at.ensures.seat nexts.Dummy (spare c.args.memory.now.births) c.requires.ready.before).0) (c.in_ok-at.ensures.seat nexts.Dummy (spare c.args.memory.now.births) c.requires.ready.before).1.is_before))
 
 pub returns-in_err-at-2-clause-seat : goal.returns-in_err-at-2-clause-seat
-returns-in_err-at-2-clause-seat c = exit (λ r. Does c.args.seat.now c.args.deque c.args.at nexts.Dummy r c.count_with_list.new.seat) c.from_residual-in_err-at-2.result c.in_err-at-2.field-0.0 c.from_residual-in_err-at-2.ensures.1
-    (fails c.args.seat.now c.take_open_list.new.seat 0 (slots.List c.in_ok-at.list) (c.in_ok-at.ensures.seat nexts.Dummy (spare c.args.memory.now.births) c.requires.ready.before).1.taken c.count_with_list.new.seat c.in_err-at-2.field-0.0 (c.in_err-at-2.ensures.seat nexts.Dummy (spare c.args.memory.now.births) c.in_ok-at.list (with.more_books c.in_ok-at.list c.make_room_to_close.new.list c.make_room_to_close.ensures.same) (subst (λ a. IsBefore (key_of c.args.row.now) c.take_open_list.new.seat c.args.deque (list_and_lane c.args.deque c.in_ok-at.list) a nexts.Dummy (spare c.args.memory.now.births)) (sym (c.in_ok-at.ensures.seat nexts.Dummy (spare c.args.memory.now.births) c.requires.ready.before).0) (c.in_ok-at.ensures.seat nexts.Dummy (spare c.args.memory.now.births) c.requires.ready.before).1.is_before)))
+returns-in_err-at-2-clause-seat c = exit (λ r. Does (key_of c.args.row.now) c.args.seat.now c.args.deque c.args.at nexts.Dummy r c.count_with_list.new.seat) c.from_residual-in_err-at-2.result c.in_err-at-2.field-0.0 c.from_residual-in_err-at-2.ensures.1
+    (fails c.args.seat.now c.take_open_list.new.seat 0 (slots.List c.in_ok-at.list) (c.in_ok-at.ensures.seat nexts.Dummy (spare c.args.memory.now.births) c.requires.ready.before).1.taken c.count_with_list.new.seat (MayTry (key_of c.args.row.now) c.args.at nexts.Dummy) (inl (refl, inl tt)) c.in_err-at-2.field-0.0
+    (at_none (MayTry (key_of c.args.row.now) c.args.at nexts.Dummy) c.take_open_list.new.seat c.count_with_list.new.seat c.in_err-at-2.field-0.0 (c.in_err-at-2.ensures.seat nexts.Dummy (spare c.args.memory.now.births) c.in_ok-at.list (with.more_books c.in_ok-at.list c.make_room_to_close.new.list c.make_room_to_close.ensures.same) (subst (λ a. IsBefore (key_of c.args.row.now) c.take_open_list.new.seat c.args.deque (list_and_lane c.args.deque c.in_ok-at.list) a nexts.Dummy (spare c.args.memory.now.births)) (sym (c.in_ok-at.ensures.seat nexts.Dummy (spare c.args.memory.now.births) c.requires.ready.before).0) (c.in_ok-at.ensures.seat nexts.Dummy (spare c.args.memory.now.births) c.requires.ready.before).1.is_before))))
 
 pub act_dummy-name-requires-clause-here : goal.act_dummy-name-requires-clause-here
 act_dummy-name-requires-clause-here c = here_too c.args.row.now c.take_open_list.new.seat c.count_with_list.new.seat (c.in_ok-at-2.ensures.seat nexts.Dummy (spare c.args.memory.now.births) c.in_ok-at.list (with.more_books c.in_ok-at.list c.make_room_to_close.new.list c.make_room_to_close.ensures.same) (subst (λ a. IsBefore (key_of c.args.row.now) c.take_open_list.new.seat c.args.deque (list_and_lane c.args.deque c.in_ok-at.list) a nexts.Dummy (spare c.args.memory.now.births)) (sym (c.in_ok-at.ensures.seat nexts.Dummy (spare c.args.memory.now.births) c.requires.ready.before).0) (c.in_ok-at.ensures.seat nexts.Dummy (spare c.args.memory.now.births) c.requires.ready.before).1.is_before)).2.drew (here_too c.args.row.now c.args.seat.now c.take_open_list.new.seat (c.in_ok-at.ensures.seat nexts.Dummy (spare c.args.memory.now.births) c.requires.ready.before).1.taken c.requires.here)

@@ -11,6 +11,8 @@ use Rattle.hall_turns.specs.declared.event.Event.TheVariants.{Did}
 use Rattle.owner_acts.specs.Kept.{CanJoinKept}
 use Rattle.owner_acts.specs.Ready.{IsReady}
 use Rattle.owner_advance.proofs.Returned.{same_list}
+use Rattle.owner_events.proofs.Failing.{at_none}
+use Rattle.owner_events.specs.Needs.{MayTry}
 use Rattle.owner_events.proofs.Doing.{exit, here_too, counted_leaves}
 use Rattle.owner_events.proofs.FromCount as count
 use Rattle.owner_events.proofs.FromList as from
@@ -22,7 +24,8 @@ pub count_with_list-requires-clause-before : goal.count_with_list-requires-claus
 count_with_list-requires-clause-before c = ((nexts.Join c.args.child), (spare c.args.memory.now.births), c.args.list, same_list c.args.list, c.requires.ready.before)
 
 pub returns-in_err-at-clause-seat : goal.returns-in_err-at-clause-seat
-returns-in_err-at-clause-seat c = exit (λ r. DoesWithList c.args.seat.now c.args.deque c.args.at (nexts.Join c.args.child) r c.count_with_list.new.seat) c.from_residual.result c.in_err-at.field-0.0 c.from_residual.ensures.1 (c.in_err-at.ensures.seat (nexts.Join c.args.child) (spare c.args.memory.now.births) c.args.list (same_list c.args.list) c.requires.ready.before)
+returns-in_err-at-clause-seat c = exit (λ r. DoesWithList (key_of c.args.row.now) c.args.seat.now c.args.deque c.args.at (nexts.Join c.args.child) r c.count_with_list.new.seat) c.from_residual.result c.in_err-at.field-0.0 c.from_residual.ensures.1
+    (at_none (MayTry (key_of c.args.row.now) c.args.at (nexts.Join c.args.child)) c.args.seat.now c.count_with_list.new.seat c.in_err-at.field-0.0 (c.in_err-at.ensures.seat (nexts.Join c.args.child) (spare c.args.memory.now.births) c.args.list (same_list c.args.list) c.requires.ready.before))
 
 pub act_kept_join-name-requires-clause-here : goal.act_kept_join-name-requires-clause-here
 act_kept_join-name-requires-clause-here c = here_too c.args.row.now c.args.seat.now c.count_with_list.new.seat (c.in_ok-at.ensures.seat (nexts.Join c.args.child) (spare c.args.memory.now.births) c.args.list (same_list c.args.list) c.requires.ready.before).2.drew c.requires.here

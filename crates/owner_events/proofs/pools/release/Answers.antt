@@ -5,6 +5,7 @@ use Rattle.thread_frames.specs.declared.next.Next.TheVariants as nexts
 use Rattle.turn_table.specs.Tables.{key_of}
 use Rattle.owner_events.proofs.Asking.{asks_nothing}
 use Rattle.owner_events.proofs.Doing.{exit, here_too}
+use Rattle.owner_events.proofs.Failing.{at_pool}
 use Rattle.owner_events.proofs.FromPool as pool
 use Rattle.owner_events.specs.Acting.{Does}
 use Rattle.thread_frames.specs.Actions.{IsRelease}
@@ -16,8 +17,9 @@ pub take_counted_pool-requires-clause-asks : goal.take_counted_pool-requires-cla
 take_counted_pool-requires-clause-asks c = asks_nothing (key_of c.args.row.now) c.args.at (nexts.Release c.args.words) refl
 
 pub returns-in_err-at-clause-seat : goal.returns-in_err-at-clause-seat
-returns-in_err-at-clause-seat c = exit (λ r. Does c.args.seat.now c.args.deque c.args.at (nexts.Release c.args.words) r c.take_counted_pool.new.seat)
-    c.from_residual.result c.in_err-at.field-0.0 c.from_residual.ensures.1 (c.in_err-at.ensures.seat (spare c.args.memory.now.births) c.requires.ready.before)
+returns-in_err-at-clause-seat c = exit (λ r. Does (key_of c.args.row.now) c.args.seat.now c.args.deque c.args.at (nexts.Release c.args.words) r c.take_counted_pool.new.seat)
+    c.from_residual.result c.in_err-at.field-0.0 c.from_residual.ensures.1
+    (at_pool (key_of c.args.row.now) c.args.at (nexts.Release c.args.words) c.args.seat.now c.take_counted_pool.new.seat c.in_err-at.field-0.0 tt (c.in_err-at.ensures.seat (spare c.args.memory.now.births) c.requires.ready.before))
 
 pub act_release-name-requires-clause-here : goal.act_release-name-requires-clause-here
 act_release-name-requires-clause-here c = here_too c.args.row.now c.args.seat.now c.take_counted_pool.new.seat (c.in_ok-at.ensures.seat (spare c.args.memory.now.births) c.requires.ready.before).1.drew c.requires.here
@@ -42,5 +44,5 @@ act_release-name-requires-clause-listed c = subst (λ n. MayDoNext (key_of c.arg
     (pool.may_do (key_of c.args.row.now) c.args.seat.now c.args.deque c.args.at (nexts.Release c.args.words) (spare c.args.memory.now.births) c.in_ok-at.at c.in_ok-at.pool c.take_counted_pool.new.seat (c.in_ok-at.ensures.seat (spare c.args.memory.now.births) c.requires.ready.before) 0 c.requires.uses.may)
 
 pub returns-clause-seat : goal.returns-clause-seat
-returns-clause-seat c = subst (λ a. Does c.args.seat.now c.args.deque c.args.at (nexts.Release c.args.words) (Ok a) c.act_release-name.new.seat) (sym c.did.ensures) (pool.done (key_of c.args.row.now) c.args.seat.now c.args.deque c.args.at (nexts.Release c.args.words) (spare c.args.memory.now.births) c.in_ok-at.at c.in_ok-at.pool c.take_counted_pool.new.seat (c.in_ok-at.ensures.seat (spare c.args.memory.now.births) c.requires.ready.before)
+returns-clause-seat c = subst (λ a. Does (key_of c.args.row.now) c.args.seat.now c.args.deque c.args.at (nexts.Release c.args.words) (Ok a) c.act_release-name.new.seat) (sym c.did.ensures) (pool.done (key_of c.args.row.now) c.args.seat.now c.args.deque c.args.at (nexts.Release c.args.words) (spare c.args.memory.now.births) c.in_ok-at.at c.in_ok-at.pool c.take_counted_pool.new.seat (c.in_ok-at.ensures.seat (spare c.args.memory.now.births) c.requires.ready.before)
     c.act_release-name.result c.act_release-name.new.seat tt c.act_release-name.ensures.seat)

@@ -2,8 +2,9 @@ use Rattle.std.proofs.Common.{◌+◌, ◌≤◌, ◌<◌, refl, subst}
 use Rattle.turn_table.specs.Tables.{key_of}
 use Rattle.owner_acts.specs.Decided.Taken.{its_lane}
 use Rattle.hall_turns.specs.declared.slot.Slot.TheVariants as slots
+use Rattle.owner_events.specs.Holding.{IsPoolSlot}
 use Rattle.owner_events.proofs.Following.{is_before}
-use Rattle.owner_events.proofs.Trying.{pool_sound, stop_back}
+use Rattle.owner_events.proofs.Trying.{busy, full_fails, pool_sound, stop_back}
 use Rattle.owner_events.proofs.taking.take_pool_for.Goals as goal
 
 pub return_pool-requires-clause-same : goal.return_pool-requires-clause-same
@@ -22,3 +23,11 @@ returns-in-None-clause-seat c ready b = let pool = c.in-Ok.pool in (
     fits = subst (λ n. pool.pool.live + n ≤ pool.pool.capacity) c.words_asked.ensures c.in-None.ensures;
   },
 )
+
+pub returns-in-Err-clause-seat : goal.returns-in-Err-clause-seat
+returns-in-Err-clause-seat c ready b = busy c.args.seat.now c.take_pool.new.seat 1 c.in-Err.held c.in-Err.ensures.seat IsPoolSlot c.in-Err.ensures.seat.0 c.give_lane.new.seat c.give_lane.ensures
+
+pub returns-in-Some-clause-seat : goal.returns-in-Some-clause-seat
+returns-in-Some-clause-seat c ready b = let pool = c.in-Ok.pool in
+    full_fails (key_of c.args.row.now) c.args.seat.now c.take_pool.new.seat c.args.deque pool c.in-Ok.ensures.seat c.in-Ok.ensures.meets c.args.at c.args.next ready b c.requires.asks
+    (subst (λ n. pool.pool.capacity < pool.pool.live + n) c.words_asked.ensures c.in-Some.ensures.1) c.words_asked.result c.words_asked.ensures c.in-Some.stop c.in-Some.ensures.0 c.return_pool.new.seat c.return_pool.ensures

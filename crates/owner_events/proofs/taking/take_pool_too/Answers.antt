@@ -4,8 +4,9 @@ use Rattle.owner_acts.specs.Decided.Taken.{list_and_lane}
 use Rattle.hall_turns.specs.declared.slot.Slot.TheVariants as slots
 use Rattle.owner_advance.proofs.Noting.{nothing_may_be_noted}
 use Rattle.owner_advance.proofs.Returned.{same_list}
+use Rattle.owner_events.specs.Holding.{IsPoolSlot}
 use Rattle.owner_events.proofs.Following.{is_before}
-use Rattle.owner_events.proofs.Trying.{pool_sound, still_holding}
+use Rattle.owner_events.proofs.Trying.{busy, pool_sound, still_holding}
 use Rattle.owner_events.proofs.taking.take_pool_too.Goals as goal
 
 pub give_list-requires-clause-holding : goal.give_list-requires-clause-holding
@@ -30,3 +31,6 @@ returns-in-Ok-clause-seat c next ready b = (
     sound = pool_sound (key_of c.args.row.now) c.args.seat.now c.take_pool.new.seat c.args.deque c.in-Ok.pool c.in-Ok.ensures.seat c.in-Ok.ensures.meets;
   },
 )
+
+pub returns-in-Err-clause-seat : goal.returns-in-Err-clause-seat
+returns-in-Err-clause-seat c next ready b = busy c.args.seat.now c.take_pool.new.seat 1 c.in-Err.held c.in-Err.ensures.seat IsPoolSlot c.in-Err.ensures.seat.0 c.give_list.new.seat c.give_list.ensures

@@ -14,6 +14,8 @@ use Rattle.owner_acts.specs.Kept.{CanJoinKept}
 use Rattle.owner_acts.specs.Ready.{IsReady}
 use Rattle.owner_events.proofs.Following.{fails}
 use Rattle.owner_advance.proofs.Returned.{same_list}
+use Rattle.owner_events.proofs.Failing.{at_none, at_pool, not_there}
+use Rattle.owner_events.specs.Needs.{MayTry}
 use Rattle.owner_events.proofs.Doing.{exit, here_too}
 use Rattle.owner_events.proofs.FromList as from
 use Rattle.owner_events.proofs.WithAll as all
@@ -23,7 +25,8 @@ use Rattle.owner_advance.proofs.ReadLemmas.InUse.{kept_words_are_in_use}
 use Rattle.owner_events.proofs.wholes.kept_join_giving.Goals as goal
 
 pub returns-in_err-at-clause-seat : goal.returns-in_err-at-clause-seat
-returns-in_err-at-clause-seat c = exit (λ r. DoesWithList c.args.seat.now c.args.deque c.args.at (nexts.Join c.args.child) r c.take_pool_too.new.seat) c.from_residual.result c.in_err-at.field-0.0 c.from_residual.ensures.1 (c.in_err-at.ensures.seat (nexts.Join c.args.child) (spare c.args.memory.now.births) c.requires.ready.before)
+returns-in_err-at-clause-seat c = exit (λ r. DoesWithList (key_of c.args.row.now) c.args.seat.now c.args.deque c.args.at (nexts.Join c.args.child) r c.take_pool_too.new.seat) c.from_residual.result c.in_err-at.field-0.0 c.from_residual.ensures.1
+    (at_pool (key_of c.args.row.now) c.args.at (nexts.Join c.args.child) c.args.seat.now c.take_pool_too.new.seat c.in_err-at.field-0.0 (not_there c.requires.missing) (c.in_err-at.ensures.seat (nexts.Join c.args.child) (spare c.args.memory.now.births) c.requires.ready.before))
 
 pub count_with_all-requires-clause-here : goal.count_with_all-requires-clause-here
 count_with_all-requires-clause-here c = here_too c.args.row.now c.args.seat.now c.take_pool_too.new.seat (c.in_ok-at.ensures.seat (nexts.Join c.args.child) (spare c.args.memory.now.births) c.requires.ready.before).2.taken c.requires.here
@@ -32,8 +35,9 @@ pub count_with_all-requires-clause-before : goal.count_with_all-requires-clause-
 count_with_all-requires-clause-before c = ((nexts.Join c.args.child), (spare c.args.memory.now.births), c.args.list, (subst (HasMoreRoom c.args.list) (sym (c.in_ok-at.ensures.seat (nexts.Join c.args.child) (spare c.args.memory.now.births) c.requires.ready.before).1) (same_list c.args.list)), (all.then (key_of c.args.row.now) c.args.seat.now c.args.deque c.args.at (nexts.Join c.args.child) (spare c.args.memory.now.births) c.args.list c.in_ok-at.pool c.take_pool_too.new.seat (c.in_ok-at.ensures.seat (nexts.Join c.args.child) (spare c.args.memory.now.births) c.requires.ready.before).2 c.in_ok-at.ensures.meets c.in_ok-at.at (c.in_ok-at.ensures.seat (nexts.Join c.args.child) (spare c.args.memory.now.births) c.requires.ready.before).0))
 
 pub returns-in_err-at-2-clause-seat : goal.returns-in_err-at-2-clause-seat
-returns-in_err-at-2-clause-seat c = exit (λ r. DoesWithList c.args.seat.now c.args.deque c.args.at (nexts.Join c.args.child) r c.count_with_all.new.seat) c.from_residual-in_err-at-2.result c.in_err-at-2.field-0.0 c.from_residual-in_err-at-2.ensures.1
-    (fails c.args.seat.now c.take_pool_too.new.seat 1 (slots.Pool c.in_ok-at.pool) (c.in_ok-at.ensures.seat (nexts.Join c.args.child) (spare c.args.memory.now.births) c.requires.ready.before).2.taken c.count_with_all.new.seat c.in_err-at-2.field-0.0 (c.in_err-at-2.ensures.seat (nexts.Join c.args.child) (spare c.args.memory.now.births) c.args.list (subst (HasMoreRoom c.args.list) (sym (c.in_ok-at.ensures.seat (nexts.Join c.args.child) (spare c.args.memory.now.births) c.requires.ready.before).1) (same_list c.args.list)) (all.then (key_of c.args.row.now) c.args.seat.now c.args.deque c.args.at (nexts.Join c.args.child) (spare c.args.memory.now.births) c.args.list c.in_ok-at.pool c.take_pool_too.new.seat (c.in_ok-at.ensures.seat (nexts.Join c.args.child) (spare c.args.memory.now.births) c.requires.ready.before).2 c.in_ok-at.ensures.meets c.in_ok-at.at (c.in_ok-at.ensures.seat (nexts.Join c.args.child) (spare c.args.memory.now.births) c.requires.ready.before).0)))
+returns-in_err-at-2-clause-seat c = exit (λ r. DoesWithList (key_of c.args.row.now) c.args.seat.now c.args.deque c.args.at (nexts.Join c.args.child) r c.count_with_all.new.seat) c.from_residual-in_err-at-2.result c.in_err-at-2.field-0.0 c.from_residual-in_err-at-2.ensures.1
+    (fails c.args.seat.now c.take_pool_too.new.seat 1 (slots.Pool c.in_ok-at.pool) (c.in_ok-at.ensures.seat (nexts.Join c.args.child) (spare c.args.memory.now.births) c.requires.ready.before).2.taken c.count_with_all.new.seat (MayTry (key_of c.args.row.now) c.args.at (nexts.Join c.args.child)) (inr (refl, (not_there c.requires.missing))) c.in_err-at-2.field-0.0
+    (at_none (MayTry (key_of c.args.row.now) c.args.at (nexts.Join c.args.child)) c.take_pool_too.new.seat c.count_with_all.new.seat c.in_err-at-2.field-0.0 (c.in_err-at-2.ensures.seat (nexts.Join c.args.child) (spare c.args.memory.now.births) c.args.list (subst (HasMoreRoom c.args.list) (sym (c.in_ok-at.ensures.seat (nexts.Join c.args.child) (spare c.args.memory.now.births) c.requires.ready.before).1) (same_list c.args.list)) (all.then (key_of c.args.row.now) c.args.seat.now c.args.deque c.args.at (nexts.Join c.args.child) (spare c.args.memory.now.births) c.args.list c.in_ok-at.pool c.take_pool_too.new.seat (c.in_ok-at.ensures.seat (nexts.Join c.args.child) (spare c.args.memory.now.births) c.requires.ready.before).2 c.in_ok-at.ensures.meets c.in_ok-at.at (c.in_ok-at.ensures.seat (nexts.Join c.args.child) (spare c.args.memory.now.births) c.requires.ready.before).0))))
 
 pub act_kept_join_giving-name-requires-clause-here : goal.act_kept_join_giving-name-requires-clause-here
 act_kept_join_giving-name-requires-clause-here c = here_too c.args.row.now c.take_pool_too.new.seat c.count_with_all.new.seat (c.in_ok-at-2.ensures.seat (nexts.Join c.args.child) (spare c.args.memory.now.births) c.args.list (subst (HasMoreRoom c.args.list) (sym (c.in_ok-at.ensures.seat (nexts.Join c.args.child) (spare c.args.memory.now.births) c.requires.ready.before).1) (same_list c.args.list)) (all.then (key_of c.args.row.now) c.args.seat.now c.args.deque c.args.at (nexts.Join c.args.child) (spare c.args.memory.now.births) c.args.list c.in_ok-at.pool c.take_pool_too.new.seat (c.in_ok-at.ensures.seat (nexts.Join c.args.child) (spare c.args.memory.now.births) c.requires.ready.before).2 c.in_ok-at.ensures.meets c.in_ok-at.at (c.in_ok-at.ensures.seat (nexts.Join c.args.child) (spare c.args.memory.now.births) c.requires.ready.before).0)).4.drew (here_too c.args.row.now c.args.seat.now c.take_pool_too.new.seat (c.in_ok-at.ensures.seat (nexts.Join c.args.child) (spare c.args.memory.now.births) c.requires.ready.before).2.taken c.requires.here)
@@ -68,6 +72,6 @@ returns-clause-seat c = record {
   count = Some (c.in_ok-at-2.ensures.seat (nexts.Join c.args.child) (spare c.args.memory.now.births) c.args.list (subst (HasMoreRoom c.args.list) (sym (c.in_ok-at.ensures.seat (nexts.Join c.args.child) (spare c.args.memory.now.births) c.requires.ready.before).1) (same_list c.args.list)) (all.then (key_of c.args.row.now) c.args.seat.now c.args.deque c.args.at (nexts.Join c.args.child) (spare c.args.memory.now.births) c.args.list c.in_ok-at.pool c.take_pool_too.new.seat (c.in_ok-at.ensures.seat (nexts.Join c.args.child) (spare c.args.memory.now.births) c.requires.ready.before).2 c.in_ok-at.ensures.meets c.in_ok-at.at (c.in_ok-at.ensures.seat (nexts.Join c.args.child) (spare c.args.memory.now.births) c.requires.ready.before).0)).4.found;
   owns = inr refl;
   lists = c.requires.missing;
-  pools = λ some. tt;
+  pools = λ some. not_there c.requires.missing;
   leaves = all.leaves (key_of c.args.row.now) c.args.seat.now c.args.deque c.args.at (nexts.Join c.args.child) (spare c.args.memory.now.births) c.args.list c.in_ok-at.pool c.take_pool_too.new.seat (c.in_ok-at.ensures.seat (nexts.Join c.args.child) (spare c.args.memory.now.births) c.requires.ready.before).2 c.in_ok-at.ensures.meets c.in_ok-at.at (c.in_ok-at.ensures.seat (nexts.Join c.args.child) (spare c.args.memory.now.births) c.requires.ready.before).0 c.in_ok-at.list c.in_ok-at-2.at c.in_ok-at-2.list c.in_ok-at-2.pool c.count_with_all.new.seat (c.in_ok-at-2.ensures.seat (nexts.Join c.args.child) (spare c.args.memory.now.births) c.args.list (subst (HasMoreRoom c.args.list) (sym (c.in_ok-at.ensures.seat (nexts.Join c.args.child) (spare c.args.memory.now.births) c.requires.ready.before).1) (same_list c.args.list)) (all.then (key_of c.args.row.now) c.args.seat.now c.args.deque c.args.at (nexts.Join c.args.child) (spare c.args.memory.now.births) c.args.list c.in_ok-at.pool c.take_pool_too.new.seat (c.in_ok-at.ensures.seat (nexts.Join c.args.child) (spare c.args.memory.now.births) c.requires.ready.before).2 c.in_ok-at.ensures.meets c.in_ok-at.at (c.in_ok-at.ensures.seat (nexts.Join c.args.child) (spare c.args.memory.now.births) c.requires.ready.before).0)) (Some c.args.deque) (Did c.act_kept_join_giving-name.result) c.act_kept_join_giving-name.new.seat c.act_kept_join_giving-name.ensures.seat;
 }

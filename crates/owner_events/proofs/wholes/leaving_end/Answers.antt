@@ -11,6 +11,8 @@ use Rattle.hall_turns.specs.declared.slot.Slot.TheVariants as slots
 use Rattle.owner_acts.specs.Ends.{CanLeave}
 use Rattle.owner_acts.specs.Pauses.{CanClose}
 use Rattle.owner_events.proofs.Following.{fails}
+use Rattle.owner_events.proofs.Failing.{at_none, at_pool}
+use Rattle.owner_events.specs.Needs.{MayTry}
 use Rattle.owner_events.proofs.Doing.{exit, here_too}
 use Rattle.owner_events.proofs.FromList as from
 use Rattle.owner_events.proofs.WithAll as all
@@ -20,7 +22,8 @@ use Rattle.thread_points.specs.Points.{words_at_end}
 use Rattle.owner_events.proofs.wholes.leaving_end.Goals as goal
 
 pub returns-in_err-at-clause-seat : goal.returns-in_err-at-clause-seat
-returns-in_err-at-clause-seat c = exit (λ r. DoesWithList c.args.seat.now c.args.deque c.args.at nexts.End r c.take_pool_too.new.seat) c.from_residual.result c.in_err-at.field-0.0 c.from_residual.ensures.1 (c.in_err-at.ensures.seat nexts.End (spare c.args.memory.now.births) c.requires.ready.before)
+returns-in_err-at-clause-seat c = exit (λ r. DoesWithList (key_of c.args.row.now) c.args.seat.now c.args.deque c.args.at nexts.End r c.take_pool_too.new.seat) c.from_residual.result c.in_err-at.field-0.0 c.from_residual.ensures.1
+    (at_pool (key_of c.args.row.now) c.args.at nexts.End c.args.seat.now c.take_pool_too.new.seat c.in_err-at.field-0.0 c.requires.forked (c.in_err-at.ensures.seat nexts.End (spare c.args.memory.now.births) c.requires.ready.before))
 
 pub stop_with_all-requires-clause-here : goal.stop_with_all-requires-clause-here
 stop_with_all-requires-clause-here c = here_too c.args.row.now c.args.seat.now c.take_pool_too.new.seat (c.in_ok-at.ensures.seat nexts.End (spare c.args.memory.now.births) c.requires.ready.before).2.taken c.requires.here
@@ -29,7 +32,8 @@ pub stop_with_all-requires-clause-before : goal.stop_with_all-requires-clause-be
 stop_with_all-requires-clause-before c = (nexts.End, (spare c.args.memory.now.births), c.args.list, (with.more_to_leave c.args.list c.make_room_to_leave.new.list (subst (λ l. HasMoreToLeave l c.make_room_to_leave.new.list) (c.in_ok-at.ensures.seat nexts.End (spare c.args.memory.now.births) c.requires.ready.before).1 c.make_room_to_leave.ensures.same)), (all.then (key_of c.args.row.now) c.args.seat.now c.args.deque c.args.at nexts.End (spare c.args.memory.now.births) c.args.list c.in_ok-at.pool c.take_pool_too.new.seat (c.in_ok-at.ensures.seat nexts.End (spare c.args.memory.now.births) c.requires.ready.before).2 c.in_ok-at.ensures.meets c.in_ok-at.at (c.in_ok-at.ensures.seat nexts.End (spare c.args.memory.now.births) c.requires.ready.before).0))
 
 pub returns-in-Err-clause-seat : goal.returns-in-Err-clause-seat
-returns-in-Err-clause-seat c = fails c.args.seat.now c.take_pool_too.new.seat 1 (slots.Pool c.in_ok-at.pool) (c.in_ok-at.ensures.seat nexts.End (spare c.args.memory.now.births) c.requires.ready.before).2.taken c.stop_with_all.new.seat c.stop_with_all.result c.stop_with_all.ensures.seat
+returns-in-Err-clause-seat c = fails c.args.seat.now c.take_pool_too.new.seat 1 (slots.Pool c.in_ok-at.pool) (c.in_ok-at.ensures.seat nexts.End (spare c.args.memory.now.births) c.requires.ready.before).2.taken c.stop_with_all.new.seat (MayTry (key_of c.args.row.now) c.args.at nexts.End) (inr (refl, c.requires.forked)) c.stop_with_all.result
+    (at_none (MayTry (key_of c.args.row.now) c.args.at nexts.End) c.take_pool_too.new.seat c.stop_with_all.new.seat c.stop_with_all.result c.stop_with_all.ensures.seat)
 
 pub count_with_all-requires-clause-here : goal.count_with_all-requires-clause-here
 count_with_all-requires-clause-here c = here_too c.args.row.now c.args.seat.now c.take_pool_too.new.seat (c.in_ok-at.ensures.seat nexts.End (spare c.args.memory.now.births) c.requires.ready.before).2.taken c.requires.here
@@ -38,8 +42,9 @@ pub count_with_all-requires-clause-before : goal.count_with_all-requires-clause-
 count_with_all-requires-clause-before c = (nexts.End, (spare c.args.memory.now.births), c.args.list, (with.more_to_leave c.args.list c.make_room_to_leave.new.list (subst (λ l. HasMoreToLeave l c.make_room_to_leave.new.list) (c.in_ok-at.ensures.seat nexts.End (spare c.args.memory.now.births) c.requires.ready.before).1 c.make_room_to_leave.ensures.same)), (all.then (key_of c.args.row.now) c.args.seat.now c.args.deque c.args.at nexts.End (spare c.args.memory.now.births) c.args.list c.in_ok-at.pool c.take_pool_too.new.seat (c.in_ok-at.ensures.seat nexts.End (spare c.args.memory.now.births) c.requires.ready.before).2 c.in_ok-at.ensures.meets c.in_ok-at.at (c.in_ok-at.ensures.seat nexts.End (spare c.args.memory.now.births) c.requires.ready.before).0))
 
 pub returns-in_err-at-2-clause-seat : goal.returns-in_err-at-2-clause-seat
-returns-in_err-at-2-clause-seat c = exit (λ r. DoesWithList c.args.seat.now c.args.deque c.args.at nexts.End r c.count_with_all.new.seat) c.from_residual-in_err-at-2.result c.in_err-at-2.field-0.0 c.from_residual-in_err-at-2.ensures.1
-    (fails c.args.seat.now c.take_pool_too.new.seat 1 (slots.Pool c.in_ok-at.pool) (c.in_ok-at.ensures.seat nexts.End (spare c.args.memory.now.births) c.requires.ready.before).2.taken c.count_with_all.new.seat c.in_err-at-2.field-0.0 (c.in_err-at-2.ensures.seat nexts.End (spare c.args.memory.now.births) c.args.list (with.more_to_leave c.args.list c.make_room_to_leave.new.list (subst (λ l. HasMoreToLeave l c.make_room_to_leave.new.list) (c.in_ok-at.ensures.seat nexts.End (spare c.args.memory.now.births) c.requires.ready.before).1 c.make_room_to_leave.ensures.same)) (all.then (key_of c.args.row.now) c.args.seat.now c.args.deque c.args.at nexts.End (spare c.args.memory.now.births) c.args.list c.in_ok-at.pool c.take_pool_too.new.seat (c.in_ok-at.ensures.seat nexts.End (spare c.args.memory.now.births) c.requires.ready.before).2 c.in_ok-at.ensures.meets c.in_ok-at.at (c.in_ok-at.ensures.seat nexts.End (spare c.args.memory.now.births) c.requires.ready.before).0)))
+returns-in_err-at-2-clause-seat c = exit (λ r. DoesWithList (key_of c.args.row.now) c.args.seat.now c.args.deque c.args.at nexts.End r c.count_with_all.new.seat) c.from_residual-in_err-at-2.result c.in_err-at-2.field-0.0 c.from_residual-in_err-at-2.ensures.1
+    (fails c.args.seat.now c.take_pool_too.new.seat 1 (slots.Pool c.in_ok-at.pool) (c.in_ok-at.ensures.seat nexts.End (spare c.args.memory.now.births) c.requires.ready.before).2.taken c.count_with_all.new.seat (MayTry (key_of c.args.row.now) c.args.at nexts.End) (inr (refl, c.requires.forked)) c.in_err-at-2.field-0.0
+    (at_none (MayTry (key_of c.args.row.now) c.args.at nexts.End) c.take_pool_too.new.seat c.count_with_all.new.seat c.in_err-at-2.field-0.0 (c.in_err-at-2.ensures.seat nexts.End (spare c.args.memory.now.births) c.args.list (with.more_to_leave c.args.list c.make_room_to_leave.new.list (subst (λ l. HasMoreToLeave l c.make_room_to_leave.new.list) (c.in_ok-at.ensures.seat nexts.End (spare c.args.memory.now.births) c.requires.ready.before).1 c.make_room_to_leave.ensures.same)) (all.then (key_of c.args.row.now) c.args.seat.now c.args.deque c.args.at nexts.End (spare c.args.memory.now.births) c.args.list c.in_ok-at.pool c.take_pool_too.new.seat (c.in_ok-at.ensures.seat nexts.End (spare c.args.memory.now.births) c.requires.ready.before).2 c.in_ok-at.ensures.meets c.in_ok-at.at (c.in_ok-at.ensures.seat nexts.End (spare c.args.memory.now.births) c.requires.ready.before).0))))
 
 pub act_leaving_end-ended-requires-clause-here : goal.act_leaving_end-ended-requires-clause-here
 act_leaving_end-ended-requires-clause-here c = here_too c.args.row.now c.take_pool_too.new.seat c.count_with_all.new.seat (c.in_ok-at-2.ensures.seat nexts.End (spare c.args.memory.now.births) c.args.list (with.more_to_leave c.args.list c.make_room_to_leave.new.list (subst (λ l. HasMoreToLeave l c.make_room_to_leave.new.list) (c.in_ok-at.ensures.seat nexts.End (spare c.args.memory.now.births) c.requires.ready.before).1 c.make_room_to_leave.ensures.same)) (all.then (key_of c.args.row.now) c.args.seat.now c.args.deque c.args.at nexts.End (spare c.args.memory.now.births) c.args.list c.in_ok-at.pool c.take_pool_too.new.seat (c.in_ok-at.ensures.seat nexts.End (spare c.args.memory.now.births) c.requires.ready.before).2 c.in_ok-at.ensures.meets c.in_ok-at.at (c.in_ok-at.ensures.seat nexts.End (spare c.args.memory.now.births) c.requires.ready.before).0)).4.drew (here_too c.args.row.now c.args.seat.now c.take_pool_too.new.seat (c.in_ok-at.ensures.seat nexts.End (spare c.args.memory.now.births) c.requires.ready.before).2.taken c.requires.here)
