@@ -14,6 +14,7 @@ mod closing;
 mod ends;
 mod hall;
 mod leaving;
+mod lists;
 mod opening;
 mod owners;
 mod refused;
@@ -22,5 +23,6 @@ mod thieves;
 
 pub use closing::Closing;
 pub use hall::Hall;
+pub use lists::ListHeld;
 pub use refused::{CloseRefused, EnterRefused, EventRefused, LeaveRefused};
 pub use seat::Seat;
