@@ -1,2 +1,3 @@
 mod Left
+mod Thefts
 pub mod Failed

@@ -4,3 +4,4 @@ pub mod Seated
 pub mod Thieves
 pub mod Owners
 pub mod Leaving
+pub mod Held

@@ -6,7 +6,10 @@ use Rattle.hall_turns.specs.declared.event.Event.{Event}
 use Rattle.hall_turns.specs.declared.event.Event.TheVariants.{Stole, Did, Suspended, GaveUp, Halted}
 use Rattle.hall_seeking.specs.Seeking.{HasSought}
 use Rattle.hall_seeking.specs.declared.prey.SeekRefused.TheVariants as sought
+use Rattle.run_end.specs.declared.stop.Stop.{Stop}
 use Rattle.thief_acts.specs.Steals.{HasMetStop, HasStolenBy}
+use Rattle.thief_acts.specs.declared.refused.StealRefused.{StealRefused}
+use Rattle.thief_acts.specs.declared.refused.StealRefused.TheVariants as failed
 use Rattle.hall_handles.specs.declared.hall.Hall.{Hall}
 use Rattle.hall_handles.specs.declared.seat.Seat.{Seat}
 use Rattle.hall_handles.specs.declared.refused.EventRefused.{EventRefused}
@@ -21,6 +24,11 @@ deque_of (Suspended thread) = None
 deque_of (GaveUp deque) = None
 deque_of (Halted end) = None
 
+-- it found this stop now, which the list keeps, and says so from then on
+abbrev pub MeetsStop : Hall → (word : ℕ) → Seat → Stop → Seat → Type 0
+MeetsStop hall word before stop after = (before.stop ≡ None) × HasMetStop hall.workers word before.place stop after.place
+    × (after.worker ≡ before.worker) × (after.places ≡ before.places) × (after.owned ≡ None) × (after.stop ≡ Some stop)
+
 -- How it is with a seat that owned no deque: it stole by its word, and owns the deque; or it was refused, and is what it was. A seat that
 -- had found a stop is what it was; one that finds a stop says so from then on.
 abbrev pub StealsIn : Hall → (word : ℕ) → Seat → Seat → Result Event EventRefused → Type 0
@@ -32,9 +40,8 @@ StealsIn hall word before after (Err Nothing) =
     (before.stop ≡ None) × HasSought hall.workers word before.place after.place (Err sought.Nothing) × SameSeat before after
 StealsIn hall word before after (Err (Over end)) =
     (before.stop ≡ None) × HasSought hall.workers word before.place after.place (Err (sought.Over end)) × SameSeat before after
-StealsIn hall word before after (Err (Stopped stop)) = ((before.stop ≡ Some stop) × (after ≡ before))
-    ⊎ ((before.stop ≡ None) × HasMetStop hall.workers word before.place stop after.place
-    × (after.worker ≡ before.worker) × (after.places ≡ before.places) × (after.owned ≡ None) × (after.stop ≡ Some stop))
+StealsIn hall word before after (Err (Stopped stop)) =
+    ((before.stop ≡ Some stop) × (after ≡ before)) ⊎ MeetsStop hall word before stop after
 
 -- no slot was refused to it
 abbrev pub IsNotBusy : Result Event EventRefused → Type 0
@@ -43,3 +50,19 @@ IsNotBusy (Err (Busy held)) = ⊥
 IsNotBusy (Err Nothing) = Unit {0}
 IsNotBusy (Err (Over end)) = Unit {0}
 IsNotBusy (Err (Stopped stop)) = Unit {0}
+
+-- the answer of the thief, as one of its hall
+abbrev pub answer_of : Result Event StealRefused → Result Event EventRefused
+answer_of (Ok event) = Ok event
+answer_of (Err (failed.Busy held)) = Err (Busy held)
+answer_of (Err failed.Nothing) = Err Nothing
+answer_of (Err (failed.Over end)) = Err (Over end)
+answer_of (Err (failed.Stopped stop)) = Err (Stopped stop)
+
+-- the seat with the deque that it stole, or with the stop that it found
+abbrev pub settled : Seat → Result Event StealRefused → Seat
+settled seat (Ok event) = record seat { owned = deque_of event }
+settled seat (Err (failed.Busy held)) = seat
+settled seat (Err failed.Nothing) = seat
+settled seat (Err (failed.Over end)) = seat
+settled seat (Err (failed.Stopped stop)) = record seat { stop = Some stop }

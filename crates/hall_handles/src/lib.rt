@@ -2,7 +2,8 @@
 //!
 //! A [`Hall`] is the slots of a scheduler with its terms, beside its program; a [`Seat`] is the right of one worker to work there. A hall is made of
 //! a core that has done no step ([`Hall::new`]), with a seat for the worker 0, which has the places of all workers. A worker enters by a seat
-//! that has two places, steals, acts, gives its deque up, keeps the stop that it found, and leaves into another seat. The seat that has all places closes the hall.
+//! that has two places, steals, acts, gives its deque up, keeps the stop that it found, and leaves into another seat. A seat that is to steal may
+//! hold the list first ([`ListHeld`]). The seat that has all places closes the hall.
 //!
 //! It stands on the hall of a core (`hall_entry`), on the steal of a thief (`thief_acts`), on the events of an owner (`owner_events`), and on what
 //! a seat does with the list (`hall_entering`, `hall_seats`, `hall_leaving`, `hall_closing`). Its one theorem: what a seat says of itself (its
@@ -14,6 +15,7 @@ mod closing;
 mod ends;
 mod hall;
 mod leaving;
+mod lists;
 mod opening;
 mod owners;
 mod refused;
@@ -22,5 +24,6 @@ mod thieves;
 
 pub use closing::Closing;
 pub use hall::Hall;
+pub use lists::ListHeld;
 pub use refused::{CloseRefused, EnterRefused, EventRefused, LeaveRefused};
 pub use seat::Seat;

@@ -1,14 +1,17 @@
 //! How a worker that owns no deque steals.
 
 ghost use Rattle.std.specs.Prelude.{◌≡◌, None};
+ghost use Rattle.hall_handles.specs.declared.seat.Seat.{Seat as AnySeat};
+ghost use Rattle.hall_handles.specs.Held.{HoldsList};
 ghost use Rattle.hall_handles.specs.Seated.{IsIn};
-ghost use Rattle.hall_handles.specs.Thieves.{deque_of, IsNotBusy, StealsIn};
+ghost use Rattle.hall_handles.specs.Thieves.{answer_of, deque_of, settled, IsNotBusy, StealsIn};
 
 use crate::hall::Hall;
 use crate::refused::EventRefused;
 use crate::seat::Seat;
+use boxed::Boxed;
 use deque_list::DequeId;
-use hall_turns::Event;
+use hall_turns::{Event, ListSlot, take_list};
 use thief_acts::{StealRefused, steal};
 
 /// The deque that a steal gave; None for any other event.
@@ -19,6 +22,52 @@ fn deque_of(event: Event) -> Option<DequeId>
         Event::Stole { deque, .. } => Some(deque),
         Event::Did(_) | Event::Suspended(_) | Event::GaveUp(_) | Event::Halted(_) => None,
     }
+}
+
+/// Lets a seat say what its steal came to: it owns the deque that it stole, or has found a stop.
+fn settle(seat: &mut Seat, stolen: Result<Event, StealRefused>) -> Result<Event, EventRefused>
+    ensures answer { result ≡ answer_of stolen }
+    ensures seat { seat.new ≡ settled seat.old stolen }
+{
+    match stolen {
+        Ok(event) => {
+            seat.owned = deque_of(event);
+            Ok(event)
+        }
+        Err(StealRefused::Busy(held)) => Err(EventRefused::Busy(held)),
+        Err(StealRefused::Nothing) => Err(EventRefused::Nothing),
+        Err(StealRefused::Over(end)) => Err(EventRefused::Over(end)),
+        Err(StealRefused::Stopped(stop)) => {
+            seat.stop = Some(stop);
+            Err(EventRefused::Stopped(stop))
+        }
+    }
+}
+
+/// Steals with the list that a seat holds, which has found no stop.
+pub(crate) fn steal_with(
+    hall: &Hall,
+    seat: &mut Seat,
+    list: Boxed<ListSlot>,
+    word: u64,
+) -> Result<Event, EventRefused>
+    requires held { (before : AnySeat) × HoldsList hall.now before list seat.old }
+    requires none { seat.old.stop ≡ None }
+    ensures here { IsIn hall.now seat.new }
+    ensures seat { (before : AnySeat) → HoldsList hall.now before list seat.old → StealsIn hall.now word before seat.new result }
+    ensures lone { seat.old.places ≡ hall.now.workers → IsNotBusy result }
+{
+    let worker = seat.worker;
+    let stolen = steal(
+        &hall.row,
+        &mut seat.place,
+        hall.alloc,
+        worker,
+        list,
+        hall.workers,
+        word,
+    );
+    settle(seat, stolen)
 }
 
 impl Hall {
@@ -39,26 +88,9 @@ impl Hall {
         if let Some(stop) = seat.stop {
             return Err(EventRefused::Stopped(stop));
         }
-        let worker = seat.worker;
-        match steal(
-            &self.row,
-            &mut seat.place,
-            self.alloc,
-            worker,
-            self.workers,
-            word,
-        ) {
-            Ok(event) => {
-                seat.owned = deque_of(event);
-                Ok(event)
-            }
-            Err(StealRefused::Busy(held)) => Err(EventRefused::Busy(held)),
-            Err(StealRefused::Nothing) => Err(EventRefused::Nothing),
-            Err(StealRefused::Over(end)) => Err(EventRefused::Over(end)),
-            Err(StealRefused::Stopped(stop)) => {
-                seat.stop = Some(stop);
-                Err(EventRefused::Stopped(stop))
-            }
+        match take_list(&self.row, &mut seat.place) {
+            Ok(list) => steal_with(self, seat, list, word),
+            Err(held) => Err(EventRefused::Busy(held)),
         }
     }
 }

@@ -8,18 +8,13 @@ use Rattle.turn_table.specs.Seats.{with_hand}
 use Rattle.hall_turns.specs.declared.list_slot.ListSlot.{ListSlot}
 use Rattle.hall_turns.specs.declared.slot.Slot.{Slot}
 use Rattle.hall_turns.specs.declared.slot.Slot.TheVariants as slots
-use Rattle.hall_turns.specs.declared.key.HallKey.{HallKey}
-use Rattle.hall_turns.specs.Takes.{HallSeat, HasAllPlaces, IsTaken}
+use Rattle.hall_turns.specs.Takes.{HallSeat, IsTaken}
 use Rattle.hall_choice.specs.Choosing.{IsToldMore, HasVictim}
 use Rattle.hall_seats.specs.Lists.{with_list}
 use Rattle.hall_seeking.specs.declared.prey.Prey.{Prey}
 use Rattle.hall_seeking.specs.declared.prey.SeekRefused.{SeekRefused}
 use Rattle.hall_seeking.specs.declared.prey.SeekRefused.TheVariants.{Busy, Nothing, Over}
 use Rattle.hall_seeking.specs.Seeking.{LeavesTold, SeeksWith, HasSought}
-
--- a seat that has all places has them still after it took a slot
-pub has_all : (key : HallKey) (before after : HallSeat) (slot : ℕ) (found : Slot) → IsTaken before slot found after → HasAllPlaces key before → HasAllPlaces key after
-has_all key before after slot found taken all = subst (HasAllPlaces key) (sym taken) (record { all = all.all; stays = all.stays; alone = all.alone })
 
 -- a seat that took the list and holds nothing any more is back
 taken_and_left : (before middle after : HallSeat) (list : ListSlot) (more : List (Look Slot)) → IsTaken before 0 (slots.List list) middle → before.hand.holds ≡ [] → LeavesTold middle more after

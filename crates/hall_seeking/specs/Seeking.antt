@@ -36,7 +36,7 @@ SeeksWith workers word list before after (Err Nothing) =
 SeeksWith workers word list before after (Err (Over end)) =
     (list.end ≡ Some end) × Leaves before (answered_note before.hand.note list) after
 
--- so it is with the list that it took; or it was refused, and is as it was but for its answers
+-- So it is with a seat that held nothing and took the list first; or it was refused a slot, and is what it was but for its answers.
 abbrev pub HasSought : (workers word : ℕ) → HallSeat → HallSeat → Result Prey SeekRefused → Type 0
 HasSought workers word before after (Ok prey) =
     (prey.list.end ≡ None) × HasVictim workers word prey.list (with_list before prey.list) prey.place prey.lane after

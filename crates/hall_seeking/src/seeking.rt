@@ -4,16 +4,22 @@ ghost use Rattle.std.specs.Prelude.{◌≡◌, [], ◌∷◌, IfOk};
 ghost use Rattle.turn_table.specs.Tables.{key_of, IsSeatOf};
 ghost use Rattle.hall_turns.specs.declared.slot.Slot.TheVariants as slots;
 ghost use Rattle.hall_turns.specs.Takes.{HasAllPlaces, IsPlaced, MeetsLaw};
-ghost use Rattle.hall_seeking.specs.Seeking.{HasSought, IsNotBusy, SeeksWith};
+ghost use Rattle.hall_seeking.specs.Seeking.{IsNotBusy, SeeksWith};
 
 use crate::prey::{Prey, SeekRefused};
 use boxed::Boxed;
 use hall_choice::choose;
 use hall_seats::{end_of, put_answered};
-use hall_turns::{HallPlace, HallRow, ListSlot, give_list_back, take_list};
+use hall_turns::{HallPlace, HallRow, ListSlot, give_list_back};
 
-/// What `seek` does once it has the list.
-fn seek_with(
+/// Finds a deque in reach that has a thread to steal, the first in the order that a word picks, with the list that the seat holds alone. The seat
+/// holds the list and the lane of this deque then.
+///
+/// # Errors
+///
+/// Another seat holds the lane of a deque that was to be tried, an end is kept, or no deque in reach has a thread to steal. The seat holds
+/// nothing then.
+pub fn seek(
     row: &HallRow,
     seat: &mut HallPlace,
     list: Boxed<ListSlot>,
@@ -42,31 +48,5 @@ fn seek_with(
             give_list_back(row, seat, list);
             Err(SeekRefused::Busy(held))
         }
-    }
-}
-
-/// Takes the list, and finds a deque in reach that has a thread to steal, the first in the order that a word picks. The seat holds the list and
-/// the lane of this deque then.
-///
-/// # Errors
-///
-/// Another seat holds the list or the lane of a deque that was to be tried, an end is kept, or no deque in reach has a thread to steal. The
-/// seat holds nothing.
-pub fn seek(
-    row: &HallRow,
-    seat: &mut HallPlace,
-    workers: u32,
-    word: u64,
-) -> Result<Prey, SeekRefused>
-    requires here { IsSeatOf row.now seat.old }
-    requires placed { IsPlaced seat.old }
-    requires free { seat.old.hand.holds ≡ [] }
-    ensures seat { HasSought workers word seat.old seat.new result }
-    ensures meets { IfOk result (λ _. MeetsLaw (key_of row.now) seat.new) }
-    ensures lone { HasAllPlaces (key_of row.now) seat.old → IsNotBusy result }
-{
-    match take_list(row, seat) {
-        Ok(list) => seek_with(row, seat, list, workers, word),
-        Err(held) => Err(SeekRefused::Busy(held)),
     }
 }

@@ -1,2 +1,4 @@
 mod Seen
 mod Kept
+mod Told
+mod Underway

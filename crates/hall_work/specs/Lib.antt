@@ -1,2 +1,4 @@
 pub mod Working
 pub mod Passed
+pub mod Trying
+pub mod Spending

@@ -1,12 +1,12 @@
 //! One try of a worker.
 
-ghost use Rattle.std.specs.Prelude.{◌≡◌, Some, Err};
+ghost use Rattle.std.specs.Prelude.{◌≡◌, ◌+◌, ℕ, None, Some};
 ghost use Rattle.hall_handles.specs.Seated.{IsIn, IsProgramOf};
-ghost use Rattle.hall_handles.specs.declared.refused.EventRefused.TheVariants.{Over};
+ghost use Rattle.hall_work.specs.Trying.{Tries, answer_as, draws, GoesOn};
 ghost use Rattle.hall_work.specs.Working.{HasSeen, IsSameWorker};
-ghost use Rattle.run_end.specs.declared.ends.RunEnd.{RunEnd as AnyEnd};
 ghost use Rattle.work_loop.specs.Tries.{EndsAs};
 
+use crate::answer::Answer;
 use core_ends::Choices;
 use hall_handles::{EventRefused, Hall, Seat};
 use hall_turns::Event;
@@ -15,16 +15,15 @@ use run_end::{RunEnd, Stop};
 use work_loop::Tried;
 
 /// Keeps the stop that a seat found.
-fn keep(hall: &Hall, seat: &mut Seat, stop: Stop) -> Tried<RunEnd>
+fn keep(hall: &Hall, seat: &mut Seat, stop: Stop) -> Answer
     requires here { IsIn hall.now seat.old }
     requires found { seat.old.stop ≡ Some stop }
     ensures here { IsIn hall.now seat.new }
-    ensures same { IsSameWorker seat.old seat.new }
-    ensures ended { EndsAs result (HasSeen seat.new) }
+    ensures tries { (word : ℕ) → Tries hall.now word seat.old seat.new result }
 {
     match hall.halt(seat, stop) {
-        Ok(end) => Tried::Ended(end),
-        Err(_) => Tried::Waits,
+        Ok(end) => Answer::Over(end),
+        Err(held) => Answer::Refused(EventRefused::Busy(held)),
     }
 }
 
@@ -37,9 +36,10 @@ fn go_on<C: Choices>(
 ) -> Result<Event, EventRefused>
     requires program { IsProgramOf hall.now code.now }
     requires here { IsIn hall.now seat.old }
+    requires none { seat.old.stop ≡ None }
     ensures here { IsIn hall.now seat.new }
-    ensures same { IsSameWorker seat.old seat.new }
-    ensures over { (end : AnyEnd) → result ≡ Err (Over end) → HasSeen seat.new end }
+    ensures goes { GoesOn hall.now (C.coming choices.old 0) seat.old seat.new result }
+    ensures words { (i : ℕ) → C.coming choices.new i ≡ C.coming choices.old (i + draws seat.old) }
 {
     match seat.owns() {
         Some(_) => hall.act(code, seat),
@@ -50,7 +50,40 @@ fn go_on<C: Choices>(
     }
 }
 
-/// Does one call of a seat: it keeps the stop that it found, or does its next event.
+/// What an event or its refusal is as the answer of a try.
+fn answer_of(answer: Result<Event, EventRefused>) -> Answer
+    ensures { result ≡ answer_as answer }
+{
+    match answer {
+        Ok(event) => Answer::Did(event),
+        Err(EventRefused::Busy(held)) => Answer::Refused(EventRefused::Busy(held)),
+        Err(EventRefused::Nothing) => Answer::Refused(EventRefused::Nothing),
+        Err(EventRefused::Over(end)) => Answer::Over(end),
+        Err(EventRefused::Stopped(stop)) => Answer::Found(stop),
+    }
+}
+
+/// Makes one try, which is one call of a seat: it keeps the stop that it found before; or it acts if it owns a deque, and otherwise steals by the
+/// next word.
+pub(crate) fn make_try<C: Choices>(
+    hall: &Hall,
+    code: &Code,
+    seat: &mut Seat,
+    choices: &mut C,
+) -> Answer
+    requires program { IsProgramOf hall.now code.now }
+    requires here { IsIn hall.now seat.old }
+    ensures here { IsIn hall.now seat.new }
+    ensures tries { Tries hall.now (C.coming choices.old 0) seat.old seat.new result }
+    ensures words { (i : ℕ) → C.coming choices.new i ≡ C.coming choices.old (i + draws seat.old) }
+{
+    if let Some(stop) = seat.found() {
+        return keep(hall, seat, stop);
+    }
+    answer_of(go_on(hall, code, seat, choices))
+}
+
+/// Makes one try, and answers as a loop is told it.
 pub(crate) fn try_next<C: Choices>(
     hall: &Hall,
     code: &Code,
@@ -63,12 +96,9 @@ pub(crate) fn try_next<C: Choices>(
     ensures same { IsSameWorker seat.old seat.new }
     ensures ended { EndsAs result (HasSeen seat.new) }
 {
-    if let Some(stop) = seat.found() {
-        return keep(hall, seat, stop);
-    }
-    match go_on(hall, code, seat, choices) {
-        Ok(_) | Err(EventRefused::Stopped(_)) => Tried::Did,
-        Err(EventRefused::Busy(_) | EventRefused::Nothing) => Tried::Waits,
-        Err(EventRefused::Over(end)) => Tried::Ended(end),
+    match make_try(hall, code, seat, choices) {
+        Answer::Did(_) | Answer::Found(_) => Tried::Did,
+        Answer::Refused(_) => Tried::Waits,
+        Answer::Over(end) => Tried::Ended(end),
     }
 }

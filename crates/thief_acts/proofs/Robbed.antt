@@ -32,13 +32,15 @@ use Rattle.hall_turns.specs.declared.seat_note.SeatNote.{SeatNote}
 use Rattle.hall_turns.specs.declared.slot.Slot.{Slot}
 use Rattle.hall_turns.specs.declared.slot.Slot.TheVariants as slots
 use Rattle.hall_turns.specs.Shown.{lane_shown}
-use Rattle.hall_turns.specs.Takes.{HallSeat, HasAllPlaces, MeetsLaw}
+use Rattle.hall_turns.specs.Takes.{HallSeat, HasAllPlaces, IsTaken, MeetsLaw}
 use Rattle.hall_choice.specs.Choosing.{look_shown, took_lane, HasVictim}
 use Rattle.hall_seats.specs.Lists.{with_list}
+use Rattle.hall_seeking.specs.declared.prey.Prey.{Prey}
 use Rattle.hall_seeking.specs.declared.prey.SeekRefused.{SeekRefused}
 use Rattle.hall_seeking.specs.declared.prey.SeekRefused.TheVariants as sought
 use Rattle.hall_seeking.specs.Seeking as seeking
-use Rattle.hall_seeking.specs.Seeking.{HasSought}
+use Rattle.hall_seeking.specs.Seeking.{HasSought, SeeksWith}
+use Rattle.hall_seeking.proofs.Sought as begun
 use Rattle.hall_stealing.specs.Stealing.{IsNew, IsOpenTo, MayTakeOver, MayTakeBottom}
 use Rattle.hall_thefts.specs.Thefts.{stolen_note}
 use Rattle.thief_acts.proofs.Slots.{slot_is}
@@ -183,6 +185,24 @@ told_all : (ls : List (Look Slot)) (first : Look Slot) (tried : List (Look Slot)
     → (((ls ++ first ∷ []) ++ tried) ++ last ∷ []) ++ more ≡ ls ++ (first ∷ ((tried ++ last ∷ []) ++ more))
 told_all ls first tried last more = simp append_assoc
 
+-- the deque that it has found, with the list that it held alone
+module _ (workers word : ℕ) (held middle : HallSeat) (list : ListSlot) (alone : held.hand.holds ≡ (0, slots.List list) ∷ []) (prey : Prey) (seeks : SeeksWith workers word list held middle (Ok prey)) where
+  its_victim : HasVictim workers word prey.list held prey.place prey.lane middle
+  its_victim = subst (λ (l : ListSlot). HasVictim workers word l held prey.place prey.lane middle) (sym seeks.0) seeks.2
+
+  -- it notes what it noted
+  pub note_kept : middle.hand.note ≡ held.hand.note
+  note_kept = ap (λ (s : HallSeat). s.hand.note) (HasVictim.after_is its_victim)
+
+  pub prey_of : (key : HallKey) → workers ≡ key.workers → HasPrey key prey.list prey.place prey.lane middle
+  prey_of key same = record {
+    start = held;
+    alone = subst (λ (l : ListSlot). held.hand.holds ≡ (0, slots.List l) ∷ []) (sym seeks.0) alone;
+    no_end = ap (λ (l : ListSlot). l.end) seeks.0 ∙ seeks.1;
+    word = word;
+    victim = subst (λ n. HasVictim n word prey.list held prey.place prey.lane middle) same its_victim;
+  }
+
 module _ (workers word : ℕ) (before middle after : HallSeat) (free : before.hand.holds ≡ []) (list : ListSlot) (place : ℕ) (lane : LaneSlot) (no_end : list.end ≡ None)
     (has : HasVictim workers word list (with_list before list) place lane middle) where
   abbrev seen : List (Look Slot)
@@ -196,19 +216,6 @@ module _ (workers word : ℕ) (before middle after : HallSeat) (free : before.ha
       leaves ∙ ap (λ (s : HallSeat). with_hand s (record { seated = s.hand.seated; holds = []; note = note s.hand.note; looks = s.hand.looks ++ more })) has.after_is
       ∙ ap (λ (ls : List (Look Slot)). with_hand before (record { seated = before.hand.seated; holds = []; note = note before.hand.note; looks = ls }))
       (told_all before.hand.looks (Took 0 (slots.List list)) has.more (took_lane has.victim lane) more)
-
-  -- it notes what it noted
-  pub note_kept : middle.hand.note ≡ before.hand.note
-  note_kept = ap (λ (s : HallSeat). s.hand.note) has.after_is
-
-  pub prey_of : (key : HallKey) → workers ≡ key.workers → HasPrey key list place lane middle
-  prey_of key same = record {
-    start = with_list before list;
-    alone = ap (λ (xs : List (ℕ × Slot)). (0, slots.List list) ∷ xs) free;
-    no_end = no_end;
-    word = word;
-    victim = subst (λ n. HasVictim n word list (with_list before list) place lane middle) same has;
-  }
 
   -- what it did with its prey is what the call did
   pub steals_of : (result : Result Event StealRefused) → StealsWith list has.victim lane middle after result → Steals workers word before after result
@@ -249,12 +256,23 @@ module _ (workers word : ℕ) (before middle after : HallSeat) (free : before.ha
     leaves = all_left (λ n. found_note n stop) steals.0 steals.2;
   }
 
+-- a seat that held nothing, took the list and then found a deque has stolen
+pub steals_then : (workers word : ℕ) (before held middle after : HallSeat) (list : ListSlot) (prey : Prey) → before.hand.holds ≡ [] → IsTaken before 0 (slots.List list) held
+    → SeeksWith workers word list held middle (Ok prey) → (result : Result Event StealRefused)
+    → ((victim : Place) → slice_get prey.list.part.order.places prey.place ≡ Some victim → StealsWith prey.list victim prey.lane middle after result) → Steals workers word before after result
+steals_then workers word before held middle after list prey free taken seeks result steals =
+    let found = begun.sought workers word before held middle list (Ok prey) taken free seeks in
+    steals_of workers word before middle after free prey.list prey.place prey.lane found.0 found.1 result (steals (HasVictim.victim found.1) (HasVictim.at found.1))
+
 -- what the choice was refused by is what the call is refused by
-pub refused_as : (workers word : ℕ) (before after : HallSeat) (refused : SeekRefused) → HasSought workers word before after (Err refused) → Steals workers word before after (Err (refusal_of refused))
+refused_as : (workers word : ℕ) (before after : HallSeat) (refused : SeekRefused) → HasSought workers word before after (Err refused) → Steals workers word before after (Err (refusal_of refused))
 refused_as workers word before after (sought.Busy held) has = has
 refused_as workers word before after sought.Nothing has = has
 refused_as workers word before after (sought.Over end) has = has
 
+pub refused_then : (workers word : ℕ) (before held after : HallSeat) (list : ListSlot) (refused : SeekRefused) → before.hand.holds ≡ [] → IsTaken before 0 (slots.List list) held
+    → SeeksWith workers word list held after (Err refused) → Steals workers word before after (Err (refusal_of refused))
+refused_then workers word before held after list refused free taken seeks = refused_as workers word before after refused (begun.sought workers word before held after list (Err refused) taken free seeks)
 pub not_busy_as : (refused : SeekRefused) → seeking.IsNotBusy (Err refused) → IsNotBusy (Err (refusal_of refused))
 not_busy_as (sought.Busy held) free = free
 not_busy_as sought.Nothing free = free

@@ -1,4 +1,4 @@
--- What the call of a thief answers, and what its seat is then.
+-- What a thief is answered that takes the list and steals, and what its seat is then.
 use Rattle.std.specs.Prelude.{◌≡◌, ℕ, None, Some, List, [], ◌∷◌, ◌++◌, map, Result, Ok, Err, slice_get}
 use Rattle.deque_list.specs.declared.deque_id.DequeId.{DequeId}
 use Rattle.deque_list.specs.declared.place.Place.{Place}
@@ -61,8 +61,8 @@ pub record HasMetStop (workers word : ℕ) (before : HallSeat) (stop : Stop) (af
   pub more : List (Look Slot)
   pub leaves : LeavesWith before (found_note before.hand.note stop) (all_told list seen more) after
 
--- What the call answers: a steal; that a slot is held, and then the seat is what it was but for its answers; that there is nothing to steal, or
--- that an end is kept; or a stop.
+-- What a seat is answered that held nothing and took the list first: a steal; that a slot is held, and then the seat is what it was but for its
+-- answers; that there is nothing to steal, or that an end is kept; or a stop.
 abbrev pub Steals : (workers word : ℕ) → HallSeat → HallSeat → Result Event StealRefused → Type 0
 Steals workers word before after (Ok event) = HasStolenBy workers word before event after
 Steals workers word before after (Err (Busy held)) = IsBack before after held

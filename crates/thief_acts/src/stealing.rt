@@ -1,10 +1,11 @@
 //! How a thief steals.
 
-ghost use Rattle.std.specs.Prelude.{◌≡◌, ◌≢◌, ℕ, ◌<◌, ◌≤◌, [], Some, Err, length, slice_get};
+ghost use Rattle.std.specs.Prelude.{◌≡◌, ◌≢◌, ℕ, ◌<◌, ◌≤◌, [], ◌∷◌, Some, Err, length, slice_get};
 ghost use Rattle.deque_list.specs.declared.place.Place.{Place as AnyPlace};
 ghost use Rattle.deque_list.specs.Ids.{IsSmallestFree, place_ids};
 ghost use Rattle.turn_table.specs.Tables.{key_of, IsSeatOf};
-ghost use Rattle.hall_turns.specs.Takes.{HasAllPlaces, MeetsLaw};
+ghost use Rattle.hall_turns.specs.declared.slot.Slot.TheVariants as slots;
+ghost use Rattle.hall_turns.specs.Takes.{HallSeat, HasAllPlaces, IsTaken, MeetsLaw};
 ghost use Rattle.thief_acts.specs.declared.refused.StealRefused.TheVariants.{Stopped};
 ghost use Rattle.thief_acts.specs.Prey.{EndsWith, HasBoth, HasPrey, IsNotBusy, IsOneTooMany, MaySteal, StealsWith};
 ghost use Rattle.thief_acts.specs.Steals.{Steals};
@@ -228,29 +229,34 @@ fn steal_prey(
     }
 }
 
-/// Steals from the first deque in reach that has a thread to steal, in the order that a word picks: takes it over if nobody owns it and it has
-/// one thread, and otherwise takes its bottom thread into a new deque to the right of it.
+/// Steals, with the list that the seat holds alone, from the first deque in reach that has a thread to steal, in the order that a word picks: takes
+/// it over if nobody owns it and it has one thread, and otherwise takes its bottom thread into a new deque to the right of it. The seat holds
+/// nothing then.
 ///
 /// # Errors
 ///
-/// Another seat holds a slot that the thief needs: then all is put back, and the seat is what it was but for its answers. Or no deque in reach
-/// has a thread to steal, or an end is kept. Or no further deque is allowed, or there is not enough memory: this stop is kept in the list.
+/// Another seat holds a lane that the thief needs: then all is put back, and the seat is what it was before it took the list but for its answers.
+/// Or no deque in reach has a thread to steal, or an end is kept. Or no further deque is allowed, or there is not enough memory: this stop is kept
+/// in the list.
 pub fn steal(
     row: &HallRow,
     seat: &mut HallPlace,
     alloc: Global,
     worker: u32,
+    list: Boxed<ListSlot>,
     workers: u32,
     word: u64,
 ) -> Result<Event, StealRefused>
     requires here { IsSeatOf row.now seat.old }
     requires may { MaySteal seat.old worker }
     requires reach { workers ≡ (key_of row.now).workers }
-    requires free { seat.old.hand.holds ≡ [] }
-    ensures seat { Steals workers word seat.old seat.new result }
+    requires holds { seat.old.hand.holds ≡ (0, slots.List list) ∷ [] }
+    requires meets { MeetsLaw (key_of row.now) seat.old }
+    ensures seat { (before : HallSeat) → before.hand.holds ≡ [] → IsTaken before 0 (slots.List list) seat.old
+        → Steals workers word before seat.new result }
     ensures lone { HasAllPlaces (key_of row.now) seat.old → IsNotBusy result }
 {
-    match seek(row, seat, workers, word) {
+    match seek(row, seat, list, workers, word) {
         Ok(prey) => steal_prey(row, seat, alloc, worker, prey),
         Err(refused) => Err(refusal_of(refused)),
     }

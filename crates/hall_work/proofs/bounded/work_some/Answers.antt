@@ -1,0 +1,35 @@
+use Rattle.std.proofs.Common.{◌+◌, sym, subst}
+use Rattle.hall_work.specs.declared.answer.Answer.{Answer}
+use Rattle.hall_work.specs.declared.answer.Answer.TheVariants.{Did, Found}
+use Rattle.hall_work.specs.Trying.{Tries}
+use Rattle.hall_work.specs.Working.{same_on}
+use Rattle.hall_work.proofs.Kept.{tries_keep}
+use Rattle.hall_work.proofs.Underway.{IsUnderWay, did_one, found_one}
+use Rattle.hall_work.proofs.bounded.work_some.Goals as goal
+use Rattle.hall_work.proofs.bounded.work_some.Goals.{in-Did, in-Found}
+
+pub tries-preserved : goal.tries-preserved
+tries-preserved g c =
+    let coming = g.C.Choices.coming in
+    let same = same_on c.args.worker.now.seat c.tries.worker.seat c.make_try.new.seat c.tries.invariant.2
+        (tries_keep c.args.hall.now (coming c.tries.worker.choices 0) c.tries.worker.seat c.make_try.new.seat c.make_try.result c.make_try.ensures.tries) in
+    elim c.match-make_try.branch [
+      | in-Did w ↦ (
+        c.tries.invariant.0,
+        c.make_try.ensures.here,
+        same,
+        subst (λ n. IsUnderWay c.args.hall.now (coming c.args.worker.now.choices) (coming c.make_try.new.choices) (c.tries.counter + 1) n c.args.worker.now.seat c.make_try.new.seat) (sym w.done-is)
+            (did_one c.args.hall.now (coming c.args.worker.now.choices) (coming c.tries.worker.choices) (coming c.make_try.new.choices) c.tries.counter c.tries.done c.args.worker.now.seat c.tries.worker.seat
+            c.make_try.new.seat c.tries.invariant.3 c.make_try.ensures.words w.in-Did.field-0
+            (subst (λ (a : Answer). Tries c.args.hall.now (coming c.tries.worker.choices 0) c.tries.worker.seat c.make_try.new.seat a) w.in-Did.is c.make_try.ensures.tries)),
+      )
+      | in-Found w ↦ (
+        c.tries.invariant.0,
+        c.make_try.ensures.here,
+        same,
+        subst (λ n. IsUnderWay c.args.hall.now (coming c.args.worker.now.choices) (coming c.make_try.new.choices) (c.tries.counter + 1) n c.args.worker.now.seat c.make_try.new.seat) (sym w.done-is)
+            (found_one c.args.hall.now (coming c.args.worker.now.choices) (coming c.tries.worker.choices) (coming c.make_try.new.choices) c.tries.counter c.tries.done c.args.worker.now.seat c.tries.worker.seat
+            c.make_try.new.seat c.tries.invariant.3 c.make_try.ensures.words w.in-Found.field-0
+            (subst (λ (a : Answer). Tries c.args.hall.now (coming c.tries.worker.choices 0) c.tries.worker.seat c.make_try.new.seat a) w.in-Found.is c.make_try.ensures.tries)),
+      )
+    ]
