@@ -4,6 +4,7 @@ use Rattle.std.specs.Prelude.{Result, Ok, Err}
 use Rattle.run_end.specs.declared.ends.RunEnd.{RunEnd}
 use Rattle.run_end.specs.declared.stop.Stop.{Stop}
 use Rattle.turn_table.specs.declared.held.Held.{Held}
+use Rattle.hall_handles.proofs.Failed.{busy_notes, over_notes, stopped_notes}
 use Rattle.hall_handles.specs.Owners.{ActsIn}
 use Rattle.hall_handles.specs.Seated.{SameSeat}
 use Rattle.hall_handles.specs.Thieves.{StealsIn}
@@ -14,6 +15,7 @@ use Rattle.hall_handles.specs.declared.seat.Seat.{Seat}
 use Rattle.hall_seats.specs.Halting.{HasHalted}
 use Rattle.hall_turns.specs.Takes.{HallSeat, IsRefused}
 use Rattle.hall_turns.specs.declared.event.Event.{Event}
+use Rattle.hall_turns.specs.declared.seat_note.SeatNote.{SeatNote}
 use Rattle.hall_work.specs.declared.answer.Answer.{Answer}
 use Rattle.hall_work.specs.declared.answer.Answer.TheVariants as answers
 use Rattle.hall_work.specs.Trying.{GoesOn, Tries}
@@ -23,13 +25,13 @@ acts_keep : (hall : Hall) (before after : Seat) (r : Result Event EventRefused) 
 acts_keep hall before after (Ok event) acts =
     record { worker = acts.worker; places = acts.places; yields = ap (λ (s : HallSeat). s.hand.note.yielded) acts.its_place.leaves }
 acts_keep hall before after (Err (Busy held)) acts =
-    record { worker = acts.2.worker; places = acts.2.places; yields = ap (λ (s : HallSeat). s.hand.note.yielded) acts.1.1 }
+    record { worker = acts.2.worker; places = acts.2.places; yields = ap (λ (n : SeatNote). n.yielded) (busy_notes hall before after held acts.1) }
 acts_keep hall before after (Err Nothing) acts = absurd acts
 acts_keep hall before after (Err (Over end)) acts =
-    record { worker = acts.2.worker; places = acts.2.places; yields = ap (λ (s : HallSeat). s.hand.note.yielded) acts.1.3 }
+    record { worker = acts.2.worker; places = acts.2.places; yields = ap (λ (n : SeatNote). n.yielded) (over_notes hall before after end acts.1).2 }
 acts_keep hall before after (Err (Stopped stop)) acts = elim acts [
   | inl same ↦ record { worker = ap (λ (s : Seat). s.worker) same.1; places = ap (λ (s : Seat). s.places) same.1; yields = ap (λ (s : Seat). s.place.hand.note.yielded) same.1 }
-  | inr fails ↦ record { worker = fails.2; places = fails.3; yields = ap (λ (s : HallSeat). s.hand.note.yielded) fails.1.1 }
+  | inr fails ↦ record { worker = fails.2; places = fails.3; yields = ap (λ (n : SeatNote). n.yielded) (stopped_notes hall before after stop fails.1) }
 ]
 
 steals_keep : (hall : Hall) (word : ℕ) (before after : Seat) (r : Result Event EventRefused) → StealsIn hall word before after r → IsSameWorker before after

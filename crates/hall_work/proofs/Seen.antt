@@ -1,6 +1,7 @@
 -- A seat that was answered an end notes it.
 use Rattle.std.proofs.Common.{ℕ, inl, inr, ap, ◌∙◌}
 use Rattle.std.specs.Prelude.{Err}
+use Rattle.hall_handles.proofs.Failed.{over_notes}
 use Rattle.hall_handles.specs.Owners.{ActsIn}
 use Rattle.hall_handles.specs.Thieves.{StealsIn}
 use Rattle.hall_handles.specs.declared.hall.Hall.{Hall}
@@ -8,6 +9,7 @@ use Rattle.hall_handles.specs.declared.refused.EventRefused.TheVariants.{Over}
 use Rattle.hall_handles.specs.declared.seat.Seat.{Seat}
 use Rattle.hall_seats.specs.Halting.{HasHalted}
 use Rattle.hall_turns.specs.Takes.{HallSeat}
+use Rattle.hall_turns.specs.declared.seat_note.SeatNote.{SeatNote}
 use Rattle.hall_work.specs.declared.answer.Answer.TheVariants as answers
 use Rattle.hall_work.specs.Trying.{Tries}
 use Rattle.hall_work.specs.Working.{HasSeen}
@@ -15,7 +17,7 @@ use Rattle.run_end.specs.declared.ends.RunEnd.{RunEnd}
 use Rattle.run_end.specs.declared.stop.Stop.{Stop}
 
 seen_by_act : (hall : Hall) (before after : Seat) (end : RunEnd) → ActsIn hall before after (Err (Over end)) → HasSeen after end
-seen_by_act hall before after end acts = let fails = acts.1 in ap (λ (s : HallSeat). s.hand.note.answered) fails.3 ∙ fails.2
+seen_by_act hall before after end acts = let over = over_notes hall before after end acts.1 in ap (λ (n : SeatNote). n.answered) over.2 ∙ over.1
 
 seen_by_steal : (hall : Hall) (word : ℕ) (before after : Seat) (end : RunEnd) → StealsIn hall word before after (Err (Over end)) → HasSeen after end
 seen_by_steal hall word before after end steals = let sought = steals.1 in ap (λ (s : HallSeat). s.hand.note.answered) sought.1.1 ∙ sought.1.0

@@ -2,6 +2,7 @@
 use Rattle.std.proofs.Common.{◌≡◌, ℕ, List, [], ◌∷◌, ◌++◌, inl, inr, sym, ap, ◌∙◌}
 use Rattle.std.specs.Prelude.{None, Some, Result, Ok, Err}
 use Rattle.run_end.specs.declared.stop.Stop.{Stop}
+use Rattle.hall_handles.proofs.Failed.{busy_notes, over_notes, stopped_notes}
 use Rattle.hall_handles.specs.Owners.{ActsIn}
 use Rattle.hall_handles.specs.Thieves.{StealsIn}
 use Rattle.hall_handles.specs.declared.hall.Hall.{Hall}
@@ -9,6 +10,7 @@ use Rattle.hall_handles.specs.declared.refused.EventRefused.{EventRefused}
 use Rattle.hall_handles.specs.declared.refused.EventRefused.TheVariants.{Busy, Nothing, Over, Stopped}
 use Rattle.hall_handles.specs.declared.seat.Seat.{Seat}
 use Rattle.hall_turns.specs.declared.event.Event.{Event}
+use Rattle.hall_turns.specs.declared.seat_note.SeatNote.{SeatNote}
 use Rattle.hall_turns.specs.Takes.{HallSeat}
 use Rattle.hall_work.specs.declared.answer.Answer.TheVariants as answers
 use Rattle.hall_work.specs.Trying.{GoesOn, Tries}
@@ -24,12 +26,12 @@ one_more_of seat event = mine seat ++ event ∷ []
 -- ---- refusals add nothing
 
 acts_refused : (hall : Hall) (before after : Seat) (why : EventRefused) → ActsIn hall before after (Err why) → mine after ≡ mine before
-acts_refused hall before after (Busy held) acts = ap (λ (s : HallSeat). s.hand.note.mine) acts.1.1
+acts_refused hall before after (Busy held) acts = ap (λ (n : SeatNote). n.mine) (busy_notes hall before after held acts.1)
 acts_refused hall before after Nothing acts = absurd acts
-acts_refused hall before after (Over end) acts = ap (λ (s : HallSeat). s.hand.note.mine) acts.1.3
+acts_refused hall before after (Over end) acts = ap (λ (n : SeatNote). n.mine) (over_notes hall before after end acts.1).2
 acts_refused hall before after (Stopped stop) acts = elim acts [
   | inl same ↦ ap mine same.1
-  | inr fails ↦ ap (λ (s : HallSeat). s.hand.note.mine) fails.1.1
+  | inr fails ↦ ap (λ (n : SeatNote). n.mine) (stopped_notes hall before after stop fails.1)
 ]
 
 steals_refused : (hall : Hall) (word : ℕ) (before after : Seat) (why : EventRefused) → StealsIn hall word before after (Err why) → mine after ≡ mine before
