@@ -74,3 +74,6 @@ returns-clause-seat c = subst (λ a. HasDoneWithList c.args.seat.now c.args.dequ
   pools = λ some. absurd (some refl);
   leaves = counted_leaves c.args.seat.now c.count_with_list.new.seat c.act_root_end-ended.new.seat None (Did c.act_root_end-ended.result.0) (key_of c.args.row.now) c.args.deque (list_and_lane c.args.deque c.args.list) c.args.at nexts.End (spare c.args.memory.now.births) (c.in_ok-at.ensures.seat nexts.End (spare c.args.memory.now.births) c.args.list (with.more_to_leave c.args.list c.make_room_to_leave.new.list c.make_room_to_leave.ensures.same) c.requires.ready.before).2 c.act_root_end-ended.ensures.seat;
 })
+
+pub returns-in-Err-clause-seat : goal.returns-in-Err-clause-seat
+returns-in-Err-clause-seat c = at_none (MayTry (key_of c.args.row.now) c.args.at nexts.End) c.args.seat.now c.stop_short.new.seat c.stop_short.result c.stop_short.ensures.seat

@@ -6,6 +6,8 @@ use Rattle.turn_table.specs.Tables.{key_of}
 use Rattle.owner_acts.specs.Decided.PartEvents.Rooms.{HasMoreToWait}
 use Rattle.owner_acts.specs.Decided.Taken.{list_and_lane}
 use Rattle.hall_turns.specs.declared.event.Event.TheVariants.{Suspended}
+use Rattle.owner_events.proofs.Failing.{at_none}
+use Rattle.owner_events.specs.Needs.{MayTry}
 use Rattle.owner_events.proofs.FromList as from
 use Rattle.owner_events.proofs.Trying.{may_pause}
 use Rattle.owner_events.proofs.WithList as with
@@ -39,3 +41,6 @@ returns-clause-seat c = subst (λ a. HasDoneWithList c.args.seat.now c.args.dequ
   pools = λ some. absurd (some refl);
   leaves = with.bare_leaves c.args.seat.now c.act_wait-thread.new.seat (Suspended c.act_wait-thread.result) c.act_wait-thread.ensures.seat;
 })
+
+pub returns-in-Err-clause-seat : goal.returns-in-Err-clause-seat
+returns-in-Err-clause-seat c = at_none (MayTry (key_of c.args.row.now) c.args.at (nexts.Join c.args.child)) c.args.seat.now c.stop_short.new.seat c.stop_short.result c.stop_short.ensures.seat
