@@ -1,3 +1,2 @@
 mod Left
-mod Thefts
 pub mod Failed
