@@ -1,6 +1,6 @@
-pub mod Closing
 pub mod Opening
 pub mod Seated
 pub mod Thieves
 pub mod Owners
 pub mod Leaving
+pub mod Closing

@@ -14,3 +14,4 @@ mod WithAll
 mod Deciding
 mod Called
 mod Yielded
+mod Busy
