@@ -43,10 +43,7 @@ fn work_to_end<R: Threads + Wait + Sync, C: Choices + Send + Drop, G: Gate + Syn
 }
 
 /// Closes a hall with the one member that is left.
-fn close_by<C: Drop>(
-    hall: Hall,
-    last: Member<HallWorker<C>, RunEnd>,
-) -> Result<Closing, AllocError>
+fn close_by<C: Drop>(hall: Hall, last: Member<HallWorker<C>, RunEnd>) -> Result<Closing, AllocError>
     requires end { HasItsEnd hall last }
     requires all { (seat_of last).places ≡ hall.workers }
     ensures { IfOk result (λ closing. (seat : AnySeat) × IsClosedBy hall seat closing) }

@@ -19,9 +19,7 @@ use deque_list::DequeId;
 use hall_deciding::decide_yield;
 use hall_puts::Noting;
 use hall_seats::end_of;
-use hall_turns::{
-    HallPlace, HallRow, LaneSlot, ListSlot, give_lane_back, take_lane, take_list,
-};
+use hall_turns::{HallPlace, HallRow, LaneSlot, ListSlot, give_lane_back, take_lane, take_list};
 use owner_advance::{make_room_to_close, return_answered, return_list};
 use run_end::Stop;
 use std::alloc::AllocError;

@@ -1,4 +1,4 @@
-use Rattle.std.proofs.Common.{◌∙◌, ap, subst, sym}
+use Rattle.std.proofs.Common.{◌∙◌, [], ap, subst, sym}
 use Rattle.turn_table.specs.Tables.{key_of}
 use Rattle.hall_deciding.specs.PartEvents.Puts.{note_of, HasPut}
 use Rattle.hall_puts.specs.declared.noting.Noting.{Noting}
