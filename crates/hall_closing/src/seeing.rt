@@ -16,7 +16,7 @@ use turn_table::Held;
 /// # Errors
 ///
 /// Another seat holds the list.
-pub(crate) fn see_end(row: &HallRow, seat: &mut HallPlace) -> Result<Option<RunEnd>, Held>
+pub fn see_end(row: &HallRow, seat: &mut HallPlace) -> Result<Option<RunEnd>, Held>
     requires here { IsSeatOf row.now seat.old }
     requires placed { IsPlaced seat.old }
     requires free { seat.old.hand.holds ≡ [] }

@@ -1,2 +1,3 @@
 mod Left
 pub mod Failed
+mod Closed

@@ -1,6 +1,7 @@
 -- What a hall gives that is closed.
-use Rattle.std.specs.Prelude.{◌≡◌, ◌<◌, None, Result, Ok, Err}
+use Rattle.std.specs.Prelude.{◌≡◌, ◌⊎◌, ◌<◌, Option, None, Some, Result, Ok, Err}
 use Rattle.dag_order.specs.Births.{root}
+use Rattle.deque_list.specs.declared.deque_id.DequeId.{DequeId}
 use Rattle.dfd_core.specs.Parts.{root_behind}
 use Rattle.run_end.specs.declared.ends.RunEnd.{RunEnd}
 use Rattle.thread_map.specs.Kept.{kept_under}
@@ -13,6 +14,7 @@ use Rattle.hall_handles.specs.declared.hall.Hall.{Hall}
 use Rattle.hall_handles.specs.declared.seat.Seat.{Seat}
 use Rattle.hall_handles.specs.declared.refused.CloseRefused.{CloseRefused}
 use Rattle.hall_handles.specs.declared.refused.CloseRefused.TheVariants.{StillIn, NotOver, OutOfMemory}
+use Rattle.hall_handles.specs.Leaving.{HasGivenUp, IsShort}
 use Rattle.hall_handles.specs.Seated.{SameSeat}
 
 -- What comes out of this list and this pool, of a run that ended so: the closed periods, the moves, and the result of the root if it finished.
@@ -22,12 +24,37 @@ pub record GivesClosing (list : ListSlot) (pool : PoolSlot) (end : RunEnd) (clos
   pub moves : closing.moves ≡ pool.moves
   pub root : closing.root ≡ root_behind end (kept_under list.part.results root)
 
--- How it is with a hall and a seat: they give what is left of one run; or another seat has places, or no end is kept, and both are what they
--- were, but that the seat saw the list.
+-- the seat saw this end kept in the list, or none, and is what it was
+abbrev pub HasSeenIn : Seat → Option RunEnd → Seat → Type 0
+HasSeenIn last end seen = HasSeen last.place end seen.place × SameSeat last seen
+
+-- How it is with the hall and a seat that has all places and owns no deque: they give what is left of one run, or no end is kept.
+abbrev pub ClosesAlone : Hall → Seat → Result Closing (Hall × Seat × CloseRefused) → Type 0
+ClosesAlone hall last (Ok closing) =
+    (list : ListSlot) × (pool : PoolSlot) × IsClosed (key_of hall.row) last.place list pool closing.end × GivesClosing list pool closing.end closing
+ClosesAlone hall last (Err (back, seat, StillIn places)) = ⊥
+ClosesAlone hall last (Err (back, seat, NotOver)) = HasSeenIn last None seat × (key_of back.row ≡ key_of hall.row)
+ClosesAlone hall last (Err (back, seat, OutOfMemory)) = ⊥
+
+-- The seat owns no deque; or it saw that this end is kept, and has given its deque up.
+abbrev pub LetsGoAfter : RunEnd → Seat → Seat → Type 0
+LetsGoAfter end last idle = ((last.owned ≡ None) × (idle ≡ last))
+    ⊎ ((seen : Seat) × HasSeenIn last (Some end) seen × (deque : DequeId) × HasGivenUp seen deque idle)
+
+-- How it is with a hall and a seat: they give what is left of one run, in which the seat gave its deque up last, if it owned one. Or another seat
+-- has places, or no end is kept; or the seat saw an end, and there is not enough memory to give its deque up. Then both are what they were, but
+-- that the seat saw the list, and may have found that memory is wanting.
 abbrev pub Closes : Hall → Seat → Result Closing (Hall × Seat × CloseRefused) → Type 0
-Closes hall last (Ok closing) = (last.places ≡ hall.workers) × (list : ListSlot) × (pool : PoolSlot)
-    × IsClosed (key_of hall.row) last.place list pool closing.end × GivesClosing list pool closing.end closing
+Closes hall last (Ok closing) = (last.places ≡ hall.workers) × (idle : Seat) × LetsGoAfter closing.end last idle × (list : ListSlot) × (pool : PoolSlot)
+    × IsClosed (key_of hall.row) idle.place list pool closing.end × GivesClosing list pool closing.end closing
 Closes hall last (Err (back, seat, StillIn places)) = (last.places < hall.workers) × (places ≡ last.places) × (back ≡ hall) × (seat ≡ last)
-Closes hall last (Err (back, seat, NotOver)) = (last.places ≡ hall.workers) × HasSeen last.place None seat.place × SameSeat last seat
-    × (key_of back.row ≡ key_of hall.row)
-Closes hall last (Err (back, seat, OutOfMemory)) = ⊥
+Closes hall last (Err (back, seat, NotOver)) =
+    (last.places ≡ hall.workers) × HasSeenIn last None seat × (key_of back.row ≡ key_of hall.row)
+Closes hall last (Err (back, seat, OutOfMemory)) = (last.places ≡ hall.workers) × (back ≡ hall)
+    × (end : RunEnd) × (seen : Seat) × HasSeenIn last (Some end) seen × (deque : DequeId) × (last.owned ≡ Some deque) × IsShort seen seat
+
+-- an end may be kept where a hall is not closed for this cause
+abbrev pub MayHaveEnded : CloseRefused → Type 0
+MayHaveEnded (StillIn places) = Unit {0}
+MayHaveEnded NotOver = ⊥
+MayHaveEnded OutOfMemory = Unit {0}

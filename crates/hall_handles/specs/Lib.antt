@@ -1,7 +1,7 @@
-pub mod Closing
 pub mod Opening
 pub mod Seated
 pub mod Thieves
 pub mod Owners
 pub mod Leaving
 pub mod Held
+pub mod Closing

@@ -3,17 +3,20 @@
 ghost use Rattle.std.specs.Prelude.{◌≡◌, ◌<◌, None, Some, IfErr, MatchResult};
 ghost use Rattle.dfd_core.specs.Parts.{root_behind};
 ghost use Rattle.run_end.specs.declared.ends.RunEnd.{RunEnd as AnyEnd};
-ghost use Rattle.hall_handles.specs.Closing.{Closes, GivesClosing};
+ghost use Rattle.hall_handles.specs.Closing.{Closes, ClosesAlone, GivesClosing, MayHaveEnded};
 ghost use Rattle.hall_handles.specs.Seated.{IsIn};
 
 use crate::closing::Closing;
 use crate::hall::Hall;
+use crate::leaving::let_go;
 use crate::refused::CloseRefused;
 use crate::seat::Seat;
 use dag_order::ThreadId;
-use hall_closing::{ClosedHall, close};
+use deque_list::DequeId;
+use hall_closing::{ClosedHall, close, see_end};
 use hall_turns::{ListSlot, PoolSlot};
 use list_part::ListPart;
+use owner_events::YieldRefused;
 use run_end::RunEnd;
 use thread_frames::Ended;
 
@@ -48,34 +51,60 @@ fn closing_of(closed: ClosedHall) -> Closing
 }
 
 impl Hall {
-    /// Closes the hall with the seat that has all places, and gives what is left of its run. Its end is the one that the seat was answered, if it was
-    /// answered one.
+    /// Closes the hall with the seat that has all places, and gives what is left of its run. A deque that the seat owns is given up first. The end is
+    /// the one that the seat was answered, if it was answered one.
     ///
     /// # Errors
     ///
-    /// Another seat has places, or no end is kept. The hall and the seat come back.
+    /// Another seat has places, or no end is kept. Or the seat owns a deque and there is not enough memory to give it up: now, or when it found this.
+    /// The hall and the seat come back, and the moment of the hall is what it was.
     pub fn close(self, last: Seat) -> Result<Closing, (Hall, Seat, CloseRefused)>
         requires here { IsIn self last }
-        requires idle { last.owned ≡ None }
         ensures closed { Closes self last result }
         ensures told { (end : AnyEnd) → last.place.hand.note.answered ≡ Some end
-            → MatchResult result (λ closing. closing.end ≡ end) (λ back. last.places < self.workers) }
+            → MatchResult result (λ closing. closing.end ≡ end) (λ back. MayHaveEnded back.2) }
         ensures here { IfErr result (λ back. IsIn back.0 back.1) }
     {
         if last.places < self.workers {
             let places = last.places;
             return Err((self, last, CloseRefused::StillIn { places }));
         }
-        close_alone(self, last)
+        match last.owned {
+            Some(_) => close_owner(self, last),
+            None => close_alone(self, last),
+        }
     }
 }
 
-/// What `close` does once the seat is the only one.
+/// What `close` does once the seat is the only one, if it owns a deque.
+fn close_owner(hall: Hall, last: Seat) -> Result<Closing, (Hall, Seat, CloseRefused)>
+    requires here { IsIn hall last }
+    requires owns { (deque : DequeId) × (last.owned ≡ Some deque) }
+    requires alone { last.places ≡ hall.workers }
+    ensures closed { Closes hall last result }
+    ensures told { (end : AnyEnd) → last.place.hand.note.answered ≡ Some end
+        → MatchResult result (λ closing. closing.end ≡ end) (λ back. MayHaveEnded back.2) }
+    ensures here { IfErr result (λ back. IsIn back.0 back.1) }
+{
+    let mut last = last;
+    match see_end(&hall.row, &mut last.place) {
+        Ok(Some(_)) => (),
+        Ok(None) => return Err((hall, last, CloseRefused::NotOver)),
+        Err(_) => unreachable!(),
+    }
+    match let_go(&hall, &mut last) {
+        Ok(()) => close_alone(hall, last),
+        Err(YieldRefused::OutOfMemory) => Err((hall, last, CloseRefused::OutOfMemory)),
+        Err(YieldRefused::Busy(_)) => unreachable!(),
+    }
+}
+
+/// What `close` does once the seat is the only one, and owns no deque.
 fn close_alone(hall: Hall, last: Seat) -> Result<Closing, (Hall, Seat, CloseRefused)>
     requires here { IsIn hall last }
     requires idle { last.owned ≡ None }
     requires alone { last.places ≡ hall.workers }
-    ensures closed { Closes hall last result }
+    ensures closed { ClosesAlone hall last result }
     ensures told { (end : AnyEnd) → last.place.hand.note.answered ≡ Some end → MatchResult result (λ closing. closing.end ≡ end) (λ back. ⊥) }
     ensures here { IfErr result (λ back. IsIn back.0 back.1) }
 {

@@ -1,12 +1,13 @@
 -- A seat that has left is joined into another.
-use Rattle.std.proofs.Common.{◌≡◌, ◌≢◌, ℕ, List, map, set, refl, sym, ap, ◌∙◌, subst, arith, true≢false}
-use Rattle.std.proofs.Math.Logic.{∥∥₁_map}
+use Rattle.std.proofs.Common.{◌≡◌, ◌≢◌, ℕ, ◌+◌, ◌≤◌, List, map, set, refl, sym, ap, ◌∙◌, subst, arith, true≢false}
+use Rattle.std.proofs.Math.Logic.{∥∥₁_elim, ∥∥₁_map}
 use Rattle.std.specs.Prelude.{Option, Some, slice_get, slice_set}
 use Rattle.std.specs.Option.{option_map}
 use Rattle.std.proofs.lemmas.Option.{none-some}
 use mathlib.Core.Option.{some}
 use lib.ListN.{get_elem?}
 use lib.Seq.{map-set}
+use denote.Struct.Props.{props}
 use Rattle.depth_first_run.specs.States.{Setting}
 use Rattle.deque_machine.specs.Terms.{Terms, machine_of}
 use Rattle.period_table.proofs.Lists.{set_other}
@@ -18,10 +19,11 @@ use Rattle.turn_table.specs.Seats.{with_hand}
 use Rattle.turn_table.proofs.NoteLaws.{join_noted}
 use Rattle.turn_places.proofs.Resting.{join_rests}
 use Rattle.hall_law.specs.Values.{End}
-use Rattle.hall_law.specs.Views.{View, joined}
-use Rattle.hall_law.specs.Seats.{with_places_of}
+use Rattle.hall_law.specs.Views.{View, joined, places_held}
+use Rattle.hall_law.specs.Seats.{or_else, with_places_of}
 use Rattle.hall_law.specs.State.{RunningState, HallLaw}
 use Rattle.hall_law.specs.Points.{IsExcused}
+use Rattle.hall_law.proofs.Notes.{total_two}
 use Rattle.hall_law.proofs.Quiet.{joining_goes_on}
 use Rattle.hall_turns.specs.declared.list_slot.ListSlot.{ListSlot}
 use Rattle.hall_turns.specs.declared.seat_note.SeatNote.{SeatNote}
@@ -38,11 +40,16 @@ use Rattle.hall_turns.proofs.Keeping.{Whole}
 use Rattle.hall_turns.proofs.Lone.{noted_at}
 use Rattle.hall_turns.proofs.Noting.{excused_by_others, excused_set, answered_set, notes_sound}
 use Rattle.hall_turns.proofs.Reading.{get_of_at}
-use Rattle.hall_leaving.specs.Leaving.{HasGone, HasJoined, HasLeft, with_places}
+use Rattle.hall_leaving.specs.Leaving.{HasGone, HasJoined, HasLeft, places_with, with_places}
+
+-- so they are those of both
+all_places : (workers into gone : ℕ) → into + gone ≤ workers → places_with workers into gone ≡ into + gone
+all_places workers into gone few = omega (arith, few)
 
 module _ (key : HallKey) (into gone : HallSeat) (placed : IsPlaced into) (has : HasGone gone) where
+  -- the places of both, whether or not there are so many
   abbrev now : SeatNote
-  now = with_places into.hand.note gone.hand.note
+  now = record into.hand.note { places = into.hand.note.places + gone.hand.note.places; yielded = or_else into.hand.note.yielded gone.hand.note.yielded }
 
   abbrev notes_now : List SeatNote → List SeatNote
   notes_now notes = set (set notes into.number now) gone.number joined_note
@@ -93,9 +100,28 @@ module _ (key : HallKey) (into gone : HallSeat) (placed : IsPlaced into) (has : 
         (answered_now shown notes mine apart its holds.parts) holds.parts;
   }
 
-  pub join_keeps : JoinKeeps Whole joined_note key into gone now
-  join_keeps = join_rests places_of HallHolds joined_note key into gone now (let p = placed in omega (arith, p)) (join_noted HallHolds joined_note key into gone now join_may)
+  -- both have no more than all
+  few_places : (shown : List Slot) (count : ℕ) (notes : List SeatNote) → HallHolds key shown count notes → get_elem? notes into.number ≡ some into.hand.note
+      → gone.number ≢ into.number → get_elem? notes gone.number ≡ some gone.hand.note → into.hand.note.places + gone.hand.note.places ≤ key.workers
+  few_places shown count notes holds mine apart its = ∥∥₁_elim holds.key_is.of_program (search props) (λ p. ∥∥₁_elim (holds.state p.0 p.1) (search props)
+      (λ law. let two = total_two places_held (map view_of notes) into.number gone.number (view_of into.hand.note) (view_of gone.hand.note) (λ e. apart (sym e))
+      (noted_at notes into.number into.hand.note mine) (noted_at notes gone.number gone.hand.note its) in let all = law.state.crew.places in omega (arith, two, all)))
+
+  abbrev noted_now : SeatNote
+  noted_now = with_places key.workers into.hand.note gone.hand.note
+
+  same_note : into.hand.note.places + gone.hand.note.places ≤ key.workers → now ≡ noted_now
+  same_note few = ap (λ (n : ℕ). record now { places = n }) (sym (all_places key.workers into.hand.note.places gone.hand.note.places few))
+
+  few_join : JoinMay HallHolds key joined_note into gone noted_now
+  few_join shown count notes holds long shows mine apart its = subst (λ (n : SeatNote). HallHolds key shown count (set (set notes into.number n) gone.number joined_note))
+      (same_note (few_places shown count notes holds mine apart its)) (join_may shown count notes holds long shows mine apart its)
+
+  pub join_keeps : JoinKeeps Whole joined_note key into gone noted_now
+  join_keeps = join_rests places_of HallHolds joined_note key into gone noted_now (let p = placed in omega (arith, p)) (join_noted HallHolds joined_note key into gone noted_now few_join)
 
 -- the places of a seat that left are those that it had
-pub joined_of : (before left into after : HallSeat) → HasLeft before left → HasJoined into left.hand.note after → HasJoined into before.hand.note after
-joined_of before left into after has joins = joins ∙ ap (λ (s : HallSeat). with_hand into (noted into.hand (with_places into.hand.note s.hand.note))) has.1
+pub joined_of : (key : HallKey) (before left into after : HallSeat) → HasLeft before left → HasJoined key into left.hand.note after
+    → HasJoined key into before.hand.note after
+joined_of key before left into after has joins =
+    joins ∙ ap (λ (s : HallSeat). with_hand into (noted into.hand (with_places key.workers into.hand.note s.hand.note))) has.1

@@ -1,5 +1,5 @@
 -- How a seat leaves that owns no deque, and is joined into another.
-use Rattle.std.specs.Prelude.{◌≡◌, ◌≢◌, ℕ, ◌+◌, ◌<◌, true, false, Option, None, Some, [], ◌∷◌, ◌++◌}
+use Rattle.std.specs.Prelude.{◌≡◌, ◌≢◌, ℕ, ◌+◌, ◌-◌, ◌<◌, true, false, min, Option, None, Some, [], ◌∷◌, ◌++◌}
 use Rattle.lawful_books.specs.Lists.{Each}
 use Rattle.run_end.specs.declared.stop.Stop.{Stop}
 use Rattle.run_end.specs.declared.ends.RunEnd.{RunEnd}
@@ -8,6 +8,7 @@ use Rattle.turn_table.specs.Hands.{noted, gave}
 use Rattle.turn_table.specs.Seats.{with_hand}
 use Rattle.turn_places.specs.Backs.{unchanged}
 use Rattle.hall_law.specs.Seats.{or_else}
+use Rattle.hall_turns.specs.declared.key.HallKey.{HallKey}
 use Rattle.hall_turns.specs.declared.list_slot.ListSlot.{ListSlot}
 use Rattle.hall_turns.specs.declared.seat_note.SeatNote.{SeatNote}
 use Rattle.hall_turns.specs.declared.slot.Slot.TheVariants as slots
@@ -66,9 +67,15 @@ pub record HasGone (seat : HallSeat) : Type 0 where
   pub nobody : seat.hand.note.enters ≡ None
   pub free : seat.hand.holds ≡ []
 
--- the note of a seat that another was joined into: it has the places of both, and has yielded if one of them had
-abbrev pub with_places : SeatNote → SeatNote → SeatNote
-with_places into gone = record into { places = into.places + gone.places; yielded = or_else into.yielded gone.yielded }
+-- How many places a seat has once another was joined into it, in a hall of so many workers: those of both. The places of all seats are those of the
+-- workers, so both have no more than these.
+abbrev pub places_with : (workers into gone : ℕ) → ℕ
+places_with workers into gone = into + min gone (workers - into)
 
-abbrev pub HasJoined : HallSeat → SeatNote → HallSeat → Type 0
-HasJoined before gone after = after ≡ with_hand before (noted before.hand (with_places before.hand.note gone))
+-- the note of a seat that another was joined into: it has the places of both, and has yielded if one of them had
+abbrev pub with_places : (workers : ℕ) → SeatNote → SeatNote → SeatNote
+with_places workers into gone =
+    record into { places = places_with workers into.places gone.places; yielded = or_else into.yielded gone.yielded }
+
+abbrev pub HasJoined : HallKey → HallSeat → SeatNote → HallSeat → Type 0
+HasJoined key before gone after = after ≡ with_hand before (noted before.hand (with_places key.workers before.hand.note gone))

@@ -12,7 +12,7 @@ pub(crate) fn join(row: &HallRow, into: &mut HallPlace, gone: HallPlace)
     requires here { IsSeatOf row.now into.old × IsSeatOf row.now gone }
     requires placed { IsPlaced into.old }
     requires gone { HasGone gone }
-    ensures { HasJoined into.old gone.hand.note into.new }
+    ensures { HasJoined (key_of row.now) into.old gone.hand.note into.new }
 {
     row.join_seat::<Brand>(into, gone);
 }

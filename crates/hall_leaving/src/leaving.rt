@@ -78,7 +78,7 @@ pub fn leave(
     requires may { MayLeave seat worker found }
     requires free { seat.hand.holds ≡ [] }
     requires placed { IsPlaced into.old }
-    ensures seat { MatchResult result (λ _. HasJoined into.old seat.hand.note into.new)
+    ensures seat { MatchResult result (λ _. HasJoined (key_of row.now) into.old seat.hand.note into.new)
         (λ refused. IsRefused seat 0 refused.1 refused.0 × (into.new ≡ into.old)) }
     ensures here { IfErr result (λ refused. IsSeatOf row.now refused.0) }
 {

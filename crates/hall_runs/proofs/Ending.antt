@@ -1,20 +1,28 @@
 -- How a hall is closed by the last member.
-use Rattle.std.proofs.Common.{◌≡◌, sym, ◌∙◌}
-use Rattle.std.specs.Prelude.{Ok}
+use Rattle.std.proofs.Common.{◌≡◌, sym, ap, ◌∙◌, subst}
+use Rattle.std.specs.Prelude.{Some, Ok}
+use Rattle.dag_order.specs.declared.finish.Finish.{Finish}
 use Rattle.run_end.specs.declared.ends.RunEnd.{RunEnd}
+use Rattle.run_end.specs.declared.ends.RunEnd.TheVariants.{Finished}
 use Rattle.work_loop.specs.declared.member.Member.{Member}
+use Rattle.hall_turns.specs.Takes.{HallSeat}
 use Rattle.hall_work.specs.Passed.{Hall, Seat, Closing}
-use Rattle.hall_work.specs.Passed.Closings.{Closes}
+use Rattle.hall_work.specs.Passed.Closings.{Closes, LetsGoAfter}
 use Rattle.hall_work.specs.declared.worker.HallWorker.{HallWorker}
 use Rattle.hall_runs.specs.Closed.{IsClosedBy}
-use Rattle.hall_runs.specs.Crews.{HasItsEnd, HasLetGo, WasTold, seat_of}
+use Rattle.hall_runs.specs.Crews.{HasItsEnd, HasKeptRules, WasTold, seat_of}
 
-pub closed_by : {C : Type 0} (hall : Hall) (last : Member (HallWorker C) RunEnd) (seat : Seat) (closing : Closing) → HasItsEnd hall last
-    → HasLetGo hall (seat_of last) seat → Closes hall seat (Ok closing) → ((end : RunEnd) → WasTold seat end → closing.end ≡ end)
-    → IsClosedBy hall seat closing
-closed_by hall last seat closing has let_go closes told =
-    let end_is = told has.end (let_go.answered ∙ has.told) in record {
-      closes = closes;
-      rules = λ finish is. let finishes = sym end_is ∙ is in
-          let_go.rules finish (has.told ∙ Rattle.std.proofs.Common.ap Rattle.std.specs.Prelude.Some finishes) (has.rules finish finishes);
-    }
+-- a seat that saw a finish gave no deque up
+kept_after : (finish : Finish) (end : RunEnd) (last idle : Seat) → end ≡ Finished finish → HasKeptRules last → LetsGoAfter end last idle → HasKeptRules idle
+kept_after finish end last idle is rules goes = elim goes [
+  | inl same ↦ subst HasKeptRules (sym same.1) rules
+  | inr gone ↦ absurd (gone.3.unfinished finish (ap (λ (s : HallSeat). s.hand.note.answered) gone.1.0.2 ∙ ap (λ (e : RunEnd). Some e) is))
+]
+
+pub closed_by : {C : Type 0} (hall : Hall) (last : Member (HallWorker C) RunEnd) (closing : Closing) → HasItsEnd hall last
+    → Closes hall (seat_of last) (Ok closing) → ((end : RunEnd) → WasTold (seat_of last) end → closing.end ≡ end)
+    → IsClosedBy hall (seat_of last) closing
+closed_by hall last closing has closes told = record {
+  closes = closes;
+  rules = λ finish is. kept_after finish closing.end (seat_of last) closes.1 is (has.rules finish (sym (told has.end has.told) ∙ is)) closes.2;
+}

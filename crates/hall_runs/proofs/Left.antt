@@ -37,7 +37,7 @@ use Rattle.hall_turns.specs.declared.key.HallKey.{HallKey}
 use Rattle.hall_turns.specs.declared.list_slot.ListSlot.{ListSlot}
 use Rattle.hall_turns.specs.declared.pool_slot.PoolSlot.{PoolSlot}
 use Rattle.hall_turns.specs.Keys.{table_of, quota_of}
-use Rattle.hall_work.specs.Passed.{Closing}
+use Rattle.hall_work.specs.Passed.{Closing, Seat}
 use Rattle.hall_work.specs.Passed.Closings.{GivesClosing}
 use Rattle.hall_runs.specs.Closed.{IsLeftOf}
 use Rattle.hall_runs.specs.Reports.{IsReportOf, IsStoppedBy, SomeRun}
@@ -52,16 +52,20 @@ module _ (core : Core) (closing : Closing) (left : IsLeftOf core closing) where
   key = key_of left.0.row
 
   abbrev list : ListSlot
-  list = left.4.closes.1
+  list = left.4.closes.3
 
   abbrev pool : PoolSlot
-  pool = left.4.closes.2
+  pool = left.4.closes.4
 
-  closed : IsClosed key left.3.place list pool closing.end
-  closed = left.4.closes.3
+  -- the seat that closed the hall, once it owned no deque
+  abbrev last : Seat
+  last = left.4.closes.1
+
+  closed : IsClosed key last.place list pool closing.end
+  closed = left.4.closes.5
 
   gives : GivesClosing list pool closing.end closing
-  gives = left.4.closes.4
+  gives = left.4.closes.6
 
   table_is : table_of key ≡ code_shown core.code
   table_is = ap (λ (code : Code). code_shown code) left.2.key.code
@@ -76,11 +80,11 @@ module _ (core : Core) (closing : Closing) (left : IsLeftOf core closing) where
     -- a stop
     pub tells_its_stop : (stop : Stop) → closing.end ≡ Stopped stop → (stop ≡ OutOfMemory → ⊥) → IsStoppedBy c (terms_at core) stop
     tells_its_stop (ArenaFull live asked) is other = subst (λ t. IsStoppedBy c t (ArenaFull live asked)) left.2.key.terms
-        (tells_stop key left.3.place list pool closing.end closed c its_setting (ArenaFull live asked) _ is refl)
+        (tells_stop key last.place list pool closing.end closed c its_setting (ArenaFull live asked) _ is refl)
     tells_its_stop (DequesFull deques) is other = subst (λ t. IsStoppedBy c t (DequesFull deques)) left.2.key.terms
-        (tells_stop key left.3.place list pool closing.end closed c its_setting (DequesFull deques) _ is refl)
+        (tells_stop key last.place list pool closing.end closed c its_setting (DequesFull deques) _ is refl)
     tells_its_stop (StepsSpent limit) is other = subst (λ t. IsStoppedBy c t (StepsSpent limit)) left.2.key.terms
-        (tells_stop key left.3.place list pool closing.end closed c its_setting (StepsSpent limit) _ is refl)
+        (tells_stop key last.place list pool closing.end closed c its_setting (StepsSpent limit) _ is refl)
     tells_its_stop OutOfMemory is other = absurd (other refl)
 
   -- a finish
@@ -101,17 +105,17 @@ module _ (core : Core) (closing : Closing) (left : IsLeftOf core closing) where
       module _ (c : Setting) (of : IsSettingOf (code_shown core.code) (quota_words core.k) c) where
         pub root_result : IsResult (code_shown core.code) (quota_words core.k) ended
         root_result = subst (λ k. IsResult (code_shown core.code) k ended) quota_is (subst (λ t. IsResult t (quota_of key) ended) table_is
-            (its_result key left.3.place list pool closing.end closed c (its_setting c of) ended kept))
+            (its_result key last.place list pool closing.end closed c (its_setting c of) ended kept))
 
         pub root_label : ended_label ended ≡ []
-        root_label = no_label key left.3.place list pool closing.end closed c (its_setting c of) ended kept
+        root_label = no_label key last.place list pool closing.end closed c (its_setting c of) ended kept
 
         pub tells_its_report : (report : Report) → entries report.lines ≡ lines_of (State.items (whole c)) → report.finish ≡ finish
             → report.periods ≡ length (books_list closing.books) → report.ahead ≡ count_by is_ahead (books_list closing.books)
             → pos report.high ≡ highest (moves_list closing.moves) → SomeRun c (terms_at core) play.finished (λ run last. IsReportOf c run last report)
         tells_its_report report lines finishes periods ahead high =
             subst (λ t. SomeRun c t play.finished (λ run last. IsReportOf c run last report)) left.2.key.terms
-            (tells_report key left.3.place list pool closing.end closed c (its_setting c of) finish is (left.4.rules finish is) ended kept report lines finishes
+            (tells_report key last.place list pool closing.end closed c (its_setting c of) finish is (left.4.rules finish is) ended kept report lines finishes
             (periods ∙ ap (λ (b : Books). length (books_list b)) gives.books)
             (ahead ∙ ap (λ (b : Books). count_by is_ahead (books_list b)) gives.books)
             (high ∙ ap (λ (m : Moves). highest (moves_list m)) gives.moves))

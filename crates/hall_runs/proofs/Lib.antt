@@ -5,3 +5,4 @@ mod Told
 mod Crews
 mod Ending
 mod Left
+mod Leaving

@@ -18,10 +18,11 @@ pub record HasWorked {C : Type 0} (hall : Hall) (before after : Member (HallWork
   pub rules : HasKeptRules (seat_of after)
   pub places : (seat_of after).places ≡ (seat_of before).places
 
--- The seat has closed the hall, and this is what is left. If the run has finished, the seats have given up no deque but where the rules ask for it.
+-- The seat has closed the hall, and this is what is left. If the run has finished, the seats have given up no deque but where the rules ask for
+-- it, nor did this one as it closed the hall.
 pub record IsClosedBy (hall : Hall) (last : Seat) (closing : Closing) : Type 0 where
   pub closes : Closes hall last (Ok closing)
-  pub rules : (finish : Finish) → closing.end ≡ Finished finish → HasKeptRules last
+  pub rules : (finish : Finish) → closing.end ≡ Finished finish → HasKeptRules closes.1
 
 -- This is left of a run of the hall of a core.
 abbrev pub IsLeftOf : Core → Closing → Type 0

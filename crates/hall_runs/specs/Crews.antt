@@ -66,12 +66,3 @@ pub record HasTaken (hall : Hall) (gone before after : Seat) : Type 0 where
   pub places : after.places ≡ before.places + gone.places
   pub answered : after.place.hand.note.answered ≡ before.place.hand.note.answered
   pub rules : (finish : Finish) → WasTold gone (Finished finish) → HasKeptRules gone → HasKeptRules before → HasKeptRules after
-
--- The seat owns no deque any more. It has its places, was answered what it was before, and has kept the rules if it had and the run has finished for
--- it.
-pub record HasLetGo (hall : Hall) (before after : Seat) : Type 0 where
-  pub is_in : IsIn hall after
-  pub idle : after.owned ≡ None
-  pub places : after.places ≡ before.places
-  pub answered : after.place.hand.note.answered ≡ before.place.hand.note.answered
-  pub rules : (finish : Finish) → WasTold before (Finished finish) → HasKeptRules before → HasKeptRules after

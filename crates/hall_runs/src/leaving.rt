@@ -2,7 +2,7 @@
 
 ghost use Rattle.std.specs.Prelude.{◌≡◌, ◌≢◌, ◌+◌, ◌≤◌, [], Some, IfOk, MatchBool, OnOk};
 ghost use Rattle.dag_order.specs.declared.finish.Finish.{Finish as AnyFinish};
-ghost use Rattle.hall_runs.specs.Crews.{AreLeft, HasItsEnd, HasLetGo, HasTaken, IsToLeave, seat_of};
+ghost use Rattle.hall_runs.specs.Crews.{AreLeft, HasItsEnd, HasTaken, IsToLeave, seat_of};
 ghost use Rattle.hall_work.specs.Passed.{IsIn};
 ghost use Rattle.run_end.specs.declared.ends.RunEnd.TheVariants.{Finished as AFinish};
 
@@ -25,23 +25,6 @@ fn leave_into<R: Wait>(rt: &R, hall: &Hall, seat: Seat, into: &mut Seat) -> Resu
             Ok(()) => return Ok(()),
             Err((back, LeaveRefused::Busy(_))) => leaving = back,
             Err((_, LeaveRefused::OutOfMemory)) => return Err(AllocError),
-        }
-    }
-    unreachable!()
-}
-
-/// Lets a seat give its deque up, if it owns one, once no other seat holds a slot that this needs.
-pub(crate) fn let_go<R: Wait>(rt: &R, hall: &Hall, seat: &mut Seat) -> Result<(), AllocError>
-    requires { IsIn hall.now seat.old }
-    ensures { OnOk result (HasLetGo hall.now seat.old seat.new) }
-{
-    'tries: for _ in rt.forever() {
-        if seat.owns().is_none() {
-            return Ok(());
-        }
-        match hall.give_up(seat) {
-            Ok(_) | Err(LeaveRefused::Busy(_)) => (),
-            Err(LeaveRefused::OutOfMemory) => return Err(AllocError),
         }
     }
     unreachable!()

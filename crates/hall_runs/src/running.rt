@@ -14,12 +14,12 @@ ghost use Rattle.node_table.specs.Codes.{code_shown};
 ghost use Rattle.thread_state.specs.Settings.{IsSettingOf};
 
 use crate::entering::{enter_all, member_of};
-use crate::leaving::{leave_all, let_go};
+use crate::leaving::leave_all;
 use crate::ran::Ran;
 use crate::telling::ran_of;
 use core_ends::Choices;
 use dfd_core::Core;
-use hall_work::{Closing, Hall, HallWorker, work_crew};
+use hall_work::{CloseRefused, Closing, Hall, HallWorker, work_crew};
 use node_table::Code;
 use run_end::RunEnd;
 use std::alloc::{AllocError, Global};
@@ -43,22 +43,17 @@ fn work_to_end<R: Threads + Wait + Sync, C: Choices + Send + Drop, G: Gate + Syn
 }
 
 /// Closes a hall with the one member that is left.
-fn close_by<R: Wait, C: Drop>(
-    rt: &R,
-    hall: Hall,
-    last: Member<HallWorker<C>, RunEnd>,
-) -> Result<Closing, AllocError>
+fn close_by<C: Drop>(hall: Hall, last: Member<HallWorker<C>, RunEnd>) -> Result<Closing, AllocError>
     requires end { HasItsEnd hall last }
     requires all { (seat_of last).places ≡ hall.workers }
     ensures { IfOk result (λ closing. (seat : AnySeat) × IsClosedBy hall seat closing) }
 {
     let Member { worker, .. } = last;
     let HallWorker { seat, .. } = worker;
-    let mut seat = seat;
-    let_go(rt, &hall, &mut seat)?;
     match hall.close(seat) {
         Ok(closing) => Ok(closing),
-        Err(_) => unreachable!(),
+        Err((_, _, CloseRefused::OutOfMemory)) => Err(AllocError),
+        Err((_, _, CloseRefused::StillIn { .. } | CloseRefused::NotOver)) => unreachable!(),
     }
 }
 
@@ -84,7 +79,7 @@ fn close_run<R: Threads + Wait + Sync, C: Choices + Send + Drop, G: Gate + Sync>
         unreachable!();
     };
     let last = leave_all(rt, &hall, last, crew)?;
-    close_by(rt, hall, last)
+    close_by(hall, last)
 }
 
 /// Runs the program of a core that has done no step, with a thread for each worker, and says what it comes to. A worker picks its victims by its

@@ -15,3 +15,4 @@ mod WithAll
 mod Deciding
 pub mod Called
 mod Yielded
+mod Busy

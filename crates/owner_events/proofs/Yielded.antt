@@ -1,11 +1,15 @@
--- A seat that took its lane and the list to give its deque up.
+-- A seat that holds its lane and the list to give its deque up.
 use Rattle.std.proofs.Common.{◌≡◌, ◌≢◌, ℕ, ◌+◌, ◌≤◌, ◌<◌, List, [], ◌∷◌, inl, inr, refl, sym, ap, ◌∙◌, subst, append_assoc}
-use Rattle.std.specs.Prelude.{None, Some}
+use Rattle.std.specs.Prelude.{Option, None, Some}
 use Rattle.std.specs.Option.{option_map}
+use Rattle.std.proofs.lemmas.Option.{none-some}
 use Rattle.dag_order.specs.declared.finish.Finish.{Finish}
 use Rattle.deque_list.specs.declared.deque_id.DequeId.{DequeId}
 use Rattle.lawful_books.specs.Lists.{Each}
+use Rattle.run_end.specs.declared.ends.RunEnd.{RunEnd}
 use Rattle.run_end.specs.declared.ends.RunEnd.TheVariants.{Finished}
+use Rattle.run_end.specs.declared.stop.Stop.{Stop}
+use Rattle.run_end.specs.declared.stop.Stop.TheVariants.{OutOfMemory}
 use Rattle.space_ledger.specs.BooksList.{books_spare}
 use Rattle.thread_frames.specs.Actions.{IsStill}
 use Rattle.thread_frames.specs.Points.{IsAtPoint}
@@ -15,11 +19,12 @@ use Rattle.turn_table.proofs.NoteLaws.{notes_at}
 use Rattle.turn_table.specs.declared.look.Look.TheVariants.{Took}
 use Rattle.turn_table.specs.Seats.{with_hand}
 use Rattle.owner_acts.specs.Decided.Lists as deciding
-use Rattle.owner_acts.specs.Decided.PartEvents.Puts.{HasPut}
+use Rattle.owner_acts.specs.Decided.PartEvents.Puts.{note_of, HasPut}
 use Rattle.owner_acts.specs.Decided.PartEvents.Rooms.{HasMoreBooks}
 use Rattle.owner_acts.specs.Decided.PartEvents.TakenParts.{MayPause}
 use Rattle.owner_acts.specs.Decided.Taken.{list_and_lane}
-use Rattle.owner_acts.specs.Decided.PartEvents.Notings.TheVariants.{Same}
+use Rattle.owner_acts.specs.Decided.PartEvents.Writes.{Parts}
+use Rattle.owner_acts.specs.Decided.PartEvents.Notings.{Noting}
 use Rattle.owner_advance.specs.ReadThere.Reads.{HoldsItsLane, ReadsLane}
 use Rattle.owner_advance.proofs.ReadLemmas.Reading.{st, shown, holds as law_holds, owners_read}
 use Rattle.owner_advance.proofs.ReadLemmas.Listing.{at, lists_are_read}
@@ -37,10 +42,11 @@ use Rattle.hall_turns.specs.declared.slot.Slot.TheVariants as slots
 use Rattle.hall_turns.proofs.Reading.{get_of_at}
 use Rattle.owner_acts.specs.Pauses.{CanClose}
 use Rattle.owner_acts.proofs.Roomier.{has_from, rest_from, shows_unowned_from, unowned_from}
-use Rattle.owner_advance.specs.Advancing.{HasLooked, took_lane}
-use Rattle.owner_advance.specs.Returning.{ReturnsList}
-use Rattle.owner_advance.proofs.Noting.{nothing_may_be_noted}
-use Rattle.owner_events.specs.Yielding.{MayYield}
+use Rattle.owner_advance.specs.Advancing.{took_lane, MayCome}
+use Rattle.owner_advance.specs.Answers.{ReturnsEnded}
+use Rattle.owner_advance.specs.Returning.{MayNote, ReturnsList}
+use Rattle.owner_advance.proofs.Noting.{memory_may_be_noted, nothing_may_be_noted}
+use Rattle.owner_events.specs.Yielding.{noting_then, short_note, stop_then, HasBoth, HasTakenBoth, MayYield}
 use Rattle.owner_events.proofs.FromList as from
 use Rattle.owner_events.proofs.WithList.{more_books}
 
@@ -48,71 +54,62 @@ use Rattle.owner_events.proofs.WithList.{more_books}
 same_thread : (x : Thread) → IsStill x x
 same_thread x = record { same = record { id = refl; parent = refl; func = refl; label = refl }; done = refl; forks = refl; children = refl; words = refl }
 
-module _ (key : HallKey) (before middle : HallSeat) (deque : DequeId) (lane : LaneSlot) (list : ListSlot)
-    (taken : AreTaken before (deque.0 + 2) (slots.Lane lane) 0 (slots.List list) middle) (may : MayYield before deque) (meets : MeetsLaw key middle) where
-  noted : middle.hand.note ≡ before.hand.note
-  noted = ap (λ (s : HallSeat). s.hand.note) taken
-
-  holding : middle.hand.holds ≡ list_and_lane deque list lane
-  holding = ap (λ (s : HallSeat). s.hand.holds) taken
-      ∙ ap (λ (xs : List (ℕ × Slot)). (0, slots.List list) ∷ (deque.0 + 2, slots.Lane lane) ∷ xs) may.free
-
-  pub may_pause : MayPause middle deque
-  may_pause = record {
-    goes = record {
-      placed = subst (λ (n : SeatNote). 0 < n.places) (sym noted) may.may.goes.placed;
-      stays = ap (λ (n : SeatNote). n.left) noted ∙ may.may.goes.stays;
-      owns = ap (λ (n : SeatNote). n.deque) noted ∙ may.may.goes.owns;
-    };
-    counting = ap (λ (n : SeatNote). n.counting) noted ∙ may.may.counting;
-  }
-
-  held : HoldsItsLane middle deque lane
+module _ (key : HallKey) (seat : HallSeat) (deque : DequeId) (list : ListSlot) (lane : LaneSlot) (both : HasBoth key seat deque list lane) where
+  held : HoldsItsLane seat deque lane
   held = record {
-    placed = may_pause.goes.placed;
-    stays = may_pause.goes.stays;
-    owns = may_pause.goes.owns;
-    holds = subst (HasAs (deque.0 + 2) (slots.Lane lane)) (sym holding) (inr (inl (refl, refl)));
+    placed = both.may.goes.placed;
+    stays = both.may.goes.stays;
+    owns = both.may.goes.owns;
+    holds = subst (HasAs (deque.0 + 2) (slots.Lane lane)) (sym both.holds) (inr (inl (refl, refl)));
   }
 
-  has_list : HasAs 0 (slots.List list) middle.hand.holds
-  has_list = subst (HasAs 0 (slots.List list)) (sym holding) (inl (refl, refl))
+  has_list : HasAs 0 (slots.List list) seat.hand.holds
+  has_list = subst (HasAs 0 (slots.List list)) (sym both.holds) (inl (refl, refl))
 
-  pub reads : ReadsLane key middle lane
-  reads = owners_read key middle deque lane held meets
+  pub reads : ReadsLane key seat lane
+  reads = owners_read key seat deque lane held both.meets
 
   pub runs : lane.running ≡ Some (record { worker = reads.holder; period = reads.period })
   runs = reads.running
 
   pub at_points : Each (IsAtPoint (table_of key) (quota_of key)) lane.lane.items
-  at_points = reads.points (λ is. may.calm (sym (ap (λ (n : SeatNote). n.found) noted) ∙ is))
+  at_points = reads.points both.calm
 
   -- no end of the root is kept, so the seat was answered none
-  pub unfinished : (finish : Finish) → before.hand.note.answered ≢ Some (Finished finish)
-  unfinished finish is = (lists_are_read key middle deque lane list held has_list meets).unfinished finish
-      (((law_holds key middle deque lane held meets).parts.end list
-      (get_of_at (shown key middle deque lane held meets) 0 (slots.List list) (at key middle deque lane held meets list has_list))).answered
-      middle.number middle.hand.note (Finished finish)
-      (get_of_at (notes meets.2) middle.number middle.hand.note (notes_at meets.2 middle.number middle.hand (st key middle deque lane held meets).mine))
-      (ap (λ (n : SeatNote). n.answered) noted ∙ is))
+  pub unfinished : (finish : Finish) → seat.hand.note.answered ≢ Some (Finished finish)
+  unfinished finish is = (lists_are_read key seat deque lane list held has_list both.meets).unfinished finish
+      (((law_holds key seat deque lane held both.meets).parts.end list
+      (get_of_at (shown key seat deque lane held both.meets) 0 (slots.List list) (at key seat deque lane held both.meets list has_list))).answered
+      seat.number seat.hand.note (Finished finish)
+      (get_of_at (notes both.meets.2) seat.number seat.hand.note (notes_at both.meets.2 seat.number seat.hand (st key seat deque lane held both.meets).mine)) is)
+
+  -- the list in which an end is kept
+  pub ended : (end : RunEnd) → list.end ≡ Some end → ReturnsEnded key seat deque list lane
+  ended end kept = record {
+    lane_was = lane;
+    holds = both.holds;
+    end = end;
+    kept = kept;
+    lane_same = record { goes = both.may.goes; same = refl; points = at_points };
+  }
 
   module _ (now : ListSlot) (more : HasMoreBooks list now) where
-    pub gives_back : ReturnsList key middle deque now lane Same
-    gives_back = record {
+    pub gives_back : (noting : Noting) → ((was : Parts) → MayNote key seat deque was noting) → ReturnsList key seat deque now lane noting
+    gives_back noting may = record {
       list_was = list;
       lane_was = lane;
-      holds = holding;
+      holds = both.holds;
       list_same = more_books list now more;
-      lane_same = record { goes = may_pause.goes; same = refl; points = at_points };
-      may = λ pool. nothing_may_be_noted key middle deque _;
+      lane_same = record { goes = both.may.goes; same = refl; points = at_points };
+      may = λ pool. may _;
     }
 
     pub closes : 1 ≤ books_spare now.part.books → CanClose deque now
-    closes room = from.closes key middle deque lane list held has_list meets now more.deques room
+    closes room = from.closes key seat deque lane list held has_list both.meets now more.deques room
 
     pub yields : (running : Running) → lane.running ≡ Some running → 1 ≤ books_spare now.part.books → (after : ListSlot)
         → ShowsUnowned now after deque running → HasNoOwner deque now.part.order.places after.part.order.places → KeepsRest now after
-        → deciding.Yields key middle deque after (record { lane = lane.lane; running = None })
+        → deciding.Yields key seat deque after (record { lane = lane.lane; running = None })
     yields running is room after shows_it places rest = record {
       list_was = list;
       was = record {
@@ -123,9 +120,9 @@ module _ (key : HallKey) (before middle : HallSeat) (deque : DequeId) (lane : La
         holder = running.worker;
         period = running.period;
         at = record { top_was = reads.top; items = reads.items; still = same_thread reads.top; running = ap (option_map running_shown) is };
-        holds = holding;
+        holds = both.holds;
       };
-      may = may_pause;
+      may = both.may;
       items = reads.items;
       given = record {
         idle = refl;
@@ -138,10 +135,55 @@ module _ (key : HallKey) (before middle : HallSeat) (deque : DequeId) (lane : La
       points = at_points;
     }
 
+-- a seat that may come to its next event may yield
+pub come_may_yield : (seat : HallSeat) (deque : DequeId) → MayCome seat deque → MayYield seat deque
+come_may_yield seat deque come = record { may = come.may; calm = λ is. none-some OutOfMemory (sym come.none ∙ is); free = come.free }
+
+-- a seat that has found this stop or none may note what it finds
+pub may_note : (key : HallKey) (seat : HallSeat) (deque : DequeId) (found : Option Stop) → MayPause seat deque → seat.hand.note.found ≡ found → (was : Parts)
+    → MayNote key seat deque was (noting_then found)
+may_note key seat deque None may none was = memory_may_be_noted key seat deque was may none
+may_note key seat deque (Some stop) may is was = nothing_may_be_noted key seat deque was
+
+-- and this is its note then
+pub noted_short : (note : SeatNote) (found : Option Stop) → note.found ≡ found → note_of note (noting_then found) ≡ short_note note
+noted_short note None none = ap (λ (o : Option Stop). record note { found = Some (stop_then o) }) (sym none)
+noted_short note (Some stop) is = ap (λ (o : Option Stop). record note { found = o }) is ∙ ap (λ (o : Option Stop). record note { found = Some (stop_then o) }) (sym is)
+
+-- a seat that took its lane and the list
+module _ (before middle : HallSeat) (deque : DequeId) (lane : LaneSlot) (list : ListSlot)
+    (taken : AreTaken before (deque.0 + 2) (slots.Lane lane) 0 (slots.List list) middle) where
+  pub noted : middle.hand.note ≡ before.hand.note
+  noted = ap (λ (s : HallSeat). s.hand.note) taken
+
+  pub has_both : (key : HallKey) → MayYield before deque → MeetsLaw key middle → HasBoth key middle deque list lane
+  has_both key may meets = record {
+    may = record {
+      goes = record {
+        placed = subst (λ (n : SeatNote). 0 < n.places) (sym noted) may.may.goes.placed;
+        stays = ap (λ (n : SeatNote). n.left) noted ∙ may.may.goes.stays;
+        owns = ap (λ (n : SeatNote). n.deque) noted ∙ may.may.goes.owns;
+      };
+      counting = ap (λ (n : SeatNote). n.counting) noted ∙ may.may.counting;
+    };
+    calm = λ is. may.calm (sym (ap (λ (n : SeatNote). n.found) noted) ∙ is);
+    holds = ap (λ (s : HallSeat). s.hand.holds) taken
+        ∙ ap (λ (xs : List (ℕ × Slot)). (0, slots.List list) ∷ (deque.0 + 2, slots.Lane lane) ∷ xs) may.free;
+    meets = meets;
+  }
+
+  -- was answered what it was before
+  pub unfinished_before : ((finish : Finish) → middle.hand.note.answered ≢ Some (Finished finish)) → (finish : Finish)
+      → before.hand.note.answered ≢ Some (Finished finish)
+  unfinished_before none finish is = none finish (ap (λ (n : SeatNote). n.answered) noted ∙ is)
+
   -- how it leaves
   module _ (after : HallSeat) (note : SeatNote → SeatNote) where
-    pub leaves : HasPut middle (note middle.hand.note) [] after → HasLooked before (took_lane deque lane ∷ Took 0 (slots.List list) ∷ []) (note before.hand.note) after
-    leaves put = put
-        ∙ ap (λ (s : HallSeat). with_hand s (record { seated = s.hand.seated; holds = []; note = note s.hand.note; looks = s.hand.looks })) taken
-        ∙ ap (λ looks. with_hand before (record { seated = before.hand.seated; holds = []; note = note before.hand.note; looks = looks }))
-        (append_assoc before.hand.looks (took_lane deque lane ∷ []) (Took 0 (slots.List list) ∷ []))
+    pub leaves : HasPut middle (note middle.hand.note) [] after → HasTakenBoth before deque list (note before.hand.note) after
+    leaves put = (
+      lane,
+      put
+          ∙ ap (λ (s : HallSeat). with_hand s (record { seated = s.hand.seated; holds = []; note = note s.hand.note; looks = s.hand.looks })) taken
+          ∙ ap (λ looks. with_hand before (record { seated = before.hand.seated; holds = []; note = note before.hand.note; looks = looks }))
+          (append_assoc before.hand.looks (took_lane deque lane ∷ []) (Took 0 (slots.List list) ∷ [])),
+    )

@@ -4,7 +4,7 @@
 //! a wait for a child, or a give up of the deque. It takes the slots that the event needs in one order, its lane first, then the list, then
 //! the pool; counts the action once there is memory for it; does it to the parts; and puts them back, by which the event is decided. If a
 //! slot is held by another seat, the run is over, there is not enough memory, or a limit of the run is met, it gives all slots back
-//! ([`ActRefused`]). A seat may also give its deque up though nothing asks for it ([`yield_deque`]).
+//! ([`ActRefused`]). A seat may also give its deque up though nothing asks for it ([`give_up_deque`]), also after the end of the run ([`yield_deque`]).
 //!
 //! It uses the way to the action and what is put back if no event comes (`owner_advance`), the count (`hall_counting`), and the
 //! events themselves (`owner_acts`). It hands the memory of a seat on ([`SeatMemory`]), so that who
@@ -30,4 +30,4 @@ pub use acted::Acted;
 pub use acting::act;
 pub use owner_advance::SeatMemory;
 pub use refused::ActRefused;
-pub use yields::{YieldRefused, yield_deque};
+pub use yields::{YieldRefused, give_up_deque, yield_deque};

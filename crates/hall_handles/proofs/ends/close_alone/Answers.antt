@@ -9,7 +9,6 @@ use Rattle.hall_handles.proofs.ends.close_alone.Goals as goal
 
 pub returns-in-Ok-clause-closed : goal.returns-in-Ok-clause-closed
 returns-in-Ok-clause-closed c = let end = c.closing_of.ensures.same_end in (
-  c.requires.alone,
   c.in-Ok.closed.list,
   c.in-Ok.closed.pool,
   subst (λ (e : RunEnd). IsClosed (key_of c.args.hall.row) c.args.last.place c.in-Ok.closed.list c.in-Ok.closed.pool e) (sym end) c.in-Ok.ensures.closed,
