@@ -55,6 +55,25 @@ module _ (before middle : HallSeat) (slot : ℕ) (held : Held) (refused : IsRefu
     is_next = is.is_next;
   }
 
+  pub busy : (May : ℕ → Type 0) → May held.slot → (after : HallSeat) → HasPut middle middle.hand.note [] after → Fails May before (Busy held) after
+  busy May may after put = (
+    [],
+    tt,
+    may,
+    put
+        ∙ ap (λ (s : HallSeat). with_hand s (record { seated = s.hand.seated; holds = []; note = s.hand.note; looks = s.hand.looks })) refused.1
+        ∙ ap (λ n. with_hand before (record { seated = before.hand.seated; holds = []; note = before.hand.note; looks = before.hand.looks ++ Refused n held.seen ∷ [] })) (sym refused.0),
+  )
+
+-- memory that was wanting
+pub wanting : (before after : HallSeat) → HasPut before (found_note before.hand.note OutOfMemory) [] after → Fails IsNoSlot before (Stopped OutOfMemory) after
+wanting before after put = (
+  [],
+  tt,
+  inl refl,
+  put ∙ ap (λ looks. with_hand before (record { seated = before.hand.seated; holds = []; note = found_note before.hand.note OutOfMemory; looks = looks })) (sym (append-nil before.hand.looks)),
+)
+
 -- the list that it took, in which an end is kept
 module _ (before middle : HallSeat) (list : ListSlot) (end : RunEnd) (kept : list.end ≡ Some end) (taken : IsTaken before 0 (slots.List list) middle) where
   pub over : (after : HallSeat) → HasPut middle (answered_note middle.hand.note list) [] after → Fails IsListSlot before (Over end) after

@@ -1,7 +1,7 @@
 use Rattle.turn_table.specs.Tables.{key_of}
 use Rattle.owner_acts.specs.Decided.Taken.{all_three}
 use Rattle.owner_advance.proofs.Noting.{nothing_may_be_noted}
-use Rattle.owner_events.proofs.Counted.{still_holds}
+use Rattle.owner_events.proofs.Counted.{still_holds, stopped}
 use Rattle.owner_events.proofs.Trying.{may_want}
 use Rattle.owner_events.proofs.counting.count_with_all.Goals as goal
 
@@ -21,3 +21,6 @@ give_all-requires-in-Err-clause-holding c = (
 
 pub give_all-requires-in-Err-clause-note : goal.give_all-requires-in-Err-clause-note
 give_all-requires-in-Err-clause-note c = nothing_may_be_noted (key_of c.args.row.now) c.count_action.new.seat c.args.deque
+
+pub returns-in-Err-clause-seat : goal.returns-in-Err-clause-seat
+returns-in-Err-clause-seat c next ready was more b = stopped (key_of c.args.row.now) c.args.seat.now c.args.deque (all_three c.args.deque was c.args.pool) c.args.at next ready b c.args.limit c.count_action.new.seat c.in-Err.stop c.in-Err.ensures.seat c.give_all-in-Err.new.seat c.give_all-in-Err.ensures

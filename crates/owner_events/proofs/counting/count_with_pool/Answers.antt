@@ -1,7 +1,7 @@
 use Rattle.turn_table.specs.Tables.{key_of}
 use Rattle.owner_acts.specs.Decided.Taken.{pool_and_lane}
 use Rattle.owner_advance.proofs.Noting.{nothing_may_be_noted}
-use Rattle.owner_events.proofs.Counted.{still_holds}
+use Rattle.owner_events.proofs.Counted.{still_holds, stopped}
 use Rattle.owner_events.proofs.Trying.{may_want}
 use Rattle.owner_events.proofs.counting.count_with_pool.Goals as goal
 
@@ -19,3 +19,6 @@ give_pool-requires-in-Err-clause-holding c = (
 
 pub give_pool-requires-in-Err-clause-note : goal.give_pool-requires-in-Err-clause-note
 give_pool-requires-in-Err-clause-note c = nothing_may_be_noted (key_of c.args.row.now) c.count_action.new.seat c.args.deque
+
+pub returns-in-Err-clause-seat : goal.returns-in-Err-clause-seat
+returns-in-Err-clause-seat c next ready b = stopped (key_of c.args.row.now) c.args.seat.now c.args.deque (pool_and_lane c.args.deque c.args.pool) c.args.at next ready b c.args.limit c.count_action.new.seat c.in-Err.stop c.in-Err.ensures.seat c.give_pool-in-Err.new.seat c.give_pool-in-Err.ensures
