@@ -49,4 +49,4 @@ at_none May = fails_too IsNoSlot May (λ slot no. absurd no)
 
 -- a child that is not delivered is not delivered
 pub not_there : {b : Bool} {A : Type 0} → b ≡ false → b ≡ true → A
-not_there {b} {A} is no = absurd (true≢false (sym no ∙ is))
+not_there {b} {A} is there = absurd (true≢false (sym there ∙ is))

@@ -1,7 +1,10 @@
-use Rattle.std.proofs.Common.{◌+◌, ◌∙◌, inl}
+use Rattle.std.proofs.Common.{◌+◌, ◌∙◌, inl, subst}
+use Rattle.std.specs.Prelude.{Err}
 use Rattle.bounded_list.specs.BoundedList.{spare}
 use Rattle.turn_table.specs.Tables.{key_of}
 use Rattle.hall_turns.specs.declared.slot.Slot.TheVariants as slots
+use Rattle.owner_advance.specs.Advancing.{HasCome}
+use Rattle.owner_advance.specs.declared.advancing.AdvanceRefused.{AdvanceRefused}
 use Rattle.owner_events.proofs.Following.{all_too}
 use Rattle.owner_events.proofs.Doing.{here_too}
 use Rattle.owner_events.proofs.Called.{acts, refused_lane, short_of_action}
@@ -21,7 +24,10 @@ pub returns-in-Ok-clause-lone : goal.returns-in-Ok-clause-lone
 returns-in-Ok-clause-lone c all = c.go_on.ensures.lone (all_too c.args.seat.now c.come_to_next.new.seat (c.args.deque.0 + 2) (slots.Lane c.in-Ok.ensures.seat.0) c.in-Ok.ensures.seat.1 (key_of c.args.row.now) all)
 
 pub returns-in-Err-Busy-clause-seat : goal.returns-in-Err-Busy-clause-seat
-returns-in-Err-Busy-clause-seat c = inl (refused_lane c.args.seat.now c.come_to_next.new.seat c.args.deque c.in-Err-Busy.held c.requires.may.free c.in-Err-Busy.ensures.seat)
+returns-in-Err-Busy-clause-seat c = inl (refused_lane c.args.seat.now c.come_to_next.new.seat c.args.deque c.in-Err-Busy.held c.requires.may.free
+    (subst (λ (e : AdvanceRefused). HasCome (key_of c.args.row.now) c.args.seat.now c.args.deque c.come_to_next.new.memory (Err e) c.come_to_next.new.seat) c.in-Err-Busy.field-0-is c.in-Err-Busy.ensures.seat))
 
 pub returns-in-Err-OutOfMemory-clause-seat : goal.returns-in-Err-OutOfMemory-clause-seat
-returns-in-Err-OutOfMemory-clause-seat c = inl (short_of_action c.args.seat.now c.come_to_next.new.seat c.args.deque c.in-Err-OutOfMemory.ensures.seat.0 c.in-Err-OutOfMemory.ensures.seat.1)
+returns-in-Err-OutOfMemory-clause-seat c =
+    let short = subst (λ (e : AdvanceRefused). HasCome (key_of c.args.row.now) c.args.seat.now c.args.deque c.come_to_next.new.memory (Err e) c.come_to_next.new.seat) c.in-Err-OutOfMemory.field-0-is c.in-Err-OutOfMemory.ensures.seat in
+    inl (short_of_action c.args.seat.now c.come_to_next.new.seat c.args.deque short.0 short.1)

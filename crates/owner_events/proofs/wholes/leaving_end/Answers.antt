@@ -1,4 +1,4 @@
-use Rattle.std.proofs.Common.{◌≡◌, ◌≤◌, ◌<◌, [], inl, refl, sym, subst, arith, length}
+use Rattle.std.proofs.Common.{◌≡◌, ◌≤◌, ◌<◌, [], inl, inr, refl, sym, subst, arith, length}
 use Rattle.std.specs.Prelude.{None, Some}
 use Rattle.bounded_list.specs.BoundedList.{spare}
 use Rattle.thread_frames.specs.Actions.{IsEnd}
