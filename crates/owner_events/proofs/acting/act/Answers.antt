@@ -1,4 +1,4 @@
-use Rattle.std.proofs.Common.{◌+◌, ◌∙◌, inl, subst}
+use Rattle.std.proofs.Common.{◌+◌, ◌∙◌, inl, sym, subst}
 use Rattle.std.specs.Prelude.{Err}
 use Rattle.bounded_list.specs.BoundedList.{spare}
 use Rattle.turn_table.specs.Tables.{key_of}
@@ -9,6 +9,10 @@ use Rattle.owner_events.proofs.Following.{all_too}
 use Rattle.owner_events.proofs.Doing.{here_too}
 use Rattle.owner_events.proofs.Called.{acts, refused_lane, short_of_action}
 use Rattle.owner_events.proofs.Deciding as deciding
+use Rattle.owner_events.specs.Acting.{IsLaneOf}
+use Rattle.owner_events.specs.Holding.{Fails}
+use Rattle.owner_events.specs.declared.refused.ActRefused.TheVariants.{Busy}
+use Rattle.turn_table.specs.declared.held.Held.{Held}
 use Rattle.owner_events.proofs.acting.act.Goals as goal
 
 pub go_on-requires-clause-here : goal.go_on-requires-clause-here
@@ -24,8 +28,9 @@ pub returns-in-Ok-clause-lone : goal.returns-in-Ok-clause-lone
 returns-in-Ok-clause-lone c all = c.go_on.ensures.lone (all_too c.args.seat.now c.come_to_next.new.seat (c.args.deque.0 + 2) (slots.Lane c.in-Ok.ensures.seat.0) c.in-Ok.ensures.seat.1 (key_of c.args.row.now) all)
 
 pub returns-in-Err-Busy-clause-seat : goal.returns-in-Err-Busy-clause-seat
-returns-in-Err-Busy-clause-seat c = inl (refused_lane c.args.seat.now c.come_to_next.new.seat c.args.deque c.in-Err-Busy.held c.requires.may.free
-    (subst (λ (e : AdvanceRefused). HasCome (key_of c.args.row.now) c.args.seat.now c.args.deque c.come_to_next.new.memory (Err e) c.come_to_next.new.seat) c.in-Err-Busy.field-0-is c.in-Err-Busy.ensures.seat))
+returns-in-Err-Busy-clause-seat c = inl (subst (λ (h : Held). Fails (IsLaneOf c.args.deque) c.args.seat.now (Busy h) c.come_to_next.new.seat) (sym c.in-Err-Busy.held-is)
+    (refused_lane c.args.seat.now c.come_to_next.new.seat c.args.deque c.in-Err-Busy.held c.requires.may.free
+    (subst (λ (e : AdvanceRefused). HasCome (key_of c.args.row.now) c.args.seat.now c.args.deque c.come_to_next.new.memory (Err e) c.come_to_next.new.seat) c.in-Err-Busy.field-0-is c.in-Err-Busy.ensures.seat)))
 
 pub returns-in-Err-OutOfMemory-clause-seat : goal.returns-in-Err-OutOfMemory-clause-seat
 returns-in-Err-OutOfMemory-clause-seat c =
