@@ -22,7 +22,6 @@ use Rattle.hall_deciding.specs.Lists as deciding
 use Rattle.hall_deciding.specs.PartEvents.Puts.{note_of, HasPut}
 use Rattle.hall_deciding.specs.PartEvents.Rooms.{HasMoreBooks}
 use Rattle.hall_deciding.specs.PartEvents.TakenParts.{MayPause}
-use Rattle.hall_deciding.specs.Taken.{list_and_lane}
 use Rattle.hall_deciding.specs.PartEvents.Writes.{Parts}
 use Rattle.hall_puts.specs.declared.noting.Noting.{Noting}
 use Rattle.hall_reads.specs.Reads.{HoldsItsLane, ReadsLane}

@@ -4,7 +4,7 @@ use Rattle.hall_deciding.specs.PartEvents.Puts.{note_of, HasPut}
 use Rattle.hall_puts.specs.declared.noting.Noting.{Noting}
 use Rattle.hall_turns.specs.declared.seat_note.SeatNote.{SeatNote}
 use Rattle.owner_advance.specs.Returning.{MayNote}
-use Rattle.owner_events.specs.Yielding.{noting_then, short_note, yielded_note}
+use Rattle.owner_events.specs.Yielding.{short_note, yielded_note}
 use Rattle.owner_events.proofs.Yielded as yielded
 use Rattle.owner_events.proofs.yields.yield_deque.Goals as goal
 
