@@ -5,4 +5,3 @@ mod Told
 mod Crews
 mod Ending
 mod Left
-mod Leaving
