@@ -1,3 +1,4 @@
 mod Left
-pub mod Failed
 mod Closed
+mod Thefts
+pub mod Failed

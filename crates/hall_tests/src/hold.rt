@@ -115,9 +115,15 @@ fn an_owner_needs_the_list_for_the_last_end_alone(rt: HostRuntime) {
         assert!(rt; none.is_none(), "it was refused");
     }
     let busy = act(&rt, &hall, &code, &mut first);
-    assert!(rt; busy == Some(EventRefused::Busy(Held { slot: 0, seen: 1 })), "it took the list");
+    assert!(rt;
+        busy == Some(EventRefused::Busy(Held { slot: 0, seen: 1 })),
+        "it took the list"
+    );
     let (_second, answer) = held.steal(0);
-    assert!(rt; answer == Err(EventRefused::Nothing), "there was something to steal");
+    assert!(rt;
+        answer == Err(EventRefused::Nothing),
+        "there was something to steal"
+    );
     let none = act(&rt, &hall, &code, &mut first);
     assert!(rt; none.is_none(), "it was refused");
 }

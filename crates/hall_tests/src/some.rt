@@ -18,12 +18,7 @@ use work_loop::FreeGate;
 const TWO: &str = "fn main() { par { print 1; } and { print 2; } print 3; }";
 
 /// How so many tries of a worker end.
-fn tried(
-    hall: &Hall,
-    code: &Code,
-    worker: &mut HallWorker<ListChoices>,
-    tries: u32,
-) -> WorkSome
+fn tried(hall: &Hall, code: &Code, worker: &mut HallWorker<ListChoices>, tries: u32) -> WorkSome
     requires { MayWork hall.now code.now worker.old }
     ensures { MayWork hall.now code.now worker.new }
 {
@@ -54,7 +49,10 @@ fn narrow_hall(rt: &impl Abort, alloc: Global) -> (Hall, Code, Seat)
 fn tries_that_all_did_an_event_are_counted(rt: HostRuntime) {
     let (hall, code, seat) = hall_of(&rt, rt.alloc(), TWO, 1);
     let mut worker = worker_of(rt.alloc(), seat);
-    assert_eq!(rt; tried(&hall, &code, &mut worker, 3), WorkSome::Spent { done: 3 });
+    assert_eq!(rt;
+        tried(&hall, &code, &mut worker, 3),
+        WorkSome::Spent { done: 3 }
+    );
     let end = tried(&hall, &code, &mut worker, 10);
     assert_eq!(rt; end, WorkSome::Over(RunEnd::Finished(Finish::Done)));
 }
@@ -66,9 +64,15 @@ fn a_refused_try_ends_the_call(rt: HostRuntime) {
     let second = entered(&rt, &hall, &mut seat);
     let mut first = worker_of(rt.alloc(), seat);
     let mut late = worker_of(rt.alloc(), second);
-    assert_eq!(rt; tried(&hall, &code, &mut first, 1), WorkSome::Spent { done: 1 });
+    assert_eq!(rt;
+        tried(&hall, &code, &mut first, 1),
+        WorkSome::Spent { done: 1 }
+    );
     let why = EventRefused::Nothing;
-    assert_eq!(rt; tried(&hall, &code, &mut late, 5), WorkSome::Refused { done: 0, why });
+    assert_eq!(rt;
+        tried(&hall, &code, &mut late, 5),
+        WorkSome::Refused { done: 0, why }
+    );
 }
 
 /// The second worker may not make a second deque. It finds this stop, and keeps it by its next try.
@@ -79,8 +83,17 @@ fn a_try_that_found_a_stop_did_no_event(rt: HostRuntime) {
     let second = entered(&rt, &hall, &mut seat);
     let mut first = worker_of(rt.alloc(), seat);
     let mut late = worker_of(rt.alloc(), second);
-    assert_eq!(rt; tried(&hall, &code, &mut first, 2), WorkSome::Spent { done: 2 });
-    assert_eq!(rt; tried(&hall, &code, &mut late, 1), WorkSome::Spent { done: 0 });
+    assert_eq!(rt;
+        tried(&hall, &code, &mut first, 2),
+        WorkSome::Spent { done: 2 }
+    );
+    assert_eq!(rt;
+        tried(&hall, &code, &mut late, 1),
+        WorkSome::Spent { done: 0 }
+    );
     let end = tried(&hall, &code, &mut late, 1);
-    assert_eq!(rt; end, WorkSome::Over(RunEnd::Stopped(Stop::DequesFull { deques: 1 })));
+    assert_eq!(rt;
+        end,
+        WorkSome::Over(RunEnd::Stopped(Stop::DequesFull { deques: 1 }))
+    );
 }

@@ -13,7 +13,7 @@ use Rattle.hall_turns.specs.declared.event.Event.{Event}
 use Rattle.hall_turns.specs.declared.seat_note.SeatNote.{SeatNote}
 use Rattle.hall_turns.specs.Takes.{HallSeat}
 use Rattle.hall_work.specs.declared.answer.Answer.TheVariants as answers
-use Rattle.hall_work.specs.Trying.{GoesOn, Tries}
+use Rattle.hall_work.specs.Trying.{GoesOn, Tries, answer_as}
 
 -- the events that a seat notes
 abbrev pub mine : Seat → List Event
@@ -100,3 +100,12 @@ found_says_so hall word before after stop tries = elim tries.1 [
     | inr met ↦ met.5
   ]
 ]
+
+-- ---- a seat that went on made a try
+
+pub goes_tried : (hall : Hall) (word : ℕ) (before after : Seat) (r : Result Event EventRefused) → GoesOn hall word before after r → Tries hall word before after (answer_as r)
+goes_tried hall word before after (Ok event) goes = goes
+goes_tried hall word before after (Err (Busy held)) goes = inl goes
+goes_tried hall word before after (Err Nothing) goes = goes
+goes_tried hall word before after (Err (Over end)) goes = inl goes
+goes_tried hall word before after (Err (Stopped stop)) goes = goes

@@ -273,6 +273,7 @@ refused_as workers word before after (sought.Over end) has = has
 pub refused_then : (workers word : ℕ) (before held after : HallSeat) (list : ListSlot) (refused : SeekRefused) → before.hand.holds ≡ [] → IsTaken before 0 (slots.List list) held
     → SeeksWith workers word list held after (Err refused) → Steals workers word before after (Err (refusal_of refused))
 refused_then workers word before held after list refused free taken seeks = refused_as workers word before after refused (begun.sought workers word before held after list (Err refused) taken free seeks)
+
 pub not_busy_as : (refused : SeekRefused) → seeking.IsNotBusy (Err refused) → IsNotBusy (Err (refusal_of refused))
 not_busy_as (sought.Busy held) free = free
 not_busy_as sought.Nothing free = free
