@@ -2,7 +2,7 @@
 
 ghost use Rattle.std.specs.Prelude.{◌≡◌, IfOk};
 ghost use Rattle.dfd_core.specs.Parts.{IsFresh};
-ghost use Rattle.hall_handles.specs.Seated.{IsIn, IsProgramOf};
+ghost use Rattle.hall_runs.specs.Passed.Seated.{IsIn, IsProgramOf};
 
 use accepted_source::accept;
 use block_arena::Pool;
@@ -10,8 +10,7 @@ use core_ends::ListChoices;
 use dfd_core::Core;
 use dummy_tree::Quota;
 use frame_code::{Code, lower};
-use hall_handles::{Hall, Seat};
-use hall_work::HallWorker;
+use hall_runs::{Hall, HallWorker, Seat};
 use std::alloc::{AllocError, Global};
 use std::process::Abort;
 

@@ -7,10 +7,6 @@
 #[cfg(test)]
 mod halls;
 #[cfg(test)]
-mod hold;
-#[cfg(test)]
 mod runs;
-#[cfg(test)]
-mod some;
 #[cfg(test)]
 mod threads;
