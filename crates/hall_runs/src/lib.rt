@@ -16,8 +16,8 @@ mod running;
 mod telling;
 
 pub use hall_work::{
-    CloseRefused, Closing, EnterRefused, EventRefused, Hall, HallWorker, LeaveRefused, ListHeld, Seat,
-    WorkSome, work_some,
+    CloseRefused, Closing, EnterRefused, EventRefused, Hall, HallWorker, LeaveRefused, ListHeld,
+    Seat, WorkSome, work_some,
 };
 pub use ran::Ran;
 pub use running::run_in_threads;
