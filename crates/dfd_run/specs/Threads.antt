@@ -5,7 +5,7 @@ use Rattle.deque_machine.specs.Moments.{Moment}
 use Rattle.deque_machine.specs.Play.{Ending}
 use Rattle.deque_machine.specs.Runs.{Pair}
 use Rattle.deque_machine.specs.Terms.{Terms}
-pub use Rattle.hall_runs.specs.Runs.{IsThreadRun, MeetsOnTheWay, HasCause}
+use Rattle.hall_runs.specs.Runs.{IsThreadRun}
 use Rattle.par_tree.specs.Tree.{Program}
 use Rattle.dfd_run.specs.Play.{play_machine, play_terms, TellsRun, Reports}
 use Rattle.dfd_run.specs.declared.status.Status.{Status}
