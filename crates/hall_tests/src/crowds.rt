@@ -1,0 +1,172 @@
+//! Crowds: the seats that one thread works, which enter and leave at random while they work, with a record of all that they were told.
+
+ghost use Rattle.std.specs.Prelude.{◌≡◌, All, IfOk, IfSome, None};
+ghost use Rattle.hall_handles.specs.Seated.{IsIn, IsProgramOf};
+
+use crate::seats::{given_up, go_on, left, put};
+use deque_list::DequeId;
+use hall_turns::Event;
+use hall_work::{EnterRefused, EventRefused, Hall, Seat};
+use node_table::Code;
+use run_end::RunEnd;
+use std::process::Abort;
+use std::sync::Wait;
+use std::thread;
+use work_loop::WorksToEnd;
+
+/// What a seat was told: its worker, what it did, and the deque that it owns after that.
+#[derive(Clone, Copy, PartialEq, Eq, Debug)]
+pub(crate) struct Told {
+    pub worker: u32,
+    pub event: Event,
+    pub owns: Option<DequeId>,
+}
+
+/// The seats that one thread works, what they were told, the word by which they pick what they do, and the end that one of them was told.
+#[derive(Drop)]
+pub(crate) struct Crowd {
+    pub seats: Vec<Seat>,
+    pub told: Vec<Told>,
+    pub word: u64,
+    pub end: Option<RunEnd>,
+}
+
+/// The word after a word, in a row that looks random: the word is multiplied and moved (D. Knuth, MMIX). The low half of its bits changes
+/// least.
+fn next_word(word: u64) -> u64 {
+    word.wrapping_mul(6_364_136_223_846_793_005)
+        .wrapping_add(1_442_695_040_888_963_407)
+}
+
+/// Notes what a seat was told.
+fn note(rt: &impl Abort, told: &mut Vec<Told>, seat: &Seat, event: Event) {
+    let owns = seat.owns();
+    let worker = seat.worker();
+    told.push(Told {
+        worker,
+        event,
+        owns,
+    })
+    .expect(rt, "memory");
+}
+
+/// Lets a seat leave into another, and notes that it gave its deque up, if it did. Returns it if it stays.
+pub(crate) fn leave(
+    rt: &impl Abort,
+    told: &mut Vec<Told>,
+    hall: &Hall,
+    seat: Seat,
+    into: &mut Seat,
+) -> Option<Seat>
+    requires here { IsIn hall.now seat }
+    requires into { IsIn hall.now into.old }
+    ensures into { IsIn hall.now into.new }
+    ensures here { IfSome result (λ back. IsIn hall.now back) }
+{
+    let worker = seat.worker();
+    let owned = seat.owns();
+    let back = left(rt, hall, seat, into).err().map(|back| back.0);
+    let still = match &back {
+        Some(seat) => seat.owns(),
+        None => None,
+    };
+    if let (Some(deque), None) = (owned, still) {
+        let event = Event::GaveUp(deque);
+        told.push(Told {
+            worker,
+            event,
+            owns: None,
+        })
+        .expect(rt, "memory");
+    }
+    back
+}
+
+/// Keeps the stop that a seat found, if it found one, and otherwise lets it do its next event.
+fn tried(hall: &Hall, code: &Code, seat: &mut Seat, word: u64) -> Result<Event, EventRefused>
+    requires program { IsProgramOf hall.now code.now }
+    requires here { IsIn hall.now seat.old }
+    ensures { IsIn hall.now seat.new }
+{
+    let Some(stop) = seat.found() else {
+        return go_on(hall, code, seat, word);
+    };
+    match hall.halt(seat, stop) {
+        Ok(end) => Err(EventRefused::Over(end)),
+        Err(held) => Err(EventRefused::Busy(held)),
+    }
+}
+
+impl Crowd {
+    /// A crowd of no seats.
+    pub(crate) fn new(alloc: Global, word: u64) -> Crowd {
+        Crowd {
+            seats: Vec::new(alloc),
+            told: Vec::new(alloc),
+            word,
+            end: None,
+        }
+    }
+
+    /// The next word.
+    fn pick(&mut self) -> u64 {
+        self.word = next_word(self.word);
+        self.word >> 32
+    }
+
+    /// Takes a seat out that a word picks.
+    fn taken(&mut self, rt: &impl Abort) -> Seat {
+        let many = self.seats.len();
+        let word = self.pick() as usize;
+        let at = word.checked_rem(many).expect(rt, "a seat");
+        self.seats.remove(at)
+    }
+
+    /// Lets a worker enter by some seat, if this has two places.
+    fn let_enter(&mut self, rt: &impl Abort, hall: &Hall) {
+        let mut seat = self.taken(rt);
+        match hall.enter(&mut seat) {
+            Ok(made) => self.seats.push(made).expect(rt, "memory"),
+            Err(EnterRefused::Over(end)) => self.end = Some(end),
+            Err(_) => (),
+        }
+        self.seats.push(seat).expect(rt, "memory");
+    }
+
+    /// Lets some seat leave into another, if there are two.
+    fn let_leave(&mut self, rt: &impl Abort, hall: &Hall) {
+        if self.seats.len() < 2 {
+            return;
+        }
+        let seat = self.taken(rt);
+        let mut into = self.taken(rt);
+        if let Some(back) = leave(rt, &mut self.told, hall, seat, &mut into) {
+            self.seats.push(back).expect(rt, "memory");
+        }
+        self.seats.push(into).expect(rt, "memory");
+    }
+
+    /// Lets some seat try its next event. Says whether it did it.
+    fn let_try(&mut self, rt: &impl Abort, hall: &Hall, code: &Code) -> bool {
+        let mut seat = self.taken(rt);
+        let word = self.pick();
+        let answer = tried(hall, code, &mut seat, word);
+        match answer {
+            Ok(event) => note(rt, &mut self.told, &seat, event),
+            Err(EventRefused::Over(end)) => self.end = Some(end),
+            Err(_) => (),
+        }
+        self.seats.push(seat).expect(rt, "memory");
+        answer.is_ok()
+    }
+
+    /// Lets a worker enter or leave, or a seat try its next event. Says whether anything was done.
+    pub(crate) fn turn(&mut self, rt: &impl Abort, hall: &Hall, code: &Code) -> bool {
+        match self.pick() % 16 {
+            0 => self.let_enter(rt, hall),
+            1 => self.let_leave(rt, hall),
+            _ => return self.let_try(rt, hall, code),
+        }
+        true
+    }
+}

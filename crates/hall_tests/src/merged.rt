@@ -1,0 +1,309 @@
+//! What the seats of a hall were told, as one run of the machine of deques.
+//!
+//! The answers of one thread are in their order. Those of several threads have to be merged. What is left of the hall says much of their order:
+//! the numbers of the periods, the order in which periods were closed, and that of the moves. The rest is tried: at each moment the machine takes
+//! the next answer of some thread. Of those that may come a steal goes first, and an answer that takes its deque out of the list goes last.
+
+use crate::crowds::Told;
+use crate::listed::{Listed, label_of};
+use dag_order::{ActionId, Births, Kind, Label, ThreadId};
+use hall_turns::Event;
+use hall_work::Closing;
+use machine_replay::runs::{opening, replay, step};
+use machine_replay::{Event as MachineEvent, Moment, Pair};
+use std::alloc::Global;
+use std::process::Abort;
+
+/// How many kinds of answers there are, by how soon they are taken.
+const RANKS: u32 = 4;
+
+/// What a seat was told, and in which period.
+#[derive(Clone, Copy, PartialEq, Eq, Debug)]
+pub(crate) struct Answer {
+    told: Told,
+    period: u32,
+}
+
+/// A run that is followed: the answers of each thread, what is left of the hall with the births of its periods, the depth-first run, the quota and
+/// the workers.
+#[derive(Drop)]
+pub(crate) struct Followed<'a> {
+    pub answers: Vec<Vec<Answer>>,
+    pub births: Vec<&'a Births>,
+    pub closing: &'a Closing,
+    pub listed: &'a Listed,
+    pub k: u32,
+    pub workers: u32,
+}
+
+/// How far a run is followed: the moment of the machine, the events that lead to it, how many answers of each thread are among them, and how many
+/// of them are steals, moves, and the last of their period.
+#[derive(Drop)]
+pub(crate) struct Way {
+    pub moment: Moment,
+    pairs: Vec<Pair>,
+    at: Vec<usize>,
+    stolen: u32,
+    moved: u32,
+    closed: u32,
+}
+
+/// The births of the periods of a closed run, in the order of their numbers.
+pub(crate) fn births_in<'a>(
+    rt: &impl Abort,
+    alloc: Global,
+    closing: &'a Closing,
+) -> Vec<&'a Births> {
+    let mut births = Vec::new(alloc);
+    for before in 0..closing.books.periods() {
+        let place = closed_place(closing, before.saturating_add(1)).expect(rt, "a period");
+        let closed = closing.books.at(place).expect(rt, "a period");
+        births.push(&closed.births).expect(rt, "memory");
+    }
+    births
+}
+
+/// The place of a period among those that are closed, in the order in which they were closed.
+pub(crate) fn closed_place(closing: &Closing, number: u32) -> Option<u32> {
+    for place in 0..closing.books.periods() {
+        if closing.books.at(place)?.number == number {
+            return Some(place);
+        }
+    }
+    None
+}
+
+/// The place of an action among the moves, if it is one.
+fn moved_place(closing: &Closing, id: ActionId) -> Option<u32> {
+    for place in 0..closing.moves.len() {
+        if closing.moves.at(place)?.by == id {
+            return Some(place);
+        }
+    }
+    None
+}
+
+/// The answers of a thread, each with its period.
+pub(crate) fn answers_of(rt: &impl Abort, alloc: Global, told: &[Told]) -> Vec<Answer> {
+    let mut current = [0u32; 64];
+    let mut answers = Vec::new(alloc);
+    for told in told {
+        let worker = told.worker as usize;
+        assert!(rt; worker < 64, "no such worker");
+        if let Event::Stole { period, .. } = told.event {
+            current[worker] = period;
+        }
+        let period = current[worker];
+        answers
+            .push(Answer {
+                told: *told,
+                period,
+            })
+            .expect(rt, "memory");
+    }
+    answers
+}
+
+/// The number of the first period after one in which a deque is stolen.
+fn next_steal(answers: &[Vec<Answer>], after: u32, deque: u32) -> Option<u32> {
+    let mut next = None;
+    for answer in answers.iter().flat_map(|thread| thread.iter()) {
+        if let Event::Stole { deque: stolen, period } = answer.told.event {
+            let is_nearer = match next {
+                Some(found) => period < found,
+                None => true,
+            };
+            if stolen.0 == deque && after < period && is_nearer {
+                next = Some(period);
+            }
+        }
+    }
+    next
+}
+
+/// The thread that was suspended in a period, or the deque that was given up in it.
+fn left_in(answers: &[Vec<Answer>], period: u32) -> Option<Result<ThreadId, u32>> {
+    for answer in answers.iter().flat_map(|thread| thread.iter()) {
+        match answer.told.event {
+            Event::Suspended(id) if answer.period == period => return Some(Ok(id)),
+            Event::GaveUp(deque) if answer.period == period => return Some(Err(deque.0)),
+            _ => (),
+        }
+    }
+    None
+}
+
+impl Followed<'_> {
+    /// The thread that is stolen in a period: the one that does its first action, or that is suspended in it; if there is none, the deque is given
+    /// up at once, and the next thief steals the thread.
+    fn stolen_in(&self, period: u32) -> Option<ThreadId> {
+        let mut at = period;
+        for _ in 0..self.closing.books.periods() {
+            let closed = self.closing.books.at(closed_place(self.closing, at)?)?;
+            if let Some(first) = closed.book.at(0) {
+                return Some(first.by);
+            }
+            match left_in(&self.answers, at)? {
+                Ok(id) => return Some(id),
+                Err(deque) => at = next_steal(&self.answers, at, deque)?,
+            }
+        }
+        None
+    }
+
+    /// The place of an action in the depth-first list.
+    pub(crate) fn place_of(&self, rt: &impl Abort, alloc: Global, id: ActionId) -> u32 {
+        let label = label_of(rt, alloc, &self.births, id.by);
+        self.listed
+            .place_of(&label, id.index)
+            .expect(rt, "an action of the list")
+    }
+
+    /// How soon an answer is taken.
+    fn rank_of(&self, rt: &impl Abort, alloc: Global, answer: &Answer) -> u32 {
+        match answer.told.event {
+            Event::Stole { .. } => 0,
+            _ if answer.told.owns.is_some() => 1,
+            Event::Did(id) => {
+                match self.listed.kind_at(self.place_of(rt, alloc, id)) {
+                    Some(Kind::Dummy) => 2,
+                    _ => 3,
+                }
+            }
+            Event::GaveUp(_) => 2,
+            Event::Suspended(_) | Event::Halted(_) => 3,
+        }
+    }
+
+    /// Whether an answer is the next one by the numbers of periods, the moves and the closed periods.
+    fn may_come(&self, way: &Way, answer: &Answer) -> bool {
+        if answer.told.owns.is_none() {
+            if closed_place(self.closing, answer.period) != Some(way.closed) {
+                return false;
+            }
+        }
+        match answer.told.event {
+            Event::Stole { period, .. } => period == way.stolen.saturating_add(1),
+            Event::Did(id) => {
+                match moved_place(self.closing, id) {
+                    Some(place) => place == way.moved,
+                    None => true,
+                }
+            }
+            Event::Suspended(_) | Event::GaveUp(_) | Event::Halted(_) => true,
+        }
+    }
+
+    /// The place of the deque from which a thread can be stolen.
+    fn robbed(&self, moment: &Moment, thread: &Label) -> Option<u32> {
+        for place in 0..self.workers {
+            let deque = moment.deques().get(place as usize)?;
+            let bottom = deque.threads().last()?;
+            let is_ready = deque.owner().is_none() || 2 <= deque.threads().len();
+            if is_ready && bottom.ordinals() == thread.ordinals() {
+                return Some(place);
+            }
+        }
+        None
+    }
+
+    /// What an answer is at a moment of the machine, if it can be something there.
+    fn event_at(
+        &self,
+        rt: &impl Abort,
+        alloc: Global,
+        moment: &Moment,
+        answer: &Answer,
+    ) -> Option<MachineEvent> {
+        match answer.told.event {
+            Event::Stole { deque, period } => {
+                let thread = label_of(rt, alloc, &self.births, self.stolen_in(period)?);
+                let place = self.robbed(moment, &thread)?;
+                Some(MachineEvent::Steals { place, id: deque.0 })
+            }
+            Event::Did(id) => Some(MachineEvent::Does(self.place_of(rt, alloc, id))),
+            Event::Suspended(_) => Some(MachineEvent::Suspends),
+            Event::GaveUp(_) => Some(MachineEvent::GivesUp),
+            Event::Halted(_) => None,
+        }
+    }
+
+    /// Whether a moment is as an answer says: its worker owns the deque that it was told, and the period that it begins is marked as that of the
+    /// hall.
+    fn is_as_told(&self, moment: &Moment, answer: &Answer) -> bool {
+        let mut owns = None;
+        for deque in moment.deques() {
+            if deque.owner() == Some(answer.told.worker) {
+                owns = Some(deque.id());
+            }
+        }
+        if owns != answer.told.owns.map(|deque| deque.0) {
+            return false;
+        }
+        match answer.told.event {
+            Event::Stole { period, .. } => self.marked(period) == moment.books().last().map(|book| book.is_ahead()),
+            _ => true,
+        }
+    }
+
+    /// Whether a period is marked.
+    fn marked(&self, period: u32) -> Option<bool> {
+        let closed = self.closing.books.at(closed_place(self.closing, period)?)?;
+        Some(closed.ahead)
+    }
+
+    /// The moment that a pair leads to, if the machine has it as a case.
+    fn next_moment(&self, rt: &impl Abort, alloc: Global, moment: Moment, pair: Pair) -> Option<Moment> {
+        let list = self.listed.actions.as_slice();
+        assert!(rt; list.len() <= 1_000_000, "a list too long");
+        step(alloc, list, u64::from(self.k), self.workers, moment, pair).expect(rt, "memory")
+    }
+
+    /// The moment that these pairs lead to.
+    fn moment_after(&self, rt: &impl Abort, alloc: Global, pairs: &[Pair]) -> Moment {
+        let list = self.listed.actions.as_slice();
+        assert!(rt; list.len() <= 1_000_000, "a list too long");
+        assert!(rt; pairs.len() <= 1_000_000, "a run too long");
+        replay(alloc, list, u64::from(self.k), self.workers, pairs)
+            .expect(rt, "memory")
+            .expect(rt, "a run")
+    }
+
+    /// The way with an answer of a thread more, if the machine has it as a case that leads to what was told.
+    fn tried(&self, rt: &impl Abort, alloc: Global, way: Way, thread: usize, answer: &Answer) -> Result<Way, Way> {
+        let Some(event) = self.event_at(rt, alloc, &way.moment, answer) else {
+            return Err(way);
+        };
+        let pair = Pair {
+            worker: answer.told.worker,
+            event,
+        };
+        let Way {
+            moment,
+            mut pairs,
+            mut at,
+            mut stolen,
+            mut moved,
+            mut closed,
+        } = way;
+        match self.next_moment(rt, alloc, moment, pair) {
+            Some(moment) if self.is_as_told(&moment, answer) => {
+                pairs.push(pair).expect(rt, "memory");
+                at[thread] += 1;
+                match answer.told.event {
+                    Event::Stole { .. } => stolen += 1,
+                    Event::Did(id) if moved_place(self.closing, id).is_some() => moved += 1,
+                    _ => (),
+                }
+                if answer.told.owns.is_none() {
+                    closed += 1;
+                }
+                Ok(Way { moment, pairs, at, stolen, moved, closed })
+            }
+            _ => {
+                let moment = self.moment_after(rt, alloc, &pairs);
+                Err(Way { moment, pairs, at, stolen, moved, closed })
+            }
+        }
+    }
+}

@@ -1,0 +1,81 @@
+//! The seats of a hall, by the numbers of their workers.
+
+ghost use Rattle.std.specs.Prelude.{◌≡◌, ◌<◌, ◌+◌, ◌≤◌, All, IfOk, IfSome, IsTrue, MatchOption, None, Some};
+ghost use Rattle.hall_handles.specs.Seated.{IsIn, IsProgramOf};
+
+use deque_list::DequeId;
+use hall_turns::Event;
+use hall_work::{EventRefused, Hall, LeaveRefused, Seat};
+use node_table::Code;
+use std::process::Abort;
+
+/// Steals with a word if the seat owns no deque, and otherwise acts.
+pub(crate) fn go_on(
+    hall: &Hall,
+    code: &Code,
+    seat: &mut Seat,
+    word: u64,
+) -> Result<Event, EventRefused>
+    requires program { IsProgramOf hall.now code.now }
+    requires here { IsIn hall.now seat.old }
+    ensures { IsIn hall.now seat.new }
+{
+    match seat.owns() {
+        Some(_) => hall.act(code, seat),
+        None => hall.steal(seat, word),
+    }
+}
+
+/// Gives the deque of a seat up, and returns it; None if the seat owns none, or was refused.
+pub(crate) fn given_up(hall: &Hall, seat: &mut Seat) -> Option<DequeId>
+    requires { IsIn hall.now seat.old }
+    ensures { IsIn hall.now seat.new }
+{
+    let deque = seat.owns()?;
+    match hall.give_up(seat) {
+        Ok(_) => Some(deque),
+        Err(_) => None,
+    }
+}
+
+/// Lets a seat leave into another.
+pub(crate) fn left(
+    rt: &impl Abort,
+    hall: &Hall,
+    seat: Seat,
+    into: &mut Seat,
+) -> Result<(), (Seat, LeaveRefused)>
+    requires here { IsIn hall.now seat }
+    requires into { IsIn hall.now into.old }
+    ensures into { IsIn hall.now into.new }
+    ensures here { IfErr result (λ back. IsIn hall.now back.0) }
+{
+    let both = into.places().saturating_add(seat.places());
+    assert!(rt; both <= hall.workers, "more places than workers");
+    hall.leave(seat, into)
+}
+
+/// Takes the seat of a worker out.
+pub(crate) fn taken(rt: &impl Abort, hall: &Hall, seats: &mut Vec<Seat>, worker: u32) -> Seat
+    requires { All (IsIn hall.now) seats.old.items }
+    ensures seat { IsIn hall.now result }
+    ensures others { All (IsIn hall.now) seats.new.items }
+{
+    let _ = hall;
+    for at in 0..seats.len() {
+        if seats[at].worker() == worker {
+            return seats.remove(at);
+        }
+    }
+    panic!(rt; "worker {worker} is not in")
+}
+
+/// Puts a seat to the others.
+pub(crate) fn put(rt: &impl Abort, hall: &Hall, seats: &mut Vec<Seat>, seat: Seat)
+    requires seat { IsIn hall.now seat }
+    requires others { All (IsIn hall.now) seats.old.items }
+    ensures { All (IsIn hall.now) seats.new.items }
+{
+    let _ = hall;
+    seats.push(seat).expect(rt, "memory");
+}
