@@ -3,12 +3,13 @@
 ghost use Rattle.std.specs.Prelude.{◌≡◌, All, IfOk, IfSome, None};
 ghost use Rattle.hall_handles.specs.Seated.{IsIn, IsProgramOf};
 
-use crate::seats::{given_up, go_on, left, put};
+use crate::seats::{go_on, left};
 use deque_list::DequeId;
 use hall_turns::Event;
 use hall_work::{EnterRefused, EventRefused, Hall, Seat};
 use node_table::Code;
 use run_end::RunEnd;
+use std::alloc::Global;
 use std::process::Abort;
 use std::sync::Wait;
 use std::thread;
@@ -168,5 +169,27 @@ impl Crowd {
             _ => return self.let_try(rt, hall, code),
         }
         true
+    }
+}
+
+impl<R: Wait + Abort, G> WorksToEnd<R, Hall, Code, G> for Crowd {
+    ghost use Rattle.std.specs.Prelude.{All};
+    ghost use Rattle.hall_handles.specs.Seated.{IsIn, IsProgramOf};
+    ghost use Rattle.hall_tests.specs.declared.crowds.Crowd.{Crowd as AnyCrowd};
+
+    ghost may_work = { λ hall code crowd. IsProgramOf hall code × All (IsIn hall) (AnyCrowd.seats crowd).items };
+
+    ghost has_worked = { λ hall code before after. All (IsIn hall) (AnyCrowd.seats after).items };
+
+    fn work_to_end(&mut self, rt: &R, table: &Hall, code: &Code, _gate: &G) {
+        'turns: for _ in rt.forever() {
+            if self.end.is_some() {
+                return;
+            }
+            if !self.turn(rt, table, code) {
+                thread::yield_now();
+            }
+        }
+        unreachable!()
     }
 }

@@ -36,16 +36,22 @@ pub(crate) struct Followed<'a> {
     pub workers: u32,
 }
 
-/// How far a run is followed: the moment of the machine, the events that lead to it, how many answers of each thread are among them, and how many
-/// of them are steals, moves, and the last of their period.
+/// How many answers of a run are steals, moves, and the last of their period.
+#[derive(Clone, Copy)]
+struct Counts {
+    stolen: u32,
+    moved: u32,
+    closed: u32,
+}
+
+/// How far a run is followed: the moment of the machine, the events that lead to it, how many answers of each thread are among them, and what these
+/// are.
 #[derive(Drop)]
 pub(crate) struct Way {
     pub moment: Moment,
     pairs: Vec<Pair>,
     at: Vec<usize>,
-    stolen: u32,
-    moved: u32,
-    closed: u32,
+    counts: Counts,
 }
 
 /// The births of the periods of a closed run, in the order of their numbers.
@@ -178,15 +184,15 @@ impl Followed<'_> {
     /// Whether an answer is the next one by the numbers of periods, the moves and the closed periods.
     fn may_come(&self, way: &Way, answer: &Answer) -> bool {
         if answer.told.owns.is_none() {
-            if closed_place(self.closing, answer.period) != Some(way.closed) {
+            if closed_place(self.closing, answer.period) != Some(way.counts.closed) {
                 return false;
             }
         }
         match answer.told.event {
-            Event::Stole { period, .. } => period == way.stolen.saturating_add(1),
+            Event::Stole { period, .. } => period == way.counts.stolen.saturating_add(1),
             Event::Did(id) => {
                 match moved_place(self.closing, id) {
-                    Some(place) => place == way.moved,
+                    Some(place) => place == way.counts.moved,
                     None => true,
                 }
             }
@@ -269,8 +275,31 @@ impl Followed<'_> {
             .expect(rt, "a run")
     }
 
-    /// The way with an answer of a thread more, if the machine has it as a case that leads to what was told.
-    fn tried(&self, rt: &impl Abort, alloc: Global, way: Way, thread: usize, answer: &Answer) -> Result<Way, Way> {
+    /// The counts after an answer.
+    fn counted(&self, counts: Counts, answer: &Answer) -> Counts {
+        let mut counts = counts;
+        match answer.told.event {
+            Event::Stole { .. } => counts.stolen = counts.stolen.saturating_add(1),
+            Event::Did(id) if moved_place(self.closing, id).is_some() => {
+                counts.moved = counts.moved.saturating_add(1);
+            }
+            _ => (),
+        }
+        if answer.told.owns.is_none() {
+            counts.closed = counts.closed.saturating_add(1);
+        }
+        counts
+    }
+
+    /// The way with an answer of a thread more, if the machine has it as a case that leads to what was told. Otherwise the way comes back.
+    fn tried(
+        &self,
+        rt: &impl Abort,
+        alloc: Global,
+        way: Way,
+        thread: usize,
+        answer: &Answer,
+    ) -> Result<Way, Way> {
         let Some(event) = self.event_at(rt, alloc, &way.moment, answer) else {
             return Err(way);
         };
@@ -282,28 +311,118 @@ impl Followed<'_> {
             moment,
             mut pairs,
             mut at,
-            mut stolen,
-            mut moved,
-            mut closed,
+            counts,
         } = way;
         match self.next_moment(rt, alloc, moment, pair) {
             Some(moment) if self.is_as_told(&moment, answer) => {
                 pairs.push(pair).expect(rt, "memory");
-                at[thread] += 1;
-                match answer.told.event {
-                    Event::Stole { .. } => stolen += 1,
-                    Event::Did(id) if moved_place(self.closing, id).is_some() => moved += 1,
-                    _ => (),
+                if let Some(many) = at.get_mut(thread) {
+                    *many = many.saturating_add(1);
                 }
-                if answer.told.owns.is_none() {
-                    closed += 1;
-                }
-                Ok(Way { moment, pairs, at, stolen, moved, closed })
+                let counts = self.counted(counts, answer);
+                Ok(Way {
+                    moment,
+                    pairs,
+                    at,
+                    counts,
+                })
             }
             _ => {
                 let moment = self.moment_after(rt, alloc, &pairs);
-                Err(Way { moment, pairs, at, stolen, moved, closed })
+                Err(Way {
+                    moment,
+                    pairs,
+                    at,
+                    counts,
+                })
             }
         }
+    }
+
+    /// The next answer of a thread, if it has this rank and may come.
+    fn next_of(
+        &self,
+        rt: &impl Abort,
+        alloc: Global,
+        way: &Way,
+        thread: usize,
+        rank: u32,
+    ) -> Option<Answer> {
+        let at = *way.at.get(thread)?;
+        let answer = *self.answers.get(thread)?.get(at)?;
+        if self.rank_of(rt, alloc, &answer) == rank && self.may_come(way, &answer) {
+            Some(answer)
+        } else {
+            None
+        }
+    }
+
+    /// The way with one answer of this rank more, if some thread has one that goes.
+    fn with_rank(&self, rt: &impl Abort, alloc: Global, way: Way, rank: u32) -> Result<Way, Way> {
+        let mut way = way;
+        for thread in 0..self.answers.len() {
+            if let Some(answer) = self.next_of(rt, alloc, &way, thread, rank) {
+                match self.tried(rt, alloc, way, thread, &answer) {
+                    Ok(next) => return Ok(next),
+                    Err(back) => way = back,
+                }
+            }
+        }
+        Err(way)
+    }
+
+    /// The way with one answer more, if some thread has one that goes.
+    fn with_next(&self, rt: &impl Abort, alloc: Global, way: Way) -> Result<Way, Way> {
+        let mut way = way;
+        for rank in 0..RANKS {
+            match self.with_rank(rt, alloc, way, rank) {
+                Ok(next) => return Ok(next),
+                Err(back) => way = back,
+            }
+        }
+        Err(way)
+    }
+
+    /// How many answers there are.
+    fn many(&self) -> usize {
+        let mut many = 0usize;
+        for thread in &self.answers {
+            many = many.saturating_add(thread.len());
+        }
+        many
+    }
+
+    /// The way before the first answer.
+    fn beginning(&self, rt: &impl Abort, alloc: Global) -> Way {
+        let mut at = Vec::new(alloc);
+        for _ in &self.answers {
+            at.push(0usize).expect(rt, "memory");
+        }
+        Way {
+            moment: opening(alloc).expect(rt, "memory"),
+            pairs: Vec::new(alloc),
+            at,
+            counts: Counts {
+                stolen: 0,
+                moved: 0,
+                closed: 0,
+            },
+        }
+    }
+
+    /// The moment of the machine that all answers lead to.
+    pub(crate) fn last(&self, rt: &impl Abort, alloc: Global) -> Moment {
+        let mut way = self.beginning(rt, alloc);
+        for _ in 0..self.many() {
+            match self.with_next(rt, alloc, way) {
+                Ok(next) => way = next,
+                Err(back) => panic!(rt;
+                    "no answer goes after {:?} of {:?}",
+                    back.at.as_slice(),
+                    self.answers.as_slice()
+                ),
+            }
+        }
+        way.moment
     }
 }
