@@ -12,15 +12,37 @@ use run_end::RunEnd;
 use std::alloc::Global;
 use std::process::Abort;
 use std::sync::Wait;
+use std::sync::atomic::{AtomicU64, Ordering};
 use std::thread;
 use work_loop::WorksToEnd;
 
-/// What a seat was told: its worker, what it did, and the deque that it owns after that.
+/// What all threads read the time off, which is how often it was read.
+#[derive(Drop)]
+pub(crate) struct Clock {
+    reads: AtomicU64,
+}
+
+impl Clock {
+    pub(crate) fn new() -> Clock {
+        Clock {
+            reads: AtomicU64::new(0),
+        }
+    }
+
+    /// The time.
+    fn now(&self) -> u64 {
+        self.reads.fetch_add(1, Ordering::SeqCst)
+    }
+}
+
+/// What a seat was told: its worker, what it did, the deque that it owns after that, and when it was called and when it answered.
 #[derive(Clone, Copy, PartialEq, Eq, Debug)]
 pub(crate) struct Told {
     pub worker: u32,
     pub event: Event,
     pub owns: Option<DequeId>,
+    pub from: u64,
+    pub until: u64,
 }
 
 /// The seats that one thread works, what they were told, the word by which they pick what they do, and the end that one of them was told.
@@ -39,16 +61,33 @@ fn next_word(word: u64) -> u64 {
         .wrapping_add(1_442_695_040_888_963_407)
 }
 
-/// Notes what a seat was told.
-fn note(rt: &impl Abort, told: &mut Vec<Told>, seat: &Seat, event: Event) {
-    let owns = seat.owns();
-    let worker = seat.worker();
+/// Notes what a worker was told that was called at this time, and which deque it owns now.
+fn note(
+    rt: &impl Abort,
+    told: &mut Vec<Told>,
+    worker: u32,
+    owns: Option<DequeId>,
+    event: Event,
+    clock: &Clock,
+    from: u64,
+) {
+    let until = clock.now();
     told.push(Told {
         worker,
         event,
         owns,
+        from,
+        until,
     })
     .expect(rt, "memory");
+}
+
+/// The deque that a seat owns, if there is one.
+fn owned(seat: &Option<Seat>) -> Option<DequeId> {
+    match seat {
+        Some(seat) => seat.owns(),
+        None => None,
+    }
 }
 
 /// Lets a seat leave into another, and notes that it gave its deque up, if it did. Returns it if it stays.
@@ -56,6 +95,7 @@ pub(crate) fn leave(
     rt: &impl Abort,
     told: &mut Vec<Told>,
     hall: &Hall,
+    clock: &Clock,
     seat: Seat,
     into: &mut Seat,
 ) -> Option<Seat>
@@ -64,21 +104,12 @@ pub(crate) fn leave(
     ensures into { IsIn hall.now into.new }
     ensures here { IfSome result (λ back. IsIn hall.now back) }
 {
+    let from = clock.now();
     let worker = seat.worker();
-    let owned = seat.owns();
+    let before = seat.owns();
     let back = left(rt, hall, seat, into).err().map(|back| back.0);
-    let still = match &back {
-        Some(seat) => seat.owns(),
-        None => None,
-    };
-    if let (Some(deque), None) = (owned, still) {
-        let event = Event::GaveUp(deque);
-        told.push(Told {
-            worker,
-            event,
-            owns: None,
-        })
-        .expect(rt, "memory");
+    if let (Some(deque), None) = (before, owned(&back)) {
+        note(rt, told, worker, None, Event::GaveUp(deque), clock, from);
     }
     back
 }
@@ -135,25 +166,29 @@ impl Crowd {
     }
 
     /// Lets some seat leave into another, if there are two.
-    fn let_leave(&mut self, rt: &impl Abort, hall: &Hall) {
+    fn let_leave(&mut self, rt: &impl Abort, hall: &Hall, clock: &Clock) {
         if self.seats.len() < 2 {
             return;
         }
         let seat = self.taken(rt);
         let mut into = self.taken(rt);
-        if let Some(back) = leave(rt, &mut self.told, hall, seat, &mut into) {
+        if let Some(back) = leave(rt, &mut self.told, hall, clock, seat, &mut into) {
             self.seats.push(back).expect(rt, "memory");
         }
         self.seats.push(into).expect(rt, "memory");
     }
 
     /// Lets some seat try its next event. Says whether it did it.
-    fn let_try(&mut self, rt: &impl Abort, hall: &Hall, code: &Code) -> bool {
+    fn let_try(&mut self, rt: &impl Abort, hall: &Hall, code: &Code, clock: &Clock) -> bool {
         let mut seat = self.taken(rt);
         let word = self.pick();
+        let from = clock.now();
         let answer = tried(hall, code, &mut seat, word);
         match answer {
-            Ok(event) => note(rt, &mut self.told, &seat, event),
+            Ok(event) => {
+                let told = &mut self.told;
+                note(rt, told, seat.worker(), seat.owns(), event, clock, from);
+            }
             Err(EventRefused::Over(end)) => self.end = Some(end),
             Err(_) => (),
         }
@@ -162,17 +197,23 @@ impl Crowd {
     }
 
     /// Lets a worker enter or leave, or a seat try its next event. Says whether anything was done.
-    pub(crate) fn turn(&mut self, rt: &impl Abort, hall: &Hall, code: &Code) -> bool {
+    pub(crate) fn turn(
+        &mut self,
+        rt: &impl Abort,
+        hall: &Hall,
+        code: &Code,
+        clock: &Clock,
+    ) -> bool {
         match self.pick() % 16 {
             0 => self.let_enter(rt, hall),
-            1 => self.let_leave(rt, hall),
-            _ => return self.let_try(rt, hall, code),
+            1 => self.let_leave(rt, hall, clock),
+            _ => return self.let_try(rt, hall, code, clock),
         }
         true
     }
 }
 
-impl<R: Wait + Abort, G> WorksToEnd<R, Hall, Code, G> for Crowd {
+impl<R: Wait + Abort> WorksToEnd<R, Hall, Code, Clock> for Crowd {
     ghost use Rattle.std.specs.Prelude.{All};
     ghost use Rattle.hall_handles.specs.Seated.{IsIn, IsProgramOf};
     ghost use Rattle.hall_tests.specs.declared.crowds.Crowd.{Crowd as AnyCrowd};
@@ -181,12 +222,12 @@ impl<R: Wait + Abort, G> WorksToEnd<R, Hall, Code, G> for Crowd {
 
     ghost has_worked = { λ hall code before after. All (IsIn hall) (AnyCrowd.seats after).items };
 
-    fn work_to_end(&mut self, rt: &R, table: &Hall, code: &Code, _gate: &G) {
+    fn work_to_end(&mut self, rt: &R, table: &Hall, code: &Code, gate: &Clock) {
         'turns: for _ in rt.forever() {
             if self.end.is_some() {
                 return;
             }
-            if !self.turn(rt, table, code) {
+            if !self.turn(rt, table, code, gate) {
                 thread::yield_now();
             }
         }

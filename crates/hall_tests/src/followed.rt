@@ -3,7 +3,7 @@
 ghost use Rattle.std.specs.Prelude.{◌≡◌, All, None};
 ghost use Rattle.hall_handles.specs.Seated.{IsIn, IsProgramOf};
 
-use crate::crowds::{Crowd, Told, leave};
+use crate::crowds::{Clock, Crowd, Told, leave};
 use crate::halls::{ample, entered, hall_within, Bounds};
 use crate::listed::Listed;
 use crate::merged::{Followed, answers_of, births_in, closed_place};
@@ -16,7 +16,7 @@ use std::alloc::Global;
 use std::process::Abort;
 use std::sync::Wait;
 use std::thread::Threads;
-use work_loop::{FreeGate, work_all};
+use work_loop::work_all;
 
 /// More turns than these runs have in one thread.
 const TURNS: u32 = 1_000_000;
@@ -36,12 +36,12 @@ const PROGRAMS: &str = "
 ";
 
 /// Takes the turns of a crowd until it was told the end of the run.
-fn work_alone(rt: &impl Abort, hall: &Hall, code: &Code, crowd: &mut Crowd) {
+fn work_alone(rt: &impl Abort, hall: &Hall, code: &Code, crowd: &mut Crowd, clock: &Clock) {
     for _ in 0..TURNS {
         if crowd.end.is_some() {
             return;
         }
-        crowd.turn(rt, hall, code);
+        crowd.turn(rt, hall, code, clock);
     }
     panic!(rt; "a run without an end");
 }
@@ -52,8 +52,9 @@ fn work_beside<R: Threads + Wait + Abort + Sync>(
     hall: &Hall,
     code: &Code,
     crowds: &mut [Crowd],
+    clock: &Clock,
 ) {
-    work_all(rt, hall, code, crowds, &FreeGate);
+    work_all(rt, hall, code, crowds, clock);
 }
 
 /// Crowds, as many as there are threads, among which the seats of all workers are dealt. One crowd begins with the first seat alone.
@@ -83,10 +84,10 @@ fn crowds_of(
 }
 
 /// Lets all seats of a crowd leave into another one.
-fn empty(rt: &impl Abort, hall: &Hall, crowd: Crowd, last: &mut Seat) -> Vec<Told> {
+fn empty(rt: &impl Abort, hall: &Hall, clock: &Clock, crowd: Crowd, last: &mut Seat) -> Vec<Told> {
     let Crowd { seats, mut told, .. } = crowd;
     for seat in seats {
-        if leave(rt, &mut told, hall, seat, last).is_some() {
+        if leave(rt, &mut told, hall, clock, seat, last).is_some() {
             panic!(rt; "a seat stays");
         }
     }
@@ -98,6 +99,7 @@ fn closed(
     rt: &impl Abort,
     alloc: Global,
     hall: Hall,
+    clock: &Clock,
     crowds: Vec<Crowd>,
 ) -> (Closing, Vec<Vec<Told>>) {
     let mut crowds = crowds;
@@ -105,9 +107,9 @@ fn closed(
     let mut main = crowds.pop().expect(rt, "a crowd");
     let mut last = main.seats.pop().expect(rt, "a seat");
     for crowd in crowds {
-        all.push(empty(rt, &hall, crowd, &mut last)).expect(rt, "memory");
+        all.push(empty(rt, &hall, clock, crowd, &mut last)).expect(rt, "memory");
     }
-    all.push(empty(rt, &hall, main, &mut last)).expect(rt, "memory");
+    all.push(empty(rt, &hall, clock, main, &mut last)).expect(rt, "memory");
     assert!(rt; last.owns().is_none(), "it owns a deque");
     match hall.close(last) {
         Ok(closing) => (closing, all),
@@ -196,14 +198,15 @@ fn follow<R: Threads + Wait + Abort + Sync>(
 ) {
     let (hall, code, first) = hall_within(rt, alloc, text, of);
     let mut crowds = crowds_of(rt, alloc, &hall, first, threads, seed);
+    let clock = Clock::new();
     if threads < 2 {
         for crowd in &mut crowds {
-            work_alone(rt, &hall, &code, crowd);
+            work_alone(rt, &hall, &code, crowd, &clock);
         }
     } else {
-        work_beside(rt, &hall, &code, &mut crowds);
+        work_beside(rt, &hall, &code, &mut crowds, &clock);
     }
-    let (closing, told) = closed(rt, alloc, hall, crowds);
+    let (closing, told) = closed(rt, alloc, hall, &clock, crowds);
     compare(rt, alloc, text, of, &closing, &told);
 }
 

@@ -149,9 +149,4 @@ impl Listed {
         }
         None
     }
-
-    /// What the action at a place does.
-    pub(crate) fn kind_at(&self, place: u32) -> Option<Kind> {
-        self.serial.actions.at(place).map(|action| action.kind)
-    }
 }

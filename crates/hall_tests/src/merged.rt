@@ -1,12 +1,13 @@
 //! What the seats of a hall were told, as one run of the machine of deques.
 //!
-//! The answers of one thread are in their order. Those of several threads have to be merged. What is left of the hall says much of their order:
-//! the numbers of the periods, the order in which periods were closed, and that of the moves. The rest is tried: at each moment the machine takes
-//! the next answer of some thread. Of those that may come a steal goes first, and an answer that takes its deque out of the list goes last.
+//! The answers of one thread are in their order. Those of several threads have to be merged. An answer comes after all those that were there before
+//! its call. What is left of the hall says more of their order: the numbers of the periods, the order in which periods were closed, and that of
+//! the moves. The rest is tried: at each moment the machine takes the next answer of some thread, the earliest first, and goes one answer back
+//! where it can take none.
 
 use crate::crowds::Told;
 use crate::listed::{Listed, label_of};
-use dag_order::{ActionId, Births, Kind, Label, ThreadId};
+use dag_order::{ActionId, Births, Label, ThreadId};
 use hall_turns::Event;
 use hall_work::Closing;
 use machine_replay::runs::{opening, replay, step};
@@ -14,8 +15,8 @@ use machine_replay::{Event as MachineEvent, Moment, Pair};
 use std::alloc::Global;
 use std::process::Abort;
 
-/// How many kinds of answers there are, by how soon they are taken.
-const RANKS: u32 = 4;
+/// More tries than it takes to find an order.
+const TRIES: u32 = 100_000;
 
 /// What a seat was told, and in which period.
 #[derive(Clone, Copy, PartialEq, Eq, Debug)]
@@ -44,12 +45,13 @@ struct Counts {
     closed: u32,
 }
 
-/// How far a run is followed: the moment of the machine, the events that lead to it, how many answers of each thread are among them, and what these
-/// are.
+/// How far a run is followed: the moment of the machine; the events that lead to it, whose threads these are, and the counts before each; how many
+/// answers of each thread are among them; and the counts now.
 #[derive(Drop)]
-pub(crate) struct Way {
-    pub moment: Moment,
+struct Way {
+    moment: Moment,
     pairs: Vec<Pair>,
+    path: Vec<(usize, Counts)>,
     at: Vec<usize>,
     counts: Counts,
 }
@@ -163,22 +165,6 @@ impl Followed<'_> {
         self.listed
             .place_of(&label, id.index)
             .expect(rt, "an action of the list")
-    }
-
-    /// How soon an answer is taken.
-    fn rank_of(&self, rt: &impl Abort, alloc: Global, answer: &Answer) -> u32 {
-        match answer.told.event {
-            Event::Stole { .. } => 0,
-            _ if answer.told.owns.is_some() => 1,
-            Event::Did(id) => {
-                match self.listed.kind_at(self.place_of(rt, alloc, id)) {
-                    Some(Kind::Dummy) => 2,
-                    _ => 3,
-                }
-            }
-            Event::GaveUp(_) => 2,
-            Event::Suspended(_) | Event::Halted(_) => 3,
-        }
     }
 
     /// Whether an answer is the next one by the numbers of periods, the moves and the closed periods.
@@ -310,12 +296,14 @@ impl Followed<'_> {
         let Way {
             moment,
             mut pairs,
+            mut path,
             mut at,
             counts,
         } = way;
         match self.next_moment(rt, alloc, moment, pair) {
             Some(moment) if self.is_as_told(&moment, answer) => {
                 pairs.push(pair).expect(rt, "memory");
+                path.push((thread, counts)).expect(rt, "memory");
                 if let Some(many) = at.get_mut(thread) {
                     *many = many.saturating_add(1);
                 }
@@ -323,6 +311,7 @@ impl Followed<'_> {
                 Ok(Way {
                     moment,
                     pairs,
+                    path,
                     at,
                     counts,
                 })
@@ -332,6 +321,7 @@ impl Followed<'_> {
                 Err(Way {
                     moment,
                     pairs,
+                    path,
                     at,
                     counts,
                 })
@@ -339,43 +329,82 @@ impl Followed<'_> {
         }
     }
 
-    /// The next answer of a thread, if it has this rank and may come.
-    fn next_of(
-        &self,
-        rt: &impl Abort,
-        alloc: Global,
-        way: &Way,
-        thread: usize,
-        rank: u32,
-    ) -> Option<Answer> {
-        let at = *way.at.get(thread)?;
-        let answer = *self.answers.get(thread)?.get(at)?;
-        if self.rank_of(rt, alloc, &answer) == rank && self.may_come(way, &answer) {
-            Some(answer)
-        } else {
-            None
+    /// The way without its last answer.
+    fn back(&self, rt: &impl Abort, alloc: Global, way: Way) -> Way {
+        let Way {
+            mut pairs,
+            mut path,
+            mut at,
+            ..
+        } = way;
+        pairs.pop();
+        let (thread, counts) = path.pop().expect(rt, "an order of the answers");
+        if let Some(many) = at.get_mut(thread) {
+            *many = many.saturating_sub(1);
+        }
+        let moment = self.moment_after(rt, alloc, &pairs);
+        Way {
+            moment,
+            pairs,
+            path,
+            at,
+            counts,
         }
     }
 
-    /// The way with one answer of this rank more, if some thread has one that goes.
-    fn with_rank(&self, rt: &impl Abort, alloc: Global, way: Way, rank: u32) -> Result<Way, Way> {
-        let mut way = way;
+    /// The next answer of a thread.
+    fn next_of(&self, way: &Way, thread: usize) -> Option<Answer> {
+        let at = *way.at.get(thread)?;
+        self.answers.get(thread)?.get(at).copied()
+    }
+
+    /// When the first of the next answers was there. All later calls come after it.
+    fn first_until(&self, way: &Way) -> u64 {
+        let mut first = u64::MAX;
         for thread in 0..self.answers.len() {
-            if let Some(answer) = self.next_of(rt, alloc, &way, thread, rank) {
-                match self.tried(rt, alloc, way, thread, &answer) {
-                    Ok(next) => return Ok(next),
-                    Err(back) => way = back,
+            if let Some(answer) = self.next_of(way, thread) {
+                first = first.min(answer.told.until);
+            }
+        }
+        first
+    }
+
+    /// Of the next answers that may come and were there after a time, the earliest one.
+    fn earliest(&self, way: &Way, after: Option<u64>) -> Option<(usize, Answer)> {
+        let first = self.first_until(way);
+        let mut found: Option<(usize, Answer)> = None;
+        for thread in 0..self.answers.len() {
+            if let Some(answer) = self.next_of(way, thread) {
+                let is_earlier = match found {
+                    Some((_, other)) => answer.told.until < other.told.until,
+                    None => true,
+                };
+                let is_open = answer.told.from < first && after < Some(answer.told.until);
+                if is_open && is_earlier && self.may_come(way, &answer) {
+                    found = Some((thread, answer));
                 }
             }
         }
-        Err(way)
+        found
     }
 
-    /// The way with one answer more, if some thread has one that goes.
-    fn with_next(&self, rt: &impl Abort, alloc: Global, way: Way) -> Result<Way, Way> {
+    /// The way with one answer more, if some thread has one that goes and leads to no place that is known to lead nowhere.
+    fn with_next(
+        &self,
+        rt: &impl Abort,
+        alloc: Global,
+        way: Way,
+        nowhere: &[Vec<usize>],
+    ) -> Result<Way, Way> {
         let mut way = way;
-        for rank in 0..RANKS {
-            match self.with_rank(rt, alloc, way, rank) {
+        let mut after = None;
+        for _ in 0..self.answers.len() {
+            let Some((thread, answer)) = self.earliest(&way, after) else {
+                return Err(way);
+            };
+            after = Some(answer.told.until);
+            match self.tried(rt, alloc, way, thread, &answer) {
+                Ok(next) if nowhere.contains(&next.at) => way = self.back(rt, alloc, next),
                 Ok(next) => return Ok(next),
                 Err(back) => way = back,
             }
@@ -401,6 +430,7 @@ impl Followed<'_> {
         Way {
             moment: opening(alloc).expect(rt, "memory"),
             pairs: Vec::new(alloc),
+            path: Vec::new(alloc),
             at,
             counts: Counts {
                 stolen: 0,
@@ -410,19 +440,22 @@ impl Followed<'_> {
         }
     }
 
-    /// The moment of the machine that all answers lead to.
+    /// The moment of the machine that all answers lead to in some order.
     pub(crate) fn last(&self, rt: &impl Abort, alloc: Global) -> Moment {
         let mut way = self.beginning(rt, alloc);
-        for _ in 0..self.many() {
-            match self.with_next(rt, alloc, way) {
+        let mut nowhere = Vec::new(alloc);
+        for _ in 0..TRIES {
+            if way.pairs.len() == self.many() {
+                return way.moment;
+            }
+            match self.with_next(rt, alloc, way, &nowhere) {
                 Ok(next) => way = next,
-                Err(back) => panic!(rt;
-                    "no answer goes after {:?} of {:?}",
-                    back.at.as_slice(),
-                    self.answers.as_slice()
-                ),
+                Err(stuck) => {
+                    nowhere.push(stuck.at.clone().expect(rt, "memory")).expect(rt, "memory");
+                    way = self.back(rt, alloc, stuck);
+                }
             }
         }
-        way.moment
+        panic!(rt; "no order of the answers is found")
     }
 }
