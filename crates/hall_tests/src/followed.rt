@@ -4,7 +4,7 @@ ghost use Rattle.std.specs.Prelude.{◌≡◌, All, None};
 ghost use Rattle.hall_handles.specs.Seated.{IsIn, IsProgramOf};
 
 use crate::crowds::{Clock, Crowd, Told, leave};
-use crate::halls::{ample, entered, hall_within, Bounds};
+use crate::halls::{Bounds, entered, hall_within};
 use crate::listed::Listed;
 use crate::merged::{Followed, answers_of, births_in, closed_place};
 use dag_order::Finish;
@@ -32,8 +32,19 @@ const PROGRAMS: &str = "
 @ fn main() { alloc a = 16; alloc b = 4; alloc c = 5; alloc d = 1; par { a[0] = 1; b[0] = 1; } and { par { c[0] = 1; } and { d[0] = 1 % 0; } print 1; } print 2; free a; free b; free c; free d; }
 @ fn main() { alloc b = 40; split b at 32 into l, r { par { l[31] = 1; print l[31]; } and { par { r[7] = 2; } and { alloc s = 17; free s; } print r[7]; } } print b[31] + b[39]; free b; }
 @ fn mk() { alloc b = 1; par { } and { } return own b; } fn f() { call own b = mk(); free b; } fn main() { par { par { alloc a = 16; free a; } and { } } and { call f(); } }
-@ fn leaves(depth, first) { if depth == 0 { alloc b = 20; b[3] = first; print b[3]; free b; } else { par { call leaves(depth - 1, first * 2); } and { call leaves(depth - 1, first * 2 + 1); } } } fn main() { call leaves(4, 1); }
+@ fn leaves(depth, first) { if depth == 0 { alloc b = 20; b[3] = first; print b[3]; free b; } else { par { call leaves(depth - 1, first * 2); } and { call leaves(depth - 1, first * 2 + 1); } } } fn main() { call leaves(2, 1); }
 ";
+
+/// Bounds of a small run with a quota, for so many workers.
+fn small(k: u32, workers: u32) -> Bounds {
+    Bounds {
+        k,
+        workers,
+        arena: 1_024,
+        limit: 1_000,
+        most: 64,
+    }
+}
 
 /// Takes the turns of a crowd until it was told the end of the run.
 fn work_alone(rt: &impl Abort, hall: &Hall, code: &Code, crowd: &mut Crowd, clock: &Clock) {
@@ -211,12 +222,18 @@ fn follow<R: Threads + Wait + Abort + Sync>(
 }
 
 /// Runs each program by so many crowds, with these workers and two quotas.
-fn follow_all<R: Threads + Wait + Abort + Sync>(rt: &R, alloc: Global, workers: u32, threads: u32, seed: u64) {
+fn follow_all<R: Threads + Wait + Abort + Sync>(
+    rt: &R,
+    alloc: Global,
+    workers: u32,
+    threads: u32,
+    seed: u64,
+) {
     for text in PROGRAMS.split('@') {
         let text = text.trim();
         if !text.is_empty() {
-            for k in [16, 48, 4_096] {
-                follow(rt, alloc, text, Bounds { k, ..ample(workers) }, threads, seed);
+            for k in [16, 48] {
+                follow(rt, alloc, text, small(k, workers), threads, seed);
             }
         }
     }
@@ -224,18 +241,14 @@ fn follow_all<R: Threads + Wait + Abort + Sync>(rt: &R, alloc: Global, workers: 
 
 #[test]
 fn what_one_thread_is_told_is_a_run_of_the_machine(rt: HostRuntime) {
-    for workers in [1, 2, 3, 5, 64] {
-        for seed in 1..4 {
-            follow_all(&rt, rt.alloc(), workers, 1, seed);
-        }
+    for workers in [2, 5, 64] {
+        follow_all(&rt, rt.alloc(), workers, 1, 1);
     }
 }
 
 #[test]
 fn what_threads_are_told_is_a_run_of_the_machine(rt: HostRuntime) {
-    for (workers, threads) in [(2, 2), (3, 2), (8, 4), (64, 8), (8, 8)] {
-        for seed in 1..4 {
-            follow_all(&rt, rt.alloc(), workers, threads, seed);
-        }
+    for (workers, threads) in [(2, 2), (8, 4), (64, 8)] {
+        follow_all(&rt, rt.alloc(), workers, threads, 1);
     }
 }

@@ -1,9 +1,10 @@
 //! Events of a seat while another one holds a slot.
 
-ghost use Rattle.std.specs.Prelude.{◌≡◌, Some};
+ghost use Rattle.std.specs.Prelude.{◌+◌, ◌<◌};
+ghost use Rattle.turn_table.specs.Tables.{slot_count};
 ghost use Rattle.hall_handles.specs.Seated.{IsIn, IsProgramOf};
 
-use crate::seats::go_on;
+use crate::seats::{go_on, owned};
 use deque_list::DequeId;
 use hall_turns::{
     Event, give_lane_back, give_list_back, give_pool_back, take_lane, take_list, take_pool,
@@ -87,15 +88,6 @@ fn beside_lane(
     let answer = go_on(hall, code, seat, 0);
     give_lane_back(&hall.row, &mut holder.place, deque, lane);
     answer
-}
-
-/// The deque that a seat owns.
-fn owned(rt: &impl Abort, hall: &Hall, seat: &Seat) -> DequeId
-    requires { IsIn hall.now seat.now }
-    ensures { result.0 + 2 < slot_count hall.now.row }
-{
-    let _ = hall;
-    seat.owns().expect(rt, "a deque")
 }
 
 /// What a seat answers that goes on while another one holds a slot.

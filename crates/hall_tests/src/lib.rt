@@ -13,6 +13,8 @@ mod halls;
 #[cfg(test)]
 mod holds;
 #[cfg(test)]
+mod lanes;
+#[cfg(test)]
 mod listed;
 #[cfg(test)]
 mod merged;

@@ -1,6 +1,7 @@
 //! The seats of a hall, by the numbers of their workers.
 
-ghost use Rattle.std.specs.Prelude.{◌≡◌, ◌<◌, ◌+◌, ◌≤◌, All, IfOk, IfSome, IsTrue, MatchOption, None, Some};
+ghost use Rattle.std.specs.Prelude.{◌+◌, ◌<◌, All, IfErr};
+ghost use Rattle.turn_table.specs.Tables.{slot_count};
 ghost use Rattle.hall_handles.specs.Seated.{IsIn, IsProgramOf};
 
 use deque_list::DequeId;
@@ -24,6 +25,15 @@ pub(crate) fn go_on(
         Some(_) => hall.act(code, seat),
         None => hall.steal(seat, word),
     }
+}
+
+/// The deque that a seat owns.
+pub(crate) fn owned(rt: &impl Abort, hall: &Hall, seat: &Seat) -> DequeId
+    requires { IsIn hall.now seat.now }
+    ensures { result.0 + 2 < slot_count hall.now.row }
+{
+    let _ = hall;
+    seat.owns().expect(rt, "a deque")
 }
 
 /// Gives the deque of a seat up, and returns it; None if the seat owns none, or was refused.
