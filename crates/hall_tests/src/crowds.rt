@@ -3,7 +3,7 @@
 ghost use Rattle.std.specs.Prelude.{◌≡◌, All, IfOk, IfSome, None};
 ghost use Rattle.hall_handles.specs.Seated.{IsIn, IsProgramOf};
 
-use crate::seats::{go_on, left};
+use crate::seats::{go_on, left, put, taken_at};
 use deque_list::DequeId;
 use hall_turns::Event;
 use hall_work::{EnterRefused, EventRefused, Hall, Seat};
@@ -107,7 +107,10 @@ pub(crate) fn leave(
     let from = clock.now();
     let worker = seat.worker();
     let before = seat.owns();
-    let back = left(rt, hall, seat, into).err().map(|back| back.0);
+    let back = match left(rt, hall, seat, into) {
+        Ok(()) => None,
+        Err((seat, _)) => Some(seat),
+    };
     if let (Some(deque), None) = (before, owned(&back)) {
         note(rt, told, worker, None, Event::GaveUp(deque), clock, from);
     }
@@ -130,8 +133,13 @@ fn tried(hall: &Hall, code: &Code, seat: &mut Seat, word: u64) -> Result<Event, 
 }
 
 impl Crowd {
+    ghost use Rattle.std.specs.Prelude.{◌≡◌, [], All};
+    ghost use Rattle.hall_handles.specs.Seated.{IsIn, IsProgramOf};
+
     /// A crowd of no seats.
-    pub(crate) fn new(alloc: Global, word: u64) -> Crowd {
+    pub(crate) fn new(alloc: Global, word: u64) -> Crowd
+        ensures { result.seats.items ≡ [] }
+    {
         Crowd {
             seats: Vec::new(alloc),
             told: Vec::new(alloc),
@@ -141,49 +149,75 @@ impl Crowd {
     }
 
     /// The next word.
-    fn pick(&mut self) -> u64 {
+    fn pick(&mut self) -> u64
+        ensures { self.new.seats ≡ self.old.seats }
+    {
         self.word = next_word(self.word);
         self.word >> 32
     }
 
-    /// Takes a seat out that a word picks.
-    fn taken(&mut self, rt: &impl Abort) -> Seat {
-        let many = self.seats.len();
+    /// Takes a seat out that the next word picks.
+    pub(crate) fn taken(&mut self, rt: &impl Abort, hall: &Hall) -> Seat
+        requires { All (IsIn hall.now) self.old.seats.items }
+        ensures seat { IsIn hall.now result }
+        ensures others { All (IsIn hall.now) self.new.seats.items }
+    {
         let word = self.pick() as usize;
-        let at = word.checked_rem(many).expect(rt, "a seat");
-        self.seats.remove(at)
+        let many = self.seats.len();
+        assert!(rt; 0 < many, "nobody is in");
+        taken_at(hall, &mut self.seats, word % many)
+    }
+
+    /// Puts a seat to the others.
+    pub(crate) fn put(&mut self, rt: &impl Abort, hall: &Hall, seat: Seat)
+        requires seat { IsIn hall.now seat }
+        requires others { All (IsIn hall.now) self.old.seats.items }
+        ensures { All (IsIn hall.now) self.new.seats.items }
+    {
+        put(rt, hall, &mut self.seats, seat);
     }
 
     /// Lets a worker enter by some seat, if this has two places.
-    fn let_enter(&mut self, rt: &impl Abort, hall: &Hall) {
-        let mut seat = self.taken(rt);
+    fn let_enter(&mut self, rt: &impl Abort, hall: &Hall)
+        requires { All (IsIn hall.now) self.old.seats.items }
+        ensures { All (IsIn hall.now) self.new.seats.items }
+    {
+        let mut seat = self.taken(rt, hall);
         match hall.enter(&mut seat) {
-            Ok(made) => self.seats.push(made).expect(rt, "memory"),
+            Ok(made) => self.put(rt, hall, made),
             Err(EnterRefused::Over(end)) => self.end = Some(end),
             Err(_) => (),
         }
-        self.seats.push(seat).expect(rt, "memory");
+        self.put(rt, hall, seat);
     }
 
     /// Lets some seat leave into another, if there are two.
-    fn let_leave(&mut self, rt: &impl Abort, hall: &Hall, clock: &Clock) {
+    fn let_leave(&mut self, rt: &impl Abort, hall: &Hall, clock: &Clock)
+        requires { All (IsIn hall.now) self.old.seats.items }
+        ensures { All (IsIn hall.now) self.new.seats.items }
+    {
         if self.seats.len() < 2 {
             return;
         }
-        let seat = self.taken(rt);
-        let mut into = self.taken(rt);
+        let seat = self.taken(rt, hall);
+        let mut into = self.taken(rt, hall);
         if let Some(back) = leave(rt, &mut self.told, hall, clock, seat, &mut into) {
-            self.seats.push(back).expect(rt, "memory");
+            self.put(rt, hall, back);
         }
-        self.seats.push(into).expect(rt, "memory");
+        self.put(rt, hall, into);
     }
 
-    /// Lets some seat try its next event. Says whether it did it.
-    fn let_try(&mut self, rt: &impl Abort, hall: &Hall, code: &Code, clock: &Clock) -> bool {
-        let mut seat = self.taken(rt);
-        let word = self.pick();
-        let from = clock.now();
-        let answer = tried(hall, code, &mut seat, word);
+    /// Notes what a seat answered that was called at this time.
+    fn hear(
+        &mut self,
+        rt: &impl Abort,
+        seat: &Seat,
+        answer: Result<Event, EventRefused>,
+        clock: &Clock,
+        from: u64,
+    )
+        ensures { self.new.seats ≡ self.old.seats }
+    {
         match answer {
             Ok(event) => {
                 let told = &mut self.told;
@@ -192,7 +226,20 @@ impl Crowd {
             Err(EventRefused::Over(end)) => self.end = Some(end),
             Err(_) => (),
         }
-        self.seats.push(seat).expect(rt, "memory");
+    }
+
+    /// Lets some seat try its next event. Says whether it did it.
+    fn let_try(&mut self, rt: &impl Abort, hall: &Hall, code: &Code, clock: &Clock) -> bool
+        requires program { IsProgramOf hall.now code.now }
+        requires seats { All (IsIn hall.now) self.old.seats.items }
+        ensures { All (IsIn hall.now) self.new.seats.items }
+    {
+        let mut seat = self.taken(rt, hall);
+        let word = self.pick();
+        let from = clock.now();
+        let answer = tried(hall, code, &mut seat, word);
+        self.hear(rt, &seat, answer, clock, from);
+        self.put(rt, hall, seat);
         answer.is_ok()
     }
 
@@ -203,7 +250,11 @@ impl Crowd {
         hall: &Hall,
         code: &Code,
         clock: &Clock,
-    ) -> bool {
+    ) -> bool
+        requires program { IsProgramOf hall.now code.now }
+        requires seats { All (IsIn hall.now) self.old.seats.items }
+        ensures { All (IsIn hall.now) self.new.seats.items }
+    {
         match self.pick() % 16 {
             0 => self.let_enter(rt, hall),
             1 => self.let_leave(rt, hall, clock),

@@ -112,30 +112,54 @@ pub(crate) fn answers_of(rt: &impl Abort, alloc: Global, told: &[Told]) -> Vec<A
     answers
 }
 
-/// The number of the first period after one in which a deque is stolen.
-fn next_steal(answers: &[Vec<Answer>], after: u32, deque: u32) -> Option<u32> {
-    let mut next = None;
-    for answer in answers.iter().flat_map(|thread| thread.iter()) {
+/// The number of the first period after one in which a thread of a hall steals a deque, if it is before another.
+fn nearer_steal(thread: &[Answer], after: u32, deque: u32, before: u32) -> u32 {
+    let mut next = before;
+    for answer in thread {
         if let Event::Stole { deque: stolen, period } = answer.told.event {
-            let is_nearer = match next {
-                Some(found) => period < found,
-                None => true,
-            };
-            if stolen.0 == deque && after < period && is_nearer {
-                next = Some(period);
+            if stolen.0 == deque && after < period && period < next {
+                next = period;
             }
         }
     }
     next
 }
 
-/// The thread that was suspended in a period, or the deque that was given up in it.
-fn left_in(answers: &[Vec<Answer>], period: u32) -> Option<Result<ThreadId, u32>> {
-    for answer in answers.iter().flat_map(|thread| thread.iter()) {
-        match answer.told.event {
-            Event::Suspended(id) if answer.period == period => return Some(Ok(id)),
-            Event::GaveUp(deque) if answer.period == period => return Some(Err(deque.0)),
-            _ => (),
+/// The number of the first period after one in which a deque is stolen.
+fn next_steal(answers: &[Vec<Answer>], after: u32, deque: u32) -> u32 {
+    let mut next = u32::MAX;
+    for thread in answers {
+        next = nearer_steal(thread, after, deque, next);
+    }
+    next
+}
+
+/// What a period that did nothing comes to: a thread that waits, or a deque that is given up.
+#[derive(Clone, Copy)]
+enum Left {
+    Waits(ThreadId),
+    GivenUp(u32),
+}
+
+/// What a thread of a hall was told of a period that did nothing.
+fn left_by(thread: &[Answer], period: u32) -> Option<Left> {
+    for answer in thread {
+        if answer.period == period {
+            match answer.told.event {
+                Event::Suspended(id) => return Some(Left::Waits(id)),
+                Event::GaveUp(deque) => return Some(Left::GivenUp(deque.0)),
+                _ => (),
+            }
+        }
+    }
+    None
+}
+
+/// What a period comes to that did nothing.
+fn left_in(answers: &[Vec<Answer>], period: u32) -> Option<Left> {
+    for thread in answers {
+        if let Some(left) = left_by(thread, period) {
+            return Some(left);
         }
     }
     None
@@ -152,8 +176,8 @@ impl Followed<'_> {
                 return Some(first.by);
             }
             match left_in(&self.answers, at)? {
-                Ok(id) => return Some(id),
-                Err(deque) => at = next_steal(&self.answers, at, deque)?,
+                Left::Waits(id) => return Some(id),
+                Left::GivenUp(deque) => at = next_steal(&self.answers, at, deque),
             }
         }
         None

@@ -5,7 +5,7 @@ ghost use Rattle.hall_handles.specs.Seated.{IsIn, IsProgramOf};
 
 use crate::halls::{Bounds, hall_within};
 use crate::scripts::{add, do_calls, number_of};
-use crate::seats::{given_up, put};
+use crate::seats::{given_up, put, taken};
 use hall_work::{Closing, Hall, Seat};
 use std::alloc::Global;
 use std::fmt::Write;
@@ -59,21 +59,13 @@ fn tell_closing(rt: &impl Abort, text: &mut String, closing: &Closing) {
     .expect(rt, "memory");
 }
 
-/// The seat whose worker has the smallest number.
-fn first_of(rt: &impl Abort, hall: &Hall, seats: &mut Vec<Seat>) -> Seat
-    requires { All (IsIn hall.now) seats.old.items }
-    ensures seat { IsIn hall.now result }
-    ensures others { All (IsIn hall.now) seats.new.items }
-{
-    let _ = hall;
-    let mut first = 0usize;
-    for at in 1..seats.len() {
-        if seats[at].worker() < seats[first].worker() {
-            first = at;
-        }
+/// The smallest number of a worker that is in.
+fn first_of(seats: &[Seat]) -> u32 {
+    let mut first = u32::MAX;
+    for seat in seats {
+        first = first.min(seat.worker());
     }
-    assert!(rt; first < seats.len(), "nobody is in");
-    seats.remove(first)
+    first
 }
 
 /// Lets a seat give its deque up, if it owns one.
@@ -96,7 +88,8 @@ fn close(
     requires { All (IsIn hall) seats.old.items }
     ensures { IfSome result (λ back. (back ≡ hall) × All (IsIn hall) seats.new.items) }
 {
-    let mut seat = first_of(rt, &hall, seats);
+    let worker = first_of(seats);
+    let mut seat = taken(rt, &hall, seats, worker);
     let_go(rt, &hall, &mut seat);
     match hall.close(seat) {
         Ok(closing) => {

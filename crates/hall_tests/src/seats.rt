@@ -1,6 +1,6 @@
 //! The seats of a hall, by the numbers of their workers.
 
-ghost use Rattle.std.specs.Prelude.{◌+◌, ◌<◌, All, IfErr};
+ghost use Rattle.std.specs.Prelude.{◌+◌, ◌<◌, All, IfErr, IfSome, length, vec_len};
 ghost use Rattle.turn_table.specs.Tables.{slot_count};
 ghost use Rattle.hall_handles.specs.Seated.{IsIn, IsProgramOf};
 
@@ -65,19 +65,37 @@ pub(crate) fn left(
     hall.leave(seat, into)
 }
 
+/// The place of the seat of a worker.
+fn place_of(seats: &[Seat], worker: u32) -> Option<usize>
+    ensures { IfSome result (λ at. at < length seats.now) }
+{
+    for at in 0..seats.len() {
+        if seats[at].worker() == worker {
+            return Some(at);
+        }
+    }
+    None
+}
+
+/// Takes the seat at a place out.
+pub(crate) fn taken_at(hall: &Hall, seats: &mut Vec<Seat>, at: usize) -> Seat
+    requires place { at < vec_len seats.old }
+    requires seats { All (IsIn hall.now) seats.old.items }
+    ensures seat { IsIn hall.now result }
+    ensures others { All (IsIn hall.now) seats.new.items }
+{
+    let _ = hall;
+    seats.remove(at)
+}
+
 /// Takes the seat of a worker out.
 pub(crate) fn taken(rt: &impl Abort, hall: &Hall, seats: &mut Vec<Seat>, worker: u32) -> Seat
     requires { All (IsIn hall.now) seats.old.items }
     ensures seat { IsIn hall.now result }
     ensures others { All (IsIn hall.now) seats.new.items }
 {
-    let _ = hall;
-    for at in 0..seats.len() {
-        if seats[at].worker() == worker {
-            return seats.remove(at);
-        }
-    }
-    panic!(rt; "worker {worker} is not in")
+    let at = place_of(seats, worker).expect(rt, "the worker is in");
+    taken_at(hall, seats, at)
 }
 
 /// Puts a seat to the others.
