@@ -5,19 +5,11 @@
 #![tactic(auto)]
 
 #[cfg(test)]
-mod crowds;
-#[cfg(test)]
-mod followed;
-#[cfg(test)]
 mod halls;
 #[cfg(test)]
 mod holds;
 #[cfg(test)]
 mod lanes;
-#[cfg(test)]
-mod listed;
-#[cfg(test)]
-mod merged;
 #[cfg(test)]
 mod rows;
 #[cfg(test)]

@@ -2,7 +2,7 @@
 
 ghost use Rattle.std.specs.Prelude.{ℕ, ◌<◌, length, slice_index_or, All};
 ghost use Rattle.hall_handles.specs.Seated.{IsIn, IsProgramOf};
-ghost use Rattle.hall_tests.specs.declared.crowds.Crowd.{Crowd as AnyCrowd};
+ghost use Rattle.hall_crowds.specs.declared.crowds.Crowd.{Crowd as AnyCrowd};
 
 use crate::crowds::{Clock, Crowd, Told, leave};
 use crate::halls::{Bounds, entered, hall_within};

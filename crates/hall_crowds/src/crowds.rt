@@ -267,7 +267,7 @@ impl Crowd {
 impl<R: Wait + Abort> WorksToEnd<R, Hall, Code, Clock> for Crowd {
     ghost use Rattle.std.specs.Prelude.{All};
     ghost use Rattle.hall_handles.specs.Seated.{IsIn, IsProgramOf};
-    ghost use Rattle.hall_tests.specs.declared.crowds.Crowd.{Crowd as AnyCrowd};
+    ghost use Rattle.hall_crowds.specs.declared.crowds.Crowd.{Crowd as AnyCrowd};
 
     ghost may_work = { λ hall code crowd. IsProgramOf hall code × All (IsIn hall) (AnyCrowd.seats crowd).items };
 
