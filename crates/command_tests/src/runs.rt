@@ -117,7 +117,11 @@ fn threads_do_not_change_the_lines(rt: HostRuntime) -> Result<(), Fail> {
 /// An arena that is one piece short of the block stops the run at its Alloc, when all records of the dummies before it are given back.
 #[test]
 fn an_arena_is_short_of_a_piece(rt: HostRuntime) -> Result<(), Fail> {
-    for words in ["run --arena 65520", "run --p 1 --arena 65520", "run --p 3 --arena 65520"] {
+    for words in [
+        "run --arena 65520",
+        "run --p 1 --arena 65520",
+        "run --p 3 --arena 65520",
+    ] {
         let source = Vec::from_slice(rt.alloc(), HALVES.as_bytes())?;
         let text = "stop ArenaFull live 0 asked 65536~";
         answers_so(&rt, rt.alloc(), words, "8", text, source)?;

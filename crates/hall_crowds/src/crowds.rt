@@ -244,13 +244,7 @@ impl Crowd {
     }
 
     /// Lets a worker enter or leave, or a seat try its next event. Says whether anything was done.
-    pub(crate) fn turn(
-        &mut self,
-        rt: &impl Abort,
-        hall: &Hall,
-        code: &Code,
-        clock: &Clock,
-    ) -> bool
+    pub(crate) fn turn(&mut self, rt: &impl Abort, hall: &Hall, code: &Code, clock: &Clock) -> bool
         requires program { IsProgramOf hall.now code.now }
         requires seats { All (IsIn hall.now) self.old.seats.items }
         ensures { All (IsIn hall.now) self.new.seats.items }

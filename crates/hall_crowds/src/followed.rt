@@ -147,13 +147,7 @@ fn crowds_of(
 }
 
 /// Lets all seats of a crowd leave into another one. Returns what the crowd was told.
-fn emptied(
-    rt: &impl Abort,
-    hall: &Hall,
-    clock: &Clock,
-    crowd: Crowd,
-    last: &mut Seat,
-) -> Vec<Told>
+fn emptied(rt: &impl Abort, hall: &Hall, clock: &Clock, crowd: Crowd, last: &mut Seat) -> Vec<Told>
     requires seats { All (IsIn hall.now) crowd.seats.items }
     requires last { IsIn hall.now last.old }
     ensures { IsIn hall.now last.new }
@@ -255,23 +249,40 @@ fn compare_actions(rt: &impl Abort, alloc: Global, followed: &Followed, last: &M
 /// period.
 fn compare_end(rt: &impl Abort, alloc: Global, followed: &Followed) {
     let serial = &followed.listed.serial;
-    assert!(rt; followed.closing.end == RunEnd::Finished(serial.finish), "another finish");
+    assert!(rt;
+        followed.closing.end == RunEnd::Finished(serial.finish),
+        "another finish"
+    );
     let Some(root) = &followed.closing.root else {
         panic!(rt; "no root");
     };
     let lines = root.lines(alloc).expect(rt, "memory");
     assert_eq!(rt; lines.as_slice(), serial.output.as_slice());
     let ahead = u64::from(followed.closing.books.ahead());
-    let most = serial.peak.saturating_add(ahead.saturating_mul(u64::from(followed.k) * 2));
-    assert!(rt; followed.closing.moves.high() as u64 <= most, "too many words");
+    let most = serial
+        .peak
+        .saturating_add(ahead.saturating_mul(u64::from(followed.k) * 2));
+    assert!(rt;
+        followed.closing.moves.high() as u64 <= most,
+        "too many words"
+    );
 }
 
 /// What the crowds of a finished run were told is a run of the machine, which comes to what is left of the hall.
-fn compare(rt: &impl Abort, alloc: Global, text: &str, of: Bounds, closing: &Closing, told: &[Vec<Told>]) {
+fn compare(
+    rt: &impl Abort,
+    alloc: Global,
+    text: &str,
+    of: Bounds,
+    closing: &Closing,
+    told: &[Vec<Told>],
+) {
     let listed = Listed::of(rt, alloc, text, of.k);
     let mut answers = Vec::new(alloc);
     for told in told {
-        answers.push(answers_of(rt, alloc, told)).expect(rt, "memory");
+        answers
+            .push(answers_of(rt, alloc, told))
+            .expect(rt, "memory");
     }
     let followed = Followed {
         answers,

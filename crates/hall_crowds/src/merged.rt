@@ -116,7 +116,11 @@ pub(crate) fn answers_of(rt: &impl Abort, alloc: Global, told: &[Told]) -> Vec<A
 fn nearer_steal(thread: &[Answer], after: u32, deque: u32, before: u32) -> u32 {
     let mut next = before;
     for answer in thread {
-        if let Event::Stole { deque: stolen, period } = answer.told.event {
+        if let Event::Stole {
+            deque: stolen,
+            period,
+        } = answer.told.event
+        {
             if stolen.0 == deque && after < period && period < next {
                 next = period;
             }
@@ -257,7 +261,8 @@ impl Followed<'_> {
             return false;
         }
         match answer.told.event {
-            Event::Stole { period, .. } => self.marked(period) == moment.books().last().map(|book| book.is_ahead()),
+            Event::Stole { period, .. } => self.marked(period)
+                == moment.books().last().map(|book| book.is_ahead()),
             _ => true,
         }
     }
@@ -269,7 +274,13 @@ impl Followed<'_> {
     }
 
     /// The moment that a pair leads to, if the machine has it as a case.
-    fn next_moment(&self, rt: &impl Abort, alloc: Global, moment: Moment, pair: Pair) -> Option<Moment> {
+    fn next_moment(
+        &self,
+        rt: &impl Abort,
+        alloc: Global,
+        moment: Moment,
+        pair: Pair,
+    ) -> Option<Moment> {
         let list = self.listed.actions.as_slice();
         assert!(rt; list.len() <= 1_000_000, "a list too long");
         step(alloc, list, u64::from(self.k), self.workers, moment, pair).expect(rt, "memory")
@@ -475,7 +486,9 @@ impl Followed<'_> {
             match self.with_next(rt, alloc, way, &nowhere) {
                 Ok(next) => way = next,
                 Err(stuck) => {
-                    nowhere.push(stuck.at.clone().expect(rt, "memory")).expect(rt, "memory");
+                    nowhere
+                        .push(stuck.at.clone().expect(rt, "memory"))
+                        .expect(rt, "memory");
                     way = self.back(rt, alloc, stuck);
                 }
             }

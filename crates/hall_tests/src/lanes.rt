@@ -178,7 +178,14 @@ fn part(rt: &impl Abort, hall: &Hall, code: &Code, first: &mut Seat) -> Seat
 }
 
 /// Lets the first seat go on to the end of the run, and the second one leave into it.
-fn finish(rt: &impl Abort, text: &mut String, hall: &Hall, code: &Code, first: &mut Seat, second: Seat)
+fn finish(
+    rt: &impl Abort,
+    text: &mut String,
+    hall: &Hall,
+    code: &Code,
+    first: &mut Seat,
+    second: Seat,
+)
     requires program { IsProgramOf hall.now code.now }
     requires first { IsIn hall.now first.old }
     requires second { IsIn hall.now second }

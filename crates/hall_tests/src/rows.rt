@@ -79,12 +79,7 @@ fn let_go(rt: &impl Abort, hall: &Hall, seat: &mut Seat)
 }
 
 /// Closes a hall with the seat of the smallest number, and writes what is left of the run, or why it is not closed. Then the hall comes back.
-fn close(
-    rt: &impl Abort,
-    text: &mut String,
-    hall: Hall,
-    seats: &mut Vec<Seat>,
-) -> Option<Hall>
+fn close(rt: &impl Abort, text: &mut String, hall: Hall, seats: &mut Vec<Seat>) -> Option<Hall>
     requires { All (IsIn hall) seats.old.items }
     ensures { IfSome result (λ back. (back ≡ hall) × All (IsIn hall) seats.new.items) }
 {
