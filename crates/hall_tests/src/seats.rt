@@ -60,8 +60,8 @@ pub(crate) fn left(
     ensures into { IsIn hall.now into.new }
     ensures here { IfErr result (λ back. IsIn hall.now back.0) }
 {
-    let both = into.places().saturating_add(seat.places());
-    assert!(rt; both <= hall.workers, "more places than workers");
+    let room = hall.workers - into.places();
+    assert!(rt; seat.places() <= room, "more places than workers");
     hall.leave(seat, into)
 }
 
