@@ -2,7 +2,7 @@
 
 ghost use Rattle.std.specs.Prelude.{◌≡◌, IfOk};
 ghost use Rattle.dfd_core.specs.Parts.{IsFresh};
-ghost use Rattle.hall_handles.specs.Seated.{IsIn, IsProgramOf};
+ghost use Rattle.hall_runs.specs.Passed.Seated.{IsIn, IsProgramOf};
 
 use accepted_source::accept;
 use block_arena::Pool;
@@ -10,8 +10,8 @@ use core_ends::ListChoices;
 use dfd_core::Core;
 use dummy_tree::Quota;
 use frame_code::{Code, lower};
-use hall_handles::{Hall, Seat};
-use hall_work::HallWorker;
+use hall_runs::{Hall, Seat};
+use hall_runs::HallWorker;
 use std::alloc::{AllocError, Global};
 use std::process::Abort;
 
@@ -75,6 +75,23 @@ pub(crate) fn core_of(rt: &impl Abort, alloc: Global, text: &str, of: Bounds) ->
     }
 }
 
+/// The hall of a text within these bounds, its program, and its first seat.
+pub(crate) fn hall_within(
+    rt: &impl Abort,
+    alloc: Global,
+    text: &str,
+    of: Bounds,
+) -> (Hall, Code, Seat)
+    ensures program { IsProgramOf result.0 result.1 }
+    ensures here { IsIn result.0 result.2 }
+{
+    let core = core_of(rt, alloc, text, of);
+    let Ok(made) = Hall::new(alloc, core) else {
+        panic!(rt; "no hall");
+    };
+    made
+}
+
 /// The hall of a text for so many workers, its program, and its first seat.
 pub(crate) fn hall_of(
     rt: &impl Abort,
@@ -85,11 +102,7 @@ pub(crate) fn hall_of(
     ensures program { IsProgramOf result.0 result.1 }
     ensures here { IsIn result.0 result.2 }
 {
-    let core = core_of(rt, alloc, text, ample(workers));
-    let Ok(made) = Hall::new(alloc, core) else {
-        panic!(rt; "no hall");
-    };
-    made
+    hall_within(rt, alloc, text, ample(workers))
 }
 
 /// The seat of a worker that enters by another seat.

@@ -1,14 +1,14 @@
 //! Bounded numbers of tries.
 
-ghost use Rattle.hall_handles.specs.Seated.{IsIn, IsProgramOf};
-ghost use Rattle.hall_work.specs.Working.{MayWork};
+ghost use Rattle.hall_runs.specs.Passed.Seated.{IsIn, IsProgramOf};
+ghost use Rattle.hall_runs.specs.Passed.Working.{MayWork};
 
 use crate::halls::{Bounds, ample, core_of, entered, hall_of, worker_of};
 use core_ends::ListChoices;
 use dag_order::Finish;
 use frame_code::Code;
-use hall_handles::{EventRefused, Hall, Seat};
-use hall_work::{HallWorker, WorkSome, work_some};
+use hall_runs::{EventRefused, Hall, Seat};
+use hall_runs::{HallWorker, WorkSome, work_some};
 use run_end::{RunEnd, Stop};
 use std::alloc::Global;
 use std::process::Abort;
