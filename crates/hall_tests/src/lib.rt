@@ -7,6 +7,7 @@
 #[cfg(test)]
 mod halls;
 #[cfg(test)]
+<<<<<<< HEAD
 mod hold;
 #[cfg(test)]
 mod holds;
@@ -23,4 +24,8 @@ mod seats;
 #[cfg(test)]
 mod some;
 #[cfg(test)]
+=======
+mod runs;
+#[cfg(test)]
+>>>>>>> origin/main
 mod threads;

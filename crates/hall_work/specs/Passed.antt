@@ -7,3 +7,4 @@ pub use Rattle.hall_handles.specs.Seated as Seated
 pub use Rattle.hall_handles.specs.Leaving as Leaving
 pub use Rattle.hall_handles.specs.Closing as Closings
 pub use Rattle.hall_handles.specs.Opening as Opening
+pub use Rattle.hall_handles.specs.Held as Held

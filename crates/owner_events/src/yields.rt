@@ -16,9 +16,9 @@ ghost use Rattle.owner_events.specs.Yielding.{noting_then, yielded_note, GivesUp
 use crate::refused::ActRefused;
 use boxed::Boxed;
 use deque_list::DequeId;
-use owner_acts::{Noting, decide_yield};
 use hall_seats::end_of;
 use hall_turns::{HallPlace, HallRow, LaneSlot, ListSlot, give_lane_back, take_lane, take_list};
+use owner_acts::{Noting, decide_yield};
 use owner_advance::{make_room_to_close, return_answered, return_list};
 use run_end::Stop;
 use std::alloc::AllocError;
