@@ -10,12 +10,7 @@ use core_ends::ListChoices;
 use dfd_core::Core;
 use dummy_tree::Quota;
 use frame_code::{Code, lower};
-<<<<<<< HEAD
-use hall_runs::{Hall, Seat};
-use hall_runs::HallWorker;
-=======
 use hall_runs::{Hall, HallWorker, Seat};
->>>>>>> origin/main
 use std::alloc::{AllocError, Global};
 use std::process::Abort;
 

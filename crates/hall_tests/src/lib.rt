@@ -7,7 +7,6 @@
 #[cfg(test)]
 mod halls;
 #[cfg(test)]
-<<<<<<< HEAD
 mod hold;
 #[cfg(test)]
 mod holds;
@@ -24,8 +23,4 @@ mod seats;
 #[cfg(test)]
 mod some;
 #[cfg(test)]
-=======
-mod runs;
-#[cfg(test)]
->>>>>>> origin/main
 mod threads;
