@@ -107,7 +107,7 @@ pub(crate) fn leave(
     let from = clock.now();
     let worker = seat.worker();
     let before = seat.owns();
-    let back = match left(rt, hall, seat, into) {
+    let back = match left(hall, seat, into) {
         Ok(()) => None,
         Err((seat, _)) => Some(seat),
     };

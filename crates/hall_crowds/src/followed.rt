@@ -82,12 +82,12 @@ fn work_beside<R: Threads + Wait + Abort + Sync>(
     rt: &R,
     hall: &Hall,
     code: &Code,
-    crowds: &mut [Crowd],
+    crowds: &mut Vec<Crowd>,
     clock: &Clock,
 )
     requires program { IsProgramOf hall.now code.now }
-    requires seats { All (λ crowd. All (IsIn hall.now) (AnyCrowd.seats crowd).items) crowds.old }
-    ensures { All (λ crowd. All (IsIn hall.now) (AnyCrowd.seats crowd).items) crowds.new }
+    requires seats { All (λ crowd. All (IsIn hall.now) (AnyCrowd.seats crowd).items) crowds.old.items }
+    ensures { All (λ crowd. All (IsIn hall.now) (AnyCrowd.seats crowd).items) crowds.new.items }
 {
     work_all_of(rt, hall, code, crowds, clock);
 }
@@ -123,6 +123,27 @@ fn crowd_with(rt: &impl Abort, alloc: Global, hall: &Hall, seat: Seat, word: u64
     crowd
 }
 
+/// Puts a crowd to the others.
+fn add(rt: &impl Abort, hall: &Hall, crowds: &mut Vec<Crowd>, crowd: Crowd)
+    requires crowd { All (IsIn hall.now) crowd.seats.items }
+    requires others { All (λ crowd. All (IsIn hall.now) (AnyCrowd.seats crowd).items) crowds.old.items }
+    ensures { All (λ crowd. All (IsIn hall.now) (AnyCrowd.seats crowd).items) crowds.new.items }
+{
+    let _ = hall;
+    crowds.push(crowd).expect(rt, "memory");
+}
+
+/// Takes the first crowd out.
+fn first_out(rt: &impl Abort, hall: &Hall, crowds: &mut Vec<Crowd>) -> Crowd
+    requires { All (λ crowd. All (IsIn hall.now) (AnyCrowd.seats crowd).items) crowds.old.items }
+    ensures seats { All (IsIn hall.now) result.seats.items }
+    ensures others { All (λ crowd. All (IsIn hall.now) (AnyCrowd.seats crowd).items) crowds.new.items }
+{
+    let _ = hall;
+    assert!(rt; 0 < crowds.len(), "no crowd");
+    crowds.remove(0)
+}
+
 /// Crowds of as many seats, one for each thread but the first one.
 fn crowds_of(
     rt: &impl Abort,
@@ -141,7 +162,7 @@ fn crowds_of(
     for thread in 1..threads {
         let word = seed.wrapping_add(u64::from(thread));
         let crowd = crowd_of(rt, alloc, hall, first, many, word);
-        crowds.push(crowd).expect(rt, "memory");
+        add(rt, hall, &mut crowds, crowd);
     }
     crowds
 }
@@ -152,20 +173,19 @@ fn emptied(rt: &impl Abort, hall: &Hall, clock: &Clock, crowd: Crowd, last: &mut
     requires last { IsIn hall.now last.old }
     ensures { IsIn hall.now last.new }
 {
-    let Crowd { seats, told, .. } = crowd;
-    let mut told = told;
-    for seat in seats {
-        let back = leave(rt, &mut told, hall, clock, seat, last);
+    let mut crowd = crowd;
+    for _ in 0..crowd.seats.len() {
+        let seat = crowd.taken(rt, hall);
+        let back = leave(rt, &mut crowd.told, hall, clock, seat, last);
         assert!(rt; back.is_none(), "a seat stays");
     }
-    told
+    crowd.told
 }
 
 /// Closes a hall with the one seat that is left.
 fn close(rt: &impl Abort, hall: Hall, last: Seat) -> Closing
     requires { IsIn hall last }
 {
-    assert!(rt; last.owns().is_none(), "it owns a deque");
     match hall.close(last) {
         Ok(closing) => closing,
         Err(_) => panic!(rt; "it is not closed"),
@@ -185,8 +205,10 @@ fn all_emptied(
     requires last { IsIn hall.now last.old }
     ensures { IsIn hall.now last.new }
 {
+    let mut crowds = crowds;
     let mut all = Vec::new(alloc);
-    for crowd in crowds {
+    for _ in 0..crowds.len() {
+        let crowd = first_out(rt, hall, &mut crowds);
         let told = emptied(rt, hall, clock, crowd, last);
         all.push(told).expect(rt, "memory");
     }
@@ -263,7 +285,7 @@ fn compare_end(rt: &impl Abort, alloc: Global, followed: &Followed) {
         .peak
         .saturating_add(ahead.saturating_mul(u64::from(followed.k) * 2));
     assert!(rt;
-        followed.closing.moves.high() as u64 <= most,
+        followed.closing.moves.high().unsigned_abs() <= most,
         "too many words"
     );
 }
@@ -324,13 +346,12 @@ fn follow<R: Threads + Wait + Abort + Sync>(
     let clock = Clock::new();
     let mut first = first;
     let mut crowds = crowds_of(rt, alloc, &hall, &mut first, threads, seed);
-    crowds
-        .push(crowd_with(rt, alloc, &hall, first, seed))
-        .expect(rt, "memory");
+    let main = crowd_with(rt, alloc, &hall, first, seed);
+    add(rt, &hall, &mut crowds, main);
     work_beside(rt, &hall, &code, &mut crowds, &clock);
-    let mut main = crowds.pop().expect(rt, "a crowd");
+    let mut main = first_out(rt, &hall, &mut crowds);
     let mut last = main.taken(rt, &hall);
-    crowds.push(main).expect(rt, "memory");
+    add(rt, &hall, &mut crowds, main);
     let told = all_emptied(rt, alloc, &hall, &clock, crowds, &mut last);
     let closing = close(rt, hall, last);
     compare(rt, alloc, text, of, &closing, &told);

@@ -26,19 +26,12 @@ pub(crate) fn go_on(
 }
 
 /// Lets a seat leave into another.
-pub(crate) fn left(
-    rt: &impl Abort,
-    hall: &Hall,
-    seat: Seat,
-    into: &mut Seat,
-) -> Result<(), (Seat, LeaveRefused)>
+pub(crate) fn left(hall: &Hall, seat: Seat, into: &mut Seat) -> Result<(), (Seat, LeaveRefused)>
     requires here { IsIn hall.now seat }
     requires into { IsIn hall.now into.old }
     ensures into { IsIn hall.now into.new }
     ensures here { IfErr result (λ back. IsIn hall.now back.0) }
 {
-    let room = hall.workers - into.places();
-    assert!(rt; seat.places() <= room, "more places than workers");
     hall.leave(seat, into)
 }
 

@@ -14,7 +14,7 @@ use turn_table::Held;
 const TWO: &str = "fn main() { par { print 1; } and { print 2; } print 3; }";
 
 /// The list of a hall, held by a seat that owns no deque.
-fn held<'a>(rt: &impl Abort, hall: &'a Hall, seat: Seat) -> ListHeld<'a>
+pub(crate) fn held<'a>(rt: &impl Abort, hall: &'a Hall, seat: Seat) -> ListHeld<'a>
     requires { IsIn hall.now seat }
     ensures held { IsListHeld result }
     ensures hall { result.hall.now ≡ hall.now }
@@ -70,6 +70,16 @@ fn act(rt: &impl Abort, hall: &Hall, code: &Code, seat: &mut Seat) -> Option<Eve
     hall.act(code, seat).err()
 }
 
+/// Does the next event of a seat that owns a deque.
+fn do_next(rt: &impl Abort, hall: &Hall, code: &Code, seat: &mut Seat)
+    requires program { IsProgramOf hall.now code.now }
+    requires here { IsIn hall.now seat.old }
+    ensures { IsIn hall.now seat.new }
+{
+    let none = act(rt, hall, code, seat);
+    assert!(rt; none.is_none(), "it was refused");
+}
+
 #[test]
 fn a_seat_steals_with_the_list_that_it_holds(rt: HostRuntime) {
     let (hall, _code, seat) = hall_of(&rt, rt.alloc(), TWO, 1);
@@ -110,10 +120,9 @@ fn an_owner_needs_the_list_for_the_last_end_alone(rt: HostRuntime) {
     steal(&rt, &hall, &mut first);
     let second = entered(&rt, &hall, &mut first);
     let held = held(&rt, &hall, second);
-    for _ in 0..3 {
-        let none = act(&rt, &hall, &code, &mut first);
-        assert!(rt; none.is_none(), "it was refused");
-    }
+    do_next(&rt, &hall, &code, &mut first);
+    do_next(&rt, &hall, &code, &mut first);
+    do_next(&rt, &hall, &code, &mut first);
     let busy = act(&rt, &hall, &code, &mut first);
     assert!(rt;
         busy == Some(EventRefused::Busy(Held { slot: 0, seen: 1 })),
@@ -124,6 +133,5 @@ fn an_owner_needs_the_list_for_the_last_end_alone(rt: HostRuntime) {
         answer == Err(EventRefused::Nothing),
         "there was something to steal"
     );
-    let none = act(&rt, &hall, &code, &mut first);
-    assert!(rt; none.is_none(), "it was refused");
+    do_next(&rt, &hall, &code, &mut first);
 }

@@ -170,9 +170,8 @@ fn part(rt: &impl Abort, hall: &Hall, code: &Code, first: &mut Seat) -> Seat
     ensures second { IsIn hall.now result }
 {
     let mut second = entered(rt, hall, first);
-    for _ in 0..2 {
-        go_on(hall, code, first, 0).expect(rt, "an event");
-    }
+    go_on(hall, code, first, 0).expect(rt, "a steal");
+    go_on(hall, code, first, 0).expect(rt, "a fork");
     go_on(hall, code, &mut second, 0).expect(rt, "a steal");
     second
 }
@@ -192,7 +191,7 @@ fn finish(
     ensures { IsIn hall.now first.new }
 {
     go_on_often(rt, text, hall, code, first, 6);
-    assert!(rt; left(rt, hall, second, first).is_ok(), "it does not leave");
+    assert!(rt; left(hall, second, first).is_ok(), "it does not leave");
 }
 
 #[test]

@@ -9,8 +9,6 @@ mod halls;
 #[cfg(test)]
 mod hold;
 #[cfg(test)]
-mod holds;
-#[cfg(test)]
 mod lanes;
 #[cfg(test)]
 mod rows;

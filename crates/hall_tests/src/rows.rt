@@ -1,12 +1,12 @@
 //! Rows of calls by seats, with what each call answers and what is left once the hall is closed.
 
-ghost use Rattle.std.specs.Prelude.{◌≡◌, All, IfSome, None};
+ghost use Rattle.std.specs.Prelude.{◌≡◌, All, IfSome};
 ghost use Rattle.hall_runs.specs.Passed.Seated.{IsIn, IsProgramOf};
 
 use crate::halls::{Bounds, hall_within};
 use crate::scripts::{add, do_calls, number_of};
-use crate::seats::{given_up, put, taken};
-use hall_runs::{Closing, Hall, Seat};
+use crate::seats::{put, taken};
+use hall_runs::{CloseRefused, Closing, Hall, Seat};
 use std::alloc::Global;
 use std::fmt::Write;
 use std::process::Abort;
@@ -68,34 +68,25 @@ fn first_of(seats: &[Seat]) -> u32 {
     first
 }
 
-/// Lets a seat give its deque up, if it owns one.
-fn let_go(rt: &impl Abort, hall: &Hall, seat: &mut Seat)
-    requires { IsIn hall.now seat.old }
-    ensures here { IsIn hall.now seat.new }
-    ensures idle { seat.new.owned ≡ None }
-{
-    given_up(hall, seat);
-    assert!(rt; seat.owns().is_none(), "it owns a deque");
-}
-
-/// Closes a hall with the seat of the smallest number, and writes what is left of the run, or why it is not closed. Then the hall comes back.
+/// Closes a hall with the seat of the smallest number, and writes what is left of the run, or why it is not closed: another seat has places. Then
+/// the hall comes back.
 fn close(rt: &impl Abort, text: &mut String, hall: Hall, seats: &mut Vec<Seat>) -> Option<Hall>
     requires { All (IsIn hall) seats.old.items }
     ensures { IfSome result (λ back. (back ≡ hall) × All (IsIn hall) seats.new.items) }
 {
     let worker = first_of(seats);
-    let mut seat = taken(rt, &hall, seats, worker);
-    let_go(rt, &hall, &mut seat);
+    let seat = taken(rt, &hall, seats, worker);
     match hall.close(seat) {
         Ok(closing) => {
             tell_closing(rt, text, &closing);
             None
         }
-        Err((back, seat, why)) => {
+        Err((back, seat, why @ CloseRefused::StillIn { .. })) => {
             write!(text, "{why:?}, ").expect(rt, "memory");
             put(rt, &back, seats, seat);
             Some(back)
         }
+        Err(_) => panic!(rt; "no end is kept"),
     }
 }
 

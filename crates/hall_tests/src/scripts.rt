@@ -3,8 +3,8 @@
 ghost use Rattle.std.specs.Prelude.{◌≡◌, All, IfSome, None};
 ghost use Rattle.hall_runs.specs.Passed.Seated.{IsIn, IsProgramOf};
 
-use crate::holds::{Holds, beside};
-use crate::seats::{given_up, go_on, left, put, taken};
+use crate::hold::held;
+use crate::seats::{give_up, go_on, left, put, taken};
 use hall_turns::Event;
 use hall_runs::{EventRefused, Hall, Seat};
 use node_table::Code;
@@ -79,17 +79,6 @@ fn halt(rt: &impl Abort, text: &mut String, hall: &Hall, seat: &mut Seat)
     }
 }
 
-/// Gives the deque of a seat up, and writes which one.
-fn give_up(rt: &impl Abort, text: &mut String, hall: &Hall, seat: &mut Seat)
-    requires { IsIn hall.now seat.old }
-    ensures { IsIn hall.now seat.new }
-{
-    match given_up(hall, seat) {
-        Some(deque) => write!(text, "gave up {}", deque.0).expect(rt, "memory"),
-        None => add(rt, text, "refused"),
-    }
-}
-
 /// Lets a worker enter by a seat, and writes its number.
 fn enter(rt: &impl Abort, text: &mut String, hall: &Hall, by: &mut Seat) -> Option<Seat>
     requires { IsIn hall.now by.old }
@@ -122,7 +111,7 @@ fn leave(
     ensures { All (IsIn hall.now) seats.new.items }
 {
     let mut into = taken(rt, hall, seats, worker);
-    match left(rt, hall, seat, &mut into) {
+    match left(hall, seat, &mut into) {
         Ok(()) => add(rt, text, "left"),
         Err((back, _)) => {
             add(rt, text, "stays");
@@ -148,7 +137,7 @@ fn call_one(
 {
     match call.verb {
         "enter" => return enter(rt, text, hall, seat),
-        "give-up" => give_up(rt, text, hall, seat),
+        "give-up" => tell_answer(rt, text, give_up(rt, hall, seat)),
         "halt" => halt(rt, text, hall, seat),
         _ => tell_answer(rt, text, go_on(hall, code, seat, u64::from(call.number))),
     }
@@ -179,41 +168,48 @@ fn do_call(
     put(rt, hall, seats, seat);
 }
 
-/// What the front of a line says that its worker holds.
-fn holds_of(rt: &impl Abort, word: &str) -> Holds {
-    match word {
-        "list" => Holds::List,
-        "pool" => Holds::Pool,
-        "mine" => Holds::Mine,
-        "yours" => Holds::Yours,
-        _ => panic!(rt; "no slot: {word}"),
-    }
+/// What a seat answers that goes on while another one holds the list.
+fn beside(
+    rt: &impl Abort,
+    hall: &Hall,
+    code: &Code,
+    holder: Seat,
+    seat: &mut Seat,
+) -> (Seat, Result<Event, EventRefused>)
+    requires program { IsProgramOf hall.now code.now }
+    requires holder { IsIn hall.now holder }
+    requires here { IsIn hall.now seat.old }
+    ensures holder { IsIn hall.now result.0 }
+    ensures here { IsIn hall.now seat.new }
+{
+    let held = held(rt, hall, holder);
+    let answer = go_on(hall, code, seat, 0);
+    (held.put_back(), answer)
 }
 
-/// Lets a seat go on while the worker of the front of a line holds a slot, and writes what it answers.
+/// Lets the seat of a worker go on while that of a holder holds the list, and writes what it answers.
 fn do_beside(
     rt: &impl Abort,
     text: &mut String,
     hall: &Hall,
     code: &Code,
     seats: &mut Vec<Seat>,
-    front: Call,
-    call: Call,
+    holder: u32,
+    worker: u32,
 )
     requires program { IsProgramOf hall.now code.now }
     requires seats { All (IsIn hall.now) seats.old.items }
     ensures { All (IsIn hall.now) seats.new.items }
 {
-    let mut holder = taken(rt, hall, seats, front.worker);
-    let mut seat = taken(rt, hall, seats, call.worker);
-    let holds = holds_of(rt, front.verb);
-    let answer = beside(rt, hall, code, &mut holder, holds, &mut seat);
+    let holder = taken(rt, hall, seats, holder);
+    let mut seat = taken(rt, hall, seats, worker);
+    let (holder, answer) = beside(rt, hall, code, holder, &mut seat);
     tell_answer(rt, text, answer);
     put(rt, hall, seats, holder);
     put(rt, hall, seats, seat);
 }
 
-/// Does the call of a line, in whose front another worker may hold a slot, and writes what it answers.
+/// Does the call of a line, in whose front another worker may hold the list, and writes what it answers.
 fn do_line(
     rt: &impl Abort,
     text: &mut String,
@@ -228,7 +224,8 @@ fn do_line(
 {
     match line.split_once(':') {
         Some((front, rest)) => {
-            do_beside(rt, text, hall, code, seats, call_of(front), call_of(rest));
+            let holder = call_of(front).worker;
+            do_beside(rt, text, hall, code, seats, holder, call_of(rest).worker);
         }
         None => do_call(rt, text, hall, code, seats, call_of(line)),
     }

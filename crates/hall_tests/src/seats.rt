@@ -33,35 +33,34 @@ pub(crate) fn owned(rt: &impl Abort, hall: &Hall, seat: &Seat) -> DequeId
     ensures { result.0 + 2 < slot_count hall.now.row }
 {
     let _ = hall;
-    seat.owns().expect(rt, "a deque")
+    let Some(deque) = seat.owns() else {
+        panic!(rt; "it owns no deque");
+    };
+    deque
 }
 
-/// Gives the deque of a seat up, and returns it; None if the seat owns none, or was refused.
-pub(crate) fn given_up(hall: &Hall, seat: &mut Seat) -> Option<DequeId>
+/// Gives the deque of a seat up.
+pub(crate) fn give_up(
+    rt: &impl Abort,
+    hall: &Hall,
+    seat: &mut Seat,
+) -> Result<Event, EventRefused>
     requires { IsIn hall.now seat.old }
     ensures { IsIn hall.now seat.new }
 {
-    let deque = seat.owns()?;
-    match hall.give_up(seat) {
-        Ok(_) => Some(deque),
-        Err(_) => None,
-    }
+    let Some(_) = seat.owns() else {
+        panic!(rt; "it owns no deque");
+    };
+    hall.give_up(seat)
 }
 
 /// Lets a seat leave into another.
-pub(crate) fn left(
-    rt: &impl Abort,
-    hall: &Hall,
-    seat: Seat,
-    into: &mut Seat,
-) -> Result<(), (Seat, LeaveRefused)>
+pub(crate) fn left(hall: &Hall, seat: Seat, into: &mut Seat) -> Result<(), (Seat, LeaveRefused)>
     requires here { IsIn hall.now seat }
     requires into { IsIn hall.now into.old }
     ensures into { IsIn hall.now into.new }
     ensures here { IfErr result (λ back. IsIn hall.now back.0) }
 {
-    let room = hall.workers - into.places();
-    assert!(rt; seat.places() <= room, "more places than workers");
     hall.leave(seat, into)
 }
 
