@@ -5,8 +5,8 @@ ghost use Rattle.hall_runs.specs.Passed.Seated.{IsIn, IsProgramOf};
 
 use crate::hold::held;
 use crate::seats::{give_up, go_on, left, put, taken};
-use hall_turns::Event;
 use hall_runs::{EventRefused, Hall, Seat};
+use hall_turns::Event;
 use node_table::Code;
 use std::fmt::Write;
 use std::process::Abort;

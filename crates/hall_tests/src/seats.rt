@@ -5,8 +5,8 @@ ghost use Rattle.turn_table.specs.Tables.{slot_count};
 ghost use Rattle.hall_runs.specs.Passed.Seated.{IsIn, IsProgramOf};
 
 use deque_list::DequeId;
-use hall_turns::Event;
 use hall_runs::{EventRefused, Hall, LeaveRefused, Seat};
+use hall_turns::Event;
 use node_table::Code;
 use std::process::Abort;
 
@@ -40,11 +40,7 @@ pub(crate) fn owned(rt: &impl Abort, hall: &Hall, seat: &Seat) -> DequeId
 }
 
 /// Gives the deque of a seat up.
-pub(crate) fn give_up(
-    rt: &impl Abort,
-    hall: &Hall,
-    seat: &mut Seat,
-) -> Result<Event, EventRefused>
+pub(crate) fn give_up(rt: &impl Abort, hall: &Hall, seat: &mut Seat) -> Result<Event, EventRefused>
     requires { IsIn hall.now seat.old }
     ensures { IsIn hall.now seat.new }
 {
