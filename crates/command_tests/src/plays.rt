@@ -44,6 +44,7 @@ fn main() { let i = 0; while i < 3 { par { } and { } i = i + 1; } }
 fn main() { alloc b = 20; b[3] = 7; print b[3]; free b; }
 @play --k 64 --p 1 --steps 2|7|stop StepsSpent limit 2~|\
 fn main() { alloc b = 20; b[3] = 7; print b[3]; free b; }
+@play --k 16 --p 1 --arena 16|8|stop ArenaFull live 16 asked 16~|fn main() { alloc b = 40; free b; }
 @play --k 16 --p 1 --arena 32|8|stop ArenaFull live 0 asked 48~|fn main() { alloc b = 40; free b; }
 @play --k 16 --p 1 --arena 48|0|--~end done~periods 7~ahead 2~high 48~|fn main() { alloc b = 40; free b; }
 @play --k 16 --p 1 --deques 2|9|stop DequesFull deques 2~|fn main() { alloc b = 40; free b; }

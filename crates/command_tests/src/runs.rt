@@ -1,8 +1,48 @@
 //! The command `run`.
-use crate::calls::{Host, all_answer_so, call, is_right};
+use crate::calls::{Host, all_answer_so, answers_so, call, is_right};
 use dfd_run::Status;
 use std::alloc::Global;
 use std::test::Fail;
+
+/// A block of 65,536 words that is filled and summed in parts of 1,024.
+const HALVES: &str = "
+fn fill(use b, base) {
+  let n = len(b);
+  if n <= 1024 {
+    let i = 0;
+    while i < n { b[i] = base + i; i = i + 1; }
+  } else {
+    let h = n / 2;
+    split b at h into l, r {
+      par { call fill(use l, base); } and { call fill(use r, base + h); }
+    }
+  }
+}
+fn sum(use b) {
+  let n = len(b);
+  let s = 0;
+  if n <= 1024 {
+    let i = 0;
+    while i < n { s = s + b[i]; i = i + 1; }
+  } else {
+    let h = n / 2;
+    let t = 0;
+    split b at h into l, r {
+      par { call s = sum(use l); } and { call t = sum(use r); }
+    }
+    s = s + t;
+  }
+  return s;
+}
+fn main() {
+  alloc b = 65536;
+  call fill(use b, 0);
+  let s = 0;
+  call s = sum(use b);
+  print s;
+  free b;
+}
+";
 
 /// Runs by one worker, which are those of `play`.
 const ALONE: &str = "run --k 64 --p 1|0|7~--~end done~periods 1~ahead 0~high 32~|\
@@ -70,6 +110,21 @@ fn threads_do_not_change_the_lines(rt: HostRuntime) -> Result<(), Fail> {
     let (front, _) = text.split_once("periods ").ok_or("no report")?;
     for workers in [1, 2, 3, 4, 8, 16, 64] {
         prints_as_played(&rt, rt.alloc(), front.as_bytes(), workers)?;
+    }
+    Ok(())
+}
+
+/// An arena that is one piece short of the block stops the run at its Alloc, when all records of the dummies before it are given back.
+#[test]
+fn an_arena_is_short_of_a_piece(rt: HostRuntime) -> Result<(), Fail> {
+    for words in [
+        "run --arena 65520",
+        "run --p 1 --arena 65520",
+        "run --p 3 --arena 65520",
+    ] {
+        let source = Vec::from_slice(rt.alloc(), HALVES.as_bytes())?;
+        let text = "stop ArenaFull live 0 asked 65536~";
+        answers_so(&rt, rt.alloc(), words, "8", text, source)?;
     }
     Ok(())
 }

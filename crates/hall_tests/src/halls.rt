@@ -74,6 +74,23 @@ pub(crate) fn core_of(rt: &impl Abort, alloc: Global, text: &str, of: Bounds) ->
     }
 }
 
+/// The hall of a text within these bounds, its program, and its first seat.
+pub(crate) fn hall_within(
+    rt: &impl Abort,
+    alloc: Global,
+    text: &str,
+    of: Bounds,
+) -> (Hall, Code, Seat)
+    ensures program { IsProgramOf result.0 result.1 }
+    ensures here { IsIn result.0 result.2 }
+{
+    let core = core_of(rt, alloc, text, of);
+    let Ok(made) = Hall::new(alloc, core) else {
+        panic!(rt; "no hall");
+    };
+    made
+}
+
 /// The hall of a text for so many workers, its program, and its first seat.
 pub(crate) fn hall_of(
     rt: &impl Abort,
@@ -84,11 +101,7 @@ pub(crate) fn hall_of(
     ensures program { IsProgramOf result.0 result.1 }
     ensures here { IsIn result.0 result.2 }
 {
-    let core = core_of(rt, alloc, text, ample(workers));
-    let Ok(made) = Hall::new(alloc, core) else {
-        panic!(rt; "no hall");
-    };
-    made
+    hall_within(rt, alloc, text, ample(workers))
 }
 
 /// The seat of a worker that enters by another seat.

@@ -1,0 +1,98 @@
+//! Bounded numbers of tries.
+
+ghost use Rattle.hall_runs.specs.Passed.Seated.{IsIn, IsProgramOf};
+ghost use Rattle.hall_runs.specs.Passed.Working.{MayWork};
+
+use crate::halls::{Bounds, ample, core_of, entered, hall_of, worker_of};
+use core_ends::ListChoices;
+use dag_order::Finish;
+use frame_code::Code;
+use hall_runs::{EventRefused, Hall, HallWorker, Seat, WorkSome, work_some};
+use run_end::{RunEnd, Stop};
+use std::alloc::Global;
+use std::process::Abort;
+use work_loop::FreeGate;
+
+/// Two children, of which the first one is forked.
+const TWO: &str = "fn main() { par { print 1; } and { print 2; } print 3; }";
+
+/// How so many tries of a worker end.
+fn tried(hall: &Hall, code: &Code, worker: &mut HallWorker<ListChoices>, tries: u32) -> WorkSome
+    requires { MayWork hall.now code.now worker.old }
+    ensures { MayWork hall.now code.now worker.new }
+{
+    work_some(hall, code, worker, &FreeGate, tries)
+}
+
+/// The hall of a text with one deque for two workers, its program, and its first seat.
+fn narrow_hall(rt: &impl Abort, alloc: Global) -> (Hall, Code, Seat)
+    ensures program { IsProgramOf result.0 result.1 }
+    ensures here { IsIn result.0 result.2 }
+{
+    let core = core_of(
+        rt,
+        alloc,
+        TWO,
+        Bounds {
+            most: 1,
+            ..ample(2)
+        },
+    );
+    let Ok(made) = Hall::new(alloc, core) else {
+        panic!(rt; "no hall");
+    };
+    made
+}
+
+#[test]
+fn tries_that_all_did_an_event_are_counted(rt: HostRuntime) {
+    let (hall, code, seat) = hall_of(&rt, rt.alloc(), TWO, 1);
+    let mut worker = worker_of(rt.alloc(), seat);
+    assert_eq!(rt;
+        tried(&hall, &code, &mut worker, 3),
+        WorkSome::Spent { done: 3 }
+    );
+    let end = tried(&hall, &code, &mut worker, 10);
+    assert_eq!(rt; end, WorkSome::Over(RunEnd::Finished(Finish::Done)));
+}
+
+#[test]
+fn a_refused_try_ends_the_call(rt: HostRuntime) {
+    let (hall, code, seat) = hall_of(&rt, rt.alloc(), TWO, 2);
+    let mut seat = seat;
+    let second = entered(&rt, &hall, &mut seat);
+    let mut first = worker_of(rt.alloc(), seat);
+    let mut late = worker_of(rt.alloc(), second);
+    assert_eq!(rt;
+        tried(&hall, &code, &mut first, 1),
+        WorkSome::Spent { done: 1 }
+    );
+    let why = EventRefused::Nothing;
+    assert_eq!(rt;
+        tried(&hall, &code, &mut late, 5),
+        WorkSome::Refused { done: 0, why }
+    );
+}
+
+/// The second worker may not make a second deque. It finds this stop, and keeps it by its next try.
+#[test]
+fn a_try_that_found_a_stop_did_no_event(rt: HostRuntime) {
+    let (hall, code, seat) = narrow_hall(&rt, rt.alloc());
+    let mut seat = seat;
+    let second = entered(&rt, &hall, &mut seat);
+    let mut first = worker_of(rt.alloc(), seat);
+    let mut late = worker_of(rt.alloc(), second);
+    assert_eq!(rt;
+        tried(&hall, &code, &mut first, 2),
+        WorkSome::Spent { done: 2 }
+    );
+    assert_eq!(rt;
+        tried(&hall, &code, &mut late, 1),
+        WorkSome::Spent { done: 0 }
+    );
+    let end = tried(&hall, &code, &mut late, 1);
+    assert_eq!(rt;
+        end,
+        WorkSome::Over(RunEnd::Stopped(Stop::DequesFull { deques: 1 }))
+    );
+}
