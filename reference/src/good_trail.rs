@@ -37,6 +37,7 @@ pub struct Setting {
     pub rules: Rules,
 }
 
+#[derive(Clone)]
 pub struct Deque {
     pub id: u64,
     pub owner: Option<usize>,
@@ -45,12 +46,14 @@ pub struct Deque {
 }
 
 /// A thread that waits for one of its children.
+#[derive(Clone)]
 pub struct Waiting {
     pub thread: Label,
     pub child: u32,
 }
 
 /// What one period ran, by places in the list; whether it is marked; and for which worker it is open.
+#[derive(Clone)]
 pub struct Book {
     pub marked: bool,
     pub owner: Option<usize>,
@@ -60,6 +63,7 @@ pub struct Book {
 }
 
 /// The state of a play after some of its events: the deques from left to right, the waiting threads, and the books of all periods.
+#[derive(Clone)]
 pub struct Moment {
     pub deques: Vec<Deque>,
     pub waiting: Vec<Waiting>,

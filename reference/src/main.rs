@@ -29,6 +29,7 @@ mod machine;
 mod made;
 mod mended;
 mod mentions;
+mod order;
 mod ownership;
 mod parse;
 mod random;
@@ -59,6 +60,7 @@ fn main() -> ExitCode {
     match words.first().map(String::as_str) {
         Some("rows") => ExitCode::from(rows::rows()),
         Some("hall-check") => ExitCode::from(hall_check::hall_check(&words[1..])),
+        Some("order") => write_out(&ordered()),
         Some("compare") => ExitCode::from(compare::compare(&words[1..])),
         _ => write_out(&run(&words)),
     }
@@ -76,6 +78,18 @@ fn run(words: &[String]) -> Answer {
     match std::io::stdin().take(most_read(&command) as u64 + 1).read_to_end(&mut source) {
         Ok(_) => serve(&command, &source),
         Err(_) => answer(2, READ_FAULT),
+    }
+}
+
+/// The trail that seats can have made, or why there is none.
+fn ordered() -> Answer {
+    let mut told = Vec::new();
+    match std::io::stdin().read_to_end(&mut told) {
+        Err(_) => answer(2, READ_FAULT),
+        Ok(_) => match order::order(&told) {
+            Ok(trail) => answer(0, String::from_utf8_lossy(&trail)),
+            Err(why) => answer(1, format!("order: {why}\n")),
+        },
     }
 }
 

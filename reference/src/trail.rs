@@ -107,13 +107,13 @@ pub fn read_trail(text: &[u8]) -> Result<Trail, usize> {
 }
 
 /// The words of the line that begins at a place, between single blanks, and where the next one begins; none if the line has no end.
-fn line_at(text: &[u8], at: usize) -> Option<(Vec<&[u8]>, usize)> {
+pub fn line_at(text: &[u8], at: usize) -> Option<(Vec<&[u8]>, usize)> {
     let length = text[at..].iter().position(|byte| *byte == b'\n')?;
     Some((text[at..at + length].split(|byte| *byte == b' ').collect(), at + length + 1))
 }
 
 /// The number that decimal digits without leading zeros write.
-fn natural(word: &[u8]) -> Option<u64> {
+pub fn natural(word: &[u8]) -> Option<u64> {
     let is_number = !word.is_empty() && word.iter().all(u8::is_ascii_digit) && (word[0] != b'0' || word.len() == 1);
     let digits = if is_number { std::str::from_utf8(word).ok()? } else { return None };
     digits.parse().ok()
@@ -128,7 +128,7 @@ fn pieces_in(word: &[u8], range: RangeInclusive<u64>) -> Option<u64> {
     number_in(word, range).filter(|number| number % PIECE == 0)
 }
 
-fn rules_of(words: &[&[u8]]) -> Option<Rules> {
+pub fn rules_of(words: &[&[u8]]) -> Option<Rules> {
     let [b"trail", b"k", quota, b"p", workers, b"arena", arena, b"steps", steps, b"deques", deques] = words else {
         return None;
     };
@@ -142,7 +142,7 @@ fn rules_of(words: &[&[u8]]) -> Option<Rules> {
 }
 
 /// The source, whose line begins at a place, and where the next line begins.
-fn source_at(text: &[u8], at: usize) -> Option<(Vec<u8>, usize)> {
+pub fn source_at(text: &[u8], at: usize) -> Option<(Vec<u8>, usize)> {
     let (words, from) = line_at(text, at)?;
     let [b"source", length] = words.as_slice() else { return None };
     let end = from + number_in(length, 0..=MOST_SOURCE as u64)? as usize;

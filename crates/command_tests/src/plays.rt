@@ -136,11 +136,14 @@ fn sources_have_limits(rt: HostRuntime) -> Result<(), Fail> {
     Ok(())
 }
 
-/// A front of a source is refused at this place.
+/// A front of a source is refused at this place, whoever would run it.
 fn is_cut(rt: &impl Host, alloc: Global, front: &[u8], place: usize) -> Result<(), Fail> {
     let text = format!(in alloc; "syntax Expected at {place}~")?;
-    let source = Vec::from_slice(alloc, front)?;
-    answers_so(rt, alloc, "play", "4", &text, source)
+    for words in ["play", "run", "async"] {
+        let source = Vec::from_slice(alloc, front)?;
+        answers_so(rt, alloc, words, "4", &text, source)?;
+    }
+    Ok(())
 }
 
 /// A front of a source is refused at its end, but where it ends inside `fn`.

@@ -12,7 +12,7 @@ use Rattle.deque_machine.specs.Machine.{Setting, Event}
 use Rattle.deque_machine.specs.Moments.{Moment}
 use Rattle.deque_machine.specs.Play.{Limits, Stop, arena_full, steps_spent, deques_full, Ending, stopped, Meets, no_steps}
 use Rattle.deque_machine.specs.Runs.{Pair}
-use Rattle.hall_runs.specs.Runs.{MeetsOnTheWay, HasCause as HasThreadCause}
+use Rattle.dfd_run.specs.Passed.ThreadRuns.{MeetsOnTheWay, HasCause as HasThreadCause}
 use Rattle.machine_replay.proofs.OnePlay.{endings_have_causes}
 use Rattle.machine_replay.specs.Laws.{HasCause}
 use Rattle.par_tree.specs.Tree.{Program}

@@ -15,3 +15,4 @@ pub mod Threads
 pub mod TrailMessages
 pub mod Trails
 pub mod CorePlays
+pub mod Passed

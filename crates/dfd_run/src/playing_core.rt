@@ -7,7 +7,7 @@ ghost use Rattle.depth_first_run.specs.Run.{whole, lines_of};
 ghost use Rattle.depth_first_run.specs.States.{Setting};
 ghost use Rattle.deque_machine.specs.Moments.{opening};
 ghost use Rattle.trail_record.specs.Played.Cores.{HasFinished, IsAt, end_of, terms_at};
-ghost use Rattle.dfd_core.specs.Parts.{IsFresh};
+ghost use Rattle.hall_runs.specs.Passed.CoreParts.{IsFresh};
 ghost use Rattle.dummy_tree.specs.QuotaWords.{quota_words};
 ghost use Rattle.node_table.specs.Codes.{code_shown};
 ghost use Rattle.par_ownership.specs.Ownership.{Ownership};

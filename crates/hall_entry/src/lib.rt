@@ -7,4 +7,5 @@
 
 mod entry;
 
+pub use dfd_core::Core;
 pub use entry::open_hall;

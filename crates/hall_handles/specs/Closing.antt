@@ -2,7 +2,7 @@
 use Rattle.std.specs.Prelude.{◌≡◌, ◌⊎◌, ◌<◌, Option, None, Some, Result, Ok, Err}
 use Rattle.dag_order.specs.Births.{root}
 use Rattle.deque_list.specs.declared.deque_id.DequeId.{DequeId}
-use Rattle.dfd_core.specs.Parts.{root_behind}
+use Rattle.hall_entry.specs.Passed.CoreParts.{root_behind}
 use Rattle.run_end.specs.declared.ends.RunEnd.{RunEnd}
 use Rattle.thread_map.specs.Kept.{kept_under}
 use Rattle.turn_table.specs.Tables.{key_of}

@@ -5,3 +5,4 @@ pub mod Owners
 pub mod Leaving
 pub mod Held
 pub mod Closing
+pub mod Passed

@@ -4,8 +4,8 @@ use Rattle.deque_list.specs.declared.deque_id.DequeId.{DequeId}
 use Rattle.turn_places.specs.Backs.{IsBack}
 use Rattle.hall_turns.specs.declared.event.Event.{Event}
 use Rattle.hall_turns.specs.declared.event.Event.TheVariants.{Stole, Did, Suspended, GaveUp, Halted}
-use Rattle.hall_seeking.specs.Seeking.{HasSought}
-use Rattle.hall_seeking.specs.declared.prey.SeekRefused.TheVariants as sought
+use Rattle.thief_acts.specs.Passed.Seeking.{HasSought}
+use Rattle.thief_acts.specs.Passed.SeekRefused.TheVariants as sought
 use Rattle.run_end.specs.declared.stop.Stop.{Stop}
 use Rattle.thief_acts.specs.Steals.{HasMetStop, HasStolenBy}
 use Rattle.thief_acts.specs.declared.refused.StealRefused.{StealRefused}

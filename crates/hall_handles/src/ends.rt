@@ -1,7 +1,7 @@
 //! How a hall is closed.
 
 ghost use Rattle.std.specs.Prelude.{◌≡◌, ◌<◌, None, Some, IfErr, MatchResult};
-ghost use Rattle.dfd_core.specs.Parts.{root_behind};
+ghost use Rattle.hall_entry.specs.Passed.CoreParts.{root_behind};
 ghost use Rattle.run_end.specs.declared.ends.RunEnd.{RunEnd as AnyEnd};
 ghost use Rattle.hall_handles.specs.Closing.{Closes, ClosesAlone, GivesClosing, MayHaveEnded};
 ghost use Rattle.hall_handles.specs.Seated.{IsIn};

@@ -24,6 +24,7 @@ mod thieves;
 
 pub use closing::Closing;
 pub use hall::Hall;
+pub use hall_entry::Core;
 pub use lists::ListHeld;
 pub use refused::{CloseRefused, EnterRefused, EventRefused, LeaveRefused};
 pub use seat::Seat;

@@ -1,1 +1,2 @@
 pub mod Robbing
+pub mod Passed

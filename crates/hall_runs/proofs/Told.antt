@@ -48,7 +48,7 @@ use Rattle.thread_state.specs.Settings.{IsSettingOf}
 use Rattle.hall_law.specs.Crew.{MayBeKept}
 use Rattle.hall_law.specs.Steps.{run_of}
 use Rattle.hall_law.specs.Values.{Hall, ListShown, LaneShown, PoolShown, End, by_rule, running}
-use Rattle.hall_closing.specs.Closing.{IsClosed, IsOfOneRun, seen_note}
+use Rattle.hall_work.specs.Passed.ClosedSlots.{IsClosed, IsOfOneRun, seen_note}
 use Rattle.hall_turns.specs.declared.key.HallKey.{HallKey}
 use Rattle.hall_turns.specs.declared.list_slot.ListSlot.{ListSlot}
 use Rattle.hall_turns.specs.declared.pool_slot.PoolSlot.{PoolSlot}

@@ -1,7 +1,7 @@
 -- What is left of a run by threads, once its hall is closed.
 use Rattle.std.specs.Prelude.{◌≡◌, Ok}
 use Rattle.dag_order.specs.declared.finish.Finish.{Finish}
-use Rattle.dfd_core.specs.declared.run.Core.{Core}
+use Rattle.hall_work.specs.Passed.CoreType.{Core}
 use Rattle.node_table.specs.declared.code.Code.{Code}
 use Rattle.run_end.specs.declared.ends.RunEnd.{RunEnd}
 use Rattle.run_end.specs.declared.ends.RunEnd.TheVariants.{Finished}

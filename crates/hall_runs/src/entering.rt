@@ -3,8 +3,7 @@
 ghost use Rattle.std.specs.Prelude.{◌≡◌, ◌≤◌, None, IfOk, OnOk};
 ghost use Rattle.hall_runs.specs.Crews.{EntersBy, IsCrew, IsFreshIn};
 
-use core_ends::Choices;
-use hall_work::{EnterRefused, Hall, HallWorker, Seat};
+use hall_work::{Choices, EnterRefused, Hall, HallWorker, Seat};
 use run_end::RunEnd;
 use std::alloc::AllocError;
 use std::sync::Wait;

@@ -4,8 +4,8 @@ ghost use Rattle.std.specs.Prelude.{◌≡◌, ◌≢◌, ℕ, [], IfOk, count_b
 ghost use Rattle.bounded_list.specs.BoundedList.{entries};
 ghost use Rattle.depth_first_run.specs.Run.{whole, lines_of};
 ghost use Rattle.depth_first_run.specs.States.{Setting, State};
-ghost use Rattle.dfd_core.specs.Cores.{terms_at};
-ghost use Rattle.dfd_core.specs.declared.run.Core.{Core as AnyCore};
+ghost use Rattle.hall_work.specs.Passed.Cores.{terms_at};
+ghost use Rattle.hall_work.specs.Passed.CoreType.{Core as AnyCore};
 ghost use Rattle.dummy_tree.specs.QuotaWords.{quota_words};
 ghost use Rattle.hall_runs.specs.Closed.{IsLeftOf};
 ghost use Rattle.hall_runs.specs.Reports.{ComesTo};

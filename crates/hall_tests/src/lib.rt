@@ -5,11 +5,15 @@
 #![tactic(auto)]
 
 #[cfg(test)]
+mod crowds;
+#[cfg(test)]
 mod halls;
 #[cfg(test)]
 mod hold;
 #[cfg(test)]
 mod lanes;
+#[cfg(test)]
+mod notes;
 #[cfg(test)]
 mod rows;
 #[cfg(test)]
@@ -20,5 +24,3 @@ mod scripts;
 mod seats;
 #[cfg(test)]
 mod some;
-#[cfg(test)]
-mod threads;

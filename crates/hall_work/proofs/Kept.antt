@@ -12,7 +12,7 @@ use Rattle.hall_handles.specs.declared.hall.Hall.{Hall}
 use Rattle.hall_handles.specs.declared.refused.EventRefused.{EventRefused}
 use Rattle.hall_handles.specs.declared.refused.EventRefused.TheVariants.{Busy, Nothing, Over, Stopped}
 use Rattle.hall_handles.specs.declared.seat.Seat.{Seat}
-use Rattle.hall_seats.specs.Halting.{HasHalted}
+use Rattle.hall_handles.specs.Passed.Halting.{HasHalted}
 use Rattle.hall_turns.specs.Takes.{HallSeat, IsRefused}
 use Rattle.hall_turns.specs.declared.event.Event.{Event}
 use Rattle.hall_turns.specs.declared.seat_note.SeatNote.{SeatNote}

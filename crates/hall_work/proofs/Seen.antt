@@ -7,7 +7,7 @@ use Rattle.hall_handles.specs.Thieves.{StealsIn}
 use Rattle.hall_handles.specs.declared.hall.Hall.{Hall}
 use Rattle.hall_handles.specs.declared.refused.EventRefused.TheVariants.{Over}
 use Rattle.hall_handles.specs.declared.seat.Seat.{Seat}
-use Rattle.hall_seats.specs.Halting.{HasHalted}
+use Rattle.hall_handles.specs.Passed.Halting.{HasHalted}
 use Rattle.hall_turns.specs.Takes.{HallSeat}
 use Rattle.hall_turns.specs.declared.seat_note.SeatNote.{SeatNote}
 use Rattle.hall_work.specs.declared.answer.Answer.TheVariants as answers

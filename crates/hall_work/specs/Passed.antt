@@ -8,3 +8,7 @@ pub use Rattle.hall_handles.specs.Leaving as Leaving
 pub use Rattle.hall_handles.specs.Closing as Closings
 pub use Rattle.hall_handles.specs.Opening as Opening
 pub use Rattle.hall_handles.specs.Held as Held
+pub use Rattle.hall_handles.specs.Passed.Cores as Cores
+pub use Rattle.hall_handles.specs.Passed.CoreParts as CoreParts
+pub use Rattle.hall_handles.specs.Passed.CoreType as CoreType
+pub use Rattle.hall_handles.specs.Passed.ClosedSlots as ClosedSlots

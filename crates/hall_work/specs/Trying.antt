@@ -11,7 +11,7 @@ use Rattle.hall_handles.specs.declared.hall.Hall.{Hall}
 use Rattle.hall_handles.specs.declared.seat.Seat.{Seat}
 use Rattle.hall_handles.specs.declared.refused.EventRefused.{EventRefused}
 use Rattle.hall_handles.specs.declared.refused.EventRefused.TheVariants as why
-use Rattle.hall_seats.specs.Halting.{HasHalted}
+use Rattle.hall_handles.specs.Passed.Halting.{HasHalted}
 use Rattle.hall_turns.specs.declared.event.Event.{Event}
 use Rattle.hall_turns.specs.Takes.{IsRefused}
 use Rattle.hall_work.specs.declared.answer.Answer.{Answer}

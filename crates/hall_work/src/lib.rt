@@ -17,8 +17,9 @@ mod tries;
 mod worker;
 
 pub use bounded::{WorkSome, work_some};
+pub use core_ends::Choices;
 pub use crew::work_crew;
 pub use hall_handles::{
-    CloseRefused, Closing, EnterRefused, EventRefused, Hall, LeaveRefused, ListHeld, Seat,
+    CloseRefused, Closing, Core, EnterRefused, EventRefused, Hall, LeaveRefused, ListHeld, Seat,
 };
 pub use worker::HallWorker;

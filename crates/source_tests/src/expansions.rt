@@ -121,13 +121,6 @@ par call x = f[1 into 2];|BadLoop 0
 par call x == f(1 into 2);|BadLoop 0
 par call x = f(1 into 2); par call y = f(1);|BadLoop 26";
 
-#[test]
-fn other_forms_are_no_loops(rt: HostRuntime) -> Result<(), Fail> {
-    are_told(&rt, FORMS, '\n')?;
-    is_told(&rt, b"par # c\n call x = f(1);", "BadLoop 0")?;
-    is_told(&rt, b"  par\tcall\r\nx = f();", "BadLoop 2")
-}
-
 /// Forms with what is no run.
 const RUNS: &str = "par call x = f(into 2);|BadLoop 0
 par call x = f(1 into);|BadLoop 0
@@ -143,11 +136,6 @@ par call x = f(1 into 2, use b);|BadLoop 0
 par call x = f(1 into 2 into 3);|BadLoop 0
 par call x = f(1 into (2 into 3));|BadLoop 0";
 
-#[test]
-fn other_runs_are_no_loops(rt: HostRuntime) -> Result<(), Fail> {
-    are_told(&rt, RUNS, '\n')
-}
-
 /// Forms with what is no block or no size.
 const SIZES: &str = "par call x = f(use b at 8);|BadLoop 0
 par call x = f(use b at 24);|BadLoop 0
@@ -160,20 +148,10 @@ par call x = f(use b at 16 17);|BadLoop 0
 par call x = f(use b into 16);|BadLoop 0
 par call x = f(use b at -16);|BadLoop 0";
 
-#[test]
-fn other_sizes_are_no_loops(rt: HostRuntime) -> Result<(), Fail> {
-    are_told(&rt, SIZES, '\n')
-}
-
 /// A loop inside a loop: a run has no `;` and no other keyword than `len`.
 const NESTED: &str = "par call x = f(par call y = g(1 into 2); into 3);|BadLoop 0
 par call x = f(1 into 2, par call y = g(1 into 2));|BadLoop 0
 par call x = f(1 into (par call y = g(1 into 2);));|BadLoop 0";
-
-#[test]
-fn loops_do_not_nest(rt: HostRuntime) -> Result<(), Fail> {
-    are_told(&rt, NESTED, '\n')
-}
 
 /// Names that helpers have.
 const NAMES: &str = "__sum0 par call x = f(1 into 2);|NameTaken 0
@@ -182,11 +160,6 @@ par call x = f(1 into __sum0);|NameTaken 22
 __sum1 par call x = f(1 into 2); par call y = __sum0(1 into 2);|NameTaken 0
 par call x = f(1 into 2); __sum1; par call y = f(1 into 2); __sum0;|NameTaken 26
 __sum0 par call x = f(1);|BadLoop 7";
-
-#[test]
-fn names_are_taken(rt: HostRuntime) -> Result<(), Fail> {
-    are_told(&rt, NAMES, '\n')
-}
 
 /// Bytes that have no tokens.
 const TOKENS: &str = "par call ?|BadToken 9
@@ -197,7 +170,11 @@ __sum0 par call x = f(1 into 2) ! ;|BadToken 32
 par call abcdefghijklmnopqrstuvwxyz0123456 =|BadToken 9";
 
 #[test]
-fn bytes_without_tokens_are_refused(rt: HostRuntime) -> Result<(), Fail> {
-    are_told(&rt, TOKENS, '\n')?;
+fn other_texts_are_refused(rt: HostRuntime) -> Result<(), Fail> {
+    for rows in [FORMS, RUNS, SIZES, NESTED, NAMES, TOKENS] {
+        are_told(&rt, rows, '\n')?;
+    }
+    is_told(&rt, b"par # c\n call x = f(1);", "BadLoop 0")?;
+    is_told(&rt, b"  par\tcall\r\nx = f();", "BadLoop 2")?;
     is_told(&rt, b"par call x = f(1);  # \x80", "BadByte 22")
 }

@@ -1,4 +1,4 @@
-//! Tests over sources: what a text of the language comes to, from its bytes to its canonical text, its node table and its run, and what a
+//! Tests over sources: what a text of the language comes to, from its bytes to its canonical text, its table and its run, and what a
 //! text with parallel loops is written out as.
 //!
 //! This crate has no code but tests. It stands on the parser, the checker, the printer, the table, the depth-first run and the loops that are
@@ -9,11 +9,7 @@
 #[cfg(test)]
 mod expansions;
 #[cfg(test)]
-mod fault_numbers;
-#[cfg(test)]
 mod printing;
-#[cfg(test)]
-mod read_back;
 #[cfg(test)]
 mod refusals;
 #[cfg(test)]

@@ -2,7 +2,7 @@
 
 use crate::rows::{parts_of, put};
 use accepted_source::accept;
-use dag_order::{Birth, FaultAt, Finish, Kind, ThreadId};
+use dag_order::{FaultAt, Finish};
 use dummy_tree::Quota;
 use serial_meaning::{Serial, SerialStop, depth_first};
 use std::alloc::Global;
@@ -509,71 +509,6 @@ fn expressions_have_numbers(rt: HostRuntime) {
     }
 }
 
-/// How many actions of a kind there are.
-fn count(serial: &Serial, kind: Kind) -> u32 {
-    let mut count = 0u32;
-    for action in serial.actions.as_slice() {
-        if action.kind == kind {
-            count = count.saturating_add(1);
-        }
-    }
-    count
-}
-
-/// The quota, the words of an Alloc, its dummies, and what the run of its program gives.
-fn allocs() -> [(u32, u32, u32, &'static str); 12] {
-    [
-        (16, 0, 0, "16 done, 3 actions, peak 0, prints"),
-        (16, 1, 0, "16 done, 3 actions, peak 16, prints"),
-        (16, 16, 0, "16 done, 3 actions, peak 16, prints"),
-        (16, 17, 2, "16 done, 8 actions, peak 32, prints"),
-        (16, 48, 3, "16 done, 12 actions, peak 48, prints"),
-        (
-            16,
-            1_048_576,
-            65_536,
-            "16 done, 262144 actions, peak 1048576, prints",
-        ),
-        (32, 17, 0, "32 done, 3 actions, peak 32, prints"),
-        (32, 33, 2, "32 done, 8 actions, peak 48, prints"),
-        (32, 64, 2, "32 done, 8 actions, peak 64, prints"),
-        (32, 65, 3, "32 done, 12 actions, peak 80, prints"),
-        (
-            1_048_576,
-            1_048_576,
-            0,
-            "1048576 done, 3 actions, peak 1048576, prints",
-        ),
-        (
-            1_048_560,
-            1_048_561,
-            2,
-            "1048560 done, 8 actions, peak 1048576, prints",
-        ),
-    ]
-}
-
-/// What the run of a text gave, and its number of dummies.
-fn dummies_of(rt: &impl Abort, alloc: Global, text: &str, k: u32) -> (String, u32) {
-    let serial = whole(rt, alloc, text, k);
-    (outcome(alloc, k, &serial), count(&serial, Kind::Dummy))
-}
-
-fn has_dummies(rt: &impl Abort, alloc: Global, k: u32, words: u32, dummies: u32, want: &str) {
-    let text = format!(in alloc; "fn main() {{ alloc b = {words}; free b; }}").expect(rt, "memory");
-    let (told, count) = dummies_of(rt, alloc, &text, k);
-    assert_eq!(rt; count, dummies, "{k} {words}");
-    assert_eq!(rt; told.as_str(), want, "{words}");
-}
-
-/// Each quota of an Alloc that is larger than one quota has a dummy, and so has a part of one.
-#[test]
-fn each_quota_or_part_of_one_has_a_dummy(rt: HostRuntime) {
-    for (k, words, dummies, want) in allocs() {
-        has_dummies(&rt, rt.alloc(), k, words, dummies, want);
-    }
-}
-
 /// Adds a piece so many times.
 fn put_times(text: &mut String, piece: &str, times: u32) {
     for _ in 0..times {
@@ -627,45 +562,4 @@ fn a_run_has_as_many_actions_as_are_allowed(rt: HostRuntime) {
     assert_eq!(rt; serial.actions.len(), 4_000_000);
     let stop = stop_of(rt.alloc(), FOUR_MILLIONS, 64, 3_999_999);
     assert_eq!(rt; stop, Some(SerialStop::StepsSpent));
-}
-
-/// How many ordinals the label of a thread has, by those of the threads that were born before.
-fn label_length(lengths: &[u32], id: ThreadId) -> Option<u32> {
-    if id == ThreadId::ROOT {
-        Some(0)
-    } else {
-        lengths.get(id.nth as usize).copied()
-    }
-}
-
-/// How many ordinals the longest label has that these births give.
-fn longest_label(rt: &impl Abort, alloc: Global, births: &[Birth]) -> u32 {
-    let mut lengths = Vec::new(alloc);
-    let mut longest = 0u32;
-    for birth in births {
-        let above = label_length(&lengths, birth.parent).expect(rt, "a parent");
-        let length = above.saturating_add(1);
-        lengths.push(length).expect(rt, "memory");
-        longest = longest.max(length);
-    }
-    longest
-}
-
-/// A fork of 256 levels, and below it an Alloc.
-const DEEP: &str =
-    "fn f(n) { if n { par { call f(n - 1); } and { } } else { alloc b = 1048576; free b; } }
-    fn main() { call f(256); print 8; }";
-
-/// The forks of a tree of dummies have no limit of 256: an allocation of 65,536 quotas below 256 forks, whose tree has 16 forks above
-/// one another.
-#[test]
-fn dummies_may_stand_272_deep(rt: HostRuntime) {
-    let serial = whole(&rt, rt.alloc(), DEEP, 16);
-    let told = outcome(rt.alloc(), 16, &serial);
-    assert_eq!(rt;
-        told.as_str(),
-        "16 done, 262912 actions, peak 1052672, prints 8"
-    );
-    let longest = longest_label(&rt, rt.alloc(), serial.births.as_slice());
-    assert_eq!(rt; longest, 272);
 }

@@ -1,10 +1,10 @@
-//! Node tables whose nodes the text gives, worked out by hand, and tables as large as a text can have them.
+//! Node tables as large as a text can have them.
 
 use crate::rows::put;
 use accepted_source::accept;
-use block_check::{BranchSets, Checked, Names};
-use frame_code::{Code, CodeArg, CodeExpr, CodeRetValue, CodeTarget, FuncCode, NodeKind, lower};
-use std::alloc::{AllocError, Global};
+use block_check::Checked;
+use frame_code::{Code, CodeExpr, NodeKind, lower};
+use std::alloc::Global;
 use std::fmt::Write;
 use std::process::Abort;
 
@@ -19,146 +19,6 @@ fn checked_of(rt: &impl Abort, alloc: Global, text: &str) -> Checked {
 fn code_of(rt: &impl Abort, alloc: Global, text: &str) -> Code {
     let checked = checked_of(rt, alloc, text);
     lower(alloc, checked).expect(rt, "memory")
-}
-
-/// The branches of a fork node, and its slots.
-fn fork_told(alloc: Global, code: &Code, number: u32) -> Result<String, AllocError> {
-    match code.node(number) {
-        Some(node) => match &node.kind {
-            NodeKind::Both {
-                left,
-                right,
-                left_blocks,
-                left_assigned,
-            } => format!(in alloc; "{left:?} {right:?} {left_blocks:?} {left_assigned:?}"),
-            _ => format!(in alloc; "another node"),
-        },
-        None => format!(in alloc; "no node"),
-    }
-}
-
-/// A function's slots, and the nodes of its body.
-fn body_told(alloc: Global, code: &Code, number: u32) -> Result<String, AllocError> {
-    match code.func(number) {
-        Some(func) => format!(in alloc; "{} {:?}", func.slots, func.body),
-        None => format!(in alloc; "no function"),
-    }
-}
-
-fn is_fork(rt: &(impl Abort + AllocGlobal), code: &Code, number: u32, want: &str) {
-    let told = fork_told(rt.alloc(), code, number).expect(rt, "memory");
-    assert_eq!(rt; told.as_str(), want);
-}
-
-fn is_body(rt: &(impl Abort + AllocGlobal), code: &Code, number: u32, want: &str) {
-    let told = body_told(rt.alloc(), code, number).expect(rt, "memory");
-    assert_eq!(rt; told.as_str(), want);
-}
-
-const NESTED: &str = "fn f(use b) { let n = len(b); b[0] = n; }
-    fn main() { let x = 0; alloc a = 1; let y = 0; alloc b = 1;
-    par { y = 1; b[0] = 1; par { x = 2; call f(use a); } and { print b[0]; } }
-    and { let z = 3; z = 4; } free a; free b; }";
-
-/// Nodes 0 and 1 are those of `f`; in `main`, the outer `par` is node 6, and the inner one node 9. The slots of `main` are those of x, a,
-/// y, b and z.
-#[test]
-fn nested_branches(rt: HostRuntime) {
-    let code = code_of(&rt, rt.alloc(), NESTED);
-    assert_eq!(rt; [code.len(), code.main()], [17, 1]);
-    is_fork(&rt, &code, 6, "[7, 8, 9] [13, 14] [0, 1, 2, 3] [0, 2]");
-    is_fork(&rt, &code, 9, "[10, 11] [12] [0, 1] [0]");
-    is_fork(&rt, &code, 17, "no node");
-    is_body(&rt, &code, 1, "5 [2, 3, 4, 5, 6, 15, 16]");
-    is_body(&rt, &code, 2, "no function");
-}
-
-/// Adds a name.
-fn add_name(told: &mut String, name: &[u8]) {
-    put(told, " ");
-    for byte in name {
-        let _pushed = told.push(*byte as char);
-    }
-}
-
-/// Adds names.
-fn add_names(told: &mut String, names: &Names) {
-    put(told, ";");
-    for name in names {
-        add_name(told, &name.bytes);
-    }
-}
-
-/// Adds what goes in and out of the branches of a `par`.
-fn add_sets(told: &mut String, sets: &BranchSets) {
-    add_names(told, &sets.left_blocks);
-    add_names(told, &sets.right_blocks);
-    add_names(told, &sets.left_assigned);
-}
-
-/// What goes in and out of the branches of a `par` of `main`, by the checker.
-fn sets_told(alloc: Global, checked: &Checked, par: u32) -> String {
-    let mut told = String::new(alloc);
-    match checked.branch_sets(alloc, 1, par) {
-        Ok(sets) => add_sets(&mut told, &sets),
-        Err(_) => put(&mut told, "no par"),
-    }
-    told
-}
-
-fn has_sets(rt: &impl Abort, alloc: Global, checked: &Checked, par: u32, want: &str) {
-    let told = sets_told(alloc, checked, par);
-    assert_eq!(rt; told.as_str(), want);
-}
-
-#[test]
-fn sets_of_nested_branches(rt: HostRuntime) {
-    let checked = checked_of(&rt, rt.alloc(), NESTED);
-    for (par, want) in [(0, "; a b;; x y"), (1, "; a; b; x"), (2, "no par")] {
-        has_sets(&rt, rt.alloc(), &checked, par, want);
-    }
-}
-
-/// Whether a node calls function 0 with the number 3, and keeps the block that comes back in slot 0.
-fn is_call(code: &Code, number: u32) -> bool {
-    match code.node(number) {
-        Some(node) => match &node.kind {
-            NodeKind::Call { target, func, args } => {
-                matches!(target, CodeTarget::Own(0)) && *func == 0 && is_three(args)
-            }
-            _ => false,
-        },
-        None => false,
-    }
-}
-
-/// Whether the only argument is the number 3.
-fn is_three(args: &[CodeArg]) -> bool {
-    args.len() == 1 && matches!(args.first(), Some(CodeArg::Value(CodeExpr::Num(3))))
-}
-
-/// Whether a function returns the block of slot 1.
-fn returns_its_block(func: &FuncCode) -> bool {
-    match &func.ret {
-        Some(ret) => matches!(&ret.value, CodeRetValue::Own(1)),
-        None => false,
-    }
-}
-
-/// Whether function 0 has 2 slots, of which the first is its only parameter, and returns its block.
-fn is_maker(func: &FuncCode) -> bool {
-    func.slots == 2 && func.params.as_slice() == [0u16].as_slice() && returns_its_block(func)
-}
-
-/// A call of the first function by the second one.
-#[test]
-fn calls_and_returns(rt: HostRuntime) {
-    let text = "fn mk(n) { alloc b = n; return own b; }
-        fn main() { call own c = mk(3); free c; }";
-    let code = code_of(&rt, rt.alloc(), text);
-    assert!(rt; is_call(&code, 1));
-    let mk = code.func(0).expect(&rt, "a function");
-    assert!(rt; is_maker(mk));
 }
 
 /// Adds a number and what stands around it.

@@ -1,9 +1,7 @@
 //! Which bytes are a text, and where others are refused.
 
 use crate::rows::put;
-use par_syntax::{
-    ChainOp, Expr, Func, ParseFail, Program, StmtKind, SyntaxError, SyntaxKind, parse,
-};
+use par_syntax::{ParseFail, SyntaxError, SyntaxKind, parse};
 use std::alloc::Global;
 use std::fmt::Write;
 use std::process::Abort;
@@ -216,50 +214,4 @@ fn blanks_behind(rt: &impl Abort, alloc: Global, front: &[u8], want: &str) {
 fn length(rt: HostRuntime) {
     blanks_behind(&rt, rt.alloc(), b"", "Expected 1048576");
     blanks_behind(&rt, rt.alloc(), b"\x80", "TooLong 1048576");
-}
-
-fn is_main(rt: &impl Abort, func: &Func) {
-    assert_eq!(rt; func.name.bytes.as_slice(), b"main".as_slice());
-    assert_eq!(rt; (func.line, func.body.len()), (1, 1));
-    for stmt in &func.body {
-        assert_eq!(rt; (stmt.line, is_difference(&stmt.kind)), (2, true));
-    }
-}
-
-fn has_main_alone(rt: &impl Abort, program: &Program) {
-    assert_eq!(rt; program.funcs.len(), 1);
-    for func in &program.funcs {
-        is_main(rt, func);
-    }
-}
-
-#[test]
-fn trees(rt: HostRuntime) {
-    let text = b"fn main() {\n  print ((1 + 2 * 3)) - y;\n}".as_slice();
-    let program = parse(rt.alloc(), text).ok().expect(&rt, "a text");
-    has_main_alone(&rt, &program);
-}
-
-/// Whether a statement prints a difference whose left side is a sum.
-fn is_difference(kind: &StmtKind) -> bool {
-    match kind {
-        StmtKind::Print { value } => match value {
-            Expr::Chain { first, rest } => is_sum(first) && rest.len() == 1,
-            _ => false,
-        },
-        _ => false,
-    }
-}
-
-/// Whether an expression is a sum whose second operand is a term.
-fn is_sum(value: &Expr) -> bool {
-    match value {
-        Expr::Chain { rest, .. } => match rest.first() {
-            None => false,
-            Some(link) => {
-                matches!(link.op, ChainOp::Add) && matches!(link.operand, Expr::Chain { .. })
-            }
-        },
-        _ => false,
-    }
 }

@@ -20,7 +20,7 @@ use Rattle.hall_turns.specs.declared.slot.Slot.TheVariants as slots
 use Rattle.hall_turns.specs.declared.event.Event.{Event}
 use Rattle.hall_turns.specs.Takes.{HallSeat, IsGiven, IsRefused, IsTaken}
 use Rattle.hall_thefts.specs.Thefts.{stolen_note}
-use Rattle.hall_stealing.specs.Stealing.{HasStolenIn}
+use Rattle.hall_robbing.specs.Passed.Stealing.{HasStolenIn}
 use Rattle.hall_stops.specs.Stopping.{found_note, HasStopped}
 use Rattle.thief_acts.specs.declared.refused.StealRefused.{StealRefused}
 use Rattle.thief_acts.specs.declared.refused.StealRefused.TheVariants.{Busy, Nothing, Over, Stopped}

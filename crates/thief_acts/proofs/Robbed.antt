@@ -33,7 +33,7 @@ use Rattle.hall_turns.specs.declared.slot.Slot.{Slot}
 use Rattle.hall_turns.specs.declared.slot.Slot.TheVariants as slots
 use Rattle.hall_turns.specs.Shown.{lane_shown}
 use Rattle.hall_turns.specs.Takes.{HallSeat, HasAllPlaces, IsTaken, MeetsLaw}
-use Rattle.hall_choice.specs.Choosing.{look_shown, took_lane, HasVictim}
+use Rattle.hall_robbing.specs.Passed.Choosing.{look_shown, took_lane, HasVictim}
 use Rattle.hall_seats.specs.Lists.{with_list}
 use Rattle.hall_seeking.specs.declared.prey.Prey.{Prey}
 use Rattle.hall_seeking.specs.declared.prey.SeekRefused.{SeekRefused}
@@ -41,10 +41,10 @@ use Rattle.hall_seeking.specs.declared.prey.SeekRefused.TheVariants as sought
 use Rattle.hall_seeking.specs.Seeking as seeking
 use Rattle.hall_seeking.specs.Seeking.{HasSought, SeeksWith}
 use Rattle.hall_seeking.proofs.Sought as begun
-use Rattle.hall_stealing.specs.Stealing.{IsNew, IsOpenTo, MayTakeOver, MayTakeBottom}
+use Rattle.hall_robbing.specs.Passed.Stealing.{IsNew, IsOpenTo, MayTakeOver, MayTakeBottom}
 use Rattle.hall_thefts.specs.Thefts.{stolen_note}
 use Rattle.thief_acts.proofs.Slots.{slot_is}
-use Rattle.hall_stealing.proofs.Stolen.{free_of}
+use Rattle.hall_robbing.proofs.Passed.Stolen.{free_of}
 use Rattle.hall_stops.specs.Stopping.{found_note, MayStop}
 use Rattle.hall_robbing.proofs.Robbing.{found_may_be_taken_over, found_bottoms_may_be_taken, holds_both, nobody}
 use Rattle.thief_acts.specs.declared.refused.StealRefused.{StealRefused}

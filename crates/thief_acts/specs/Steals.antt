@@ -14,7 +14,7 @@ use Rattle.hall_turns.specs.declared.list_slot.ListSlot.{ListSlot}
 use Rattle.hall_turns.specs.declared.slot.Slot.{Slot}
 use Rattle.hall_turns.specs.declared.slot.Slot.TheVariants as slots
 use Rattle.hall_turns.specs.Takes.{HallSeat}
-use Rattle.hall_choice.specs.Choosing.{look_shown, took_lane}
+use Rattle.hall_robbing.specs.Passed.Choosing.{look_shown, took_lane}
 use Rattle.hall_seeking.specs.Seeking.{HasSought}
 use Rattle.hall_seeking.specs.declared.prey.SeekRefused.TheVariants as sought
 use Rattle.hall_stops.specs.Stopping.{found_note}

@@ -15,8 +15,8 @@ use crate::parts::{deque_at, most_deques, next_beside, next_deque, next_period};
 use crate::refused::{StealRefused, refusal_of};
 use boxed::Boxed;
 use deque_list::{DequeId, Place};
+use hall_robbing::{take_bottom, take_over};
 use hall_seeking::{Prey, seek};
-use hall_stealing::{take_bottom, take_over};
 use hall_stops::put_stopped;
 use hall_turns::{
     Event, HallPlace, HallRow, LaneSlot, ListSlot, give_lane_back, give_list_back, take_lane,

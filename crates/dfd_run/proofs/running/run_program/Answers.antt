@@ -2,7 +2,7 @@ use Rattle.std.proofs.Common.{subst}
 use Rattle.std.proofs.lemmas.Result.{IfOk-weaker}
 use Rattle.block_check.specs.Checked.{program_of}
 use Rattle.command_line.specs.declared.setting.Setting.TheVariants.{Workers}
-use Rattle.dfd_core.specs.Cores.{terms_at}
+use Rattle.trail_record.specs.Played.Cores.{terms_at}
 use Rattle.hall_runs.specs.Reports.{ComesTo}
 use Rattle.hall_runs.specs.declared.ran.Ran.TheVariants.{Finished, Stopped}
 use Rattle.par_tree.specs.View.{program_tree}

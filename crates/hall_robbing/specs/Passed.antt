@@ -1,0 +1,3 @@
+-- What callers need of the choice of a victim, and of the steals.
+pub use Rattle.hall_choice.specs.Choosing as Choosing
+pub use Rattle.hall_stealing.specs.Stealing as Stealing
