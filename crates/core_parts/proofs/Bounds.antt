@@ -25,8 +25,8 @@ use Rattle.thread_state.specs.Joins.{words_by}
 use Rattle.thread_state.proofs.Held.{holdings_are}
 use Rattle.thread_points.specs.Points.{words_at_end}
 use Rattle.depth_first_run.specs.Run.{list_of}
-use Rattle.thread_run.specs.Dones.{IsRelease as IsGiven}
-use Rattle.thread_run.specs.declared.run.ThreadRun.{ThreadRun}
+use Rattle.thread_frames.specs.Passed.Dones.{IsRelease as IsGiven}
+use Rattle.thread_frames.specs.Passed.ThreadRunType.{ThreadRun}
 use Rattle.thread_frames.specs.declared.thread.Thread.{Thread}
 use Rattle.thread_frames.specs.declared.ended.Ended.{Ended}
 use Rattle.thread_frames.specs.declared.open_child.OpenChild.{OpenChild}
@@ -38,8 +38,8 @@ use Rattle.thread_frames.specs.Views.{newest, told_as, next_of, label_of, thread
 use Rattle.thread_frames.specs.Points.{At, Stands as StandsIn, IsThreadAt, IsPlaced}
 use Rattle.thread_frames.proofs.Placed.{placed_gives}
 use Rattle.thread_frames.proofs.Doing.{is_release}
-use Rattle.thread_run.specs.declared.ready.Ready.TheVariants as ready
-use Rattle.thread_run.specs.Going.{ActsBy}
+use Rattle.thread_frames.specs.Passed.ReadyVariants as ready
+use Rattle.thread_frames.specs.Passed.Going.{ActsBy}
 use Rattle.thread_points.specs.Points.{marked}
 use Rattle.depth_first_run.specs.Middle.{step_frame}
 use Rattle.period_books.specs.Periods.{Period, open_shown}

@@ -13,3 +13,4 @@ pub mod TreeLaws
 pub mod Peak
 pub mod Examples
 pub mod Building
+pub mod Passed

@@ -34,3 +34,4 @@ pub mod Owned
 pub mod WorkedStates
 pub mod WholeRun
 pub mod Quiet
+pub mod Passed

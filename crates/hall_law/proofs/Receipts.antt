@@ -7,7 +7,7 @@ use Rattle.deque_list.specs.Deques.{Deque}
 use Rattle.deque_list.proofs.DequeLaws.{mapped_at}
 use Rattle.deque_machine.specs.Machine.{Setting}
 use Rattle.deque_machine.specs.Play.{IsFirst}
-use Rattle.victim_choice.specs.Choices.{IsReadyAt, reach_of}
+use Rattle.step_laws.specs.Passed.Choices.{IsReadyAt, reach_of}
 use Rattle.hall_law.specs.Values.{Hall, deque_of, deques_of}
 use Rattle.hall_law.specs.Receipts.{Look, SawTheLanes, ShowsReady, ShowsUnready, VictimsAreFirst, NothingIsReady, SeatsAreTold}
 use Rattle.hall_law.proofs.Stops.{at_mapped}

@@ -6,7 +6,7 @@ use Rattle.lawful_books.specs.Lists.{Among}
 use Rattle.deque_machine.specs.Moments.{Moment}
 use Rattle.deque_machine.specs.Machine.{Setting}
 use Rattle.deque_machine.specs.Play.{Limits, IsFirst}
-use Rattle.victim_choice.specs.Choices.{IsReadyAt, reach_of, SomeReady}
+use Rattle.step_laws.specs.Passed.Choices.{IsReadyAt, reach_of, SomeReady}
 use Rattle.hall_law.specs.Values.{ListShown, LaneShown, Value, of_list, of_lane, End, Hall, lane_at, deques_of}
 use Rattle.hall_law.specs.Steps.{Step, Leads, told_to}
 use Rattle.hall_law.specs.Writing.{lane_slot}

@@ -9,7 +9,7 @@ use Rattle.deque_machine.specs.Moments.{Moment, done_at}
 use Rattle.deque_machine.specs.Machine.{Setting, does, May}
 use Rattle.deque_machine.specs.Play as play
 use Rattle.deque_machine.specs.Play.{Limits, IsFirst, words_taken}
-use Rattle.victim_choice.specs.Choices.{IsReadyAt, reach_of}
+use Rattle.step_laws.specs.Passed.Choices.{IsReadyAt, reach_of}
 use Rattle.moment_parts.specs.Parts.{Thread}
 use Rattle.moment_parts.specs.Events.{IsNextOf}
 use Rattle.hall_law.specs.Values.{Hall, by_rule, deques_of}

@@ -6,11 +6,11 @@ use Rattle.std.proofs.lemmas.Option.{same_Some, none-some}
 use mathlib.Core.Option.{some}
 use lib.ListN.{get_elem?}
 use lib.Seq.{map-set}
-use Rattle.thread_frames.specs.Kept.{WaitsUnder, IsUnderItsId}
+use Rattle.hall_turns.specs.Passed.Kept.{WaitsUnder, IsUnderItsId}
 use Rattle.dag_order.specs.Births.{root}
 use Rattle.dag_order.specs.declared.finish.Finish.{Finish}
 use Rattle.deque_list.specs.declared.place.Place.{Place}
-use Rattle.thread_frames.specs.Roots.{end_of_root}
+use Rattle.hall_turns.specs.Passed.Roots.{end_of_root}
 use Rattle.run_end.specs.declared.ends.RunEnd.{RunEnd}
 use Rattle.run_end.specs.declared.ends.RunEnd.TheVariants.{Finished}
 use Rattle.lawful_books.specs.Lists.{Among, Each}
@@ -18,13 +18,13 @@ use Rattle.lawful_books.proofs.Lists.{each_from, each_map}
 use Rattle.list_part.specs.declared.list_part.ListPart.{ListPart}
 use Rattle.period_table.proofs.Lists.{set_same, set_other}
 use Rattle.thread_map.specs.Kept.{kept_under}
-use Rattle.thread_frames.specs.declared.thread.Thread.{Thread}
-use Rattle.thread_frames.specs.declared.ended.Ended.{Ended}
-use Rattle.thread_frames.specs.Points.{IsAtPoint, IsResult}
-use Rattle.hall_law.specs.Views.{View}
-use Rattle.hall_law.specs.Values.{no_memory, End}
-use Rattle.hall_law.specs.Points.{IsExcused, AreAtPoints, StaysAtPoints}
-use Rattle.hall_law.proofs.Points.{points_go_on, excuses_stay}
+use Rattle.hall_turns.specs.Passed.ThreadType.{Thread}
+use Rattle.hall_turns.specs.Passed.EndedType.{Ended}
+use Rattle.hall_turns.specs.Passed.Points.{IsAtPoint, IsResult}
+use Rattle.hall_turns.specs.Passed.Views.{View}
+use Rattle.hall_turns.specs.Passed.Values.{no_memory, End}
+use Rattle.hall_turns.specs.Passed.HallLawPoints.{IsExcused, AreAtPoints, StaysAtPoints}
+use Rattle.hall_turns.proofs.Passed.Points.{points_go_on, excuses_stay}
 use Rattle.hall_turns.specs.declared.slot.Slot.{Slot}
 use Rattle.hall_turns.specs.declared.slot.Slot.TheVariants as slots
 use Rattle.hall_turns.specs.declared.list_slot.ListSlot.{ListSlot}

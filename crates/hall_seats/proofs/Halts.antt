@@ -15,11 +15,11 @@ use Rattle.turn_table.specs.Law.{PutKeeps}
 use Rattle.turn_table.specs.Seats.{with_hand}
 use Rattle.turn_table.proofs.Left.{left_of_one}
 use Rattle.turn_places.specs.Backs.{unchanged}
-use Rattle.hall_law.specs.Values.{Hall, ListShown, End}
-use Rattle.hall_law.specs.Views.{View}
-use Rattle.hall_law.specs.Seats.{end_with, halted_with}
-use Rattle.hall_law.specs.State.{RunningState}
-use Rattle.hall_law.proofs.Quiet.{halting_goes_on}
+use Rattle.hall_turns.specs.Passed.Values.{Hall, ListShown, End}
+use Rattle.hall_turns.specs.Passed.Views.{View}
+use Rattle.hall_turns.specs.Passed.Seats.{end_with, halted_with}
+use Rattle.hall_turns.specs.Passed.State.{RunningState}
+use Rattle.hall_turns.proofs.Passed.Quiet.{halting_goes_on}
 use Rattle.hall_turns.specs.declared.event.Event.TheVariants.{Halted}
 use Rattle.hall_turns.specs.declared.list_slot.ListSlot.{ListSlot}
 use Rattle.hall_turns.specs.declared.seat_note.SeatNote.{SeatNote}

@@ -3,18 +3,18 @@ use Rattle.std.proofs.Common.{◌≡◌, ℕ, List, [], ◌∷◌, map, refl, sy
 use Rattle.std.specs.Prelude.{Option, Some, slice_set}
 use Rattle.std.specs.Option.{option_map}
 use Rattle.atomic_table.proofs.Lists.{set_again}
-use Rattle.thread_frames.specs.Kept.{waiting_shown, result_kept}
+use Rattle.hall_turns.specs.Passed.Kept.{waiting_shown, result_kept}
 use Rattle.run_end.specs.declared.ends.RunEnd.{RunEnd}
 use Rattle.deque_machine.specs.Terms.{Terms, machine_of}
 use Rattle.period_books.specs.Periods.{closed_shown}
 use Rattle.space_ledger.specs.BooksList.{books_list}
 use Rattle.turn_table.specs.Law.{PutKeeps}
 use Rattle.turn_places.specs.Backs.{still, unchanged}
-use Rattle.hall_law.specs.Values.{ListShown, End}
-use Rattle.hall_law.specs.Views.{View}
-use Rattle.hall_law.specs.Seats.{answered_with}
-use Rattle.hall_law.proofs.Halting.{answers_keep_crew}
-use Rattle.hall_law.specs.State.{RunningState}
+use Rattle.hall_turns.specs.Passed.Values.{ListShown, End}
+use Rattle.hall_turns.specs.Passed.Views.{View}
+use Rattle.hall_turns.specs.Passed.Seats.{answered_with}
+use Rattle.hall_turns.proofs.Passed.Halting.{answers_keep_crew}
+use Rattle.hall_turns.specs.Passed.State.{RunningState}
 use Rattle.hall_turns.specs.declared.list_slot.ListSlot.{ListSlot}
 use Rattle.hall_turns.specs.declared.seat_note.SeatNote.{SeatNote}
 use Rattle.hall_turns.specs.declared.slot.Slot.TheVariants as slots

@@ -6,7 +6,7 @@ use Rattle.std.proofs.lemmas.Bool.{ne_eqb, eq-eqb}
 use Rattle.std.proofs.lemmas.Option.{same_Some, none-some}
 use Rattle.lawful_books.specs.Lists.{times, one_if_same}
 use Rattle.period_books.proofs.Sorting.{cut_at}
-use Rattle.deque_events.proofs.Leaving.{remove_middle}
+use Rattle.hall_law.proofs.Passed.Leaving.{remove_middle}
 use Rattle.hall_turns.specs.Lists.{IsOutOf}
 
 -- who is at no place is not in

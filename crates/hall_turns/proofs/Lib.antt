@@ -7,3 +7,4 @@ pub mod Putting
 pub mod Noting
 mod Closing
 mod Crews
+pub mod Passed

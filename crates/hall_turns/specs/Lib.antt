@@ -5,3 +5,4 @@ pub mod Takes
 pub mod Steps
 pub mod Shown
 pub mod Lists
+pub mod Passed

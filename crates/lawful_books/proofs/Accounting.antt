@@ -4,9 +4,9 @@ use Rattle.std.proofs.lemmas.Bool.{cases_eq, cases_lt, leb-false}
 use Rattle.std.proofs.lemmas.Int.{ints}
 use Rattle.std.proofs.Math.Nat.{mul-add, add-mul}
 use Rattle.std.proofs.lemmas.Nat.{mul-le}
-use Rattle.dummy_tree.proofs.QuotaLaws.{dummies_cover}
-use Rattle.dummy_tree.specs.Quotas.{dummies_of}
-use Rattle.dummy_tree.specs.Shapes.{is_dummy}
+use Rattle.depth_first_list.proofs.Passed.QuotaLaws.{dummies_cover}
+use Rattle.depth_first_list.specs.Passed.Quotas.{dummies_of}
+use Rattle.depth_first_list.specs.Passed.Shapes.{is_dummy}
 use Rattle.depth_first_list.specs.Actions.{Deed, forks, joins, allocates, releases, dummy, faults, ends, Action, kind_of, record_words, weight_of, live_words, peak}
 use Rattle.depth_first_list.specs.Runs.{IsDepthFirst}
 use Rattle.depth_first_list.specs.Facts.{weight_at, deed_at, words_at}

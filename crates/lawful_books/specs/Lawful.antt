@@ -1,7 +1,7 @@
 -- Lawful books.
 use Rattle.std.specs.Prelude.{◌≡◌, ℕ, ◌+◌, ◌≤◌, ◌<◌, Option, None, List, [], ◌∷◌, ◌++◌, length}
 use Rattle.depth_first_list.specs.Actions.{dummy, joins, ends, Action}
-use Rattle.dag_order.specs.LabelOrder.{fork_of}
+use Rattle.depth_first_list.specs.Passed.LabelOrder.{fork_of}
 use Rattle.depth_first_list.specs.Facts.{deed_at, label_at, IsDone, IsLive, IsNext}
 use Rattle.lawful_books.specs.Lists.{Each}
 use Rattle.lawful_books.specs.Books.{Book, done_in, charge_at, charged}

@@ -5,3 +5,4 @@ pub mod Reading
 pub mod Skipping
 pub mod Taking
 pub mod Keeping
+pub mod Passed

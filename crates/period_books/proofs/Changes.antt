@@ -4,8 +4,8 @@ use Rattle.std.specs.Prelude.{None}
 use Rattle.std.proofs.lemmas.Option.{none-some}
 use Rattle.dag_order.specs.declared.thread_id.ThreadId.{ThreadId}
 use Rattle.dag_order.specs.declared.action_id.ActionId.{ActionId}
-use Rattle.depth_first_list.specs.Actions.{Action}
-use Rattle.depth_first_list.specs.Facts.{deed_at}
+use Rattle.lawful_books.specs.Passed.Actions.{Action}
+use Rattle.lawful_books.specs.Passed.Facts.{deed_at}
 use Rattle.lawful_books.specs.Books.{Book, charged, charge_at, book_of}
 use Rattle.lawful_books.proofs.Lists.{total_append}
 use Rattle.period_books.specs.Periods.{Period, InOrder, Replaces}

@@ -10,7 +10,7 @@ use Rattle.dag_order.specs.declared.birth.Birth.{Birth}
 use Rattle.dag_order.specs.LabelOrder.{fork_of}
 use Rattle.dag_order.specs.Births.{root, birth_of, birth_in, Leads}
 use Rattle.dag_order.specs.Births as births
-use Rattle.depth_first_list.specs.Actions.{Action}
+use Rattle.lawful_books.specs.Passed.Actions.{Action}
 use Rattle.lawful_books.specs.Lists.{Among}
 use Rattle.lawful_books.proofs.Lists.{each_among}
 use Rattle.period_books.specs.Periods.{Period, InOrder, Replaces}

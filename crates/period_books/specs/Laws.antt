@@ -5,8 +5,8 @@ use Rattle.dag_order.specs.declared.action_id.ActionId.{ActionId}
 use Rattle.dag_order.specs.declared.birth.Birth.{Birth}
 use Rattle.dag_order.specs.LabelOrder.{fork_of}
 use Rattle.dag_order.specs.Births as births
-use Rattle.depth_first_list.specs.Actions.{Action}
-use Rattle.depth_first_list.specs.Facts.{deed_at}
+use Rattle.lawful_books.specs.Passed.Actions.{Action}
+use Rattle.lawful_books.specs.Passed.Facts.{deed_at}
 use Rattle.lawful_books.specs.Lists.{Among}
 use Rattle.lawful_books.specs.Books.{Book, charge_at, book_of, one_more}
 use Rattle.period_books.specs.Periods.{Period, Adds, Replaces}

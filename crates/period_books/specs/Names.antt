@@ -5,8 +5,8 @@ use Rattle.dag_order.specs.declared.action_id.ActionId.{ActionId}
 use Rattle.dag_order.specs.declared.birth.Birth.{Birth}
 use Rattle.dag_order.specs.Births.{root}
 use Rattle.dag_order.specs.LabelOrder.{fork_of}
-use Rattle.depth_first_list.specs.Actions.{Deed, forks, joins, allocates, releases, dummy, faults, ends, Action}
-use Rattle.depth_first_list.specs.Facts.{label_at, index_at, deed_at}
+use Rattle.lawful_books.specs.Passed.Actions.{Deed, forks, joins, allocates, releases, dummy, faults, ends, Action}
+use Rattle.lawful_books.specs.Passed.Facts.{label_at, index_at, deed_at}
 use Rattle.lawful_books.specs.Lists.{Among}
 use Rattle.period_books.specs.Periods.{Period}
 

@@ -3,7 +3,7 @@ use Rattle.std.specs.Prelude.{◌≡◌, ◌≢◌, ℕ, suc, ◌⊎◌, Bool, O
 use Rattle.bounded_list.specs.BoundedList.{entries}
 use Rattle.dag_order.specs.declared.action_id.ActionId.{ActionId}
 use Rattle.dag_order.specs.declared.birth.Birth.{Birth}
-use Rattle.space_ledger.specs.declared.book.Closed.{Closed}
+use Rattle.quota_period.specs.Passed.ClosedType.{Closed}
 use Rattle.quota_period.specs.declared.period.Period.{Period as OpenPeriod}
 use Rattle.lawful_books.specs.Lists.{Among, Each}
 

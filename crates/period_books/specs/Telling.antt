@@ -1,6 +1,6 @@
 -- Which books of a depth-first list the periods are.
 use Rattle.std.specs.Prelude.{◌≡◌, ℕ, Some, List, [], ◌∷◌}
-use Rattle.depth_first_list.specs.Actions.{Action}
+use Rattle.lawful_books.specs.Passed.Actions.{Action}
 use Rattle.lawful_books.specs.Books.{Book, charged}
 use Rattle.period_books.specs.Periods.{Period, InOrder}
 use Rattle.period_books.specs.Names.{AreNamed, births_among}

@@ -1,5 +1,5 @@
 ghost use Rattle.std.specs.Prelude.{ℕ, List};
-ghost use Rattle.depth_first_list.specs.Actions.{Action};
+ghost use Rattle.lawful_books.specs.Passed.Actions.{Action};
 ghost use Rattle.period_books.specs.Laws.{BeginningIsTold, ClosingIsTold, EachHasItsBook, ForkedIsLabelled, LabelsAreByBirths, LabelsStay, LabelsStayAtABeginning, NextIsNew, NoneTell, OneLabel, RunningIsTold};
 
 /// No periods are no books.

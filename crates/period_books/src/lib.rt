@@ -11,3 +11,5 @@
 #![tactic(auto)]
 
 pub mod laws;
+
+pub use quota_period::Period;

@@ -3,8 +3,8 @@ use Rattle.std.proofs.Common.{◌≡◌, ◌≢◌, ℕ, zero, suc, ◌+◌, ◌
 use Rattle.std.specs.Prelude.{Option, Some, slice_get, slice_set}
 use Rattle.std.proofs.lemmas.List.{map-append}
 use Rattle.std.proofs.lemmas.Option.{same_Some, none-some}
-use Rattle.lawful_books.specs.Lists.{Among, Each, Differ}
-use Rattle.lawful_books.proofs.Lists.{each_from, each_among, each_join, each_left, each_right, among_middle, among_wider, among_here, differ_at, differ_without}
+use Rattle.period_books.specs.Passed.Lists.{Among, Each, Differ}
+use Rattle.period_books.proofs.Passed.Lists.{each_from, each_among, each_join, each_left, each_right, among_middle, among_wider, among_here, differ_at, differ_without}
 use Rattle.space_ledger.specs.declared.book.Closed.{Closed}
 use Rattle.period_books.specs.Periods.{Period, Adds, Replaces, closed_shown}
 use Rattle.period_table.specs.declared.seat.Seat.{Seat}

@@ -6,7 +6,7 @@ use Rattle.dag_order.specs.declared.birth.Birth.{Birth}
 use Rattle.deque_list.specs.declared.deque_id.DequeId.{DequeId}
 use Rattle.space_ledger.specs.BooksList.{books_list, books_spare}
 use Rattle.space_ledger.specs.declared.book.Closed.{Closed}
-use Rattle.quota_period.specs.declared.period.Period.{Period as OpenPeriod}
+use Rattle.period_books.specs.Passed.PeriodType.{Period as OpenPeriod}
 use Rattle.period_books.specs.Periods.{Period, open_shown}
 use Rattle.period_table.specs.Numbers.{all_periods}
 use Rattle.period_table.specs.declared.seat.Seat.{Seat}

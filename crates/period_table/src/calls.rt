@@ -11,7 +11,7 @@ use crate::table::PeriodTable;
 use bounded_list::BoundedList;
 use dag_order::{ActionId, Birth, Births};
 use deque_list::DequeId;
-use quota_period::Period;
+use period_books::Period;
 use space_ledger::Books;
 use std::alloc::{AllocError, Global};
 use std::mem;

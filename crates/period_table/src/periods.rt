@@ -8,7 +8,7 @@ ghost use Rattle.period_books.specs.Periods.{open_shown};
 ghost use Rattle.period_table.specs.Tables.{birth_room, noted, births_shown, closed_of};
 
 use dag_order::{ActionId, Birth, Births};
-use quota_period::Period;
+use period_books::Period;
 use space_ledger::Books;
 use std::alloc::AllocError;
 use std::mem;

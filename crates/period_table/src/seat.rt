@@ -1,5 +1,5 @@
 use deque_list::DequeId;
-use quota_period::Period;
+use period_books::Period;
 
 /// What a worker has that is not idle: the deque that it owns, and the period that is open for it.
 #[derive(PartialEq, Eq, Debug, Drop)]

@@ -1,7 +1,7 @@
 use crate::PeriodTable;
 use dag_order::{ActionId, ThreadId};
 use deque_list::DequeId;
-use quota_period::Period;
+use period_books::Period;
 use std::test::Fail;
 
 #[test]

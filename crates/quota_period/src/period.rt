@@ -6,9 +6,8 @@ ghost use Rattle.quota_period.specs.Charges.{IsCharge};
 
 use crate::charge::Charge;
 use bounded_list::BoundedList;
-use dag_order::Births;
 use dummy_tree::Quota;
-use space_ledger::{Book, Closed};
+use space_ledger::{Births, Book, Closed};
 use std::alloc::{AllocError, Global};
 
 /// A period that is under way.

@@ -91,20 +91,16 @@ fn push(rt: &impl Abort, list: &mut List<u32>, id: u32, item: u32) {
     list.push_top(DequeId(id), item);
 }
 
-// Takes the top item, and the bottom item.
+// Takes the top item.
 fn pop(rt: &impl Abort, list: &mut List<u32>, id: u32) -> Option<u32> {
     live(rt, list, DequeId(id));
     list.pop_top(DequeId(id))
 }
 
+// Takes the bottom item.
 fn take(rt: &impl Abort, list: &mut List<u32>, id: u32) -> Option<u32> {
     live(rt, list, DequeId(id));
     list.take_bottom(DequeId(id))
-}
-
-fn give_up(rt: &impl Abort, list: &mut List<u32>, id: u32) {
-    live(rt, list, DequeId(id));
-    list.give_up(DequeId(id));
 }
 
 // A list of at most so many deques, whose first one has this item.
@@ -125,105 +121,6 @@ fn pops(rt: &impl Abort, list: &mut List<u32>, id: u32, want: Option<u32>) {
 // Inserts a deque, which has this id.
 fn inserts(rt: &impl Abort, list: &mut List<u32>, of: u32, item: u32, owner: u32, want: u32) {
     assert_eq!(rt; insert(rt, list, of, item, owner), Some(DequeId(want)));
-}
-
-fn items_are_pushed(rt: &(impl Abort + AllocGlobal), list: &mut List<u32>) {
-    shows(rt, list, "0: 7; ");
-    push(rt, list, 0, 8);
-    push(rt, list, 0, 9);
-    shows(rt, list, "0: 9 8 7; ");
-}
-
-// The bottom items of deque 0 become deques.
-fn deques_are_inserted(rt: &(impl Abort + AllocGlobal), list: &mut List<u32>) {
-    takes(rt, list, 0, Some(7));
-    inserts(rt, list, 0, 7, 5, 1);
-    shows(rt, list, "0: 9 8; 1 of 5: 7; ");
-    takes(rt, list, 0, Some(8));
-    inserts(rt, list, 0, 8, 6, 2);
-    shows(rt, list, "0: 9; 2 of 6: 8; 1 of 5: 7; ");
-    assert_eq!(rt; insert(rt, list, 0, 1, 1), None);
-}
-
-fn deques_are_emptied(rt: &(impl Abort + AllocGlobal), list: &mut List<u32>) {
-    push(rt, list, 1, 4);
-    give_up(rt, list, 2);
-    shows(rt, list, "0: 9; 2: 8; 1 of 5: 4 7; ");
-    pops(rt, list, 1, Some(4));
-    pops(rt, list, 0, Some(9));
-    pops(rt, list, 0, None);
-    takes(rt, list, 0, None);
-    shows(rt, list, "0:; 2: 8; 1 of 5: 7; ");
-}
-
-#[test]
-fn calls_change_their_deque_alone(rt: HostRuntime) {
-    let mut list = list_of(&rt, 7, 3);
-    items_are_pushed(&rt, &mut list);
-    deques_are_inserted(&rt, &mut list);
-    deques_are_emptied(&rt, &mut list);
-    assert_eq!(rt; [list.leftmost(2), list.leftmost(9)], [2, 3]);
-}
-
-// Removes a deque without items.
-fn remove(rt: &impl Abort, list: &mut List<u32>, id: u32) {
-    live(rt, list, DequeId(id));
-    match list.item(DequeId(id), 0) {
-        None => {}
-        Some(_) => panic!(rt; "the deque has an item"),
-    }
-    list.remove(DequeId(id));
-}
-
-// Gives a deque without an owner an owner.
-fn take_over(rt: &impl Abort, list: &mut List<u32>, id: u32, owner: u32) {
-    live(rt, list, DequeId(id));
-    match list.owner(DequeId(id)) {
-        None => {}
-        Some(_) => panic!(rt; "the deque has an owner"),
-    }
-    list.take_over(DequeId(id), owner);
-}
-
-fn three_are_inserted(rt: &(impl Abort + AllocGlobal), list: &mut List<u32>) {
-    for n in 1..4 {
-        inserts(rt, list, 0, n, n, n);
-    }
-    shows(rt, list, "0: 0; 3 of 3: 3; 2 of 2: 2; 1 of 1: 1; ");
-}
-
-fn two_are_removed(rt: &(impl Abort + AllocGlobal), list: &mut List<u32>) {
-    pops(rt, list, 2, Some(2));
-    remove(rt, list, 2);
-    pops(rt, list, 0, Some(0));
-    remove(rt, list, 0);
-    assert_eq!(rt; list.rank(DequeId(0)), None);
-    shows(rt, list, "3 of 3: 3; 1 of 1: 1; ");
-}
-
-// Writes the top item of a deque.
-fn set_top(rt: &impl Abort, list: &mut List<u32>, id: u32, item: u32) {
-    live(rt, list, DequeId(id));
-    if let Some(top) = list.top_mut(DequeId(id)) {
-        *top = item;
-    }
-}
-
-fn their_ids_come_back(rt: &(impl Abort + AllocGlobal), list: &mut List<u32>) {
-    inserts(rt, list, 3, 5, 9, 0);
-    inserts(rt, list, 1, 6, 8, 2);
-    give_up(rt, list, 0);
-    take_over(rt, list, 0, 4);
-    set_top(rt, list, 0, 50);
-    shows(rt, list, "3 of 3: 3; 0 of 4: 50; 1 of 1: 1; 2 of 8: 6; ");
-}
-
-#[test]
-fn ids_come_back_smallest_first(rt: HostRuntime) {
-    let mut list = list_of(&rt, 0, 4);
-    three_are_inserted(&rt, &mut list);
-    two_are_removed(&rt, &mut list);
-    their_ids_come_back(&rt, &mut list);
 }
 
 // A deque behind deque 0 is refused, with its item.
@@ -254,48 +151,6 @@ fn parts(rt: &(impl Abort + AllocGlobal), item: u32, most: u32) -> (Order, Deque
     assert!(rt; list.len() == 1);
     sends(&list);
     list.into_first()
-}
-
-// A lane of the item 1.
-fn a_lane_has_items(rt: &impl Abort, lane: &mut Lane<u32>) {
-    let Ok(()) = lane.reserve() else {
-        panic!(rt; "memory");
-    };
-    lane.push_top(2);
-    assert_eq!(rt; (lane.len(), lane.top()), (2, Some(&2)));
-    assert_eq!(rt; lane.take_bottom(), Some(1));
-    if let Some(top) = lane.top_mut() {
-        *top = 3;
-    }
-    assert_eq!(rt; [lane.pop_top(), lane.pop_top()], [Some(3), None]);
-}
-
-// An order of at most two deques, which has one.
-fn an_order_has_deques(rt: &impl Abort, order: &mut Order, id: DequeId) {
-    assert_eq!(rt;
-        (order.rank(id), order.next_id()),
-        (Some(0), Some(DequeId(1)))
-    );
-    assert_eq!(rt; order_insert(rt, order, id, 7), Ok(DequeId(1)));
-    assert_eq!(rt;
-        (order.at(1), order.at(2), order.leftmost(3)),
-        (Some(DequeId(1)), None, 2)
-    );
-    let place = Place {
-        id: DequeId(1),
-        owner: Some(7),
-    };
-    assert_eq!(rt; [order.place(1), order.place(2)], [Some(place), None]);
-}
-
-#[test]
-fn order_and_lane_stand_alone(rt: HostRuntime) {
-    let (mut order, id, mut lane) = parts(&rt, 1, 2);
-    assert_eq!(rt; (order.len(), order.most(), id), (1, 2, DequeId(0)));
-    sends(&order);
-    sends(&lane);
-    a_lane_has_items(&rt, &mut lane);
-    an_order_has_deques(&rt, &mut order, id);
 }
 
 // Inserts a deque into an order.
@@ -366,6 +221,8 @@ fn lists_and_lanes_grow(rt: HostRuntime) {
 
 #[test]
 fn orders_grow(rt: HostRuntime) {
-    let (mut order, id, _lane) = parts(&rt, 0, 4_096);
+    let (mut order, id, lane) = parts(&rt, 0, 4_096);
+    sends(&order);
+    sends(&lane);
     an_order_grows(&rt, &mut order, id);
 }

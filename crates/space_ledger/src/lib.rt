@@ -17,6 +17,7 @@ mod numbered;
 
 pub use book::{Book, Closed};
 pub use books::Books;
+pub use dag_order::Births;
 pub use moved::Moved;
 pub use moves::Moves;
 pub use numbered::NumberedBooks;

@@ -5,3 +5,4 @@ pub mod Orders
 pub mod Moves
 pub mod Standing
 pub mod Readiness
+pub mod Passed

@@ -11,8 +11,8 @@ use Rattle.par_ownership.specs.Ownership.{Ownership}
 use Rattle.depth_first_run.specs.States.{Setting, State, Item, next_action, skip_if, unless_faulted}
 use Rattle.depth_first_run.specs.Calls.{with_answer, returned}
 use Rattle.depth_first_run.specs.Run.{lines_of, first_fault, on_store, rejoin_block, ignore_answer}
-use Rattle.ownership_at_points.specs.Holdings.{IsOfAllocation}
-use Rattle.ownership_at_points.proofs.Skipping.{runs_without_fault}
+use Rattle.thread_run.specs.Passed.Holdings.{IsOfAllocation}
+use Rattle.thread_run.proofs.Passed.Skipping.{runs_without_fault}
 use Rattle.depth_first_run.specs.Middle.{Frame, does, statements, tree, answers, rejoins, answers_main, allocates, awaits, joins, Middle, step_frame, step_first}
 use Rattle.node_table.specs.Table.{Table}
 use Rattle.node_table.specs.Names.{slot_names}

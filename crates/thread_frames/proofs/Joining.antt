@@ -23,8 +23,8 @@ use Rattle.node_table.specs.Reading.{AreSlots, FitsSlots}
 use Rattle.slot_store.specs.Rows.{Entry, blocks_at}
 use Rattle.slot_store.specs.Agreement.{ShowsStore, blocks_under}
 use Rattle.slot_store.proofs.Agreement.{entry_is, row_length}
-use Rattle.ownership_laws.specs.Counts.{hit, count}
-use Rattle.ownership_at_points.proofs.Reading.{join_meets_none}
+use Rattle.thread_run.specs.Passed.Counts.{hit, count}
+use Rattle.thread_run.proofs.Passed.Reading.{join_meets_none}
 use Rattle.thread_stack.specs.declared.branch.Branch.{Branch}
 use Rattle.thread_stack.specs.declared.branch.Branch.TheVariants.{Par, Dummies}
 use Rattle.thread_stack.specs.declared.frame.Frame.TheVariants.{Joins}

@@ -11,3 +11,4 @@ pub mod Shown
 pub mod Kept
 pub mod Roots
 pub mod Laws
+pub mod Passed

@@ -12,8 +12,8 @@ use Rattle.node_table.specs.Table.{Table, Kind, Function, let_node, assign_node,
 use Rattle.node_table.specs.Programs.{IsStmt, function_names}
 use Rattle.node_table.proofs.Finding.{callee}
 use Rattle.thread_points.specs.Points.{IsAt}
-use Rattle.ownership_laws.proofs.Fitting.{keeps_at, finds_at}
-use Rattle.ownership_laws.proofs.Passing.{function_owned}
+use Rattle.ownership_at_points.proofs.Passed.Fitting.{keeps_at, finds_at}
+use Rattle.ownership_at_points.proofs.Passed.Passing.{function_owned}
 use Rattle.thread_stack.specs.Frames.{IsNode}
 use Rattle.thread_stack.specs.Lists.{kind_at, kind_of_node}
 use Rattle.slot_store.specs.Agreement.{ShowsStore}

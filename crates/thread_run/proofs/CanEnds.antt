@@ -15,8 +15,8 @@ use Rattle.node_table.specs.Reading.{FitsArgs, FitsSlots, FitsTarget, FitsRet, s
 use Rattle.node_table.specs.Table as tables
 use Rattle.node_table.specs.Table.{Table, Kind, Function, let_node, assign_node, put_node, alloc_node, free_node, if_node, while_node, call_node, print_node, both_node, split_node}
 use Rattle.thread_points.specs.Points.{IsAt}
-use Rattle.ownership_laws.specs.Counts.{hit, count}
-use Rattle.ownership_laws.proofs.Counting.{hit_same, none_counted}
+use Rattle.ownership_at_points.specs.Passed.Counts.{hit, count}
+use Rattle.ownership_at_points.proofs.Passed.Counting.{hit_same, none_counted}
 use Rattle.ownership_at_points.specs.Holdings.{lent_under, given_back_under, answered_under, handed_out, EndsCall}
 use Rattle.ownership_at_points.proofs.Reading.{one_each, call_ends, main_end}
 use Rattle.ownership_at_points.proofs.Taking.{calls_take}

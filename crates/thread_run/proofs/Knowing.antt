@@ -18,9 +18,9 @@ use Rattle.thread_stack.specs.declared.frame.Frame.{Frame}
 use Rattle.thread_stack.specs.declared.frame.Frame.TheVariants.{Allocates, Rejoins}
 use Rattle.thread_stack.specs.Frames.{AreFrames, IsFrame, IsNode, IsSplitNode}
 use Rattle.thread_stack.specs.Lists.{kind_at}
-use Rattle.ownership_laws.specs.Counts.{hit, count}
-use Rattle.ownership_laws.proofs.Counting.{name_same}
-use Rattle.ownership_laws.proofs.Fitting.{end_finds_at}
+use Rattle.ownership_at_points.specs.Passed.Counts.{hit, count}
+use Rattle.ownership_at_points.proofs.Passed.Counting.{name_same}
+use Rattle.ownership_at_points.proofs.Passed.Fitting.{end_finds_at}
 use Rattle.ownership_at_points.proofs.Reading.{frame_where_none, split_end}
 use Rattle.slot_store.specs.Rows.{Entry, blocks_at, items_at, first_of, HasBlock, HasNone}
 use Rattle.slot_store.specs.Agreement.{blocks_under, ShowsStore}

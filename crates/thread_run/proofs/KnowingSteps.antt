@@ -16,10 +16,10 @@ use Rattle.thread_stack.specs.Frames.{IsNode}
 use Rattle.thread_stack.specs.Measure.{kind_cost, node_cost}
 use Rattle.thread_stack.proofs.Costs.{node_covers}
 use Rattle.thread_points.specs.Points.{IsAt}
-use Rattle.ownership_laws.specs.Counts.{hit, count}
-use Rattle.ownership_laws.specs.Needs.{needs_block}
-use Rattle.ownership_laws.proofs.Counting.{name_same}
-use Rattle.ownership_laws.proofs.Fitting.{finds_at}
+use Rattle.ownership_at_points.specs.Passed.Counts.{hit, count}
+use Rattle.ownership_at_points.specs.Passed.Needs.{needs_block}
+use Rattle.ownership_at_points.proofs.Passed.Counting.{name_same}
+use Rattle.ownership_at_points.proofs.Passed.Fitting.{finds_at}
 use Rattle.ownership_at_points.specs.Holdings.{puts_block}
 use Rattle.ownership_at_points.proofs.Reading.{puts_where_none, parts_apart}
 use Rattle.slot_store.specs.Rows.{Entry, blocks_at, HasBlock, HasNone}

@@ -18,3 +18,4 @@ pub mod Meetings
 pub mod CanEnds
 pub mod Outcomes
 pub mod OnTheWay
+pub mod Passed

@@ -14,10 +14,10 @@ use Rattle.depth_first_run.specs.Stores.{Store}
 use Rattle.node_table.specs.Names.{name_at}
 use Rattle.node_table.specs.Reading.{FitsArgs, FitsSlots, slots_read, args_read}
 use Rattle.node_table.specs.Table as tables
-use Rattle.ownership_laws.specs.Counts.{one_if, hit, count, seen_entry, seen_in}
-use Rattle.ownership_laws.specs.Needs.{reads_block, needed_by_args}
-use Rattle.ownership_laws.proofs.Counting.{same_name, hit_same, hit_other, hit_true, fresh_unseen, seen_or_not, found_with}
-use Rattle.ownership_laws.proofs.Passing.{or_left, or_right}
+use Rattle.ownership_at_points.specs.Passed.Counts.{one_if, hit, count, seen_entry, seen_in}
+use Rattle.ownership_at_points.specs.Passed.Needs.{reads_block, needed_by_args}
+use Rattle.ownership_at_points.proofs.Passed.Counting.{same_name, hit_same, hit_other, hit_true, fresh_unseen, seen_or_not, found_with}
+use Rattle.ownership_at_points.proofs.Passed.Passing.{or_left, or_right}
 use Rattle.slot_store.specs.Rows.{Entry as Slot, blocks_at}
 use Rattle.slot_store.specs.Calls.{EachOnce, EachHasBlock, EachHasNone, passed_slots}
 use Rattle.slot_store.specs.Forks.{is_in}

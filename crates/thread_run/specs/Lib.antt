@@ -9,3 +9,4 @@ pub mod Going
 pub mod Functions
 pub mod Stepping
 pub mod Calling
+pub mod Passed
