@@ -1,11 +1,12 @@
 //! An order of what the seats of a hall were told: each seat knows what it did one after the other, and not what the others did meanwhile.
-//! `order` looks for one order of all of it in which each event is a case of the machine, and writes it as a trail. Each line has a ticket that was
-//! drawn after the event, so an event may have come before some with smaller tickets. The search tries small tickets first.
+//! `order` looks for one order of all of it in which each event is a case of the machine, and writes it as a trail. Each line has the
+//! tickets that were drawn before the call and after it: an event comes before each other one whose call began after its own had ended. Of those
+//! that may come next the search tries first what ended first. The order has to have the numbers of the run.
 
 use crate::command::accepted;
 use crate::good_trail::{fork_of, Deed, Label, Moment, Setting};
 use crate::resolve::resolve;
-use crate::trail::{line_at, natural, rules_of, source_at, trail_text, Kind, Trail, TrailEvent};
+use crate::trail::{line_at, natural, Numbers, rules_of, source_at, trail_text, Kind, Trail, TrailEvent};
 use std::collections::{HashMap, HashSet};
 
 /// The number of the period in which a thread was born, and which birth of it that was; both 0 for the root.
@@ -20,27 +21,34 @@ enum Told {
     GaveUp,
 }
 
-/// One seat: its worker, and what it was told in order, with the ticket of each.
+/// One seat: its worker, and what it was told in order, with the tickets before and after each.
 struct Seat {
     worker: usize,
     told: Vec<Told>,
-    tickets: Vec<u64>,
+    tickets: Vec<(u64, u64)>,
 }
 
 /// The trail that a run's seats can have made, or why there is none.
 pub fn order(text: &[u8]) -> Result<Vec<u8>, String> {
     let (rules, second) = line_at(text, 0).and_then(|(words, next)| Some((rules_of(&words)?, next))).ok_or("no numbers")?;
     let (source, at) = source_at(text, second).ok_or("no source")?;
+    let (numbers, at) = line_at(text, at).and_then(|(words, next)| Some((numbers_in(&words)?, next))).ok_or("no numbers of the run")?;
     let seats = seats_in(text, at).ok_or("no seats")?;
     let program = accepted(&source).map_err(|_| "the source is refused")?;
     let setting = Setting::new(&resolve(&program), rules).ok_or("too many actions")?;
     let labels = labels_of(&setting, &seats).ok_or("a thread that nobody forked")?;
-    let search = Search { setting: &setting, seats: &seats, labels: &labels };
+    let search = Search { setting: &setting, seats: &seats, labels: &labels, numbers };
     let (events, end) = search.run().ok_or("no order of these is a run of the machine")?;
     if !setting.has_ended(&end, &Label::new()) {
         return Err("the root has not ended".to_string());
     }
-    Ok(trail_text(&Trail { rules, source, events, numbers: end.numbers() }))
+    Ok(trail_text(&Trail { rules, source, events, numbers }))
+}
+
+/// What the books and the moves of the run have told.
+fn numbers_in(words: &[&[u8]]) -> Option<Numbers> {
+    let [b"periods", periods, b"ahead", ahead, b"high", high] = words else { return None };
+    Some(Numbers { periods: natural(periods)?, ahead: natural(ahead)?, high: natural(high)? })
 }
 
 /// The seats that are written behind the source, up to the end of the text. Those of one worker come in the order of their first periods.
@@ -50,8 +58,8 @@ fn seats_in(text: &[u8], mut at: usize) -> Option<Vec<Seat>> {
         let (words, next) = line_at(text, at)?;
         match words.as_slice() {
             [b"seat", worker] => seats.push(Seat { worker: natural(worker)? as usize, told: Vec::new(), tickets: Vec::new() }),
-            [ticket, words @ ..] => seats.last_mut()?.add(natural(ticket)?, told_of(words)?),
-            [] => return None,
+            [before, after, words @ ..] => seats.last_mut()?.add((natural(before)?, natural(after)?), told_of(words)?),
+            [] | [_] => return None,
         }
         at = next;
     }
@@ -71,8 +79,8 @@ fn told_of(words: &[&[u8]]) -> Option<Told> {
 }
 
 impl Seat {
-    fn add(&mut self, ticket: u64, told: Told) {
-        self.tickets.push(ticket);
+    fn add(&mut self, tickets: (u64, u64), told: Told) {
+        self.tickets.push(tickets);
         self.told.push(told);
     }
 
@@ -122,6 +130,7 @@ struct Search<'a> {
     setting: &'a Setting,
     seats: &'a [Seat],
     labels: &'a HashMap<ThreadName, Label>,
+    numbers: Numbers,
 }
 
 /// A moment on the way, how many events of each seat have come, the events that may come next, and the one that led here.
@@ -133,13 +142,14 @@ struct Level {
 }
 
 impl Search<'_> {
-    /// The events in an order in which each of them may come, and the moment after them.
+    /// The events in an order in which each of them may come, and the moment after them, which has the numbers of the run.
     fn run(&self) -> Option<(Vec<TrailEvent>, Moment)> {
         let counts = vec![0; self.seats.len()];
         let mut levels = vec![self.level(self.setting.opening(), counts, None)];
         let mut seen = HashSet::new();
         while let Some(level) = levels.last_mut() {
-            if level.counts.iter().zip(self.seats).all(|(counts, seat)| *counts == seat.told.len()) {
+            let is_whole = level.counts.iter().zip(self.seats).all(|(counts, seat)| *counts == seat.told.len());
+            if is_whole && level.moment.numbers() == self.numbers {
                 let events = levels.iter().filter_map(|level| level.by).collect();
                 return levels.pop().map(|level| (events, level.moment));
             }
@@ -149,7 +159,10 @@ impl Search<'_> {
             };
             let (mut moment, mut counts) = (level.moment.clone(), level.counts.clone());
             counts[seat] += 1;
-            if self.setting.lead(&mut moment, event) && seen.insert((counts.clone(), shape_of(&moment))) {
+            let leads = self.setting.lead(&mut moment, event);
+            let Numbers { periods, ahead, high } = moment.numbers();
+            let may_lead = leads && ahead <= self.numbers.ahead && high <= self.numbers.high;
+            if may_lead && seen.insert((counts.clone(), shape_of(&moment), [periods, ahead, high])) {
                 levels.push(self.level(moment, counts, Some(event)));
             }
         }
@@ -158,14 +171,15 @@ impl Search<'_> {
 
     fn level(&self, moment: Moment, counts: Vec<usize>, by: Option<TrailEvent>) -> Level {
         let mut next: Vec<(u64, usize, TrailEvent)> = Vec::new();
+        let first_end = self.seats.iter().zip(&counts).filter_map(|(seat, count)| seat.tickets.get(*count)).map(|(_, after)| *after).min();
         for (at, seat) in self.seats.iter().enumerate() {
             let is_in = at == 0 || self.seats[at - 1].worker != seat.worker || counts[at - 1] == self.seats[at - 1].told.len();
-            let Some(ticket) = seat.tickets.get(counts[at]).filter(|_| is_in) else { continue };
+            let Some((_, after)) = seat.tickets.get(counts[at]).filter(|(before, _)| is_in && Some(*before) < first_end) else { continue };
             let kinds = self.kinds_of(&moment, seat, counts[at]);
-            next.extend(kinds.into_iter().map(|kind| (*ticket, at, TrailEvent { worker: seat.worker, kind })));
+            next.extend(kinds.into_iter().map(|kind| (*after, at, TrailEvent { worker: seat.worker, kind })));
         }
         // The last one is tried first.
-        next.sort_by_key(|(ticket, _, _)| std::cmp::Reverse(*ticket));
+        next.sort_by_key(|(after, _, _)| std::cmp::Reverse(*after));
         Level { moment, counts, next: next.into_iter().map(|(_, at, event)| (at, event)).collect(), by }
     }
 
