@@ -236,7 +236,7 @@ impl Search<'_> {
     }
 }
 
-/// Who owns which deque, from left to right.
-fn shape_of(moment: &Moment) -> Vec<Option<usize>> {
-    moment.deques.iter().map(|deque| deque.owner).collect()
+/// The deques from left to right: who owns each, and its threads.
+fn shape_of(moment: &Moment) -> Vec<(Option<usize>, Vec<Label>)> {
+    moment.deques.iter().map(|deque| (deque.owner, deque.threads.iter().cloned().collect())).collect()
 }
