@@ -6,7 +6,7 @@
 use crate::command::accepted;
 use crate::good_trail::{fork_of, Deed, Label, Moment, Setting};
 use crate::resolve::resolve;
-use crate::trail::{line_at, natural, Numbers, rules_of, source_at, trail_text, Kind, Trail, TrailEvent};
+use crate::trail::{line_at, natural, rules_of, source_at, trail_text, Kind, Numbers, Trail, TrailEvent};
 use std::collections::{HashMap, HashSet};
 
 /// The number of the period in which a thread was born, and which birth of it that was; both 0 for the root.
@@ -32,7 +32,8 @@ struct Seat {
 pub fn order(text: &[u8]) -> Result<Vec<u8>, String> {
     let (rules, second) = line_at(text, 0).and_then(|(words, next)| Some((rules_of(&words)?, next))).ok_or("no numbers")?;
     let (source, at) = source_at(text, second).ok_or("no source")?;
-    let (numbers, at) = line_at(text, at).and_then(|(words, next)| Some((numbers_in(&words)?, next))).ok_or("no numbers of the run")?;
+    let (numbers, at) =
+        line_at(text, at).and_then(|(words, next)| Some((numbers_in(&words)?, next))).ok_or("no numbers of the run")?;
     let seats = seats_in(text, at).ok_or("no seats")?;
     let program = accepted(&source).map_err(|_| "the source is refused")?;
     let setting = Setting::new(&resolve(&program), rules).ok_or("too many actions")?;
@@ -171,10 +172,13 @@ impl Search<'_> {
 
     fn level(&self, moment: Moment, counts: Vec<usize>, by: Option<TrailEvent>) -> Level {
         let mut next: Vec<(u64, usize, TrailEvent)> = Vec::new();
-        let first_end = self.seats.iter().zip(&counts).filter_map(|(seat, count)| seat.tickets.get(*count)).map(|(_, after)| *after).min();
+        let first_end =
+            self.seats.iter().zip(&counts).filter_map(|(seat, count)| seat.tickets.get(*count)).map(|(_, after)| *after).min();
         for (at, seat) in self.seats.iter().enumerate() {
             let is_in = at == 0 || self.seats[at - 1].worker != seat.worker || counts[at - 1] == self.seats[at - 1].told.len();
-            let Some((_, after)) = seat.tickets.get(counts[at]).filter(|(before, _)| is_in && Some(*before) < first_end) else { continue };
+            let Some((_, after)) = seat.tickets.get(counts[at]).filter(|(before, _)| is_in && Some(*before) < first_end) else {
+                continue;
+            };
             let kinds = self.kinds_of(&moment, seat, counts[at]);
             next.extend(kinds.into_iter().map(|kind| (*after, at, TrailEvent { worker: seat.worker, kind })));
         }
