@@ -10,15 +10,15 @@ use Rattle.lawful_books.specs.Lists.{Each}
 use Rattle.deque_machine.specs.Moments.{opening}
 use Rattle.deque_machine.specs.Machine.{HasEnded}
 use Rattle.deque_machine.specs.Runs.{moves}
-use Rattle.moment_parts.specs.Parts.{parts_with_root}
-use Rattle.step_laws.proofs.Standing.{root_stands}
+use Rattle.thread_frames.specs.Passed.Parts.{parts_with_root}
+use Rattle.core_parts.proofs.Passed.Standing.{root_stands}
 use Rattle.node_table.specs.Table.{Table}
 use Rattle.space_ledger.specs.Sums.{total_change}
-use Rattle.thread_state.specs.Settings.{IsSettingOf}
+use Rattle.thread_frames.specs.Passed.Settings.{IsSettingOf}
 use Rattle.thread_frames.specs.declared.thread.Thread.{Thread}
 use Rattle.thread_frames.specs.Points.{IsAtPoint, IsResult}
 use Rattle.thread_frames.specs.Shown.{thread_shown, child_shown}
-use Rattle.deque_events.specs.Shown.{deque_shown}
+use Rattle.core_parts.specs.Passed.Shown.{deque_shown}
 use Rattle.core_parts.specs.Held.{Held, parts_in, OwnersSit}
 use Rattle.thread_frames.specs.Kept.{waiting_shown, result_kept, WaitsUnder, IsUnderItsId}
 use Rattle.core_parts.specs.Moments.{shown, HasRun, IsSound, CanGoOn}

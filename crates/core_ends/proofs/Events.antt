@@ -13,9 +13,9 @@ use Rattle.deque_machine.specs.Runs.{Pair}
 use Rattle.deque_machine.specs.Terms.{Terms, machine_of}
 use Rattle.node_table.specs.Table.{Table}
 use Rattle.period_table.specs.Tables.{periods_of}
-use Rattle.step_laws.proofs.Told.{actions_are_added, others_add_none}
+use Rattle.core_parts.proofs.Passed.Told.{actions_are_added, others_add_none}
 use Rattle.thread_frames.specs.Roots.{end_of_root}
-use Rattle.thread_state.specs.Settings.{IsSettingOf}
+use Rattle.thread_frames.specs.Passed.Settings.{IsSettingOf}
 use Rattle.core_parts.specs.declared.event.Event.{Event as Told}
 use Rattle.core_parts.specs.Held.{Held}
 use Rattle.core_parts.specs.Moments.{IsSound}

@@ -8,3 +8,4 @@ pub mod Events
 pub mod Movers
 pub mod Seats
 pub mod Sounds
+pub mod Passed

@@ -20,7 +20,7 @@ use Rattle.depth_first_run.specs.Run.{list_of}
 use Rattle.core_parts.specs.Held.{Held}
 use Rattle.core_parts.specs.Moments.{IsSound, HasRun}
 use Rattle.deque_machine.specs.Terms.{Terms}
-use Rattle.step_laws.specs.Moves.{AreMovesOf}
+use Rattle.core_parts.specs.Passed.Moves.{AreMovesOf}
 use Rattle.depth_first_list.specs.Actions.{Action}
 use Rattle.lawful_books.specs.Lists.{Among, Differ, total}
 use Rattle.lawful_books.specs.Books.{Book, periods_marked}

@@ -11,9 +11,9 @@ use Rattle.deque_machine.specs.Terms.{Terms, machine_of}
 use Rattle.period_table.specs.declared.seat.Seat.{Seat}
 use Rattle.period_table.specs.Tables.{seat_at}
 use Rattle.thread_frames.specs.Shown.{thread_shown}
-use Rattle.step_laws.proofs.Ready.{some_ready_is_shown}
-use Rattle.victim_choice.specs.Choices.{SomeReady, CanMove}
-use Rattle.victim_choice.proofs.Firsts.{first_below}
+use Rattle.core_parts.proofs.Passed.Ready.{some_ready_is_shown}
+use Rattle.core_parts.specs.Passed.Choices.{SomeReady, CanMove}
+use Rattle.core_parts.proofs.Passed.Firsts.{first_below}
 use Rattle.core_parts.specs.Held.{Held, IsInOrder}
 use Rattle.core_parts.specs.Moments.{HasRun}
 use Rattle.core_parts.proofs.Sitting.{seat_owns, idle_owns_none}

@@ -11,7 +11,7 @@ use Rattle.lawful_books.proofs.Keeping.{done_more}
 use Rattle.deque_machine.specs.Moments.{Moment, done_at}
 use Rattle.deque_machine.specs.Machine.{Setting, Event, steals, does, suspends, gives_up, May, HasEnded}
 use Rattle.deque_machine.proofs.Labels.{fork_is_not_root}
-use Rattle.step_laws.proofs.Told as told_of
+use Rattle.core_parts.proofs.Passed.Told as told_of
 use Rattle.thread_map.specs.Kept.{same_thread}
 use Rattle.period_books.specs.Periods.{Period}
 use Rattle.period_books.specs.Names.{HasLabel, of_root, of_fork}

@@ -13,15 +13,15 @@ use Rattle.lawful_books.proofs.Lists.{each_among}
 use Rattle.deque_machine.specs.Moments.{Moment, done_at}
 use Rattle.deque_machine.specs.Machine.{HasEnded}
 use Rattle.deque_machine.specs.Runs.{Pair}
-use Rattle.moment_parts.specs.Parts as parts
-use Rattle.moment_parts.specs.Standing.{EndedIn}
+use Rattle.thread_frames.specs.Passed.Parts as parts
+use Rattle.thread_frames.specs.Passed.Standing.{EndedIn}
 use Rattle.period_books.specs.Names.{HasLabel, of_root}
 use Rattle.period_books.proofs.Labels.{one_label}
 use Rattle.period_table.specs.Tables.{periods_of}
 use Rattle.node_table.specs.Table.{Table}
 use Rattle.thread_map.specs.Kept.{same_thread}
-use Rattle.thread_output.specs.Telling.{fault_of}
-use Rattle.thread_state.specs.Settings.{IsSettingOf}
+use Rattle.thread_frames.specs.Passed.Telling.{fault_of}
+use Rattle.thread_frames.specs.Passed.Settings.{IsSettingOf}
 use Rattle.thread_frames.specs.declared.ended.Ended.{Ended}
 use Rattle.thread_frames.specs.Points.{IsResult}
 use Rattle.thread_frames.specs.Views.{ended_label}

@@ -11,7 +11,7 @@ use Rattle.lawful_books.proofs.Lists.{each_from, each_among, among_parts}
 use Rattle.deque_machine.specs.Moments.{Moment}
 use Rattle.deque_machine.specs.Runs.{Pair}
 use Rattle.deque_machine.specs.Terms.{Terms, machine_of}
-use Rattle.moment_parts.specs.Parts as parts
+use Rattle.thread_frames.specs.Passed.Parts as parts
 use Rattle.thread_frames.specs.Actions.{IsOfTheList}
 use Rattle.thread_frames.specs.Children.{same_id, IsResultFor, either_of, IsAwaited}
 use Rattle.thread_frames.specs.Views.{Child, children_of, label_of, ended_label}
@@ -20,7 +20,7 @@ use Rattle.thread_frames.specs.declared.next.Next.TheVariants as nexts
 use Rattle.thread_frames.specs.declared.thread.Thread.{Thread}
 use Rattle.thread_frames.specs.Shown.{child_shown, thread_shown}
 use Rattle.thread_frames.proofs.Threads.{next_actions_stand}
-use Rattle.deque_events.specs.Shown.{Stands}
+use Rattle.step_laws.specs.Passed.Shown.{Stands}
 use Rattle.step_laws.specs.Results.{IsChildOf}
 use Rattle.step_laws.proofs.Parents.{parents_await}
 use Rattle.core_parts.specs.declared.scheduler.Scheduler.{Scheduler}

@@ -22,21 +22,21 @@ use Rattle.deque_machine.specs.Machine.{HasEnded}
 use Rattle.deque_machine.specs.LawfulOrder.{IsLawful}
 use Rattle.deque_machine.specs.Runs.{Pair}
 use Rattle.deque_machine.proofs.Shapes.{in_threads}
-use Rattle.period_books.specs.Periods.{Period, open_shown}
-use Rattle.period_books.specs.Names.{HasLabel, IsNamed}
-use Rattle.period_books.proofs.Labels.{one_label}
+use Rattle.period_table.specs.Passed.Periods.{Period, open_shown}
+use Rattle.period_table.specs.Passed.Names.{HasLabel, IsNamed}
+use Rattle.period_table.proofs.Passed.Labels.{one_label}
 use Rattle.period_table.specs.declared.seat.Seat.{Seat}
 use Rattle.period_table.specs.declared.table.PeriodTable.{PeriodTable}
 use Rattle.period_table.specs.Tables.{periods_of, period_at, seat_at, deque_at, deque_of, shown_of}
 use Rattle.period_table.proofs.Seats.{some_shown, some_seat}
 use Rattle.period_table.proofs.Lists.{cut_table}
 use Rattle.space_ledger.specs.BooksList.{books_list}
-use Rattle.moment_parts.proofs.Counting.{threads_count_within}
-use Rattle.moment_parts.specs.Parts as parts
-use Rattle.moment_parts.specs.Parts.{IsIn, deque_words}
-use Rattle.moment_parts.specs.Standing.{ThreadStands}
-use Rattle.moment_parts.specs.Events.{Works}
-use Rattle.moment_parts.proofs.Shown.{used_is, book_of_it, deque_words_middle}
+use Rattle.thread_frames.proofs.Passed.Counting.{threads_count_within}
+use Rattle.thread_frames.specs.Passed.Parts as parts
+use Rattle.thread_frames.specs.Passed.Parts.{IsIn, deque_words}
+use Rattle.thread_frames.specs.Passed.Standing.{ThreadStands}
+use Rattle.thread_frames.specs.Passed.Events.{Works}
+use Rattle.thread_frames.proofs.Passed.Shown.{used_is, book_of_it, deque_words_middle}
 use Rattle.depth_first_run.specs.Run.{list_of}
 use Rattle.thread_frames.specs.declared.thread.Thread.{Thread}
 use Rattle.thread_frames.specs.declared.ended.Ended.{Ended}
@@ -45,7 +45,7 @@ use Rattle.thread_frames.specs.Actions.{IsOfTheList}
 use Rattle.thread_frames.specs.Views.{label_of, done_of, thread_words}
 use Rattle.thread_frames.specs.Shown.{thread_shown}
 use Rattle.thread_map.specs.Kept.{kept_under}
-use Rattle.deque_events.specs.Shown.{deque_shown, Stands, parts_under}
+use Rattle.step_laws.specs.Passed.Shown.{deque_shown, Stands, parts_under}
 use Rattle.core_parts.specs.declared.scheduler.Scheduler.{Scheduler}
 use Rattle.core_parts.specs.Held.{held, held_under, parts_in, OwnsNone, IsInOrder}
 use Rattle.thread_frames.specs.Kept.{waiting_shown, result_kept, IsUnderItsId}

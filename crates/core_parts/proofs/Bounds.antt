@@ -20,10 +20,10 @@ use Rattle.deque_machine.specs.LawfulOrder.{IsLawful}
 use Rattle.deque_machine.specs.Runs.{Pair}
 use Rattle.node_table.specs.Table.{Table}
 use Rattle.node_table.specs.Names.{slot_names}
-use Rattle.thread_state.specs.States.{words_held}
-use Rattle.thread_state.specs.Joins.{words_by}
-use Rattle.thread_state.proofs.Held.{holdings_are}
-use Rattle.thread_points.specs.Points.{words_at_end}
+use Rattle.thread_frames.specs.Passed.ThreadStateStates.{words_held}
+use Rattle.thread_frames.specs.Passed.Joins.{words_by}
+use Rattle.thread_frames.proofs.Passed.Held.{holdings_are}
+use Rattle.thread_frames.specs.Passed.Points.{words_at_end}
 use Rattle.depth_first_run.specs.Run.{list_of}
 use Rattle.thread_frames.specs.Passed.Dones.{IsRelease as IsGiven}
 use Rattle.thread_frames.specs.Passed.ThreadRunType.{ThreadRun}
@@ -40,12 +40,12 @@ use Rattle.thread_frames.proofs.Placed.{placed_gives}
 use Rattle.thread_frames.proofs.Doing.{is_release}
 use Rattle.thread_frames.specs.Passed.ReadyVariants as ready
 use Rattle.thread_frames.specs.Passed.Going.{ActsBy}
-use Rattle.thread_points.specs.Points.{marked}
+use Rattle.thread_frames.specs.Passed.Points.{marked}
 use Rattle.depth_first_run.specs.Middle.{step_frame}
-use Rattle.period_books.specs.Periods.{Period, open_shown}
+use Rattle.period_table.specs.Passed.Periods.{Period, open_shown}
 use Rattle.period_table.specs.Tables.{periods_of, seat_at, deque_at, shown_of}
-use Rattle.moment_parts.specs.Parts as parts
-use Rattle.deque_events.specs.Shown.{deque_shown, deque_with, Stands}
+use Rattle.thread_frames.specs.Passed.Parts as parts
+use Rattle.step_laws.specs.Passed.Shown.{deque_shown, deque_with, Stands}
 use Rattle.thread_frames.specs.Shown.{thread_shown}
 use Rattle.core_parts.specs.declared.scheduler.Scheduler.{Scheduler}
 use Rattle.core_parts.specs.Held.{Held, held, IsInOrder}
@@ -55,7 +55,7 @@ use Rattle.core_parts.proofs.Owners.{own_here, owned_shown, own_one, owner_there
 use Rattle.core_parts.proofs.Lists.{among_mapped}
 use Rattle.core_parts.proofs.AtTop.{period_is_there, seat_of_deque}
 use Rattle.lawful_books.specs.Books.{Book}
-use Rattle.period_books.proofs.Changes.{each_has_its_book}
+use Rattle.period_table.proofs.Passed.Changes.{each_has_its_book}
 
 -- ---- words
 

@@ -15,11 +15,11 @@ use Rattle.deque_machine.specs.Machine as machine
 use Rattle.deque_machine.specs.Play as play
 use Rattle.deque_machine.specs.Play.{Meets, words_taken, no_words, no_steps}
 use Rattle.deque_machine.specs.Runs.{Pair, moves}
-use Rattle.period_books.specs.Periods.{Period}
-use Rattle.period_books.specs.Names.{HasLabel, IsNamed}
+use Rattle.period_table.specs.Passed.Periods.{Period}
+use Rattle.period_table.specs.Passed.Names.{HasLabel, IsNamed}
 use Rattle.period_table.specs.Tables.{periods_of}
-use Rattle.moment_parts.specs.Parts.{Parts}
-use Rattle.moment_parts.specs.Events.{Does}
+use Rattle.thread_frames.specs.Passed.Parts.{Parts}
+use Rattle.thread_frames.specs.Passed.Events.{Does}
 use Rattle.depth_first_run.specs.Run.{list_of}
 use Rattle.space_ledger.specs.declared.moved.Moved.{Moved}
 use Rattle.space_ledger.specs.Sums.{total_change}

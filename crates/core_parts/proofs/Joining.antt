@@ -23,12 +23,12 @@ use Rattle.deque_machine.specs.Runs.{Pair}
 use Rattle.deque_machine.proofs.Labels.{one_parent}
 use Rattle.deque_machine.proofs.LiveThreads.{child_live_at_join}
 use Rattle.deque_machine.proofs.Placed.{waits_among}
-use Rattle.period_books.specs.Names.{HasLabel}
-use Rattle.period_books.proofs.Labels.{one_label}
+use Rattle.period_table.specs.Passed.Names.{HasLabel}
+use Rattle.period_table.proofs.Passed.Labels.{one_label}
 use Rattle.period_table.specs.Tables.{periods_of}
-use Rattle.moment_parts.specs.Parts as parts
-use Rattle.moment_parts.specs.Standing.{EndedIn, ChildStands, IsWaiting, ordinal_of}
-use Rattle.moment_parts.specs.Events.{Works, IsNextOf, deques_with, HandsOver, hands_over}
+use Rattle.thread_frames.specs.Passed.Parts as parts
+use Rattle.thread_frames.specs.Passed.Standing.{EndedIn, ChildStands, IsWaiting, ordinal_of}
+use Rattle.thread_frames.specs.Passed.Events.{Works, IsNextOf, deques_with, HandsOver, hands_over}
 use Rattle.depth_first_run.specs.Run.{list_of}
 use Rattle.thread_frames.specs.declared.thread.Thread.{Thread}
 use Rattle.thread_frames.specs.declared.ended.Ended.{Ended}
@@ -39,7 +39,7 @@ use Rattle.thread_frames.specs.Views.{Child, children_of, newest, ordinal_of as 
 use Rattle.thread_frames.specs.Shown.{child_shown, thread_shown, result_shown}
 use Rattle.thread_frames.proofs.Threads.{newest_last, deliveries_hand_over}
 use Rattle.thread_map.specs.Kept.{kept_under}
-use Rattle.deque_events.specs.Shown.{deque_shown, deque_with, Stands}
+use Rattle.step_laws.specs.Passed.Shown.{deque_shown, deque_with, Stands}
 use Rattle.core_parts.specs.declared.scheduler.Scheduler.{Scheduler}
 use Rattle.core_parts.specs.Held.{Held, held_under, parts_in, IsInOrder}
 use Rattle.thread_frames.specs.Kept.{waiting_shown, result_kept, WaitsUnder, IsUnderItsId}

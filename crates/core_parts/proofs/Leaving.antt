@@ -13,11 +13,11 @@ use Rattle.deque_machine.specs.LawfulOrder.{IsLawful}
 use Rattle.deque_machine.specs.Play as play
 use Rattle.deque_machine.specs.Play.{Meets, IsFirst, IsReady, IsThiefsId, Stays, reach, a_give_up, a_theft, no_deque}
 use Rattle.deque_machine.specs.Runs.{Pair, moves}
-use Rattle.period_books.specs.Names.{HasLabel}
+use Rattle.period_table.specs.Passed.Names.{HasLabel}
 use Rattle.period_table.specs.Tables.{periods_of}
-use Rattle.moment_parts.specs.Parts.{Parts}
-use Rattle.moment_parts.specs.Events.{Works, IsNextOf, GivesUp, Suspends, Steals}
-use Rattle.moment_parts.proofs.Placing.{own, top_stands}
+use Rattle.thread_frames.specs.Passed.Parts.{Parts}
+use Rattle.thread_frames.specs.Passed.Events.{Works, IsNextOf, GivesUp, Suspends, Steals}
+use Rattle.thread_frames.proofs.Passed.Placing.{own, top_stands}
 use Rattle.depth_first_run.specs.Run.{list_of}
 use Rattle.step_laws.specs.Standing.{StandsAfter, Keeps}
 use Rattle.step_laws.proofs.Labels.{wait_keeps_labels}

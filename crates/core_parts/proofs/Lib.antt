@@ -9,3 +9,4 @@ pub mod Sitting
 pub mod Joining
 pub mod AtEnd
 pub mod Bounds
+pub mod Passed

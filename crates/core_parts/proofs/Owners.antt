@@ -6,10 +6,10 @@ use Rattle.deque_list.specs.Deques.{Deque}
 use Rattle.lawful_books.specs.Lists.{Among, Each, total}
 use Rattle.lawful_books.proofs.Lists.{one_same, one_cases}
 use Rattle.deque_machine.specs.Moments.{owned_by, one_if_worker}
-use Rattle.moment_parts.specs.Parts as parts
+use Rattle.thread_frames.specs.Passed.Parts as parts
 use Rattle.thread_frames.specs.declared.thread.Thread.{Thread}
 use Rattle.thread_frames.specs.Shown.{thread_shown}
-use Rattle.deque_events.specs.Shown.{deque_shown}
+use Rattle.step_laws.specs.Passed.Shown.{deque_shown}
 
 -- 1 for a deque of the worker
 abbrev pub own_here : ℕ → Deque Thread → ℕ

@@ -16,8 +16,8 @@ use Rattle.deque_machine.specs.LawfulOrder.{IsLawful}
 use Rattle.deque_machine.specs.Play.{Limits, Stop, arena_full, steps_spent, deques_full, Wants, a_theft, a_give_up, a_wait, an_action, Meets, no_deque, no_words, no_steps}
 use Rattle.deque_machine.specs.Runs.{Pair}
 use Rattle.deque_machine.specs.Terms.{Terms, machine_of}
-use Rattle.period_books.specs.Periods.{Period, open_shown}
-use Rattle.period_books.proofs.Changes.{each_has_its_book}
+use Rattle.period_table.specs.Passed.Periods.{Period, open_shown}
+use Rattle.period_table.proofs.Passed.Changes.{each_has_its_book}
 use Rattle.period_table.specs.declared.seat.Seat.{Seat}
 use Rattle.period_table.specs.Tables.{seat_at, deque_at, deque_of, shown_of, periods_of}
 use Rattle.core_parts.specs.Held.{Held, IsInOrder}

@@ -16,14 +16,14 @@ use Rattle.deque_machine.specs.Runs.{Pair, moves}
 use Rattle.space_ledger.specs.Sums.{total_change}
 use Rattle.node_table.specs.Table.{Table}
 use Rattle.period_table.specs.Tables.{deque_at}
-use Rattle.moment_parts.specs.Parts.{Parts}
-use Rattle.moment_parts.specs.Events.{HandsOver}
+use Rattle.thread_frames.specs.Passed.Parts.{Parts}
+use Rattle.thread_frames.specs.Passed.Events.{HandsOver}
 use Rattle.depth_first_run.specs.Run.{list_of}
 use Rattle.thread_frames.specs.declared.thread.Thread.{Thread}
 use Rattle.thread_frames.specs.Points.{IsAtPoint, IsResult}
 use Rattle.thread_frames.specs.Actions.{IsStill}
 use Rattle.thread_frames.specs.Shown.{thread_shown, child_shown}
-use Rattle.deque_events.specs.Shown.{deque_shown, Stands}
+use Rattle.step_laws.specs.Passed.Shown.{deque_shown, Stands}
 use Rattle.core_parts.specs.declared.scheduler.Scheduler.{Scheduler}
 use Rattle.step_laws.specs.Orders.{AreSame}
 use Rattle.core_parts.specs.Held.{Held, held, held_under, parts_in, IsReordered, OwnersSit, IsInOrder, AreAtPoints, AreResults}

@@ -13,9 +13,9 @@ use Rattle.thread_frames.specs.declared.ended.Ended.{Ended}
 use Rattle.thread_frames.specs.Points.{IsAtPoint, IsResult}
 use Rattle.period_table.specs.declared.table.PeriodTable.{PeriodTable}
 use Rattle.period_table.specs.Tables.{periods_of, deque_at}
-use Rattle.moment_parts.specs.Parts as parts
+use Rattle.thread_frames.specs.Passed.Parts as parts
 use Rattle.thread_frames.specs.Shown.{thread_shown}
-use Rattle.deque_events.specs.Shown.{deque_shown, Stands}
+use Rattle.step_laws.specs.Passed.Shown.{deque_shown, Stands}
 use Rattle.thread_frames.specs.Kept.{waiting_shown, result_kept, WaitsUnder, IsUnderItsId}
 use Rattle.core_parts.specs.declared.scheduler.Scheduler.{Scheduler}
 

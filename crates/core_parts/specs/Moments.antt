@@ -8,7 +8,7 @@ use Rattle.deque_machine.specs.Runs.{Pair, moves}
 use Rattle.space_ledger.specs.Sums.{total_change}
 use Rattle.node_table.specs.Table.{Table}
 use Rattle.depth_first_run.specs.Run.{list_of}
-use Rattle.thread_state.specs.Settings.{IsSettingOf}
+use Rattle.thread_frames.specs.Passed.Settings.{IsSettingOf}
 use Rattle.thread_frames.specs.Points.{IsOfProgram}
 use Rattle.core_parts.specs.declared.scheduler.Scheduler.{Scheduler}
 use Rattle.core_parts.specs.Held.{Held, parts_in, IsInOrder, AreAtPoints, AreResults}

@@ -11,8 +11,8 @@ use Rattle.deque_machine.specs.Machine as machine
 use Rattle.deque_machine.specs.Play as play
 use Rattle.deque_machine.specs.Play.{Wants, Meets}
 use Rattle.deque_machine.specs.Runs.{Pair}
-use Rattle.period_books.specs.Periods.{Period}
-use Rattle.period_books.specs.Names.{HasLabel, IsNamed}
+use Rattle.period_table.specs.Passed.Periods.{Period}
+use Rattle.period_table.specs.Passed.Names.{HasLabel, IsNamed}
 use Rattle.period_table.specs.Tables.{periods_of}
 use Rattle.depth_first_run.specs.Run.{list_of}
 use Rattle.core_parts.specs.declared.event.Event.{Event}

@@ -2,3 +2,4 @@ pub mod LabelOrder
 pub mod LabelLaws
 pub mod Births
 pub mod Changes
+pub mod Passed

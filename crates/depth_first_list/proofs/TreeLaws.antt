@@ -1,7 +1,7 @@
 -- The facts of depth-first lists that speak of large allocations and their dummies.
 use Rattle.std.proofs.Common.{◌≡◌, ℕ, suc, ◌+◌, ◌-◌, ◌*◌, ◌≤◌, ◌<◌, List, [], ◌∷◌, ◌++◌, inl, inr, length, refl, sym, subst, ap, ◌∙◌, arith, length-append}
 use Rattle.std.proofs.lemmas.Bool.{cases_order, cases_lt, cases_eq}
-use Rattle.dag_order.specs.LabelOrder.{fork_of}
+use Rattle.dummy_tree.specs.Passed.LabelOrder.{fork_of}
 use Rattle.dummy_tree.specs.Quotas.{dummies_of}
 use Rattle.dummy_tree.proofs.QuotaLaws.{dummies_cover}
 use Rattle.dummy_tree.specs.Shapes.{Shape, leaves, shape_of}

@@ -1,6 +1,6 @@
 -- The rules by which the actions of a run stand in depth-first order.
 use Rattle.std.specs.Prelude.{◌≡◌, ℕ, suc, ◌≤◌, ◌<◌, List, [], ◌∷◌, ◌++◌}
-use Rattle.dag_order.specs.LabelOrder.{fork_of}
+use Rattle.dummy_tree.specs.Passed.LabelOrder.{fork_of}
 use Rattle.dummy_tree.specs.Quotas.{dummies_of}
 use Rattle.dummy_tree.specs.Shapes.{Shape, leaf, forked, shape_of}
 use Rattle.depth_first_list.specs.Actions.{Deed, forks, joins, allocates, releases, dummy, faults, ends, Action, record_words}

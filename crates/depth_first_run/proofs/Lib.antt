@@ -8,3 +8,4 @@ pub mod Words
 pub mod Covered
 pub mod OneAction
 pub mod FewWords
+pub mod Passed

@@ -6,3 +6,4 @@ pub mod Branches
 pub mod Run
 pub mod Middle
 pub mod Laws
+pub mod Passed

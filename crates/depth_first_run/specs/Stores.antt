@@ -2,7 +2,7 @@
 use Rattle.std.specs.Prelude.{ℕ, ◌+◌, ◌*◌, Bool, if◌then◌else◌, List, [], ◌∷◌, ◌++◌, length, ℤ, pos}
 use Rattle.std.specs.Int.{div_ceil}
 use Rattle.std.specs.Str.{bytes_eq}
-use Rattle.par_tree.specs.Tree.{Name}
+use Rattle.par_ownership.specs.Passed.Tree.{Name}
 
 -- a block that is held, under its name: its numbers
 pub record Held : Type 0 where

@@ -6,10 +6,10 @@ use Rattle.dag_order.specs.declared.action_id.ActionId.{ActionId}
 use Rattle.deque_list.specs.declared.deque_id.DequeId.{DequeId}
 use Rattle.deque_list.specs.Deques.{Deque, DequeAt}
 use Rattle.deque_list.specs.DequeLists.{ListView, SameElsewhere}
-use Rattle.depth_first_list.specs.Actions.{ends, Action}
-use Rattle.depth_first_list.specs.Facts.{words_at}
-use Rattle.lawful_books.specs.Books.{charge, charge_at}
-use Rattle.period_books.specs.Periods.{Period, Replaces}
+use Rattle.moment_parts.specs.Passed.Actions.{ends, Action}
+use Rattle.moment_parts.specs.Passed.Facts.{words_at}
+use Rattle.moment_parts.specs.Passed.Books.{charge, charge_at}
+use Rattle.period_table.specs.Passed.Periods.{Period, Replaces}
 use Rattle.period_table.specs.declared.table.PeriodTable.{PeriodTable}
 use Rattle.period_table.specs.Tables.{periods_of, period_at, noted, shut}
 use Rattle.period_table.proofs.Lists.{replaced_twice}

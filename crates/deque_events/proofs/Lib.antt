@@ -3,3 +3,4 @@ pub mod Leaving
 pub mod Stealing
 pub mod Seating
 pub mod Cutting
+pub mod Passed

@@ -9,11 +9,11 @@ use Rattle.dag_order.specs.declared.birth.Birth.{Birth}
 use Rattle.deque_list.specs.declared.deque_id.DequeId.{DequeId}
 use Rattle.deque_list.specs.Deques.{Deque, DequeAt, deque_ids}
 use Rattle.deque_list.specs.DequeLists.{ListView, SameElsewhere, SameRoom}
-use Rattle.depth_first_list.specs.Actions.{Action}
-use Rattle.lawful_books.specs.Lists.{Among}
-use Rattle.lawful_books.specs.Books.{charge_at}
-use Rattle.period_books.specs.Periods.{Period, Replaces}
-use Rattle.period_books.proofs.Sorting.{get_middle}
+use Rattle.moment_parts.specs.Passed.Actions.{Action}
+use Rattle.moment_parts.specs.Passed.Lists.{Among}
+use Rattle.moment_parts.specs.Passed.Books.{charge_at}
+use Rattle.period_table.specs.Passed.Periods.{Period, Replaces}
+use Rattle.period_table.proofs.Passed.Sorting.{get_middle}
 use Rattle.period_table.specs.declared.table.PeriodTable.{PeriodTable}
 use Rattle.period_table.specs.Tables.{periods_of, period_at, seat_at, noted, shut}
 use Rattle.period_table.proofs.Seats.{some_shown}

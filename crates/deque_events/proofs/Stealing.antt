@@ -11,11 +11,11 @@ use Rattle.deque_list.specs.declared.deque_id.DequeId.{DequeId}
 use Rattle.deque_list.specs.Ids.{IsLive}
 use Rattle.deque_list.specs.Deques.{Deque, DequeAt, deque_ids}
 use Rattle.deque_list.specs.DequeLists.{ListView, SameRoom}
-use Rattle.lawful_books.specs.Lists.{Each}
-use Rattle.lawful_books.proofs.Lists.{each_from}
+use Rattle.moment_parts.specs.Passed.Lists.{Each}
+use Rattle.moment_parts.proofs.Passed.Lists.{each_from}
 use Rattle.quota_period.specs.declared.period.Period.{Period as OpenPeriod}
-use Rattle.period_books.specs.Periods.{Adds, open_shown}
-use Rattle.period_books.proofs.Sorting.{get_middle}
+use Rattle.period_table.specs.Passed.Periods.{Adds, open_shown}
+use Rattle.period_table.proofs.Passed.Sorting.{get_middle}
 use Rattle.period_table.specs.declared.table.PeriodTable.{PeriodTable}
 use Rattle.period_table.specs.Tables.{periods_of}
 use Rattle.period_table.proofs.Lists.{place_of_among}

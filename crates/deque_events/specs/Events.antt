@@ -5,15 +5,15 @@ use Rattle.dag_order.specs.LabelOrder.{fork_of}
 use Rattle.deque_list.specs.declared.deque_id.DequeId.{DequeId}
 use Rattle.deque_list.specs.Deques.{Deque}
 use Rattle.deque_list.specs.DequeLists.{ListView}
-use Rattle.depth_first_list.specs.Actions.{Deed, forks, dummy, joins, ends, Action, record_words}
-use Rattle.depth_first_list.specs.Facts.{words_at, weight_at}
-use Rattle.lawful_books.specs.Books.{charge_at}
-use Rattle.period_books.specs.Periods.{Period}
-use Rattle.period_books.specs.Names.{id_of}
+use Rattle.moment_parts.specs.Passed.Actions.{Deed, forks, dummy, joins, ends, Action, record_words}
+use Rattle.moment_parts.specs.Passed.Facts.{words_at, weight_at}
+use Rattle.moment_parts.specs.Passed.Books.{charge_at}
+use Rattle.period_table.specs.Passed.Periods.{Period}
+use Rattle.period_table.specs.Passed.Names.{id_of}
 use Rattle.period_table.specs.declared.table.PeriodTable.{PeriodTable}
 use Rattle.period_table.specs.Tables.{period_at}
 use Rattle.moment_parts.specs.Parts as parts
-use Rattle.lawful_books.specs.Lists.{Each}
+use Rattle.moment_parts.specs.Passed.Lists.{Each}
 use Rattle.moment_parts.specs.Events.{IsNextOf, HasActed, MayDo, IsLeftBy, name_of, Does, GivesUp, Suspends, Steals}
 use Rattle.deque_events.specs.Shown.{parts_of, Stands, parts_under, Holds}
 

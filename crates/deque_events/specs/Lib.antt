@@ -1,3 +1,4 @@
 pub mod Shown
 pub mod Seats
 pub mod Events
+pub mod Passed

@@ -2,9 +2,9 @@
 
 ghost use Rattle.std.specs.Prelude.{◌≡◌, ◌≤◌, ◌+◌, ℕ, List as AnyList, [], ◌∷◌, None, Some};
 ghost use Rattle.language_limits.specs.declared.TheConstants.{GREATEST_QUOTA};
-ghost use Rattle.depth_first_list.specs.Actions.{record_words};
+ghost use Rattle.moment_parts.specs.Passed.Actions.{record_words};
 ghost use Rattle.deque_list.specs.DequeLists.{lane_room};
-ghost use Rattle.period_books.specs.Periods.{Period};
+ghost use Rattle.period_table.specs.Passed.Periods.{Period};
 ghost use Rattle.period_table.specs.Tables.{HasRoom, period_at};
 ghost use Rattle.deque_events.specs.Shown.{Stands, Becomes, deque_with};
 ghost use Rattle.deque_events.specs.Seats.{KeepsSeats, LeavesSeat};

@@ -3,8 +3,8 @@
 ghost use Rattle.std.specs.Prelude.{◌≡◌, ◌≤◌, ◌+◌, ℕ, List as AnyList, [], ◌∷◌, None, Some};
 ghost use Rattle.language_limits.specs.declared.TheConstants.{GREATEST_QUOTA};
 ghost use Rattle.deque_list.specs.DequeLists.{lane_room};
-ghost use Rattle.period_books.specs.Periods.{Period};
-ghost use Rattle.space_ledger.specs.BooksList.{books_spare};
+ghost use Rattle.period_table.specs.Passed.Periods.{Period};
+ghost use Rattle.quota_period.specs.Passed.BooksList.{books_spare};
 ghost use Rattle.period_table.specs.Tables.{HasRoom, period_at};
 ghost use Rattle.deque_events.specs.Shown.{Stands, Becomes, deque_with};
 ghost use Rattle.deque_events.specs.Seats.{KeepsSeats, LeavesSeat};

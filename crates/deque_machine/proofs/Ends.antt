@@ -2,10 +2,10 @@
 use Rattle.std.proofs.Common.{◌≡◌, ℕ, suc, ◌+◌, ◌*◌, ◌≤◌, ◌<◌, ◌⊎◌, List, [], ◌∷◌, ◌++◌, length, inl, inr, refl, sym, ap, subst, ◌∙◌, arith, length-append, cond, nat_lt, nat_le, Bool, true, false}
 use Rattle.std.specs.Prelude.{Option, None, Some}
 use Rattle.std.proofs.lemmas.Bool.{cases_lt, lt-ltb, leb-true}
-use Rattle.dag_order.specs.LabelOrder.{fork_of}
-use Rattle.depth_first_list.specs.Actions.{Deed, forks, joins, allocates, releases, dummy, faults, ends, record_words}
-use Rattle.depth_first_list.specs.Runs.{IsDepthFirst}
-use Rattle.depth_first_list.specs.Facts.{label_at, deed_at, words_at, IsDone}
+use Rattle.depth_first_run.specs.Passed.LabelOrder.{fork_of}
+use Rattle.lawful_books.specs.Passed.Actions.{Deed, forks, joins, allocates, releases, dummy, faults, ends, record_words}
+use Rattle.lawful_books.specs.Passed.Runs.{IsDepthFirst}
+use Rattle.lawful_books.specs.Passed.Facts.{label_at, deed_at, words_at, IsDone}
 use Rattle.lawful_books.specs.Lists.{Among, Each, Differ, total, times, one_if_same}
 use Rattle.lawful_books.specs.Books.{Book, booked, charge, charge_at, charged, book_of}
 use Rattle.lawful_books.specs.Lawful.{LawfulBooks}

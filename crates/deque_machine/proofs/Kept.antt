@@ -1,9 +1,9 @@
 -- Each case of the machine keeps a moment lawful, and the opening moment is lawful.
 use Rattle.std.proofs.Common.{◌≡◌, ℕ, ◌<◌, List, [], inl, inr, refl, arith}
-use Rattle.depth_first_list.specs.Actions.{Action}
-use Rattle.depth_first_list.specs.Runs.{IsDepthFirst}
-use Rattle.depth_first_list.specs.Facts.{label_at, IsLive}
-use Rattle.depth_first_list.proofs.ThreadLaws.{root_ends}
+use Rattle.lawful_books.specs.Passed.Actions.{Action}
+use Rattle.lawful_books.specs.Passed.Runs.{IsDepthFirst}
+use Rattle.lawful_books.specs.Passed.Facts.{label_at, IsLive}
+use Rattle.lawful_books.proofs.Passed.ThreadLaws.{root_ends}
 use Rattle.lawful_books.proofs.Lists.{one_cases}
 use Rattle.lawful_books.proofs.Keeping.{no_books_are_lawful}
 use Rattle.deque_machine.specs.Moments.{Moment, opening}

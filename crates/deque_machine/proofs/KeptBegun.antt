@@ -2,12 +2,12 @@
 use Rattle.std.proofs.Common.{◌≡◌, ◌≢◌, ℕ, ◌≤◌, ◌<◌, ◌⊎◌, List, [], ◌∷◌, ◌++◌, length, inl, inr, refl, sym, ap, subst, ◌∙◌, arith, nat_lt, nat_le, Bool, true, false, ◌||◌, true≢false}
 use Rattle.std.specs.Prelude.{Option, None, Some, is_some}
 use Rattle.std.proofs.lemmas.Bool.{cases_lt, cases_eq, cases_Bool, leb-true, leb-false, lt-ltb}
-use Rattle.dag_order.specs.LabelOrder.{fork_of, Before}
-use Rattle.depth_first_list.specs.Actions.{Action}
-use Rattle.depth_first_list.specs.Runs.{IsDepthFirst}
-use Rattle.depth_first_list.specs.Facts.{label_at, deed_at, IsDone, IsLive, IsNext}
-use Rattle.depth_first_list.proofs.OrderLaw.{labels_follow_the_list, first_missing_is_next}
-use Rattle.depth_first_list.proofs.JoinLaws.{join_stands_behind_child}
+use Rattle.depth_first_run.specs.Passed.LabelOrder.{fork_of, Before}
+use Rattle.lawful_books.specs.Passed.Actions.{Action}
+use Rattle.lawful_books.specs.Passed.Runs.{IsDepthFirst}
+use Rattle.lawful_books.specs.Passed.Facts.{label_at, deed_at, IsDone, IsLive, IsNext}
+use Rattle.lawful_books.proofs.Passed.OrderLaw.{labels_follow_the_list, first_missing_is_next}
+use Rattle.lawful_books.proofs.Passed.JoinLaws.{join_stands_behind_child}
 use Rattle.lawful_books.specs.Lists.{Among, Each, one_if_same, times}
 use Rattle.lawful_books.specs.Books.{Book, booked, done_in, IsPrefix, goes_past, is_ahead, book_of}
 use Rattle.lawful_books.specs.Lawful.{LawfulBooks}

@@ -2,11 +2,11 @@
 use Rattle.std.proofs.Common.{◌≡◌, ◌≢◌, ℕ, ◌+◌, ◌≤◌, ◌<◌, List, [], ◌∷◌, ◌++◌, length, inl, inr, refl, sym, ap, subst, ◌∙◌, arith, cond, nat_lt, true}
 use Rattle.std.specs.Prelude.{Option, None, Some}
 use Rattle.std.proofs.lemmas.Bool.{cases_lt, le-leb, lt-leb}
-use Rattle.dag_order.specs.LabelOrder.{fork_of}
-use Rattle.depth_first_list.specs.Actions.{Deed, forks, joins, allocates, releases, dummy, faults, ends}
-use Rattle.depth_first_list.specs.Runs.{IsDepthFirst}
-use Rattle.depth_first_list.specs.Facts.{label_at, deed_at, words_at, IsLive, IsNext}
-use Rattle.depth_first_list.proofs.ThreadLaws.{end_is_last}
+use Rattle.depth_first_run.specs.Passed.LabelOrder.{fork_of}
+use Rattle.lawful_books.specs.Passed.Actions.{Deed, forks, joins, allocates, releases, dummy, faults, ends}
+use Rattle.lawful_books.specs.Passed.Runs.{IsDepthFirst}
+use Rattle.lawful_books.specs.Passed.Facts.{label_at, deed_at, words_at, IsLive, IsNext}
+use Rattle.lawful_books.proofs.Passed.ThreadLaws.{end_is_last}
 use Rattle.lawful_books.specs.Lists.{Each, times}
 use Rattle.lawful_books.specs.Books.{Book, booked, done_in, charge, charge_at, charged}
 use Rattle.lawful_books.specs.Lawful.{LawfulBooks}

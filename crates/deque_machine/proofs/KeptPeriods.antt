@@ -1,10 +1,10 @@
 -- Each case of the machine keeps the periods and the births in order.
 use Rattle.std.proofs.Common.{◌≡◌, ◌≢◌, ℕ, ◌≤◌, ◌<◌, ◌⊎◌, List, [], ◌∷◌, ◌++◌, length, inl, inr, refl, sym, ap, subst, ◌∙◌, arith, append_assoc, nat_lt, true, true≢false}
 use Rattle.std.specs.Prelude.{Option, None, Some, is_some}
-use Rattle.dag_order.specs.LabelOrder.{fork_of}
-use Rattle.depth_first_list.specs.Actions.{forks, Action}
-use Rattle.depth_first_list.specs.Runs.{IsDepthFirst}
-use Rattle.depth_first_list.specs.Facts.{label_at, deed_at, IsLive, IsNext}
+use Rattle.depth_first_run.specs.Passed.LabelOrder.{fork_of}
+use Rattle.lawful_books.specs.Passed.Actions.{forks, Action}
+use Rattle.lawful_books.specs.Passed.Runs.{IsDepthFirst}
+use Rattle.lawful_books.specs.Passed.Facts.{label_at, deed_at, IsLive, IsNext}
 use Rattle.lawful_books.specs.Lists.{Among, Each}
 use Rattle.lawful_books.specs.Books.{Book, booked, one_more, book_of}
 use Rattle.lawful_books.proofs.Lists.{each_map, each_from, each_among, each_at, each_join, each_left, each_right, among_here, among_left, among_right, among_wider, among_parts, total_append, one_cases}

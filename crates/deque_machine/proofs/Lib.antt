@@ -16,3 +16,4 @@ pub mod Ends
 pub mod Progress
 pub mod Movers
 pub mod Playing
+pub mod Passed

@@ -4,9 +4,9 @@ use Rattle.std.specs.Prelude.{Option, None, Some, is_some, slice_get, unwrap_or}
 use Rattle.std.proofs.lemmas.Bool.{cases_lt}
 use Rattle.std.proofs.lemmas.Int.{ints, by_lt_z}
 use Rattle.std.proofs.Math.Nat.{mod-lt}
-use Rattle.depth_first_list.specs.Actions.{Deed, forks, joins, allocates, releases, dummy, faults, ends, record_words, weight_of}
-use Rattle.depth_first_list.specs.Runs.{IsDepthFirst}
-use Rattle.depth_first_list.specs.Facts.{action_at, deed_at, words_at, weight_at}
+use Rattle.lawful_books.specs.Passed.Actions.{Deed, forks, joins, allocates, releases, dummy, faults, ends, record_words, weight_of}
+use Rattle.lawful_books.specs.Passed.Runs.{IsDepthFirst}
+use Rattle.lawful_books.specs.Passed.Facts.{action_at, deed_at, words_at, weight_at}
 use Rattle.lawful_books.specs.Lists.{total}
 use Rattle.lawful_books.specs.Books.{booked, periods_ahead}
 use Rattle.lawful_books.specs.Lawful.{LawfulBooks}

@@ -2,11 +2,11 @@
 use Rattle.std.proofs.Common.{◌≡◌, ◌≢◌, ℕ, zero, suc, ◌+◌, ◌≤◌, ◌<◌, ◌⊎◌, List, [], ◌∷◌, ◌++◌, length, inl, inr, refl, sym, ap, subst, ◌∙◌, arith, cond, true≢false, mod-lt}
 use Rattle.std.specs.Prelude.{Option, None, Some, is_some, slice_get, unwrap_or}
 use Rattle.std.proofs.lemmas.Bool.{cases_lt, le-leb}
-use Rattle.dag_order.specs.LabelOrder.{fork_of}
-use Rattle.dag_order.specs.LabelLaws.{three_ways, never_before_itself}
-use Rattle.depth_first_list.specs.Actions.{Deed, forks, joins, allocates, releases, dummy, faults, ends}
-use Rattle.depth_first_list.specs.Runs.{IsDepthFirst}
-use Rattle.depth_first_list.specs.Facts.{deed_at, words_at, IsLive, IsNext}
+use Rattle.depth_first_run.specs.Passed.LabelOrder.{fork_of}
+use Rattle.depth_first_run.specs.Passed.LabelLaws.{three_ways, never_before_itself}
+use Rattle.lawful_books.specs.Passed.Actions.{Deed, forks, joins, allocates, releases, dummy, faults, ends}
+use Rattle.lawful_books.specs.Passed.Runs.{IsDepthFirst}
+use Rattle.lawful_books.specs.Passed.Facts.{deed_at, words_at, IsLive, IsNext}
 use Rattle.lawful_books.specs.Lists.{Each}
 use Rattle.lawful_books.specs.Books.{charge, charge_at, charged}
 use Rattle.lawful_books.proofs.Lists.{each_at, by_end, cons_is_not_nil}
@@ -15,6 +15,7 @@ use Rattle.deque_machine.specs.Machine.{Setting, Event, steals, does, Owns, IsAt
 use Rattle.deque_machine.specs.LawfulOrder.{Stacked, ChildrenAbove, IsLawful, Waits}
 use Rattle.deque_machine.specs.Play.{IsReady, reach, IsThiefsId, Stays, Wants, a_theft, a_give_up, a_wait, an_action}
 use Rattle.deque_machine.proofs.KeptOrder.{suspended}
+use Rattle.depth_first_run.specs.Passed.LabelOrder.{Before as ComesBefore}
 
 -- a moment behind an event
 abbrev pub Comes : Setting → Moment → ℕ → Event → Type 0
@@ -32,8 +33,8 @@ some_is_not_none t is = true≢false (sym (ap is_some is))
 
 pub same_label : (a b : List ℕ) → (a ≡ b) ⊎ (a ≢ b)
 same_label a b = elim (three_ways a b) [
-  | inl before ↦ inr (λ e. never_before_itself b (subst (λ t. Rattle.dag_order.specs.LabelOrder.Before t b) e before))
-  | inr r ↦ elim r [ inl same ↦ inl same | inr behind ↦ inr (λ e. never_before_itself b (subst (λ t. Rattle.dag_order.specs.LabelOrder.Before b t) e behind)) ]
+  | inl before ↦ inr (λ e. never_before_itself b (subst (λ t. ComesBefore t b) e before))
+  | inr r ↦ elim r [ inl same ↦ inl same | inr behind ↦ inr (λ e. never_before_itself b (subst (λ t. ComesBefore b t) e behind)) ]
 ]
 
 -- a waiting thread whose child this is, cut out, or there is none

@@ -6,10 +6,10 @@ use Rattle.std.proofs.lemmas.Bool.{cases_Bool, ltb-false}
 use Rattle.std.proofs.lemmas.Int.{ints, clamps}
 use Rattle.std.proofs.lemmas.Nat.{mul-le}
 use Rattle.std.proofs.lemmas.List.{nil_from_length, map-append}
-use Rattle.depth_first_list.specs.Actions.{Deed, forks, joins, allocates, releases, dummy, faults, ends, Action, live_words, peak, weight, weight_of}
-use Rattle.depth_first_list.specs.Runs.{IsDepthFirst}
-use Rattle.depth_first_list.specs.Facts.{action_at, label_at, deed_at, words_at, weight_at}
-use Rattle.depth_first_list.proofs.Weights.{root_end_is_weightless}
+use Rattle.lawful_books.specs.Passed.Actions.{Deed, forks, joins, allocates, releases, dummy, faults, ends, Action, live_words, peak, weight, weight_of}
+use Rattle.lawful_books.specs.Passed.Runs.{IsDepthFirst}
+use Rattle.lawful_books.specs.Passed.Facts.{action_at, label_at, deed_at, words_at, weight_at}
+use Rattle.lawful_books.proofs.Passed.Weights.{root_end_is_weightless}
 use Rattle.lawful_books.specs.Books.{Book, booked, words_in_use, IsPrefix, is_ahead, one_if_ahead, one_if_marked, periods_ahead, periods_marked, bound, one_more, book_of}
 use Rattle.lawful_books.proofs.Lists.{total_append, total_below, each_map}
 use Rattle.lawful_books.proofs.Parts.{live_append}

@@ -1,6 +1,6 @@
 -- What keeps a play from each of its three stops.
 use Rattle.std.specs.Prelude.{ℕ, ◌<◌, ◌≤◌, List, length, ℤ, pos, ◌≤ℤ◌}
-use Rattle.depth_first_list.specs.Facts.{action_at}
+use Rattle.lawful_books.specs.Passed.Facts.{action_at}
 use Rattle.lawful_books.specs.Books.{IsPrefix, periods_ahead, bound}
 use Rattle.lawful_books.specs.Lists.{total}
 use Rattle.deque_machine.specs.Moments.{Moment, opening, done_at}

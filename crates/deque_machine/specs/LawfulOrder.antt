@@ -1,8 +1,8 @@
 -- Lawful order, and what else holds at each moment of a run.
 use Rattle.std.specs.Prelude.{◌≡◌, ◌≢◌, ◌⊎◌, ℕ, ◌<◌, ◌≤◌, true, false, Option, None, Some, List, [], ◌∷◌, ◌++◌}
-use Rattle.dag_order.specs.LabelOrder.{fork_of}
-use Rattle.depth_first_list.specs.Actions.{forks, joins, Action}
-use Rattle.depth_first_list.specs.Facts.{label_at, deed_at, IsLive, IsNext}
+use Rattle.depth_first_run.specs.Passed.LabelOrder.{fork_of}
+use Rattle.lawful_books.specs.Passed.Actions.{forks, joins, Action}
+use Rattle.lawful_books.specs.Passed.Facts.{label_at, deed_at, IsLive, IsNext}
 use Rattle.lawful_books.specs.Lists.{Among, Each, Differ}
 use Rattle.lawful_books.specs.Books.{Book, booked, IsPrefix, is_ahead}
 use Rattle.lawful_books.specs.Lawful.{LawfulBooks}

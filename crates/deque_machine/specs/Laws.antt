@@ -1,8 +1,8 @@
 -- What holds of each moment that the machine reaches, of runs and of plays.
 use Rattle.std.specs.Prelude.{◌≡◌, ℕ, ◌<◌, ◌≤◌, List, [], length, pos, ◌+ℤ◌, ◌≤ℤ◌, ◌<ℤ◌, suc, ◌+◌, ◌*◌}
-use Rattle.depth_first_list.specs.Actions.{live_words, record_words}
-use Rattle.depth_first_list.specs.Runs.{IsDepthFirst}
-use Rattle.depth_first_list.specs.Facts.{weight_at}
+use Rattle.lawful_books.specs.Passed.Actions.{live_words, record_words}
+use Rattle.lawful_books.specs.Passed.Runs.{IsDepthFirst}
+use Rattle.lawful_books.specs.Passed.Facts.{weight_at}
 use Rattle.lawful_books.specs.Books.{IsPrefix, periods_ahead, periods_marked, bound, booked}
 use Rattle.deque_machine.specs.Moments.{Moment, opening, done_at, live_at}
 use Rattle.deque_machine.specs.Machine.{Setting, Event, does, May, HasEnded}

@@ -7,3 +7,4 @@ pub mod Terms
 pub mod Laws
 pub mod Completeness
 pub mod Fronts
+pub mod Passed

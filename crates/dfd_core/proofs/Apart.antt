@@ -24,8 +24,8 @@ use Rattle.deque_machine.specs.Moments.{opening, done_at}
 use Rattle.deque_machine.specs.Runs.{Pair, moves}
 use Rattle.lawful_books.specs.Lists.{Among, Each, total}
 use Rattle.lawful_books.proofs.Lists.{middle_is_not_nil}
-use Rattle.moment_parts.specs.Parts as parts
-use Rattle.moment_parts.specs.Standing.{ChildStands, ThreadStands}
+use Rattle.thread_frames.specs.Passed.Parts as parts
+use Rattle.thread_frames.specs.Passed.Standing.{ChildStands, ThreadStands}
 use Rattle.node_table.specs.Table.{Table}
 use Rattle.period_books.specs.Periods.{Period, closed_shown}
 use Rattle.period_books.specs.Telling.{Tell}
@@ -42,10 +42,10 @@ use Rattle.thread_frames.specs.declared.thread.Thread.{Thread}
 use Rattle.thread_frames.specs.Points.{IsAtPoint}
 use Rattle.thread_frames.specs.Views.{label_of, done_of, children_of, thread_words}
 use Rattle.thread_frames.specs.Shown.{thread_shown, child_shown}
-use Rattle.deque_events.specs.Shown.{deque_shown}
+use Rattle.thief_steps.specs.Passed.Shown.{deque_shown}
 use Rattle.core_parts.specs.Held.{Held, parts_in}
 use Rattle.core_parts.specs.Moments.{IsSound, CanGoOn, HasRun}
-use Rattle.step_laws.specs.Moves.{AreMovesOf}
+use Rattle.core_parts.specs.Passed.Moves.{AreMovesOf}
 use Rattle.deque_machine.specs.Terms.{Terms}
 use Rattle.run_end.specs.declared.ends.RunEnd.{RunEnd}
 use Rattle.run_end.specs.declared.ends.RunEnd.TheVariants.{Finished, Stopped}

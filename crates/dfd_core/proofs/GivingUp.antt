@@ -12,8 +12,8 @@ use Rattle.deque_machine.specs.Machine as machine
 use Rattle.deque_machine.specs.Machine.{gives_up, May}
 use Rattle.deque_machine.specs.Runs.{Pair}
 use Rattle.node_table.specs.Table.{Table}
-use Rattle.step_laws.proofs.Going.{runs_go_on}
-use Rattle.step_laws.proofs.Told.{tells}
+use Rattle.core_parts.proofs.Passed.Going.{runs_go_on}
+use Rattle.core_parts.proofs.Passed.Told.{tells}
 use Rattle.thread_state.specs.Settings.{IsSettingOf}
 use Rattle.run_end.specs.declared.stop.Stop.TheVariants.{OutOfMemory}
 use Rattle.core_parts.specs.Held.{Held}

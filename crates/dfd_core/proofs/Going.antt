@@ -9,7 +9,7 @@ use Rattle.deque_machine.specs.Moments.{Moment}
 use Rattle.deque_machine.specs.Play as play
 use Rattle.deque_machine.specs.Runs.{Pair}
 use Rattle.node_table.specs.Table.{Table}
-use Rattle.step_laws.proofs.Going.{runs_go_on}
+use Rattle.core_parts.proofs.Passed.Going.{runs_go_on}
 use Rattle.thread_state.specs.Settings.{IsSettingOf}
 use Rattle.core_parts.specs.declared.event.Event.{Event as Told}
 use Rattle.run_end.specs.declared.stop.Stop.{Stop}

@@ -9,3 +9,4 @@ pub mod Taking
 pub mod Underway
 pub mod Bounded
 pub mod Same
+pub mod Passed

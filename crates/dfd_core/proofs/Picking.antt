@@ -17,7 +17,7 @@ use Rattle.period_table.specs.declared.seat.Seat.{Seat}
 use Rattle.period_table.specs.Tables.{seat_at}
 use Rattle.victim_choice.specs.Choices.{IsReadyAt, SomeReady, CanMove, reach_of}
 use Rattle.thread_frames.specs.Shown.{thread_shown}
-use Rattle.step_laws.proofs.Ready.{first_is_shown, some_ready_is_shown}
+use Rattle.core_parts.proofs.Passed.Ready.{first_is_shown, some_ready_is_shown}
 use Rattle.core_parts.specs.Held.{Held}
 use Rattle.core_parts.specs.Moments.{IsSound}
 use Rattle.deque_machine.specs.Terms.{Terms, machine_of}

@@ -5,3 +5,4 @@ pub mod Cores
 pub mod Plays
 pub mod Turns
 pub mod Parts
+pub mod Passed

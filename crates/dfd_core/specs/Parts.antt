@@ -1,7 +1,7 @@
 -- What is left of a core that is taken apart.
 use Rattle.std.specs.Prelude.{◌≡◌, ℕ, Option, None, List, [], map}
 use Rattle.dag_order.specs.Births.{root}
-use Rattle.step_laws.specs.Moves.{AreMovesOf}
+use Rattle.core_parts.specs.Passed.Moves.{AreMovesOf}
 use Rattle.deque_machine.specs.Moments.{Moment, opening}
 use Rattle.deque_machine.specs.Runs.{Pair, moves}
 use Rattle.depth_first_run.specs.States.{Setting}

@@ -3,3 +3,4 @@ pub mod QuotaWords
 pub mod Leaves
 pub mod TreeLeaves
 pub mod Shapes
+pub mod Passed

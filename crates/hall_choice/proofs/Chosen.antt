@@ -7,16 +7,16 @@ use Rattle.std.specs.Prelude.{Some, slice_get}
 use mathlib.Core.List.{map-append}
 use Rattle.deque_list.specs.declared.place.Place.{Place}
 use Rattle.lawful_books.specs.Lists.{Among}
-use Rattle.thread_frames.specs.Shown.{thread_shown}
+use Rattle.hall_turns.specs.Passed.Shown.{thread_shown}
 use Rattle.turn_table.specs.declared.look.Look.{Look}
 use Rattle.turn_table.specs.Hands.{took}
 use Rattle.turn_table.specs.Seats.{with_hand}
 use Rattle.turn_places.specs.Backs.{kept, told_more}
-use Rattle.victim_choice.proofs.Turns.{has_turn}
-use Rattle.hall_law.specs.Values.{LaneShown, of_lane}
-use Rattle.hall_law.specs.Writing.{lane_slot}
-use Rattle.hall_law.specs.Receipts as shown
-use Rattle.hall_law.specs.Receipts.{SawLane, ShowsReady, ShowsUnready, ShowsVictim, ShowsNothing}
+use Rattle.hall_turns.proofs.Passed.Turns.{has_turn}
+use Rattle.hall_turns.specs.Passed.Values.{LaneShown, of_lane}
+use Rattle.hall_turns.specs.Passed.Writing.{lane_slot}
+use Rattle.hall_turns.specs.Passed.Receipts as shown
+use Rattle.hall_turns.specs.Passed.Receipts.{SawLane, ShowsReady, ShowsUnready, ShowsVictim, ShowsNothing}
 use Rattle.hall_turns.specs.declared.lane_slot.LaneSlot.{LaneSlot}
 use Rattle.hall_turns.specs.declared.list_slot.ListSlot.{ListSlot}
 use Rattle.hall_turns.specs.declared.slot.Slot.{Slot}

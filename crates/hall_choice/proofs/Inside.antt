@@ -7,13 +7,13 @@ use denote.Struct.Props.{props}
 use Rattle.depth_first_run.specs.States.{Setting}
 use Rattle.deque_list.specs.declared.place.Place.{Place}
 use Rattle.deque_machine.specs.Terms.{Terms, machine_of}
-use Rattle.hall_law.proofs.Notes.{each_get}
+use Rattle.hall_turns.proofs.Passed.Notes.{each_get}
 use Rattle.turn_table.specs.Hands.{Shows}
 use Rattle.turn_table.specs.Law.{Stands}
 use Rattle.turn_table.specs.Notes.{notes}
-use Rattle.hall_law.specs.Values.{Hall, ListShown, lane_in}
-use Rattle.hall_law.specs.Standing.{HasLane}
-use Rattle.hall_law.specs.State.{HallLaw}
+use Rattle.hall_turns.specs.Passed.Values.{Hall, ListShown, lane_in}
+use Rattle.hall_turns.specs.Passed.Standing.{HasLane}
+use Rattle.hall_turns.specs.Passed.State.{HallLaw}
 use Rattle.hall_turns.specs.declared.list_slot.ListSlot.{ListSlot}
 use Rattle.hall_turns.specs.declared.slot.Slot.{Slot}
 use Rattle.hall_turns.specs.declared.slot.Slot.TheVariants as slots

@@ -6,8 +6,8 @@ use Rattle.turn_table.specs.declared.look.Look.TheVariants.{Took, Refused, Count
 use Rattle.turn_table.specs.Hands.{took}
 use Rattle.turn_table.specs.Seats.{with_hand}
 use Rattle.turn_places.specs.Backs.{kept, told_more}
-use Rattle.hall_law.specs.Receipts as shown
-use Rattle.hall_law.specs.Receipts.{ShowsUnready, ShowsVictim, ShowsNothing}
+use Rattle.hall_turns.specs.Passed.Receipts as shown
+use Rattle.hall_turns.specs.Passed.Receipts.{ShowsUnready, ShowsVictim, ShowsNothing}
 use Rattle.hall_turns.specs.declared.lane_slot.LaneSlot.{LaneSlot}
 use Rattle.hall_turns.specs.declared.list_slot.ListSlot.{ListSlot}
 use Rattle.hall_turns.specs.declared.slot.Slot.{Slot}

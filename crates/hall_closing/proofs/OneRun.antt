@@ -10,11 +10,11 @@ use Rattle.depth_first_run.proofs.Built.{whole_is_depth_first}
 use Rattle.deque_machine.specs.Terms.{Terms, machine_of}
 use Rattle.run_end.specs.declared.ends.RunEnd.{RunEnd}
 use Rattle.thread_state.specs.Settings.{IsSettingOf}
-use Rattle.hall_law.specs.Views.{View}
-use Rattle.hall_law.proofs.Notes.{each_by_place}
-use Rattle.hall_law.specs.State.{HallLaw}
-use Rattle.hall_law.specs.Closing.{IsAlone}
-use Rattle.hall_law.proofs.Closed.{seats_with_all_are_alone, closed_give_one_run}
+use Rattle.hall_turns.specs.Passed.Views.{View}
+use Rattle.hall_turns.proofs.Passed.Notes.{each_by_place}
+use Rattle.hall_turns.specs.Passed.State.{HallLaw}
+use Rattle.hall_turns.specs.Passed.Closing.{IsAlone}
+use Rattle.hall_turns.proofs.Passed.Closed.{seats_with_all_are_alone, closed_give_one_run}
 use Rattle.hall_turns.specs.declared.list_slot.ListSlot.{ListSlot}
 use Rattle.hall_turns.specs.declared.pool_slot.PoolSlot.{PoolSlot}
 use Rattle.hall_turns.specs.declared.seat_note.SeatNote.{SeatNote}

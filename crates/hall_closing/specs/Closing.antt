@@ -11,15 +11,15 @@ use Rattle.lawful_books.specs.Lists.{Each}
 use Rattle.run_end.specs.declared.ends.RunEnd.{RunEnd}
 use Rattle.run_end.specs.declared.ends.RunEnd.TheVariants.{Finished}
 use Rattle.thread_map.specs.Kept.{kept_under}
-use Rattle.thread_frames.specs.Roots.{end_of_root}
+use Rattle.hall_turns.specs.Passed.Roots.{end_of_root}
 use Rattle.thread_state.specs.Settings.{IsSettingOf}
 use Rattle.turn_table.specs.declared.look.Look.TheVariants.{Took}
 use Rattle.turn_table.specs.Seats.{with_hand}
-use Rattle.hall_law.specs.Values.{Hall}
-use Rattle.hall_law.specs.Steps.{Step, Leads}
-use Rattle.hall_law.specs.Views.{View}
-use Rattle.hall_law.specs.State.{RunningState}
-use Rattle.hall_law.specs.Closing.{GivesOneRun}
+use Rattle.hall_turns.specs.Passed.Values.{Hall}
+use Rattle.hall_turns.specs.Passed.Steps.{Step, Leads}
+use Rattle.hall_turns.specs.Passed.Views.{View}
+use Rattle.hall_turns.specs.Passed.State.{RunningState}
+use Rattle.hall_turns.specs.Passed.Closing.{GivesOneRun}
 use Rattle.hall_turns.specs.declared.list_slot.ListSlot.{ListSlot}
 use Rattle.hall_turns.specs.declared.pool_slot.PoolSlot.{PoolSlot}
 use Rattle.hall_turns.specs.declared.seat_note.SeatNote.{SeatNote}

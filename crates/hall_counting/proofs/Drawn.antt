@@ -12,18 +12,18 @@ use lib.Seq.{map-set}
 use Rattle.depth_first_run.specs.States.{Setting}
 use Rattle.depth_first_run.proofs.Built.{whole_is_depth_first}
 use Rattle.deque_machine.specs.Terms.{Terms, machine_of}
-use Rattle.thread_state.specs.Settings.{IsSettingOf}
+use Rattle.hall_turns.specs.Passed.Settings.{IsSettingOf}
 use Rattle.turn_table.specs.declared.look.Look.TheVariants.{Counted}
 use Rattle.turn_table.specs.Law.{CountKeeps}
 use Rattle.turn_table.specs.Notes.{CountMay}
 use Rattle.turn_table.proofs.NoteLaws.{count_noted}
 use Rattle.turn_places.proofs.Resting.{count_rests}
-use Rattle.hall_law.specs.Values.{no_memory}
-use Rattle.hall_law.specs.Views.{View}
-use Rattle.hall_law.proofs.Leaving.{counts_are_few}
-use Rattle.hall_law.specs.State.{IsIn, HallLaw}
-use Rattle.hall_law.proofs.Quiet.{counts_go_on}
-use Rattle.hall_law.proofs.Stops.{spent_counts_go_on}
+use Rattle.hall_turns.specs.Passed.Values.{no_memory}
+use Rattle.hall_turns.specs.Passed.Views.{View}
+use Rattle.hall_turns.proofs.Passed.Leaving.{counts_are_few}
+use Rattle.hall_turns.specs.Passed.State.{IsIn, HallLaw}
+use Rattle.hall_turns.proofs.Passed.Quiet.{counts_go_on}
+use Rattle.hall_turns.proofs.Passed.Stops.{spent_counts_go_on}
 use Rattle.hall_turns.specs.declared.seat_note.SeatNote.{SeatNote}
 use Rattle.hall_turns.specs.declared.slot.Slot.{Slot}
 use Rattle.hall_turns.specs.Shown.{view_of, value_of, stop_shown, end_shown}

@@ -10,8 +10,8 @@ use Rattle.hall_turns.specs.declared.pool_slot.PoolSlot.{PoolSlot}
 use Rattle.hall_turns.specs.declared.key.HallKey.{HallKey}
 use Rattle.hall_turns.specs.Takes.{HallSeat}
 use Rattle.hall_events.specs.PartEvents.Writes.{told_note}
-use Rattle.thread_frames.specs.declared.ended.Ended.{Ended}
-use Rattle.thread_frames.specs.declared.thread.Thread.{Thread}
+use Rattle.hall_turns.specs.Passed.EndedType.{Ended}
+use Rattle.hall_turns.specs.Passed.ThreadType.{Thread}
 use Rattle.hall_events.specs.Taken.{IsAtAction}
 use Rattle.hall_events.proofs.Ends.{leaving_ends_may_come, waking_ends_may_come, kept_joins_may_come}
 use Rattle.hall_events.proofs.Staying.{left_stays_sound, woken_stays_sound, handed_stays_sound}

@@ -12,8 +12,8 @@ use Rattle.hall_turns.specs.Takes.{HallSeat}
 use Rattle.hall_events.specs.PartEvents.Writes.{told_note, IsShort}
 use Rattle.run_end.specs.declared.stop.Stop.TheVariants.{OutOfMemory}
 use Rattle.std.proofs.lemmas.Option.{none-some}
-use Rattle.thread_frames.specs.Points.{IsAtPoint}
-use Rattle.hall_law.specs.Points.{LaneAtPoints}
+use Rattle.hall_turns.specs.Passed.Points.{IsAtPoint}
+use Rattle.hall_turns.specs.Passed.HallLawPoints.{LaneAtPoints}
 use Rattle.hall_events.proofs.Lanes.{joins_may_come}
 use Rattle.hall_events.proofs.Untaken.{nothing_is_taken}
 use Rattle.hall_events.proofs.Quiet.{statements_may_come, wants_of_memory_may_come}

@@ -16,11 +16,11 @@ use Rattle.hall_events.specs.PartEvents.Writes.{told_note}
 use Rattle.lawful_books.specs.Lists.{Each}
 use Rattle.moment_parts.specs.Parts as shown
 use Rattle.run_end.specs.declared.ends.RunEnd.TheVariants.{Finished}
-use Rattle.thread_frames.specs.declared.ended.Ended.{Ended}
-use Rattle.thread_frames.specs.declared.thread.Thread.{Thread}
+use Rattle.hall_turns.specs.Passed.EndedType.{Ended}
+use Rattle.hall_turns.specs.Passed.ThreadType.{Thread}
 use Rattle.thread_map.specs.Kept.{kept_under}
-use Rattle.thread_frames.proofs.Found.{none_found}
-use Rattle.hall_law.specs.Values.{ListShown}
+use Rattle.hall_turns.proofs.Passed.Found.{none_found}
+use Rattle.hall_turns.specs.Passed.Values.{ListShown}
 use Rattle.hall_turns.specs.Shown.{list_shown}
 use Rattle.hall_events.specs.Taken.{IsAtAction}
 use Rattle.hall_events.proofs.Pauses.{suspends_may_come, give_ups_may_come, yields_may_come, dummies_may_come}

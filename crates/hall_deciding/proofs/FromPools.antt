@@ -10,8 +10,8 @@ use Rattle.hall_turns.specs.declared.key.HallKey.{HallKey}
 use Rattle.hall_turns.specs.Keys.{table_of, quota_of}
 use Rattle.hall_turns.specs.Takes.{HallSeat}
 use Rattle.hall_events.specs.PartEvents.Writes.{told_note, IsShort}
-use Rattle.thread_frames.specs.Points.{IsAtPoint}
-use Rattle.thread_frames.specs.declared.thread.Thread.{Thread}
+use Rattle.hall_turns.specs.Passed.Points.{IsAtPoint}
+use Rattle.hall_turns.specs.Passed.ThreadType.{Thread}
 use Rattle.hall_events.specs.PartEvents.Ends.{EndsAbove}
 use Rattle.hall_events.specs.Taken.{IsAtAction}
 use Rattle.hall_events.proofs.Lanes.{actions_may_come, joins_may_come, ends_above_may_come}

@@ -5,8 +5,8 @@ use Rattle.dag_order.specs.declared.thread_id.ThreadId.{ThreadId}
 use Rattle.deque_list.specs.declared.deque_id.DequeId.{DequeId}
 use Rattle.lawful_books.specs.Lists.{Each}
 use Rattle.moment_parts.specs.Parts as shown
-use Rattle.thread_frames.specs.declared.ended.Ended.{Ended}
-use Rattle.thread_frames.specs.Kept.{IsUnderItsId, result_kept}
+use Rattle.hall_turns.specs.Passed.EndedType.{Ended}
+use Rattle.hall_turns.specs.Passed.Kept.{IsUnderItsId, result_kept}
 use Rattle.hall_turns.specs.declared.event.Event.{Event}
 use Rattle.hall_turns.specs.declared.seat_note.SeatNote.{SeatNote}
 use Rattle.hall_turns.specs.Takes.{HallSeat}

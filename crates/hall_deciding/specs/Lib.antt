@@ -4,3 +4,4 @@ pub mod Pools
 pub mod Lists
 pub mod Wholes
 pub mod PartEvents
+pub mod Passed

@@ -13,17 +13,17 @@ use Rattle.moment_parts.specs.Parts as shown
 use Rattle.quota_period.specs.declared.period.Period.{Period as OpenPeriod}
 use Rattle.run_end.specs.declared.ends.RunEnd.TheVariants.{Finished}
 use Rattle.hall_events.specs.PartEvents.Results.{HasCome}
-use Rattle.thread_frames.specs.Actions.{deed_of}
-use Rattle.thread_frames.specs.Points.{IsAtPoint, IsResult}
-use Rattle.thread_frames.specs.Views.{label_of}
-use Rattle.thread_frames.specs.declared.ended.Ended.{Ended}
-use Rattle.thread_frames.specs.declared.next.Next.{Next}
-use Rattle.thread_frames.specs.declared.next.Next.TheVariants as nexts
-use Rattle.thread_frames.specs.declared.thread.Thread.{Thread}
+use Rattle.hall_turns.specs.Passed.Actions.{deed_of}
+use Rattle.hall_turns.specs.Passed.Points.{IsAtPoint, IsResult}
+use Rattle.hall_turns.specs.Passed.ThreadFramesViews.{label_of}
+use Rattle.hall_turns.specs.Passed.EndedType.{Ended}
+use Rattle.hall_turns.specs.Passed.NextType.{Next}
+use Rattle.hall_turns.specs.Passed.NextVariants as nexts
+use Rattle.hall_turns.specs.Passed.ThreadType.{Thread}
 use Rattle.thread_map.specs.Kept.{kept_under}
-use Rattle.thread_frames.specs.Kept.{IsUnderItsId}
-use Rattle.thread_frames.specs.Roots.{end_of_root}
-use Rattle.thread_frames.specs.Shown.{thread_shown}
+use Rattle.hall_turns.specs.Passed.Kept.{IsUnderItsId}
+use Rattle.hall_turns.specs.Passed.Roots.{end_of_root}
+use Rattle.hall_turns.specs.Passed.Shown.{thread_shown}
 use Rattle.hall_events.specs.PartEvents.Dummies.{DummyHere}
 use Rattle.hall_events.specs.PartEvents.Ends.{EndsHere}
 use Rattle.hall_events.specs.PartEvents.Joins.{JoinsHere, ReleasesNothing}

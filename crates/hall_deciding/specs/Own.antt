@@ -4,9 +4,9 @@ use Rattle.dag_order.specs.declared.action_id.ActionId.{ActionId}
 use Rattle.dag_order.specs.declared.thread_id.ThreadId.{ThreadId}
 use Rattle.deque_list.specs.declared.deque_id.DequeId.{DequeId}
 use Rattle.quota_period.specs.declared.period.Period.{Period as OpenPeriod}
-use Rattle.thread_frames.specs.declared.next.Next.TheVariants as nexts
-use Rattle.thread_frames.specs.declared.thread.Thread.{Thread}
-use Rattle.thread_frames.specs.Points.{IsAtPoint}
+use Rattle.hall_turns.specs.Passed.NextVariants as nexts
+use Rattle.hall_turns.specs.Passed.ThreadType.{Thread}
+use Rattle.hall_turns.specs.Passed.Points.{IsAtPoint}
 use Rattle.lawful_books.specs.Lists.{Each}
 use Rattle.hall_events.specs.PartEvents.Joins.{JoinsHere, ReleasesNothing}
 use Rattle.hall_turns.specs.declared.lane_slot.LaneSlot.{LaneSlot}

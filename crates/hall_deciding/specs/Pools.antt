@@ -6,9 +6,9 @@ use Rattle.dag_order.specs.declared.thread_id.ThreadId.{ThreadId}
 use Rattle.deque_list.specs.declared.deque_id.DequeId.{DequeId}
 use Rattle.quota_period.specs.declared.period.Period.{Period as OpenPeriod}
 use Rattle.hall_events.specs.PartEvents.Acts.{IsCharged}
-use Rattle.thread_frames.specs.declared.next.Next.{Next}
-use Rattle.thread_frames.specs.declared.next.Next.TheVariants as nexts
-use Rattle.thread_frames.specs.declared.thread.Thread.{Thread}
+use Rattle.hall_turns.specs.Passed.NextType.{Next}
+use Rattle.hall_turns.specs.Passed.NextVariants as nexts
+use Rattle.hall_turns.specs.Passed.ThreadType.{Thread}
 use Rattle.hall_events.specs.PartEvents.Here.{ActsHere, TakesWords}
 use Rattle.hall_events.specs.PartEvents.Ends.{EndsAbove}
 use Rattle.hall_events.specs.PartEvents.Joins.{JoinsHere}

@@ -5,12 +5,12 @@ use Rattle.dag_order.specs.declared.thread_id.ThreadId.{ThreadId}
 use Rattle.deque_list.specs.declared.deque_id.DequeId.{DequeId}
 use Rattle.quota_period.specs.declared.period.Period.{Period as OpenPeriod}
 use Rattle.hall_events.specs.PartEvents.Results.{HasCome}
-use Rattle.thread_frames.specs.declared.ended.Ended.{Ended}
-use Rattle.thread_frames.specs.declared.next.Next.TheVariants as nexts
-use Rattle.thread_frames.specs.declared.thread.Thread.{Thread}
-use Rattle.thread_frames.specs.Kept.{WaitsUnder}
-use Rattle.thread_frames.specs.Shown.{thread_shown, result_shown}
-use Rattle.hall_law.specs.Writing.{IsHanded}
+use Rattle.hall_turns.specs.Passed.EndedType.{Ended}
+use Rattle.hall_turns.specs.Passed.NextVariants as nexts
+use Rattle.hall_turns.specs.Passed.ThreadType.{Thread}
+use Rattle.hall_turns.specs.Passed.Kept.{WaitsUnder}
+use Rattle.hall_turns.specs.Passed.Shown.{thread_shown, result_shown}
+use Rattle.hall_turns.specs.Passed.Writing.{IsHanded}
 use Rattle.hall_events.specs.PartEvents.Here.{TakesWords}
 use Rattle.hall_events.specs.PartEvents.Ends.{EndsHere}
 use Rattle.hall_events.specs.PartEvents.Joins.{JoinsHere}

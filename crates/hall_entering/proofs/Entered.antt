@@ -13,10 +13,10 @@ use Rattle.turn_table.specs.Law.{Stands}
 use Rattle.turn_table.specs.Notes.{notes}
 use Rattle.turn_table.specs.Seats.{with_hand}
 use Rattle.turn_table.proofs.NoteLaws.{notes_at}
-use Rattle.hall_law.specs.Values.{ListShown}
-use Rattle.hall_law.specs.State.{HallLaw}
-use Rattle.hall_law.specs.Numbers.{IsSmallestNumber}
-use Rattle.hall_law.proofs.Numbers.{workers_may_enter}
+use Rattle.hall_turns.specs.Passed.Values.{ListShown}
+use Rattle.hall_turns.specs.Passed.State.{HallLaw}
+use Rattle.hall_turns.specs.Passed.Numbers.{IsSmallestNumber}
+use Rattle.hall_turns.proofs.Passed.Numbers.{workers_may_enter}
 use Rattle.hall_turns.specs.declared.list_slot.ListSlot.{ListSlot}
 use Rattle.hall_turns.specs.declared.slot.Slot.{Slot}
 use Rattle.hall_turns.specs.declared.slot.Slot.TheVariants as slots

@@ -6,11 +6,11 @@ use Rattle.deque_machine.specs.Terms.{Terms, machine_of}
 use Rattle.lawful_books.specs.Lists.{times}
 use Rattle.turn_table.specs.Law.{PutKeeps}
 use Rattle.turn_places.specs.Backs.{unchanged}
-use Rattle.hall_law.specs.Values.{ListShown}
-use Rattle.hall_law.specs.Views.{View}
-use Rattle.hall_law.specs.Seats.{entering}
-use Rattle.hall_law.specs.State.{RunningState}
-use Rattle.hall_law.proofs.Quiet.{entering_goes_on}
+use Rattle.hall_turns.specs.Passed.Values.{ListShown}
+use Rattle.hall_turns.specs.Passed.Views.{View}
+use Rattle.hall_turns.specs.Passed.Seats.{entering}
+use Rattle.hall_turns.specs.Passed.State.{RunningState}
+use Rattle.hall_turns.proofs.Passed.Quiet.{entering_goes_on}
 use Rattle.hall_turns.specs.declared.list_slot.ListSlot.{ListSlot}
 use Rattle.hall_turns.specs.declared.seat_note.SeatNote.{SeatNote}
 use Rattle.hall_turns.specs.declared.slot.Slot.TheVariants as slots

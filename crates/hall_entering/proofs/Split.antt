@@ -18,12 +18,12 @@ use Rattle.turn_table.specs.Law.{SplitKeeps}
 use Rattle.turn_table.specs.Notes.{SplitMay}
 use Rattle.turn_table.proofs.NoteLaws.{split_noted}
 use Rattle.turn_places.proofs.Resting.{split_rests}
-use Rattle.hall_law.specs.Values.{End}
-use Rattle.hall_law.specs.Views.{View, fresh}
-use Rattle.hall_law.specs.Seats.{giving}
-use Rattle.hall_law.specs.State.{RunningState, HallLaw}
-use Rattle.hall_law.specs.Points.{IsExcused}
-use Rattle.hall_law.proofs.Quiet.{splitting_goes_on}
+use Rattle.hall_turns.specs.Passed.Values.{End}
+use Rattle.hall_turns.specs.Passed.Views.{View, fresh}
+use Rattle.hall_turns.specs.Passed.Seats.{giving}
+use Rattle.hall_turns.specs.Passed.State.{RunningState, HallLaw}
+use Rattle.hall_turns.specs.Passed.HallLawPoints.{IsExcused}
+use Rattle.hall_turns.proofs.Passed.Quiet.{splitting_goes_on}
 use Rattle.hall_turns.specs.declared.list_slot.ListSlot.{ListSlot}
 use Rattle.hall_turns.specs.declared.seat_note.SeatNote.{SeatNote}
 use Rattle.hall_turns.specs.declared.slot.Slot.{Slot}

@@ -5,7 +5,7 @@ use Rattle.lawful_books.specs.Lists.{times}
 use Rattle.turn_table.specs.Hands.{fresh, noted, gave}
 use Rattle.turn_table.specs.Seats.{with_hand}
 use Rattle.turn_places.specs.Backs.{unchanged}
-use Rattle.hall_law.specs.Numbers.{IsSmallestNumber}
+use Rattle.hall_turns.specs.Passed.Numbers.{IsSmallestNumber}
 use Rattle.hall_turns.specs.declared.list_slot.ListSlot.{ListSlot}
 use Rattle.hall_turns.specs.declared.seat_note.SeatNote.{SeatNote}
 use Rattle.hall_turns.specs.declared.slot.Slot.{Slot}

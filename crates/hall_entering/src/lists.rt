@@ -1,7 +1,7 @@
 //! What is written in the list.
 
 ghost use Rattle.std.specs.Prelude.{◌≡◌, ◌∷◌, ◌++◌, [], ℕ, IfOk, OnErr};
-ghost use Rattle.hall_law.specs.Numbers.{IsSmallestNumber};
+ghost use Rattle.hall_turns.specs.Passed.Numbers.{IsSmallestNumber};
 
 use boxed::Boxed;
 use hall_turns::ListSlot;

@@ -5,11 +5,11 @@ use Rattle.block_arena.specs.declared.size.TheConstants.{MAX_WORDS}
 use Rattle.depth_first_list.specs.Actions.{record_words}
 use Rattle.deque_machine.specs.Terms.{Terms}
 use Rattle.dfd_core.specs.Cores.{terms_at}
-use Rattle.thread_frames.specs.Roots.{IsRootAlone}
+use Rattle.dfd_core.specs.Passed.Roots.{IsRootAlone}
 use Rattle.dfd_core.specs.declared.run.Core.{Core}
 use Rattle.dummy_tree.specs.QuotaWords.{quota_words}
-use Rattle.thread_frames.specs.Points.{IsAtPoint}
-use Rattle.thread_frames.specs.declared.thread.Thread.{Thread}
+use Rattle.dfd_core.specs.Passed.Points.{IsAtPoint}
+use Rattle.dfd_core.specs.Passed.ThreadType.{Thread}
 use Rattle.hall_turns.specs.Keys.{table_of, quota_of, terms_of, IsKey}
 use Rattle.hall_turns.specs.declared.key.HallKey.{HallKey}
 

@@ -8,7 +8,7 @@ use Rattle.dag_order.specs.declared.action_id.ActionId.{ActionId}
 use Rattle.dag_order.specs.declared.finish.Finish.{Finish}
 use Rattle.dag_order.specs.declared.thread_id.ThreadId.{ThreadId}
 use Rattle.deque_list.specs.declared.deque_id.DequeId.{DequeId}
-use Rattle.deque_events.specs.Events.{DidEnd}
+use Rattle.lane_events.specs.Passed.DequeEventsEvents.{DidEnd}
 use Rattle.deque_machine.specs.Machine as machine
 use Rattle.deque_machine.specs.Terms.{Terms, machine_of}
 use Rattle.depth_first_list.specs.Actions.{record_words}
@@ -22,37 +22,37 @@ use Rattle.period_books.specs.Periods.{open_shown}
 use Rattle.period_table.specs.Tables.{noted, shut}
 use Rattle.quota_period.specs.declared.period.Period.{Period as OpenPeriod}
 use Rattle.run_end.specs.declared.ends.RunEnd.TheVariants.{Finished}
-use Rattle.thread_frames.specs.Actions.{IsOfTheList}
-use Rattle.thread_frames.specs.Views.{label_of}
-use Rattle.thread_frames.specs.declared.ended.Ended.{Ended}
-use Rattle.thread_frames.specs.declared.next.Next.TheVariants as nexts
-use Rattle.thread_frames.specs.declared.thread.Thread.{Thread}
-use Rattle.thread_frames.specs.Kept.{WaitsUnder}
-use Rattle.thread_frames.specs.Shown.{thread_shown, result_shown}
+use Rattle.lane_events.specs.Passed.Actions.{IsOfTheList}
+use Rattle.lane_events.specs.Passed.Views.{label_of}
+use Rattle.lane_events.specs.Passed.EndedType.{Ended}
+use Rattle.lane_events.specs.Passed.NextVariants as nexts
+use Rattle.lane_events.specs.Passed.ThreadType.{Thread}
+use Rattle.lane_events.specs.Passed.Kept.{WaitsUnder}
+use Rattle.lane_events.specs.Passed.Shown.{thread_shown, result_shown}
 use Rattle.thread_state.specs.Settings.{IsSettingOf}
-use Rattle.hall_law.specs.Changes.{after_event}
-use Rattle.hall_law.specs.Views.{View}
-use Rattle.hall_law.specs.Values.{Hall, ListShown, PoolShown, no_lane, finished, lane_at}
-use Rattle.hall_law.specs.Steps.{did}
-use Rattle.hall_law.specs.Writing.{IsAtWork, IsHanded, lane_with, list_without, written, step_of, PoolTakes}
-use Rattle.hall_law.specs.Events.{still_owning, idle_after}
+use Rattle.lane_events.specs.Passed.Changes.{after_event}
+use Rattle.lane_events.specs.Passed.HallLawViews.{View}
+use Rattle.lane_events.specs.Passed.Values.{Hall, ListShown, PoolShown, no_lane, finished, lane_at}
+use Rattle.lane_events.specs.Passed.Steps.{did}
+use Rattle.lane_events.specs.Passed.Writing.{IsAtWork, IsHanded, lane_with, list_without, written, step_of, PoolTakes}
+use Rattle.lane_events.specs.Passed.Events.{still_owning, idle_after}
 use Rattle.lane_events.specs.Here.{ShowsOwn, TakesWords}
 use Rattle.lane_events.specs.Ends.{EndsHere}
 use Rattle.lane_events.specs.Joins.{JoinsHere}
 use Rattle.list_events.specs.Calls.{LeavesThere, TakesWaiting, IsHandedThere}
-use Rattle.hall_turns.specs.declared.event.Event.TheVariants.{Did}
-use Rattle.hall_turns.specs.declared.lane_slot.LaneSlot.{LaneSlot}
-use Rattle.hall_turns.specs.declared.list_slot.ListSlot.{ListSlot}
-use Rattle.hall_turns.specs.declared.pool_slot.PoolSlot.{PoolSlot}
-use Rattle.hall_turns.specs.Shown.{list_shown, lane_shown, pool_shown, running_shown, end_shown, view_of}
-use Rattle.hall_turns.specs.declared.key.HallKey.{HallKey}
-use Rattle.hall_turns.specs.Keys.{table_of, quota_of, terms_of}
-use Rattle.hall_turns.specs.Steps.{IsRunning}
-use Rattle.hall_turns.specs.Takes.{HallSeat}
+use Rattle.hall_writes.specs.Passed.EventVariants.{Did}
+use Rattle.hall_writes.specs.Passed.LaneSlotType.{LaneSlot}
+use Rattle.hall_writes.specs.Passed.ListSlotType.{ListSlot}
+use Rattle.hall_writes.specs.Passed.PoolSlotType.{PoolSlot}
+use Rattle.hall_writes.specs.Passed.Shown.{list_shown, lane_shown, pool_shown, running_shown, end_shown, view_of}
+use Rattle.hall_writes.specs.Passed.HallKeyType.{HallKey}
+use Rattle.hall_writes.specs.Passed.Keys.{table_of, quota_of, terms_of}
+use Rattle.hall_writes.specs.Passed.Steps.{IsRunning}
+use Rattle.hall_writes.specs.Passed.Takes.{HallSeat}
 use Rattle.hall_writes.specs.Writes.{parts as three, hall_with, told_note}
 use Rattle.hall_events.specs.Taken.{IsAtAction, MayAct, IsNext}
-use Rattle.hall_law.proofs.Owners.{leaving_ends_go_on}
-use Rattle.hall_law.proofs.Roots.{root_ends_go_on}
+use Rattle.lane_events.proofs.Passed.Owners.{leaving_ends_go_on}
+use Rattle.lane_events.proofs.Passed.Roots.{root_ends_go_on}
 use Rattle.list_events.proofs.Orders.{taken_wakes_go_on, taken_joins_go_on}
 use Rattle.hall_events.specs.Lists.{IsUnawaited, LeavingEndsMayCome, RootEndsMayCome, WakingEndsMayCome, KeptJoinsMayCome}
 use Rattle.hall_events.proofs.Working.{some, work, here, own, period_told, viewed, went, hall_now}

@@ -7,7 +7,7 @@ use Rattle.dag_order.specs.declared.action_id.ActionId.{ActionId}
 use Rattle.dag_order.specs.declared.birth.Birth.{Birth}
 use Rattle.dag_order.specs.declared.thread_id.ThreadId.{ThreadId}
 use Rattle.deque_list.specs.declared.deque_id.DequeId.{DequeId}
-use Rattle.deque_events.specs.Events.{DidJoin, DidEnd}
+use Rattle.lane_events.specs.Passed.DequeEventsEvents.{DidJoin, DidEnd}
 use Rattle.deque_machine.specs.Machine as machine
 use Rattle.deque_machine.specs.Terms.{Terms, machine_of}
 use Rattle.depth_first_list.specs.Actions.{record_words}
@@ -18,32 +18,32 @@ use Rattle.depth_first_run.specs.States.{Setting}
 use Rattle.period_books.specs.Periods.{open_shown}
 use Rattle.period_table.specs.Tables.{noted}
 use Rattle.quota_period.specs.declared.period.Period.{Period as OpenPeriod}
-use Rattle.thread_events.specs.Acts.{IsCharged}
-use Rattle.thread_frames.specs.Actions.{IsOfTheList}
-use Rattle.thread_frames.specs.declared.next.Next.{Next}
-use Rattle.thread_frames.specs.declared.next.Next.TheVariants as nexts
-use Rattle.thread_frames.specs.declared.thread.Thread.{Thread}
-use Rattle.thread_frames.specs.Shown.{thread_shown, result_shown}
+use Rattle.lane_events.specs.Passed.Acts.{IsCharged}
+use Rattle.lane_events.specs.Passed.Actions.{IsOfTheList}
+use Rattle.lane_events.specs.Passed.NextType.{Next}
+use Rattle.lane_events.specs.Passed.NextVariants as nexts
+use Rattle.lane_events.specs.Passed.ThreadType.{Thread}
+use Rattle.lane_events.specs.Passed.Shown.{thread_shown, result_shown}
 use Rattle.thread_state.specs.Settings.{IsSettingOf}
-use Rattle.hall_law.specs.Changes.{after_event}
-use Rattle.hall_law.specs.Views.{View}
-use Rattle.hall_law.specs.Values.{Hall, PoolShown, lane_at, open_for}
-use Rattle.hall_law.specs.Steps.{did}
-use Rattle.hall_law.specs.Writing.{IsAtWork, lane_with, written, step_of, ActsInLane, joins_handed, PoolTakes}
-use Rattle.hall_law.specs.Events.{still_owning}
-use Rattle.hall_law.proofs.Owners.{lane_actions_go_on, ends_above_go_on}
+use Rattle.lane_events.specs.Passed.Changes.{after_event}
+use Rattle.lane_events.specs.Passed.HallLawViews.{View}
+use Rattle.lane_events.specs.Passed.Values.{Hall, PoolShown, lane_at, open_for}
+use Rattle.lane_events.specs.Passed.Steps.{did}
+use Rattle.lane_events.specs.Passed.Writing.{IsAtWork, lane_with, written, step_of, ActsInLane, joins_handed, PoolTakes}
+use Rattle.lane_events.specs.Passed.Events.{still_owning}
+use Rattle.lane_events.proofs.Passed.Owners.{lane_actions_go_on, ends_above_go_on}
 use Rattle.lane_events.specs.Here.{ShowsOwn, ActsHere, TakesWords}
 use Rattle.lane_events.specs.Ends.{EndsAbove}
 use Rattle.lane_events.specs.Joins.{JoinsHere}
-use Rattle.hall_turns.specs.declared.event.Event.TheVariants.{Did}
-use Rattle.hall_turns.specs.declared.lane_slot.LaneSlot.{LaneSlot}
-use Rattle.hall_turns.specs.declared.list_slot.ListSlot.{ListSlot}
-use Rattle.hall_turns.specs.declared.pool_slot.PoolSlot.{PoolSlot}
-use Rattle.hall_turns.specs.Shown.{list_shown, lane_shown, pool_shown, running_shown, view_of}
-use Rattle.hall_turns.specs.declared.key.HallKey.{HallKey}
-use Rattle.hall_turns.specs.Keys.{table_of, quota_of, terms_of}
-use Rattle.hall_turns.specs.Steps.{IsRunning}
-use Rattle.hall_turns.specs.Takes.{HallSeat}
+use Rattle.hall_writes.specs.Passed.EventVariants.{Did}
+use Rattle.hall_writes.specs.Passed.LaneSlotType.{LaneSlot}
+use Rattle.hall_writes.specs.Passed.ListSlotType.{ListSlot}
+use Rattle.hall_writes.specs.Passed.PoolSlotType.{PoolSlot}
+use Rattle.hall_writes.specs.Passed.Shown.{list_shown, lane_shown, pool_shown, running_shown, view_of}
+use Rattle.hall_writes.specs.Passed.HallKeyType.{HallKey}
+use Rattle.hall_writes.specs.Passed.Keys.{table_of, quota_of, terms_of}
+use Rattle.hall_writes.specs.Passed.Steps.{IsRunning}
+use Rattle.hall_writes.specs.Passed.Takes.{HallSeat}
 use Rattle.hall_writes.specs.Writes.{parts as three, hall_with, told_note}
 use Rattle.hall_events.specs.Taken.{IsAtAction, MayAct, IsNext, MayDoNext}
 use Rattle.hall_events.specs.Lanes.{ActionsMayCome, JoinsMayCome, EndsAboveMayCome}

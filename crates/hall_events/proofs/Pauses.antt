@@ -7,7 +7,7 @@ use Rattle.std.specs.Prelude.{None, Some, slice_get, slice_set}
 use Rattle.dag_order.specs.declared.action_id.ActionId.{ActionId}
 use Rattle.dag_order.specs.declared.thread_id.ThreadId.{ThreadId}
 use Rattle.deque_list.specs.declared.deque_id.DequeId.{DequeId}
-use Rattle.deque_events.specs.Events.{DidDummy}
+use Rattle.lane_events.specs.Passed.DequeEventsEvents.{DidDummy}
 use Rattle.deque_machine.specs.Machine as machine
 use Rattle.deque_machine.specs.Terms.{Terms, machine_of}
 use Rattle.depth_first_list.specs.Actions.{joins, record_words}
@@ -21,34 +21,34 @@ use Rattle.moment_parts.specs.Events.{IsNextOf}
 use Rattle.period_books.specs.Periods.{Period, open_shown}
 use Rattle.period_table.specs.Tables.{noted, shut}
 use Rattle.quota_period.specs.declared.period.Period.{Period as OpenPeriod}
-use Rattle.thread_frames.specs.Actions.{IsOfTheList, deed_of}
-use Rattle.thread_frames.specs.declared.next.Next.{Next}
-use Rattle.thread_frames.specs.declared.next.Next.TheVariants as nexts
-use Rattle.thread_frames.specs.declared.thread.Thread.{Thread}
-use Rattle.thread_frames.specs.Shown.{thread_shown}
+use Rattle.lane_events.specs.Passed.Actions.{IsOfTheList, deed_of}
+use Rattle.lane_events.specs.Passed.NextType.{Next}
+use Rattle.lane_events.specs.Passed.NextVariants as nexts
+use Rattle.lane_events.specs.Passed.ThreadType.{Thread}
+use Rattle.lane_events.specs.Passed.Shown.{thread_shown}
 use Rattle.thread_state.specs.Settings.{IsSettingOf}
-use Rattle.hall_law.specs.Changes.{after_event}
-use Rattle.hall_law.specs.Views.{View}
-use Rattle.hall_law.specs.Values.{Hall, ListShown, no_lane, lane_at}
-use Rattle.hall_law.specs.Steps.{did, waited, gave_up}
-use Rattle.hall_law.specs.Writing.{IsAtWork, lane_with, list_unowned, list_without, written, step_of}
-use Rattle.hall_law.specs.Events.{idle_after}
+use Rattle.lane_events.specs.Passed.Changes.{after_event}
+use Rattle.lane_events.specs.Passed.HallLawViews.{View}
+use Rattle.lane_events.specs.Passed.Values.{Hall, ListShown, no_lane, lane_at}
+use Rattle.lane_events.specs.Passed.Steps.{did, waited, gave_up}
+use Rattle.lane_events.specs.Passed.Writing.{IsAtWork, lane_with, list_unowned, list_without, written, step_of}
+use Rattle.lane_events.specs.Passed.Events.{idle_after}
 use Rattle.lane_events.specs.Here.{ShowsOwn}
 use Rattle.lane_events.specs.Dummies.{DummyHere}
 use Rattle.list_events.specs.Calls.{SuspendsThere}
-use Rattle.hall_turns.specs.declared.event.Event.TheVariants.{Did, Suspended, GaveUp}
-use Rattle.hall_turns.specs.declared.lane_slot.LaneSlot.{LaneSlot}
-use Rattle.hall_turns.specs.declared.list_slot.ListSlot.{ListSlot}
-use Rattle.hall_turns.specs.declared.pool_slot.PoolSlot.{PoolSlot}
-use Rattle.hall_turns.specs.Lists.{ShowsUnowned}
-use Rattle.hall_turns.specs.Shown.{list_shown, lane_shown, pool_shown, running_shown, view_of}
-use Rattle.hall_turns.specs.declared.key.HallKey.{HallKey}
-use Rattle.hall_turns.specs.Keys.{table_of, quota_of, terms_of}
-use Rattle.hall_turns.specs.Steps.{IsRunning}
-use Rattle.hall_turns.specs.Takes.{HallSeat}
+use Rattle.hall_writes.specs.Passed.EventVariants.{Did, Suspended, GaveUp}
+use Rattle.hall_writes.specs.Passed.LaneSlotType.{LaneSlot}
+use Rattle.hall_writes.specs.Passed.ListSlotType.{ListSlot}
+use Rattle.hall_writes.specs.Passed.PoolSlotType.{PoolSlot}
+use Rattle.hall_writes.specs.Passed.Lists.{ShowsUnowned}
+use Rattle.hall_writes.specs.Passed.Shown.{list_shown, lane_shown, pool_shown, running_shown, view_of}
+use Rattle.hall_writes.specs.Passed.HallKeyType.{HallKey}
+use Rattle.hall_writes.specs.Passed.Keys.{table_of, quota_of, terms_of}
+use Rattle.hall_writes.specs.Passed.Steps.{IsRunning}
+use Rattle.hall_writes.specs.Passed.Takes.{HallSeat}
 use Rattle.hall_writes.specs.Writes.{parts as three, hall_with, told_note}
 use Rattle.hall_events.specs.Taken.{IsAtAction, MayAct, MayPause, IsNext}
-use Rattle.hall_law.proofs.Owners.{suspending_goes_on, forced_give_ups_go_on, giving_up_goes_on, dummies_go_on}
+use Rattle.lane_events.proofs.Passed.Owners.{suspending_goes_on, forced_give_ups_go_on, giving_up_goes_on, dummies_go_on}
 use Rattle.hall_events.specs.Lists.{SuspendsMayCome, IsTooMuch, GiveUpsMayCome, YieldsMayCome, DummiesMayCome}
 use Rattle.hall_events.proofs.Working.{some, work, here, own, period_was, period_told, viewed, went, hall_now}
 

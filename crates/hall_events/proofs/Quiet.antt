@@ -5,13 +5,13 @@ use Rattle.std.specs.Prelude.{Some, slice_set, slice_index_or}
 use Rattle.atomic_table.proofs.Lists.{set_again}
 use Rattle.deque_list.specs.declared.deque_id.DequeId.{DequeId}
 use Rattle.deque_machine.specs.Terms.{Terms, machine_of}
-use Rattle.hall_law.specs.Views.{View}
-use Rattle.hall_law.proofs.Halting.{finding_keeps_crew}
-use Rattle.hall_law.specs.Values.{Hall, LaneShown, no_lane, no_memory, lane_at}
-use Rattle.hall_law.specs.State.{RunningState}
-use Rattle.hall_turns.specs.Shown.{lane_shown, stop_shown, view_of}
-use Rattle.hall_turns.specs.Keys.{terms_of}
-use Rattle.hall_turns.proofs.Reading.{at_of_get}
+use Rattle.lane_events.specs.Passed.HallLawViews.{View}
+use Rattle.lane_events.proofs.Passed.Halting.{finding_keeps_crew}
+use Rattle.lane_events.specs.Passed.Values.{Hall, LaneShown, no_lane, no_memory, lane_at}
+use Rattle.lane_events.specs.Passed.State.{RunningState}
+use Rattle.hall_writes.specs.Passed.Shown.{lane_shown, stop_shown, view_of}
+use Rattle.hall_writes.specs.Passed.Keys.{terms_of}
+use Rattle.hall_writes.proofs.Passed.Reading.{at_of_get}
 use Rattle.hall_events.specs.Lanes.{StatementsMayCome, WantsOfMemoryMayCome}
 
 -- a lane that is written as it is there is not written

@@ -5,10 +5,10 @@ use Rattle.block_arena.specs.Region.{Region}
 use Rattle.deque_list.specs.Orders.{OrderView}
 use Rattle.moment_parts.specs.Parts as parts
 use Rattle.period_books.specs.Periods.{closed_shown}
-use Rattle.thread_frames.specs.Kept.{waiting_shown, result_kept}
-use Rattle.hall_turns.specs.Shown.{list_shown, pool_shown, end_shown}
-use Rattle.hall_turns.specs.declared.list_slot.ListSlot.{ListSlot}
-use Rattle.hall_turns.specs.declared.pool_slot.PoolSlot.{PoolSlot}
+use Rattle.lane_events.specs.Passed.Kept.{waiting_shown, result_kept}
+use Rattle.hall_writes.specs.Passed.Shown.{list_shown, pool_shown, end_shown}
+use Rattle.hall_writes.specs.Passed.ListSlotType.{ListSlot}
+use Rattle.hall_writes.specs.Passed.PoolSlotType.{PoolSlot}
 use Rattle.hall_events.specs.Rooms.{KeepsDeques, IsSamePool}
 
 pub pool_same : (was now : PoolSlot) → IsSamePool was now → pool_shown now ≡ pool_shown was

@@ -6,17 +6,17 @@ use Rattle.std.specs.List.Sorted.{IsPermutation}
 use Rattle.dag_order.specs.Births.{root}
 use Rattle.lawful_books.specs.Lists.{Each}
 use Rattle.lawful_books.proofs.Lists.{each_from, each_among}
-use Rattle.step_laws.proofs.Reordered.{among_moved}
-use Rattle.thread_frames.specs.Points.{IsAtPoint, IsResult}
-use Rattle.thread_frames.specs.declared.ended.Ended.{Ended}
-use Rattle.thread_frames.specs.declared.thread.Thread.{Thread}
+use Rattle.lane_events.proofs.Passed.Reordered.{among_moved}
+use Rattle.lane_events.specs.Passed.Points.{IsAtPoint, IsResult}
+use Rattle.lane_events.specs.Passed.EndedType.{Ended}
+use Rattle.lane_events.specs.Passed.ThreadType.{Thread}
 use Rattle.thread_map.specs.Kept.{Kept}
-use Rattle.thread_frames.specs.Kept.{WaitsUnder, IsUnderItsId}
-use Rattle.thread_frames.specs.Roots.{end_of_root}
-use Rattle.hall_law.specs.Values.{ListShown}
-use Rattle.hall_law.specs.Points.{LaneAtPoints}
-use Rattle.hall_turns.specs.Keys.{table_of, quota_of}
-use Rattle.hall_turns.specs.Sound.{thread_that_waits}
+use Rattle.lane_events.specs.Passed.Kept.{WaitsUnder, IsUnderItsId}
+use Rattle.lane_events.specs.Passed.Roots.{end_of_root}
+use Rattle.lane_events.specs.Passed.Values.{ListShown}
+use Rattle.lane_events.specs.Passed.HallLawPoints.{LaneAtPoints}
+use Rattle.hall_writes.specs.Passed.Keys.{table_of, quota_of}
+use Rattle.hall_writes.specs.Passed.Sound.{thread_that_waits}
 use Rattle.hall_writes.specs.Writes.{IsShort, stays, loses_owner, goes}
 use Rattle.hall_events.specs.Staying.{LanesStaySound, GivenUpStaysSound, SuspendedStaysSound, LeftStaysSound, RootStaysSound, WokenStaysSound, HandedStaysSound}
 

@@ -8,17 +8,17 @@ use Rattle.depth_first_list.specs.Actions.{Action, weight_of}
 use Rattle.depth_first_list.specs.Facts.{action_at, words_at, weight_at}
 use Rattle.depth_first_run.specs.Run.{list_of}
 use Rattle.space_ledger.specs.declared.moved.Moved.{Moved}
-use Rattle.step_laws.specs.Moves.{noted_if}
-use Rattle.thread_frames.specs.Actions.{deed_of}
-use Rattle.thread_frames.specs.Views.{label_of}
-use Rattle.thread_frames.specs.declared.next.Next.TheVariants as nexts
-use Rattle.thread_frames.specs.declared.thread.Thread.{Thread}
+use Rattle.lane_events.specs.Passed.Moves.{noted_if}
+use Rattle.lane_events.specs.Passed.Actions.{deed_of}
+use Rattle.lane_events.specs.Passed.Views.{label_of}
+use Rattle.lane_events.specs.Passed.NextVariants as nexts
+use Rattle.lane_events.specs.Passed.ThreadType.{Thread}
 use Rattle.thread_points.specs.Points.{words_at_end}
-use Rattle.hall_law.specs.Values.{PoolShown}
-use Rattle.hall_law.specs.Writing.{PoolTakes}
+use Rattle.lane_events.specs.Passed.Values.{PoolShown}
+use Rattle.lane_events.specs.Passed.Writing.{PoolTakes}
 use Rattle.lane_events.specs.Here.{TakesWords}
-use Rattle.hall_turns.specs.declared.pool_slot.PoolSlot.{PoolSlot}
-use Rattle.hall_turns.specs.Shown.{pool_shown}
+use Rattle.hall_writes.specs.Passed.PoolSlotType.{PoolSlot}
+use Rattle.hall_writes.specs.Passed.Shown.{pool_shown}
 use Rattle.hall_events.specs.Lanes.{NothingIsTaken}
 
 unweighed : (x y : ℤ) → y ≡ pos 0 → x ≡ x +ℤ y

@@ -17,27 +17,27 @@ use Rattle.moment_parts.specs.Parts as parts
 use Rattle.period_books.specs.Periods.{Period, open_shown}
 use Rattle.period_table.specs.Tables.{noted}
 use Rattle.quota_period.specs.declared.period.Period.{Period as OpenPeriod}
-use Rattle.thread_frames.specs.Actions.{IsStill}
-use Rattle.thread_frames.specs.declared.thread.Thread.{Thread}
-use Rattle.thread_frames.specs.Shown.{child_shown, thread_shown}
+use Rattle.lane_events.specs.Passed.Actions.{IsStill}
+use Rattle.lane_events.specs.Passed.ThreadType.{Thread}
+use Rattle.lane_events.specs.Passed.Shown.{child_shown, thread_shown}
 use Rattle.thread_state.specs.Settings.{IsSettingOf}
-use Rattle.hall_law.specs.Changes.{after_event}
-use Rattle.hall_law.specs.Crew.{SeatStands}
-use Rattle.hall_law.specs.Views.{View}
-use Rattle.hall_law.specs.Values.{Hall, ListShown, LaneShown, PoolShown, lane_at, open_for}
-use Rattle.hall_law.specs.Steps.{Step, Leads}
-use Rattle.hall_law.specs.Writing.{IsAtWork, place_of, lane_with, written}
-use Rattle.hall_law.proofs.Closing.{owners_are_at_work}
-use Rattle.hall_law.specs.State.{RunningState, IsIn, GoesOn}
+use Rattle.lane_events.specs.Passed.Changes.{after_event}
+use Rattle.lane_events.specs.Passed.Crew.{SeatStands}
+use Rattle.lane_events.specs.Passed.HallLawViews.{View}
+use Rattle.lane_events.specs.Passed.Values.{Hall, ListShown, LaneShown, PoolShown, lane_at, open_for}
+use Rattle.lane_events.specs.Passed.Steps.{Step, Leads}
+use Rattle.lane_events.specs.Passed.Writing.{IsAtWork, place_of, lane_with, written}
+use Rattle.lane_events.proofs.Passed.Closing.{owners_are_at_work}
+use Rattle.lane_events.specs.Passed.State.{RunningState, IsIn, GoesOn}
 use Rattle.lane_events.specs.Here.{ShowsOwn}
-use Rattle.hall_turns.specs.declared.event.Event.{Event}
-use Rattle.hall_turns.specs.declared.lane_slot.LaneSlot.{LaneSlot}
-use Rattle.hall_turns.specs.declared.seat_note.SeatNote.{SeatNote}
-use Rattle.hall_turns.specs.Shown.{list_shown, lane_shown, pool_shown, told_shown, view_of}
-use Rattle.hall_turns.specs.declared.key.HallKey.{HallKey}
-use Rattle.hall_turns.specs.Keys.{table_of, quota_of, terms_of}
-use Rattle.hall_turns.specs.Steps.{IsRunning}
-use Rattle.hall_turns.specs.Takes.{HallSeat}
+use Rattle.hall_writes.specs.Passed.EventType.{Event}
+use Rattle.hall_writes.specs.Passed.LaneSlotType.{LaneSlot}
+use Rattle.hall_writes.specs.Passed.SeatNoteType.{SeatNote}
+use Rattle.hall_writes.specs.Passed.Shown.{list_shown, lane_shown, pool_shown, told_shown, view_of}
+use Rattle.hall_writes.specs.Passed.HallKeyType.{HallKey}
+use Rattle.hall_writes.specs.Passed.Keys.{table_of, quota_of, terms_of}
+use Rattle.hall_writes.specs.Passed.Steps.{IsRunning}
+use Rattle.hall_writes.specs.Passed.Takes.{HallSeat}
 use Rattle.hall_writes.specs.Writes.{Parts, hall_with, told_note}
 use Rattle.hall_writes.proofs.Owned.{split}
 use Rattle.hall_events.specs.Taken.{IsAtAction, MayGoOn}

@@ -7,21 +7,21 @@ use Rattle.deque_list.specs.declared.deque_id.DequeId.{DequeId}
 use Rattle.depth_first_list.specs.Actions.{record_words}
 use Rattle.quota_period.specs.declared.period.Period.{Period as OpenPeriod}
 use Rattle.run_end.specs.declared.stop.Stop.TheVariants.{OutOfMemory}
-use Rattle.thread_events.specs.Acts.{IsCharged}
-use Rattle.thread_frames.specs.declared.next.Next.{Next}
-use Rattle.thread_frames.specs.declared.next.Next.TheVariants as nexts
-use Rattle.thread_frames.specs.declared.thread.Thread.{Thread}
+use Rattle.lane_events.specs.Passed.Acts.{IsCharged}
+use Rattle.lane_events.specs.Passed.NextType.{Next}
+use Rattle.lane_events.specs.Passed.NextVariants as nexts
+use Rattle.lane_events.specs.Passed.ThreadType.{Thread}
 use Rattle.lane_events.specs.Here.{ActsHere, TakesWords}
 use Rattle.lane_events.specs.Ends.{EndsAbove}
 use Rattle.lane_events.specs.Joins.{JoinsHere, ReleasesNothing}
-use Rattle.hall_turns.specs.declared.event.Event.TheVariants.{Did}
-use Rattle.hall_turns.specs.declared.lane_slot.LaneSlot.{LaneSlot}
-use Rattle.hall_turns.specs.declared.list_slot.ListSlot.{ListSlot}
-use Rattle.hall_turns.specs.declared.pool_slot.PoolSlot.{PoolSlot}
-use Rattle.hall_turns.specs.Shown.{pool_shown, lane_shown}
-use Rattle.hall_turns.specs.declared.key.HallKey.{HallKey}
-use Rattle.hall_turns.specs.Keys.{quota_of}
-use Rattle.hall_turns.specs.Takes.{HallSeat}
+use Rattle.hall_writes.specs.Passed.EventVariants.{Did}
+use Rattle.hall_writes.specs.Passed.LaneSlotType.{LaneSlot}
+use Rattle.hall_writes.specs.Passed.ListSlotType.{ListSlot}
+use Rattle.hall_writes.specs.Passed.PoolSlotType.{PoolSlot}
+use Rattle.hall_writes.specs.Passed.Shown.{pool_shown, lane_shown}
+use Rattle.hall_writes.specs.Passed.HallKeyType.{HallKey}
+use Rattle.hall_writes.specs.Passed.Keys.{quota_of}
+use Rattle.hall_writes.specs.Passed.Takes.{HallSeat}
 use Rattle.hall_writes.specs.Writes.{parts, told_note, MayBecome}
 use Rattle.hall_events.specs.Taken.{IsAtAction, MayGoOn, MayAct, IsNext, MayDoNext}
 

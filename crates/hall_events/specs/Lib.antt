@@ -4,3 +4,4 @@ pub mod Lists
 pub mod Staying
 pub mod PartEvents
 pub mod Rooms
+pub mod Passed

@@ -12,31 +12,31 @@ use Rattle.lawful_books.specs.Lists.{Each}
 use Rattle.moment_parts.specs.Parts as shown
 use Rattle.quota_period.specs.declared.period.Period.{Period as OpenPeriod}
 use Rattle.run_end.specs.declared.ends.RunEnd.TheVariants.{Finished}
-use Rattle.thread_frames.specs.Actions.{IsOfTheList, deed_of}
-use Rattle.thread_frames.specs.Views.{label_of}
-use Rattle.thread_frames.specs.declared.ended.Ended.{Ended}
-use Rattle.thread_frames.specs.declared.next.Next.{Next}
-use Rattle.thread_frames.specs.declared.next.Next.TheVariants as nexts
-use Rattle.thread_frames.specs.declared.thread.Thread.{Thread}
-use Rattle.thread_frames.specs.Kept.{WaitsUnder}
-use Rattle.thread_frames.specs.Shown.{thread_shown, result_shown}
+use Rattle.lane_events.specs.Passed.Actions.{IsOfTheList, deed_of}
+use Rattle.lane_events.specs.Passed.Views.{label_of}
+use Rattle.lane_events.specs.Passed.EndedType.{Ended}
+use Rattle.lane_events.specs.Passed.NextType.{Next}
+use Rattle.lane_events.specs.Passed.NextVariants as nexts
+use Rattle.lane_events.specs.Passed.ThreadType.{Thread}
+use Rattle.lane_events.specs.Passed.Kept.{WaitsUnder}
+use Rattle.lane_events.specs.Passed.Shown.{thread_shown, result_shown}
 use Rattle.thread_state.specs.Settings.{IsSettingOf}
-use Rattle.hall_law.specs.Values.{ListShown}
-use Rattle.hall_law.specs.Writing.{IsHanded}
+use Rattle.lane_events.specs.Passed.Values.{ListShown}
+use Rattle.lane_events.specs.Passed.Writing.{IsHanded}
 use Rattle.lane_events.specs.Here.{TakesWords}
 use Rattle.lane_events.specs.Dummies.{DummyHere}
 use Rattle.lane_events.specs.Ends.{EndsHere}
 use Rattle.lane_events.specs.Joins.{JoinsHere}
 use Rattle.list_events.specs.Calls.{SuspendsThere, LeavesThere, TakesWaiting, IsHandedThere}
-use Rattle.hall_turns.specs.declared.event.Event.TheVariants.{Did, Suspended, GaveUp}
-use Rattle.hall_turns.specs.declared.lane_slot.LaneSlot.{LaneSlot}
-use Rattle.hall_turns.specs.declared.list_slot.ListSlot.{ListSlot}
-use Rattle.hall_turns.specs.declared.pool_slot.PoolSlot.{PoolSlot}
-use Rattle.hall_turns.specs.Lists.{ShowsUnowned}
-use Rattle.hall_turns.specs.Shown.{list_shown, pool_shown}
-use Rattle.hall_turns.specs.declared.key.HallKey.{HallKey}
-use Rattle.hall_turns.specs.Keys.{table_of, quota_of}
-use Rattle.hall_turns.specs.Takes.{HallSeat}
+use Rattle.hall_writes.specs.Passed.EventVariants.{Did, Suspended, GaveUp}
+use Rattle.hall_writes.specs.Passed.LaneSlotType.{LaneSlot}
+use Rattle.hall_writes.specs.Passed.ListSlotType.{ListSlot}
+use Rattle.hall_writes.specs.Passed.PoolSlotType.{PoolSlot}
+use Rattle.hall_writes.specs.Passed.Lists.{ShowsUnowned}
+use Rattle.hall_writes.specs.Passed.Shown.{list_shown, pool_shown}
+use Rattle.hall_writes.specs.Passed.HallKeyType.{HallKey}
+use Rattle.hall_writes.specs.Passed.Keys.{table_of, quota_of}
+use Rattle.hall_writes.specs.Passed.Takes.{HallSeat}
 use Rattle.hall_writes.specs.Writes.{parts, told_note, MayBecome}
 use Rattle.hall_events.specs.Taken.{IsAtAction, MayAct, MayPause, IsNext}
 

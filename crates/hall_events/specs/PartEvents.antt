@@ -6,6 +6,6 @@ pub use Rattle.lane_events.specs.Ends as Ends
 pub use Rattle.lane_events.specs.Forks as Forks
 pub use Rattle.lane_events.specs.Dummies as Dummies
 pub use Rattle.hall_writes.specs.Writes as Writes
-pub use Rattle.thread_events.specs.Acts as Acts
-pub use Rattle.thread_events.specs.Results as Results
-pub use Rattle.list_part.specs.Parts as Parts
+pub use Rattle.lane_events.specs.Passed.Acts as Acts
+pub use Rattle.lane_events.specs.Passed.Results as Results
+pub use Rattle.hall_writes.specs.Passed.Parts as Parts

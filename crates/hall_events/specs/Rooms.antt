@@ -3,8 +3,8 @@ use Rattle.std.specs.Prelude.{◌≡◌}
 use Rattle.space_ledger.specs.BooksList.{books_list}
 use Rattle.space_ledger.specs.MovesList.{moves_list}
 use Rattle.thread_map.specs.Kept.{KeepsTheSame}
-use Rattle.hall_turns.specs.declared.list_slot.ListSlot.{ListSlot}
-use Rattle.hall_turns.specs.declared.pool_slot.PoolSlot.{PoolSlot}
+use Rattle.hall_writes.specs.Passed.ListSlotType.{ListSlot}
+use Rattle.hall_writes.specs.Passed.PoolSlotType.{PoolSlot}
 
 -- the deques, the closed periods, the crew and the end are the same
 pub record KeepsDeques (was now : ListSlot) : Type 0 where

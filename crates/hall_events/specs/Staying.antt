@@ -6,27 +6,27 @@ use Rattle.dag_order.specs.declared.finish.Finish.{Finish}
 use Rattle.dag_order.specs.declared.thread_id.ThreadId.{ThreadId}
 use Rattle.deque_list.specs.declared.deque_id.DequeId.{DequeId}
 use Rattle.lawful_books.specs.Lists.{Each}
-use Rattle.list_part.specs.Parts.{Has}
+use Rattle.hall_writes.specs.Passed.Parts.{Has}
 use Rattle.run_end.specs.declared.ends.RunEnd.TheVariants.{Finished}
 use Rattle.run_end.specs.declared.stop.Stop.{Stop}
-use Rattle.thread_events.specs.Results.{HasCome}
-use Rattle.thread_frames.specs.Points.{IsAtPoint, IsResult}
-use Rattle.thread_frames.specs.declared.ended.Ended.{Ended}
-use Rattle.thread_frames.specs.declared.thread.Thread.{Thread}
+use Rattle.lane_events.specs.Passed.Results.{HasCome}
+use Rattle.lane_events.specs.Passed.Points.{IsAtPoint, IsResult}
+use Rattle.lane_events.specs.Passed.EndedType.{Ended}
+use Rattle.lane_events.specs.Passed.ThreadType.{Thread}
 use Rattle.thread_map.specs.Kept.{kept_under}
-use Rattle.thread_frames.specs.Kept.{WaitsUnder, IsUnderItsId}
-use Rattle.thread_frames.specs.Roots.{end_of_root}
-use Rattle.hall_law.specs.Points.{LaneAtPoints}
+use Rattle.lane_events.specs.Passed.Kept.{WaitsUnder, IsUnderItsId}
+use Rattle.lane_events.specs.Passed.Roots.{end_of_root}
+use Rattle.lane_events.specs.Passed.HallLawPoints.{LaneAtPoints}
 use Rattle.list_events.specs.Calls.{KeepsCrew, TakesWaiting, IsHandedThere}
-use Rattle.hall_turns.specs.declared.lane_slot.LaneSlot.{LaneSlot}
-use Rattle.hall_turns.specs.declared.list_slot.ListSlot.{ListSlot}
-use Rattle.hall_turns.specs.declared.pool_slot.PoolSlot.{PoolSlot}
-use Rattle.hall_turns.specs.declared.seat_note.SeatNote.{SeatNote}
-use Rattle.hall_turns.specs.Lists.{HasNoOwner, IsGone, KeepsRest}
-use Rattle.hall_turns.specs.declared.key.HallKey.{HallKey}
-use Rattle.hall_turns.specs.Keys.{table_of, quota_of}
-use Rattle.hall_turns.specs.Sound.{PoolIsSound}
-use Rattle.hall_turns.specs.Takes.{HallSeat}
+use Rattle.hall_writes.specs.Passed.LaneSlotType.{LaneSlot}
+use Rattle.hall_writes.specs.Passed.ListSlotType.{ListSlot}
+use Rattle.hall_writes.specs.Passed.PoolSlotType.{PoolSlot}
+use Rattle.hall_writes.specs.Passed.SeatNoteType.{SeatNote}
+use Rattle.hall_writes.specs.Passed.Lists.{HasNoOwner, IsGone, KeepsRest}
+use Rattle.hall_writes.specs.Passed.HallKeyType.{HallKey}
+use Rattle.hall_writes.specs.Passed.Keys.{table_of, quota_of}
+use Rattle.hall_writes.specs.Passed.Sound.{PoolIsSound}
+use Rattle.hall_writes.specs.Passed.Takes.{HallSeat}
 use Rattle.hall_writes.specs.Writes.{parts, IsShort, StaySound}
 
 -- The note is of the same seat: it has the worker, has left or not, and was answered, as before, and a stop that it found it has found.

@@ -7,16 +7,16 @@ use Rattle.depth_first_run.specs.Run.{list_of}
 use Rattle.depth_first_run.specs.States.{Setting}
 use Rattle.period_books.specs.Periods.{open_shown}
 use Rattle.quota_period.specs.declared.period.Period.{Period as OpenPeriod}
-use Rattle.thread_events.specs.Acts.{IsCharged}
-use Rattle.thread_frames.specs.Actions.{IsOfTheList, IsStill}
-use Rattle.thread_frames.specs.declared.next.Next.{Next}
-use Rattle.thread_frames.specs.declared.thread.Thread.{Thread}
+use Rattle.lane_events.specs.Passed.Acts.{IsCharged}
+use Rattle.lane_events.specs.Passed.Actions.{IsOfTheList, IsStill}
+use Rattle.lane_events.specs.Passed.NextType.{Next}
+use Rattle.lane_events.specs.Passed.ThreadType.{Thread}
 use Rattle.thread_state.specs.Settings.{IsSettingOf}
-use Rattle.hall_turns.specs.declared.lane_slot.LaneSlot.{LaneSlot}
-use Rattle.hall_turns.specs.declared.key.HallKey.{HallKey}
-use Rattle.hall_turns.specs.Keys.{table_of, quota_of}
-use Rattle.hall_turns.specs.Shown.{running_shown}
-use Rattle.hall_turns.specs.Takes.{HallSeat}
+use Rattle.hall_writes.specs.Passed.LaneSlotType.{LaneSlot}
+use Rattle.hall_writes.specs.Passed.HallKeyType.{HallKey}
+use Rattle.hall_writes.specs.Passed.Keys.{table_of, quota_of}
+use Rattle.hall_writes.specs.Passed.Shown.{running_shown}
+use Rattle.hall_writes.specs.Passed.Takes.{HallSeat}
 
 -- The lane that was taken has these threads under its top one, which has come to its next action without doing any, and shows this period,
 -- whichever worker it is noted for. The period may have more room than it had in the lane.

@@ -5,7 +5,7 @@ use Rattle.deque_list.specs.declared.deque_id.DequeId.{DequeId}
 use Rattle.node_table.specs.declared.code.Code.{Code}
 use Rattle.turn_table.specs.Hands.{fresh}
 use Rattle.turn_table.specs.Tables.{key_of, slot_count, IsSeatOf}
-use Rattle.hall_law.specs.Numbers.{IsSmallestNumber}
+use Rattle.hall_turns.specs.Passed.Numbers.{IsSmallestNumber}
 use Rattle.hall_entering.specs.Entering.{giving_note, worker_note}
 use Rattle.hall_turns.specs.declared.list_slot.ListSlot.{ListSlot}
 use Rattle.hall_turns.specs.Takes.{IsRefused}

@@ -13,8 +13,8 @@ use Rattle.deque_machine.specs.Machine.{Setting, Event, steals, does, suspends, 
 use Rattle.deque_machine.specs.Play.{Limits, IsForced}
 use Rattle.deque_machine.specs.Play as play
 use Rattle.deque_machine.specs.Runs as runs
-use Rattle.period_books.specs.Periods.{Period}
-use Rattle.period_table.proofs.Lists.{set_same, set_other}
+use Rattle.step_laws.specs.Passed.Periods.{Period}
+use Rattle.step_laws.proofs.Passed.Lists.{set_same, set_other}
 use Rattle.step_laws.proofs.Told.{actions_are_added, others_add_none}
 use Rattle.hall_law.specs.Values.{Hall, LaneShown, Stop, by_rule, no_memory, End, finished, stopped, lane_at}
 use Rattle.hall_law.specs.Steps.{Step, Told, Leads, told_to, last_theft}

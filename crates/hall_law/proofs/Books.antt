@@ -7,7 +7,7 @@ use Rattle.lawful_books.specs.Lists.{Among, Each}
 use Rattle.lawful_books.proofs.Lists.{each_map, each_among, each_join, among_right, among_parts}
 use Rattle.deque_machine.specs.Moments.{Moment}
 use Rattle.deque_machine.specs.Machine.{Setting, Event, steals, does, suspends, gives_up, May}
-use Rattle.moment_parts.specs.Parts.{Parts}
+use Rattle.step_laws.specs.Passed.Parts.{Parts}
 use Rattle.step_laws.proofs.Told.{actions_are_added, others_add_none}
 use Rattle.hall_law.specs.Values.{parts_of}
 use Rattle.hall_law.specs.Steps.{Step, Told, stole, did, waited, gave_up, halted, Tells, Leads, told_to, name_told, names_in, last_from, last_theft, IsOfItsPeriod, InTheirPeriods}

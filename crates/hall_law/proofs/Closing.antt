@@ -11,11 +11,11 @@ use Rattle.deque_machine.specs.Machine.{Setting, Event, gives_up, May}
 use Rattle.deque_machine.specs.Play.{IsForced}
 use Rattle.deque_machine.specs.Play as play
 use Rattle.deque_machine.specs.Runs.{Pair, Reaches, moves}
-use Rattle.period_books.specs.Periods.{Period}
-use Rattle.period_books.specs.Telling.{Tell}
-use Rattle.moment_parts.specs.Parts as parts
-use Rattle.moment_parts.specs.Parts.{Thread}
-use Rattle.deque_events.specs.Shown.{deque_shown}
+use Rattle.step_laws.specs.Passed.Periods.{Period}
+use Rattle.step_laws.specs.Passed.Telling.{Tell}
+use Rattle.step_laws.specs.Passed.Parts as parts
+use Rattle.step_laws.specs.Passed.Parts.{Thread}
+use Rattle.step_laws.specs.Passed.Shown.{deque_shown}
 use Rattle.step_laws.specs.Moves.{AreMovesOf}
 use Rattle.hall_law.specs.Values.{LaneShown, of_lane, lane_in, hall_of, lane_at, deque_at, deque_of, the_thread, run_by, running}
 use Rattle.hall_law.specs.Steps.{run_of}

@@ -11,7 +11,7 @@ use Rattle.deque_machine.specs.Moments.{Moment}
 use Rattle.deque_machine.specs.Machine.{Setting}
 use Rattle.deque_machine.specs.Play as play
 use Rattle.deque_machine.specs.Play.{Limits}
-use Rattle.period_table.proofs.Lists.{set_same, set_other}
+use Rattle.step_laws.proofs.Passed.Lists.{set_same, set_other}
 use Rattle.hall_law.specs.Values.{Hall, Stop, by_rule}
 use Rattle.hall_law.specs.Steps.{Step, Leads}
 use Rattle.hall_law.specs.Views.{View, joined, in_hall, one_if_in, stands_for, workers_of, places_held, one_if_counting, by_the_limit, one_if_late}

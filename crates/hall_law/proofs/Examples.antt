@@ -10,9 +10,9 @@ use Rattle.depth_first_list.specs.Runs.{start, after_fork, after_join, rests, go
 use Rattle.deque_list.specs.Ids.{deque_id}
 use Rattle.deque_machine.specs.Moments.{opening}
 use Rattle.deque_machine.specs.Machine.{Setting, steals, does}
-use Rattle.space_ledger.specs.declared.moved.Moved.{Moved}
-use Rattle.period_table.specs.Tables.{noted}
-use Rattle.moment_parts.specs.Parts.{Thread, Parts, parts_with_root}
+use Rattle.step_laws.specs.Passed.MovedType.{Moved}
+use Rattle.step_laws.specs.Passed.Tables.{noted}
+use Rattle.step_laws.specs.Passed.Parts.{Thread, Parts, parts_with_root}
 use Rattle.hall_law.specs.Values.{ListShown, PoolShown, Hall, no_lane, of_list, of_pool, of_lane, hall_of, parts_of}
 use Rattle.hall_law.specs.Steps.{Step, stole, did, run_of, told_to, names_in, last_theft}
 use Rattle.hall_law.specs.Standing.{HallStands, Went}

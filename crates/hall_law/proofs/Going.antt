@@ -6,11 +6,11 @@ use Rattle.lawful_books.proofs.Lists.{each_map, each_from, each_among}
 use Rattle.deque_machine.specs.Moments.{Moment}
 use Rattle.deque_machine.specs.Machine.{Setting}
 use Rattle.deque_machine.specs.Runs.{moves}
-use Rattle.period_books.specs.Periods.{Period, Adds, Replaces}
-use Rattle.period_books.proofs.Changes.{each_has_its_book}
-use Rattle.period_table.specs.Numbers.{NumbersWithin}
-use Rattle.period_table.proofs.Lists.{from_within}
-use Rattle.moment_parts.specs.Parts.{Parts}
+use Rattle.step_laws.specs.Passed.Periods.{Period, Adds, Replaces}
+use Rattle.step_laws.proofs.Passed.Changes.{each_has_its_book}
+use Rattle.step_laws.specs.Passed.Numbers.{NumbersWithin}
+use Rattle.step_laws.proofs.Passed.Lists.{from_within}
+use Rattle.step_laws.specs.Passed.Parts.{Parts}
 use Rattle.step_laws.specs.Standing.{StandsAt, StandsAfter}
 use Rattle.step_laws.proofs.Going.{runs_go_on, moves_go_on}
 use Rattle.hall_law.specs.Values.{Hall, parts_of, showing_of}

@@ -11,12 +11,12 @@ use Rattle.lawful_books.proofs.Lists.{among_here}
 use Rattle.deque_machine.specs.Moments.{Moment}
 use Rattle.deque_machine.specs.Machine.{Setting, does}
 use Rattle.deque_machine.specs.Runs.{moves}
-use Rattle.period_books.specs.Periods.{Period}
-use Rattle.period_table.specs.Numbers.{NumbersDiffer}
-use Rattle.period_table.specs.Tables.{noted}
-use Rattle.moment_parts.specs.Parts.{Child, Thread, Result, Parts}
-use Rattle.moment_parts.specs.Events.{Works, ends_above, ends_and_wakes, HandsOver, hands_over}
-use Rattle.deque_events.specs.Events.{DidEnd, DidJoin}
+use Rattle.step_laws.specs.Passed.Periods.{Period}
+use Rattle.step_laws.specs.Passed.Numbers.{NumbersDiffer}
+use Rattle.step_laws.specs.Passed.Tables.{noted}
+use Rattle.step_laws.specs.Passed.Parts.{Child, Thread, Result, Parts}
+use Rattle.step_laws.specs.Passed.MomentPartsEvents.{Works, ends_above, ends_and_wakes, HandsOver, hands_over}
+use Rattle.step_laws.specs.Passed.Events.{DidEnd, DidJoin}
 use Rattle.step_laws.specs.Orders.{AreSame}
 use Rattle.step_laws.specs.Standing.{handed_on}
 use Rattle.step_laws.proofs.Standing.{handings_stand}

@@ -12,13 +12,13 @@ use Rattle.lawful_books.specs.Lists.{Each}
 use Rattle.deque_machine.specs.Moments.{Moment}
 use Rattle.deque_machine.specs.Machine.{Setting, does}
 use Rattle.deque_machine.specs.Runs.{moves}
-use Rattle.period_books.specs.Periods.{Period}
-use Rattle.period_books.specs.Names.{IsNamed}
-use Rattle.period_table.specs.Numbers.{NumbersDiffer}
-use Rattle.period_table.specs.Tables.{noted}
-use Rattle.moment_parts.specs.Parts.{Thread, Result, Parts}
-use Rattle.moment_parts.specs.Events.{Does, does_alone, joins_newest, forks_child, Notes, IsNextOf, name_of}
-use Rattle.moment_parts.proofs.Placing as placing
+use Rattle.step_laws.specs.Passed.Periods.{Period}
+use Rattle.step_laws.specs.Passed.Names.{IsNamed}
+use Rattle.step_laws.specs.Passed.Numbers.{NumbersDiffer}
+use Rattle.step_laws.specs.Passed.Tables.{noted}
+use Rattle.step_laws.specs.Passed.Parts.{Thread, Result, Parts}
+use Rattle.step_laws.specs.Passed.MomentPartsEvents.{Does, does_alone, joins_newest, forks_child, Notes, IsNextOf, name_of}
+use Rattle.step_laws.proofs.Passed.Placing as placing
 use Rattle.step_laws.specs.Orders.{AreSame}
 use Rattle.step_laws.specs.Standing.{StandsAfter, Counts, Settles, as_they_are}
 use Rattle.step_laws.proofs.Standing.{actions_stand}

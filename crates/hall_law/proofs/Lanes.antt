@@ -9,8 +9,8 @@ use Rattle.lawful_books.proofs.Lists.{total_middle, total_append, one_same, one_
 use Rattle.deque_machine.specs.Moments.{Moment, with_id}
 use Rattle.deque_machine.specs.Machine.{Setting}
 use Rattle.deque_machine.specs.LawfulOrder.{IsLawful}
-use Rattle.moment_parts.specs.Parts.{deque_shown}
-use Rattle.moment_parts.specs.Standing.{Shows}
+use Rattle.step_laws.specs.Passed.Parts.{deque_shown}
+use Rattle.step_laws.specs.Passed.Standing.{Shows}
 use Rattle.hall_law.specs.Values.{LaneShown, Hall, no_lane, lane_at, deque_at, run_by, running_at, running, parts_of}
 use Rattle.hall_law.specs.Standing.{HasLane}
 

@@ -9,7 +9,7 @@ use Rattle.deque_machine.specs.Moments.{Moment, one_if_worker}
 use Rattle.deque_machine.specs.Machine.{Setting}
 use Rattle.deque_machine.specs.Play.{Limits}
 use Rattle.deque_machine.specs.Play as play
-use Rattle.period_table.proofs.Lists.{set_same, set_other}
+use Rattle.step_laws.proofs.Passed.Lists.{set_same, set_other}
 use Rattle.hall_law.specs.Values.{Hall, Stop, by_rule, no_memory, End}
 use Rattle.hall_law.specs.Steps.{Step, Leads}
 use Rattle.hall_law.specs.Writing.{place_of}

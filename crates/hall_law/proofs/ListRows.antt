@@ -14,12 +14,12 @@ use Rattle.lawful_books.specs.Books.{charge, charge_at}
 use Rattle.deque_machine.specs.Moments.{Moment}
 use Rattle.deque_machine.specs.Machine.{Setting, does, suspends, gives_up}
 use Rattle.deque_machine.specs.Runs.{moves, moves_words}
-use Rattle.period_books.specs.Periods.{Period}
-use Rattle.period_table.specs.Numbers.{NumbersDiffer}
-use Rattle.period_table.specs.Tables.{noted, shut}
-use Rattle.moment_parts.specs.Parts.{Child, Thread, Result, Parts}
-use Rattle.moment_parts.specs.Events.{Does, runs_dummy, ends_and_leaves, Notes, Shuts, gives_up_deque, suspends_top, IsNextOf, name_of}
-use Rattle.deque_events.specs.Events.{DidDummy, DidEnd}
+use Rattle.step_laws.specs.Passed.Periods.{Period}
+use Rattle.step_laws.specs.Passed.Numbers.{NumbersDiffer}
+use Rattle.step_laws.specs.Passed.Tables.{noted, shut}
+use Rattle.step_laws.specs.Passed.Parts.{Child, Thread, Result, Parts}
+use Rattle.step_laws.specs.Passed.MomentPartsEvents.{Does, runs_dummy, ends_and_leaves, Notes, Shuts, gives_up_deque, suspends_top, IsNextOf, name_of}
+use Rattle.step_laws.specs.Passed.Events.{DidDummy, DidEnd}
 use Rattle.step_laws.specs.Moves.{noted_if}
 use Rattle.step_laws.specs.Orders.{AreSame}
 use Rattle.step_laws.specs.Standing.{StandsAfter, Keeps, as_they_are}

@@ -9,7 +9,7 @@ use Rattle.lawful_books.proofs.Lists.{each_map}
 use Rattle.deque_machine.specs.Moments.{Moment}
 use Rattle.deque_machine.specs.Machine.{Setting}
 use Rattle.deque_machine.specs.Play.{Limits}
-use Rattle.period_table.proofs.Lists.{set_same, set_other}
+use Rattle.step_laws.proofs.Passed.Lists.{set_same, set_other}
 use Rattle.hall_law.specs.Values.{Hall, End}
 use Rattle.hall_law.specs.Steps.{Step, Leads}
 use Rattle.hall_law.specs.Views.{View, joined, stands_for, workers_of, places_held, one_if_counting, one_if_late}

@@ -7,8 +7,8 @@ use Rattle.lawful_books.specs.Lists.{Each}
 use Rattle.lawful_books.proofs.Lists.{each_map}
 use Rattle.deque_machine.specs.Machine.{Setting}
 use Rattle.deque_machine.specs.Runs.{moves}
-use Rattle.period_table.specs.Numbers.{NumbersDiffer}
-use Rattle.moment_parts.specs.Parts.{parts_with_root}
+use Rattle.step_laws.specs.Passed.Numbers.{NumbersDiffer}
+use Rattle.step_laws.specs.Passed.Parts.{parts_with_root}
 use Rattle.step_laws.proofs.Standing as law
 use Rattle.hall_law.specs.Values.{deque_at, running, parts_of, showing_of}
 use Rattle.hall_law.specs.Steps.{run_of}

@@ -7,11 +7,11 @@ use Rattle.lawful_books.specs.Lists.{Among, Each}
 use Rattle.lawful_books.proofs.Lists.{each_left, each_right, each_join, each_at, among_here}
 use Rattle.deque_machine.specs.Moments.{Moment}
 use Rattle.deque_machine.specs.Machine.{Setting}
-use Rattle.period_books.specs.Periods.{Period, Replaces}
-use Rattle.period_table.specs.Numbers.{NumbersDiffer}
-use Rattle.period_table.proofs.Lists.{changed, changed_differ, moved, moved_differ}
-use Rattle.moment_parts.specs.Parts.{Thread, Deque, Parts}
-use Rattle.moment_parts.specs.Events.{Works}
+use Rattle.step_laws.specs.Passed.Periods.{Period, Replaces}
+use Rattle.step_laws.specs.Passed.Numbers.{NumbersDiffer}
+use Rattle.step_laws.proofs.Passed.Lists.{changed, changed_differ, moved, moved_differ}
+use Rattle.step_laws.specs.Passed.Parts.{Thread, Deque, Parts}
+use Rattle.step_laws.specs.Passed.MomentPartsEvents.{Works}
 use Rattle.hall_law.specs.Values.{LaneShown, Hall, lane_at, deque_at, open_for, run_by, running, parts_of}
 use Rattle.hall_law.specs.Steps.{Step}
 use Rattle.hall_law.specs.Standing.{HasLane, HallStands}

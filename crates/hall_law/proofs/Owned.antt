@@ -10,12 +10,12 @@ use Rattle.lawful_books.specs.Lists.{Among}
 use Rattle.lawful_books.specs.Books.{Book}
 use Rattle.deque_machine.specs.Moments.{Deque, deque_of, one_if_worker}
 use Rattle.deque_machine.specs.Machine.{Setting}
-use Rattle.period_books.specs.Periods.{Period}
-use Rattle.period_books.specs.Names.{AreNamed}
-use Rattle.period_books.specs.Telling.{AreBooks, Tell}
-use Rattle.period_books.specs.Laws.{IsCutAt}
-use Rattle.period_books.proofs.Changes.{each_has_its_book}
-use Rattle.moment_parts.specs.Parts.{Parts, deque_shown, label_of}
+use Rattle.step_laws.specs.Passed.Periods.{Period}
+use Rattle.step_laws.specs.Passed.Names.{AreNamed}
+use Rattle.step_laws.specs.Passed.Telling.{AreBooks, Tell}
+use Rattle.step_laws.specs.Passed.Laws.{IsCutAt}
+use Rattle.step_laws.proofs.Passed.Changes.{each_has_its_book}
+use Rattle.step_laws.specs.Passed.Parts.{Parts, deque_shown, label_of}
 use Rattle.hall_law.specs.Values.{Hall, LaneShown, lane_at, deque_at, parts_of}
 use Rattle.hall_law.specs.Steps.{stole}
 use Rattle.hall_law.specs.Writing.{place_of}

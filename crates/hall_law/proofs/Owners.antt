@@ -8,8 +8,8 @@ use Rattle.depth_first_list.specs.Facts.{action_at, deed_at, words_at, weight_at
 use Rattle.depth_first_list.specs.Runs.{IsDepthFirst}
 use Rattle.deque_machine.specs.Machine.{Setting, does, suspends, gives_up}
 use Rattle.deque_machine.specs.Runs.{moves_words}
-use Rattle.space_ledger.specs.declared.moved.Moved.{Moved}
-use Rattle.period_table.specs.Tables.{noted, shut}
+use Rattle.step_laws.specs.Passed.MovedType.{Moved}
+use Rattle.step_laws.specs.Passed.Tables.{noted, shut}
 use Rattle.step_laws.specs.Moves.{noted_if}
 use Rattle.step_laws.proofs.Told.{give_up_is_forced}
 use Rattle.hall_law.specs.Values.{PoolShown, no_lane, parts_of}

@@ -12,8 +12,8 @@ use Rattle.deque_machine.specs.Moments.{Moment, one_if_worker}
 use Rattle.deque_machine.specs.Machine.{Setting, Event, steals, does, suspends, gives_up}
 use Rattle.deque_machine.specs.Play.{Limits, IsForced}
 use Rattle.deque_machine.specs.Runs as runs
-use Rattle.period_books.specs.Periods.{Period}
-use Rattle.moment_parts.specs.Parts.{Thread}
+use Rattle.step_laws.specs.Passed.Periods.{Period}
+use Rattle.step_laws.specs.Passed.Parts.{Thread}
 use Rattle.hall_law.specs.Values.{ListShown, PoolShown, LaneShown, Hall, lane_at}
 use Rattle.hall_law.specs.Steps.{Step, Told, stole, did, waited, gave_up, halted, Leads, IsOfItsPeriod, told_to, last_theft, last_from}
 use Rattle.hall_law.specs.Standing.{Went}

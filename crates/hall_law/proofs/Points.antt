@@ -5,7 +5,7 @@ use Rattle.std.proofs.lemmas.Option.{same_Some}
 use Rattle.std.specs.Prelude.{None, Some, slice_get}
 use Rattle.lawful_books.specs.Lists.{Each}
 use Rattle.lawful_books.proofs.Lists.{each_map, each_among}
-use Rattle.period_table.proofs.Lists.{set_same, set_other}
+use Rattle.step_laws.proofs.Passed.Lists.{set_same, set_other}
 use Rattle.hall_law.specs.Writing.{place_of}
 use Rattle.hall_law.specs.Views.{View}
 use Rattle.hall_law.specs.Points.{IsExcused, LaneAtPoints, StaysAtPoints, PointsGoOn, ExcusesStay}

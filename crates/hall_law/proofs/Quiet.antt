@@ -6,8 +6,8 @@ use Rattle.depth_first_list.specs.Runs.{IsDepthFirst}
 use Rattle.deque_machine.specs.Moments.{Moment}
 use Rattle.deque_machine.specs.Machine.{Setting, gives_up}
 use Rattle.deque_machine.specs.Play.{Limits}
-use Rattle.period_table.specs.Tables.{shut}
-use Rattle.period_table.proofs.Lists.{set_same}
+use Rattle.step_laws.specs.Passed.Tables.{shut}
+use Rattle.step_laws.proofs.Passed.Lists.{set_same}
 use Rattle.hall_law.specs.Values.{Hall, Stop, End}
 use Rattle.hall_law.specs.Steps.{Step, Leads, gave_up}
 use Rattle.hall_law.specs.Writing.{lane_with, written, list_unowned, step_of}

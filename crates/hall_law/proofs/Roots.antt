@@ -6,8 +6,8 @@ use Rattle.deque_list.specs.declared.place.Place.{Place}
 use Rattle.lawful_books.proofs.Lists.{cons_is_not_nil}
 use Rattle.deque_machine.specs.Moments.{Moment}
 use Rattle.deque_machine.specs.Machine.{Setting, HasEnded, does}
-use Rattle.period_table.specs.Tables.{noted, shut}
-use Rattle.moment_parts.specs.Parts.{deque_shown}
+use Rattle.step_laws.specs.Passed.Tables.{noted, shut}
+use Rattle.step_laws.specs.Passed.Parts.{deque_shown}
 use Rattle.hall_law.specs.Values.{Hall, finished, no_lane, deque_at}
 use Rattle.hall_law.specs.Steps.{Step, did}
 use Rattle.hall_law.specs.Standing.{HallStands}

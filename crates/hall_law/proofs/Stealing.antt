@@ -7,11 +7,11 @@ use Rattle.lawful_books.specs.Lists.{Each}
 use Rattle.deque_machine.specs.Moments.{Moment}
 use Rattle.deque_machine.specs.Machine.{Setting, steals}
 use Rattle.deque_machine.specs.Runs.{moves}
-use Rattle.period_books.specs.Periods.{Period, Adds}
-use Rattle.period_table.specs.Numbers.{NumbersDiffer, NumbersWithin}
-use Rattle.period_table.proofs.Lists.{adds, added_differ}
-use Rattle.moment_parts.specs.Parts.{Deque, Parts}
-use Rattle.moment_parts.specs.Events.{Begins}
+use Rattle.step_laws.specs.Passed.Periods.{Period, Adds}
+use Rattle.step_laws.specs.Passed.Numbers.{NumbersDiffer, NumbersWithin}
+use Rattle.step_laws.proofs.Passed.Lists.{adds, added_differ}
+use Rattle.step_laws.specs.Passed.Parts.{Deque, Parts}
+use Rattle.step_laws.specs.Passed.MomentPartsEvents.{Begins}
 use Rattle.step_laws.specs.Standing.{StandsAfter, Keeps}
 use Rattle.hall_law.specs.Values.{ListShown, LaneShown, Hall, lane_at, deque_at, run_by, running_at, running, parts_of, showing_of}
 use Rattle.hall_law.specs.Steps.{Step, stole, run_of}

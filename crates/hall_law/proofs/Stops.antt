@@ -21,12 +21,12 @@ use Rattle.deque_machine.proofs.Movers.{mover_wants}
 use Rattle.deque_machine.proofs.Playing.{wanted_may_come}
 use Rattle.deque_machine.proofs.Reached.{arena_refuses}
 use Rattle.deque_list.specs.declared.place.Place.{Place}
-use Rattle.moment_parts.specs.Parts.{Thread, Parts}
-use Rattle.moment_parts.specs.Parts as parts
-use Rattle.moment_parts.specs.Events.{Works, IsNextOf}
-use Rattle.moment_parts.proofs.Placing.{own, next_at_top}
-use Rattle.moment_parts.proofs.Shown.{used_is}
-use Rattle.deque_events.specs.Shown.{deque_shown}
+use Rattle.step_laws.specs.Passed.Parts.{Thread, Parts}
+use Rattle.step_laws.specs.Passed.Parts as parts
+use Rattle.step_laws.specs.Passed.MomentPartsEvents.{Works, IsNextOf}
+use Rattle.step_laws.proofs.Passed.Placing.{own, next_at_top}
+use Rattle.step_laws.proofs.Passed.Shown.{used_is}
+use Rattle.step_laws.specs.Passed.Shown.{deque_shown}
 use Rattle.step_laws.specs.Readiness.{AreDeques}
 use Rattle.step_laws.proofs.Ready.{first_is_shown, owners_are_shown}
 use Rattle.hall_law.specs.Values.{Hall, by_rule, the_thread, deque_at, deque_of, deques_of, parts_of}

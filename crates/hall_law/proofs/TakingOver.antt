@@ -11,9 +11,9 @@ use Rattle.lawful_books.proofs.Lists.{each_left, each_right, each_join, each_at}
 use Rattle.deque_machine.specs.Moments.{Moment}
 use Rattle.deque_machine.specs.Machine.{Setting, steals}
 use Rattle.deque_machine.specs.Runs.{moves}
-use Rattle.period_books.specs.Periods.{Period}
-use Rattle.moment_parts.specs.Parts.{Thread, Parts}
-use Rattle.moment_parts.specs.Events.{Steals, takes_over}
+use Rattle.step_laws.specs.Passed.Periods.{Period}
+use Rattle.step_laws.specs.Passed.Parts.{Thread, Parts}
+use Rattle.step_laws.specs.Passed.MomentPartsEvents.{Steals, takes_over}
 use Rattle.step_laws.proofs.Standing.{thefts_stand}
 use Rattle.hall_law.specs.Values.{LaneShown, Hall, lane_at, deque_at, run_by, running, parts_of, showing_of}
 use Rattle.hall_law.specs.Steps.{Step, stole, run_of}

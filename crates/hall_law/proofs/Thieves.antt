@@ -11,8 +11,8 @@ use Rattle.lawful_books.proofs.Lists.{each_among, each_at, among_middle, among_w
 use Rattle.deque_machine.specs.Moments.{Moment}
 use Rattle.deque_machine.specs.Machine.{Setting, steals}
 use Rattle.deque_machine.specs.Play.{Limits}
-use Rattle.period_books.specs.Periods.{Period}
-use Rattle.moment_parts.specs.Parts.{Thread}
+use Rattle.step_laws.specs.Passed.Periods.{Period}
+use Rattle.step_laws.specs.Passed.Parts.{Thread}
 use Rattle.hall_law.specs.Values.{LaneShown, Hall, no_lane, lane_at}
 use Rattle.hall_law.specs.Steps.{Step, Leads, stole, told_to, last_theft}
 use Rattle.hall_law.specs.Standing.{HasLane}

@@ -9,9 +9,9 @@ use Rattle.deque_list.specs.declared.deque_id.DequeId.{DequeId}
 use Rattle.deque_list.specs.Ids.{deque_id}
 use Rattle.deque_machine.specs.Moments.{Moment, opening, done_at}
 use Rattle.deque_machine.specs.Machine.{steals, does, gives_up}
-use Rattle.space_ledger.specs.declared.moved.Moved.{Moved}
-use Rattle.period_table.specs.Tables.{noted, shut}
-use Rattle.moment_parts.specs.Parts.{Thread, Result}
+use Rattle.step_laws.specs.Passed.MovedType.{Moved}
+use Rattle.step_laws.specs.Passed.Tables.{noted, shut}
+use Rattle.step_laws.specs.Passed.Parts.{Thread, Result}
 use Rattle.hall_law.specs.Values.{PoolShown, Hall, finished, no_lane}
 use Rattle.hall_law.specs.Steps.{Step, Leads, stole, did, gave_up}
 use Rattle.hall_law.specs.Writing.{place_of, lane_with, IsAtWork, written, list_unowned, list_without, step_of, new_period}

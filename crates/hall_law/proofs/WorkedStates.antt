@@ -7,8 +7,8 @@ use Rattle.deque_list.specs.Ids.{deque_id}
 use Rattle.lawful_books.specs.Lists.{Among}
 use Rattle.deque_machine.specs.Moments.{opening}
 use Rattle.deque_machine.specs.Play.{Limits}
-use Rattle.period_books.specs.Periods.{Period}
-use Rattle.moment_parts.specs.Parts.{Parts}
+use Rattle.step_laws.specs.Passed.Periods.{Period}
+use Rattle.step_laws.specs.Passed.Parts.{Parts}
 use Rattle.hall_law.specs.Values.{Hall, parts_of}
 use Rattle.hall_law.specs.Steps.{stole, did}
 use Rattle.hall_law.specs.Writing.{place_of}

@@ -5,8 +5,8 @@ use Rattle.lawful_books.specs.Lists.{Among}
 use Rattle.deque_machine.specs.Moments.{Moment}
 use Rattle.deque_machine.specs.Machine.{Setting}
 use Rattle.deque_machine.specs.Play.{Limits}
-use Rattle.period_books.specs.Periods.{Period}
-use Rattle.moment_parts.specs.Parts.{Parts}
+use Rattle.step_laws.specs.Passed.Periods.{Period}
+use Rattle.step_laws.specs.Passed.Parts.{Parts}
 use Rattle.hall_law.specs.Values.{Hall, parts_of}
 use Rattle.hall_law.specs.Steps.{Step, Told, stole, did, waited, gave_up, halted, Leads, told_to}
 use Rattle.hall_law.specs.Views.{View}

@@ -7,8 +7,8 @@ use Rattle.deque_machine.specs.Machine.{Setting, gives_up}
 use Rattle.deque_machine.specs.Play as play
 use Rattle.deque_machine.specs.Play.{Limits, IsForced}
 use Rattle.deque_machine.specs.Runs.{place_of}
-use Rattle.period_books.specs.Periods.{Period}
-use Rattle.moment_parts.specs.Parts.{Thread}
+use Rattle.step_laws.specs.Passed.Periods.{Period}
+use Rattle.step_laws.specs.Passed.Parts.{Thread}
 use Rattle.hall_law.specs.Values.{Hall, LaneShown, by_rule, lane_at}
 use Rattle.hall_law.specs.Steps.{Step, Told, Leads, IsOfItsPeriod, told_to, last_theft}
 use Rattle.hall_law.specs.Standing.{Went}

@@ -9,10 +9,10 @@ use Rattle.deque_machine.specs.LawfulOrder.{IsLawful}
 use Rattle.deque_machine.specs.Play as play
 use Rattle.deque_machine.specs.Play.{Limits}
 use Rattle.deque_machine.specs.Runs.{Reaches, moves, high_water_mark}
-use Rattle.period_books.specs.Telling.{Tell}
-use Rattle.moment_parts.specs.Parts.{IsKept}
+use Rattle.step_laws.specs.Passed.Telling.{Tell}
+use Rattle.step_laws.specs.Passed.Parts.{IsKept}
 use Rattle.step_laws.specs.Moves.{AreMovesOf}
-use Rattle.moment_parts.specs.Parts.{Thread}
+use Rattle.step_laws.specs.Passed.Parts.{Thread}
 use Rattle.hall_law.specs.Values.{ListShown, Hall, End, finished, stopped, Stop, Value, hall_of}
 use Rattle.hall_law.specs.Steps.{Step, Leads, run_of}
 use Rattle.hall_law.specs.Rows.{IsFirst}

@@ -8,7 +8,7 @@ use Rattle.deque_machine.specs.Moments.{Moment}
 use Rattle.deque_machine.specs.Machine.{Setting, HasEnded}
 use Rattle.deque_machine.specs.Play as play
 use Rattle.deque_machine.specs.Play.{Limits}
-use Rattle.period_books.specs.Periods.{Period}
+use Rattle.step_laws.specs.Passed.Periods.{Period}
 use Rattle.hall_law.specs.Values.{Hall, LaneShown, Stop, by_rule, no_memory, End, finished, stopped, lane_at}
 use Rattle.hall_law.specs.Steps.{Step, Leads, told_to, last_theft, InTheirPeriods, NoneFree, HasMet}
 use Rattle.hall_law.specs.Writing.{place_of}

@@ -12,11 +12,11 @@ use Rattle.lawful_books.specs.Books.{charge_at}
 use Rattle.deque_machine.specs.Moments.{Moment}
 use Rattle.deque_machine.specs.Machine.{Setting, steals, does, suspends, gives_up}
 use Rattle.deque_machine.specs.Play.{Limits, IsForced}
-use Rattle.period_books.specs.Periods.{Period}
-use Rattle.period_table.specs.Tables.{noted, shut}
-use Rattle.moment_parts.specs.Parts.{Child, Thread, Result}
-use Rattle.moment_parts.specs.Events.{IsNextOf}
-use Rattle.deque_events.specs.Events.{DidDummy, DidJoin, DidEnd}
+use Rattle.step_laws.specs.Passed.Periods.{Period}
+use Rattle.step_laws.specs.Passed.Tables.{noted, shut}
+use Rattle.step_laws.specs.Passed.Parts.{Child, Thread, Result}
+use Rattle.step_laws.specs.Passed.MomentPartsEvents.{IsNextOf}
+use Rattle.step_laws.specs.Passed.Events.{DidDummy, DidJoin, DidEnd}
 use Rattle.hall_law.specs.Values.{PoolShown, LaneShown, Hall, finished, no_lane, lane_at}
 use Rattle.hall_law.specs.Steps.{Step, Leads, did, stole, waited, gave_up}
 use Rattle.hall_law.specs.Writing.{place_of, lane_with, IsAtWork, written, list_unowned, list_without, step_of, PoolTakes, ActsInLane, IsHanded, new_period}

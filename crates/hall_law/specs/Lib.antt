@@ -18,3 +18,4 @@ pub mod Receipts
 pub mod Quiet
 pub mod Numbers
 pub mod Owned
+pub mod Passed

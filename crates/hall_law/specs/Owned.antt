@@ -9,9 +9,9 @@ use Rattle.lawful_books.specs.Books.{Book}
 use Rattle.deque_machine.specs.Moments.{Moment, deque_of}
 use Rattle.deque_machine.specs.Machine.{Setting}
 use Rattle.deque_machine.specs.Play.{Limits}
-use Rattle.period_books.specs.Periods.{Period}
-use Rattle.period_books.specs.Names.{AreNamed}
-use Rattle.moment_parts.specs.Parts.{Parts}
+use Rattle.step_laws.specs.Passed.Periods.{Period}
+use Rattle.step_laws.specs.Passed.Names.{AreNamed}
+use Rattle.step_laws.specs.Passed.Parts.{Parts}
 use Rattle.hall_law.specs.Values.{Hall, parts_of}
 use Rattle.hall_law.specs.Steps.{Step, stole, Leads}
 use Rattle.hall_law.specs.Views.{View}

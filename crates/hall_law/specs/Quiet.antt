@@ -5,7 +5,7 @@ use Rattle.lawful_books.specs.Lists.{Each, times}
 use Rattle.deque_machine.specs.Moments.{Moment}
 use Rattle.deque_machine.specs.Machine.{Setting, gives_up}
 use Rattle.deque_machine.specs.Play.{Limits}
-use Rattle.period_table.specs.Tables.{shut}
+use Rattle.step_laws.specs.Passed.Tables.{shut}
 use Rattle.step_laws.specs.Orders.{AreSame}
 use Rattle.step_laws.specs.Standing.{Keeps}
 use Rattle.hall_law.specs.Values.{Hall, Stop, End, parts_of, showing_of}

@@ -11,11 +11,11 @@ use Rattle.deque_list.specs.Ids.{deque_id}
 use Rattle.lawful_books.specs.Lists.{Each}
 use Rattle.deque_machine.specs.Moments.{Moment, opening}
 use Rattle.deque_machine.specs.Machine.{Setting, steals, does, suspends, gives_up}
-use Rattle.period_books.specs.Periods.{Period}
-use Rattle.period_table.specs.Tables.{noted, shut}
-use Rattle.moment_parts.specs.Parts.{Child, Thread, Result}
-use Rattle.moment_parts.specs.Events.{IsNextOf}
-use Rattle.deque_events.specs.Events.{DidDummy, DidJoin, DidEnd}
+use Rattle.step_laws.specs.Passed.Periods.{Period}
+use Rattle.step_laws.specs.Passed.Tables.{noted, shut}
+use Rattle.step_laws.specs.Passed.Parts.{Child, Thread, Result}
+use Rattle.step_laws.specs.Passed.MomentPartsEvents.{IsNextOf}
+use Rattle.step_laws.specs.Passed.Events.{DidDummy, DidJoin, DidEnd}
 use Rattle.step_laws.specs.Orders.{AreSame}
 use Rattle.step_laws.specs.Standing.{Keeps}
 use Rattle.hall_law.specs.Values.{ListShown, PoolShown, LaneShown, Hall, no_lane, lane_at, parts_of, showing_of}

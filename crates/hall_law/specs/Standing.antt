@@ -6,10 +6,10 @@ use Rattle.deque_machine.specs.Moments.{Moment, opening}
 use Rattle.deque_machine.specs.Machine.{Setting, May}
 use Rattle.deque_machine.specs.Runs.{moves, Reaches}
 use Rattle.deque_machine.specs.Play as play
-use Rattle.period_books.specs.Periods.{Period}
-use Rattle.period_books.specs.Telling.{Tell}
-use Rattle.period_table.specs.Numbers.{NumbersDiffer}
-use Rattle.moment_parts.specs.Parts.{Parts}
+use Rattle.step_laws.specs.Passed.Periods.{Period}
+use Rattle.step_laws.specs.Passed.Telling.{Tell}
+use Rattle.step_laws.specs.Passed.Numbers.{NumbersDiffer}
+use Rattle.step_laws.specs.Passed.Parts.{Parts}
 use Rattle.step_laws.specs.Standing.{StandsAt}
 use Rattle.step_laws.specs.Moves.{AreMovesOf}
 use Rattle.step_laws.specs.Readiness.{AreDeques}

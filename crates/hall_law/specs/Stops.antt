@@ -10,8 +10,8 @@ use Rattle.deque_machine.specs.Machine.{Setting, does, May}
 use Rattle.deque_machine.specs.Play as play
 use Rattle.deque_machine.specs.Play.{Limits, IsFirst, words_taken}
 use Rattle.step_laws.specs.Passed.Choices.{IsReadyAt, reach_of}
-use Rattle.moment_parts.specs.Parts.{Thread}
-use Rattle.moment_parts.specs.Events.{IsNextOf}
+use Rattle.step_laws.specs.Passed.Parts.{Thread}
+use Rattle.step_laws.specs.Passed.MomentPartsEvents.{IsNextOf}
 use Rattle.hall_law.specs.Values.{Hall, by_rule, deques_of}
 use Rattle.hall_law.specs.Steps.{Step, Leads}
 use Rattle.hall_law.specs.Writing.{IsAtWork}

@@ -4,9 +4,9 @@ use Rattle.deque_list.specs.declared.deque_id.DequeId.{DequeId}
 use Rattle.deque_list.specs.declared.place.Place.{Place}
 use Rattle.deque_list.specs.Deques.{Deque as DequeOf}
 use Rattle.deque_machine.specs.Play as play
-use Rattle.period_books.specs.Periods.{Period}
-use Rattle.space_ledger.specs.declared.moved.Moved.{Moved}
-use Rattle.moment_parts.specs.Parts.{Thread, Result, Deque, Parts}
+use Rattle.step_laws.specs.Passed.Periods.{Period}
+use Rattle.step_laws.specs.Passed.MovedType.{Moved}
+use Rattle.step_laws.specs.Passed.Parts.{Thread, Result, Deque, Parts}
 use Rattle.step_laws.specs.Standing.{Showing}
 
 -- what stops a run: a stop of the rules, or want of memory

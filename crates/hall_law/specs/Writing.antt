@@ -9,10 +9,10 @@ use Rattle.deque_list.specs.declared.place.Place.{Place}
 use Rattle.deque_machine.specs.Moments.{Moment}
 use Rattle.deque_machine.specs.Machine.{Setting, Event}
 use Rattle.deque_machine.specs.Runs.{is_move}
-use Rattle.space_ledger.specs.declared.moved.Moved.{Moved}
-use Rattle.period_books.specs.Periods.{Period}
-use Rattle.moment_parts.specs.Parts.{Child, Thread, Result}
-use Rattle.deque_events.specs.Events.{DidAlone, DidJoin, DidFork}
+use Rattle.step_laws.specs.Passed.MovedType.{Moved}
+use Rattle.step_laws.specs.Passed.Periods.{Period}
+use Rattle.step_laws.specs.Passed.Parts.{Child, Thread, Result}
+use Rattle.step_laws.specs.Passed.Events.{DidAlone, DidJoin, DidFork}
 use Rattle.step_laws.specs.Moves.{noted_if}
 use Rattle.hall_law.specs.Values.{ListShown, PoolShown, LaneShown, Value, of_list, of_pool, of_lane, lane_in, Hall, hall_of, lane_at, open_for}
 use Rattle.hall_law.specs.Steps.{Step, Told}

@@ -18,13 +18,13 @@ use Rattle.turn_table.specs.Notes.{JoinMay}
 use Rattle.turn_table.specs.Seats.{with_hand}
 use Rattle.turn_table.proofs.NoteLaws.{join_noted}
 use Rattle.turn_places.proofs.Resting.{join_rests}
-use Rattle.hall_law.specs.Values.{End}
-use Rattle.hall_law.specs.Views.{View, joined, places_held}
-use Rattle.hall_law.specs.Seats.{or_else, with_places_of}
-use Rattle.hall_law.specs.State.{RunningState, HallLaw}
-use Rattle.hall_law.specs.Points.{IsExcused}
-use Rattle.hall_law.proofs.Notes.{total_two}
-use Rattle.hall_law.proofs.Quiet.{joining_goes_on}
+use Rattle.hall_turns.specs.Passed.Values.{End}
+use Rattle.hall_turns.specs.Passed.Views.{View, joined, places_held}
+use Rattle.hall_turns.specs.Passed.Seats.{or_else, with_places_of}
+use Rattle.hall_turns.specs.Passed.State.{RunningState, HallLaw}
+use Rattle.hall_turns.specs.Passed.HallLawPoints.{IsExcused}
+use Rattle.hall_turns.proofs.Passed.Notes.{total_two}
+use Rattle.hall_turns.proofs.Passed.Quiet.{joining_goes_on}
 use Rattle.hall_turns.specs.declared.list_slot.ListSlot.{ListSlot}
 use Rattle.hall_turns.specs.declared.seat_note.SeatNote.{SeatNote}
 use Rattle.hall_turns.specs.declared.slot.Slot.{Slot}

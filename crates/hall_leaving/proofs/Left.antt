@@ -16,12 +16,12 @@ use Rattle.run_end.specs.declared.ends.RunEnd.TheVariants.{Finished}
 use Rattle.turn_table.specs.Law.{PutKeeps}
 use Rattle.turn_table.specs.Seats.{with_hand}
 use Rattle.turn_places.specs.Backs.{unchanged}
-use Rattle.hall_law.specs.Values.{ListShown, End}
-use Rattle.hall_law.specs.Views.{View}
-use Rattle.hall_law.specs.State.{RunningState}
-use Rattle.hall_law.specs.Points.{IsExcused}
-use Rattle.hall_law.specs.Quiet.{kept_with}
-use Rattle.hall_law.proofs.Quiet.{leaving_goes_on}
+use Rattle.hall_turns.specs.Passed.Values.{ListShown, End}
+use Rattle.hall_turns.specs.Passed.Views.{View}
+use Rattle.hall_turns.specs.Passed.State.{RunningState}
+use Rattle.hall_turns.specs.Passed.HallLawPoints.{IsExcused}
+use Rattle.hall_turns.specs.Passed.Quiet.{kept_with}
+use Rattle.hall_turns.proofs.Passed.Quiet.{leaving_goes_on}
 use Rattle.hall_turns.specs.declared.list_slot.ListSlot.{ListSlot}
 use Rattle.hall_turns.specs.declared.seat_note.SeatNote.{SeatNote}
 use Rattle.hall_turns.specs.declared.slot.Slot.{Slot}

@@ -15,13 +15,13 @@ use Rattle.turn_table.specs.Hands.{Shows}
 use Rattle.turn_table.specs.Law.{Stands}
 use Rattle.turn_table.specs.Notes.{notes}
 use Rattle.turn_table.proofs.NoteLaws.{notes_at}
-use Rattle.hall_law.specs.Values.{Hall, ListShown}
-use Rattle.hall_law.specs.Writing.{place_of}
-use Rattle.hall_law.specs.Views.{View, in_hall, one_if_in, one_if_its, stands_for}
-use Rattle.hall_law.specs.Crew.{SeatStands}
-use Rattle.hall_law.proofs.First.{is_in}
-use Rattle.hall_law.proofs.Notes.{total_at}
-use Rattle.hall_law.specs.State.{HallLaw}
+use Rattle.hall_turns.specs.Passed.Values.{Hall, ListShown}
+use Rattle.hall_turns.specs.Passed.Writing.{place_of}
+use Rattle.hall_turns.specs.Passed.Views.{View, in_hall, one_if_in, one_if_its, stands_for}
+use Rattle.hall_turns.specs.Passed.Crew.{SeatStands}
+use Rattle.hall_turns.proofs.Passed.First.{is_in}
+use Rattle.hall_turns.proofs.Passed.Notes.{total_at}
+use Rattle.hall_turns.specs.Passed.State.{HallLaw}
 use Rattle.hall_turns.specs.declared.list_slot.ListSlot.{ListSlot}
 use Rattle.hall_turns.specs.declared.slot.Slot.{Slot}
 use Rattle.hall_turns.specs.declared.slot.Slot.TheVariants as slots

@@ -7,7 +7,7 @@ use Rattle.turn_table.specs.declared.look.Look.TheVariants.{Took}
 use Rattle.turn_table.specs.Hands.{noted, gave}
 use Rattle.turn_table.specs.Seats.{with_hand}
 use Rattle.turn_places.specs.Backs.{unchanged}
-use Rattle.hall_law.specs.Seats.{or_else}
+use Rattle.hall_turns.specs.Passed.Seats.{or_else}
 use Rattle.hall_turns.specs.declared.key.HallKey.{HallKey}
 use Rattle.hall_turns.specs.declared.list_slot.ListSlot.{ListSlot}
 use Rattle.hall_turns.specs.declared.seat_note.SeatNote.{SeatNote}

@@ -20,9 +20,9 @@ use Rattle.deque_machine.specs.Terms.{Terms, machine_of}
 use Rattle.run_end.specs.declared.ends.RunEnd.{RunEnd}
 use Rattle.run_end.specs.declared.ends.RunEnd.TheVariants.{Finished}
 use Rattle.thread_frames.specs.Roots.{HasDoneNothing, IsRootAlone}
-use Rattle.hall_law.specs.Views.{View}
-use Rattle.hall_law.specs.Rows.{IsFirst}
-use Rattle.hall_law.specs.Values.{End}
+use Rattle.hall_turns.specs.Passed.Views.{View}
+use Rattle.hall_turns.specs.Passed.Rows.{IsFirst}
+use Rattle.hall_turns.specs.Passed.Values.{End}
 use Rattle.hall_turns.specs.Shown.{view_of, value_of, kind_of, end_shown}
 use Rattle.hall_turns.specs.declared.lane_slot.LaneSlot.{LaneSlot}
 use Rattle.hall_turns.specs.declared.list_slot.ListSlot.{ListSlot}
@@ -30,8 +30,8 @@ use Rattle.hall_turns.specs.declared.pool_slot.PoolSlot.{PoolSlot}
 use Rattle.hall_turns.specs.declared.seat_note.SeatNote.{SeatNote}
 use Rattle.hall_turns.specs.declared.slot.Slot.TheVariants as slots
 use Rattle.hall_turns.specs.declared.slot.Slot.{Slot}
-use Rattle.hall_law.proofs.Closed.{first_hall_stands}
-use Rattle.hall_law.specs.Points.{IsExcused, LaneAtPoints, AreAtPoints}
+use Rattle.hall_turns.proofs.Passed.Closed.{first_hall_stands}
+use Rattle.hall_turns.specs.Passed.HallLawPoints.{IsExcused, LaneAtPoints, AreAtPoints}
 use Rattle.hall_turns.proofs.Keeping.{Whole}
 use Rattle.hall_turns.proofs.Reading.{IfList, IfPool, IfLane}
 use Rattle.hall_opening.specs.First.{IsFirstList, IsEmptyLane, AreFirst, first_note}
@@ -47,7 +47,7 @@ use Rattle.period_books.specs.Periods.{closed_shown}
 use Rattle.thread_frames.specs.Points.{IsAtPoint, IsResult}
 use Rattle.thread_frames.specs.declared.thread.Thread.{Thread}
 use Rattle.thread_frames.specs.Shown.{thread_shown, child_shown}
-use Rattle.thread_state.specs.Settings.{IsSettingOf}
+use Rattle.thread_frames.specs.Passed.Settings.{IsSettingOf}
 use Rattle.turn_places.specs.Places.{Rests}
 use Rattle.turn_table.specs.Hands.{fresh}
 use Rattle.turn_table.specs.declared.hand.Hand.{Hand}

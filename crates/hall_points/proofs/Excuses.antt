@@ -8,13 +8,13 @@ use Rattle.deque_machine.specs.Moments.{Moment}
 use Rattle.deque_machine.specs.Machine.{Setting}
 use Rattle.deque_machine.specs.Play.{Limits}
 use Rattle.period_table.proofs.Lists.{set_same, set_other}
-use Rattle.hall_law.specs.Values.{Hall, no_memory, End}
-use Rattle.hall_law.specs.Steps.{Step, Leads}
-use Rattle.hall_law.specs.Views.{View, joined}
-use Rattle.hall_law.proofs.Notes.{each_get}
-use Rattle.hall_law.specs.State.{RunningState, IsIn}
-use Rattle.hall_law.specs.Points.{IsExcused, LaneAtPoints}
-use Rattle.hall_law.proofs.Owned.{seats_have_their_workers}
+use Rattle.hall_run.specs.Passed.Values.{Hall, no_memory, End}
+use Rattle.hall_run.specs.Passed.Steps.{Step, Leads}
+use Rattle.hall_run.specs.Passed.Views.{View, joined}
+use Rattle.hall_run.proofs.Passed.Notes.{each_get}
+use Rattle.hall_run.specs.Passed.State.{RunningState, IsIn}
+use Rattle.hall_run.specs.Passed.Points.{IsExcused, LaneAtPoints}
+use Rattle.hall_run.proofs.Passed.Owned.{seats_have_their_workers}
 
 -- ---- one lane
 

@@ -4,7 +4,7 @@ use Rattle.std.specs.List.Sorted.{IsPermutation}
 use Rattle.std.proofs.lemmas.List.Sorted.{IsPermutation-sym}
 use Rattle.lawful_books.specs.Lists.{Each}
 use Rattle.lawful_books.proofs.Lists.{each_from, each_among, each_at, each_without}
-use Rattle.step_laws.proofs.Reordered.{among_moved}
+use Rattle.hall_run.proofs.Passed.Reordered.{among_moved}
 use Rattle.thread_frames.specs.Points.{IsAtPoint, IsResult}
 use Rattle.hall_points.specs.Ways.{TopsGoOn, ForksGoOn, EndsAboveGoOn, WakingEndsGoOn, LeavingEndsGoOn, KeptJoinsGoOn, WaitsGoOn}
 

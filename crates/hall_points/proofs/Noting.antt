@@ -11,14 +11,14 @@ use Rattle.deque_machine.specs.Machine.{Setting}
 use Rattle.deque_machine.specs.Play as play
 use Rattle.deque_machine.specs.Play.{Limits}
 use Rattle.period_table.proofs.Lists.{set_other}
-use Rattle.hall_law.specs.Values.{Stop, by_rule, no_memory, End}
-use Rattle.hall_law.specs.Steps.{Step, Leads}
-use Rattle.hall_law.specs.Views.{fresh, joined}
-use Rattle.hall_law.specs.Seats.{entering, giving, finding, end_with, answered_with, halted_with, leaving, with_places_of}
-use Rattle.hall_law.specs.State.{RunningState}
-use Rattle.hall_law.specs.Quiet.{kept_with}
-use Rattle.hall_law.specs.Points.{IsExcused, LaneAtPoints}
-use Rattle.hall_law.proofs.Owning.{owns_none}
+use Rattle.hall_run.specs.Passed.Values.{Stop, by_rule, no_memory, End}
+use Rattle.hall_run.specs.Passed.Steps.{Step, Leads}
+use Rattle.hall_run.specs.Passed.Views.{fresh, joined}
+use Rattle.hall_run.specs.Passed.Seats.{entering, giving, finding, end_with, answered_with, halted_with, leaving, with_places_of}
+use Rattle.hall_run.specs.Passed.State.{RunningState}
+use Rattle.hall_run.specs.Passed.Quiet.{kept_with}
+use Rattle.hall_run.specs.Passed.Points.{IsExcused, LaneAtPoints}
+use Rattle.hall_run.proofs.Passed.Owning.{owns_none}
 use Rattle.hall_run.specs.Events.{Snapshot}
 use Rattle.hall_run.specs.Others.{IsOther, puts_the_same, counts_below, counts_spent, finds_a_stop, finds_and_keeps, keeps_its_stop, halts_with, is_answered, enters_by, splits_off, leaves_idle, joins_into}
 use Rattle.hall_points.proofs.Excuses.{excuse_more, excused_with, excused_still, excused_before}

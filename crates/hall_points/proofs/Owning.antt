@@ -9,17 +9,17 @@ use Rattle.lawful_books.proofs.Lists.{each_from, each_among, each_left, each_rig
 use Rattle.deque_machine.specs.Moments.{Moment}
 use Rattle.deque_machine.specs.Machine.{Setting}
 use Rattle.deque_machine.specs.Play.{Limits}
-use Rattle.hall_law.specs.Values.{Hall, Stop, no_memory, End}
-use Rattle.hall_law.specs.Steps.{Step, Leads}
-use Rattle.hall_law.specs.Writing.{place_of, IsAtWork}
-use Rattle.hall_law.proofs.Lanes.{IsElsewhere}
-use Rattle.hall_law.proofs.Own.{beside}
-use Rattle.hall_law.specs.Views.{View}
-use Rattle.hall_law.specs.Seats.{end_with}
-use Rattle.hall_law.specs.State.{RunningState, IsIn}
-use Rattle.hall_law.specs.Quiet.{kept_with}
-use Rattle.hall_law.specs.Points.{IsExcused, LaneAtPoints}
-use Rattle.hall_law.proofs.Owning.{stood, owns_it}
+use Rattle.hall_run.specs.Passed.Values.{Hall, Stop, no_memory, End}
+use Rattle.hall_run.specs.Passed.Steps.{Step, Leads}
+use Rattle.hall_run.specs.Passed.Writing.{place_of, IsAtWork}
+use Rattle.hall_run.proofs.Passed.Lanes.{IsElsewhere}
+use Rattle.hall_run.proofs.Passed.Own.{beside}
+use Rattle.hall_run.specs.Passed.Views.{View}
+use Rattle.hall_run.specs.Passed.Seats.{end_with}
+use Rattle.hall_run.specs.Passed.State.{RunningState, IsIn}
+use Rattle.hall_run.specs.Passed.Quiet.{kept_with}
+use Rattle.hall_run.specs.Passed.Points.{IsExcused, LaneAtPoints}
+use Rattle.hall_run.proofs.Passed.Owning.{stood, owns_it}
 use Rattle.hall_points.proofs.Excuses.{all_at, excuse_more, none_excused, excused_with, excused_itself}
 
 module _ {T : Type 0} (At : T → Type 0) (s : Setting) (limits : Limits) (h : Hall) (steps : List Step) (m : Moment) (leads : Leads s steps m) (count : ℕ) (views : List View) (seat : ℕ) (v : View)

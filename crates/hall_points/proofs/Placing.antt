@@ -12,16 +12,16 @@ use Rattle.deque_machine.specs.Machine.{Setting, Event}
 use Rattle.deque_machine.specs.Play.{Limits}
 use Rattle.node_table.specs.Table.{Table}
 use Rattle.thread_frames.specs.Points.{IsAtPoint, IsResult}
-use Rattle.hall_law.specs.Values.{Hall, no_memory, End}
-use Rattle.hall_law.specs.Steps.{Step, Told, did, gave_up, Leads}
-use Rattle.hall_law.specs.Writing.{place_of, IsAtWork}
-use Rattle.hall_law.proofs.Lanes.{apart}
-use Rattle.hall_law.specs.Views.{View}
-use Rattle.hall_law.specs.Changes.{after_event}
-use Rattle.hall_law.specs.Seats.{leaving}
-use Rattle.hall_law.specs.State.{RunningState, IsIn}
-use Rattle.hall_law.specs.Points.{IsExcused, LaneAtPoints}
-use Rattle.hall_law.proofs.Owning.{stood}
+use Rattle.hall_run.specs.Passed.Values.{Hall, no_memory, End}
+use Rattle.hall_run.specs.Passed.Steps.{Step, Told, did, gave_up, Leads}
+use Rattle.hall_run.specs.Passed.Writing.{place_of, IsAtWork}
+use Rattle.hall_run.proofs.Passed.Lanes.{apart}
+use Rattle.hall_run.specs.Passed.Views.{View}
+use Rattle.hall_run.specs.Passed.Changes.{after_event}
+use Rattle.hall_run.specs.Passed.Seats.{leaving}
+use Rattle.hall_run.specs.Passed.State.{RunningState, IsIn}
+use Rattle.hall_run.specs.Passed.Points.{IsExcused, LaneAtPoints}
+use Rattle.hall_run.proofs.Passed.Owning.{stood}
 use Rattle.hall_run.specs.Events.{ActsOn, acts_in_lane, joins_in_lane, runs_dummy, ends_above, ends_and_wakes, ends_and_leaves, root_ends, joins_kept, PausesOn, gives_up_forced, waits_for_child, given_up}
 use Rattle.hall_points.specs.Placed.{Threads, ArePlaced, BeginningsArePlaced, OwnersArePlaced, BottomsArePlaced, UnownedArePlaced}
 use Rattle.hall_points.specs.Events.{GoOnIn, ActionsKeepPoints, PausesKeepPoints, GiveUpsKeepPoints, TheftsBesideKeepPoints, TakingOverKeepsPoints, LeavingOwnersKeepPoints}

@@ -9,11 +9,11 @@ use Rattle.deque_machine.specs.Play.{Limits}
 use Rattle.node_table.specs.Table.{Table}
 use Rattle.thread_frames.specs.Points.{IsAtPoint}
 use Rattle.thread_frames.specs.declared.thread.Thread.{Thread}
-use Rattle.hall_law.specs.Values.{Hall}
-use Rattle.hall_law.specs.Steps.{Step, Told, Leads}
-use Rattle.hall_law.specs.Views.{View}
-use Rattle.hall_law.specs.Changes.{after_event}
-use Rattle.hall_law.specs.State.{RunningState, IsIn}
+use Rattle.hall_run.specs.Passed.Values.{Hall}
+use Rattle.hall_run.specs.Passed.Steps.{Step, Told, Leads}
+use Rattle.hall_run.specs.Passed.Views.{View}
+use Rattle.hall_run.specs.Passed.Changes.{after_event}
+use Rattle.hall_run.specs.Passed.State.{RunningState, IsIn}
 use Rattle.hall_run.specs.Events.{Snapshot, StealsOn, steals_beside, takes_over, IsEvent, does_an_action, has_to_pause, gives_up_freely, steals_a_thread, leaves_as_owner}
 use Rattle.hall_run.specs.Sequences.{IsBeginning, Sequence, begins, then_event, then_other}
 use Rattle.hall_run.proofs.Running.{sequences_show_moments}

@@ -6,11 +6,11 @@ use Rattle.deque_list.specs.declared.deque_id.DequeId.{DequeId}
 use Rattle.deque_list.specs.declared.place.Place.{Place}
 use Rattle.lawful_books.specs.Lists.{Among, Each}
 use Rattle.lawful_books.proofs.Lists.{each_from, each_among, each_left, each_right, each_join, each_at, among_here, among_wider}
-use Rattle.hall_law.specs.Values.{End}
-use Rattle.hall_law.specs.Writing.{place_of}
-use Rattle.hall_law.proofs.Lanes.{IsElsewhere}
-use Rattle.hall_law.specs.Views.{View}
-use Rattle.hall_law.specs.Points.{IsExcused, LaneAtPoints}
+use Rattle.hall_run.specs.Passed.Values.{End}
+use Rattle.hall_run.specs.Passed.Writing.{place_of}
+use Rattle.hall_run.proofs.Passed.Lanes.{IsElsewhere}
+use Rattle.hall_run.specs.Passed.Views.{View}
+use Rattle.hall_run.specs.Passed.Points.{IsExcused, LaneAtPoints}
 use Rattle.hall_points.proofs.Excuses.{all_at, excuse_more, none_excused, excused_with}
 
 module _ {T : Type 0} (At : T → Type 0) (views : List View) (kept : Option End) (places : List Place) (lanes : DequeId → List T)

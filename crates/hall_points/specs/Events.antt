@@ -10,14 +10,14 @@ use Rattle.deque_machine.specs.Play.{Limits}
 use Rattle.node_table.specs.Table.{Table}
 use Rattle.thread_frames.specs.Points.{IsAtPoint, IsResult}
 use Rattle.thread_frames.specs.declared.thread.Thread.{Thread}
-use Rattle.hall_law.specs.Values.{Hall}
-use Rattle.hall_law.specs.Steps.{Step, Told, did, gave_up, Leads}
-use Rattle.hall_law.specs.Writing.{place_of, IsAtWork}
-use Rattle.hall_law.specs.Views.{View}
-use Rattle.hall_law.specs.Changes.{after_event}
-use Rattle.hall_law.specs.Seats.{with_crew, leaving}
-use Rattle.hall_law.specs.State.{RunningState, IsIn}
-use Rattle.hall_law.specs.Quiet.{kept_with}
+use Rattle.hall_run.specs.Passed.Values.{Hall}
+use Rattle.hall_run.specs.Passed.Steps.{Step, Told, did, gave_up, Leads}
+use Rattle.hall_run.specs.Passed.Writing.{place_of, IsAtWork}
+use Rattle.hall_run.specs.Passed.Views.{View}
+use Rattle.hall_run.specs.Passed.Changes.{after_event}
+use Rattle.hall_run.specs.Passed.Seats.{with_crew, leaving}
+use Rattle.hall_run.specs.Passed.State.{RunningState, IsIn}
+use Rattle.hall_run.specs.Passed.Quiet.{kept_with}
 use Rattle.hall_run.specs.Events.{ActsOn, PausesOn, given_up}
 use Rattle.hall_points.specs.Placed.{Threads, ArePlaced}
 

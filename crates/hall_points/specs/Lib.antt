@@ -3,3 +3,4 @@ pub mod Events
 pub mod Others
 pub mod Ways
 pub mod Sequences
+pub mod Passed

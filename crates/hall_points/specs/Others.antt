@@ -6,11 +6,11 @@ use Rattle.deque_machine.specs.Machine.{Setting}
 use Rattle.deque_machine.specs.Play.{Limits}
 use Rattle.node_table.specs.Table.{Table}
 use Rattle.thread_frames.specs.declared.thread.Thread.{Thread}
-use Rattle.hall_law.specs.Values.{Hall, no_memory}
-use Rattle.hall_law.specs.Steps.{Step, Leads}
-use Rattle.hall_law.specs.Writing.{IsAtWork}
-use Rattle.hall_law.specs.Views.{View}
-use Rattle.hall_law.specs.State.{RunningState, IsIn}
+use Rattle.hall_run.specs.Passed.Values.{Hall, no_memory}
+use Rattle.hall_run.specs.Passed.Steps.{Step, Leads}
+use Rattle.hall_run.specs.Passed.Writing.{IsAtWork}
+use Rattle.hall_run.specs.Passed.Views.{View}
+use Rattle.hall_run.specs.Passed.State.{RunningState, IsIn}
 use Rattle.hall_run.specs.Events.{Snapshot}
 use Rattle.hall_run.specs.Others.{IsOther}
 use Rattle.hall_points.specs.Placed.{Threads, ArePlaced}

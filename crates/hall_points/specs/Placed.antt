@@ -9,12 +9,12 @@ use Rattle.node_table.specs.Table.{Table}
 use Rattle.thread_frames.specs.Points.{IsAtPoint, IsResult}
 use Rattle.thread_frames.specs.declared.thread.Thread.{Thread}
 use Rattle.thread_frames.specs.declared.ended.Ended.{Ended}
-use Rattle.hall_law.specs.Values.{Hall, no_memory}
-use Rattle.hall_law.specs.Steps.{Step, Leads}
-use Rattle.hall_law.specs.Writing.{place_of, IsAtWork}
-use Rattle.hall_law.specs.Views.{View}
-use Rattle.hall_law.specs.State.{RunningState, IsIn}
-use Rattle.hall_law.specs.Points.{AreAtPoints}
+use Rattle.hall_run.specs.Passed.Values.{Hall, no_memory}
+use Rattle.hall_run.specs.Passed.Steps.{Step, Leads}
+use Rattle.hall_run.specs.Passed.Writing.{place_of, IsAtWork}
+use Rattle.hall_run.specs.Passed.Views.{View}
+use Rattle.hall_run.specs.Passed.State.{RunningState, IsIn}
+use Rattle.hall_run.specs.Passed.Points.{AreAtPoints}
 use Rattle.hall_run.specs.Events.{Snapshot}
 use Rattle.hall_run.specs.Sequences.{IsBeginning}
 

@@ -6,11 +6,11 @@ use Rattle.deque_machine.specs.Play.{Limits}
 use Rattle.node_table.specs.Table.{Table}
 use Rattle.thread_frames.specs.Points.{IsAtPoint}
 use Rattle.thread_frames.specs.declared.thread.Thread.{Thread}
-use Rattle.hall_law.specs.Values.{Hall, no_memory}
-use Rattle.hall_law.specs.Steps.{Step}
-use Rattle.hall_law.specs.Writing.{IsAtWork}
-use Rattle.hall_law.specs.Views.{View}
-use Rattle.hall_law.specs.State.{IsIn}
+use Rattle.hall_run.specs.Passed.Values.{Hall, no_memory}
+use Rattle.hall_run.specs.Passed.Steps.{Step}
+use Rattle.hall_run.specs.Passed.Writing.{IsAtWork}
+use Rattle.hall_run.specs.Passed.Views.{View}
+use Rattle.hall_run.specs.Passed.State.{IsIn}
 use Rattle.hall_run.specs.Events.{Snapshot, StealsOn, steals_beside, takes_over, IsEvent, does_an_action, has_to_pause, gives_up_freely, steals_a_thread, leaves_as_owner}
 use Rattle.hall_run.specs.Others.{IsOther}
 use Rattle.hall_run.specs.Sequences.{IsBeginning, Sequence}

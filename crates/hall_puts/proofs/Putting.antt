@@ -13,7 +13,7 @@ use Rattle.turn_table.proofs.NoteLaws.{put_writes}
 use Rattle.turn_table.proofs.Left.{left_of_one, first_of_two, first_of_three}
 use Rattle.turn_places.specs.Backs.{still, unchanged}
 use Rattle.turn_places.proofs.Resting.{put_rests}
-use Rattle.hall_law.specs.Writing.{lane_slot}
+use Rattle.hall_turns.specs.Passed.Writing.{lane_slot}
 use Rattle.hall_turns.specs.declared.lane_slot.LaneSlot.{LaneSlot}
 use Rattle.hall_turns.specs.declared.list_slot.ListSlot.{ListSlot}
 use Rattle.hall_turns.specs.declared.pool_slot.PoolSlot.{PoolSlot}

@@ -19,7 +19,7 @@ use Rattle.moment_parts.specs.Parts.{Child, Thread, Result, Parts, IsIn, label_o
 use Rattle.moment_parts.specs.Standing.{ChildStands, EndedIn, Shows}
 use Rattle.moment_parts.specs.Events.{Works}
 use Rattle.moment_parts.proofs.Placing.{top_is_in, top_stands}
-use Rattle.step_laws.specs.Results.{IsChildOf}
+use Rattle.hall_law.specs.Passed.Results.{IsChildOf}
 use Rattle.hall_reads.proofs.AtJoin.{in_its_deque, top_is_live}
 
 -- the thread whose label has no ordinals has the id of the root

@@ -11,31 +11,31 @@ use Rattle.lawful_books.specs.Lists.{Among}
 use Rattle.lawful_books.proofs.Lists.{cons_is_not_nil, each_among}
 use Rattle.moment_parts.specs.Parts as parts
 use Rattle.moment_parts.proofs.Shown.{among_map}
-use Rattle.step_laws.specs.Results.{IsChildOf}
-use Rattle.step_laws.proofs.Parents.{parents_await}
+use Rattle.hall_law.specs.Passed.Results.{IsChildOf}
+use Rattle.hall_law.proofs.Passed.Parents.{parents_await}
 use Rattle.thread_events.specs.Results.{FirstAwaits}
-use Rattle.thread_frames.specs.Children.{IsResultFor}
-use Rattle.thread_frames.specs.Kept.{IsUnderItsId, WaitsUnder, waiting_shown, result_kept}
-use Rattle.thread_frames.specs.Points.{IsAtPoint}
-use Rattle.thread_frames.specs.Shown.{child_shown, thread_shown, result_shown}
-use Rattle.thread_frames.specs.Views.{Child, children_of, ended_label, label_of}
-use Rattle.thread_frames.specs.declared.ended.Ended.{Ended}
-use Rattle.thread_frames.specs.declared.next.Next.TheVariants as nexts
-use Rattle.thread_frames.specs.declared.thread.Thread.{Thread}
-use Rattle.thread_frames.proofs.Found.{found_among}
-use Rattle.thread_frames.proofs.Threads.{next_actions_stand}
+use Rattle.thread_events.specs.Passed.Children.{IsResultFor}
+use Rattle.thread_events.specs.Passed.Kept.{IsUnderItsId, WaitsUnder, waiting_shown, result_kept}
+use Rattle.thread_events.specs.Passed.Points.{IsAtPoint}
+use Rattle.thread_events.specs.Passed.Shown.{child_shown, thread_shown, result_shown}
+use Rattle.thread_events.specs.Passed.Views.{Child, children_of, ended_label, label_of}
+use Rattle.thread_events.specs.Passed.EndedType.{Ended}
+use Rattle.thread_events.specs.Passed.NextVariants as nexts
+use Rattle.thread_events.specs.Passed.ThreadType.{Thread}
+use Rattle.thread_events.proofs.Passed.Found.{found_among}
+use Rattle.thread_events.proofs.Passed.Threads.{next_actions_stand}
 use Rattle.thread_map.specs.Kept.{kept_under, id_code}
 use Rattle.turn_table.specs.Notes.{HasAs}
 use Rattle.core_parts.proofs.Joining.{awaited_one}
 use Rattle.core_parts.proofs.Newest.{among_reversed}
 use Rattle.hall_law.specs.Values.{parts_of}
-use Rattle.hall_turns.specs.declared.lane_slot.LaneSlot.{LaneSlot}
-use Rattle.hall_turns.specs.declared.list_slot.ListSlot.{ListSlot}
-use Rattle.hall_turns.specs.declared.slot.Slot.TheVariants as slots
-use Rattle.hall_turns.specs.declared.key.HallKey.{HallKey}
-use Rattle.hall_turns.specs.Keys.{table_of, quota_of, terms_of}
-use Rattle.hall_turns.specs.Sound.{thread_that_waits}
-use Rattle.hall_turns.specs.Takes.{HallSeat, MeetsLaw}
+use Rattle.hall_writes.specs.Passed.LaneSlotType.{LaneSlot}
+use Rattle.hall_writes.specs.Passed.ListSlotType.{ListSlot}
+use Rattle.hall_writes.specs.Passed.SlotVariants as slots
+use Rattle.hall_writes.specs.Passed.HallKeyType.{HallKey}
+use Rattle.hall_writes.specs.Passed.Keys.{table_of, quota_of, terms_of}
+use Rattle.hall_writes.specs.Passed.Sound.{thread_that_waits}
+use Rattle.hall_writes.specs.Passed.Takes.{HallSeat, MeetsLaw}
 use Rattle.hall_reads.specs.Reads.{HoldsItsLane}
 use Rattle.hall_reads.specs.Lists.{ComesTo, ReadsEnd, EndsAreRead, ReadsParent, ReadsLeave, LeavesAreRead}
 use Rattle.hall_reads.proofs.AtEnd.{not_kept, is_child, root_alone, root_id, root_unwaited}

@@ -11,16 +11,16 @@ use Rattle.lawful_books.specs.Lists.{Among, total}
 use Rattle.moment_parts.specs.Parts.{Parts, deque_words, result_words}
 use Rattle.moment_parts.specs.Events.{Works}
 use Rattle.moment_parts.proofs.Shown.{among_map, deque_words_middle}
-use Rattle.thread_frames.specs.Kept.{result_kept}
-use Rattle.thread_frames.specs.Points.{IsPlaced}
-use Rattle.thread_frames.specs.Shown.{result_shown}
-use Rattle.thread_frames.specs.Views.{ended_words, next_of, thread_words}
-use Rattle.thread_frames.specs.declared.ended.Ended.{Ended}
-use Rattle.thread_frames.specs.declared.next.Next.{Next}
-use Rattle.thread_frames.specs.declared.next.Next.TheVariants as nexts
-use Rattle.thread_frames.specs.declared.thread.Thread.{Thread}
-use Rattle.thread_frames.proofs.Found.{found_among}
-use Rattle.thread_frames.proofs.Placed.{placed_of}
+use Rattle.thread_events.specs.Passed.Kept.{result_kept}
+use Rattle.thread_events.specs.Passed.Points.{IsPlaced}
+use Rattle.thread_events.specs.Passed.Shown.{result_shown}
+use Rattle.thread_events.specs.Passed.Views.{ended_words, next_of, thread_words}
+use Rattle.thread_events.specs.Passed.EndedType.{Ended}
+use Rattle.thread_events.specs.Passed.NextType.{Next}
+use Rattle.thread_events.specs.Passed.NextVariants as nexts
+use Rattle.thread_events.specs.Passed.ThreadType.{Thread}
+use Rattle.thread_events.proofs.Passed.Found.{found_among}
+use Rattle.thread_events.proofs.Passed.Placed.{placed_of}
 use Rattle.thread_map.specs.Kept.{kept_under}
 use Rattle.thread_state.specs.Joins.{words_by, released}
 use Rattle.thread_state.specs.States.{words_held}
@@ -28,14 +28,14 @@ use Rattle.turn_table.specs.Notes.{HasAs}
 use Rattle.turn_table.proofs.Standing.{shown_as}
 use Rattle.core_parts.proofs.Bounds.{release_within, join_within, end_within}
 use Rattle.hall_law.specs.Values.{PoolShown, parts_of}
-use Rattle.hall_turns.specs.declared.lane_slot.LaneSlot.{LaneSlot}
-use Rattle.hall_turns.specs.declared.list_slot.ListSlot.{ListSlot}
-use Rattle.hall_turns.specs.declared.pool_slot.PoolSlot.{PoolSlot}
-use Rattle.hall_turns.specs.declared.slot.Slot.TheVariants as slots
-use Rattle.hall_turns.specs.declared.key.HallKey.{HallKey}
-use Rattle.hall_turns.specs.Keys.{table_of, quota_of}
-use Rattle.hall_turns.specs.Takes.{HallSeat, MeetsLaw}
-use Rattle.hall_turns.proofs.Written.{pool_at}
+use Rattle.hall_writes.specs.Passed.LaneSlotType.{LaneSlot}
+use Rattle.hall_writes.specs.Passed.ListSlotType.{ListSlot}
+use Rattle.hall_writes.specs.Passed.PoolSlotType.{PoolSlot}
+use Rattle.hall_writes.specs.Passed.SlotVariants as slots
+use Rattle.hall_writes.specs.Passed.HallKeyType.{HallKey}
+use Rattle.hall_writes.specs.Passed.Keys.{table_of, quota_of}
+use Rattle.hall_writes.specs.Passed.Takes.{HallSeat, MeetsLaw}
+use Rattle.hall_writes.proofs.Passed.Written.{pool_at}
 use Rattle.hall_reads.specs.Reads.{HoldsItsLane}
 use Rattle.hall_reads.specs.Lists.{ComesTo, words_back, WordsAreInUse, KeptWordsAreInUse}
 use Rattle.hall_reads.proofs.Listing.{gives, results_are}

@@ -10,28 +10,28 @@ use Rattle.lawful_books.specs.Lists.{Among, Each}
 use Rattle.lawful_books.proofs.Lists.{cons_is_not_nil, each_among, each_from}
 use Rattle.moment_parts.specs.Parts as parts
 use Rattle.moment_parts.proofs.Shown.{among_map}
-use Rattle.thread_frames.specs.Actions.{deed_of, is_there}
-use Rattle.thread_frames.specs.Children.{IsAwaited, IsOnlyNewest, is_delivered}
-use Rattle.thread_frames.specs.Kept.{IsUnderItsId, WaitsUnder, waiting_shown, result_kept}
-use Rattle.thread_frames.specs.Points.{IsResult}
-use Rattle.thread_frames.specs.Shown.{child_shown, thread_shown, result_shown}
-use Rattle.thread_frames.specs.Views.{Child, children_of, label_of, newest, ordinal_of as ordinal_in}
-use Rattle.thread_frames.specs.declared.ended.Ended.{Ended}
-use Rattle.thread_frames.specs.declared.next.Next.TheVariants as nexts
-use Rattle.thread_frames.specs.declared.thread.Thread.{Thread}
-use Rattle.thread_frames.proofs.Found.{found_among, none_found}
-use Rattle.thread_frames.proofs.Threads.{newest_last}
+use Rattle.thread_events.specs.Passed.Actions.{deed_of, is_there}
+use Rattle.thread_events.specs.Passed.Children.{IsAwaited, IsOnlyNewest, is_delivered}
+use Rattle.thread_events.specs.Passed.Kept.{IsUnderItsId, WaitsUnder, waiting_shown, result_kept}
+use Rattle.thread_events.specs.Passed.Points.{IsResult}
+use Rattle.thread_events.specs.Passed.Shown.{child_shown, thread_shown, result_shown}
+use Rattle.thread_events.specs.Passed.Views.{Child, children_of, label_of, newest, ordinal_of as ordinal_in}
+use Rattle.thread_events.specs.Passed.EndedType.{Ended}
+use Rattle.thread_events.specs.Passed.NextVariants as nexts
+use Rattle.thread_events.specs.Passed.ThreadType.{Thread}
+use Rattle.thread_events.proofs.Passed.Found.{found_among, none_found}
+use Rattle.thread_events.proofs.Passed.Threads.{newest_last}
 use Rattle.thread_map.specs.Kept.{kept_under}
 use Rattle.turn_table.specs.Notes.{HasAs}
 use Rattle.core_parts.proofs.Joining.{awaited_one}
 use Rattle.core_parts.proofs.Newest.{Cut, cut_newest, shown_cut, among_reversed, AreOthers, delivered_last, only_last, awaits_last}
 use Rattle.hall_law.specs.Values.{parts_of}
-use Rattle.hall_turns.specs.declared.lane_slot.LaneSlot.{LaneSlot}
-use Rattle.hall_turns.specs.declared.list_slot.ListSlot.{ListSlot}
-use Rattle.hall_turns.specs.declared.slot.Slot.TheVariants as slots
-use Rattle.hall_turns.specs.declared.key.HallKey.{HallKey}
-use Rattle.hall_turns.specs.Keys.{table_of, quota_of, terms_of}
-use Rattle.hall_turns.specs.Takes.{HallSeat, MeetsLaw}
+use Rattle.hall_writes.specs.Passed.LaneSlotType.{LaneSlot}
+use Rattle.hall_writes.specs.Passed.ListSlotType.{ListSlot}
+use Rattle.hall_writes.specs.Passed.SlotVariants as slots
+use Rattle.hall_writes.specs.Passed.HallKeyType.{HallKey}
+use Rattle.hall_writes.specs.Passed.Keys.{table_of, quota_of, terms_of}
+use Rattle.hall_writes.specs.Passed.Takes.{HallSeat, MeetsLaw}
 use Rattle.hall_reads.specs.Reads.{HoldsItsLane}
 use Rattle.hall_reads.specs.Lists.{ComesTo, ReadsJoin, JoinsAreRead, ReadsWait, WaitsAreRead, ReadsResult, ResultsAreAwaited}
 use Rattle.hall_reads.proofs.AtJoin.{other_children, unwaited, its_result, waits_alone}

@@ -10,9 +10,9 @@ use Rattle.deque_machine.specs.Terms.{Terms, machine_of}
 use Rattle.depth_first_run.specs.States.{Setting}
 use Rattle.lawful_books.specs.Lists.{Among, Each}
 use Rattle.lawful_books.proofs.Lists.{among_here}
-use Rattle.list_part.specs.Parts.{Has}
-use Rattle.thread_frames.specs.Kept.{waiting_shown, result_kept}
-use Rattle.thread_frames.specs.Points.{IsAtPoint}
+use Rattle.hall_writes.specs.Passed.Parts.{Has}
+use Rattle.thread_events.specs.Passed.Kept.{waiting_shown, result_kept}
+use Rattle.thread_events.specs.Passed.Points.{IsAtPoint}
 use Rattle.thread_state.specs.Settings.{IsSettingOf}
 use Rattle.turn_table.specs.Notes.{HasAs, notes}
 use Rattle.turn_table.proofs.NoteLaws.{notes_at}
@@ -20,17 +20,17 @@ use Rattle.turn_table.proofs.Standing.{shown_as}
 use Rattle.hall_law.specs.Values.{Hall, ListShown}
 use Rattle.hall_law.specs.State.{HallLaw}
 use Rattle.hall_law.specs.Points.{AreAtPoints}
-use Rattle.hall_turns.specs.declared.lane_slot.LaneSlot.{LaneSlot}
-use Rattle.hall_turns.specs.declared.list_slot.ListSlot.{ListSlot}
-use Rattle.hall_turns.specs.declared.slot.Slot.TheVariants as slots
-use Rattle.hall_turns.specs.declared.key.HallKey.{HallKey}
-use Rattle.hall_turns.specs.Keys.{table_of, quota_of, terms_of}
-use Rattle.hall_turns.specs.Shown.{value_of, view_of}
-use Rattle.hall_turns.specs.Sound.{ListIsSound, thread_that_waits}
-use Rattle.hall_turns.specs.Steps.{hall_shown}
-use Rattle.hall_turns.specs.Takes.{HallSeat, MeetsLaw}
-use Rattle.hall_turns.proofs.Reading.{get_of_at}
-use Rattle.hall_turns.proofs.Written.{list_at}
+use Rattle.hall_writes.specs.Passed.LaneSlotType.{LaneSlot}
+use Rattle.hall_writes.specs.Passed.ListSlotType.{ListSlot}
+use Rattle.hall_writes.specs.Passed.SlotVariants as slots
+use Rattle.hall_writes.specs.Passed.HallKeyType.{HallKey}
+use Rattle.hall_writes.specs.Passed.Keys.{table_of, quota_of, terms_of}
+use Rattle.hall_writes.specs.Passed.Shown.{value_of, view_of}
+use Rattle.hall_writes.specs.Passed.Sound.{ListIsSound, thread_that_waits}
+use Rattle.hall_writes.specs.Passed.Steps.{hall_shown}
+use Rattle.hall_writes.specs.Passed.Takes.{HallSeat, MeetsLaw}
+use Rattle.hall_writes.proofs.Passed.Reading.{get_of_at}
+use Rattle.hall_writes.proofs.Passed.Written.{list_at}
 use Rattle.hall_writes.proofs.Owned.{is_listed, is_its, is_open}
 use Rattle.hall_reads.specs.Reads.{HoldsItsLane}
 use Rattle.hall_reads.specs.Lists.{ReadsList, ListsAreRead}

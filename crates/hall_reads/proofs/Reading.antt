@@ -18,11 +18,11 @@ use Rattle.node_table.specs.Table.{Table}
 use Rattle.period_books.specs.Periods.{Period}
 use Rattle.run_end.specs.declared.stop.Stop.{Stop}
 use Rattle.run_end.specs.declared.stop.Stop.TheVariants.{ArenaFull, DequesFull, StepsSpent, OutOfMemory}
-use Rattle.thread_frames.specs.Points.{IsAtPoint}
-use Rattle.thread_frames.specs.Views.{done_of, thread_words}
-use Rattle.thread_frames.specs.declared.thread.Thread.{Thread}
-use Rattle.thread_frames.specs.Shown.{thread_shown}
-use Rattle.thread_frames.proofs.Points.{point_one}
+use Rattle.thread_events.specs.Passed.Points.{IsAtPoint}
+use Rattle.thread_events.specs.Passed.Views.{done_of, thread_words}
+use Rattle.thread_events.specs.Passed.ThreadType.{Thread}
+use Rattle.thread_events.specs.Passed.Shown.{thread_shown}
+use Rattle.thread_events.proofs.Passed.Points.{point_one}
 use Rattle.thread_state.specs.Settings.{IsSettingOf}
 use Rattle.turn_table.specs.Hands.{Shows}
 use Rattle.turn_table.specs.Law.{Stands}
@@ -36,23 +36,23 @@ use Rattle.hall_law.specs.Crew.{SeatStands}
 use Rattle.hall_law.specs.Points.{IsExcused, LaneAtPoints, AreAtPoints}
 use Rattle.hall_law.specs.State.{HallLaw}
 use Rattle.hall_points.proofs.Owning.{all_in_lane}
-use Rattle.hall_turns.specs.declared.lane_slot.LaneSlot.{LaneSlot}
-use Rattle.hall_turns.specs.declared.lane_slot.Running.{Running}
-use Rattle.hall_turns.specs.declared.list_slot.ListSlot.{ListSlot}
-use Rattle.hall_turns.specs.declared.pool_slot.PoolSlot.{PoolSlot}
-use Rattle.hall_turns.specs.declared.slot.Slot.{Slot}
-use Rattle.hall_turns.specs.declared.slot.Slot.TheVariants as slots
-use Rattle.hall_turns.specs.Shown.{value_of, view_of, lane_shown, running_shown, stop_shown}
-use Rattle.hall_turns.specs.declared.key.HallKey.{HallKey}
-use Rattle.hall_turns.specs.Keys.{table_of, quota_of, terms_of, IsKey}
-use Rattle.hall_turns.specs.Law.{HallHolds, joined_note}
-use Rattle.hall_turns.specs.Sound.{threads_in, threads_of, PoolIsSound}
-use Rattle.hall_turns.specs.Steps.{hall_shown}
-use Rattle.hall_turns.specs.Takes.{HallSeat, MeetsLaw}
-use Rattle.hall_turns.proofs.Keeping.{Whole}
-use Rattle.hall_turns.proofs.Lone.{noted_at}
-use Rattle.hall_turns.proofs.Reading.{get_of_at}
-use Rattle.hall_turns.proofs.Written.{list_at, pool_at, lane_shown_at}
+use Rattle.hall_writes.specs.Passed.LaneSlotType.{LaneSlot}
+use Rattle.hall_writes.specs.Passed.RunningType.{Running}
+use Rattle.hall_writes.specs.Passed.ListSlotType.{ListSlot}
+use Rattle.hall_writes.specs.Passed.PoolSlotType.{PoolSlot}
+use Rattle.hall_writes.specs.Passed.SlotType.{Slot}
+use Rattle.hall_writes.specs.Passed.SlotVariants as slots
+use Rattle.hall_writes.specs.Passed.Shown.{value_of, view_of, lane_shown, running_shown, stop_shown}
+use Rattle.hall_writes.specs.Passed.HallKeyType.{HallKey}
+use Rattle.hall_writes.specs.Passed.Keys.{table_of, quota_of, terms_of, IsKey}
+use Rattle.hall_writes.specs.Passed.Law.{HallHolds, joined_note}
+use Rattle.hall_writes.specs.Passed.Sound.{threads_in, threads_of, PoolIsSound}
+use Rattle.hall_writes.specs.Passed.Steps.{hall_shown}
+use Rattle.hall_writes.specs.Passed.Takes.{HallSeat, MeetsLaw}
+use Rattle.hall_writes.proofs.Passed.Keeping.{Whole}
+use Rattle.hall_writes.proofs.Passed.Lone.{noted_at}
+use Rattle.hall_writes.proofs.Passed.Reading.{get_of_at}
+use Rattle.hall_writes.proofs.Passed.Written.{list_at, pool_at, lane_shown_at}
 use Rattle.hall_writes.proofs.Owned.{split}
 use Rattle.hall_writes.proofs.There.{slot_is, list_there, pool_there}
 use Rattle.hall_reads.specs.Within.{AreWithin}

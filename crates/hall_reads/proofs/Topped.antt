@@ -9,22 +9,22 @@ use Rattle.depth_first_run.specs.Run.{list_of}
 use Rattle.depth_first_run.specs.States.{Setting}
 use Rattle.moment_parts.specs.Events.{Works}
 use Rattle.moment_parts.specs.Standing.{Shows}
-use Rattle.thread_frames.specs.Actions.{IsOfTheList}
-use Rattle.thread_frames.specs.Shown.{thread_shown}
-use Rattle.thread_frames.specs.declared.next.Next.{Next}
-use Rattle.thread_frames.specs.declared.thread.Thread.{Thread}
+use Rattle.thread_events.specs.Passed.Actions.{IsOfTheList}
+use Rattle.thread_events.specs.Passed.Shown.{thread_shown}
+use Rattle.thread_events.specs.Passed.NextType.{Next}
+use Rattle.thread_events.specs.Passed.ThreadType.{Thread}
 use Rattle.thread_state.specs.Settings.{IsSettingOf}
 use Rattle.turn_table.specs.Notes.{notes}
 use Rattle.hall_law.specs.Values.{Hall, LaneShown, parts_of}
 use Rattle.hall_law.specs.Writing.{IsAtWork, lane_with}
 use Rattle.hall_law.specs.State.{HallLaw}
 use Rattle.hall_law.proofs.Own.{works}
-use Rattle.hall_turns.specs.declared.lane_slot.LaneSlot.{LaneSlot}
-use Rattle.hall_turns.specs.declared.key.HallKey.{HallKey}
-use Rattle.hall_turns.specs.Keys.{table_of, quota_of, terms_of}
-use Rattle.hall_turns.specs.Shown.{value_of, view_of}
-use Rattle.hall_turns.specs.Steps.{hall_shown}
-use Rattle.hall_turns.specs.Takes.{HallSeat, MeetsLaw}
+use Rattle.hall_writes.specs.Passed.LaneSlotType.{LaneSlot}
+use Rattle.hall_writes.specs.Passed.HallKeyType.{HallKey}
+use Rattle.hall_writes.specs.Passed.Keys.{table_of, quota_of, terms_of}
+use Rattle.hall_writes.specs.Passed.Shown.{value_of, view_of}
+use Rattle.hall_writes.specs.Passed.Steps.{hall_shown}
+use Rattle.hall_writes.specs.Passed.Takes.{HallSeat, MeetsLaw}
 use Rattle.hall_reads.specs.Reads.{HoldsItsLane}
 use Rattle.hall_reads.specs.Lists.{ComesTo}
 use Rattle.hall_reads.proofs.Awaiting.{still_shows}

@@ -5,17 +5,17 @@ use Rattle.depth_first_list.specs.Actions.{record_words}
 use Rattle.lawful_books.specs.Lists.{Each}
 use Rattle.quota_period.specs.declared.period.Period.{Period as OpenPeriod}
 use Rattle.run_end.specs.declared.stop.Stop.TheVariants.{OutOfMemory}
-use Rattle.thread_frames.specs.Points.{IsAtPoint}
-use Rattle.thread_frames.specs.Views.{done_of, thread_words}
-use Rattle.thread_frames.specs.declared.thread.Thread.{Thread}
+use Rattle.thread_events.specs.Passed.Points.{IsAtPoint}
+use Rattle.thread_events.specs.Passed.Views.{done_of, thread_words}
+use Rattle.thread_events.specs.Passed.ThreadType.{Thread}
 use Rattle.turn_table.specs.Notes.{HasAs}
-use Rattle.hall_turns.specs.declared.lane_slot.LaneSlot.{LaneSlot}
-use Rattle.hall_turns.specs.declared.pool_slot.PoolSlot.{PoolSlot}
-use Rattle.hall_turns.specs.declared.slot.Slot.TheVariants as slots
-use Rattle.hall_turns.specs.declared.key.HallKey.{HallKey}
-use Rattle.hall_turns.specs.Keys.{table_of, quota_of, IsKey}
-use Rattle.hall_turns.specs.Sound.{PoolIsSound}
-use Rattle.hall_turns.specs.Takes.{HallSeat, MeetsLaw}
+use Rattle.hall_writes.specs.Passed.LaneSlotType.{LaneSlot}
+use Rattle.hall_writes.specs.Passed.PoolSlotType.{PoolSlot}
+use Rattle.hall_writes.specs.Passed.SlotVariants as slots
+use Rattle.hall_writes.specs.Passed.HallKeyType.{HallKey}
+use Rattle.hall_writes.specs.Passed.Keys.{table_of, quota_of, IsKey}
+use Rattle.hall_writes.specs.Passed.Sound.{PoolIsSound}
+use Rattle.hall_writes.specs.Passed.Takes.{HallSeat, MeetsLaw}
 
 -- The quota covers a record block. The lane has a thread on top and a period that runs. Unless the seat found that memory was wanting, all its threads are at their points.
 -- The top thread has no more words than the pool and has done no more actions than may be done, and the period has used no more than the quota.

@@ -10,7 +10,7 @@ use Rattle.deque_machine.specs.Machine.{Setting, Event, does, suspends, gives_up
 use Rattle.deque_machine.specs.Play.{Wants, a_give_up, a_wait, an_action}
 use Rattle.moment_parts.specs.Events.{IsNextOf}
 use Rattle.moment_parts.proofs.Placing.{at_top}
-use Rattle.step_laws.proofs.Told.{give_up_is_forced}
+use Rattle.hall_law.proofs.Passed.Told.{give_up_is_forced}
 use Rattle.hall_law.specs.Values.{Hall, parts_of}
 use Rattle.hall_law.specs.Steps.{Step}
 use Rattle.hall_law.specs.Standing.{HallStands}

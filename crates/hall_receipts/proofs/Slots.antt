@@ -15,7 +15,7 @@ use Rattle.lawful_books.proofs.Lists.{among_middle, among_here, each_among}
 use Rattle.deque_machine.specs.Moments.{Moment}
 use Rattle.deque_machine.specs.Machine.{Setting, Event, does}
 use Rattle.deque_machine.specs.Runs.{moves_words, is_move}
-use Rattle.step_laws.specs.Moves.{noted_if}
+use Rattle.hall_law.specs.Passed.Moves.{noted_if}
 use Rattle.moment_parts.specs.Parts.{Thread}
 use Rattle.hall_law.specs.Values.{PoolShown, Hall}
 use Rattle.hall_law.specs.Steps.{Step}

@@ -13,8 +13,8 @@ use Rattle.deque_machine.specs.Play.{Stays, IsThiefsId, a_theft}
 use Rattle.moment_parts.specs.Parts.{Thread}
 use Rattle.moment_parts.specs.Parts as parts
 use Rattle.deque_events.specs.Shown.{deque_shown}
-use Rattle.step_laws.specs.Readiness.{AreDeques}
-use Rattle.step_laws.proofs.Ready.{ids_are_shown, first_is_shown, owners_are_shown}
+use Rattle.hall_law.specs.Passed.Readiness.{AreDeques}
+use Rattle.hall_law.proofs.Passed.Ready.{ids_are_shown, first_is_shown, owners_are_shown}
 use Rattle.hall_law.specs.Values.{LaneShown, Hall, the_thread, deque_of, deques_of, lane_at}
 use Rattle.hall_law.proofs.Closing.{deques_are_shown}
 use Rattle.hall_law.specs.Receipts.{Look, SawTheLanes}

@@ -2,16 +2,16 @@
 use Rattle.std.proofs.Common.{◌≡◌, ℕ, ◌+◌, ◌%◌, ◌<◌, min, List, [], ◌∷◌, ◌++◌, length, inl, inr, refl, sym, ap, ◌∙◌, subst, arith, mod-lt}
 use Rattle.std.specs.Prelude.{Option, None, nat_lt}
 use Rattle.deque_list.specs.declared.place.Place.{Place}
-use Rattle.list_part.specs.Parts.{Has, place_with}
+use Rattle.hall_stealing.specs.Passed.Parts.{Has, place_with}
 use Rattle.period_books.proofs.Sorting.{cut_at}
-use Rattle.thread_frames.specs.declared.thread.Thread.{Thread}
-use Rattle.hall_law.specs.Receipts.{ShowsVictim}
-use Rattle.hall_turns.specs.declared.lane_slot.LaneSlot.{LaneSlot}
-use Rattle.hall_turns.specs.declared.list_slot.ListSlot.{ListSlot}
-use Rattle.hall_turns.specs.declared.slot.Slot.{Slot}
-use Rattle.hall_turns.specs.declared.slot.Slot.TheVariants as slots
-use Rattle.hall_turns.specs.declared.key.HallKey.{HallKey}
-use Rattle.hall_turns.specs.Takes.{HallSeat}
+use Rattle.hall_choice.specs.Passed.ThreadType.{Thread}
+use Rattle.hall_choice.specs.Passed.Receipts.{ShowsVictim}
+use Rattle.hall_choice.specs.Passed.LaneSlotType.{LaneSlot}
+use Rattle.hall_choice.specs.Passed.ListSlotType.{ListSlot}
+use Rattle.hall_choice.specs.Passed.SlotType.{Slot}
+use Rattle.hall_choice.specs.Passed.SlotVariants as slots
+use Rattle.hall_choice.specs.Passed.HallKeyType.{HallKey}
+use Rattle.hall_choice.specs.Passed.Takes.{HallSeat}
 use Rattle.hall_choice.specs.Choosing.{HasVictim}
 use Rattle.hall_stealing.specs.Stealing.{IsNew}
 use Rattle.hall_robbing.specs.Robbing.{FoundMayBeTakenOver, FoundBottomsMayBeTaken}

@@ -3,12 +3,12 @@ use Rattle.std.specs.Prelude.{◌≡◌, ◌≢◌, ℕ, ◌+◌, ◌≤◌, tru
 use Rattle.deque_list.specs.declared.deque_id.DequeId.{DequeId}
 use Rattle.deque_list.specs.Ids.{IsSmallestFree, place_ids}
 use Rattle.quota_period.specs.declared.period.Period.{Period}
-use Rattle.thread_frames.specs.declared.thread.Thread.{Thread}
-use Rattle.hall_turns.specs.declared.lane_slot.LaneSlot.{LaneSlot}
-use Rattle.hall_turns.specs.declared.list_slot.ListSlot.{ListSlot}
-use Rattle.hall_turns.specs.declared.slot.Slot.TheVariants as slots
-use Rattle.hall_turns.specs.declared.key.HallKey.{HallKey}
-use Rattle.hall_turns.specs.Takes.{HallSeat, IsTaken}
+use Rattle.hall_choice.specs.Passed.ThreadType.{Thread}
+use Rattle.hall_choice.specs.Passed.LaneSlotType.{LaneSlot}
+use Rattle.hall_choice.specs.Passed.ListSlotType.{ListSlot}
+use Rattle.hall_choice.specs.Passed.SlotVariants as slots
+use Rattle.hall_choice.specs.Passed.HallKeyType.{HallKey}
+use Rattle.hall_choice.specs.Passed.Takes.{HallSeat, IsTaken}
 use Rattle.hall_choice.specs.Choosing.{HasVictim}
 use Rattle.hall_stealing.specs.Stealing.{IsNew, IsOpenTo, MayTakeOver, MayTakeBottom}
 

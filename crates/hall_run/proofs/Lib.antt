@@ -5,3 +5,4 @@ pub mod Keeping
 pub mod Telling
 pub mod Examples
 pub mod Stopping
+pub mod Passed

@@ -14,7 +14,7 @@ use Rattle.period_books.specs.Periods.{Period}
 use Rattle.period_table.specs.Tables.{noted, shut}
 use Rattle.moment_parts.specs.Parts.{Child, Thread, Result}
 use Rattle.moment_parts.specs.Events.{IsNextOf}
-use Rattle.deque_events.specs.Events.{DidDummy, DidJoin, DidEnd}
+use Rattle.hall_law.specs.Passed.Events.{DidDummy, DidJoin, DidEnd}
 use Rattle.hall_law.specs.Values.{PoolShown, LaneShown, Hall, finished, no_lane, lane_at}
 use Rattle.hall_law.specs.Steps.{Step, Told, did, stole, waited, gave_up}
 use Rattle.hall_law.specs.Writing.{place_of, lane_with, IsAtWork, written, list_unowned, list_without, step_of, PoolTakes, ActsInLane, IsHanded, new_period}

@@ -9,11 +9,11 @@ use Rattle.lawful_books.specs.Books.{charge_at}
 use Rattle.deque_machine.specs.Machine.{Setting}
 use Rattle.deque_machine.specs.Play as play
 use Rattle.deque_machine.specs.Play.{Limits, IsFirst, words_taken}
-use Rattle.victim_choice.specs.Choices.{IsReadyAt, reach_of}
+use Rattle.hall_law.specs.Passed.Choices.{IsReadyAt, reach_of}
 use Rattle.moment_parts.specs.Parts.{Thread}
 use Rattle.moment_parts.specs.Events.{IsNextOf}
-use Rattle.step_laws.specs.Orders.{AreSame}
-use Rattle.step_laws.specs.Standing.{Keeps}
+use Rattle.hall_law.specs.Passed.Orders.{AreSame}
+use Rattle.hall_law.specs.Passed.Standing.{Keeps}
 use Rattle.hall_law.specs.Values.{Hall, Stop, by_rule, no_memory, End, deques_of, parts_of, showing_of}
 use Rattle.hall_law.specs.Standing.{HasLane}
 use Rattle.hall_law.specs.Writing.{IsAtWork}

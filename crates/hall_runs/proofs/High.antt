@@ -8,7 +8,7 @@ use Rattle.deque_machine.specs.Runs.{Pair, moves, high_water_mark}
 use Rattle.period_books.specs.Periods.{Period}
 use Rattle.space_ledger.specs.declared.moved.Moved.{Moved}
 use Rattle.space_ledger.specs.Sums.{change_of, highest, IsHighest}
-use Rattle.step_laws.specs.Moves.{AreMovesOf}
+use Rattle.hall_law.specs.Passed.Moves.{AreMovesOf}
 
 changes_are : (periods : List Period) (moved : List Moved) (actions : List Action) → AreMovesOf periods moved actions
     → map change_of moved ≡ map weight actions

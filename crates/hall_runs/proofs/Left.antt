@@ -33,10 +33,10 @@ use Rattle.thread_map.specs.Kept.{kept_under}
 use Rattle.thread_state.specs.Settings.{IsSettingOf}
 use Rattle.turn_table.specs.Tables.{key_of}
 use Rattle.hall_work.specs.Passed.ClosedSlots.{IsClosed}
-use Rattle.hall_turns.specs.declared.key.HallKey.{HallKey}
-use Rattle.hall_turns.specs.declared.list_slot.ListSlot.{ListSlot}
-use Rattle.hall_turns.specs.declared.pool_slot.PoolSlot.{PoolSlot}
-use Rattle.hall_turns.specs.Keys.{table_of, quota_of}
+use Rattle.hall_work.specs.Passed.HallKeyType.{HallKey}
+use Rattle.hall_work.specs.Passed.ListSlotType.{ListSlot}
+use Rattle.hall_work.specs.Passed.PoolSlotType.{PoolSlot}
+use Rattle.hall_work.specs.Passed.Keys.{table_of, quota_of}
 use Rattle.hall_work.specs.Passed.{Closing, Seat}
 use Rattle.hall_work.specs.Passed.Closings.{GivesClosing}
 use Rattle.hall_runs.specs.Closed.{IsLeftOf}

@@ -15,8 +15,8 @@ use Rattle.run_end.specs.declared.ends.RunEnd.{RunEnd}
 use Rattle.run_end.specs.declared.ends.RunEnd.TheVariants.{Finished}
 use Rattle.lawful_books.specs.Lists.{Among, Each}
 use Rattle.lawful_books.proofs.Lists.{each_from, each_map}
-use Rattle.list_part.specs.declared.list_part.ListPart.{ListPart}
-use Rattle.period_table.proofs.Lists.{set_same, set_other}
+use Rattle.hall_turns.specs.Passed.ListPartType.{ListPart}
+use Rattle.hall_turns.proofs.Passed.Lists.{set_same, set_other}
 use Rattle.thread_map.specs.Kept.{kept_under}
 use Rattle.hall_turns.specs.Passed.ThreadType.{Thread}
 use Rattle.hall_turns.specs.Passed.EndedType.{Ended}

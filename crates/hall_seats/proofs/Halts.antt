@@ -8,7 +8,7 @@ use Rattle.run_end.specs.declared.stop.Stop.{Stop}
 use Rattle.dag_order.specs.declared.finish.Finish.{Finish}
 use Rattle.run_end.specs.declared.ends.RunEnd.{RunEnd}
 use Rattle.run_end.specs.declared.ends.RunEnd.TheVariants.{Finished, Stopped}
-use Rattle.deque_machine.specs.Terms.{Terms, machine_of}
+use Rattle.hall_turns.specs.Passed.Terms.{Terms, machine_of}
 use Rattle.turn_table.specs.declared.look.Look.TheVariants.{Took}
 use Rattle.turn_table.specs.Hands.{gave, renewed, without_slot}
 use Rattle.turn_table.specs.Law.{PutKeeps}

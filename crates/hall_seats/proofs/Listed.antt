@@ -5,8 +5,8 @@ use Rattle.std.specs.Option.{option_map}
 use Rattle.atomic_table.proofs.Lists.{set_again}
 use Rattle.hall_turns.specs.Passed.Kept.{waiting_shown, result_kept}
 use Rattle.run_end.specs.declared.ends.RunEnd.{RunEnd}
-use Rattle.deque_machine.specs.Terms.{Terms, machine_of}
-use Rattle.period_books.specs.Periods.{closed_shown}
+use Rattle.hall_turns.specs.Passed.Terms.{Terms, machine_of}
+use Rattle.hall_turns.specs.Passed.Periods.{closed_shown}
 use Rattle.space_ledger.specs.BooksList.{books_list}
 use Rattle.turn_table.specs.Law.{PutKeeps}
 use Rattle.turn_places.specs.Backs.{still, unchanged}

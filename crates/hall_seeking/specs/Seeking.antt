@@ -4,7 +4,7 @@ use Rattle.turn_table.specs.declared.look.Look.{Look}
 use Rattle.turn_table.specs.declared.look.Look.TheVariants.{Refused}
 use Rattle.turn_table.specs.Seats.{with_hand}
 use Rattle.turn_places.specs.Backs.{IsBack}
-use Rattle.hall_law.specs.Receipts.{ShowsNothing}
+use Rattle.hall_turns.specs.Passed.Receipts.{ShowsNothing}
 use Rattle.hall_turns.specs.declared.list_slot.ListSlot.{ListSlot}
 use Rattle.hall_turns.specs.declared.slot.Slot.{Slot}
 use Rattle.hall_turns.specs.Takes.{HallSeat}

@@ -2,8 +2,8 @@
 use Rattle.std.proofs.Common.{◌≡◌, ℕ, ◌+◌, ◌-◌, List, [], ◌∷◌, ◌++◌, length, take, refl, sym, ap, ◌∙◌}
 use Rattle.std.specs.Prelude.{Option, None, Some, insert, slice_get, slice_set}
 use Rattle.std.proofs.lemmas.Option.{same_Some}
-use Rattle.deque_events.proofs.Putting.{set_middle}
-use Rattle.deque_events.proofs.Stealing.{insert_behind, last_place, take_left}
+use Rattle.list_part.proofs.Passed.Putting.{set_middle}
+use Rattle.list_part.proofs.Passed.Stealing.{insert_behind, last_place, take_left}
 use Rattle.deque_list.specs.declared.deque_id.DequeId.{DequeId}
 use Rattle.deque_list.specs.declared.place.Place.{Place}
 use Rattle.deque_list.specs.Ids.{StandsAt}

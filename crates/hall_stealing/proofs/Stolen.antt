@@ -9,9 +9,9 @@ use Rattle.lawful_books.proofs.Lists.{each_from}
 use Rattle.list_part.specs.Parts.{Has, place_with}
 use Rattle.period_books.specs.Periods.{open_shown}
 use Rattle.quota_period.specs.declared.period.Period.{Period}
-use Rattle.thread_frames.specs.declared.thread.Thread.{Thread}
+use Rattle.hall_turns.specs.Passed.ThreadType.{Thread}
 use Rattle.turn_table.specs.Seats.{with_hand}
-use Rattle.hall_law.specs.Writing.{new_period}
+use Rattle.hall_turns.specs.Passed.Writing.{new_period}
 use Rattle.hall_turns.specs.declared.lane_slot.LaneSlot.{LaneSlot}
 use Rattle.hall_turns.specs.declared.list_slot.ListSlot.{ListSlot}
 use Rattle.hall_turns.specs.declared.key.HallKey.{HallKey}

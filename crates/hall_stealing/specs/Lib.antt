@@ -1,1 +1,2 @@
 pub mod Stealing
+pub mod Passed

@@ -5,7 +5,7 @@ use Rattle.deque_list.specs.declared.deque_id.DequeId.{DequeId}
 use Rattle.deque_list.specs.Ids.{IsSmallestFree, place_ids}
 use Rattle.list_part.specs.Parts.{Has}
 use Rattle.quota_period.specs.declared.period.Period.{Period}
-use Rattle.thread_frames.specs.declared.thread.Thread.{Thread}
+use Rattle.hall_turns.specs.Passed.ThreadType.{Thread}
 use Rattle.turn_table.specs.Seats.{with_hand}
 use Rattle.hall_turns.specs.declared.lane_slot.LaneSlot.{LaneSlot}
 use Rattle.hall_turns.specs.declared.list_slot.ListSlot.{ListSlot}

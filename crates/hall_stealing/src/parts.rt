@@ -3,7 +3,7 @@
 ghost use Rattle.std.specs.Prelude.{◌≡◌, ◌≢◌, ◌+◌, ◌<◌, ◌≤◌, ◌∷◌, ◌++◌, [], ℕ, List as AnyList, Option as AnyOption, None, Some, length};
 ghost use Rattle.deque_list.specs.Ids.{IsSmallestFree, place_ids};
 ghost use Rattle.list_part.specs.Parts.{Has, place_with};
-ghost use Rattle.thread_frames.specs.declared.thread.Thread.{Thread as AnyThread};
+ghost use Rattle.hall_turns.specs.Passed.ThreadType.{Thread as AnyThread};
 ghost use Rattle.hall_thefts.specs.Thefts.{IsRobbed};
 
 use boxed::Boxed;

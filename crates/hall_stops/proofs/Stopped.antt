@@ -22,11 +22,11 @@ use Rattle.turn_table.proofs.NoteLaws.{put_writes}
 use Rattle.turn_table.proofs.Standing.{shown_as}
 use Rattle.turn_places.specs.Backs.{unchanged}
 use Rattle.turn_places.proofs.Resting.{put_rests}
-use Rattle.hall_law.specs.Values.{Hall, ListShown, no_memory}
-use Rattle.hall_law.specs.Views.{View}
-use Rattle.hall_law.specs.Seats.{end_with, with_crew, finding}
-use Rattle.hall_law.specs.State.{HallLaw}
-use Rattle.hall_law.proofs.Quiet.{kept_stops_go_on}
+use Rattle.hall_turns.specs.Passed.Values.{Hall, ListShown, no_memory}
+use Rattle.hall_turns.specs.Passed.Views.{View}
+use Rattle.hall_turns.specs.Passed.Seats.{end_with, with_crew, finding}
+use Rattle.hall_turns.specs.Passed.State.{HallLaw}
+use Rattle.hall_turns.proofs.Passed.Quiet.{kept_stops_go_on}
 use Rattle.hall_turns.specs.declared.list_slot.ListSlot.{ListSlot}
 use Rattle.hall_turns.specs.declared.seat_note.SeatNote.{SeatNote}
 use Rattle.hall_turns.specs.declared.slot.Slot.{Slot}

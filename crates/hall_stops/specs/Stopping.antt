@@ -11,10 +11,10 @@ use Rattle.turn_table.specs.Hands.{Shows, gave}
 use Rattle.turn_table.specs.Notes.{HasAs}
 use Rattle.turn_table.specs.Seats.{with_hand}
 use Rattle.turn_places.specs.Backs.{unchanged}
-use Rattle.hall_law.specs.Steps.{Step, Leads}
-use Rattle.hall_law.specs.Views.{View}
-use Rattle.hall_law.specs.Crew.{HasCause}
-use Rattle.hall_law.specs.State.{RunningState}
+use Rattle.hall_turns.specs.Passed.Steps.{Step, Leads}
+use Rattle.hall_turns.specs.Passed.Views.{View}
+use Rattle.hall_turns.specs.Passed.Crew.{HasCause}
+use Rattle.hall_turns.specs.Passed.State.{RunningState}
 use Rattle.hall_turns.specs.declared.list_slot.ListSlot.{ListSlot}
 use Rattle.hall_turns.specs.declared.seat_note.SeatNote.{SeatNote}
 use Rattle.hall_turns.specs.declared.slot.Slot.{Slot}

@@ -18,21 +18,21 @@ use Rattle.lawful_books.specs.Lists.{Among, Each}
 use Rattle.lawful_books.proofs.Lists.{each_from, each_among, among_middle, among_wider, among_here}
 use Rattle.period_table.proofs.Lists.{set_same, set_other}
 use Rattle.run_end.specs.declared.ends.RunEnd.{RunEnd}
-use Rattle.thread_frames.specs.declared.thread.Thread.{Thread}
-use Rattle.thread_frames.specs.Points.{IsAtPoint}
-use Rattle.thread_frames.specs.Shown.{thread_shown}
+use Rattle.hall_points.specs.Passed.ThreadType.{Thread}
+use Rattle.hall_points.specs.Passed.Points.{IsAtPoint}
+use Rattle.hall_points.specs.Passed.Shown.{thread_shown}
 use Rattle.thread_state.specs.Settings.{IsSettingOf}
-use Rattle.hall_law.specs.Values.{Hall, LaneShown, ListShown, lane_at}
-use Rattle.hall_law.specs.Rows.{list_stolen}
+use Rattle.hall_turns.specs.Passed.Values.{Hall, LaneShown, ListShown, lane_at}
+use Rattle.hall_turns.specs.Passed.Rows.{list_stolen}
 use Rattle.deque_machine.specs.Machine.{steals}
-use Rattle.hall_law.specs.Steps.{Step, stole}
-use Rattle.hall_law.specs.Writing.{lane_slot, lane_with, place_of, new_period}
-use Rattle.hall_law.proofs.Lanes.{IsElsewhere}
-use Rattle.hall_law.specs.Views.{View}
-use Rattle.hall_law.specs.Changes.{after_event}
-use Rattle.hall_law.specs.State.{HallLaw}
-use Rattle.hall_law.specs.Points.{AreAtPoints, LaneAtPoints, IsExcused}
-use Rattle.hall_law.proofs.Thieves.{taking_over_goes_on}
+use Rattle.hall_turns.specs.Passed.Steps.{Step, stole}
+use Rattle.hall_turns.specs.Passed.Writing.{lane_slot, lane_with, place_of, new_period}
+use Rattle.hall_turns.proofs.Passed.Lanes.{IsElsewhere}
+use Rattle.hall_turns.specs.Passed.Views.{View}
+use Rattle.hall_turns.specs.Passed.Changes.{after_event}
+use Rattle.hall_turns.specs.Passed.State.{HallLaw}
+use Rattle.hall_turns.specs.Passed.HallLawPoints.{AreAtPoints, LaneAtPoints, IsExcused}
+use Rattle.hall_turns.proofs.Passed.Thieves.{taking_over_goes_on}
 use Rattle.hall_points.proofs.Stealing.{taken_over}
 use Rattle.hall_turns.specs.declared.lane_slot.LaneSlot.{LaneSlot}
 use Rattle.hall_turns.specs.declared.list_slot.ListSlot.{ListSlot}

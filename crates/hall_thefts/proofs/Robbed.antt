@@ -13,17 +13,17 @@ use Rattle.deque_machine.specs.Terms.{Terms, machine_of}
 use Rattle.lawful_books.specs.Lists.{Among, Each}
 use Rattle.lawful_books.proofs.Lists.{each_from, each_among}
 use Rattle.period_books.specs.Periods.{Period, closed_shown}
-use Rattle.thread_frames.specs.declared.thread.Thread.{Thread}
-use Rattle.thread_frames.specs.Points.{IsResult}
-use Rattle.thread_frames.specs.Kept.{WaitsUnder, IsUnderItsId, waiting_shown, result_kept}
-use Rattle.thread_frames.specs.Shown.{thread_shown}
-use Rattle.hall_law.specs.Values.{ListShown}
-use Rattle.hall_law.specs.Rows.{list_stolen}
-use Rattle.hall_law.specs.Steps.{stole}
-use Rattle.hall_law.specs.Writing.{lane_with, new_period}
-use Rattle.hall_law.proofs.Lanes.{IsElsewhere, apart}
-use Rattle.hall_law.specs.Changes.{after_event}
-use Rattle.hall_law.specs.State.{HallLaw}
+use Rattle.hall_points.specs.Passed.ThreadType.{Thread}
+use Rattle.hall_points.specs.Passed.Points.{IsResult}
+use Rattle.hall_points.specs.Passed.Kept.{WaitsUnder, IsUnderItsId, waiting_shown, result_kept}
+use Rattle.hall_points.specs.Passed.Shown.{thread_shown}
+use Rattle.hall_turns.specs.Passed.Values.{ListShown}
+use Rattle.hall_turns.specs.Passed.Rows.{list_stolen}
+use Rattle.hall_turns.specs.Passed.Steps.{stole}
+use Rattle.hall_turns.specs.Passed.Writing.{lane_with, new_period}
+use Rattle.hall_turns.proofs.Passed.Lanes.{IsElsewhere, apart}
+use Rattle.hall_turns.specs.Passed.Changes.{after_event}
+use Rattle.hall_turns.specs.Passed.State.{HallLaw}
 use Rattle.hall_turns.specs.declared.event.Event.TheVariants.{Stole}
 use Rattle.hall_turns.specs.declared.lane_slot.LaneSlot.{LaneSlot}
 use Rattle.hall_turns.specs.declared.list_slot.ListSlot.{ListSlot}

@@ -6,9 +6,9 @@ use Rattle.lawful_books.specs.Lists.{Each}
 use Rattle.period_books.specs.Periods.{open_shown}
 use Rattle.quota_period.specs.declared.period.Period.{Period}
 use Rattle.space_ledger.specs.BooksList.{books_list}
-use Rattle.thread_frames.specs.declared.thread.Thread.{Thread}
+use Rattle.hall_points.specs.Passed.ThreadType.{Thread}
 use Rattle.turn_table.specs.Seats.{with_hand}
-use Rattle.hall_law.specs.Writing.{place_of, new_period}
+use Rattle.hall_turns.specs.Passed.Writing.{place_of, new_period}
 use Rattle.hall_turns.specs.declared.event.Event.TheVariants.{Stole}
 use Rattle.hall_turns.specs.declared.lane_slot.LaneSlot.{LaneSlot}
 use Rattle.hall_turns.specs.declared.list_slot.ListSlot.{ListSlot}

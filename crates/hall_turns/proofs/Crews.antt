@@ -4,8 +4,8 @@ use Rattle.std.specs.Prelude.{Option, None, Some, slice_get, remove, cond, IsTru
 use Rattle.std.specs.Option.{is_some}
 use Rattle.std.proofs.lemmas.Bool.{ne_eqb, eq-eqb}
 use Rattle.std.proofs.lemmas.Option.{same_Some, none-some}
-use Rattle.lawful_books.specs.Lists.{times, one_if_same}
-use Rattle.period_books.proofs.Sorting.{cut_at}
+use Rattle.hall_law.specs.Passed.Lists.{times, one_if_same}
+use Rattle.list_part.proofs.Passed.Sorting.{cut_at}
 use Rattle.hall_law.proofs.Passed.Leaving.{remove_middle}
 use Rattle.hall_turns.specs.Lists.{IsOutOf}
 

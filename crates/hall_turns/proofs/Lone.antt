@@ -7,8 +7,8 @@ use mathlib.Core.Option.{some}
 use lib.ListN.{get_elem?}
 use Rattle.std.proofs.Math.Logic.{∥∥₁_elim}
 use denote.Struct.Props.{props}
-use Rattle.depth_first_run.specs.States.{Setting}
-use Rattle.deque_machine.specs.Terms.{Terms, machine_of}
+use Rattle.thread_frames.specs.Passed.States.{Setting}
+use Rattle.hall_law.specs.Passed.Terms.{Terms, machine_of}
 use Rattle.turn_table.specs.declared.hand.Hand.{Hand}
 use Rattle.turn_table.specs.declared.held.Held.{Held}
 use Rattle.turn_table.specs.Hands.{Has, turn, took, refused}

@@ -6,9 +6,9 @@ use mathlib.Core.Option.{some}
 use lib.ListN.{get_elem?}
 use lib.Seq.{map-set}
 use Rattle.atomic_table.proofs.Lists.{at_set}
-use Rattle.depth_first_run.specs.States.{Setting}
-use Rattle.deque_machine.specs.Terms.{Terms, machine_of}
-use Rattle.thread_state.specs.Settings.{IsSettingOf}
+use Rattle.thread_frames.specs.Passed.States.{Setting}
+use Rattle.hall_law.specs.Passed.Terms.{Terms, machine_of}
+use Rattle.thread_frames.specs.Passed.Settings.{IsSettingOf}
 use Rattle.turn_table.specs.Hands.{Shows, showing, without_slot, renewed}
 use Rattle.turn_table.specs.Notes.{PutMay}
 use Rattle.turn_table.specs.Law.{PutKeeps}

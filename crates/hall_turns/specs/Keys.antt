@@ -1,8 +1,8 @@
 -- What is fixed for a hall, as definitions speak of it.
 use Rattle.std.specs.Prelude.{ℕ, ◌≤◌, ◌<◌}
 use Rattle.block_arena.specs.declared.size.TheConstants.{MAX_WORDS}
-use Rattle.depth_first_list.specs.Actions.{record_words}
-use Rattle.deque_machine.specs.Terms.{Terms, given_terms}
+use Rattle.hall_law.specs.Passed.Actions.{record_words}
+use Rattle.hall_law.specs.Passed.Terms.{Terms, given_terms}
 use Rattle.dummy_tree.specs.QuotaWords.{quota_words}
 use Rattle.node_table.specs.Codes.{code_shown}
 use Rattle.node_table.specs.Table.{Table}

@@ -2,9 +2,9 @@
 use Rattle.std.specs.Prelude.{◌≡◌, ℕ, ◌+◌, true, false, min, None, List, [], map, length}
 use mathlib.Core.Option.{some}
 use lib.ListN.{get_elem?}
-use Rattle.depth_first_run.specs.States.{Setting}
-use Rattle.deque_machine.specs.Terms.{Terms, machine_of}
-use Rattle.thread_state.specs.Settings.{IsSettingOf}
+use Rattle.thread_frames.specs.Passed.States.{Setting}
+use Rattle.hall_law.specs.Passed.Terms.{Terms, machine_of}
+use Rattle.thread_frames.specs.Passed.Settings.{IsSettingOf}
 use Rattle.hall_law.specs.State.{HallLaw}
 use Rattle.hall_turns.specs.declared.slot.Slot.{Slot}
 use Rattle.hall_turns.specs.declared.seat_note.SeatNote.{SeatNote}

@@ -1,8 +1,8 @@
 -- What the slots of a hall show, and what a seat's note says of it.
 use Rattle.std.specs.Prelude.{ℕ, map, pos}
 use Rattle.std.specs.Option.{option_map}
-use Rattle.deque_machine.specs.Play as play
-use Rattle.period_books.specs.Periods.{Period, open_shown, closed_shown}
+use Rattle.hall_law.specs.Passed.Play as play
+use Rattle.list_part.specs.Passed.Periods.{Period, open_shown, closed_shown}
 use Rattle.space_ledger.specs.BooksList.{books_list}
 use Rattle.space_ledger.specs.MovesList.{moves_list}
 use Rattle.thread_frames.specs.Shown.{thread_shown}

@@ -5,10 +5,10 @@ use Rattle.dag_order.specs.Births.{root}
 use Rattle.dag_order.specs.declared.finish.Finish.{Finish}
 use Rattle.dag_order.specs.declared.thread_id.ThreadId.{ThreadId}
 use Rattle.deque_list.specs.declared.deque_id.DequeId.{DequeId}
-use Rattle.lawful_books.specs.Lists.{Each}
+use Rattle.hall_law.specs.Passed.Lists.{Each}
 use Rattle.space_ledger.specs.MovesList.{moves_list}
 use Rattle.space_ledger.specs.Sums.{total_change}
-use Rattle.thread_map.specs.Kept.{kept_under}
+use Rattle.list_part.specs.Passed.Kept.{kept_under}
 use Rattle.thread_frames.specs.declared.thread.Thread.{Thread}
 use Rattle.thread_frames.specs.Points.{IsAtPoint, IsResult}
 use Rattle.thread_frames.specs.Kept.{WaitsUnder, IsUnderItsId}

@@ -1,11 +1,11 @@
 -- What a step on the slots has to do to what they show.
 use Rattle.std.specs.Prelude.{◌≡◌, ℕ, Some, List, map, slice_get, slice_set}
-use Rattle.depth_first_run.specs.States.{Setting}
-use Rattle.deque_machine.specs.Machine.{Setting as MachineSetting}
-use Rattle.deque_machine.specs.Moments.{Moment}
-use Rattle.deque_machine.specs.Play.{Limits}
-use Rattle.deque_machine.specs.Terms.{Terms, machine_of}
-use Rattle.thread_state.specs.Settings.{IsSettingOf}
+use Rattle.thread_frames.specs.Passed.States.{Setting}
+use Rattle.hall_law.specs.Passed.Machine.{Setting as MachineSetting}
+use Rattle.hall_law.specs.Passed.Moments.{Moment}
+use Rattle.hall_law.specs.Passed.Play.{Limits}
+use Rattle.hall_law.specs.Passed.Terms.{Terms, machine_of}
+use Rattle.thread_frames.specs.Passed.Settings.{IsSettingOf}
 use Rattle.hall_law.specs.Values.{Hall, hall_of}
 use Rattle.hall_law.specs.Steps.{Step, Leads}
 use Rattle.hall_law.specs.Views.{View}

@@ -2,3 +2,4 @@ mod Seen
 mod Kept
 mod Told
 mod Underway
+pub mod Passed

@@ -12,3 +12,9 @@ pub use Rattle.hall_handles.specs.Passed.Cores as Cores
 pub use Rattle.hall_handles.specs.Passed.CoreParts as CoreParts
 pub use Rattle.hall_handles.specs.Passed.CoreType as CoreType
 pub use Rattle.hall_handles.specs.Passed.ClosedSlots as ClosedSlots
+pub use Rattle.hall_turns.specs.declared.key.HallKey as HallKeyType
+pub use Rattle.hall_turns.specs.declared.list_slot.ListSlot as ListSlotType
+pub use Rattle.hall_turns.specs.declared.pool_slot.PoolSlot as PoolSlotType
+pub use Rattle.hall_turns.specs.Keys as Keys
+pub use Rattle.hall_turns.specs.Shown as Shown
+pub use Rattle.hall_turns.specs.Takes as Takes

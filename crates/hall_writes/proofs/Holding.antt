@@ -8,10 +8,10 @@ use lib.Seq.{map-set}
 use Rattle.deque_list.specs.declared.deque_id.DequeId.{DequeId}
 use Rattle.deque_machine.specs.Terms.{Terms, machine_of}
 use Rattle.depth_first_run.specs.States.{Setting}
-use Rattle.thread_state.specs.Settings.{IsSettingOf}
-use Rattle.hall_law.specs.Values.{Hall}
-use Rattle.hall_law.specs.Writing.{lane_slot}
-use Rattle.hall_law.specs.State.{HallLaw}
+use Rattle.hall_turns.specs.Passed.Settings.{IsSettingOf}
+use Rattle.hall_turns.specs.Passed.Values.{Hall}
+use Rattle.hall_turns.specs.Passed.Writing.{lane_slot}
+use Rattle.hall_turns.specs.Passed.State.{HallLaw}
 use Rattle.hall_turns.specs.declared.seat_note.SeatNote.{SeatNote}
 use Rattle.hall_turns.specs.declared.slot.Slot.{Slot}
 use Rattle.hall_turns.specs.declared.slot.Slot.TheVariants as slots

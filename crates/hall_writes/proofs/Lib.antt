@@ -2,3 +2,4 @@ pub mod Owned
 pub mod There
 mod Sound
 pub mod Holding
+pub mod Passed

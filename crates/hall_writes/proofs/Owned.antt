@@ -15,11 +15,11 @@ use Rattle.deque_machine.specs.Terms.{Terms, machine_of}
 use Rattle.run_end.specs.declared.ends.RunEnd.TheVariants.{Finished}
 use Rattle.lawful_books.specs.Lists.{Among, Each}
 use Rattle.lawful_books.proofs.Lists.{each_among, among_middle}
-use Rattle.hall_law.specs.Crew.{SeatStands}
-use Rattle.hall_law.specs.Values.{Hall, ListShown, finished}
-use Rattle.hall_law.specs.Writing.{place_of}
-use Rattle.hall_law.proofs.Lanes.{IsElsewhere, apart}
-use Rattle.hall_law.specs.State.{HallLaw}
+use Rattle.hall_turns.specs.Passed.Crew.{SeatStands}
+use Rattle.hall_turns.specs.Passed.Values.{Hall, ListShown, finished}
+use Rattle.hall_turns.specs.Passed.Writing.{place_of}
+use Rattle.hall_turns.proofs.Passed.Lanes.{IsElsewhere, apart}
+use Rattle.hall_turns.specs.Passed.State.{HallLaw}
 use Rattle.hall_turns.specs.declared.list_slot.ListSlot.{ListSlot}
 use Rattle.hall_turns.specs.declared.seat_note.SeatNote.{SeatNote}
 use Rattle.hall_turns.specs.declared.slot.Slot.{Slot}

@@ -12,20 +12,20 @@ use Rattle.dag_order.specs.declared.finish.Finish.{Finish}
 use Rattle.deque_list.specs.declared.deque_id.DequeId.{DequeId}
 use Rattle.deque_list.specs.declared.place.Place.{Place}
 use Rattle.deque_list.specs.Ids.{deque_id}
-use Rattle.thread_frames.specs.Roots.{end_of_root}
+use Rattle.hall_turns.specs.Passed.Roots.{end_of_root}
 use Rattle.run_end.specs.declared.ends.RunEnd.{RunEnd}
 use Rattle.run_end.specs.declared.ends.RunEnd.TheVariants.{Finished}
 use Rattle.lawful_books.specs.Lists.{Among, Each}
 use Rattle.lawful_books.proofs.Lists.{each_from, each_among, each_at, among_middle, among_wider}
-use Rattle.period_table.proofs.Lists.{set_same, set_other}
+use Rattle.hall_turns.proofs.Passed.Lists.{set_same, set_other}
 use Rattle.thread_map.specs.Kept.{kept_under}
-use Rattle.thread_frames.specs.Points.{IsAtPoint}
-use Rattle.thread_frames.specs.declared.thread.Thread.{Thread}
-use Rattle.hall_law.specs.Views.{View}
-use Rattle.hall_law.specs.Values.{no_memory}
-use Rattle.hall_law.specs.Writing.{lane_slot, place_of}
-use Rattle.hall_law.specs.Points.{IsExcused, LaneAtPoints, AreAtPoints}
-use Rattle.hall_law.proofs.Points.{excuses_stay}
+use Rattle.hall_turns.specs.Passed.Points.{IsAtPoint}
+use Rattle.hall_turns.specs.Passed.ThreadType.{Thread}
+use Rattle.hall_turns.specs.Passed.Views.{View}
+use Rattle.hall_turns.specs.Passed.Values.{no_memory}
+use Rattle.hall_turns.specs.Passed.Writing.{lane_slot, place_of}
+use Rattle.hall_turns.specs.Passed.HallLawPoints.{IsExcused, LaneAtPoints, AreAtPoints}
+use Rattle.hall_turns.proofs.Passed.Points.{excuses_stay}
 use Rattle.hall_turns.specs.declared.lane_slot.LaneSlot.{LaneSlot}
 use Rattle.hall_turns.specs.declared.seat_note.SeatNote.{SeatNote}
 use Rattle.hall_turns.specs.declared.slot.Slot.{Slot}

@@ -10,17 +10,17 @@ use Rattle.deque_list.specs.declared.deque_id.DequeId.{DequeId}
 use Rattle.deque_list.specs.declared.place.Place.{Place}
 use Rattle.deque_machine.specs.Terms.{Terms, machine_of}
 use Rattle.depth_first_run.specs.States.{Setting}
-use Rattle.thread_frames.specs.Roots.{end_of_root}
+use Rattle.hall_turns.specs.Passed.Roots.{end_of_root}
 use Rattle.run_end.specs.declared.ends.RunEnd.{RunEnd}
 use Rattle.run_end.specs.declared.ends.RunEnd.TheVariants.{Finished}
 use Rattle.lawful_books.specs.Lists.{Each}
-use Rattle.thread_frames.specs.Points.{IsAtPoint}
+use Rattle.hall_turns.specs.Passed.Points.{IsAtPoint}
 use Rattle.thread_map.specs.Kept.{kept_under}
-use Rattle.thread_state.specs.Settings.{IsSettingOf}
-use Rattle.hall_law.specs.Views.{View}
-use Rattle.hall_law.specs.Values.{Hall, lane_at}
-use Rattle.hall_law.specs.Writing.{lane_slot, place_of}
-use Rattle.hall_law.specs.Points.{LaneAtPoints}
+use Rattle.hall_turns.specs.Passed.Settings.{IsSettingOf}
+use Rattle.hall_turns.specs.Passed.Views.{View}
+use Rattle.hall_turns.specs.Passed.Values.{Hall, lane_at}
+use Rattle.hall_turns.specs.Passed.Writing.{lane_slot, place_of}
+use Rattle.hall_turns.specs.Passed.HallLawPoints.{LaneAtPoints}
 use Rattle.hall_turns.specs.declared.event.Event.{Event}
 use Rattle.hall_turns.specs.declared.lane_slot.LaneSlot.{LaneSlot}
 use Rattle.hall_turns.specs.declared.list_slot.ListSlot.{ListSlot}

@@ -7,11 +7,11 @@ use Rattle.dag_order.specs.declared.action_id.ActionId.{ActionId}
 use Rattle.depth_first_list.specs.Actions.{weight_of}
 use Rattle.depth_first_list.specs.Facts.{action_at, deed_at, words_at, weight_at}
 use Rattle.depth_first_run.specs.Run.{list_of}
-use Rattle.deque_machine.specs.Runs.{is_move, moves_words}
+use Rattle.hall_law.specs.Passed.Runs.{is_move, moves_words}
 use Rattle.space_ledger.specs.declared.moves.Moves.{Moves}
 use Rattle.space_ledger.specs.declared.moved.Moved.{Moved}
 use Rattle.space_ledger.specs.MovesList.{moves_list}
-use Rattle.step_laws.specs.Moves.{noted_if}
+use Rattle.hall_law.specs.Passed.Moves.{noted_if}
 use Rattle.thread_frames.specs.Actions.{TellsWords, TellsJoin, deed_of, is_there}
 use Rattle.thread_frames.specs.Views.{label_of, children_of, newest, result_of, released_by, join_words_of}
 use Rattle.thread_frames.specs.declared.next.Next.{Next}

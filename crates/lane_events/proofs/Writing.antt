@@ -6,10 +6,10 @@ use Rattle.depth_first_list.specs.Actions.{Action}
 use Rattle.period_books.specs.Periods.{open_shown}
 use Rattle.period_table.specs.Tables.{noted}
 use Rattle.quota_period.specs.declared.period.Period.{Period as OpenPeriod}
-use Rattle.moment_parts.specs.Parts as parts
+use Rattle.thread_frames.specs.Passed.Parts as parts
 use Rattle.thread_frames.specs.declared.thread.Thread.{Thread}
 use Rattle.thread_frames.specs.Shown.{thread_shown}
-use Rattle.deque_events.specs.Events.{DidAlone, DidFork}
+use Rattle.thread_events.specs.Passed.Events.{DidAlone, DidFork}
 use Rattle.hall_law.specs.Values.{Hall, open_for}
 use Rattle.hall_law.specs.Writing.{IsAtWork, ActsInLane, acts_alone, forks_child}
 use Rattle.lane_events.specs.Here.{ShowsOwn}

@@ -11,7 +11,7 @@ use Rattle.thread_frames.specs.declared.next.Next.TheVariants as nexts
 use Rattle.thread_frames.specs.declared.thread.Thread.{Thread}
 use Rattle.thread_frames.specs.Shown.{thread_shown}
 use Rattle.thread_events.specs.Acts.{StaysAtPoint}
-use Rattle.deque_events.specs.Events.{DidDummy}
+use Rattle.thread_events.specs.Passed.Events.{DidDummy}
 
 -- the thread did a Dummy of this name, and is on top of the others at its next point; the period has the name
 pub record DummyHere (top : Thread) (under : List Thread) (before : OpenPeriod) (threads : List Thread) (after : OpenPeriod) (name : ActionId)

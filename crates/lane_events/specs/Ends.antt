@@ -14,7 +14,7 @@ use Rattle.thread_frames.specs.declared.ended.Ended.{Ended}
 use Rattle.thread_frames.specs.declared.next.Next.TheVariants as nexts
 use Rattle.thread_frames.specs.declared.thread.Thread.{Thread}
 use Rattle.thread_frames.specs.Shown.{thread_shown, result_shown}
-use Rattle.deque_events.specs.Events.{DidEnd}
+use Rattle.thread_events.specs.Passed.Events.{DidEnd}
 use Rattle.thread_events.specs.Results.{IsGiven}
 use Rattle.hall_law.specs.Writing.{IsHanded}
 

@@ -3,3 +3,4 @@ pub mod Dummies
 pub mod Ends
 pub mod Forks
 pub mod Joins
+pub mod Passed

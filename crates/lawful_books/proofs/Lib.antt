@@ -4,3 +4,4 @@ pub mod Words
 pub mod Accounting
 pub mod Keeping
 pub mod Whole
+pub mod Passed

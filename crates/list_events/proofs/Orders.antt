@@ -8,13 +8,13 @@ use Rattle.deque_machine.specs.Machine.{Setting}
 use Rattle.deque_machine.specs.Play.{Limits}
 use Rattle.depth_first_list.specs.Runs.{IsDepthFirst}
 use Rattle.moment_parts.specs.Parts.{Thread, Result}
-use Rattle.hall_law.specs.Values.{Hall}
-use Rattle.hall_law.specs.Steps.{Step, Leads}
-use Rattle.hall_law.specs.Writing.{IsAtWork}
-use Rattle.hall_law.specs.Views.{View}
-use Rattle.hall_law.specs.State.{RunningState}
-use Rattle.hall_law.proofs.Quiet.{quiet_puts_go_on}
-use Rattle.hall_law.proofs.Owners.{waking_ends_go_on, kept_joins_go_on}
+use Rattle.lane_events.specs.Passed.Values.{Hall}
+use Rattle.lane_events.specs.Passed.Steps.{Step, Leads}
+use Rattle.lane_events.specs.Passed.Writing.{IsAtWork}
+use Rattle.lane_events.specs.Passed.HallLawViews.{View}
+use Rattle.lane_events.specs.Passed.State.{RunningState}
+use Rattle.lane_events.proofs.Passed.Quiet.{quiet_puts_go_on}
+use Rattle.lane_events.proofs.Passed.Owners.{waking_ends_go_on, kept_joins_go_on}
 use Rattle.list_events.specs.Taken.{TakenWakesGoOn, TakenJoinsGoOn}
 
 plus_zero : (n : ℕ) → n + 0 ≡ n

@@ -8,8 +8,8 @@ use Rattle.period_table.specs.Tables.{shut}
 use Rattle.thread_frames.specs.declared.ended.Ended.{Ended}
 use Rattle.thread_frames.specs.declared.thread.Thread.{Thread}
 use Rattle.thread_frames.specs.Shown.{thread_shown, result_shown}
-use Rattle.hall_law.specs.Values.{Hall, ListShown}
-use Rattle.hall_law.specs.Writing.{IsAtWork, IsHanded, list_without}
+use Rattle.lane_events.specs.Passed.Values.{Hall, ListShown}
+use Rattle.lane_events.specs.Passed.Writing.{IsAtWork, IsHanded, list_without}
 use Rattle.hall_turns.specs.declared.list_slot.ListSlot.{ListSlot}
 use Rattle.hall_turns.specs.declared.lane_slot.Running.{Running}
 use Rattle.hall_turns.specs.Shown.{list_shown, running_shown}

@@ -9,15 +9,15 @@ use Rattle.deque_machine.specs.Machine.{Setting, does}
 use Rattle.deque_machine.specs.Play.{Limits}
 use Rattle.period_table.specs.Tables.{noted}
 use Rattle.moment_parts.specs.Parts.{Child, Thread, Result}
-use Rattle.deque_events.specs.Events.{DidJoin, DidEnd}
+use Rattle.lane_events.specs.Passed.DequeEventsEvents.{DidJoin, DidEnd}
 use Rattle.thread_map.specs.Kept.{kept_under}
 use Rattle.thread_frames.specs.Kept.{WaitsUnder}
-use Rattle.hall_law.specs.Values.{PoolShown, Hall, ListShown}
-use Rattle.hall_law.specs.Steps.{Step, Leads, did}
-use Rattle.hall_law.specs.Writing.{lane_with, IsAtWork, written, step_of, PoolTakes, IsHanded}
-use Rattle.hall_law.specs.Views.{View}
-use Rattle.hall_law.specs.State.{RunningState, IsIn, GoesOn}
-use Rattle.hall_law.specs.Events.{still_owning}
+use Rattle.lane_events.specs.Passed.Values.{PoolShown, Hall, ListShown}
+use Rattle.lane_events.specs.Passed.Steps.{Step, Leads, did}
+use Rattle.lane_events.specs.Passed.Writing.{lane_with, IsAtWork, written, step_of, PoolTakes, IsHanded}
+use Rattle.lane_events.specs.Passed.HallLawViews.{View}
+use Rattle.lane_events.specs.Passed.State.{RunningState, IsIn, GoesOn}
+use Rattle.lane_events.specs.Passed.Events.{still_owning}
 use Rattle.hall_turns.specs.declared.list_slot.ListSlot.{ListSlot}
 use Rattle.hall_turns.specs.Shown.{list_shown}
 

@@ -2,14 +2,14 @@
 
 ghost use Rattle.std.specs.Prelude.{◌≡◌, ◌≤◌, ◌∷◌, ℕ, Option, None, Some, IfSome, IfNone};
 ghost use Rattle.std.specs.List.Sorted.{IsPermutation};
-ghost use Rattle.list_part.specs.Parts.{Has};
+ghost use Rattle.hall_turns.specs.Passed.Parts.{Has};
 ghost use Rattle.space_ledger.specs.BooksList.{books_spare};
 ghost use Rattle.thread_map.specs.Kept.{kept_under};
-ghost use Rattle.thread_events.specs.Results.{IsToCome, HasCome, IsGiven};
+ghost use Rattle.lane_events.specs.Passed.Results.{IsToCome, HasCome, IsGiven};
 ghost use Rattle.thread_frames.specs.Children.{IsAwaited, IsOnlyNewest};
 ghost use Rattle.thread_frames.specs.Views.{children_of, join_words_of, label_of};
 ghost use Rattle.thread_frames.specs.declared.ended.Ended.{Ended as AnyEnded};
-ghost use Rattle.thread_state.specs.Joins.{released};
+ghost use Rattle.thread_frames.specs.Passed.Joins.{released};
 ghost use Rattle.hall_turns.specs.Lists.{IsGone};
 ghost use Rattle.hall_turns.specs.Shown.{list_shown};
 ghost use Rattle.list_events.specs.Calls.{SuspendsThere, LeavesThere, TakesWaiting, IsHandedThere, KeepsCrew};

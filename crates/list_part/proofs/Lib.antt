@@ -1,1 +1,2 @@
 pub mod Middles
+pub mod Passed

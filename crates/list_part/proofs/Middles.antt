@@ -7,7 +7,7 @@ use Rattle.std.proofs.lemmas.Option.{slice_get-map}
 use Rattle.deque_list.specs.declared.deque_id.DequeId.{DequeId}
 use Rattle.deque_list.specs.declared.place.Place.{Place}
 use Rattle.deque_list.specs.Ids.{IsLive, StandsAt, place_ids}
-use Rattle.period_books.proofs.Sorting.{get_middle}
+use Rattle.period_table.proofs.Passed.Sorting.{get_middle}
 use Rattle.deque_events.proofs.Putting.{set_middle}
 use Rattle.deque_events.proofs.Leaving.{remove_middle}
 use Rattle.list_part.specs.Parts.{Has, place_with}

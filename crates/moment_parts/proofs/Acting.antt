@@ -1,6 +1,6 @@
 -- Each action is an event.
 use Rattle.std.proofs.Common.{◌<◌}
-use Rattle.depth_first_list.specs.Runs.{IsDepthFirst}
+use Rattle.deque_machine.specs.Passed.Runs.{IsDepthFirst}
 use Rattle.deque_machine.specs.Machine.{Setting}
 use Rattle.moment_parts.specs.Events.{does_alone, runs_dummy, joins_newest, forks_child, ends_above, ends_and_wakes, ends_and_leaves}
 use Rattle.moment_parts.specs.Laws.{ActionsAreEvents}

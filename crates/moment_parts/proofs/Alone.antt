@@ -2,15 +2,15 @@
 use Rattle.std.proofs.Common.{◌≡◌, ◌≢◌, ℕ, ◌+◌, ◌≤◌, List, [], ◌∷◌, ◌++◌, map, inl, inr, refl, sym, ap, subst, ◌∙◌, arith}
 use Rattle.std.proofs.lemmas.Int.{ints}
 use Rattle.std.specs.Prelude.{Option, None, Some, true, ℤ, pos, ◌+ℤ◌}
-use Rattle.dag_order.specs.LabelOrder.{fork_of}
-use Rattle.dag_order.specs.declared.thread_id.ThreadId.{ThreadId}
-use Rattle.depth_first_list.specs.Actions.{Deed, forks, joins, allocates, releases, dummy, faults, ends}
-use Rattle.depth_first_list.specs.Runs.{IsDepthFirst}
-use Rattle.depth_first_list.specs.Facts.{label_at, deed_at, words_at, weight_at}
-use Rattle.depth_first_list.proofs.Weights.{dummies_are_weightless}
-use Rattle.lawful_books.specs.Lists.{Among, Each, Differ, total}
-use Rattle.lawful_books.specs.Books.{done_in}
-use Rattle.lawful_books.proofs.Lists.{one_same}
+use Rattle.period_books.specs.Passed.LabelOrder.{fork_of}
+use Rattle.period_books.specs.Passed.ThreadIdType.{ThreadId}
+use Rattle.deque_machine.specs.Passed.Actions.{Deed, forks, joins, allocates, releases, dummy, faults, ends}
+use Rattle.deque_machine.specs.Passed.Runs.{IsDepthFirst}
+use Rattle.deque_machine.specs.Passed.Facts.{label_at, deed_at, words_at, weight_at}
+use Rattle.deque_machine.proofs.Passed.Weights.{dummies_are_weightless}
+use Rattle.period_books.specs.Passed.Lists.{Among, Each, Differ, total}
+use Rattle.period_books.specs.Passed.Books.{done_in}
+use Rattle.period_books.proofs.Passed.Lists.{one_same}
 use Rattle.deque_machine.specs.Moments as machine
 use Rattle.deque_machine.specs.Moments.{Moment, done_at, live_at}
 use Rattle.deque_machine.specs.Machine.{Setting, May, does, HasEnded, books_with, allocates_within, allocates_above, releases_words, meets_fault, runs_dummy, joins_child}
@@ -27,6 +27,7 @@ use Rattle.moment_parts.specs.Laws.{Comes}
 use Rattle.moment_parts.proofs.Facts.{Behind, Alike, alike_itself, acted_alike, other_behind, result_behind, top_has_done, own_children_behind, down, none_before, as_alike}
 use Rattle.moment_parts.proofs.Shown.{shown_middle, deques_shown, used_is, by_deque}
 use Rattle.moment_parts.proofs.Placing.{own, top_is_in, top_stands, under_differs, beside_differs, waiting_differs, under_is_in, beside_is_in, words_beside, words_were, words_now, at_top, told, behind, words_behind, one_done}
+use Rattle.deque_machine.specs.Passed.Facts.{HasDone as IsDoneBy}
 
 -- who does not fork gives no birth
 no_births : (by : ThreadId) (deed : Deed) → ((c : ℕ) → deed ≢ forks c) → [] ≡ births_by by deed
@@ -70,7 +71,7 @@ module _ (s : Setting) (run : IsDepthFirst s.quota s.list) (m : Moment) (lawful 
       let after = done_in (books_with (own s run m lawful parts shows worker o) owner place) in
       let b = is_behind in
       as_alike s.list after next o.top new (acted_alike o.top new acted) (b.stays o.top.id o.top.label b.stands.labelled)
-      (subst (λ d. Rattle.depth_first_list.specs.Facts.HasDone s.list after o.top.label d) (sym acted.one_more) (top_has_done s.quota s.list run parts next (done_at m) after o.top place b))
+      (subst (λ d. IsDoneBy s.list after o.top.label d) (sym acted.one_more) (top_has_done s.quota s.list run parts next (done_at m) after o.top place b))
       (own_children_behind s.quota s.list run parts next (done_at m) after o.top place b new.children children) all_children differ
 
   pub shows_next : (after : List machine.Deque) → after ≡ map deque_shown next.deques → live_at s.list (record { deques = after; waiting = m.waiting; books = books_with (own s run m lawful parts shows worker o) owner place }) ≡ pos (words_of next)

@@ -4,19 +4,19 @@ use Rattle.std.specs.Prelude.{Option, None, Some, IsSome, slice_get, option_map}
 use Rattle.std.specs.Option.{option_and_then}
 use Rattle.std.proofs.lemmas.Bool.{cases_order, cases_lt}
 use Rattle.std.proofs.lemmas.Option.{same_Some, none-some, slice_get-map}
-use Rattle.dag_order.specs.declared.thread_id.ThreadId.{ThreadId}
-use Rattle.dag_order.specs.declared.action_id.ActionId.{ActionId}
-use Rattle.dag_order.specs.declared.birth.Birth.{Birth}
-use Rattle.dag_order.specs.LabelOrder.{fork_of}
-use Rattle.dag_order.specs.Births.{birth_of, birth_in, IsBornBefore, ParentComesFirst, ParentsComeFirst, MayFollow}
-use Rattle.depth_first_list.specs.Actions.{Deed, forks, joins, allocates, releases, dummy, faults, ends, Action}
-use Rattle.depth_first_list.specs.Facts.{label_at, deed_at}
-use Rattle.depth_first_list.specs.Runs.{IsDepthFirst}
-use Rattle.depth_first_list.proofs.ThreadLaws.{forked_once}
-use Rattle.lawful_books.specs.Lists.{Among, times}
-use Rattle.lawful_books.specs.Books.{Book, booked}
-use Rattle.lawful_books.proofs.Lists.{same_tail, times_among, among_left, among_right, among_here}
-use Rattle.lawful_books.proofs.Keeping.{booked_append, times_append}
+use Rattle.period_books.specs.Passed.ThreadIdType.{ThreadId}
+use Rattle.period_books.specs.Passed.ActionIdType.{ActionId}
+use Rattle.period_books.specs.Passed.BirthType.{Birth}
+use Rattle.period_books.specs.Passed.LabelOrder.{fork_of}
+use Rattle.period_books.specs.Passed.Births.{birth_of, birth_in, IsBornBefore, ParentComesFirst, ParentsComeFirst, MayFollow}
+use Rattle.deque_machine.specs.Passed.Actions.{Deed, forks, joins, allocates, releases, dummy, faults, ends, Action}
+use Rattle.deque_machine.specs.Passed.Facts.{label_at, deed_at}
+use Rattle.deque_machine.specs.Passed.Runs.{IsDepthFirst}
+use Rattle.deque_machine.proofs.Passed.ThreadLaws.{forked_once}
+use Rattle.period_books.specs.Passed.Lists.{Among, times}
+use Rattle.period_books.specs.Passed.Books.{Book, booked}
+use Rattle.period_books.proofs.Passed.Lists.{same_tail, times_among, among_left, among_right, among_here}
+use Rattle.period_books.proofs.Passed.Keeping.{booked_append, times_append}
 use Rattle.deque_machine.specs.LawfulOrder.{IsLawful, ParentsFirst}
 use Rattle.deque_machine.specs.Machine.{Setting}
 use Rattle.deque_machine.specs.Moments.{Moment}

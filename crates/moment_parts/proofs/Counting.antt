@@ -1,16 +1,16 @@
 -- A thread of the parts has done no more actions than are done.
 use Rattle.std.proofs.Common.{◌≡◌, ℕ, zero, suc, ◌≤◌, ◌<◌, List, [], ◌∷◌, length, inl, inr, refl, ap, ◌∙◌, arith}
 use Rattle.std.proofs.lemmas.Bool.{cases_order}
-use Rattle.depth_first_list.specs.Actions.{Action}
-use Rattle.depth_first_list.specs.Facts.{label_at, index_at, HasDone, IsNext}
-use Rattle.depth_first_list.specs.Laws.{NoIndexIsSkipped}
-use Rattle.depth_first_list.specs.Runs.{IsDepthFirst}
-use Rattle.depth_first_list.proofs.LiveLaws.{next_is_of_its_index}
-use Rattle.depth_first_list.proofs.OrderLaw.{live_has_next}
-use Rattle.depth_first_list.proofs.ThreadLaws.{no_index_is_skipped}
-use Rattle.lawful_books.specs.Lists.{Among, Each, Differ}
-use Rattle.lawful_books.specs.Books.{booked}
-use Rattle.lawful_books.proofs.Lists.{among_times, each_among, each_map}
+use Rattle.deque_machine.specs.Passed.Actions.{Action}
+use Rattle.deque_machine.specs.Passed.Facts.{label_at, index_at, HasDone, IsNext}
+use Rattle.deque_machine.specs.Passed.Laws.{NoIndexIsSkipped}
+use Rattle.deque_machine.specs.Passed.Runs.{IsDepthFirst}
+use Rattle.deque_machine.proofs.Passed.LiveLaws.{next_is_of_its_index}
+use Rattle.deque_machine.proofs.Passed.OrderLaw.{live_has_next}
+use Rattle.deque_machine.proofs.Passed.ThreadLaws.{no_index_is_skipped}
+use Rattle.period_books.specs.Passed.Lists.{Among, Each, Differ}
+use Rattle.period_books.specs.Passed.Books.{booked}
+use Rattle.period_books.proofs.Passed.Lists.{among_times, each_among, each_map}
 use Rattle.deque_machine.specs.Moments.{done_at}
 use Rattle.deque_machine.specs.Machine.{Setting}
 use Rattle.deque_machine.proofs.Ends.{few_among}

@@ -1,8 +1,8 @@
 -- A deque of two that is cut in two: whoever was in it is in one of the two.
 use Rattle.std.proofs.Common.{◌≡◌, ℕ, ◌+◌, ◌<◌, List, [], ◌∷◌, ◌++◌, inl, inr, refl, sym, ap, subst, ◌∙◌, arith}
 use Rattle.std.specs.Prelude.{Option, None, pos}
-use Rattle.depth_first_list.specs.Runs.{IsDepthFirst}
-use Rattle.lawful_books.specs.Lists.{total}
+use Rattle.deque_machine.specs.Passed.Runs.{IsDepthFirst}
+use Rattle.period_books.specs.Passed.Lists.{total}
 use Rattle.deque_machine.specs.Moments.{done_at}
 use Rattle.deque_machine.specs.Machine.{Setting}
 use Rattle.moment_parts.specs.Parts.{Thread, Deque, Parts, IsIn, words_of, thread_words, deque_words, result_words}

@@ -3,13 +3,13 @@ use Rattle.std.proofs.Common.{◌≡◌, ◌≢◌, ℕ, ◌+◌, List, [], ◌�
 use Rattle.std.proofs.lemmas.Int.{ints}
 use Rattle.std.proofs.lemmas.List.{map-append}
 use Rattle.std.specs.Prelude.{Option, None, Some, ℤ, pos, neg_ℤ, ◌+ℤ◌}
-use Rattle.dag_order.specs.LabelOrder.{fork_of}
-use Rattle.depth_first_list.specs.Actions.{ends, weight_of}
-use Rattle.depth_first_list.specs.Runs.{IsDepthFirst}
-use Rattle.depth_first_list.specs.Facts.{words_at, weight_at}
-use Rattle.lawful_books.specs.Lists.{Among, Each, Differ, total}
-use Rattle.lawful_books.specs.Books.{done_in}
-use Rattle.lawful_books.proofs.Lists.{one_same, each_among, each_from, each_at, each_map, among_left, among_right, among_parts, among_middle, among_wider, among_here, differ_at, differ_without, total_middle, total_append}
+use Rattle.period_books.specs.Passed.LabelOrder.{fork_of}
+use Rattle.deque_machine.specs.Passed.Actions.{ends, weight_of}
+use Rattle.deque_machine.specs.Passed.Runs.{IsDepthFirst}
+use Rattle.deque_machine.specs.Passed.Facts.{words_at, weight_at}
+use Rattle.period_books.specs.Passed.Lists.{Among, Each, Differ, total}
+use Rattle.period_books.specs.Passed.Books.{done_in}
+use Rattle.period_books.proofs.Passed.Lists.{one_same, each_among, each_from, each_at, each_map, among_left, among_right, among_parts, among_middle, among_wider, among_here, differ_at, differ_without, total_middle, total_append}
 use Rattle.deque_machine.specs.Moments as machine
 use Rattle.deque_machine.specs.Moments.{Moment, Waiting, done_at, live_at, waiting_threads}
 use Rattle.deque_machine.specs.Machine.{Setting, May, does, books_with, ends_above_parent, ends_and_wakes, ends_and_leaves}
@@ -27,6 +27,7 @@ use Rattle.moment_parts.proofs.Facts.{Behind, alike_itself, other_behind, result
 use Rattle.moment_parts.proofs.Shown.{shown_middle, shown_without, deques_shown, by_deque, among_map, deque_words_middle}
 use Rattle.moment_parts.proofs.Placing.{own, top_is_in, top_stands, under_differs, beside_differs, waiting_differs, under_is_in, beside_is_in, words_beside, words_were, at_top, told, behind, words_behind, one_done}
 use Rattle.moment_parts.proofs.Forking.{among_mapped}
+use Rattle.period_books.proofs.Passed.Lists.{same_head as same_front}
 
 module _ {X : Type 0} where
   pub cut_among : (x : X) (xs : List X) → Among x xs → (left right : List X) × (xs ≡ left ++ x ∷ right)
@@ -229,7 +230,7 @@ module _ (s : Setting) (run : IsDepthFirst s.quota s.list) (m : Moment) (lawful 
       cut = cut_among w.0 m.waiting w.1
 
       same_newest : (c d : Child) (cs ds : List Child) → c ∷ cs ≡ d ∷ ds → c.ordinal ≡ d.ordinal
-      same_newest c d cs ds same = ap (λ t. Child.ordinal t) (Rattle.lawful_books.proofs.Lists.same_head c d cs ds same)
+      same_newest c d cs ds same = ap (λ t. Child.ordinal t) (same_front c d cs ds same)
 
       child_is : o.top.label ≡ fork_of w.0.thread w.0.child
       child_is =

@@ -1,14 +1,14 @@
 -- What holds of threads, children and results behind one more action of some thread.
 use Rattle.std.proofs.Common.{◌≡◌, ◌≢◌, ℕ, suc, ◌+◌, ◌<◌, ◌≤◌, ◌⊎◌, List, length, map, inl, inr, refl, sym, ap, subst, ◌∙◌, arith}
 use Rattle.std.proofs.lemmas.Bool.{cases_eq}
-use Rattle.dag_order.specs.declared.thread_id.ThreadId.{ThreadId}
-use Rattle.dag_order.specs.LabelOrder.{fork_of}
-use Rattle.depth_first_list.specs.Actions.{forks, ends, Action}
-use Rattle.depth_first_list.specs.Runs.{IsDepthFirst}
-use Rattle.depth_first_list.specs.Facts.{label_at, index_at, deed_at, HasDone}
-use Rattle.depth_first_list.proofs.ThreadLaws.{names_differ, index_rises_law, forked_once, end_is_last}
-use Rattle.lawful_books.specs.Lists.{Among, Each, Differ, one_if_same}
-use Rattle.lawful_books.proofs.Lists.{one_cases, one_same, one_other, each_map}
+use Rattle.period_books.specs.Passed.ThreadIdType.{ThreadId}
+use Rattle.period_books.specs.Passed.LabelOrder.{fork_of}
+use Rattle.deque_machine.specs.Passed.Actions.{forks, ends, Action}
+use Rattle.deque_machine.specs.Passed.Runs.{IsDepthFirst}
+use Rattle.deque_machine.specs.Passed.Facts.{label_at, index_at, deed_at, HasDone}
+use Rattle.deque_machine.proofs.Passed.ThreadLaws.{names_differ, index_rises_law, forked_once, end_is_last}
+use Rattle.period_books.specs.Passed.Lists.{Among, Each, Differ, one_if_same}
+use Rattle.period_books.proofs.Passed.Lists.{one_cases, one_same, one_other, each_map}
 use Rattle.deque_machine.proofs.Labels.{one_parent}
 use Rattle.period_books.specs.Names.{HasLabel}
 use Rattle.moment_parts.specs.Parts.{Child, Thread, Result, Parts, IsIn, IsKept}

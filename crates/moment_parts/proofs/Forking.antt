@@ -3,18 +3,18 @@ use Rattle.std.proofs.Common.{◌≡◌, ◌≢◌, ℕ, ◌+◌, ◌<◌, ◌�
 use Rattle.std.proofs.lemmas.Int.{ints}
 use Rattle.std.proofs.lemmas.Bool.{cases_lt}
 use Rattle.std.specs.Prelude.{Option, Some, false, ℤ, pos, ◌+ℤ◌}
-use Rattle.dag_order.specs.declared.birth.Birth.{Birth}
-use Rattle.dag_order.specs.LabelOrder.{fork_of}
-use Rattle.depth_first_list.specs.Actions.{forks, record_words}
-use Rattle.depth_first_list.specs.Runs.{IsDepthFirst}
-use Rattle.depth_first_list.specs.Facts.{label_at, deed_at, weight_at, IsLive, HasDone, StemsFrom}
-use Rattle.depth_first_list.proofs.Own.{one_fork}
-use Rattle.depth_first_list.proofs.ThreadLaws.{fork_stands_before, forked_once}
-use Rattle.depth_first_list.proofs.Weights.{forks_take_records}
-use Rattle.depth_first_list.proofs.Whole.{forks_do_not_end}
-use Rattle.lawful_books.specs.Lists.{Among, Each, Differ, total}
-use Rattle.lawful_books.specs.Books.{done_in}
-use Rattle.lawful_books.proofs.Lists.{one_same, each_among}
+use Rattle.period_books.specs.Passed.BirthType.{Birth}
+use Rattle.period_books.specs.Passed.LabelOrder.{fork_of}
+use Rattle.deque_machine.specs.Passed.Actions.{forks, record_words}
+use Rattle.deque_machine.specs.Passed.Runs.{IsDepthFirst}
+use Rattle.deque_machine.specs.Passed.Facts.{label_at, deed_at, weight_at, IsLive, HasDone, StemsFrom}
+use Rattle.deque_machine.proofs.Passed.Own.{one_fork}
+use Rattle.deque_machine.proofs.Passed.ThreadLaws.{fork_stands_before, forked_once}
+use Rattle.deque_machine.proofs.Passed.Weights.{forks_take_records}
+use Rattle.deque_machine.proofs.Passed.Whole.{forks_do_not_end}
+use Rattle.period_books.specs.Passed.Lists.{Among, Each, Differ, total}
+use Rattle.period_books.specs.Passed.Books.{done_in}
+use Rattle.period_books.proofs.Passed.Lists.{one_same, each_among}
 use Rattle.deque_machine.specs.Moments.{Moment, Waiting, done_at, threads_in}
 use Rattle.deque_machine.specs.Machine.{Setting, does, books_with, forks_child}
 use Rattle.deque_machine.specs.LawfulOrder.{IsLawful, Waits}

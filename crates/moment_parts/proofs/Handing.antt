@@ -2,13 +2,13 @@
 use Rattle.std.proofs.Common.{◌≡◌, ◌≢◌, ℕ, ◌+◌, ◌<◌, List, [], ◌∷◌, ◌++◌, map, inl, inr, refl, sym, ap, subst, ◌∙◌, arith}
 use Rattle.std.proofs.lemmas.List.{map-append}
 use Rattle.std.specs.Prelude.{None, Some, true, pos}
-use Rattle.dag_order.specs.declared.thread_id.ThreadId.{ThreadId}
-use Rattle.dag_order.specs.Births.{root}
-use Rattle.dag_order.specs.LabelOrder.{fork_of}
-use Rattle.depth_first_list.specs.Runs.{IsDepthFirst}
-use Rattle.depth_first_list.specs.Facts.{HasDone}
-use Rattle.lawful_books.specs.Lists.{Among, Each, Differ, total}
-use Rattle.lawful_books.proofs.Lists.{each_among, each_map, each_join, each_left, each_right, among_left, among_right, among_parts, among_middle, among_wider, among_here, differ_at, differ_without, total_append, total_middle}
+use Rattle.period_books.specs.Passed.ThreadIdType.{ThreadId}
+use Rattle.period_books.specs.Passed.Births.{root}
+use Rattle.period_books.specs.Passed.LabelOrder.{fork_of}
+use Rattle.deque_machine.specs.Passed.Runs.{IsDepthFirst}
+use Rattle.deque_machine.specs.Passed.Facts.{HasDone}
+use Rattle.period_books.specs.Passed.Lists.{Among, Each, Differ, total}
+use Rattle.period_books.proofs.Passed.Lists.{each_among, each_map, each_join, each_left, each_right, among_left, among_right, among_parts, among_middle, among_wider, among_here, differ_at, differ_without, total_append, total_middle}
 use Rattle.deque_machine.specs.Moments.{Moment, opening, done_at}
 use Rattle.deque_machine.specs.Machine.{Setting}
 use Rattle.deque_machine.specs.LawfulOrder.{IsLawful}
@@ -24,6 +24,7 @@ use Rattle.moment_parts.specs.Laws.{RootIsTheOpening, HandingOverIsNoEvent}
 use Rattle.moment_parts.proofs.Facts.{Alike, as_alike}
 use Rattle.moment_parts.proofs.Shown.{shown_middle, deques_shown, by_deque, among_map, deque_words_middle}
 use Rattle.moment_parts.proofs.Placing.{top_is_in, top_stands, under_differs, beside_differs, waiting_differs, under_is_in, beside_is_in, words_beside, words_were}
+use Rattle.period_books.proofs.Passed.Lists.{each_at as at_each}
 
 module _ (s : Setting) (run : IsDepthFirst s.quota s.list) (m : Moment) (lawful : IsLawful s m) (parts : Parts) (shows : Shows s.quota s.list parts m) (worker : ℕ) (o : Works parts worker)
     (before later : List Result) (result : Result) (front back : List Child) (child : Child) (new : Thread)
@@ -44,7 +45,7 @@ module _ (s : Setting) (run : IsDepthFirst s.quota s.list) (m : Moment) (lawful 
   own_children = subst (Each (ChildStands s.list (done_at m) parts o.top.id o.top.label)) children_are (top_stands s run m lawful parts shows worker o).children
 
   child_stands : ChildStands s.list (done_at m) parts o.top.id o.top.label child
-  child_stands = Rattle.lawful_books.proofs.Lists.each_at (ChildStands s.list (done_at m) parts o.top.id o.top.label) front child back own_children
+  child_stands = at_each (ChildStands s.list (done_at m) parts o.top.id o.top.label) front child back own_children
 
   result_label_is : result.label ≡ fork_of o.top.label child.ordinal
   result_label_is = one_label s.quota s.list parts.periods m.books result.id result.label (fork_of o.top.label child.ordinal) shows.books

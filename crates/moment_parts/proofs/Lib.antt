@@ -10,3 +10,4 @@ pub mod Handing
 pub mod Births
 pub mod Counting
 pub mod Cutting
+pub mod Passed

@@ -3,14 +3,14 @@ use Rattle.std.proofs.Common.{◌≡◌, ◌≢◌, ℕ, ◌<◌, ◌⊎◌, Lis
 use Rattle.std.proofs.lemmas.Int.{ints}
 use Rattle.std.proofs.lemmas.List.{map-append}
 use Rattle.std.specs.Prelude.{Option, None, Some, true, false, cond, nat_eq, nat_lt, ℤ, pos, ◌+ℤ◌}
-use Rattle.dag_order.specs.declared.thread_id.ThreadId.{ThreadId}
-use Rattle.dag_order.specs.LabelOrder.{fork_of}
-use Rattle.depth_first_list.specs.Actions.{joins, Action}
-use Rattle.depth_first_list.specs.Runs.{IsDepthFirst}
-use Rattle.lawful_books.specs.Lists.{Among, Each, Differ, total, times}
-use Rattle.lawful_books.specs.Books.{booked}
-use Rattle.lawful_books.proofs.Lists.{each_among, each_map, each_from, among_left, among_right, among_parts, among_here, total_append, total_middle}
-use Rattle.lawful_books.proofs.Keeping.{closed_same, begun_same}
+use Rattle.period_books.specs.Passed.ThreadIdType.{ThreadId}
+use Rattle.period_books.specs.Passed.LabelOrder.{fork_of}
+use Rattle.deque_machine.specs.Passed.Actions.{joins, Action}
+use Rattle.deque_machine.specs.Passed.Runs.{IsDepthFirst}
+use Rattle.period_books.specs.Passed.Lists.{Among, Each, Differ, total, times}
+use Rattle.period_books.specs.Passed.Books.{booked}
+use Rattle.period_books.proofs.Passed.Lists.{each_among, each_map, each_from, among_left, among_right, among_parts, among_here, total_append, total_middle}
+use Rattle.period_books.proofs.Passed.Keeping.{closed_same, begun_same}
 use Rattle.deque_machine.specs.Moments.{Moment, Waiting, done_at, live_at, owned_by, with_id, one_if_worker}
 use Rattle.deque_machine.specs.Machine.{Setting, May, Event, steals, suspends, gives_up, books_closed, new_book, HasEnded, IsIdle, suspends_top, gives_deque_up, steals_beside, takes_over}
 use Rattle.deque_machine.specs.Runs.{place_of}
@@ -29,6 +29,9 @@ use Rattle.moment_parts.specs.Laws.{Comes, GiveUpsAreEvents, WaitsAreEvents, The
 use Rattle.moment_parts.proofs.Shown.{shown_middle, shown_without, book_of_it, by_deque, in_here, in_wider, InDeques, deque_words_middle}
 use Rattle.moment_parts.proofs.Placing.{own, top_is_in, top_stands, under_is_in, beside_is_in, waiting_differs, words_beside, words_were, words_now, at_top}
 use Rattle.moment_parts.proofs.Forking.{among_mapped}
+use Rattle.period_books.proofs.Passed.Lists.{one_cases as cases_of_one}
+use Rattle.deque_machine.specs.Passed.Actions.{live_words as words_of_changes}
+use Rattle.deque_machine.specs.Passed.Facts.{action_at as action_of_list}
 
 -- whoever is in the next parts was in those before, and the results are the same
 module _ (l : List Action) (done : ℕ → ℕ) (parts next : Parts) (same_results : next.results ≡ parts.results)
@@ -81,7 +84,7 @@ module _ (s : Setting) (m : Moment) (parts : Parts) (shows : Shows s.quota s.lis
           (result_moves s.list (done_at m) parts next same_results stays was_in r (shows.results r (subst (Among r) same_results there)));
       kept_once = subst (λ rs. Differ (map (λ r. Result.label r) rs)) (sym same_results) shows.kept_once;
       words = same_words (live_at s.list after) (live_at s.list m) (words_of next) (words_of parts)
-          ((event_writes s m worker event after may).live ∙ ap (λ ps. live_at s.list m +ℤ Rattle.depth_first_list.specs.Actions.live_words (map (Rattle.depth_first_list.specs.Facts.action_at s.list) ps)) none)
+          ((event_writes s m worker event after may).live ∙ ap (λ ps. live_at s.list m +ℤ words_of_changes (map (action_of_list s.list) ps)) none)
           shows.words words;
     },
   )
@@ -180,7 +183,7 @@ none_owned worker (d ∷ deques) all =
   where
     by_owner : (owner : Option ℕ) → owner ≢ Some worker → one_if_worker worker owner ≡ 0
     by_owner None other = refl
-    by_owner (Some w) other = elim (Rattle.lawful_books.proofs.Lists.one_cases worker w) [
+    by_owner (Some w) other = elim (cases_of_one worker w) [
       | inl same ↦ absurd (other (ap Some (sym same.0)))
       | inr differs ↦ differs.1
     ]
@@ -188,7 +191,7 @@ none_owned worker (d ∷ deques) all =
 none_with : (id : ℕ) (deques : List Deque) → Each (λ d. d.id ≢ id) deques → with_id id (map deque_shown deques) ≡ 0
 none_with id [] all = refl
 none_with id (d ∷ deques) all =
-    let here : ◌≡◌ {A = ℕ} (cond (nat_eq id d.id) 1 0) 0 = elim (Rattle.lawful_books.proofs.Lists.one_cases id d.id) [ inl same ↦ absurd (all.0 (sym same.0)) | inr differs ↦ differs.1 ] in
+    let here : ◌≡◌ {A = ℕ} (cond (nat_eq id d.id) 1 0) 0 = elim (cases_of_one id d.id) [ inl same ↦ absurd (all.0 (sym same.0)) | inr differs ↦ differs.1 ] in
     let rest = none_with id deques all.1 in omega (arith, here, rest)
 
 module _ (s : Setting) (run : IsDepthFirst s.quota s.list) (m : Moment) (lawful : IsLawful s m) (parts : Parts) (shows : Shows s.quota s.list parts m) (worker : ℕ) where

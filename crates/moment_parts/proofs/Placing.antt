@@ -2,17 +2,17 @@
 use Rattle.std.proofs.Common.{◌≡◌, ◌≢◌, ℕ, ◌+◌, ◌⊎◌, List, ◌∷◌, ◌++◌, map, inl, inr, refl, sym, ap, subst, ◌∙◌, arith}
 use Rattle.std.proofs.lemmas.Int.{ints}
 use Rattle.std.specs.Prelude.{Option, Some, ℤ, pos, ◌+ℤ◌}
-use Rattle.dag_order.specs.declared.thread_id.ThreadId.{ThreadId}
-use Rattle.dag_order.specs.declared.birth.Birth.{Birth}
-use Rattle.dag_order.specs.LabelOrder.{fork_of}
-use Rattle.depth_first_list.specs.Actions.{Deed, forks, ends}
-use Rattle.depth_first_list.specs.Runs.{IsDepthFirst}
-use Rattle.depth_first_list.specs.Facts.{weight_at, IsDone, IsNext, HasDone}
-use Rattle.depth_first_list.proofs.LiveLaws.{next_is_of_its_index}
-use Rattle.lawful_books.specs.Lists.{Among, total, one_if_same}
-use Rattle.lawful_books.specs.Books.{done_in, one_more}
-use Rattle.lawful_books.proofs.Lists.{among_left, among_right, among_parts, among_here, each_among}
-use Rattle.lawful_books.proofs.Keeping.{done_more}
+use Rattle.period_books.specs.Passed.ThreadIdType.{ThreadId}
+use Rattle.period_books.specs.Passed.BirthType.{Birth}
+use Rattle.period_books.specs.Passed.LabelOrder.{fork_of}
+use Rattle.deque_machine.specs.Passed.Actions.{Deed, forks, ends}
+use Rattle.deque_machine.specs.Passed.Runs.{IsDepthFirst}
+use Rattle.deque_machine.specs.Passed.Facts.{weight_at, IsDone, IsNext, HasDone}
+use Rattle.deque_machine.proofs.Passed.LiveLaws.{next_is_of_its_index}
+use Rattle.period_books.specs.Passed.Lists.{Among, total, one_if_same}
+use Rattle.period_books.specs.Passed.Books.{done_in, one_more}
+use Rattle.period_books.proofs.Passed.Lists.{among_left, among_right, among_parts, among_here, each_among}
+use Rattle.period_books.proofs.Passed.Keeping.{done_more}
 use Rattle.deque_machine.specs.Moments.{Moment, Waiting, done_at, live_at, threads_in, waiting_threads}
 use Rattle.deque_machine.specs.Machine.{Setting, Owns, IsAtTop, May, does, books_with}
 use Rattle.deque_machine.specs.LawfulOrder.{IsLawful}

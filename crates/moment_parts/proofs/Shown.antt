@@ -2,10 +2,10 @@
 use Rattle.std.proofs.Common.{◌≡◌, ℕ, ◌+◌, ◌⊎◌, List, [], ◌∷◌, ◌++◌, map, inl, inr, ap, subst, ◌∙◌}
 use Rattle.std.specs.Prelude.{Some}
 use Rattle.std.proofs.lemmas.List.{map-append}
-use Rattle.depth_first_list.specs.Actions.{Action}
-use Rattle.lawful_books.specs.Lists.{Among, total}
-use Rattle.lawful_books.specs.Books.{charged}
-use Rattle.lawful_books.proofs.Lists.{total_middle, among_left, among_right, among_middle, among_wider, among_here}
+use Rattle.deque_machine.specs.Passed.Actions.{Action}
+use Rattle.period_books.specs.Passed.Lists.{Among, total}
+use Rattle.period_books.specs.Passed.Books.{charged}
+use Rattle.period_books.proofs.Passed.Lists.{total_middle, among_left, among_right, among_middle, among_wider, among_here}
 use Rattle.deque_machine.specs.Moments as machine
 use Rattle.deque_machine.specs.Moments.{Moment, Waiting, threads_in, waiting_threads}
 use Rattle.deque_machine.specs.Machine.{Owns}

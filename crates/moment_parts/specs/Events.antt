@@ -1,12 +1,12 @@
 -- What an event of the machine does to the parts.
 use Rattle.std.specs.Prelude.{◌≡◌, ◌≢◌, ℕ, suc, ◌+◌, ◌<◌, ◌≤◌, ◌⊎◌, Bool, true, false, nat_lt, Option, None, Some, List, [], ◌∷◌, ◌++◌, length, pos, ◌+ℤ◌}
-use Rattle.dag_order.specs.declared.birth.Birth.{Birth}
-use Rattle.dag_order.specs.declared.action_id.ActionId.{ActionId}
-use Rattle.dag_order.specs.LabelOrder.{fork_of}
-use Rattle.depth_first_list.specs.Actions.{Deed, forks, joins, allocates, releases, dummy, faults, ends, Action, record_words}
-use Rattle.depth_first_list.specs.Facts.{label_at, index_at, deed_at, words_at, weight_at}
-use Rattle.lawful_books.specs.Lists.{Among, Each}
-use Rattle.lawful_books.specs.Books.{charge_at}
+use Rattle.period_books.specs.Passed.BirthType.{Birth}
+use Rattle.period_books.specs.Passed.ActionIdType.{ActionId}
+use Rattle.period_books.specs.Passed.LabelOrder.{fork_of}
+use Rattle.deque_machine.specs.Passed.Actions.{Deed, forks, joins, allocates, releases, dummy, faults, ends, Action, record_words}
+use Rattle.deque_machine.specs.Passed.Facts.{label_at, index_at, deed_at, words_at, weight_at}
+use Rattle.period_books.specs.Passed.Lists.{Among, Each}
+use Rattle.period_books.specs.Passed.Books.{charge_at}
 use Rattle.period_books.specs.Periods.{Period, Adds, Replaces}
 use Rattle.period_books.specs.Names.{id_of}
 use Rattle.period_books.specs.Laws.{Closes}

@@ -1,13 +1,13 @@
 -- What each event of the machine is, on parts that show its moment.
 use Rattle.std.specs.Prelude.{◌≡◌, ℕ, ◌≤◌, List, [], ◌∷◌, ◌++◌, length, map}
-use Rattle.dag_order.specs.declared.birth.Birth.{Birth}
-use Rattle.dag_order.specs.Births.{root, ParentsComeFirst, MayFollow}
+use Rattle.period_books.specs.Passed.BirthType.{Birth}
+use Rattle.period_books.specs.Passed.Births.{root, ParentsComeFirst, MayFollow}
 use Rattle.deque_machine.specs.Moments.{Moment, opening}
 use Rattle.deque_machine.specs.Machine.{Setting, Event, steals, does, suspends, gives_up, May}
 use Rattle.deque_machine.specs.LawfulOrder.{IsLawful}
 use Rattle.period_books.specs.Periods.{Period}
 use Rattle.period_books.specs.Telling.{Tell}
-use Rattle.lawful_books.specs.Books.{booked}
+use Rattle.period_books.specs.Passed.Books.{booked}
 use Rattle.moment_parts.specs.Parts.{Thread, Parts, IsIn, parts_with_root}
 use Rattle.moment_parts.specs.Standing.{Shows}
 use Rattle.moment_parts.specs.Events.{Does, GivesUp, Suspends, Steals, HandsOver}

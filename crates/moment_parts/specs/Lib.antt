@@ -3,3 +3,4 @@ pub mod Standing
 pub mod Events
 pub mod Laws
 pub mod Cuts
+pub mod Passed

@@ -1,7 +1,7 @@
 -- What the parts of a scheduler hold: threads in deques, threads that wait, results of ended threads, and periods.
 use Rattle.std.specs.Prelude.{◌≡◌, ℕ, ◌+◌, ◌⊎◌, Bool, Option, None, List, [], ◌∷◌, map}
-use Rattle.dag_order.specs.declared.thread_id.ThreadId.{ThreadId}
-use Rattle.lawful_books.specs.Lists.{Among, total}
+use Rattle.period_books.specs.Passed.ThreadIdType.{ThreadId}
+use Rattle.period_books.specs.Passed.Lists.{Among, total}
 use Rattle.deque_machine.specs.Moments as machine
 use Rattle.period_books.specs.Periods.{Period}
 

@@ -1,10 +1,10 @@
 -- Which moment of the machine the parts show.
 use Rattle.std.specs.Prelude.{◌≡◌, ℕ, ◌<◌, ◌⊎◌, true, Some, List, ◌∷◌, length, map, pos}
-use Rattle.dag_order.specs.declared.thread_id.ThreadId.{ThreadId}
-use Rattle.dag_order.specs.LabelOrder.{fork_of}
-use Rattle.depth_first_list.specs.Actions.{forks, joins, ends, Action}
-use Rattle.depth_first_list.specs.Facts.{label_at, deed_at, HasDone}
-use Rattle.lawful_books.specs.Lists.{Among, Each, Differ}
+use Rattle.period_books.specs.Passed.ThreadIdType.{ThreadId}
+use Rattle.period_books.specs.Passed.LabelOrder.{fork_of}
+use Rattle.deque_machine.specs.Passed.Actions.{forks, joins, ends, Action}
+use Rattle.deque_machine.specs.Passed.Facts.{label_at, deed_at, HasDone}
+use Rattle.period_books.specs.Passed.Lists.{Among, Each, Differ}
 use Rattle.deque_machine.specs.Moments.{Moment, Waiting, done_at, live_at}
 use Rattle.period_books.specs.Names.{HasLabel}
 use Rattle.period_books.specs.Telling.{Tell}

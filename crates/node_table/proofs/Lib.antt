@@ -2,3 +2,4 @@ pub mod Lists
 pub mod Showing
 pub mod Distinct
 pub mod Finding
+pub mod Passed

@@ -5,3 +5,4 @@ pub mod Reading
 pub mod Programs
 pub mod Codes
 pub mod Laws
+pub mod Passed

@@ -11,9 +11,9 @@ use Rattle.lawful_books.specs.Books.{charge}
 use Rattle.moment_parts.specs.Events.{MayDo}
 use Rattle.period_books.specs.Periods.{open_shown}
 use Rattle.quota_period.specs.declared.period.Period.{Period as OpenPeriod}
-use Rattle.thread_events.specs.Acts.{AllocIsCharged, IsCharged}
-use Rattle.thread_events.specs.Readiness.{IsReadiness}
-use Rattle.thread_events.specs.declared.readiness.Readiness.TheVariants.{Ready, Spent}
+use Rattle.hall_deciding.specs.Passed.Acts.{AllocIsCharged, IsCharged}
+use Rattle.hall_deciding.specs.Passed.Readiness.{IsReadiness}
+use Rattle.hall_deciding.specs.Passed.ReadinessVariants.{Ready, Spent}
 use Rattle.thread_frames.specs.Actions.{IsOfTheList, deed_of}
 use Rattle.thread_frames.specs.declared.next.Next.{Next}
 use Rattle.thread_frames.specs.declared.next.Next.TheVariants.{Fork, Join, Alloc, Release, Dummy, Fault, End}

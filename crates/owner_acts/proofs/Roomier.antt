@@ -9,14 +9,14 @@ use Rattle.deque_list.specs.Orders.{OrderView}
 use Rattle.hall_deciding.specs.PartEvents.Here.{TakesWords}
 use Rattle.hall_deciding.specs.PartEvents.Parts.{Has}
 use Rattle.hall_deciding.specs.PartEvents.ListCalls.{SuspendsThere, LeavesThere, KeepsCrew}
-use Rattle.hall_law.specs.Values.{Hall, ListShown}
-use Rattle.hall_law.specs.Writing.{IsAtWork}
+use Rattle.hall_turns.specs.Passed.Values.{Hall, ListShown}
+use Rattle.hall_turns.specs.Passed.Writing.{IsAtWork}
 use Rattle.hall_turns.specs.Lists.{ShowsUnowned, HasNoOwner, IsGone, KeepsRest}
 use Rattle.hall_turns.specs.Shown.{list_shown, pool_shown}
 use Rattle.hall_turns.specs.declared.lane_slot.Running.{Running}
 use Rattle.hall_turns.specs.declared.list_slot.ListSlot.{ListSlot}
 use Rattle.hall_turns.specs.declared.pool_slot.PoolSlot.{PoolSlot}
-use Rattle.hall_law.specs.Values.{PoolShown}
+use Rattle.hall_turns.specs.Passed.Values.{PoolShown}
 use Rattle.thread_frames.specs.Kept.{waiting_shown, result_kept}
 use Rattle.thread_frames.specs.Shown.{result_shown}
 use Rattle.thread_frames.specs.declared.ended.Ended.{Ended}

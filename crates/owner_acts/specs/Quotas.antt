@@ -3,8 +3,8 @@ use Rattle.std.specs.Prelude.{◌≡◌, ℕ, ◌+◌, ◌≤◌}
 use Rattle.depth_first_list.specs.Actions.{record_words}
 use Rattle.language_limits.specs.declared.TheConstants.{GREATEST_QUOTA}
 use Rattle.quota_period.specs.declared.period.Period.{Period as OpenPeriod}
-use Rattle.thread_events.specs.Readiness.{IsReadiness}
-use Rattle.thread_events.specs.declared.readiness.Readiness.TheVariants.{Ready, Spent}
+use Rattle.hall_deciding.specs.Passed.Readiness.{IsReadiness}
+use Rattle.hall_deciding.specs.Passed.ReadinessVariants.{Ready, Spent}
 use Rattle.thread_frames.specs.declared.next.Next.{Next}
 use Rattle.thread_frames.specs.declared.next.Next.TheVariants as nexts
 use Rattle.thread_frames.specs.declared.thread.Thread.{Thread}

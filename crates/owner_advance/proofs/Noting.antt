@@ -22,13 +22,13 @@ use Rattle.thread_frames.specs.Actions.{IsOfTheList, deed_of}
 use Rattle.thread_frames.specs.declared.next.Next.{Next}
 use Rattle.thread_frames.specs.declared.thread.Thread.{Thread}
 use Rattle.thread_state.specs.Settings.{IsSettingOf}
-use Rattle.lane_events.specs.Here.{ShowsOwn}
-use Rattle.hall_law.specs.Seats.{finding}
-use Rattle.hall_law.specs.State.{RunningState}
-use Rattle.hall_law.specs.Values.{Hall, PoolShown, by_rule, lane_at}
-use Rattle.hall_law.specs.Views.{View}
-use Rattle.hall_law.specs.Writing.{IsAtWork}
-use Rattle.hall_law.proofs.Stops.{full_arenas_go_on}
+use Rattle.hall_deciding.specs.Passed.Here.{ShowsOwn}
+use Rattle.hall_turns.specs.Passed.Seats.{finding}
+use Rattle.hall_turns.specs.Passed.State.{RunningState}
+use Rattle.hall_turns.specs.Passed.Values.{Hall, PoolShown, by_rule, lane_at}
+use Rattle.hall_turns.specs.Passed.Views.{View}
+use Rattle.hall_turns.specs.Passed.Writing.{IsAtWork}
+use Rattle.hall_turns.proofs.Passed.Stops.{full_arenas_go_on}
 use Rattle.hall_deciding.specs.PartEvents.Staying.{NotesOn}
 use Rattle.hall_deciding.specs.PartEvents.TakenParts.{IsAtAction, MayPause}
 use Rattle.hall_deciding.proofs.PartLemmas.Pauses.{next_of_it}

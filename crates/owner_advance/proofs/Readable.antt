@@ -21,7 +21,7 @@ use Rattle.thread_frames.specs.declared.next.Next.{Next}
 use Rattle.thread_frames.specs.declared.thread.Thread.{Thread}
 use Rattle.thread_state.specs.Settings.{IsSettingOf}
 use Rattle.depth_first_run.specs.States.{Setting}
-use Rattle.lane_events.specs.Here.{HasRoomIn}
+use Rattle.hall_deciding.specs.Passed.Here.{HasRoomIn}
 use Rattle.hall_deciding.specs.Own.{IsShortThere}
 use Rattle.hall_deciding.specs.PartEvents.TakenParts.{IsAtAction}
 use Rattle.hall_deciding.proofs.PartLemmas.Working.{still_shows}

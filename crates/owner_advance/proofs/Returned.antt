@@ -12,10 +12,10 @@ use Rattle.moment_parts.specs.Parts as shown
 use Rattle.space_ledger.specs.Sums.{total_change}
 use Rattle.thread_frames.specs.Kept.{WaitsUnder, IsUnderItsId, waiting_shown, result_kept}
 use Rattle.thread_frames.specs.Points.{IsAtPoint, IsResult}
-use Rattle.hall_law.specs.State.{RunningState}
-use Rattle.hall_law.specs.Values.{Hall}
-use Rattle.hall_law.specs.Views.{View}
-use Rattle.hall_law.proofs.Quiet.{quiet_puts_go_on}
+use Rattle.hall_turns.specs.Passed.State.{RunningState}
+use Rattle.hall_turns.specs.Passed.Values.{Hall}
+use Rattle.hall_turns.specs.Passed.Views.{View}
+use Rattle.hall_turns.proofs.Passed.Quiet.{quiet_puts_go_on}
 use Rattle.hall_deciding.specs.PartEvents.Rooms.{HasMoreRoom, IsSamePool}
 use Rattle.hall_deciding.proofs.PartLemmas.Rooms.{pool_same, shown_with}
 use Rattle.hall_deciding.proofs.PartLemmas.Staying.{all_at, each_moved}

@@ -1,6 +1,6 @@
 -- There is memory for an action in a lane.
 use Rattle.std.specs.Prelude.{ℕ, Option, None, Some}
-use Rattle.lane_events.specs.Here.{HasRoomIn}
+use Rattle.hall_deciding.specs.Passed.Here.{HasRoomIn}
 use Rattle.hall_turns.specs.declared.lane_slot.Running.{Running}
 
 -- A period runs there that has room for an action and a birth, where a list for so many births is ready for the first one.

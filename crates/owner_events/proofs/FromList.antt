@@ -5,7 +5,7 @@ use Rattle.dag_order.specs.Births.{root}
 use Rattle.dag_order.specs.declared.thread_id.ThreadId.{ThreadId}
 use Rattle.deque_list.specs.declared.deque_id.DequeId.{DequeId}
 use Rattle.lawful_books.specs.Lists.{Each}
-use Rattle.list_part.specs.Parts.{Has}
+use Rattle.hall_turns.specs.Passed.Parts.{Has}
 use Rattle.space_ledger.specs.BooksList.{books_spare}
 use Rattle.thread_frames.specs.Children.{is_delivered}
 use Rattle.thread_frames.specs.Kept.{WaitsUnder, IsUnderItsId}

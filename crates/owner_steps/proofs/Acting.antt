@@ -27,8 +27,8 @@ use Rattle.deque_events.specs.Shown.{deque_with, Stands, parts_under}
 use Rattle.deque_events.specs.Seats.{KeepsSeats, LeavesSeat}
 use Rattle.thread_events.specs.Acts.{ActsBy, GoesBack, GoesBackUnowned, GoesBackWithChild}
 use Rattle.core_parts.specs.declared.scheduler.Scheduler.{Scheduler}
-use Rattle.step_laws.specs.Standing.{Settles, as_they_are}
-use Rattle.step_laws.proofs.Standing.{the_same}
+use Rattle.core_parts.specs.Passed.Standing.{Settles, as_they_are}
+use Rattle.core_parts.proofs.Passed.Standing.{the_same}
 use Rattle.core_parts.specs.Held.{Held, held, held_under, parts_in, IsReordered, OwnersSit, IsInOrder, AreAtPoints, AreResults}
 use Rattle.thread_frames.specs.Kept.{waiting_shown, result_kept}
 use Rattle.depth_first_list.specs.Actions.{weight_of}

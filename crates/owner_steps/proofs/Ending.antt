@@ -37,8 +37,8 @@ use Rattle.deque_events.specs.Shown.{deque_shown, deque_with, parts_of, Stands, 
 use Rattle.deque_events.specs.Seats.{KeepsSeats, LeavesSeat}
 use Rattle.thread_events.specs.Acts.{Always, EndsAboveBy, EndsAndWakesBy, EndsAndLeavesBy}
 use Rattle.core_parts.specs.declared.scheduler.Scheduler.{Scheduler}
-use Rattle.step_laws.specs.Orders.{AreSame}
-use Rattle.step_laws.specs.Standing.{Settles, as_they_are, handed_on}
+use Rattle.core_parts.specs.Passed.Orders.{AreSame}
+use Rattle.core_parts.specs.Passed.Standing.{Settles, as_they_are, handed_on}
 use Rattle.core_parts.specs.Held.{Held, held, held_under, parts_in, IsReordered, OwnersSit, OwnsNone, IsInOrder, AreAtPoints, AreResults}
 use Rattle.thread_frames.specs.Kept.{waiting_shown, result_kept, WaitsUnder, IsUnderItsId}
 use Rattle.core_parts.proofs.Lists.{each_moved}

@@ -43,7 +43,7 @@ use Rattle.core_parts.specs.Held.{Held, held, held_under, parts_in, OwnsNone, Is
 use Rattle.core_parts.specs.Moments.{terms_of, SameTerms, HasRun, IsSound, CanGoOn}
 use Rattle.deque_machine.specs.Terms.{Terms, machine_of}
 use Rattle.core_parts.specs.Outcomes.{GoesOn, GivesDequeUp, StepsTo}
-use Rattle.step_laws.proofs.Standing.{the_same}
+use Rattle.core_parts.proofs.Passed.Standing.{the_same}
 use Rattle.core_parts.proofs.Going.{acted_goes_on, sum_is}
 use Rattle.core_parts.proofs.Leaving.{gave_up, gave_up_goes_on}
 use Rattle.core_parts.proofs.Still.{reordered_stands}

@@ -20,8 +20,8 @@ use Rattle.thread_frames.specs.declared.thread.Thread.{Thread}
 use Rattle.thread_frames.specs.Views.{label_of, done_of}
 use Rattle.deque_events.specs.Shown.{Stands}
 use Rattle.core_parts.specs.declared.scheduler.Scheduler.{Scheduler}
-use Rattle.step_laws.specs.Moves.{noted_if}
-use Rattle.step_laws.specs.Standing.{Settles}
+use Rattle.core_parts.specs.Passed.Moves.{noted_if}
+use Rattle.core_parts.specs.Passed.Standing.{Settles}
 use Rattle.core_parts.specs.Held.{Held, held, held_under, parts_in, IsReordered, OwnsNone, IsInOrder, AreAtPoints, AreResults}
 use Rattle.owner_steps.specs.Keeping.{KeepsRoom}
 

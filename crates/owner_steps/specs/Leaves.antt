@@ -13,7 +13,7 @@ use Rattle.thread_frames.specs.declared.thread.Thread.{Thread}
 use Rattle.thread_frames.specs.Shown.{thread_shown}
 use Rattle.deque_events.specs.Shown.{Stands}
 use Rattle.core_parts.specs.declared.scheduler.Scheduler.{Scheduler}
-use Rattle.step_laws.specs.Orders.{AreSame}
+use Rattle.core_parts.specs.Passed.Orders.{AreSame}
 use Rattle.core_parts.specs.Held.{held, held_under, parts_in, IsInOrder, AreAtPoints, OwnsNone}
 use Rattle.thread_frames.specs.Kept.{WaitsUnder}
 use Rattle.owner_steps.specs.Keeping.{KeepsRoom}

@@ -8,12 +8,12 @@ use Rattle.par_tree.specs.Names.{names_in_target}
 use Rattle.par_ownership.specs.Environment as environments
 use Rattle.par_ownership.specs.Environment.{Environment, is_released, opened}
 use Rattle.par_ownership.specs.Ownership.{IsTarget, IsOwned, Passes, OwnsAll, OwnsReturn, OwnsValue, OwnsFunction, OwnsFunctions, hands_back}
-use Rattle.depth_first_run.specs.Stores
-use Rattle.depth_first_run.specs.Stores.{Store, block_of}
-use Rattle.depth_first_run.specs.States.{Setting, State}
-use Rattle.depth_first_run.specs.Calls.{Passing, entered}
-use Rattle.depth_first_run.specs.Run.{run, cut_of, cut_block, on_store}
-use Rattle.thread_points.specs.Points.{Each}
+use Rattle.ownership_laws.specs.Passed.Stores
+use Rattle.ownership_laws.specs.Passed.Stores.{Store, block_of}
+use Rattle.ownership_laws.specs.Passed.States.{Setting, State}
+use Rattle.ownership_laws.specs.Passed.Calls.{Passing, entered}
+use Rattle.ownership_laws.specs.Passed.Run.{run, cut_of, cut_block, on_store}
+use Rattle.ownership_laws.specs.Passed.Points.{Each}
 use Rattle.ownership_laws.specs.Counts.{hit, count, held_in, lent_in, held_entry, lent_entry_of}
 use Rattle.ownership_laws.proofs.Counting.{by_names, name_same, hit_other, owned_block, fresh_unseen, unseen_none, held_without, none_counted, empty_found}
 use Rattle.ownership_laws.proofs.Environments.{held_at_most_one, released_held, lent_back_in, lent_most, lent_like, like_marked}

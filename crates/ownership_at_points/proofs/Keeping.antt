@@ -1,22 +1,22 @@
 -- A step that does no action keeps the words of its thread.
 use Rattle.std.specs.Prelude.{◌≡◌, ℕ, zero, suc, ◌+◌, ◌/◌, ◌≤◌, nat_lt, nat_le, Bool, true, false, List, [], ◌∷◌, length, slice_set, ℤ, pos, Result, Ok, Err, Option, Some, None, refl}
 use Rattle.std.proofs.Common.{sym, ap, arith, subst, length-set}
-use Rattle.dag_order.specs.declared.fault.FaultKind.{FaultKind}
-use Rattle.dummy_tree.specs.Shapes.{leaf, forked}
+use Rattle.ownership_laws.specs.Passed.FaultKindType.{FaultKind}
+use Rattle.ownership_laws.specs.Passed.Shapes.{leaf, forked}
 use Rattle.par_tree.specs.Tree.{Name, Expr, Target, unused, integer, block, Arg, value, lend, give, Param, Stmt, let_stmt, assign_stmt, put_stmt, alloc_stmt, free_stmt, if_stmt, while_stmt, call_stmt, print_stmt, par_stmt, split_stmt, Body, done, step, Func, Ret, RetValue, gives, hands}
 use Rattle.par_ownership.specs.Ownership.{Ownership, function_of, takes_answer, hands_back}
-use Rattle.depth_first_run.specs.Stores
-use Rattle.depth_first_run.specs.Stores.{Store, Held, block_of, block_words, held_words, stored_words, without, drop_block, hold_block}
-use Rattle.depth_first_run.specs.Values as values
-use Rattle.depth_first_run.specs.Values.{Outcome, is_true}
-use Rattle.depth_first_run.specs.States
-use Rattle.depth_first_run.specs.States.{Setting, State, with_item, with_action, with_fault, with_number, unless_faulted, skip_if, holdings}
-use Rattle.depth_first_run.specs.Calls.{Passing, all_passed, entered, Answer, number, items, lent_back, answered, end_call, returned, with_answer, with_return, as_number}
-use Rattle.depth_first_run.specs.Run.{cut_of, size_of, on_store, set_integer, put_in_place, put_number, put_value, print_number, free_block, cut_block, rejoin_block, ignore_answer}
-use Rattle.depth_first_run.specs.Middle
-use Rattle.depth_first_run.specs.Middle.{statements, tree, Frame, does, answers, rejoins, answers_main, allocates, awaits, joins, allocated, Middle, middle, step_with_number, step_alloc_within, step_alloc_words, step_alloc, before_all, step_branch, step_if, step_turn, step_round, step_while, step_body, step_open_call, step_call_with, step_call, step_par, step_cut, step_statement, step_first, step_frame}
-use Rattle.depth_first_run.proofs.Words.{both_words, PassesWords, passed_words, passes_same, answer_words, without_words, with_words, replaced_words}
-use Rattle.thread_points.specs.Points.{Each, IsPlain, IsAt, step_of}
+use Rattle.ownership_laws.specs.Passed.Stores
+use Rattle.ownership_laws.specs.Passed.Stores.{Store, Held, block_of, block_words, held_words, stored_words, without, drop_block, hold_block}
+use Rattle.ownership_laws.specs.Passed.Values as values
+use Rattle.ownership_laws.specs.Passed.Values.{Outcome, is_true}
+use Rattle.ownership_laws.specs.Passed.States
+use Rattle.ownership_laws.specs.Passed.States.{Setting, State, with_item, with_action, with_fault, with_number, unless_faulted, skip_if, holdings}
+use Rattle.ownership_laws.specs.Passed.Calls.{Passing, all_passed, entered, Answer, number, items, lent_back, answered, end_call, returned, with_answer, with_return, as_number}
+use Rattle.ownership_laws.specs.Passed.Run.{cut_of, size_of, on_store, set_integer, put_in_place, put_number, put_value, print_number, free_block, cut_block, rejoin_block, ignore_answer}
+use Rattle.ownership_laws.specs.Passed.Middle
+use Rattle.ownership_laws.specs.Passed.Middle.{statements, tree, Frame, does, answers, rejoins, answers_main, allocates, awaits, joins, allocated, Middle, middle, step_with_number, step_alloc_within, step_alloc_words, step_alloc, before_all, step_branch, step_if, step_turn, step_round, step_while, step_body, step_open_call, step_call_with, step_call, step_par, step_cut, step_statement, step_first, step_frame}
+use Rattle.ownership_laws.proofs.Passed.Words.{both_words, PassesWords, passed_words, passes_same, answer_words, without_words, with_words, replaced_words}
+use Rattle.ownership_laws.specs.Passed.Points.{Each, IsPlain, IsAt, step_of}
 use Rattle.ownership_laws.specs.Counts.{count}
 use Rattle.ownership_laws.proofs.Counting.{none_held}
 use Rattle.ownership_laws.proofs.Passing.{without_less}
@@ -25,6 +25,7 @@ use Rattle.ownership_at_points.specs.Holdings.{lent_under, handed_by, EndsCall, 
 use Rattle.ownership_at_points.proofs.Ending.{cut_is}
 use Rattle.ownership_at_points.proofs.Reading.{call_ends, main_end, split_end}
 use Rattle.ownership_at_points.proofs.Taking.{calls_take}
+use Rattle.ownership_laws.specs.Passed.Actions.{Deed as DeedOf}
 
 -- a step to m, which puts plain frames and does no action, keeps the words, and ends the work of its thread by no fault
 abbrev Keeps : State → Middle → Type 0
@@ -243,7 +244,7 @@ keeps_allocation : (b : Name) (n : ℕ) (s : State) → Keeps s (middle [] (allo
 unfolding with_action
 keeps_allocation b n s = keeps_acting s [] (allocated b n s) refl
 
-keeps_dummy : (s : State) (deed : Rattle.depth_first_list.specs.Actions.Deed) (words : ℕ) → Keeps s (middle [] (with_action deed words s))
+keeps_dummy : (s : State) (deed : DeedOf) (words : ℕ) → Keeps s (middle [] (with_action deed words s))
 unfolding with_action
 keeps_dummy s deed words = keeps_acting s [] (with_action deed words s) refl
 

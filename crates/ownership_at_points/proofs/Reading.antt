@@ -2,16 +2,16 @@
 use Rattle.std.specs.Prelude.{◌≡◌, ℕ, ◌+◌, ◌≤◌, Bool, true, false, List, [], ℤ, ◌∷◌, ◌++◌, length, replicate, pos, Option, Some, None, refl}
 use Rattle.std.specs.Str.{bytes_eq}
 use Rattle.std.proofs.Common.{inl, inr, sym, ◌∙◌, ap, arith, subst}
-use Rattle.depth_first_list.specs.Actions as actions
+use Rattle.ownership_laws.specs.Passed.Actions as actions
 use Rattle.par_tree.specs.Tree.{Name, Expr, Arg, Target, unused, integer, block, Stmt, let_stmt, assign_stmt, put_stmt, alloc_stmt, free_stmt, if_stmt, while_stmt, call_stmt, print_stmt, par_stmt, split_stmt, Body, step, Param, Ret, Func}
 use Rattle.par_tree.specs.Names.{names_in_expr, names_in_args, names_in_stmt, names_in_body}
 use Rattle.par_ownership.specs.Environment.{Environment, opened}
 use Rattle.par_ownership.specs.Ownership.{IsFresh, Owns, OwnsFunction, Ownership, function_of}
-use Rattle.depth_first_run.specs.Stores.{block_of, block_words}
-use Rattle.depth_first_run.specs.States.{Setting, State, with_action, with_result, joined, given_back}
-use Rattle.depth_first_run.specs.Run.{cut_of, cut_block, on_store, run}
-use Rattle.depth_first_run.specs.Middle.{Frame, does, statements, answers, rejoins, answers_main, allocates, awaits, joins, frame_done}
-use Rattle.thread_points.specs.Points.{Each, IsAt, marked}
+use Rattle.ownership_laws.specs.Passed.Stores.{block_of, block_words}
+use Rattle.ownership_laws.specs.Passed.States.{Setting, State, with_action, with_result, joined, given_back}
+use Rattle.ownership_laws.specs.Passed.Run.{cut_of, cut_block, on_store, run}
+use Rattle.ownership_laws.specs.Passed.Middle.{Frame, does, statements, answers, rejoins, answers_main, allocates, awaits, joins, frame_done}
+use Rattle.ownership_laws.specs.Passed.Points.{Each, IsAt, marked}
 use Rattle.ownership_laws.specs.Counts.{count, held_in, held_entry}
 use Rattle.ownership_laws.proofs.Counting.{same_name, hit_true, fresh_unseen, unseen_none, none_held, count_append, count_with, empty_found}
 use Rattle.ownership_laws.proofs.Environments.{held_at_most_one}

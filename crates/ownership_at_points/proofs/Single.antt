@@ -1,15 +1,15 @@
 -- A run that keeps the rules leaves of each name one block at most, where there was one at most.
 use Rattle.std.specs.Prelude.{◌≡◌, ℕ, ◌+◌, ◌≤◌, Bool, true, false, [], ◌⊎◌, refl}
 use Rattle.std.proofs.Common.{inl, inr, sym, ◌∙◌, ap, arith, subst}
-use Rattle.dummy_tree.specs.Shapes.{Shape}
+use Rattle.ownership_laws.specs.Passed.Shapes.{Shape}
 use Rattle.par_tree.specs.Tree.{Name, Body}
 use Rattle.par_tree.specs.Names.{names_in_body}
 use Rattle.par_ownership.specs.Environment.{Environment}
 use Rattle.par_ownership.specs.Ownership.{OwnsAll, OwnsFunctions}
-use Rattle.depth_first_run.specs.States.{Setting, State}
-use Rattle.depth_first_run.specs.Run.{run, run_tree}
-use Rattle.depth_first_run.proofs.Fixed.{run_fixed}
-use Rattle.thread_points.specs.Points.{Each}
+use Rattle.ownership_laws.specs.Passed.States.{Setting, State}
+use Rattle.ownership_laws.specs.Passed.Run.{run, run_tree}
+use Rattle.ownership_laws.proofs.Passed.Fixed.{run_fixed}
+use Rattle.ownership_laws.specs.Passed.Points.{Each}
 use Rattle.ownership_laws.specs.Counts.{hit, count, held_in}
 use Rattle.ownership_laws.proofs.Counting.{by_names, hit_same, hit_other, none_counted}
 use Rattle.ownership_laws.proofs.Environments.{held_at_most_one}

@@ -3,13 +3,13 @@ use Rattle.std.specs.Prelude.{◌≡◌, ℕ, suc, true, false, List, [], ◌∷
 use Rattle.std.proofs.Common.{sym, ◌∙◌, ap, arith, subst, append-nil}
 use Rattle.par_tree.specs.Tree.{done, step}
 use Rattle.par_ownership.specs.Ownership.{Ownership}
-use Rattle.depth_first_run.specs.States.{Setting, State, Item}
-use Rattle.depth_first_run.specs.Calls.{with_answer, returned}
-use Rattle.depth_first_run.specs.Run.{on_store, rejoin_block, ignore_answer}
-use Rattle.depth_first_run.specs.Middle.{statements, tree, Frame, does, answers, rejoins, answers_main, allocates, awaits, joins, Middle, middle, step_first}
-use Rattle.thread_points.specs.Points.{Each, IsPlain, IsAt, step_of}
-use Rattle.thread_points.specs.Threads.{IsThread}
-use Rattle.thread_points.proofs.Telling.{thread_steps, one_part_more}
+use Rattle.ownership_laws.specs.Passed.States.{Setting, State, Item}
+use Rattle.ownership_laws.specs.Passed.Calls.{with_answer, returned}
+use Rattle.ownership_laws.specs.Passed.Run.{on_store, rejoin_block, ignore_answer}
+use Rattle.ownership_laws.specs.Passed.Middle.{statements, tree, Frame, does, answers, rejoins, answers_main, allocates, awaits, joins, Middle, middle, step_first}
+use Rattle.ownership_laws.specs.Passed.Points.{Each, IsPlain, IsAt, step_of}
+use Rattle.ownership_laws.specs.Passed.Threads.{IsThread}
+use Rattle.ownership_laws.proofs.Passed.Telling.{thread_steps, one_part_more}
 use Rattle.ownership_laws.proofs.Moves.{unless_stopped}
 use Rattle.ownership_laws.proofs.Fitting.{not_both}
 use Rattle.ownership_at_points.specs.Holdings.{IsOfAllocation}

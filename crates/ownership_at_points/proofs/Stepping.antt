@@ -2,27 +2,27 @@
 use Rattle.std.specs.Prelude.{◌≡◌, ℕ, zero, suc, ◌+◌, ◌/◌, ◌≤◌, nat_lt, nat_le, Bool, true, false, not, List, [], ◌∷◌, ◌++◌, ◌⊎◌, length, Result, Ok, Err, Option, Some, None, ℤ, refl}
 use Rattle.std.specs.Str.{bytes_eq}
 use Rattle.std.proofs.Common.{sym, ◌∙◌, arith, subst}
-use Rattle.dag_order.specs.declared.fault.FaultKind.{FaultKind}
-use Rattle.dummy_tree.specs.Shapes.{Shape, leaf, forked}
-use Rattle.depth_first_list.specs.Actions.{record_words}
-use Rattle.depth_first_list.specs.Runs.{tree_for}
+use Rattle.ownership_laws.specs.Passed.FaultKindType.{FaultKind}
+use Rattle.ownership_laws.specs.Passed.Shapes.{Shape, leaf, forked}
+use Rattle.ownership_laws.specs.Passed.Actions.{record_words}
+use Rattle.ownership_laws.specs.Passed.Runs.{tree_for}
 use Rattle.par_tree.specs.Tree.{Name, Expr, Target, Arg, Stmt, let_stmt, assign_stmt, put_stmt, alloc_stmt, free_stmt, if_stmt, while_stmt, call_stmt, print_stmt, par_stmt, split_stmt, Body, done, step, Func}
 use Rattle.par_tree.specs.Names.{names_in_target, names_in_args, names_in_stmt, names_in_body}
 use Rattle.par_ownership.specs.Environment.{Environment, opened}
 use Rattle.par_ownership.specs.Ownership.{IsTarget, Owns, OwnsAll, OwnsFunction, OwnsFunctions, Ownership, Passes, function_of, main_name, begins, takes_nothing, hands_back}
-use Rattle.depth_first_run.specs.Stores
-use Rattle.depth_first_run.specs.Stores.{Store, block_of, block_words}
-use Rattle.depth_first_run.specs.Values as values
-use Rattle.depth_first_run.specs.Values.{Outcome, is_true}
-use Rattle.depth_first_run.specs.States
-use Rattle.depth_first_run.specs.States.{Setting, State, Item, with_item, with_action, child_of, parent_of, ended, own_part_then_join, fork_join}
-use Rattle.depth_first_run.specs.Calls.{Passing, all_passed, entered}
-use Rattle.depth_first_run.specs.Run.{cut_of, cut_block, on_store, size_of, names_in, no_name, run, run_tree, main_run, root_start}
-use Rattle.depth_first_run.specs.Middle
-use Rattle.depth_first_run.specs.Middle.{Part, statements, tree, Frame, does, answers, rejoins, answers_main, allocates, awaits, joins, part_done, frame_done, finish, Middle, middle, finished, step_with_number, step_alloc_within, step_alloc_words, step_alloc, before_all, step_branch, step_if, step_turn, step_round, step_while, step_body, step_open_call, step_call_with, step_call, step_par, step_cut, step_statement, step_first, step_frame, advance, run_start}
-use Rattle.depth_first_run.proofs.Stepping.{run_nothing, before_comes}
-use Rattle.thread_points.specs.Points.{after_steps, IsAt, step_of}
-use Rattle.thread_points.proofs.Putting.{frame_finishes, statement_finishes, statement_put, advance_put}
+use Rattle.ownership_laws.specs.Passed.Stores
+use Rattle.ownership_laws.specs.Passed.Stores.{Store, block_of, block_words}
+use Rattle.ownership_laws.specs.Passed.Values as values
+use Rattle.ownership_laws.specs.Passed.Values.{Outcome, is_true}
+use Rattle.ownership_laws.specs.Passed.States
+use Rattle.ownership_laws.specs.Passed.States.{Setting, State, Item, with_item, with_action, child_of, parent_of, ended, own_part_then_join, fork_join}
+use Rattle.ownership_laws.specs.Passed.Calls.{Passing, all_passed, entered}
+use Rattle.ownership_laws.specs.Passed.Run.{cut_of, cut_block, on_store, size_of, names_in, no_name, run, run_tree, main_run, root_start}
+use Rattle.ownership_laws.specs.Passed.Middle
+use Rattle.ownership_laws.specs.Passed.Middle.{Part, statements, tree, Frame, does, answers, rejoins, answers_main, allocates, awaits, joins, part_done, frame_done, finish, Middle, middle, finished, step_with_number, step_alloc_within, step_alloc_words, step_alloc, before_all, step_branch, step_if, step_turn, step_round, step_while, step_body, step_open_call, step_call_with, step_call, step_par, step_cut, step_statement, step_first, step_frame, advance, run_start}
+use Rattle.ownership_laws.proofs.Passed.Stepping.{run_nothing, before_comes}
+use Rattle.ownership_laws.specs.Passed.Points.{after_steps, IsAt, step_of}
+use Rattle.ownership_laws.proofs.Passed.Putting.{frame_finishes, statement_finishes, statement_put, advance_put}
 use Rattle.ownership_laws.specs.Counts.{hit, count, held_in, held_entry}
 use Rattle.ownership_laws.proofs.Counting.{hit_other, none_counted, count_parted, empty_found}
 use Rattle.ownership_laws.proofs.Moves.{tree_went}

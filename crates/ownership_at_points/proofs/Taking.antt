@@ -1,22 +1,22 @@
 -- The target of each open call takes what its function hands back.
 use Rattle.std.specs.Prelude.{◌≡◌, ℕ, zero, suc, nat_lt, nat_le, Bool, true, false, List, [], ◌∷◌, length, ℤ, Result, Ok, Err, Option, Some, None, refl}
 use Rattle.std.proofs.Common.{sym, subst}
-use Rattle.dag_order.specs.declared.fault.FaultKind.{FaultKind}
-use Rattle.dummy_tree.specs.Shapes.{leaf, forked}
+use Rattle.ownership_laws.specs.Passed.FaultKindType.{FaultKind}
+use Rattle.ownership_laws.specs.Passed.Shapes.{leaf, forked}
 use Rattle.par_tree.specs.Tree.{Name, Expr, Target, Arg, Param, Stmt, let_stmt, assign_stmt, put_stmt, alloc_stmt, free_stmt, if_stmt, while_stmt, call_stmt, print_stmt, par_stmt, split_stmt, Body, done, step, Func, Ret}
 use Rattle.par_ownership.specs.Environment.{Environment}
 use Rattle.par_ownership.specs.Ownership.{Owns, Ownership, function_of, main_name, takes_answer, hands_back}
-use Rattle.depth_first_run.specs.Stores.{block_of, block_words}
-use Rattle.depth_first_run.specs.Values.{Outcome, value, is_true}
-use Rattle.depth_first_run.specs.States
-use Rattle.depth_first_run.specs.States.{Setting, State, with_item}
-use Rattle.depth_first_run.specs.Calls.{Passing, all_passed}
-use Rattle.depth_first_run.specs.Run.{cut_of, size_of}
-use Rattle.depth_first_run.specs.Middle
-use Rattle.depth_first_run.specs.Middle.{statements, tree, Frame, does, answers, rejoins, answers_main, allocates, awaits, joins, Middle, middle, step_with_number, step_alloc_within, step_alloc_words, step_alloc, before_all, step_branch, step_if, step_turn, step_round, step_while, step_body, step_open_call, step_call_with, step_call, step_par, step_cut, step_statement, step_first, step_frame, advance, run_start}
-use Rattle.thread_points.specs.Points.{after_steps, Each, IsAt, step_of}
-use Rattle.thread_points.proofs.Putting.{advance_put}
-use Rattle.thread_points.proofs.Walking.{each_append}
+use Rattle.ownership_laws.specs.Passed.Stores.{block_of, block_words}
+use Rattle.ownership_laws.specs.Passed.Values.{Outcome, value, is_true}
+use Rattle.ownership_laws.specs.Passed.States
+use Rattle.ownership_laws.specs.Passed.States.{Setting, State, with_item}
+use Rattle.ownership_laws.specs.Passed.Calls.{Passing, all_passed}
+use Rattle.ownership_laws.specs.Passed.Run.{cut_of, size_of}
+use Rattle.ownership_laws.specs.Passed.Middle
+use Rattle.ownership_laws.specs.Passed.Middle.{statements, tree, Frame, does, answers, rejoins, answers_main, allocates, awaits, joins, Middle, middle, step_with_number, step_alloc_within, step_alloc_words, step_alloc, before_all, step_branch, step_if, step_turn, step_round, step_while, step_body, step_open_call, step_call_with, step_call, step_par, step_cut, step_statement, step_first, step_frame, advance, run_start}
+use Rattle.ownership_laws.specs.Passed.Points.{after_steps, Each, IsAt, step_of}
+use Rattle.ownership_laws.proofs.Passed.Putting.{advance_put}
+use Rattle.ownership_laws.proofs.Passed.Walking.{each_append}
 use Rattle.ownership_laws.proofs.Fitting.{keeps_at}
 use Rattle.ownership_at_points.proofs.Reading.{same_function}
 

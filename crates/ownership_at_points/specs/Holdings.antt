@@ -2,9 +2,9 @@
 use Rattle.std.specs.Prelude.{◌≡◌, ℕ, ◌+◌, ◌*◌, ◌≤◌, Bool, false, ◌||◌, List, [], ◌∷◌, length, Option, Some, None}
 use Rattle.std.specs.Str.{bytes_eq}
 use Rattle.par_tree.specs.Tree.{Name, Arg, value, lend, give, Target, unused, integer, block, Stmt, let_stmt, assign_stmt, put_stmt, alloc_stmt, free_stmt, if_stmt, while_stmt, call_stmt, print_stmt, par_stmt, split_stmt, Param, Ret, RetValue, gives, hands}
-use Rattle.depth_first_run.specs.Stores.{Store, block_of}
-use Rattle.depth_first_run.specs.States.{State}
-use Rattle.depth_first_run.specs.Middle.{Frame, does, statements, tree, answers, rejoins, answers_main, allocates, awaits, joins}
+use Rattle.ownership_laws.specs.Passed.Stores.{Store, block_of}
+use Rattle.ownership_laws.specs.Passed.States.{State}
+use Rattle.ownership_laws.specs.Passed.Middle.{Frame, does, statements, tree, answers, rejoins, answers_main, allocates, awaits, joins}
 use Rattle.ownership_laws.specs.Counts.{hit, count}
 
 -- of each name at most one block

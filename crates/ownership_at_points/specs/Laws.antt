@@ -3,12 +3,12 @@ use Rattle.std.specs.Prelude.{◌≡◌, ℕ, ◌+◌, ◌≤◌, Bool, true, fa
 use Rattle.std.specs.Str.{bytes_eq}
 use Rattle.par_tree.specs.Tree.{Name, Expr, Arg, Target, Stmt, call_stmt, split_stmt, Body, step, Param, Ret, Func}
 use Rattle.par_ownership.specs.Ownership.{Ownership, function_of, takes_answer, hands_back}
-use Rattle.depth_first_run.specs.Stores.{block_of, block_words}
-use Rattle.depth_first_run.specs.States.{Setting, State, Item, holdings}
-use Rattle.depth_first_run.specs.Run.{cut_of, cut_block, on_store, run}
-use Rattle.depth_first_run.specs.Middle.{Frame, does, statements, answers, rejoins, answers_main, joins}
-use Rattle.thread_points.specs.Points.{Each, IsPlain, IsAt, step_of, marked}
-use Rattle.thread_points.specs.Threads.{IsThread}
+use Rattle.ownership_laws.specs.Passed.Stores.{block_of, block_words}
+use Rattle.ownership_laws.specs.Passed.States.{Setting, State, Item, holdings}
+use Rattle.ownership_laws.specs.Passed.Run.{cut_of, cut_block, on_store, run}
+use Rattle.ownership_laws.specs.Passed.Middle.{Frame, does, statements, answers, rejoins, answers_main, joins}
+use Rattle.ownership_laws.specs.Passed.Points.{Each, IsPlain, IsAt, step_of, marked}
+use Rattle.ownership_laws.specs.Passed.Threads.{IsThread}
 use Rattle.ownership_laws.specs.Counts.{count}
 use Rattle.ownership_at_points.specs.Holdings.{OneEach, taken_under, puts_block, frame_puts, IsOfAllocation, EndsCall, EndsSplit}
 

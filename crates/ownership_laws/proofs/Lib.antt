@@ -9,3 +9,4 @@ pub mod Calling
 pub mod Owned
 pub mod Needed
 pub mod Fitting
+pub mod Passed

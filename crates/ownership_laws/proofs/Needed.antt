@@ -6,7 +6,7 @@ use Rattle.par_tree.specs.Tree.{Name, Program, Expr, num, var, get, len_of, neg,
 use Rattle.par_ownership.specs.Environment.{Environment}
 use Rattle.par_tree.specs.Names.{names_in_expr, names_in_links, names_in_args, names_in_target, names_in_stmt, names_in_body}
 use Rattle.par_ownership.specs.Ownership.{Reads, ReadsLinks, PassesOne, Passes, Owns}
-use Rattle.depth_first_run.specs.States.{State}
+use Rattle.thread_points.specs.Passed.States.{State}
 use Rattle.ownership_laws.specs.Counts.{count, held_in}
 use Rattle.ownership_laws.specs.Needs.{reads_block, reads_links, needed_by_args, needs_block}
 use Rattle.ownership_laws.proofs.Counting.{same_name, held_block, owned_block}

@@ -3,7 +3,7 @@ use Rattle.std.specs.Prelude.{ℕ, ◌+◌, Bool, true, false, ◌&&◌, if◌th
 use Rattle.std.specs.Str.{bytes_eq}
 use Rattle.par_tree.specs.Tree.{Name}
 use Rattle.par_ownership.specs.Environment.{Kind, integer, own, lent, is_block, Entry, Environment}
-use Rattle.depth_first_run.specs.Stores.{Held}
+use Rattle.thread_points.specs.Passed.Stores.{Held}
 
 -- 1 where it holds
 abbrev pub one_if : Bool → ℕ

@@ -1,3 +1,4 @@
 pub mod Counts
 pub mod Needs
 pub mod Laws
+pub mod Passed

@@ -3,3 +3,4 @@ pub mod Ownership
 pub mod Walk
 pub mod Accepted
 pub mod Laws
+pub mod Passed

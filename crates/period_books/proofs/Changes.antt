@@ -2,8 +2,8 @@
 use Rattle.std.proofs.Common.{◌≡◌, ℕ, zero, suc, ◌+◌, ◌<◌, ◌⊎◌, ◌≢◌, List, [], ◌∷◌, ◌++◌, length, inl, inr, refl, sym, ap, subst, ◌∙◌, arith, append-nil, append_assoc, true≢false}
 use Rattle.std.specs.Prelude.{None}
 use Rattle.std.proofs.lemmas.Option.{none-some}
-use Rattle.dag_order.specs.declared.thread_id.ThreadId.{ThreadId}
-use Rattle.dag_order.specs.declared.action_id.ActionId.{ActionId}
+use Rattle.lawful_books.specs.Passed.ThreadIdType.{ThreadId}
+use Rattle.lawful_books.specs.Passed.ActionIdType.{ActionId}
 use Rattle.lawful_books.specs.Passed.Actions.{Action}
 use Rattle.lawful_books.specs.Passed.Facts.{deed_at}
 use Rattle.lawful_books.specs.Books.{Book, charged, charge_at, book_of}

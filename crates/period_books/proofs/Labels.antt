@@ -5,11 +5,11 @@ use Rattle.std.specs.Option.{option_and_then}
 use Rattle.std.proofs.lemmas.Bool.{cases_eq}
 use Rattle.std.proofs.lemmas.List.{reverse-append}
 use Rattle.std.proofs.lemmas.Option.{same_Some, slice_get-map}
-use Rattle.dag_order.specs.declared.thread_id.ThreadId.{ThreadId}
-use Rattle.dag_order.specs.declared.birth.Birth.{Birth}
-use Rattle.dag_order.specs.LabelOrder.{fork_of}
-use Rattle.dag_order.specs.Births.{root, birth_of, birth_in, Leads}
-use Rattle.dag_order.specs.Births as births
+use Rattle.lawful_books.specs.Passed.ThreadIdType.{ThreadId}
+use Rattle.lawful_books.specs.Passed.BirthType.{Birth}
+use Rattle.lawful_books.specs.Passed.LabelOrder.{fork_of}
+use Rattle.lawful_books.specs.Passed.Births.{root, birth_of, birth_in, Leads}
+use Rattle.lawful_books.specs.Passed.Births as births
 use Rattle.lawful_books.specs.Passed.Actions.{Action}
 use Rattle.lawful_books.specs.Lists.{Among}
 use Rattle.lawful_books.proofs.Lists.{each_among}

@@ -1,10 +1,10 @@
 -- What a caller may use of periods and the books that they are.
 use Rattle.std.specs.Prelude.{◌≡◌, ℕ, suc, ◌+◌, None, Some, List, [], ◌∷◌, ◌++◌, length, map}
-use Rattle.dag_order.specs.declared.thread_id.ThreadId.{ThreadId}
-use Rattle.dag_order.specs.declared.action_id.ActionId.{ActionId}
-use Rattle.dag_order.specs.declared.birth.Birth.{Birth}
-use Rattle.dag_order.specs.LabelOrder.{fork_of}
-use Rattle.dag_order.specs.Births as births
+use Rattle.lawful_books.specs.Passed.ThreadIdType.{ThreadId}
+use Rattle.lawful_books.specs.Passed.ActionIdType.{ActionId}
+use Rattle.lawful_books.specs.Passed.BirthType.{Birth}
+use Rattle.lawful_books.specs.Passed.LabelOrder.{fork_of}
+use Rattle.lawful_books.specs.Passed.Births as births
 use Rattle.lawful_books.specs.Passed.Actions.{Action}
 use Rattle.lawful_books.specs.Passed.Facts.{deed_at}
 use Rattle.lawful_books.specs.Lists.{Among}

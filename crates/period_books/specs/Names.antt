@@ -1,10 +1,10 @@
 -- The labels of threads by the births that stand in periods, and the places of actions by their names.
 use Rattle.std.specs.Prelude.{◌≡◌, ℕ, ◌<◌, Some, List, [], ◌∷◌, ◌++◌, length, slice_get}
-use Rattle.dag_order.specs.declared.thread_id.ThreadId.{ThreadId}
-use Rattle.dag_order.specs.declared.action_id.ActionId.{ActionId}
-use Rattle.dag_order.specs.declared.birth.Birth.{Birth}
-use Rattle.dag_order.specs.Births.{root}
-use Rattle.dag_order.specs.LabelOrder.{fork_of}
+use Rattle.lawful_books.specs.Passed.ThreadIdType.{ThreadId}
+use Rattle.lawful_books.specs.Passed.ActionIdType.{ActionId}
+use Rattle.lawful_books.specs.Passed.BirthType.{Birth}
+use Rattle.lawful_books.specs.Passed.Births.{root}
+use Rattle.lawful_books.specs.Passed.LabelOrder.{fork_of}
 use Rattle.lawful_books.specs.Passed.Actions.{Deed, forks, joins, allocates, releases, dummy, faults, ends, Action}
 use Rattle.lawful_books.specs.Passed.Facts.{label_at, index_at, deed_at}
 use Rattle.lawful_books.specs.Lists.{Among}

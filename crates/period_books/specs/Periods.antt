@@ -1,8 +1,8 @@
 -- The periods that the parts of a scheduler keep, in any order.
 use Rattle.std.specs.Prelude.{◌≡◌, ◌≢◌, ℕ, suc, ◌⊎◌, Bool, Option, None, Some, List, slice_get}
-use Rattle.bounded_list.specs.BoundedList.{entries}
-use Rattle.dag_order.specs.declared.action_id.ActionId.{ActionId}
-use Rattle.dag_order.specs.declared.birth.Birth.{Birth}
+use Rattle.quota_period.specs.Passed.BoundedList.{entries}
+use Rattle.lawful_books.specs.Passed.ActionIdType.{ActionId}
+use Rattle.lawful_books.specs.Passed.BirthType.{Birth}
 use Rattle.quota_period.specs.Passed.ClosedType.{Closed}
 use Rattle.quota_period.specs.declared.period.Period.{Period as OpenPeriod}
 use Rattle.lawful_books.specs.Lists.{Among, Each}

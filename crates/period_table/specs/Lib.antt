@@ -1,3 +1,4 @@
 pub mod Numbers
 pub mod Tables
 pub mod Laws
+pub mod Passed

@@ -1,5 +1,5 @@
 ghost use Rattle.std.specs.Prelude.{◌≡◌, ◌≢◌, ◌+◌, ◌≤◌, [], IfOk};
-ghost use Rattle.language_limits.specs.declared.TheConstants.{GREATEST_QUOTA, LEAST_QUOTA};
+ghost use Rattle.dummy_tree.specs.Passed.DeclaredConstants.{GREATEST_QUOTA, LEAST_QUOTA};
 ghost use Rattle.bounded_list.specs.BoundedList.{entries, spare};
 ghost use Rattle.dummy_tree.specs.QuotaWords.{quota_words};
 ghost use Rattle.quota_period.specs.Charges.{IsCharge};

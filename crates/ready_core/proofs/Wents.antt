@@ -22,9 +22,9 @@ use Rattle.deque_machine.specs.Runs.{Pair, place_of, is_move, moves}
 use Rattle.deque_machine.specs.Terms.{Terms, machine_of}
 use Rattle.moment_parts.specs.Parts as parts
 use Rattle.moment_parts.specs.Cuts as cuts
-use Rattle.step_laws.specs.Standing.{StandsAt}
-use Rattle.step_laws.proofs.Going.{moves_go_on}
-use Rattle.step_laws.proofs.Ready.{ids_are_shown}
+use Rattle.ready_law.specs.Passed.Standing.{StandsAt}
+use Rattle.ready_law.proofs.Passed.Going.{moves_go_on}
+use Rattle.ready_law.proofs.Passed.Ready.{ids_are_shown}
 use Rattle.thread_frames.specs.declared.thread.Thread.{Thread}
 use Rattle.thread_frames.specs.Shown.{thread_shown}
 use Rattle.core_parts.specs.declared.event.Event.{Event}

@@ -5,23 +5,23 @@ use Rattle.dag_order.specs.Births.{root}
 use Rattle.depth_first_list.specs.Actions.{ends}
 use Rattle.depth_first_list.specs.Runs.{IsDepthFirst}
 use Rattle.depth_first_list.specs.Facts.{label_at, deed_at, words_at}
-use Rattle.lawful_books.specs.Lists.{times}
-use Rattle.lawful_books.specs.Books.{booked, done_in}
-use Rattle.lawful_books.proofs.Lists.{one_cases, cons_is_not_nil, middle_is_not_nil}
-use Rattle.lawful_books.proofs.Keeping.{done_more, ended_has_all}
-use Rattle.deque_machine.specs.Moments.{Moment, done_at}
-use Rattle.deque_machine.specs.Machine.{Setting, Event, steals, does, suspends, gives_up, May, HasEnded, books_with}
-use Rattle.deque_machine.specs.LawfulOrder.{IsLawful}
-use Rattle.deque_machine.specs.Runs.{place_of}
-use Rattle.deque_machine.proofs.KeptOrder.{own_dummy}
-use Rattle.deque_machine.proofs.LiveThreads.{join_is_no_end}
-use Rattle.deque_machine.proofs.OneAction.{end_is_no_fork}
-use Rattle.period_books.specs.Periods.{Period}
-use Rattle.period_books.specs.Names.{HasLabel, of_root, of_fork}
-use Rattle.moment_parts.specs.Parts.{Result, Parts, IsKept}
-use Rattle.moment_parts.specs.Standing.{Shows}
-use Rattle.moment_parts.specs.Events.{Works, IsNextOf, MayDo, IsLeftBy, Does, does_alone, runs_dummy, joins_newest, forks_child, ends_above, ends_and_wakes, ends_and_leaves}
-use Rattle.moment_parts.proofs.Placing.{top_stands}
+use Rattle.deque_events.specs.Passed.Lists.{times}
+use Rattle.deque_events.specs.Passed.Books.{booked, done_in}
+use Rattle.deque_events.proofs.Passed.Lists.{one_cases, cons_is_not_nil, middle_is_not_nil}
+use Rattle.deque_events.proofs.Passed.Keeping.{done_more, ended_has_all}
+use Rattle.victim_choice.specs.Passed.Moments.{Moment, done_at}
+use Rattle.victim_choice.specs.Passed.Machine.{Setting, Event, steals, does, suspends, gives_up, May, HasEnded, books_with}
+use Rattle.victim_choice.specs.Passed.LawfulOrder.{IsLawful}
+use Rattle.victim_choice.specs.Passed.Runs.{place_of}
+use Rattle.victim_choice.proofs.Passed.KeptOrder.{own_dummy}
+use Rattle.victim_choice.proofs.Passed.LiveThreads.{join_is_no_end}
+use Rattle.victim_choice.proofs.Passed.OneAction.{end_is_no_fork}
+use Rattle.deque_events.specs.Passed.Periods.{Period}
+use Rattle.deque_events.specs.Passed.Names.{HasLabel, of_root, of_fork}
+use Rattle.deque_events.specs.Passed.Parts.{Result, Parts, IsKept}
+use Rattle.deque_events.specs.Passed.Standing.{Shows}
+use Rattle.deque_events.specs.Passed.Events.{Works, IsNextOf, MayDo, IsLeftBy, Does, does_alone, runs_dummy, joins_newest, forks_child, ends_above, ends_and_wakes, ends_and_leaves}
+use Rattle.deque_events.proofs.Passed.Placing.{top_stands}
 use Rattle.step_laws.specs.Results.{RootEndsOnce, RootLeavesItsResult, OthersEndNothing}
 use Rattle.step_laws.proofs.Told.{Acted, Quiet, Waited, tells}
 

@@ -5,9 +5,9 @@ use Rattle.std.proofs.lemmas.List.{map-append}
 use Rattle.std.proofs.lemmas.List.Elements.{filter-append}
 use Rattle.depth_first_list.specs.Actions.{Action}
 use Rattle.depth_first_list.specs.Facts.{action_at}
-use Rattle.deque_machine.specs.Moments.{Moment, opening}
-use Rattle.deque_machine.specs.Machine.{Setting, Event, May}
-use Rattle.deque_machine.specs.Runs.{Pair, Reaches, place_of, places_of, is_move, moves}
+use Rattle.victim_choice.specs.Passed.Moments.{Moment, opening}
+use Rattle.victim_choice.specs.Passed.Machine.{Setting, Event, May}
+use Rattle.victim_choice.specs.Passed.Runs.{Pair, Reaches, place_of, places_of, is_move, moves}
 use Rattle.step_laws.specs.Steps.{RunsGoOn, MovesGoOn}
 
 goes_on : (s : Setting) (run : List Pair) (first m after : Moment) (worker : ℕ) (event : Event) → Reaches s first run m → May s m worker event after

@@ -2,15 +2,15 @@
 use Rattle.std.proofs.Common.{◌≡◌, ℕ, List, [], ◌∷◌, ◌++◌, refl, sym, ◌∙◌, append-nil}
 use Rattle.dag_order.specs.declared.thread_id.ThreadId.{ThreadId}
 use Rattle.depth_first_list.specs.Actions.{Action}
-use Rattle.lawful_books.specs.Books.{Book}
-use Rattle.space_ledger.specs.declared.moved.Moved.{Moved}
-use Rattle.period_books.specs.Periods.{Period}
-use Rattle.period_books.specs.Names.{HasLabel}
-use Rattle.period_books.specs.Telling.{Tell}
-use Rattle.period_books.proofs.Labels.{labels_stay, labels_stay_at_a_beginning}
-use Rattle.moment_parts.specs.Parts.{Parts}
-use Rattle.moment_parts.specs.Events as events
-use Rattle.moment_parts.specs.Events.{Does, does_alone, runs_dummy, joins_newest, forks_child, ends_above, ends_and_wakes, ends_and_leaves, GivesUp, Suspends, Steals}
+use Rattle.deque_events.specs.Passed.Books.{Book}
+use Rattle.deque_events.specs.Passed.MovedType.{Moved}
+use Rattle.deque_events.specs.Passed.Periods.{Period}
+use Rattle.deque_events.specs.Passed.Names.{HasLabel}
+use Rattle.deque_events.specs.Passed.Telling.{Tell}
+use Rattle.deque_events.proofs.Passed.Labels.{labels_stay, labels_stay_at_a_beginning}
+use Rattle.deque_events.specs.Passed.Parts.{Parts}
+use Rattle.deque_events.specs.Passed.Events as events
+use Rattle.deque_events.specs.Passed.Events.{Does, does_alone, runs_dummy, joins_newest, forks_child, ends_above, ends_and_wakes, ends_and_leaves, GivesUp, Suspends, Steals}
 use Rattle.step_laws.specs.Moves.{AreMovesOf}
 
 -- moves keep their names where labels stay

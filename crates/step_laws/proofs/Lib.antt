@@ -7,3 +7,4 @@ pub mod Labels
 pub mod Standing
 pub mod Parents
 pub mod Ready
+pub mod Passed

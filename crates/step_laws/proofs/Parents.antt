@@ -6,21 +6,21 @@ use Rattle.dag_order.specs.LabelOrder.{fork_of}
 use Rattle.depth_first_list.specs.Actions.{joins, ends}
 use Rattle.depth_first_list.specs.Facts.{label_at, deed_at, IsLive}
 use Rattle.depth_first_list.specs.Runs.{IsDepthFirst}
-use Rattle.lawful_books.specs.Lists.{Among, Each}
-use Rattle.lawful_books.proofs.Lists.{each_at, each_among, each_map, among_here}
-use Rattle.deque_machine.specs.Moments as machine
-use Rattle.deque_machine.specs.Moments.{Moment, done_at, threads_in}
-use Rattle.deque_machine.specs.Machine.{Setting}
-use Rattle.deque_machine.specs.LawfulOrder.{IsLawful, Stacked}
-use Rattle.deque_machine.proofs.LiveThreads.{fork_is_done}
-use Rattle.deque_machine.proofs.Shapes.{in_threads}
-use Rattle.period_books.proofs.Labels.{one_label}
-use Rattle.period_books.specs.Names.{HasLabel}
-use Rattle.moment_parts.specs.Parts.{Child, Thread, Parts, IsIn, deque_shown, label_of}
-use Rattle.moment_parts.specs.Standing.{Shows, EndedIn, ChildStands, ThreadStands}
-use Rattle.moment_parts.specs.Events.{Works, IsNextOf}
-use Rattle.moment_parts.proofs.Shown.{deques_shown}
-use Rattle.moment_parts.proofs.Placing.{closed, top_is_in, top_stands, under_is_in, next_at_top}
+use Rattle.deque_events.specs.Passed.Lists.{Among, Each}
+use Rattle.deque_events.proofs.Passed.Lists.{each_at, each_among, each_map, among_here}
+use Rattle.victim_choice.specs.Passed.Moments as machine
+use Rattle.victim_choice.specs.Passed.Moments.{Moment, done_at, threads_in}
+use Rattle.victim_choice.specs.Passed.Machine.{Setting}
+use Rattle.victim_choice.specs.Passed.LawfulOrder.{IsLawful, Stacked}
+use Rattle.victim_choice.proofs.Passed.LiveThreads.{fork_is_done}
+use Rattle.victim_choice.proofs.Passed.Shapes.{in_threads}
+use Rattle.deque_events.proofs.Passed.Labels.{one_label}
+use Rattle.deque_events.specs.Passed.Names.{HasLabel}
+use Rattle.deque_events.specs.Passed.Parts.{Child, Thread, Parts, IsIn, deque_shown, label_of}
+use Rattle.deque_events.specs.Passed.Standing.{Shows, EndedIn, ChildStands, ThreadStands}
+use Rattle.deque_events.specs.Passed.Events.{Works, IsNextOf}
+use Rattle.deque_events.proofs.Passed.Shown.{deques_shown}
+use Rattle.deque_events.proofs.Passed.Placing.{closed, top_is_in, top_stands, under_is_in, next_at_top}
 use Rattle.step_laws.specs.Results.{IsChildOf, ParentsAwait}
 
 module _ (s : Setting) (run : IsDepthFirst s.quota s.list) (m : Moment) (parts : Parts) (worker place : ℕ) (o : Works parts worker) (parent : Thread) (below : List Thread)

@@ -3,18 +3,18 @@ use Rattle.std.proofs.Common.{◌≡◌, ◌≢◌, ℕ, zero, suc, ◌≤◌, �
 use Rattle.std.specs.Prelude.{Option, None, Some, is_some, slice_get, min}
 use Rattle.std.proofs.lemmas.List.{length-map}
 use Rattle.std.proofs.lemmas.Option.{same_Some}
-use Rattle.deque_list.specs.declared.deque_id.DequeId.{DequeId}
-use Rattle.deque_list.specs.Ids.{IsLive, deque_id}
-use Rattle.deque_list.specs.Deques as lists
-use Rattle.deque_list.specs.Deques.{deque_ids}
-use Rattle.deque_list.proofs.DequeLaws.{mapped_at, same_id}
-use Rattle.lawful_books.specs.Lists.{Each}
-use Rattle.lawful_books.proofs.Lists.{one_same, one_cases}
-use Rattle.deque_machine.specs.Moments as machine
-use Rattle.deque_machine.specs.Moments.{Moment, owned_by, with_id, one_if_worker}
-use Rattle.deque_machine.specs.Play.{IsFirst, IsReady, reach}
+use Rattle.victim_choice.specs.Passed.DequeIdType.{DequeId}
+use Rattle.victim_choice.specs.Passed.Ids.{IsLive, deque_id}
+use Rattle.victim_choice.specs.Passed.Deques as lists
+use Rattle.victim_choice.specs.Passed.Deques.{deque_ids}
+use Rattle.victim_choice.proofs.Passed.DequeLaws.{mapped_at, same_id}
+use Rattle.deque_events.specs.Passed.Lists.{Each}
+use Rattle.deque_events.proofs.Passed.Lists.{one_same, one_cases}
+use Rattle.victim_choice.specs.Passed.Moments as machine
+use Rattle.victim_choice.specs.Passed.Moments.{Moment, owned_by, with_id, one_if_worker}
+use Rattle.victim_choice.specs.Passed.Play.{IsFirst, IsReady, reach}
 use Rattle.victim_choice.specs.Choices.{IsReadyAt, reach_of}
-use Rattle.moment_parts.specs.Parts as parts
+use Rattle.deque_events.specs.Passed.Parts as parts
 use Rattle.deque_events.specs.Shown.{deque_shown}
 use Rattle.step_laws.specs.Readiness.{AreDeques, ReadyIsShown, FirstIsShown, SomeReadyIsShown, IdsAreShown, OwnersAreShown}
 

@@ -5,13 +5,13 @@ use Rattle.std.specs.List.Sorted.{IsPermutation}
 use Rattle.std.proofs.lemmas.List.Sums.{sum_by-cons}
 use Rattle.std.proofs.lemmas.List.Sorted.{IsPermutation-sym, Contains-permutation, sum_by-IsPermutation}
 use Rattle.depth_first_list.specs.Actions.{Action}
-use Rattle.lawful_books.specs.Lists.{Among, Differ, total}
-use Rattle.lawful_books.proofs.Lists.{each_from, each_among, each_map}
-use Rattle.deque_machine.specs.Moments.{Waiting, done_at}
-use Rattle.deque_machine.proofs.Progress.{same_label}
+use Rattle.deque_events.specs.Passed.Lists.{Among, Differ, total}
+use Rattle.deque_events.proofs.Passed.Lists.{each_from, each_among, each_map}
+use Rattle.victim_choice.specs.Passed.Moments.{Waiting, done_at}
+use Rattle.victim_choice.proofs.Passed.Progress.{same_label}
 use Rattle.dag_order.specs.declared.thread_id.ThreadId.{ThreadId}
-use Rattle.moment_parts.specs.Parts.{Child, Thread, Result, IsIn, label_of, thread_words, result_words, words_of}
-use Rattle.moment_parts.specs.Standing.{ChildStands, ThreadStands, ResultStands, IsWaiting, result_label}
+use Rattle.deque_events.specs.Passed.Parts.{Child, Thread, Result, IsIn, label_of, thread_words, result_words, words_of}
+use Rattle.deque_events.specs.Passed.Standing.{ChildStands, ThreadStands, ResultStands, IsWaiting, result_label}
 use Rattle.step_laws.specs.Orders.{OrderIsOfNoAccount}
 
 module _ {X : Type 0} where

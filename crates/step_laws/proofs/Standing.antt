@@ -10,27 +10,27 @@ use Rattle.dag_order.specs.LabelOrder.{fork_of}
 use Rattle.depth_first_list.specs.Actions.{Action}
 use Rattle.depth_first_list.specs.Facts.{action_at, label_at, weight_at}
 use Rattle.depth_first_list.specs.Runs.{IsDepthFirst}
-use Rattle.lawful_books.specs.Lists.{Among, Each}
-use Rattle.lawful_books.specs.Books.{Book}
-use Rattle.lawful_books.proofs.Lists.{each_at, among_middle, middle_is_not_nil}
-use Rattle.deque_machine.specs.Moments.{Moment, opening, done_at}
-use Rattle.deque_machine.specs.Machine.{Setting, Event, steals, does, suspends, gives_up, HasEnded}
-use Rattle.deque_machine.specs.LawfulOrder.{IsLawful}
-use Rattle.deque_machine.specs.Runs.{place_of, is_move}
-use Rattle.deque_machine.proofs.Kept.{kept, opening_is_lawful}
-use Rattle.space_ledger.specs.declared.moved.Moved.{Moved}
-use Rattle.period_books.specs.Periods.{Period}
-use Rattle.period_books.specs.Names.{HasLabel, IsNamed, of_root}
-use Rattle.period_books.specs.Telling.{Tell}
-use Rattle.period_books.proofs.Labels.{one_label}
-use Rattle.moment_parts.specs.Parts.{Parts, Result, IsKept}
-use Rattle.moment_parts.specs.Standing.{Shows, ChildStands}
-use Rattle.moment_parts.specs.Laws.{Comes}
-use Rattle.moment_parts.specs.Events.{Does, Steals, HandsOver, hands_over}
-use Rattle.moment_parts.proofs.Acting.{actions_are_events}
-use Rattle.moment_parts.proofs.Moving.{give_ups_are_events, waits_are_events, thefts_are_events}
-use Rattle.moment_parts.proofs.Handing.{handing_over_is_no_event, root_is_the_opening}
-use Rattle.moment_parts.proofs.Placing.{top_stands}
+use Rattle.deque_events.specs.Passed.Lists.{Among, Each}
+use Rattle.deque_events.specs.Passed.Books.{Book}
+use Rattle.deque_events.proofs.Passed.Lists.{each_at, among_middle, middle_is_not_nil}
+use Rattle.victim_choice.specs.Passed.Moments.{Moment, opening, done_at}
+use Rattle.victim_choice.specs.Passed.Machine.{Setting, Event, steals, does, suspends, gives_up, HasEnded}
+use Rattle.victim_choice.specs.Passed.LawfulOrder.{IsLawful}
+use Rattle.victim_choice.specs.Passed.Runs.{place_of, is_move}
+use Rattle.victim_choice.proofs.Passed.Kept.{kept, opening_is_lawful}
+use Rattle.deque_events.specs.Passed.MovedType.{Moved}
+use Rattle.deque_events.specs.Passed.Periods.{Period}
+use Rattle.deque_events.specs.Passed.Names.{HasLabel, IsNamed, of_root}
+use Rattle.deque_events.specs.Passed.Telling.{Tell}
+use Rattle.deque_events.proofs.Passed.Labels.{one_label}
+use Rattle.deque_events.specs.Passed.Parts.{Parts, Result, IsKept}
+use Rattle.deque_events.specs.Passed.Standing.{Shows, ChildStands}
+use Rattle.deque_events.specs.Passed.Laws.{Comes}
+use Rattle.deque_events.specs.Passed.Events.{Does, Steals, HandsOver, hands_over}
+use Rattle.deque_events.proofs.Passed.Acting.{actions_are_events}
+use Rattle.deque_events.proofs.Passed.Moving.{give_ups_are_events, waits_are_events, thefts_are_events}
+use Rattle.deque_events.proofs.Passed.Handing.{handing_over_is_no_event, root_is_the_opening}
+use Rattle.deque_events.proofs.Passed.Placing.{top_stands}
 use Rattle.step_laws.specs.Moves.{IsMoveOf, AreMovesOf, noted_if}
 use Rattle.step_laws.specs.Orders.{AreSame}
 use Rattle.step_laws.specs.Steps.{AddsNone}

@@ -6,11 +6,11 @@ use Rattle.std.proofs.lemmas.Int.{ints}
 use Rattle.depth_first_list.specs.Actions.{Action, live_words}
 use Rattle.depth_first_list.specs.Runs.{IsDepthFirst}
 use Rattle.depth_first_list.specs.Facts.{action_at, weight_at}
-use Rattle.lawful_books.proofs.Parts.{live_append}
-use Rattle.deque_machine.specs.Moments.{Moment, live_at}
-use Rattle.deque_machine.specs.Machine.{Setting, Event, steals, does, suspends, gives_up, May}
-use Rattle.deque_machine.specs.Runs.{Pair, place_of, is_move, moves}
-use Rattle.deque_machine.proofs.Reached.{event_writes, place_inside, no_move_weighs_nothing}
+use Rattle.deque_events.proofs.Passed.Parts.{live_append}
+use Rattle.victim_choice.specs.Passed.Moments.{Moment, live_at}
+use Rattle.victim_choice.specs.Passed.Machine.{Setting, Event, steals, does, suspends, gives_up, May}
+use Rattle.victim_choice.specs.Passed.Runs.{Pair, place_of, is_move, moves}
+use Rattle.victim_choice.proofs.Passed.Reached.{event_writes, place_inside, no_move_weighs_nothing}
 use Rattle.step_laws.specs.Steps.{SumsGoOn}
 use Rattle.step_laws.proofs.Going.{moves_go_on}
 

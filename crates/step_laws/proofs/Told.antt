@@ -6,20 +6,20 @@ use Rattle.dag_order.specs.LabelOrder.{fork_of}
 use Rattle.depth_first_list.specs.Actions.{Deed, forks, joins, allocates, releases, dummy, faults, ends, Action, live_words}
 use Rattle.depth_first_list.specs.Runs.{IsDepthFirst}
 use Rattle.depth_first_list.specs.Facts.{action_at, deed_at, words_at, weight_at, IsNext}
-use Rattle.lawful_books.specs.Lists.{Each, total}
-use Rattle.lawful_books.specs.Books.{booked, charge, charge_at, charged, book_of}
-use Rattle.lawful_books.specs.Lawful.{IsWithin}
-use Rattle.lawful_books.proofs.Lists.{each_at}
-use Rattle.lawful_books.proofs.Keeping.{closed_same, begun_same}
-use Rattle.lawful_books.proofs.Whole.{total_ones}
-use Rattle.deque_machine.specs.Moments.{Deque, Waiting, Moment, done_at, live_at}
-use Rattle.deque_machine.specs.Machine.{Setting, Event, steals, does, suspends, gives_up, Owns, IsAtTop, HasEnded, books_with, books_closed, new_book, May, steals_beside, takes_over, forks_child, joins_child, allocates_within, allocates_above, releases_words, meets_fault, runs_dummy, ends_above_parent, ends_and_wakes, ends_and_leaves, suspends_top, gives_deque_up}
-use Rattle.deque_machine.specs.Play.{an_action, a_wait}
-use Rattle.deque_machine.proofs.KeptOrder.{own_alloc, own_release, own_fault, own_dummy, fork_is_no_join, end_is_no_join}
-use Rattle.deque_machine.proofs.Sizes.{booked_more}
-use Rattle.deque_machine.proofs.Reached.{event_writes}
-use Rattle.moment_parts.proofs.Shown.{used_is}
-use Rattle.moment_parts.proofs.Placing.{own, next_at_top}
+use Rattle.deque_events.specs.Passed.Lists.{Each, total}
+use Rattle.deque_events.specs.Passed.Books.{booked, charge, charge_at, charged, book_of}
+use Rattle.deque_events.specs.Passed.Lawful.{IsWithin}
+use Rattle.deque_events.proofs.Passed.Lists.{each_at}
+use Rattle.deque_events.proofs.Passed.Keeping.{closed_same, begun_same}
+use Rattle.deque_events.proofs.Passed.Whole.{total_ones}
+use Rattle.victim_choice.specs.Passed.Moments.{Deque, Waiting, Moment, done_at, live_at}
+use Rattle.victim_choice.specs.Passed.Machine.{Setting, Event, steals, does, suspends, gives_up, Owns, IsAtTop, HasEnded, books_with, books_closed, new_book, May, steals_beside, takes_over, forks_child, joins_child, allocates_within, allocates_above, releases_words, meets_fault, runs_dummy, ends_above_parent, ends_and_wakes, ends_and_leaves, suspends_top, gives_deque_up}
+use Rattle.victim_choice.specs.Passed.Play.{an_action, a_wait}
+use Rattle.victim_choice.proofs.Passed.KeptOrder.{own_alloc, own_release, own_fault, own_dummy, fork_is_no_join, end_is_no_join}
+use Rattle.victim_choice.proofs.Passed.Sizes.{booked_more}
+use Rattle.victim_choice.proofs.Passed.Reached.{event_writes}
+use Rattle.deque_events.proofs.Passed.Shown.{used_is}
+use Rattle.deque_events.proofs.Passed.Placing.{own, next_at_top}
 use Rattle.step_laws.specs.Steps.{AddsNone, ActionsAreAdded, OthersAddNone}
 use Rattle.step_laws.specs.Wanted.{ComingIsWanted, WaitIsWanted, GiveUpIsForced}
 

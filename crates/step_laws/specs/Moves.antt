@@ -1,9 +1,9 @@
 -- Which actions the moves are of.
 use Rattle.std.specs.Prelude.{◌≡◌, Bool, true, false, List, [], ◌∷◌}
-use Rattle.space_ledger.specs.declared.moved.Moved.{Moved}
+use Rattle.deque_events.specs.Passed.MovedType.{Moved}
 use Rattle.depth_first_list.specs.Actions.{Action, weight}
-use Rattle.period_books.specs.Periods.{Period}
-use Rattle.period_books.specs.Names.{HasLabel}
+use Rattle.deque_events.specs.Passed.Periods.{Period}
+use Rattle.deque_events.specs.Passed.Names.{HasLabel}
 
 -- a move is named for an action, and changes the words by its weight
 pub record IsMoveOf (periods : List Period) (moved : Moved) (action : Action) : Type 0 where

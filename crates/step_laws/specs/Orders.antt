@@ -2,9 +2,9 @@
 use Rattle.std.specs.Prelude.{◌≡◌, ℕ, List}
 use Rattle.std.specs.List.Sorted.{IsPermutation}
 use Rattle.depth_first_list.specs.Actions.{Action}
-use Rattle.deque_machine.specs.Moments.{Moment}
-use Rattle.moment_parts.specs.Parts.{Thread, Result, Parts}
-use Rattle.moment_parts.specs.Standing.{Shows}
+use Rattle.victim_choice.specs.Passed.Moments.{Moment}
+use Rattle.deque_events.specs.Passed.Parts.{Thread, Result, Parts}
+use Rattle.deque_events.specs.Passed.Standing.{Shows}
 
 -- parts that keep them in another order show the same moment
 abbrev pub OrderIsOfNoAccount : ℕ → List Action → Type 0

@@ -1,14 +1,14 @@
 -- What a list of deques tells of the moment that it shows: where a thread can be stolen, which ids are free, and who owns a deque.
 use Rattle.std.specs.Prelude.{◌≡◌, ◌≢◌, ◌↔◌, ℕ, ◌<◌, List, map, Some}
-use Rattle.deque_list.specs.declared.deque_id.DequeId.{DequeId}
-use Rattle.deque_list.specs.Ids.{IsSmallestFree}
-use Rattle.deque_list.specs.Deques.{Deque, deque_ids}
-use Rattle.lawful_books.specs.Lists.{Each}
-use Rattle.deque_machine.specs.Moments.{Moment, owned_by, with_id}
-use Rattle.deque_machine.specs.Machine.{Setting}
-use Rattle.deque_machine.specs.Play.{IsFirst, IsReady, reach}
+use Rattle.victim_choice.specs.Passed.DequeIdType.{DequeId}
+use Rattle.victim_choice.specs.Passed.Ids.{IsSmallestFree}
+use Rattle.victim_choice.specs.Passed.Deques.{Deque, deque_ids}
+use Rattle.deque_events.specs.Passed.Lists.{Each}
+use Rattle.victim_choice.specs.Passed.Moments.{Moment, owned_by, with_id}
+use Rattle.victim_choice.specs.Passed.Machine.{Setting}
+use Rattle.victim_choice.specs.Passed.Play.{IsFirst, IsReady, reach}
 use Rattle.victim_choice.specs.Choices.{IsReadyAt, reach_of, SomeReady}
-use Rattle.moment_parts.specs.Parts as parts
+use Rattle.deque_events.specs.Passed.Parts as parts
 use Rattle.deque_events.specs.Shown.{deque_shown}
 
 -- the deques are those of the moment, by what their items show

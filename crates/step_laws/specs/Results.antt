@@ -3,14 +3,14 @@ use Rattle.std.specs.Prelude.{◌≡◌, ℕ, false, List, [], ◌∷◌}
 use Rattle.dag_order.specs.Births.{root}
 use Rattle.dag_order.specs.LabelOrder.{fork_of}
 use Rattle.depth_first_list.specs.Actions.{ends}
-use Rattle.lawful_books.specs.Lists.{Among, Each}
-use Rattle.deque_machine.specs.Moments.{Moment}
-use Rattle.deque_machine.specs.Machine.{Setting, Event, does, HasEnded, May}
-use Rattle.deque_machine.specs.LawfulOrder.{IsLawful}
-use Rattle.deque_machine.specs.Runs.{place_of}
-use Rattle.moment_parts.specs.Parts.{Child, Thread, Parts, IsKept}
-use Rattle.moment_parts.specs.Standing.{Shows}
-use Rattle.moment_parts.specs.Events.{Does, Works, IsNextOf}
+use Rattle.deque_events.specs.Passed.Lists.{Among, Each}
+use Rattle.victim_choice.specs.Passed.Moments.{Moment}
+use Rattle.victim_choice.specs.Passed.Machine.{Setting, Event, does, HasEnded, May}
+use Rattle.victim_choice.specs.Passed.LawfulOrder.{IsLawful}
+use Rattle.victim_choice.specs.Passed.Runs.{place_of}
+use Rattle.deque_events.specs.Passed.Parts.{Child, Thread, Parts, IsKept}
+use Rattle.deque_events.specs.Passed.Standing.{Shows}
+use Rattle.deque_events.specs.Passed.Events.{Does, Works, IsNextOf}
 
 -- an action comes only where the root has not ended, since behind its End all is done
 abbrev pub RootEndsOnce : Setting → Type 0

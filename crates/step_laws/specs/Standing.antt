@@ -4,15 +4,15 @@ use Rattle.dag_order.specs.declared.action_id.ActionId.{ActionId}
 use Rattle.dag_order.specs.Births.{root}
 use Rattle.depth_first_list.specs.Actions.{Action}
 use Rattle.depth_first_list.specs.Facts.{action_at, weight_at}
-use Rattle.deque_machine.specs.Moments.{Moment, opening, live_at}
-use Rattle.deque_machine.specs.Machine.{Setting, Event, steals, does, suspends, gives_up, May, HasEnded}
-use Rattle.deque_machine.specs.LawfulOrder.{IsLawful}
-use Rattle.deque_machine.specs.Runs.{place_of, is_move}
-use Rattle.period_books.specs.Names.{IsNamed}
-use Rattle.space_ledger.specs.declared.moved.Moved.{Moved}
-use Rattle.moment_parts.specs.Parts.{Thread, Parts, IsKept, parts_with_root}
-use Rattle.moment_parts.specs.Standing.{Shows}
-use Rattle.moment_parts.specs.Events.{Does, GivesUp, Suspends, Steals, HandsOver}
+use Rattle.victim_choice.specs.Passed.Moments.{Moment, opening, live_at}
+use Rattle.victim_choice.specs.Passed.Machine.{Setting, Event, steals, does, suspends, gives_up, May, HasEnded}
+use Rattle.victim_choice.specs.Passed.LawfulOrder.{IsLawful}
+use Rattle.victim_choice.specs.Passed.Runs.{place_of, is_move}
+use Rattle.deque_events.specs.Passed.Names.{IsNamed}
+use Rattle.deque_events.specs.Passed.MovedType.{Moved}
+use Rattle.deque_events.specs.Passed.Parts.{Thread, Parts, IsKept, parts_with_root}
+use Rattle.deque_events.specs.Passed.Standing.{Shows}
+use Rattle.deque_events.specs.Passed.Events.{Does, GivesUp, Suspends, Steals, HandsOver}
 use Rattle.step_laws.specs.Moves.{AreMovesOf, noted_if}
 use Rattle.step_laws.specs.Orders.{AreSame}
 

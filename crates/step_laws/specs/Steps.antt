@@ -2,10 +2,10 @@
 use Rattle.std.specs.Prelude.{◌≡◌, ℕ, ◌+◌, List, [], ◌∷◌, ◌++◌, length, map, filter, ◌+ℤ◌}
 use Rattle.depth_first_list.specs.Actions.{Action, live_words}
 use Rattle.depth_first_list.specs.Facts.{action_at, weight_at}
-use Rattle.lawful_books.specs.Books.{booked}
-use Rattle.deque_machine.specs.Moments.{Moment, opening, live_at}
-use Rattle.deque_machine.specs.Machine.{Setting, Event, steals, does, suspends, gives_up, May}
-use Rattle.deque_machine.specs.Runs.{Pair, Reaches, place_of, is_move, moves}
+use Rattle.deque_events.specs.Passed.Books.{booked}
+use Rattle.victim_choice.specs.Passed.Moments.{Moment, opening, live_at}
+use Rattle.victim_choice.specs.Passed.Machine.{Setting, Event, steals, does, suspends, gives_up, May}
+use Rattle.victim_choice.specs.Passed.Runs.{Pair, Reaches, place_of, is_move, moves}
 
 -- a run goes on with each event that may come at the moment that it reaches
 abbrev pub RunsGoOn : Setting → Type 0

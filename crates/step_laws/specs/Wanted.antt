@@ -1,14 +1,14 @@
 -- What the rules of play want, as it comes.
 use Rattle.std.specs.Prelude.{ℕ, ◌+◌, ◌<◌}
 use Rattle.depth_first_list.specs.Actions.{Deed}
-use Rattle.lawful_books.specs.Books.{charge_at}
-use Rattle.deque_machine.specs.Moments.{Moment}
-use Rattle.deque_machine.specs.Machine.{Setting, does, suspends, May}
-use Rattle.deque_machine.specs.LawfulOrder.{IsLawful}
-use Rattle.deque_machine.specs.Play.{IsForced, Wants}
-use Rattle.moment_parts.specs.Parts.{Parts}
-use Rattle.moment_parts.specs.Standing.{Shows}
-use Rattle.moment_parts.specs.Events.{Works, IsNextOf}
+use Rattle.deque_events.specs.Passed.Books.{charge_at}
+use Rattle.victim_choice.specs.Passed.Moments.{Moment}
+use Rattle.victim_choice.specs.Passed.Machine.{Setting, does, suspends, May}
+use Rattle.victim_choice.specs.Passed.LawfulOrder.{IsLawful}
+use Rattle.victim_choice.specs.Passed.Play.{IsForced, Wants}
+use Rattle.deque_events.specs.Passed.Parts.{Parts}
+use Rattle.deque_events.specs.Passed.Standing.{Shows}
+use Rattle.deque_events.specs.Passed.Events.{Works, IsNextOf}
 
 -- an action that may come is what the rules want of the worker, whatever the word
 abbrev pub ComingIsWanted : Setting → Type 0

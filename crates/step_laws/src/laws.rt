@@ -1,7 +1,7 @@
 ghost use Rattle.std.specs.Prelude.{ℕ, List};
 ghost use Rattle.depth_first_list.specs.Actions.{Action};
-ghost use Rattle.deque_machine.specs.Machine.{Setting};
-ghost use Rattle.deque_machine.specs.Laws.{InEachSetting};
+ghost use Rattle.victim_choice.specs.Passed.Machine.{Setting};
+ghost use Rattle.victim_choice.specs.Passed.Laws.{InEachSetting};
 ghost use Rattle.step_laws.specs.Steps.{RunsGoOn, MovesGoOn, ActionsAreAdded, OthersAddNone, SumsGoOn};
 ghost use Rattle.step_laws.specs.Wanted.{ComingIsWanted, WaitIsWanted, GiveUpIsForced};
 ghost use Rattle.step_laws.specs.Results.{RootEndsOnce, RootLeavesItsResult, OthersEndNothing, ParentsAwait};

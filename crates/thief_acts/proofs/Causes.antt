@@ -19,7 +19,7 @@ use Rattle.moment_parts.specs.Parts as parts
 use Rattle.period_table.proofs.Lists.{set_same}
 use Rattle.run_end.specs.declared.stop.Stop.{Stop as AnyStop}
 use Rattle.run_end.specs.declared.stop.Stop.TheVariants.{DequesFull}
-use Rattle.thread_frames.specs.Shown.{thread_shown}
+use Rattle.hall_turns.specs.Passed.Shown.{thread_shown}
 use Rattle.thread_state.specs.Settings.{IsSettingOf}
 use Rattle.turn_table.specs.Hands.{Shows}
 use Rattle.turn_table.specs.Notes.{HasAs}

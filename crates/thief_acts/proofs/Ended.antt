@@ -19,7 +19,7 @@ use Rattle.hall_turns.specs.declared.slot.Slot.{Slot}
 use Rattle.hall_turns.specs.declared.slot.Slot.TheVariants as slots
 use Rattle.hall_turns.specs.declared.event.Event.{Event}
 use Rattle.hall_turns.specs.Takes.{HallSeat, IsGiven, IsRefused, IsTaken}
-use Rattle.hall_thefts.specs.Thefts.{stolen_note}
+use Rattle.hall_robbing.specs.Passed.Thefts.{stolen_note}
 use Rattle.hall_robbing.specs.Passed.Stealing.{HasStolenIn}
 use Rattle.hall_stops.specs.Stopping.{found_note, HasStopped}
 use Rattle.thief_acts.specs.declared.refused.StealRefused.{StealRefused}

@@ -15,8 +15,8 @@ use Rattle.deque_machine.specs.Moments.{Moment, Deque}
 use Rattle.deque_machine.specs.Terms.{Terms, machine_of}
 use Rattle.lawful_books.proofs.Lists.{each_map}
 use Rattle.moment_parts.specs.Parts as parts
-use Rattle.thread_frames.specs.declared.thread.Thread.{Thread}
-use Rattle.thread_frames.specs.Shown.{thread_shown}
+use Rattle.hall_turns.specs.Passed.ThreadType.{Thread}
+use Rattle.hall_turns.specs.Passed.Shown.{thread_shown}
 use Rattle.turn_table.specs.Hands.{Has, Shows}
 use Rattle.turn_table.specs.Law.{Stands}
 use Rattle.turn_table.specs.Notes.{HasAs, notes}

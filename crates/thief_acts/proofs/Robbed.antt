@@ -10,8 +10,8 @@ use Rattle.deque_list.specs.Ids.{IsSmallestFree, place_ids}
 use Rattle.lawful_books.specs.Lists.{Among}
 use Rattle.run_end.specs.declared.stop.Stop.TheVariants.{DequesFull}
 use Rattle.quota_period.specs.declared.period.Period.{Period}
-use Rattle.thread_frames.specs.declared.thread.Thread.{Thread}
-use Rattle.thread_frames.specs.Shown.{thread_shown}
+use Rattle.hall_turns.specs.Passed.ThreadType.{Thread}
+use Rattle.hall_turns.specs.Passed.Shown.{thread_shown}
 use Rattle.turn_table.specs.declared.look.Look.{Look}
 use Rattle.turn_table.specs.declared.look.Look.TheVariants.{Took, Refused}
 use Rattle.turn_table.specs.Hands.{Has}
@@ -34,7 +34,7 @@ use Rattle.hall_turns.specs.declared.slot.Slot.TheVariants as slots
 use Rattle.hall_turns.specs.Shown.{lane_shown}
 use Rattle.hall_turns.specs.Takes.{HallSeat, HasAllPlaces, IsTaken, MeetsLaw}
 use Rattle.hall_robbing.specs.Passed.Choosing.{look_shown, took_lane, HasVictim}
-use Rattle.hall_seats.specs.Lists.{with_list}
+use Rattle.hall_stops.specs.Passed.Lists.{with_list}
 use Rattle.hall_seeking.specs.declared.prey.Prey.{Prey}
 use Rattle.hall_seeking.specs.declared.prey.SeekRefused.{SeekRefused}
 use Rattle.hall_seeking.specs.declared.prey.SeekRefused.TheVariants as sought
@@ -42,7 +42,7 @@ use Rattle.hall_seeking.specs.Seeking as seeking
 use Rattle.hall_seeking.specs.Seeking.{HasSought, SeeksWith}
 use Rattle.hall_seeking.proofs.Sought as begun
 use Rattle.hall_robbing.specs.Passed.Stealing.{IsNew, IsOpenTo, MayTakeOver, MayTakeBottom}
-use Rattle.hall_thefts.specs.Thefts.{stolen_note}
+use Rattle.hall_robbing.specs.Passed.Thefts.{stolen_note}
 use Rattle.thief_acts.proofs.Slots.{slot_is}
 use Rattle.hall_robbing.proofs.Passed.Stolen.{free_of}
 use Rattle.hall_stops.specs.Stopping.{found_note, MayStop}

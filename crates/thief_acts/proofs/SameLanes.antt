@@ -17,9 +17,9 @@ use Rattle.hall_law.specs.Values.{Value, of_lane}
 use Rattle.hall_law.specs.Writing.{lane_slot}
 use Rattle.lawful_books.proofs.Lists.{each_map}
 use Rattle.period_table.proofs.Lists.{set_same, set_other}
-use Rattle.thread_frames.specs.declared.thread.Thread.{Thread}
-use Rattle.thread_frames.specs.Points.{IsAtPoint}
-use Rattle.thread_frames.specs.Shown.{thread_shown}
+use Rattle.hall_turns.specs.Passed.ThreadType.{Thread}
+use Rattle.hall_turns.specs.Passed.Points.{IsAtPoint}
+use Rattle.hall_turns.specs.Passed.Shown.{thread_shown}
 use Rattle.turn_table.specs.Law.{PutKeeps}
 use Rattle.turn_table.specs.Notes.{PutMay}
 use Rattle.turn_table.proofs.NoteLaws.{put_writes}

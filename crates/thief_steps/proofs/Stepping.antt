@@ -21,7 +21,7 @@ use Rattle.space_ledger.specs.Sums.{total_change}
 use Rattle.node_table.specs.Table.{Table}
 use Rattle.period_table.specs.declared.table.PeriodTable.{PeriodTable}
 use Rattle.period_table.specs.Tables.{seat_at, deque_at, deque_of}
-use Rattle.thread_state.specs.Settings.{IsSettingOf}
+use Rattle.thread_frames.specs.Passed.Settings.{IsSettingOf}
 use Rattle.thread_frames.specs.declared.thread.Thread.{Thread}
 use Rattle.thread_frames.specs.Points.{IsAtPoint, IsResult}
 use Rattle.thread_frames.specs.Shown.{thread_shown}
@@ -29,13 +29,13 @@ use Rattle.moment_parts.specs.Parts.{Parts}
 use Rattle.deque_events.specs.Seats.{TakesSeat}
 use Rattle.deque_events.specs.Shown.{deque_with}
 use Rattle.victim_choice.specs.Choices.{IsReadyAt, reach_of}
-use Rattle.step_laws.proofs.Ready.{first_is_shown, owners_are_shown}
+use Rattle.core_parts.proofs.Passed.Ready.{first_is_shown, owners_are_shown}
 use Rattle.core_parts.specs.declared.event.Event.{Event}
 use Rattle.core_parts.specs.declared.event.Event.TheVariants.{Stole, Acted, Suspended, GaveUp}
 use Rattle.run_end.specs.declared.stop.Stop.{Stop}
 use Rattle.run_end.specs.declared.stop.Stop.TheVariants.{ArenaFull, DequesFull, StepsSpent, OutOfMemory}
 use Rattle.core_parts.specs.declared.scheduler.Scheduler.{Scheduler}
-use Rattle.step_laws.specs.Orders.{AreSame}
+use Rattle.core_parts.specs.Passed.Orders.{AreSame}
 use Rattle.core_parts.specs.Held.{Held, held, parts_in, OwnersSit, IsInOrder, AreAtPoints}
 use Rattle.thread_frames.specs.Kept.{WaitsUnder, IsUnderItsId}
 use Rattle.core_parts.specs.Moments.{HasRun, IsSound, CanGoOn, SameTerms, terms_of}

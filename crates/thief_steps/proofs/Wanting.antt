@@ -17,8 +17,8 @@ use Rattle.thread_frames.specs.declared.thread.Thread.{Thread}
 use Rattle.thread_frames.specs.Shown.{thread_shown}
 use Rattle.deque_events.specs.Shown.{deque_shown, deque_with}
 use Rattle.core_parts.proofs.Sitting.{IsTheft}
-use Rattle.step_laws.specs.Readiness.{AreDeques}
-use Rattle.step_laws.proofs.Ready.{ids_are_shown}
+use Rattle.core_parts.specs.Passed.Readiness.{AreDeques}
+use Rattle.core_parts.proofs.Passed.Ready.{ids_are_shown}
 use Rattle.victim_choice.specs.Choices.{IsReadyAt}
 use Rattle.thief_steps.specs.Thefts.{Theft, takes_bottom, takes_deque, StaysAt}
 use Rattle.thief_steps.proofs.Robbing.{keeps_two}

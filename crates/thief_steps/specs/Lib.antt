@@ -1,1 +1,2 @@
 pub mod Thefts
+pub mod Passed

@@ -3,7 +3,7 @@ ghost use Rattle.depth_first_run.specs.States.{Setting};
 ghost use Rattle.deque_machine.specs.Moments.{Moment};
 ghost use Rattle.deque_machine.specs.Runs.{Pair};
 ghost use Rattle.node_table.specs.Table.{Table};
-ghost use Rattle.thread_state.specs.Settings.{IsSettingOf};
+ghost use Rattle.thread_frames.specs.Passed.Settings.{IsSettingOf};
 ghost use Rattle.period_table.specs.Tables.{seat_at};
 ghost use Rattle.deque_events.specs.Shown.{Holds};
 ghost use Rattle.victim_choice.specs.Choices.{SomeReady, IsReadyAt};

@@ -6,13 +6,13 @@ use Rattle.dag_order.specs.declared.action_id.ActionId.{ActionId}
 use Rattle.dag_order.specs.declared.thread_id.ThreadId.{ThreadId}
 use Rattle.depth_first_list.specs.Actions.{forks, allocates, releases, faults, joins, record_words, weight_of}
 use Rattle.dag_order.specs.LabelOrder.{fork_of}
-use Rattle.period_books.specs.Names.{id_of}
+use Rattle.period_table.specs.Passed.Names.{id_of}
 use Rattle.thread_points.specs.Points.{words_at_end}
 use Rattle.depth_first_list.specs.Facts.{words_at, weight_at}
 use Rattle.depth_first_run.specs.States.{Setting}
 use Rattle.lawful_books.specs.Books.{charge}
-use Rattle.period_books.specs.Periods.{Period}
-use Rattle.moment_parts.specs.Events.{MayDo, name_of}
+use Rattle.period_table.specs.Passed.Periods.{Period}
+use Rattle.deque_events.specs.Passed.Events.{MayDo, name_of}
 use Rattle.depth_first_run.specs.Run.{list_of}
 use Rattle.thread_frames.specs.Actions as frames
 use Rattle.thread_frames.specs.Actions.{IsOfTheList, is_there}
@@ -21,7 +21,7 @@ use Rattle.thread_frames.specs.declared.open_child.OpenChild.{OpenChild}
 use Rattle.thread_frames.specs.declared.ended.Ended.{Ended}
 use Rattle.thread_frames.specs.declared.next.Next.TheVariants as nexts
 use Rattle.thread_frames.specs.declared.thread.Thread.{Thread}
-use Rattle.moment_parts.specs.Parts as parts
+use Rattle.deque_events.specs.Passed.Parts as parts
 use Rattle.thread_frames.specs.Shown.{child_shown, thread_shown, result_shown}
 use Rattle.thread_frames.proofs.Threads.{next_actions_stand, actions_are_acted, joins_are_joined, forks_are_forked, newest_last}
 use Rattle.deque_events.specs.Events.{DidAlone, DidDummy, DidJoin, DidEnd, DidFork}

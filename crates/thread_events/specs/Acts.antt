@@ -9,12 +9,12 @@ use Rattle.lawful_books.specs.Lists.{Each}
 use Rattle.depth_first_list.specs.Facts.{words_at}
 use Rattle.depth_first_run.specs.States.{Setting}
 use Rattle.lawful_books.specs.Books.{charge}
-use Rattle.period_books.specs.Periods.{Period}
-use Rattle.period_books.specs.Names.{id_of}
+use Rattle.period_table.specs.Passed.Periods.{Period}
+use Rattle.period_table.specs.Passed.Names.{id_of}
 use Rattle.period_table.specs.declared.table.PeriodTable.{PeriodTable}
 use Rattle.period_table.specs.Tables.{period_at}
-use Rattle.moment_parts.specs.Parts as parts
-use Rattle.moment_parts.specs.Events.{MayDo, Does}
+use Rattle.deque_events.specs.Passed.Parts as parts
+use Rattle.deque_events.specs.Passed.Events.{MayDo, Does}
 use Rattle.depth_first_run.specs.Run.{list_of}
 use Rattle.thread_frames.specs.Actions.{IsOfTheList}
 use Rattle.thread_frames.specs.declared.ended.Ended.{Ended}

@@ -1,3 +1,4 @@
 pub mod Acts
 pub mod Readiness
 pub mod Results
+pub mod Passed

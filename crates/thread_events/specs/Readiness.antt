@@ -3,7 +3,7 @@ use Rattle.std.specs.Prelude.{◌≡◌, ◌≤◌, ◌<◌, ◌+◌, ℕ, true,
 use Rattle.dag_order.specs.declared.thread_id.ThreadId.{ThreadId}
 use Rattle.depth_first_list.specs.Actions.{allocates, record_words}
 use Rattle.lawful_books.specs.Books.{charge}
-use Rattle.moment_parts.specs.Events.{MayDo}
+use Rattle.deque_events.specs.Passed.Events.{MayDo}
 use Rattle.thread_frames.specs.Children.{is_delivered}
 use Rattle.thread_frames.specs.Views.{children_of}
 use Rattle.thread_frames.specs.declared.next.Next.{Next}

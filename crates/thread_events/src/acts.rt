@@ -2,7 +2,7 @@ ghost use Rattle.std.specs.Prelude.{◌≡◌, ◌≤◌, ◌<◌, ◌+◌, ◌�
 ghost use Rattle.language_limits.specs.declared.TheConstants.{GREATEST_QUOTA};
 ghost use Rattle.block_arena.specs.Region.{with_taken, with_given};
 ghost use Rattle.deque_list.specs.DequeLists.{lane_room};
-ghost use Rattle.period_books.specs.Periods.{Period};
+ghost use Rattle.period_table.specs.Passed.Periods.{Period};
 ghost use Rattle.period_table.specs.Tables.{HasRoom, period_at};
 ghost use Rattle.thread_frames.specs.Actions.{IsAlloc, IsRelease, IsDummy, IsFault, IsJoin, is_there};
 ghost use Rattle.thread_frames.specs.Points.{IsPlaced};

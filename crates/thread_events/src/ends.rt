@@ -3,7 +3,7 @@ ghost use Rattle.language_limits.specs.declared.TheConstants.{GREATEST_QUOTA};
 ghost use Rattle.block_arena.specs.Region.{with_given};
 ghost use Rattle.deque_list.specs.DequeLists.{lane_room};
 ghost use Rattle.node_table.specs.Table.{Table};
-ghost use Rattle.period_books.specs.Periods.{Period};
+ghost use Rattle.period_table.specs.Passed.Periods.{Period};
 ghost use Rattle.period_table.specs.Tables.{HasRoom, period_at};
 ghost use Rattle.thread_points.specs.Points.{words_at_end};
 ghost use Rattle.thread_frames.specs.Actions.{IsEnd};

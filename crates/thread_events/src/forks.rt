@@ -3,7 +3,7 @@ ghost use Rattle.language_limits.specs.declared.TheConstants.{GREATEST_QUOTA};
 ghost use Rattle.block_arena.specs.Region.{with_taken};
 ghost use Rattle.depth_first_list.specs.Actions.{record_words};
 ghost use Rattle.deque_list.specs.DequeLists.{lane_room};
-ghost use Rattle.period_books.specs.Periods.{Period};
+ghost use Rattle.period_table.specs.Passed.Periods.{Period};
 ghost use Rattle.period_table.specs.Tables.{HasRoom, period_at};
 ghost use Rattle.thread_frames.specs.Actions.{IsFork};
 ghost use Rattle.thread_frames.specs.Points.{IsPlaced};

@@ -5,12 +5,12 @@ use Rattle.std.proofs.Math.Logic.{∥∥₁_elim, ∥∥₁_map, ∥∥₁_prop}
 use Rattle.std.specs.declared.alloc.Global.{Global}
 use Rattle.block_arena.specs.declared.record_block.RecordBlock.{RecordBlock}
 use Rattle.par_tree.specs.Tree.{Func}
-use Rattle.depth_first_run.specs.States.{Setting, State, Item}
-use Rattle.depth_first_run.specs.Middle as middles
-use Rattle.depth_first_run.specs.Middle.{step_frame}
+use Rattle.thread_stack.specs.Passed.States.{Setting, State, Item}
+use Rattle.thread_stack.specs.Passed.Middle as middles
+use Rattle.thread_stack.specs.Passed.Middle.{step_frame}
 use Rattle.node_table.specs.Table.{Table}
-use Rattle.thread_points.specs.Points.{marked, words_at_end}
-use Rattle.thread_points.specs.Threads.{open_children}
+use Rattle.thread_output.specs.Passed.Points.{marked, words_at_end}
+use Rattle.thread_output.specs.Passed.Threads.{open_children}
 use Rattle.thread_stack.specs.declared.frame.Frame.{Frame}
 use Rattle.thread_stack.specs.Frames.{AreFrames}
 use Rattle.thread_run.specs.Dones.{IsAction}

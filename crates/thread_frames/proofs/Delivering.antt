@@ -5,11 +5,11 @@ use mathlib.Core.List.{reverse-append}
 use Rattle.dag_order.specs.LabelOrder.{fork_of}
 use Rattle.block_arena.specs.declared.record_block.RecordBlock.{RecordBlock}
 use Rattle.par_tree.specs.Tree.{Func}
-use Rattle.depth_first_run.specs.States.{Setting, State, Item}
-use Rattle.depth_first_run.specs.Middle.{Frame}
+use Rattle.thread_stack.specs.Passed.States.{Setting, State, Item}
+use Rattle.thread_stack.specs.Passed.Middle.{Frame}
 use Rattle.node_table.specs.Table.{Table}
-use Rattle.thread_points.specs.Threads as threads
-use Rattle.thread_points.specs.Threads.{open_children}
+use Rattle.thread_output.specs.Passed.Threads as threads
+use Rattle.thread_output.specs.Passed.Threads.{open_children}
 use Rattle.thread_run.specs.Stands.{InState}
 use Rattle.thread_run.specs.declared.run.ThreadRun.{ThreadRun}
 use Rattle.thread_frames.specs.Views.{newest, id_of, told_as, brought, all_brought, ended_words, ended_label, child_shown}

@@ -16,3 +16,4 @@ pub mod Beginning
 pub mod Threads
 pub mod Found
 pub mod Points
+pub mod Passed

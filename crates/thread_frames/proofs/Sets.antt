@@ -12,7 +12,7 @@ use Rattle.dag_order.specs.declared.fault.FaultAt.{FaultAt}
 use Rattle.dag_order.specs.declared.fault.FaultKind.{FaultKind}
 use Rattle.dag_order.specs.declared.fault.FaultKind.TheVariants as kinds
 use Rattle.node_table.specs.Reading.{FitsSlots}
-use Rattle.slot_store.specs.Rows.{Entry}
+use Rattle.thread_state.specs.Passed.Rows.{Entry}
 use Rattle.thread_stack.specs.declared.branch.Branch.{Branch}
 use Rattle.thread_stack.specs.declared.branch.Branch.TheVariants.{Par, Dummies}
 use Rattle.thread_state.specs.declared.state.ThreadState.{ThreadState}

@@ -2,8 +2,8 @@
 use Rattle.std.specs.Prelude.{◌≡◌, ℕ, Bool, List, [], ◌∷◌, filter}
 use Rattle.language_limits.specs.declared.TheConstants.{MOST_TURNS}
 use Rattle.par_tree.specs.Tree.{Name}
-use Rattle.depth_first_run.specs.States.{Setting, State, Item, child_of, parent_of}
-use Rattle.depth_first_run.specs.Run.{no_name}
+use Rattle.thread_stack.specs.Passed.States.{Setting, State, Item, child_of, parent_of}
+use Rattle.thread_stack.specs.Passed.Run.{no_name}
 use Rattle.node_table.specs.Reading.{AreSlots}
 use Rattle.thread_stack.specs.declared.branch.Branch.{Branch}
 use Rattle.thread_stack.specs.declared.branch.Branch.TheVariants.{Par, Dummies}

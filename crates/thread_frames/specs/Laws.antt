@@ -2,8 +2,8 @@
 use Rattle.std.specs.Prelude.{◌≡◌, ℕ, suc, true, false, List, [], ◌∷◌, ◌++◌}
 use Rattle.dag_order.specs.declared.thread_id.ThreadId.{ThreadId}
 use Rattle.dag_order.specs.LabelOrder.{fork_of}
-use Rattle.depth_first_run.specs.States.{Setting}
-use Rattle.depth_first_run.specs.Run.{list_of}
+use Rattle.thread_stack.specs.Passed.States.{Setting}
+use Rattle.thread_stack.specs.Passed.Run.{list_of}
 use Rattle.moment_parts.specs.Parts as parts
 use Rattle.moment_parts.specs.Events as events
 use Rattle.thread_frames.specs.Actions as frames

@@ -4,10 +4,10 @@ use Rattle.std.specs.declared.alloc.Global.{Global}
 use Rattle.block_arena.specs.Size.{words_taken}
 use Rattle.par_tree.specs.Tree.{Func, Program}
 use Rattle.par_ownership.specs.Ownership.{function_of, main_name}
-use Rattle.depth_first_run.specs.States.{Setting}
-use Rattle.depth_first_run.specs.Run.{root_start}
-use Rattle.depth_first_run.specs.Middle as middles
-use Rattle.depth_first_run.specs.Middle.{run_start}
+use Rattle.thread_stack.specs.Passed.States.{Setting}
+use Rattle.thread_stack.specs.Passed.Run.{root_start}
+use Rattle.thread_stack.specs.Passed.Middle as middles
+use Rattle.thread_stack.specs.Passed.Middle.{run_start}
 use Rattle.node_table.specs.Table.{Table}
 use Rattle.thread_stack.specs.declared.frame.Frame.{Frame}
 use Rattle.thread_stack.specs.Frames.{AreFrames, IsFunctionOf}

@@ -1,7 +1,7 @@
 -- The root: before its first action, and the end that it gives to a run.
 use Rattle.std.specs.Prelude.{◌≡◌, ℕ, Option, None, Some, List, [], ◌∷◌}
 use Rattle.dag_order.specs.Births.{root}
-use Rattle.depth_first_run.specs.Run.{finish_of}
+use Rattle.thread_stack.specs.Passed.Run.{finish_of}
 use Rattle.node_table.specs.Table.{Table}
 use Rattle.run_end.specs.declared.ends.RunEnd.{RunEnd}
 use Rattle.run_end.specs.declared.ends.RunEnd.TheVariants.{Finished}

@@ -2,7 +2,7 @@
 
 ghost use Rattle.std.specs.Prelude.{◌≡◌, ◌≤◌, ◌<◌, ◌+◌, ◌↔◌, ℕ, length, false, IsErr, IfOk, IfErr, OnOk, OnErr};
 ghost use Rattle.block_arena.specs.Region.{with_taken};
-ghost use Rattle.depth_first_list.specs.Actions.{record_words};
+ghost use Rattle.thread_state.specs.Passed.Actions.{record_words};
 ghost use Rattle.node_table.specs.Reading.{FitsSlots};
 ghost use Rattle.node_table.specs.Table.{Table};
 ghost use Rattle.thread_state.specs.States.{own_row};

@@ -3,7 +3,7 @@
 ghost use Rattle.std.specs.Prelude.{vec_len, vec_capacity, ◌-◌, ◌≡◌, ◌≤◌, ◌<◌, [], ℕ, Some, None, IfOk, OnOk, OnErr, Result, Ok};
 ghost use Rattle.dag_order.specs.Births.{root as root_id};
 ghost use Rattle.block_arena.specs.declared.size.TheConstants.{MAX_WORDS};
-ghost use Rattle.depth_first_run.specs.States.{Setting};
+ghost use Rattle.thread_stack.specs.Passed.States.{Setting};
 ghost use Rattle.dummy_tree.specs.QuotaWords.{quota_words};
 ghost use Rattle.std.specs.Prelude.{slice_get};
 ghost use Rattle.node_table.specs.Table.{Function};

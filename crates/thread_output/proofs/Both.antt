@@ -1,8 +1,8 @@
 -- The lines and the first fault of two lists of items, by the first list.
 use Rattle.std.proofs.Common.{◌≡◌, List, [], ◌∷◌, ◌++◌, ℤ, Option, Some, None, refl, sym, ap, ◌∙◌, append-nil}
 use Rattle.dag_order.specs.declared.fault.FaultAt.{FaultAt}
-use Rattle.depth_first_run.specs.States.{Item, began, acted, printed, failed}
-use Rattle.depth_first_run.specs.Run.{lines_of, first_fault}
+use Rattle.thread_points.specs.Passed.States.{Item, began, acted, printed, failed}
+use Rattle.thread_points.specs.Passed.Run.{lines_of, first_fault}
 use Rattle.thread_output.specs.Joining.{lines_before}
 use Rattle.thread_points.specs.Laws.{earlier_fault}
 

@@ -1,8 +1,8 @@
 -- What is told of one part behind another.
 use Rattle.std.proofs.Common.{◌≡◌, true, false, List, [], ◌∷◌, ◌++◌, length, ℤ, Option, Some, None, is_some, refl, sym, ap, ◌∙◌, arith, length-append}
 use Rattle.dag_order.specs.declared.fault.FaultAt.{FaultAt}
-use Rattle.depth_first_run.specs.States.{Item, failed}
-use Rattle.depth_first_run.specs.Run.{lines_of, first_fault}
+use Rattle.thread_points.specs.Passed.States.{Item, failed}
+use Rattle.thread_points.specs.Passed.Run.{lines_of, first_fault}
 use Rattle.thread_output.specs.Joining.{IsJoined, lines_before}
 use Rattle.thread_output.specs.Telling.{AreLines}
 use Rattle.thread_points.specs.Laws.{earlier_fault}

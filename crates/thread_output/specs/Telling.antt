@@ -1,8 +1,8 @@
 -- What is told of the items of a run.
 use Rattle.std.specs.Prelude.{◌≡◌, ◌<◌, List, length, ℤ, Option, Some, None}
 use Rattle.dag_order.specs.declared.fault.FaultAt.{FaultAt}
-use Rattle.depth_first_run.specs.States.{Item}
-use Rattle.depth_first_run.specs.Run.{lines_of, first_fault}
+use Rattle.thread_points.specs.Passed.States.{Item}
+use Rattle.thread_points.specs.Passed.Run.{lines_of, first_fault}
 use Rattle.thread_output.specs.declared.told.Told.{Told}
 
 abbrev pub fault_of : Told → Option FaultAt

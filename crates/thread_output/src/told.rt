@@ -2,9 +2,9 @@ ghost use Rattle.std.specs.Prelude.{◌≡◌, ◌++◌, ◌∷◌, ◌≤◌, �
 ghost use Rattle.thread_points.specs.Laws.{earlier_fault};
 ghost use Rattle.thread_output.specs.Joining.{IsJoined};
 ghost use Rattle.std.specs.Option.{ForSome};
-ghost use Rattle.bounded_list.specs.BoundedList.{entries};
-ghost use Rattle.depth_first_run.specs.States.{Item, printed, failed};
-ghost use Rattle.depth_first_run.specs.Run.{lines_of, first_fault};
+ghost use Rattle.dag_order.specs.Passed.BoundedList.{entries};
+ghost use Rattle.thread_points.specs.Passed.States.{Item, printed, failed};
+ghost use Rattle.thread_points.specs.Passed.Run.{lines_of, first_fault};
 
 use dag_order::{FaultAt, Lines};
 use std::alloc::{AllocError, Global};

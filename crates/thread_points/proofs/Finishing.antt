@@ -1,7 +1,7 @@
 -- Running out the frames of a thread keeps its label.
 use Rattle.std.specs.Prelude.{◌≡◌, List, [], ◌∷◌, refl}
 use Rattle.std.proofs.Common.{◌∙◌}
-use Rattle.depth_first_list.specs.Actions as actions
+use Rattle.depth_first_run.specs.Passed.Actions as actions
 use Rattle.depth_first_run.specs.Stores.{block_words}
 use Rattle.depth_first_run.specs.States.{Setting, State, with_action}
 use Rattle.depth_first_run.specs.Calls.{with_answer, returned}

@@ -6,3 +6,4 @@ pub mod Placing
 pub mod Single
 pub mod Finishing
 pub mod Telling
+pub mod Passed

@@ -3,13 +3,13 @@ use Rattle.std.specs.Prelude.{◌≡◌, Bool, ℕ, zero, suc, ◌+◌, ◌<◌,
 use Rattle.std.proofs.Common.{sym, ◌∙◌, ap, arith, subst, inl, inr, append_assoc, append-nil, length-append}
 use Rattle.std.proofs.lemmas.List.{append_cancel_left}
 use Rattle.std.proofs.Math.Seq.{get_or-append_seam}
-use Rattle.dag_order.specs.LabelOrder.{fork_of}
-use Rattle.depth_first_list.specs.Actions as actions
-use Rattle.depth_first_list.specs.Actions.{Action, Deed, record_words}
-use Rattle.depth_first_list.specs.Runs.{start, end_at, IsDepthFirst}
-use Rattle.depth_first_list.specs.Facts.{action_at, label_at, index_at, deed_at, words_at}
-use Rattle.depth_first_list.proofs.Weights.{root_end_is_weightless, child_ends_give_back}
-use Rattle.par_tree.specs.Tree.{Name, done, step}
+use Rattle.depth_first_run.specs.Passed.LabelOrder.{fork_of}
+use Rattle.depth_first_run.specs.Passed.Actions as actions
+use Rattle.depth_first_run.specs.Passed.Actions.{Action, Deed, record_words}
+use Rattle.depth_first_run.specs.Passed.Runs.{start, end_at, IsDepthFirst}
+use Rattle.depth_first_run.specs.Passed.Facts.{action_at, label_at, index_at, deed_at, words_at}
+use Rattle.depth_first_run.proofs.Passed.Weights.{root_end_is_weightless, child_ends_give_back}
+use Rattle.depth_first_run.specs.Passed.Tree.{Name, done, step}
 use Rattle.depth_first_run.specs.States.{Setting, State, Item, next_action, with_action, parent_of, ended}
 use Rattle.depth_first_run.specs.Run.{whole, actions_of, list_of}
 use Rattle.depth_first_run.specs.Middle.{Part, statements, tree, Frame, does, answers, rejoins, answers_main, allocates, awaits, joins, finish, middle, finished, advance, to_come}

@@ -1,7 +1,7 @@
 -- The points of a run come to what its beginning comes to, and reach its end.
 use Rattle.std.specs.Prelude.{◌≡◌, ℕ, zero, suc, ◌<◌, ◌≤◌, List, [], ◌∷◌, refl}
 use Rattle.std.proofs.Common.{sym, ◌∙◌, ap, arith, subst}
-use Rattle.par_ownership.specs.Ownership.{function_of, main_name}
+use Rattle.depth_first_run.specs.Passed.Ownership.{function_of, main_name}
 use Rattle.depth_first_run.specs.States.{Setting, State, ended}
 use Rattle.depth_first_run.specs.Run.{whole}
 use Rattle.depth_first_run.specs.Middle.{Frame, finish, middle, finished, advance, run_start, to_come}

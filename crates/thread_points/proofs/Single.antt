@@ -2,12 +2,12 @@
 use Rattle.std.specs.Prelude.{◌≡◌, Bool, ℕ, zero, suc, ◌+◌, ◌<◌, ◌≤◌, ◌⊎◌, List, [], ◌∷◌, ◌++◌, length, refl}
 use Rattle.std.proofs.Common.{sym, ◌∙◌, ap, arith, subst, inl, inr, length-append}
 use Rattle.std.proofs.lemmas.Bool.{cases_order, cases_eq}
-use Rattle.dag_order.specs.LabelOrder.{fork_of}
-use Rattle.depth_first_list.specs.Actions as actions
-use Rattle.depth_first_list.specs.Actions.{Action, Deed, record_words}
-use Rattle.depth_first_list.specs.Facts.{label_at, deed_at, words_at}
-use Rattle.depth_first_list.proofs.ThreadLaws.{end_is_last, forked_once}
-use Rattle.par_tree.specs.Tree.{Name}
+use Rattle.depth_first_run.specs.Passed.LabelOrder.{fork_of}
+use Rattle.depth_first_run.specs.Passed.Actions as actions
+use Rattle.depth_first_run.specs.Passed.Actions.{Action, Deed, record_words}
+use Rattle.depth_first_run.specs.Passed.Facts.{label_at, deed_at, words_at}
+use Rattle.depth_first_run.proofs.Passed.ThreadLaws.{end_is_last, forked_once}
+use Rattle.depth_first_run.specs.Passed.Tree.{Name}
 use Rattle.depth_first_run.specs.States.{Setting, State, Item, next_action, ended, with_action}
 use Rattle.depth_first_run.specs.Run.{actions_of, whole, list_of}
 use Rattle.depth_first_run.specs.Middle.{Part, Frame, does, answers, rejoins, answers_main, allocates, awaits, joins, finish, Middle, middle, finished, advance}

@@ -1,11 +1,11 @@
 -- What a thread has left since it began is told by its parts.
 use Rattle.std.specs.Prelude.{◌≡◌, Bool, ℕ, suc, List, [], ◌∷◌, ◌++◌, length, refl}
 use Rattle.std.proofs.Common.{sym, ◌∙◌, ap, subst, append_assoc, append-nil}
-use Rattle.dag_order.specs.LabelOrder.{fork_of}
-use Rattle.depth_first_list.specs.Actions as actions
-use Rattle.depth_first_list.specs.Actions.{record_words}
-use Rattle.par_tree.specs.Tree.{Name}
-use Rattle.par_ownership.specs.Ownership.{function_of, main_name}
+use Rattle.depth_first_run.specs.Passed.LabelOrder.{fork_of}
+use Rattle.depth_first_run.specs.Passed.Actions as actions
+use Rattle.depth_first_run.specs.Passed.Actions.{record_words}
+use Rattle.depth_first_run.specs.Passed.Tree.{Name}
+use Rattle.depth_first_run.specs.Passed.Ownership.{function_of, main_name}
 use Rattle.depth_first_run.specs.States.{Setting, State, Item, began, acted, printed, failed, next_action, ended, joined, with_action}
 use Rattle.depth_first_run.specs.Run.{whole, first_fault, lines_of, root_start}
 use Rattle.depth_first_run.specs.Middle.{Frame, does, answers, rejoins, answers_main, allocates, awaits, joins, part_done, finish, run_start}

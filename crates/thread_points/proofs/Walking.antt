@@ -1,8 +1,8 @@
 -- A thread goes on from point to point: by a step, and to its end.
 use Rattle.std.specs.Prelude.{◌≡◌, ℕ, zero, suc, ◌<◌, ◌≤◌, List, [], ◌∷◌, ◌++◌, Option, Some, None, refl}
 use Rattle.std.proofs.Common.{sym, ◌∙◌, ap, arith, subst, append_assoc, append-nil}
-use Rattle.par_tree.specs.Tree.{Body, done, step, Func}
-use Rattle.par_ownership.specs.Ownership.{function_of, main_name}
+use Rattle.depth_first_run.specs.Passed.Tree.{Body, done, step, Func}
+use Rattle.depth_first_run.specs.Passed.Ownership.{function_of, main_name}
 use Rattle.depth_first_run.specs.States.{Setting, State}
 use Rattle.depth_first_run.specs.Run.{root_start}
 use Rattle.depth_first_run.specs.Middle.{Frame, does, answers, rejoins, answers_main, allocates, awaits, joins, finish, middle, finished, before_all, advance, run_start, to_come}

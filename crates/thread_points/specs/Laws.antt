@@ -1,13 +1,13 @@
 -- What a caller may use of the points of threads.
 use Rattle.std.specs.Prelude.{◌≡◌, ℕ, suc, ◌<◌, ◌⊎◌, Bool, false, List, [], ◌∷◌, ◌++◌, length, ℤ, Option, Some, None}
-use Rattle.depth_first_list.specs.Actions as actions
-use Rattle.depth_first_list.specs.Actions.{Action, Deed, record_words}
-use Rattle.depth_first_list.specs.Facts.{label_at, index_at}
-use Rattle.dag_order.specs.LabelOrder.{fork_of}
-use Rattle.dag_order.specs.declared.fault.FaultAt.{FaultAt}
-use Rattle.par_tree.specs.Tree.{Name, par_stmt, Body, step}
-use Rattle.dummy_tree.specs.Shapes.{Shape, forked}
-use Rattle.par_ownership.specs.Ownership.{function_of, main_name}
+use Rattle.depth_first_run.specs.Passed.Actions as actions
+use Rattle.depth_first_run.specs.Passed.Actions.{Action, Deed, record_words}
+use Rattle.depth_first_run.specs.Passed.Facts.{label_at, index_at}
+use Rattle.depth_first_run.specs.Passed.LabelOrder.{fork_of}
+use Rattle.depth_first_run.specs.Passed.FaultAtType.{FaultAt}
+use Rattle.depth_first_run.specs.Passed.Tree.{Name, par_stmt, Body, step}
+use Rattle.depth_first_run.specs.Passed.Shapes.{Shape, forked}
+use Rattle.depth_first_run.specs.Passed.Ownership.{function_of, main_name}
 use Rattle.depth_first_run.specs.States.{Setting, State, Item, next_action, given_back, joined, ended}
 use Rattle.depth_first_run.specs.Run.{whole, actions_of, first_fault, lines_of, names_in, assigns_in, no_name, root_start, list_of}
 use Rattle.depth_first_run.specs.Middle.{Frame, does, statements, tree, joins, finish, middle, before_all, step_fork, run_start}

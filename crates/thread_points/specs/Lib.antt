@@ -1,3 +1,4 @@
 pub mod Points
 pub mod Threads
 pub mod Laws
+pub mod Passed

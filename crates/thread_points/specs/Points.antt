@@ -3,10 +3,10 @@
 -- own frames only, and a child that it does not wait for yet may be anywhere. Its point is the one at which the
 -- depth-first run has these frames and this state: there the child has ended already.
 use Rattle.std.specs.Prelude.{◌≡◌, ℕ, zero, suc, ◌+◌, ◌<◌, Bool, List, [], ◌∷◌, ◌++◌, length}
-use Rattle.depth_first_list.specs.Actions.{Action, ends, record_words}
-use Rattle.depth_first_list.specs.Facts.{action_at}
-use Rattle.par_tree.specs.Tree.{Name, done, step}
-use Rattle.par_ownership.specs.Ownership.{function_of, main_name}
+use Rattle.depth_first_run.specs.Passed.Actions.{Action, ends, record_words}
+use Rattle.depth_first_run.specs.Passed.Facts.{action_at}
+use Rattle.depth_first_run.specs.Passed.Tree.{Name, done, step}
+use Rattle.depth_first_run.specs.Passed.Ownership.{function_of, main_name}
 use Rattle.depth_first_run.specs.States.{Setting, State, Item, began, child_of, parent_of, ended}
 use Rattle.depth_first_run.specs.Run.{whole, actions_of, list_of}
 use Rattle.depth_first_run.specs.Middle.{Part, statements, tree, Frame, does, answers, rejoins, answers_main, allocates, awaits, joins, part_done, Middle, middle, step_fork, step_frame, advance, run_start}

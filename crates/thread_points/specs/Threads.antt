@@ -1,8 +1,8 @@
 -- A thread from its beginning on: how it began, and what it has left since then.
 use Rattle.std.specs.Prelude.{◌≡◌, ℕ, List, [], ◌∷◌, ◌++◌}
-use Rattle.dag_order.specs.LabelOrder.{fork_of}
-use Rattle.depth_first_list.specs.Actions.{record_words}
-use Rattle.par_ownership.specs.Ownership.{function_of, main_name}
+use Rattle.depth_first_run.specs.Passed.LabelOrder.{fork_of}
+use Rattle.depth_first_run.specs.Passed.Actions.{record_words}
+use Rattle.depth_first_run.specs.Passed.Ownership.{function_of, main_name}
 use Rattle.depth_first_run.specs.States.{Setting, State, Item, ended}
 use Rattle.depth_first_run.specs.Run.{root_start}
 use Rattle.depth_first_run.specs.Middle.{Frame, does, answers, rejoins, answers_main, allocates, awaits, joins, run_start}

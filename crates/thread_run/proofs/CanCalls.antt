@@ -11,14 +11,14 @@ use Rattle.node_table.specs.Table as tables
 use Rattle.node_table.specs.Table.{Table, Kind, Function, let_node, assign_node, put_node, alloc_node, free_node, if_node, while_node, call_node, print_node, both_node, split_node}
 use Rattle.node_table.specs.Programs.{IsStmt, function_names}
 use Rattle.node_table.proofs.Finding.{callee}
-use Rattle.thread_points.specs.Points.{IsAt}
+use Rattle.thread_output.specs.Passed.Points.{IsAt}
 use Rattle.ownership_at_points.proofs.Passed.Fitting.{keeps_at, finds_at}
 use Rattle.ownership_at_points.proofs.Passed.Passing.{function_owned}
 use Rattle.thread_stack.specs.Frames.{IsNode}
 use Rattle.thread_stack.specs.Lists.{kind_at, kind_of_node}
-use Rattle.slot_store.specs.Agreement.{ShowsStore}
-use Rattle.slot_store.specs.Calls.{passed_slots}
-use Rattle.slot_store.proofs.Agreement.{row_length}
+use Rattle.thread_state.specs.Passed.Agreement.{ShowsStore}
+use Rattle.thread_state.specs.Passed.Calls.{passed_slots}
+use Rattle.thread_state.proofs.Passed.Agreement.{row_length}
 use Rattle.thread_state.specs.Calls.{CanCall}
 use Rattle.thread_state.specs.States.{own_row}
 use Rattle.thread_state.specs.declared.state.ThreadState.{ThreadState}

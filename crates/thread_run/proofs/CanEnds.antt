@@ -14,7 +14,7 @@ use Rattle.node_table.specs.Names.{slot_names, name_at}
 use Rattle.node_table.specs.Reading.{FitsArgs, FitsSlots, FitsTarget, FitsRet, slots_read, args_read, target_read, ret_read, IsReturn, FitsRetValue, ret_value_read}
 use Rattle.node_table.specs.Table as tables
 use Rattle.node_table.specs.Table.{Table, Kind, Function, let_node, assign_node, put_node, alloc_node, free_node, if_node, while_node, call_node, print_node, both_node, split_node}
-use Rattle.thread_points.specs.Points.{IsAt}
+use Rattle.thread_output.specs.Passed.Points.{IsAt}
 use Rattle.ownership_at_points.specs.Passed.Counts.{hit, count}
 use Rattle.ownership_at_points.proofs.Passed.Counting.{hit_same, none_counted}
 use Rattle.ownership_at_points.specs.Holdings.{lent_under, given_back_under, answered_under, handed_out, EndsCall}
@@ -23,10 +23,10 @@ use Rattle.ownership_at_points.proofs.Taking.{calls_take}
 use Rattle.thread_stack.specs.declared.frame.Frame.TheVariants.{Answers, AnswersMain}
 use Rattle.thread_stack.specs.Frames.{IsFunctionOf, IsAnswerOf}
 use Rattle.thread_stack.specs.Lists.{kind_at}
-use Rattle.slot_store.specs.Rows.{Entry, blocks_at}
-use Rattle.slot_store.specs.Agreement.{ShowsStore}
-use Rattle.slot_store.specs.Calls.{lent_params, lent_slots}
-use Rattle.slot_store.proofs.Agreement.{row_length}
+use Rattle.thread_state.specs.Passed.Rows.{Entry, blocks_at}
+use Rattle.thread_state.specs.Passed.Agreement.{ShowsStore}
+use Rattle.thread_state.specs.Passed.Calls.{lent_params, lent_slots}
+use Rattle.thread_state.proofs.Passed.Agreement.{row_length}
 use Rattle.thread_state.specs.Rows.{ShowStores, Holds}
 use Rattle.thread_state.specs.States.{own_row, rows_of}
 use Rattle.thread_state.specs.Calls.{CanGoBack, CanEnd, CanEndMain, HandsItsOwn, HandsNoBlock, TakesNumber, TakesBlock, TakesAnswer, TakesValue}

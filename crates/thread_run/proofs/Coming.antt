@@ -13,7 +13,7 @@ use Rattle.std.proofs.lemmas.Bool.{lt-ltb, le-ltb, le-leb, lt-leb}
 use Rattle.dag_order.specs.declared.fault.FaultKind.{FaultKind}
 use Rattle.dag_order.specs.declared.fault.FaultKind.TheVariants as faults
 use Rattle.dummy_tree.specs.Shapes.{Shape}
-use Rattle.depth_first_list.specs.Runs.{tree_for}
+use Rattle.depth_first_run.specs.Passed.Runs.{tree_for}
 use Rattle.par_tree.specs.Tree.{Name, Program, Func, Expr, Body}
 use Rattle.depth_first_run.specs.Stores.{block_of, block_words}
 use Rattle.depth_first_run.specs.Values.{Outcome, value, place_in}

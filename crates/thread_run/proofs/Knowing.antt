@@ -13,7 +13,7 @@ use Rattle.depth_first_run.specs.Middle.{allocates, rejoins}
 use Rattle.node_table.specs.Names.{slot_names, name_at, IsSlot}
 use Rattle.node_table.specs.Table as tables
 use Rattle.node_table.specs.Table.{Table, Node, Kind, let_node, assign_node, put_node, alloc_node, free_node, if_node, while_node, call_node, print_node, both_node, split_node}
-use Rattle.thread_points.specs.Points.{IsAt}
+use Rattle.thread_output.specs.Passed.Points.{IsAt}
 use Rattle.thread_stack.specs.declared.frame.Frame.{Frame}
 use Rattle.thread_stack.specs.declared.frame.Frame.TheVariants.{Allocates, Rejoins}
 use Rattle.thread_stack.specs.Frames.{AreFrames, IsFrame, IsNode, IsSplitNode}
@@ -22,9 +22,9 @@ use Rattle.ownership_at_points.specs.Passed.Counts.{hit, count}
 use Rattle.ownership_at_points.proofs.Passed.Counting.{name_same}
 use Rattle.ownership_at_points.proofs.Passed.Fitting.{end_finds_at}
 use Rattle.ownership_at_points.proofs.Reading.{frame_where_none, split_end}
-use Rattle.slot_store.specs.Rows.{Entry, blocks_at, items_at, first_of, HasBlock, HasNone}
-use Rattle.slot_store.specs.Agreement.{blocks_under, ShowsStore}
-use Rattle.slot_store.proofs.Agreement.{entry_is, row_length}
+use Rattle.thread_state.specs.Passed.Rows.{Entry, blocks_at, items_at, first_of, HasBlock, HasNone}
+use Rattle.thread_state.specs.Passed.Agreement.{blocks_under, ShowsStore}
+use Rattle.thread_state.proofs.Passed.Agreement.{entry_is, row_length}
 use Rattle.thread_state.specs.Conditions.{CanRejoin}
 use Rattle.thread_state.specs.States.{own_row, words_held}
 use Rattle.thread_state.proofs.Steps.{own_store}

@@ -15,16 +15,16 @@ use Rattle.node_table.specs.Programs.{IsStmt, function_names}
 use Rattle.thread_stack.specs.Frames.{IsNode}
 use Rattle.thread_stack.specs.Measure.{kind_cost, node_cost}
 use Rattle.thread_stack.proofs.Costs.{node_covers}
-use Rattle.thread_points.specs.Points.{IsAt}
+use Rattle.thread_output.specs.Passed.Points.{IsAt}
 use Rattle.ownership_at_points.specs.Passed.Counts.{hit, count}
 use Rattle.ownership_at_points.specs.Passed.Needs.{needs_block}
 use Rattle.ownership_at_points.proofs.Passed.Counting.{name_same}
 use Rattle.ownership_at_points.proofs.Passed.Fitting.{finds_at}
 use Rattle.ownership_at_points.specs.Holdings.{puts_block}
 use Rattle.ownership_at_points.proofs.Reading.{puts_where_none, parts_apart}
-use Rattle.slot_store.specs.Rows.{Entry, blocks_at, HasBlock, HasNone}
-use Rattle.slot_store.specs.Agreement.{blocks_under, ShowsStore}
-use Rattle.slot_store.proofs.Agreement.{entry_is, row_length}
+use Rattle.thread_state.specs.Passed.Rows.{Entry, blocks_at, HasBlock, HasNone}
+use Rattle.thread_state.specs.Passed.Agreement.{blocks_under, ShowsStore}
+use Rattle.thread_state.proofs.Passed.Agreement.{entry_is, row_length}
 use Rattle.thread_state.specs.Conditions.{CanCut}
 use Rattle.thread_state.specs.States.{own_row}
 use Rattle.thread_state.specs.declared.state.ThreadState.{ThreadState}

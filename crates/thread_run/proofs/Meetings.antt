@@ -14,7 +14,7 @@ use Rattle.depth_first_run.specs.Middle.{Middle, middle, does, statements, befor
 use Rattle.node_table.specs.Names.{slot_names}
 use Rattle.node_table.specs.Table as tables
 use Rattle.node_table.specs.Table.{Table, Kind, let_node, assign_node, put_node, alloc_node, free_node, if_node, while_node, call_node, print_node, both_node, split_node}
-use Rattle.thread_points.specs.Points.{IsAt}
+use Rattle.thread_output.specs.Passed.Points.{IsAt}
 use Rattle.thread_stack.specs.declared.frame.Frame.{Frame}
 use Rattle.thread_stack.specs.declared.frame.Frame.TheVariants.{Statements, Again}
 use Rattle.thread_stack.specs.declared.list_of.ListOf.{ListOf}

@@ -4,9 +4,9 @@ use denote.Struct.Props.{props}
 use Rattle.node_table.specs.Table
 use Rattle.node_table.specs.Table.{Kind, let_node, assign_node, put_node, alloc_node, free_node, if_node, while_node, call_node, print_node, both_node, split_node, Function}
 use Rattle.node_table.specs.Reading.{FitsExpr, FitsLinks, FitsArg, FitsArgs, FitsSlots}
-use Rattle.slot_store.specs.Rows.{Entry, HasBlock, HasNone}
-use Rattle.slot_store.specs.Calls.{EachOnce, EachHasBlock, EachHasNone, lent_params, lent_slots, passed_slots}
-use Rattle.slot_store.specs.Forks.{is_in}
+use Rattle.thread_state.specs.Passed.Rows.{Entry, HasBlock, HasNone}
+use Rattle.thread_state.specs.Passed.Calls.{EachOnce, EachHasBlock, EachHasNone, lent_params, lent_slots, passed_slots}
+use Rattle.thread_state.specs.Passed.Forks.{is_in}
 use Rattle.thread_state.specs.Calls.{CanCall, CanGoBack, CanEnd, CanEndMain, HandsNoBlock, HandsItsOwn, TakesNumber, TakesBlock, TakesValue, TakesAnswer}
 
 -- two proofs of a fact are the same

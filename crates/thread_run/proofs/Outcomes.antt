@@ -11,7 +11,7 @@ use Rattle.depth_first_run.specs.Middle as middles
 use Rattle.depth_first_run.specs.Middle.{Middle, step_frame}
 use Rattle.node_table.specs.Names.{slot_names}
 use Rattle.node_table.specs.Table.{Table}
-use Rattle.thread_points.specs.Threads.{IsThread}
+use Rattle.thread_output.specs.Passed.Threads.{IsThread}
 use Rattle.thread_stack.specs.declared.frame.Frame.{Frame}
 use Rattle.thread_stack.specs.Frames.{AreFrames, RunsIn}
 use Rattle.thread_output.specs.Telling.{Tells}

@@ -18,10 +18,10 @@ use Rattle.ownership_at_points.specs.Passed.Counts.{one_if, hit, count, seen_ent
 use Rattle.ownership_at_points.specs.Passed.Needs.{reads_block, needed_by_args}
 use Rattle.ownership_at_points.proofs.Passed.Counting.{same_name, hit_same, hit_other, hit_true, fresh_unseen, seen_or_not, found_with}
 use Rattle.ownership_at_points.proofs.Passed.Passing.{or_left, or_right}
-use Rattle.slot_store.specs.Rows.{Entry as Slot, blocks_at}
-use Rattle.slot_store.specs.Calls.{EachOnce, EachHasBlock, EachHasNone, passed_slots}
-use Rattle.slot_store.specs.Forks.{is_in}
-use Rattle.slot_store.specs.Agreement.{ShowsStore}
+use Rattle.thread_state.specs.Passed.Rows.{Entry as Slot, blocks_at}
+use Rattle.thread_state.specs.Passed.Calls.{EachOnce, EachHasBlock, EachHasNone, passed_slots}
+use Rattle.thread_state.specs.Passed.Forks.{is_in}
+use Rattle.thread_state.specs.Passed.Agreement.{ShowsStore}
 use Rattle.thread_run.proofs.Knowing.{slot_count}
 
 -- how often a name stands in a list

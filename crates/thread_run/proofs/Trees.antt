@@ -3,7 +3,7 @@ use Rattle.std.proofs.Common.{◌≡◌, ℕ, false, List, [], ◌++◌, refl, s
 use Rattle.dummy_tree.specs.Shapes.{leaf, forked, shape_of}
 use Rattle.dummy_tree.specs.TreeLeaves.{tree_leaves}
 use Rattle.dummy_tree.specs.declared.tree.Tree.{Tree}
-use Rattle.depth_first_list.specs.Actions as actions
+use Rattle.depth_first_run.specs.Passed.Actions as actions
 use Rattle.par_tree.specs.Tree.{Name, Func}
 use Rattle.depth_first_run.specs.States.{Setting, State, with_action}
 use Rattle.depth_first_run.specs.Run.{no_name}
@@ -16,7 +16,7 @@ use Rattle.thread_stack.specs.declared.frame.Frame.{Frame}
 use Rattle.thread_stack.specs.declared.frame.Frame.TheVariants.{Tree as DummyTree}
 use Rattle.thread_stack.specs.Frames.{AreFrames, names_now}
 use Rattle.block_arena.specs.Size.{pieces_for}
-use Rattle.slot_store.specs.Rows.{HasNone}
+use Rattle.thread_state.specs.Passed.Rows.{HasNone}
 use Rattle.thread_state.specs.States.{own_row}
 use Rattle.thread_state.specs.declared.state.ThreadState.{ThreadState}
 use Rattle.thread_run.specs.Steps.{IsActionOf}

@@ -10,7 +10,7 @@ use Rattle.node_table.specs.Names.{slot_names}
 use Rattle.node_table.specs.Table as tables
 use Rattle.node_table.specs.Table.{Kind, call_node, Function, Table}
 use Rattle.thread_stack.specs.Frames.{AreFrames, IsNode, RunsIn}
-use Rattle.slot_store.specs.Rows.{Entry}
+use Rattle.thread_state.specs.Passed.Rows.{Entry}
 use Rattle.thread_state.specs.Calls.{CanCall, CanEnd, CanEndMain}
 use Rattle.thread_state.specs.Settings.{IsSettingOf}
 use Rattle.thread_run.specs.Stands.{InState}

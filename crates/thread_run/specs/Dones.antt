@@ -2,7 +2,7 @@
 use Rattle.std.specs.Prelude.{◌≡◌, ℕ, Bool, false, List, [], ◌∷◌, ◌++◌, length, None, Result, Ok, Err, MatchResult}
 use Rattle.dag_order.specs.declared.fault.FaultKind.{FaultKind}
 use Rattle.std.specs.declared.alloc.AllocError.{AllocError}
-use Rattle.depth_first_list.specs.Actions as actions
+use Rattle.depth_first_run.specs.Passed.Actions as actions
 use Rattle.par_tree.specs.Tree
 use Rattle.par_tree.specs.Tree.{Name, Func}
 use Rattle.depth_first_run.specs.Stores.{block_of, block_words}
@@ -18,7 +18,7 @@ use Rattle.thread_stack.specs.declared.frame.Frame.{Frame}
 use Rattle.thread_stack.specs.declared.frame.Frame.TheVariants.{Tree as DummyTree}
 use Rattle.thread_stack.specs.Frames.{AreFrames, IsFrame, IsJoinOf, IsParNode, names_now, frames_shown}
 use Rattle.block_arena.specs.Size.{pieces_for}
-use Rattle.slot_store.specs.Rows.{HasBlock, HasNone}
+use Rattle.thread_state.specs.Passed.Rows.{HasBlock, HasNone}
 use Rattle.thread_state.specs.States.{own_row}
 use Rattle.thread_state.specs.declared.state.ThreadState.{ThreadState}
 use Rattle.thread_run.specs.Stands.{InState, Stands}

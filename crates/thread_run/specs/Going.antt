@@ -7,8 +7,8 @@ use Rattle.depth_first_run.specs.States.{Setting, State, Item, with_fault}
 use Rattle.depth_first_run.specs.Middle as middles
 use Rattle.depth_first_run.specs.Middle.{step_frame}
 use Rattle.node_table.specs.Table.{Table}
-use Rattle.thread_points.specs.Points.{IsPlain, marked}
-use Rattle.thread_points.specs.Threads.{IsThread, open_children}
+use Rattle.thread_output.specs.Passed.Points.{IsPlain, marked}
+use Rattle.thread_output.specs.Passed.Threads.{IsThread, open_children}
 use Rattle.thread_stack.specs.declared.branch.Branch.{Branch}
 use Rattle.thread_stack.specs.declared.frame.Frame.TheVariants.{Joins}
 use Rattle.thread_stack.specs.Frames.{AreFrames, RunsIn}

@@ -7,7 +7,7 @@ use Rattle.depth_first_run.specs.Middle.{does, statements}
 use Rattle.node_table.specs.Names.{slot_names}
 use Rattle.node_table.specs.Table.{Table}
 use Rattle.thread_stack.specs.Frames.{IsNode}
-use Rattle.thread_points.specs.Points.{IsAt}
+use Rattle.thread_output.specs.Passed.Points.{IsAt}
 use Rattle.thread_state.specs.declared.state.ThreadState.{ThreadState}
 use Rattle.thread_state.specs.Settings.{IsSettingOf}
 use Rattle.thread_run.specs.Stands.{InState}

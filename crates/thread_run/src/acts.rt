@@ -13,7 +13,7 @@ ghost use Rattle.depth_first_run.specs.Values.{value};
 ghost use Rattle.depth_first_run.specs.Run.{free_block};
 ghost use Rattle.depth_first_run.specs.Middle.{middle, step_with_number, step_alloc, step_alloc_words, step_par};
 ghost use Rattle.thread_stack.specs.Frames.{IsParNode};
-ghost use Rattle.slot_store.specs.Rows.{HasBlock, HasNone};
+ghost use Rattle.thread_state.specs.Passed.Rows.{HasBlock, HasNone};
 ghost use Rattle.thread_state.specs.States.{own_row};
 ghost use Rattle.thread_run.specs.Costs.{done_cost, CostsAtMost};
 ghost use Rattle.thread_run.specs.Dones.{Leads, LeadsOrWants};

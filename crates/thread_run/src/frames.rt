@@ -1,7 +1,7 @@
 //! Frames that are no list of statements.
 
 ghost use Rattle.std.specs.Prelude.{◌≡◌, ℕ, false, IfOk};
-ghost use Rattle.slot_store.specs.Rows.{HasNone};
+ghost use Rattle.thread_state.specs.Passed.Rows.{HasNone};
 ghost use Rattle.thread_state.specs.States.{own_row};
 ghost use Rattle.node_table.specs.Codes.{code_shown};
 ghost use Rattle.thread_stack.specs.Lists.{kind_at};

@@ -1,3 +1,4 @@
 pub mod Lists
 pub mod Costs
 pub mod Functions
+pub mod Passed

@@ -3,8 +3,8 @@ use Rattle.std.specs.Prelude.{◌≡◌, ℕ, ◌+◌, Bool, List, [], ◌∷◌
 use Rattle.std.specs.List.{filter}
 use Rattle.dummy_tree.specs.Shapes.{shape_of}
 use Rattle.dummy_tree.specs.TreeLeaves.{tree_leaves}
-use Rattle.par_tree.specs.Tree
-use Rattle.par_tree.specs.Tree.{Name, Func, Program, Target, Arg, Stmt, step}
+use Rattle.node_table.specs.Passed.Tree
+use Rattle.node_table.specs.Passed.Tree.{Name, Func, Program, Target, Arg, Stmt, step}
 use Rattle.depth_first_run.specs.States.{State}
 use Rattle.depth_first_run.specs.Run.{assigns_in, no_name}
 use Rattle.depth_first_run.specs.Middle as middles

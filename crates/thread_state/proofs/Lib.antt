@@ -9,3 +9,4 @@ pub mod Entering
 pub mod Passing
 pub mod Returning
 pub mod Returned
+pub mod Passed

@@ -2,7 +2,7 @@
 use Rattle.std.proofs.Common.{◌≡◌, ℕ, suc, ◌+◌, ◌-◌, Bool, false, List, ◌∷◌, ℤ, Result, Ok, Err, MatchResult, refl, sym, ap, ◌∙◌, subst, arith}
 use Rattle.dag_order.specs.declared.fault.FaultKind.{FaultKind}
 use Rattle.dag_order.specs.declared.fault.FaultKind.TheVariants as faults
-use Rattle.depth_first_list.specs.Actions.{Deed}
+use Rattle.depth_first_run.specs.Passed.Actions.{Deed}
 use Rattle.par_tree.specs.Tree.{Name}
 use Rattle.std.specs.Prelude.{slice_set}
 use Rattle.std.proofs.Common.{◌<◌, length}

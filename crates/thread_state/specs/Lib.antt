@@ -7,3 +7,4 @@ pub mod Joins
 pub mod Forks
 pub mod Calls
 pub mod Settings
+pub mod Passed

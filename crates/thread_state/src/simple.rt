@@ -5,7 +5,7 @@ ghost use Rattle.par_tree.specs.Tree.{Name, Expr};
 ghost use Rattle.node_table.specs.Names.{name_at};
 ghost use Rattle.node_table.specs.Shown.{expr_shown};
 ghost use Rattle.node_table.specs.Reading.{IsExpr};
-ghost use Rattle.depth_first_list.specs.Actions.{Deed};
+ghost use Rattle.depth_first_run.specs.Passed.Actions.{Deed};
 ghost use Rattle.depth_first_run.specs.Values.{value};
 ghost use Rattle.depth_first_run.specs.States.{Setting, State, with_action, with_number, with_turn};
 ghost use Rattle.depth_first_run.specs.Run.{root_start, set_integer, put_value, unchanged};

@@ -15,24 +15,24 @@ use Rattle.dummy_tree.specs.QuotaWords.{quota_words}
 use Rattle.node_table.specs.Codes.{code_shown}
 use Rattle.period_books.specs.Periods.{Period}
 use Rattle.period_table.specs.Tables.{periods_of}
-use Rattle.core_parts.specs.declared.event.Event.{Event}
-use Rattle.core_parts.specs.declared.event.Event.TheVariants as events
+use Rattle.dfd_core.specs.Passed.EventType.{Event}
+use Rattle.dfd_core.specs.Passed.EventVariants as events
 use Rattle.run_end.specs.declared.stop.Stop.{Stop}
-use Rattle.core_parts.specs.Held.{held}
-use Rattle.core_parts.specs.Outcomes.{Tells, tells_theft, tells_action, tells_wait, tells_give_up}
+use Rattle.dfd_core.specs.Passed.Held.{held}
+use Rattle.dfd_core.specs.Passed.Outcomes.{Tells, tells_theft, tells_action, tells_wait, tells_give_up}
 use Rattle.dfd_core.specs.declared.run.Core.{Core}
 use Rattle.run_end.specs.declared.ends.RunEnd.{RunEnd}
 use Rattle.run_end.specs.declared.ends.RunEnd.TheVariants.{Finished, Stopped}
-use Rattle.core_ends.specs.declared.stepped.Stepped.{Stepped}
-use Rattle.core_ends.specs.declared.stepped.Stepped.TheVariants.{Stole, Acted, Suspended, GaveUp, Nothing, Over}
+use Rattle.dfd_core.specs.Passed.SteppedType.{Stepped}
+use Rattle.dfd_core.specs.Passed.SteppedVariants.{Stole, Acted, Suspended, GaveUp, Nothing, Over}
 use Rattle.dfd_core.specs.Cores.{IsAt, end_of, terms_at, workers_of, words_of_turn}
 use Rattle.dfd_core.specs.Plays.{TurnsTo}
-use Rattle.core_ends.specs.Ends.{KeepsEnd}
-use Rattle.core_ends.specs.Told.{IsTold}
+use Rattle.dfd_core.specs.Passed.Ends.{KeepsEnd}
+use Rattle.dfd_core.specs.Passed.Told.{IsTold}
 use Rattle.dfd_core.specs.Steps.{GoesOn, Comes}
-use Rattle.core_ends.proofs.Differing.{ok_or_err, some_or_none}
+use Rattle.dfd_core.proofs.Passed.Differing.{ok_or_err, some_or_none}
 use Rattle.victim_choice.proofs.Firsts.{first_below}
-use Rattle.core_ends.proofs.Answering.{nothing_told, no_stop_kept, stop_told}
+use Rattle.dfd_core.proofs.Passed.Answering.{nothing_told, no_stop_kept, stop_told}
 use Rattle.dfd_core.proofs.Taking.{goes, turns_to}
 use Rattle.victim_choice.proofs.Firsts.{one_first}
 use Rattle.good_trails.specs.Told.{kind_told}

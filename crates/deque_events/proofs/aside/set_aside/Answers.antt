@@ -2,7 +2,7 @@ use Rattle.std.proofs.Common.{[], ◌∷◌, ap, sym, subst, ◌∙◌, arith, l
 use Rattle.std.specs.Prelude.{slice_get}
 use Rattle.std.proofs.lemmas.Option.{none-some}
 use Rattle.deque_list.specs.Ids.{IsLive, IsSmallestFree}
-use Rattle.period_books.proofs.Sorting.{get_middle}
+use Rattle.period_table.proofs.Passed.Sorting.{get_middle}
 use Rattle.period_table.proofs.Seats.{as_long}
 use Rattle.deque_events.proofs.Putting.{live}
 use Rattle.deque_events.proofs.Stealing.{held, rank_of, is_live, last_place, never_refused, put_beside}

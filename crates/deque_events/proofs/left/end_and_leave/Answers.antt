@@ -1,6 +1,6 @@
 use Rattle.std.proofs.Common.{refl, ap}
 use Rattle.bounded_list.specs.BoundedList.{spare}
-use Rattle.period_books.specs.Periods.{open_shown}
+use Rattle.period_table.specs.Passed.Periods.{open_shown}
 use Rattle.period_table.specs.Tables.{seat_at, shown_of}
 use Rattle.period_table.proofs.Seats.{room_seat}
 use Rattle.deque_events.proofs.Putting.{at_rank, here}

@@ -1,5 +1,5 @@
 use Rattle.std.proofs.Common.{◌+◌, ◌%◌, ap, ◌∙◌}
-use Rattle.victim_choice.proofs.Turns.{rest_first}
+use Rattle.hall_turns.proofs.Passed.Turns.{rest_first}
 use Rattle.hall_choice.proofs.choosing.picked.Goals as goal
 
 pub returns-clause-value : goal.returns-clause-value

@@ -1,5 +1,5 @@
 use Rattle.std.proofs.Common.{sym, ◌∙◌, subst}
-use Rattle.thread_frames.specs.Roots.{IsRootAlone}
+use Rattle.dfd_core.specs.Passed.Roots.{IsRootAlone}
 use Rattle.dummy_tree.specs.QuotaWords.{quota_words}
 use Rattle.dummy_tree.specs.declared.quota.Quota.{Quota}
 use Rattle.node_table.specs.Codes.{code_shown}

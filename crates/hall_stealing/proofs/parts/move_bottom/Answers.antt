@@ -1,5 +1,5 @@
 use Rattle.std.proofs.Common.{List, [], ◌∷◌, ap, ◌∙◌}
-use Rattle.thread_frames.specs.declared.thread.Thread.{Thread}
+use Rattle.hall_turns.specs.Passed.ThreadType.{Thread}
 use Rattle.hall_stealing.proofs.Parted.{others_left, bottom_found}
 use Rattle.hall_stealing.proofs.parts.move_bottom.Goals as goal
 

@@ -4,7 +4,7 @@ use Rattle.thread_frames.specs.Children.{with_delivered, IsOnlyNewest}
 use Rattle.thread_frames.specs.Points.{IsAtPoint}
 use Rattle.thread_frames.specs.Views.{children_of, done_of, forks_of, join_words_of, next_of, thread_words, ended_words}
 use Rattle.thread_frames.specs.declared.thread.Thread.{Thread}
-use Rattle.thread_state.specs.Joins.{released}
+use Rattle.thread_frames.specs.Passed.Joins.{released}
 use Rattle.list_events.proofs.calls.deliver.Goals as goal
 
 pub returns-clause-given : goal.returns-clause-given

@@ -6,7 +6,7 @@ use Rattle.thread_frames.specs.Kept.{result_kept}
 use Rattle.thread_frames.specs.Children.{IsAwaited, IsOnlyNewest}
 use Rattle.thread_frames.specs.Views.{children_of, join_words_of, label_of}
 use Rattle.thread_frames.specs.declared.ended.Ended.{Ended}
-use Rattle.thread_state.specs.Joins.{released}
+use Rattle.thread_frames.specs.Passed.Joins.{released}
 use Rattle.lane_events.proofs.Giving.{given_is_handed}
 use Rattle.list_events.proofs.calls.hand_over.Goals as goal
 

@@ -3,7 +3,7 @@ use Rattle.dummy_tree.specs.QuotaWords.{quota_words}
 use Rattle.dummy_tree.specs.Leaves.{IsTreeSize}
 use Rattle.dummy_tree.specs.Shapes.{Shape, shape_of}
 use Rattle.dummy_tree.specs.TreeLeaves.{tree_leaves}
-use Rattle.depth_first_list.specs.Runs.{tree_for}
+use Rattle.depth_first_run.specs.Passed.Runs.{tree_for}
 use Rattle.depth_first_run.specs.Stores.{block_words}
 use Rattle.depth_first_run.specs.Middle.{middle, does, tree, allocates, allocated, step_alloc_words}
 use Rattle.thread_stack.specs.declared.frame.Frame.TheVariants.{Tree, Allocates}

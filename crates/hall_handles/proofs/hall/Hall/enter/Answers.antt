@@ -1,7 +1,7 @@
 use Rattle.std.proofs.Common.{refl, subst, arith}
 use Rattle.std.specs.Prelude.{Err}
 use Rattle.turn_table.specs.Tables.{key_of}
-use Rattle.hall_law.specs.Numbers.{IsSmallestNumber}
+use Rattle.hall_turns.specs.Passed.Numbers.{IsSmallestNumber}
 use Rattle.hall_entering.specs.Entering.{HasEntered}
 use Rattle.hall_entering.specs.declared.refused.EnterRefused.{EnterRefused}
 use Rattle.hall_handles.proofs.hall.Hall.enter.Goals as goal

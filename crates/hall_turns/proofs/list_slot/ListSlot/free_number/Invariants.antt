@@ -1,6 +1,6 @@
 -- Each smaller number is that of a worker who is in.
 use Rattle.std.proofs.Common.{ℕ, ◌<◌}
-use Rattle.lawful_books.specs.Lists.{times}
+use Rattle.hall_law.specs.Passed.Lists.{times}
 use Rattle.hall_turns.proofs.list_slot.ListSlot.free_number.Given as goal
 
 abbrev pub invariant-numbers : goal.invariant-numbers

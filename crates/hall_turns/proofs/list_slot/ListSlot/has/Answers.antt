@@ -1,6 +1,6 @@
 use Rattle.std.proofs.Common.{ℕ, ◌<◌, ◌↔◌, List, sym, subst}
 use Rattle.std.specs.Prelude.{IsTrue}
-use Rattle.lawful_books.specs.Lists.{times}
+use Rattle.hall_law.specs.Passed.Lists.{times}
 use Rattle.hall_turns.proofs.Crews.{is_in}
 use Rattle.hall_turns.proofs.list_slot.ListSlot.has.Goals as goal
 

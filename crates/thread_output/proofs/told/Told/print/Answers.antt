@@ -1,6 +1,6 @@
 use Rattle.std.proofs.Common.{◌∙◌, ap, sym, List, ℤ, ◌∷◌, ◌++◌, [], Option, subst, w64}
 use Rattle.std.proofs.lemmas.Int.{to_z-of_z}
-use Rattle.depth_first_run.specs.Run.{lines_of}
+use Rattle.thread_points.specs.Passed.Run.{lines_of}
 use Rattle.thread_output.specs.Telling.{AreLines}
 use Rattle.thread_output.proofs.Both.{printed_fault, printed_lines}
 use Rattle.thread_output.proofs.told.Told.print.Goals as goal

@@ -1,5 +1,5 @@
 use Rattle.std.proofs.Common.{◌∙◌, sym, List, ℤ, subst}
-use Rattle.depth_first_run.specs.Run.{lines_of}
+use Rattle.thread_points.specs.Passed.Run.{lines_of}
 use Rattle.thread_output.specs.Telling.{AreLines}
 use Rattle.thread_output.proofs.Parts.{stays_fault, stays_lines, goes_on_fault, goes_on_lines, joined_lines}
 use Rattle.thread_output.proofs.told.Told.then.Goals as goal

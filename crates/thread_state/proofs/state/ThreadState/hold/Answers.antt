@@ -1,5 +1,5 @@
 use Rattle.std.proofs.Common.{List, ℤ, pos, replicate, refl, subst}
-use Rattle.depth_first_list.specs.Actions as actions
+use Rattle.depth_first_run.specs.Passed.Actions as actions
 use Rattle.depth_first_run.specs.Stores.{hold_block, block_words}
 use Rattle.node_table.specs.Names.{name_at}
 use Rattle.slot_store.specs.Shown.{slots_shown}

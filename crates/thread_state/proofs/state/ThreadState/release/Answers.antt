@@ -1,7 +1,7 @@
 use Rattle.std.proofs.Common.{◌∙◌, ℕ, length, refl, sym, ap, arith}
 use Rattle.block_arena.specs.Size.{words_taken}
 use Rattle.block_arena.specs.Region.{with_given}
-use Rattle.depth_first_list.specs.Actions as actions
+use Rattle.depth_first_run.specs.Passed.Actions as actions
 use Rattle.depth_first_run.specs.Stores.{drop_block, block_words, block_of}
 use Rattle.node_table.specs.Names.{name_at}
 use Rattle.thread_state.proofs.Totals.{items_taken, words_are}

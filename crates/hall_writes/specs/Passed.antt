@@ -1,0 +1,19 @@
+-- What callers need of what this crate stands on.
+pub use Rattle.hall_turns.specs.declared.lane_slot.LaneSlot as LaneSlotType
+pub use Rattle.hall_turns.specs.declared.key.HallKey as HallKeyType
+pub use Rattle.hall_turns.specs.Keys as Keys
+pub use Rattle.hall_turns.specs.Shown as Shown
+pub use Rattle.hall_turns.specs.Steps as Steps
+pub use Rattle.hall_turns.specs.Takes as Takes
+pub use Rattle.hall_turns.specs.declared.lane_slot.Running as RunningType
+pub use Rattle.hall_turns.specs.declared.list_slot.ListSlot as ListSlotType
+pub use Rattle.hall_turns.specs.declared.pool_slot.PoolSlot as PoolSlotType
+pub use Rattle.hall_turns.specs.declared.slot.Slot as SlotType
+pub use Rattle.hall_turns.specs.declared.slot.Slot.TheVariants as SlotVariants
+pub use Rattle.hall_turns.specs.Law as Law
+pub use Rattle.hall_turns.specs.Sound as Sound
+pub use Rattle.hall_turns.specs.Passed.Parts as Parts
+pub use Rattle.hall_turns.specs.declared.event.Event as EventType
+pub use Rattle.hall_turns.specs.declared.seat_note.SeatNote as SeatNoteType
+pub use Rattle.hall_turns.specs.declared.event.Event.TheVariants as EventVariants
+pub use Rattle.hall_turns.specs.Lists as Lists
