@@ -5,15 +5,11 @@
 #![tactic(auto)]
 
 #[cfg(test)]
-mod crowds;
-#[cfg(test)]
 mod halls;
 #[cfg(test)]
 mod hold;
 #[cfg(test)]
 mod lanes;
-#[cfg(test)]
-mod notes;
 #[cfg(test)]
 mod rows;
 #[cfg(test)]

@@ -73,7 +73,7 @@ fn place_of(seats: &[Seat], worker: u32) -> Option<usize>
 }
 
 /// Takes the seat at a place out.
-pub(crate) fn taken_at(hall: &Hall, seats: &mut Vec<Seat>, at: usize) -> Seat
+fn taken_at(hall: &Hall, seats: &mut Vec<Seat>, at: usize) -> Seat
     requires place { at < vec_len seats.old }
     requires seats { All (IsIn hall.now) seats.old.items }
     ensures seat { IsIn hall.now result }
