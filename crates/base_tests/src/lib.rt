@@ -1,5 +1,5 @@
-//! Tests of small crates at the base: lists, cuts of bytes, labels and rosters, dummies, operators, tokens, made sources, and what is kept
-//! and printed of threads.
+//! Tests of small crates at the base: lists, cuts of bytes, labels and rosters, dummies, operators, tokens, made sources, and the maps and
+//! outputs of threads.
 //!
 //! This crate has only tests. It uses the crates that it tests, each of which is so proved only once. It has no theorem.
 #![tactic(auto)]
