@@ -11,6 +11,3 @@
 mod bounded_list;
 
 pub use bounded_list::{BoundedList, MAX_ENTRIES};
-
-#[cfg(test)]
-mod tests;

@@ -8,6 +8,3 @@
 mod bytes;
 
 pub use bytes::{behind, cut_at};
-
-#[cfg(test)]
-mod tests;

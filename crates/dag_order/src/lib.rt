@@ -34,6 +34,3 @@ pub use lines::Lines;
 pub use placed::{Placed, is_in_order};
 pub use roster::{Roster, RosterFail};
 pub use thread_id::ThreadId;
-
-#[cfg(test)]
-mod tests;

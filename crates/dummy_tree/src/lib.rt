@@ -16,6 +16,3 @@ mod tree;
 pub use dummy_count::dummies;
 pub use quota::Quota;
 pub use tree::Tree;
-
-#[cfg(test)]
-mod tests;

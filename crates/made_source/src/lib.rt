@@ -16,6 +16,3 @@ pub use source::made_source;
 
 /// The most groups of a made source.
 pub const MOST_GROUPS: u32 = 8_000;
-
-#[cfg(test)]
-mod tests;

@@ -14,6 +14,3 @@ mod places;
 pub use comparisons::{compare, is_true};
 pub use operators::{negate, operate};
 pub use places::{cut_of, place_in, place_up_to, size_of};
-
-#[cfg(test)]
-mod tests;

@@ -19,6 +19,3 @@ pub use lexer::lexemes;
 pub use parse_fail::ParseFail;
 pub use token::{Token, Tokens};
 pub use token_list::tokens;
-
-#[cfg(test)]
-mod tests;

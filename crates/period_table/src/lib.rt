@@ -18,6 +18,3 @@ pub use laws::replaced_twice;
 pub use periods::{close_in, note_in, reserve_in};
 pub use seat::Seat;
 pub use table::PeriodTable;
-
-#[cfg(test)]
-mod tests;

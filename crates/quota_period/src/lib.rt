@@ -12,6 +12,3 @@ mod period;
 
 pub use charge::Charge;
 pub use period::Period;
-
-#[cfg(test)]
-mod tests;

@@ -7,7 +7,7 @@ use std::fmt::Write;
 use std::process::Abort;
 
 // Checks that a deque is live.
-fn live(rt: &impl Abort, list: &List<u32>, id: DequeId)
+pub(crate) fn live(rt: &impl Abort, list: &List<u32>, id: DequeId)
     ensures { IsLive (deque_ids list.now.deques) id }
 {
     match list.rank(id) {

@@ -1,4 +1,4 @@
-//! Tests of the edge of the program: its words, its streams and its texts.
+//! Tests of the edge of the program: its words, its streams, its texts and its trails.
 //!
 //! This crate has no code but tests. It stands on the crates that it tests, each of which is so proved but once. It has no theorem.
 #![tactic(auto)]
@@ -9,3 +9,7 @@ mod byte_streams_calls;
 mod command_line_calls;
 #[cfg(test)]
 mod run_report_calls;
+#[cfg(test)]
+mod trail_meaning_calls;
+#[cfg(test)]
+mod trail_text_calls;

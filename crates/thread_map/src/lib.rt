@@ -13,6 +13,3 @@ mod thread_map;
 
 pub use laws::value_written;
 pub use thread_map::ThreadMap;
-
-#[cfg(test)]
-mod tests;

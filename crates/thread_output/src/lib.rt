@@ -13,6 +13,3 @@
 mod told;
 
 pub use told::Told;
-
-#[cfg(test)]
-mod tests;

@@ -15,6 +15,3 @@ pub use trail::{Events, Trail};
 pub use trail_event::TrailEvent;
 pub use trail_kind::TrailKind;
 pub use trail_numbers::TrailNumbers;
-
-#[cfg(test)]
-mod tests;

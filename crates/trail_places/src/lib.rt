@@ -15,7 +15,5 @@
 pub mod laws;
 mod pairing;
 mod places;
-#[cfg(test)]
-mod tests;
 
 pub use places::partners;

@@ -24,6 +24,3 @@ pub use laws::texts_have_one_reading;
 pub use reading::read_trail;
 pub use trail_fail::TrailFail;
 pub use writing::trail_text;
-
-#[cfg(test)]
-mod tests;

@@ -12,6 +12,3 @@
 mod choice;
 
 pub use choice::{can_move, first_mover, first_ready, some_ready};
-
-#[cfg(test)]
-mod tests;

@@ -1,4 +1,4 @@
-use crate::{behind, cut_at};
+use byte_cuts::{behind, cut_at};
 
 #[test]
 fn bytes_are_cut(rt: HostRuntime) {

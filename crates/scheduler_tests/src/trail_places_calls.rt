@@ -1,8 +1,8 @@
-use crate::partners;
 use dag_order::{ActionId, Kind, ThreadId};
 use serial_journal::{Action, Actions};
 use std::alloc::{AllocError, Global};
 use std::test::Fail;
+use trail_places::partners;
 
 // Actions of these kinds. Their names and words do not matter here.
 fn actions_of(alloc: Global, kinds: &str) -> Result<Actions, AllocError> {

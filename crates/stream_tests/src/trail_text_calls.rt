@@ -1,11 +1,11 @@
 //! Texts of trails, in which `/` is written for LF, and the places at which others are refused: the length of the lines before.
 //! A second reader, made of regular expressions, found the same places.
 
-use crate::{TrailFail, read_trail, trail_text};
 use std::alloc::{AllocError, Global};
 use std::process::Abort;
 use std::test::Fail;
 use trail_meaning::{TrailEvent, TrailKind};
+use trail_text::{TrailFail, read_trail, trail_text};
 
 /// The bytes of a row, with LF for `/`.
 fn bytes_of(alloc: Global, row: &str) -> Result<Vec<u8>, AllocError> {

@@ -1,10 +1,10 @@
 ghost use Rattle.std.specs.Prelude.{◌≡◌, None};
 ghost use Rattle.thread_map.specs.Kept.{kept_under};
 
-use crate::ThreadMap;
 use dag_order::ThreadId;
 use std::process::Abort;
 use std::test::Fail;
+use thread_map::ThreadMap;
 
 // Keeps a number under an id that is free.
 fn put(rt: &impl Abort, map: &mut ThreadMap<u32>, id: ThreadId, value: u32) -> Result<(), Fail> {

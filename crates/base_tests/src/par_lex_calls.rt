@@ -1,4 +1,4 @@
-use crate::{ParseFail, Token, tokens};
+use par_lex::{ParseFail, Token, tokens};
 use par_text::{SyntaxError, SyntaxKind};
 use std::test::Fail;
 

@@ -1,9 +1,5 @@
-use crate::birth::{Birth, Births};
-use crate::label::{Label, before};
-use crate::placed::is_in_order;
-use crate::roster::{Roster, RosterFail};
-use crate::thread_id::ThreadId;
 use bounded_list::BoundedList;
+use dag_order::{Birth, Births, Label, Roster, RosterFail, ThreadId, before, is_in_order};
 use std::alloc::Global;
 use std::process::Abort;
 

@@ -1,5 +1,5 @@
-use crate::{compare, cut_of, is_true, negate, operate, place_in, place_up_to, size_of};
 use dag_order::FaultKind;
+use number_operators::{compare, cut_of, is_true, negate, operate, place_in, place_up_to, size_of};
 use par_tree::{ChainOp, CmpOp};
 
 #[test]

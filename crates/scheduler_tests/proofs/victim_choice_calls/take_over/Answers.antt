@@ -2,7 +2,7 @@
 use Rattle.std.proofs.Common.{sym}
 use Rattle.deque_list.proofs.DequeLaws.{deque_of_live}
 use Rattle.deque_list.specs.Ids.{deque_id}
-use Rattle.victim_choice.proofs.tests.take_over.Goals as goal
+use Rattle.scheduler_tests.proofs.victim_choice_calls.take_over.Goals as goal
 
 pub take_over-requires : goal.take_over-requires
 take_over-requires g c =

@@ -1,7 +1,7 @@
-use crate::PeriodTable;
 use dag_order::{ActionId, ThreadId};
 use deque_list::DequeId;
 use period_books::Period;
+use period_table::PeriodTable;
 use std::test::Fail;
 
 #[test]

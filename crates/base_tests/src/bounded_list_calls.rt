@@ -1,4 +1,4 @@
-use crate::BoundedList;
+use bounded_list::BoundedList;
 use std::test::Fail;
 
 #[test]

@@ -1,4 +1,4 @@
-use crate::{Quota, Tree, dummies};
+use dummy_tree::{Quota, Tree, dummies};
 
 #[test]
 fn quotas_are_whole_pieces(rt: HostRuntime) {

@@ -2,7 +2,7 @@ use Rattle.std.proofs.Common.{◌≤◌, ◌+◌, sym, ap, subst, ◌∙◌, ari
 use Rattle.std.proofs.lemmas.Option.{same_Some}
 use Rattle.period_books.specs.Periods.{Period as AnyPeriod, open_shown}
 use Rattle.period_table.specs.Tables.{shown_of}
-use Rattle.period_table.proofs.tests.memory_is_found_where_there_is_some.Goals as goal
+use Rattle.scheduler_tests.proofs.period_table_calls.memory_is_found_where_there_is_some.Goals as goal
 
 pub reserve-requires : goal.reserve-requires
 reserve-requires g c = (open_shown 63 c.in_ok-period.period, ap (shown_of 63) c.begin.ensures.seat)

@@ -1,5 +1,5 @@
-use crate::{MOST_GROUPS, made_source};
 use language_limits::LONGEST_TEXT;
+use made_source::{MOST_GROUPS, made_source};
 use std::test::Fail;
 
 #[test]

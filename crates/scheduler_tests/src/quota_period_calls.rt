@@ -1,5 +1,5 @@
-use crate::{Charge, Period};
 use dummy_tree::Quota;
+use quota_period::{Charge, Period};
 use std::test::Fail;
 
 #[test]

@@ -1,5 +1,5 @@
-use crate::{Events, Trail, TrailEvent, TrailKind, TrailNumbers};
 use std::test::Fail;
+use trail_meaning::{Events, Trail, TrailEvent, TrailKind, TrailNumbers};
 
 // A trail is held for as long as it is checked, and goes to another thread if need be.
 fn sends<T: Send>(_value: &T) {}

@@ -1,11 +1,9 @@
-ghost use Rattle.deque_list.specs.Deques.{deque_ids};
-ghost use Rattle.deque_list.specs.Ids.{IsLive, deque_id};
-
-use crate::choice::{first_mover, first_ready, some_ready};
+use crate::deque_list_calls::live;
 use deque_list::{DequeId, List};
 use period_table::PeriodTable;
 use std::process::Abort;
 use std::test::Fail;
+use victim_choice::{first_mover, first_ready, some_ready};
 
 #[test]
 fn words_pick_once_round(rt: HostRuntime) -> Result<(), Fail> {
@@ -30,26 +28,16 @@ fn words_pick_once_round(rt: HostRuntime) -> Result<(), Fail> {
     Ok(())
 }
 
-/// Checks that a deque is live.
-fn live(rt: &impl Abort, list: &List<u32>, id: u32)
-    ensures { IsLive (deque_ids list.now.deques) (deque_id id) }
-{
-    match list.rank(DequeId(id)) {
-        Some(_) => {}
-        None => panic!(rt; "the deque is not live"),
-    }
-}
-
 /// Puts a deque with an owner and one item, and so with none to steal, to the right of another.
 fn put_right(rt: &impl Abort, list: &mut List<u32>, of: u32, owner: u32, want: u32) {
-    live(rt, list, of);
+    live(rt, list, DequeId(of));
     let id = list.insert_right(DequeId(of), 7, owner).ok();
     assert_eq!(rt; id, Some(DequeId(want)));
 }
 
 /// Gives a deque without an owner an owner.
 fn take_over(rt: &impl Abort, list: &mut List<u32>, id: u32, owner: u32) {
-    live(rt, list, id);
+    live(rt, list, DequeId(id));
     match list.owner(DequeId(id)) {
         None => {}
         Some(_) => panic!(rt; "the deque has an owner"),
@@ -62,7 +50,7 @@ fn four_deques(rt: &impl Abort, list: &mut List<u32>) {
     put_right(rt, list, 0, 1, 1);
     put_right(rt, list, 1, 2, 2);
     put_right(rt, list, 2, 3, 3);
-    live(rt, list, 2);
+    live(rt, list, DequeId(2));
     list.give_up(DequeId(2));
 }
 

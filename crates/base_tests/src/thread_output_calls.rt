@@ -1,7 +1,7 @@
-use crate::Told;
 use dag_order::{FaultAt, FaultKind};
 use std::process::Abort;
 use std::test::Fail;
+use thread_output::Told;
 
 // A part that prints some numbers, and then meets a fault at this line, if at any.
 fn part(rt: &(impl Abort + AllocGlobal), numbers: &[i64], line: Option<u32>) -> Result<Told, Fail> {
