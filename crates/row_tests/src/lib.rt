@@ -1,12 +1,9 @@
-//! Rows that were worked out by hand or by `reference/`: what cores of both kinds show of their laws in the middle of plays, and the answers to
-//! trails.
+//! Rows that were worked out by hand or by `reference/`: what cores of both kinds show of their laws in the middle of plays.
 //!
-//! This crate has no code but tests. It uses the parser, the cores of the scheduler with deques and with a ready list, the laws of their
-//! prefixes, and the checker of trails. It has no theorem.
+//! This crate has no code but tests. It uses the parser, the cores of the scheduler with deques and with a ready list, and the laws of their
+//! prefixes. It has no theorem.
 #![tactic(auto)]
 
-#[cfg(test)]
-mod answers;
 #[cfg(test)]
 mod prefixes;
 #[cfg(test)]
