@@ -1,217 +1,214 @@
 //! An order of what the seats of a hall were told: each seat knows what it did one after the other, and not what the others did meanwhile.
-//! `order` looks for one order of all of it in which each event is a case of the machine, and writes it as a trail. Each line has the
-//! tickets that were drawn before the call and after it: an event comes before each other one whose call began after its own had ended. Of those
-//! that may come next the search tries first what ended first. The order has to have the numbers of the run.
+//! `order` looks for one order of all of it in which each event is a case of the machine, and writes it as a trail.
+//!
+//! Each event has the tickets that were drawn before its call and after it: it comes before each other one whose call began after its own had
+//! ended. The moves of the hall say in which order the words in use changed, and the books in which order the periods began, which of them
+//! are marked, and what each ran. The order has to agree with all of that, and each deque has to have the id that its seat was told.
+//!
+//! What changes no deque but its own, and of that only the upper end, may come at once: whatever could come before it can come after it. So
+//! the search has a choice only between a steal, an End and a suspension that overlap.
 
 use crate::command::accepted;
-use crate::good_trail::{fork_of, Deed, Label, Moment, Setting};
+use crate::good_trail::{self, fork_of, Action, Deed, Label, Moment, Setting};
 use crate::resolve::resolve;
-use crate::trail::{line_at, natural, rules_of, source_at, trail_text, Kind, Numbers, Trail, TrailEvent};
+use crate::told::{self, ActionName, Event, Seat, ThreadName, Told};
+use crate::trail::{line_at, rules_of, source_at, trail_text, Kind, Trail, TrailEvent};
 use std::collections::{HashMap, HashSet};
+use std::rc::Rc;
 
-/// The number of the period in which a thread was born, and which birth of it that was; both 0 for the root.
-type ThreadName = (u64, u64);
-
-/// What a seat was told. A steal says which period began, and an action which of its thread it is, from 0.
-#[derive(Clone, Copy)]
-enum Told {
-    Stole(u64),
-    Did(ThreadName, usize),
-    Suspended(ThreadName),
-    GaveUp,
-}
-
-/// One seat: its worker, and what it was told in order, with the tickets before and after each.
-struct Seat {
-    worker: usize,
-    told: Vec<Told>,
-    tickets: Vec<(u64, u64)>,
-}
-
-/// The trail that a run's seats can have made, or why there is none.
+/// The trail that the seats of a run can have made, or why there is none.
 pub fn order(text: &[u8]) -> Result<Vec<u8>, String> {
     let (rules, second) = line_at(text, 0).and_then(|(words, next)| Some((rules_of(&words)?, next))).ok_or("no numbers")?;
     let (source, at) = source_at(text, second).ok_or("no source")?;
-    let (numbers, at) =
-        line_at(text, at).and_then(|(words, next)| Some((numbers_in(&words)?, next))).ok_or("no numbers of the run")?;
-    let seats = seats_in(text, at).ok_or("no seats")?;
+    let told = Told::read(text, at).ok_or("no books, moves and seats")?;
     let program = accepted(&source).map_err(|_| "the source is refused")?;
     let setting = Setting::new(&resolve(&program), rules).ok_or("too many actions")?;
-    let labels = labels_of(&setting, &seats).ok_or("a thread that nobody forked")?;
-    let search = Search { setting: &setting, seats: &seats, labels: &labels, numbers };
+    let labels = told.labels(&setting).ok_or("a thread that nobody forked")?;
+    let moving = told.moves.iter().map(|(name, _)| *name).collect();
+    let search = Search { setting: &setting, told: &told, labels: &labels, moving };
     let (events, end) = search.run().ok_or("no order of these is a run of the machine")?;
     if !setting.has_ended(&end, &Label::new()) {
         return Err("the root has not ended".to_string());
     }
-    Ok(trail_text(&Trail { rules, source, events, numbers }))
-}
-
-/// What the books and the moves of the run have told.
-fn numbers_in(words: &[&[u8]]) -> Option<Numbers> {
-    let [b"periods", periods, b"ahead", ahead, b"high", high] = words else { return None };
-    Some(Numbers { periods: natural(periods)?, ahead: natural(ahead)?, high: natural(high)? })
-}
-
-/// The seats that are written behind the source, up to the end of the text. Those of one worker come in the order of their first periods.
-fn seats_in(text: &[u8], mut at: usize) -> Option<Vec<Seat>> {
-    let mut seats: Vec<Seat> = Vec::new();
-    while at < text.len() {
-        let (words, next) = line_at(text, at)?;
-        match words.as_slice() {
-            [b"seat", worker] => seats.push(Seat { worker: natural(worker)? as usize, told: Vec::new(), tickets: Vec::new() }),
-            [before, after, words @ ..] => seats.last_mut()?.add((natural(before)?, natural(after)?), told_of(words)?),
-            [] | [_] => return None,
-        }
-        at = next;
+    if !search.has_books(&end) {
+        return Err("the books have other actions than the seats were told".to_string());
     }
-    seats.retain(|seat| !seat.told.is_empty());
-    seats.sort_by_key(|seat| (seat.worker, seat.first_period()));
-    Some(seats)
-}
-
-fn told_of(words: &[&[u8]]) -> Option<Told> {
-    match words {
-        [b"stole", period] => Some(Told::Stole(natural(period)?)),
-        [b"did", period, nth, index] => Some(Told::Did((natural(period)?, natural(nth)?), natural(index)? as usize)),
-        [b"suspended", period, nth] => Some(Told::Suspended((natural(period)?, natural(nth)?))),
-        [b"gaveup"] => Some(Told::GaveUp),
-        _ => None,
-    }
-}
-
-impl Seat {
-    fn add(&mut self, tickets: (u64, u64), told: Told) {
-        self.tickets.push(tickets);
-        self.told.push(told);
-    }
-
-    fn first_period(&self) -> Option<u64> {
-        self.told.iter().find_map(|it| if let Told::Stole(period) = it { Some(*period) } else { None })
-    }
-}
-
-/// The labels of the threads that the seats name: the n-th Fork in a period has made its n-th thread.
-fn labels_of(setting: &Setting, seats: &[Seat]) -> Option<HashMap<ThreadName, Label>> {
-    let mut labels = HashMap::from([((0, 0), Label::new())]);
-    let mut known = 0;
-    while known < labels.len() {
-        known = labels.len();
-        for seat in seats {
-            name_children(setting, seat, &mut labels);
-        }
-    }
-    let names = seats.iter().flat_map(|seat| &seat.told);
-    let all_known = names.into_iter().all(|it| match it {
-        Told::Did(name, _) | Told::Suspended(name) => labels.contains_key(name),
-        Told::Stole(_) | Told::GaveUp => true,
-    });
-    all_known.then_some(labels)
-}
-
-/// Names the threads that a seat forked, as far as its own threads have labels.
-fn name_children(setting: &Setting, seat: &Seat, labels: &mut HashMap<ThreadName, Label>) {
-    let mut child = (0, 0);
-    for it in &seat.told {
-        match it {
-            Told::Stole(period) => child = (*period, 0),
-            Told::Did(name, index) => {
-                let Some(label) = labels.get(name).cloned() else { return };
-                let place = setting.places_of(&label).get(*index);
-                if let Some(Deed::Fork(ordinal)) = place.map(|place| setting.list[*place].deed) {
-                    labels.insert(child, fork_of(&label, ordinal));
-                    child.1 += 1;
-                }
-            }
-            Told::Suspended(_) | Told::GaveUp => {}
-        }
-    }
+    Ok(trail_text(&Trail { rules, source, events, numbers: told.numbers() }))
 }
 
 struct Search<'a> {
     setting: &'a Setting,
-    seats: &'a [Seat],
+    told: &'a Told,
     labels: &'a HashMap<ThreadName, Label>,
-    numbers: Numbers,
+    /// The actions of the moves.
+    moving: HashSet<ActionName>,
 }
 
-/// A moment on the way, how many events of each seat have come, the events that may come next, and the one that led here.
-struct Level {
+/// A moment on the way, how many events of each seat have come, and how many of the moves.
+#[derive(Clone)]
+struct State {
     moment: Moment,
     counts: Vec<usize>,
-    next: Vec<(usize, TrailEvent)>,
-    by: Option<TrailEvent>,
+    moved: usize,
+}
+
+/// An event that a seat may have done next.
+#[derive(Clone, Copy)]
+struct Next {
+    seat: usize,
+    event: TrailEvent,
+}
+
+/// What is still to be tried: an event after so many others, which led to a state.
+struct Branch {
+    from: Rc<State>,
+    came: usize,
+    next: Next,
 }
 
 impl Search<'_> {
-    /// The events in an order in which each of them may come, and the moment after them, which has the numbers of the run.
+    /// The events in an order in which each of them may come, and the moment after them.
     fn run(&self) -> Option<(Vec<TrailEvent>, Moment)> {
-        let counts = vec![0; self.seats.len()];
-        let mut levels = vec![self.level(self.setting.opening(), counts, None)];
-        let mut seen = HashSet::new();
-        while let Some(level) = levels.last_mut() {
-            let is_whole = level.counts.iter().zip(self.seats).all(|(counts, seat)| *counts == seat.told.len());
-            if is_whole && level.moment.numbers() == self.numbers {
-                let events = levels.iter().filter_map(|level| level.by).collect();
-                return levels.pop().map(|level| (events, level.moment));
+        let counts = vec![0; self.told.seats.len()];
+        let mut state = State { moment: self.setting.opening(), counts, moved: 0 };
+        let (mut came, mut branches, mut seen) = (Vec::new(), Vec::new(), HashSet::new());
+        loop {
+            let may_go_on = self.settle(&mut state, &mut came);
+            if may_go_on && self.is_whole(&state) {
+                return Some((came, state.moment));
             }
-            let Some((seat, event)) = level.next.pop() else {
-                levels.pop();
-                continue;
-            };
-            let (mut moment, mut counts) = (level.moment.clone(), level.counts.clone());
-            counts[seat] += 1;
-            let leads = self.setting.lead(&mut moment, event);
-            let Numbers { periods, ahead, high } = moment.numbers();
-            let may_lead = leads && ahead <= self.numbers.ahead && high <= self.numbers.high;
-            if may_lead && seen.insert((counts.clone(), shape_of(&moment), [periods, ahead, high])) {
-                levels.push(self.level(moment, counts, Some(event)));
+            if may_go_on && seen.insert((state.counts.clone(), shape_of(&state.moment))) {
+                let nexts = self.nexts(&state);
+                let from = Rc::new(state);
+                branches.extend(nexts.into_iter().map(|next| Branch { from: Rc::clone(&from), came: came.len(), next }));
+            }
+            state = self.follow(&mut branches, &mut came)?;
+        }
+    }
+
+    /// Goes on with the last branch whose event may come.
+    fn follow(&self, branches: &mut Vec<Branch>, came: &mut Vec<TrailEvent>) -> Option<State> {
+        while let Some(Branch { from, came: count, next }) = branches.pop() {
+            came.truncate(count);
+            let mut state = Rc::unwrap_or_clone(from);
+            if self.lead(&mut state, next, came) {
+                return Some(state);
             }
         }
         None
     }
 
-    fn level(&self, moment: Moment, counts: Vec<usize>, by: Option<TrailEvent>) -> Level {
-        let mut next: Vec<(u64, usize, TrailEvent)> = Vec::new();
+    /// Lets all come that may come at once. Answers whether the rules allow it: if they do not now, they never will.
+    fn settle(&self, state: &mut State, came: &mut Vec<TrailEvent>) -> bool {
+        loop {
+            let next = self.ready_seats(state).find_map(|(_, seat)| self.at_once(state, seat));
+            match next {
+                None => return true,
+                Some(next) if self.lead(state, next, came) => {}
+                Some(_) => return false,
+            }
+        }
+    }
+
+    /// Lets an event come. Answers whether it may and agrees with what the hall told.
+    fn lead(&self, state: &mut State, next: Next, came: &mut Vec<TrailEvent>) -> bool {
+        let event = self.told.seats[next.seat].events[state.counts[next.seat]];
+        if let Event::Did(name) = event {
+            state.moved += usize::from(self.moving.contains(&name));
+        }
+        state.counts[next.seat] += 1;
+        came.push(next.event);
+        self.setting.lead(&mut state.moment, next.event) && self.agrees(&state.moment, next.event.worker, event)
+    }
+
+    /// Whether a steal began the period and got the deque that its seat was told.
+    fn agrees(&self, moment: &Moment, worker: usize, event: Event) -> bool {
+        let Event::Stole { period, deque } = event else { return true };
+        let told = self.told.books.get(moment.books.len() - 1).map(|book| book.marked);
+        let has = moment.owns(worker).map(|(place, book)| (moment.deques[place].id, moment.books[book].marked));
+        moment.books.len() as u64 == period && told.is_some_and(|marked| has == Some((deque, marked)))
+    }
+
+    fn is_whole(&self, state: &State) -> bool {
+        let counts = state.counts.iter().zip(&self.told.seats);
+        counts.into_iter().all(|(count, seat)| *count == seat.events.len()) && state.moved == self.told.moves.len()
+    }
+
+    /// Whether the books of a moment have the marks and the actions that the hall gave.
+    fn has_books(&self, moment: &Moment) -> bool {
+        let place = |(name, index): &ActionName| self.setting.places_of(&self.labels[name]).get(*index).copied();
+        let is_same = |(book, told): (&good_trail::Book, &told::Book)| {
+            book.marked == told.marked && book.ran.iter().map(|it| Some(*it)).eq(told.ran.iter().map(place))
+        };
+        moment.books.len() == self.told.books.len() && moment.books.iter().zip(&self.told.books).all(is_same)
+    }
+
+    /// The seats whose next event may come by the tickets, each with the ticket after it. Of the seats of one worker an earlier one
+    /// comes first.
+    fn ready_seats<'b>(&'b self, state: &'b State) -> impl Iterator<Item = (u64, usize)> + 'b {
+        let (seats, counts) = (&self.told.seats, &state.counts);
         let first_end =
-            self.seats.iter().zip(&counts).filter_map(|(seat, count)| seat.tickets.get(*count)).map(|(_, after)| *after).min();
-        for (at, seat) in self.seats.iter().enumerate() {
-            let is_in = at == 0 || self.seats[at - 1].worker != seat.worker || counts[at - 1] == self.seats[at - 1].told.len();
-            let Some((_, after)) = seat.tickets.get(counts[at]).filter(|(before, _)| is_in && Some(*before) < first_end) else {
-                continue;
-            };
-            let kinds = self.kinds_of(&moment, seat, counts[at]);
-            next.extend(kinds.into_iter().map(|kind| (*after, at, TrailEvent { worker: seat.worker, kind })));
-        }
-        // The last one is tried first.
-        next.sort_by_key(|(after, _, _)| std::cmp::Reverse(*after));
-        Level { moment, counts, next: next.into_iter().map(|(_, at, event)| (at, event)).collect(), by }
+            seats.iter().zip(counts).filter_map(|(seat, count)| seat.tickets.get(*count)).map(|(_, after)| *after).min();
+        let is_in = move |at: usize| {
+            at == 0 || seats[at - 1].worker != seats[at].worker || counts[at - 1] == seats[at - 1].events.len()
+        };
+        let ticket = move |at: usize| seats[at].tickets.get(counts[at]).filter(|(before, _)| Some(*before) < first_end);
+        (0..seats.len()).filter(move |at| is_in(*at)).filter_map(move |at| ticket(at).map(|(_, after)| (*after, at)))
     }
 
-    /// What the next thing that a seat was told can be as an event of the machine at a moment.
-    fn kinds_of(&self, moment: &Moment, seat: &Seat, at: usize) -> Vec<Kind> {
-        match seat.told[at] {
-            Told::GaveUp => vec![Kind::GiveUp],
-            Told::Suspended(name) => self.owned(moment, seat, name).map(|_| Kind::Suspend).into_iter().collect(),
-            Told::Did(name, index) => {
-                let place = self.owned(moment, seat, name).and_then(|label| self.setting.next(moment, label));
-                let is_this = place.is_some() && place == self.setting.places_of(&self.labels[&name]).get(index).copied();
-                let may_come = is_this && place.is_some_and(|place| self.may_end(moment, seat, at, place));
-                may_come.then_some(Kind::Act).into_iter().collect()
+    /// The next event of a seat, if it may come at once: it gives its deque up, or does an action after which its deque still has the
+    /// threads that it had.
+    fn at_once(&self, state: &State, seat: usize) -> Option<Next> {
+        let of = &self.told.seats[seat];
+        let kind = match of.events[state.counts[seat]] {
+            Event::GaveUp { deque } => {
+                let is_its = state.moment.owns(of.worker).is_some_and(|(place, _)| state.moment.deques[place].id == deque);
+                is_its.then_some(Kind::GiveUp)
             }
-            Told::Stole(period) if period == moment.books.len() as u64 + 1 => {
-                let wanted = seat.told.get(at + 1).and_then(|it| self.thread_of(it));
-                let is_wanted = |place: &usize| wanted.is_none_or(|it| moment.deques[*place].threads.last() == Some(it));
-                (0..moment.deques.len()).filter(is_wanted).map(Kind::Steal).collect()
+            Event::Did(name) => {
+                let action = self.may_act(state, of, name)?;
+                let is_join = |child| self.setting.has_ended(&state.moment, &fork_of(&action.label, child));
+                let comes = match action.deed {
+                    Deed::Fork(_) | Deed::Alloc | Deed::Release | Deed::Dummy | Deed::Fault(_) => true,
+                    Deed::Join(child) => is_join(child),
+                    Deed::End => false,
+                };
+                comes.then_some(Kind::Act)
             }
-            Told::Stole(_) => vec![],
-        }
+            Event::Stole { .. } | Event::Suspended(_) => None,
+        }?;
+        Some(Next { seat, event: TrailEvent { worker: of.worker, kind } })
     }
 
-    /// The thread of an event of an owner.
-    fn thread_of(&self, told: &Told) -> Option<&Label> {
-        match told {
-            Told::Did(name, _) | Told::Suspended(name) => self.labels.get(name),
-            Told::Stole(_) | Told::GaveUp => None,
+    /// The steals, Ends and suspensions that may come next. The last one is to be tried first: the one whose call ended first.
+    fn nexts(&self, state: &State) -> Vec<Next> {
+        let mut ready: Vec<(u64, usize)> = self.ready_seats(state).collect();
+        ready.sort_by_key(|(after, _)| std::cmp::Reverse(*after));
+        let mut nexts = Vec::new();
+        for (_, seat) in ready {
+            let worker = self.told.seats[seat].worker;
+            nexts.extend(self.kinds_of(state, seat).into_iter().map(|kind| Next { seat, event: TrailEvent { worker, kind } }));
+        }
+        nexts
+    }
+
+    /// What the next event of a seat can be in a trail, if it may come.
+    fn kinds_of(&self, state: &State, seat: usize) -> Vec<Kind> {
+        let (of, at) = (&self.told.seats[seat], state.counts[seat]);
+        match of.events[at] {
+            Event::GaveUp { .. } => vec![],
+            Event::Suspended(name) => self.owned(&state.moment, of, name).map(|_| Kind::Suspend).into_iter().collect(),
+            Event::Did(name) => {
+                let action = self.may_act(state, of, name).filter(|action| self.may_end(&state.moment, of, at, action));
+                action.map(|_| Kind::Act).into_iter().collect()
+            }
+            Event::Stole { period, .. } if period == state.moment.books.len() as u64 + 1 => {
+                let wanted = of.events.get(at + 1).and_then(Event::thread).map(|name| &self.labels[&name]);
+                let deques = &state.moment.deques;
+                let is_wanted = |place: &usize| wanted.is_none_or(|it| deques[*place].threads.last() == Some(it));
+                (0..deques.len()).filter(is_wanted).map(Kind::Steal).collect()
+            }
+            Event::Stole { .. } => vec![],
         }
     }
 
@@ -222,25 +219,39 @@ impl Search<'_> {
         (moment.deques[at].threads[0] == *label).then_some(label)
     }
 
-    /// Whether an action may come now by what the seat did after it: an End in a deque without another thread wakes the parent exactly if the
-    /// seat has a deque after it.
-    fn may_end(&self, moment: &Moment, seat: &Seat, at: usize, place: usize) -> bool {
+    /// The action of a name, if it is the next one of the top thread of the seat's deque, and the next move if it changes the words in use.
+    fn may_act(&self, state: &State, seat: &Seat, name: ActionName) -> Option<&Action> {
+        let label = self.owned(&state.moment, seat, name.0)?;
+        let place = self.setting.next(&state.moment, label)?;
         let action = &self.setting.list[place];
-        let is_alone = moment.owns(seat.worker).is_some_and(|(deque, _)| moment.deques[deque].threads.len() == 1);
-        let Some((ordinal, parent)) = action.label.split_last().filter(|_| action.deed == Deed::End && is_alone) else {
+        let is_this = self.setting.places_of(label).get(name.1) == Some(&place);
+        let may_move = match self.moving.contains(&name) {
+            true => self.told.moves.get(state.moved) == Some(&(name, action.weight())),
+            false => action.weight() == 0,
+        };
+        (is_this && may_move).then_some(action)
+    }
+
+    /// Whether an End may come now by what the seat did after it. It goes on in its deque with the parent exactly if that is below, or waits
+    /// for the child; otherwise it has no deque.
+    fn may_end(&self, moment: &Moment, seat: &Seat, at: usize, action: &Action) -> bool {
+        let (Some((place, _)), Some((ordinal, parent))) = (moment.owns(seat.worker), action.label.split_last()) else {
             return true;
         };
+        let is_below = moment.deques[place].threads.len() > 1;
         let waits = moment.waiting.iter().any(|it| it.thread == parent && it.child == *ordinal);
-        let goes_on = match seat.told.get(at + 1) {
-            Some(told @ (Told::Did(..) | Told::Suspended(_))) => self.thread_of(told).is_some_and(|it| it == parent),
-            Some(Told::GaveUp) => true,
-            Some(Told::Stole(_)) | None => false,
+        let goes_on = match seat.events.get(at + 1) {
+            Some(event @ (Event::Did(_) | Event::Suspended(_))) => {
+                event.thread().is_some_and(|name| self.labels[&name] == parent)
+            }
+            Some(Event::GaveUp { .. }) => true,
+            Some(Event::Stole { .. }) | None => false,
         };
-        waits == goes_on
+        (is_below || waits) == goes_on
     }
 }
 
-/// The deques from left to right: who owns each, and its threads.
-fn shape_of(moment: &Moment) -> Vec<(Option<usize>, Vec<Label>)> {
-    moment.deques.iter().map(|deque| (deque.owner, deque.threads.iter().cloned().collect())).collect()
+/// The deques from left to right: the id of each, who owns it, and its threads.
+fn shape_of(moment: &Moment) -> Vec<(u64, Option<usize>, Vec<Label>)> {
+    moment.deques.iter().map(|deque| (deque.id, deque.owner, deque.threads.to_vec())).collect()
 }

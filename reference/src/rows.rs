@@ -5,6 +5,7 @@ use crate::choices::{Listed, Pcg};
 use crate::command::{accepted, answer_to, play_answer, Answer};
 use crate::hall_rows::{scripted, HALL_ROWS};
 use crate::machine::{play, Rules, Stop};
+use crate::order_rows::ORDERED;
 use crate::resolve::resolve;
 use crate::thread::Code;
 use crate::trace::{async_moment, moment};
@@ -326,7 +327,7 @@ pub fn rows() -> u8 {
     let mut tally = Tally { right: 0, wrong: 0 };
     for Row(name, words, source, status, text) in ROWS {
         let got = answered(words, source.as_bytes());
-        tally.tell(name, &format!("{status} {text}"), &format!("{} {}", got.status, got.text.replace('\n', "/")));
+        tally.tell(name, &format!("{status} {text}"), &format!("{} {}", got.status, slashed(&got.text)));
     }
     for row in DRAWN {
         tally.tell(row.0, row.6, &drawn(row));
@@ -334,7 +335,7 @@ pub fn rows() -> u8 {
     for row in TRAILED {
         let Trailed(name, _, _, _, status, text) = row;
         let got = answered("verify", row.text().as_bytes());
-        tally.tell(name, &format!("{status} {text}"), &format!("{} {}", got.status, got.text.replace('\n', "/")));
+        tally.tell(name, &format!("{status} {text}"), &format!("{} {}", got.status, slashed(&got.text)));
     }
     tally.tell("the trail of a play", &RECORDED.text(), &answered("trail --k 16 --p 1", THREE_LINES.as_bytes()).text);
     tally.tell("no trail", "trail NotTrail at 0\n", &answered("verify", b"").text);
@@ -348,6 +349,9 @@ pub fn rows() -> u8 {
     for row in HALL_ROWS {
         tally.tell(row.0, row.7, &scripted(row));
     }
+    for row in ORDERED {
+        tally.tell(row.0, row.3, &row.answer());
+    }
     let too_long = answered("check", &[b' '; 1_048_577]);
     tally.tell("a source that is too long", "syntax TooLong at 1048576\n", &too_long.text);
     tally.tell("a thousand groups", "lines 2000 total 999000 actions 7001", &thousand_groups());
@@ -359,6 +363,11 @@ pub fn rows() -> u8 {
     tally.tell("the published output of seed 0", &OF_SEED_0.to_string(), &first.to_string());
     println!("rows: {} right, {} wrong", tally.right, tally.wrong);
     u8::from(tally.wrong > 0)
+}
+
+/// A text with a slash at the end of each line.
+pub fn slashed(text: &str) -> String {
+    text.replace('\n', "/")
 }
 
 fn answered(words: &str, source: &[u8]) -> Answer {
@@ -397,7 +406,7 @@ fn drawn(row: &Drawn) -> String {
     let rules = Rules { quota, workers, arena, steps: 4_000_000, deques: 4_096 };
     match accepted(source.as_bytes()) {
         Err(refusal) => refusal.text,
-        Ok(program) => play_answer(play(&resolve(&program), rules, &mut Listed(words)), rules).text.replace('\n', "/"),
+        Ok(program) => slashed(&play_answer(play(&resolve(&program), rules, &mut Listed(words)), rules).text),
     }
 }
 
