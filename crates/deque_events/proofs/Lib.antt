@@ -3,4 +3,5 @@ pub mod Leaving
 pub mod Stealing
 pub mod Seating
 pub mod Cutting
+pub mod Middles
 pub mod Passed

@@ -1,4 +1,5 @@
 pub mod Shown
 pub mod Seats
 pub mod Events
+pub mod Parts
 pub mod Passed

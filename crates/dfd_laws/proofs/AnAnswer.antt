@@ -33,7 +33,7 @@ use Rattle.run_report.specs.Texts.{peak_text}
 use Rattle.dfd_run.specs.Answer.{CheckMakes, KindGives, BytesGive, HasRanges}
 use Rattle.dfd_run.specs.Sources.{SourceGives}
 use Rattle.dfd_run.specs.Expanding.{ExpansionGives, ExpandMakes}
-use Rattle.trail_check.specs.Laws.{IsAnswer}
+use Rattle.trail_check.specs.CheckLaws.{IsAnswer}
 use Rattle.trail_check.specs.declared.verify_fail.VerifyFail.{VerifyFail}
 use Rattle.trail_check.specs.declared.verify_fail.VerifyFail.TheVariants.{LongRun, BadEvent, NotEnded, WrongNumbers, OutOfMemory as NoRoom}
 use Rattle.trail_check.proofs.Outcomes.{an_answer as a_trail_has_an_answer}

@@ -1,3 +1,7 @@
+pub mod Counts
+pub mod Fits
+pub mod Lengths
+pub mod Accepted
 pub mod Statuses
 pub mod OneAnswer
 pub mod AnAnswer

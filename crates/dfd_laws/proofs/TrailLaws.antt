@@ -20,8 +20,8 @@ use Rattle.trail_check.proofs.Outcomes as checks
 use Rattle.trail_meaning.specs.Ranges.{FitSetting}
 use Rattle.trail_meaning.specs.Shown.{Shown}
 use Rattle.trail_text.specs.TrailText.{IsTrail}
-use Rattle.trail_laws.specs.Laws.{IsOfPlay}
-use Rattle.trail_laws.proofs.Accepted as laws
+use Rattle.dfd_laws.specs.RecordedTrails.{IsOfPlay}
+use Rattle.dfd_laws.proofs.Accepted as laws
 use Rattle.dfd_run.specs.Answer.{BytesGive, HasRanges}
 use Rattle.dfd_laws.specs.Laws.{RecordedTrailsAreAccepted, AcceptedTrailsAreBounded}
 use Rattle.dfd_run.specs.Play.{IsPlay, TellsEnding, TellsPlay, play_setting, seeded_words}

@@ -9,7 +9,7 @@ use Rattle.par_ownership.specs.Accepted.{IsAccepted}
 use Rattle.par_text.specs.Judging.{IsText}
 use Rattle.par_tree.specs.Tree.{Program}
 use Rattle.serial_meaning.specs.Settings.{setting_of}
-use Rattle.trail_check.specs.Laws.{IsBounded}
+use Rattle.trail_check.specs.CheckLaws.{IsBounded}
 use Rattle.trail_meaning.specs.Shown.{Shown}
 use Rattle.trail_text.specs.TrailText.{IsTrail}
 use Rattle.dfd_run.specs.declared.status.Status.{Status}

@@ -1,3 +1,4 @@
+pub mod RecordedTrails
 pub mod Headline
 pub mod AsyncHeadline
 pub mod RunHeadline

@@ -5,13 +5,14 @@
 //!
 //! The crate has laws alone. It uses `dfd_run`, whose definitions they are about, and the laws of what these are made of: the two machines
 //! (`deque_machine`, `machine_replay`, `ready_machine`, `ready_replay`), runs by threads (`hall_runs`), expansions (`loop_expand`) and trails
-//! (`trail_check`, `trail_laws`).
+//! (`trail_text`, `trail_check`).
 //!
 //! Its theorem is [`moments_are_bounded`], with [`async_moments_are_bounded`] for a ready list and [`run_moments_are_bounded`] for runs in
 //! threads.
 #![tactic(auto)]
 
 mod laws;
+mod trail_laws;
 
 pub use laws::{
     a_command_has_an_answer, a_command_has_one_answer, accepted_trails_are_bounded,

@@ -14,7 +14,7 @@ use Rattle.deque_machine.specs.Terms.{Terms}
 use Rattle.trail_record.specs.Played.Cores.{IsAt, end_of}
 use Rattle.trail_record.specs.Played.CoreType.{Core}
 use Rattle.run_end.specs.declared.ends.RunEnd.TheVariants.{Finished, Stopped}
-use Rattle.good_trails.specs.Told.{events_told}
+use Rattle.trail_check.specs.Told.{events_told}
 use Rattle.par_ownership.specs.Ownership.{Ownership}
 use Rattle.par_ownership.proofs.Law.{tells_program}
 use Rattle.par_text.specs.Judging.{IsText}

@@ -9,13 +9,13 @@ use Rattle.hall_turns.specs.declared.list_slot.ListSlot.{ListSlot}
 use Rattle.hall_turns.specs.declared.pool_slot.PoolSlot.{PoolSlot}
 use Rattle.hall_turns.specs.declared.key.HallKey.{HallKey}
 use Rattle.hall_turns.specs.Takes.{HallSeat}
-use Rattle.hall_events.specs.PartEvents.Writes.{told_note}
+use Rattle.hall_deciding.specs.Writes.{told_note}
 use Rattle.hall_turns.specs.Passed.EndedType.{Ended}
 use Rattle.hall_turns.specs.Passed.ThreadType.{Thread}
-use Rattle.hall_events.specs.Taken.{IsAtAction}
-use Rattle.hall_events.proofs.Ends.{leaving_ends_may_come, waking_ends_may_come, kept_joins_may_come}
-use Rattle.hall_events.proofs.Staying.{left_stays_sound, woken_stays_sound, handed_stays_sound}
-use Rattle.hall_puts.specs.Puts.{MayPutAll}
+use Rattle.hall_deciding.specs.EventParts.{IsAtAction}
+use Rattle.hall_deciding.proofs.Ends.{leaving_ends_may_come, waking_ends_may_come, kept_joins_may_come}
+use Rattle.hall_deciding.proofs.Staying.{left_stays_sound, woken_stays_sound, handed_stays_sound}
+use Rattle.hall_deciding.specs.Puts.{MayPutAll}
 use Rattle.hall_deciding.specs.Wholes.{EndsAndLeaves, EndsAndWakes, JoinsFromAll}
 use Rattle.hall_deciding.proofs.Taken.{on, owner_of}
 

@@ -9,16 +9,16 @@ use Rattle.hall_turns.specs.declared.seat_note.SeatNote.{SeatNote}
 use Rattle.hall_turns.specs.declared.key.HallKey.{HallKey}
 use Rattle.hall_turns.specs.Keys.{table_of, quota_of}
 use Rattle.hall_turns.specs.Takes.{HallSeat}
-use Rattle.hall_events.specs.PartEvents.Writes.{told_note, IsShort}
+use Rattle.hall_deciding.specs.Writes.{told_note, IsShort}
 use Rattle.run_end.specs.declared.stop.Stop.TheVariants.{OutOfMemory}
 use Rattle.std.proofs.lemmas.Option.{none-some}
 use Rattle.hall_turns.specs.Passed.Points.{IsAtPoint}
 use Rattle.hall_turns.specs.Passed.HallLawPoints.{LaneAtPoints}
-use Rattle.hall_events.proofs.Lanes.{joins_may_come}
-use Rattle.hall_events.proofs.Untaken.{nothing_is_taken}
-use Rattle.hall_events.proofs.Quiet.{statements_may_come, wants_of_memory_may_come}
-use Rattle.hall_events.proofs.Staying.{all_at, lanes_stay_sound}
-use Rattle.hall_puts.specs.Puts.{MayPutLane}
+use Rattle.hall_deciding.proofs.Lanes.{joins_may_come}
+use Rattle.hall_deciding.proofs.Untaken.{nothing_is_taken}
+use Rattle.hall_deciding.proofs.Quiet.{statements_may_come, wants_of_memory_may_come}
+use Rattle.hall_deciding.proofs.Staying.{all_at, lanes_stay_sound}
+use Rattle.hall_deciding.specs.Puts.{MayPutLane}
 use Rattle.hall_deciding.specs.Own.{JoinsAlone, IsStillThere, IsShortThere}
 use Rattle.hall_deciding.proofs.Taken.{on, owner_of}
 

@@ -12,7 +12,7 @@ use Rattle.hall_turns.specs.declared.lane_slot.LaneSlot.{LaneSlot}
 use Rattle.hall_turns.specs.declared.list_slot.ListSlot.{ListSlot}
 use Rattle.hall_turns.specs.declared.key.HallKey.{HallKey}
 use Rattle.hall_turns.specs.Takes.{HallSeat}
-use Rattle.hall_events.specs.PartEvents.Writes.{told_note}
+use Rattle.hall_deciding.specs.Writes.{told_note}
 use Rattle.lawful_books.specs.Lists.{Each}
 use Rattle.moment_parts.specs.Parts as shown
 use Rattle.run_end.specs.declared.ends.RunEnd.TheVariants.{Finished}
@@ -22,12 +22,12 @@ use Rattle.thread_map.specs.Kept.{kept_under}
 use Rattle.hall_turns.proofs.Passed.Found.{none_found}
 use Rattle.hall_turns.specs.Passed.Values.{ListShown}
 use Rattle.hall_turns.specs.Shown.{list_shown}
-use Rattle.hall_events.specs.Taken.{IsAtAction}
-use Rattle.hall_events.proofs.Pauses.{suspends_may_come, give_ups_may_come, yields_may_come, dummies_may_come}
-use Rattle.hall_events.proofs.Ends.{root_ends_may_come, kept_joins_may_come}
-use Rattle.hall_events.proofs.Untaken.{nothing_is_taken}
-use Rattle.hall_events.proofs.Staying.{given_up_stays_sound, suspended_stays_sound, root_stays_sound, handed_stays_sound}
-use Rattle.hall_puts.specs.Puts.{MayPutListAndLane}
+use Rattle.hall_deciding.specs.EventParts.{IsAtAction}
+use Rattle.hall_deciding.proofs.Pauses.{suspends_may_come, give_ups_may_come, yields_may_come, dummies_may_come}
+use Rattle.hall_deciding.proofs.Ends.{root_ends_may_come, kept_joins_may_come}
+use Rattle.hall_deciding.proofs.Untaken.{nothing_is_taken}
+use Rattle.hall_deciding.proofs.Staying.{given_up_stays_sound, suspended_stays_sound, root_stays_sound, handed_stays_sound}
+use Rattle.hall_deciding.specs.Puts.{MayPutListAndLane}
 use Rattle.hall_deciding.specs.Lists.{Suspends, GivesUp, Yields, DoesDummy, EndsRoot, JoinsFromList}
 use Rattle.hall_deciding.proofs.Taken.{on, owner_of, unkept}
 

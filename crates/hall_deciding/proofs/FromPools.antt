@@ -9,14 +9,14 @@ use Rattle.hall_turns.specs.declared.pool_slot.PoolSlot.{PoolSlot}
 use Rattle.hall_turns.specs.declared.key.HallKey.{HallKey}
 use Rattle.hall_turns.specs.Keys.{table_of, quota_of}
 use Rattle.hall_turns.specs.Takes.{HallSeat}
-use Rattle.hall_events.specs.PartEvents.Writes.{told_note, IsShort}
+use Rattle.hall_deciding.specs.Writes.{told_note, IsShort}
 use Rattle.hall_turns.specs.Passed.Points.{IsAtPoint}
 use Rattle.hall_turns.specs.Passed.ThreadType.{Thread}
-use Rattle.hall_events.specs.PartEvents.Ends.{EndsAbove}
-use Rattle.hall_events.specs.Taken.{IsAtAction}
-use Rattle.hall_events.proofs.Lanes.{actions_may_come, joins_may_come, ends_above_may_come}
-use Rattle.hall_events.proofs.Staying.{all_at, lanes_stay_sound}
-use Rattle.hall_puts.specs.Puts.{MayPutPoolAndLane}
+use Rattle.part_events.specs.Ends.{EndsAbove}
+use Rattle.hall_deciding.specs.EventParts.{IsAtAction}
+use Rattle.hall_deciding.proofs.Lanes.{actions_may_come, joins_may_come, ends_above_may_come}
+use Rattle.hall_deciding.proofs.Staying.{all_at, lanes_stay_sound}
+use Rattle.hall_deciding.specs.Puts.{MayPutPoolAndLane}
 use Rattle.hall_deciding.specs.Pools.{ActsWithPool, JoinsWithPool, EndsWithPool}
 use Rattle.hall_deciding.proofs.Taken.{on, owner_of}
 

@@ -10,9 +10,9 @@ use Rattle.hall_turns.specs.Passed.Kept.{IsUnderItsId, result_kept}
 use Rattle.hall_turns.specs.declared.event.Event.{Event}
 use Rattle.hall_turns.specs.declared.seat_note.SeatNote.{SeatNote}
 use Rattle.hall_turns.specs.Takes.{HallSeat}
-use Rattle.hall_events.specs.PartEvents.Writes.{told_note, IsOwner}
-use Rattle.hall_events.specs.Taken.{MayGoOn}
-use Rattle.hall_events.specs.Staying.{NotesOn}
+use Rattle.hall_deciding.specs.Writes.{told_note, IsOwner}
+use Rattle.hall_deciding.specs.EventParts.{MayGoOn}
+use Rattle.hall_deciding.specs.Staying.{NotesOn}
 
 -- the note of an event is of the same seat
 pub on : (note : SeatNote) (owns : Option DequeId) (event : Event) → NotesOn note (told_note note owns event)

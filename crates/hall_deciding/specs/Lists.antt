@@ -8,11 +8,11 @@ use Rattle.dag_order.specs.declared.thread_id.ThreadId.{ThreadId}
 use Rattle.deque_list.specs.declared.deque_id.DequeId.{DequeId}
 use Rattle.depth_first_list.specs.Actions.{joins}
 use Rattle.lawful_books.specs.Lists.{Each}
-use Rattle.hall_events.specs.PartEvents.Parts.{Has}
+use Rattle.hall_turns.specs.Passed.Parts.{Has}
 use Rattle.moment_parts.specs.Parts as shown
 use Rattle.quota_period.specs.declared.period.Period.{Period as OpenPeriod}
 use Rattle.run_end.specs.declared.ends.RunEnd.TheVariants.{Finished}
-use Rattle.hall_events.specs.PartEvents.Results.{HasCome}
+use Rattle.part_events.specs.Passed.Results.{HasCome}
 use Rattle.hall_turns.specs.Passed.Actions.{deed_of}
 use Rattle.hall_turns.specs.Passed.Points.{IsAtPoint, IsResult}
 use Rattle.hall_turns.specs.Passed.ThreadFramesViews.{label_of}
@@ -24,19 +24,19 @@ use Rattle.thread_map.specs.Kept.{kept_under}
 use Rattle.hall_turns.specs.Passed.Kept.{IsUnderItsId}
 use Rattle.hall_turns.specs.Passed.Roots.{end_of_root}
 use Rattle.hall_turns.specs.Passed.Shown.{thread_shown}
-use Rattle.hall_events.specs.PartEvents.Dummies.{DummyHere}
-use Rattle.hall_events.specs.PartEvents.Ends.{EndsHere}
-use Rattle.hall_events.specs.PartEvents.Joins.{JoinsHere, ReleasesNothing}
-use Rattle.hall_events.specs.PartEvents.ListCalls.{SuspendsThere, LeavesThere, IsHandedThere, KeepsCrew}
+use Rattle.part_events.specs.Dummies.{DummyHere}
+use Rattle.part_events.specs.Ends.{EndsHere}
+use Rattle.part_events.specs.Joins.{JoinsHere, ReleasesNothing}
+use Rattle.part_events.specs.ListCalls.{SuspendsThere, LeavesThere, IsHandedThere, KeepsCrew}
 use Rattle.hall_turns.specs.declared.lane_slot.LaneSlot.{LaneSlot}
 use Rattle.hall_turns.specs.declared.list_slot.ListSlot.{ListSlot}
 use Rattle.hall_turns.specs.Lists.{ShowsUnowned, HasNoOwner, IsGone, KeepsRest}
 use Rattle.hall_turns.specs.declared.key.HallKey.{HallKey}
 use Rattle.hall_turns.specs.Keys.{table_of, quota_of}
 use Rattle.hall_turns.specs.Takes.{HallSeat}
-use Rattle.hall_events.specs.Taken.{MayAct, MayPause, IsNext}
-use Rattle.hall_events.specs.Lists.{IsTooMuch, IsUnawaited}
-use Rattle.hall_events.specs.Staying.{AllAtPoints}
+use Rattle.hall_deciding.specs.EventParts.{MayAct, MayPause, IsNext}
+use Rattle.hall_deciding.specs.ListRuns.{IsTooMuch, IsUnawaited}
+use Rattle.hall_deciding.specs.Staying.{AllAtPoints}
 use Rattle.hall_deciding.specs.Taken.{IsAtEvent, list_and_lane}
 
 -- the wait of a thread that is alone in its deque

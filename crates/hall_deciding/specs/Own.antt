@@ -8,14 +8,14 @@ use Rattle.hall_turns.specs.Passed.NextVariants as nexts
 use Rattle.hall_turns.specs.Passed.ThreadType.{Thread}
 use Rattle.hall_turns.specs.Passed.Points.{IsAtPoint}
 use Rattle.lawful_books.specs.Lists.{Each}
-use Rattle.hall_events.specs.PartEvents.Joins.{JoinsHere, ReleasesNothing}
+use Rattle.part_events.specs.Joins.{JoinsHere, ReleasesNothing}
 use Rattle.hall_turns.specs.declared.lane_slot.LaneSlot.{LaneSlot}
 use Rattle.hall_turns.specs.declared.key.HallKey.{HallKey}
 use Rattle.hall_turns.specs.Shown.{lane_shown}
 use Rattle.hall_turns.specs.Keys.{table_of, quota_of}
 use Rattle.hall_turns.specs.Takes.{HallSeat}
-use Rattle.hall_events.specs.Taken.{MayAct, MayPause, IsNext}
-use Rattle.hall_events.specs.Staying.{AllAtPoints}
+use Rattle.hall_deciding.specs.EventParts.{MayAct, MayPause, IsNext}
+use Rattle.hall_deciding.specs.Staying.{AllAtPoints}
 use Rattle.hall_deciding.specs.Taken.{IsAtEvent, its_lane}
 
 -- the Join of a child that was handed over before, which releases no words

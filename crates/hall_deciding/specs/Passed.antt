@@ -1,5 +1,22 @@
 -- What callers need of what this crate stands on.
-pub use Rattle.hall_events.specs.Passed.Here as Here
-pub use Rattle.hall_events.specs.Passed.Acts as Acts
-pub use Rattle.hall_events.specs.Passed.Readiness as Readiness
-pub use Rattle.hall_events.specs.Passed.ReadinessVariants as ReadinessVariants
+pub use Rattle.hall_turns.specs.declared.lane_slot.LaneSlot as LaneSlotType
+pub use Rattle.hall_turns.specs.declared.key.HallKey as HallKeyType
+pub use Rattle.hall_turns.specs.Keys as Keys
+pub use Rattle.hall_turns.specs.Shown as Shown
+pub use Rattle.hall_turns.specs.Steps as Steps
+pub use Rattle.hall_turns.specs.Takes as Takes
+pub use Rattle.hall_turns.specs.declared.lane_slot.Running as RunningType
+pub use Rattle.hall_turns.specs.declared.list_slot.ListSlot as ListSlotType
+pub use Rattle.hall_turns.specs.declared.pool_slot.PoolSlot as PoolSlotType
+pub use Rattle.hall_turns.specs.declared.slot.Slot as SlotType
+pub use Rattle.hall_turns.specs.declared.slot.Slot.TheVariants as SlotVariants
+pub use Rattle.hall_turns.specs.Law as Law
+pub use Rattle.hall_turns.specs.Sound as Sound
+pub use Rattle.hall_turns.specs.Passed.Parts as Parts
+pub use Rattle.part_events.specs.ListCalls as ListCalls
+pub use Rattle.part_events.specs.Passed.Results as Results
+pub use Rattle.part_events.specs.Here as Here
+pub use Rattle.part_events.specs.Passed.Acts as Acts
+pub use Rattle.part_events.specs.Passed.Readiness as Readiness
+pub use Rattle.part_events.specs.Passed.ReadinessVariants as ReadinessVariants
+pub use Rattle.part_events.specs.Forks as Forks

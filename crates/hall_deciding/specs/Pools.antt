@@ -5,20 +5,20 @@ use Rattle.dag_order.specs.declared.birth.Birth.{Birth}
 use Rattle.dag_order.specs.declared.thread_id.ThreadId.{ThreadId}
 use Rattle.deque_list.specs.declared.deque_id.DequeId.{DequeId}
 use Rattle.quota_period.specs.declared.period.Period.{Period as OpenPeriod}
-use Rattle.hall_events.specs.PartEvents.Acts.{IsCharged}
+use Rattle.part_events.specs.Passed.Acts.{IsCharged}
 use Rattle.hall_turns.specs.Passed.NextType.{Next}
 use Rattle.hall_turns.specs.Passed.NextVariants as nexts
 use Rattle.hall_turns.specs.Passed.ThreadType.{Thread}
-use Rattle.hall_events.specs.PartEvents.Here.{ActsHere, TakesWords}
-use Rattle.hall_events.specs.PartEvents.Ends.{EndsAbove}
-use Rattle.hall_events.specs.PartEvents.Joins.{JoinsHere}
+use Rattle.part_events.specs.Here.{ActsHere, TakesWords}
+use Rattle.part_events.specs.Ends.{EndsAbove}
+use Rattle.part_events.specs.Joins.{JoinsHere}
 use Rattle.hall_turns.specs.declared.lane_slot.LaneSlot.{LaneSlot}
 use Rattle.hall_turns.specs.declared.pool_slot.PoolSlot.{PoolSlot}
 use Rattle.hall_turns.specs.Shown.{pool_shown}
 use Rattle.hall_turns.specs.declared.key.HallKey.{HallKey}
 use Rattle.hall_turns.specs.Takes.{HallSeat}
-use Rattle.hall_events.specs.Taken.{MayAct, IsNext, MayDoNext}
-use Rattle.hall_events.specs.Staying.{AllAtPoints, StaysSoundPool}
+use Rattle.hall_deciding.specs.EventParts.{MayAct, IsNext, MayDoNext}
+use Rattle.hall_deciding.specs.Staying.{AllAtPoints, StaysSoundPool}
 use Rattle.hall_deciding.specs.Taken.{IsAtEvent, pool_and_lane}
 
 -- an Alloc, a Release, a Fault or a Fork

@@ -12,7 +12,7 @@ use Rattle.hall_turns.specs.declared.slot.Slot.TheVariants as slots
 use Rattle.hall_turns.specs.declared.key.HallKey.{HallKey}
 use Rattle.hall_turns.specs.Keys.{quota_of}
 use Rattle.hall_turns.specs.Takes.{HallSeat}
-use Rattle.hall_events.specs.Taken.{IsAtAction}
+use Rattle.hall_deciding.specs.EventParts.{IsAtAction}
 
 -- It holds these slots, among them its lane as it took it, whose top thread has come to its next action since; the quota covers a record block.
 pub record IsAtEvent (key : HallKey) (seat : HallSeat) (taken : LaneSlot → List (ℕ × Slot)) : Type 0 where

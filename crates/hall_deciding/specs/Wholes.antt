@@ -4,26 +4,26 @@ use Rattle.dag_order.specs.declared.action_id.ActionId.{ActionId}
 use Rattle.dag_order.specs.declared.thread_id.ThreadId.{ThreadId}
 use Rattle.deque_list.specs.declared.deque_id.DequeId.{DequeId}
 use Rattle.quota_period.specs.declared.period.Period.{Period as OpenPeriod}
-use Rattle.hall_events.specs.PartEvents.Results.{HasCome}
+use Rattle.part_events.specs.Passed.Results.{HasCome}
 use Rattle.hall_turns.specs.Passed.EndedType.{Ended}
 use Rattle.hall_turns.specs.Passed.NextVariants as nexts
 use Rattle.hall_turns.specs.Passed.ThreadType.{Thread}
 use Rattle.hall_turns.specs.Passed.Kept.{WaitsUnder}
 use Rattle.hall_turns.specs.Passed.Shown.{thread_shown, result_shown}
 use Rattle.hall_turns.specs.Passed.Writing.{IsHanded}
-use Rattle.hall_events.specs.PartEvents.Here.{TakesWords}
-use Rattle.hall_events.specs.PartEvents.Ends.{EndsHere}
-use Rattle.hall_events.specs.PartEvents.Joins.{JoinsHere}
-use Rattle.hall_events.specs.PartEvents.ListCalls.{TakesWaiting, IsHandedThere, KeepsCrew}
+use Rattle.part_events.specs.Here.{TakesWords}
+use Rattle.part_events.specs.Ends.{EndsHere}
+use Rattle.part_events.specs.Joins.{JoinsHere}
+use Rattle.part_events.specs.ListCalls.{TakesWaiting, IsHandedThere, KeepsCrew}
 use Rattle.hall_turns.specs.declared.lane_slot.LaneSlot.{LaneSlot}
 use Rattle.hall_turns.specs.declared.list_slot.ListSlot.{ListSlot}
 use Rattle.hall_turns.specs.declared.pool_slot.PoolSlot.{PoolSlot}
 use Rattle.hall_turns.specs.Shown.{pool_shown}
 use Rattle.hall_turns.specs.declared.key.HallKey.{HallKey}
 use Rattle.hall_turns.specs.Takes.{HallSeat}
-use Rattle.hall_events.specs.Taken.{MayAct, IsNext}
-use Rattle.hall_events.specs.Lists.{IsUnawaited}
-use Rattle.hall_events.specs.Staying.{AllAtPoints, StaysSoundPool}
+use Rattle.hall_deciding.specs.EventParts.{MayAct, IsNext}
+use Rattle.hall_deciding.specs.ListRuns.{IsUnawaited}
+use Rattle.hall_deciding.specs.Staying.{AllAtPoints, StaysSoundPool}
 use Rattle.hall_deciding.specs.Taken.{IsAtEvent, all_three}
 use Rattle.hall_deciding.specs.Lists.{IsLeft}
 

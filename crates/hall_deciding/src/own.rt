@@ -3,14 +3,15 @@
 ghost use Rattle.std.specs.Prelude.{◌+◌, ◌<◌, [], Some};
 ghost use Rattle.turn_table.specs.Tables.{key_of, slot_count, IsSeatOf};
 ghost use Rattle.hall_turns.specs.declared.event.Event.TheVariants.{Did};
-ghost use Rattle.hall_events.specs.PartEvents.Writes.{told_note};
-ghost use Rattle.hall_puts.specs.Puts.{HasPut};
+ghost use Rattle.hall_deciding.specs.Writes.{told_note};
+ghost use Rattle.hall_deciding.specs.Puts.{HasPut};
 ghost use Rattle.hall_deciding.specs.Own.{JoinsAlone, IsStillThere, IsShortThere};
 ghost use Rattle.run_end.specs.declared.stop.Stop.TheVariants.{OutOfMemory as NoMemory};
 
+use crate::lane_puts::put_lane;
+use crate::noting::Noting;
 use dag_order::ActionId;
 use deque_list::DequeId;
-use hall_puts::{Noting, put_lane};
 use hall_turns::{Event, HallPlace, HallRow, LaneSlot};
 use run_end::Stop;
 

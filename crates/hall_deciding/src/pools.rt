@@ -3,13 +3,14 @@
 ghost use Rattle.std.specs.Prelude.{◌+◌, ◌<◌, [], Some};
 ghost use Rattle.turn_table.specs.Tables.{key_of, slot_count, IsSeatOf};
 ghost use Rattle.hall_turns.specs.declared.event.Event.TheVariants.{Did};
-ghost use Rattle.hall_events.specs.PartEvents.Writes.{told_note};
-ghost use Rattle.hall_puts.specs.Puts.{HasPut};
+ghost use Rattle.hall_deciding.specs.Writes.{told_note};
+ghost use Rattle.hall_deciding.specs.Puts.{HasPut};
 ghost use Rattle.hall_deciding.specs.Pools.{ActsWithPool, JoinsWithPool, EndsWithPool};
 
+use crate::noting::Noting;
+use crate::pair_puts::put_pool_and_lane;
 use dag_order::ActionId;
 use deque_list::DequeId;
-use hall_puts::{Noting, put_pool_and_lane};
 use hall_turns::{Event, HallPlace, HallRow, LaneSlot, PoolSlot};
 
 /// Decides an Alloc, a Release, a Fault or a Fork.

@@ -1,3 +1,4 @@
+mod Keyed
 mod Left
 mod Closed
 mod Thefts

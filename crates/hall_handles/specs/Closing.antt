@@ -2,11 +2,11 @@
 use Rattle.std.specs.Prelude.{◌≡◌, ◌⊎◌, ◌<◌, Option, None, Some, Result, Ok, Err}
 use Rattle.dag_order.specs.Births.{root}
 use Rattle.deque_list.specs.declared.deque_id.DequeId.{DequeId}
-use Rattle.hall_entry.specs.Passed.CoreParts.{root_behind}
+use Rattle.dfd_core.specs.Parts.{root_behind}
 use Rattle.run_end.specs.declared.ends.RunEnd.{RunEnd}
 use Rattle.thread_map.specs.Kept.{kept_under}
 use Rattle.turn_table.specs.Tables.{key_of}
-use Rattle.hall_closing.specs.Closing.{HasSeen, IsClosed}
+use Rattle.hall_seats.specs.Closing.{HasSeen, IsClosed}
 use Rattle.hall_turns.specs.declared.list_slot.ListSlot.{ListSlot}
 use Rattle.hall_turns.specs.declared.pool_slot.PoolSlot.{PoolSlot}
 use Rattle.hall_handles.specs.declared.closing.Closing.{Closing}

@@ -8,7 +8,7 @@ use Rattle.run_end.specs.declared.stop.Stop.{Stop}
 use Rattle.run_end.specs.declared.stop.Stop.TheVariants as stops
 use Rattle.turn_table.specs.declared.held.Held.{Held}
 use Rattle.turn_table.specs.Tables.{key_of}
-use Rattle.hall_leaving.specs.Leaving.{places_with, HasJoined}
+use Rattle.hall_seats.specs.Leaving.{places_with, HasJoined}
 use Rattle.hall_seats.specs.Halting.{HasHalted}
 use Rattle.hall_turns.specs.Takes.{IsRefused}
 use Rattle.hall_turns.specs.declared.event.Event.{Event}

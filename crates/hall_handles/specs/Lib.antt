@@ -1,3 +1,4 @@
+pub mod Entry
 pub mod Opening
 pub mod Seated
 pub mod Thieves

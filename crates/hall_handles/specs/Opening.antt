@@ -1,12 +1,12 @@
 -- The hall of a core and its first seat.
 use Rattle.std.specs.Prelude.{◌≡◌, ◌+◌, None}
-use Rattle.hall_entry.specs.Passed.Cores.{terms_at, workers_of}
-use Rattle.hall_entry.specs.Passed.CoreType.{Core}
+use Rattle.dfd_core.specs.Cores.{terms_at, workers_of}
+use Rattle.dfd_core.specs.declared.run.Core.{Core}
 use Rattle.turn_table.specs.Hands.{fresh}
 use Rattle.node_table.specs.declared.code.Code.{Code}
 use Rattle.turn_table.specs.Tables.{key_of, slot_count}
-use Rattle.hall_entry.specs.Entry.{IsKeyOf}
-use Rattle.hall_entry.specs.Passed.First.{first_note}
+use Rattle.hall_handles.specs.Entry.{IsKeyOf}
+use Rattle.hall_seats.specs.First.{first_note}
 use Rattle.hall_handles.specs.declared.hall.Hall.{Hall}
 use Rattle.hall_handles.specs.declared.seat.Seat.{Seat}
 

@@ -1,6 +1,6 @@
--- What callers need of the core whose parts a hall takes, of a stop that is kept, and of the slots of a hall that is closed.
-pub use Rattle.hall_entry.specs.Passed.Cores as Cores
-pub use Rattle.hall_entry.specs.Passed.CoreParts as CoreParts
-pub use Rattle.hall_entry.specs.Passed.CoreType as CoreType
-pub use Rattle.hall_closing.specs.Closing as ClosedSlots
+-- What callers need of what this crate stands on.
 pub use Rattle.hall_seats.specs.Halting as Halting
+pub use Rattle.dfd_core.specs.Cores as Cores
+pub use Rattle.dfd_core.specs.Parts as CoreParts
+pub use Rattle.dfd_core.specs.declared.run.Core as CoreType
+pub use Rattle.hall_seats.specs.Closing as ClosedSlots

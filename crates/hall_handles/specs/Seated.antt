@@ -6,7 +6,7 @@ use Rattle.node_table.specs.declared.code.Code.{Code}
 use Rattle.turn_table.specs.Hands.{fresh}
 use Rattle.turn_table.specs.Tables.{key_of, slot_count, IsSeatOf}
 use Rattle.hall_turns.specs.Passed.Numbers.{IsSmallestNumber}
-use Rattle.hall_entering.specs.Entering.{giving_note, worker_note}
+use Rattle.hall_seats.specs.Entering.{giving_note, worker_note}
 use Rattle.hall_turns.specs.declared.list_slot.ListSlot.{ListSlot}
 use Rattle.hall_turns.specs.Takes.{IsRefused}
 use Rattle.hall_seats.specs.Lists.{answered_note, Leaves, with_list}

@@ -1,11 +1,11 @@
 -- What a steal answers of a seat that owns no deque.
 use Rattle.std.specs.Prelude.{◌≡◌, ◌⊎◌, ℕ, Option, None, Some, Result, Ok, Err}
 use Rattle.deque_list.specs.declared.deque_id.DequeId.{DequeId}
-use Rattle.turn_places.specs.Backs.{IsBack}
+use Rattle.turn_table.specs.Backs.{IsBack}
 use Rattle.hall_turns.specs.declared.event.Event.{Event}
 use Rattle.hall_turns.specs.declared.event.Event.TheVariants.{Stole, Did, Suspended, GaveUp, Halted}
-use Rattle.thief_acts.specs.Passed.Seeking.{HasSought}
-use Rattle.thief_acts.specs.Passed.SeekRefused.TheVariants as sought
+use Rattle.thief_acts.specs.Seeking.{HasSought}
+use Rattle.thief_acts.specs.declared.prey.SeekRefused.TheVariants as sought
 use Rattle.run_end.specs.declared.stop.Stop.{Stop}
 use Rattle.thief_acts.specs.Steals.{HasMetStop, HasStolenBy}
 use Rattle.thief_acts.specs.declared.refused.StealRefused.{StealRefused}

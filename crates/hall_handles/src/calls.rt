@@ -8,8 +8,7 @@ ghost use Rattle.hall_handles.specs.Seated.{Enters, IsIn, SameSeat};
 use crate::hall::Hall;
 use crate::refused::EnterRefused;
 use crate::seat::Seat;
-use hall_entering::enter;
-use hall_seats::halt;
+use hall_seats::{enter, halt};
 use owner_events::SeatMemory;
 use run_end::{RunEnd, Stop};
 use turn_table::Held;
@@ -41,9 +40,9 @@ impl Hall {
                     memory: SeatMemory::new(self.alloc),
                 })
             }
-            Err(hall_entering::EnterRefused::Busy(held)) => Err(EnterRefused::Busy(held)),
-            Err(hall_entering::EnterRefused::Over(end)) => Err(EnterRefused::Over(end)),
-            Err(hall_entering::EnterRefused::OutOfMemory) => Err(EnterRefused::OutOfMemory),
+            Err(hall_seats::EnterRefused::Busy(held)) => Err(EnterRefused::Busy(held)),
+            Err(hall_seats::EnterRefused::Over(end)) => Err(EnterRefused::Over(end)),
+            Err(hall_seats::EnterRefused::OutOfMemory) => Err(EnterRefused::OutOfMemory),
         }
     }
 

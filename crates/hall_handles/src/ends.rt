@@ -1,7 +1,7 @@
 //! How a hall is closed.
 
 ghost use Rattle.std.specs.Prelude.{◌≡◌, ◌<◌, None, Some, IfErr, MatchResult};
-ghost use Rattle.hall_entry.specs.Passed.CoreParts.{root_behind};
+ghost use Rattle.dfd_core.specs.Parts.{root_behind};
 ghost use Rattle.run_end.specs.declared.ends.RunEnd.{RunEnd as AnyEnd};
 ghost use Rattle.hall_handles.specs.Closing.{Closes, ClosesAlone, GivesClosing, MayHaveEnded};
 ghost use Rattle.hall_handles.specs.Seated.{IsIn};
@@ -12,10 +12,10 @@ use crate::leaving::let_go;
 use crate::refused::CloseRefused;
 use crate::seat::Seat;
 use dag_order::ThreadId;
+use deque_events::ListPart;
 use deque_list::DequeId;
-use hall_closing::{ClosedHall, close, see_end};
+use hall_seats::{ClosedHall, close, see_end};
 use hall_turns::{ListSlot, PoolSlot};
-use list_part::ListPart;
 use owner_events::YieldRefused;
 use run_end::RunEnd;
 use thread_frames::Ended;

@@ -11,7 +11,7 @@ use crate::hall::Hall;
 use crate::refused::{EventRefused, LeaveRefused};
 use crate::seat::Seat;
 use deque_list::DequeId;
-use hall_leaving::leave;
+use hall_seats::leave;
 use hall_turns::Event;
 use owner_events::{ActRefused, YieldRefused, give_up_deque, yield_deque};
 use run_end::Stop;

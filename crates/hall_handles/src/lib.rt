@@ -5,14 +5,16 @@
 //! that has two places, steals, acts, gives its deque up, keeps the stop that it found, and leaves into another seat. A seat that is to steal may
 //! hold the list first ([`ListHeld`]). The seat that has all places closes the hall.
 //!
-//! It stands on the hall of a core (`hall_entry`), on the steal of a thief (`thief_acts`), on the events of an owner (`owner_events`), and on what
-//! a seat does with the list (`hall_entering`, `hall_seats`, `hall_leaving`, `hall_closing`). Its one theorem: what a seat says of itself (its
-//! worker, its places, its deque, the stop that it found) is what the law of the hall says of it, and what a closed hall gives is of one run.
+//! It uses what a core is taken apart into (`dfd_core`), the steal of a thief (`thief_acts`), the events of an owner (`owner_events`), and what
+//! a seat does with the list (`hall_seats`). Its theorem: for each core that has done no step there is a hall with its program, its quota and its
+//! terms, whose law holds; what a seat says of itself (its worker, its places, its deque, the stop that it found) is what the law of the hall
+//! says of it; and what a closed hall gives is of one run.
 #![tactic(auto)]
 
 mod calls;
 mod closing;
 mod ends;
+mod entry;
 mod hall;
 mod leaving;
 mod lists;
@@ -23,8 +25,8 @@ mod seat;
 mod thieves;
 
 pub use closing::Closing;
+pub use dfd_core::Core;
 pub use hall::Hall;
-pub use hall_entry::Core;
 pub use lists::ListHeld;
 pub use refused::{CloseRefused, EnterRefused, EventRefused, LeaveRefused};
 pub use seat::Seat;

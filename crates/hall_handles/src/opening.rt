@@ -1,13 +1,14 @@
 //! How a hall begins.
 
 ghost use Rattle.std.specs.Prelude.{IfOk};
-ghost use Rattle.hall_entry.specs.Passed.CoreParts.{IsFresh};
+ghost use Rattle.dfd_core.specs.Parts.{IsFresh};
 ghost use Rattle.hall_handles.specs.Opening.{IsFirstSeat, IsHallOf};
 ghost use Rattle.hall_handles.specs.Seated.{IsIn, IsProgramOf};
 
+use crate::entry::open_hall;
 use crate::hall::Hall;
 use crate::seat::Seat;
-use hall_entry::{Core, open_hall};
+use dfd_core::Core;
 use node_table::Code;
 use owner_events::SeatMemory;
 use std::alloc::{AllocError, Global};

@@ -6,9 +6,9 @@ use Rattle.std.specs.List.{AllZip}
 use Rattle.node_table.specs.declared.code.Code.{Code}
 use Rattle.run_end.specs.declared.ends.RunEnd.{RunEnd}
 use Rattle.work_loop.specs.declared.member.Member.{Member}
-use Rattle.hall_work.specs.Passed.{Hall, Seat}
-use Rattle.hall_work.specs.Working.{HasWorkedIn}
-use Rattle.hall_work.specs.declared.worker.HallWorker.{HallWorker}
+use Rattle.hall_runs.specs.Passed.{Hall, Seat}
+use Rattle.hall_runs.specs.Working.{HasWorkedIn}
+use Rattle.hall_runs.specs.declared.worker.HallWorker.{HallWorker}
 use Rattle.hall_runs.specs.Closed.{HasWorked}
 use Rattle.hall_runs.specs.Crews.{AreLeft, HasItsEnd, IsCrew, IsFreshIn, IsOfCrew, IsToLeave, seat_of}
 

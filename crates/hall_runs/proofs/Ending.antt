@@ -5,10 +5,10 @@ use Rattle.dag_order.specs.declared.finish.Finish.{Finish}
 use Rattle.run_end.specs.declared.ends.RunEnd.{RunEnd}
 use Rattle.run_end.specs.declared.ends.RunEnd.TheVariants.{Finished}
 use Rattle.work_loop.specs.declared.member.Member.{Member}
-use Rattle.hall_work.specs.Passed.Takes.{HallSeat}
-use Rattle.hall_work.specs.Passed.{Hall, Seat, Closing}
-use Rattle.hall_work.specs.Passed.Closings.{Closes, LetsGoAfter}
-use Rattle.hall_work.specs.declared.worker.HallWorker.{HallWorker}
+use Rattle.hall_turns.specs.Takes.{HallSeat}
+use Rattle.hall_runs.specs.Passed.{Hall, Seat, Closing}
+use Rattle.hall_handles.specs.Closing.{Closes, LetsGoAfter}
+use Rattle.hall_runs.specs.declared.worker.HallWorker.{HallWorker}
 use Rattle.hall_runs.specs.Closed.{IsClosedBy}
 use Rattle.hall_runs.specs.Crews.{HasItsEnd, HasKeptRules, WasTold, seat_of}
 

@@ -7,9 +7,9 @@ use Rattle.dag_order.specs.declared.finish.Finish.{Finish}
 use Rattle.depth_first_run.specs.States.{Setting, State}
 use Rattle.depth_first_run.specs.Run.{whole, lines_of}
 use Rattle.deque_machine.specs.Play as play
-use Rattle.hall_work.specs.Passed.Cores.{terms_at}
-use Rattle.hall_work.specs.Passed.CoreParts.{root_behind}
-use Rattle.hall_work.specs.Passed.CoreType.{Core}
+use Rattle.hall_handles.specs.Passed.Cores.{terms_at}
+use Rattle.hall_handles.specs.Passed.CoreParts.{root_behind}
+use Rattle.hall_handles.specs.Passed.CoreType.{Core}
 use Rattle.dummy_tree.specs.QuotaWords.{quota_words}
 use Rattle.dummy_tree.specs.declared.quota.Quota.{Quota}
 use Rattle.node_table.specs.Codes.{code_shown}
@@ -32,13 +32,13 @@ use Rattle.thread_frames.specs.declared.ended.Ended.{Ended}
 use Rattle.thread_map.specs.Kept.{kept_under}
 use Rattle.thread_state.specs.Settings.{IsSettingOf}
 use Rattle.turn_table.specs.Tables.{key_of}
-use Rattle.hall_work.specs.Passed.ClosedSlots.{IsClosed}
-use Rattle.hall_work.specs.Passed.HallKeyType.{HallKey}
-use Rattle.hall_work.specs.Passed.ListSlotType.{ListSlot}
-use Rattle.hall_work.specs.Passed.PoolSlotType.{PoolSlot}
-use Rattle.hall_work.specs.Passed.Keys.{table_of, quota_of}
-use Rattle.hall_work.specs.Passed.{Closing, Seat}
-use Rattle.hall_work.specs.Passed.Closings.{GivesClosing}
+use Rattle.hall_handles.specs.Passed.ClosedSlots.{IsClosed}
+use Rattle.hall_turns.specs.declared.key.HallKey.{HallKey}
+use Rattle.hall_turns.specs.declared.list_slot.ListSlot.{ListSlot}
+use Rattle.hall_turns.specs.declared.pool_slot.PoolSlot.{PoolSlot}
+use Rattle.hall_turns.specs.Keys.{table_of, quota_of}
+use Rattle.hall_runs.specs.Passed.{Closing, Seat}
+use Rattle.hall_handles.specs.Closing.{GivesClosing}
 use Rattle.hall_runs.specs.Closed.{IsLeftOf}
 use Rattle.hall_runs.specs.Reports.{IsReportOf, IsStoppedBy, SomeRun}
 use Rattle.hall_runs.proofs.Told.{its_result, no_label, tells_report, tells_stop}

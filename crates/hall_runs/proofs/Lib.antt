@@ -1,3 +1,7 @@
+mod Seen
+mod Kept
+mod TriesTold
+mod Underway
 mod Counted
 mod High
 mod Causes

@@ -5,7 +5,7 @@ use Rattle.std.specs.Option.{option_map}
 use Rattle.std.specs.Prelude.{Option, None, Some, count_by}
 use denote.Struct.Props.{props}
 use Rattle.bounded_list.specs.BoundedList.{entries}
-use Rattle.hall_work.proofs.Passed.Lists.{among_mapped}
+use Rattle.core_ends.proofs.Passed.Lists.{among_mapped}
 use Rattle.dag_order.specs.Births.{root}
 use Rattle.dag_order.specs.declared.finish.Finish.{Finish}
 use Rattle.dag_order.specs.declared.thread_id.ThreadId.{ThreadId}
@@ -48,13 +48,13 @@ use Rattle.thread_state.specs.Settings.{IsSettingOf}
 use Rattle.hall_law.specs.Crew.{MayBeKept}
 use Rattle.hall_law.specs.Steps.{run_of}
 use Rattle.hall_law.specs.Values.{Hall, ListShown, LaneShown, PoolShown, End, by_rule, running}
-use Rattle.hall_work.specs.Passed.ClosedSlots.{IsClosed, IsOfOneRun, seen_note}
-use Rattle.hall_work.specs.Passed.HallKeyType.{HallKey}
-use Rattle.hall_work.specs.Passed.ListSlotType.{ListSlot}
-use Rattle.hall_work.specs.Passed.PoolSlotType.{PoolSlot}
-use Rattle.hall_work.specs.Passed.Keys.{table_of, quota_of, terms_of}
-use Rattle.hall_work.specs.Passed.Shown.{end_shown, stop_shown}
-use Rattle.hall_work.specs.Passed.Takes.{HallSeat}
+use Rattle.hall_handles.specs.Passed.ClosedSlots.{IsClosed, IsOfOneRun, seen_note}
+use Rattle.hall_turns.specs.declared.key.HallKey.{HallKey}
+use Rattle.hall_turns.specs.declared.list_slot.ListSlot.{ListSlot}
+use Rattle.hall_turns.specs.declared.pool_slot.PoolSlot.{PoolSlot}
+use Rattle.hall_turns.specs.Keys.{table_of, quota_of, terms_of}
+use Rattle.hall_turns.specs.Shown.{end_shown, stop_shown}
+use Rattle.hall_turns.specs.Takes.{HallSeat}
 use Rattle.hall_runs.specs.Reports.{IsReportOf, SomeRun}
 use Rattle.hall_runs.specs.Runs.{IsThreadRun}
 use Rattle.hall_runs.proofs.Causes.{caused}

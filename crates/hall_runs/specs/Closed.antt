@@ -1,15 +1,15 @@
 -- What is left of a run by threads, once its hall is closed.
 use Rattle.std.specs.Prelude.{◌≡◌, Ok}
 use Rattle.dag_order.specs.declared.finish.Finish.{Finish}
-use Rattle.hall_work.specs.Passed.CoreType.{Core}
+use Rattle.hall_handles.specs.Passed.CoreType.{Core}
 use Rattle.node_table.specs.declared.code.Code.{Code}
 use Rattle.run_end.specs.declared.ends.RunEnd.{RunEnd}
 use Rattle.run_end.specs.declared.ends.RunEnd.TheVariants.{Finished}
 use Rattle.work_loop.specs.declared.member.Member.{Member}
-use Rattle.hall_work.specs.Passed.{Hall, Seat, Closing}
-use Rattle.hall_work.specs.Passed.Closings.{Closes}
-use Rattle.hall_work.specs.Passed.Opening.{IsHallOf}
-use Rattle.hall_work.specs.declared.worker.HallWorker.{HallWorker}
+use Rattle.hall_runs.specs.Passed.{Hall, Seat, Closing}
+use Rattle.hall_handles.specs.Closing.{Closes}
+use Rattle.hall_handles.specs.Opening.{IsHallOf}
+use Rattle.hall_runs.specs.declared.worker.HallWorker.{HallWorker}
 use Rattle.hall_runs.specs.Crews.{HasItsEnd, HasKeptRules, seat_of}
 
 -- The member worked until the run had ended for it: it has the places that it had, and its seat has given up no deque but where the rules ask for it.

@@ -4,8 +4,8 @@ use Rattle.dag_order.specs.declared.finish.Finish.{Finish}
 use Rattle.run_end.specs.declared.ends.RunEnd.{RunEnd}
 use Rattle.run_end.specs.declared.ends.RunEnd.TheVariants.{Finished}
 use Rattle.work_loop.specs.declared.member.Member.{Member}
-use Rattle.hall_work.specs.Passed.{Hall, Seat, IsIn}
-use Rattle.hall_work.specs.declared.worker.HallWorker.{HallWorker}
+use Rattle.hall_runs.specs.Passed.{Hall, Seat, IsIn}
+use Rattle.hall_runs.specs.declared.worker.HallWorker.{HallWorker}
 
 -- no deque was given up by the seat but where the rules ask for it
 abbrev pub HasKeptRules : Seat → Type 0

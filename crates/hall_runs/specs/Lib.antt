@@ -1,3 +1,6 @@
+pub mod Working
+pub mod Trying
+pub mod Spending
 pub mod Crews
 pub mod Closed
 pub mod Runs

@@ -1,5 +1,8 @@
--- What callers need of the hall, of its seats, and of the workers in it.
-pub use Rattle.hall_work.specs.Passed.Seated as Seated
-pub use Rattle.hall_work.specs.Passed.Held as Held
-pub use Rattle.hall_work.specs.Working as Working
-pub use Rattle.hall_work.specs.Passed.CoreParts as CoreParts
+-- What callers need of what this crate stands on.
+pub use Rattle.hall_handles.specs.Seated as Seated
+pub use Rattle.hall_handles.specs.Held as Held
+pub use Rattle.hall_handles.specs.Passed.CoreParts as CoreParts
+pub use Rattle.hall_handles.specs.declared.hall.Hall.{Hall}
+pub use Rattle.hall_handles.specs.declared.seat.Seat.{Seat}
+pub use Rattle.hall_handles.specs.declared.closing.Closing.{Closing}
+pub use Rattle.hall_handles.specs.Seated.{IsIn, IsProgramOf}

@@ -3,7 +3,9 @@
 ghost use Rattle.std.specs.Prelude.{◌≡◌, ◌≤◌, None, IfOk, OnOk};
 ghost use Rattle.hall_runs.specs.Crews.{EntersBy, IsCrew, IsFreshIn};
 
-use hall_work::{Choices, EnterRefused, Hall, HallWorker, Seat};
+use crate::worker::HallWorker;
+use core_ends::Choices;
+use hall_handles::{EnterRefused, Hall, Seat};
 use run_end::RunEnd;
 use std::alloc::AllocError;
 use std::sync::Wait;

@@ -3,10 +3,11 @@
 ghost use Rattle.std.specs.Prelude.{◌≡◌, ◌≢◌, ◌+◌, ◌≤◌, [], Some, IfOk, MatchBool, OnOk};
 ghost use Rattle.dag_order.specs.declared.finish.Finish.{Finish as AnyFinish};
 ghost use Rattle.hall_runs.specs.Crews.{AreLeft, HasItsEnd, HasTaken, IsToLeave, seat_of};
-ghost use Rattle.hall_work.specs.Passed.{IsIn};
+ghost use Rattle.hall_runs.specs.Passed.{IsIn};
 ghost use Rattle.run_end.specs.declared.ends.RunEnd.TheVariants.{Finished as AFinish};
 
-use hall_work::{Hall, HallWorker, LeaveRefused, Seat};
+use crate::worker::HallWorker;
+use hall_handles::{Hall, LeaveRefused, Seat};
 use run_end::RunEnd;
 use std::alloc::AllocError;
 use std::sync::Wait;

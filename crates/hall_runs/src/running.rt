@@ -3,21 +3,24 @@
 ghost use Rattle.std.specs.Prelude.{◌≡◌, All, IfOk};
 ghost use Rattle.std.specs.List.{AllZip};
 ghost use Rattle.depth_first_run.specs.States.{Setting};
-ghost use Rattle.hall_work.specs.Passed.Cores.{terms_at};
-ghost use Rattle.hall_work.specs.Passed.CoreParts.{IsFresh};
+ghost use Rattle.hall_handles.specs.Passed.Cores.{terms_at};
+ghost use Rattle.hall_handles.specs.Passed.CoreParts.{IsFresh};
 ghost use Rattle.dummy_tree.specs.QuotaWords.{quota_words};
 ghost use Rattle.hall_runs.specs.Closed.{HasWorked, IsClosedBy, IsLeftOf};
 ghost use Rattle.hall_runs.specs.Crews.{HasItsEnd, IsFreshIn, seat_of};
 ghost use Rattle.hall_runs.specs.Reports.{ComesTo};
-ghost use Rattle.hall_work.specs.Passed.{IsProgramOf, Seat as AnySeat};
+ghost use Rattle.hall_runs.specs.Passed.{IsProgramOf, Seat as AnySeat};
 ghost use Rattle.node_table.specs.Codes.{code_shown};
 ghost use Rattle.thread_state.specs.Settings.{IsSettingOf};
 
+use crate::crew::work_crew;
 use crate::entering::{enter_all, member_of};
 use crate::leaving::leave_all;
 use crate::ran::Ran;
 use crate::telling::ran_of;
-use hall_work::{Choices, CloseRefused, Closing, Core, Hall, HallWorker, work_crew};
+use crate::worker::HallWorker;
+use core_ends::Choices;
+use hall_handles::{CloseRefused, Closing, Core, Hall};
 use node_table::Code;
 use run_end::RunEnd;
 use std::alloc::{AllocError, Global};

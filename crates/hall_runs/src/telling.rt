@@ -4,8 +4,8 @@ ghost use Rattle.std.specs.Prelude.{◌≡◌, ◌≢◌, ℕ, [], IfOk, count_b
 ghost use Rattle.bounded_list.specs.BoundedList.{entries};
 ghost use Rattle.depth_first_run.specs.Run.{whole, lines_of};
 ghost use Rattle.depth_first_run.specs.States.{Setting, State};
-ghost use Rattle.hall_work.specs.Passed.Cores.{terms_at};
-ghost use Rattle.hall_work.specs.Passed.CoreType.{Core as AnyCore};
+ghost use Rattle.hall_handles.specs.Passed.Cores.{terms_at};
+ghost use Rattle.hall_handles.specs.Passed.CoreType.{Core as AnyCore};
 ghost use Rattle.dummy_tree.specs.QuotaWords.{quota_words};
 ghost use Rattle.hall_runs.specs.Closed.{IsLeftOf};
 ghost use Rattle.hall_runs.specs.Reports.{ComesTo};
@@ -24,7 +24,7 @@ ghost use Rattle.thread_state.specs.Settings.{IsSettingOf};
 
 use crate::ran::Ran;
 use dag_order::Finish;
-use hall_work::Closing;
+use hall_handles::Closing;
 use run_end::{RunEnd, Stop};
 use run_report::Report;
 use space_ledger::{Books, Moves};

@@ -14,7 +14,7 @@ use Rattle.turn_table.specs.Hands.{gave, renewed, without_slot}
 use Rattle.turn_table.specs.Law.{PutKeeps}
 use Rattle.turn_table.specs.Seats.{with_hand}
 use Rattle.turn_table.proofs.Left.{left_of_one}
-use Rattle.turn_places.specs.Backs.{unchanged}
+use Rattle.turn_table.specs.Backs.{unchanged}
 use Rattle.hall_turns.specs.Passed.Values.{Hall, ListShown, End}
 use Rattle.hall_turns.specs.Passed.Views.{View}
 use Rattle.hall_turns.specs.Passed.Seats.{end_with, halted_with}

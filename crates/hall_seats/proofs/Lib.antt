@@ -1,3 +1,17 @@
+pub mod Starting
+mod Filling
 pub mod Ends
 pub mod Halts
 pub mod Listed
+mod EnteredLists
+mod Split
+mod Entered
+mod Named
+mod Left
+mod Joined
+mod Drawn
+pub mod Stopped
+mod Seen
+mod Parts
+mod OneRun
+mod Told

@@ -9,7 +9,7 @@ use Rattle.hall_turns.specs.Passed.Terms.{Terms, machine_of}
 use Rattle.hall_turns.specs.Passed.Periods.{closed_shown}
 use Rattle.space_ledger.specs.BooksList.{books_list}
 use Rattle.turn_table.specs.Law.{PutKeeps}
-use Rattle.turn_places.specs.Backs.{still, unchanged}
+use Rattle.turn_table.specs.Backs.{still, unchanged}
 use Rattle.hall_turns.specs.Passed.Values.{ListShown, End}
 use Rattle.hall_turns.specs.Passed.Views.{View}
 use Rattle.hall_turns.specs.Passed.Seats.{answered_with}

@@ -5,7 +5,7 @@ use Rattle.run_end.specs.declared.ends.RunEnd.{RunEnd}
 use Rattle.turn_table.specs.declared.look.Look.TheVariants.{Took}
 use Rattle.turn_table.specs.Hands.{gave}
 use Rattle.turn_table.specs.Seats.{with_hand}
-use Rattle.turn_places.specs.Backs.{unchanged}
+use Rattle.turn_table.specs.Backs.{unchanged}
 use Rattle.hall_turns.specs.declared.event.Event.{Event}
 use Rattle.hall_turns.specs.declared.event.Event.TheVariants.{Halted}
 use Rattle.hall_turns.specs.declared.list_slot.ListSlot.{ListSlot}

@@ -3,7 +3,7 @@ use Rattle.std.specs.Prelude.{◌≡◌, Some, [], ◌∷◌}
 use Rattle.run_end.specs.declared.ends.RunEnd.{RunEnd}
 use Rattle.turn_table.specs.Hands.{took, gave}
 use Rattle.turn_table.specs.Seats.{with_hand}
-use Rattle.turn_places.specs.Backs.{kept, unchanged}
+use Rattle.turn_table.specs.Backs.{kept, unchanged}
 use Rattle.hall_turns.specs.declared.list_slot.ListSlot.{ListSlot}
 use Rattle.hall_turns.specs.declared.seat_note.SeatNote.{SeatNote}
 use Rattle.hall_turns.specs.declared.slot.Slot.TheVariants as slots

@@ -1,7 +1,7 @@
 //! Bounded numbers of tries.
 
 ghost use Rattle.hall_runs.specs.Passed.Seated.{IsIn, IsProgramOf};
-ghost use Rattle.hall_runs.specs.Passed.Working.{MayWork};
+ghost use Rattle.hall_runs.specs.Working.{MayWork};
 
 use crate::halls::{Bounds, ample, core_of, entered, hall_of, worker_of};
 use core_ends::ListChoices;

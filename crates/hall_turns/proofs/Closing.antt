@@ -5,9 +5,9 @@ use mathlib.Core.List.{map-append}
 use Rattle.deque_list.specs.declared.deque_id.DequeId.{DequeId}
 use Rattle.deque_list.specs.declared.place.Place.{Place}
 use Rattle.space_ledger.specs.BooksList.{books_list}
-use Rattle.list_part.specs.Passed.Periods.{closed_shown}
-use Rattle.list_part.specs.Passed.Tables.{closed_of, shut}
-use Rattle.list_part.specs.Parts.{Has, Closes, place_with}
+use Rattle.deque_events.specs.Passed.Periods.{closed_shown}
+use Rattle.deque_events.specs.Passed.Tables.{closed_of, shut}
+use Rattle.deque_events.specs.Parts.{Has, Closes, place_with}
 use Rattle.thread_frames.specs.Kept.{waiting_shown, result_kept}
 use Rattle.hall_law.specs.Values.{Hall, ListShown}
 use Rattle.hall_law.specs.Writing.{IsAtWork}

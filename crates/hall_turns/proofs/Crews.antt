@@ -5,7 +5,7 @@ use Rattle.std.specs.Option.{is_some}
 use Rattle.std.proofs.lemmas.Bool.{ne_eqb, eq-eqb}
 use Rattle.std.proofs.lemmas.Option.{same_Some, none-some}
 use Rattle.hall_law.specs.Passed.Lists.{times, one_if_same}
-use Rattle.list_part.proofs.Passed.Sorting.{cut_at}
+use Rattle.deque_events.proofs.Passed.Sorting.{cut_at}
 use Rattle.hall_law.proofs.Passed.Leaving.{remove_middle}
 use Rattle.hall_turns.specs.Lists.{IsOutOf}
 

@@ -4,9 +4,9 @@ use Rattle.turn_table.specs.declared.hand.Hand.{Hand}
 use Rattle.turn_table.specs.Law.{TakeKeeps, HeldKeeps, PutKeeps}
 use Rattle.turn_table.specs.Notes.{HasAs}
 use Rattle.turn_table.proofs.NoteLaws.{take_quiet, held_quiet, put_quiet}
-use Rattle.turn_places.specs.Places.{WithPlaces}
-use Rattle.turn_places.specs.Backs.{kept, still, unchanged}
-use Rattle.turn_places.proofs.Resting.{take_rests, held_rests, put_rests}
+use Rattle.turn_table.specs.Places.{WithPlaces}
+use Rattle.turn_table.specs.Backs.{kept, still, unchanged}
+use Rattle.turn_table.proofs.Resting.{take_rests, held_rests, put_rests}
 use Rattle.hall_turns.specs.declared.slot.Slot.{Slot}
 use Rattle.hall_turns.specs.declared.seat_note.SeatNote.{SeatNote}
 use Rattle.hall_turns.specs.declared.key.HallKey.{HallKey}

@@ -16,9 +16,9 @@ use Rattle.turn_table.specs.Seats.{with_hand}
 use Rattle.turn_table.specs.Law.{Stands, Meets, MeetsHeld}
 use Rattle.turn_table.specs.Notes.{notes}
 use Rattle.turn_table.proofs.NoteLaws.{notes_at}
-use Rattle.turn_places.specs.Places.{OthersHaveNone}
-use Rattle.turn_places.specs.Backs.{kept}
-use Rattle.turn_places.proofs.Alone.{lone_seats_are_free}
+use Rattle.turn_table.specs.Places.{OthersHaveNone}
+use Rattle.turn_table.specs.Backs.{kept}
+use Rattle.turn_table.proofs.Alone.{lone_seats_are_free}
 use Rattle.hall_law.specs.Views.{View}
 use Rattle.hall_law.specs.State.{HallLaw}
 use Rattle.hall_law.proofs.Closed.{seats_with_all_are_alone}

@@ -10,7 +10,7 @@ use lib.Seq.{map-set}
 use Rattle.deque_list.specs.declared.place.Place.{Place}
 use Rattle.hall_law.specs.Passed.Lists.{Among}
 use Rattle.hall_law.proofs.Passed.Lists.{each_from}
-use Rattle.list_part.proofs.Passed.Lists.{set_same, set_other}
+use Rattle.deque_events.proofs.Passed.Lists.{set_same, set_other}
 use Rattle.run_end.specs.declared.ends.RunEnd.{RunEnd}
 use Rattle.thread_frames.specs.declared.thread.Thread.{Thread}
 use Rattle.thread_frames.specs.Points.{IsAtPoint}

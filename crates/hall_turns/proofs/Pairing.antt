@@ -4,8 +4,8 @@ use Rattle.turn_table.specs.declared.held.Held.{Held}
 use Rattle.turn_table.specs.Hands.{Has, took, refused as refused_hand}
 use Rattle.turn_table.specs.Notes.{HasAs}
 use Rattle.turn_table.specs.Seats.{with_hand}
-use Rattle.turn_places.specs.Backs.{kept, IsBack}
-use Rattle.turn_places.proofs.Returning.{back_of_none, back_of_one}
+use Rattle.turn_table.specs.Backs.{kept, IsBack}
+use Rattle.turn_table.proofs.Returning.{back_of_none, back_of_one}
 use Rattle.hall_turns.specs.declared.slot.Slot.{Slot}
 use Rattle.hall_turns.specs.declared.seat_note.SeatNote.{SeatNote}
 use Rattle.hall_turns.specs.declared.key.HallKey.{HallKey}

@@ -10,6 +10,6 @@ pub use Rattle.hall_law.proofs.Notes as Notes
 pub use Rattle.hall_law.proofs.Numbers as Numbers
 pub use Rattle.hall_law.proofs.First as First
 pub use Rattle.hall_law.proofs.Closed as Closed
-pub use Rattle.list_part.proofs.Passed.Lists as Lists
+pub use Rattle.deque_events.proofs.Passed.Lists as Lists
 pub use Rattle.hall_law.proofs.Leaving as Leaving
 pub use Rattle.hall_law.proofs.Passed.Turns as Turns

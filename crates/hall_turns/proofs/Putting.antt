@@ -15,8 +15,8 @@ use Rattle.turn_table.specs.Law.{PutKeeps}
 use Rattle.turn_table.specs.declared.hand.Hand.{Hand}
 use Rattle.turn_table.proofs.NoteLaws.{put_writes}
 use Rattle.turn_table.proofs.Left.{left_of_one}
-use Rattle.turn_places.specs.Backs.{unchanged}
-use Rattle.turn_places.proofs.Resting.{put_rests}
+use Rattle.turn_table.specs.Backs.{unchanged}
+use Rattle.turn_table.proofs.Resting.{put_rests}
 use Rattle.hall_law.specs.Values.{Hall}
 use Rattle.hall_law.specs.Views.{View}
 use Rattle.hall_law.specs.State.{RunningState, HallLaw}

@@ -5,8 +5,8 @@ use Rattle.run_end.specs.declared.ends.RunEnd.{RunEnd}
 use Rattle.run_end.specs.declared.ends.RunEnd.TheVariants.{Stopped}
 use Rattle.deque_list.specs.declared.deque_id.DequeId.{DequeId}
 use Rattle.deque_list.specs.declared.place.Place.{Place}
-use Rattle.list_part.specs.Parts.{Has, place_with}
-use Rattle.list_part.specs.Passed.Tables.{shut}
+use Rattle.deque_events.specs.Parts.{Has, place_with}
+use Rattle.deque_events.specs.Passed.Tables.{shut}
 use Rattle.hall_law.specs.Values.{Hall}
 use Rattle.hall_law.specs.Writing.{IsAtWork, list_unowned, list_without}
 use Rattle.hall_turns.specs.declared.list_slot.ListSlot.{ListSlot}

@@ -10,7 +10,7 @@ pub use Rattle.hall_law.specs.Seats as Seats
 pub use Rattle.hall_law.specs.State as State
 pub use Rattle.hall_law.specs.Points as HallLawPoints
 pub use Rattle.hall_law.specs.Numbers as Numbers
-pub use Rattle.list_part.specs.Parts as Parts
+pub use Rattle.deque_events.specs.Parts as Parts
 pub use Rattle.hall_law.specs.Writing as Writing
 pub use Rattle.thread_frames.specs.Shown as Shown
 pub use Rattle.thread_frames.specs.declared.next.Next.TheVariants as NextVariants
@@ -24,8 +24,8 @@ pub use Rattle.hall_law.specs.Changes as Changes
 pub use Rattle.hall_law.specs.Quiet as Quiet
 pub use Rattle.hall_law.specs.Crew as Crew
 pub use Rattle.hall_law.specs.Closing as Closing
-pub use Rattle.list_part.specs.declared.list_part.ListPart as ListPartType
-pub use Rattle.list_part.specs.Passed.Periods as Periods
+pub use Rattle.deque_events.specs.declared.list_part.ListPart as ListPartType
+pub use Rattle.deque_events.specs.Passed.Periods as Periods
 pub use Rattle.hall_law.specs.Passed.Terms as Terms
 pub use Rattle.thread_frames.specs.Passed.Settings as Settings
 pub use Rattle.hall_law.specs.Standing as Standing

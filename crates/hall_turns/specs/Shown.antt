@@ -2,7 +2,7 @@
 use Rattle.std.specs.Prelude.{ℕ, map, pos}
 use Rattle.std.specs.Option.{option_map}
 use Rattle.hall_law.specs.Passed.Play as play
-use Rattle.list_part.specs.Passed.Periods.{Period, open_shown, closed_shown}
+use Rattle.deque_events.specs.Passed.Periods.{Period, open_shown, closed_shown}
 use Rattle.space_ledger.specs.BooksList.{books_list}
 use Rattle.space_ledger.specs.MovesList.{moves_list}
 use Rattle.thread_frames.specs.Shown.{thread_shown}

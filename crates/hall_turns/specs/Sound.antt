@@ -8,7 +8,7 @@ use Rattle.deque_list.specs.declared.deque_id.DequeId.{DequeId}
 use Rattle.hall_law.specs.Passed.Lists.{Each}
 use Rattle.space_ledger.specs.MovesList.{moves_list}
 use Rattle.space_ledger.specs.Sums.{total_change}
-use Rattle.list_part.specs.Passed.Kept.{kept_under}
+use Rattle.deque_events.specs.Passed.Kept.{kept_under}
 use Rattle.thread_frames.specs.declared.thread.Thread.{Thread}
 use Rattle.thread_frames.specs.Points.{IsAtPoint, IsResult}
 use Rattle.thread_frames.specs.Kept.{WaitsUnder, IsUnderItsId}

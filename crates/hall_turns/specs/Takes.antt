@@ -4,8 +4,8 @@ use Rattle.turn_table.specs.declared.held.Held.{Held}
 use Rattle.turn_table.specs.Hands.{took, refused, gave}
 use Rattle.turn_table.specs.Seats.{SeatView, with_hand}
 use Rattle.turn_table.specs.Law.{Meets}
-use Rattle.turn_places.specs.Backs.{kept, still, unchanged}
-use Rattle.turn_places.specs.Places.{WithPlaces}
+use Rattle.turn_table.specs.Backs.{kept, still, unchanged}
+use Rattle.turn_table.specs.Places.{WithPlaces}
 use Rattle.hall_turns.specs.declared.slot.Slot.{Slot}
 use Rattle.hall_turns.specs.declared.seat_note.SeatNote.{SeatNote}
 use Rattle.hall_turns.specs.declared.key.HallKey.{HallKey}

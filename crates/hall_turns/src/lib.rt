@@ -10,8 +10,8 @@
 //! their points. A seat takes one slot or two, or is refused and holds nothing of what it took ([`take_list`], [`take_lane_and_list`]), and
 //! puts back what is unchanged.
 //!
-//! It stands on the list's part (`list_part`), the lanes (`deque_list`), threads (`thread_frames`), rows whose seats share places
-//! (`turn_places`) and the law of a hall. Its one theorem: each call on the list changes what it shows as its event writes it, and nothing
+//! It stands on the list's part (`deque_events`), the lanes (`deque_list`), threads (`thread_frames`), rows whose seats share places
+//! (`turn_table`) and the law of a hall. Its one theorem: each call on the list changes what it shows as its event writes it, and nothing
 //! else; each call on slots keeps the law between any two atomic steps; a seat that is refused is as it was but for the answers that it had,
 //! and a seat that has all places is never refused.
 #![tactic(auto)]

@@ -3,7 +3,7 @@
 ghost use Rattle.std.specs.Prelude.{◌≡◌, ◌≤◌, ◌<◌, ◌∷◌, ◌++◌, [], ℕ, Option, Some, slice_get, ◌↔◌, IsTrue, IfOk, OnErr, MatchOption};
 ghost use Rattle.space_ledger.specs.BooksList.{books_spare};
 ghost use Rattle.hall_law.specs.Passed.Lists.{times};
-ghost use Rattle.list_part.specs.Parts.{Has};
+ghost use Rattle.deque_events.specs.Parts.{Has};
 ghost use Rattle.hall_law.specs.Numbers.{IsSmallestNumber};
 ghost use Rattle.hall_turns.specs.Lists.{end_kept, IsOutOf, ShowsUnowned, ShowsWithout, HasNoOwner, IsGone, KeepsRest};
 

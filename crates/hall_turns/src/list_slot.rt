@@ -1,5 +1,5 @@
 use boxed::Boxed;
-use list_part::ListPart;
+use deque_events::ListPart;
 use run_end::RunEnd;
 use thread_frames::{Ended, Thread};
 

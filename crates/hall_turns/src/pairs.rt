@@ -2,7 +2,7 @@
 
 ghost use Rattle.std.specs.Prelude.{◌≡◌, ◌+◌, ◌<◌, [], IfOk, IsOk, MatchResult};
 ghost use Rattle.turn_table.specs.Tables.{key_of, slot_count, IsSeatOf};
-ghost use Rattle.turn_places.specs.Backs.{IsBack};
+ghost use Rattle.turn_table.specs.Backs.{IsBack};
 ghost use Rattle.hall_turns.specs.declared.slot.Slot.TheVariants as slots;
 ghost use Rattle.hall_turns.specs.Takes.{IsPlaced, HasAllPlaces, MeetsLaw, AreTaken};
 

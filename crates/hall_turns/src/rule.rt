@@ -6,7 +6,7 @@ use turn_table::{TurnLaw, TurnSeat, Turns};
 pub struct HallRule;
 
 impl TurnLaw<Slot> for HallRule {
-    ghost use Rattle.turn_places.specs.Places.{WithPlaces};
+    ghost use Rattle.turn_table.specs.Places.{WithPlaces};
     ghost use Rattle.hall_turns.specs.Law.{HallHolds, places_of, joined_note};
 
     type Key = HallKey;

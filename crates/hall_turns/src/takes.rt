@@ -4,7 +4,7 @@ ghost use Rattle.std.specs.Prelude.{◌≡◌, ◌+◌, ◌<◌, IfOk, IsOk, Mat
 ghost use Rattle.turn_table.specs.Hands.{Has, took, refused};
 ghost use Rattle.turn_table.specs.Seats.{with_hand};
 ghost use Rattle.turn_table.specs.Tables.{key_of, slot_count, IsSeatOf};
-ghost use Rattle.turn_places.specs.Backs.{kept};
+ghost use Rattle.turn_table.specs.Backs.{kept};
 ghost use Rattle.hall_turns.specs.declared.slot.Slot.TheVariants as slots;
 ghost use Rattle.hall_turns.specs.Law.{IsShaped};
 ghost use Rattle.hall_turns.specs.Takes.{IsPlaced, HasAllPlaces, MeetsLaw, IsTaken, IsRefused};

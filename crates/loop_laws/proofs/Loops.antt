@@ -6,18 +6,18 @@ use Rattle.par_ownership.specs.Ownership.{Ownership, function_of}
 use Rattle.depth_first_run.specs.States.{Setting, State}
 use Rattle.depth_first_run.specs.Run.{exec, run, actions_of}
 use Rattle.depth_first_list.specs.Actions.{peak, record_words}
-use Rattle.run_outcomes.specs.Outcomes.{added, KeepsLimits}
+use Rattle.loop_laws.specs.Outcomes.{added, KeepsLimits}
 use Rattle.par_lex.specs.declared.lexeme.Lexeme.{Lexeme}
 use Rattle.loop_expand.specs.Loops.{Range, numbers, parts, Loop}
 use Rattle.loop_expand.specs.Texts.{bytes_of, sum_name}
-use Rattle.number_loop_meaning.specs.PlainLoop.{plain_loop, MeansTheSame}
-use Rattle.number_loop_meaning.proofs.Plain.{numbers_loops}
-use Rattle.number_loop_meaning.proofs.Logarithm.{prefix_sums}
-use Rattle.part_loop_meaning.specs.PartsLoop.{plain_parts_loop}
-use Rattle.part_loop_meaning.proofs.PlainParts.{parts_loops}
-use Rattle.loop_trees.specs.HelperFunctions.{range_function, words_of}
-use Rattle.loop_trees.specs.LoopCalls.{AreExpressions, AreArguments}
-use Rattle.loop_trees.proofs.WholeExpansions.{expansions_are_so}
+use Rattle.loop_laws.specs.PlainLoop.{plain_loop, MeansTheSame}
+use Rattle.loop_laws.proofs.Plain.{numbers_loops}
+use Rattle.loop_laws.proofs.Logarithm.{prefix_sums}
+use Rattle.loop_laws.specs.PartsLoop.{plain_parts_loop}
+use Rattle.loop_laws.proofs.PlainParts.{parts_loops}
+use Rattle.loop_laws.specs.HelperFunctions.{range_function, words_of}
+use Rattle.loop_laws.specs.LoopCalls.{AreExpressions, AreArguments}
+use Rattle.loop_laws.proofs.WholeExpansions.{expansions_are_so}
 use Rattle.loop_laws.specs.Laws.{WrittenOutLoopsArePlain, WrittenOutLoopsStayLow}
 use Rattle.loop_laws.specs.Meaning.{HoldsRange, IsPlainOver, MeansPlain, StaysLow}
 use Rattle.loop_laws.proofs.Sizes.{IsRanged, ranged}

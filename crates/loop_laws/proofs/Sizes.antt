@@ -5,7 +5,7 @@ use Rattle.std.proofs.lemmas.Bool.{leb-true}
 use Rattle.par_lex.specs.declared.lexeme.Lexeme.{Lexeme}
 use Rattle.par_text.specs.declared.kind.Kind.TheVariants.{RightParen, Semicolon}
 use Rattle.loop_expand.specs.Loops.{Range, numbers, parts, Loop, word, sign, StandFirst, range_form, others_form, is_size, BeginsLoop, AreLoops, no_token, no_call, one_loop}
-use Rattle.loop_trees.specs.HelperFunctions.{words_of}
+use Rattle.loop_laws.specs.HelperFunctions.{words_of}
 
 -- the parts of a range have at least 16 words
 abbrev pub IsRanged : Range → Type 0

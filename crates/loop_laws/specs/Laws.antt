@@ -6,8 +6,8 @@ use Rattle.par_ownership.specs.Ownership.{Ownership}
 use Rattle.depth_first_run.specs.States.{Setting, State}
 use Rattle.loop_expand.specs.Loops.{Loop}
 use Rattle.loop_expand.specs.Expansion.{Expands}
-use Rattle.loop_trees.specs.LoopCalls.{IsCall}
-use Rattle.loop_trees.specs.Laws.{IsExpansionOf}
+use Rattle.loop_laws.specs.LoopCalls.{IsCall}
+use Rattle.loop_laws.specs.TreeLaws.{IsExpansionOf}
 use Rattle.loop_laws.specs.Meaning.{HoldsRange, MeansPlain, StaysLow}
 
 -- Where a text has an expansion, and this is accepted: its program has the loops of the text, each with its call and its helper, and each

@@ -1,2 +1,13 @@
+pub mod Outcomes
+pub mod RunLaws
+pub mod HelperTrees
+pub mod PlainLoop
+pub mod NumberLoopLaws
+pub mod Parts
+pub mod PartsLoop
+pub mod PartLoopLaws
+pub mod HelperFunctions
+pub mod LoopCalls
+pub mod TreeLaws
 pub mod Meaning
 pub mod Laws

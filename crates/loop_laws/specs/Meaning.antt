@@ -8,13 +8,13 @@ use Rattle.depth_first_run.specs.Values.{value}
 use Rattle.depth_first_run.specs.Run.{exec, run, actions_of}
 use Rattle.depth_first_list.specs.Actions.{peak, record_words}
 use Rattle.ownership_laws.specs.Counts.{count}
-use Rattle.run_outcomes.specs.Outcomes.{added, KeepsLimits}
+use Rattle.loop_laws.specs.Outcomes.{added, KeepsLimits}
 use Rattle.loop_expand.specs.Loops.{Range, numbers, parts, Loop}
 use Rattle.loop_expand.specs.Texts.{bytes_of}
-use Rattle.number_loop_meaning.specs.PlainLoop.{plain_loop, MeansTheSame, count_between, numbers_of, RoundsTakeAtMost}
-use Rattle.part_loop_meaning.specs.PartsLoop.{plain_parts_loop}
-use Rattle.loop_trees.specs.HelperFunctions.{words_of}
-use Rattle.loop_trees.specs.LoopCalls.{IsExpression, AreExpressions, run_words}
+use Rattle.loop_laws.specs.PlainLoop.{plain_loop, MeansTheSame, count_between, numbers_of, RoundsTakeAtMost}
+use Rattle.loop_laws.specs.PartsLoop.{plain_parts_loop}
+use Rattle.loop_laws.specs.HelperFunctions.{words_of}
+use Rattle.loop_laws.specs.LoopCalls.{IsExpression, AreExpressions, run_words}
 
 -- The plain loop of a text that goes over a range, as a statement of this line: over the numbers from the first expression to the last one,
 -- or over the parts of a block, with the further expressions.

@@ -11,8 +11,8 @@ use Rattle.thread_frames.specs.Views.{done_of}
 use Rattle.thread_frames.specs.declared.thread.Thread.{Thread}
 use Rattle.hall_turns.specs.declared.lane_slot.LaneSlot.{LaneSlot}
 use Rattle.hall_turns.specs.declared.lane_slot.Running.{Running}
-use Rattle.hall_deciding.specs.PartEvents.Here.{GoesOnTop}
-use Rattle.hall_deciding.specs.PartEvents.Forks.{GoBothOnTop}
+use Rattle.hall_deciding.specs.Passed.Here.{GoesOnTop}
+use Rattle.hall_deciding.specs.Passed.Forks.{GoBothOnTop}
 use Rattle.hall_turns.specs.declared.pool_slot.PoolSlot.{PoolSlot}
 use Rattle.hall_turns.specs.declared.slot.Slot.{Slot}
 use Rattle.hall_turns.specs.declared.key.HallKey.{HallKey}

@@ -6,9 +6,9 @@ use Rattle.std.specs.Prelude.{Option}
 use Rattle.dag_order.specs.declared.action_id.ActionId.{ActionId}
 use Rattle.deque_list.specs.declared.deque_id.DequeId.{DequeId}
 use Rattle.deque_list.specs.Orders.{OrderView}
-use Rattle.hall_deciding.specs.PartEvents.Here.{TakesWords}
-use Rattle.hall_deciding.specs.PartEvents.Parts.{Has}
-use Rattle.hall_deciding.specs.PartEvents.ListCalls.{SuspendsThere, LeavesThere, KeepsCrew}
+use Rattle.hall_deciding.specs.Passed.Here.{TakesWords}
+use Rattle.hall_deciding.specs.Passed.Parts.{Has}
+use Rattle.hall_deciding.specs.Passed.ListCalls.{SuspendsThere, LeavesThere, KeepsCrew}
 use Rattle.hall_turns.specs.Passed.Values.{Hall, ListShown}
 use Rattle.hall_turns.specs.Passed.Writing.{IsAtWork}
 use Rattle.hall_turns.specs.Lists.{ShowsUnowned, HasNoOwner, IsGone, KeepsRest}
@@ -23,8 +23,8 @@ use Rattle.thread_frames.specs.declared.ended.Ended.{Ended}
 use Rattle.thread_frames.specs.declared.next.Next.{Next}
 use Rattle.thread_frames.specs.declared.thread.Thread.{Thread}
 use Rattle.thread_map.specs.Kept.{Kept}
-use Rattle.hall_deciding.specs.PartEvents.Rooms.{KeepsDeques, HasMoreBooks, HasMoreToWait, HasMoreToLeave, IsSamePool}
-use Rattle.hall_deciding.proofs.PartLemmas.Rooms.{pool_same, shown_with}
+use Rattle.hall_deciding.specs.Rooms.{KeepsDeques, HasMoreBooks, HasMoreToWait, HasMoreToLeave, IsSamePool}
+use Rattle.hall_deciding.proofs.Rooms.{pool_same, shown_with}
 
 pub takes_from : (next : Next) (top : Thread) (name : ActionId) (was now : PoolSlot) (after : PoolShown) → IsSamePool was now
     → TakesWords next top name (pool_shown now) after → TakesWords next top name (pool_shown was) after

@@ -6,7 +6,7 @@ use Rattle.thread_map.specs.Kept.{kept_under}
 use Rattle.thread_frames.specs.Kept.{WaitsUnder}
 use Rattle.thread_frames.specs.Points.{IsAtPoint}
 use Rattle.thread_frames.specs.declared.thread.Thread.{Thread}
-use Rattle.hall_deciding.specs.PartEvents.Results.{FirstAwaits}
+use Rattle.hall_deciding.specs.Passed.Results.{FirstAwaits}
 use Rattle.hall_turns.specs.declared.list_slot.ListSlot.{ListSlot}
 use Rattle.hall_turns.specs.declared.key.HallKey.{HallKey}
 use Rattle.hall_turns.specs.Keys.{table_of, quota_of}

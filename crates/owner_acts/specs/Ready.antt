@@ -9,7 +9,7 @@ use Rattle.space_ledger.specs.MovesList.{moves_spare}
 use Rattle.thread_frames.specs.Points.{IsAtPoint}
 use Rattle.thread_frames.specs.Views.{done_of}
 use Rattle.thread_frames.specs.declared.thread.Thread.{Thread}
-use Rattle.hall_deciding.specs.PartEvents.Here.{HasRoomHere}
+use Rattle.hall_deciding.specs.Passed.Here.{HasRoomHere}
 use Rattle.hall_turns.specs.declared.lane_slot.LaneSlot.{LaneSlot}
 use Rattle.hall_turns.specs.declared.lane_slot.Running.{Running}
 use Rattle.hall_turns.specs.declared.list_slot.ListSlot.{ListSlot}
@@ -19,8 +19,8 @@ use Rattle.hall_turns.specs.declared.key.HallKey.{HallKey}
 use Rattle.hall_turns.specs.Keys.{table_of, quota_of}
 use Rattle.hall_turns.specs.Sound.{PoolIsSound}
 use Rattle.hall_turns.specs.Takes.{HallSeat}
-use Rattle.hall_deciding.specs.PartEvents.Rooms.{IsSamePool}
-use Rattle.hall_deciding.specs.PartEvents.TakenParts.{IsAtAction}
+use Rattle.hall_deciding.specs.Rooms.{IsSamePool}
+use Rattle.hall_deciding.specs.EventParts.{IsAtAction}
 use Rattle.hall_deciding.specs.Taken.{pool_and_lane, list_and_lane, all_three}
 
 -- It holds these slots, among them its lane as it took it. Of this it has the threads without the top one, the period that runs, and the top

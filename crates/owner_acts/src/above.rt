@@ -2,7 +2,7 @@
 
 ghost use Rattle.std.specs.Prelude.{◌≡◌, ◌≤◌, ◌+◌, ◌<◌, ◌∷◌, [], Some, List as AnyList, length};
 ghost use Rattle.bounded_list.specs.BoundedList.{entries, spare};
-ghost use Rattle.hall_deciding.specs.PartEvents.Results.{FirstAwaits};
+ghost use Rattle.hall_deciding.specs.Passed.Results.{FirstAwaits};
 ghost use Rattle.thread_frames.specs.Actions.{IsEnd};
 ghost use Rattle.thread_frames.specs.Views.{next_of, label_of};
 ghost use Rattle.thread_frames.specs.declared.next.Next.TheVariants as nexts;
@@ -10,9 +10,9 @@ ghost use Rattle.thread_frames.specs.declared.thread.Thread.{Thread as AnyThread
 ghost use Rattle.thread_points.specs.Points.{words_at_end};
 ghost use Rattle.turn_table.specs.Tables.{key_of, slot_count, IsSeatOf};
 ghost use Rattle.hall_turns.specs.declared.event.Event.TheVariants.{Did};
-ghost use Rattle.hall_deciding.specs.PartEvents.Writes.{told_note};
-ghost use Rattle.hall_deciding.specs.PartEvents.Puts.{HasPut};
-ghost use Rattle.hall_deciding.specs.PartEvents.TakenParts.{MayAct, IsNext};
+ghost use Rattle.hall_deciding.specs.Writes.{told_note};
+ghost use Rattle.hall_deciding.specs.Puts.{HasPut};
+ghost use Rattle.hall_deciding.specs.EventParts.{MayAct, IsNext};
 ghost use Rattle.owner_acts.specs.Ready.{IsReadyWithPool, PoolIsReady};
 
 use boxed::Boxed;

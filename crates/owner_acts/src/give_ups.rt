@@ -9,12 +9,12 @@ ghost use Rattle.thread_frames.specs.declared.next.Next.TheVariants as nexts;
 ghost use Rattle.turn_table.specs.Tables.{key_of, slot_count, IsSeatOf};
 ghost use Rattle.hall_turns.specs.declared.event.Event.TheVariants.{Did, GaveUp};
 ghost use Rattle.hall_turns.specs.Lists.{ShowsUnowned, HasNoOwner, KeepsRest};
-ghost use Rattle.hall_deciding.specs.PartEvents.Writes.{told_note};
-ghost use Rattle.hall_deciding.specs.PartEvents.Puts.{HasPut};
-ghost use Rattle.hall_deciding.specs.PartEvents.TakenParts.{MayAct, MayPause, IsNext};
-ghost use Rattle.hall_deciding.specs.PartEvents.ListsTaken.{IsTooMuch};
+ghost use Rattle.hall_deciding.specs.Writes.{told_note};
+ghost use Rattle.hall_deciding.specs.Puts.{HasPut};
+ghost use Rattle.hall_deciding.specs.EventParts.{MayAct, MayPause, IsNext};
+ghost use Rattle.hall_deciding.specs.ListRuns.{IsTooMuch};
 ghost use Rattle.owner_acts.specs.Ready.{IsReadyWithList};
-ghost use Rattle.hall_deciding.specs.PartEvents.Rooms.{HasMoreBooks};
+ghost use Rattle.hall_deciding.specs.Rooms.{HasMoreBooks};
 ghost use Rattle.owner_acts.specs.Pauses.{CanClose};
 
 use boxed::Boxed;

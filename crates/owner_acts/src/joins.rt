@@ -8,9 +8,9 @@ ghost use Rattle.thread_frames.specs.Views.{next_of, children_of, newest, join_w
 ghost use Rattle.thread_frames.specs.declared.next.Next.TheVariants as nexts;
 ghost use Rattle.turn_table.specs.Tables.{key_of, slot_count, IsSeatOf};
 ghost use Rattle.hall_turns.specs.declared.event.Event.TheVariants.{Did};
-ghost use Rattle.hall_deciding.specs.PartEvents.Writes.{told_note};
-ghost use Rattle.hall_deciding.specs.PartEvents.Puts.{HasPut};
-ghost use Rattle.hall_deciding.specs.PartEvents.TakenParts.{MayAct, IsNext};
+ghost use Rattle.hall_deciding.specs.Writes.{told_note};
+ghost use Rattle.hall_deciding.specs.Puts.{HasPut};
+ghost use Rattle.hall_deciding.specs.EventParts.{MayAct, IsNext};
 ghost use Rattle.hall_deciding.specs.Taken.{its_lane};
 ghost use Rattle.owner_acts.specs.Ready.{IsReady, IsReadyWithPool, PoolIsReady};
 

@@ -12,11 +12,11 @@ ghost use Rattle.turn_table.specs.Tables.{key_of, slot_count, IsSeatOf};
 ghost use Rattle.hall_turns.specs.declared.event.Event.TheVariants.{Did};
 ghost use Rattle.hall_turns.specs.declared.key.HallKey.{HallKey};
 ghost use Rattle.hall_turns.specs.Keys.{table_of, quota_of};
-ghost use Rattle.hall_deciding.specs.PartEvents.ListCalls.{IsHandedThere, KeepsCrew};
-ghost use Rattle.hall_deciding.specs.PartEvents.Results.{HasCome};
-ghost use Rattle.hall_deciding.specs.PartEvents.Writes.{told_note};
-ghost use Rattle.hall_deciding.specs.PartEvents.Puts.{HasPut};
-ghost use Rattle.hall_deciding.specs.PartEvents.TakenParts.{MayAct};
+ghost use Rattle.hall_deciding.specs.Passed.ListCalls.{IsHandedThere, KeepsCrew};
+ghost use Rattle.hall_deciding.specs.Passed.Results.{HasCome};
+ghost use Rattle.hall_deciding.specs.Writes.{told_note};
+ghost use Rattle.hall_deciding.specs.Puts.{HasPut};
+ghost use Rattle.hall_deciding.specs.EventParts.{MayAct};
 ghost use Rattle.hall_deciding.specs.Taken.{list_and_lane};
 ghost use Rattle.owner_acts.specs.Ready.{IsReady, IsReadyWithBoth, PoolIsReady};
 ghost use Rattle.owner_acts.specs.Kept.{CanJoinKept};
@@ -24,9 +24,7 @@ ghost use Rattle.owner_acts.specs.Kept.{CanJoinKept};
 use boxed::Boxed;
 use dag_order::{ActionId, Births, ThreadId};
 use deque_list::{DequeId, Lane};
-use hall_deciding::{
-    decide_kept_join, decide_kept_join_giving, do_join, do_join_giving, hand_over,
-};
+use hall_deciding::{decide_kept_join, decide_kept_join_giving, do_join, do_join_giving, hand_over};
 use hall_turns::{HallPlace, HallRow, LaneSlot, ListSlot, PoolSlot, Running};
 use thread_frames::Thread;
 

@@ -12,12 +12,12 @@ ghost use Rattle.thread_points.specs.Points.{words_at_end};
 ghost use Rattle.turn_table.specs.Tables.{key_of, slot_count, IsSeatOf};
 ghost use Rattle.hall_turns.specs.declared.event.Event.TheVariants.{Did};
 ghost use Rattle.hall_turns.specs.Lists.{IsGone};
-ghost use Rattle.hall_deciding.specs.PartEvents.ListCalls.{LeavesThere, KeepsCrew};
-ghost use Rattle.hall_deciding.specs.PartEvents.Writes.{told_note};
-ghost use Rattle.hall_deciding.specs.PartEvents.Puts.{HasPut};
-ghost use Rattle.hall_deciding.specs.PartEvents.TakenParts.{MayAct, IsNext};
+ghost use Rattle.hall_deciding.specs.Passed.ListCalls.{LeavesThere, KeepsCrew};
+ghost use Rattle.hall_deciding.specs.Writes.{told_note};
+ghost use Rattle.hall_deciding.specs.Puts.{HasPut};
+ghost use Rattle.hall_deciding.specs.EventParts.{MayAct, IsNext};
 ghost use Rattle.owner_acts.specs.Ready.{IsReadyWithAll, PoolIsReady};
-ghost use Rattle.hall_deciding.specs.PartEvents.Rooms.{HasMoreToLeave};
+ghost use Rattle.hall_deciding.specs.Rooms.{HasMoreToLeave};
 ghost use Rattle.owner_acts.specs.Pauses.{CanClose};
 ghost use Rattle.owner_acts.specs.Ends.{CanLeave};
 

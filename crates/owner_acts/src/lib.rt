@@ -1,7 +1,7 @@
 //! The events of an owner, from the parts that it took to its put back.
 //!
 //! A call of an owner has the threads of its lane, the period that runs there, the top thread before its next action, and the pool or the
-//! list if the event needs them. Here the event is done to these parts (`lane_events`, `list_events`), and they are put back
+//! list if the event needs them. Here the event is done to these parts (`part_events`), and they are put back
 //! (`hall_deciding`): the seat notes the event, and holds nothing. There is a call for each action in the lane ([`act_fork`]), one for each
 //! that takes something out of the list ([`act_kept_join`], [`act_waking_end`]), and one for each event after which the deque has no owner
 //! ([`act_wait`], [`act_give_up`], [`act_dummy`], [`act_leaving_end`], [`act_root_end`]). Whether the quota covers an action is asked of its

@@ -3,16 +3,16 @@
 ghost use Rattle.std.specs.Prelude.{◌≡◌, ◌≤◌, ◌+◌, ◌<◌, ◌∷◌, [], None};
 ghost use Rattle.std.specs.List.Sorted.{IsPermutation};
 ghost use Rattle.thread_map.specs.Kept.{kept_under};
-ghost use Rattle.hall_deciding.specs.PartEvents.ListCalls.{SuspendsThere, KeepsCrew};
+ghost use Rattle.hall_deciding.specs.Passed.ListCalls.{SuspendsThere, KeepsCrew};
 ghost use Rattle.hall_turns.specs.Lists.{IsGone};
 ghost use Rattle.thread_frames.specs.declared.thread.Thread.{Thread as AnyThread};
 ghost use Rattle.turn_table.specs.Tables.{key_of, slot_count, IsSeatOf};
 ghost use Rattle.hall_turns.specs.declared.event.Event.TheVariants.{Suspended};
-ghost use Rattle.hall_deciding.specs.PartEvents.Writes.{told_note};
-ghost use Rattle.hall_deciding.specs.PartEvents.Puts.{HasPut};
-ghost use Rattle.hall_deciding.specs.PartEvents.TakenParts.{MayPause};
+ghost use Rattle.hall_deciding.specs.Writes.{told_note};
+ghost use Rattle.hall_deciding.specs.Puts.{HasPut};
+ghost use Rattle.hall_deciding.specs.EventParts.{MayPause};
 ghost use Rattle.owner_acts.specs.Ready.{IsReadyWithList};
-ghost use Rattle.hall_deciding.specs.PartEvents.Rooms.{HasMoreToWait};
+ghost use Rattle.hall_deciding.specs.Rooms.{HasMoreToWait};
 ghost use Rattle.owner_acts.specs.Pauses.{CanClose, CanWait};
 
 use boxed::Boxed;

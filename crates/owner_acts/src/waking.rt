@@ -10,10 +10,10 @@ ghost use Rattle.thread_map.specs.Kept.{kept_under};
 ghost use Rattle.thread_points.specs.Points.{words_at_end};
 ghost use Rattle.turn_table.specs.Tables.{key_of, slot_count, IsSeatOf};
 ghost use Rattle.hall_turns.specs.declared.event.Event.TheVariants.{Did};
-ghost use Rattle.hall_deciding.specs.PartEvents.ListCalls.{TakesWaiting, KeepsCrew};
-ghost use Rattle.hall_deciding.specs.PartEvents.Writes.{told_note};
-ghost use Rattle.hall_deciding.specs.PartEvents.Puts.{HasPut};
-ghost use Rattle.hall_deciding.specs.PartEvents.TakenParts.{MayAct, IsNext};
+ghost use Rattle.hall_deciding.specs.Passed.ListCalls.{TakesWaiting, KeepsCrew};
+ghost use Rattle.hall_deciding.specs.Writes.{told_note};
+ghost use Rattle.hall_deciding.specs.Puts.{HasPut};
+ghost use Rattle.hall_deciding.specs.EventParts.{MayAct, IsNext};
 ghost use Rattle.owner_acts.specs.Ready.{IsReadyWithBoth, PoolIsReady};
 ghost use Rattle.owner_acts.specs.Ends.{CanWake};
 

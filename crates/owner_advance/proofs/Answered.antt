@@ -10,9 +10,9 @@ use Rattle.turn_table.specs.Seats.{with_hand}
 use Rattle.turn_table.proofs.Left.{first_of_two}
 use Rattle.turn_table.proofs.NoteLaws.{put_noted, quiet_shown}
 use Rattle.turn_table.proofs.Standing.{shown_as}
-use Rattle.turn_places.specs.Backs.{unchanged}
-use Rattle.turn_places.proofs.Resting.{put_rests}
-use Rattle.hall_deciding.specs.PartEvents.Puts.{HasPut}
+use Rattle.turn_table.specs.Backs.{unchanged}
+use Rattle.turn_table.proofs.Resting.{put_rests}
+use Rattle.hall_deciding.specs.Puts.{HasPut}
 use Rattle.hall_seats.specs.Lists.{answered_note, HoldsTheEnd}
 use Rattle.hall_seats.proofs.Ends.{parts_sound}
 use Rattle.hall_seats.proofs.Listed.{answered_may}

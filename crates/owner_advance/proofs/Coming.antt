@@ -8,9 +8,9 @@ use Rattle.run_end.specs.declared.stop.Stop.TheVariants.{OutOfMemory as NoMemory
 use Rattle.thread_frames.specs.declared.next.Next.{Next}
 use Rattle.turn_table.specs.Notes.{HasAs}
 use Rattle.turn_table.specs.Seats.{with_hand}
-use Rattle.hall_deciding.specs.PartEvents.Puts.{HasPut}
-use Rattle.hall_reads.specs.Reads.{HoldsItsLane}
-use Rattle.hall_reads.proofs.Reading.{owners_read}
+use Rattle.hall_deciding.specs.Puts.{HasPut}
+use Rattle.owner_advance.specs.Reads.{HoldsItsLane}
+use Rattle.owner_advance.proofs.Reading.{owners_read}
 use Rattle.hall_turns.specs.Shown.{running_shown}
 use Rattle.hall_turns.specs.Takes.{HallSeat, IsTaken, MeetsLaw}
 use Rattle.hall_turns.specs.declared.key.HallKey.{HallKey}

@@ -29,11 +29,11 @@ use Rattle.hall_turns.specs.Passed.Values.{Hall, PoolShown, by_rule, lane_at}
 use Rattle.hall_turns.specs.Passed.Views.{View}
 use Rattle.hall_turns.specs.Passed.Writing.{IsAtWork}
 use Rattle.hall_turns.proofs.Passed.Stops.{full_arenas_go_on}
-use Rattle.hall_deciding.specs.PartEvents.Staying.{NotesOn}
-use Rattle.hall_deciding.specs.PartEvents.TakenParts.{IsAtAction, MayPause}
-use Rattle.hall_deciding.proofs.PartLemmas.Pauses.{next_of_it}
-use Rattle.hall_deciding.proofs.PartLemmas.Quiet.{same_hall, statements_may_come, wants_of_memory_may_come}
-use Rattle.hall_deciding.proofs.PartLemmas.Working.{some, work, here, own, period_was}
+use Rattle.hall_deciding.specs.Staying.{NotesOn}
+use Rattle.hall_deciding.specs.EventParts.{IsAtAction, MayPause}
+use Rattle.hall_deciding.proofs.Pauses.{next_of_it}
+use Rattle.hall_deciding.proofs.Quiet.{same_hall, statements_may_come, wants_of_memory_may_come}
+use Rattle.hall_deciding.proofs.Working.{some, work, here, own, period_was}
 use Rattle.hall_turns.specs.Keys.{table_of, quota_of, terms_of}
 use Rattle.hall_turns.specs.Shown.{list_shown, pool_shown, lane_shown, stop_shown, view_of}
 use Rattle.hall_turns.specs.Steps.{IsRunning}
@@ -43,7 +43,7 @@ use Rattle.hall_turns.specs.declared.lane_slot.LaneSlot.{LaneSlot}
 use Rattle.hall_turns.specs.declared.list_slot.ListSlot.{ListSlot}
 use Rattle.hall_turns.specs.declared.pool_slot.PoolSlot.{PoolSlot}
 use Rattle.hall_turns.specs.declared.seat_note.SeatNote.{SeatNote}
-use Rattle.hall_deciding.specs.PartEvents.Writes.{parts as three, hall_with}
+use Rattle.hall_deciding.specs.Writes.{parts as three, hall_with}
 use Rattle.owner_advance.specs.Causes.{IsTooLarge, NothingMayBeNoted, MemoryMayBeNoted, FullArenasMayBeNoted}
 
 pub nothing_may_be_noted : NothingMayBeNoted

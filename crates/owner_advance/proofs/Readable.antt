@@ -23,8 +23,8 @@ use Rattle.thread_state.specs.Settings.{IsSettingOf}
 use Rattle.depth_first_run.specs.States.{Setting}
 use Rattle.hall_deciding.specs.Passed.Here.{HasRoomIn}
 use Rattle.hall_deciding.specs.Own.{IsShortThere}
-use Rattle.hall_deciding.specs.PartEvents.TakenParts.{IsAtAction}
-use Rattle.hall_deciding.proofs.PartLemmas.Working.{still_shows}
+use Rattle.hall_deciding.specs.EventParts.{IsAtAction}
+use Rattle.hall_deciding.proofs.Working.{still_shows}
 use Rattle.hall_turns.specs.Keys.{table_of, quota_of}
 use Rattle.hall_turns.specs.Shown.{lane_shown, running_shown}
 use Rattle.hall_turns.specs.Takes.{HallSeat}

@@ -16,12 +16,12 @@ use Rattle.hall_turns.specs.Passed.State.{RunningState}
 use Rattle.hall_turns.specs.Passed.Values.{Hall}
 use Rattle.hall_turns.specs.Passed.Views.{View}
 use Rattle.hall_turns.proofs.Passed.Quiet.{quiet_puts_go_on}
-use Rattle.hall_deciding.specs.PartEvents.Rooms.{HasMoreRoom, IsSamePool}
-use Rattle.hall_deciding.proofs.PartLemmas.Rooms.{pool_same, shown_with}
-use Rattle.hall_deciding.proofs.PartLemmas.Staying.{all_at, each_moved}
-use Rattle.hall_deciding.specs.PartEvents.Puts.{note_of, MayPutPoolAndLane, MayPutListAndLane, MayPutAll}
-use Rattle.hall_deciding.specs.PartEvents.Notings.{Noting}
-use Rattle.hall_deciding.specs.PartEvents.Notings.TheVariants.{Same, Found, Does, Yields}
+use Rattle.hall_deciding.specs.Rooms.{HasMoreRoom, IsSamePool}
+use Rattle.hall_deciding.proofs.Rooms.{pool_same, shown_with}
+use Rattle.hall_deciding.proofs.Staying.{all_at, each_moved}
+use Rattle.hall_deciding.specs.Puts.{note_of, MayPutPoolAndLane, MayPutListAndLane, MayPutAll}
+use Rattle.hall_deciding.specs.declared.noting.Noting.{Noting}
+use Rattle.hall_deciding.specs.declared.noting.Noting.TheVariants.{Same, Found, Does, Yields}
 use Rattle.hall_turns.specs.Keys.{table_of, quota_of, terms_of}
 use Rattle.hall_turns.specs.Shown.{list_shown, view_of}
 use Rattle.hall_turns.specs.Sound.{thread_that_waits, PoolIsSound}
@@ -32,7 +32,7 @@ use Rattle.hall_turns.specs.declared.lane_slot.LaneSlot.{LaneSlot}
 use Rattle.hall_turns.specs.declared.list_slot.ListSlot.{ListSlot}
 use Rattle.hall_turns.specs.declared.pool_slot.PoolSlot.{PoolSlot}
 use Rattle.hall_turns.specs.declared.seat_note.SeatNote.{SeatNote}
-use Rattle.hall_deciding.specs.PartEvents.Writes.{Parts, parts, hall_with, IsShort, MayBecome, StaySound, stays}
+use Rattle.hall_deciding.specs.Writes.{Parts, parts, hall_with, IsShort, MayBecome, StaySound, stays}
 use Rattle.owner_advance.specs.Returning.{MayNote, ReturnsLane, ReturnsPool, ReturnsList, ReturnsAll}
 
 -- parts that are as they were have no less room than they had

@@ -16,11 +16,11 @@ use Rattle.thread_frames.specs.declared.next.Next.{Next}
 use Rattle.turn_table.specs.declared.look.Look.{Look}
 use Rattle.turn_table.specs.declared.look.Look.TheVariants.{Took}
 use Rattle.turn_table.specs.Seats.{with_hand}
-use Rattle.hall_deciding.specs.PartEvents.Here.{HasRoomHere}
-use Rattle.hall_deciding.specs.PartEvents.Puts.{HasPut}
-use Rattle.hall_deciding.specs.PartEvents.TakenParts.{IsAtAction, IsNext, MayPause}
+use Rattle.hall_deciding.specs.Passed.Here.{HasRoomHere}
+use Rattle.hall_deciding.specs.Puts.{HasPut}
+use Rattle.hall_deciding.specs.EventParts.{IsAtAction, IsNext, MayPause}
 use Rattle.hall_deciding.specs.Taken.{its_lane}
-use Rattle.hall_reads.specs.Reads.{ReadsLane}
+use Rattle.owner_advance.specs.Reads.{ReadsLane}
 use Rattle.hall_turns.specs.Keys.{table_of, quota_of, IsKey}
 use Rattle.hall_turns.specs.Shown.{running_shown}
 use Rattle.hall_turns.specs.Takes.{HallSeat, IsTaken, IsRefused}

@@ -5,7 +5,7 @@ use Rattle.run_end.specs.declared.ends.RunEnd.{RunEnd}
 use Rattle.turn_table.specs.Hands.{gave}
 use Rattle.turn_table.specs.Notes.{HasAs}
 use Rattle.turn_table.specs.Seats.{with_hand}
-use Rattle.turn_places.specs.Backs.{unchanged}
+use Rattle.turn_table.specs.Backs.{unchanged}
 use Rattle.hall_seats.specs.Lists.{answered_note}
 use Rattle.hall_turns.specs.Takes.{HallSeat}
 use Rattle.hall_turns.specs.declared.key.HallKey.{HallKey}

@@ -13,15 +13,15 @@ use Rattle.thread_frames.specs.Actions.{IsOfTheList}
 use Rattle.thread_frames.specs.declared.next.Next.{Next}
 use Rattle.thread_frames.specs.declared.thread.Thread.{Thread}
 use Rattle.thread_state.specs.Settings.{IsSettingOf}
-use Rattle.hall_deciding.specs.PartEvents.TakenParts.{IsAtAction, MayPause}
-use Rattle.hall_deciding.specs.PartEvents.Notings.TheVariants.{Same, Found}
+use Rattle.hall_deciding.specs.EventParts.{IsAtAction, MayPause}
+use Rattle.hall_deciding.specs.declared.noting.Noting.TheVariants.{Same, Found}
 use Rattle.hall_turns.specs.Keys.{table_of, quota_of}
 use Rattle.hall_turns.specs.Takes.{HallSeat}
 use Rattle.hall_turns.specs.declared.key.HallKey.{HallKey}
 use Rattle.hall_turns.specs.declared.lane_slot.LaneSlot.{LaneSlot}
 use Rattle.hall_turns.specs.declared.list_slot.ListSlot.{ListSlot}
 use Rattle.hall_turns.specs.declared.pool_slot.PoolSlot.{PoolSlot}
-use Rattle.hall_deciding.specs.PartEvents.Writes.{Parts, parts}
+use Rattle.hall_deciding.specs.Writes.{Parts, parts}
 use Rattle.owner_advance.specs.Returning.{MayNote}
 
 -- For each program that the key may be of, the next action of the thread takes so many words, its period may do it, and with the words in use

@@ -1,18 +1,18 @@
 -- What an owner puts back if no event comes.
 use Rattle.std.specs.Prelude.{◌≡◌}
 use Rattle.deque_list.specs.declared.deque_id.DequeId.{DequeId}
-use Rattle.hall_deciding.specs.PartEvents.Rooms.{HasMoreRoom, IsSamePool}
-use Rattle.hall_deciding.specs.PartEvents.Staying.{NotesOn, AllAtPoints}
-use Rattle.hall_deciding.specs.PartEvents.TakenParts.{MayGoOn}
-use Rattle.hall_deciding.specs.PartEvents.Puts.{note_of}
-use Rattle.hall_deciding.specs.PartEvents.Notings.{Noting}
+use Rattle.hall_deciding.specs.Rooms.{HasMoreRoom, IsSamePool}
+use Rattle.hall_deciding.specs.Staying.{NotesOn, AllAtPoints}
+use Rattle.hall_deciding.specs.EventParts.{MayGoOn}
+use Rattle.hall_deciding.specs.Puts.{note_of}
+use Rattle.hall_deciding.specs.declared.noting.Noting.{Noting}
 use Rattle.hall_turns.specs.Shown.{lane_shown}
 use Rattle.hall_turns.specs.Takes.{HallSeat}
 use Rattle.hall_turns.specs.declared.key.HallKey.{HallKey}
 use Rattle.hall_turns.specs.declared.lane_slot.LaneSlot.{LaneSlot}
 use Rattle.hall_turns.specs.declared.list_slot.ListSlot.{ListSlot}
 use Rattle.hall_turns.specs.declared.pool_slot.PoolSlot.{PoolSlot}
-use Rattle.hall_deciding.specs.PartEvents.Writes.{Parts, parts, MayBecome}
+use Rattle.hall_deciding.specs.Writes.{Parts, parts, MayBecome}
 use Rattle.hall_deciding.specs.Taken.{pool_and_lane, list_and_lane, all_three}
 
 -- Wherever these parts are, the seat may note this: it stays the same seat, and the hall goes on.

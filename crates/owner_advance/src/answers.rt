@@ -2,7 +2,7 @@
 
 ghost use Rattle.std.specs.Prelude.{◌+◌, ◌<◌, []};
 ghost use Rattle.turn_table.specs.Tables.{key_of, slot_count, IsSeatOf};
-ghost use Rattle.hall_deciding.specs.PartEvents.Puts.{HasPut};
+ghost use Rattle.hall_deciding.specs.Puts.{HasPut};
 ghost use Rattle.hall_seats.specs.Lists.{answered_note};
 ghost use Rattle.owner_advance.specs.Answers.{GivesAnswered, HoldsAnEnd, ReturnsEnded};
 

@@ -9,18 +9,23 @@
 //! [`return_list`], [`return_all`]), and the seat notes the stop that it found, if any. If an end is kept in the list, the seat is answered
 //! this end ([`return_answered`]).
 //!
-//! It uses what an owner knows of its lane (`hall_reads`), the way of a thread to its action (`thread_events`), how a seat puts back what
+//! [`read_laws`] say what an owner knows of the parts that it took, in each state of the row that meets the law: a thread is on top, at its
+//! point, and a period runs; the numbers of both are within the bounds that the calls on them ask for; its deque is in the list; and what the
+//! list has of the child that its top thread joins, or of the parent of one that ends.
+//!
+//! It uses the way of a thread to its action (`thread_events`), which threads are at their points (`hall_run`), how a seat puts back what
 //! it took (`hall_deciding`), and the laws of the running state (`hall_law`). Its theorem: the thread is at its point before
 //! the action that the depth-first list has for it, nothing is done yet, and there is memory for what it does; each put back keeps the law
 //! of the hall between any two atomic steps and leaves its moment, the seat holds nothing then, and a stop that it notes has its cause
-//! ([`laws`]).
+//! ([`advance_laws`]).
 #![tactic(auto)]
 
+pub mod advance_laws;
 mod advancing;
 mod answers;
 mod at_next;
-pub mod laws;
 mod memory;
+pub mod read_laws;
 mod returns;
 mod rooms;
 

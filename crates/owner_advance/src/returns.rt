@@ -2,7 +2,7 @@
 
 ghost use Rattle.std.specs.Prelude.{◌+◌, ◌<◌, []};
 ghost use Rattle.turn_table.specs.Tables.{key_of, slot_count, IsSeatOf};
-ghost use Rattle.hall_deciding.specs.PartEvents.Puts.{note_of, HasPut};
+ghost use Rattle.hall_deciding.specs.Puts.{note_of, HasPut};
 ghost use Rattle.owner_advance.specs.Returning.{ReturnsPool, ReturnsList, ReturnsAll};
 
 use boxed::Boxed;

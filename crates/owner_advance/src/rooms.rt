@@ -4,7 +4,7 @@ ghost use Rattle.std.specs.Prelude.{◌≡◌, ◌≤◌, [], ℕ, Some, OnOk};
 ghost use Rattle.std.specs.Option.{option_map};
 ghost use Rattle.space_ledger.specs.BooksList.{books_spare};
 ghost use Rattle.space_ledger.specs.MovesList.{moves_spare};
-ghost use Rattle.hall_deciding.specs.PartEvents.Rooms.{HasMoreBooks, HasMoreToWait, HasMoreToLeave, IsSamePool};
+ghost use Rattle.hall_deciding.specs.Rooms.{HasMoreBooks, HasMoreToWait, HasMoreToLeave, IsSamePool};
 ghost use Rattle.hall_turns.specs.Shown.{running_shown};
 ghost use Rattle.hall_turns.specs.declared.lane_slot.Running.{Running as AnyRunning};
 ghost use Rattle.owner_advance.specs.Rooms.{HasRoomToRun};

@@ -6,7 +6,7 @@ use Rattle.turn_table.specs.declared.look.Look.TheVariants.{Refused}
 use Rattle.turn_table.specs.Hands.{gave, refused as refused_hand, renewed, without_slot}
 use Rattle.turn_table.specs.Seats.{with_hand}
 use Rattle.turn_table.proofs.Left.{left_of_one}
-use Rattle.turn_places.specs.Backs.{kept, still, unchanged}
+use Rattle.turn_table.specs.Backs.{kept, still, unchanged}
 use Rattle.hall_turns.specs.Takes.{HallSeat, IsGiven, IsRefused, IsTaken}
 use Rattle.hall_turns.specs.declared.lane_slot.LaneSlot.{LaneSlot}
 use Rattle.hall_turns.specs.declared.slot.Slot.{Slot}

@@ -6,7 +6,7 @@ use Rattle.run_end.specs.declared.stop.Stop.{Stop}
 use Rattle.thread_frames.specs.declared.next.Next.{Next}
 use Rattle.turn_table.specs.declared.look.Look.TheVariants.{Counted}
 use Rattle.turn_table.specs.Seats.{with_hand}
-use Rattle.hall_counting.specs.Counting.{HasCounted, HasFoundSpent, MayDraw}
+use Rattle.hall_seats.specs.Counting.{HasCounted, HasFoundSpent, MayDraw}
 use Rattle.owner_acts.specs.Decided.PartEvents.Puts.{HasPut}
 use Rattle.owner_acts.specs.Decided.PartEvents.TakenParts.{MayGoOn}
 use Rattle.hall_turns.specs.Takes.{HallSeat}

@@ -2,9 +2,9 @@
 use Rattle.std.proofs.Common.{ℕ, ◌+◌, ◌≤◌, [], ◌∷◌, ◌++◌, refl, sym, ap, ◌∙◌, subst, append_assoc}
 use Rattle.std.specs.Prelude.{Result, Ok, Err}
 use Rattle.deque_list.specs.declared.deque_id.DequeId.{DequeId}
-use Rattle.hall_counting.specs.Counting.{counting_note}
-use Rattle.owner_advance.proofs.ReadLemmas.InUse.{words_are_in_use}
-use Rattle.owner_advance.specs.ReadThere.Lists.{words_back}
+use Rattle.hall_seats.specs.Counting.{counting_note}
+use Rattle.owner_advance.proofs.InUse.{words_are_in_use}
+use Rattle.owner_advance.specs.Lists.{words_back}
 use Rattle.hall_turns.specs.Takes.{HallSeat, MeetsLaw}
 use Rattle.hall_turns.specs.declared.key.HallKey.{HallKey}
 use Rattle.hall_turns.specs.declared.pool_slot.PoolSlot.{PoolSlot}

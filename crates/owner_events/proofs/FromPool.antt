@@ -7,7 +7,7 @@ use Rattle.owner_acts.specs.Decided.PartEvents.Puts.{HasPut}
 use Rattle.owner_acts.specs.Decided.PartEvents.TakenParts.{IsNext, MayAct, MayDoNext}
 use Rattle.owner_acts.specs.Decided.PartEvents.Writes.{told_note}
 use Rattle.owner_acts.specs.Decided.Taken.{pool_and_lane}
-use Rattle.owner_advance.specs.ReadThere.Lists.{words_back}
+use Rattle.owner_advance.specs.Lists.{words_back}
 use Rattle.hall_turns.specs.Takes.{HallSeat}
 use Rattle.hall_turns.specs.declared.event.Event.TheVariants.{Did}
 use Rattle.hall_turns.specs.declared.key.HallKey.{HallKey}

@@ -7,8 +7,8 @@ use Rattle.period_table.specs.Tables.{birth_room}
 use Rattle.thread_frames.specs.declared.next.Next.{Next}
 use Rattle.turn_table.specs.Notes.{HasAs}
 use Rattle.owner_acts.specs.Decided.Taken.{its_lane, pool_and_lane, list_and_lane, all_three}
-use Rattle.owner_advance.specs.ReadThere.Lists.{ComesTo}
-use Rattle.owner_advance.specs.ReadThere.Reads.{HoldsItsLane}
+use Rattle.owner_advance.specs.Lists.{ComesTo}
+use Rattle.owner_advance.specs.Reads.{HoldsItsLane}
 use Rattle.hall_turns.specs.Takes.{HallSeat}
 use Rattle.hall_turns.specs.declared.key.HallKey.{HallKey}
 use Rattle.hall_turns.specs.declared.lane_slot.LaneSlot.{LaneSlot}

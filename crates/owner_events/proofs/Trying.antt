@@ -15,7 +15,7 @@ use Rattle.owner_acts.specs.Decided.PartEvents.TakenParts.{MayGoOn, MayPause}
 use Rattle.owner_acts.specs.Decided.PartEvents.Writes.{Parts}
 use Rattle.owner_acts.specs.Decided.Taken.{its_lane}
 use Rattle.owner_acts.specs.Decided.PartEvents.Notings.TheVariants.{Found}
-use Rattle.owner_advance.proofs.ReadLemmas.Reading.{pools_are_sound}
+use Rattle.owner_advance.proofs.Reading.{pools_are_sound}
 use Rattle.hall_seats.specs.Lists.{answered_note}
 use Rattle.hall_turns.specs.Sound.{PoolIsSound}
 use Rattle.hall_turns.specs.Takes.{HallSeat, IsTaken, IsRefused, MeetsLaw}

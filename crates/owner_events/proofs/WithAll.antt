@@ -6,9 +6,9 @@ use Rattle.owner_acts.specs.Decided.PartEvents.Puts.{HasPut}
 use Rattle.owner_acts.specs.Decided.PartEvents.TakenParts.{IsNext, MayAct}
 use Rattle.owner_acts.specs.Decided.PartEvents.Writes.{told_note}
 use Rattle.owner_acts.specs.Decided.Taken.{all_three}
-use Rattle.owner_advance.proofs.ReadLemmas.InUse.{words_are_in_use}
-use Rattle.owner_advance.specs.ReadThere.Lists.{words_back, ComesTo}
-use Rattle.owner_advance.specs.ReadThere.Reads.{HoldsItsLane}
+use Rattle.owner_advance.proofs.InUse.{words_are_in_use}
+use Rattle.owner_advance.specs.Lists.{words_back, ComesTo}
+use Rattle.owner_advance.specs.Reads.{HoldsItsLane}
 use Rattle.hall_turns.specs.Takes.{HallSeat, MeetsLaw}
 use Rattle.hall_turns.specs.declared.event.Event.{Event}
 use Rattle.hall_turns.specs.declared.key.HallKey.{HallKey}

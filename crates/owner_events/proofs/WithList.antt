@@ -8,8 +8,8 @@ use Rattle.owner_acts.specs.Decided.PartEvents.Puts.{HasPut}
 use Rattle.owner_acts.specs.Decided.PartEvents.Rooms.{KeepsDeques, HasMoreBooks, HasMoreRoom, HasMoreToLeave, HasMoreToWait}
 use Rattle.owner_acts.specs.Decided.PartEvents.Writes.{told_note}
 use Rattle.owner_acts.specs.Decided.Taken.{list_and_lane}
-use Rattle.owner_advance.specs.ReadThere.Lists.{ComesTo}
-use Rattle.owner_advance.specs.ReadThere.Reads.{HoldsItsLane}
+use Rattle.owner_advance.specs.Lists.{ComesTo}
+use Rattle.owner_advance.specs.Reads.{HoldsItsLane}
 use Rattle.hall_turns.specs.Takes.{HallSeat, MeetsLaw}
 use Rattle.hall_turns.specs.declared.event.Event.{Event}
 use Rattle.hall_turns.specs.declared.key.HallKey.{HallKey}

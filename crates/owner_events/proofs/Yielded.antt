@@ -25,9 +25,9 @@ use Rattle.owner_acts.specs.Decided.PartEvents.TakenParts.{MayPause}
 use Rattle.owner_acts.specs.Decided.Taken.{list_and_lane}
 use Rattle.owner_acts.specs.Decided.PartEvents.Writes.{Parts}
 use Rattle.owner_acts.specs.Decided.PartEvents.Notings.{Noting}
-use Rattle.owner_advance.specs.ReadThere.Reads.{HoldsItsLane, ReadsLane}
-use Rattle.owner_advance.proofs.ReadLemmas.Reading.{st, shown, holds as law_holds, owners_read}
-use Rattle.owner_advance.proofs.ReadLemmas.Listing.{at, lists_are_read}
+use Rattle.owner_advance.specs.Reads.{HoldsItsLane, ReadsLane}
+use Rattle.owner_advance.proofs.Reading.{st, shown, holds as law_holds, owners_read}
+use Rattle.owner_advance.proofs.Listing.{at, lists_are_read}
 use Rattle.hall_turns.specs.Keys.{table_of, quota_of}
 use Rattle.hall_turns.specs.Lists.{ShowsUnowned, HasNoOwner, KeepsRest}
 use Rattle.hall_turns.specs.Shown.{running_shown}

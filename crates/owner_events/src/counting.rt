@@ -13,7 +13,7 @@ use crate::giving::{give_all, give_lane, give_list, give_pool};
 use crate::refused::ActRefused;
 use boxed::Boxed;
 use deque_list::DequeId;
-use hall_counting::count_action;
+use hall_seats::count_action;
 use hall_turns::{HallPlace, HallRow, ListSlot, PoolSlot};
 use owner_acts::Noting;
 use owner_advance::{AtNext, make_room_for_move};

@@ -7,7 +7,7 @@ ghost use Rattle.thread_frames.specs.Views.{children_of, join_words_of, newest};
 ghost use Rattle.thread_frames.specs.declared.next.Next.TheVariants as nexts;
 ghost use Rattle.turn_table.specs.Tables.{key_of, slot_count, IsSeatOf};
 ghost use Rattle.owner_acts.specs.Decided.Taken.{its_lane};
-ghost use Rattle.owner_advance.specs.ReadThere.Lists.{ReadsEnd};
+ghost use Rattle.owner_advance.specs.Lists.{ReadsEnd};
 ghost use Rattle.hall_turns.specs.declared.event.Event.TheVariants.{Did};
 ghost use Rattle.owner_acts.specs.Quotas.{MayUse};
 ghost use Rattle.owner_events.specs.Holding.{IsBefore, IsNotBusy};

@@ -2,7 +2,7 @@ use dag_order::{ActionId, Kind, ThreadId};
 use serial_journal::{Action, Actions};
 use std::alloc::{AllocError, Global};
 use std::test::Fail;
-use trail_places::partners;
+use trail_check::partners;
 
 // Actions of these kinds. Their names and words do not matter here.
 fn actions_of(alloc: Global, kinds: &str) -> Result<Actions, AllocError> {

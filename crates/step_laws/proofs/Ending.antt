@@ -7,7 +7,7 @@ use Rattle.depth_first_list.specs.Runs.{IsDepthFirst}
 use Rattle.depth_first_list.specs.Facts.{label_at, deed_at, words_at}
 use Rattle.deque_events.specs.Passed.Lists.{times}
 use Rattle.deque_events.specs.Passed.Books.{booked, done_in}
-use Rattle.deque_events.proofs.Passed.Lists.{one_cases, cons_is_not_nil, middle_is_not_nil}
+use Rattle.deque_events.proofs.Passed.DequeEventsLists.{one_cases, cons_is_not_nil, middle_is_not_nil}
 use Rattle.deque_events.proofs.Passed.Keeping.{done_more, ended_has_all}
 use Rattle.victim_choice.specs.Passed.Moments.{Moment, done_at}
 use Rattle.victim_choice.specs.Passed.Machine.{Setting, Event, steals, does, suspends, gives_up, May, HasEnded, books_with}

@@ -7,7 +7,7 @@ use Rattle.depth_first_list.specs.Actions.{joins, ends}
 use Rattle.depth_first_list.specs.Facts.{label_at, deed_at, IsLive}
 use Rattle.depth_first_list.specs.Runs.{IsDepthFirst}
 use Rattle.deque_events.specs.Passed.Lists.{Among, Each}
-use Rattle.deque_events.proofs.Passed.Lists.{each_at, each_among, each_map, among_here}
+use Rattle.deque_events.proofs.Passed.DequeEventsLists.{each_at, each_among, each_map, among_here}
 use Rattle.victim_choice.specs.Passed.Moments as machine
 use Rattle.victim_choice.specs.Passed.Moments.{Moment, done_at, threads_in}
 use Rattle.victim_choice.specs.Passed.Machine.{Setting}

@@ -9,7 +9,7 @@ use Rattle.victim_choice.specs.Passed.Deques as lists
 use Rattle.victim_choice.specs.Passed.Deques.{deque_ids}
 use Rattle.victim_choice.proofs.Passed.DequeLaws.{mapped_at, same_id}
 use Rattle.deque_events.specs.Passed.Lists.{Each}
-use Rattle.deque_events.proofs.Passed.Lists.{one_same, one_cases}
+use Rattle.deque_events.proofs.Passed.DequeEventsLists.{one_same, one_cases}
 use Rattle.victim_choice.specs.Passed.Moments as machine
 use Rattle.victim_choice.specs.Passed.Moments.{Moment, owned_by, with_id, one_if_worker}
 use Rattle.victim_choice.specs.Passed.Play.{IsFirst, IsReady, reach}

@@ -6,7 +6,7 @@ use Rattle.std.proofs.lemmas.List.Sums.{sum_by-cons}
 use Rattle.std.proofs.lemmas.List.Sorted.{IsPermutation-sym, Contains-permutation, sum_by-IsPermutation}
 use Rattle.depth_first_list.specs.Actions.{Action}
 use Rattle.deque_events.specs.Passed.Lists.{Among, Differ, total}
-use Rattle.deque_events.proofs.Passed.Lists.{each_from, each_among, each_map}
+use Rattle.deque_events.proofs.Passed.DequeEventsLists.{each_from, each_among, each_map}
 use Rattle.victim_choice.specs.Passed.Moments.{Waiting, done_at}
 use Rattle.victim_choice.proofs.Passed.Progress.{same_label}
 use Rattle.dag_order.specs.declared.thread_id.ThreadId.{ThreadId}

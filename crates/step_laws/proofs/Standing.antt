@@ -12,7 +12,7 @@ use Rattle.depth_first_list.specs.Facts.{action_at, label_at, weight_at}
 use Rattle.depth_first_list.specs.Runs.{IsDepthFirst}
 use Rattle.deque_events.specs.Passed.Lists.{Among, Each}
 use Rattle.deque_events.specs.Passed.Books.{Book}
-use Rattle.deque_events.proofs.Passed.Lists.{each_at, among_middle, middle_is_not_nil}
+use Rattle.deque_events.proofs.Passed.DequeEventsLists.{each_at, among_middle, middle_is_not_nil}
 use Rattle.victim_choice.specs.Passed.Moments.{Moment, opening, done_at}
 use Rattle.victim_choice.specs.Passed.Machine.{Setting, Event, steals, does, suspends, gives_up, HasEnded}
 use Rattle.victim_choice.specs.Passed.LawfulOrder.{IsLawful}

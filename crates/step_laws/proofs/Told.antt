@@ -9,7 +9,7 @@ use Rattle.depth_first_list.specs.Facts.{action_at, deed_at, words_at, weight_at
 use Rattle.deque_events.specs.Passed.Lists.{Each, total}
 use Rattle.deque_events.specs.Passed.Books.{booked, charge, charge_at, charged, book_of}
 use Rattle.deque_events.specs.Passed.Lawful.{IsWithin}
-use Rattle.deque_events.proofs.Passed.Lists.{each_at}
+use Rattle.deque_events.proofs.Passed.DequeEventsLists.{each_at}
 use Rattle.deque_events.proofs.Passed.Keeping.{closed_same, begun_same}
 use Rattle.deque_events.proofs.Passed.Whole.{total_ones}
 use Rattle.victim_choice.specs.Passed.Moments.{Deque, Waiting, Moment, done_at, live_at}

@@ -43,7 +43,7 @@ use Rattle.hall_turns.specs.Steps.{hall_shown}
 use Rattle.hall_turns.specs.Takes.{HallSeat}
 use Rattle.hall_turns.proofs.Written.{list_at, lane_shown_at}
 use Rattle.thief_acts.proofs.Slots.{slot_is}
-use Rattle.hall_stops.specs.Stopping.{IsCaused, MayStop}
+use Rattle.hall_seats.specs.Stopping.{IsCaused, MayStop}
 use Rattle.thief_acts.specs.Prey.{MaySteal}
 
 -- a seat that may steal may keep a stop that has its cause

@@ -11,7 +11,7 @@ use Rattle.turn_table.specs.Hands.{gave, without_slot, renewed}
 use Rattle.turn_table.specs.Notes.{HasAs}
 use Rattle.turn_table.specs.Seats.{with_hand}
 use Rattle.turn_table.proofs.Left.{first_of_two, left_of_one, second_of_two, third_of_three}
-use Rattle.turn_places.specs.Backs.{still, unchanged}
+use Rattle.turn_table.specs.Backs.{still, unchanged}
 use Rattle.hall_turns.specs.declared.lane_slot.LaneSlot.{LaneSlot}
 use Rattle.hall_turns.specs.declared.list_slot.ListSlot.{ListSlot}
 use Rattle.hall_turns.specs.declared.seat_note.SeatNote.{SeatNote}
@@ -19,9 +19,9 @@ use Rattle.hall_turns.specs.declared.slot.Slot.{Slot}
 use Rattle.hall_turns.specs.declared.slot.Slot.TheVariants as slots
 use Rattle.hall_turns.specs.declared.event.Event.{Event}
 use Rattle.hall_turns.specs.Takes.{HallSeat, IsGiven, IsRefused, IsTaken}
-use Rattle.hall_robbing.specs.Passed.Thefts.{stolen_note}
-use Rattle.hall_robbing.specs.Passed.Stealing.{HasStolenIn}
-use Rattle.hall_stops.specs.Stopping.{found_note, HasStopped}
+use Rattle.thief_acts.specs.Thefts.{stolen_note}
+use Rattle.thief_acts.specs.Stealing.{HasStolenIn}
+use Rattle.hall_seats.specs.Stopping.{found_note, HasStopped}
 use Rattle.thief_acts.specs.declared.refused.StealRefused.{StealRefused}
 use Rattle.thief_acts.specs.declared.refused.StealRefused.TheVariants.{Busy, Nothing, Over, Stopped}
 use Rattle.thief_acts.specs.Prey.{EndsWith, IsItsStop, LeavesWith, StealsWith}

@@ -40,7 +40,7 @@ use Rattle.hall_turns.proofs.Keeping.{Whole}
 use Rattle.hall_turns.proofs.Reading.{get_of_at}
 use Rattle.hall_turns.proofs.Written.{list_at, lane_shown_at}
 use Rattle.thief_acts.proofs.Slots.{slot_is}
-use Rattle.hall_robbing.proofs.Passed.Stolen.{free_of}
+use Rattle.thief_acts.proofs.Stolen.{free_of}
 
 -- a list that is not empty
 pub some_item : {X : Type 0} (xs : List X) → (xs ≡ [] → ⊥) → (x : X) × (rest : List X) × (xs ≡ x ∷ rest)

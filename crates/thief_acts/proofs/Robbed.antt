@@ -23,7 +23,7 @@ use Rattle.hall_law.specs.Receipts.{SawLane, ShowsVictim}
 use Rattle.hall_law.specs.Values.{LaneShown, of_lane}
 use Rattle.hall_law.specs.Writing.{lane_slot}
 use Rattle.hall_law.proofs.Notes.{each_get}
-use Rattle.hall_receipts.specs.Thefts.{ShowsId, keeps_its_id, has_free_id}
+use Rattle.hall_run.specs.Thefts.{ShowsId, keeps_its_id, has_free_id}
 use Rattle.hall_turns.specs.declared.event.Event.{Event}
 use Rattle.hall_turns.specs.declared.key.HallKey.{HallKey}
 use Rattle.hall_turns.specs.declared.lane_slot.LaneSlot.{LaneSlot}
@@ -33,20 +33,20 @@ use Rattle.hall_turns.specs.declared.slot.Slot.{Slot}
 use Rattle.hall_turns.specs.declared.slot.Slot.TheVariants as slots
 use Rattle.hall_turns.specs.Shown.{lane_shown}
 use Rattle.hall_turns.specs.Takes.{HallSeat, HasAllPlaces, IsTaken, MeetsLaw}
-use Rattle.hall_robbing.specs.Passed.Choosing.{look_shown, took_lane, HasVictim}
-use Rattle.hall_stops.specs.Passed.Lists.{with_list}
-use Rattle.hall_seeking.specs.declared.prey.Prey.{Prey}
-use Rattle.hall_seeking.specs.declared.prey.SeekRefused.{SeekRefused}
-use Rattle.hall_seeking.specs.declared.prey.SeekRefused.TheVariants as sought
-use Rattle.hall_seeking.specs.Seeking as seeking
-use Rattle.hall_seeking.specs.Seeking.{HasSought, SeeksWith}
-use Rattle.hall_seeking.proofs.Sought as begun
-use Rattle.hall_robbing.specs.Passed.Stealing.{IsNew, IsOpenTo, MayTakeOver, MayTakeBottom}
-use Rattle.hall_robbing.specs.Passed.Thefts.{stolen_note}
+use Rattle.thief_acts.specs.Choosing.{look_shown, took_lane, HasVictim}
+use Rattle.hall_seats.specs.Lists.{with_list}
+use Rattle.thief_acts.specs.declared.prey.Prey.{Prey}
+use Rattle.thief_acts.specs.declared.prey.SeekRefused.{SeekRefused}
+use Rattle.thief_acts.specs.declared.prey.SeekRefused.TheVariants as sought
+use Rattle.thief_acts.specs.Seeking as seeking
+use Rattle.thief_acts.specs.Seeking.{HasSought, SeeksWith}
+use Rattle.thief_acts.proofs.Sought as begun
+use Rattle.thief_acts.specs.Stealing.{IsNew, IsOpenTo, MayTakeOver, MayTakeBottom}
+use Rattle.thief_acts.specs.Thefts.{stolen_note}
 use Rattle.thief_acts.proofs.Slots.{slot_is}
-use Rattle.hall_robbing.proofs.Passed.Stolen.{free_of}
-use Rattle.hall_stops.specs.Stopping.{found_note, MayStop}
-use Rattle.hall_robbing.proofs.Robbing.{found_may_be_taken_over, found_bottoms_may_be_taken, holds_both, nobody}
+use Rattle.thief_acts.proofs.Stolen.{free_of}
+use Rattle.hall_seats.specs.Stopping.{found_note, MayStop}
+use Rattle.thief_acts.proofs.Robbing.{found_may_be_taken_over, found_bottoms_may_be_taken, holds_both, nobody}
 use Rattle.thief_acts.specs.declared.refused.StealRefused.{StealRefused}
 use Rattle.thief_acts.specs.declared.refused.StealRefused.TheVariants.{Busy, Nothing, Over, Stopped}
 use Rattle.thief_acts.specs.Prey.{HasBoth, HasPrey, IsNotBusy, IsOneTooMany, LeavesWith, MaySteal, StealsInto, StealsWith}

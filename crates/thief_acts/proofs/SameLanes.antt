@@ -24,8 +24,8 @@ use Rattle.turn_table.specs.Law.{PutKeeps}
 use Rattle.turn_table.specs.Notes.{PutMay}
 use Rattle.turn_table.proofs.NoteLaws.{put_writes}
 use Rattle.turn_table.proofs.Standing.{shown_as}
-use Rattle.turn_places.specs.Backs.{still, unchanged}
-use Rattle.turn_places.proofs.Resting.{put_rests}
+use Rattle.turn_table.specs.Backs.{still, unchanged}
+use Rattle.turn_table.proofs.Resting.{put_rests}
 use Rattle.hall_turns.specs.declared.key.HallKey.{HallKey}
 use Rattle.hall_turns.specs.declared.lane_slot.LaneSlot.{LaneSlot}
 use Rattle.hall_turns.specs.declared.list_slot.ListSlot.{ListSlot}
@@ -41,7 +41,7 @@ use Rattle.hall_turns.proofs.Keeping.{Whole}
 use Rattle.hall_turns.proofs.Putting.{shaped_set}
 use Rattle.hall_turns.proofs.Reading.{IfLane, get_of_at}
 use Rattle.thief_acts.proofs.Slots.{lane_kind, slot_is}
-use Rattle.hall_stops.proofs.Stopped.{written_alone}
+use Rattle.hall_seats.proofs.Stopped.{written_alone}
 use Rattle.thief_acts.specs.Lanes.{HoldsTheSameLane}
 
 module _ (key : HallKey) (shown : List Slot) (count : ℕ) (notes : List SeatNote) (holds : HallHolds key shown count notes) (id : DequeId) (was now : LaneSlot)

@@ -1,5 +1,9 @@
+pub mod Choosing
+pub mod Seeking
+pub mod Thefts
+pub mod Stealing
+pub mod Robbing
 pub mod Lanes
 pub mod Prey
 pub mod Refusals
 pub mod Steals
-pub mod Passed

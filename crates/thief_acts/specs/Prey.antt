@@ -17,9 +17,9 @@ use Rattle.hall_turns.specs.declared.seat_note.SeatNote.{SeatNote}
 use Rattle.hall_turns.specs.declared.slot.Slot.{Slot}
 use Rattle.hall_turns.specs.declared.slot.Slot.TheVariants as slots
 use Rattle.hall_turns.specs.Takes.{HallSeat, IsTaken}
-use Rattle.hall_robbing.specs.Passed.Choosing.{HasVictim}
-use Rattle.hall_robbing.specs.Passed.Thefts.{stolen_note, IsThief}
-use Rattle.hall_stops.specs.Stopping.{found_note}
+use Rattle.thief_acts.specs.Choosing.{HasVictim}
+use Rattle.thief_acts.specs.Thefts.{stolen_note, IsThief}
+use Rattle.hall_seats.specs.Stopping.{found_note}
 use Rattle.thief_acts.specs.declared.refused.StealRefused.{StealRefused}
 use Rattle.thief_acts.specs.declared.refused.StealRefused.TheVariants.{Busy, Nothing, Over, Stopped}
 

@@ -1,6 +1,6 @@
 -- A refusal of the choice, as one of the steal.
-use Rattle.hall_seeking.specs.declared.prey.SeekRefused.{SeekRefused}
-use Rattle.hall_seeking.specs.declared.prey.SeekRefused.TheVariants as sought
+use Rattle.thief_acts.specs.declared.prey.SeekRefused.{SeekRefused}
+use Rattle.thief_acts.specs.declared.prey.SeekRefused.TheVariants as sought
 use Rattle.thief_acts.specs.declared.refused.StealRefused.{StealRefused}
 use Rattle.thief_acts.specs.declared.refused.StealRefused.TheVariants.{Busy, Nothing, Over}
 

@@ -5,19 +5,19 @@ use Rattle.deque_list.specs.declared.place.Place.{Place}
 use Rattle.run_end.specs.declared.stop.Stop.{Stop}
 use Rattle.turn_table.specs.declared.look.Look.{Look}
 use Rattle.turn_table.specs.declared.look.Look.TheVariants.{Took}
-use Rattle.turn_places.specs.Backs.{IsBack}
+use Rattle.turn_table.specs.Backs.{IsBack}
 use Rattle.hall_law.specs.Receipts.{ShowsVictim}
-use Rattle.hall_receipts.specs.Thefts.{ShowsTheft}
+use Rattle.hall_run.specs.Thefts.{ShowsTheft}
 use Rattle.hall_turns.specs.declared.event.Event.{Event}
 use Rattle.hall_turns.specs.declared.lane_slot.LaneSlot.{LaneSlot}
 use Rattle.hall_turns.specs.declared.list_slot.ListSlot.{ListSlot}
 use Rattle.hall_turns.specs.declared.slot.Slot.{Slot}
 use Rattle.hall_turns.specs.declared.slot.Slot.TheVariants as slots
 use Rattle.hall_turns.specs.Takes.{HallSeat}
-use Rattle.hall_robbing.specs.Passed.Choosing.{look_shown, took_lane}
-use Rattle.hall_seeking.specs.Seeking.{HasSought}
-use Rattle.hall_seeking.specs.declared.prey.SeekRefused.TheVariants as sought
-use Rattle.hall_stops.specs.Stopping.{found_note}
+use Rattle.thief_acts.specs.Choosing.{look_shown, took_lane}
+use Rattle.thief_acts.specs.Seeking.{HasSought}
+use Rattle.thief_acts.specs.declared.prey.SeekRefused.TheVariants as sought
+use Rattle.hall_seats.specs.Stopping.{found_note}
 use Rattle.thief_acts.specs.declared.refused.StealRefused.{StealRefused}
 use Rattle.thief_acts.specs.declared.refused.StealRefused.TheVariants.{Busy, Nothing, Over, Stopped}
 use Rattle.thief_acts.specs.Prey.{IsItsStop, LeavesStolen, LeavesWith, StealsInto}

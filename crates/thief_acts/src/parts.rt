@@ -2,7 +2,7 @@
 
 ghost use Rattle.std.specs.Prelude.{◌≡◌, ◌+◌, ◌<◌, ◌≤◌, ◌↔◌, true, IfOk, IfSome, IsNone, OnOk, length, slice_get};
 ghost use Rattle.deque_list.specs.Ids.{IsSmallestFree, place_ids};
-ghost use Rattle.hall_robbing.specs.Passed.Stealing.{IsNew};
+ghost use Rattle.thief_acts.specs.Stealing.{IsNew};
 
 use boxed::Boxed;
 use deque_list::{DequeId, Place};

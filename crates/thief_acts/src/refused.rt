@@ -1,7 +1,7 @@
 ghost use Rattle.std.specs.Prelude.{◌≡◌};
 ghost use Rattle.thief_acts.specs.Refusals.{refusal_of};
 
-use hall_seeking::SeekRefused;
+use crate::prey::SeekRefused;
 use run_end::{RunEnd, Stop};
 use turn_table::Held;
 

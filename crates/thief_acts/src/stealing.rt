@@ -12,12 +12,13 @@ ghost use Rattle.thief_acts.specs.Steals.{Steals};
 
 use crate::backs::give_same_lane_back;
 use crate::parts::{deque_at, most_deques, next_beside, next_deque, next_period};
+use crate::prey::Prey;
 use crate::refused::{StealRefused, refusal_of};
+use crate::seeking::seek;
+use crate::thefts::{take_bottom, take_over};
 use boxed::Boxed;
 use deque_list::{DequeId, Place};
-use hall_robbing::{take_bottom, take_over};
-use hall_seeking::{Prey, seek};
-use hall_stops::put_stopped;
+use hall_seats::put_stopped;
 use hall_turns::{
     Event, HallPlace, HallRow, LaneSlot, ListSlot, give_lane_back, give_list_back, take_lane,
 };

@@ -11,17 +11,17 @@ use Rattle.deque_machine.specs.Moments.{Moment, opening}
 use Rattle.deque_machine.specs.Play.{Limits}
 use Rattle.deque_machine.specs.Runs.{Pair, high_water_mark}
 use Rattle.deque_machine.proofs.Reached.{marked_bound}
-use Rattle.good_trails.specs.Good.{IsGood}
-use Rattle.good_trails.specs.Verdicts.{AreNumbers, Verdict, accepted, bad_event, not_ended, wrong_numbers, IsVerdict, is_accepted}
-use Rattle.good_trails.proofs.Steps.{are_run}
-use Rattle.good_trails.proofs.Bounded.{accepted_are_bounded}
-use Rattle.good_trails.proofs.OneVerdict.{one_verdict}
-use Rattle.good_trails.proofs.AVerdict.{a_verdict}
+use Rattle.trail_check.specs.Good.{IsGood}
+use Rattle.trail_check.specs.Verdicts.{AreNumbers, Verdict, accepted, bad_event, not_ended, wrong_numbers, IsVerdict, is_accepted}
+use Rattle.trail_check.proofs.Steps.{are_run}
+use Rattle.trail_check.proofs.Bounded.{accepted_are_bounded}
+use Rattle.trail_check.proofs.OneVerdict.{one_verdict}
+use Rattle.trail_check.proofs.AVerdict.{a_verdict}
 use Rattle.trail_meaning.specs.Shown.{Shown}
 use Rattle.trail_meaning.specs.declared.trail_event.TrailEvent.{TrailEvent}
 use Rattle.trail_meaning.specs.declared.trail_numbers.TrailNumbers.{TrailNumbers}
 use Rattle.trail_check.specs.Checking.{trail_terms, trail_machine, HasVerdict, Checks}
-use Rattle.trail_check.specs.Laws.{IsAnswer, OneAnswer, AnAnswer, AcceptedTrailsAreBounded}
+use Rattle.trail_check.specs.CheckLaws.{IsAnswer, OneAnswer, AnAnswer, AcceptedTrailsAreBounded}
 use Rattle.trail_check.specs.declared.verify_fail.VerifyFail.{VerifyFail}
 use Rattle.trail_check.specs.declared.verify_fail.VerifyFail.TheVariants.{LongRun, BadEvent, NotEnded, WrongNumbers, OutOfMemory}
 

@@ -8,11 +8,11 @@ use Rattle.depth_first_run.specs.States as program
 use Rattle.depth_first_run.specs.Run.{list_of}
 use Rattle.deque_machine.specs.Machine.{Setting, HasEnded}
 use Rattle.deque_machine.specs.Play.{Limits}
-use Rattle.good_trails.specs.Verdicts.{AreNumbers, accepted, not_ended, wrong_numbers, IsVerdict, is_accepted, is_unended, is_wrong}
+use Rattle.trail_check.specs.Verdicts.{AreNumbers, accepted, not_ended, wrong_numbers, IsVerdict, is_accepted, is_unended, is_wrong}
 use Rattle.trail_meaning.specs.Shown.{Shown}
 use Rattle.trail_meaning.specs.declared.trail_event.TrailEvent.{TrailEvent}
 use Rattle.trail_meaning.specs.declared.trail_numbers.TrailNumbers.{TrailNumbers}
-use Rattle.trail_steps.specs.declared.checker.Checker.{Checker}
+use Rattle.trail_check.specs.declared.checker.Checker.{Checker}
 use Rattle.trail_check.specs.Checking.{trail_terms, trail_machine, Checks}
 use Rattle.trail_check.specs.Judging.{HasFollowed, GivesVerdict}
 use Rattle.trail_check.specs.declared.verify_fail.VerifyFail.{VerifyFail}

@@ -10,20 +10,20 @@ use Rattle.deque_machine.specs.Machine.{Setting, Event}
 use Rattle.deque_machine.specs.Moments.{Moment, opening}
 use Rattle.deque_machine.specs.Play.{Limits}
 use Rattle.deque_machine.specs.Runs.{Pair}
-use Rattle.good_trails.specs.Following.{Leads, pair_of, Follows, stays, goes_on}
-use Rattle.good_trails.specs.Verdicts.{LeadsNowhere, bad_event, IsVerdict, is_bad}
+use Rattle.trail_check.specs.Following.{Leads, pair_of, Follows, stays, goes_on}
+use Rattle.trail_check.specs.Verdicts.{LeadsNowhere, bad_event, IsVerdict, is_bad}
 use Rattle.serial_journal.specs.declared.action.Action.{Action}
 use Rattle.trail_meaning.specs.Shown.{Shown}
 use Rattle.trail_meaning.specs.Ranges.{HasTrailRanges}
 use Rattle.trail_meaning.specs.declared.trail_event.TrailEvent.{TrailEvent}
 use Rattle.trail_meaning.specs.declared.trail_numbers.TrailNumbers.{TrailNumbers}
-use Rattle.trail_places.specs.Listed.{AreListed}
-use Rattle.trail_places.specs.Partners.{ArePartners}
-use Rattle.trail_steps.specs.Given.{IsGiven}
-use Rattle.trail_steps.specs.Standing.{StandsFor, IsStanding}
-use Rattle.trail_steps.specs.Steps.{Followed}
-use Rattle.trail_steps.specs.declared.checker.Checker.{Checker}
-use Rattle.trail_steps.specs.declared.terms.Terms.{Terms}
+use Rattle.trail_check.specs.Listed.{AreListed}
+use Rattle.trail_check.specs.Partners.{ArePartners}
+use Rattle.trail_check.specs.Given.{IsGiven}
+use Rattle.trail_check.specs.Standing.{StandsFor, IsStanding}
+use Rattle.trail_check.specs.Steps.{Followed}
+use Rattle.trail_check.specs.declared.checker.Checker.{Checker}
+use Rattle.trail_check.specs.declared.terms.Terms.{Terms}
 use Rattle.trail_check.specs.Checking.{trail_terms, trail_machine}
 use Rattle.trail_check.specs.Judging.{IsListOf, HasFollowed}
 

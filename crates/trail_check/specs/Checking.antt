@@ -4,7 +4,7 @@ use Rattle.depth_first_run.specs.States as program
 use Rattle.depth_first_run.specs.Run.{list_of}
 use Rattle.deque_machine.specs.Machine.{Setting}
 use Rattle.deque_machine.specs.Terms.{Terms, given_terms, machine_of}
-use Rattle.good_trails.specs.Verdicts.{Verdict, accepted, bad_event, not_ended, wrong_numbers, IsVerdict}
+use Rattle.trail_check.specs.Verdicts.{Verdict, accepted, bad_event, not_ended, wrong_numbers, IsVerdict}
 use Rattle.trail_meaning.specs.Shown.{Shown}
 use Rattle.trail_check.specs.declared.verify_fail.VerifyFail.{VerifyFail}
 use Rattle.trail_check.specs.declared.verify_fail.VerifyFail.TheVariants.{LongRun, BadEvent, NotEnded, WrongNumbers, OutOfMemory}

@@ -8,14 +8,14 @@ use Rattle.deque_machine.specs.Machine.{Setting}
 use Rattle.deque_machine.specs.Moments.{Moment, opening}
 use Rattle.deque_machine.specs.Play.{Limits}
 use Rattle.deque_machine.specs.Runs.{Pair}
-use Rattle.good_trails.specs.Following.{Follows}
-use Rattle.good_trails.specs.Verdicts.{accepted, bad_event, not_ended, wrong_numbers, IsVerdict}
+use Rattle.trail_check.specs.Following.{Follows}
+use Rattle.trail_check.specs.Verdicts.{accepted, bad_event, not_ended, wrong_numbers, IsVerdict}
 use Rattle.serial_journal.specs.Telling.{ShowsAction}
 use Rattle.serial_journal.specs.declared.action.Action.{Action}
 use Rattle.trail_meaning.specs.declared.trail_event.TrailEvent.{TrailEvent}
 use Rattle.trail_meaning.specs.declared.trail_numbers.TrailNumbers.{TrailNumbers}
-use Rattle.trail_steps.specs.Standing.{StandsFor}
-use Rattle.trail_steps.specs.declared.checker.Checker.{Checker}
+use Rattle.trail_check.specs.Standing.{StandsFor}
+use Rattle.trail_check.specs.declared.checker.Checker.{Checker}
 use Rattle.trail_check.specs.declared.verify_fail.VerifyFail.{VerifyFail}
 use Rattle.trail_check.specs.declared.verify_fail.VerifyFail.TheVariants.{LongRun, BadEvent, NotEnded, WrongNumbers, OutOfMemory}
 

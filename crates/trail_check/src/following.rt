@@ -9,12 +9,13 @@ ghost use Rattle.trail_meaning.specs.declared.trail_numbers.TrailNumbers.{TrailN
 ghost use Rattle.trail_check.specs.Checking.{trail_terms, trail_machine};
 ghost use Rattle.trail_check.specs.Judging.{IsListOf, HasFollowed, GivesVerdict};
 
+use crate::checker::Checker;
+use crate::places::partners;
+use crate::terms::Terms;
 use crate::verify_fail::VerifyFail;
 use serial_journal::Actions;
 use std::alloc::{AllocError, Global};
 use trail_meaning::{Events, Trail};
-use trail_places::partners;
-use trail_steps::{Checker, Terms};
 
 /// A checker before the first event of a trail, over the depth-first list of the program.
 ///

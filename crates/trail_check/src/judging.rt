@@ -8,12 +8,12 @@ ghost use Rattle.trail_meaning.specs.Ranges.{HasTrailRanges};
 ghost use Rattle.trail_check.specs.Checking.{trail_terms, trail_machine};
 ghost use Rattle.trail_check.specs.Judging.{IsListOf, HasFollowed, GivesVerdict};
 
+use crate::checker::Checker;
 use crate::following::{begin, follow_all};
 use crate::verify_fail::VerifyFail;
 use serial_journal::Actions;
 use std::alloc::Global;
 use trail_meaning::Trail;
-use trail_steps::Checker;
 
 /// Returns the verdict on a trail whose events were all followed.
 fn conclude(checker: &Checker, trail: &Trail) -> Result<u32, VerifyFail>

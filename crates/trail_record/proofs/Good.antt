@@ -3,8 +3,8 @@ use Rattle.std.proofs.Common.{sym, subst, arith}
 use Rattle.std.proofs.Math.Logic.{∥∥₁_map}
 use Rattle.depth_first_run.proofs.Built.{whole_is_depth_first}
 use Rattle.deque_machine.specs.Terms.{machine_of}
-use Rattle.good_trails.specs.Good.{IsGood}
-use Rattle.good_trails.proofs.Recorded.{plays_are_followed}
+use Rattle.trail_check.specs.Good.{IsGood}
+use Rattle.trail_check.proofs.Recorded.{plays_are_followed}
 use Rattle.trail_record.specs.Laws.{RecordedPlaysAreGood}
 
 pub recorded_plays_are_good : RecordedPlaysAreGood

@@ -16,7 +16,7 @@ use Rattle.run_end.specs.declared.ends.RunEnd.TheVariants.{Finished, Stopped}
 use Rattle.dfd_core.specs.Cores.{IsAt, SameSetting, end_of, terms_at, workers_of}
 use Rattle.dfd_core.specs.Plays.{IsDrawn}
 use Rattle.dfd_core.proofs.Underway.{Along, further, stopped_at, ended_at, lacks_at, same_setting, too_many as no_more_turns}
-use Rattle.good_trails.specs.Told.{event_told, events_told}
+use Rattle.trail_check.specs.Told.{event_told, events_told}
 use Rattle.trail_meaning.specs.declared.trail_event.TrailEvent.{TrailEvent}
 use Rattle.trail_record.specs.Turns.{with_event, TurnRecorded, RecordsTo, RecordsTurn}
 use Rattle.trail_record.specs.Recorded.{PlaysRecorded, PlaysInPart}

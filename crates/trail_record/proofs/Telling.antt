@@ -35,7 +35,7 @@ use Rattle.victim_choice.proofs.Firsts.{first_below}
 use Rattle.dfd_core.proofs.Passed.Answering.{nothing_told, no_stop_kept, stop_told}
 use Rattle.dfd_core.proofs.Taking.{goes, turns_to}
 use Rattle.victim_choice.proofs.Firsts.{one_first}
-use Rattle.good_trails.specs.Told.{kind_told}
+use Rattle.trail_check.specs.Told.{kind_told}
 use Rattle.trail_meaning.specs.declared.trail_kind.TrailKind.{TrailKind}
 use Rattle.trail_meaning.specs.declared.trail_kind.TrailKind.TheVariants.{Steal, Act, Suspend, GiveUp}
 use Rattle.trail_record.specs.Turns.{IsVictimOf, kind_recorded, event_recorded, TurnRecorded, RecordsTo}

@@ -13,7 +13,7 @@ use Rattle.run_end.specs.declared.ends.RunEnd.{RunEnd}
 use Rattle.run_end.specs.declared.ends.RunEnd.TheVariants.{Finished, Stopped}
 use Rattle.dfd_core.specs.Cores.{IsAt, end_of}
 use Rattle.dfd_core.specs.Plays.{IsDrawn, PlaysToEnd, PlaysToStop, PlaysUntil}
-use Rattle.good_trails.specs.Told.{events_told}
+use Rattle.trail_check.specs.Told.{events_told}
 use Rattle.trail_meaning.specs.declared.trail_event.TrailEvent.{TrailEvent}
 use Rattle.trail_record.specs.declared.recorded.Recorded.{Recorded}
 

@@ -13,7 +13,7 @@ use Rattle.dfd_core.specs.Passed.SteppedVariants.{Stole, Acted, Suspended, GaveU
 use Rattle.dfd_core.specs.Cores.{IsAt, terms_at, end_of}
 use Rattle.dfd_core.specs.Plays.{TurnGoesOn, TurnsTo, IsDrawn}
 use Rattle.dfd_core.specs.Turns.{IsVictim}
-use Rattle.good_trails.specs.Told.{event_told}
+use Rattle.trail_check.specs.Told.{event_told}
 use Rattle.trail_meaning.specs.declared.trail_event.TrailEvent.{TrailEvent}
 use Rattle.trail_meaning.specs.declared.trail_kind.TrailKind.{TrailKind}
 use Rattle.trail_meaning.specs.declared.trail_kind.TrailKind.TheVariants.{Steal, Act, Suspend, GiveUp}

@@ -10,3 +10,6 @@ mod Closing
 pub mod NoteLaws
 pub mod Left
 pub mod Standing
+pub mod Resting
+pub mod Alone
+pub mod Returning

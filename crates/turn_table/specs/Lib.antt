@@ -6,3 +6,6 @@ pub mod Steps
 pub mod Tables
 pub mod Values
 pub mod Notes
+pub mod Places
+pub mod Backs
+pub mod Laws

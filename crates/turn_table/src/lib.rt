@@ -15,6 +15,10 @@
 //!
 //! What a caller picks for a call, as the note that it leaves, is the call's last type parameter (`picks`): `Keep`, a type of
 //! the caller's own, or `Brand`, for which the caller's proof picks at that very call.
+//!
+//! Seats may also share places (`specs/Places.antt`, [`lone_seats_are_free`]). Each seat notes how many it has, and a seat that has
+//! none holds no slot. So if no other seat has places, a seat finds each turn free that it does not hold. A seat that was refused a
+//! slot and puts back what it took before is what it was, but for the answers that it had (`IsBack` in `specs/Backs.antt`).
 #![tactic(auto)]
 
 mod hand;
@@ -24,6 +28,7 @@ mod look;
 mod opening;
 mod picks;
 mod place;
+mod place_laws;
 mod plays;
 mod ruled;
 mod still_held;

@@ -3,8 +3,8 @@ use Rattle.std.specs.Prelude.{None}
 use Rattle.turn_table.specs.Tables.{key_of}
 use Rattle.hall_turns.specs.declared.event.Event.TheVariants.{Did}
 use Rattle.hall_turns.specs.declared.list_slot.ListSlot.{ListSlot}
-use Rattle.hall_events.specs.PartEvents.Writes.{told_note}
-use Rattle.hall_puts.specs.Puts.{MayPutListAndLane}
+use Rattle.hall_deciding.specs.Writes.{told_note}
+use Rattle.hall_deciding.specs.Puts.{MayPutListAndLane}
 use Rattle.hall_deciding.proofs.FromLists.{root_end}
 use Rattle.hall_deciding.proofs.lists.decide_root_end.Goals as goal
 

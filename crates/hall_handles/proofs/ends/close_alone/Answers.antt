@@ -1,10 +1,10 @@
 use Rattle.std.proofs.Common.{◌≡◌, refl, sym, subst}
 use Rattle.dag_order.specs.Births.{root}
-use Rattle.hall_entry.specs.Passed.CoreParts.{root_behind}
+use Rattle.dfd_core.specs.Parts.{root_behind}
 use Rattle.run_end.specs.declared.ends.RunEnd.{RunEnd}
 use Rattle.thread_map.specs.Kept.{kept_under}
 use Rattle.turn_table.specs.Tables.{key_of}
-use Rattle.hall_closing.specs.Closing.{IsClosed}
+use Rattle.hall_seats.specs.Closing.{IsClosed}
 use Rattle.hall_handles.proofs.ends.close_alone.Goals as goal
 
 pub returns-in-Ok-clause-closed : goal.returns-in-Ok-clause-closed

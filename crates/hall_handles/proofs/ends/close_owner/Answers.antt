@@ -2,7 +2,7 @@ use Rattle.std.proofs.Common.{refl, sym, ◌∙◌, subst}
 use Rattle.std.specs.Prelude.{Option, None, Some, Err}
 use Rattle.std.proofs.lemmas.Option.{same_Some}
 use Rattle.run_end.specs.declared.ends.RunEnd.{RunEnd}
-use Rattle.hall_closing.specs.Closing.{HasSeen}
+use Rattle.hall_seats.specs.Closing.{HasSeen}
 use Rattle.owner_events.specs.declared.yields.YieldRefused.{YieldRefused}
 use Rattle.hall_handles.specs.declared.seat.Seat.{Seat}
 use Rattle.hall_handles.specs.Closing.{HasSeenIn}

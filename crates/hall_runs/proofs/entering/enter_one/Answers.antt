@@ -1,6 +1,6 @@
 use Rattle.std.proofs.Common.{sym, subst}
 use Rattle.std.specs.Prelude.{Option}
-use Rattle.hall_work.specs.Passed.{Seat}
+use Rattle.hall_runs.specs.Passed.{Seat}
 use Rattle.hall_runs.specs.Crews.{EntersBy, IsCrew, IsOfCrew}
 use Rattle.hall_runs.proofs.Crews.{crew_more}
 use Rattle.hall_runs.proofs.entering.enter_one.Goals as goal

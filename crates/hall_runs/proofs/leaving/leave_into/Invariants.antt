@@ -1,7 +1,7 @@
 use Rattle.std.proofs.Common.{◌≡◌}
 use Rattle.dag_order.specs.declared.finish.Finish.{Finish}
 use Rattle.run_end.specs.declared.ends.RunEnd.TheVariants.{Finished}
-use Rattle.hall_work.specs.Passed.{IsIn}
+use Rattle.hall_runs.specs.Passed.{IsIn}
 use Rattle.hall_runs.specs.Crews.{HasKeptRules, WasTold}
 use Rattle.hall_runs.proofs.leaving.leave_into.Given as goal
 

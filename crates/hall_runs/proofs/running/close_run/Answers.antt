@@ -4,8 +4,8 @@ use Rattle.std.specs.Prelude.{All}
 use Rattle.std.specs.List.{AllZip}
 use Rattle.run_end.specs.declared.ends.RunEnd.{RunEnd}
 use Rattle.work_loop.specs.declared.member.Member.{Member}
-use Rattle.hall_work.specs.Passed.{Seat}
-use Rattle.hall_work.specs.declared.worker.HallWorker.{HallWorker}
+use Rattle.hall_runs.specs.Passed.{Seat}
+use Rattle.hall_runs.specs.declared.worker.HallWorker.{HallWorker}
 use Rattle.hall_runs.specs.Closed.{HasWorked}
 use Rattle.hall_runs.specs.Crews.{IsCrew, IsFreshIn, seat_of}
 use Rattle.hall_runs.proofs.Crews.{fresh_all, left, some_left}

@@ -3,8 +3,8 @@ use Rattle.std.specs.Prelude.{slice_index_or}
 use Rattle.std.specs.List.{AllZip}
 use Rattle.run_end.specs.declared.ends.RunEnd.{RunEnd}
 use Rattle.work_loop.specs.declared.member.Member.{Member}
-use Rattle.hall_work.specs.Working.{HasWorkedIn}
-use Rattle.hall_work.specs.declared.worker.HallWorker.{HallWorker}
+use Rattle.hall_runs.specs.Working.{HasWorkedIn}
+use Rattle.hall_runs.specs.declared.worker.HallWorker.{HallWorker}
 use Rattle.hall_runs.specs.Closed.{HasWorked}
 use Rattle.hall_runs.proofs.Crews.{all_worked, written}
 use Rattle.hall_runs.proofs.running.work_to_end.Goals as goal

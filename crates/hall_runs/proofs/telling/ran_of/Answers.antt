@@ -1,6 +1,6 @@
 use Rattle.std.proofs.Common.{subst, sym}
 use Rattle.std.proofs.lemmas.Result.{IfOk-weaker}
-use Rattle.hall_work.specs.Passed.Cores.{terms_at}
+use Rattle.hall_handles.specs.Passed.Cores.{terms_at}
 use Rattle.hall_runs.specs.Reports.{ComesTo}
 use Rattle.hall_runs.proofs.Left.{tells_its_stop}
 use Rattle.hall_runs.proofs.telling.ran_of.Goals as goal

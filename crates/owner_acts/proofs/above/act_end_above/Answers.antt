@@ -7,7 +7,7 @@ use Rattle.thread_frames.specs.declared.next.Next.TheVariants as nexts
 use Rattle.thread_points.specs.Points.{words_at_end}
 use Rattle.turn_table.specs.Tables.{key_of}
 use Rattle.hall_turns.specs.Keys.{table_of, quota_of}
-use Rattle.hall_deciding.specs.PartEvents.Here.{pool_with}
+use Rattle.hall_deciding.specs.Passed.Here.{pool_with}
 use Rattle.hall_deciding.specs.Taken.{pool_and_lane}
 use Rattle.owner_acts.proofs.Roomier.{takes_from}
 use Rattle.owner_acts.proofs.Readied.{was, given_sound}

@@ -8,7 +8,7 @@ use Rattle.hall_turns.specs.Keys.{table_of, quota_of}
 use Rattle.hall_deciding.specs.Taken.{all_three}
 use Rattle.owner_acts.proofs.Readied.{was, given_sound}
 use Rattle.owner_acts.proofs.Roomier.{takes_from}
-use Rattle.hall_deciding.specs.PartEvents.Here.{pool_with}
+use Rattle.hall_deciding.specs.Passed.Here.{pool_with}
 use Rattle.thread_frames.specs.declared.next.Next.TheVariants as nexts
 use Rattle.owner_acts.proofs.Handed.{its_point, is_listed}
 use Rattle.owner_acts.proofs.kept_joins.act_kept_join_giving.Goals as goal

@@ -11,10 +11,10 @@ use Rattle.lawful_books.specs.Lists.{Each}
 use Rattle.thread_frames.specs.Kept.{WaitsUnder}
 use Rattle.thread_frames.specs.declared.next.Next.TheVariants as nexts
 use Rattle.thread_frames.specs.declared.thread.Thread.{Thread}
-use Rattle.hall_deciding.specs.PartEvents.Here.{pool_with}
+use Rattle.hall_deciding.specs.Passed.Here.{pool_with}
 use Rattle.thread_points.specs.Points.{words_at_end}
 use Rattle.turn_table.specs.Tables.{key_of}
-use Rattle.hall_deciding.proofs.Waits.Waits.{nobody_waits}
+use Rattle.hall_deciding.proofs.Passed.Waits.{nobody_waits}
 use Rattle.hall_turns.specs.Keys.{table_of, quota_of}
 use Rattle.hall_deciding.specs.Taken.{all_three}
 use Rattle.owner_acts.proofs.Readied.{was, given_sound}

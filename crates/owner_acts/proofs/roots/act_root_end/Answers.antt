@@ -10,7 +10,7 @@ use Rattle.lawful_books.specs.Lists.{Each}
 use Rattle.thread_frames.specs.Kept.{WaitsUnder}
 use Rattle.thread_frames.specs.declared.thread.Thread.{Thread}
 use Rattle.turn_table.specs.Tables.{key_of}
-use Rattle.hall_deciding.proofs.Waits.Waits.{nobody_waits}
+use Rattle.hall_deciding.proofs.Passed.Waits.{nobody_waits}
 use Rattle.hall_turns.specs.Keys.{table_of, quota_of}
 use Rattle.hall_deciding.specs.Taken.{list_and_lane}
 use Rattle.owner_acts.proofs.Readied.{was}

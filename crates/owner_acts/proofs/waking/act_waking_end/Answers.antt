@@ -7,12 +7,12 @@ use Rattle.thread_frames.specs.Views.{label_of}
 use Rattle.thread_map.specs.Kept.{kept_under}
 use Rattle.thread_points.specs.Points.{words_at_end}
 use Rattle.turn_table.specs.Tables.{key_of}
-use Rattle.hall_deciding.specs.PartEvents.ListCalls.{TakesWaiting}
+use Rattle.hall_deciding.specs.Passed.ListCalls.{TakesWaiting}
 use Rattle.hall_deciding.specs.Taken.{all_three}
 use Rattle.hall_turns.specs.Keys.{table_of, quota_of}
 use Rattle.owner_acts.proofs.Readied.{was, given_sound}
 use Rattle.owner_acts.proofs.Roomier.{takes_from}
-use Rattle.hall_deciding.specs.PartEvents.Here.{pool_with}
+use Rattle.hall_deciding.specs.Passed.Here.{pool_with}
 use Rattle.thread_frames.specs.declared.next.Next.TheVariants as nexts
 use Rattle.owner_acts.proofs.waking.act_waking_end.Goals as goal
 

@@ -3,7 +3,7 @@ use Rattle.bounded_list.specs.BoundedList.{spare}
 use Rattle.thread_frames.specs.Views.{held_by}
 use Rattle.thread_frames.specs.declared.next.Next.TheVariants as nexts
 use Rattle.turn_table.specs.Tables.{key_of}
-use Rattle.hall_deciding.specs.PartEvents.Here.{pool_with}
+use Rattle.hall_deciding.specs.Passed.Here.{pool_with}
 use Rattle.hall_deciding.specs.Taken.{pool_and_lane}
 use Rattle.owner_acts.proofs.Roomier.{takes_from}
 use Rattle.owner_acts.proofs.Readied.{was, given_sound, on_top}

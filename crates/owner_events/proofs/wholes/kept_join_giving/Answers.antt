@@ -21,7 +21,7 @@ use Rattle.owner_events.proofs.FromList as from
 use Rattle.owner_events.proofs.WithAll as all
 use Rattle.owner_events.proofs.WithList as with
 use Rattle.owner_events.specs.Acting.{DoesWithList}
-use Rattle.owner_advance.proofs.ReadLemmas.InUse.{kept_words_are_in_use}
+use Rattle.owner_advance.proofs.InUse.{kept_words_are_in_use}
 use Rattle.owner_events.proofs.wholes.kept_join_giving.Goals as goal
 
 pub returns-in_err-at-clause-seat : goal.returns-in_err-at-clause-seat

@@ -3,7 +3,7 @@ use Rattle.turn_table.specs.Tables.{key_of}
 use Rattle.turn_table.proofs.Standing.{slots_of_seat}
 use Rattle.hall_turns.specs.declared.event.Event.TheVariants.{Stole}
 use Rattle.hall_turns.specs.declared.slot.Slot.TheVariants as slots
-use Rattle.hall_robbing.specs.Passed.Stealing.{IsNew}
+use Rattle.thief_acts.specs.Stealing.{IsNew}
 use Rattle.thief_acts.proofs.Ended.{lane_held, new_held, stolen_now, stopped_three}
 use Rattle.thief_acts.proofs.Robbed.{held_three, inside_three, may_take_bottom, new_is_empty}
 use Rattle.thief_acts.proofs.stealing.steal_into.Goals as goal

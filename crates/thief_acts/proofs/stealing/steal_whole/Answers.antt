@@ -3,7 +3,7 @@ use Rattle.turn_table.specs.Tables.{key_of}
 use Rattle.turn_table.proofs.Standing.{slots_of_seat}
 use Rattle.hall_turns.specs.declared.event.Event.TheVariants.{Stole}
 use Rattle.hall_turns.specs.declared.slot.Slot.TheVariants as slots
-use Rattle.hall_robbing.specs.Passed.Stealing.{IsNew}
+use Rattle.thief_acts.specs.Stealing.{IsNew}
 use Rattle.thief_acts.proofs.Ended.{stolen_now, stopped_two}
 use Rattle.thief_acts.proofs.Robbed.{alone_in_it, held_two, inside, may_take_over, unowned}
 use Rattle.thief_acts.proofs.stealing.steal_whole.Goals as goal

@@ -2,7 +2,7 @@ use Rattle.std.proofs.Common.{◌+◌, ◌<◌, subst, sym}
 use Rattle.turn_table.specs.Tables.{key_of}
 use Rattle.turn_table.proofs.Standing.{slots_of_seat}
 use Rattle.run_end.specs.declared.stop.Stop.TheVariants.{DequesFull}
-use Rattle.hall_stops.specs.Stopping.{MayStop}
+use Rattle.hall_seats.specs.Stopping.{MayStop}
 use Rattle.thief_acts.proofs.Robbed.{inside, may_stop_at_full}
 use Rattle.thief_acts.proofs.stealing.stop_at_full.Goals as goal
 

@@ -6,7 +6,7 @@ use Rattle.dummy_tree.specs.QuotaWords.{quota_words}
 use Rattle.par_tree.specs.View.{program_tree}
 use Rattle.serial_meaning.specs.Settings.{setting_of}
 use Rattle.trail_meaning.specs.Shown.{shown_by_trail}
-use Rattle.trail_check.proofs.Lists.{written_at, list_written, long_at}
+use Rattle.trail_check.proofs.WrittenLists.{written_at, list_written, long_at}
 use Rattle.trail_check.proofs.Verdicts.{checked}
 use Rattle.trail_check.proofs.verifying.verify.Goals as goal
 

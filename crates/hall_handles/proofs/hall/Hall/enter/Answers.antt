@@ -2,8 +2,8 @@ use Rattle.std.proofs.Common.{refl, subst, arith}
 use Rattle.std.specs.Prelude.{Err}
 use Rattle.turn_table.specs.Tables.{key_of}
 use Rattle.hall_turns.specs.Passed.Numbers.{IsSmallestNumber}
-use Rattle.hall_entering.specs.Entering.{HasEntered}
-use Rattle.hall_entering.specs.declared.refused.EnterRefused.{EnterRefused}
+use Rattle.hall_seats.specs.Entering.{HasEntered}
+use Rattle.hall_seats.specs.declared.refused.EnterRefused.{EnterRefused}
 use Rattle.hall_handles.proofs.hall.Hall.enter.Goals as goal
 
 pub returns-in-Ok-clause-seat : goal.returns-in-Ok-clause-seat

@@ -1,3 +1,0 @@
-mod Inside
-mod Tried
-mod Chosen

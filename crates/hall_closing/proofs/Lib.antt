@@ -1,4 +1,0 @@
-mod Seen
-mod Parts
-mod OneRun
-mod Told

@@ -1,2 +1,0 @@
--- Of the lemmas on who waits, for callers.
-pub use Rattle.hall_events.proofs.Waits.Waits as Waits

@@ -1,3 +1,0 @@
-mod Listed
-mod Split
-mod Entered

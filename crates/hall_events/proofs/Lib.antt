@@ -1,9 +1,0 @@
-pub mod Working
-pub mod Rooms
-pub mod Untaken
-pub mod Quiet
-pub mod Lanes
-pub mod Pauses
-pub mod Ends
-pub mod Staying
-pub mod Waits

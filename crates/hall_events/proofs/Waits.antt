@@ -1,2 +1,0 @@
--- Of the lemmas on who waits, for callers.
-pub use Rattle.list_events.proofs.Waits as Waits

@@ -1,5 +1,0 @@
-use Rattle.hall_events.proofs.Ends as law
-use Rattle.hall_events.proofs.laws.root_ends_may_come.Goals as goal
-
-pub returns : goal.returns
-returns c = law.root_ends_may_come

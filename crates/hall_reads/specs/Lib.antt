@@ -1,3 +1,0 @@
-pub mod Within
-pub mod Reads
-pub mod Lists

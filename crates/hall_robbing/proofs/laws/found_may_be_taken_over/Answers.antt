@@ -1,5 +1,0 @@
-use Rattle.hall_robbing.proofs.Robbing as law
-use Rattle.hall_robbing.proofs.laws.found_may_be_taken_over.Goals as goal
-
-pub returns : goal.returns
-returns c = law.found_may_be_taken_over

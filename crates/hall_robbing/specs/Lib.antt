@@ -1,2 +1,0 @@
-pub mod Robbing
-pub mod Passed

@@ -1,2 +1,0 @@
-pub mod Stealing
-pub mod Passed

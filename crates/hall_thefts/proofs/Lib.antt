@@ -1,5 +1,0 @@
-mod Robbed
-mod Over
-mod PutOver
-mod Beside
-mod PutBeside

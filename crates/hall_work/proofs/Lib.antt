@@ -1,5 +1,0 @@
-mod Seen
-mod Kept
-mod Told
-mod Underway
-pub mod Passed

@@ -1,4 +1,0 @@
-pub mod Working
-pub mod Passed
-pub mod Trying
-pub mod Spending

@@ -1,5 +1,0 @@
-pub mod Owned
-pub mod There
-mod Sound
-pub mod Holding
-pub mod Passed

@@ -1,2 +1,0 @@
-pub mod Middles
-pub mod Passed

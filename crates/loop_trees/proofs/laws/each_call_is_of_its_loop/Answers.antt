@@ -1,5 +1,0 @@
-use Rattle.loop_trees.proofs.OneCall.{each_call_is_of_its_loop}
-use Rattle.loop_trees.proofs.laws.each_call_is_of_its_loop.Goals as goal
-
-pub returns : goal.returns
-returns c = each_call_is_of_its_loop

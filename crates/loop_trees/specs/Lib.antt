@@ -1,3 +1,0 @@
-pub mod HelperFunctions
-pub mod LoopCalls
-pub mod Laws

@@ -1,3 +1,0 @@
-pub mod HelperTrees
-pub mod PlainLoop
-pub mod Laws

@@ -1,0 +1,6 @@
+pub mod Giving
+pub mod Taking
+pub mod Writing
+pub mod Orders
+pub mod Waits
+pub mod Passed

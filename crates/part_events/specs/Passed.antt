@@ -1,0 +1,26 @@
+-- What callers need of what this crate stands on.
+pub use Rattle.thread_frames.specs.Actions as Actions
+pub use Rattle.thread_frames.specs.declared.thread.Thread as ThreadType
+pub use Rattle.thread_frames.specs.Shown as Shown
+pub use Rattle.hall_law.specs.Changes as Changes
+pub use Rattle.hall_law.specs.Crew as Crew
+pub use Rattle.hall_law.specs.Views as HallLawViews
+pub use Rattle.hall_law.specs.Values as Values
+pub use Rattle.hall_law.specs.Steps as Steps
+pub use Rattle.hall_law.specs.Writing as Writing
+pub use Rattle.hall_law.specs.State as State
+pub use Rattle.thread_frames.specs.Kept as Kept
+pub use Rattle.thread_events.specs.Passed.Events as DequeEventsEvents
+pub use Rattle.thread_events.specs.Acts as Acts
+pub use Rattle.thread_frames.specs.declared.next.Next as NextType
+pub use Rattle.thread_frames.specs.declared.next.Next.TheVariants as NextVariants
+pub use Rattle.hall_law.specs.Events as Events
+pub use Rattle.thread_frames.specs.Views as Views
+pub use Rattle.thread_frames.specs.declared.ended.Ended as EndedType
+pub use Rattle.hall_law.specs.Passed.Moves as Moves
+pub use Rattle.thread_frames.specs.Points as Points
+pub use Rattle.thread_frames.specs.Roots as Roots
+pub use Rattle.hall_law.specs.Points as HallLawPoints
+pub use Rattle.thread_events.specs.Results as Results
+pub use Rattle.thread_events.specs.Readiness as Readiness
+pub use Rattle.thread_events.specs.declared.readiness.Readiness.TheVariants as ReadinessVariants

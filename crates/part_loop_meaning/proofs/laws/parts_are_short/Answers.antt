@@ -1,7 +1,0 @@
-use Rattle.std.specs.Prelude.{length}
-use Rattle.std.proofs.Common.{arith}
-use Rattle.part_loop_meaning.proofs.Cutting.{parts_fit}
-use Rattle.part_loop_meaning.proofs.laws.parts_are_short.Goals as goal
-
-pub returns : goal.returns
-returns c = λ most items big. parts_fit (length items) most items big (omega arith)

@@ -1,6 +1,0 @@
-use Rattle.std.specs.Prelude.{length}
-use Rattle.part_loop_meaning.proofs.Cutting.{one_part}
-use Rattle.part_loop_meaning.proofs.laws.short_blocks_are_one_part.Goals as goal
-
-pub returns : goal.returns
-returns c = λ most items le. one_part (length items) most items le

@@ -1,5 +1,0 @@
-use Rattle.trail_check.proofs.Outcomes as law
-use Rattle.trail_check.proofs.laws.an_answer.Goals as goal
-
-pub returns : goal.returns
-returns c = law.an_answer

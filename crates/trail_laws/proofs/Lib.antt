@@ -1,4 +1,0 @@
-pub mod Counts
-pub mod Fits
-pub mod Lengths
-pub mod Accepted

@@ -1,5 +1,0 @@
-use Rattle.trail_places.proofs.Following as law
-use Rattle.trail_places.proofs.laws.parent_follows.Goals as goal
-
-pub returns : goal.returns
-returns c = law.parent_follows

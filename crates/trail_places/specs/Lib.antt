@@ -1,5 +1,0 @@
-pub mod Laws
-pub mod Partners
-pub mod Pairing
-pub mod Passing
-pub mod Listed

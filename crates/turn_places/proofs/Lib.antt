@@ -1,3 +1,0 @@
-pub mod Resting
-pub mod Alone
-pub mod Returning
