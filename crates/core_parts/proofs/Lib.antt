@@ -9,4 +9,14 @@ pub mod Sitting
 pub mod Joining
 pub mod AtEnd
 pub mod Bounds
+pub mod Differing
+pub mod Answering
+pub mod Roots
+pub mod RootActs
+pub mod Begins
+pub mod Marked
+pub mod Events
+pub mod Movers
+pub mod Seats
+pub mod Sounds
 pub mod Passed

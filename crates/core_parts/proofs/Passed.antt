@@ -1,6 +1,5 @@
--- What the proofs of callers need of what this crate stands on.
-pub use Rattle.step_laws.proofs.Going as Going
+-- What callers need of what this crate stands on.
 pub use Rattle.step_laws.proofs.Ready as Ready
+pub use Rattle.step_laws.proofs.Going as Going
 pub use Rattle.step_laws.proofs.Told as Told
 pub use Rattle.step_laws.proofs.Standing as Standing
-pub use Rattle.step_laws.proofs.Passed.Firsts as Firsts

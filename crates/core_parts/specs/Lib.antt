@@ -1,4 +1,9 @@
 pub mod Held
 pub mod Moments
 pub mod Outcomes
+pub mod Begun
+pub mod Ends
+pub mod Marks
+pub mod ListChoices
+pub mod Told
 pub mod Passed

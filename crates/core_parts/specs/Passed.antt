@@ -1,7 +1,5 @@
 -- What callers need of what this crate stands on.
-pub use Rattle.step_laws.specs.Moves as Moves
-pub use Rattle.step_laws.specs.Orders as Orders
-pub use Rattle.step_laws.specs.Standing as Standing
-pub use Rattle.step_laws.specs.Passed.Shown as Shown
-pub use Rattle.step_laws.specs.Passed.Choices as Choices
 pub use Rattle.step_laws.specs.Readiness as Readiness
+pub use Rattle.step_laws.specs.Orders as Orders
+pub use Rattle.step_laws.specs.Moves as Moves
+pub use Rattle.step_laws.specs.Standing as Standing

@@ -1,17 +1,29 @@
-//! What the core of a scheduler holds, and at which moment of a run of the machine it stands.
+//! What a scheduler holds between two events, at which moment of a run of the machine it is, and how a run begins and ends.
 //!
-//! A core holds deques of threads, waiting threads, results of ended threads, the periods, the pool and its moves. Here is which parts of
-//! the machine's laws these are, when they stand at the moment to which a run of the machine leads, and what an event must have done so
-//! that the run goes on by it.
+//! A scheduler holds deques of threads, waiting threads, results of ended threads, the periods, the pool and its moves ([`Scheduler`]). The core
+//! of the deques and the ready list hold the same, and differ in which events come. What does not depend on that is here: what is held at the
+//! start ([`scheduler_of`]), the words that pick who moves ([`Choices`]), what a step answers ([`Stepped`]), the end that is kept after an event
+//! ([`end_behind`]), and how many open periods are marked ([`open_ahead`]).
 //!
-//! It stands on threads as parts (`thread_frames`) and on the laws of the machine's events (`moment_parts`, `step_laws`). Its lemmas, for the
-//! proofs of the steps above: if the parts are at the moment of a run, and a worker did on them what the machine does, they are at the
-//! moment of the run with this event more, and it is the event that the rules of play want of the worker. No call here states this; the
-//! contracts of `owner_steps`, `thief_steps` and `dfd_core` do.
+//! It uses threads as parts (`thread_frames`) and the laws of the machine's events (`moment_parts`, `step_laws`). Its lemmas, for the proofs of
+//! the steps above: if the parts are at the moment of a run, and a worker did on them what the machine does, they are at the moment of the run
+//! with this event more, and it is the event that the rules of play want of the worker. The start is sound and is at the opening moment. Once the
+//! root has ended its result is kept, with the fault and the lines of the depth-first run. The contracts of `owner_steps`, `thief_steps` and
+//! `dfd_core` state this; the calls here have the parts of it that concern one value.
 #![tactic(auto)]
 
+mod begun;
+mod choices;
+mod ends;
 mod event;
+mod marks;
 mod scheduler;
+mod stepped;
 
+pub use begun::scheduler_of;
+pub use choices::{Choices, ListChoices};
+pub use ends::{end_behind, end_without_memory, is_finish};
 pub use event::Event;
+pub use marks::open_ahead;
 pub use scheduler::Scheduler;
+pub use stepped::{OutputFail, Stepped, told};

@@ -52,7 +52,7 @@ use Rattle.run_end.specs.declared.ends.RunEnd.TheVariants.{Finished, Stopped}
 use Rattle.dfd_core.specs.Parts.{root_behind, IsOfWholeRun, AreOfRun}
 use Rattle.thread_frames.specs.Roots.{HasDoneNothing, IsRootAlone}
 use Rattle.dfd_core.specs.Running.{IsAtMoment, IsSomewhere}
-use Rattle.core_ends.proofs.Roots.{root_result, label_of_root, root_is_result}
+use Rattle.core_parts.proofs.Roots.{root_result, label_of_root, root_is_result}
 use Rattle.dfd_core.proofs.Finished.{finished_keeps}
 
 -- ---- at an end

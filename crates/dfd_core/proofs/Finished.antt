@@ -9,7 +9,7 @@ use Rattle.run_end.specs.declared.ends.RunEnd.{RunEnd}
 use Rattle.run_end.specs.declared.ends.RunEnd.TheVariants.{Finished}
 use Rattle.core_parts.specs.Held.{Held}
 use Rattle.core_parts.specs.Moments.{IsSound}
-use Rattle.core_ends.proofs.Roots.{root_result, not_ended}
+use Rattle.core_parts.proofs.Roots.{root_result, not_ended}
 use Rattle.dfd_core.specs.Running.{IsSomewhere}
 
 pub finished_keeps : (t : Table) (k : ℕ) (terms : Terms) (h : Held) → IsSound t k terms h → (end : Option RunEnd) → IsSomewhere t k terms h end

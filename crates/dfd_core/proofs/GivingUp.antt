@@ -23,7 +23,7 @@ use Rattle.core_parts.specs.Outcomes.{GivesDequeUp}
 use Rattle.owner_steps.specs.Steps.{GivesUpOrStays}
 use Rattle.run_end.specs.declared.ends.RunEnd.{RunEnd}
 use Rattle.dfd_core.specs.Running.{IsAtMoment, IsSomewhere}
-use Rattle.core_ends.specs.Ends.{end_without_memory}
+use Rattle.core_parts.specs.Ends.{end_without_memory}
 use Rattle.dfd_core.specs.GiveUps.{GaveUp, GivesUp, end_behind_give_up}
 use Rattle.dfd_core.proofs.Going.{stays_at}
 

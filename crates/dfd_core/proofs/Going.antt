@@ -21,11 +21,11 @@ use Rattle.core_parts.specs.Outcomes as parts
 use Rattle.thief_steps.specs.Thefts.{StepsBy as EventBy}
 use Rattle.run_end.specs.declared.ends.RunEnd.{RunEnd}
 use Rattle.run_end.specs.declared.ends.RunEnd.TheVariants.{Finished, Stopped}
-use Rattle.core_ends.specs.Ends.{end_behind_event}
+use Rattle.core_parts.specs.Ends.{end_behind_event}
 use Rattle.depth_first_run.specs.Run.{finish_of_run}
-use Rattle.core_ends.specs.Told.{end_behind}
-use Rattle.core_ends.proofs.Roots.{root_result}
-use Rattle.core_ends.proofs.Events.{few_done, event_keeps_end}
+use Rattle.core_parts.specs.Told.{end_behind}
+use Rattle.core_parts.proofs.Roots.{root_result}
+use Rattle.core_parts.proofs.Events.{few_done, event_keeps_end}
 use Rattle.dfd_core.specs.Running.{IsAtMoment, IsSomewhere}
 use Rattle.dfd_core.specs.Steps.{GoesOn, Stops, Comes}
 

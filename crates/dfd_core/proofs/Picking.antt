@@ -24,7 +24,7 @@ use Rattle.deque_machine.specs.Terms.{Terms, machine_of}
 use Rattle.run_end.specs.declared.ends.RunEnd.{RunEnd}
 use Rattle.dfd_core.specs.Cores.{words_of_turn}
 use Rattle.dfd_core.specs.Running.{IsAtMoment, IsSomewhere}
-use Rattle.core_ends.proofs.Movers.{can_move_is, first_by}
+use Rattle.core_parts.proofs.Movers.{can_move_is, first_by}
 use Rattle.dfd_core.proofs.Turns.{idle_draws, owner_draws}
 
 module _ (t : Table) (k : ℕ) (terms : Terms) (h : Held) (sound : IsSound t k terms h) (end : Option RunEnd) where

@@ -21,14 +21,14 @@ use Rattle.core_parts.specs.Outcomes.{HasDequesLeft}
 use Rattle.dfd_core.specs.declared.run.Core.{Core}
 use Rattle.run_end.specs.declared.ends.RunEnd.{RunEnd}
 use Rattle.run_end.specs.declared.ends.RunEnd.TheVariants.{Finished, Stopped}
-use Rattle.core_ends.specs.declared.stepped.Stepped.{Stepped}
-use Rattle.core_ends.specs.declared.stepped.Stepped.TheVariants.{Nothing, Over}
-use Rattle.core_ends.specs.Ends.{KeepsEnd}
-use Rattle.core_ends.specs.Told.{IsTold}
+use Rattle.core_parts.specs.declared.stepped.Stepped.{Stepped}
+use Rattle.core_parts.specs.declared.stepped.Stepped.TheVariants.{Nothing, Over}
+use Rattle.core_parts.specs.Ends.{KeepsEnd}
+use Rattle.core_parts.specs.Told.{IsTold}
 use Rattle.dfd_core.specs.Steps.{GoesOn, Stops, Comes}
 use Rattle.dfd_core.specs.Cores.{IsAt, end_of, terms_at, workers_of, words_of_turn}
 use Rattle.dfd_core.specs.Plays.{TurnGoesOn, TurnStops, TurnsTo}
-use Rattle.core_ends.proofs.Answering.{nothing_told, stop_told, no_stop_kept}
+use Rattle.core_parts.proofs.Answering.{nothing_told, stop_told, no_stop_kept}
 
 -- the word of a theft is the second that comes
 pub word_drawn : (words : ℕ → ℕ) (word : Option ℕ) → ((w : ℕ) → word ≡ Some w → w ≡ words 1) → is_some word ≡ true → unwrap_or word 0 ≡ words 1

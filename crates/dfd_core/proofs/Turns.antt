@@ -18,13 +18,13 @@ use Rattle.core_parts.specs.Held.{Held, IsInOrder}
 use Rattle.core_parts.specs.Moments.{IsSound, HasRun}
 use Rattle.deque_machine.specs.Terms.{Terms, machine_of}
 use Rattle.core_parts.proofs.Sitting.{seat_owns as seated_owns, idle_owns_none}
-use Rattle.core_ends.proofs.Movers.{cannot_move, can_move_is}
-use Rattle.core_ends.proofs.Answering.{nothing_told}
+use Rattle.core_parts.proofs.Movers.{cannot_move, can_move_is}
+use Rattle.core_parts.proofs.Answering.{nothing_told}
 use Rattle.run_end.specs.declared.ends.RunEnd.{RunEnd}
-use Rattle.core_ends.specs.declared.stepped.Stepped.{Stepped}
-use Rattle.core_ends.specs.declared.stepped.Stepped.TheVariants.{Nothing}
+use Rattle.core_parts.specs.declared.stepped.Stepped.{Stepped}
+use Rattle.core_parts.specs.declared.stepped.Stepped.TheVariants.{Nothing}
 use Rattle.dfd_core.specs.Running.{IsAtMoment}
-use Rattle.core_ends.specs.Told.{IsTold}
+use Rattle.core_parts.specs.Told.{IsTold}
 
 module _ (c : Setting) (terms : Terms) (quota : record_words ≤ c.quota) (h : Held) (run : List Pair) (m : Moment) (at : HasRun c terms h run m) (worker : ℕ) where
   pub seat_owns : (seat : Seat) → seat_at h.table worker ≡ Some seat → 0 < owned_by worker m.deques

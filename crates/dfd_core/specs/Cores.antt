@@ -17,9 +17,9 @@ use Rattle.deque_machine.specs.Terms.{Terms}
 use Rattle.dfd_core.specs.declared.run.Core.{Core}
 use Rattle.run_end.specs.declared.ends.RunEnd.{RunEnd}
 use Rattle.run_end.specs.declared.ends.RunEnd.TheVariants.{Finished}
-use Rattle.core_ends.specs.declared.stepped.Stepped.{Stepped}
+use Rattle.core_parts.specs.declared.stepped.Stepped.{Stepped}
 use Rattle.dfd_core.specs.Running.{IsAtMoment}
-use Rattle.core_ends.specs.Told.{IsTold}
+use Rattle.core_parts.specs.Told.{IsTold}
 use Rattle.dfd_core.specs.Steps.{Comes}
 use Rattle.dfd_core.specs.GiveUps as give_ups
 

@@ -13,7 +13,7 @@ use Rattle.deque_machine.specs.Terms.{Terms, machine_of}
 use Rattle.core_parts.specs.Outcomes.{Tells}
 use Rattle.node_table.specs.Table.{Table}
 use Rattle.run_end.specs.declared.ends.RunEnd.{RunEnd}
-use Rattle.core_ends.specs.Ends.{end_without_memory}
+use Rattle.core_parts.specs.Ends.{end_without_memory}
 use Rattle.dfd_core.specs.Running.{IsAtMoment}
 
 -- At the moment m of a run the worker gives up this deque, which the machine allows at any time, and now what is held stands at the moment

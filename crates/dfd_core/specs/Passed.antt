@@ -2,10 +2,10 @@
 pub use Rattle.thread_frames.specs.Roots as Roots
 pub use Rattle.thread_frames.specs.Points as Points
 pub use Rattle.thread_frames.specs.declared.thread.Thread as ThreadType
-pub use Rattle.core_ends.specs.declared.stepped.Stepped as SteppedType
-pub use Rattle.core_ends.specs.declared.stepped.Stepped.TheVariants as SteppedVariants
-pub use Rattle.core_ends.specs.Ends as Ends
-pub use Rattle.core_ends.specs.Told as Told
+pub use Rattle.core_parts.specs.declared.stepped.Stepped as SteppedType
+pub use Rattle.core_parts.specs.declared.stepped.Stepped.TheVariants as SteppedVariants
+pub use Rattle.core_parts.specs.Ends as Ends
+pub use Rattle.core_parts.specs.Told as Told
 pub use Rattle.core_parts.specs.declared.event.Event as EventType
 pub use Rattle.core_parts.specs.declared.event.Event.TheVariants as EventVariants
 pub use Rattle.core_parts.specs.Held as Held

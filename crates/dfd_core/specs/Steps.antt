@@ -17,7 +17,7 @@ use Rattle.core_parts.specs.Held.{Held}
 use Rattle.deque_machine.specs.Terms.{Terms, machine_of}
 use Rattle.core_parts.specs.Outcomes.{Tells, HasDequesLeft}
 use Rattle.run_end.specs.declared.ends.RunEnd.{RunEnd}
-use Rattle.core_ends.specs.Ends.{KeepsEnd}
+use Rattle.core_parts.specs.Ends.{KeepsEnd}
 use Rattle.dfd_core.specs.Running.{IsAtMoment}
 
 -- At the moment m of a run the rules of play want an event of the worker, with a word for the choice of its victim, and nothing stops it;

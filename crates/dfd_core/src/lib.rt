@@ -20,7 +20,7 @@ mod player;
 mod run;
 mod turn;
 
-pub use core_ends::{Choices, ListChoices, OutputFail, Stepped};
+pub use core_parts::{Choices, ListChoices, OutputFail, Stepped};
 pub use laws::cores_are_lawful;
 pub use parts::{CoreEnd, CoreParts};
 pub use player::{most_turns, play};

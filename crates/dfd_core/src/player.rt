@@ -7,7 +7,7 @@ ghost use Rattle.dfd_core.specs.Plays.{TakesTurn, PlaysTo};
 
 use crate::run::Core;
 use crate::turn::draw_turn;
-use core_ends::Choices;
+use core_parts::Choices;
 use run_end::RunEnd;
 
 /// Lets the worker move whose turn it is, in a run that has not ended.

@@ -15,17 +15,15 @@ ghost use Rattle.thread_state.specs.Settings.{IsSettingOf};
 ghost use Rattle.core_parts.specs.Held.{held};
 ghost use Rattle.core_parts.specs.Moments.{IsSound, CanGoOn, terms_of};
 ghost use Rattle.deque_machine.specs.Terms.{machine_of, given_terms};
-ghost use Rattle.core_ends.specs.declared.stepped.OutputFail.TheVariants as fails;
-ghost use Rattle.core_ends.specs.declared.stepped.Stepped.TheVariants as steps;
+ghost use Rattle.core_parts.specs.declared.stepped.OutputFail.TheVariants as fails;
+ghost use Rattle.core_parts.specs.declared.stepped.Stepped.TheVariants as steps;
 ghost use Rattle.dfd_core.specs.GiveUps.{end_behind_give_up};
 ghost use Rattle.dfd_core.specs.Running.{IsSomewhere};
 
 use crate::events::event_of;
 use block_arena::Pool;
 use boxed::Boxed;
-use core_ends::{
-    OutputFail, Stepped, end_behind, end_without_memory, is_finish, open_ahead, scheduler_of, told,
-};
+use core_parts::{OutputFail, Stepped, end_behind, end_without_memory, is_finish, open_ahead, scheduler_of, told};
 use core_parts::Scheduler;
 use dag_order::{Lines, ThreadId};
 use deque_list::{DequeId, List};

@@ -27,7 +27,7 @@ use Rattle.ready_machine.specs.Entries.{IsReadyList}
 use Rattle.ready_machine.specs.PlayLaws.{CoversNext}
 use Rattle.ready_machine.specs.ReadyMachine.{MayReady, ReadyReaches}
 use Rattle.ready_machine.specs.ReadyPlay.{CanGo, ReadyTurn}
-use Rattle.ready_replay.proofs.Ones.{one_way}
+use Rattle.ready_machine.proofs.Ones.{one_way}
 use Rattle.run_report.specs.Shown.{Shown}
 use Rattle.dfd_run.specs.Answer.{HasRanges}
 use Rattle.dfd_run.specs.Async.{IsAsyncPlay, AsyncMakes, async_terms, async_machine}

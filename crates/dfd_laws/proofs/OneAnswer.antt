@@ -43,7 +43,7 @@ use Rattle.dfd_run.specs.Trails.{Records, TrailMakes, TellsCheck, VerifyMakes, V
 use Rattle.dfd_run.specs.Messages.{syntax_text, check_text, spent_text}
 use Rattle.dfd_run.specs.Make.{MakeMakes, Summarizes, sum_of}
 use Rattle.dfd_run.specs.Peak.{RunText, ItemsMake, PeakMakes}
-use Rattle.ready_replay.proofs.Ones.{one_play as one_ready_play}
+use Rattle.ready_machine.proofs.Ones.{one_play as one_ready_play}
 use Rattle.dfd_run.specs.Async.{IsAsyncPlay, AsyncMakes, async_terms, async_machine}
 use Rattle.dfd_run.specs.Play.{IsPlay, TellsRun, TellsPlay, TellsEnding, Reports, PlayMakes, play_setting, play_terms, play_machine, seeded_words}
 use Rattle.dfd_run.specs.Status.{code_of}

@@ -14,7 +14,7 @@ pub fn check(alloc: Global, bytes: &[u8]) -> Result<Answer, AllocError>
 {
     match accept(alloc, bytes) {
         Ok(checked) => {
-            let text = par_syntax::print(alloc, checked.program())?;
+            let text = par_print::print(alloc, checked.program())?;
             Ok(Answer {
                 status: Status::Done,
                 text,

@@ -6,7 +6,7 @@ ghost use Rattle.dfd_run.specs.Messages.{syntax_word, syntax_text, bad_loop_text
 ghost use Rattle.dfd_run.specs.Messages.{spent_text, arena_text, deques_text};
 
 use block_check::{CheckError, CheckKind};
-use par_syntax::{SyntaxError, SyntaxKind};
+use par_text::{SyntaxError, SyntaxKind};
 use std::alloc::{AllocError, Global};
 
 /// The line of words that are no command.

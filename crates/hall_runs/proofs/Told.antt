@@ -5,7 +5,7 @@ use Rattle.std.specs.Option.{option_map}
 use Rattle.std.specs.Prelude.{Option, None, Some, count_by}
 use denote.Struct.Props.{props}
 use Rattle.bounded_list.specs.BoundedList.{entries}
-use Rattle.core_ends.proofs.Passed.Lists.{among_mapped}
+use Rattle.core_parts.proofs.Lists.{among_mapped}
 use Rattle.dag_order.specs.Births.{root}
 use Rattle.dag_order.specs.declared.finish.Finish.{Finish}
 use Rattle.dag_order.specs.declared.thread_id.ThreadId.{ThreadId}

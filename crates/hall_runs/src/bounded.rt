@@ -6,7 +6,7 @@ ghost use Rattle.hall_runs.specs.Working.{IsSameWorker, MayWork};
 use crate::answer::Answer;
 use crate::tries::make_try;
 use crate::worker::HallWorker;
-use core_ends::Choices;
+use core_parts::Choices;
 use hall_handles::{EventRefused, Hall};
 use node_table::Code;
 use run_end::RunEnd;

@@ -7,7 +7,7 @@ ghost use Rattle.run_end.specs.declared.ends.RunEnd.{RunEnd as AnyEnd};
 ghost use Rattle.work_loop.specs.declared.member.Member.{Member as AnyMember};
 
 use crate::worker::HallWorker;
-use core_ends::Choices;
+use core_parts::Choices;
 use hall_handles::Hall;
 use node_table::Code;
 use run_end::RunEnd;

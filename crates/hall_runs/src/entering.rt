@@ -4,7 +4,7 @@ ghost use Rattle.std.specs.Prelude.{◌≡◌, ◌≤◌, None, IfOk, OnOk};
 ghost use Rattle.hall_runs.specs.Crews.{EntersBy, IsCrew, IsFreshIn};
 
 use crate::worker::HallWorker;
-use core_ends::Choices;
+use core_parts::Choices;
 use hall_handles::{EnterRefused, Hall, Seat};
 use run_end::RunEnd;
 use std::alloc::AllocError;

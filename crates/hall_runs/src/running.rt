@@ -19,7 +19,7 @@ use crate::leaving::leave_all;
 use crate::ran::Ran;
 use crate::telling::ran_of;
 use crate::worker::HallWorker;
-use core_ends::Choices;
+use core_parts::Choices;
 use hall_handles::{CloseRefused, Closing, Core, Hall};
 use node_table::Code;
 use run_end::RunEnd;

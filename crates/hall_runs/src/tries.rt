@@ -7,7 +7,7 @@ ghost use Rattle.hall_runs.specs.Working.{HasSeen, IsSameWorker};
 ghost use Rattle.work_loop.specs.Tries.{EndsAs};
 
 use crate::answer::Answer;
-use core_ends::Choices;
+use core_parts::Choices;
 use hall_handles::{EventRefused, Hall, Seat};
 use hall_turns::Event;
 use node_table::Code;

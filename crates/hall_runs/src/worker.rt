@@ -1,5 +1,5 @@
 use crate::tries::try_next;
-use core_ends::Choices;
+use core_parts::Choices;
 use hall_handles::{Hall, Seat};
 use node_table::Code;
 use run_end::RunEnd;

@@ -6,7 +6,7 @@ ghost use Rattle.hall_runs.specs.Passed.Seated.{IsIn, IsProgramOf};
 
 use accepted_source::accept;
 use block_arena::Pool;
-use core_ends::ListChoices;
+use core_parts::ListChoices;
 use dfd_core::Core;
 use dummy_tree::Quota;
 use frame_code::{Code, lower};

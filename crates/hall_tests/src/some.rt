@@ -4,7 +4,7 @@ ghost use Rattle.hall_runs.specs.Passed.Seated.{IsIn, IsProgramOf};
 ghost use Rattle.hall_runs.specs.Working.{MayWork};
 
 use crate::halls::{Bounds, ample, core_of, entered, hall_of, worker_of};
-use core_ends::ListChoices;
+use core_parts::ListChoices;
 use dag_order::Finish;
 use frame_code::Code;
 use hall_runs::{EventRefused, Hall, HallWorker, Seat, WorkSome, work_some};

@@ -2,7 +2,7 @@
 
 use crate::plays::{Numbers, Row, code_of, numbers_of, row_of, tell_finish, tell_lines, words_of};
 use block_arena::Pool;
-use core_ends::{ListChoices, Stepped};
+use core_parts::{ListChoices, Stepped};
 use dummy_tree::Quota;
 use ready_core::{AsyncCore, play_async};
 use run_end::RunEnd;

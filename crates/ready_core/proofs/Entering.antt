@@ -29,7 +29,7 @@ use Rattle.ready_machine.specs.Entries.{IsReadyList}
 use Rattle.ready_machine.specs.ReadyPlay.{WantsReady}
 use Rattle.ready_machine.proofs.Agreeing.{wants_agree}
 use Rattle.ready_machine.proofs.Playing.{takes_meet_no_stop}
-use Rattle.ready_law.specs.Standing.{LeavesTwo}
+use Rattle.ready_machine.specs.Standing.{LeavesTwo}
 use Rattle.ready_core.specs.Aside.{IsCut, SetsAside, stays, is_cut}
 use Rattle.ready_core.specs.Steps.{Went, HasMet, MeetsBy}
 use Rattle.ready_core.proofs.Lists.{cut_of_shown, two_items}

@@ -25,15 +25,15 @@ use Rattle.run_end.specs.declared.stop.Stop.TheVariants.{ArenaFull, DequesFull, 
 use Rattle.core_parts.specs.declared.event.Event.{Event as Told}
 use Rattle.core_parts.specs.Held.{Held}
 use Rattle.core_parts.specs.Moments.{IsSound, HasRun}
-use Rattle.core_ends.specs.Ends.{is_of_root, end_behind_event, KeepsEnd}
-use Rattle.core_ends.specs.Told.{end_behind}
-use Rattle.core_ends.proofs.Roots.{root_result, end_is_kept}
-use Rattle.core_ends.proofs.RootActs.{not_ended_by}
-use Rattle.core_ends.proofs.Events.{few_done}
+use Rattle.core_parts.specs.Ends.{is_of_root, end_behind_event, KeepsEnd}
+use Rattle.core_parts.specs.Told.{end_behind}
+use Rattle.core_parts.proofs.Roots.{root_result, end_is_kept}
+use Rattle.core_parts.proofs.RootActs.{not_ended_by}
+use Rattle.core_parts.proofs.Events.{few_done}
 use Rattle.ready_machine.specs.Entries.{IsReadyList}
 use Rattle.ready_machine.proofs.Along.{reached_is_ready}
 use Rattle.ready_machine.proofs.Sharing.{IsBeside, beside}
-use Rattle.ready_law.proofs.Aside.{ready_runs_go_on}
+use Rattle.ready_machine.proofs.Aside.{ready_runs_go_on}
 use Rattle.ready_core.specs.Running.{IsAtMoment, IsSomewhere}
 use Rattle.ready_core.specs.Steps.{Went, HasMet, EventOrNone, StandsReady, GoesOn, Stops, Comes}
 

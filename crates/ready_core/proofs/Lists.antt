@@ -7,7 +7,7 @@ use Rattle.lawful_books.specs.Lists.{Each}
 use Rattle.lawful_books.proofs.Lists.{same_head, same_tail, cons_is_not_nil}
 use Rattle.moment_parts.specs.Parts as parts
 use Rattle.ready_machine.specs.Entries.{IsEntry}
-use Rattle.ready_law.specs.Standing.{HasOneThread}
+use Rattle.ready_machine.specs.Standing.{HasOneThread}
 
 -- a deque of the moment is one of the list at the same place
 pub cut_of_shown : {T : Type 0} (shown : T → parts.Thread) (ds : List (Deque T)) (left : List machine.Deque) (d : machine.Deque) (right : List machine.Deque)

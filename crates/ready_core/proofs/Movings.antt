@@ -17,12 +17,12 @@ use Rattle.victim_choice.specs.Choices.{SomeReady, CanMove}
 use Rattle.core_parts.specs.declared.event.Event.{Event}
 use Rattle.core_parts.specs.Held.{Held}
 use Rattle.core_parts.specs.Moments.{IsSound}
-use Rattle.core_ends.specs.declared.stepped.Stepped.{Stepped}
-use Rattle.core_ends.specs.declared.stepped.Stepped.TheVariants.{Nothing}
-use Rattle.core_ends.specs.Told.{IsTold}
-use Rattle.core_ends.proofs.Answering.{nothing_told}
-use Rattle.core_ends.proofs.Movers.{cannot_move, can_move_is}
-use Rattle.core_ends.proofs.Roots.{root_result, not_ended}
+use Rattle.core_parts.specs.declared.stepped.Stepped.{Stepped}
+use Rattle.core_parts.specs.declared.stepped.Stepped.TheVariants.{Nothing}
+use Rattle.core_parts.specs.Told.{IsTold}
+use Rattle.core_parts.proofs.Answering.{nothing_told}
+use Rattle.core_parts.proofs.Movers.{cannot_move, can_move_is}
+use Rattle.core_parts.proofs.Roots.{root_result, not_ended}
 use Rattle.ready_machine.specs.ReadyPlay.{CanGo}
 use Rattle.ready_machine.proofs.Agreeing.{movers_agree}
 use Rattle.ready_core.specs.Running.{IsAtMoment, IsSomewhere}

@@ -10,8 +10,8 @@ use Rattle.node_table.specs.Table.{Table}
 use Rattle.thread_state.specs.Settings.{IsSettingOf}
 use Rattle.thread_frames.specs.declared.thread.Thread.{Thread}
 use Rattle.core_parts.specs.Held.{Held}
-use Rattle.core_ends.specs.Begun.{IsBegun}
-use Rattle.core_ends.proofs.Begins.{none_ended, begun_stands}
+use Rattle.core_parts.specs.Begun.{IsBegun}
+use Rattle.core_parts.proofs.Begins.{none_ended, begun_stands}
 use Rattle.ready_core.specs.Running.{IsAtMoment, IsSomewhere}
 
 module _ (t : Table) (k : ℕ) (terms : Terms) (h : Held) (x : Thread) (b : IsBegun t h x) (covers : record_words ≤ k) where

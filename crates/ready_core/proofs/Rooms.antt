@@ -21,7 +21,7 @@ use Rattle.core_parts.specs.declared.scheduler.Scheduler.{Scheduler}
 use Rattle.core_parts.specs.Held.{held}
 use Rattle.core_parts.specs.Moments.{IsSound, CanGoOn, SameTerms, HasRun, terms_of}
 use Rattle.core_parts.proofs.Bounds.{end_within}
-use Rattle.ready_law.specs.Standing.{HasRecord}
+use Rattle.ready_machine.specs.Standing.{HasRecord}
 
 few_prop : (a b : ℕ) → IsProp (a < b)
 few_prop a b = search props

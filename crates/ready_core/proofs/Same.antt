@@ -7,7 +7,7 @@ use Rattle.node_table.specs.Codes.{code_shown}
 use Rattle.dummy_tree.specs.QuotaWords.{quota_words}
 use Rattle.core_parts.specs.Held.{held}
 use Rattle.core_parts.specs.Moments.{IsSound, CanGoOn, terms_of}
-use Rattle.core_ends.proofs.Sounds.{sound_one}
+use Rattle.core_parts.proofs.Sounds.{sound_one}
 use Rattle.ready_core.specs.Running.{IsSomewhere}
 use Rattle.ready_core.specs.declared.run.AsyncCore.{AsyncCore}
 

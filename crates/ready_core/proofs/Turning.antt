@@ -22,12 +22,12 @@ use Rattle.victim_choice.proofs.Firsts.{first_below}
 use Rattle.core_parts.specs.declared.event.Event.{Event as Told}
 use Rattle.core_parts.specs.Held.{Held, held}
 use Rattle.core_parts.specs.Moments.{IsSound}
-use Rattle.core_ends.specs.declared.stepped.Stepped.{Stepped}
-use Rattle.core_ends.specs.declared.stepped.Stepped.TheVariants.{Nothing, Over}
-use Rattle.core_ends.specs.Ends.{KeepsEnd}
-use Rattle.core_ends.specs.Told.{IsTold}
-use Rattle.core_ends.proofs.Answering.{nothing_told, stop_told, no_stop_kept}
-use Rattle.core_ends.proofs.Movers.{can_move_is, first_by}
+use Rattle.core_parts.specs.declared.stepped.Stepped.{Stepped}
+use Rattle.core_parts.specs.declared.stepped.Stepped.TheVariants.{Nothing, Over}
+use Rattle.core_parts.specs.Ends.{KeepsEnd}
+use Rattle.core_parts.specs.Told.{IsTold}
+use Rattle.core_parts.proofs.Answering.{nothing_told, stop_told, no_stop_kept}
+use Rattle.core_parts.proofs.Movers.{can_move_is, first_by}
 use Rattle.ready_machine.specs.ReadyMachine.{MayReady}
 use Rattle.ready_machine.specs.ReadyPlay.{CanGo, WantsReady, ReadyTurn}
 use Rattle.ready_machine.proofs.Agreeing.{movers_agree}

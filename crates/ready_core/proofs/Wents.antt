@@ -22,9 +22,9 @@ use Rattle.deque_machine.specs.Runs.{Pair, place_of, is_move, moves}
 use Rattle.deque_machine.specs.Terms.{Terms, machine_of}
 use Rattle.moment_parts.specs.Parts as parts
 use Rattle.moment_parts.specs.Cuts as cuts
-use Rattle.ready_law.specs.Passed.Standing.{StandsAt}
-use Rattle.ready_law.proofs.Passed.Going.{moves_go_on}
-use Rattle.ready_law.proofs.Passed.Ready.{ids_are_shown}
+use Rattle.ready_machine.specs.Passed.Standing.{StandsAt}
+use Rattle.ready_machine.proofs.Passed.Going.{moves_go_on}
+use Rattle.ready_machine.proofs.Passed.Ready.{ids_are_shown}
 use Rattle.thread_frames.specs.declared.thread.Thread.{Thread}
 use Rattle.thread_frames.specs.Shown.{thread_shown}
 use Rattle.core_parts.specs.declared.event.Event.{Event}
@@ -34,10 +34,10 @@ use Rattle.core_parts.specs.Outcomes.{GoesOn}
 use Rattle.ready_machine.specs.Entries.{IsEntry, IsLeastFree, IsReadyList}
 use Rattle.ready_machine.specs.ReadyPlay.{WantsReady}
 use Rattle.ready_machine.proofs.Agreeing.{wants_agree}
-use Rattle.ready_law.specs.Standing as law
-use Rattle.ready_law.specs.Standing.{HasRecord, HasOneThread, LeavesTwo, cut_moment}
-use Rattle.ready_law.proofs.Aside.{one_thread_each, two_are_cut, one_or_two}
-use Rattle.ready_law.proofs.Few.{entries_are_few}
+use Rattle.ready_machine.specs.Standing as law
+use Rattle.ready_machine.specs.Standing.{HasRecord, HasOneThread, LeavesTwo, cut_moment}
+use Rattle.ready_machine.proofs.Aside.{one_thread_each, two_are_cut, one_or_two}
+use Rattle.ready_machine.proofs.Few.{entries_are_few}
 use Rattle.ready_core.specs.Steps.{Went}
 use Rattle.ready_core.proofs.Lists.{one_each}
 use Rattle.ready_core.proofs.Parting.{parted}

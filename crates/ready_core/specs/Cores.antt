@@ -13,8 +13,8 @@ use Rattle.run_end.specs.declared.stop.Stop.{Stop}
 use Rattle.core_parts.specs.declared.event.Event.{Event}
 use Rattle.core_parts.specs.Held.{held}
 use Rattle.core_parts.specs.Moments.{terms_of}
-use Rattle.core_ends.specs.declared.stepped.Stepped.{Stepped}
-use Rattle.core_ends.specs.Told.{IsTold}
+use Rattle.core_parts.specs.declared.stepped.Stepped.{Stepped}
+use Rattle.core_parts.specs.Told.{IsTold}
 use Rattle.ready_core.specs.declared.run.AsyncCore.{AsyncCore}
 use Rattle.ready_core.specs.Running.{IsAtMoment}
 use Rattle.ready_core.specs.Steps.{Comes}

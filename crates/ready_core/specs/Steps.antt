@@ -17,7 +17,7 @@ use Rattle.core_parts.specs.declared.event.Event.{Event}
 use Rattle.core_parts.specs.Held.{Held}
 use Rattle.core_parts.specs.Moments.{HasRun}
 use Rattle.core_parts.specs.Outcomes.{Tells}
-use Rattle.core_ends.specs.Ends.{KeepsEnd}
+use Rattle.core_parts.specs.Ends.{KeepsEnd}
 use Rattle.thread_state.specs.Settings.{IsSettingOf}
 use Rattle.ready_machine.specs.Entries.{IsReadyList}
 use Rattle.ready_machine.specs.ReadyMachine.{MayReady}

@@ -8,7 +8,7 @@ ghost use Rattle.ready_core.specs.Cores.{IsAt, SameSetting, end_of, terms_at, wo
 ghost use Rattle.ready_core.specs.Plays.{TakesTurn, PlaysTo};
 
 use crate::run::AsyncCore;
-use core_ends::Choices;
+use core_parts::Choices;
 use run_end::RunEnd;
 use victim_choice::{first_mover, some_ready};
 

@@ -9,3 +9,10 @@ pub mod Agreeing
 pub mod Coming
 pub mod Playing
 pub mod Going
+pub mod Ones
+pub mod Replaying
+pub mod PlayedSound
+pub mod Examples
+pub mod Aside
+pub mod Few
+pub mod Passed

@@ -4,3 +4,8 @@ pub mod ReadyPlay
 pub mod ReadyFronts
 pub mod Laws
 pub mod PlayLaws
+pub mod Step
+pub mod Played
+pub mod ReplayLaws
+pub mod Standing
+pub mod Passed

@@ -5,9 +5,18 @@
 //! ([`laws::forks_are_cut`]). Every other event is the same in both ([`laws::all_but_forks_are_shared`]). A lawful ready list is a lawful
 //! moment of deques with one thread each, so its order, books, births and marks are those of `deque_machine`.
 //!
-//! Its theorem is that at each moment of each run the words in use are at most the depth-first peak, and two quotas for each period that is
-//! ahead ([`laws::bound_in_ready`]), and that each such period is marked ([`laws::ahead_is_marked`]). A list of words picks a play, which
-//! ends ([`laws::plays_end`]). It is said of the list alone: no program, memory or thread of a processor is in it.
+//! The crate has definitions and laws alone, over plain values. Its theorem is that at each moment of each run the words in use are at most the
+//! depth-first peak, and two quotas for each period that is ahead ([`laws::bound_in_ready`]), and that each such period is marked
+//! ([`laws::ahead_is_marked`]). A list of words picks a play, which ends ([`laws::plays_end`]). Two more modules of laws:
+//!
+//! - [`replay_laws`]: the machine of a ready list, computed over the computed machine of deques (`machine_replay`), answers only runs, and the
+//!   computed play is the play, which a list of words picks. `proofs/Examples.antt` has three small programs by one worker, with their
+//!   periods and high-water marks, one of them in an arena that is too small, and the first moments of a run by two workers.
+//! - [`scheduler_laws`]: where a scheduler with one ready list is, event by event, in the words of `step_laws`. If the rules want an event, and
+//!   the scheduler did it as the machine of deques does, then it is at the next lawful ready list ([`scheduler_laws::one_thread_each`]); after a
+//!   Fork once the deque of two threads is cut ([`scheduler_laws::two_are_cut`]).
 #![tactic(auto)]
 
 pub mod laws;
+pub mod replay_laws;
+pub mod scheduler_laws;

@@ -1,7 +1,8 @@
 //! Canonical texts. Each was worked out by hand from the rules of the form.
 
 use crate::rows::text_of;
-use par_syntax::{parse, print};
+use par_parse::parse;
+use par_print::print;
 use std::alloc::Global;
 use std::process::Abort;
 

@@ -2,7 +2,7 @@ use Rattle.std.proofs.Common.{◌∙◌, sym, ap, arith}
 use Rattle.std.specs.Option.{option_copied}
 use Rattle.core_parts.specs.Held.{held}
 use Rattle.core_parts.specs.Moments.{terms_of}
-use Rattle.core_ends.proofs.Seats.{deque_there, read_some, none_is}
+use Rattle.core_parts.proofs.Seats.{deque_there, read_some, none_is}
 use Rattle.ready_core.proofs.Taking.{thief_event}
 use Rattle.ready_core.proofs.events.event_of.Goals as goal
 

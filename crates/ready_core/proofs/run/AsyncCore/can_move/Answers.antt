@@ -1,7 +1,7 @@
 use Rattle.std.proofs.Common.{◌↔◌, ℕ, subst}
 use Rattle.std.specs.Prelude.{IsTrue}
 use Rattle.victim_choice.specs.Choices.{SomeReady}
-use Rattle.core_ends.proofs.Seats.{none_is}
+use Rattle.core_parts.proofs.Seats.{none_is}
 use Rattle.ready_core.proofs.Movings.{can_go_at}
 use Rattle.ready_core.proofs.run.AsyncCore.can_move.Goals as goal
 

@@ -6,7 +6,7 @@ use Rattle.node_table.specs.Codes.{code_shown}
 use Rattle.core_parts.specs.Held.{held}
 use Rattle.core_parts.specs.Moments.{terms_of}
 use Rattle.deque_machine.specs.Terms.{Terms, given_terms}
-use Rattle.core_ends.proofs.Begins.{begun_is_sound, begun_can_go_on}
+use Rattle.core_parts.proofs.Begins.{begun_is_sound, begun_can_go_on}
 use Rattle.ready_core.proofs.Openings.{opening_is_at, begun_somewhere}
 use Rattle.ready_core.proofs.run.AsyncCore.new.Goals as goal
 

@@ -2,9 +2,9 @@ use Rattle.std.proofs.Common.{Some, Ok, refl, sym, ap, subst, ◌∙◌, arith}
 use Rattle.std.proofs.lemmas.Option.{none-some}
 use Rattle.core_parts.specs.Held.{held}
 use Rattle.deque_machine.specs.Terms.{Terms}
-use Rattle.core_ends.specs.Told.{IsTold, end_behind}
-use Rattle.core_ends.proofs.Differing.{ok_or_err, some_or_none}
-use Rattle.core_ends.proofs.Roots.{root_result}
+use Rattle.core_parts.specs.Told.{IsTold, end_behind}
+use Rattle.core_parts.proofs.Differing.{ok_or_err, some_or_none}
+use Rattle.core_parts.proofs.Roots.{root_result}
 use Rattle.ready_core.proofs.Going.{somewhere_behind, comes_behind, somewhere_ready, done_within}
 use Rattle.ready_core.proofs.Movings.{nothing_behind}
 use Rattle.ready_core.proofs.Rooms.{most_stays}

@@ -1,3 +1,0 @@
-pub mod Aside
-pub mod Few
-pub mod Passed

@@ -1,5 +1,0 @@
-use Rattle.ready_law.proofs.Aside as law
-use Rattle.ready_law.proofs.laws.ready_runs_go_on.Goals as goal
-
-pub returns : goal.returns
-returns c s some list = law.ready_runs_go_on s

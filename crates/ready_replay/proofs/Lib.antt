@@ -1,4 +1,0 @@
-pub mod Ones
-pub mod Replaying
-pub mod PlayedSound
-pub mod Examples

@@ -1,5 +1,0 @@
-use Rattle.ready_replay.proofs.Replaying as law
-use Rattle.ready_replay.proofs.laws.replays_are_runs.Goals as goal
-
-pub returns : goal.returns
-returns c s some list = law.replays_are_runs s list

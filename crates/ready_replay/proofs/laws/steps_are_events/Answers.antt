@@ -1,5 +1,0 @@
-use Rattle.ready_replay.proofs.Replaying as law
-use Rattle.ready_replay.proofs.laws.steps_are_events.Goals as goal
-
-pub returns : goal.returns
-returns c s some list m after worker event ready is = law.ready_step_sound s list m ready worker event after is

@@ -1,3 +1,0 @@
-pub mod Step
-pub mod Played
-pub mod Laws
