@@ -23,8 +23,10 @@ ghost use Rattle.dfd_core.specs.Running.{IsSomewhere};
 use crate::events::event_of;
 use block_arena::Pool;
 use boxed::Boxed;
-use core_parts::{OutputFail, Stepped, end_behind, end_without_memory, is_finish, open_ahead, scheduler_of, told};
-use core_parts::Scheduler;
+use core_parts::{
+    OutputFail, Scheduler, Stepped, end_behind, end_without_memory, is_finish, open_ahead,
+    scheduler_of, told,
+};
 use dag_order::{Lines, ThreadId};
 use deque_list::{DequeId, List};
 use dummy_tree::Quota;

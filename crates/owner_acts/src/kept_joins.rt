@@ -24,7 +24,9 @@ ghost use Rattle.owner_acts.specs.Kept.{CanJoinKept};
 use boxed::Boxed;
 use dag_order::{ActionId, Births, ThreadId};
 use deque_list::{DequeId, Lane};
-use hall_deciding::{decide_kept_join, decide_kept_join_giving, do_join, do_join_giving, hand_over};
+use hall_deciding::{
+    decide_kept_join, decide_kept_join_giving, do_join, do_join_giving, hand_over,
+};
 use hall_turns::{HallPlace, HallRow, LaneSlot, ListSlot, PoolSlot, Running};
 use thread_frames::Thread;
 

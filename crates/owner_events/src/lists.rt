@@ -30,7 +30,9 @@ use dag_order::ThreadId;
 use deque_list::DequeId;
 use hall_turns::{Event, HallPlace, HallRow, ListSlot};
 use owner_acts::{Noting, act_dummy, act_give_up, act_kept_join, act_root_end, act_wait};
-use owner_advance::{AtNext, SeatMemory, make_room_to_close, make_room_to_leave, make_room_to_wait};
+use owner_advance::{
+    AtNext, SeatMemory, make_room_to_close, make_room_to_leave, make_room_to_wait,
+};
 use run_end::Stop;
 
 /// An event after which the seat owns no deque.

@@ -18,8 +18,9 @@ ghost use Rattle.ready_core.specs.Running.{IsSomewhere};
 
 use crate::events::event_of;
 use block_arena::Pool;
-use core_parts::{OutputFail, Stepped, end_behind, is_finish, open_ahead, scheduler_of, told};
-use core_parts::Scheduler;
+use core_parts::{
+    OutputFail, Scheduler, Stepped, end_behind, is_finish, open_ahead, scheduler_of, told,
+};
 use dag_order::{Lines, ThreadId};
 use deque_list::MOST_ENTRIES;
 use dummy_tree::Quota;
