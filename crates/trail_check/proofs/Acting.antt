@@ -22,7 +22,7 @@ use Rattle.deque_machine.proofs.OneAction.{end_is_no_fork}
 use Rattle.depth_first_list.proofs.Own.{one_fork}
 use Rattle.trail_check.specs.PlaceLaws.{GoesOnAt, ChildThenParent}
 use Rattle.trail_check.specs.Partners.{IsPartner, of_fork, of_join, of_end}
-use Rattle.trail_check.proofs.Following.{next_follows, parent_follows}
+use Rattle.trail_check.proofs.NextPlaces.{next_follows, parent_follows}
 use Rattle.trail_meaning.specs.declared.trail_kind.TrailKind.TheVariants.{Act}
 use Rattle.trail_check.specs.Following.{tells_action}
 use Rattle.trail_check.specs.declared.seat.Seat.{Seat}

@@ -6,7 +6,7 @@ pub mod Bounded
 pub mod OneVerdict
 pub mod AVerdict
 pub mod Examples
-pub mod Following
+pub mod NextPlaces
 pub mod GrowingLists
 pub mod Partnership
 pub mod Stacks

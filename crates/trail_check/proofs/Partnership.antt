@@ -12,7 +12,7 @@ use Rattle.depth_first_list.proofs.ThreadLaws.{fork_stands_before, child_stands_
 use Rattle.depth_first_list.proofs.JoinLaws.{each_child_is_joined, join_stands_behind_child, joins_the_newest_law, joined_once_law}
 use Rattle.deque_machine.proofs.Labels.{one_parent, above_a_fork}
 use Rattle.trail_check.specs.Partners.{EndsAt, JoinsAt, IsPartner, of_fork, of_join, of_end}
-use Rattle.trail_check.proofs.Following.{stems_up_to_end}
+use Rattle.trail_check.proofs.NextPlaces.{stems_up_to_end}
 
 pub forks_do_not_join : (c d : ℕ) → forks c ≡ joins d → ⊥
 forks_do_not_join c d e = cc
