@@ -7,7 +7,7 @@ use Rattle.deque_machine.specs.Play.{taken_by}
 use Rattle.depth_first_list.specs.Actions.{Deed, allocates}
 use Rattle.depth_first_list.specs.Facts.{words_at}
 use Rattle.depth_first_run.specs.Run.{list_of}
-use Rattle.owner_acts.specs.Decided.PartEvents.TakenParts.{MayDoNext}
+use Rattle.owner_acts.specs.Decided.EventParts.{MayDoNext}
 use Rattle.hall_turns.specs.Keys.{quota_of}
 use Rattle.hall_turns.specs.declared.key.HallKey.{HallKey}
 use Rattle.lawful_books.specs.Books.{charge}

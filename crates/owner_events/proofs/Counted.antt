@@ -7,8 +7,8 @@ use Rattle.thread_frames.specs.declared.next.Next.{Next}
 use Rattle.turn_table.specs.declared.look.Look.TheVariants.{Counted}
 use Rattle.turn_table.specs.Seats.{with_hand}
 use Rattle.hall_seats.specs.Counting.{HasCounted, HasFoundSpent, MayDraw}
-use Rattle.owner_acts.specs.Decided.PartEvents.Puts.{HasPut}
-use Rattle.owner_acts.specs.Decided.PartEvents.TakenParts.{MayGoOn}
+use Rattle.owner_acts.specs.Decided.Puts.{HasPut}
+use Rattle.owner_acts.specs.Decided.EventParts.{MayGoOn}
 use Rattle.hall_turns.specs.Takes.{HallSeat}
 use Rattle.hall_turns.specs.declared.key.HallKey.{HallKey}
 use Rattle.hall_turns.specs.declared.lane_slot.LaneSlot.{LaneSlot}

@@ -12,8 +12,8 @@ use Rattle.turn_table.specs.Seats.{SeatView, with_hand}
 use Rattle.turn_table.specs.Tables.{IsSeatOf}
 use Rattle.turn_table.specs.declared.hand.Hand.{Hand}
 use Rattle.turn_table.specs.declared.turns.Turns.{Turns}
-use Rattle.owner_acts.specs.Decided.PartEvents.Puts.{HasPut}
-use Rattle.owner_acts.specs.Decided.PartEvents.Writes.{told_note}
+use Rattle.owner_acts.specs.Decided.Puts.{HasPut}
+use Rattle.owner_acts.specs.Decided.Writes.{told_note}
 use Rattle.hall_turns.specs.Takes.{HallSeat, IsTaken}
 use Rattle.hall_turns.specs.declared.event.Event.{Event}
 use Rattle.hall_turns.specs.declared.key.HallKey.{HallKey}

@@ -1,6 +1,6 @@
 -- How a seat fails, by the slots that it tried.
 use Rattle.std.proofs.Common.{◌≡◌, ◌⊎◌, ◌∙◌, ℕ, Bool, true, false, true≢false, List, [], ◌∷◌, inl, inr, sym}
-use Rattle.owner_acts.specs.Decided.PartEvents.ListsTaken.{IsTooMuch}
+use Rattle.owner_acts.specs.Decided.ListRuns.{IsTooMuch}
 use Rattle.hall_turns.specs.Takes.{HallSeat}
 use Rattle.hall_turns.specs.declared.key.HallKey.{HallKey}
 use Rattle.hall_turns.specs.declared.slot.Slot.{Slot}

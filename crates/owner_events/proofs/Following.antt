@@ -5,7 +5,7 @@ use Rattle.thread_frames.specs.declared.next.Next.{Next}
 use Rattle.turn_table.specs.declared.look.Look.{Look}
 use Rattle.turn_table.specs.declared.look.Look.TheVariants.{Took, Refused}
 use Rattle.turn_table.specs.Seats.{with_hand}
-use Rattle.owner_acts.specs.Decided.PartEvents.TakenParts.{MayGoOn}
+use Rattle.owner_acts.specs.Decided.EventParts.{MayGoOn}
 use Rattle.hall_seats.specs.Lists.{answered_note}
 use Rattle.hall_turns.specs.Takes.{HallSeat, HasAllPlaces, IsTaken}
 use Rattle.hall_turns.specs.declared.key.HallKey.{HallKey}

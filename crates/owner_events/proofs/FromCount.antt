@@ -2,7 +2,7 @@
 use Rattle.std.proofs.Common.{◌≡◌, ℕ, ◌≤◌, List, sym, subst}
 use Rattle.std.specs.Prelude.{Some}
 use Rattle.deque_list.specs.declared.deque_id.DequeId.{DequeId}
-use Rattle.owner_acts.specs.Decided.PartEvents.TakenParts.{IsNext, MayAct}
+use Rattle.owner_acts.specs.Decided.EventParts.{IsNext, MayAct}
 use Rattle.hall_turns.specs.Takes.{HallSeat}
 use Rattle.hall_turns.specs.declared.key.HallKey.{HallKey}
 use Rattle.hall_turns.specs.declared.lane_slot.LaneSlot.{LaneSlot}

@@ -15,7 +15,7 @@ use Rattle.thread_frames.specs.declared.next.Next.TheVariants as nexts
 use Rattle.thread_frames.specs.declared.thread.Thread.{Thread}
 use Rattle.thread_map.specs.Kept.{kept_under}
 use Rattle.turn_table.specs.Notes.{HasAs}
-use Rattle.owner_acts.specs.Decided.PartEvents.Rooms.{KeepsDeques, HasMoreToLeave, HasMoreToWait}
+use Rattle.owner_acts.specs.Decided.Rooms.{KeepsDeques, HasMoreToLeave, HasMoreToWait}
 use Rattle.owner_advance.proofs.Ending.{leaves_are_read}
 use Rattle.owner_advance.proofs.Joining.{joins_are_read, waits_are_read, results_are_awaited}
 use Rattle.owner_advance.proofs.Listing.{lists_are_read}

@@ -3,9 +3,9 @@ use Rattle.std.proofs.Common.{◌≡◌, ℕ, ◌+◌, ◌≤◌, [], inr, refl,
 use Rattle.std.specs.Prelude.{None, Some, Ok}
 use Rattle.dag_order.specs.declared.action_id.ActionId.{ActionId}
 use Rattle.deque_list.specs.declared.deque_id.DequeId.{DequeId}
-use Rattle.owner_acts.specs.Decided.PartEvents.Puts.{HasPut}
-use Rattle.owner_acts.specs.Decided.PartEvents.TakenParts.{IsNext, MayAct, MayDoNext}
-use Rattle.owner_acts.specs.Decided.PartEvents.Writes.{told_note}
+use Rattle.owner_acts.specs.Decided.Puts.{HasPut}
+use Rattle.owner_acts.specs.Decided.EventParts.{IsNext, MayAct, MayDoNext}
+use Rattle.owner_acts.specs.Decided.Writes.{told_note}
 use Rattle.owner_acts.specs.Decided.Taken.{pool_and_lane}
 use Rattle.owner_advance.specs.Lists.{words_back}
 use Rattle.hall_turns.specs.Takes.{HallSeat}

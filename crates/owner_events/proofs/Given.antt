@@ -6,10 +6,10 @@ use Rattle.lawful_books.specs.Lists.{Each}
 use Rattle.thread_frames.specs.Points.{IsAtPoint}
 use Rattle.thread_frames.specs.declared.next.Next.{Next}
 use Rattle.owner_acts.specs.Decided.Own.{IsStillThere}
-use Rattle.owner_acts.specs.Decided.PartEvents.Rooms.{HasMoreRoom, IsSamePool}
-use Rattle.owner_acts.specs.Decided.PartEvents.Writes.{Parts, parts}
+use Rattle.owner_acts.specs.Decided.Rooms.{HasMoreRoom, IsSamePool}
+use Rattle.owner_acts.specs.Decided.Writes.{Parts, parts}
 use Rattle.owner_acts.specs.Decided.Taken.{its_lane, pool_and_lane, list_and_lane, all_three}
-use Rattle.owner_acts.specs.Decided.PartEvents.Notings.{Noting}
+use Rattle.owner_acts.specs.Decided.Notings.{Noting}
 use Rattle.hall_turns.specs.Keys.{table_of, quota_of}
 use Rattle.hall_turns.specs.Takes.{HallSeat}
 use Rattle.hall_turns.specs.declared.key.HallKey.{HallKey}

@@ -10,11 +10,11 @@ use Rattle.turn_table.specs.Notes.{HasAs}
 use Rattle.turn_table.specs.declared.held.Held.{Held}
 use Rattle.turn_table.specs.declared.look.Look.TheVariants.{Took, Refused}
 use Rattle.turn_table.specs.Seats.{with_hand}
-use Rattle.owner_acts.specs.Decided.PartEvents.Puts.{HasPut}
-use Rattle.owner_acts.specs.Decided.PartEvents.TakenParts.{MayGoOn, MayPause}
-use Rattle.owner_acts.specs.Decided.PartEvents.Writes.{Parts}
+use Rattle.owner_acts.specs.Decided.Puts.{HasPut}
+use Rattle.owner_acts.specs.Decided.EventParts.{MayGoOn, MayPause}
+use Rattle.owner_acts.specs.Decided.Writes.{Parts}
 use Rattle.owner_acts.specs.Decided.Taken.{its_lane}
-use Rattle.owner_acts.specs.Decided.PartEvents.Notings.TheVariants.{Found}
+use Rattle.owner_acts.specs.Decided.Notings.TheVariants.{Found}
 use Rattle.owner_advance.proofs.Reading.{pools_are_sound}
 use Rattle.hall_seats.specs.Lists.{answered_note}
 use Rattle.hall_turns.specs.Sound.{PoolIsSound}

@@ -2,9 +2,9 @@
 use Rattle.std.proofs.Common.{◌≡◌, ℕ, ◌≤◌, [], ◌∷◌, sym, ◌∙◌, subst}
 use Rattle.std.specs.Prelude.{Option, Some, Ok}
 use Rattle.deque_list.specs.declared.deque_id.DequeId.{DequeId}
-use Rattle.owner_acts.specs.Decided.PartEvents.Puts.{HasPut}
-use Rattle.owner_acts.specs.Decided.PartEvents.TakenParts.{IsNext, MayAct}
-use Rattle.owner_acts.specs.Decided.PartEvents.Writes.{told_note}
+use Rattle.owner_acts.specs.Decided.Puts.{HasPut}
+use Rattle.owner_acts.specs.Decided.EventParts.{IsNext, MayAct}
+use Rattle.owner_acts.specs.Decided.Writes.{told_note}
 use Rattle.owner_acts.specs.Decided.Taken.{all_three}
 use Rattle.owner_advance.proofs.InUse.{words_are_in_use}
 use Rattle.owner_advance.specs.Lists.{words_back, ComesTo}

@@ -4,9 +4,9 @@ use Rattle.std.proofs.lemmas.List.Sorted.{IsPermutation-refl}
 use Rattle.std.specs.Prelude.{Option, None, Some, IsSome}
 use Rattle.dag_order.specs.declared.thread_id.ThreadId.{ThreadId}
 use Rattle.deque_list.specs.declared.deque_id.DequeId.{DequeId}
-use Rattle.owner_acts.specs.Decided.PartEvents.Puts.{HasPut}
-use Rattle.owner_acts.specs.Decided.PartEvents.Rooms.{KeepsDeques, HasMoreBooks, HasMoreRoom, HasMoreToLeave, HasMoreToWait}
-use Rattle.owner_acts.specs.Decided.PartEvents.Writes.{told_note}
+use Rattle.owner_acts.specs.Decided.Puts.{HasPut}
+use Rattle.owner_acts.specs.Decided.Rooms.{KeepsDeques, HasMoreBooks, HasMoreRoom, HasMoreToLeave, HasMoreToWait}
+use Rattle.owner_acts.specs.Decided.Writes.{told_note}
 use Rattle.owner_acts.specs.Decided.Taken.{list_and_lane}
 use Rattle.owner_advance.specs.Lists.{ComesTo}
 use Rattle.owner_advance.specs.Reads.{HoldsItsLane}

@@ -19,12 +19,12 @@ use Rattle.turn_table.proofs.NoteLaws.{notes_at}
 use Rattle.turn_table.specs.declared.look.Look.TheVariants.{Took}
 use Rattle.turn_table.specs.Seats.{with_hand}
 use Rattle.owner_acts.specs.Decided.Lists as deciding
-use Rattle.owner_acts.specs.Decided.PartEvents.Puts.{note_of, HasPut}
-use Rattle.owner_acts.specs.Decided.PartEvents.Rooms.{HasMoreBooks}
-use Rattle.owner_acts.specs.Decided.PartEvents.TakenParts.{MayPause}
+use Rattle.owner_acts.specs.Decided.Puts.{note_of, HasPut}
+use Rattle.owner_acts.specs.Decided.Rooms.{HasMoreBooks}
+use Rattle.owner_acts.specs.Decided.EventParts.{MayPause}
 use Rattle.owner_acts.specs.Decided.Taken.{list_and_lane}
-use Rattle.owner_acts.specs.Decided.PartEvents.Writes.{Parts}
-use Rattle.owner_acts.specs.Decided.PartEvents.Notings.{Noting}
+use Rattle.owner_acts.specs.Decided.Writes.{Parts}
+use Rattle.owner_acts.specs.Decided.Notings.{Noting}
 use Rattle.owner_advance.specs.Reads.{HoldsItsLane, ReadsLane}
 use Rattle.owner_advance.proofs.Reading.{st, shown, holds as law_holds, owners_read}
 use Rattle.owner_advance.proofs.Listing.{at, lists_are_read}

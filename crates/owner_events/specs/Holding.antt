@@ -7,7 +7,7 @@ use Rattle.run_end.specs.declared.stop.Stop.TheVariants.{ArenaFull, DequesFull, 
 use Rattle.thread_frames.specs.declared.next.Next.{Next}
 use Rattle.turn_table.specs.declared.look.Look.{Look}
 use Rattle.turn_table.specs.declared.look.Look.TheVariants.{Took, Refused, Counted}
-use Rattle.owner_acts.specs.Decided.PartEvents.TakenParts.{MayGoOn}
+use Rattle.owner_acts.specs.Decided.EventParts.{MayGoOn}
 use Rattle.hall_seats.specs.Lists.{answered_note}
 use Rattle.hall_turns.specs.Takes.{HallSeat}
 use Rattle.hall_turns.specs.declared.key.HallKey.{HallKey}

@@ -11,7 +11,7 @@ use Rattle.thread_state.specs.Joins.{released}
 use Rattle.turn_table.specs.declared.look.Look.TheVariants.{Took, Counted}
 use Rattle.turn_table.specs.Seats.{with_hand}
 use Rattle.hall_seats.specs.Counting.{counting_note}
-use Rattle.owner_acts.specs.Decided.PartEvents.Rooms.{IsSamePool}
+use Rattle.owner_acts.specs.Decided.Rooms.{IsSamePool}
 use Rattle.owner_acts.specs.Decided.Taken.{its_lane, list_and_lane, pool_and_lane}
 use Rattle.owner_advance.specs.Lists.{words_back}
 use Rattle.hall_turns.specs.Takes.{HallSeat, MeetsLaw}

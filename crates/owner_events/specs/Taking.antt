@@ -10,7 +10,7 @@ use Rattle.space_ledger.specs.MovesList.{moves_spare}
 use Rattle.turn_table.specs.declared.look.Look.TheVariants.{Counted}
 use Rattle.turn_table.specs.Seats.{with_hand}
 use Rattle.hall_seats.specs.Counting.{counting_note}
-use Rattle.owner_acts.specs.Decided.PartEvents.Rooms.{IsSamePool}
+use Rattle.owner_acts.specs.Decided.Rooms.{IsSamePool}
 use Rattle.owner_acts.specs.Decided.Taken.{its_lane, pool_and_lane, list_and_lane, all_three}
 use Rattle.hall_turns.specs.Sound.{PoolIsSound}
 use Rattle.hall_turns.specs.Takes.{HallSeat, IsTaken}

@@ -6,11 +6,11 @@ use Rattle.run_end.specs.declared.stop.Stop.TheVariants as stops
 use Rattle.turn_table.specs.declared.held.Held.{Held}
 use Rattle.turn_table.specs.declared.look.Look.{Look}
 use Rattle.turn_table.specs.declared.look.Look.TheVariants.{Took, Refused}
-use Rattle.owner_acts.specs.Decided.PartEvents.TakenParts.{MayPause}
-use Rattle.owner_acts.specs.Decided.PartEvents.Writes.{told_note}
+use Rattle.owner_acts.specs.Decided.EventParts.{MayPause}
+use Rattle.owner_acts.specs.Decided.Writes.{told_note}
 use Rattle.owner_acts.specs.Decided.Taken.{list_and_lane}
-use Rattle.owner_acts.specs.Decided.PartEvents.Notings.{Noting}
-use Rattle.owner_acts.specs.Decided.PartEvents.Notings.TheVariants.{Same, Found}
+use Rattle.owner_acts.specs.Decided.Notings.{Noting}
+use Rattle.owner_acts.specs.Decided.Notings.TheVariants.{Same, Found}
 use Rattle.hall_seats.specs.Lists.{answered_note}
 use Rattle.hall_turns.specs.Takes.{HallSeat, MeetsLaw}
 use Rattle.hall_turns.specs.declared.event.Event.TheVariants.{GaveUp}

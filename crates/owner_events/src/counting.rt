@@ -3,7 +3,7 @@
 ghost use Rattle.std.specs.Prelude.{◌≡◌, ◌+◌, ◌<◌, ℕ};
 ghost use Rattle.thread_frames.specs.declared.next.Next.{Next as AnyNext};
 ghost use Rattle.turn_table.specs.Tables.{key_of, slot_count, IsSeatOf};
-ghost use Rattle.owner_acts.specs.Decided.PartEvents.Rooms.{HasMoreRoom};
+ghost use Rattle.owner_acts.specs.Decided.Rooms.{HasMoreRoom};
 ghost use Rattle.owner_acts.specs.Decided.Taken.{its_lane, pool_and_lane, list_and_lane, all_three};
 ghost use Rattle.hall_turns.specs.declared.list_slot.ListSlot.{ListSlot as AnyList};
 ghost use Rattle.owner_events.specs.Holding.{IsBefore, IsNotBusy};

@@ -3,9 +3,9 @@
 ghost use Rattle.std.specs.Prelude.{◌+◌, ◌<◌, ℕ, []};
 ghost use Rattle.thread_frames.specs.declared.next.Next.{Next as AnyNext};
 ghost use Rattle.turn_table.specs.Tables.{key_of, slot_count, IsSeatOf};
-ghost use Rattle.owner_acts.specs.Decided.PartEvents.Puts.{note_of, HasPut};
-ghost use Rattle.owner_acts.specs.Decided.PartEvents.Rooms.{HasMoreRoom, IsSamePool};
-ghost use Rattle.owner_acts.specs.Decided.PartEvents.Writes.{Parts};
+ghost use Rattle.owner_acts.specs.Decided.Puts.{note_of, HasPut};
+ghost use Rattle.owner_acts.specs.Decided.Rooms.{HasMoreRoom, IsSamePool};
+ghost use Rattle.owner_acts.specs.Decided.Writes.{Parts};
 ghost use Rattle.owner_acts.specs.Decided.Taken.{its_lane, pool_and_lane, list_and_lane, all_three};
 ghost use Rattle.hall_turns.specs.declared.list_slot.ListSlot.{ListSlot as AnyList};
 ghost use Rattle.hall_turns.specs.declared.pool_slot.PoolSlot.{PoolSlot as AnyPool};

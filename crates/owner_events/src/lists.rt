@@ -2,7 +2,7 @@
 
 ghost use Rattle.std.specs.Prelude.{◌≡◌, ◌+◌, ◌<◌, ℕ, [], None, Some, false};
 ghost use Rattle.bounded_list.specs.BoundedList.{entries};
-ghost use Rattle.owner_acts.specs.Decided.PartEvents.ListsTaken.{IsTooMuch};
+ghost use Rattle.owner_acts.specs.Decided.ListRuns.{IsTooMuch};
 ghost use Rattle.thread_frames.specs.Children.{is_delivered};
 ghost use Rattle.thread_frames.specs.Views.{children_of, label_of};
 ghost use Rattle.thread_frames.specs.declared.next.Next.{Next as AnyNext};
@@ -10,7 +10,7 @@ ghost use Rattle.thread_frames.specs.declared.next.Next.TheVariants as nexts;
 ghost use Rattle.thread_map.specs.Kept.{kept_under};
 ghost use Rattle.turn_table.specs.Tables.{key_of, slot_count, IsSeatOf};
 ghost use Rattle.owner_advance.specs.declared.memory.SeatMemory.{SeatMemory as AnyMemory};
-ghost use Rattle.owner_acts.specs.Decided.PartEvents.Rooms.{HasMoreRoom};
+ghost use Rattle.owner_acts.specs.Decided.Rooms.{HasMoreRoom};
 ghost use Rattle.owner_acts.specs.Decided.Taken.{list_and_lane};
 ghost use Rattle.hall_turns.specs.declared.list_slot.ListSlot.{ListSlot as AnyList};
 ghost use Rattle.run_end.specs.declared.stop.Stop.TheVariants.{OutOfMemory};

@@ -6,7 +6,7 @@ ghost use Rattle.thread_frames.specs.Children.{is_delivered};
 ghost use Rattle.thread_frames.specs.Views.{children_of, label_of};
 ghost use Rattle.thread_frames.specs.declared.next.Next.{Next as AnyNext};
 ghost use Rattle.thread_frames.specs.declared.next.Next.TheVariants as nexts;
-ghost use Rattle.owner_acts.specs.Decided.PartEvents.Rooms.{HasMoreRoom};
+ghost use Rattle.owner_acts.specs.Decided.Rooms.{HasMoreRoom};
 ghost use Rattle.owner_acts.specs.Decided.Taken.{all_three};
 ghost use Rattle.hall_turns.specs.declared.list_slot.ListSlot.{ListSlot as AnyList};
 ghost use Rattle.run_end.specs.declared.stop.Stop.TheVariants.{OutOfMemory};

@@ -4,8 +4,8 @@ ghost use Rattle.std.specs.Prelude.{◌≡◌, ◌≢◌, ◌+◌, ◌<◌, [], 
 ghost use Rattle.dag_order.specs.declared.finish.Finish.{Finish as AnyFinish};
 ghost use Rattle.run_end.specs.declared.ends.RunEnd.TheVariants.{Finished};
 ghost use Rattle.turn_table.specs.Tables.{key_of, slot_count, IsSeatOf};
-ghost use Rattle.owner_acts.specs.Decided.PartEvents.Puts.{note_of, HasPut};
-ghost use Rattle.owner_acts.specs.Decided.PartEvents.Writes.{Parts};
+ghost use Rattle.owner_acts.specs.Decided.Puts.{note_of, HasPut};
+ghost use Rattle.owner_acts.specs.Decided.Writes.{Parts};
 ghost use Rattle.hall_turns.specs.Takes.{AreTaken, HasAllPlaces, MeetsLaw};
 ghost use Rattle.hall_turns.specs.declared.slot.Slot.TheVariants as slots;
 ghost use Rattle.owner_advance.specs.Advancing.{MayCome};

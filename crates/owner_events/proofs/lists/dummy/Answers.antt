@@ -5,7 +5,7 @@ use Rattle.thread_frames.specs.Actions.{IsDummy}
 use Rattle.thread_frames.specs.declared.next.Next.TheVariants as nexts
 use Rattle.turn_table.specs.Tables.{key_of}
 use Rattle.turn_table.specs.declared.look.Look.TheVariants.{Counted}
-use Rattle.owner_acts.specs.Decided.PartEvents.Rooms.{HasMoreBooks}
+use Rattle.owner_acts.specs.Decided.Rooms.{HasMoreBooks}
 use Rattle.owner_acts.specs.Decided.Taken.{list_and_lane}
 use Rattle.hall_turns.specs.declared.event.Event.TheVariants.{Did}
 use Rattle.hall_turns.specs.declared.slot.Slot.TheVariants as slots

@@ -3,9 +3,9 @@ use Rattle.std.specs.Prelude.{None, Some}
 use Rattle.bounded_list.specs.BoundedList.{spare}
 use Rattle.turn_table.specs.Tables.{key_of}
 use Rattle.turn_table.specs.Seats.{with_hand}
-use Rattle.owner_acts.specs.Decided.PartEvents.ListsTaken.{IsTooMuch}
-use Rattle.owner_acts.specs.Decided.PartEvents.Rooms.{HasMoreBooks}
-use Rattle.owner_acts.specs.Decided.PartEvents.Writes.{told_note}
+use Rattle.owner_acts.specs.Decided.ListRuns.{IsTooMuch}
+use Rattle.owner_acts.specs.Decided.Rooms.{HasMoreBooks}
+use Rattle.owner_acts.specs.Decided.Writes.{told_note}
 use Rattle.owner_acts.specs.Decided.Taken.{list_and_lane}
 use Rattle.hall_turns.specs.Takes.{HallSeat}
 use Rattle.hall_turns.specs.declared.event.Event.TheVariants.{GaveUp}

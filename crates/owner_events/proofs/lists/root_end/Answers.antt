@@ -6,7 +6,7 @@ use Rattle.thread_frames.specs.Actions.{IsEnd}
 use Rattle.thread_frames.specs.Views.{label_of}
 use Rattle.thread_frames.specs.declared.next.Next.TheVariants as nexts
 use Rattle.turn_table.specs.Tables.{key_of}
-use Rattle.owner_acts.specs.Decided.PartEvents.Rooms.{HasMoreToLeave}
+use Rattle.owner_acts.specs.Decided.Rooms.{HasMoreToLeave}
 use Rattle.owner_acts.specs.Decided.Taken.{list_and_lane}
 use Rattle.hall_turns.specs.declared.event.Event.TheVariants.{Did}
 use Rattle.hall_turns.specs.declared.list_slot.ListSlot.{ListSlot}

@@ -3,7 +3,7 @@ use Rattle.std.specs.Prelude.{None}
 use Rattle.bounded_list.specs.BoundedList.{spare}
 use Rattle.thread_frames.specs.declared.next.Next.TheVariants as nexts
 use Rattle.turn_table.specs.Tables.{key_of}
-use Rattle.owner_acts.specs.Decided.PartEvents.Rooms.{HasMoreToWait}
+use Rattle.owner_acts.specs.Decided.Rooms.{HasMoreToWait}
 use Rattle.owner_acts.specs.Decided.Taken.{list_and_lane}
 use Rattle.hall_turns.specs.declared.event.Event.TheVariants.{Suspended}
 use Rattle.owner_events.proofs.Failing.{at_none}

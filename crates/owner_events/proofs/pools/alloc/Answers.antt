@@ -11,7 +11,7 @@ use Rattle.owner_events.specs.Acting.{Does}
 use Rattle.language_limits.specs.declared.TheConstants.{GREATEST_QUOTA}
 use Rattle.thread_frames.specs.Actions.{IsAlloc}
 use Rattle.thread_frames.specs.Views.{words_asked}
-use Rattle.owner_acts.specs.Decided.PartEvents.TakenParts.{MayDoNext}
+use Rattle.owner_acts.specs.Decided.EventParts.{MayDoNext}
 use Rattle.owner_events.proofs.pools.alloc.Goals as goal
 
 pub take_counted_pool-requires-clause-asks : goal.take_counted_pool-requires-clause-asks

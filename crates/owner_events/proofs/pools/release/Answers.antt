@@ -10,7 +10,7 @@ use Rattle.owner_events.proofs.FromPool as pool
 use Rattle.owner_events.specs.Acting.{Does}
 use Rattle.thread_frames.specs.Actions.{IsRelease}
 use Rattle.thread_frames.specs.Views.{words_asked}
-use Rattle.owner_acts.specs.Decided.PartEvents.TakenParts.{MayDoNext}
+use Rattle.owner_acts.specs.Decided.EventParts.{MayDoNext}
 use Rattle.owner_events.proofs.pools.release.Goals as goal
 
 pub take_counted_pool-requires-clause-asks : goal.take_counted_pool-requires-clause-asks

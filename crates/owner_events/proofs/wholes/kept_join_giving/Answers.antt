@@ -6,7 +6,7 @@ use Rattle.thread_frames.specs.declared.next.Next.TheVariants as nexts
 use Rattle.thread_map.specs.Kept.{kept_under}
 use Rattle.thread_state.specs.Joins.{released}
 use Rattle.turn_table.specs.Tables.{key_of}
-use Rattle.owner_acts.specs.Decided.PartEvents.Rooms.{HasMoreRoom}
+use Rattle.owner_acts.specs.Decided.Rooms.{HasMoreRoom}
 use Rattle.owner_acts.specs.Decided.Taken.{all_three}
 use Rattle.hall_turns.specs.declared.event.Event.TheVariants.{Did}
 use Rattle.hall_turns.specs.declared.slot.Slot.TheVariants as slots

@@ -1,6 +1,6 @@
 use Rattle.std.proofs.Common.{subst, sym}
 use Rattle.turn_table.specs.Tables.{key_of}
-use Rattle.owner_acts.specs.Decided.PartEvents.Parts.{Has}
+use Rattle.owner_acts.specs.Decided.Parts.{Has}
 use Rattle.hall_turns.specs.Lists.{ShowsUnowned, HasNoOwner, KeepsRest}
 use Rattle.hall_turns.specs.declared.list_slot.ListSlot.{ListSlot}
 use Rattle.owner_events.proofs.Yielded as yielded

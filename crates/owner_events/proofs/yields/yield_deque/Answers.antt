@@ -1,7 +1,7 @@
 use Rattle.std.proofs.Common.{◌∙◌, [], ap, subst, sym}
 use Rattle.turn_table.specs.Tables.{key_of}
-use Rattle.owner_acts.specs.Decided.PartEvents.Puts.{note_of, HasPut}
-use Rattle.owner_acts.specs.Decided.PartEvents.Notings.{Noting}
+use Rattle.owner_acts.specs.Decided.Puts.{note_of, HasPut}
+use Rattle.owner_acts.specs.Decided.Notings.{Noting}
 use Rattle.hall_turns.specs.declared.seat_note.SeatNote.{SeatNote}
 use Rattle.owner_advance.specs.Returning.{MayNote}
 use Rattle.owner_events.specs.Yielding.{noting_then, short_note, yielded_note}
