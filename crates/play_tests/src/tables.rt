@@ -1,5 +1,6 @@
 //! Node tables as large as a text can have them, and their copies.
 
+use crate::plays::number;
 use accepted_source::accept;
 use frame_code::{Code, lower};
 use std::alloc::Global;
@@ -14,10 +15,6 @@ fn main() {| let x# = #;|256| }|256|1
 |fn f#() { call f^(); } |1022|fn f1022() { } fn main() { call f0(); }|1023|1024
 fn main() {| print #;|2000| }|2000|1
 ";
-
-fn number(part: &str) -> u32 {
-    part.trim().parse::<u32>().unwrap_or(0)
-}
 
 /// A front, so many copies of a piece, and a back.
 fn repeated(rt: &impl Abort, alloc: Global, [front, piece, times, back]: [&str; 4]) -> String {

@@ -1,3 +1,6 @@
+ghost use Rattle.deque_list.specs.Ids.{IsLive};
+ghost use Rattle.deque_list.specs.Deques.{deque_ids};
+
 use deque_list::{DequeId, InsertRefused, List, Order};
 use std::process::Abort;
 
@@ -9,23 +12,38 @@ fn list_of(rt: &(impl Abort + AllocGlobal)) -> List<u32> {
     List::new(rt.alloc(), 0, 4_096).ok().expect(rt, "memory")
 }
 
+// Checks that a deque is live.
+fn live(rt: &impl Abort, list: &List<u32>, id: DequeId)
+    ensures { IsLive (deque_ids list.now.deques) id }
+{
+    match list.rank(id) {
+        Some(_) => {}
+        None => panic!(rt; "the deque is not live"),
+    }
+}
+
 // Inserts a deque to the right of another, with the same item as its number, and gives its number.
 fn insert(rt: &impl Abort, list: &mut List<u32>, of: u32) -> Option<u32> {
-    assert!(rt; list.rank(DequeId(of)).is_some());
-    let id = list.insert_right(DequeId(of), of + 1, of).ok()?;
+    live(rt, list, DequeId(of));
+    let id = list
+        .insert_right(DequeId(of), of.saturating_add(1), of)
+        .ok()?;
     Some(id.0)
 }
 
 // Pushes an item.
 fn push(rt: &impl Abort, list: &mut List<u32>, id: DequeId, item: u32) {
-    assert!(rt; list.rank(id).is_some());
-    assert!(rt; list.reserve(id).is_ok());
+    live(rt, list, id);
+    let Ok(()) = list.reserve(id) else {
+        panic!(rt; "memory");
+    };
+    live(rt, list, id);
     list.push_top(id, item);
 }
 
 // Takes the bottom item.
 fn take(rt: &impl Abort, list: &mut List<u32>, id: DequeId) -> Option<u32> {
-    assert!(rt; list.rank(id).is_some());
+    live(rt, list, id);
     list.take_bottom(id)
 }
 
@@ -52,7 +70,10 @@ fn lists_and_lanes_grow(rt: HostRuntime) {
 
 // Inserts a place to the right of the first one.
 fn order_insert(rt: &impl Abort, order: &mut Order, owner: u32) -> Option<u32> {
-    assert!(rt; order.rank(DequeId(0)).is_some());
+    match order.rank(DequeId(0)) {
+        Some(_) => {}
+        None => panic!(rt; "the deque is not live"),
+    }
     let id = order.insert_right(DequeId(0), owner).ok()?;
     Some(id.0)
 }
