@@ -283,7 +283,7 @@ const BLOCKS: &str =
 /// A row of moments: the quota, the workers, those that move, one a digit, the source, and what there is then.
 struct Moved(u64, usize, &'static str, &'static str, &'static str);
 
-/// The answers are those of `prefix_laws`, whose numbers are proved, as the tests of the crates (`replay_tests`) have them.
+/// The answers are those of `prefix_laws`, whose numbers are proved, as the tests of the crates (`play_tests`) have them.
 const MOVED: &[Moved] = &[
     Moved(16, 1, "0000000000", LARGE, "[1, 1] [1] [] prefix 3, ahead 2, live 32, margin 80"),
     Moved(16, 1, "", LARGE, "[] prefix 0, ahead 0, live 0, margin 48"),

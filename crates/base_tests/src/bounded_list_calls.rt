@@ -5,19 +5,19 @@ use std::test::Fail;
 fn entries_come_back_in_order(rt: HostRuntime) -> Result<(), Fail> {
     let mut list = BoundedList::new(rt.alloc());
     assert!(rt; list.is_empty());
-    assert_eq!(rt; list.at(0), None);
+    assert!(rt; list.at(0).is_none());
     for n in 0..5u8 {
         list.reserve()?;
         list.add(n * n);
     }
-    assert_eq!(rt; list.len(), 5);
-    assert_eq!(rt; list.at(4), Some(&16));
-    assert_eq!(rt; list.at(5), None);
-    assert_eq!(rt; list.at(u32::MAX), None);
+    assert!(rt; list.len() == 5);
+    assert!(rt; list.at(4) == Some(&16));
+    assert!(rt; list.at(5).is_none());
+    assert!(rt; list.at(u32::MAX).is_none());
     let copy = list.copy_with_room()?;
     assert!(rt; copy == list);
     let items = list.into_vec();
-    assert_eq!(rt; items.as_slice(), [0, 1, 4, 9, 16].as_slice());
+    assert!(rt; items.as_slice() == [0, 1, 4, 9, 16].as_slice());
     assert!(rt; BoundedList::from_vec(items) == copy);
     Ok(())
 }

@@ -31,7 +31,7 @@ fn labels_stand_in_depth_first_order(rt: HostRuntime) {
     ];
     for (a, b, want) in table {
         let got = before(&label_of(&rt, rt.alloc(), a), &label_of(&rt, rt.alloc(), b));
-        assert_eq!(rt; got, want, "{a:?} before {b:?}");
+        assert!(rt; got == want, "{a:?} before {b:?}");
     }
 }
 
@@ -41,8 +41,8 @@ fn forks_append_their_ordinal(rt: HostRuntime) {
     assert!(rt; root.is_empty());
     let child = root.fork(3).expect(&rt, "memory");
     let grandchild = child.fork(u32::MAX).expect(&rt, "memory");
-    assert_eq!(rt; grandchild.ordinals(), [3, u32::MAX].as_slice());
-    assert_eq!(rt; grandchild.len(), 2);
+    assert!(rt; grandchild.ordinals() == [3, u32::MAX].as_slice());
+    assert!(rt; grandchild.len() == 2);
     assert!(rt; is_in_order(&[grandchild, child, root]));
 }
 
@@ -51,7 +51,7 @@ fn rosters_follow_births_to_the_root(rt: HostRuntime) {
     let first = ThreadId { period: 1, nth: 0 };
     let second = ThreadId { period: 1, nth: 1 };
     let mut roster = Roster::new(rt.alloc());
-    assert_eq!(rt; roster.label(first).err(), Some(RosterFail::Unknown(first)));
+    assert!(rt; roster.label(first).err() == Some(RosterFail::Unknown(first)));
     let mut births: Births = BoundedList::new(rt.alloc());
     births.reserve().expect(&rt, "memory");
     births.add(Birth {
@@ -66,12 +66,9 @@ fn rosters_follow_births_to_the_root(rt: HostRuntime) {
     assert!(rt; roster.add_period(births).is_ok());
     let table: [(ThreadId, &[u32]); 3] = [(ThreadId::ROOT, &[]), (first, &[1]), (second, &[1, 2])];
     for (id, want) in table {
-        assert_eq!(rt; roster.label(id).expect(&rt, "memory").ordinals(), want);
+        assert!(rt; roster.label(id).expect(&rt, "memory").ordinals() == want);
     }
     let missing = ThreadId { period: 1, nth: 2 };
-    assert_eq!(rt;
-        roster.label(missing).err(),
-        Some(RosterFail::Unknown(missing))
-    );
-    assert_eq!(rt; roster.periods(), 1);
+    assert!(rt; roster.label(missing).err() == Some(RosterFail::Unknown(missing)));
+    assert!(rt; roster.periods() == 1);
 }

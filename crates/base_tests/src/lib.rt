@@ -1,9 +1,11 @@
-//! Tests of small crates at the base: lists, cuts of bytes, labels and rosters, dummies, operators, tokens, made sources, and the maps and
-//! outputs of threads.
+//! Tests of small crates at the base: lists, cuts of bytes, labels and rosters, dummies, operators, tokens, made sources, the maps and
+//! outputs of threads, and the arena: blocks out of a pool, and blocks of their own.
 //!
 //! This crate has only tests. It uses the crates that it tests, each of which is so proved only once. It has no theorem.
 #![tactic(auto)]
 
+#[cfg(test)]
+mod block_arena_calls;
 #[cfg(test)]
 mod bounded_list_calls;
 #[cfg(test)]

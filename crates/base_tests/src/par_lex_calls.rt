@@ -15,9 +15,9 @@ fn places(rt: HostRuntime) -> Result<(), Fail> {
         (13, 1, 3),
         (15, 1, 3),
     ];
-    assert_eq!(rt; found.len(), places.len());
+    assert!(rt; found.len() == places.len());
     for (token, (at, len, line)) in found.iter().zip(places) {
-        assert_eq!(rt; *token, Token { at, len, line });
+        assert!(rt; *token == Token { at, len, line });
     }
     let refused = tokens(rt.alloc(), b"par call ?");
     assert!(rt;

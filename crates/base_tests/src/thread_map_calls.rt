@@ -32,7 +32,7 @@ fn each_id_keeps_its_own(rt: HostRuntime) -> Result<(), Fail> {
         let id = ThreadId { period, nth };
         assert!(rt; i < 8 && !map.has(id), "{i}");
         put(&rt, &mut map, id, i as u32)?;
-        assert_eq!(rt; (map.len(), map.get(id)), (i + 1, Some(&(i as u32))));
+        assert!(rt; (map.len(), map.get(id)) == (i + 1, Some(&(i as u32))));
     }
     for (i, (period, nth)) in ids.into_iter().enumerate() {
         let id = ThreadId { period, nth };
@@ -40,10 +40,10 @@ fn each_id_keeps_its_own(rt: HostRuntime) -> Result<(), Fail> {
         if let Some(value) = map.get_mut(id) {
             *value = value.wrapping_add(100);
         }
-        assert_eq!(rt; (map.take(id), map.take(id)), (Some(i as u32 + 100), None));
-        assert_eq!(rt; map.get(id), None);
+        assert!(rt; (map.take(id), map.take(id)) == (Some(i as u32 + 100), None));
+        assert!(rt; map.get(id).is_none());
     }
-    assert_eq!(rt; map.len(), 0);
+    assert!(rt; map.len() == 0);
     Ok(())
 }
 
@@ -56,23 +56,20 @@ fn maps_grow(rt: HostRuntime) -> Result<(), Fail> {
             put(&rt, &mut map, ThreadId { period: round, nth }, nth)?;
         }
         for nth in 0..69_000u32 {
-            assert_eq!(rt; map.take(ThreadId { period: round, nth }), Some(nth));
+            assert!(rt; map.take(ThreadId { period: round, nth }) == Some(nth));
         }
-        assert_eq!(rt; map.len(), 1_000 * round as usize);
+        assert!(rt; map.len() == 1_000 * round as usize);
     }
-    assert_eq!(rt;
-        map.get(ThreadId {
+    let (kept, gone) = (
+        ThreadId {
             period: 2,
-            nth: 69_500
-        }),
-        Some(&69_500)
-    );
-    assert_eq!(rt;
-        map.get(ThreadId {
+            nth: 69_500,
+        },
+        ThreadId {
             period: 2,
-            nth: 68_999
-        }),
-        None
+            nth: 68_999,
+        },
     );
+    assert!(rt; map.get(kept) == Some(&69_500) && map.get(gone).is_none());
     Ok(())
 }

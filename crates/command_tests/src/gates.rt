@@ -1,5 +1,5 @@
 //! Runs that a gate forces: it decides who goes on, so two gates make two runs of the same words.
-use crate::calls::{Host, SMALL, is_right, lines_of, words_of};
+use crate::calls::{Host, is_right, lines_of, words_of};
 use dfd_run::{CleanSink, CleanSource, Gate, Status, dfd};
 use std::alloc::{AllocError, Global};
 use std::sync::atomic::{AtomicU64, Ordering};
@@ -59,7 +59,8 @@ impl Gate for Forcing {
 
 /// What two workers write behind this gate. It hands no clause on, since each goal of its callers would carry it.
 fn written(rt: &impl Host, alloc: Global, gate: &Forcing) -> Result<(Status, Vec<u8>), AllocError> {
-    let mut source = CleanSource::new(Vec::from_slice(alloc, SMALL.as_bytes())?);
+    let program = "fn main() { par { print 1; } and { print 2; } print 3; }";
+    let mut source = CleanSource::new(Vec::from_slice(alloc, program.as_bytes())?);
     let mut sink = CleanSink::new(alloc, 64)?;
     let words = words_of(alloc, "run --p 2")?;
     let status = dfd(rt, alloc, &words, &mut source, &mut sink, gate);
@@ -80,24 +81,14 @@ fn is_forced(rt: &impl Host, alloc: Global, gate: &Forcing, want: &str) -> Resul
     Ok(())
 }
 
-/// The second worker steals the root directly after its Fork.
+/// The second worker steals the root directly after its Fork, or the first one does the whole run before the second one begins.
 #[test]
-fn a_gate_lets_both_work(rt: HostRuntime) -> Result<(), Fail> {
-    is_forced(
-        &rt,
-        rt.alloc(),
-        &Forcing::new(true),
-        "1~2~3~--~end done~periods 2~ahead 1~high 16~",
-    )
-}
-
-/// The first worker does the whole run before the second one begins.
-#[test]
-fn a_gate_lets_one_work(rt: HostRuntime) -> Result<(), Fail> {
-    is_forced(
-        &rt,
-        rt.alloc(),
-        &Forcing::new(false),
-        "1~2~3~--~end done~periods 1~ahead 0~high 16~",
-    )
+fn a_gate_decides_who_works(rt: HostRuntime) -> Result<(), Fail> {
+    for (takes_part, want) in [
+        (true, "1~2~3~--~end done~periods 2~ahead 1~high 16~"),
+        (false, "1~2~3~--~end done~periods 1~ahead 0~high 16~"),
+    ] {
+        is_forced(&rt, rt.alloc(), &Forcing::new(takes_part), want)?;
+    }
+    Ok(())
 }

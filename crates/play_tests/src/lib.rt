@@ -1,15 +1,28 @@
-//! Tests of plays: what a program gives that workers run, with the words that pick who moves and from whom a thief steals.
+//! Tests of runs: depth-first runs action by action, plays by both cores, of deques and of a ready list, by given words, plays that are
+//! followed event by event beside the machine, and what cores show of their laws in the middle of plays. And node tables that are large.
 //!
-//! This crate has no code but tests. It uses the parser, the table, the core of the scheduler and that of the ready list. It has no theorem: each table says what
-//! plays have to give. What one worker gives was compared with `reference/`, which shares no line with the crates; it takes no list of words,
-//! so the rows of two workers were not.
+//! This crate has no code but tests. It uses the parser, the table, the depth-first run, the two cores of the scheduler, and the program of
+//! `machine_replay`. It has no theorem: each table says what runs have to give, worked out by hand. Moments of plays were compared with
+//! `reference/`, which shares no line with the crates.
 #![tactic(auto)]
 
 #[cfg(test)]
-mod give_ups;
-#[cfg(test)]
 mod handed_over;
+#[cfg(test)]
+mod listed;
+#[cfg(test)]
+mod players;
 #[cfg(test)]
 mod plays;
 #[cfg(test)]
-mod ready_plays;
+mod prefixes;
+#[cfg(test)]
+mod ready_moments;
+#[cfg(test)]
+mod replays;
+#[cfg(test)]
+mod steps;
+#[cfg(test)]
+mod tables;
+#[cfg(test)]
+mod traces;

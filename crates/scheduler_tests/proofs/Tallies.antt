@@ -1,18 +1,23 @@
 -- Seats whose notes sum to the count word, but for whole turns of the word.
 use Rattle.std.proofs.Common.{◌≡◌, ℕ, ◌+◌, ◌%◌, ◌^◌, sum, List, [], ◌∷◌, ◌++◌, set, refl, sym, ap, ◌∙◌, arith}
+use mathlib.Core.Option.{some}
+use lib.ListN.{get_elem?}
 use Rattle.atomic_table.proofs.Lists.{set_else}
-use Rattle.std.proofs.lemmas.List.Sums.{sum_by_push}
+use Rattle.std.proofs.lemmas.List.Sums.{sum_by-set, sum_by_push}
 use Rattle.turn_table.specs.Seats.{SeatView}
 use Rattle.turn_table.specs.Law.{TakeKeeps, HeldKeeps, CountKeeps, SplitKeeps, JoinKeeps}
 use Rattle.turn_table.specs.Notes.{OverNotes}
+use Rattle.turn_table.proofs.Hands.{at_within, read_at}
 use Rattle.turn_table.proofs.NoteLaws.{take_quiet, held_quiet, count_noted, split_noted, join_noted}
-use Rattle.scheduler_tests.proofs.Numbers.{sum_set}
 
 abbrev pub Seat : Type 0
 Seat = SeatView (Unit {0}) ℕ ℕ
 
 abbrev pub Counts : Unit {0} → List ℕ → ℕ → List ℕ → Type 0
 Counts key shown count notes = count ≡ sum notes % 2 ^ 64
+
+sum_set : (xs : List ℕ) (i v w : ℕ) → get_elem? xs i ≡ some v → sum (set xs i w) + v ≡ sum xs + w
+sum_set xs i v w e = let r = sum_by-set (λ x. x) xs i w v (at_within xs i v e) in let d = read_at xs i v v e in omega arith
 
 module _ (key : Unit {0}) (seat : Seat) where
   pub take_keeps : (i : ℕ) → TakeKeeps (OverNotes Counts) 0 key seat i (λ h _. h.note)

@@ -1,35 +1,18 @@
 use dag_order::Label;
 use machine_replay::runs::replay;
-use machine_replay::{Action, Deed, Event, Moment, Pair};
+use machine_replay::{Action, Deed, Event, Pair};
 use std::alloc::{AllocError, Global};
 use std::process::Abort;
 use std::test::Fail;
 
-// The label with these ordinals.
-fn label_of(alloc: Global, ordinals: &[u32]) -> Result<Label, AllocError> {
-    let mut label = Label::root(alloc);
-    for &ordinal in ordinals {
-        label = label.fork(ordinal)?;
-    }
-    Ok(label)
-}
-
 // The actions of a root that forks a child, which does nothing, and joins it.
-fn actions() -> [(&'static [u32], u32, Deed, u64); 4] {
-    [
-        (&[], 0, Deed::Fork(1), 16),
-        (&[1], 0, Deed::End, 16),
-        (&[], 1, Deed::Join(1), 0),
-        (&[], 2, Deed::End, 0),
-    ]
-}
-
 fn one_fork(alloc: Global) -> Result<Vec<Action>, AllocError> {
     let mut list = Vec::new(alloc);
-    for (ordinals, index, deed, words) in actions() {
-        let label = label_of(alloc, ordinals)?;
-        list.push(Action::new(label, index, deed, words))?;
-    }
+    let child = Label::root(alloc).fork(1)?;
+    list.push(Action::new(Label::root(alloc), 0, Deed::Fork(1), 16))?;
+    list.push(Action::new(child, 0, Deed::End, 16))?;
+    list.push(Action::new(Label::root(alloc), 1, Deed::Join(1), 0))?;
+    list.push(Action::new(Label::root(alloc), 2, Deed::End, 0))?;
     Ok(list)
 }
 
@@ -37,20 +20,8 @@ fn by(worker: u32, event: Event) -> Pair {
     Pair { worker, event }
 }
 
-fn steal(worker: u32, place: u32, id: u32) -> Pair {
-    by(worker, Event::Steals { place, id })
-}
-
-// How many deques, waiting threads and books a moment has.
-fn sizes(moment: &Moment) -> [usize; 3] {
-    [
-        moment.deques().len(),
-        moment.waiting().len(),
-        moment.books().len(),
-    ]
-}
-
-// What a run of these pairs comes to: the sizes of its last moment, or the number of the first pair that may not come.
+// What a run of these pairs comes to: how many deques, waiting threads and books its last moment has, or the number of the first pair that
+// may not come.
 fn is_replayed(
     rt: &(impl Abort + AllocGlobal),
     list: &[Action],
@@ -58,16 +29,23 @@ fn is_replayed(
     want: Result<[usize; 3], u32>,
 ) {
     assert!(rt; list.len() == 4 && pairs.len() <= 7);
-    let answer = replay(rt.alloc(), list, 16, 2, pairs).expect(rt, "memory");
-    assert_eq!(rt; answer.as_ref().map(sizes).map_err(|number| *number), want);
+    let got = match replay(rt.alloc(), list, 16, 2, pairs).expect(rt, "memory") {
+        Ok(moment) => Ok([
+            moment.deques().len(),
+            moment.waiting().len(),
+            moment.books().len(),
+        ]),
+        Err(number) => Err(number),
+    };
+    assert!(rt; got == want);
 }
 
 // The root forks a child. The other worker takes the root, which has to wait; then the first one does the rest.
 fn a_run() -> [Pair; 7] {
     [
-        steal(0, 0, 0),
+        by(0, Event::Steals { place: 0, id: 0 }),
         by(0, Event::Does(0)),
-        steal(1, 0, 1),
+        by(1, Event::Steals { place: 0, id: 1 }),
         by(1, Event::Suspends),
         by(0, Event::Does(1)),
         by(0, Event::Does(2)),

@@ -23,19 +23,7 @@ fn allocations_are_charged_gross(rt: HostRuntime) -> Result<(), Fail> {
         let mut period = Period::start(rt.alloc(), 1, false)?;
         period.note(used);
         let got = Quota::new(k).map(|quota| period.charge(words, quota));
-        assert_eq!(rt; got, Some(want), "{words} words after {used} of {k}");
+        assert!(rt; got == Some(want), "{words} words after {used} of {k}");
     }
-    Ok(())
-}
-
-#[test]
-fn a_closed_period_keeps_what_it_did(rt: HostRuntime) -> Result<(), Fail> {
-    let mut period = Period::start(rt.alloc(), 7, true)?;
-    assert_eq!(rt; period.used, 0);
-    period.note(48);
-    assert_eq!(rt; period.used, 48);
-    let closed = period.close();
-    assert_eq!(rt; (closed.number, closed.ahead), (7, true));
-    assert!(rt; closed.book.is_empty() && closed.births.is_empty());
     Ok(())
 }

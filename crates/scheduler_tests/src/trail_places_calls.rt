@@ -14,11 +14,12 @@ fn actions_of(alloc: Global, kinds: &str) -> Result<Actions, AllocError> {
             b'e' => Kind::End,
             _ => Kind::Dummy,
         };
-        let by = ThreadId { period: 0, nth: 0 };
-        let name = ActionId { by, index: 0 };
         actions.reserve()?;
         actions.add(Action {
-            name,
+            name: ActionId {
+                by: ThreadId::ROOT,
+                index: 0,
+            },
             kind,
             change: 0,
         });
@@ -26,30 +27,29 @@ fn actions_of(alloc: Global, kinds: &str) -> Result<Actions, AllocError> {
     Ok(actions)
 }
 
-// Each row has the kinds of a list (Forks, Joins, Ends and others) and below them the partner of each place.
+// The partner of each place, one digit each.
+fn told(alloc: Global, kinds: &str) -> Result<Vec<u8>, AllocError> {
+    let actions = actions_of(alloc, kinds)?;
+    let found = partners(alloc, &actions)?;
+    let mut told = Vec::new(alloc);
+    for partner in found.iter() {
+        told.push(match partner {
+            None => b'-',
+            Some(place) => b'0'.wrapping_add(u8::try_from(*place).unwrap_or(0)),
+        })?;
+    }
+    Ok(told)
+}
+
+// Each row has the kinds of a list (Forks, Joins, Ends and others) and the partner of each place.
+const ROWS: &str =
+    "| e|- ..e|--- fe.je|13-1- .f.ej.e|-3-43-- fefejje|153431- ffejeje|423254- ffejefejje|423286764-";
+
 #[test]
 fn places_have_their_partners(rt: HostRuntime) -> Result<(), Fail> {
-    let rows = [
-        ("", ""),
-        ("e", "-"),
-        ("..e", "---"),
-        ("fe.je", "13-1-"),
-        (".f.ej.e", "-3-43--"),
-        ("fefejje", "153431-"),
-        ("ffejeje", "423254-"),
-        ("ffejefejje", "423286764-"),
-    ];
-    for (kinds, wanted) in rows {
-        let actions = actions_of(rt.alloc(), kinds)?;
-        let found = partners(rt.alloc(), &actions)?;
-        assert_eq!(rt; found.len(), wanted.len());
-        for (partner, digit) in found.iter().zip(wanted.bytes()) {
-            let place = match digit {
-                b'-' => None,
-                digit => Some(u32::from(digit.wrapping_sub(b'0'))),
-            };
-            assert_eq!(rt; *partner, place, "{kinds}");
-        }
+    for row in ROWS.split(' ') {
+        let (kinds, want) = row.split_once('|').ok_or("a row")?;
+        assert!(rt; told(rt.alloc(), kinds)?.as_slice() == want.as_bytes());
     }
     Ok(())
 }

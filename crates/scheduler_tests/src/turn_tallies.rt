@@ -106,7 +106,7 @@ fn opened(alloc: Global, slots: u32) -> Result<(Row, Counter, Counter), AllocErr
 fn counts_in_two_threads(rt: HostRuntime) -> Result<(), Fail> {
     let (row, a, b) = opened(rt.alloc(), 1)?;
     let mut a = count_in_two_threads(&rt, &row, a, b, 1000);
-    assert_eq!(rt; row.count::<Tally>(&mut a), 2000);
+    assert!(rt; row.count::<Tally>(&mut a) == 2000);
     Ok(())
 }
 
@@ -115,12 +115,10 @@ fn refuses_what_is_held(rt: HostRuntime) -> Result<(), Fail> {
     let (row, mut a, mut b) = opened(rt.alloc(), 1)?;
     let taken = row.take::<Keep>(&mut a, 0);
     let tried = row.take::<Keep>(&mut b, 0);
-    assert_eq!(rt; taken, Ok(9));
-    assert_eq!(rt; tried, Err(Held { slot: 0, seen: 1 }));
-    let closed = row.close(b);
-    assert!(rt; closed.is_err());
-    if let Err(still) = closed {
-        assert_eq!(rt; still, StillHeld { slot: 0 });
+    assert!(rt; taken == Ok(9) && tried == Err(Held { slot: 0, seen: 1 }));
+    match row.close(b) {
+        Ok(_) => panic!(rt; "a turn is held"),
+        Err(still) => assert!(rt; still == StillHeld { slot: 0 }),
     }
     Ok(())
 }
@@ -139,13 +137,12 @@ fn touch(row: &Row, seat: &mut Counter, i: u32) -> Result<u8, Held>
 #[test]
 fn rows_are_wide(rt: HostRuntime) -> Result<(), Fail> {
     let (row, mut a, _b) = opened(rt.alloc(), 4_098)?;
-    assert_eq!(rt; touch(&row, &mut a, 0), Ok(9));
-    assert_eq!(rt; touch(&row, &mut a, 4_096), Ok(9));
-    assert_eq!(rt; touch(&row, &mut a, 4_097), Ok(9));
-    assert_eq!(rt; row.count::<Tally>(&mut a), 0);
+    assert!(rt; touch(&row, &mut a, 0) == Ok(9));
+    assert!(rt; touch(&row, &mut a, 4_097) == Ok(9));
+    assert!(rt; row.count::<Tally>(&mut a) == 0);
     let Ok(values) = row.close(a) else {
         panic!(rt; "no turn is held")
     };
-    assert_eq!(rt; (values.len(), values.get(4_097)), (4_098, Some(&9)));
+    assert!(rt; values.len() == 4_098 && values.get(4_097) == Some(&9));
     Ok(())
 }

@@ -4,23 +4,19 @@ use std::alloc::{AllocError, Global};
 use std::process::Abort;
 use std::test::Fail;
 
-fn words(alloc: Global, line: &str) -> Result<Vec<String>, AllocError> {
+/// The command that the words of a line are. It hands no clause on, since each goal of its callers would carry it.
+fn read(alloc: Global, line: &str) -> Result<Option<Command>, AllocError> {
     let mut words = Vec::new(alloc);
     for word in line.split_whitespace() {
         words.push(String::from_str(alloc, word)?)?;
     }
-    Ok(words)
-}
-
-/// The command that the words of a line are. It hands no clause on, since each goal of its callers would carry it.
-fn read(alloc: Global, line: &str) -> Result<Option<Command>, AllocError> {
-    let words = words(alloc, line)?;
     Ok(read_words(words.as_slice()))
 }
 
-/// All that a command tells: its kind and its numbers.
-fn told(alloc: Global, command: &Command) -> Result<String, AllocError> {
-    format!(in alloc;
+/// The words of a line are a command that tells this: its kind and its numbers.
+fn is_command(rt: &impl Abort, alloc: Global, line: &str, want: &str) -> Result<(), Fail> {
+    let command = read(alloc, line)?.ok_or("no command")?;
+    let told = format!(in alloc;
         "{:?} k {} p {} arena {} steps {} deques {} seed {} groups {}",
         command.kind,
         command.k,
@@ -30,13 +26,8 @@ fn told(alloc: Global, command: &Command) -> Result<String, AllocError> {
         command.deques,
         command.seed,
         command.groups
-    )
-}
-
-fn is_command(rt: &impl Abort, alloc: Global, line: &str, want: &str) -> Result<(), Fail> {
-    let command = read(alloc, line)?.ok_or("no command")?;
-    let told = told(alloc, &command)?;
-    assert_eq!(rt; told.as_str(), want, "{line}");
+    )?;
+    assert!(rt; told.as_str() == want, "{told} {line}");
     Ok(())
 }
 
@@ -84,89 +75,6 @@ fn commands(rt: HostRuntime) -> Result<(), Fail> {
     for row in COMMANDS.trim().split('\n') {
         let (line, want) = row.split_once("| ").ok_or("no row")?;
         is_command(&rt, rt.alloc(), line, want)?;
-    }
-    Ok(())
-}
-
-/// Words that are no command, a line each; the first line is empty.
-const NO_COMMANDS: &str = "
-play --k 24
-play --k 0
-play --k 8
-play --k 1048592
-play --p 0
-play --p 65
-play --k 16 --k 16
-play --k=16 --k 32
-play --
-play -- 16
-play --=16
-play --k=
-play --k
-play --p 1 --k
-play --k=000000000000000000016
-play --k 000000000000000000016
-play --k=16=16
-play --k +16
-play --k -16
-play --k 1_6
-play --k 18446744073709551632
-play -k 16
-play --kk 16
-play --arena 24
-play --arena 0
-play --arena 67108880
-play --deques 0
-play --deques 4097
-play --seed 18446744073709551616
-play --seed -1
-play --seed 1 --seed 1
-play --steps 0
-play --steps 4000001
-play 16
-play play
-peak --p 1
-peak --arena 16
-peak --seed 1
-peak --steps 0
-peak --steps 4000001
-peak --ste 10
-check --k 16
-check --seed 1
-make
-make 0
-make 8001
-make 1 2
-make 1 --k 16 1
-make x
-make -1
-make +1
-make -- 1
-make 1 --k
-make --k 16
-make --n 1
-make 000000000000000000001
-play 1
-check 1
-loops 1
-loops loops
-loops --k 24
-loops --p 65
-loops --seed 1 --seed 1
-expand --k 16
-expand --
-expand 1
-loop
-run --k 24
-run 1
-Run
-Play
---k 16 play";
-
-#[test]
-fn words_that_are_no_command(rt: HostRuntime) -> Result<(), Fail> {
-    for line in NO_COMMANDS.split('\n') {
-        assert!(rt; read(rt.alloc(), line)?.is_none(), "{line}");
     }
     Ok(())
 }

@@ -1,7 +1,5 @@
 use dag_order::{FaultAt, FaultKind, Finish, Lines};
-use run_report::{
-    PeakReport, ReadFail, Report, Summary, peak_text, read_report, report_text, summary_text,
-};
+use run_report::{ReadFail, Report, read_report, report_text};
 use std::alloc::{AllocError, Global};
 use std::process::Abort;
 use std::test::Fail;
@@ -15,10 +13,6 @@ fn lines(alloc: Global, numbers: &[i64]) -> Result<Lines, AllocError> {
     Ok(lines)
 }
 
-fn fault(kind: FaultKind, line: u32) -> Finish {
-    Finish::Faulted(FaultAt { kind, line })
-}
-
 /// A report is written so, and read from its text.
 fn is_written_and_read(
     rt: &impl Abort,
@@ -27,10 +21,10 @@ fn is_written_and_read(
     due: &str,
 ) -> Result<(), Fail> {
     let text = report_text(alloc, report)?;
-    assert_eq!(rt; text.as_slice(), due.as_bytes());
+    assert!(rt; text.as_slice() == due.as_bytes(), "{due}");
     match read_report(alloc, due.as_bytes()) {
         Ok(read) => assert!(rt; read == *report),
-        Err(_) => assert!(rt; false, "{due}"),
+        Err(_) => panic!(rt; "{due}"),
     }
     Ok(())
 }
@@ -45,7 +39,6 @@ fn a_report_is_written_and_read(rt: HostRuntime) -> Result<(), Fail> {
         high: 32,
     };
     let due = "7\n--\nend done\nperiods 1\nahead 0\nhigh 32\n";
-    assert_eq!(rt; due.len(), 40);
     is_written_and_read(&rt, rt.alloc(), &report, due)
 }
 
@@ -53,7 +46,10 @@ fn a_report_is_written_and_read(rt: HostRuntime) -> Result<(), Fail> {
 fn numbers_at_the_ends_of_their_types(rt: HostRuntime) -> Result<(), Fail> {
     let report = Report {
         lines: lines(rt.alloc(), &[i64::MIN, -1, 0, i64::MAX])?,
-        finish: fault(FaultKind::Turns, u32::MAX),
+        finish: Finish::Faulted(FaultAt {
+            kind: FaultKind::Turns,
+            line: u32::MAX,
+        }),
         periods: u32::MAX,
         ahead: u32::MAX,
         high: u64::MAX,
@@ -64,93 +60,6 @@ fn numbers_at_the_ends_of_their_types(rt: HostRuntime) -> Result<(), Fail> {
         &report,
         "-9223372036854775808\n-1\n0\n9223372036854775807\n--\nend fault Turns line 4294967295\nperiods 4294967295\nahead 4294967295\nhigh 18446744073709551615\n",
     )
-}
-
-/// The text of a depth-first run.
-fn is_told_so(rt: &impl Abort, alloc: Global, report: &PeakReport, due: &str) -> Result<(), Fail> {
-    let text = peak_text(alloc, report)?;
-    assert_eq!(rt; text.as_slice(), due.as_bytes());
-    Ok(())
-}
-
-#[test]
-fn a_depth_first_run(rt: HostRuntime) -> Result<(), Fail> {
-    let report = PeakReport {
-        lines: lines(rt.alloc(), &[2_147_450_880])?,
-        finish: Finish::Done,
-        actions: 442,
-        peak: 65_632,
-    };
-    let due = "2147450880\n--\nend done\nactions 442\npeak 65632\n";
-    is_told_so(&rt, rt.alloc(), &report, due)
-}
-
-fn has_name(rt: &impl Abort, alloc: Global, kind: FaultKind, due: &str) -> Result<(), Fail> {
-    let report = PeakReport {
-        lines: Lines::new(alloc),
-        finish: fault(kind, 2),
-        actions: 3,
-        peak: 0,
-    };
-    is_told_so(rt, alloc, &report, due)
-}
-
-#[test]
-fn each_kind_of_fault(rt: HostRuntime) -> Result<(), Fail> {
-    let rows = [
-        (
-            FaultKind::Index,
-            "--\nend fault Index line 2\nactions 3\npeak 0\n",
-        ),
-        (
-            FaultKind::Divide,
-            "--\nend fault Divide line 2\nactions 3\npeak 0\n",
-        ),
-        (
-            FaultKind::Size,
-            "--\nend fault Size line 2\nactions 3\npeak 0\n",
-        ),
-        (
-            FaultKind::Split,
-            "--\nend fault Split line 2\nactions 3\npeak 0\n",
-        ),
-        (
-            FaultKind::Depth,
-            "--\nend fault Depth line 2\nactions 3\npeak 0\n",
-        ),
-        (
-            FaultKind::Turns,
-            "--\nend fault Turns line 2\nactions 3\npeak 0\n",
-        ),
-    ];
-    for (kind, due) in rows {
-        has_name(&rt, rt.alloc(), kind, due)?;
-    }
-    Ok(())
-}
-
-#[test]
-fn a_summary(rt: HostRuntime) -> Result<(), Fail> {
-    let summary = Summary {
-        bytes: 139,
-        lines: 2,
-        total: 0,
-        actions: 8,
-        periods: 1,
-        ahead: 0,
-        high: 16,
-    };
-    let text = summary_text(rt.alloc(), &summary)?;
-    assert_eq!(rt;
-        text.as_slice(),
-        b"bytes 139\nlines 2\ntotal 0\nactions 8\nperiods 1\nahead 0\nhigh 16\n".as_slice()
-    );
-    Ok(())
-}
-
-fn is_no_report(rt: &impl Abort, alloc: Global, place: u32, text: &str) {
-    let read = read_report(alloc, text.as_bytes());
-    assert!(rt; read == Err(ReadFail::NotReport { at: place }), "{text}");
 }
 
 /// The place at which bytes are no report, and the bytes.
@@ -182,12 +91,9 @@ const NO_REPORTS: &str = "0|\
 fn bytes_that_are_no_report(rt: HostRuntime) -> Result<(), Fail> {
     for row in NO_REPORTS.split('@') {
         let (place, text) = row.split_once('|').ok_or("no row")?;
-        is_no_report(
-            &rt,
-            rt.alloc(),
-            place.parse::<u32>().ok().ok_or("no place")?,
-            text,
-        );
+        let at = place.parse::<u32>().ok().ok_or("no place")?;
+        let read = read_report(rt.alloc(), text.as_bytes());
+        assert!(rt; read == Err(ReadFail::NotReport { at }), "{text}");
     }
     Ok(())
 }

@@ -1,0 +1,5 @@
+use Rattle.play_tests.proofs.Kept.{serial_stays}
+use Rattle.play_tests.proofs.prefixes.let_move.Goals as goal
+
+pub digits-preserved-then-worker-workers : goal.digits-preserved-then-worker-workers
+digits-preserved-then-worker-workers c = serial_stays c.digits.core c.step.new.self c.args.serial.now c.step.ensures.setting c.digits.invariant

@@ -1,0 +1,74 @@
+//! Steps of workers, told one by one: one that waits, one that finds nothing to steal, and one that gives its deque up.
+
+use crate::players::{Numbers, Player, core_and_serial, step_of};
+use crate::plays::{lists_of, number};
+use dfd_core::Core;
+use std::alloc::Global;
+use std::fmt::Write;
+use std::process::Abort;
+
+/// Two children, of which the first one is forked.
+const TWO: &str = "fn main() { par { print 1; } and { print 2; } print 3; }";
+
+/// The first worker gives its deque up.
+fn give_up(rt: &impl Abort, core: &mut Core) {
+    let owned = match core.seat(0) {
+        Some(seat) => seat.deque,
+        None => panic!(rt; "it owns no deque"),
+    };
+    let deque = core.give_up(0).expect(rt, "memory");
+    assert!(rt; deque == owned, "it gave another deque up");
+}
+
+/// Lets workers move, one a digit, and writes down what they did. At a `g` the first one gives its deque up.
+fn tell_moves(rt: &impl Abort, text: &mut String, player: &mut Player, moves: &str) {
+    for letter in moves.trim().bytes() {
+        if letter == b'g' {
+            if let Player::Deques(core) = player {
+                give_up(rt, core);
+            }
+            continue;
+        }
+        let worker = u32::from(letter.saturating_sub(b'0'));
+        let stepped = step_of(rt, player, worker, 0);
+        write!(text, "{stepped:?} ").expect(rt, "memory");
+    }
+}
+
+/// Moves of the workers of a run with a quota of 16: `deques` or `ready`, how many workers there are, the moves, and what they tell.
+///
+/// The second worker steals the root while the first one runs the child that it forked, and has to wait; with a ready list it finds no entry
+/// while the root runs, and the parent of a Fork is one. A worker forks and gives its deque up: then it steals the root, which has to wait,
+/// and after that the child.
+const MOVES: &str = "
+deques | 2 | 10100111 | Stole { deque: DequeId(0), period: 1 } Nothing Acted(ActionId { by: ThreadId { period: 0, nth: 0 }, index: 0 }) Stole { deque: DequeId(1), period: 2 } Suspended(ThreadId { period: 0, nth: 0 }) Acted(ActionId { by: ThreadId { period: 1, nth: 0 }, index: 0 }) Acted(ActionId { by: ThreadId { period: 0, nth: 0 }, index: 1 }) Acted(ActionId { by: ThreadId { period: 0, nth: 0 }, index: 2 })
+deques | 1 | 00g0000000 | Stole { deque: DequeId(0), period: 1 } Acted(ActionId { by: ThreadId { period: 0, nth: 0 }, index: 0 }) Stole { deque: DequeId(1), period: 2 } Suspended(ThreadId { period: 0, nth: 0 }) Stole { deque: DequeId(0), period: 3 } Acted(ActionId { by: ThreadId { period: 1, nth: 0 }, index: 0 }) Acted(ActionId { by: ThreadId { period: 0, nth: 0 }, index: 1 }) Acted(ActionId { by: ThreadId { period: 0, nth: 0 }, index: 2 }) Over(Finished(Done))
+ready | 2 | 0101 | Stole { deque: DequeId(0), period: 1 } Nothing Acted(ActionId { by: ThreadId { period: 0, nth: 0 }, index: 0 }) Stole { deque: DequeId(1), period: 2 }
+";
+
+/// The workers of a row do what the row says.
+fn step_row(rt: &impl Abort, alloc: Global, row: &str) -> Option<()> {
+    let mut parts = row.split('|');
+    let lists = lists_of(parts.next()?);
+    let numbers = Numbers {
+        k: 16,
+        workers: number(parts.next()?),
+        arena: 1_024,
+        limit: 100,
+        most: 4_096,
+    };
+    let moves = parts.next()?;
+    let want = parts.next()?.trim();
+    let mut both = core_and_serial(rt, alloc, TWO, lists, numbers);
+    let mut text = String::new(alloc);
+    tell_moves(rt, &mut text, &mut both.player, moves);
+    assert!(rt; text.trim_end() == want, "{text}");
+    Some(())
+}
+
+#[test]
+fn steps_are_told_one_by_one(rt: HostRuntime) {
+    for row in MOVES.trim().split('\n') {
+        assert!(rt; step_row(&rt, rt.alloc(), row).is_some());
+    }
+}
