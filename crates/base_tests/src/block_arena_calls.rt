@@ -146,7 +146,7 @@ fn room_is_made_before_a_join(rt: HostRuntime) {
         match join_blocks(&rt, left, right) {
             Some(whole) => {
                 assert!(rt; want, "{more} after {len}");
-                check(&rt, &whole, len + more, more);
+                check(&rt, &whole, len.saturating_add(more), more);
             }
             None => assert!(rt; !want, "{more} after {len}"),
         }
