@@ -204,8 +204,7 @@ fn owners_hold_their_lanes_at_one_time(rt: HostRuntime) {
     let (mut first, (second, told)) = hold_one(&rt, rt.alloc(), &hall, &code, first, second);
     let mut text = told;
     finish(&rt, &mut text, &hall, &code, &mut first, second);
-    assert_eq!(rt;
-        text.as_str(),
-        "did 0.0 1, did 0.0 2, suspended 0.0, did 1.0 0, did 1.0 1, did 1.0 2, did 0.0 3, did 0.0 4, Over(Finished(Done)), "
-    );
+    let due =
+        "did 0 0 1, did 0 0 2, suspended 0 0, did 1 0 0, did 1 0 1, did 1 0 2, did 0 0 3, did 0 0 4, Over(Finished(Done)), ";
+    assert!(rt; text.as_str() == due, "{text}");
 }

@@ -4,11 +4,10 @@ ghost use Rattle.std.specs.Prelude.{◌≡◌, All, IfSome};
 ghost use Rattle.hall_runs.specs.Passed.Seated.{IsIn, IsProgramOf};
 
 use crate::halls::{Bounds, hall_within};
-use crate::scripts::{add, do_calls, number_of};
+use crate::scripts::{add, do_calls, number_of, show, tell};
 use crate::seats::{put, taken};
 use hall_runs::{CloseRefused, Closing, Hall, Seat};
 use std::alloc::Global;
-use std::fmt::Write;
 use std::process::Abort;
 
 /// A row: the quota, the workers, the words of the arena and the most deques; the calls up to a close, and those between it and a second one; what
@@ -46,17 +45,25 @@ fn bounds_of(numbers: &str) -> Bounds {
     }
 }
 
-/// Writes what is left of a run.
+/// Writes what is left of a run: its end, how many periods began and were marked, and whether the result of the root is there.
 fn tell_closing(rt: &impl Abort, text: &mut String, closing: &Closing) {
-    write!(
+    add(rt, text, "closed ");
+    show(rt, text, &closing.end);
+    tell(
+        rt,
         text,
-        "closed {:?} periods {} ahead {} root {}",
-        closing.end,
-        closing.books.periods(),
-        closing.books.ahead(),
-        closing.root.is_some()
-    )
-    .expect(rt, "memory");
+        " periods",
+        &[closing.books.periods(), closing.books.ahead()],
+    );
+    add(
+        rt,
+        text,
+        if closing.root.is_some() {
+            " root"
+        } else {
+            " no root"
+        },
+    );
 }
 
 /// The smallest number of a worker that is in.
@@ -82,7 +89,8 @@ fn close(rt: &impl Abort, text: &mut String, hall: Hall, seats: &mut Vec<Seat>) 
             None
         }
         Err((back, seat, why @ CloseRefused::StillIn { .. })) => {
-            write!(text, "{why:?}, ").expect(rt, "memory");
+            show(rt, text, &why);
+            add(rt, text, ", ");
             put(rt, &back, seats, seat);
             Some(back)
         }
@@ -109,7 +117,7 @@ fn tell_so(rt: &impl Abort, alloc: Global, rows: &str) {
     for row in rows.split('@') {
         if let Some(row) = row_of(row) {
             let got = told(rt, alloc, &row);
-            assert_eq!(rt; got.as_str(), row.want, "{}", row.text);
+            assert!(rt; got.as_str() == row.want, "{got}");
         }
     }
 }
@@ -118,30 +126,30 @@ fn tell_so(rt: &impl Abort, alloc: Global, rows: &str) {
 /// another holds the list, for a run and for a run that needs the pool alone.
 const ROWS: &str = "
 @ 16 1 1024 64 | 0 steal/0 act/0 give-up/0 steal/0 act/0 steal/0 act/0 act/0 act/0 steal | |
-stole 0 period 1, did 0.0 0, gave up 0, stole 1 period 2, suspended 0.0, stole 0 period 3, did 1.0 0, did 0.0 1, did 0.0 2, \
-Over(Finished(Done)), closed Finished(Done) periods 3 ahead 1 root true |
+stole 0 1, did 0 0 0, gave up 0, stole 1 2, suspended 0 0, stole 0 3, did 1 0 0, did 0 0 1, did 0 0 2, \
+Over(Finished(Done)), closed Finished(Done) periods 3 1 root |
 fn main() { par { print 1; } and { print 2; } print 3; }
 @ 16 2 1024 64 | 0 steal/0 act/0 enter/0 leave 1/1 steal/1 act/1 steal/1 act/1 act/1 act | |
-stole 0 period 1, did 0.0 0, entered 1, left, stole 1 period 2, suspended 0.0, stole 0 period 3, did 1.0 0, did 0.0 1, did 0.0 2, \
-closed Finished(Done) periods 3 ahead 1 root true |
+stole 0 1, did 0 0 0, entered 1, left, stole 1 2, suspended 0 0, stole 0 3, did 1 0 0, did 0 0 1, did 0 0 2, \
+closed Finished(Done) periods 3 1 root |
 fn main() { par { print 1; } and { print 2; } print 3; }
 @ 16 1 1024 2 | 0 steal/0 act/0 act/0 steal/0 act/0 steal/0 act/0 act/0 steal | |
-stole 0 period 1, did 0.0 0, gave up 0, stole 1 period 2, did 0.0 1, stole 0 period 3, did 1.0 0, did 3.0 0, \
-Stopped(DequesFull { deques: 2 }), closed Stopped(DequesFull { deques: 2 }) periods 3 ahead 1 root false |
+stole 0 1, did 0 0 0, gave up 0, stole 1 2, did 0 0 1, stole 0 3, did 1 0 0, did 3 0 0, \
+Stopped(DequesFull { deques: 2 }), closed Stopped(DequesFull { deques: 2 }) periods 3 1 no root |
 fn main() { alloc b = 40; free b; }
 @ 64 1 32 64 | 0 steal/0 act/0 act/0 halt/0 halt | |
-stole 0 period 1, Stopped(ArenaFull { live: 0, asked: 48 }), Stopped(ArenaFull { live: 0, asked: 48 }), \
+stole 0 1, Stopped(ArenaFull { live: 0, asked: 48 }), Stopped(ArenaFull { live: 0, asked: 48 }), \
 halted Stopped(ArenaFull { live: 0, asked: 48 }), halted Stopped(ArenaFull { live: 0, asked: 48 }), \
-closed Stopped(ArenaFull { live: 0, asked: 48 }) periods 1 ahead 0 root false |
+closed Stopped(ArenaFull { live: 0, asked: 48 }) periods 1 0 no root |
 fn main() { alloc b = 40; free b; }
 @ 16 2 1024 64 | 0 steal/0 enter/1 list: 0 act/1 list: 0 act/1 list: 0 act/1 list: 0 act/1 steal/0 act/0 enter | 1 leave 0/0 enter |
-stole 0 period 1, entered 1, did 0.0 0, did 1.0 0, did 0.0 1, busy 0 1, Nothing, did 0.0 2, Crowded { places: 1 }, StillIn { places: 1 }, left, \
-Over(Finished(Done)), closed Finished(Done) periods 1 ahead 0 root true |
+stole 0 1, entered 1, did 0 0 0, did 1 0 0, did 0 0 1, Busy(Held { slot: 0, seen: 1 }), Nothing, did 0 0 2, Crowded { places: 1 }, StillIn { places: 1 }, left, \
+Over(Finished(Done)), closed Finished(Done) periods 1 0 root |
 fn main() { par { print 1; } and { print 2; } print 3; }
 @ 64 2 1024 64 | 0 steal/0 enter/1 list: 0 act/1 list: 0 act/1 list: 0 act/1 list: 0 act/1 list: 0 act/1 list: 0 act/1 list: 0 act/1 list: 0 act/\
 0 act/1 leave 0 | |
-stole 0 period 1, entered 1, did 0.0 0, did 1.0 0, did 1.0 1, did 1.0 2, did 0.0 1, did 0.0 2, did 0.0 3, busy 0 1, did 0.0 4, left, \
-closed Finished(Done) periods 1 ahead 0 root true |
+stole 0 1, entered 1, did 0 0 0, did 1 0 0, did 1 0 1, did 1 0 2, did 0 0 1, did 0 0 2, did 0 0 3, Busy(Held { slot: 0, seen: 1 }), did 0 0 4, left, \
+closed Finished(Done) periods 1 0 root |
 fn main() { par { alloc a = 16; free a; } and { alloc b = 16; free b; } }
 ";
 

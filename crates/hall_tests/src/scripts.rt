@@ -8,7 +8,8 @@ use crate::seats::{give_up, go_on, left, put, taken};
 use hall_runs::{EventRefused, Hall, Seat};
 use hall_turns::Event;
 use node_table::Code;
-use std::fmt::Write;
+use run_end::RunEnd;
+use std::fmt::{Debug, Write};
 use std::process::Abort;
 
 /// A call of a script: the worker whose seat it is of, what it does, and a number that it takes.
@@ -42,26 +43,41 @@ pub(crate) fn add(rt: &impl Abort, text: &mut String, piece: &str) {
     text.push_str(piece).expect(rt, "memory");
 }
 
-/// Writes what a seat did.
+/// Adds a word to a text, and numbers after it.
+pub(crate) fn tell(rt: &impl Abort, text: &mut String, word: &str, numbers: &[u32]) {
+    add(rt, text, word);
+    for number in numbers {
+        write!(text, " {number}").expect(rt, "memory");
+    }
+}
+
+/// Adds a value to a text.
+pub(crate) fn show(rt: &impl Abort, text: &mut String, value: &impl Debug) {
+    write!(text, "{value:?}").expect(rt, "memory");
+}
+
+/// Writes which end is kept.
+fn tell_end(rt: &impl Abort, text: &mut String, end: RunEnd) {
+    add(rt, text, "halted ");
+    show(rt, text, &end);
+}
+
+/// Writes what a seat did: numbers of deques and periods, names of threads as two numbers, and of actions as three.
 fn tell_event(rt: &impl Abort, text: &mut String, event: Event) {
-    let told = match event {
-        Event::Stole { deque, period } => write!(text, "stole {} period {period}", deque.0),
-        Event::Did(id) => write!(text, "did {}.{} {}", id.by.period, id.by.nth, id.index),
-        Event::Suspended(id) => write!(text, "suspended {}.{}", id.period, id.nth),
-        Event::GaveUp(deque) => write!(text, "gave up {}", deque.0),
-        Event::Halted(end) => write!(text, "halted {end:?}"),
-    };
-    told.expect(rt, "memory");
+    match event {
+        Event::Stole { deque, period } => tell(rt, text, "stole", &[deque.0, period]),
+        Event::Did(id) => tell(rt, text, "did", &[id.by.period, id.by.nth, id.index]),
+        Event::Suspended(id) => tell(rt, text, "suspended", &[id.period, id.nth]),
+        Event::GaveUp(deque) => tell(rt, text, "gave up", &[deque.0]),
+        Event::Halted(end) => tell_end(rt, text, end),
+    }
 }
 
 /// Writes what an event answers.
 pub(crate) fn tell_answer(rt: &impl Abort, text: &mut String, answer: Result<Event, EventRefused>) {
     match answer {
         Ok(event) => tell_event(rt, text, event),
-        Err(EventRefused::Busy(held)) => {
-            write!(text, "busy {} {}", held.slot, held.seen).expect(rt, "memory");
-        }
-        Err(refused) => write!(text, "{refused:?}").expect(rt, "memory"),
+        Err(refused) => show(rt, text, &refused),
     }
 }
 
@@ -74,8 +90,8 @@ fn halt(rt: &impl Abort, text: &mut String, hall: &Hall, seat: &mut Seat)
         panic!(rt; "it found no stop");
     };
     match hall.halt(seat, stop) {
-        Ok(end) => write!(text, "halted {end:?}").expect(rt, "memory"),
-        Err(held) => write!(text, "busy {} {}", held.slot, held.seen).expect(rt, "memory"),
+        Ok(end) => tell_end(rt, text, end),
+        Err(held) => show(rt, text, &held),
     }
 }
 
@@ -87,11 +103,11 @@ fn enter(rt: &impl Abort, text: &mut String, hall: &Hall, by: &mut Seat) -> Opti
 {
     match hall.enter(by) {
         Ok(made) => {
-            write!(text, "entered {}", made.worker()).expect(rt, "memory");
+            tell(rt, text, "entered", &[made.worker()]);
             Some(made)
         }
         Err(refused) => {
-            write!(text, "{refused:?}").expect(rt, "memory");
+            show(rt, text, &refused);
             None
         }
     }

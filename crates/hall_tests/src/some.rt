@@ -48,12 +48,13 @@ fn narrow_hall(rt: &impl Abort, alloc: Global) -> (Hall, Code, Seat)
 fn tries_that_all_did_an_event_are_counted(rt: HostRuntime) {
     let (hall, code, seat) = hall_of(&rt, rt.alloc(), TWO, 1);
     let mut worker = worker_of(rt.alloc(), seat);
-    assert_eq!(rt;
-        tried(&hall, &code, &mut worker, 3),
-        WorkSome::Spent { done: 3 }
-    );
+    let answer = tried(&hall, &code, &mut worker, 3);
+    assert!(rt; answer == WorkSome::Spent { done: 3 }, "another answer");
     let end = tried(&hall, &code, &mut worker, 10);
-    assert_eq!(rt; end, WorkSome::Over(RunEnd::Finished(Finish::Done)));
+    assert!(rt;
+        end == WorkSome::Over(RunEnd::Finished(Finish::Done)),
+        "another end"
+    );
 }
 
 #[test]
@@ -63,14 +64,13 @@ fn a_refused_try_ends_the_call(rt: HostRuntime) {
     let second = entered(&rt, &hall, &mut seat);
     let mut first = worker_of(rt.alloc(), seat);
     let mut late = worker_of(rt.alloc(), second);
-    assert_eq!(rt;
-        tried(&hall, &code, &mut first, 1),
-        WorkSome::Spent { done: 1 }
-    );
+    let answer = tried(&hall, &code, &mut first, 1);
+    assert!(rt; answer == WorkSome::Spent { done: 1 }, "another answer");
     let why = EventRefused::Nothing;
-    assert_eq!(rt;
-        tried(&hall, &code, &mut late, 5),
-        WorkSome::Refused { done: 0, why }
+    let answer = tried(&hall, &code, &mut late, 5);
+    assert!(rt;
+        answer == WorkSome::Refused { done: 0, why },
+        "another answer"
     );
 }
 
@@ -82,17 +82,13 @@ fn a_try_that_found_a_stop_did_no_event(rt: HostRuntime) {
     let second = entered(&rt, &hall, &mut seat);
     let mut first = worker_of(rt.alloc(), seat);
     let mut late = worker_of(rt.alloc(), second);
-    assert_eq!(rt;
-        tried(&hall, &code, &mut first, 2),
-        WorkSome::Spent { done: 2 }
-    );
-    assert_eq!(rt;
-        tried(&hall, &code, &mut late, 1),
-        WorkSome::Spent { done: 0 }
-    );
+    let answer = tried(&hall, &code, &mut first, 2);
+    assert!(rt; answer == WorkSome::Spent { done: 2 }, "another answer");
+    let answer = tried(&hall, &code, &mut late, 1);
+    assert!(rt; answer == WorkSome::Spent { done: 0 }, "another answer");
     let end = tried(&hall, &code, &mut late, 1);
-    assert_eq!(rt;
-        end,
-        WorkSome::Over(RunEnd::Stopped(Stop::DequesFull { deques: 1 }))
+    assert!(rt;
+        end == WorkSome::Over(RunEnd::Stopped(Stop::DequesFull { deques: 1 })),
+        "another end"
     );
 }
