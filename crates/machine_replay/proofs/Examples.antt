@@ -65,6 +65,10 @@ two_blocks =
     ∷ act [] 4 ends 0
     ∷ []
 
+-- Without an event it is the opening moment.
+nothing_ends : replay (setting one_fork 16 2) [] ≡ Ok opening
+nothing_ends = refl
+
 -- One worker with a quota of 16 words: seven periods, two of them marked, and at most 48 words in use.
 abbrev seven_periods : List Pair
 seven_periods = by 0 (steals 0 0) ∷ by 0 (does 0) ∷ by 0 gives_up ∷ by 0 (steals 0 1) ∷ by 0 (does 7) ∷ by 0 (steals 0 0) ∷ by 0 (does 1) ∷ by 0 (does 2) ∷ by 0 (steals 0 2) ∷ by 0 (does 4) ∷ by 0 (steals 0 0) ∷ by 0 (does 3) ∷ by 0 (steals 0 2) ∷ by 0 (does 5) ∷ by 0 (does 6) ∷ by 0 (steals 0 1) ∷ by 0 (does 8) ∷ by 0 (does 9) ∷ by 0 (does 10) ∷ by 0 (does 11) ∷ []

@@ -5,7 +5,3 @@ pub mod StepComplete
 pub mod Replay
 pub mod OnePlay
 pub mod PlayedSound
-pub mod Scans
-pub mod Holding
-pub mod Acting
-pub mod Thefts

@@ -1,15 +1,13 @@
-//! Tests of runs: depth-first runs action by action, plays by both cores, of deques and of a ready list, by given words, plays that are
-//! followed event by event beside the machine, and what cores show of their laws in the middle of plays. And node tables that are large.
+//! Tests of runs: depth-first runs action by action, plays by both cores, of deques and of a ready list, by given words, and what cores show
+//! of their laws in the middle of plays. And node tables that are large.
 //!
-//! This crate has no code but tests. It uses the parser, the table, the depth-first run, the two cores of the scheduler, and the program of
-//! `machine_replay`. It has no theorem: each table says what runs have to give, worked out by hand. Moments of plays were compared with
-//! `reference/`, which shares no line with the crates.
+//! This crate has no code but tests. It uses the parser, the table, the depth-first run and the two cores of the scheduler. It has no
+//! theorem: each table says what runs have to give, worked out by hand. Moments of plays were compared with `reference/`, which shares no
+//! line with the crates.
 #![tactic(auto)]
 
 #[cfg(test)]
 mod handed_over;
-#[cfg(test)]
-mod listed;
 #[cfg(test)]
 mod players;
 #[cfg(test)]
@@ -18,8 +16,6 @@ mod plays;
 mod prefixes;
 #[cfg(test)]
 mod ready_moments;
-#[cfg(test)]
-mod replays;
 #[cfg(test)]
 mod steps;
 #[cfg(test)]

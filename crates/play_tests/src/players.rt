@@ -7,7 +7,6 @@ use dag_order::Lines;
 use dummy_tree::Quota;
 use frame_code::lower;
 use ready_core::{AsyncCore, play_async};
-use serial_meaning::{Serial, depth_first};
 use std::alloc::{AllocError, Global};
 use std::process::Abort;
 use trail_record::{Core, ListChoices, RunEnd, Stepped, play};
@@ -26,22 +25,6 @@ pub(crate) enum Player {
     Ready(AsyncCore),
 }
 
-/// A core, and the depth-first run of its program. Both are let go by a call, so that the steps of that are proved once, and not at each
-/// exit of what owns them.
-pub(crate) struct Compared {
-    pub player: Player,
-    pub serial: Serial,
-}
-
-impl Drop for Compared {
-    fn drop(self) {
-        let Compared {
-            player: _player,
-            serial: _serial,
-        } = self;
-    }
-}
-
 /// The numbers of a run: its quota, the workers, the words of the arena, the most actions and the most deques.
 #[derive(Clone, Copy)]
 pub(crate) struct Numbers {
@@ -52,16 +35,12 @@ pub(crate) struct Numbers {
     pub most: u32,
 }
 
-/// The core of a run of a text, and its depth-first run. Numbers that are out of their ranges, and a text that is no accepted program, count
-/// as want of memory.
-fn begun(alloc: Global, text: &str, lists: Lists, of: Numbers) -> Result<Compared, AllocError> {
+/// The core of a run of a text. Numbers that are out of their ranges, and a text that is no accepted program, count as want of memory.
+fn begun(alloc: Global, text: &str, lists: Lists, of: Numbers) -> Result<Player, AllocError> {
     let (Some(k), Ok(pool)) = (Quota::new(of.k), Pool::new(alloc, of.arena)) else {
         return Err(AllocError);
     };
     let Ok(program) = accept(alloc, text.as_bytes()) else {
-        return Err(AllocError);
-    };
-    let Ok(serial) = depth_first(alloc, &program, k, of.limit) else {
         return Err(AllocError);
     };
     let code = lower(alloc, program)?;
@@ -71,23 +50,26 @@ fn begun(alloc: Global, text: &str, lists: Lists, of: Numbers) -> Result<Compare
     if of.most < 1 || 4_096 < of.most {
         return Err(AllocError);
     }
-    let player = match lists {
-        Lists::Deques => Player::Deques(Core::new(
-            alloc, code, k, of.workers, pool, of.limit, of.most,
-        )?),
-        Lists::Ready => Player::Ready(AsyncCore::new(alloc, code, k, of.workers, pool, of.limit)?),
-    };
-    Ok(Compared { player, serial })
+    match lists {
+        Lists::Deques => {
+            let core = Core::new(alloc, code, k, of.workers, pool, of.limit, of.most)?;
+            Ok(Player::Deques(core))
+        }
+        Lists::Ready => {
+            let core = AsyncCore::new(alloc, code, k, of.workers, pool, of.limit)?;
+            Ok(Player::Ready(core))
+        }
+    }
 }
 
 /// The same, which hands no clause on, since each goal of its callers would carry it.
-pub(crate) fn core_and_serial(
+pub(crate) fn player_of(
     rt: &impl Abort,
     alloc: Global,
     text: &str,
     lists: Lists,
     of: Numbers,
-) -> Compared {
+) -> Player {
     begun(alloc, text, lists, of).expect(rt, "a core")
 }
 
@@ -136,7 +118,7 @@ pub(crate) fn output_of(rt: &impl Abort, player: &Player) -> Lines {
 }
 
 /// Lets a worker do one event. An idle one steals from where the word picks, or takes the leftmost ready thread. It hands no clause on, as
-/// `core_and_serial`.
+/// `player_of`.
 pub(crate) fn step_of(rt: &impl Abort, player: &mut Player, worker: u32, word: u64) -> Stepped {
     match player {
         Player::Deques(core) => {
@@ -150,28 +132,10 @@ pub(crate) fn step_of(rt: &impl Abort, player: &mut Player, worker: u32, word: u
     }
 }
 
-/// Plays a run to its end. It hands no clause on, as `core_and_serial`.
+/// Plays a run to its end. It hands no clause on, as `player_of`.
 pub(crate) fn play_to_end(player: &mut Player, choices: &mut ListChoices) -> RunEnd {
     match player {
         Player::Deques(core) => play(core, choices),
         Player::Ready(core) => play_async(core, choices),
     }
-}
-
-/// The first worker that can move, from the one that a word picks on.
-pub(crate) fn mover(player: &Player, workers: u32, word: u64) -> Option<u32> {
-    for turn in 0..workers {
-        let picked = word
-            .wrapping_add(u64::from(turn))
-            .checked_rem(u64::from(workers))?;
-        let worker = u32::try_from(picked).ok()?;
-        let can_move = match player {
-            Player::Deques(core) => core.can_move(worker),
-            Player::Ready(core) => worker < core.workers() && core.can_move(worker),
-        };
-        if can_move {
-            return Some(worker);
-        }
-    }
-    None
 }

@@ -1,8 +1,7 @@
 //! Plays of whole programs by workers, with the words that pick who moves and whom a thief robs.
 
 use crate::players::{
-    Lists, Numbers, Player, core_and_serial, output_of, play_to_end, report_of, scheduler_of,
-    step_of,
+    Lists, Numbers, Player, output_of, play_to_end, player_of, report_of, scheduler_of, step_of,
 };
 use std::alloc::Global;
 use std::process::Abort;
@@ -74,9 +73,9 @@ fn play_row(rt: &impl Abort, alloc: Global, row: &str) -> Option<()> {
     let mut choices = words_of(rt, alloc, parts.next()?);
     let want = parts.next()?.trim();
     let text = parts.next()?;
-    let mut both = core_and_serial(rt, alloc, text, lists, numbers);
-    let end = play_to_end(&mut both.player, &mut choices);
-    let got = told(rt, alloc, &both.player, end);
+    let mut player = player_of(rt, alloc, text, lists, numbers);
+    let end = play_to_end(&mut player, &mut choices);
+    let got = told(rt, alloc, &player, end);
     assert_eq!(rt; got.as_str(), want, "{text}");
     Some(())
 }
@@ -117,11 +116,11 @@ fn a_ready_list_has_a_place_for_each_thread(rt: HostRuntime) {
         limit: 4_000_000,
         most: 4_096,
     };
-    let mut both = core_and_serial(&rt, rt.alloc(), WIDE, Lists::Ready, numbers);
-    let most = most_entries(&rt, &mut both.player);
+    let mut player = player_of(&rt, rt.alloc(), WIDE, Lists::Ready, numbers);
+    let most = most_entries(&rt, &mut player);
     let mut choices = words_of(&rt, rt.alloc(), "0");
-    play_to_end(&mut both.player, &mut choices);
-    let report = report_of(&both.player);
+    play_to_end(&mut player, &mut choices);
+    let report = report_of(&player);
     assert!(rt; [most, report.periods, report.ahead] == [6_464, 6_464, 6_363]);
     assert!(rt; report.high == 104_432);
 }

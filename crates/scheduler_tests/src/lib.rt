@@ -1,5 +1,5 @@
-//! Tests of the parts of a scheduler: deques, charges, books and moves, who moves and who is stolen from, the machine that it runs, partners
-//! in a list of actions, and a row of slots with turns.
+//! Tests of the parts of a scheduler: deques, charges, books and moves, who moves and who is stolen from, partners in a list of actions, and
+//! a row of slots with turns.
 //!
 //! This crate has no code but tests, and a user of a row of turns that they run. It uses the crates that it tests, each of which is so proved
 //! only once. It has no theorem.
@@ -7,8 +7,6 @@
 
 #[cfg(test)]
 mod deque_list_calls;
-#[cfg(test)]
-mod machine_replay_calls;
 #[cfg(test)]
 mod quota_period_calls;
 #[cfg(test)]
