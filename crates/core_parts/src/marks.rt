@@ -2,6 +2,7 @@
 
 ghost use Rattle.std.specs.Prelude.{◌≡◌, ◌≤◌, length};
 ghost use Rattle.std.specs.Option.{option_copied};
+ghost use Rattle.language_limits.specs.declared.TheConstants.{MOST_WORKERS};
 ghost use Rattle.core_parts.specs.Marks.{ahead_in, open_ahead};
 
 use period_table::{PeriodTable, Seat};
@@ -18,7 +19,7 @@ fn ahead_in(seat: Option<&Seat>) -> bool
 
 /// How many open periods of a table are marked ahead.
 pub fn open_ahead(table: &PeriodTable) -> u32
-    requires { length table.now.seats.items ≤ 64 }
+    requires { length table.now.seats.items ≤ MOST_WORKERS }
     ensures { result ≡ open_ahead table.now.seats.items }
 {
     let mut ahead = 0;

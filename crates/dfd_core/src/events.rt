@@ -1,6 +1,7 @@
 //! The event of a worker, whether it is idle or not.
 
 ghost use Rattle.std.specs.Prelude.{◌≡◌, ◌≢◌, ◌<◌, ◌≤◌, ◌↔◌, List as AnyList, None, Ok, Err, length};
+ghost use Rattle.language_limits.specs.declared.TheConstants.{MOST_WORKERS};
 ghost use Rattle.depth_first_run.specs.States.{Setting};
 ghost use Rattle.deque_machine.specs.Moments.{Moment};
 ghost use Rattle.deque_machine.specs.Runs.{Pair};
@@ -39,7 +40,7 @@ pub(crate) fn event_of(
     requires sound { IsSound (code_shown code.now) (quota_words k) (terms_of scheduler.old limit) (held scheduler.old) }
     requires points { CanGoOn (code_shown code.now) (quota_words k) (held scheduler.old) }
     requires within { worker < length scheduler.old.table.seats.items }
-    requires workers { length scheduler.old.table.seats.items ≤ 64 }
+    requires workers { length scheduler.old.table.seats.items ≤ MOST_WORKERS }
     requires few { limit < 4294967295 }
     requires done { scheduler.old.done ≤ limit }
     ensures nothing { (result ≡ Ok None)

@@ -59,7 +59,7 @@ pub struct Core {
     pub ghost few: { limit < 4294967295 },
     pub ghost most_is: { most ≡ scheduler.list.most },
     pub ghost some_workers: { 1 ≤ length scheduler.table.seats.items },
-    pub ghost few_workers: { length scheduler.table.seats.items ≤ 64 },
+    pub ghost few_workers: { length scheduler.table.seats.items ≤ MOST_WORKERS },
 }
 
 impl Core {

@@ -1,6 +1,7 @@
 -- The key of the hall of a core is one.
 use Rattle.std.proofs.Common.{◌≡◌, ℕ, List, ◌<◌, ◌≤◌, sym, ap, ◌∙◌, subst}
 use Rattle.std.proofs.Math.Logic.{∥∥₁_elim, ∥∥₁_prop}
+use Rattle.language_limits.specs.declared.TheConstants.{MOST_WORKERS}
 use Rattle.block_arena.specs.declared.size.TheConstants.{MAX_WORDS}
 use Rattle.depth_first_list.specs.Actions.{record_words}
 use Rattle.deque_machine.specs.Terms.{Terms}
@@ -18,7 +19,7 @@ key_is core key items root quota terms few = record {
   of_program = ∥∥₁_elim root.5 ∥∥₁_prop (λ p. p.of_program);
   quota = subst (λ k. record_words ≤ quota_words k) (sym quota) core.sound.quota;
   some_worker = subst (λ (t : Terms). 1 ≤ t.workers) (sym terms) core.some_workers;
-  few_workers = subst (λ (t : Terms). t.workers ≤ 64) (sym terms) core.few_workers;
+  few_workers = subst (λ (t : Terms). t.workers ≤ MOST_WORKERS) (sym terms) core.few_workers;
   few_words = few;
   few_actions = subst (λ (t : Terms). t.limits.actions < 4294967295) (sym terms) core.few;
 }

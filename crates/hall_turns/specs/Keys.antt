@@ -1,5 +1,6 @@
 -- What is fixed for a hall, as definitions speak of it.
 use Rattle.std.specs.Prelude.{ℕ, ◌≤◌, ◌<◌}
+use Rattle.language_limits.specs.declared.TheConstants.{MOST_WORKERS}
 use Rattle.block_arena.specs.declared.size.TheConstants.{MAX_WORDS}
 use Rattle.hall_law.specs.Passed.Actions.{record_words}
 use Rattle.hall_law.specs.Passed.Terms.{Terms, given_terms}
@@ -19,12 +20,12 @@ quota_of key = quota_words key.quota
 abbrev pub terms_of : HallKey → Terms
 terms_of key = given_terms key.workers key.capacity key.actions key.deques
 
--- The table is that of some program; the quota covers a record block; there is a worker and are at most 64; and no number is too large for
--- the words of the pool and for the count of actions.
+-- The table is that of some program; the quota covers a record block; there is a worker and are at most `MOST_WORKERS`; and no number is too
+-- large for the words of the pool and for the count of actions.
 pub record IsKey (key : HallKey) : Type 0 where
   pub of_program : IsOfProgram (table_of key) (quota_of key)
   pub quota : record_words ≤ quota_of key
   pub some_worker : 1 ≤ key.workers
-  pub few_workers : key.workers ≤ 64
+  pub few_workers : key.workers ≤ MOST_WORKERS
   pub few_words : key.capacity ≤ MAX_WORDS
   pub few_actions : key.actions < 4294967295

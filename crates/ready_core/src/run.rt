@@ -47,7 +47,7 @@ pub struct AsyncCore {
     pub ghost few: { limit < 4294967295 },
     pub ghost most_is: { scheduler.list.most ≡ 1 + scheduler.pool.capacity / 16 },
     pub ghost some_workers: { 1 ≤ length scheduler.table.seats.items },
-    pub ghost few_workers: { length scheduler.table.seats.items ≤ 64 },
+    pub ghost few_workers: { length scheduler.table.seats.items ≤ MOST_WORKERS },
 }
 
 /// How many entries the list may have: one, and one for each record of 16 words that the pool has room for.
