@@ -1,10 +1,8 @@
 ghost use Rattle.std.specs.Prelude.{◌≡◌, ◌+◌, ◌≤◌, ◌<◌, ◌^◌, ◌↔◌, [], ◌∷◌, ◌++◌, length, min, slice_get, IsTrue, IsOk, IsErr, IfOk, OnOk, vec_len, vec_capacity};
 ghost use Rattle.std.specs.Option.{option_copied};
 
+use language_limits::GREATEST_COUNT;
 use std::alloc::{AllocError, Global};
-
-/// The greatest number of entries that a [`BoundedList`] holds or has room for.
-pub const MAX_ENTRIES: u32 = 4_294_967_295;
 
 /// A list over a `Vec`, whose places and whose length are numbers of 32 bits.
 ///
@@ -33,7 +31,7 @@ impl<T> BoundedList<T> {
     pub fn from_vec(items: Vec<T>) -> BoundedList<T>
         requires { vec_len items < 2 ^ 32 }
         ensures entries { entries result ≡ items.items }
-        ensures spare { spare result + vec_len items ≡ min (vec_capacity items) MAX_ENTRIES }
+        ensures spare { spare result + vec_len items ≡ min (vec_capacity items) GREATEST_COUNT }
     {
         BoundedList { items }
     }
@@ -76,15 +74,15 @@ impl<T> BoundedList<T> {
 
     /// Makes room for at least one further entry.
     ///
-    /// A list of [`MAX_ENTRIES`] entries gets no more room: there want of room is want of memory.
+    /// A list of [`GREATEST_COUNT`] entries gets no more room: there want of room is want of memory.
     pub fn reserve(&mut self) -> Result<(), AllocError>
         ensures entries { entries self.new ≡ entries self.old }
         ensures room { OnOk result (1 ≤ spare self.new) }
         ensures keeps_room { spare self.old ≤ spare self.new }
         ensures succeeds { 1 ≤ spare self.old → IsOk result }
-        ensures full { length (entries self.old) ≡ MAX_ENTRIES → IsErr result }
+        ensures full { length (entries self.old) ≡ GREATEST_COUNT → IsErr result }
     {
-        if self.len() == MAX_ENTRIES {
+        if self.len() == GREATEST_COUNT {
             return Err(AllocError);
         }
         self.items.reserve(1)
@@ -105,13 +103,13 @@ impl<T: Copy> BoundedList<T> {
     ghost use Rattle.bounded_list.specs.BoundedList.{entries, spare};
 
     /// A list of the same entries, with room for one more. No memory is left where there are
-    /// [`MAX_ENTRIES`] entries.
+    /// [`GREATEST_COUNT`] entries.
     pub fn copy_with_room(&self) -> Result<BoundedList<T>, AllocError>
         ensures entries { IfOk result (λ copy. entries copy ≡ entries self.now) }
         ensures room { IfOk result (λ copy. 1 ≤ spare copy) }
-        ensures full { length (entries self.now) ≡ MAX_ENTRIES → IsErr result }
+        ensures full { length (entries self.now) ≡ GREATEST_COUNT → IsErr result }
     {
-        if self.len() == MAX_ENTRIES {
+        if self.len() == GREATEST_COUNT {
             return Err(AllocError);
         }
         let mut items = Vec::with_capacity(*self.items.allocator(), self.items.len() + 1)?;

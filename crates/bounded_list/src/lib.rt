@@ -1,4 +1,4 @@
-//! Lists of at most 4,294,967,295 entries.
+//! Lists of at most [`language_limits::GREATEST_COUNT`] entries.
 //!
 //! The small lists of this project (lines, labels, books, births, moves) are one type, [`BoundedList`],
 //! so that what is said of their length, their room and their entries is said and proved once. The crate
@@ -10,4 +10,4 @@
 
 mod bounded_list;
 
-pub use bounded_list::{BoundedList, MAX_ENTRIES};
+pub use bounded_list::BoundedList;

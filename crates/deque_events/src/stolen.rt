@@ -1,6 +1,7 @@
 //! Thefts: how an idle worker comes to a deque.
 
 ghost use Rattle.std.specs.Prelude.{◌≡◌, ◌<◌, ◌+◌, ◌∷◌, ◌++◌, [], ℕ, List as AnyList, Option, None, Some, true, length};
+ghost use Rattle.language_limits.specs.declared.TheConstants.{GREATEST_COUNT};
 ghost use Rattle.bounded_list.specs.BoundedList.{entries};
 ghost use Rattle.period_table.specs.Tables.{seat_at};
 ghost use Rattle.deque_list.specs.Ids.{IsSmallestFree};
@@ -28,7 +29,7 @@ pub fn steal_beside<T: Drop>(
     requires few_deques { length list.old.deques < list.old.most }
     requires within { worker < length table.old.seats.items }
     requires idle { seat_at table.old worker ≡ None }
-    requires few { table.old.begun < 4294967295 }
+    requires few { table.old.begun < GREATEST_COUNT }
     requires number { period.number ≡ table.old.begun + 1 }
     requires marked { period.ahead ≡ true }
     requires unused { period.used ≡ 0 }
@@ -63,7 +64,7 @@ pub fn take_over<T>(
     requires victim { (thread : T) × Holds list.old victim None (thread ∷ []) }
     requires within { worker < length table.old.seats.items }
     requires idle { seat_at table.old worker ≡ None }
-    requires few { table.old.begun < 4294967295 }
+    requires few { table.old.begun < GREATEST_COUNT }
     requires number { period.number ≡ table.old.begun + 1 }
     requires unused { period.used ≡ 0 }
     requires ran_nothing { entries period.book ≡ [] }

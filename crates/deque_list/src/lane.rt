@@ -1,6 +1,7 @@
 ghost use Rattle.std.specs.Prelude.{◌≡◌, ◌+◌, ◌-◌, ◌≤◌, [], ◌∷◌, ◌++◌, length, take, drop, slice_get, IsOk, IsErr, OnOk, IfOk, MatchOption, option_to_list};
 ghost use Rattle.std.specs.Option.{option_copied, option_copied_mut};
 
+use language_limits::GREATEST_COUNT;
 use std::alloc::{AllocError, Global};
 use std::collections::VecDeque;
 use std::marker::Model;
@@ -9,7 +10,7 @@ use std::marker::Model;
 ///
 /// Items come to the top and leave from the top or from the bottom, and no call moves the others. Contracts
 /// see the list of the items and, beside it, as `spare`, how many more it takes without memory. A lane has
-/// room for at most 4,294,967,295 items.
+/// room for at most [`GREATEST_COUNT`] items.
 #[derive(Drop)]
 pub struct Lane<T> {
     items: VecDeque<T>,
@@ -30,8 +31,6 @@ impl<T> Model for Lane<T> {
 
     ghost invariant = { λ lane. deque_len lane.items < 2 ^ 32 };
 }
-
-const MAX_ITEMS: usize = 4_294_967_295;
 
 impl<T> Lane<T> {
     ghost use Rattle.std.specs.Borrow.{sem};
@@ -69,16 +68,16 @@ impl<T> Lane<T> {
         self.items.len() as u32
     }
 
-    /// Makes room for at least one more item. Where there is room, no memory is needed. In a lane of 4,294,967,295 items memory is said to be
+    /// Makes room for at least one more item. Where there is room, no memory is needed. In a lane of [`GREATEST_COUNT`] items memory is said to be
     /// wanting, and none is asked for.
     pub fn reserve(&mut self) -> Result<(), AllocError>
         ensures items { self.new.items ≡ self.old.items }
         ensures room { OnOk result (1 ≤ self.new.spare) }
         ensures keeps_room { self.old.spare ≤ self.new.spare }
         ensures enough { 1 ≤ self.old.spare → IsOk result }
-        ensures full { length self.old.items ≡ 4294967295 → IsErr result }
+        ensures full { length self.old.items ≡ GREATEST_COUNT → IsErr result }
     {
-        if self.items.len() == MAX_ITEMS {
+        if self.items.len() == GREATEST_COUNT as usize {
             return Err(AllocError);
         }
         self.items.reserve(1)

@@ -1,7 +1,7 @@
 //! The event of a worker, whether it is idle or not.
 
 ghost use Rattle.std.specs.Prelude.{◌≡◌, ◌≢◌, ◌<◌, ◌≤◌, ◌↔◌, List as AnyList, None, Ok, Err, length};
-ghost use Rattle.language_limits.specs.declared.TheConstants.{MOST_WORKERS};
+ghost use Rattle.language_limits.specs.declared.TheConstants.{GREATEST_COUNT, MOST_WORKERS};
 ghost use Rattle.depth_first_run.specs.States.{Setting};
 ghost use Rattle.deque_machine.specs.Moments.{Moment};
 ghost use Rattle.deque_machine.specs.Runs.{Pair};
@@ -41,7 +41,7 @@ pub(crate) fn event_of(
     requires points { CanGoOn (code_shown code.now) (quota_words k) (held scheduler.old) }
     requires within { worker < length scheduler.old.table.seats.items }
     requires workers { length scheduler.old.table.seats.items ≤ MOST_WORKERS }
-    requires few { limit < 4294967295 }
+    requires few { limit < GREATEST_COUNT }
     requires done { scheduler.old.done ≤ limit }
     ensures nothing { (result ≡ Ok None)
         ↔ ((seat_at scheduler.old.table worker ≡ None) × (¬ SomeReady (length scheduler.old.table.seats.items) scheduler.old.list.deques)) }

@@ -1,5 +1,6 @@
 -- What can be lowered: each name has a slot, each call has a function, and there are not too many of them.
 use Rattle.std.specs.Prelude.{◌≡◌, ℕ, ◌≤◌, true, List, [], ◌∷◌, length, Option, Some, None}
+use Rattle.language_limits.specs.declared.TheConstants.{GREATEST_COUNT}
 use Rattle.par_tree.specs.Tree
 use Rattle.par_tree.specs.Tree.{Name, Expr, num, var, get, len_of, neg, chain, cmp, Links, last, link, Target, unused, block, Arg, value, lend, give, Stmt, let_stmt, assign_stmt, put_stmt, alloc_stmt, free_stmt, if_stmt, while_stmt, call_stmt, print_stmt, par_stmt, split_stmt, Body, done, step, RetValue, gives, hands, Ret, Func, Program}
 use Rattle.par_ownership.specs.Ownership.{main_name}
@@ -79,7 +80,7 @@ most_slots = 65535
 
 -- so many nodes have numbers
 abbrev pub most_nodes : ℕ
-most_nodes = 4294967295
+most_nodes = GREATEST_COUNT
 
 -- a function whose names have slots
 pub record HasFunc (functions : List Name) (f : Func) : Type 0 where

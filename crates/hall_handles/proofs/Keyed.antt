@@ -1,7 +1,7 @@
 -- The key of the hall of a core is one.
 use Rattle.std.proofs.Common.{◌≡◌, ℕ, List, ◌<◌, ◌≤◌, sym, ap, ◌∙◌, subst}
 use Rattle.std.proofs.Math.Logic.{∥∥₁_elim, ∥∥₁_prop}
-use Rattle.language_limits.specs.declared.TheConstants.{MOST_WORKERS}
+use Rattle.language_limits.specs.declared.TheConstants.{GREATEST_COUNT, MOST_WORKERS}
 use Rattle.block_arena.specs.declared.size.TheConstants.{MAX_WORDS}
 use Rattle.depth_first_list.specs.Actions.{record_words}
 use Rattle.deque_machine.specs.Terms.{Terms}
@@ -21,5 +21,5 @@ key_is core key items root quota terms few = record {
   some_worker = subst (λ (t : Terms). 1 ≤ t.workers) (sym terms) core.some_workers;
   few_workers = subst (λ (t : Terms). t.workers ≤ MOST_WORKERS) (sym terms) core.few_workers;
   few_words = few;
-  few_actions = subst (λ (t : Terms). t.limits.actions < 4294967295) (sym terms) core.few;
+  few_actions = subst (λ (t : Terms). t.limits.actions < GREATEST_COUNT) (sym terms) core.few;
 }

@@ -1,6 +1,6 @@
 -- What is fixed for a hall, as definitions speak of it.
 use Rattle.std.specs.Prelude.{ℕ, ◌≤◌, ◌<◌}
-use Rattle.language_limits.specs.declared.TheConstants.{MOST_WORKERS}
+use Rattle.language_limits.specs.declared.TheConstants.{GREATEST_COUNT, MOST_WORKERS}
 use Rattle.block_arena.specs.declared.size.TheConstants.{MAX_WORDS}
 use Rattle.hall_law.specs.Passed.Actions.{record_words}
 use Rattle.hall_law.specs.Passed.Terms.{Terms, given_terms}
@@ -28,4 +28,4 @@ pub record IsKey (key : HallKey) : Type 0 where
   pub some_worker : 1 ≤ key.workers
   pub few_workers : key.workers ≤ MOST_WORKERS
   pub few_words : key.capacity ≤ MAX_WORDS
-  pub few_actions : key.actions < 4294967295
+  pub few_actions : key.actions < GREATEST_COUNT

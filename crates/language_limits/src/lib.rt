@@ -60,3 +60,6 @@ pub const MOST_TRAIL: u32 = 33_554_432;
 
 /// The most actions that a trail may allow a play.
 pub const MOST_TRAIL_ACTIONS: u32 = 400_000;
+
+/// The greatest count: of the actions of a thread, of the periods begun, of the lines of an output, of the entries of a list.
+pub const GREATEST_COUNT: u32 = 4_294_967_295;

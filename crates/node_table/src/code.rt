@@ -1,5 +1,6 @@
 ghost use Rattle.std.specs.Prelude.{◌≤◌};
 ghost use Rattle.std.specs.Vec.{vec_len};
+ghost use Rattle.language_limits.specs.declared.TheConstants.{GREATEST_COUNT};
 ghost use Rattle.node_table.specs.Programs.{IsAcceptedTable};
 ghost use Rattle.node_table.specs.Shown.{table_shown};
 
@@ -12,6 +13,6 @@ pub struct Code {
     pub(crate) nodes: Vec<Node>,
     pub(crate) funcs: Vec<FuncCode>,
     pub(crate) main: u32,
-    ghost numbered: { vec_len nodes ≤ 4294967295 },
+    ghost numbered: { vec_len nodes ≤ GREATEST_COUNT },
     ghost accepted: { IsAcceptedTable (table_shown nodes.items funcs.items main) },
 }

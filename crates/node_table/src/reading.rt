@@ -1,3 +1,5 @@
+ghost use Rattle.language_limits.specs.declared.TheConstants.{GREATEST_COUNT};
+
 use crate::code::Code;
 use crate::copies::{copy_functions, copy_nodes};
 use crate::func_code::FuncCode;
@@ -12,7 +14,7 @@ impl Code {
 
     /// The code of a table, which is that of some program that keeps the rules of ownership.
     pub fn of(nodes: Vec<Node>, funcs: Vec<FuncCode>, main: u32) -> Code
-        requires numbered { length nodes.items ≤ 4294967295 }
+        requires numbered { length nodes.items ≤ GREATEST_COUNT }
         requires accepted { IsAcceptedTable (table_shown nodes.items funcs.items main) }
         ensures { code_shown result ≡ table_shown nodes.items funcs.items main }
     {

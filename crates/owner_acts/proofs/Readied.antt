@@ -1,6 +1,7 @@
 -- What an owner's call that is ready knows.
 use Rattle.std.proofs.Common.{◌≡◌, ℕ, ◌+◌, ◌-◌, ◌≤◌, ◌<◌, List, sym, ap, ◌∙◌, subst, arith}
 use Rattle.std.specs.Prelude.{pos}
+use Rattle.language_limits.specs.declared.TheConstants.{GREATEST_COUNT}
 use Rattle.block_arena.specs.Region.{Region, with_taken, with_given}
 use Rattle.deque_list.specs.Lanes.{LaneView}
 use Rattle.lawful_books.specs.Lists.{Each}
@@ -27,7 +28,7 @@ module _ (key : HallKey) (seat : HallSeat) (taken : LaneSlot → List (ℕ × Sl
   pub placed : IsPlaced top
   placed = ∣ (table_of key, quota_of key, is.point) ∣₁
 
-  pub count : done_of top < 4294967295
+  pub count : done_of top < GREATEST_COUNT
   count = let few = is.few in let done = is.done in omega (arith, few, done)
 
   pub fits : running.period.used ≤ 1048576

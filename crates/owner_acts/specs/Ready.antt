@@ -3,7 +3,7 @@ use Rattle.std.specs.Prelude.{◌≡◌, ℕ, ◌≤◌, ◌<◌, List}
 use Rattle.deque_list.specs.declared.deque_id.DequeId.{DequeId}
 use Rattle.deque_list.specs.Lanes.{LaneView}
 use Rattle.depth_first_list.specs.Actions.{record_words}
-use Rattle.language_limits.specs.declared.TheConstants.{GREATEST_QUOTA}
+use Rattle.language_limits.specs.declared.TheConstants.{GREATEST_COUNT, GREATEST_QUOTA}
 use Rattle.lawful_books.specs.Lists.{Each}
 use Rattle.space_ledger.specs.MovesList.{moves_spare}
 use Rattle.thread_frames.specs.Points.{IsAtPoint}
@@ -30,7 +30,7 @@ pub record IsReady (key : HallKey) (seat : HallSeat) (taken : LaneSlot → List 
     (top : Thread) (more ready : ℕ) : Type 0 where
   pub quota : record_words ≤ quota_of key
   pub small : quota_of key ≤ GREATEST_QUOTA
-  pub few : key.actions < 4294967295
+  pub few : key.actions < GREATEST_COUNT
   pub lane : LaneSlot
   pub at : IsAtAction lane top threads.items running.worker running.period
   pub holds : seat.hand.holds ≡ taken lane

@@ -3,6 +3,7 @@ use Rattle.std.proofs.Common.{◌≡◌, ℕ, ◌≤◌, ◌<◌, List, ◌∷�
 use Rattle.std.proofs.lemmas.Option.{none-some}
 use Rattle.std.specs.Option.{option_map}
 use Rattle.std.specs.Prelude.{Option, None, Some}
+use Rattle.language_limits.specs.declared.TheConstants.{GREATEST_COUNT}
 use Rattle.deque_list.specs.Lanes.{LaneView}
 use Rattle.deque_list.specs.declared.deque_id.DequeId.{DequeId}
 use Rattle.dummy_tree.specs.QuotaWords.{quota_words}
@@ -91,7 +92,7 @@ module _ (key : HallKey) (seat : HallSeat) (deque : DequeId) (was lane : LaneSlo
     done : done_of top ≤ key.actions
     done = subst (λ t. done_of t ≤ key.actions) top_was r.reads.done
 
-    pub few : done_of top < 4294967295
+    pub few : done_of top < GREATEST_COUNT
     few = let its = done in let actions = r.is_key.few_actions in omega (arith, its, actions)
 
     pub period_is : option_map running_shown was.running ≡ Some (open_shown running.worker running.period)

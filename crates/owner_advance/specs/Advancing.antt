@@ -5,7 +5,7 @@ use Rattle.bounded_list.specs.BoundedList.{spare}
 use Rattle.deque_list.specs.declared.deque_id.DequeId.{DequeId}
 use Rattle.depth_first_list.specs.Actions.{record_words}
 use Rattle.dummy_tree.specs.declared.quota.Quota.{Quota}
-use Rattle.language_limits.specs.declared.TheConstants.{GREATEST_QUOTA}
+use Rattle.language_limits.specs.declared.TheConstants.{GREATEST_COUNT, GREATEST_QUOTA}
 use Rattle.lawful_books.specs.Lists.{Each}
 use Rattle.node_table.specs.declared.code.Code.{Code}
 use Rattle.run_end.specs.declared.stop.Stop.TheVariants.{OutOfMemory as NoMemory}
@@ -44,7 +44,7 @@ pub record MayCome (seat : HallSeat) (deque : DequeId) : Type 0 where
 pub record IsWithin (key : HallKey) (at : AtNext) : Type 0 where
   pub quota : record_words ≤ quota_of key
   pub small : quota_of key ≤ GREATEST_QUOTA
-  pub few : key.actions < 4294967295
+  pub few : key.actions < GREATEST_COUNT
   pub used : at.running.period.used ≤ quota_of key
   pub done : done_of at.top ≤ key.actions
 

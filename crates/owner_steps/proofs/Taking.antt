@@ -26,6 +26,7 @@ use Rattle.deque_machine.specs.Runs.{Pair}
 use Rattle.period_books.specs.Periods.{Period}
 use Rattle.period_table.specs.Tables.{period_at, deque_at}
 use Rattle.std.proofs.lemmas.Option.{same_Some}
+use Rattle.language_limits.specs.declared.TheConstants.{GREATEST_COUNT}
 use Rattle.thread_frames.specs.Views.{thread_words, next_of, done_of, children_of}
 use Rattle.thread_frames.specs.Actions.{IsStill, IsOfTheList, JoinsNewest}
 use Rattle.thread_frames.specs.declared.next.Next.{Next}
@@ -176,9 +177,9 @@ taken_out t k limit s first worker id top sound seat same item =
     (its.1, subst (λ x. Stands s.list worker id (x ∷ its.1)) top_is its.2)
 
 -- the thread that was taken out and went on is before its next action
-pub is_before : (t : Table) (k limit : ℕ) → k ≤ 1048576 → limit < 4294967295 → (s taken : Scheduler) (worker : ℕ) (id : DequeId) (top now : Thread) (next : Next)
+pub is_before : (t : Table) (k limit : ℕ) → k ≤ 1048576 → limit < GREATEST_COUNT → (s taken : Scheduler) (worker : ℕ) (id : DequeId) (top now : Thread) (next : Next)
     (takes : TakesTop worker id top s taken) → IsSound t k (terms_of s limit) (held s) → CanGoOn t k (held s) → IsStill top now → IsAtPoint t k now
-    → next_of now ≡ Some next → done_of now < 4294967295
+    → next_of now ≡ Some next → done_of now < GREATEST_COUNT
     → ((c : Setting) → IsSettingOf t k c → ∥ IsOfTheList c now next ∥₁) → JoinsNewest next (children_of now) → IsBeforeAction t k limit taken worker id now next
 is_before t k limit most limited s taken worker id top now next takes sound points still point is_next few of_the_list newest =
     let stands : Stands taken.list worker id takes.items = takes.stands in

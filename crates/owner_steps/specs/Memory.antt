@@ -1,6 +1,6 @@
 -- What is asked for before an event, and what an action of a top thread needs.
 use Rattle.std.specs.Prelude.{◌≡◌, ◌≤◌, ◌<◌, ◌+◌, ℕ, Some, None, List, pos, IsTrue, IsSome}
-use Rattle.language_limits.specs.declared.TheConstants.{GREATEST_QUOTA}
+use Rattle.language_limits.specs.declared.TheConstants.{GREATEST_COUNT, GREATEST_QUOTA}
 use Rattle.deque_list.specs.declared.deque_id.DequeId.{DequeId}
 use Rattle.deque_list.specs.DequeLists.{lane_room}
 use Rattle.depth_first_list.specs.Actions.{record_words}
@@ -35,7 +35,7 @@ pub record HasMemory (threads : ℕ) (s : Scheduler) (worker : ℕ) (id : DequeI
 pub record CanAct (s : Scheduler) (worker : ℕ) (id : DequeId) (top : Thread) (next : Next) : Type 0 where
   pub placed : IsPlaced top
   pub is_next : next_of top ≡ Some next
-  pub few : done_of top < 4294967295
+  pub few : done_of top < GREATEST_COUNT
   pub stands : (items : List Thread) × Stands s.list worker id items
   pub memory : HasMemory 2 s worker id
   pub sum : total_change (moves_list s.moves) ≡ pos s.pool.live

@@ -1,5 +1,6 @@
 -- What a step of a worker needs, and what it comes to.
 use Rattle.std.specs.Prelude.{◌<◌, ℕ, List, Result, Ok, Err}
+use Rattle.language_limits.specs.declared.TheConstants.{GREATEST_COUNT}
 use Rattle.deque_list.specs.declared.deque_id.DequeId.{DequeId}
 use Rattle.depth_first_run.specs.States.{Setting}
 use Rattle.deque_machine.specs.Moments.{Moment}
@@ -24,7 +25,7 @@ use Rattle.owner_steps.specs.Memory.{CanAct}
 -- A thread that was taken from the top of a worker's deque is before its next action, and with it on top all is sound and can go on.
 pub record IsBeforeAction (t : Table) (k limit : ℕ) (s : Scheduler) (worker : ℕ) (id : DequeId) (top : Thread) (next : Next) : Type 0 where
   pub can : CanAct s worker id top next
-  pub limited : limit < 4294967295
+  pub limited : limit < GREATEST_COUNT
   pub sound : (items : List Thread) (stands : Stands s.list worker id items) → IsSound t k (terms_of s limit) (held_under s stands top)
   pub points : (items : List Thread) (stands : Stands s.list worker id items) → CanGoOn t k (held_under s stands top)
   pub of_the_list : (c : Setting) → IsSettingOf t k c → ∥ IsOfTheList c top next ∥₁

@@ -1,7 +1,7 @@
 //! The actions of a worker's top thread, counted and noted.
 
 ghost use Rattle.std.specs.Prelude.{◌≡◌, ◌≤◌, ◌<◌, ◌+◌, ◌++◌, pos};
-ghost use Rattle.language_limits.specs.declared.TheConstants.{MOST_WORDS};
+ghost use Rattle.language_limits.specs.declared.TheConstants.{GREATEST_COUNT, MOST_WORDS};
 ghost use Rattle.space_ledger.specs.MovesList.{moves_list, moves_spare};
 ghost use Rattle.space_ledger.specs.Sums.{total_change};
 ghost use Rattle.thread_frames.specs.Views.{done_of};
@@ -21,7 +21,7 @@ use thread_frames::{Next, Thread};
 /// Counts an action, and notes by how much it changed the words that are out, where it is a move.
 fn count(moves: &mut Moves, done: &mut u32, name: ActionId, before: u64, after: u64, is_move: bool)
     requires room { 1 ≤ moves_spare moves.old }
-    requires few { done.old < 4294967295 }
+    requires few { done.old < GREATEST_COUNT }
     requires sum { total_change (moves_list moves.old) ≡ pos before }
     requires after { after ≤ MOST_WORDS }
     requires before { before ≤ MOST_WORDS }
@@ -48,7 +48,7 @@ pub(crate) fn act(
     charge: u32,
 ) -> ActionId
     requires can { CanAct scheduler.old worker deque top next }
-    requires counted { scheduler.old.done < 4294967295 }
+    requires counted { scheduler.old.done < GREATEST_COUNT }
     requires may { MayAct charge scheduler.old worker deque top next }
     ensures { Acts next (IsCharged charge next) worker deque top scheduler.old scheduler.new result }
 {

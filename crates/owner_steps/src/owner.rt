@@ -1,7 +1,7 @@
 //! The step of a worker that owns a deque.
 
 ghost use Rattle.std.specs.Prelude.{◌≡◌, ◌≢◌, ◌≤◌, ◌<◌, ℕ, List as AnyList, Some, Err};
-ghost use Rattle.language_limits.specs.declared.TheConstants.{GREATEST_QUOTA};
+ghost use Rattle.language_limits.specs.declared.TheConstants.{GREATEST_COUNT, GREATEST_QUOTA};
 ghost use Rattle.dummy_tree.specs.QuotaWords.{quota_words};
 ghost use Rattle.node_table.specs.Codes.{code_shown};
 ghost use Rattle.node_table.specs.Table.{Table};
@@ -112,7 +112,7 @@ pub fn step_of_owner(
     requires sound { IsSound (code_shown code.now) (quota_words k) (terms_of scheduler.old limit) (held scheduler.old) }
     requires points { CanGoOn (code_shown code.now) (quota_words k) (held scheduler.old) }
     requires owner { (id : DequeId) × (deque_at scheduler.old.table worker ≡ Some id) }
-    requires few { limit < 4294967295 }
+    requires few { limit < GREATEST_COUNT }
     requires done { scheduler.old.done ≤ limit }
     ensures sound { IsSound (code_shown code.now) (quota_words k) (terms_of scheduler.new limit) (held scheduler.new) }
     ensures points { result ≢ Err stops.OutOfMemory → CanGoOn (code_shown code.now) (quota_words k) (held scheduler.new) }

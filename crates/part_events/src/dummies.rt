@@ -2,7 +2,7 @@
 
 ghost use Rattle.std.specs.Prelude.{◌≡◌, ◌≤◌, ◌<◌, []};
 ghost use Rattle.bounded_list.specs.BoundedList.{entries, spare};
-ghost use Rattle.language_limits.specs.declared.TheConstants.{GREATEST_QUOTA};
+ghost use Rattle.language_limits.specs.declared.TheConstants.{GREATEST_COUNT, GREATEST_QUOTA};
 ghost use Rattle.thread_frames.specs.Actions.{IsDummy};
 ghost use Rattle.thread_frames.specs.Points.{IsPlaced};
 ghost use Rattle.thread_frames.specs.Views.{next_of, done_of};
@@ -26,7 +26,7 @@ pub fn do_dummy(
 ) -> ActionId
     requires placed { IsPlaced top }
     requires next { IsDummy (next_of top) }
-    requires count { done_of top < 4294967295 }
+    requires count { done_of top < GREATEST_COUNT }
     requires room { HasRoomHere 1 lane.old period.old (spare first.old) }
     requires none { entries first.old ≡ [] }
     requires fits { period.old.used ≤ GREATEST_QUOTA }

@@ -3,7 +3,7 @@
 ghost use Rattle.std.specs.Prelude.{◌≡◌, ◌≤◌, ◌<◌, ◌∷◌, [], List as AnyList, length, pos};
 ghost use Rattle.bounded_list.specs.BoundedList.{entries, spare};
 ghost use Rattle.block_arena.specs.Region.{with_given};
-ghost use Rattle.language_limits.specs.declared.TheConstants.{GREATEST_QUOTA};
+ghost use Rattle.language_limits.specs.declared.TheConstants.{GREATEST_COUNT, GREATEST_QUOTA};
 ghost use Rattle.space_ledger.specs.MovesList.{moves_list};
 ghost use Rattle.space_ledger.specs.Sums.{total_change};
 ghost use Rattle.thread_points.specs.Points.{words_at_end};
@@ -56,7 +56,7 @@ pub fn end_forked(
 ) -> (ActionId, Ended)
     requires placed { IsPlaced top.old }
     requires next { IsEnd (next_of top.old) }
-    requires count { done_of top.old < 4294967295 }
+    requires count { done_of top.old < GREATEST_COUNT }
     requires room { HasRoomIn period.old (spare first.old) }
     requires none { entries first.old ≡ [] }
     requires fits { period.old.used ≤ GREATEST_QUOTA }
@@ -85,7 +85,7 @@ pub fn end_root(
 ) -> (ActionId, Ended)
     requires placed { IsPlaced top.old }
     requires next { IsEnd (next_of top.old) }
-    requires count { done_of top.old < 4294967295 }
+    requires count { done_of top.old < GREATEST_COUNT }
     requires room { HasRoomIn period.old (spare first.old) }
     requires none { entries first.old ≡ [] }
     requires fits { period.old.used ≤ GREATEST_QUOTA }
@@ -113,7 +113,7 @@ pub fn end_above(
 ) -> ActionId
     requires placed { IsPlaced top.old }
     requires next { IsEnd (next_of top.old) }
-    requires count { done_of top.old < 4294967295 }
+    requires count { done_of top.old < GREATEST_COUNT }
     requires room { HasRoomIn period.old (spare first.old) }
     requires none { entries first.old ≡ [] }
     requires fits { period.old.used ≤ GREATEST_QUOTA }

@@ -4,7 +4,7 @@ ghost use Rattle.std.specs.Prelude.{◌≡◌, ◌≤◌, ◌<◌, ◌+◌, ◌�
 ghost use Rattle.bounded_list.specs.BoundedList.{entries, spare};
 ghost use Rattle.block_arena.specs.Region.{with_taken};
 ghost use Rattle.depth_first_list.specs.Actions.{record_words};
-ghost use Rattle.language_limits.specs.declared.TheConstants.{GREATEST_QUOTA};
+ghost use Rattle.language_limits.specs.declared.TheConstants.{GREATEST_COUNT, GREATEST_QUOTA};
 ghost use Rattle.period_books.specs.Periods.{open_shown};
 ghost use Rattle.period_table.specs.Tables.{noted};
 ghost use Rattle.space_ledger.specs.MovesList.{moves_list};
@@ -80,7 +80,7 @@ pub fn do_fork(
 ) -> ActionId
     requires placed { IsPlaced top }
     requires next { IsFork (next_of top) }
-    requires count { done_of top < 4294967295 }
+    requires count { done_of top < GREATEST_COUNT }
     requires room { HasRoomHere 2 lane.old period.old (spare first.old) }
     requires none { entries first.old ≡ [] }
     requires fits { period.old.used + record_words ≤ GREATEST_QUOTA }

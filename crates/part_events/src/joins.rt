@@ -4,7 +4,7 @@ ghost use Rattle.std.specs.Prelude.{◌≡◌, ◌≤◌, ◌<◌, [], pos, IsTr
 ghost use Rattle.bounded_list.specs.BoundedList.{entries, spare};
 ghost use Rattle.block_arena.specs.Region.{with_given};
 ghost use Rattle.dag_order.specs.declared.thread_id.ThreadId.{ThreadId};
-ghost use Rattle.language_limits.specs.declared.TheConstants.{GREATEST_QUOTA};
+ghost use Rattle.language_limits.specs.declared.TheConstants.{GREATEST_COUNT, GREATEST_QUOTA};
 ghost use Rattle.space_ledger.specs.MovesList.{moves_list};
 ghost use Rattle.space_ledger.specs.Sums.{total_change};
 ghost use Rattle.thread_frames.specs.Actions.{IsJoin, is_there};
@@ -35,7 +35,7 @@ pub fn do_join(
     requires placed { IsPlaced top }
     requires next { IsJoin (next_of top) }
     requires delivered { IsTrue (is_there (newest (children_of top))) }
-    requires count { done_of top < 4294967295 }
+    requires count { done_of top < GREATEST_COUNT }
     requires words { join_words_of top ≡ 0 }
     requires room { HasRoomHere 1 lane.old period.old (spare first.old) }
     requires none { entries first.old ≡ [] }
@@ -62,7 +62,7 @@ pub fn do_join_giving(
     requires placed { IsPlaced top }
     requires next { IsJoin (next_of top) }
     requires delivered { IsTrue (is_there (newest (children_of top))) }
-    requires count { done_of top < 4294967295 }
+    requires count { done_of top < GREATEST_COUNT }
     requires words { 0 < join_words_of top }
     requires room { HasRoomHere 1 lane.old period.old (spare first.old) }
     requires none { entries first.old ≡ [] }

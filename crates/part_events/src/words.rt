@@ -4,7 +4,7 @@ ghost use Rattle.std.specs.Prelude.{◌≡◌, ◌≤◌, ◌<◌, ◌+◌, [], 
 ghost use Rattle.bounded_list.specs.BoundedList.{entries, spare};
 ghost use Rattle.block_arena.specs.Region.{with_taken, with_given};
 ghost use Rattle.dag_order.specs.declared.fault.FaultAt.{FaultAt};
-ghost use Rattle.language_limits.specs.declared.TheConstants.{GREATEST_QUOTA};
+ghost use Rattle.language_limits.specs.declared.TheConstants.{GREATEST_COUNT, GREATEST_QUOTA};
 ghost use Rattle.space_ledger.specs.MovesList.{moves_list};
 ghost use Rattle.space_ledger.specs.Sums.{total_change};
 ghost use Rattle.thread_frames.specs.Actions.{IsAlloc, IsRelease, IsFault};
@@ -37,7 +37,7 @@ pub fn do_alloc(
 ) -> ActionId
     requires placed { IsPlaced top }
     requires next { IsAlloc (next_of top) }
-    requires count { done_of top < 4294967295 }
+    requires count { done_of top < GREATEST_COUNT }
     requires room { HasRoomHere 1 lane.old period.old (spare first.old) }
     requires none { entries first.old ≡ [] }
     requires fits { period.old.used + charge ≤ GREATEST_QUOTA }
@@ -73,7 +73,7 @@ pub fn do_release(
 ) -> ActionId
     requires placed { IsPlaced top }
     requires next { IsRelease (next_of top) }
-    requires count { done_of top < 4294967295 }
+    requires count { done_of top < GREATEST_COUNT }
     requires room { HasRoomHere 1 lane.old period.old (spare first.old) }
     requires none { entries first.old ≡ [] }
     requires fits { period.old.used ≤ GREATEST_QUOTA }
@@ -106,7 +106,7 @@ pub fn do_fault(
 ) -> ActionId
     requires placed { IsPlaced top }
     requires next { IsFault (next_of top) }
-    requires count { done_of top < 4294967295 }
+    requires count { done_of top < GREATEST_COUNT }
     requires room { HasRoomHere 1 lane.old period.old (spare first.old) }
     requires none { entries first.old ≡ [] }
     requires fits { period.old.used ≤ GREATEST_QUOTA }

@@ -1,5 +1,5 @@
 ghost use Rattle.std.specs.Prelude.{◌≡◌, ◌≢◌, ◌≤◌, ◌<◌, ◌+◌, [], ℕ, None, Some, IfOk, OnOk, option_copied, length, slice_get, slice_set};
-ghost use Rattle.language_limits.specs.declared.TheConstants.{GREATEST_QUOTA};
+ghost use Rattle.language_limits.specs.declared.TheConstants.{GREATEST_COUNT, GREATEST_QUOTA};
 ghost use Rattle.bounded_list.specs.BoundedList.{entries, spare};
 ghost use Rattle.space_ledger.specs.BooksList.{books_spare};
 ghost use Rattle.period_books.specs.Periods.{Period as AnyPeriod, Adds, Replaces, open_shown};
@@ -104,7 +104,7 @@ impl PeriodTable {
         requires within { worker < length self.old.seats.items }
         requires idle { seat_at self.old worker ≡ None }
         requires number { period.number ≡ self.old.begun + 1 }
-        requires few { self.old.begun < 4294967295 }
+        requires few { self.old.begun < GREATEST_COUNT }
         ensures periods { Adds (periods_of self.old) (open_shown worker period) (periods_of self.new) }
         ensures begun { self.new.begun ≡ self.old.begun + 1 }
         ensures workers { length self.new.seats.items ≡ length self.old.seats.items }

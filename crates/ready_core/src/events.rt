@@ -1,7 +1,7 @@
 //! The event of a worker, whether it is idle or not.
 
 ghost use Rattle.std.specs.Prelude.{◌≡◌, ◌≢◌, ◌<◌, ◌≤◌, ◌+◌, ◌/◌, ◌↔◌, ℕ, List as AnyList, None, Some, Ok, Err, OnOk, length};
-ghost use Rattle.language_limits.specs.declared.TheConstants.{MOST_WORKERS};
+ghost use Rattle.language_limits.specs.declared.TheConstants.{GREATEST_COUNT, MOST_WORKERS};
 ghost use Rattle.depth_first_run.specs.States.{Setting};
 ghost use Rattle.deque_list.specs.declared.deque_id.DequeId.{DequeId};
 ghost use Rattle.deque_machine.specs.Moments.{Moment};
@@ -67,7 +67,7 @@ fn event_of_entry(
     requires points { CanGoOn (code_shown code.now) (quota_words k) (held scheduler.old) }
     requires owner { (id : DequeId) × (deque_at scheduler.old.table worker ≡ Some id) }
     requires within { worker < length scheduler.old.table.seats.items }
-    requires few { limit < 4294967295 }
+    requires few { limit < GREATEST_COUNT }
     requires done { scheduler.old.done ≤ limit }
     requires most { scheduler.old.list.most ≡ 1 + scheduler.old.pool.capacity / 16 }
     requires ready { StandsReady (code_shown code.now) (quota_words k) (terms_of scheduler.old limit) (held scheduler.old) }
@@ -109,7 +109,7 @@ pub(crate) fn event_of(
     requires points { CanGoOn (code_shown code.now) (quota_words k) (held scheduler.old) }
     requires within { worker < length scheduler.old.table.seats.items }
     requires workers { length scheduler.old.table.seats.items ≤ MOST_WORKERS }
-    requires few { limit < 4294967295 }
+    requires few { limit < GREATEST_COUNT }
     requires done { scheduler.old.done ≤ limit }
     requires most { scheduler.old.list.most ≡ 1 + scheduler.old.pool.capacity / 16 }
     requires ready { StandsReady (code_shown code.now) (quota_words k) (terms_of scheduler.old limit) (held scheduler.old) }

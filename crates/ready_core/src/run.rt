@@ -1,4 +1,5 @@
 ghost use Rattle.std.specs.Prelude.{◌≡◌, ◌<◌, ◌≤◌, ◌+◌, ◌/◌, ◌↔◌, List as AnyList, [], None, Some, Ok, Err, IfOk, IsTrue, length, pos};
+ghost use Rattle.language_limits.specs.declared.TheConstants.{GREATEST_COUNT};
 ghost use Rattle.bounded_list.specs.BoundedList.{entries};
 ghost use Rattle.depth_first_run.specs.States.{Setting, State};
 ghost use Rattle.depth_first_run.specs.Run.{whole, lines_of, list_of};
@@ -44,7 +45,7 @@ pub struct AsyncCore {
     pub ghost sound: { IsSound (code_shown code) (quota_words k) (terms_of scheduler limit) (held scheduler) },
     pub ghost points: { end ≡ None → CanGoOn (code_shown code) (quota_words k) (held scheduler) },
     pub ghost somewhere: { IsSomewhere (code_shown code) (quota_words k) (terms_of scheduler limit) (held scheduler) end },
-    pub ghost few: { limit < 4294967295 },
+    pub ghost few: { limit < GREATEST_COUNT },
     pub ghost most_is: { scheduler.list.most ≡ 1 + scheduler.pool.capacity / 16 },
     pub ghost some_workers: { 1 ≤ length scheduler.table.seats.items },
     pub ghost few_workers: { length scheduler.table.seats.items ≤ MOST_WORKERS },

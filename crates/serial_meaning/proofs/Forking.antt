@@ -2,6 +2,7 @@
 use Rattle.std.proofs.Common.{◌≡◌, ◌⊎◌, inl, inr, ℕ, suc, ◌+◌, ◌≤◌, List, [], ◌∷◌, ◌++◌, length, refl, sym, ap, subst, arith, length-append}
 use Rattle.std.specs.Prelude.{Bool, false, min, reverse}
 use Rattle.std.specs.List.{AllZip}
+use Rattle.language_limits.specs.declared.TheConstants.{GREATEST_COUNT}
 use Rattle.dag_order.specs.Births.{HasLabel}
 use Rattle.dag_order.specs.LabelOrder.{fork_of}
 use Rattle.dag_order.specs.declared.birth.Birth.{Birth}
@@ -31,7 +32,7 @@ fork_beyond limit c named s full =
     let more = one_action s.items (action_named s.label s.done (deeds.forks (suc s.forks)) record_words) in by_count (omega (arith, more, full))
 
 -- a Fork by a thread that counts no further, in its actions or in its forks, is beyond each limit
-pub fork_late : (limit : ℕ) (births : List Birth) (c : Setting) (named : Name → Bool) (t : Thread) (s : State) → IsThread births t s → (4294967295 ≤ t.done) ⊎ (4294967295 ≤ t.forks)
+pub fork_late : (limit : ℕ) (births : List Birth) (c : Setting) (named : Name → Bool) (t : Thread) (s : State) → IsThread births t s → (GREATEST_COUNT ≤ t.done) ⊎ (GREATEST_COUNT ≤ t.forks)
     → IsBeyond limit (child_of c named s)
 fork_late limit births c named t s is (inl late) =
     let same : s.done ≡ t.done = ap (λ (v : State). v.done) is.shown in
@@ -43,7 +44,7 @@ fork_late limit births c named t s is (inr late) =
 -- a child as it begins
 pub child_begins : (births : List Birth) (k : ℕ) (program : Program) (named : Name → Bool) (t child : Thread) (label : List ℕ) (items : List Item)
     → child.done ≡ 0 → child.forks ≡ 0 → child.faulted ≡ false → store_shown child.store ≡ child_store named (store_shown t.store) → child.callers.items ≡ [] → child.calls ≡ t.calls
-    → child.turns ≡ 1000000 → HasLabel (births ∷ []) child.id (fork_of label (suc t.forks)) → child.depth ≡ min (t.depth + 1) 4294967295 → t.depth ≡ depth_of label
+    → child.turns ≡ 1000000 → HasLabel (births ∷ []) child.id (fork_of label (suc t.forks)) → child.depth ≡ min (t.depth + 1) GREATEST_COUNT → t.depth ≡ depth_of label
     → IsThread births child (child_of (setting_of program k) named (thread_state t label items))
 child_begins births k program named t child label items done forks fine store callers calls turns labelled deeper deep = record {
   shown = λ i. record {

@@ -2,6 +2,7 @@
 use Rattle.std.proofs.Common.{inl, inr, ◌≡◌, ℕ, suc, ◌<◌, ◌≤◌, List, [], ◌∷◌, length, ℤ, Bool, true, false, Result, Ok, Err, MatchResult, Option, Some, None, refl, sym, ◌∙◌, ap, subst, arith}
 use Rattle.std.specs.Prelude.{is_some, nat_lt, min, ◌⊎◌}
 use Rattle.std.proofs.lemmas.Bool.{lt-ltb, le-ltb, le-leb, lt-leb}
+use Rattle.language_limits.specs.declared.TheConstants.{GREATEST_COUNT}
 use Rattle.dummy_tree.specs.Shapes.{Shape}
 use Rattle.depth_first_list.specs.Runs.{tree_for}
 use Rattle.dag_order.specs.Births.{HasLabel}
@@ -147,16 +148,16 @@ pub both_never : (c : Setting) (line : ℕ) (a b : Body) (within : Bool) (fs : L
     → middle fs (with_fault faults.Depth line s) ≡ step_par within c line a b fs s
 both_never c line a b within fs s is = ap (λ (t : Bool). step_par t c line a b fs s) (sym is)
 
-pub forks_within : (limit : ℕ) (r : Runner) (s : State) (most : ℕ) → most ≤ 4294967295 → Is limit r s → r.thread.depth < most → nat_lt (length s.label) most ≡ true
+pub forks_within : (limit : ℕ) (r : Runner) (s : State) (most : ℕ) → most ≤ GREATEST_COUNT → Is limit r s → r.thread.depth < most → nat_lt (length s.label) most ≡ true
 forks_within limit r s most fits is few = lt-ltb (length s.label) most (below (length s.label) (subst (λ (n : ℕ). n < most) is.thread.deep few))
   where
-    below : (n : ℕ) → min n 4294967295 < most → n < most
+    below : (n : ℕ) → min n GREATEST_COUNT < most → n < most
     below n lt = omega arith
 
 pub forks_beyond : (limit : ℕ) (r : Runner) (s : State) (most : ℕ) → Is limit r s → most ≤ r.thread.depth → nat_lt (length s.label) most ≡ false
 forks_beyond limit r s most is many = le-ltb (length s.label) most (above (length s.label) (subst (λ (n : ℕ). most ≤ n) is.thread.deep many))
   where
-    above : (n : ℕ) → most ≤ min n 4294967295 → most ≤ n
+    above : (n : ℕ) → most ≤ min n GREATEST_COUNT → most ≤ n
     above n le = omega arith
 
 -- an allocation of no length of a block; one that the quota covers; and one behind its tree of dummies

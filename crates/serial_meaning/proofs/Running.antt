@@ -4,6 +4,7 @@ use Rattle.std.specs.Prelude.{reverse}
 use Rattle.std.specs.List.{AllZip}
 use Rattle.std.proofs.lemmas.List.{reverse-append, length-reverse}
 use Rattle.std.proofs.lemmas.Slice.Zip.{AllZip-long}
+use Rattle.language_limits.specs.declared.TheConstants.{GREATEST_COUNT}
 use Rattle.dag_order.specs.declared.birth.Birth.{Birth}
 use Rattle.depth_first_list.specs.Actions as deeds
 use Rattle.depth_first_list.specs.Actions.{Deed, forks, joins, allocates, releases, dummy, faults, ends, Action}
@@ -76,7 +77,7 @@ late_to_come items new last grown late =
     subst HasLate (sym (actions_more last.items (end ∷ []))) (late_more (actions_of last.items) (actions_of (end ∷ [])) before)
 
 -- a depth-first list with a late action is long
-late_place : (l : List Action) → HasLate l → (i : ℕ) × (i < length l) × ((4294967295 ≤ index_at l i) ⊎ IsLateDeed (deed_at l i))
+late_place : (l : List Action) → HasLate l → (i : ℕ) × (i < length l) × ((GREATEST_COUNT ≤ index_at l i) ⊎ IsLateDeed (deed_at l i))
 late_place [] never = absurd never
 late_place (a ∷ l) (inl here) = (0, omega arith, here)
 late_place (a ∷ l) (inr later) = let there = late_place l later in let inside : there.0 < length l = there.1 in (suc there.0, omega arith, there.2)
@@ -90,7 +91,7 @@ late_ordinal dummy never = absurd never
 late_ordinal faults never = absurd never
 late_ordinal ends never = absurd never
 
-late_is_long : (k : ℕ) (l : List Action) → IsDepthFirst k l → HasLate l → 4294967295 < length l
+late_is_long : (k : ℕ) (l : List Action) → IsDepthFirst k l → HasLate l → GREATEST_COUNT < length l
 late_is_long k l run late =
     let there = late_place l late in
     let inside : there.0 < length l = there.1 in
@@ -105,7 +106,7 @@ late_is_long k l run late =
 pub has_more : (limit : ℕ) (c : Setting) → limit < 4294967296 → IsBeyond limit (whole c) → limit < length (actions_of (State.items (whole c)))
 has_more limit c fits (by_count many) = many
 has_more limit c fits (by_number late) =
-    let long : 4294967295 < length (actions_of (State.items (whole c))) = late_is_long c.quota (actions_of (State.items (whole c))) (whole_is_depth_first c) late in omega arith
+    let long : GREATEST_COUNT < length (actions_of (State.items (whole c))) = late_is_long c.quota (actions_of (State.items (whole c))) (whole_is_depth_first c) late in omega arith
 
 -- the actions so far are no more than those of the whole run
 pub more_to_come : (c : Setting) (limit : ℕ) (m : Middle) (w : State) → ended 0 (finished c m) ≡ w → IsBeyond limit m.state → IsBeyond limit w

@@ -25,6 +25,7 @@ use Rattle.serial_store.specs.Effects.{Puts}
 use Rattle.dag_order.specs.declared.fault.FaultKind.TheVariants as faults
 use Rattle.par_tree.specs.Tree.{Name}
 use Rattle.std.specs.Prelude.{true, false, slice_set}
+use Rattle.language_limits.specs.declared.TheConstants.{GREATEST_COUNT}
 use Rattle.serial_store.specs.Shown.{store_shown}
 use Rattle.serial_store.specs.declared.store.Store.{Store as RustStore}
 use Rattle.serial_journal.specs.declared.journal.Journal.{Journal}
@@ -82,15 +83,15 @@ late_more [] ys never = absurd never
 late_more (x ∷ xs) ys (inl here) = inl here
 late_more (x ∷ xs) ys (inr later) = inr (late_more xs ys later)
 
-pub late_last : (xs : List Action) (a : Action) → (4294967295 ≤ a.index) ⊎ IsLateDeed a.deed → HasLate (xs ++ a ∷ [])
+pub late_last : (xs : List Action) (a : Action) → (GREATEST_COUNT ≤ a.index) ⊎ IsLateDeed a.deed → HasLate (xs ++ a ∷ [])
 late_last [] a late = inl late
 late_last (x ∷ xs) a late = inr (late_last xs a late)
 
 -- behind an action that is late no count goes on
-pub acts_late : (items : List Item) (a : Action) → (4294967295 ≤ a.index) ⊎ IsLateDeed a.deed → HasLate (actions_of (items ++ acted a ∷ []))
+pub acts_late : (items : List Item) (a : Action) → (GREATEST_COUNT ≤ a.index) ⊎ IsLateDeed a.deed → HasLate (actions_of (items ++ acted a ∷ []))
 acts_late items a late = subst HasLate (sym (actions_more items (acted a ∷ []))) (late_last (actions_of items) a late)
 
-pub act_late : (limit : ℕ) (births : List Birth) (t : Thread) (deed : Deed) (words : ℕ) (s : State) → IsThread births t s → 4294967295 ≤ t.done → IsBeyond limit (with_action deed words s)
+pub act_late : (limit : ℕ) (births : List Birth) (t : Thread) (deed : Deed) (words : ℕ) (s : State) → IsThread births t s → GREATEST_COUNT ≤ t.done → IsBeyond limit (with_action deed words s)
 unfolding with_action
 act_late limit births t deed words s is late =
     let same : s.done ≡ t.done = ap (λ (v : State). v.done) is.shown in
@@ -102,7 +103,7 @@ stopped_by S StepsSpent cause = cause
 stopped_by S OutOfMemory cause = tt
 
 -- a count that goes no further
-pub count_ends : (o : Option ℕ) (n : ℕ) → SomeIff o (n + 1 < 4294967296) (n + 1) → o ≡ None → 4294967295 ≤ n
+pub count_ends : (o : Option ℕ) (n : ℕ) → SomeIff o (n + 1 < 4294967296) (n + 1) → o ≡ None → GREATEST_COUNT ≤ n
 count_ends None n counts none = elim (cases_lt (n + 1) 4294967296) [ inl lt ↦ absurd (counts lt) | inr ge ↦ omega arith ]
 count_ends (Some m) n counts none = let never : ⊥ = cc in absurd never
 

@@ -1,5 +1,6 @@
 -- The state that a thread is in, and what a call does to it.
 use Rattle.std.specs.Prelude.{◌≡◌, ◌⊎◌, ℕ, ◌+◌, ◌<◌, ◌≤◌, min, List, [], ◌∷◌, length, map, reverse, Result, MatchResult}
+use Rattle.language_limits.specs.declared.TheConstants.{GREATEST_COUNT}
 use Rattle.dag_order.specs.Births.{HasLabel}
 use Rattle.dag_order.specs.declared.birth.Birth.{Birth}
 use Rattle.dag_order.specs.declared.fault.FaultKind.{FaultKind}
@@ -37,7 +38,7 @@ thread_state t label items = record {
 
 -- how many forks stand above a thread, as far as 32 bits count
 abbrev pub depth_of : List ℕ → ℕ
-depth_of label = min (length label) 4294967295
+depth_of label = min (length label) GREATEST_COUNT
 
 -- a thread is in a state: by the births it has the state's label
 pub record IsThread (births : List Birth) (t : Thread) (s : State) : Type 0 where
@@ -63,7 +64,7 @@ IsLateDeed ends = ⊥
 
 abbrev pub HasLate : List Action → Type 0
 HasLate [] = ⊥
-HasLate (action ∷ later) = ((4294967295 ≤ action.index) ⊎ IsLateDeed action.deed) ⊎ HasLate later
+HasLate (action ∷ later) = ((GREATEST_COUNT ≤ action.index) ⊎ IsLateDeed action.deed) ⊎ HasLate later
 
 -- there are more actions than the limit, as their count shows, or a number of one of them
 pub data Exceeds (limit : ℕ) (items : List Item) : Type 0 where

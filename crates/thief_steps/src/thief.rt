@@ -1,4 +1,5 @@
 ghost use Rattle.std.specs.Prelude.{◌≡◌, ◌≢◌, ◌≤◌, ◌<◌, ◌+◌, ◌∷◌, ◌++◌, ◌↔◌, [], ℕ, List as AnyList, Option as AnyOption, None, Ok, Err, IfOk, length, slice_get};
+ghost use Rattle.language_limits.specs.declared.TheConstants.{GREATEST_COUNT};
 ghost use Rattle.depth_first_run.specs.States.{Setting};
 ghost use Rattle.deque_machine.specs.Moments.{Moment};
 ghost use Rattle.deque_machine.specs.Runs.{Pair};
@@ -29,7 +30,7 @@ use victim_choice::first_ready;
 /// Each number of a period is taken; memory is then said to be wanting. A run would have to begin 4,294,967,295 periods.
 fn next_number(table: &PeriodTable) -> Result<u32, Stop>
     ensures next { IfOk result (λ number. number ≡ table.now.begun + 1) }
-    ensures taken { (stop : AnyStop) → result ≡ Err stop → (stop ≡ stops.OutOfMemory) × (table.now.begun ≡ 4294967295) }
+    ensures taken { (stop : AnyStop) → result ≡ Err stop → (stop ≡ stops.OutOfMemory) × (table.now.begun ≡ GREATEST_COUNT) }
 {
     match table.begun().checked_add(1) {
         Some(number) => Ok(number),

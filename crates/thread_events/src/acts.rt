@@ -1,5 +1,5 @@
 ghost use Rattle.std.specs.Prelude.{◌≡◌, ◌≤◌, ◌<◌, ◌+◌, ◌↔◌, ℕ, List as AnyList, Some, IsErr, IfErr, OnOk, OnErr, IsTrue};
-ghost use Rattle.language_limits.specs.declared.TheConstants.{GREATEST_QUOTA};
+ghost use Rattle.language_limits.specs.declared.TheConstants.{GREATEST_COUNT, GREATEST_QUOTA};
 ghost use Rattle.block_arena.specs.Region.{with_taken, with_given};
 ghost use Rattle.deque_list.specs.DequeLists.{lane_room};
 ghost use Rattle.period_table.specs.Passed.Periods.{Period};
@@ -38,7 +38,7 @@ pub fn alloc(
 ) -> Result<(), (Boxed<Thread>, ArenaFull)>
     requires placed { IsPlaced top }
     requires next { IsAlloc (next_of top) }
-    requires count { done_of top < 4294967295 }
+    requires count { done_of top < GREATEST_COUNT }
     requires stands { (items : AnyList Thread) × Stands list.old worker deque items }
     requires room { 1 ≤ lane_room list.old deque }
     requires table { HasRoom table.old worker }
@@ -75,7 +75,7 @@ pub fn release(
 )
     requires placed { IsPlaced top }
     requires next { IsRelease (next_of top) }
-    requires count { done_of top < 4294967295 }
+    requires count { done_of top < GREATEST_COUNT }
     requires live { words_asked (next_of top) ≤ pool.old.live }
     requires stands { (items : AnyList Thread) × Stands list.old worker deque items }
     requires room { 1 ≤ lane_room list.old deque }
@@ -101,7 +101,7 @@ pub fn dummy(
 )
     requires placed { IsPlaced top }
     requires next { IsDummy (next_of top) }
-    requires count { done_of top < 4294967295 }
+    requires count { done_of top < GREATEST_COUNT }
     requires stands { (items : AnyList Thread) × Stands list.old worker deque items }
     requires room { 1 ≤ lane_room list.old deque }
     requires table { HasRoom table.old worker }
@@ -126,7 +126,7 @@ pub fn fault(
 )
     requires placed { IsPlaced top }
     requires next { IsFault (next_of top) }
-    requires count { done_of top < 4294967295 }
+    requires count { done_of top < GREATEST_COUNT }
     requires live { held_by top ≤ pool.old.live }
     requires stands { (items : AnyList Thread) × Stands list.old worker deque items }
     requires room { 1 ≤ lane_room list.old deque }
@@ -154,7 +154,7 @@ pub fn join(
     requires placed { IsPlaced top }
     requires next { IsJoin (next_of top) }
     requires delivered { IsTrue (is_there (newest (children_of top))) }
-    requires count { done_of top < 4294967295 }
+    requires count { done_of top < GREATEST_COUNT }
     requires live { join_words_of top ≤ pool.old.live }
     requires stands { (items : AnyList Thread) × Stands list.old worker deque items }
     requires room { 1 ≤ lane_room list.old deque }

@@ -1,6 +1,7 @@
 //! What a thread does in its next action, with the pool if the action takes or gives words. Nothing else of a scheduler is touched.
 
 ghost use Rattle.std.specs.Prelude.{◌≡◌, ◌≤◌, ◌<◌, ◌+◌, ◌↔◌, ℕ, IsErr, IfErr, IfOk, OnOk, OnErr, IsTrue};
+ghost use Rattle.language_limits.specs.declared.TheConstants.{GREATEST_COUNT};
 ghost use Rattle.block_arena.specs.Region.{with_taken, with_given};
 ghost use Rattle.dag_order.specs.declared.fault.FaultAt.{FaultAt};
 ghost use Rattle.depth_first_list.specs.Actions.{record_words};
@@ -41,7 +42,7 @@ pub fn name_of(thread: &Boxed<Thread>) -> ActionId
 pub fn alloc_done(top: &mut Boxed<Thread>, pool: &mut Pool) -> Result<ActionId, ArenaFull>
     requires placed { IsPlaced top.old }
     requires next { IsAlloc (next_of top.old) }
-    requires count { done_of top.old < 4294967295 }
+    requires count { done_of top.old < GREATEST_COUNT }
     ensures full { IsErr result ↔ (pool.old.capacity < pool.old.live + words_asked (next_of top.old)) }
     ensures refused { IfErr result (λ full. full ≡ record { live = pool.old.live; asked = words_asked (next_of top.old) }) }
     ensures same_top { OnErr result (top.new ≡ top.old) }
@@ -60,7 +61,7 @@ pub fn alloc_done(top: &mut Boxed<Thread>, pool: &mut Pool) -> Result<ActionId, 
 pub fn release_done(top: &mut Boxed<Thread>, pool: &mut Pool) -> ActionId
     requires placed { IsPlaced top.old }
     requires next { IsRelease (next_of top.old) }
-    requires count { done_of top.old < 4294967295 }
+    requires count { done_of top.old < GREATEST_COUNT }
     requires live { words_asked (next_of top.old) ≤ pool.old.live }
     ensures did { ActedAlone (nexts.Release (words_asked (next_of top.old))) 0 Always top.old top.new result }
     ensures point { StaysAtPoint top.old top.new }
@@ -75,7 +76,7 @@ pub fn release_done(top: &mut Boxed<Thread>, pool: &mut Pool) -> ActionId
 pub fn dummy_done(top: &mut Boxed<Thread>) -> ActionId
     requires placed { IsPlaced top.old }
     requires next { IsDummy (next_of top.old) }
-    requires count { done_of top.old < 4294967295 }
+    requires count { done_of top.old < GREATEST_COUNT }
     ensures did { ActedDummy top.old top.new result }
     ensures point { StaysAtPoint top.old top.new }
 {
@@ -88,7 +89,7 @@ pub fn dummy_done(top: &mut Boxed<Thread>) -> ActionId
 pub fn fault_done(top: &mut Boxed<Thread>, pool: &mut Pool) -> ActionId
     requires placed { IsPlaced top.old }
     requires next { IsFault (next_of top.old) }
-    requires count { done_of top.old < 4294967295 }
+    requires count { done_of top.old < GREATEST_COUNT }
     requires live { held_by top.old ≤ pool.old.live }
     ensures did { (at : FaultAt) → ActedAlone (nexts.Fault at) 0 Always top.old top.new result }
     ensures point { StaysAtPoint top.old top.new }
@@ -104,7 +105,7 @@ pub fn join_done(top: &mut Boxed<Thread>) -> Joined
     requires placed { IsPlaced top.old }
     requires next { IsJoin (next_of top.old) }
     requires delivered { IsTrue (is_there (newest (children_of top.old))) }
-    requires count { done_of top.old < 4294967295 }
+    requires count { done_of top.old < GREATEST_COUNT }
     ensures did { ActedJoin top.old top.new result.name }
     ensures words { result.words ≡ join_words_of top.old }
     ensures rows { words_released result.rows ≡ join_words_of top.old }
@@ -128,7 +129,7 @@ pub fn fork_done(
 ) -> Result<Forked, ArenaFull>
     requires placed { IsPlaced top.old }
     requires next { IsFork (next_of top.old) }
-    requires count { done_of top.old < 4294967295 }
+    requires count { done_of top.old < GREATEST_COUNT }
     ensures full { IsErr result ↔ (pool.old.capacity < pool.old.live + record_words) }
     ensures refused { IfErr result (λ full. full ≡ record { live = pool.old.live; asked = record_words }) }
     ensures same_top { OnErr result (top.new ≡ top.old) }
@@ -154,7 +155,7 @@ pub fn fork_done(
 pub fn end_done(top: &mut Boxed<Thread>) -> Finished
     requires placed { IsPlaced top.old }
     requires next { IsEnd (next_of top.old) }
-    requires count { done_of top.old < 4294967295 }
+    requires count { done_of top.old < GREATEST_COUNT }
     ensures did { ActedEnd top.old result.name result.ended }
     ensures id { result.ended.id ≡ top.old.id }
     ensures func { result.ended.func ≡ top.old.func }

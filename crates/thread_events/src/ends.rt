@@ -1,5 +1,5 @@
 ghost use Rattle.std.specs.Prelude.{◌≡◌, ◌≤◌, ◌<◌, ◌∷◌, ℕ, [], Some};
-ghost use Rattle.language_limits.specs.declared.TheConstants.{GREATEST_QUOTA};
+ghost use Rattle.language_limits.specs.declared.TheConstants.{GREATEST_COUNT, GREATEST_QUOTA};
 ghost use Rattle.block_arena.specs.Region.{with_given};
 ghost use Rattle.deque_list.specs.DequeLists.{lane_room};
 ghost use Rattle.node_table.specs.Table.{Table};
@@ -31,7 +31,7 @@ pub fn end_above(
 ) -> Ended
     requires placed { IsPlaced top.old }
     requires next { IsEnd (next_of top.old) }
-    requires count { done_of top.old < 4294967295 }
+    requires count { done_of top.old < GREATEST_COUNT }
     requires live { words_at_end (label_of top.old) ≤ pool.old.live }
     requires table { HasRoom table.old worker }
     requires fits { (p : Period) → period_at table.old worker ≡ Some p → p.used ≤ GREATEST_QUOTA }
@@ -61,7 +61,7 @@ pub fn end_and_wake(
 ) -> Ended
     requires placed { IsPlaced top.old }
     requires next { IsEnd (next_of top.old) }
-    requires count { done_of top.old < 4294967295 }
+    requires count { done_of top.old < GREATEST_COUNT }
     requires live { words_at_end (label_of top.old) ≤ pool.old.live }
     requires stands { Stands list.old worker deque [] }
     requires room { 1 ≤ lane_room list.old deque }
@@ -93,7 +93,7 @@ pub fn end_and_leave(
 ) -> Ended
     requires placed { IsPlaced top.old }
     requires next { IsEnd (next_of top.old) }
-    requires count { done_of top.old < 4294967295 }
+    requires count { done_of top.old < GREATEST_COUNT }
     requires live { words_at_end (label_of top.old) ≤ pool.old.live }
     requires stands { Stands list.old worker deque [] }
     requires table { HasRoom table.old worker }

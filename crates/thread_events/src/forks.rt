@@ -1,5 +1,5 @@
 ghost use Rattle.std.specs.Prelude.{◌≡◌, ◌≤◌, ◌<◌, ◌+◌, ◌↔◌, ℕ, List as AnyList, Some, IsErr, IfErr, OnOk, OnErr, length};
-ghost use Rattle.language_limits.specs.declared.TheConstants.{GREATEST_QUOTA};
+ghost use Rattle.language_limits.specs.declared.TheConstants.{GREATEST_COUNT, GREATEST_QUOTA};
 ghost use Rattle.block_arena.specs.Region.{with_taken};
 ghost use Rattle.depth_first_list.specs.Actions.{record_words};
 ghost use Rattle.deque_list.specs.DequeLists.{lane_room};
@@ -53,7 +53,7 @@ pub fn fork(
 ) -> Result<(), (Boxed<Thread>, ArenaFull)>
     requires placed { IsPlaced top }
     requires next { IsFork (next_of top) }
-    requires count { done_of top < 4294967295 }
+    requires count { done_of top < GREATEST_COUNT }
     requires stands { (items : AnyList Thread) × Stands list.old worker deque items }
     requires room { 2 ≤ lane_room list.old deque }
     requires table { HasRoom table.old worker }

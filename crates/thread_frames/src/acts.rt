@@ -1,6 +1,7 @@
 //! Actions that are done by a thread alone.
 
 ghost use Rattle.std.specs.Prelude.{◌≡◌, ◌≤◌, ◌<◌, ◌+◌, ◌↔◌, ℕ, IsErr, IfErr, OnOk, OnErr};
+ghost use Rattle.language_limits.specs.declared.TheConstants.{GREATEST_COUNT};
 ghost use Rattle.block_arena.specs.Region.{with_taken, with_given};
 ghost use Rattle.node_table.specs.Table.{Table};
 
@@ -51,7 +52,7 @@ impl Thread {
     pub fn do_alloc(&mut self, pool: &mut Pool) -> Result<(), ArenaFull>
         requires placed { IsPlaced self.old }
         requires next { IsAlloc (next_of self.old) }
-        requires count { done_of self.old < 4294967295 }
+        requires count { done_of self.old < GREATEST_COUNT }
         ensures full { IsErr result ↔ (pool.old.capacity < pool.old.live + words_asked (next_of self.old)) }
         ensures told { IfErr result (λ refusal. refusal ≡ record { live = pool.old.live; asked = words_asked (next_of self.old) }) }
         ensures refused { OnErr result (self.new ≡ self.old) }
@@ -83,7 +84,7 @@ impl Thread {
     pub fn do_release(&mut self, pool: &mut Pool)
         requires placed { IsPlaced self.old }
         requires next { IsRelease (next_of self.old) }
-        requires count { done_of self.old < 4294967295 }
+        requires count { done_of self.old < GREATEST_COUNT }
         requires live { words_asked (next_of self.old) ≤ pool.old.live }
         ensures acted { HasActed self.old self.new }
         ensures words { thread_words self.new + words_asked (next_of self.old) ≡ thread_words self.old }
@@ -100,7 +101,7 @@ impl Thread {
     /// Does the Dummy that is prepared.
     pub fn do_dummy(&mut self)
         requires next { IsDummy (next_of self.old) }
-        requires count { done_of self.old < 4294967295 }
+        requires count { done_of self.old < GREATEST_COUNT }
         requires placed { IsPlaced self.old }
         ensures acted { HasActed self.old self.new }
         ensures words { thread_words self.new ≡ thread_words self.old }
@@ -115,7 +116,7 @@ impl Thread {
     pub fn do_fault(&mut self, pool: &mut Pool)
         requires placed { IsPlaced self.old }
         requires next { IsFault (next_of self.old) }
-        requires count { done_of self.old < 4294967295 }
+        requires count { done_of self.old < GREATEST_COUNT }
         requires live { held_by self.old ≤ pool.old.live }
         ensures acted { HasActed self.old self.new }
         ensures words { thread_words self.new + held_by self.old ≡ thread_words self.old }

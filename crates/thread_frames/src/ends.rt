@@ -1,6 +1,7 @@
 //! The End of a thread, and what is left of it.
 
 ghost use Rattle.std.specs.Prelude.{◌≡◌, ◌≤◌, ◌<◌, ◌+◌, ℕ, [], IfOk};
+ghost use Rattle.language_limits.specs.declared.TheConstants.{GREATEST_COUNT};
 ghost use Rattle.block_arena.specs.Region.{with_given};
 ghost use Rattle.bounded_list.specs.BoundedList.{entries};
 ghost use Rattle.thread_stack.specs.Passed.States.{Setting, State};
@@ -31,7 +32,7 @@ impl Thread {
     pub fn end(&mut self) -> (Ended, Option<RecordBlock>)
         requires placed { IsPlaced self.old }
         requires next { IsEnd (next_of self.old) }
-        requires count { done_of self.old < 4294967295 }
+        requires count { done_of self.old < GREATEST_COUNT }
         ensures id { result.0.id ≡ self.old.id }
         ensures parent { result.0.parent ≡ self.old.parent }
         ensures func { result.0.func ≡ self.old.func }

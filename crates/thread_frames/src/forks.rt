@@ -1,6 +1,7 @@
 //! Forks: the child, and what its parent keeps.
 
 ghost use Rattle.std.specs.Prelude.{◌≡◌, ◌≤◌, ◌<◌, ◌+◌, ◌↔◌, ℕ, length, false, IsErr, IfOk, IfErr, OnOk, OnErr};
+ghost use Rattle.language_limits.specs.declared.TheConstants.{GREATEST_COUNT};
 ghost use Rattle.block_arena.specs.Region.{with_taken};
 ghost use Rattle.thread_state.specs.Passed.Actions.{record_words};
 ghost use Rattle.node_table.specs.Reading.{FitsSlots};
@@ -43,7 +44,7 @@ impl Thread {
     ) -> Result<Boxed<Thread>, ArenaFull>
         requires placed { IsPlaced self.old }
         requires next { IsFork (next_of self.old) }
-        requires count { done_of self.old < 4294967295 }
+        requires count { done_of self.old < GREATEST_COUNT }
         ensures full { IsErr result ↔ (pool.old.capacity < pool.old.live + record_words) }
         ensures told { IfErr result (λ refusal. refusal ≡ record { live = pool.old.live; asked = record_words }) }
         ensures refused { OnErr result (self.new ≡ self.old) }
@@ -109,7 +110,7 @@ fn forked_in(branch: Branch, func: Option<u32>) -> Option<u32>
 /// The Fork of the state of a thread: a child that runs a branch has the blocks of the slots `named`.
 fn fork_state(state: &mut ThreadState, branch: Branch, room: ForkRoom, named: &[u16]) -> ThreadState
     requires going { state.old.faulted ≡ false }
-    requires count { state.old.done < 4294967295 }
+    requires count { state.old.done < GREATEST_COUNT }
     requires room { RoomFits state.old branch room }
     requires within { FitsSlots (length (own_row state.old)) named.now }
     ensures { ForksState branch named.now state.old state.new result }

@@ -6,6 +6,7 @@ ghost use Rattle.block_arena.specs.declared.size.TheConstants.{MAX_WORDS};
 ghost use Rattle.thread_stack.specs.Passed.States.{Setting};
 ghost use Rattle.dummy_tree.specs.QuotaWords.{quota_words};
 ghost use Rattle.std.specs.Prelude.{slice_get};
+ghost use Rattle.language_limits.specs.declared.TheConstants.{GREATEST_COUNT};
 ghost use Rattle.node_table.specs.Table.{Function};
 ghost use Rattle.node_table.specs.Codes.{code_shown};
 ghost use Rattle.thread_state.specs.Settings.{IsSettingOf};
@@ -112,7 +113,7 @@ impl Thread {
     pub fn advance(&mut self, alloc: Global, code: &Code, k: Quota) -> Result<Next, AllocError>
         requires point { IsAtPoint (code_shown code.now) (quota_words k) self.old }
         requires fits { thread_words self.old ≤ MAX_WORDS }
-        requires count { done_of self.old < 4294967295 }
+        requires count { done_of self.old < GREATEST_COUNT }
         ensures point { OnOk result (IsAtPoint (code_shown code.now) (quota_words k) self.new) }
         ensures next { IfOk result (λ next. next_of self.new ≡ Some next) }
         ensures newest { IfOk result (λ next. JoinsNewest next (children_of self.new)) }
@@ -149,7 +150,7 @@ impl Thread {
     fn go_on(&mut self, alloc: Global, code: &Code, k: Quota) -> Result<Next, AllocError>
         requires point { IsAtPoint (code_shown code.now) (quota_words k) self.old }
         requires fits { thread_words self.old ≤ MAX_WORDS }
-        requires count { done_of self.old < 4294967295 }
+        requires count { done_of self.old < GREATEST_COUNT }
         requires nothing { next_of self.old ≡ None }
         ensures point { OnOk result (IsAtPoint (code_shown code.now) (quota_words k) self.new) }
         ensures next { IfOk result (λ next. next_of self.new ≡ Some next) }
@@ -241,7 +242,7 @@ fn prepared_for(
     code: &Code,
     ready: Ready,
 ) -> Result<Prepared, AllocError>
-    requires { state.now.done < 4294967295 }
+    requires { state.now.done < GREATEST_COUNT }
     ensures { IfOk result (Prepares (code_shown code.now) state.now ready) }
 {
     match ready {
@@ -283,7 +284,7 @@ fn child_room(
     code: &Code,
     branch: Branch,
 ) -> Result<ChildRoom, AllocError>
-    requires { state.now.done < 4294967295 }
+    requires { state.now.done < GREATEST_COUNT }
     ensures room { IfOk result (λ child. RoomFits state.now branch child.room) }
     ensures slots { IfOk result (λ child. child.named.items ≡ slots_taken (code_shown code.now) branch) }
 {

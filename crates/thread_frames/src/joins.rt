@@ -6,6 +6,7 @@ ghost use Rattle.thread_state.specs.Passed.Facts.{words_at};
 ghost use Rattle.node_table.specs.Table.{Table};
 ghost use Rattle.thread_state.specs.Joins.{released, words_released};
 ghost use Rattle.std.specs.Prelude.{option_copied};
+ghost use Rattle.language_limits.specs.declared.TheConstants.{GREATEST_COUNT};
 ghost use Rattle.thread_frames.specs.Views.{newest as newest_child, result_of};
 ghost use Rattle.thread_frames.specs.Children.{place_in};
 ghost use Rattle.thread_frames.specs.Joining.{JoinsState, CanJoin};
@@ -78,7 +79,7 @@ impl Thread {
         requires placed { IsPlaced self.old }
         requires next { IsJoin (next_of self.old) }
         requires delivered { IsTrue (is_there (newest (children_of self.old))) }
-        requires count { done_of self.old < 4294967295 }
+        requires count { done_of self.old < GREATEST_COUNT }
         ensures words { result.0 ≡ join_words_of self.old }
         ensures rows { words_released result.1 ≡ join_words_of self.old }
         ensures joined { HasJoined result.0 self.old self.new }
@@ -135,7 +136,7 @@ fn join_state(
     child: ThreadState,
     assigned: &[u16],
 ) -> ReleasedRows
-    requires count { state.old.done < 4294967295 }
+    requires count { state.old.done < GREATEST_COUNT }
     requires can { state.old.faulted ≡ false → child.faulted ≡ false → CanJoin branch assigned.now state.old child }
     ensures state { JoinsState branch assigned.now state.old state.new child }
     ensures words { words_released result ≡ released state.old child }

@@ -7,7 +7,7 @@
 //! The layer stands on names of threads and lines, and on the depth-first run as a definition. Its one theorem is that what is told of the
 //! items of a run is just their lines before the first fault, and their first fault, whatever parts it was joined from.
 //!
-//! Of more than 4,294,967,295 lines none is kept, and memory is said to be wanting.
+//! Of more than [`language_limits::GREATEST_COUNT`] lines none is kept, and memory is said to be wanting.
 #![tactic(auto)]
 
 mod told;

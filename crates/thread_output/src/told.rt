@@ -7,20 +7,18 @@ ghost use Rattle.thread_points.specs.Passed.States.{Item, printed, failed};
 ghost use Rattle.thread_points.specs.Passed.Run.{lines_of, first_fault};
 
 use dag_order::{FaultAt, Lines};
+use language_limits::GREATEST_COUNT;
 use std::alloc::{AllocError, Global};
 use std::collections::LinkedList;
 
-/// The most lines that are kept.
-const MAX_LINES: usize = 4_294_967_295;
-
 /// What is told of a part of a run: the numbers that it printed before its first fault, and this fault.
 ///
-/// Where parts with more than 4,294,967,295 lines were joined the lines are lost, and from then on memory is said to be wanting.
+/// Where parts with more than [`GREATEST_COUNT`] lines were joined the lines are lost, and from then on memory is said to be wanting.
 #[derive(Drop)]
 pub struct Told {
     lines: Option<LinkedList<i64>>,
     fault: Option<FaultAt>,
-    ghost few: { ForSome lines (λ kept. length kept ≤ 4294967295) },
+    ghost few: { ForSome lines (λ kept. length kept ≤ GREATEST_COUNT) },
 }
 
 impl Told {
@@ -49,18 +47,18 @@ impl Told {
     ///
     /// # Errors
     ///
-    /// There is not enough memory, or there are 4,294,967,295 lines or more. Nothing is changed.
+    /// There is not enough memory, or there are [`GREATEST_COUNT`] lines or more. Nothing is changed.
     pub fn print(&mut self, value: i64) -> Result<(), AllocError>
         requires { fault_of self.old ≡ None }
         ensures ok { (items : List Item) → Tells self.old items → OnOk result (Tells self.new (items ++ printed value ∷ [])) }
         ensures err { OnErr result (self.new ≡ self.old) }
         ensures fault { fault_of self.new ≡ None }
-        ensures many { (items : List Item) → Tells self.old items → 4294967295 ≤ length (lines_of items) → IsErr result }
+        ensures many { (items : List Item) → Tells self.old items → GREATEST_COUNT ≤ length (lines_of items) → IsErr result }
     {
         let Some(lines) = &mut self.lines else {
             return Err(AllocError);
         };
-        if lines.len() >= MAX_LINES {
+        if lines.len() >= GREATEST_COUNT as usize {
             return Err(AllocError);
         }
         lines.push_back(value)?;
@@ -95,9 +93,9 @@ impl Told {
     ///
     /// # Errors
     ///
-    /// There is not enough memory, or there are more than 4,294,967,295 lines.
+    /// There is not enough memory, or there are more than [`GREATEST_COUNT`] lines.
     pub fn lines(&self, alloc: Global) -> Result<Lines, AllocError>
-        ensures many { (items : List Item) → Tells self.now items → 4294967295 < length (lines_of items) → IsErr result }
+        ensures many { (items : List Item) → Tells self.now items → GREATEST_COUNT < length (lines_of items) → IsErr result }
         ensures lines { (items : List Item) → Tells self.now items → IfOk result (λ lines. entries lines ≡ lines_of items) }
     {
         match &self.lines {
@@ -109,15 +107,15 @@ impl Told {
 
 /// Lines with later lines behind them, unless these are too many.
 fn joined(lines: Option<LinkedList<i64>>, later: Option<LinkedList<i64>>) -> Option<LinkedList<i64>>
-    requires few { IfSome lines (λ kept. length kept ≤ 4294967295) }
-    requires few_later { IfSome later (λ kept. length kept ≤ 4294967295) }
-    ensures few { IfSome result (λ kept. length kept ≤ 4294967295) }
+    requires few { IfSome lines (λ kept. length kept ≤ GREATEST_COUNT) }
+    requires few_later { IfSome later (λ kept. length kept ≤ GREATEST_COUNT) }
+    ensures few { IfSome result (λ kept. length kept ≤ GREATEST_COUNT) }
     ensures both { IsJoined lines later result }
 {
     let (Some(mut lines), Some(mut later)) = (lines, later) else {
         return None;
     };
-    if lines.len() + later.len() > MAX_LINES {
+    if lines.len() + later.len() > GREATEST_COUNT as usize {
         return None;
     }
     let _joined = lines.append(&mut later);

@@ -1,6 +1,7 @@
 //! Blocks: what allocates, frees, cuts and joins them.
 
 ghost use Rattle.std.specs.Prelude.{◌≡◌, ◌<◌, ◌≤◌, ◌∷◌, ℕ, List, length, false, pos, replicate};
+ghost use Rattle.language_limits.specs.declared.TheConstants.{GREATEST_COUNT};
 ghost use Rattle.par_tree.specs.Tree.{Name};
 ghost use Rattle.block_arena.specs.Region.{with_given};
 ghost use Rattle.node_table.specs.Names.{name_at};
@@ -27,7 +28,7 @@ impl ThreadState {
         requires going { self.old.faulted ≡ false }
         requires within { slot < length (own_row self.old) }
         requires none { HasNone (own_row self.old) slot }
-        requires count { self.old.done < 4294967295 }
+        requires count { self.old.done < GREATEST_COUNT }
         ensures { (contexts : List (List Name)) (names : List Name) (n : ℕ) → block.items ≡ replicate n (pos 0)
             → Goes (names ∷ contexts) (names ∷ contexts) self.old self.new (allocated (name_at names slot) n) }
     {
@@ -49,7 +50,7 @@ impl ThreadState {
         requires going { self.old.faulted ≡ false }
         requires within { slot < length (own_row self.old) }
         requires has { HasBlock (own_row self.old) slot }
-        requires count { self.old.done < 4294967295 }
+        requires count { self.old.done < GREATEST_COUNT }
         requires live { words_of (blocks_at (own_row self.old) slot) ≤ pool.old.live }
         ensures state { (contexts : List (List Name)) (names : List Name)
             → Goes (names ∷ contexts) (names ∷ contexts) self.old self.new (free_block (name_at names slot)) }

@@ -1,6 +1,7 @@
 //! Forks: the state of a child as it begins, and what its parent keeps.
 
 ghost use Rattle.std.specs.Prelude.{◌≡◌, ◌<◌, ◌∷◌, [], ℕ, Bool, List, length, filter, false, IfOk};
+ghost use Rattle.language_limits.specs.declared.TheConstants.{GREATEST_COUNT};
 ghost use Rattle.par_tree.specs.Tree.{Name};
 ghost use Rattle.node_table.specs.Reading.{AreSlots, FitsSlots};
 ghost use Rattle.depth_first_run.specs.States.{Setting, State, Item, child_of, parent_of};
@@ -23,7 +24,7 @@ impl ThreadState {
     ///
     /// There is not enough memory.
     pub fn prepare_fork(&self, alloc: Global) -> Result<ForkRoom, AllocError>
-        requires { self.now.done < 4294967295 }
+        requires { self.now.done < GREATEST_COUNT }
         ensures { IfOk result (IsRoom self.now) }
     {
         Ok(ForkRoom {
@@ -39,7 +40,7 @@ impl ThreadState {
     ///
     /// There is not enough memory.
     pub fn prepare_dummies(&self, alloc: Global) -> Result<ForkRoom, AllocError>
-        requires { self.now.done < 4294967295 }
+        requires { self.now.done < GREATEST_COUNT }
         ensures { IfOk result (IsDummyRoom self.now) }
     {
         Ok(ForkRoom {
@@ -52,7 +53,7 @@ impl ThreadState {
     /// The Fork of a child that runs a branch: it has copies of the integers, and the blocks of the slots `named`, which leave the thread.
     pub fn fork(&mut self, room: ForkRoom, named: &[u16]) -> ThreadState
         requires going { self.old.faulted ≡ false }
-        requires count { self.old.done < 4294967295 }
+        requires count { self.old.done < GREATEST_COUNT }
         requires room { IsRoom self.old room }
         requires within { FitsSlots (length (own_row self.old)) named.now }
         ensures child { (contexts : List (List Name)) (names : List Name) (c : Setting) (passes : Name → Bool) (s : State)
@@ -85,7 +86,7 @@ impl ThreadState {
 
     /// The Fork of a child that runs a tree of dummies, and takes nothing.
     pub fn fork_dummies(&mut self, room: ForkRoom) -> ThreadState
-        requires count { self.old.done < 4294967295 }
+        requires count { self.old.done < GREATEST_COUNT }
         requires room { IsDummyRoom self.old room }
         ensures child { (contexts : List (List Name)) (c : Setting) (s : State) → c.most_turns ≡ MOST_TURNS
             → IsState contexts self.old s → IsState ([] ∷ []) result (child_of c no_name s) }

@@ -1,6 +1,7 @@
 //! Joins: what a thread has behind the Join of a child that has ended.
 
 ghost use Rattle.std.specs.Prelude.{◌≡◌, ◌≤◌, ◌<◌, ◌+◌, ◌∷◌, [], ℕ, Bool, List, length, filter, false};
+ghost use Rattle.language_limits.specs.declared.TheConstants.{GREATEST_COUNT};
 ghost use Rattle.par_tree.specs.Tree.{Name};
 ghost use Rattle.node_table.specs.Reading.{AreSlots, FitsSlots};
 ghost use Rattle.depth_first_run.specs.States.{State, given_back, joined};
@@ -34,7 +35,7 @@ impl ThreadState {
     /// The Join of a child that ran a branch and has ended: the integers of the slots `assigned` are the child's, and all its blocks come
     /// back. Where a fault ended the thread or the child, all that is left of both comes out as rows, for the pool.
     pub fn join(&mut self, child: ThreadState, assigned: &[u16]) -> ReleasedRows
-        requires count { self.old.done < 4294967295 }
+        requires count { self.old.done < GREATEST_COUNT }
         requires can { self.old.faulted ≡ false → child.faulted ≡ false → CanTakeIn (own_row self.old) (own_row child) assigned.now }
         ensures state { (contexts : List (List Name)) (names : List Name) (assigns : Name → Bool) (ordinal : ℕ) (d : State)
             → IsState (names ∷ []) child d → AreSlots names assigned.now (filter assigns names)
@@ -55,7 +56,7 @@ impl ThreadState {
 
     /// The Join of a child that ran a tree of dummies and has ended. It brings nothing. What `join` says of faults is so here too.
     pub fn join_dummies(&mut self, child: ThreadState) -> ReleasedRows
-        requires count { self.old.done < 4294967295 }
+        requires count { self.old.done < GREATEST_COUNT }
         ensures state { (contexts : List (List Name)) (ordinal : ℕ) (d : State) → IsState ([] ∷ []) child d
             → Goes contexts contexts self.old self.new (joined no_name ordinal d) }
         ensures words { words_released result ≡ released self.old child }

@@ -1,6 +1,7 @@
 //! The beginning of the root, expressions, and the statements that do no action.
 
 ghost use Rattle.std.specs.Prelude.{◌≡◌, ◌+◌, ◌<◌, ◌∷◌, [], ℕ, List, length, false, IfOk, MatchResult};
+ghost use Rattle.language_limits.specs.declared.TheConstants.{GREATEST_COUNT};
 ghost use Rattle.par_tree.specs.Tree.{Name, Expr};
 ghost use Rattle.node_table.specs.Names.{name_at};
 ghost use Rattle.node_table.specs.Shown.{expr_shown};
@@ -136,7 +137,7 @@ impl ThreadState {
 
     /// An action that changes nothing but the count of actions: a dummy, or the End.
     pub fn count_action(&mut self)
-        requires { self.old.done < 4294967295 }
+        requires { self.old.done < GREATEST_COUNT }
         ensures { (contexts : List (List Name)) (deed : Deed) (words : ℕ) → Goes contexts contexts self.old self.new (with_action deed words) }
     {
         self.done += 1;

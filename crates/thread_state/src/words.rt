@@ -1,7 +1,7 @@
 //! The words that a thread holds, and what gives them back.
 
 ghost use Rattle.std.specs.Prelude.{◌≡◌, ◌≤◌, ◌<◌, ◌+◌, ◌*◌, ◌^◌, [], ℕ, List, length, map};
-ghost use Rattle.language_limits.specs.declared.TheConstants.{MOST_CALLS};
+ghost use Rattle.language_limits.specs.declared.TheConstants.{GREATEST_COUNT, MOST_CALLS};
 ghost use Rattle.par_tree.specs.Tree.{Name};
 ghost use Rattle.dag_order.specs.declared.fault.FaultKind.{FaultKind as AnyFault};
 ghost use Rattle.block_arena.specs.Region.{with_given};
@@ -33,7 +33,7 @@ impl ThreadState {
 
     /// The action of a fault: all blocks that the thread holds go back to the pool, and it does no further statement.
     pub fn fault(&mut self, pool: &mut Pool)
-        requires count { self.old.done < 4294967295 }
+        requires count { self.old.done < GREATEST_COUNT }
         requires live { words_held self.old ≤ pool.old.live }
         ensures state { (contexts : List (List Name)) (kind : AnyFault) (line : ℕ)
             → Goes contexts contexts self.old self.new (with_fault kind line) }

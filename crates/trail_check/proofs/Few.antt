@@ -66,7 +66,7 @@ few_marks (b ∷ bs) = let rest = few_marks bs in by_mark b.ahead rest
     by_mark true rest = omega (arith, rest)
     by_mark false rest = omega (arith, rest)
 
-pub few : (c : Checker) → IsStanding c → IsFew 4294967294 c.tally
+pub few : (c : Checker) → IsStanding c → IsFew c.tally
 few c standing =
     let s = standing.0 in let run = standing.2 in let m = standing.3 in let stands = standing.4 in let short = standing.5 in
     let are = few_from s run opening m stands.reaches in

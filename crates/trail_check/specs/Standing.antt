@@ -1,6 +1,7 @@
 -- How a checker stands for a moment of the machine.
 use Rattle.std.specs.Prelude.{◌≡◌, ◌<◌, List, length}
 use Rattle.std.specs.List.{AllZip}
+use Rattle.language_limits.specs.declared.TheConstants.{GREATEST_COUNT}
 use Rattle.bounded_list.specs.BoundedList.{entries}
 use Rattle.dag_order.specs.declared.birth.Birth.{Birth}
 use Rattle.depth_first_list.specs.Runs.{IsDepthFirst}
@@ -39,4 +40,4 @@ pub record StandsFor (s : Setting) (limits : Limits) (run : List Pair) (m : Mome
 
 -- it stands for some moment, after fewer events than a list can have
 abbrev pub IsStanding : Checker → Type 0
-IsStanding c = (s : Setting) × (limits : Limits) × (run : List Pair) × (m : Moment) × StandsFor s limits run m c × (length run < 4294967295)
+IsStanding c = (s : Setting) × (limits : Limits) × (run : List Pair) × (m : Moment) × StandsFor s limits run m c × (length run < GREATEST_COUNT)

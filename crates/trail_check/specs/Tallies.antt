@@ -1,6 +1,7 @@
 -- What a tally is before anything was done, and after a period began or an action was done.
-use Rattle.std.specs.Prelude.{◌≡◌, ℕ, ◌+◌, ◌≤◌, Bool, true, false, cond, set, replicate, ℤ, pos, ◌+ℤ◌}
+use Rattle.std.specs.Prelude.{◌≡◌, ℕ, ◌+◌, ◌<◌, Bool, true, false, cond, set, replicate, ℤ, pos, ◌+ℤ◌}
 use Rattle.std.specs.Int.{int_max}
+use Rattle.language_limits.specs.declared.TheConstants.{GREATEST_COUNT}
 use Rattle.trail_check.specs.declared.tally.Tally.{Tally}
 
 -- nothing was done of a list of so many actions
@@ -12,9 +13,9 @@ pub record IsBlank (places : ℕ) (tally : Tally) : Type 0 where
   pub ahead : tally.numbers.ahead ≡ 0
   pub high : tally.numbers.high ≡ 0
 
--- at most n actions are done, and at most n periods have begun
-abbrev pub IsFew : ℕ → Tally → Type 0
-IsFew n tally = (tally.actions ≤ n) × (tally.numbers.periods ≤ n) × (tally.numbers.ahead ≤ n)
+-- one action more may be done, and one period more begun
+abbrev pub IsFew : Tally → Type 0
+IsFew tally = (tally.actions < GREATEST_COUNT) × (tally.numbers.periods < GREATEST_COUNT) × (tally.numbers.ahead < GREATEST_COUNT)
 
 -- one period more has begun, which is marked ahead or not
 pub record HasBegun (ahead : Bool) (before after : Tally) : Type 0 where

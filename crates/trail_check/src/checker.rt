@@ -180,7 +180,7 @@ impl Checker {
     // A worker takes the bottom thread of a deque, which keeps another one, into a new deque to the right of it.
     fn steal_beside(&mut self, worker: u32, place: u32, victim: DequeId) -> Result<bool, AllocError>
         requires live { IsLive (deque_ids self.old.deques.deques) victim }
-        requires few { IsFew 4294967294 self.old.tally }
+        requires few { IsFew self.old.tally }
         ensures { (s : Setting) (limits : Limits) (run : AnyList Pair) (m : Moment) → StandsFor s limits run m self.old
             → (can : CanSteal s m self.old worker place victim) → 2 ≤ length can.items
             → IfOk result (λ came. Came s limits run m (told_of worker (Steal place)) came self.new) }
@@ -202,7 +202,7 @@ impl Checker {
     fn take_over(&mut self, worker: u32, place: u32, victim: DequeId)
         requires live { (rank : ℕ) × (deque : Rattle.deque_list.specs.Deques.Deque ℕ)
             × Rattle.deque_list.specs.Deques.DequeAt self.old.deques.deques victim rank deque × (deque.owner ≡ None) }
-        requires few { IsFew 4294967294 self.old.tally }
+        requires few { IsFew self.old.tally }
         ensures { (s : Setting) (limits : Limits) (run : AnyList Pair) (m : Moment) → StandsFor s limits run m self.old
             → (can : CanSteal s m self.old worker place victim) → length can.items < 2 → can.owner ≡ None
             → Came s limits run m (told_of worker (Steal place)) true self.new }
@@ -287,7 +287,7 @@ impl Checker {
     fn fork(&mut self, step: Step) -> Result<bool, AllocError>
         requires live { IsLive (deque_ids self.old.deques.deques) step.seat.deque }
         requires inside { step.place < length (entries self.old.actions) }
-        requires few { IsFew 4294967294 self.old.tally }
+        requires few { IsFew self.old.tally }
         ensures { (s : Setting) (limits : Limits) (run : AnyList Pair) (m : Moment) → StandsFor s limits run m self.old
             → IsStep s m self.old step → step.kind ≡ kinds.Fork
             → IfOk result (λ came. Came s limits run m (told_of step.worker Act) came self.new) }
@@ -308,7 +308,7 @@ impl Checker {
     fn do_alone(&mut self, step: Step) -> Result<bool, AllocError>
         requires live { IsLive (deque_ids self.old.deques.deques) step.seat.deque }
         requires inside { step.place < length (entries self.old.actions) }
-        requires few { IsFew 4294967294 self.old.tally }
+        requires few { IsFew self.old.tally }
         ensures { (s : Setting) (limits : Limits) (run : AnyList Pair) (m : Moment) → StandsFor s limits run m self.old
             → IsStep s m self.old step → IsAlone step.kind
             → IfOk result (λ came. Came s limits run m (told_of step.worker Act) came self.new) }
@@ -323,7 +323,7 @@ impl Checker {
     fn run_dummy(&mut self, step: Step) -> Result<bool, AllocError>
         requires live { IsLive (deque_ids self.old.deques.deques) step.seat.deque }
         requires inside { step.place < length (entries self.old.actions) }
-        requires few { IsFew 4294967294 self.old.tally }
+        requires few { IsFew self.old.tally }
         ensures { (s : Setting) (limits : Limits) (run : AnyList Pair) (m : Moment) → StandsFor s limits run m self.old
             → IsStep s m self.old step → step.kind ≡ kinds.Dummy
             → IfOk result (λ came. Came s limits run m (told_of step.worker Act) came self.new) }
@@ -337,7 +337,7 @@ impl Checker {
     // At the End of a thread its parent goes on, if it waits for this child or stands below. Otherwise the deque leaves the list.
     fn end(&mut self, step: Step) -> Result<bool, AllocError>
         requires live { IsLive (deque_ids self.old.deques.deques) step.seat.deque }
-        requires few { IsFew 4294967294 self.old.tally }
+        requires few { IsFew self.old.tally }
         ensures { (s : Setting) (limits : Limits) (run : AnyList Pair) (m : Moment) → StandsFor s limits run m self.old
             → IsStep s m self.old step → step.kind ≡ kinds.End
             → IfOk result (λ came. Came s limits run m (told_of step.worker Act) came self.new) }

@@ -39,7 +39,7 @@ impl Tally {
 
     /// A period begins, and is marked ahead or not.
     pub(crate) fn begin(&mut self, ahead: bool)
-        requires { IsFew 4294967294 self.old }
+        requires { IsFew self.old }
         ensures { HasBegun ahead self.old self.new }
     {
         self.numbers.periods += 1;
@@ -54,7 +54,7 @@ impl Tally {
     ///
     /// `AllocError` exactly if 63 bits do not count the words in use after it, which no memory holds. It asks for no memory.
     pub(crate) fn act(&mut self, place: u32, change: i64) -> Result<(), AllocError>
-        requires { IsFew 4294967294 self.old }
+        requires { IsFew self.old }
         ensures acted { IfOk result (λ _. HasActed place change self.old self.new) }
         ensures many { IsErr result ↔ ¬ FitsSigned w64 (self.old.live +ℤ change) }
     {

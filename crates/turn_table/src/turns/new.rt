@@ -10,6 +10,7 @@ use crate::opening::Opening;
 use crate::picks::Opens;
 use crate::turn_seat::TurnSeat;
 use atomic_table::{Refused, Table};
+use language_limits::GREATEST_COUNT;
 use std::alloc::{AllocError, Global};
 use std::marker::Brand;
 use std::snapshot::Snapshot;
@@ -19,8 +20,8 @@ impl<V, L: TurnLaw<V>> Turns<V, L> {
     ///
     /// # Errors
     ///
-    /// The values come back where there is no memory. For a row of more than 4,294,967,295 slots memory is said to be wanting, and none is
-    /// asked for.
+    /// The values come back where there is no memory. For a row of more than [`GREATEST_COUNT`] slots memory is said to be wanting, and none
+    /// is asked for.
     pub fn new<M: Opens<L::Note>>(
         alloc: Global,
         mut values: Vec<V>,
@@ -31,9 +32,9 @@ impl<V, L: TurnLaw<V>> Turns<V, L> {
         ensures ok { IfOk result (λ made. IsSeatOf made.0 made.1 × (key_of made.0 ≡ key) × (slot_count made.0 ≡ vec_len values)
             × (made.1.hand ≡ fresh (M.note L.blank))) }
         ensures err { IfErr result (λ refused. refused.0.items ≡ values.items) }
-        ensures many { 4294967295 < vec_len values → IsErr result }
+        ensures many { GREATEST_COUNT < vec_len values → IsErr result }
     {
-        if values.len() > u32::MAX as usize {
+        if values.len() > GREATEST_COUNT as usize {
             return Err((values, AllocError));
         }
         let Ok(words) = Vec::from_elem(alloc, 0u64, values.len() + 1) else {

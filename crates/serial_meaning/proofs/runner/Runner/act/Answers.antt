@@ -1,4 +1,5 @@
 use Rattle.std.proofs.Common.{◌≡◌, ◌+◌, ◌<◌, ◌≤◌, ◌∷◌, [], ◌++◌, length, refl, sym, subst}
+use Rattle.language_limits.specs.declared.TheConstants.{GREATEST_COUNT}
 use Rattle.dag_order.specs.Births.{HasLabel}
 use Rattle.dag_order.specs.declared.thread_id.ThreadId.{ThreadId}
 use Rattle.depth_first_run.specs.States.{acted, with_action}
@@ -12,7 +13,7 @@ use Rattle.serial_meaning.proofs.runner.Runner.act.Goals as goal
 pub returns-in_err-done : goal.returns-in_err-done
 returns-in_err-done c = λ limit deed kind plain s is.
     let t : Thread = c.args.self.now.thread in
-    let late : 4294967295 ≤ t.done = count_ends c.checked_add-done.result t.done c.checked_add-done.ensures c.in_err-done.ensures.ok_part in
+    let late : GREATEST_COUNT ≤ t.done = count_ends c.checked_add-done.result t.done c.checked_add-done.ensures c.in_err-done.ensures.ok_part in
     err_exit (λ _. Is limit c.args.self.now (with_action deed c.args.words s) × (births_of c.args.self.now.journal ≡ births_of c.args.self.now.journal))
     (IsBeyond limit (with_action deed c.args.words s)) c.from_residual.result c.in_err-done.field-0.0 c.from_residual.ensures.1
     (stopped_by (IsBeyond limit (with_action deed c.args.words s)) c.in_err-done.field-0.0 (act_late limit (births_of c.args.self.now.journal) t deed c.args.words s is.thread late))

@@ -1,5 +1,6 @@
 use Rattle.std.proofs.Common.{◌≤◌, inl, inr, ◌≡◌, ◌+◌, [], ◌∷◌, refl, sym, subst}
 use Rattle.std.specs.Prelude.{false, min}
+use Rattle.language_limits.specs.declared.TheConstants.{GREATEST_COUNT}
 use Rattle.dag_order.specs.Births.{HasLabel}
 use Rattle.depth_first_run.specs.States.{child_of}
 use Rattle.serial_journal.specs.Journals.{births_of}
@@ -17,7 +18,7 @@ use Rattle.serial_meaning.proofs.runner.Runner.forked.Goals as goal
 pub returns-in_err-forks : goal.returns-in_err-forks
 returns-in_err-forks c = λ limit k program s is.
     let t : Thread = c.args.self.now.thread in
-    let late : 4294967295 ≤ t.forks = count_ends c.checked_add-forks.result t.forks c.checked_add-forks.ensures c.in_err-forks.ensures.ok_part in
+    let late : GREATEST_COUNT ≤ t.forks = count_ends c.checked_add-forks.result t.forks c.checked_add-forks.ensures c.in_err-forks.ensures.ok_part in
     err_exit (λ thread. HasForked limit (setting_of program k) (names_of c.args.child) s thread c.args.self.now c.args.self.now)
     (IsBeyond limit (child_of (setting_of program k) (names_of c.args.child) s)) c.from_residual.result c.in_err-forks.field-0.0 c.from_residual.ensures.1
     (stopped_by _ c.in_err-forks.field-0.0 (fork_late limit (births_of c.args.self.now.journal) (setting_of program k) (names_of c.args.child) t s is.thread (inr late)))
@@ -25,7 +26,7 @@ returns-in_err-forks c = λ limit k program s is.
 pub returns-in_err-done : goal.returns-in_err-done
 returns-in_err-done c = λ limit k program s is.
     let t : Thread = c.args.self.now.thread in
-    let late : 4294967295 ≤ t.done = count_ends c.checked_add-done.result t.done c.checked_add-done.ensures c.in_err-done.ensures.ok_part in
+    let late : GREATEST_COUNT ≤ t.done = count_ends c.checked_add-done.result t.done c.checked_add-done.ensures c.in_err-done.ensures.ok_part in
     err_exit (λ thread. HasForked limit (setting_of program k) (names_of c.args.child) s thread c.args.self.now c.args.self.now)
     (IsBeyond limit (child_of (setting_of program k) (names_of c.args.child) s)) c.from_residual-in_err-done.result c.in_err-done.field-0.0 c.from_residual-in_err-done.ensures.1
     (stopped_by _ c.in_err-done.field-0.0 (fork_late limit (births_of c.args.self.now.journal) (setting_of program k) (names_of c.args.child) t s is.thread (inl late)))
@@ -47,7 +48,7 @@ returns c = λ limit k program s is.
     let told = c.in_ok-id.ensures.keeps_up limit s.items s.label is.keeps labelled in
     let forks : c.in_ok-forks.forks ≡ t.forks + 1 = sum_is _ _ _ _ c.checked_add-forks.ensures c.in_ok-forks.ensures.ok_part in
     let done : c.in_ok-done.done ≡ t.done + 1 = sum_is _ _ _ _ c.checked_add-done.ensures c.in_ok-done.ensures.ok_part in
-    let depth : c.saturating_add.result ≡ min (t.depth + 1) 4294967295 = c.saturating_add.ensures in
+    let depth : c.saturating_add.result ≡ min (t.depth + 1) GREATEST_COUNT = c.saturating_add.ensures in
     let child : Thread = record {
       id = c.in_ok-id.id;
       depth = c.saturating_add.result;
