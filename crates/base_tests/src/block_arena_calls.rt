@@ -1,6 +1,7 @@
 use block_arena::{
-    Block, Full, MAX_WORDS, OutOfRange, OwnBlock, Pool, PoolError, Shell, SplitRefused, pieces_for,
+    Block, Full, OutOfRange, OwnBlock, Pool, PoolError, Shell, SplitRefused, pieces_for,
 };
+use language_limits::MOST_WORDS;
 use std::process::Abort;
 use std::thread::join;
 
@@ -11,8 +12,8 @@ fn makes_pools_of_whole_pieces(rt: HostRuntime) {
         (0, Some(PoolError::NotWhole)),
         (16, None),
         (24, Some(PoolError::NotWhole)),
-        (MAX_WORDS + 8, Some(PoolError::NotWhole)),
-        (MAX_WORDS + 16, Some(PoolError::TooLarge)),
+        (MOST_WORDS + 8, Some(PoolError::NotWhole)),
+        (MOST_WORDS + 16, Some(PoolError::TooLarge)),
     ] {
         assert!(rt; Pool::new(rt.alloc(), words).err() == want, "{words}");
     }
@@ -84,8 +85,8 @@ fn scattered_pieces_make_one_block(rt: HostRuntime) {
 
 #[test]
 fn the_greatest_pool_goes_out_whole(rt: HostRuntime) {
-    let mut pool = pool_of(&rt, MAX_WORDS);
-    for words in [1_048_576, MAX_WORDS, 1_048_576] {
+    let mut pool = pool_of(&rt, MOST_WORDS);
+    for words in [1_048_576, MOST_WORDS, 1_048_576] {
         let block = taken(&rt, &mut pool, words);
         check(&rt, &block, words, words);
         give(&rt, &mut pool, block);

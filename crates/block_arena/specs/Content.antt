@@ -1,6 +1,6 @@
 -- What contracts see of a `Block`, and how blocks are cut and joined.
 use Rattle.std.specs.Prelude.{◌≡◌, ℕ, ◌+◌, ◌*◌, ◌%◌, ◌^◌, ◌<◌, ◌≤◌, List, ◌++◌, length, take, drop, replicate, ℤ, pos}
-use Rattle.block_arena.specs.declared.size.TheConstants.{MAX_WORDS, PIECE_WORDS}
+use Rattle.language_limits.specs.declared.TheConstants.{MOST_WORDS, PIECE_WORDS}
 use Rattle.block_arena.specs.Size.{pieces_for, words_taken}
 
 -- the numbers of a block, and for how many pieces its list has room
@@ -34,10 +34,10 @@ pub record IsCut (block : Content) (at : ℕ) : Type 0 where
 pub record CanJoin (left right : Content) : Type 0 where
   pub whole : length left.items % PIECE_WORDS ≡ 0
   pub room : pieces_for (length left.items) + pieces_for (length right.items) ≤ left.room
-  pub fits : words_taken (length left.items) + words_taken (length right.items) ≤ MAX_WORDS
+  pub fits : words_taken (length left.items) + words_taken (length right.items) ≤ MOST_WORDS
 
 -- What every block keeps: it has just the pieces that its length needs.
 pub record HoldsPieces (pieces room len : ℕ) : Type 0 where
   pub exact : pieces ≡ pieces_for len
-  pub greatest : PIECE_WORDS * pieces ≤ MAX_WORDS
+  pub greatest : PIECE_WORDS * pieces ≤ MOST_WORDS
   pub room_fits : room < 2 ^ 32

@@ -1,6 +1,6 @@
 -- What contracts see of a `Pool`, and how it changes.
 use Rattle.std.specs.Prelude.{◌≡◌, ℕ, ◌+◌, ◌-◌, ◌*◌, ◌%◌, ◌<◌, ◌≤◌, max}
-use Rattle.block_arena.specs.declared.size.TheConstants.{MAX_WORDS, PIECE_WORDS}
+use Rattle.language_limits.specs.declared.TheConstants.{MOST_WORDS, PIECE_WORDS}
 
 -- the words of a pool, those of them that are out in blocks, and the most that ever were out at once
 pub record Region : Type 0 where
@@ -37,7 +37,7 @@ pub record IsSound (region : Region) : Type 0 where
   pub whole_live : region.live % PIECE_WORDS ≡ 0
   pub raised : region.live ≤ region.high
   pub within : region.high ≤ region.capacity
-  pub greatest : region.capacity ≤ MAX_WORDS
+  pub greatest : region.capacity ≤ MOST_WORDS
 
 -- What every pool keeps, of the `free` pieces that lie in it and the `room` of its list of them: each piece
 -- that it was made with is free or out, and there is room for all of them.

@@ -1,7 +1,7 @@
 -- Words and the pieces that hold them.
 use Rattle.std.specs.Prelude.{ℕ, ◌*◌}
 use Rattle.std.specs.Int.{div_ceil}
-use Rattle.block_arena.specs.declared.size.TheConstants.{PIECE_WORDS}
+use Rattle.language_limits.specs.declared.TheConstants.{PIECE_WORDS}
 
 -- how many pieces of 16 words hold `words` words: words / 16, rounded up
 abbrev pub pieces_for : ℕ → ℕ

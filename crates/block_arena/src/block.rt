@@ -5,7 +5,8 @@ ghost use Rattle.block_arena.specs.Content.{left_of, right_of, joined, IsCut, Ca
 use crate::error::{OutOfRange, SplitRefused};
 use crate::numbers::Numbers;
 use crate::shell::Shell;
-use crate::size::{MAX_WORDS, PIECE_WORDS, pieces_for};
+use crate::size::pieces_for;
+use language_limits::{MOST_WORDS, PIECE_WORDS};
 use std::alloc::AllocError;
 use std::marker::Model;
 
@@ -30,7 +31,7 @@ impl Block {
     /// has room for.
     pub fn len(&self) -> u32
         ensures value { result ≡ length self.now.items }
-        ensures greatest { words_taken (length self.now.items) ≤ MAX_WORDS }
+        ensures greatest { words_taken (length self.now.items) ≤ MOST_WORDS }
         ensures room { pieces_for (length self.now.items) ≤ self.now.room }
     {
         self.numbers.len()

@@ -7,7 +7,7 @@ use std::fmt;
 pub enum PoolError {
     /// The words are no whole pieces, or there are none.
     NotWhole,
-    /// The words are whole pieces, but more than [`MAX_WORDS`](crate::MAX_WORDS).
+    /// The words are whole pieces, but more than [`MOST_WORDS`](language_limits::MOST_WORDS).
     TooLarge,
     /// There is no memory for the pieces.
     OutOfMemory,

@@ -45,4 +45,4 @@ pub use own_block::OwnBlock;
 pub use pool::Pool;
 pub use record_block::RecordBlock;
 pub use shell::Shell;
-pub use size::{MAX_WORDS, PIECE_WORDS, pieces_for};
+pub use size::pieces_for;

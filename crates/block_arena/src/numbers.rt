@@ -5,7 +5,8 @@ ghost use Rattle.block_arena.specs.Content.{zeros, left_of, right_of, joined, Is
 use crate::error::{OutOfRange, SplitRefused};
 use crate::pieces::{PieceList, move_tail};
 use crate::shell::Shell;
-use crate::size::{MAX_WORDS, PIECE_WORDS, pieces_for};
+use crate::size::pieces_for;
+use language_limits::{MOST_WORDS, PIECE_WORDS};
 use std::alloc::AllocError;
 use std::marker::Model;
 
@@ -33,7 +34,7 @@ impl Numbers {
     /// room for.
     pub(crate) fn len(&self) -> u32
         ensures value { result ≡ length self.now.items }
-        ensures greatest { words_taken (length self.now.items) ≤ MAX_WORDS }
+        ensures greatest { words_taken (length self.now.items) ≤ MOST_WORDS }
         ensures room { pieces_for (length self.now.items) ≤ self.now.room }
     {
         self.len
@@ -110,7 +111,7 @@ impl Numbers {
         if left.pieces.capacity() < pieces as usize {
             return false;
         }
-        if MAX_WORDS < pieces * PIECE_WORDS {
+        if MOST_WORDS < pieces * PIECE_WORDS {
             return false;
         }
         true

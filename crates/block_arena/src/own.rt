@@ -6,7 +6,8 @@ ghost use Rattle.block_arena.specs.Content.{zeros};
 
 use crate::numbers::Numbers;
 use crate::pieces::{move_tail, new_pieces};
-use crate::size::{MAX_WORDS, PIECE_WORDS, pieces_for};
+use crate::size::pieces_for;
+use language_limits::{MOST_WORDS, PIECE_WORDS};
 use std::alloc::{AllocError, Global};
 
 impl Numbers {
@@ -22,7 +23,7 @@ impl Numbers {
 
     /// `len` zeros in new pieces. Its words are no more than the greatest pool has.
     pub(crate) fn zeros(alloc: Global, len: u32) -> Result<Numbers, AllocError>
-        requires { words_taken len ≤ MAX_WORDS }
+        requires { words_taken len ≤ MOST_WORDS }
         ensures { IfOk result (λ block. block.items ≡ replicate len (pos 0)) }
     {
         let pieces = new_pieces(alloc, pieces_for(len))?;
@@ -33,7 +34,7 @@ impl Numbers {
     /// are copied.
     pub(crate) fn append(self, alloc: Global, right: Numbers) -> Result<Numbers, AllocError>
         ensures items { IfOk result (λ block. block.items ≡ self.items ++ right.items) }
-        ensures too_long { MAX_WORDS < words_taken (length self.items + length right.items) → IsErr result }
+        ensures too_long { MOST_WORDS < words_taken (length self.items + length right.items) → IsErr result }
     {
         let Some(len) = self.len_with(&right) else {
             return Err(AllocError);
@@ -48,17 +49,17 @@ impl Numbers {
     /// The length of both together, where it is within the greatest pool.
     fn len_with(&self, right: &Numbers) -> Option<u32>
         ensures some { IfSome result (λ len. len ≡ length self.now.items + length right.now.items) }
-        ensures fits { IfSome result (λ len. words_taken len ≤ MAX_WORDS) }
-        ensures none { IsNone result → MAX_WORDS < words_taken (length self.now.items + length right.now.items) }
+        ensures fits { IfSome result (λ len. words_taken len ≤ MOST_WORDS) }
+        ensures none { IsNone result → MOST_WORDS < words_taken (length self.now.items + length right.now.items) }
     {
         let len = self.len + right.len;
-        if len <= MAX_WORDS { Some(len) } else { None }
+        if len <= MOST_WORDS { Some(len) } else { None }
     }
 
     /// One list followed by another, by moving the pieces.
     fn moved(self, alloc: Global, right: Numbers) -> Result<Numbers, AllocError>
         requires whole { length self.items % PIECE_WORDS ≡ 0 }
-        requires fits { words_taken (length self.items + length right.items) ≤ MAX_WORDS }
+        requires fits { words_taken (length self.items + length right.items) ≤ MOST_WORDS }
         ensures { IfOk result (λ block. block.items ≡ self.items ++ right.items) }
     {
         let len = self.len + right.len;
@@ -73,7 +74,7 @@ impl Numbers {
 /// One list followed by another, by copying the numbers of both into new pieces.
 fn copied(alloc: Global, left: &Numbers, right: &Numbers, len: u32) -> Result<Numbers, AllocError>
     requires both { len ≡ length left.now.items + length right.now.items }
-    requires fits { words_taken len ≤ MAX_WORDS }
+    requires fits { words_taken len ≤ MOST_WORDS }
     ensures { IfOk result (λ block. block.items ≡ left.now.items ++ right.now.items) }
 {
     let mut block = Numbers::zeros(alloc, len)?;

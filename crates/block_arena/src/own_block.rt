@@ -5,7 +5,7 @@ ghost use Rattle.block_arena.specs.Content.{left_of, right_of, IsCut};
 use crate::error::{OutOfRange, SplitRefused};
 use crate::numbers::Numbers;
 use crate::shell::Shell;
-use crate::size::{MAX_WORDS, PIECE_WORDS};
+use language_limits::{MOST_WORDS, PIECE_WORDS};
 use std::alloc::{AllocError, Global};
 use std::marker::Model;
 
@@ -37,7 +37,7 @@ impl OwnBlock {
 
     /// A block of `len` zeros in new pieces. Its words are no more than the greatest pool has.
     pub fn zeros(alloc: Global, len: u32) -> Result<OwnBlock, AllocError>
-        requires { words_taken len ≤ MAX_WORDS }
+        requires { words_taken len ≤ MOST_WORDS }
         ensures { IfOk result (λ block. block.items ≡ replicate len (pos 0)) }
     {
         Ok(OwnBlock {
@@ -49,7 +49,7 @@ impl OwnBlock {
     /// has room for.
     pub fn len(&self) -> u32
         ensures value { result ≡ length self.now.items }
-        ensures greatest { words_taken (length self.now.items) ≤ MAX_WORDS }
+        ensures greatest { words_taken (length self.now.items) ≤ MOST_WORDS }
         ensures room { pieces_for (length self.now.items) ≤ self.now.room }
     {
         self.numbers.len()
@@ -104,7 +104,7 @@ impl OwnBlock {
     /// that would be longer than the greatest pool is want of memory.
     pub fn append(self, alloc: Global, right: OwnBlock) -> Result<OwnBlock, AllocError>
         ensures items { IfOk result (λ block. block.items ≡ self.items ++ right.items) }
-        ensures too_long { MAX_WORDS < words_taken (length self.items + length right.items) → IsErr result }
+        ensures too_long { MOST_WORDS < words_taken (length self.items + length right.items) → IsErr result }
     {
         let OwnBlock { numbers: first } = self;
         let OwnBlock { numbers: second } = right;

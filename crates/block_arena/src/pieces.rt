@@ -1,4 +1,5 @@
 ghost use Rattle.std.specs.Prelude.{◌≡◌, ◌+◌, ◌-◌, ◌*◌, ◌≤◌, ◌++◌, IfOk, take, drop, pos, replicate, vec_len, vec_capacity};
+ghost use Rattle.language_limits.specs.declared.TheConstants.{PIECE_WORDS};
 ghost use Rattle.block_arena.specs.Pieces.{contents};
 
 use crate::piece::Piece;
@@ -11,7 +12,7 @@ pub(crate) type PieceList = Vec<Box<Piece>>;
 pub(crate) fn new_pieces(alloc: Global, count: u32) -> Result<PieceList, AllocError>
     ensures len { IfOk result (λ pieces. vec_len pieces ≡ count) }
     ensures room { IfOk result (λ pieces. vec_capacity pieces ≡ count) }
-    ensures zeros { IfOk result (λ pieces. contents pieces.items ≡ replicate (16 * count) (pos 0)) }
+    ensures zeros { IfOk result (λ pieces. contents pieces.items ≡ replicate (PIECE_WORDS * count) (pos 0)) }
 {
     let mut pieces = Vec::with_capacity(alloc, count as usize)?;
     for _ in 0..count {
@@ -39,7 +40,7 @@ pub(crate) fn move_tail(from: &mut PieceList, keep: usize, to: &mut PieceList)
 /// Makes all words of the pieces zero.
 pub(crate) fn clear_all(pieces: &mut PieceList)
     ensures len { vec_len pieces.new ≡ vec_len pieces.old }
-    ensures zeros { contents pieces.new.items ≡ replicate (16 * vec_len pieces.old) (pos 0) }
+    ensures zeros { contents pieces.new.items ≡ replicate (PIECE_WORDS * vec_len pieces.old) (pos 0) }
     ensures room { vec_capacity pieces.new ≡ vec_capacity pieces.old }
 {
     for piece in pieces.iter_mut() {

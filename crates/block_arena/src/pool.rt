@@ -9,7 +9,8 @@ use crate::numbers::Numbers;
 use crate::pieces::{PieceList, clear_all, move_tail, new_pieces};
 use crate::record_block::RecordBlock;
 use crate::shell::Shell;
-use crate::size::{MAX_WORDS, PIECE_WORDS, pieces_for};
+use crate::size::pieces_for;
+use language_limits::{MOST_WORDS, PIECE_WORDS};
 use std::alloc::Global;
 use std::marker::Model;
 
@@ -45,12 +46,12 @@ impl Pool {
 
         // The words are tested before any memory is asked for.
         ensures not_whole { (result ≡ Err PoolError.NotWhole) ↔ ((words % PIECE_WORDS ≢ 0) ⊎ (words ≡ 0)) }
-        ensures too_large { (result ≡ Err PoolError.TooLarge) ↔ (IsWhole words × (MAX_WORDS < words)) }
+        ensures too_large { (result ≡ Err PoolError.TooLarge) ↔ (IsWhole words × (MOST_WORDS < words)) }
     {
         if words % PIECE_WORDS != 0 || words == 0 {
             return Err(PoolError::NotWhole);
         }
-        if MAX_WORDS < words {
+        if MOST_WORDS < words {
             return Err(PoolError::TooLarge);
         }
         let Ok(free) = new_pieces(alloc, words / PIECE_WORDS) else {

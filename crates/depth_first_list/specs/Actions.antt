@@ -1,5 +1,6 @@
 -- Actions of a run, the words that they take and give back, and the peak of a list of them.
 use Rattle.std.specs.Prelude.{ℕ, List, map, ℤ, pos, neg_ℤ}
+use Rattle.language_limits.specs.declared.TheConstants.{RECORD_WORDS}
 use Rattle.dummy_tree.specs.Passed.Changes.{total, high_water}
 use Rattle.dummy_tree.specs.Passed.KindType.{Kind}
 use Rattle.dummy_tree.specs.Passed.KindVariants.{Fork, Join, Alloc, Release, Dummy, End, Fault}
@@ -26,7 +27,7 @@ pub record Action : Type 0 where
 
 -- the words of the record block that a forked thread holds from its Fork to its End
 abbrev pub record_words : ℕ
-record_words = 16
+record_words = RECORD_WORDS
 
 -- the kind of what is done
 abbrev pub kind_of : Deed → Kind

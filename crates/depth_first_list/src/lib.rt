@@ -11,6 +11,3 @@
 #![tactic(auto)]
 
 pub mod laws;
-
-/// The words of the record block that a forked thread holds from its Fork to its End.
-pub const RECORD_WORDS: u32 = 16;

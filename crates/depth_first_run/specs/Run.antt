@@ -1,5 +1,6 @@
 -- The depth-first run of a program, by recursion over its statements, to the end of each branch.
 use Rattle.std.specs.Prelude.{ℕ, zero, suc, ◌+◌, ◌*◌, ◌-◌, ◌%◌, ◌&&◌, Bool, true, false, nat_eq, nat_le, if◌then◌else◌, List, [], ◌∷◌, ◌++◌, length, take, drop, replicate, slice_set, ℤ, pos, negsuc, Result, Ok, Err, Option, Some, None}
+use Rattle.language_limits.specs.declared.TheConstants.{PIECE_WORDS}
 use Rattle.depth_first_list.specs.Passed.FaultKindType.{FaultKind}
 use Rattle.depth_first_list.specs.Passed.FaultKindVariants as faults
 use Rattle.depth_first_list.specs.Passed.FaultAtType.{FaultAt}
@@ -99,7 +100,7 @@ one_round body again s = unless_faulted again (body s)
 
 -- the place at which a block may be cut: between two pieces, within the block
 abbrev pub cut_of : List ℤ → ℤ → Option ℕ
-cut_of items (pos n) = if nat_le n (length items) && nat_eq (n % 16) 0 then Some n else None
+cut_of items (pos n) = if nat_le n (length items) && nat_eq (n % PIECE_WORDS) 0 then Some n else None
 cut_of items (negsuc n) = None
 
 -- inside a `split` its block is gone, and its two parts are held

@@ -2,6 +2,7 @@
 use Rattle.std.specs.Prelude.{ℕ, ◌+◌, ◌*◌, Bool, if◌then◌else◌, List, [], ◌∷◌, ◌++◌, length, ℤ, pos}
 use Rattle.std.specs.Int.{div_ceil}
 use Rattle.std.specs.Str.{bytes_eq}
+use Rattle.language_limits.specs.declared.TheConstants.{PIECE_WORDS}
 use Rattle.par_ownership.specs.Passed.Tree.{Name}
 
 -- a block that is held, under its name: its numbers
@@ -66,9 +67,9 @@ abbrev pub those_not_named : (Name → Bool) → List Held → List Held
 those_not_named named [] = []
 those_not_named named (h ∷ hs) = if named h.name then those_not_named named hs else h ∷ those_not_named named hs
 
--- the words of a block of n numbers: whole pieces of 16
+-- the words of a block of n numbers: whole pieces
 unfoldable pub block_words : ℕ → ℕ
-block_words n = 16 * div_ceil n 16
+block_words n = PIECE_WORDS * div_ceil n PIECE_WORDS
 
 -- the words of held blocks, and of the stores of open calls
 abbrev pub held_words : List Held → ℕ

@@ -12,6 +12,7 @@ ghost use Rattle.deque_events.specs.Events.{BecomesBy, DidAlone, DidDummy, DidJo
 
 use dag_order::{ActionId, Birth};
 use deque_list::{DequeId, List};
+use language_limits::RECORD_WORDS;
 use period_table::PeriodTable;
 
 /// The thread that did the action of this name, which took so many words of the quota, goes back on top of the worker's deque.
@@ -81,7 +82,7 @@ pub fn put_both_back<T>(
     requires table { HasRoom table.old worker }
     requires fits { (p : Period) → period_at table.old worker ≡ Some p → p.used + record_words ≤ GREATEST_QUOTA }
     ensures forks { (items : AnyList T) → BecomesBy worker deque items list.old table.old list.new table.new
-        (λ shown k l period was place. DidFork k l period was (shown top) (shown child) name 16 place ordinal) }
+        (λ shown k l period was place. DidFork k l period was (shown top) (shown child) name record_words place ordinal) }
     ensures deques { (items : AnyList T) (stands : Stands list.old worker deque items)
         → Becomes stands list.new (deque_with deque (Some worker) (child ∷ top ∷ items) ∷ []) }
     ensures seats { KeepsSeats table.old table.new }
@@ -92,5 +93,5 @@ pub fn put_both_back<T>(
         parent: name.by,
         ordinal,
     };
-    table.note(worker, name, 16, Some(birth));
+    table.note(worker, name, RECORD_WORDS, Some(birth));
 }

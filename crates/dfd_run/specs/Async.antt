@@ -1,5 +1,6 @@
 -- What the command `async` makes of a program.
 use Rattle.std.specs.Prelude.{ℕ, ◌+◌, ◌/◌, List, []}
+use Rattle.language_limits.specs.declared.TheConstants.{RECORD_WORDS}
 use Rattle.command_line.specs.declared.command.Command.{Command}
 use Rattle.depth_first_run.specs.States.{Setting}
 use Rattle.deque_machine.specs.Machine as machine
@@ -18,7 +19,7 @@ use Rattle.dfd_run.specs.declared.status.Status.{Status}
 -- The workers of a command, and its limits of words and actions. The list has a place for one thread, and for each record of 16 words that
 -- the arena has room for.
 abbrev pub async_terms : Command → Terms
-async_terms command = given_terms command.p command.arena command.steps (1 + command.arena / 16)
+async_terms command = given_terms command.p command.arena command.steps (1 + command.arena / RECORD_WORDS)
 
 abbrev pub async_machine : Command → Program → machine.Setting
 async_machine command p = machine_of (play_setting command p) (async_terms command)

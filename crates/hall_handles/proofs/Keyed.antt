@@ -1,8 +1,7 @@
 -- The key of the hall of a core is one.
 use Rattle.std.proofs.Common.{◌≡◌, ℕ, List, ◌<◌, ◌≤◌, sym, ap, ◌∙◌, subst}
 use Rattle.std.proofs.Math.Logic.{∥∥₁_elim, ∥∥₁_prop}
-use Rattle.language_limits.specs.declared.TheConstants.{GREATEST_COUNT, MOST_WORKERS}
-use Rattle.block_arena.specs.declared.size.TheConstants.{MAX_WORDS}
+use Rattle.language_limits.specs.declared.TheConstants.{GREATEST_COUNT, MOST_WORDS, MOST_WORKERS}
 use Rattle.depth_first_list.specs.Actions.{record_words}
 use Rattle.deque_machine.specs.Terms.{Terms}
 use Rattle.dfd_core.specs.Cores.{terms_at}
@@ -14,7 +13,7 @@ use Rattle.dfd_core.specs.Passed.ThreadType.{Thread}
 use Rattle.hall_turns.specs.Keys.{table_of, quota_of, terms_of, IsKey}
 use Rattle.hall_turns.specs.declared.key.HallKey.{HallKey}
 
-pub key_is : (core : Core) (key : HallKey) (items : List Thread) → IsRootAlone (table_of key) (quota_of key) items → key.quota ≡ core.k → terms_of key ≡ terms_at core → key.capacity ≤ MAX_WORDS → IsKey key
+pub key_is : (core : Core) (key : HallKey) (items : List Thread) → IsRootAlone (table_of key) (quota_of key) items → key.quota ≡ core.k → terms_of key ≡ terms_at core → key.capacity ≤ MOST_WORDS → IsKey key
 key_is core key items root quota terms few = record {
   of_program = ∥∥₁_elim root.5 ∥∥₁_prop (λ p. p.of_program);
   quota = subst (λ k. record_words ≤ quota_words k) (sym quota) core.sound.quota;

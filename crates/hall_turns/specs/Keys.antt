@@ -1,7 +1,6 @@
 -- What is fixed for a hall, as definitions speak of it.
 use Rattle.std.specs.Prelude.{ℕ, ◌≤◌, ◌<◌}
-use Rattle.language_limits.specs.declared.TheConstants.{GREATEST_COUNT, MOST_WORKERS}
-use Rattle.block_arena.specs.declared.size.TheConstants.{MAX_WORDS}
+use Rattle.language_limits.specs.declared.TheConstants.{GREATEST_COUNT, MOST_WORDS, MOST_WORKERS}
 use Rattle.hall_law.specs.Passed.Actions.{record_words}
 use Rattle.hall_law.specs.Passed.Terms.{Terms, given_terms}
 use Rattle.dummy_tree.specs.QuotaWords.{quota_words}
@@ -27,5 +26,5 @@ pub record IsKey (key : HallKey) : Type 0 where
   pub quota : record_words ≤ quota_of key
   pub some_worker : 1 ≤ key.workers
   pub few_workers : key.workers ≤ MOST_WORKERS
-  pub few_words : key.capacity ≤ MAX_WORDS
+  pub few_words : key.capacity ≤ MOST_WORDS
   pub few_actions : key.actions < GREATEST_COUNT

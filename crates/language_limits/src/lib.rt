@@ -34,8 +34,14 @@ pub const MOST_TURNS: u32 = 1_000_000;
 /// The most forks of `par` above one another.
 pub const MOST_FORKS: u32 = 256;
 
-/// The least quota, in words, and the unit of quotas: the words of a piece.
-pub const LEAST_QUOTA: u32 = 16;
+/// The words of a piece, in which blocks, arenas and quotas are counted.
+pub const PIECE_WORDS: u32 = 16;
+
+/// The words of the record block that a forked thread holds from its Fork to its End: one piece.
+pub const RECORD_WORDS: u32 = PIECE_WORDS;
+
+/// The least quota, in words, and the unit of quotas: one piece.
+pub const LEAST_QUOTA: u32 = PIECE_WORDS;
 
 /// The greatest quota, in words.
 pub const GREATEST_QUOTA: u32 = 1_048_576;

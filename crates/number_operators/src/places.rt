@@ -4,10 +4,7 @@ ghost use Rattle.std.specs.Prelude.{◌≡◌, ◌<◌, ◌≤◌, ◌%◌, ℕ,
 ghost use Rattle.depth_first_run.specs.Values.{place_in};
 ghost use Rattle.depth_first_run.specs.Run.{size_of, cut_of};
 
-use language_limits::LONGEST_BLOCK;
-
-/// How many words a piece of a block has.
-const PIECE_WORDS: u32 = 16;
+use language_limits::{LONGEST_BLOCK, PIECE_WORDS};
 
 /// A number as a place that is no more than `most`.
 pub fn place_up_to(number: i64, most: u32) -> Option<u32>
@@ -42,7 +39,7 @@ pub fn place_in(len: u32, index: i64) -> Option<u32>
 pub fn cut_of(len: u32, at: i64) -> Option<u32>
     ensures value { (items : List ℤ) → length items ≡ len → result ≡ cut_of items at }
     ensures within { IfSome result (λ place. place ≤ len) }
-    ensures between { IfSome result (λ place. place % 16 ≡ 0) }
+    ensures between { IfSome result (λ place. place % PIECE_WORDS ≡ 0) }
 {
     let at = place_up_to(at, len)?;
     if at % PIECE_WORDS == 0 {

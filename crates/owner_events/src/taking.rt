@@ -10,11 +10,11 @@ ghost use Rattle.owner_events.specs.Taking.{AsksByTheList, IsFullBy, TakesList, 
 
 use crate::giving::{give_lane, give_list};
 use crate::refused::ActRefused;
-use block_arena::PIECE_WORDS;
 use boxed::Boxed;
 use deque_list::DequeId;
 use hall_seats::end_of;
 use hall_turns::{HallPlace, HallRow, ListSlot, PoolSlot, take_list, take_pool};
+use language_limits::RECORD_WORDS;
 use owner_acts::Noting;
 use owner_advance::{AtNext, put_together, return_answered, return_pool};
 use run_end::Stop;
@@ -25,7 +25,7 @@ fn words_asked(next: Next) -> u32
     ensures { result ≡ words_asked_by next }
 {
     match next {
-        Next::Fork => PIECE_WORDS,
+        Next::Fork => RECORD_WORDS,
         Next::Alloc { words } => words,
         _ => 0,
     }

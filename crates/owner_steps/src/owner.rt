@@ -25,11 +25,11 @@ use crate::decisions::{Decision, decide};
 use crate::leaves::{give_up, suspend};
 use crate::refusals::test_action;
 use crate::tops::{put_back, take_top};
-use block_arena::PIECE_WORDS;
 use boxed::Boxed;
 use core_parts::{Event, Scheduler};
 use deque_list::DequeId;
 use dummy_tree::Quota;
+use language_limits::RECORD_WORDS;
 use node_table::Code;
 use run_end::Stop;
 use std::alloc::Global;
@@ -41,7 +41,7 @@ fn words_taken(next: Next) -> u32
     ensures { result ≡ words_taken_by next }
 {
     match next {
-        Next::Fork => PIECE_WORDS,
+        Next::Fork => RECORD_WORDS,
         Next::Alloc { words } => words,
         _ => 0,
     }

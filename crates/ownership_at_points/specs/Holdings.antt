@@ -1,6 +1,7 @@
 -- How often a name is given a block, and what stands where a call or a `split` ends.
 use Rattle.std.specs.Prelude.{◌≡◌, ℕ, ◌+◌, ◌*◌, ◌≤◌, Bool, false, ◌||◌, List, [], ◌∷◌, length, Option, Some, None}
 use Rattle.std.specs.Str.{bytes_eq}
+use Rattle.language_limits.specs.declared.TheConstants.{PIECE_WORDS}
 use Rattle.par_tree.specs.Tree.{Name, Arg, value, lend, give, Target, unused, integer, block, Stmt, let_stmt, assign_stmt, put_stmt, alloc_stmt, free_stmt, if_stmt, while_stmt, call_stmt, print_stmt, par_stmt, split_stmt, Param, Ret, RetValue, gives, hands}
 use Rattle.ownership_laws.specs.Passed.Stores.{Store, block_of}
 use Rattle.ownership_laws.specs.Passed.States.{State}
@@ -102,4 +103,4 @@ pub record EndsSplit (b l r : Name) (s : State) : Type 0 where
   pub none : count s.store.blocks b ≡ 0
   pub apart : bytes_eq l r ≡ false
   pub pieces : ℕ
-  pub whole : length (block_of s.store.blocks l) ≡ 16 * pieces
+  pub whole : length (block_of s.store.blocks l) ≡ PIECE_WORDS * pieces

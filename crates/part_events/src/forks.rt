@@ -17,10 +17,11 @@ ghost use Rattle.part_events.specs.Here.{HasRoomHere, HasMovesFor, TakesWords, p
 ghost use Rattle.part_events.specs.Forks.{ForksHere, GoBothOnTop};
 
 use crate::moves::note_move;
-use block_arena::{PIECE_WORDS, Pool};
+use block_arena::Pool;
 use boxed::Boxed;
 use dag_order::{ActionId, Birth, Births, ThreadId};
 use deque_list::Lane;
+use language_limits::RECORD_WORDS;
 use period_table::note_in;
 use quota_period::Period;
 use space_ledger::Moves;
@@ -64,7 +65,7 @@ fn put_both_back(
         parent: name.by,
         ordinal,
     };
-    note_in(period, first, name, PIECE_WORDS, Some(birth));
+    note_in(period, first, name, RECORD_WORDS, Some(birth));
 }
 
 /// Does a Fork whose record block fits the arena: the child comes to be in this place, and runs on top of its parent. Returns the name of the

@@ -1,6 +1,7 @@
 -- Each thread but the root holds a record, and room for one more deque changes nothing else.
 use Rattle.std.proofs.Common.{◌≡◌, ℕ, ◌+◌, ◌≤◌, ◌<◌, List, [], ◌∷◌, map, inl, inr, refl, sym, ap, subst, ◌∙◌}
 use Rattle.std.specs.Prelude.{◌/◌}
+use Rattle.language_limits.specs.declared.TheConstants.{RECORD_WORDS}
 use denote.Struct.Props.{props}
 use Rattle.deque_list.specs.Deques.{Deque}
 use Rattle.deque_list.specs.DequeLists.{ListView}
@@ -67,6 +68,6 @@ module _ (s : Scheduler) (list : ListView Thread) (deques : list.deques ≡ s.li
   room_run c terms run m at = subst (λ h. HasRun c terms h run m) (sym room_held) at
 
 -- the places in the list stay those that the words of the pool allow
-pub most_stays : (before after : Scheduler) → SameTerms before after → before.list.most ≡ 1 + before.pool.capacity / 16 → after.list.most ≡ 1 + after.pool.capacity / 16
+pub most_stays : (before after : Scheduler) → SameTerms before after → before.list.most ≡ 1 + before.pool.capacity / RECORD_WORDS → after.list.most ≡ 1 + after.pool.capacity / RECORD_WORDS
 most_stays before after same is =
-    ap (λ (x : Terms). x.limits.deques) (same 0) ∙ is ∙ ap (λ n. 1 + n / 16) (sym (ap (λ (x : Terms). x.limits.capacity) (same 0)))
+    ap (λ (x : Terms). x.limits.deques) (same 0) ∙ is ∙ ap (λ n. 1 + n / RECORD_WORDS) (sym (ap (λ (x : Terms). x.limits.capacity) (same 0)))

@@ -4,6 +4,7 @@ use Rattle.std.proofs.lemmas.Int.{ints}
 use Rattle.std.proofs.lemmas.List.{map-append, length-map}
 use Rattle.std.proofs.lemmas.Nat.{le-div}
 use Rattle.std.specs.Prelude.{◌/◌, None, Some, filter}
+use Rattle.language_limits.specs.declared.TheConstants.{RECORD_WORDS}
 use Rattle.depth_first_list.specs.Actions.{Action, record_words}
 use Rattle.depth_first_list.specs.Facts.{action_at}
 use Rattle.depth_first_list.specs.Runs.{IsDepthFirst}
@@ -138,7 +139,7 @@ module _ (c : Setting) (terms : Terms) (quota : record_words ≤ c.quota) (befor
   -- after a Fork there is a place for the parent's entry
   module _ (two : LeavesTwo (list_of c) m g.next worker)
       (has : Each (λ d. Each HasRecord (parts.Deque.threads d)) (parts_in before).deques)
-      (most : terms.limits.deques ≡ 1 + terms.limits.capacity / 16) (fits : after.live ≤ terms.limits.capacity) where
+      (most : terms.limits.deques ≡ 1 + terms.limits.capacity / RECORD_WORDS) (fits : after.live ≤ terms.limits.capacity) where
     few_before : record_words * length m.deques ≤ record_words + before.live
     few_before = entries_are_few s some listed (shown before) moved m stood has
 
@@ -148,7 +149,7 @@ module _ (c : Setting) (terms : Terms) (quota : record_words ≤ c.quota) (befor
     place_left : length m.deques < terms.limits.deques
     place_left =
         let few = few_before in let more = one_more in
-        let within : length m.deques ≤ terms.limits.capacity / 16 = le-div (length m.deques) terms.limits.capacity 16 (omega arith) (omega (arith, few, more, fits)) in
+        let within : length m.deques ≤ terms.limits.capacity / RECORD_WORDS = le-div (length m.deques) terms.limits.capacity RECORD_WORDS (omega arith) (omega (arith, few, more, fits)) in
         omega (arith, within, most)
 
     as_many : (h : Held) (x : Moment) → x.deques ≡ map parts.deque_shown (parts_in h).deques → length x.deques ≡ length h.deques

@@ -1,7 +1,7 @@
 //! The event of a worker, whether it is idle or not.
 
 ghost use Rattle.std.specs.Prelude.{◌≡◌, ◌≢◌, ◌<◌, ◌≤◌, ◌+◌, ◌/◌, ◌↔◌, ℕ, List as AnyList, None, Some, Ok, Err, OnOk, length};
-ghost use Rattle.language_limits.specs.declared.TheConstants.{GREATEST_COUNT, MOST_WORKERS};
+ghost use Rattle.language_limits.specs.declared.TheConstants.{GREATEST_COUNT, MOST_WORKERS, RECORD_WORDS};
 ghost use Rattle.depth_first_run.specs.States.{Setting};
 ghost use Rattle.deque_list.specs.declared.deque_id.DequeId.{DequeId};
 ghost use Rattle.deque_machine.specs.Moments.{Moment};
@@ -69,7 +69,7 @@ fn event_of_entry(
     requires within { worker < length scheduler.old.table.seats.items }
     requires few { limit < GREATEST_COUNT }
     requires done { scheduler.old.done ≤ limit }
-    requires most { scheduler.old.list.most ≡ 1 + scheduler.old.pool.capacity / 16 }
+    requires most { scheduler.old.list.most ≡ 1 + scheduler.old.pool.capacity / RECORD_WORDS }
     requires ready { StandsReady (code_shown code.now) (quota_words k) (terms_of scheduler.old limit) (held scheduler.old) }
     ensures sound { IsSound (code_shown code.now) (quota_words k) (terms_of scheduler.new limit) (held scheduler.new) }
     ensures points { result ≢ Err stops.OutOfMemory → CanGoOn (code_shown code.now) (quota_words k) (held scheduler.new) }
@@ -111,7 +111,7 @@ pub(crate) fn event_of(
     requires workers { length scheduler.old.table.seats.items ≤ MOST_WORKERS }
     requires few { limit < GREATEST_COUNT }
     requires done { scheduler.old.done ≤ limit }
-    requires most { scheduler.old.list.most ≡ 1 + scheduler.old.pool.capacity / 16 }
+    requires most { scheduler.old.list.most ≡ 1 + scheduler.old.pool.capacity / RECORD_WORDS }
     requires ready { StandsReady (code_shown code.now) (quota_words k) (terms_of scheduler.old limit) (held scheduler.old) }
     ensures nothing { (result ≡ Ok None)
         ↔ ((seat_at scheduler.old.table worker ≡ None) × (¬ SomeReady (length scheduler.old.table.seats.items) scheduler.old.list.deques)) }

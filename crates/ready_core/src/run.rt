@@ -25,7 +25,7 @@ use core_parts::{
 use dag_order::{Lines, ThreadId};
 use deque_list::MOST_ENTRIES;
 use dummy_tree::Quota;
-use language_limits::{MOST_ACTIONS, MOST_WORKERS};
+use language_limits::{MOST_ACTIONS, MOST_WORKERS, RECORD_WORDS};
 use node_table::Code;
 use run_end::RunEnd;
 use space_ledger::{Books, Moves};
@@ -46,17 +46,17 @@ pub struct AsyncCore {
     pub ghost points: { end ≡ None → CanGoOn (code_shown code) (quota_words k) (held scheduler) },
     pub ghost somewhere: { IsSomewhere (code_shown code) (quota_words k) (terms_of scheduler limit) (held scheduler) end },
     pub ghost few: { limit < GREATEST_COUNT },
-    pub ghost most_is: { scheduler.list.most ≡ 1 + scheduler.pool.capacity / 16 },
+    pub ghost most_is: { scheduler.list.most ≡ 1 + scheduler.pool.capacity / RECORD_WORDS },
     pub ghost some_workers: { 1 ≤ length scheduler.table.seats.items },
     pub ghost few_workers: { length scheduler.table.seats.items ≤ MOST_WORKERS },
 }
 
-/// How many entries the list may have: one, and one for each record of 16 words that the pool has room for.
+/// How many entries the list may have: one, and one for each record that the pool has room for.
 fn places(pool: &Pool) -> u32
-    ensures value { result ≡ 1 + pool.now.capacity / 16 }
+    ensures value { result ≡ 1 + pool.now.capacity / RECORD_WORDS }
     ensures few { (1 ≤ result) × (result ≤ MOST_ENTRIES) }
 {
-    1 + (pool.capacity() / 16) as u32
+    1 + (pool.capacity() / u64::from(RECORD_WORDS)) as u32
 }
 
 impl AsyncCore {
@@ -84,7 +84,7 @@ impl AsyncCore {
         ensures going { IfOk result (λ core. end_of core ≡ None) }
         ensures code { IfOk result (λ core. core.code ≡ code) }
         ensures quota { IfOk result (λ core. core.k ≡ k) }
-        ensures terms { IfOk result (λ core. terms_at core ≡ given_terms workers pool.capacity limit (1 + pool.capacity / 16)) }
+        ensures terms { IfOk result (λ core. terms_at core ≡ given_terms workers pool.capacity limit (1 + pool.capacity / RECORD_WORDS)) }
     {
         let most = places(&pool);
         let scheduler = scheduler_of(alloc, &code, workers, pool, most)?;

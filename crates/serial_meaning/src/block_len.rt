@@ -4,7 +4,7 @@ ghost use Rattle.language_limits.specs.declared.TheConstants.{LONGEST_BLOCK};
 ghost use Rattle.depth_first_run.specs.Stores.{block_words};
 ghost use Rattle.depth_first_run.specs.Run.{size_of};
 
-use language_limits::LONGEST_BLOCK;
+use language_limits::{LONGEST_BLOCK, PIECE_WORDS};
 
 /// The length of a block: 0 to 1,048,576 numbers.
 #[derive(Clone, Copy)]
@@ -36,6 +36,6 @@ impl BlockLen {
         ensures value { result ≡ block_words (length_of self) }
         ensures bound { result ≤ LONGEST_BLOCK }
     {
-        self.len.div_ceil(16) * 16
+        self.len.div_ceil(PIECE_WORDS) * PIECE_WORDS
     }
 }

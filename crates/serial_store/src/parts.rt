@@ -9,8 +9,9 @@ ghost use Rattle.serial_store.specs.Effects.{Cuts};
 
 use crate::stop::Stop;
 use crate::store::Store;
-use block_arena::{OwnBlock, PIECE_WORDS, Shell, pieces_for};
+use block_arena::{OwnBlock, Shell, pieces_for};
 use dag_order::FaultKind;
+use language_limits::PIECE_WORDS;
 use number_operators::place_up_to;
 use par_tree::Name;
 use std::alloc::{AllocError, Global};

@@ -11,7 +11,8 @@ ghost use Rattle.slot_store.specs.Shown.{slots_shown};
 ghost use Rattle.slot_store.specs.Agreement.{ShowsStore};
 
 use crate::slots::Slots;
-use block_arena::{Block, MAX_WORDS, Shell, pieces_for};
+use block_arena::{Block, Shell, pieces_for};
+use language_limits::{MOST_WORDS, PIECE_WORDS};
 use number_operators::cut_of;
 use std::alloc::{AllocError, Global};
 
@@ -21,7 +22,7 @@ impl Slots {
         ensures store { (names : List Name) (store : Store) → ShowsStore names (slots_shown self.now) store → slot < length names
             → result ≡ cut_of (block_of store.blocks (name_at names slot)) at }
         ensures within { IfSome result (λ place. place ≤ length (items_at (slots_shown self.now) slot)) }
-        ensures between { IfSome result (λ place. place % 16 ≡ 0) }
+        ensures between { IfSome result (λ place. place % PIECE_WORDS ≡ 0) }
     {
         cut_of(self.length(slot), at)
     }
@@ -48,7 +49,7 @@ impl Slots {
         requires no_right { HasNone (slots_shown self.old) right }
         requires apart { left ≢ right }
         requires place { at ≤ length (items_at (slots_shown self.old) slot) }
-        requires between { at % 16 ≡ 0 }
+        requires between { at % PIECE_WORDS ≡ 0 }
         ensures store { (names : List Name) (store : Store) → ShowsStore names (slots_shown self.old) store
             → OnOk result (ShowsStore names (slots_shown self.new)
             (cut_block (name_at names slot) (name_at names left) (name_at names right) at store)) }
@@ -69,7 +70,7 @@ impl Slots {
         requires no_right { HasNone (slots_shown self.old) right }
         requires apart { left ≢ right }
         requires place { at ≤ length (items_at (slots_shown self.old) slot) }
-        requires between { at % 16 ≡ 0 }
+        requires between { at % PIECE_WORDS ≡ 0 }
         requires room { pieces_for (length (items_at (slots_shown self.old) slot) - at) ≤ shell }
         ensures { (names : List Name) (store : Store) → ShowsStore names (slots_shown self.old) store
             → ShowsStore names (slots_shown self.new) (cut_block (name_at names slot) (name_at names left) (name_at names right) at store) }
@@ -95,9 +96,9 @@ impl Slots {
         requires has_left { HasBlock (slots_shown self.old) left }
         requires has_right { HasBlock (slots_shown self.old) right }
         requires apart { left ≢ right }
-        requires whole { length (items_at (slots_shown self.old) left) % 16 ≡ 0 }
+        requires whole { length (items_at (slots_shown self.old) left) % PIECE_WORDS ≡ 0 }
         requires fits { words_taken (length (items_at (slots_shown self.old) left))
-            + words_taken (length (items_at (slots_shown self.old) right)) ≤ MAX_WORDS }
+            + words_taken (length (items_at (slots_shown self.old) right)) ≤ MOST_WORDS }
         ensures store { (names : List Name) (store : Store) → ShowsStore names (slots_shown self.old) store
             → OnOk result (ShowsStore names (slots_shown self.new)
             (rejoin_block (name_at names slot) (name_at names left) (name_at names right) store)) }

@@ -3,10 +3,10 @@
 ghost use Rattle.dummy_tree.specs.QuotaWords.{quota_words};
 ghost use Rattle.thread_events.specs.Readiness.{IsReadiness, UsesQuota, UsesResult};
 
-use block_arena::PIECE_WORDS;
 use boxed::Boxed;
 use dag_order::ThreadId;
 use dummy_tree::Quota;
+use language_limits::RECORD_WORDS;
 use quota_period::{Charge, Period};
 use thread_frames::{Next, Thread};
 
@@ -27,7 +27,7 @@ pub fn readiness_of(period: &Period, top: &Boxed<Thread>, next: Next, k: Quota) 
     ensures { IsReadiness period.now.used (quota_words k) top.now next result }
 {
     match next {
-        Next::Fork => by_quota(period, PIECE_WORDS, k),
+        Next::Fork => by_quota(period, RECORD_WORDS, k),
         Next::Alloc { words } => by_quota(period, words, k),
         Next::Join { child } => by_result(top, child),
         _ => Readiness::Ready { charge: 0 },

@@ -17,9 +17,10 @@ use crate::open_child::OpenChild;
 use crate::place::Place;
 use crate::prepared::Prepared;
 use crate::thread::Thread;
-use block_arena::{PIECE_WORDS, Pool, RecordBlock};
+use block_arena::{Pool, RecordBlock};
 use boxed::Boxed;
 use dag_order::ThreadId;
+use language_limits::RECORD_WORDS;
 use std::mem;
 use thread_output::Told;
 use thread_run::Forking;
@@ -92,7 +93,7 @@ fn take_record(pool: &mut Pool) -> Result<RecordBlock, ArenaFull>
         Some(block) => Ok(block),
         None => Err(ArenaFull {
             live: pool.live(),
-            asked: u64::from(PIECE_WORDS),
+            asked: u64::from(RECORD_WORDS),
         }),
     }
 }

@@ -2,11 +2,10 @@
 
 ghost use Rattle.std.specs.Prelude.{vec_len, vec_capacity, ◌-◌, ◌≡◌, ◌≤◌, ◌<◌, [], ℕ, Some, None, IfOk, OnOk, OnErr, Result, Ok};
 ghost use Rattle.dag_order.specs.Births.{root as root_id};
-ghost use Rattle.block_arena.specs.declared.size.TheConstants.{MAX_WORDS};
 ghost use Rattle.thread_stack.specs.Passed.States.{Setting};
 ghost use Rattle.dummy_tree.specs.QuotaWords.{quota_words};
 ghost use Rattle.std.specs.Prelude.{slice_get};
-ghost use Rattle.language_limits.specs.declared.TheConstants.{GREATEST_COUNT};
+ghost use Rattle.language_limits.specs.declared.TheConstants.{GREATEST_COUNT, MOST_WORDS};
 ghost use Rattle.node_table.specs.Table.{Function};
 ghost use Rattle.node_table.specs.Codes.{code_shown};
 ghost use Rattle.thread_state.specs.Settings.{IsSettingOf};
@@ -21,9 +20,10 @@ use crate::next::Next;
 use crate::open_child::OpenChild;
 use crate::prepared::Prepared;
 use crate::thread::Thread;
-use block_arena::{PIECE_WORDS, pieces_for};
+use block_arena::pieces_for;
 use dag_order::{Label, Placed, ThreadId};
 use dummy_tree::Quota;
+use language_limits::PIECE_WORDS;
 use node_table::{Code, NodeKind};
 use std::alloc::{AllocError, Global};
 use thread_output::Told;
@@ -112,7 +112,7 @@ impl Thread {
     /// middle, and it is of no further use but to give its blocks back.
     pub fn advance(&mut self, alloc: Global, code: &Code, k: Quota) -> Result<Next, AllocError>
         requires point { IsAtPoint (code_shown code.now) (quota_words k) self.old }
-        requires fits { thread_words self.old ≤ MAX_WORDS }
+        requires fits { thread_words self.old ≤ MOST_WORDS }
         requires count { done_of self.old < GREATEST_COUNT }
         ensures point { OnOk result (IsAtPoint (code_shown code.now) (quota_words k) self.new) }
         ensures next { IfOk result (λ next. next_of self.new ≡ Some next) }
@@ -149,7 +149,7 @@ impl Thread {
     /// Runs up to the next action, where none is prepared.
     fn go_on(&mut self, alloc: Global, code: &Code, k: Quota) -> Result<Next, AllocError>
         requires point { IsAtPoint (code_shown code.now) (quota_words k) self.old }
-        requires fits { thread_words self.old ≤ MAX_WORDS }
+        requires fits { thread_words self.old ≤ MOST_WORDS }
         requires count { done_of self.old < GREATEST_COUNT }
         requires nothing { next_of self.old ≡ None }
         ensures point { OnOk result (IsAtPoint (code_shown code.now) (quota_words k) self.new) }

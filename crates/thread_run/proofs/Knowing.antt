@@ -5,7 +5,7 @@ use Rattle.std.specs.Str.{bytes_eq}
 use Rattle.std.proofs.Math.Logic.{∥∥₁_elim}
 use denote.Struct.Props.{props}
 use Rattle.std.proofs.lemmas.List.{nil_from_length}
-use Rattle.block_arena.specs.declared.size.TheConstants.{MAX_WORDS}
+use Rattle.language_limits.specs.declared.TheConstants.{MOST_WORDS}
 use Rattle.par_tree.specs.Tree.{Name, Program, Func, Stmt}
 use Rattle.depth_first_run.specs.Stores.{Held, block_of}
 use Rattle.depth_first_run.specs.Middle as middles
@@ -208,7 +208,7 @@ module _ (t : Table) (k : ℕ) (run : ThreadRun) (n s : ℕ) (e : tables.Expr) (
         let long = ap (λ xs. length xs) (slot_items (slot_names p.at.runs) (own_row run.state) m.at.store l p.left shows p.first) in
         let whole = e.whole in omega (arith, long, whole)
 
-  pub rejoins_at : IsKnownAt t k run (Rejoins n) → words_held run.state ≤ MAX_WORDS → CanRejoin (own_row run.state) s l r
+  pub rejoins_at : IsKnownAt t k run (Rejoins n) → words_held run.state ≤ MOST_WORDS → CanRejoin (own_row run.state) s l r
   rejoins_at known fits = record {
     within = ∥∥₁_elim known (search props) (λ m. let p = parts m in slot_within (slot_names p.at.runs) (own_row run.state) m.at.store s p.block (shows m p) p.whole);
     within_left = ∥∥₁_elim known (search props) (λ m. let p = parts m in slot_within (slot_names p.at.runs) (own_row run.state) m.at.store l p.left (shows m p) p.first);
@@ -221,7 +221,7 @@ module _ (t : Table) (k : ℕ) (run : ThreadRun) (n s : ℕ) (e : tables.Expr) (
     fits = omega (arith, fits);
   }
 
-pub can_rejoin : (t : Table) (k : ℕ) (run : ThreadRun) (n : ℕ) → IsKnownAt t k run (Rejoins n) → words_held run.state ≤ MAX_WORDS → run.state.faulted ≡ false → CanRejoinAt (own_row run.state) (kind_at t n)
+pub can_rejoin : (t : Table) (k : ℕ) (run : ThreadRun) (n : ℕ) → IsKnownAt t k run (Rejoins n) → words_held run.state ≤ MOST_WORDS → run.state.faulted ≡ false → CanRejoinAt (own_row run.state) (kind_at t n)
 can_rejoin t k run n known fits going = go (kind_at t n) refl
   where
     go : (o : Option Kind) → kind_at t n ≡ o → CanRejoinAt (own_row run.state) o

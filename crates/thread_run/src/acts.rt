@@ -24,7 +24,7 @@ use crate::simple::fault;
 use block_arena::{Shell, pieces_for};
 use dag_order::FaultKind;
 use dummy_tree::{Quota, Tree, dummies};
-use language_limits::MOST_FORKS;
+use language_limits::{MOST_FORKS, PIECE_WORDS};
 use node_table::CodeExpr;
 use number_operators::size_of;
 use std::alloc::{AllocError, Global};
@@ -118,7 +118,7 @@ fn allocate_numbers(
     ensures cost { (t : Table) → CostsAtMost t 2 result }
 {
     let pieces = pieces_for(len);
-    match Tree::of(dummies(pieces * 16, k)) {
+    match Tree::of(dummies(pieces * PIECE_WORDS, k)) {
         None => {
             let shell = Shell::with_room(alloc, pieces)?;
             Ok(Done::Acts(Ready::Alloc { slot, len, shell }))

@@ -1,6 +1,6 @@
 -- What must stand in the row of a thread before a block is cut or put together again.
 use Rattle.std.specs.Prelude.{◌≡◌, ◌≢◌, ℕ, ◌%◌, ◌<◌, ◌≤◌, List, length}
-use Rattle.block_arena.specs.declared.size.TheConstants.{MAX_WORDS}
+use Rattle.language_limits.specs.declared.TheConstants.{MOST_WORDS, PIECE_WORDS}
 use Rattle.slot_store.specs.Rows.{Entry, items_at, HasBlock, HasNone, row_words}
 
 -- a block may be cut into two slots that have none
@@ -22,5 +22,5 @@ pub record CanRejoin (row : List Entry) (slot left right : ℕ) : Type 0 where
   pub has_left : HasBlock row left
   pub has_right : HasBlock row right
   pub apart : left ≢ right
-  pub whole : length (items_at row left) % 16 ≡ 0
-  pub fits : row_words row ≤ MAX_WORDS
+  pub whole : length (items_at row left) % PIECE_WORDS ≡ 0
+  pub fits : row_words row ≤ MOST_WORDS

@@ -17,6 +17,7 @@ use crate::state::ThreadState;
 use crate::stop::Stop;
 use block_arena::{Block, Pool, pieces_for};
 use dag_order::FaultKind;
+use language_limits::PIECE_WORDS;
 use std::alloc::{AllocError, Global};
 
 impl ThreadState {
@@ -42,7 +43,7 @@ impl ThreadState {
         ensures { (contexts : List (List Name)) (names : List Name) (s : State) → IsState (names ∷ contexts) self.now s
             → slot < length names → result ≡ block_words (length (block_of s.store.blocks (name_at names slot))) }
     {
-        16 * u64::from(pieces_for(self.slots.length(slot)))
+        u64::from(PIECE_WORDS) * u64::from(pieces_for(self.slots.length(slot)))
     }
 
     /// `free b;`: the block of a slot goes back to the pool.

@@ -3,9 +3,7 @@ ghost use Rattle.depth_first_list.specs.Actions.{Deed, kind_of, weight_of};
 ghost use Rattle.lawful_books.specs.Books.{charge as charge_of};
 
 use dag_order::Kind;
-
-/// The words of a record block, which a Fork takes of the quota.
-const RECORD_WORDS: u32 = 16;
+use language_limits::RECORD_WORDS;
 
 /// What an action takes of a quota of so many words: a Fork the words of a record block, an Alloc that the quota covers its words, and any
 /// other nothing. `change` says by how many words the action raises the words in use.

@@ -1,5 +1,6 @@
 use Rattle.std.proofs.Common.{◌+◌, ◌≤◌, sym, ap, ◌∙◌, arith}
 use Rattle.std.specs.Prelude.{◌/◌}
+use Rattle.language_limits.specs.declared.TheConstants.{RECORD_WORDS}
 use Rattle.depth_first_list.specs.Actions.{record_words}
 use Rattle.dummy_tree.specs.QuotaWords.{quota_words}
 use Rattle.node_table.specs.Codes.{code_shown}
@@ -21,7 +22,7 @@ invariant_of-result c =
       points = λ none. begun_can_go_on (code_shown c.args.code) (quota_words c.args.k) (terms_of c.in_ok-scheduler.scheduler c.args.limit) (held c.in_ok-scheduler.scheduler) b.0 b.1 covers;
       somewhere = begun_somewhere _ _ _ _ b.0 b.1 covers;
       few = omega (arith, few);
-      most_is = ap (λ (x : Terms). x.limits.deques) (c.in_ok-scheduler.ensures.terms 0) ∙ c.places-most.ensures.value ∙ ap (λ n. 1 + n / 16) (sym (ap (λ (x : Terms). x.limits.capacity) (c.in_ok-scheduler.ensures.terms 0)));
+      most_is = ap (λ (x : Terms). x.limits.deques) (c.in_ok-scheduler.ensures.terms 0) ∙ c.places-most.ensures.value ∙ ap (λ n. 1 + n / RECORD_WORDS) (sym (ap (λ (x : Terms). x.limits.capacity) (c.in_ok-scheduler.ensures.terms 0)));
       some_workers = omega (arith, workers, within);
       few_workers = omega (arith, workers, within);
     }
