@@ -1,5 +1,5 @@
-use language_limits::LONGEST_TEXT;
-use made_source::{MOST_GROUPS, made_source};
+use language_limits::{LONGEST_TEXT, MOST_GROUPS};
+use made_source::made_source;
 use std::test::Fail;
 
 #[test]

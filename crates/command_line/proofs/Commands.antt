@@ -12,8 +12,7 @@ use Rattle.command_line.specs.declared.command_kind.CommandKind.TheVariants.{Pla
 use Rattle.command_line.specs.declared.numbers.Numbers.{Numbers}
 use Rattle.command_line.specs.declared.setting.Setting.{Setting}
 use Rattle.command_line.specs.declared.setting.Setting.TheVariants.{Quota, Workers, Arena, Steps, Deques, Seed}
-use Rattle.language_limits.specs.declared.TheConstants.{MOST_ACTIONS}
-use Rattle.made_source.specs.declared.TheConstants.{MOST_GROUPS}
+use Rattle.language_limits.specs.declared.TheConstants.{MOST_ACTIONS, MOST_GROUPS}
 use Rattle.command_line.specs.Words.{words_of, kind_word, Item, spelled, values_of, plain_of, wants_groups, most_steps, rule_of, InRange, TellsGroups, Sets, SetsGroups, AllHad, number_of, IsCommand}
 use Rattle.command_line.specs.Reading.{slot, or_default, no_numbers, Seen, SeenGroups, MaySet, MaySetGroups, MayFit, GoesOn, NoneGoesOn, AreItems, NoItems, AreRead}
 use Rattle.command_line.proofs.Items.{some_word, goes_on, ArePlain, plain_if_may, plain_if_seen}

@@ -6,13 +6,11 @@ use Rattle.std.specs.Str.Parse.{IsNumeral, digits_value}
 use Rattle.std.specs.String.{string_bytes}
 use Rattle.std.specs.declared.string.String.{String}
 use Rattle.std.specs.declared.alloc.Global.{Global}
-use Rattle.language_limits.specs.declared.TheConstants.{GREATEST_QUOTA, LEAST_QUOTA, MOST_ACTIONS, MOST_DEQUES, MOST_TRAIL_ACTIONS, MOST_WORDS, MOST_WORKERS}
-use Rattle.made_source.specs.declared.TheConstants.{MOST_GROUPS}
+use Rattle.language_limits.specs.declared.TheConstants.{DEFAULT_ARENA, DEFAULT_QUOTA, DEFAULT_SEED, DEFAULT_WORKERS, GREATEST_QUOTA, GREATEST_SEED, LEAST_QUOTA, MOST_ACTIONS, MOST_DEQUES, MOST_GROUPS, MOST_TRAIL_ACTIONS, MOST_WORDS, MOST_WORKERS}
 use Rattle.command_line.specs.declared.command.Command.{Command}
 use Rattle.command_line.specs.declared.command_kind.CommandKind.{CommandKind}
 use Rattle.command_line.specs.declared.command_kind.CommandKind.TheVariants.{Play, Async, Run, Peak, Check, Make, Loops, Expand, Trail, Verify}
 use Rattle.command_line.specs.declared.rule.Rule.{Rule}
-use Rattle.command_line.specs.declared.rule.TheConstants.{GREATEST_SEED}
 use Rattle.command_line.specs.declared.setting.Setting.{Setting}
 use Rattle.command_line.specs.declared.setting.Setting.TheVariants.{Quota, Workers, Arena, Steps, Deques, Seed}
 
@@ -49,12 +47,12 @@ most_steps kind = MOST_ACTIONS
 
 -- the numbers that it may have in a command, and its default; the words of a quota and of an arena are whole pieces
 abbrev pub rule_of : CommandKind → Setting → Rule
-rule_of kind Quota = record { least = LEAST_QUOTA; most = GREATEST_QUOTA; unit = LEAST_QUOTA; default = 4096 }
-rule_of kind Workers = record { least = 1; most = MOST_WORKERS; unit = 1; default = 4 }
-rule_of kind Arena = record { least = LEAST_QUOTA; most = MOST_WORDS; unit = LEAST_QUOTA; default = 1048576 }
+rule_of kind Quota = record { least = LEAST_QUOTA; most = GREATEST_QUOTA; unit = LEAST_QUOTA; default = DEFAULT_QUOTA }
+rule_of kind Workers = record { least = 1; most = MOST_WORKERS; unit = 1; default = DEFAULT_WORKERS }
+rule_of kind Arena = record { least = LEAST_QUOTA; most = MOST_WORDS; unit = LEAST_QUOTA; default = DEFAULT_ARENA }
 rule_of kind Steps = record { least = 1; most = most_steps kind; unit = 1; default = most_steps kind }
 rule_of kind Deques = record { least = 1; most = MOST_DEQUES; unit = 1; default = MOST_DEQUES }
-rule_of kind Seed = record { least = 0; most = GREATEST_SEED; unit = 1; default = 1 }
+rule_of kind Seed = record { least = 0; most = GREATEST_SEED; unit = 1; default = DEFAULT_SEED }
 
 -- whether a command has an option: those that play or run have each, but a ready list has no limit of deques; and `peak` has two
 abbrev pub has : CommandKind → Setting → Bool

@@ -7,7 +7,7 @@
 //!
 //! A further option is a variant of `Setting`, its name, its rule, its field, and the commands that have it.
 //!
-//! The layer stands on `byte_cuts`, `language_limits` and `made_source`, and takes no memory. Its one theorem is the contract of
+//! The layer stands on `byte_cuts` and `language_limits`, and takes no memory. Its one theorem is the contract of
 //! [`read_words`]: the answer is the one command that the words are by `specs/Words.antt`, and None where they are none.
 #![tactic(auto)]
 

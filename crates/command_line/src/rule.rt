@@ -1,8 +1,5 @@
 ghost use Rattle.std.specs.Prelude.{◌≡◌};
 
-/// The greatest seed: each number of 64 bits is a seed.
-pub const GREATEST_SEED: u64 = u64::MAX;
-
 /// The numbers that an option may have.
 #[derive(Clone, Copy, PartialEq, Eq, Debug)]
 pub struct Rule {

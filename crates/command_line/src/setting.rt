@@ -3,8 +3,11 @@ ghost use Rattle.command_line.specs.Words.{name_of, rule_of};
 ghost use Rattle.command_line.specs.declared.setting.Setting.{Setting};
 
 use crate::command_kind::CommandKind;
-use crate::rule::{GREATEST_SEED, Rule};
-use language_limits::{GREATEST_QUOTA, LEAST_QUOTA, MOST_DEQUES, MOST_WORDS, MOST_WORKERS};
+use crate::rule::Rule;
+use language_limits::{
+    DEFAULT_ARENA, DEFAULT_QUOTA, DEFAULT_SEED, DEFAULT_WORKERS, GREATEST_QUOTA, GREATEST_SEED,
+    LEAST_QUOTA, MOST_DEQUES, MOST_WORDS, MOST_WORKERS,
+};
 
 /// An option of a command.
 #[derive(Clone, Copy, PartialEq, Eq, Debug)]
@@ -50,16 +53,16 @@ impl Setting {
         ensures { result ≡ rule_of kind self }
     {
         match self {
-            Setting::Quota => Rule::short(LEAST_QUOTA, GREATEST_QUOTA, LEAST_QUOTA, 4_096),
-            Setting::Workers => Rule::short(1, MOST_WORKERS, 1, 4),
-            Setting::Arena => Rule::short(LEAST_QUOTA, MOST_WORDS, LEAST_QUOTA, 1_048_576),
+            Setting::Quota => Rule::short(LEAST_QUOTA, GREATEST_QUOTA, LEAST_QUOTA, DEFAULT_QUOTA),
+            Setting::Workers => Rule::short(1, MOST_WORKERS, 1, DEFAULT_WORKERS),
+            Setting::Arena => Rule::short(LEAST_QUOTA, MOST_WORDS, LEAST_QUOTA, DEFAULT_ARENA),
             Setting::Steps => Rule::short(1, kind.most_steps(), 1, kind.most_steps()),
             Setting::Deques => Rule::short(1, MOST_DEQUES, 1, MOST_DEQUES),
             Setting::Seed => Rule {
                 least: 0,
                 most: GREATEST_SEED,
                 unit: 1,
-                default: 1,
+                default: DEFAULT_SEED,
             },
         }
     }

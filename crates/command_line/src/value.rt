@@ -4,7 +4,7 @@ ghost use Rattle.command_line.specs.Words.{IsValue, InRange, Gives, TellsGroups}
 
 use crate::command_kind::CommandKind;
 use crate::setting::Setting;
-use made_source::MOST_GROUPS;
+use language_limits::MOST_GROUPS;
 
 /// The most digits of a value.
 const MAX_DIGITS: usize = 20;

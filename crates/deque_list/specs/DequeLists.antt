@@ -1,6 +1,7 @@
 -- What contracts see of a list of deques.
 use Rattle.std.specs.Prelude.{◌≡◌, ◌≢◌, ℕ, ◌<◌, ◌≤◌, List, [], length, map, Option, None, Some, is_some, slice_get, slice_index_or, if◌then◌else◌, refl}
 use Rattle.std.specs.Coded.{Coded, code_by, coded×, coded_ℕ, coded_list}
+use Rattle.language_limits.specs.declared.TheConstants.{MOST_ENTRIES}
 use Rattle.deque_list.specs.declared.deque_id.DequeId.{DequeId}
 use Rattle.deque_list.specs.declared.place.Place.{Place}
 use Rattle.deque_list.specs.Lanes.{LaneView}
@@ -8,7 +9,6 @@ use Rattle.deque_list.specs.LaneTables.{LaneTable, HasLane}
 use Rattle.deque_list.specs.Ids.{IsLive, IdsDiffer, deque_id, place_ids}
 use Rattle.deque_list.specs.Orders.{OrderView}
 use Rattle.deque_list.specs.Deques.{Deque, deque_code, deque_ids}
-use Rattle.deque_list.specs.declared.TheConstants.{MOST_ENTRIES}
 
 -- the deques from left to right, how many are allowed, whether the list takes one more deque without memory
 -- (1, else 0), and for each id how many more items its lane takes without memory

@@ -1,6 +1,6 @@
 -- The marks of the ids in use.
 use Rattle.std.specs.Prelude.{◌≡◌, ℕ, ◌≤◌, List, length, Bool, true, Some, slice_get, count_by}
-use Rattle.deque_list.specs.declared.TheConstants.{MOST_ENTRIES}
+use Rattle.language_limits.specs.declared.TheConstants.{MOST_ENTRIES}
 use Rattle.deque_list.specs.declared.deque_id.DequeId.{DequeId}
 use Rattle.deque_list.specs.Ids.{IsLive, IdsDiffer, deque_id}
 

@@ -1,7 +1,7 @@
 -- What contracts see of an order.
 use Rattle.std.specs.Prelude.{ℕ, ◌≤◌, ◌<◌, List, length, refl, Option}
 use Rattle.std.specs.Coded.{Coded, code_by, coded×, coded_ℕ, coded_list, coded_option}
-use Rattle.deque_list.specs.declared.TheConstants.{MOST_ENTRIES}
+use Rattle.language_limits.specs.declared.TheConstants.{MOST_ENTRIES}
 use Rattle.deque_list.specs.declared.deque_id.DequeId.{DequeId}
 use Rattle.deque_list.specs.declared.place.Place.{Place}
 use Rattle.deque_list.specs.Ids.{IsLive, IdsDiffer, place_ids}

@@ -32,6 +32,3 @@ pub use laws::{inserted_then_removed, one_smallest_free, top_written};
 pub use list::List;
 pub use order::{Order, OrderFull};
 pub use place::Place;
-
-/// The most deques that a list can have: one, and one for each record block of 16 words in the largest arena.
-pub const MOST_ENTRIES: u32 = 4_194_305;

@@ -4,7 +4,6 @@ ghost use Rattle.deque_list.specs.Ids.{IsLive, IsSmallestFree, deque_id};
 ghost use Rattle.deque_list.specs.Deques.{Deque, DequeAt, IsReady, deque_ids, place_of};
 ghost use Rattle.deque_list.specs.DequeLists.{lane_room, IsLawfulList, SameRoom, SameElsewhere};
 
-use crate::MOST_ENTRIES;
 use crate::deque_id::DequeId;
 use crate::insert_refused::InsertRefused;
 use crate::lane::Lane;
@@ -12,6 +11,7 @@ use crate::lanes::Lanes;
 use crate::order::Order;
 use crate::place::Place;
 use crate::spare_lane::SpareLane;
+use language_limits::MOST_ENTRIES;
 use std::alloc::{AllocError, Global};
 use std::marker::Model;
 

@@ -3,10 +3,10 @@ ghost use Rattle.std.specs.Option.{option_map};
 ghost use Rattle.deque_list.specs.Ids.{IsLive, IdsDiffer, IsSmallestFree, StandsAt, place_ids};
 ghost use Rattle.deque_list.specs.declared.place.Place.{Place};
 
-use crate::MOST_ENTRIES;
 use crate::deque_id::DequeId;
 use crate::place::Place;
 use crate::search::{first_unmarked, rank_in};
+use language_limits::MOST_ENTRIES;
 use std::alloc::{AllocError, Global};
 use std::marker::Model;
 

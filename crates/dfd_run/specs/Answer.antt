@@ -6,8 +6,7 @@ use Rattle.command_line.specs.declared.command.Command.{Command}
 use Rattle.command_line.specs.declared.command_kind.CommandKind.{CommandKind}
 use Rattle.command_line.specs.declared.command_kind.CommandKind.TheVariants.{Play, Async, Run, Peak, Check as Checks, Make, Loops, Expand, Trail, Verify}
 use Rattle.command_line.specs.declared.setting.Setting.{Setting}
-use Rattle.language_limits.specs.declared.TheConstants.{LONGEST_TEXT, MOST_TRAIL}
-use Rattle.made_source.specs.declared.TheConstants.{MOST_GROUPS}
+use Rattle.language_limits.specs.declared.TheConstants.{LONGEST_TEXT, MOST_GROUPS, MOST_TRAIL}
 use Rattle.par_tree.specs.Tree.{Program}
 use Rattle.dfd_run.specs.Expanding.{ExpansionGives, ExpandMakes}
 use Rattle.dfd_run.specs.Make.{MakeMakes, source_of}

@@ -69,3 +69,24 @@ pub const MOST_TRAIL_ACTIONS: u32 = 400_000;
 
 /// The greatest count: of the actions of a thread, of the periods begun, of the lines of an output, of the entries of a list.
 pub const GREATEST_COUNT: u32 = 4_294_967_295;
+
+/// The most entries of a list of deques: a ready list has one, and one for each record that the greatest arena has room for.
+pub const MOST_ENTRIES: u32 = 4_194_305;
+
+/// The most groups of a made source.
+pub const MOST_GROUPS: u32 = 8_000;
+
+/// The greatest seed: each number of 64 bits is a seed.
+pub const GREATEST_SEED: u64 = u64::MAX;
+
+/// The quota of a command that names none.
+pub const DEFAULT_QUOTA: u32 = 4_096;
+
+/// The workers of a command that names no number.
+pub const DEFAULT_WORKERS: u32 = 4;
+
+/// The words of the arena of a command that names none.
+pub const DEFAULT_ARENA: u32 = 1_048_576;
+
+/// The seed of a command that names none.
+pub const DEFAULT_SEED: u64 = 1;

@@ -7,8 +7,7 @@ use Rattle.std.specs.List.{flat_map, range_with_len}
 use Rattle.std.proofs.lemmas.Fmt.{length-decimal-le}
 use Rattle.std.proofs.lemmas.Grind.{flat_map-append, div_ceil_times}
 use Rattle.std.proofs.lemmas.List.{length-append}
-use Rattle.language_limits.specs.declared.TheConstants.{LONGEST_TEXT}
-use Rattle.made_source.specs.declared.TheConstants.{MOST_GROUPS}
+use Rattle.language_limits.specs.declared.TheConstants.{LONGEST_TEXT, MOST_GROUPS}
 use Rattle.made_source.specs.MadeSource.{line, text_of, left_length, right_length, branch, group_line, groups_in, function_lines, functions_for, call_line, main_lines, made_source}
 
 branch_short : (name : List ℕ) (size i : ℕ) → length name ≡ 1 → size < 1000 → i < 10000 → length (branch name size i) ≤ 51

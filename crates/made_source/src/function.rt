@@ -2,8 +2,8 @@ ghost use Rattle.std.specs.Prelude.{◌≡◌, ◌++◌, ◌-◌, ◌*◌, ◌<�
 ghost use Rattle.std.specs.List.{range_with_len};
 ghost use Rattle.made_source.specs.MadeSource.{line, text_of, group_line, function_lines, call_line};
 
-use crate::MOST_GROUPS;
 use crate::group::push_group;
+use language_limits::MOST_GROUPS;
 use std::alloc::AllocError;
 
 /// How many groups a function has; the last one has what is left.

@@ -1,7 +1,7 @@
 ghost use Rattle.std.specs.Prelude.{◌≡◌, ◌++◌, ◌<◌, OnOk, string_bytes};
 ghost use Rattle.made_source.specs.MadeSource.{line, branch, left_length, right_length, group_line};
 
-use crate::MOST_GROUPS;
+use language_limits::MOST_GROUPS;
 use std::alloc::AllocError;
 
 /// How many lengths the blocks of groups have: 1 to 400.

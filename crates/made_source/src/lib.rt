@@ -13,6 +13,3 @@ mod group;
 mod source;
 
 pub use source::made_source;
-
-/// The most groups of a made source.
-pub const MOST_GROUPS: u32 = 8_000;

@@ -3,8 +3,8 @@ ghost use Rattle.language_limits.specs.declared.TheConstants.{LONGEST_TEXT};
 ghost use Rattle.std.specs.List.{flat_map, range_with_len};
 ghost use Rattle.made_source.specs.MadeSource.{text_of, function_lines, call_line, main_lines, made_source};
 
-use crate::MOST_GROUPS;
 use crate::function::{FUNCTION_GROUPS, push_call, push_function};
+use language_limits::MOST_GROUPS;
 use std::alloc::{AllocError, Global};
 
 /// Writes the first functions of a source with so many groups at the end of the text. Each of them has a group.

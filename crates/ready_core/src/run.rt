@@ -23,9 +23,8 @@ use core_parts::{
     OutputFail, Scheduler, Stepped, end_behind, is_finish, open_ahead, scheduler_of, told,
 };
 use dag_order::{Lines, ThreadId};
-use deque_list::MOST_ENTRIES;
 use dummy_tree::Quota;
-use language_limits::{MOST_ACTIONS, MOST_WORKERS, RECORD_WORDS};
+use language_limits::{MOST_ACTIONS, MOST_ENTRIES, MOST_WORKERS, RECORD_WORDS};
 use node_table::Code;
 use run_end::RunEnd;
 use space_ledger::{Books, Moves};
