@@ -17,7 +17,7 @@ use par_ownership::CheckKind;
 use par_tree::{Arg, Func, Name, Param, ParamKind, Ret, RetValue, Target};
 
 /// The function of a name.
-pub(crate) fn function_of<'f>(funcs: &'f [Func], name: &[u8]) -> Option<&'f Func>
+pub fn function_of<'f>(funcs: &'f [Func], name: &[u8]) -> Option<&'f Func>
     ensures { option_map (λ f. func_tree f.now) result ≡ function_of (funcs_tree funcs.now) name.now }
 {
     for func in funcs {

@@ -28,6 +28,7 @@ mod sought;
 mod statements;
 
 pub use branch_sets::{BranchSets, Names};
+pub use calls::function_of;
 pub use check_error::CheckError;
 pub use check_fail::CheckFail;
 pub use checked::Checked;

@@ -94,7 +94,8 @@ place_of p (q ∷ ps) there = elim there [
   | inr later ↦ let found = place_of p ps later in (suc found.0, found.1)
 ]
 
-in_order_total : (f : Period → ℕ) (periods sorted : List Period) → NumbersDiffer periods → InOrder periods sorted → total f periods ≡ total f sorted
+-- the sum over periods of different numbers does not depend on their order
+pub in_order_total : (f : Period → ℕ) (periods sorted : List Period) → NumbersDiffer periods → InOrder periods sorted → total f periods ≡ total f sorted
 in_order_total f periods sorted differ order =
     same_total f periods sorted (to_differ periods differ) (to_differ sorted (sorted_differ periods sorted order))
     (λ p there. let placed = each_among _ p periods order.placed there in among_of_place p sorted placed.0 placed.2)

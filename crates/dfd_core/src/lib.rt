@@ -22,7 +22,7 @@ mod turn;
 
 pub use core_parts::{Choices, ListChoices, OutputFail, Stepped};
 pub use laws::cores_are_lawful;
-pub use parts::{CoreEnd, CoreParts};
+pub use parts::{CoreEnd, CoreParts, root_of};
 pub use player::{most_turns, play};
 pub use run::Core;
 pub use run_end::{RunEnd, Stop};

@@ -57,7 +57,7 @@ pub struct CoreParts {
 }
 
 /// The result of the root of a run that ended so.
-fn root_of(end: RunEnd, kept: Option<Ended>) -> Option<Ended>
+pub fn root_of(end: RunEnd, kept: Option<Ended>) -> Option<Ended>
     ensures { result ≡ root_behind end kept }
 {
     match end {

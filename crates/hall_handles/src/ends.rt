@@ -1,7 +1,6 @@
 //! How a hall is closed.
 
 ghost use Rattle.std.specs.Prelude.{◌≡◌, ◌<◌, None, Some, IfErr, MatchResult};
-ghost use Rattle.dfd_core.specs.Parts.{root_behind};
 ghost use Rattle.run_end.specs.declared.ends.RunEnd.{RunEnd as AnyEnd};
 ghost use Rattle.hall_handles.specs.Closing.{Closes, ClosesAlone, GivesClosing, MayHaveEnded};
 ghost use Rattle.hall_handles.specs.Seated.{IsIn};
@@ -14,21 +13,10 @@ use crate::seat::Seat;
 use dag_order::ThreadId;
 use deque_events::ListPart;
 use deque_list::DequeId;
+use dfd_core::root_of;
 use hall_seats::{ClosedHall, close, see_end};
 use hall_turns::{ListSlot, PoolSlot};
 use owner_events::YieldRefused;
-use run_end::RunEnd;
-use thread_frames::Ended;
-
-/// The result of the root of a run that ended so.
-fn root_of(end: RunEnd, kept: Option<Ended>) -> Option<Ended>
-    ensures { result ≡ root_behind end kept }
-{
-    match end {
-        RunEnd::Finished(_) => kept,
-        RunEnd::Stopped(_) => None,
-    }
-}
 
 /// What is left of a hall that is closed.
 fn closing_of(closed: ClosedHall) -> Closing

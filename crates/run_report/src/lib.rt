@@ -23,6 +23,7 @@ mod reading;
 mod report;
 mod summary;
 
+pub use numbers::natural;
 pub use peak_report::{PeakReport, peak_text};
 pub use read_fail::ReadFail;
 pub use reading::read_report;

@@ -16,10 +16,10 @@ ghost use Rattle.serial_meaning.specs.Opening.{entering, refused};
 ghost use Rattle.serial_meaning.specs.Settings.{setting_of};
 
 use crate::frame::Frame;
-use crate::functions::function_of;
 use crate::machine::Machine;
 use crate::plan::Plan;
 use crate::runner::Runner;
+use block_check::function_of;
 use dag_order::FaultKind;
 use language_limits::MOST_CALLS;
 use par_tree::{Arg, Name, Param, Ret, RetValue, Target};

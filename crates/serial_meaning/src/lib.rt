@@ -14,7 +14,6 @@ mod block_len;
 mod calls;
 mod forks;
 mod frame;
-mod functions;
 mod machine;
 mod part;
 mod plan;

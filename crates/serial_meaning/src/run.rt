@@ -16,12 +16,11 @@ ghost use Rattle.serial_meaning.specs.Moving.{At};
 ghost use Rattle.serial_meaning.specs.Runs.{TellsOrStops, TellsOrPasses, IsAllButEnded};
 
 use crate::frame::Frame;
-use crate::functions::function_of;
 use crate::machine::Machine;
 use crate::plan::Plan;
 use crate::runner::Runner;
 use crate::thread::Thread;
-use block_check::Checked;
+use block_check::{Checked, function_of};
 use dag_order::{Kind, ThreadId};
 use dummy_tree::Quota;
 use language_limits::MOST_TURNS;

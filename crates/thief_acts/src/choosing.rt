@@ -1,6 +1,6 @@
 //! Whom a thief robs.
 
-ghost use Rattle.std.specs.Prelude.{◌≡◌, ◌+◌, ◌%◌, ◌<◌, ◌≤◌, ◌⊎◌, ◌↔◌, ◌∷◌, [], None, IsTrue, IfOk, IsOk, MatchResult, length};
+ghost use Rattle.std.specs.Prelude.{◌≡◌, ◌+◌, ◌<◌, ◌≤◌, ◌⊎◌, ◌↔◌, ◌∷◌, [], None, IsTrue, IfOk, IsOk, MatchResult, length};
 ghost use Rattle.turn_table.specs.Tables.{key_of, slot_count, IsSeatOf};
 ghost use Rattle.turn_table.specs.Backs.{IsBack};
 ghost use Rattle.hall_turns.specs.declared.slot.Slot.TheVariants as slots;
@@ -11,16 +11,7 @@ use boxed::Boxed;
 use deque_list::Place;
 use hall_turns::{HallPlace, HallRow, LaneSlot, ListSlot, give_lane_back, take_lane};
 use turn_table::Held;
-
-/// The number that the turn `turn` of a word picks of `n`.
-fn picked(word: u64, turn: u32, n: u32) -> u32
-    requires { 0 < n }
-    ensures value { result ≡ (word + turn) % n }
-    ensures below { result < n }
-{
-    let n = u64::from(n);
-    ((word % n + u64::from(turn)) % n) as u32
-}
+use victim_choice::picked;
 
 /// Whether the deque at a place has a thread to steal: nobody owns it, or its owner has another one.
 fn is_ready(place: Place, lane: &LaneSlot) -> bool

@@ -1,30 +1,9 @@
-ghost use Rattle.std.specs.Prelude.{◌≡◌, ℕ, ◌<◌, ◌^◌, MatchOption};
-ghost use Rattle.std.specs.Fmt.{decimal};
+ghost use Rattle.std.specs.Prelude.{◌≡◌, ◌<◌, ◌^◌, MatchOption};
 ghost use Rattle.trail_meaning.specs.Ranges.{IsWithin};
 ghost use Rattle.trail_text.specs.Lines.{number_then, NoNumber, NoneWithin, NoneBelow};
 
 use byte_cuts::{behind, cut_at};
-
-/// Returns the number that decimal digits without leading zeros write.
-fn natural(digits: &[u8]) -> Option<u64>
-    ensures { MatchOption result
-        ((n : ℕ) → n < 2 ^ 64 → ¬ (digits.now ≡ decimal n))
-        (λ n. (digits.now ≡ decimal n) × (n < 2 ^ 64)) }
-{
-    let Ok(text) = str::from_utf8(digits) else {
-        return None;
-    };
-    let Some(&first) = digits.first() else {
-        return None;
-    };
-    if first == b'+' {
-        return None;
-    }
-    if first == b'0' && digits.len() > 1 {
-        return None;
-    }
-    text.parse::<u64>().ok()
-}
+use run_report::natural;
 
 /// Returns the number between a name and the byte `stop`, and the bytes after that.
 pub fn number<'a>(bytes: &'a [u8], name: &str, stop: u8) -> Option<(u64, &'a [u8])>

@@ -6,7 +6,7 @@ use deque_list::List;
 use period_table::PeriodTable;
 
 /// The number that the turn `turn` of a word picks of `n`.
-fn picked(word: u64, turn: u32, n: u32) -> u32
+pub fn picked(word: u64, turn: u32, n: u32) -> u32
     requires { 0 < n }
     ensures value { result ≡ (word + turn) % n }
     ensures below { result < n }

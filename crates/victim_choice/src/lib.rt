@@ -11,4 +11,4 @@
 
 mod choice;
 
-pub use choice::{can_move, first_mover, first_ready, some_ready};
+pub use choice::{can_move, first_mover, first_ready, picked, some_ready};
