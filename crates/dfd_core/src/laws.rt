@@ -22,5 +22,6 @@ pub fn cores_are_lawful(core: &Core)
     ensures marked { (c : Setting) (run : AnyList Pair) (m : Moment) → IsAt c core.now run m
         → high_water_mark (list_of c) run ≤ℤ bound c.quota (list_of c) (periods_marked m.books) }
 {
+    // For the prover alone: what a core ensures of itself is known where it is read.
     let _quota = core.quota();
 }

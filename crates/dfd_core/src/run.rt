@@ -345,7 +345,7 @@ impl Core {
     pub fn ahead(&self) -> u32
         ensures { (c : Setting) (run : AnyList Pair) (m : Moment) → IsAt c self.now run m → result ≡ periods_marked m.books }
     {
-        // No more are marked than there are, so the sum fits.
+        // For the prover alone: no more are marked than were begun, so the sum fits.
         let _periods = self.scheduler.table.begun();
         self.books().ahead() + open_ahead(&self.scheduler.table)
     }

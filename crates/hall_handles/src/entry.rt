@@ -40,6 +40,7 @@ fn most_of(order: &Order) -> u32
     ensures value { result ≡ order.now.most }
     ensures some { 1 ≤ result }
 {
+    // For the prover alone: what an order ensures of itself is known where it is read.
     let _deques = order.len();
     order.most()
 }

@@ -47,6 +47,7 @@ fn own_join(
     ensures births { entries memory.new.births ≡ [] }
     ensures never { IsNotBusy result }
 {
+    // For the prover alone: clauses name this parameter.
     let _child = child;
     let at = count_lane(row, seat, deque, limit, at)?;
     let AtNext { lane, running, top } = at;

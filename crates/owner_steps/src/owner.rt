@@ -125,7 +125,7 @@ pub fn step_of_owner(
     let Ok((deque, mut top)) = take_top(scheduler, alloc, worker) else {
         return Err(Stop::OutOfMemory);
     };
-    // A pool says that no more words are out than a thread may hold.
+    // For the prover alone: a pool has no more words in use than a thread may hold.
     let _live = scheduler.pool.live();
     match advance(&mut top, alloc, code, k) {
         Ok(next) => go_on(scheduler, k, limit, worker, deque, top, next),

@@ -22,6 +22,7 @@ pub(crate) fn give_below(
         × IsAwaited (label_of parent) ended (children_of parent) }
     ensures { (items : AnyList Thread) (stands : Stands list.old worker deque items) → ComesBelow worker deque ended list.old list.new items stands }
 {
+    // For the prover alone: clauses name this parameter.
     let _worker = worker;
     let Some(mut parent) = list.pop_top(deque) else {
         unreachable!();

@@ -82,6 +82,7 @@ pub(crate) fn put_back(scheduler: &mut Scheduler, worker: usize, deque: DequeId,
         → held scheduler.new ≡ held_under scheduler.old stands top }
     ensures keeps { KeepsRoom scheduler.old scheduler.new }
 {
+    // For the prover alone: clauses name this parameter.
     let _worker = worker;
     scheduler.list.push_top(deque, top);
 }

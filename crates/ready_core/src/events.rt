@@ -84,7 +84,7 @@ fn event_of_entry(
     match step_of_owner(scheduler, alloc, code, k, limit, worker) {
         Err(stop) => Err(stop),
         Ok(event) => {
-            // A pool has no more words in use than there are.
+            // For the prover alone: a pool has no more words in use than there are.
             let _live = scheduler.pool.live();
             set_parent_aside(scheduler, worker);
             Ok(event)

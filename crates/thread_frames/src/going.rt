@@ -90,6 +90,7 @@ impl Thread {
         ensures words { IfOk result (λ thread. thread_words thread ≡ 0) }
         ensures next { IfOk result (λ thread. next_of thread ≡ None) }
     {
+        // For the prover alone: the table is that of an accepted program.
         code.is_accepted();
         let begun = run_of_main(alloc, code)?;
         Ok(Thread {
@@ -159,6 +160,7 @@ impl Thread {
         ensures list { (c : Setting) → IsSettingOf (code_shown code.now) (quota_words k) c
             → IfOk result (λ next. ∥ IsOfTheList c self.new next ∥₁) }
     {
+        // For the prover alone: the table is that of an accepted program.
         code.is_accepted();
         let ready = self.run.advance(alloc, code, k)?;
         let prepared = prepared_for(&self.run.state, alloc, code, ready)?;
@@ -189,6 +191,7 @@ fn newest_id(children: &Vec<OpenChild>) -> ThreadId
 fn run_of_main(alloc: Global, code: &Code) -> Result<ThreadRun, AllocError>
     ensures { IfOk result (BeginsMain (code_shown code.now)) }
 {
+    // For the prover alone: the table is that of an accepted program.
     code.is_accepted();
     let main = code.main();
     let count = slots_of(code, main);
