@@ -8,7 +8,7 @@ ghost use Rattle.par_lex.specs.Words.{words};
 ghost use Rattle.par_parse.specs.Gives.{Gives, link_pair, option_expr};
 
 use crate::parse_error::Parsed;
-use crate::words::{name, open, peek, take};
+use crate::words::{followed, name, open, peek, take};
 use par_lex::Lexeme;
 use par_text::Kind;
 use par_tree::{ChainOp, CmpOp, Expr, Link, Rest};
@@ -140,7 +140,7 @@ pub(crate) fn index<'a>(
     }
     let (depth, rest) = open(depth, tokens, Kind::LeftBracket)?;
     let (at, rest) = parse_expression(alloc, text, depth, rest)?;
-    let (_, rest) = take(rest, Kind::RightBracket)?;
+    let ((at, _), rest) = followed(at, rest, Kind::RightBracket)?;
     Ok((Some(at), rest))
 }
 
@@ -152,7 +152,7 @@ fn group<'a>(alloc: Global, text: &[u8], depth: u32, tokens: &'a [Lexeme]) -> Pa
 {
     let (depth, rest) = open(depth, tokens, Kind::LeftParen)?;
     let (inside, rest) = parse_expression(alloc, text, depth, rest)?;
-    let (_, rest) = take(rest, Kind::RightParen)?;
+    let ((inside, _), rest) = followed(inside, rest, Kind::RightParen)?;
     Ok((inside, rest))
 }
 
@@ -286,9 +286,9 @@ pub(crate) fn parse_expression<'a>(
     if !is_comparison(peek(rest)) {
         return Ok((left, rest));
     }
+    let left = Box::new(alloc, left)?;
     let (op, rest) = comparison(rest)?;
     let (right, rest) = sum(alloc, text, depth, rest)?;
-    let left = Box::new(alloc, left)?;
     let right = Box::new(alloc, right)?;
     Ok((Expr::Cmp { op, left, right }, rest))
 }

@@ -11,7 +11,7 @@ ghost use Rattle.par_parse.specs.Gives.{Gives, func_trees};
 use crate::expressions::parse_expression;
 use crate::parse_error::{ParseError, Parsed};
 use crate::statements::statements;
-use crate::words::{name, open, peek, take};
+use crate::words::{followed, name, open, peek, take};
 use par_lex::Lexeme;
 use par_text::{Kind, Stop};
 use par_tree::{Body, Func, Funcs, Param, ParamKind, Params, Program, Ret, RetValue};
@@ -136,7 +136,7 @@ fn ret<'a>(alloc: Global, text: &[u8], depth: u32, tokens: &'a [Lexeme]) -> Pars
     }
     let (first, rest) = take(tokens, Kind::Return)?;
     let (value, rest) = ret_value(alloc, text, depth, rest)?;
-    let (_, rest) = take(rest, Kind::Semicolon)?;
+    let ((value, _), rest) = followed(value, rest, Kind::Semicolon)?;
     let line = first.line;
     Ok((Some(Ret { line, value }), rest))
 }
@@ -155,7 +155,7 @@ fn func_body<'a>(
     let (inside, rest) = open(depth, tokens, Kind::LeftBrace)?;
     let (body, rest) = statements(alloc, text, inside, rest)?;
     let (ret, rest) = ret(alloc, text, depth, rest)?;
-    let (_, rest) = take(rest, Kind::RightBrace)?;
+    let ((ret, _), rest) = followed(ret, rest, Kind::RightBrace)?;
     Ok(((body, ret), rest))
 }
 

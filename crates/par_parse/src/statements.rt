@@ -1,7 +1,9 @@
 //! Statements.
 
 ghost use Rattle.std.specs.Prelude.{◌≡◌, ℕ};
-ghost use Rattle.par_text.specs.Grammar.{begins_statement, body_rule, named_value, let_rule, alloc_rule, free_rule, print_rule, written_value, write_rule, else_rule, if_rule, while_rule, call_rule, par_rule, parts_rule, split_rule, stmt_rule, stmts_rule};
+ghost use Rattle.par_text.specs.Grammar.{begins_statement, body_rule, named_value, let_rule, ◌⊳◌, ◌⊲◌, expr_rule, alloc_rule, free_rule, print_rule, written_value, write_rule, else_rule, if_rule, while_rule, call_rule, par_rule, parts_rule, split_rule, stmt_rule, stmts_rule};
+ghost use Rattle.par_text.specs.Rule.{token};
+ghost use Rattle.par_text.specs.declared.kind.Kind.TheVariants.{Assign, Semicolon};
 ghost use Rattle.par_text.specs.Parsing.{read};
 ghost use Rattle.par_tree.specs.View.{name_tree, expr_tree, body_tree};
 ghost use Rattle.par_lex.specs.Words.{words};
@@ -10,11 +12,22 @@ ghost use Rattle.par_parse.specs.Gives.{Gives, option_expr, line_and_tree};
 use crate::calls::call;
 use crate::expressions::{index, parse_expression};
 use crate::parse_error::Parsed;
-use crate::words::{name, name_from, open, peek, take};
+use crate::words::{followed, name, name_from, open, peek, take};
 use par_lex::Lexeme;
 use par_text::Kind;
 use par_tree::{Body, Expr, Name, Stmt, StmtKind};
 use std::alloc::Global;
+
+/// `= e;`.
+fn assigned<'a>(alloc: Global, text: &[u8], depth: u32, tokens: &'a [Lexeme]) -> Parsed<'a, Expr>
+    ensures { Gives (λ x. (expr_tree x.0, words text.now x.1.now)) result
+        (read depth (token Assign ⊳ expr_rule ⊲ token Semicolon) (words text.now tokens.now)) }
+{
+    let (_, rest) = take(tokens, Kind::Assign)?;
+    let (value, rest) = parse_expression(alloc, text, depth, rest)?;
+    let ((value, _), rest) = followed(value, rest, Kind::Semicolon)?;
+    Ok((value, rest))
+}
 
 /// `x = e;`.
 #[tactic(auto, unfolding(par_text::specs::Grammar::named_value))]
@@ -28,9 +41,7 @@ fn named_value<'a>(
         (read depth named_value (words text.now tokens.now)) }
 {
     let (name, rest) = name(alloc, text, tokens)?;
-    let (_, rest) = take(rest, Kind::Assign)?;
-    let (value, rest) = parse_expression(alloc, text, depth, rest)?;
-    let (_, rest) = take(rest, Kind::Semicolon)?;
+    let (value, rest) = assigned(alloc, text, depth, rest)?;
     Ok(((name, value), rest))
 }
 
@@ -93,7 +104,7 @@ fn print_statement<'a>(
 {
     let (first, rest) = take(tokens, Kind::Print)?;
     let (value, rest) = parse_expression(alloc, text, depth, rest)?;
-    let (_, rest) = take(rest, Kind::Semicolon)?;
+    let ((value, _), rest) = followed(value, rest, Kind::Semicolon)?;
     let line = first.line;
     let kind = StmtKind::Print { value };
     Ok((Stmt { line, kind }, rest))
@@ -111,7 +122,7 @@ fn call_statement<'a>(
 {
     let (first, rest) = take(tokens, Kind::Call)?;
     let (kind, rest) = call(alloc, text, depth, rest)?;
-    let (_, rest) = take(rest, Kind::Semicolon)?;
+    let ((kind, _), rest) = followed(kind, rest, Kind::Semicolon)?;
     let line = first.line;
     Ok((Stmt { line, kind }, rest))
 }
@@ -127,11 +138,9 @@ fn write_statement<'a>(
     ensures { Gives (λ x. (line_and_tree x.0, words text.now x.1.now)) result (read depth write_rule (words text.now tokens.now)) }
 {
     let (first, rest) = take(tokens, Kind::Name)?;
-    let (at, rest) = index(alloc, text, depth, rest)?;
-    let (_, rest) = take(rest, Kind::Assign)?;
-    let (value, rest) = parse_expression(alloc, text, depth, rest)?;
-    let (_, rest) = take(rest, Kind::Semicolon)?;
     let name = name_from(alloc, text, first)?;
+    let (at, rest) = index(alloc, text, depth, rest)?;
+    let (value, rest) = assigned(alloc, text, depth, rest)?;
     let line = first.line;
     let kind = match at {
         None => StmtKind::Assign { name, value },

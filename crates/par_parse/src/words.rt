@@ -42,6 +42,21 @@ pub(crate) fn take<'a>(tokens: &'a [Lexeme], kind: Kind) -> Parsed<'a, &'a Lexem
     })
 }
 
+/// A value that was read, with one token of this kind after it. Where there is no such token, the value is dropped here: for its
+/// type as a parameter that is one call.
+pub(crate) fn followed<'a, T: Drop>(
+    value: T,
+    tokens: &'a [Lexeme],
+    kind: Kind,
+) -> Parsed<'a, (T, &'a Lexeme)>
+    ensures gives { (text : List ℕ) → Gives (λ x. (word_of text x.0.1.now, words text x.1.now)) result
+        (read_token kind (words text tokens.now)) }
+    ensures same { IfOk result (λ x. x.0.0 ≡ value) }
+{
+    let (token, rest) = take(tokens, kind)?;
+    Ok(((value, token), rest))
+}
+
 /// One token of this kind, which opens a construct; with how many more may open inside.
 #[tactic(auto, unfolding(par_lex::specs::Words::words))]
 pub(crate) fn open<'a>(depth: u32, tokens: &'a [Lexeme], kind: Kind) -> Parsed<'a, u32>
