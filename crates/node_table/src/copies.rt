@@ -21,26 +21,17 @@ fn copy_expression(alloc: Global, expr: &CodeExpr) -> Result<CodeExpr, AllocErro
     match expr {
         CodeExpr::Num(number) => Ok(CodeExpr::Num(*number)),
         CodeExpr::Var(slot) => Ok(CodeExpr::Var(*slot)),
-        CodeExpr::Get(block, index) => {
-            let index = copy_expression(alloc, index)?;
-            Ok(CodeExpr::Get(*block, Box::new(alloc, index)?))
-        }
+        CodeExpr::Get(block, index) => Ok(CodeExpr::Get(*block, copy_boxed(alloc, index)?)),
         CodeExpr::Len(block) => Ok(CodeExpr::Len(*block)),
-        CodeExpr::Neg(operand) => {
-            let operand = copy_expression(alloc, operand)?;
-            Ok(CodeExpr::Neg(Box::new(alloc, operand)?))
-        }
+        CodeExpr::Neg(operand) => Ok(CodeExpr::Neg(copy_boxed(alloc, operand)?)),
         CodeExpr::Chain { first, rest } => {
-            let first = copy_expression(alloc, first)?;
+            let first = copy_boxed(alloc, first)?;
             let rest = copy_links(alloc, rest)?;
-            let first = Box::new(alloc, first)?;
             Ok(CodeExpr::Chain { first, rest })
         }
         CodeExpr::Cmp { op, left, right } => {
-            let left = copy_expression(alloc, left)?;
-            let right = copy_expression(alloc, right)?;
-            let left = Box::new(alloc, left)?;
-            let right = Box::new(alloc, right)?;
+            let left = copy_boxed(alloc, left)?;
+            let right = copy_boxed(alloc, right)?;
             Ok(CodeExpr::Cmp {
                 op: *op,
                 left,
@@ -48,6 +39,15 @@ fn copy_expression(alloc: Global, expr: &CodeExpr) -> Result<CodeExpr, AllocErro
             })
         }
     }
+}
+
+/// An expression again, in a box, which is let go by one call where the next part cannot be copied.
+#[cycle(copy_expression)]
+fn copy_boxed(alloc: Global, expr: &CodeExpr) -> Result<Box<CodeExpr>, AllocError>
+    ensures { IfOk result (λ b. expr_shown b.value ≡ expr_shown expr.now) }
+{
+    let copy = copy_expression(alloc, expr)?;
+    Ok(Box::new(alloc, copy)?)
 }
 
 /// The links of a chain again.
@@ -102,7 +102,7 @@ fn copy_numbers(alloc: Global, numbers: &NodeList) -> Result<NodeList, AllocErro
     numbers.to_vec(alloc)
 }
 
-/// What a statement does again.
+/// What a statement does again. An expression is copied last, so that no exit lets one go: that takes a step for each of its forms.
 fn copy_kind(alloc: Global, kind: &NodeKind) -> Result<NodeKind, AllocError>
     ensures { IfOk result (λ c. kind_shown c ≡ kind_shown kind.now) }
 {
@@ -130,13 +130,13 @@ fn copy_kind(alloc: Global, kind: &NodeKind) -> Result<NodeKind, AllocError>
         },
         NodeKind::Free { name } => NodeKind::Free { name: *name },
         NodeKind::If { cond, then, other } => NodeKind::If {
-            cond: copy_expression(alloc, cond)?,
             then: copy_numbers(alloc, then)?,
             other: copy_numbers(alloc, other)?,
+            cond: copy_expression(alloc, cond)?,
         },
         NodeKind::While { cond, body } => NodeKind::While {
-            cond: copy_expression(alloc, cond)?,
             body: copy_numbers(alloc, body)?,
+            cond: copy_expression(alloc, cond)?,
         },
         NodeKind::Call { target, func, args } => NodeKind::Call {
             target: *target,
@@ -165,10 +165,10 @@ fn copy_kind(alloc: Global, kind: &NodeKind) -> Result<NodeKind, AllocError>
             body,
         } => NodeKind::Split {
             block: *block,
-            at: copy_expression(alloc, at)?,
             left: *left,
             right: *right,
             body: copy_numbers(alloc, body)?,
+            at: copy_expression(alloc, at)?,
         },
     })
 }

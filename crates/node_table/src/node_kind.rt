@@ -3,8 +3,8 @@ use crate::code_expr::CodeExpr;
 use crate::code_target::CodeTarget;
 use crate::node::{NodeList, Slots};
 
-/// What a statement does. Names are slots of the function's frame.
-#[derive(Drop)]
+/// What a statement does. Names are slots of the function's frame. It is let go by a call, so that the steps of that are proved once, and not
+/// at each exit of what owns one.
 pub enum NodeKind {
     /// `let name = value;`
     Let {
@@ -69,4 +69,57 @@ pub enum NodeKind {
         right: u16,
         body: NodeList,
     },
+}
+
+impl Drop for NodeKind {
+    fn drop(self) {
+        match self {
+            NodeKind::Let {
+                name: _,
+                value: _value,
+            } => {}
+            NodeKind::Assign {
+                name: _,
+                value: _value,
+            } => {}
+            NodeKind::Put {
+                block: _,
+                index: _index,
+                value: _value,
+            } => {}
+            NodeKind::Alloc {
+                name: _,
+                size: _size,
+            } => {}
+            NodeKind::Free { name: _ } => {}
+            NodeKind::If {
+                cond: _cond,
+                then: _then,
+                other: _other,
+            } => {}
+            NodeKind::While {
+                cond: _cond,
+                body: _body,
+            } => {}
+            NodeKind::Call {
+                target: _,
+                func: _,
+                args: _args,
+            } => {}
+            NodeKind::Print { value: _value } => {}
+            NodeKind::Both {
+                left: _left,
+                right: _right,
+                left_blocks: _left_blocks,
+                left_assigned: _left_assigned,
+            } => {}
+            NodeKind::Split {
+                block: _,
+                at: _at,
+                left: _,
+                right: _,
+                body: _body,
+            } => {}
+        }
+    }
 }

@@ -7,8 +7,8 @@ use Rattle.node_table.proofs.copies.+copy_expression.Goals as goal
 pub copy_links-returns : goal.copy_links-returns
 copy_links-returns t c = continues_end (λ cs ys. links_shown cs ≡ links_shown ys) c.args.rest.now c.loop-link.found.items c.loop-link.link-index c.loop-link-test.false c.loop-link.invariant refl
 
-pub copy_expression-returns-in_ok-first-in-Chain-2 : goal.copy_expression-returns-in_ok-first-in-Chain-2
-copy_expression-returns-in_ok-first-in-Chain-2 t c =
-    chain_alike c.in_ok-first-in-Chain-2.first c.in-Chain.first c.in_ok-rest-in-Chain.rest c.in-Chain.rest c.args.expr.now c.in-Chain.is
-    (ap expr_shown c.in_ok-first-in-Chain-2.ensures.ok ∙ c.in_ok-first-in-Chain.ensures ∙ ap expr_shown c.deref-in-Chain.ensures)
+pub copy_expression-returns-in_ok-rest-in-Chain : goal.copy_expression-returns-in_ok-rest-in-Chain
+copy_expression-returns-in_ok-rest-in-Chain t c =
+    chain_alike c.in_ok-first-in-Chain.first c.in-Chain.first c.in_ok-rest-in-Chain.rest c.in-Chain.rest c.args.expr.now c.in-Chain.is
+    (c.in_ok-first-in-Chain.ensures ∙ ap expr_shown c.deref-in-Chain.ensures)
     (c.in_ok-rest-in-Chain.ensures ∙ ap links_shown c.deref-in-Chain-2.ensures.value)
