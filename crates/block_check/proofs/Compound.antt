@@ -35,7 +35,7 @@ walked_par n env forked one two o A B visible passed same e f =
     ∙ ap (λ (r : Result Environment Refusal). after_branches (Ok one) r) (at_visible n env visible B B env two refl f)
 
 -- a guard that passes
-through : (o : Option Refusal) (a rest : Result Environment Refusal) (env : Environment) → guarded o a ≡ Ok env → (guarded o rest ≡ rest) × (a ≡ Ok env)
+pub through : (o : Option Refusal) (a rest : Result Environment Refusal) (env : Environment) → guarded o a ≡ Ok env → (guarded o rest ≡ rest) × (a ≡ Ok env)
 through None a rest env e = (refl, e)
 through (Some q) a rest env e = let never : ⊥ = cc in absurd never
 
