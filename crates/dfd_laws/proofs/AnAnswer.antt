@@ -30,26 +30,26 @@ use Rattle.par_text.specs.Lexing.{Lexed, text_tokens}
 use Rattle.par_text.proofs.Verdicts.{has_verdict}
 use Rattle.par_tree.specs.Tree.{Program}
 use Rattle.run_report.specs.Texts.{peak_text}
-use Rattle.dfd_run.specs.Answer.{CheckMakes, KindGives, BytesGive, HasRanges}
-use Rattle.dfd_run.specs.Sources.{SourceGives}
-use Rattle.dfd_run.specs.Expanding.{ExpansionGives, ExpandMakes}
+use Rattle.dfd_plays.specs.Answer.{CheckMakes, KindGives, BytesGive, HasRanges}
+use Rattle.dfd_plays.specs.Sources.{SourceGives}
+use Rattle.dfd_plays.specs.Expanding.{ExpansionGives, ExpandMakes}
 use Rattle.trail_check.specs.CheckLaws.{IsAnswer}
 use Rattle.trail_check.specs.declared.verify_fail.VerifyFail.{VerifyFail}
 use Rattle.trail_check.specs.declared.verify_fail.VerifyFail.TheVariants.{LongRun, BadEvent, NotEnded, WrongNumbers, OutOfMemory as NoRoom}
 use Rattle.trail_check.proofs.Outcomes.{an_answer as a_trail_has_an_answer}
 use Rattle.trail_meaning.specs.Shown.{Shown}
 use Rattle.trail_text.proofs.Deciding.{each_read}
-use Rattle.dfd_run.specs.TrailMessages.{not_trail_text, long_run_text, bad_event_text, not_ended_text, wrong_numbers_text, trail_ok_text}
-use Rattle.dfd_run.specs.Trails.{Records, TrailMakes, VerifyMakes, VerifyGives}
-use Rattle.dfd_run.specs.Messages.{syntax_text, bad_loop_text, name_taken_text, check_text, spent_text, arena_text, deques_text}
-use Rattle.dfd_run.specs.Make.{MakeMakes, Summarizes}
-use Rattle.dfd_run.specs.Peak.{RunText, PeakMakes, finish_status}
+use Rattle.dfd_plays.specs.TrailMessages.{not_trail_text, long_run_text, bad_event_text, not_ended_text, wrong_numbers_text, trail_ok_text}
+use Rattle.dfd_plays.specs.Trails.{Records, TrailMakes, VerifyMakes, VerifyGives}
+use Rattle.dfd_plays.specs.Messages.{syntax_text, bad_loop_text, name_taken_text, check_text, spent_text, arena_text, deques_text}
+use Rattle.dfd_plays.specs.Make.{MakeMakes, Summarizes}
+use Rattle.dfd_plays.specs.Peak.{RunText, PeakMakes, finish_status}
 use Rattle.ready_machine.proofs.Playing.{plays_end as ready_plays_end}
-use Rattle.dfd_run.specs.Async.{IsAsyncPlay, AsyncMakes, async_terms, async_machine}
-use Rattle.dfd_run.specs.Play.{IsPlay, TellsRun, TellsPlay, Reports, PlayMakes, play_setting, play_terms, play_machine, seeded_words}
-use Rattle.dfd_run.specs.Threads.{IsRunByThreads, RunMakes}
-use Rattle.dfd_run.specs.declared.status.Status.{Status}
-use Rattle.dfd_run.specs.declared.status.Status.TheVariants.{Done, Syntax, Check, UserFault, StepsSpent, ArenaFull, DequesFull, TrailRefused}
+use Rattle.dfd_plays.specs.Async.{IsAsyncPlay, AsyncMakes, async_terms, async_machine}
+use Rattle.dfd_plays.specs.Play.{IsPlay, TellsRun, TellsPlay, Reports, PlayMakes, play_setting, play_terms, play_machine, seeded_words}
+use Rattle.dfd_plays.specs.Threads.{IsRunByThreads, RunMakes}
+use Rattle.dfd_plays.specs.declared.status.Status.{Status}
+use Rattle.dfd_plays.specs.declared.status.Status.TheVariants.{Done, Syntax, Check, UserFault, StepsSpent, ArenaFull, DequesFull, TrailRefused}
 use Rattle.dfd_laws.proofs.ThreadPlays.{plays_in_threads}
 
 abbrev Some_answer : (Status → List ℕ → Type 0) → Type 0

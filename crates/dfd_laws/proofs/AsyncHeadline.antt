@@ -29,14 +29,14 @@ use Rattle.ready_machine.specs.ReadyMachine.{MayReady, ReadyReaches}
 use Rattle.ready_machine.specs.ReadyPlay.{CanGo, ReadyTurn}
 use Rattle.ready_machine.proofs.Ones.{one_way}
 use Rattle.run_report.specs.Shown.{Shown}
-use Rattle.dfd_run.specs.Answer.{HasRanges}
-use Rattle.dfd_run.specs.Async.{IsAsyncPlay, AsyncMakes, async_terms, async_machine}
+use Rattle.dfd_plays.specs.Answer.{HasRanges}
+use Rattle.dfd_plays.specs.Async.{IsAsyncPlay, AsyncMakes, async_terms, async_machine}
 use Rattle.dfd_laws.specs.Headline.{play_list, HoldsAt, AreBounded, IsBoundedReport, HasShortPlays, StopsLate, LastsInArena, LastsInActions}
-use Rattle.dfd_run.specs.Peak.{finish_status}
-use Rattle.dfd_run.specs.Play.{TellsEnding, Reports, play_setting, seeded_words}
-use Rattle.dfd_run.specs.Status.{code_of}
-use Rattle.dfd_run.specs.declared.status.Status.{Status}
-use Rattle.dfd_run.specs.declared.status.Status.TheVariants.{Done, UserFault, DequesFull}
+use Rattle.dfd_plays.specs.Peak.{finish_status}
+use Rattle.dfd_plays.specs.Play.{TellsEnding, Reports, play_setting, seeded_words}
+use Rattle.dfd_plays.specs.Status.{code_of}
+use Rattle.dfd_plays.specs.declared.status.Status.{Status}
+use Rattle.dfd_plays.specs.declared.status.Status.TheVariants.{Done, UserFault, DequesFull}
 use Rattle.dfd_laws.proofs.ArenaStops.{taken_is_weight, filled, asked_at}
 use Rattle.dfd_laws.proofs.Headline.{in_range, bounded_reports}
 use Rattle.dfd_laws.proofs.Statuses.{same_status}

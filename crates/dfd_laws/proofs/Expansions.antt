@@ -3,8 +3,8 @@ use Rattle.std.proofs.Common.{ℕ, List, subst}
 use Rattle.std.specs.Prelude.{Ok}
 use Rattle.loop_expand.specs.Expansion.{Expands}
 use Rattle.loop_expand.proofs.Answered.{one_answer}
-use Rattle.dfd_run.specs.Expanding.{OfExpansion, ExpansionGives}
-use Rattle.dfd_run.specs.declared.status.Status.{Status}
+use Rattle.dfd_plays.specs.Expanding.{OfExpansion, ExpansionGives}
+use Rattle.dfd_plays.specs.declared.status.Status.{Status}
 use Rattle.dfd_laws.specs.Laws.{LoopsArePlays}
 
 -- bytes with an expansion give what is made of it, and nothing else

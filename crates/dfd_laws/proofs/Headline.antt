@@ -29,14 +29,14 @@ use Rattle.machine_replay.proofs.OnePlay.{one_way, endings_have_causes}
 use Rattle.par_tree.specs.Tree.{Program}
 use Rattle.run_report.specs.Shown.{Shown}
 use Rattle.run_report.specs.declared.summary.Summary.{Summary}
-use Rattle.dfd_run.specs.Make.{MakeMakes, Summarizes, sum_of}
-use Rattle.dfd_run.specs.Answer.{HasRanges}
+use Rattle.dfd_plays.specs.Make.{MakeMakes, Summarizes, sum_of}
+use Rattle.dfd_plays.specs.Answer.{HasRanges}
 use Rattle.dfd_laws.specs.Headline.{play_list, HoldsAt, AreBounded, HasShortPlays, StopsLate, LastsInArena, LastsInActions, LastsInDeques, IsBoundedReport, IsBoundedSummary}
-use Rattle.dfd_run.specs.Peak.{finish_status}
-use Rattle.dfd_run.specs.Play.{IsPlay, TellsRun, TellsEnding, Reports, PlayMakes, play_setting, play_terms, play_machine, seeded_words}
-use Rattle.dfd_run.specs.Status.{code_of}
-use Rattle.dfd_run.specs.declared.status.Status.{Status}
-use Rattle.dfd_run.specs.declared.status.Status.TheVariants.{Done, UserFault, DequesFull}
+use Rattle.dfd_plays.specs.Peak.{finish_status}
+use Rattle.dfd_plays.specs.Play.{IsPlay, TellsRun, TellsEnding, Reports, PlayMakes, play_setting, play_terms, play_machine, seeded_words}
+use Rattle.dfd_plays.specs.Status.{code_of}
+use Rattle.dfd_plays.specs.declared.status.Status.{Status}
+use Rattle.dfd_plays.specs.declared.status.Status.TheVariants.{Done, UserFault, DequesFull}
 use Rattle.dfd_laws.proofs.ArenaStops.{taken_is_weight, filled, asked_at}
 use Rattle.dfd_laws.proofs.Statuses.{same_status, not_stopped}
 

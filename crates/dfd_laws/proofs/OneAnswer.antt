@@ -28,9 +28,9 @@ use Rattle.par_text.proofs.Verdicts.{one_verdict}
 use Rattle.par_text.specs.declared.syntax_error.SyntaxError.{SyntaxError}
 use Rattle.par_tree.specs.Tree.{Program}
 use Rattle.run_report.specs.Texts.{peak_text, report_text, summary_text}
-use Rattle.dfd_run.specs.Answer.{CheckMakes, KindGives, BytesGive, HasRanges}
-use Rattle.dfd_run.specs.Sources.{SourceGives}
-use Rattle.dfd_run.specs.Expanding.{TellsExpandFail, OfExpansion, ExpansionGives, ExpandMakes}
+use Rattle.dfd_plays.specs.Answer.{CheckMakes, KindGives, BytesGive, HasRanges}
+use Rattle.dfd_plays.specs.Sources.{SourceGives}
+use Rattle.dfd_plays.specs.Expanding.{TellsExpandFail, OfExpansion, ExpansionGives, ExpandMakes}
 use Rattle.trail_check.specs.declared.verify_fail.VerifyFail.{VerifyFail}
 use Rattle.trail_check.specs.declared.verify_fail.VerifyFail.TheVariants.{LongRun, BadEvent, NotEnded, WrongNumbers, OutOfMemory as NoRoom}
 use Rattle.trail_check.proofs.Outcomes.{one_answer as a_trail_has_one_answer}
@@ -38,17 +38,17 @@ use Rattle.trail_meaning.specs.Ranges.{HasTrailRanges}
 use Rattle.trail_meaning.specs.Shown.{Shown}
 use Rattle.trail_text.specs.TrailText.{trail_text}
 use Rattle.trail_text.proofs.Readings.{one_trail, one_place, never_both}
-use Rattle.dfd_run.specs.TrailMessages.{not_trail_text}
-use Rattle.dfd_run.specs.Trails.{Records, TrailMakes, TellsCheck, VerifyMakes, VerifyGives, trail_of}
-use Rattle.dfd_run.specs.Messages.{syntax_text, check_text, spent_text}
-use Rattle.dfd_run.specs.Make.{MakeMakes, Summarizes, sum_of}
-use Rattle.dfd_run.specs.Peak.{RunText, ItemsMake, PeakMakes}
+use Rattle.dfd_plays.specs.TrailMessages.{not_trail_text}
+use Rattle.dfd_plays.specs.Trails.{Records, TrailMakes, TellsCheck, VerifyMakes, VerifyGives, trail_of}
+use Rattle.dfd_plays.specs.Messages.{syntax_text, check_text, spent_text}
+use Rattle.dfd_plays.specs.Make.{MakeMakes, Summarizes, sum_of}
+use Rattle.dfd_plays.specs.Peak.{RunText, ItemsMake, PeakMakes}
 use Rattle.ready_machine.proofs.Ones.{one_play as one_ready_play}
-use Rattle.dfd_run.specs.Async.{IsAsyncPlay, AsyncMakes, async_terms, async_machine}
-use Rattle.dfd_run.specs.Play.{IsPlay, TellsRun, TellsPlay, TellsEnding, Reports, PlayMakes, play_setting, play_terms, play_machine, seeded_words}
-use Rattle.dfd_run.specs.Status.{code_of}
-use Rattle.dfd_run.specs.declared.status.Status.{Status}
-use Rattle.dfd_run.specs.declared.status.Status.TheVariants.{Done, Usage, ReadFault, WriteFault, Syntax, Check, UserFault, StepsSpent, ArenaFull, DequesFull, OutOfMemory, TrailRefused}
+use Rattle.dfd_plays.specs.Async.{IsAsyncPlay, AsyncMakes, async_terms, async_machine}
+use Rattle.dfd_plays.specs.Play.{IsPlay, TellsRun, TellsPlay, TellsEnding, Reports, PlayMakes, play_setting, play_terms, play_machine, seeded_words}
+use Rattle.dfd_plays.specs.Status.{code_of}
+use Rattle.dfd_plays.specs.declared.status.Status.{Status}
+use Rattle.dfd_plays.specs.declared.status.Status.TheVariants.{Done, Usage, ReadFault, WriteFault, Syntax, Check, UserFault, StepsSpent, ArenaFull, DequesFull, OutOfMemory, TrailRefused}
 use Rattle.dfd_laws.proofs.Statuses.{same_status}
 
 abbrev program_in : Program → Verdict → Program

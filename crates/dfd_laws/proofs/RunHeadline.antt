@@ -21,12 +21,12 @@ use Rattle.lawful_books.proofs.Lists.{total_append, one_same}
 use Rattle.lawful_books.specs.Lists.{total}
 use Rattle.par_tree.specs.Tree.{Program}
 use Rattle.run_report.specs.Shown.{Shown}
-use Rattle.dfd_run.specs.Answer.{HasRanges}
-use Rattle.dfd_run.specs.Peak.{finish_status}
-use Rattle.dfd_run.specs.Play.{play_setting, play_terms, play_machine}
-use Rattle.dfd_run.specs.Threads.{IsRunByThreads, RunMakes}
-use Rattle.dfd_run.specs.declared.status.Status.{Status}
-use Rattle.dfd_run.specs.declared.status.Status.TheVariants.{Done, UserFault, DequesFull}
+use Rattle.dfd_plays.specs.Answer.{HasRanges}
+use Rattle.dfd_plays.specs.Peak.{finish_status}
+use Rattle.dfd_plays.specs.Play.{play_setting, play_terms, play_machine}
+use Rattle.dfd_plays.specs.Threads.{IsRunByThreads, RunMakes}
+use Rattle.dfd_plays.specs.declared.status.Status.{Status}
+use Rattle.dfd_plays.specs.declared.status.Status.TheVariants.{Done, UserFault, DequesFull}
 use Rattle.dfd_laws.specs.Headline.{play_list, AreBounded, IsBoundedReport}
 use Rattle.dfd_laws.proofs.ArenaStops.{taken_is_weight, filled}
 use Rattle.dfd_laws.proofs.Headline.{bounded_reports, run_is_bounded, mark_is_bounded, statuses_left}

@@ -1,10 +1,10 @@
 -- Statuses and their numbers.
 use Rattle.std.proofs.Common.{◌≡◌, ◌⊎◌, inl, inr, ℕ, [], ◌∷◌, get_or, arith, refl, sym, ap, ◌∙◌}
 use Rattle.deque_machine.specs.Play.{Stop, arena_full, steps_spent, deques_full}
-use Rattle.dfd_run.specs.Play.{stop_status}
-use Rattle.dfd_run.specs.Status.{code_of}
-use Rattle.dfd_run.specs.declared.status.Status.{Status}
-use Rattle.dfd_run.specs.declared.status.Status.TheVariants.{Done, Usage, ReadFault, WriteFault, Syntax, Check, UserFault, StepsSpent, ArenaFull, DequesFull, OutOfMemory, TrailRefused}
+use Rattle.dfd_plays.specs.Play.{stop_status}
+use Rattle.dfd_plays.specs.Status.{code_of}
+use Rattle.dfd_plays.specs.declared.status.Status.{Status}
+use Rattle.dfd_plays.specs.declared.status.Status.TheVariants.{Done, Usage, ReadFault, WriteFault, Syntax, Check, UserFault, StepsSpent, ArenaFull, DequesFull, OutOfMemory, TrailRefused}
 
 -- two statuses of one number are one
 abbrev with_code : ℕ → Status

@@ -12,13 +12,13 @@ use Rattle.deque_machine.specs.Machine.{Setting, Event}
 use Rattle.deque_machine.specs.Moments.{Moment}
 use Rattle.deque_machine.specs.Play.{Limits, Stop, arena_full, steps_spent, deques_full, Ending, stopped, Meets, no_steps}
 use Rattle.deque_machine.specs.Runs.{Pair}
-use Rattle.dfd_run.specs.Passed.ThreadRuns.{MeetsOnTheWay, HasCause as HasThreadCause}
+use Rattle.dfd_plays.specs.Passed.ThreadRuns.{MeetsOnTheWay, HasCause as HasThreadCause}
 use Rattle.machine_replay.proofs.OnePlay.{endings_have_causes}
 use Rattle.machine_replay.specs.Laws.{HasCause}
 use Rattle.par_tree.specs.Tree.{Program}
-use Rattle.dfd_run.specs.Answer.{HasRanges}
-use Rattle.dfd_run.specs.Play.{IsPlay, play_setting, play_terms, play_machine, seeded_words}
-use Rattle.dfd_run.specs.Threads.{IsRunByThreads}
+use Rattle.dfd_plays.specs.Answer.{HasRanges}
+use Rattle.dfd_plays.specs.Play.{IsPlay, play_setting, play_terms, play_machine, seeded_words}
+use Rattle.dfd_plays.specs.Threads.{IsRunByThreads}
 
 limit_is : (s : Setting) (limits : Limits) (m : Moment) (event : Event) (limit : ℕ) → Meets s limits m event (steps_spent limit) → limit ≡ limits.actions
 limit_is s limits m event limit (no_steps place fits spent) = refl

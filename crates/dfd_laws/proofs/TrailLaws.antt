@@ -22,18 +22,18 @@ use Rattle.trail_meaning.specs.Shown.{Shown}
 use Rattle.trail_text.specs.TrailText.{IsTrail}
 use Rattle.dfd_laws.specs.RecordedTrails.{IsOfPlay}
 use Rattle.dfd_laws.proofs.Accepted as laws
-use Rattle.dfd_run.specs.Answer.{BytesGive, HasRanges}
+use Rattle.dfd_plays.specs.Answer.{BytesGive, HasRanges}
 use Rattle.dfd_laws.specs.Laws.{RecordedTrailsAreAccepted, AcceptedTrailsAreBounded}
-use Rattle.dfd_run.specs.Play.{IsPlay, TellsEnding, TellsPlay, play_setting, seeded_words}
-use Rattle.dfd_run.specs.Status.{code_of}
-use Rattle.dfd_run.specs.Trails.{Records, TellsCheck, VerifyGives, trail_of}
-use Rattle.dfd_run.specs.declared.status.Status.{Status}
-use Rattle.dfd_run.specs.declared.status.Status.TheVariants.{Done, UserFault, TrailRefused}
-use Rattle.dfd_run.specs.TrailMessages.{trail_ok_text}
+use Rattle.dfd_plays.specs.Play.{IsPlay, TellsEnding, TellsPlay, play_setting, seeded_words}
+use Rattle.dfd_plays.specs.Status.{code_of}
+use Rattle.dfd_plays.specs.Trails.{Records, TellsCheck, VerifyGives, trail_of}
+use Rattle.dfd_plays.specs.declared.status.Status.{Status}
+use Rattle.dfd_plays.specs.declared.status.Status.TheVariants.{Done, UserFault, TrailRefused}
+use Rattle.dfd_plays.specs.TrailMessages.{trail_ok_text}
 use Rattle.dfd_laws.proofs.AnAnswer.{verify_answer}
 use Rattle.dfd_laws.proofs.OneAnswer.{one_trail_answer}
 use Rattle.dfd_laws.proofs.Statuses.{same_status, not_stopped}
-use Rattle.dfd_run.proofs.Sums.{short_text}
+use Rattle.dfd_plays.proofs.Sums.{short_text}
 
 module _ (command : Command) (bytes trail : List ℕ) (ranges : HasRanges (record command { kind = Trail })) (p : Program) (is : IsText bytes p)
     (own : IsAccepted p) where

@@ -12,12 +12,12 @@ use Rattle.par_tree.specs.Tree.{Program}
 use Rattle.ready_machine.specs.PlayLaws.{CoversNext}
 use Rattle.ready_machine.specs.ReadyMachine.{MayReady, ReadyReaches}
 use Rattle.ready_machine.specs.ReadyPlay.{ReadyTurn}
-use Rattle.dfd_run.specs.Answer.{HasRanges}
-use Rattle.dfd_run.specs.Async.{IsAsyncPlay, AsyncMakes, async_machine}
-use Rattle.dfd_run.specs.Peak.{finish_status}
-use Rattle.dfd_run.specs.Play.{play_setting}
-use Rattle.dfd_run.specs.declared.status.Status.{Status}
-use Rattle.dfd_run.specs.declared.status.Status.TheVariants.{DequesFull}
+use Rattle.dfd_plays.specs.Answer.{HasRanges}
+use Rattle.dfd_plays.specs.Async.{IsAsyncPlay, AsyncMakes, async_machine}
+use Rattle.dfd_plays.specs.Peak.{finish_status}
+use Rattle.dfd_plays.specs.Play.{play_setting}
+use Rattle.dfd_plays.specs.declared.status.Status.{Status}
+use Rattle.dfd_plays.specs.declared.status.Status.TheVariants.{DequesFull}
 use Rattle.dfd_laws.specs.Headline.{play_list, AreBounded, StopsLate, OfEach, AllEnd, LastsInArena, LastsInActions}
 
 -- at each moment of each play the words in use are within the bound, the threads are in depth-first order, and no action was done twice

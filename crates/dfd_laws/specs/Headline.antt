@@ -16,12 +16,12 @@ use Rattle.par_tree.specs.Tree.{Program}
 use Rattle.run_report.specs.Shown.{Shown}
 use Rattle.run_report.specs.Texts.{report_text, summary_text}
 use Rattle.run_report.specs.declared.summary.Summary.{Summary}
-use Rattle.dfd_run.specs.Answer.{HasRanges}
-use Rattle.dfd_run.specs.Make.{MakeMakes}
-use Rattle.dfd_run.specs.Peak.{finish_status}
-use Rattle.dfd_run.specs.Play.{IsPlay, play_terms, play_setting, play_machine, seeded_words}
-use Rattle.dfd_run.specs.declared.status.Status.{Status}
-use Rattle.dfd_run.specs.declared.status.Status.TheVariants.{Done, UserFault, DequesFull}
+use Rattle.dfd_plays.specs.Answer.{HasRanges}
+use Rattle.dfd_plays.specs.Make.{MakeMakes}
+use Rattle.dfd_plays.specs.Peak.{finish_status}
+use Rattle.dfd_plays.specs.Play.{IsPlay, play_terms, play_setting, play_machine, seeded_words}
+use Rattle.dfd_plays.specs.declared.status.Status.{Status}
+use Rattle.dfd_plays.specs.declared.status.Status.TheVariants.{Done, UserFault, DequesFull}
 
 -- the actions of the depth-first run of a program with the quota of a command
 abbrev pub play_list : Command → Program → List Action

@@ -4,7 +4,7 @@ use Rattle.command_line.specs.Words.{IsCommand}
 use Rattle.command_line.specs.declared.command.Command.{Command}
 use Rattle.command_line.specs.declared.command_kind.CommandKind.TheVariants.{Play, Run, Loops, Trail, Verify}
 use Rattle.loop_expand.specs.Expansion.{Expands}
-use Rattle.dfd_run.specs.Answer.{BytesGive, HasRanges}
+use Rattle.dfd_plays.specs.Answer.{BytesGive, HasRanges}
 use Rattle.par_ownership.specs.Accepted.{IsAccepted}
 use Rattle.par_text.specs.Judging.{IsText}
 use Rattle.par_tree.specs.Tree.{Program}
@@ -12,8 +12,8 @@ use Rattle.serial_meaning.specs.Settings.{setting_of}
 use Rattle.trail_check.specs.CheckLaws.{IsBounded}
 use Rattle.trail_meaning.specs.Shown.{Shown}
 use Rattle.trail_text.specs.TrailText.{IsTrail}
-use Rattle.dfd_run.specs.declared.status.Status.{Status}
-use Rattle.dfd_run.specs.declared.status.Status.TheVariants.{Done, UserFault}
+use Rattle.dfd_plays.specs.declared.status.Status.{Status}
+use Rattle.dfd_plays.specs.declared.status.Status.TheVariants.{Done, UserFault}
 
 -- a command that starts no threads has one answer to the bytes of a source, one status and one text
 abbrev pub OneAnswer : Type 0

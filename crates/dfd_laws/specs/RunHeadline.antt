@@ -6,9 +6,9 @@ use Rattle.deque_machine.specs.Play.{Ending}
 use Rattle.deque_machine.specs.Runs.{Pair, Reaches}
 use Rattle.par_ownership.specs.Accepted.{IsAccepted}
 use Rattle.par_tree.specs.Tree.{Program}
-use Rattle.dfd_run.specs.Answer.{HasRanges}
-use Rattle.dfd_run.specs.Play.{play_machine}
-use Rattle.dfd_run.specs.Threads.{IsRunByThreads}
+use Rattle.dfd_plays.specs.Answer.{HasRanges}
+use Rattle.dfd_plays.specs.Play.{play_machine}
+use Rattle.dfd_plays.specs.Threads.{IsRunByThreads}
 use Rattle.dfd_laws.specs.Headline.{AreBounded}
 
 -- after each first part of its events the words in use are within the bound, the threads are in depth-first order, and no action was done twice

@@ -1,6 +1,6 @@
-ghost use Rattle.dfd_run.specs.Async.{AsyncMakes};
-ghost use Rattle.dfd_run.specs.Play.{PlayMakes};
-ghost use Rattle.dfd_run.specs.Threads.{RunMakes};
+ghost use Rattle.dfd_plays.specs.Async.{AsyncMakes};
+ghost use Rattle.dfd_plays.specs.Play.{PlayMakes};
+ghost use Rattle.dfd_plays.specs.Threads.{RunMakes};
 ghost use Rattle.dfd_laws.specs.AsyncHeadline.{AsyncActionsSuffice, AsyncArenasStopLate, AsyncArenasSuffice, AsyncListsNeverFill, AsyncMomentsAreBounded, AsyncPlaysEnd, AsyncPlaysWithRoomFinish, AsyncStatusesWithRoom};
 ghost use Rattle.dfd_laws.specs.Headline.{ActionsSuffice, ArenasStopLate, ArenasSuffice, DequesSuffice, MomentsAreBounded, PlaysEnd, PlaysWithRoomFinish, ReportsAreBounded, StatusesWithRoom, SummariesAreBounded};
 ghost use Rattle.dfd_laws.specs.RunHeadline.{RunMomentsAreBounded};

@@ -8,11 +8,11 @@ use Rattle.std.specs.declared.string.String.{String}
 use Rattle.std.specs.declared.vec.IntoIter.{IntoIter}
 use Rattle.command_line.specs.Words.{IsCommand}
 use Rattle.command_line.specs.declared.command.Command.{Command}
-use Rattle.dfd_run.specs.Answer.{CallGives, Ends}
+use Rattle.dfd_plays.specs.Answer.{CallGives, Ends}
 use Rattle.dfd_run.specs.Program.{Given, words_given, AreNoWords}
-use Rattle.dfd_run.specs.Status.{code_of}
-use Rattle.dfd_run.specs.declared.status.Status.{Status}
-use Rattle.dfd_run.specs.declared.status.Status.TheVariants.{Done, Usage, ReadFault, WriteFault, Syntax, Check, UserFault, StepsSpent, ArenaFull, DequesFull, OutOfMemory, TrailRefused}
+use Rattle.dfd_plays.specs.Status.{code_of}
+use Rattle.dfd_plays.specs.declared.status.Status.{Status}
+use Rattle.dfd_plays.specs.declared.status.Status.TheVariants.{Done, Usage, ReadFault, WriteFault, Syntax, Check, UserFault, StepsSpent, ArenaFull, DequesFull, OutOfMemory, TrailRefused}
 
 -- what is left behind the first word
 pub behind_first :

@@ -1,9 +1,2 @@
-pub mod Answers
-pub mod Peaks
-pub mod Plays
 pub mod Threads
-pub mod Expansions
 pub mod GivenWords
-pub mod Sums
-pub mod Trails
-pub mod AsyncPlays

@@ -12,12 +12,12 @@ use Rattle.run_end.specs.declared.stop.Stop.TheVariants.{ArenaFull, DequesFull, 
 use Rattle.run_report.specs.Shown.{shown_by_report}
 use Rattle.run_report.specs.Texts.{report_text}
 use Rattle.run_report.specs.declared.report.Report.{Report}
-use Rattle.dfd_run.specs.Peak.{finish_status}
-use Rattle.dfd_run.specs.Play.{Reports, play_setting, play_terms}
-use Rattle.dfd_run.specs.Stops.{TellsStop}
-use Rattle.dfd_run.specs.Threads.{RunMakes}
-use Rattle.dfd_run.specs.declared.status.Status.{Status}
-use Rattle.dfd_run.proofs.Plays.{same_report}
+use Rattle.dfd_plays.specs.Peak.{finish_status}
+use Rattle.dfd_plays.specs.Play.{Reports, play_setting, play_terms}
+use Rattle.dfd_plays.specs.Stops.{TellsStop}
+use Rattle.dfd_plays.specs.Threads.{RunMakes}
+use Rattle.dfd_plays.specs.declared.status.Status.{Status}
+use Rattle.dfd_plays.proofs.Plays.{same_report}
 
 -- the text of a report of a run is what is reported of this run
 reports_so : (command : Command) (p : Program) (run : List Pair) (last : Moment) (report : Report) →

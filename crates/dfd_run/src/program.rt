@@ -2,15 +2,15 @@ ghost use Rattle.std.specs.Prelude.{◌≡◌, ◌≢◌, IfOk, IsOk, IsErr, dro
 ghost use Rattle.std.specs.Vec.Iter.{into_iter_items};
 ghost use Rattle.byte_streams.specs.Faults.{Rose};
 ghost use Rattle.command_line.specs.Words.{words_of};
-ghost use Rattle.dfd_run.specs.Answer.{CallGives, Ends};
-ghost use Rattle.dfd_run.specs.Counts.{Counts};
+ghost use Rattle.dfd_plays.specs.Answer.{CallGives, Ends};
+ghost use Rattle.dfd_plays.specs.Counts.{Counts};
 ghost use Rattle.dfd_run.specs.Program.{words_given, LacksWords, AreNoWords};
-ghost use Rattle.dfd_run.specs.Status.{code_of};
-ghost use Rattle.dfd_run.specs.declared.status.Status.{Status as StatusType};
+ghost use Rattle.dfd_plays.specs.Status.{code_of};
+ghost use Rattle.dfd_plays.specs.declared.status.Status.{Status as StatusType};
 
 use crate::call::dfd;
-use crate::status::Status;
 use byte_streams::{Sink, Source};
+use dfd_plays::Status;
 use std::alloc::{AllocError, Global};
 use std::env::Args;
 use std::io;

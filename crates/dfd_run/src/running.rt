@@ -4,18 +4,14 @@ ghost use Rattle.std.specs.Prelude.{◌≡◌, ◌+◌, ◌≤◌, IfOk, length}
 ghost use Rattle.block_check.specs.Checked.{program_of};
 ghost use Rattle.par_ownership.specs.Ownership.{Ownership};
 ghost use Rattle.par_tree.specs.View.{program_tree};
-ghost use Rattle.dfd_run.specs.Answer.{HasRanges};
-ghost use Rattle.dfd_run.specs.Sources.{SourceGives};
-ghost use Rattle.dfd_run.specs.Threads.{RunMakes};
+ghost use Rattle.dfd_plays.specs.Answer.{HasRanges};
+ghost use Rattle.dfd_plays.specs.Sources.{SourceGives};
+ghost use Rattle.dfd_plays.specs.Threads.{RunMakes};
 
-use crate::answer::Answer;
-use crate::finishing::report_answer;
-use crate::pcg_choices::PcgChoices;
-use crate::playing_core::{begun, stop_answer};
-use crate::refusal::refusal_answer;
 use accepted_source::accept;
 use block_check::Checked;
 use command_line::Command;
+use dfd_plays::{Answer, PcgChoices, begun, refusal_answer, report_answer, stop_answer};
 use hall_runs::{Ran, run_in_threads};
 use std::alloc::{AllocError, Global};
 use std::sync::Wait;

@@ -1,5 +1,6 @@
 pub mod Values
 pub mod Steps
+pub mod Runs
 pub mod Standing
 pub mod Writing
 pub mod Rows

@@ -9,7 +9,7 @@ use Rattle.hall_law.specs.Crew as crew
 use Rattle.hall_law.specs.Steps.{Step, Leads, HasMet, run_of}
 use Rattle.hall_law.specs.Values.{by_rule}
 use Rattle.hall_law.proofs.Going.{steps_are_a_run}
-use Rattle.hall_runs.specs.Runs.{HasCause, MeetsOnTheWay}
+use Rattle.hall_law.specs.Runs.{HasCause, MeetsOnTheWay}
 
 pub met : (s : Setting) (limits : Limits) (steps : List Step) (m : Moment) (leads : Leads s steps m) (stop : play.Stop) → HasMet s limits steps m leads stop
     → MeetsOnTheWay s limits (run_of steps) stop

@@ -56,7 +56,7 @@ use Rattle.hall_turns.specs.Keys.{table_of, quota_of, terms_of}
 use Rattle.hall_turns.specs.Shown.{end_shown, stop_shown}
 use Rattle.hall_turns.specs.Takes.{HallSeat}
 use Rattle.hall_runs.specs.Reports.{IsReportOf, SomeRun}
-use Rattle.hall_runs.specs.Runs.{IsThreadRun}
+use Rattle.hall_law.specs.Runs.{IsThreadRun}
 use Rattle.hall_runs.proofs.Causes.{caused}
 use Rattle.hall_runs.proofs.Counted.{all_counted, marked_counted}
 use Rattle.hall_runs.proofs.High.{high_is}

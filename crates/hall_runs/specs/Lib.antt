@@ -3,6 +3,5 @@ pub mod Trying
 pub mod Spending
 pub mod Crews
 pub mod Closed
-pub mod Runs
 pub mod Reports
 pub mod Passed

@@ -14,7 +14,7 @@ use Rattle.run_end.specs.declared.stop.Stop.TheVariants.{ArenaFull, DequesFull, 
 use Rattle.run_report.specs.declared.report.Report.{Report}
 use Rattle.hall_runs.specs.declared.ran.Ran.{Ran}
 use Rattle.hall_runs.specs.declared.ran.Ran.TheVariants as ran
-use Rattle.hall_runs.specs.Runs.{IsThreadRun}
+use Rattle.hall_law.specs.Runs.{IsThreadRun}
 
 -- The report of a run with this last moment: the lines and the finish of the depth-first run, how many periods were begun and how many of them
 -- were marked ahead, and the high-water mark.

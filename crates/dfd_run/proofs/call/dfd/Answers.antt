@@ -1,7 +1,7 @@
 use Rattle.std.proofs.Common.{ap, inl, inr, sym, ◌∙◌}
 use Rattle.command_line.specs.declared.command.Command.{Command}
-use Rattle.dfd_run.proofs.Answers.{call_of_command, ends_at_fault, ends_more}
-use Rattle.dfd_run.specs.declared.status.Status.TheVariants.{Usage}
+use Rattle.dfd_plays.proofs.Answers.{call_of_command, ends_at_fault, ends_more}
+use Rattle.dfd_plays.specs.declared.status.Status.TheVariants.{Usage}
 use Rattle.dfd_run.proofs.call.dfd.Goals as goal
 
 pub returns-in-Err-clause-ends : goal.returns-in-Err-clause-ends

@@ -1,9 +1,9 @@
 use Rattle.std.proofs.Common.{ℕ, subst, sym}
 use Rattle.byte_streams.specs.Faults.{Rose}
 use Rattle.byte_streams.specs.Source.{IsRead}
-use Rattle.dfd_run.proofs.Answers.{bytes_of_run, command_of_read, ends_more, read_of_kind, run_is_not_made}
-use Rattle.dfd_run.specs.Answer.{BytesGive, ReadGives, most_read}
-use Rattle.dfd_run.specs.Counts.{Counts}
+use Rattle.dfd_plays.proofs.Answers.{bytes_of_run, command_of_read, ends_more, read_of_kind, run_is_not_made}
+use Rattle.dfd_plays.specs.Answer.{BytesGive, ReadGives, most_read}
+use Rattle.dfd_plays.specs.Counts.{Counts}
 use Rattle.dfd_run.proofs.call.serve_in_threads.Goals as goal
 
 pub returns-in-Ok-clause-ends : goal.returns-in-Ok-clause-ends

@@ -1,7 +1,7 @@
 use Rattle.std.proofs.Common.{ap, ◌∙◌, refl}
 use Rattle.command_line.specs.Words.{words_of}
 use Rattle.dfd_run.proofs.GivenWords.{same_words}
-use Rattle.dfd_run.specs.declared.status.Status.TheVariants.{OutOfMemory}
+use Rattle.dfd_plays.specs.declared.status.Status.TheVariants.{OutOfMemory}
 use Rattle.dfd_run.proofs.program.exit_code.Goals as goal
 
 pub returns-in_default-clause-ends : goal.returns-in_default-clause-ends

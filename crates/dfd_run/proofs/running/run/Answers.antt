@@ -1,10 +1,10 @@
 use Rattle.std.proofs.lemmas.Result.{IfOk-weaker}
 use Rattle.block_check.specs.Checked.{program_of}
 use Rattle.par_tree.specs.View.{program_tree}
-use Rattle.dfd_run.proofs.Answers.{refused_source}
-use Rattle.dfd_run.proofs.Plays.{source_of_play}
-use Rattle.dfd_run.specs.Play.{Reports}
-use Rattle.dfd_run.specs.Threads.{IsRunByThreads, RunMakes}
+use Rattle.dfd_plays.proofs.Answers.{refused_source}
+use Rattle.dfd_plays.proofs.Plays.{source_of_play}
+use Rattle.dfd_plays.specs.Play.{Reports}
+use Rattle.dfd_plays.specs.Threads.{IsRunByThreads, RunMakes}
 use Rattle.dfd_run.proofs.running.run.Goals as goal
 
 pub returns-in-Ok : goal.returns-in-Ok

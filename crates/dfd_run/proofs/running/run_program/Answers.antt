@@ -6,8 +6,8 @@ use Rattle.trail_record.specs.Played.Cores.{terms_at}
 use Rattle.hall_runs.specs.Reports.{ComesTo}
 use Rattle.hall_runs.specs.declared.ran.Ran.TheVariants.{Finished, Stopped}
 use Rattle.par_tree.specs.View.{program_tree}
-use Rattle.dfd_run.specs.Play.{play_setting}
-use Rattle.dfd_run.proofs.Plays.{both_ok}
+use Rattle.dfd_plays.specs.Play.{play_setting}
+use Rattle.dfd_plays.proofs.Plays.{both_ok}
 use Rattle.dfd_run.proofs.Threads.{finished_run, stopped_run}
 use Rattle.dfd_run.proofs.running.run_program.Goals as goal
 

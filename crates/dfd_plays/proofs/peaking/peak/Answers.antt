@@ -1,0 +1,15 @@
+use Rattle.std.proofs.lemmas.Result.{IfOk-weaker}
+use Rattle.block_check.specs.Checked.{program_of}
+use Rattle.par_tree.specs.View.{program_tree}
+use Rattle.dfd_plays.proofs.Answers.{refused_source}
+use Rattle.dfd_plays.proofs.Peaks.{source_of_peak}
+use Rattle.dfd_plays.specs.Peak.{PeakMakes}
+use Rattle.dfd_plays.proofs.peaking.peak.Goals as goal
+
+pub returns-in-Ok : goal.returns-in-Ok
+returns-in-Ok c = IfOk-weaker c.peak_program.result _ _
+    (λ answer makes. source_of_peak c.args.k c.args.limit c.args.bytes.now (program_tree (program_of c.in-Ok.program)) answer.status
+    answer.text.items c.in-Ok.ensures.0 c.in-Ok.ensures.1 makes) c.peak_program.ensures
+
+pub returns-in-Err : goal.returns-in-Err
+returns-in-Err c = refused_source (PeakMakes c.args.k c.args.limit) _ _ _ c.in-Err.ensures c.refusal_answer.ensures

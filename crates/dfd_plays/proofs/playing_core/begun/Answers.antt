@@ -1,0 +1,15 @@
+use Rattle.std.proofs.Common.{arith}
+use Rattle.command_line.proofs.Commands.{few_steps}
+use Rattle.command_line.specs.declared.setting.Setting.TheVariants.{Workers, Steps, Deques}
+use Rattle.dfd_plays.proofs.playing_core.begun.Goals as goal
+
+pub new-requires-clause-workers : goal.new-requires-clause-workers
+new-requires-clause-workers c = ((c.requires.ranges.numbers Workers).0, (c.requires.ranges.numbers Workers).1)
+
+pub new-requires-clause-limit : goal.new-requires-clause-limit
+new-requires-clause-limit c =
+    let range = c.requires.ranges.numbers Steps in let few = few_steps c.args.command.now.kind in
+    let most = range.1 in (range.0, omega (arith, most, few))
+
+pub new-requires-clause-most : goal.new-requires-clause-most
+new-requires-clause-most c = ((c.requires.ranges.numbers Deques).0, (c.requires.ranges.numbers Deques).1)

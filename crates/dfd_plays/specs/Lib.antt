@@ -1,0 +1,17 @@
+pub mod Answer
+pub mod Counts
+pub mod Expanding
+pub mod Make
+pub mod Messages
+pub mod PcgChoices
+pub mod Peak
+pub mod Play
+pub mod Async
+pub mod Status
+pub mod Sources
+pub mod Stops
+pub mod Threads
+pub mod TrailMessages
+pub mod Trails
+pub mod CorePlays
+pub mod Passed
