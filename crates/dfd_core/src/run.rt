@@ -1,6 +1,6 @@
 ghost use Rattle.std.specs.Prelude.{◌≡◌, ◌<◌, ◌≤◌, ◌↔◌, ℕ, List as AnyList, [], None, Some, Ok, Err, IfOk, IsTrue, MatchOption, length, pos};
 ghost use Rattle.std.specs.Option.{option_copied, option_map};
-ghost use Rattle.language_limits.specs.declared.TheConstants.{GREATEST_COUNT};
+ghost use Rattle.language_limits.specs.declared.TheConstants.{GREATEST_COUNT, MOST_WORKERS};
 ghost use Rattle.bounded_list.specs.BoundedList.{entries};
 ghost use Rattle.depth_first_run.specs.States.{Setting, State};
 ghost use Rattle.depth_first_run.specs.Run.{whole, lines_of, list_of};

@@ -1,4 +1,5 @@
 ghost use Rattle.std.specs.Prelude.{◌≡◌, ◌++◌, ◌∷◌, ◌≤◌, ◌<◌, [], List, length, Some, None, IsErr, IfSome, IfOk, OnOk, OnErr};
+ghost use Rattle.language_limits.specs.declared.TheConstants.{GREATEST_COUNT};
 ghost use Rattle.thread_points.specs.Laws.{earlier_fault};
 ghost use Rattle.thread_output.specs.Joining.{IsJoined};
 ghost use Rattle.std.specs.Option.{ForSome};
