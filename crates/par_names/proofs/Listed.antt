@@ -28,6 +28,16 @@ chain_listed e e' first rest ls o o' o'' is at_e at_ls w w' =
     ∙ ap (λ (t : List Name). o ++ t) (sym (ap expr_names (expr_tree-chain first rest)))
     ∙ ap (λ (y : Expr). o ++ expr_names (expr_tree y)) (sym is)
 
+-- three parts that were added in turn are added as a whole
+pub three_listed : (o x y z a b d whole : List Name) → whole ≡ a ++ (b ++ d) → x ≡ o ++ a → y ≡ x ++ b → z ≡ y ++ d → z ≡ o ++ whole
+three_listed o x y z a b d whole is e f g =
+    g
+    ∙ ap (λ (t : List Name). t ++ d) f
+    ∙ append_assoc x b d
+    ∙ ap (λ (t : List Name). t ++ (b ++ d)) e
+    ∙ append_assoc o a (b ++ d)
+    ∙ ap (λ (t : List Name). o ++ t) (sym is)
+
 -- names that were added to an empty list are those of the list
 pub listed : (names : List Name) (start end list : List (Bor (List ℕ))) → start ≡ [] → names_behind end ≡ names_behind start ++ names → list ≡ end → names_behind list ≡ names
 listed names start end list e w same = ap names_behind same ∙ w ∙ ap (λ (l : List (Bor (List ℕ))). names_behind l ++ names) e

@@ -99,6 +99,42 @@ fn add_parts<'a>(
     add_name(right, out)
 }
 
+/// Adds a name and the names in an expression.
+fn add_named<'a>(name: &'a Name, expr: &'a Expr, out: &mut Vec<&'a [u8]>) -> Result<(), AllocError>
+    ensures { IfOk result (λ _. names_behind out.new.items ≡ names_behind out.old.items ++ name_tree name.now ∷ expr_names
+        (expr_tree expr.now)) }
+{
+    add_name(name, out)?;
+    add_expression(expr, out)
+}
+
+/// Adds the names in a write to a word of a block.
+fn add_put<'a>(
+    block: &'a Name,
+    index: &'a Expr,
+    value: &'a Expr,
+    out: &mut Vec<&'a [u8]>,
+) -> Result<(), AllocError>
+    ensures { IfOk result (λ _. names_behind out.new.items ≡ names_behind out.old.items ++ name_tree block.now ∷ (expr_names
+        (expr_tree index.now) ++ expr_names (expr_tree value.now))) }
+{
+    add_named(block, index, out)?;
+    add_expression(value, out)
+}
+
+/// Adds the names in a call.
+fn add_call<'a>(
+    target: &'a Target,
+    args: &'a [Arg],
+    out: &mut Vec<&'a [u8]>,
+) -> Result<(), AllocError>
+    ensures { IfOk result (λ _. names_behind out.new.items ≡ names_behind out.old.items ++ (target_names (target_tree target.now) ++ args_names
+        (args_tree args.now))) }
+{
+    add_target(target, out)?;
+    add_arguments(args, out)
+}
+
 /// Adds the names in a statement.
 #[cycle(add_statement)]
 fn add_statement<'a>(kind: &'a StmtKind, out: &mut Vec<&'a [u8]>) -> Result<(), AllocError>
@@ -107,19 +143,12 @@ fn add_statement<'a>(kind: &'a StmtKind, out: &mut Vec<&'a [u8]>) -> Result<(), 
     match kind {
         StmtKind::Let { name, value: expr }
         | StmtKind::Assign { name, value: expr }
-        | StmtKind::Alloc { name, size: expr } => {
-            add_name(name, out)?;
-            add_expression(expr, out)
-        }
+        | StmtKind::Alloc { name, size: expr } => add_named(name, expr, out),
         StmtKind::Put {
             block,
             index,
             value,
-        } => {
-            add_name(block, out)?;
-            add_expression(index, out)?;
-            add_expression(value, out)
-        }
+        } => add_put(block, index, value, out),
         StmtKind::Free { name } => add_name(name, out),
         StmtKind::If { cond, then, other } => {
             add_expression(cond, out)?;
@@ -130,10 +159,7 @@ fn add_statement<'a>(kind: &'a StmtKind, out: &mut Vec<&'a [u8]>) -> Result<(), 
             add_expression(cond, out)?;
             add_owned(body, out)
         }
-        StmtKind::Call { target, args, .. } => {
-            add_target(target, out)?;
-            add_arguments(args, out)
-        }
+        StmtKind::Call { target, args, .. } => add_call(target, args, out),
         StmtKind::Print { value } => add_expression(value, out),
         StmtKind::Par { left, right } => {
             add_owned(left, out)?;

@@ -1,10 +1,15 @@
 use std::alloc::{AllocError, Global};
 use std::collections::BTreeSet;
 
-/// A set of names.
-#[derive(Drop)]
+/// A set of names. It is let go by a call, so that the steps of that are proved once, and not at each exit of what owns one.
 pub(crate) struct NameSet<'a> {
     pub(crate) names: BTreeSet<&'a [u8]>,
+}
+
+impl Drop for NameSet<'_> {
+    fn drop(self) {
+        let NameSet { names: _names } = self;
+    }
 }
 
 impl<'a> NameSet<'a> {

@@ -11,8 +11,8 @@ use crate::name_set::{NameSet, is_asked};
 use par_tree::Stmt;
 use std::alloc::{AllocError, Global};
 
-/// A list of statements that was walked once for its names, so that each of many tests is cheap.
-#[derive(Drop)]
+/// A list of statements that was walked once for its names, so that each of many tests is cheap. It is let go by a call, so that the steps of
+/// that are proved once, and not at each exit of what owns one.
 pub struct NamedBody<'a> {
     pub(crate) body: &'a [Stmt],
     asked: Option<NameSet<'a>>,
@@ -20,6 +20,17 @@ pub struct NamedBody<'a> {
     assigned: NameSet<'a>,
     ghost are_named: { (x : List ℕ) → is_asked asked x ≡ true → has named x ≡ names_in_body x (body_tree body.now) },
     ghost are_assigned: { (x : List ℕ) → is_asked asked x ≡ true → has assigned x ≡ assigns_in_body x (body_tree body.now) },
+}
+
+impl Drop for NamedBody<'_> {
+    fn drop(self) {
+        let NamedBody {
+            body: _,
+            asked: _asked,
+            named: _named,
+            assigned: _assigned,
+        } = self;
+    }
 }
 
 /// The names that are asked for, or none where they are more than those that are to be tested for it.
