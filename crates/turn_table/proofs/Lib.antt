@@ -13,3 +13,4 @@ pub mod Standing
 pub mod Resting
 pub mod Alone
 pub mod Returning
+mod Roomy

@@ -7,6 +7,7 @@ use Rattle.turn_table.specs.Values.{present}
 use Rattle.turn_table.proofs.Sits.{in_place}
 use Rattle.turn_table.proofs.Comings.{opens}
 use Rattle.turn_table.proofs.Wraps.{present-some}
+use Rattle.turn_table.proofs.Roomy.{have_room}
 use Rattle.turn_table.proofs.turns.Turns.new.Goals as goal
 
 pub load-requires : goal.load-requires
@@ -32,3 +33,23 @@ returns-in-Ok-new-clause-ok g c = let made = c.in-Ok-new.ensures.ok in (
 
 pub returns-clause-err : goal.returns-clause-err
 returns-clause-err g c = c.unwrap.ensures ∙ ap present (c.in-Err.ensures.err ∙ c.in-Ok-wrap.ensures.ok) ∙ present-some c.args.values.items
+
+pub unwrap-requires : goal.unwrap-requires
+unwrap-requires g c = (
+  c.in-Ok-wrap.ensures.left,
+  have_room c.args.values c.wrap.new.values _
+      (c.in-Err.field-0.slots.ok.0 ∙ ap length (c.in-Err.ensures.err ∙ c.in-Ok-wrap.ensures.ok) ∙ length-map c.args.values.items Some)
+      c.wrap.ensures.room,
+)
+
+pub invariant_of-result-in-Ok-new : goal.invariant_of-result-in-Ok-new
+invariant_of-result-in-Ok-new g c =
+    let made = c.in-Ok-new.ensures.ok in
+    let n = c.in-Ok.ensures.len in
+    let al = c.as_slice.ensures.len in
+    let count = made.1 ∙ ap length c.in-Ok-wrap.ensures.ok ∙ length-map c.args.values.items Some in
+    record {
+      sized = (omega arith, omega arith, omega arith);
+      told = ap (λ o. length o.values.value.items) made.5 ∙ ap (λ v. length v.items) c.of-2.ensures ∙ sym made.1;
+      roomy = (c.in-Ok-wrap.ensures.left, have_room c.args.values c.wrap.new.values _ count c.wrap.ensures.room);
+    }
