@@ -148,3 +148,26 @@ lower_statement-lower_nested-requires-in-Split t c =
     let fits : length (nodes_shown c.args.nodes.items) + body_size (rows_tree c.in-Split.body) ≤ most_nodes = omega (arith, size, room) in
     let smaller : nested_weight (rows_tree c.in-Split.body) < stmt_weight (stmt_tree c.args.kind.now) = omega (arith, size) in
     search rules
+
+pub lower_statement-lower_nested-requires : goal.lower_statement-lower_nested-requires
+lower_statement-lower_nested-requires t c =
+    let functions = functions_of c.args.scope.now in
+    let names = names_of_scope c.args.scope.now in
+    let has : HasBody functions names (rows_tree c.in-If.then) = (subst (λ k. HasStmt functions names (stmt_tree k)) c.in-If.is c.requires.0).1 in
+    let size = ap (λ k. stmt_size (stmt_tree k)) c.in-If.is in
+    let room = c.requires.1 in
+    let fits : length (nodes_shown c.args.nodes.items) + body_size (rows_tree c.in-If.then) ≤ most_nodes = omega (arith, size, room) in
+    let smaller : nested_weight (rows_tree c.in-If.then) < stmt_weight (stmt_tree c.args.kind.now) = omega (arith, size) in
+    search rules
+
+pub lower_statement-lower_nested-requires-in-If : goal.lower_statement-lower_nested-requires-in-If
+lower_statement-lower_nested-requires-in-If t c =
+    let functions = functions_of c.args.scope.now in
+    let names = names_of_scope c.args.scope.now in
+    let has : HasBody functions names (rows_tree c.in-If.other) = (subst (λ k. HasStmt functions names (stmt_tree k)) c.in-If.is c.requires.0).2 in
+    let size = ap (λ k. stmt_size (stmt_tree k)) c.in-If.is in
+    let room = c.requires.1 in
+    let count = c.in_ok-nodes-in-If.ensures.count in
+    let fits : length (nodes_shown c.in_ok-nodes-in-If.nodes.items) + body_size (rows_tree c.in-If.other) ≤ most_nodes = omega (arith, size, room, count) in
+    let smaller : nested_weight (rows_tree c.in-If.other) < stmt_weight (stmt_tree c.args.kind.now) = omega (arith, size) in
+    search rules
