@@ -38,14 +38,14 @@ pub(crate) fn lower_expression(
         }
         Expr::Chain { first, rest } => {
             let first = lower_expression(alloc, names, first)?;
-            let rest = lower_links(alloc, names, rest)?;
             let first = Box::new(alloc, first)?;
+            let rest = lower_links(alloc, names, rest)?;
             Ok(CodeExpr::Chain { first, rest })
         }
         Expr::Cmp { op, left, right } => {
             let left = lower_expression(alloc, names, left)?;
-            let right = lower_expression(alloc, names, right)?;
             let left = Box::new(alloc, left)?;
+            let right = lower_expression(alloc, names, right)?;
             let right = Box::new(alloc, right)?;
             Ok(CodeExpr::Cmp {
                 op: *op,

@@ -10,8 +10,8 @@ use Rattle.frame_code.proofs.Rows.{chain_is}
 use Rattle.node_table.proofs.Lists.{continues_end}
 use Rattle.frame_code.proofs.expressions.+lower_expression.Goals as goal
 
-pub lower_expression-returns-in_ok-first-in-Chain-2 : goal.lower_expression-returns-in_ok-first-in-Chain-2
-lower_expression-returns-in_ok-first-in-Chain-2 t c =
+pub lower_expression-returns-in_ok-rest-in-Chain : goal.lower_expression-returns-in_ok-rest-in-Chain
+lower_expression-returns-in_ok-rest-in-Chain t c =
     let names = names_tree c.args.names.now.names.items in
     let same = ap expr_tree c.in-Chain.is ∙ expr_tree-chain c.in-Chain.first c.in-Chain.rest in
     let first = subst (λ e. IsExpr names (expr_shown e) (expr_tree c.in-Chain.first.value)) (sym c.in_ok-first-in-Chain-2.ensures.ok)
