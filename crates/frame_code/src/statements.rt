@@ -128,8 +128,7 @@ fn call_node(
     Ok(NodeKind::Call { target, func, args })
 }
 
-/// A statement, with what stands inside it behind the nodes. An expression is lowered last, so that no exit lets one go: that takes a step
-/// for each of its forms.
+/// A statement, with what stands inside it behind the nodes.
 #[cycle(lower_statement)]
 fn lower_statement(
     alloc: Global,
@@ -166,14 +165,14 @@ fn lower_statement(
             Ok((nodes, NodeKind::Print { value }))
         }
         StmtKind::If { cond, then, other } => {
+            let cond = lower_expression(alloc, &scope.names, cond)?;
             let (nodes, then) = lower_nested(alloc, scope, nodes, then)?;
             let (nodes, other) = lower_nested(alloc, scope, nodes, other)?;
-            let cond = lower_expression(alloc, &scope.names, cond)?;
             Ok((nodes, NodeKind::If { cond, then, other }))
         }
         StmtKind::While { cond, body } => {
-            let (nodes, body) = lower_nested(alloc, scope, nodes, body)?;
             let cond = lower_expression(alloc, &scope.names, cond)?;
+            let (nodes, body) = lower_nested(alloc, scope, nodes, body)?;
             Ok((nodes, NodeKind::While { cond, body }))
         }
         StmtKind::Par { left, right } => {
@@ -195,8 +194,8 @@ fn lower_statement(
             right,
             body,
         } => {
-            let (nodes, body) = lower_nested(alloc, scope, nodes, body)?;
             let at = lower_expression(alloc, &scope.names, at)?;
+            let (nodes, body) = lower_nested(alloc, scope, nodes, body)?;
             let block = scope.names.slot(block);
             let left = scope.names.slot(left);
             let right = scope.names.slot(right);

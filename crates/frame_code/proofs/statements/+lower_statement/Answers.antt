@@ -71,8 +71,8 @@ lower_nested-returns-clause-table t c =
     let same = ap body_tree c.deref.ensures.value ∙ sym (body_is c.args.body.now) in
     subst (λ (b : Body). IfOk c.lower_list.result (λ r. Grown start (nodes_shown r.0.items) × IsBody (nodes_shown r.0.items) functions names b (length start) r.1.items)) same c.lower_list.ensures.table
 
-pub lower_statement-returns-in_ok-cond-in-If-clause-table : goal.lower_statement-returns-in_ok-cond-in-If-clause-table
-lower_statement-returns-in_ok-cond-in-If-clause-table t c =
+pub lower_statement-returns-in_ok-nodes-in-If-2-clause-table : goal.lower_statement-returns-in_ok-nodes-in-If-2-clause-table
+lower_statement-returns-in_ok-nodes-in-If-2-clause-table t c =
     if_made (functions_of c.args.scope.now) (names_of_scope c.args.scope.now) (nodes_shown c.args.nodes.items) (nodes_shown c.in_ok-nodes-in-If.nodes.items) (nodes_shown c.in_ok-nodes-in-If-2.nodes.items) (stmt_tree c.args.kind.now) (expr_tree c.in-If.cond) (rows_tree c.in-If.then) (rows_tree c.in-If.other) (expr_shown c.in_ok-cond-in-If.cond) c.in_ok-nodes-in-If.then.items c.in_ok-nodes-in-If-2.other.items (ap stmt_tree c.in-If.is) c.in_ok-cond-in-If.ensures c.in_ok-nodes-in-If.ensures.table c.in_ok-nodes-in-If-2.ensures.table
 
 pub lower_statement-returns-in_ok-nodes-in-Par-2-clause-table : goal.lower_statement-returns-in_ok-nodes-in-Par-2-clause-table
