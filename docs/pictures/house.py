@@ -1,10 +1,13 @@
-"""The rooms of the house: what crates.txt says of crates, and a map of them, a band a room and a box a crate."""
+"""The rooms of the house: the crates of crates.txt, what each imports, and a map of them, a band a room and a box a crate."""
 import os
+import sys
 from typing import NamedTuple
 
 from canvas import Canvas
 
 TOP = os.path.normpath(f"{os.path.dirname(os.path.realpath(__file__))}/../..")
+sys.path.insert(0, f"{TOP}/tools")
+import imports
 
 WIDTH, LEFT, RIGHT, HEAD, BOTTOM = 1180, 24, 24, 108, 20
 NAMES, LETTERS = 322, 44
@@ -28,7 +31,7 @@ NOTES = [
 
 
 class Crate(NamedTuple):
-    """A crate, with the crates of the repository or of the kit that it uses."""
+    """A crate, with the crates of the repository that it imports from, directly or through one that hands on."""
 
     name: str
     uses: list
@@ -40,14 +43,14 @@ class Room(NamedTuple):
     crates: list
 
 
-def crate_of(line):
-    head, _, uses = line.partition(":")
-    return Crate(head.split()[0], uses.split())
+def crate_of(line, crates):
+    name = line.partition(":")[0].split()[0]
+    return Crate(name, sorted(crates.uses(name)))
 
 
 def rooms():
     """Returns the rooms of crates.txt, lowest first. Crates before the first room are in a room without a name."""
-    found = [Room("", "", [])]
+    found, crates = [Room("", "", [])], imports.Crates()
     with open(f"{TOP}/crates.txt", encoding="ascii") as file:
         lines = file.read().splitlines()
     for before, line in zip(["", *lines], lines):
@@ -55,7 +58,7 @@ def rooms():
             name, _, what = line[1:].strip().partition(": ")
             found.append(Room(name, what, []))
         elif line and not line.startswith("#"):
-            found[-1].crates.append(crate_of(line))
+            found[-1].crates.append(crate_of(line, crates))
     return [room for room in found if room.name or room.crates]
 
 

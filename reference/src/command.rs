@@ -25,7 +25,7 @@ use crate::words::{read_words, Command};
 use crate::world::Finish;
 use std::fmt::Write;
 
-pub const USAGE: &str = "usage: dfd play|async|run|peak|check|make|trail|verify|loops|expand [options]\n";
+pub const USAGE: &str = "usage: dfd play|run|peak|check|make|async|trail|verify|loops|expand [options]\n";
 pub const READ_FAULT: &str = "read fault\n";
 /// The status of a trail that is refused for another cause than its source.
 const TRAIL_REFUSED: i32 = 11;

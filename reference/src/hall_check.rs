@@ -7,7 +7,7 @@ use crate::depth_first::depth_first;
 use crate::good_trail::Setting;
 use crate::hall::{Answer, End, Hall, Stop, Told, LIST};
 use crate::hall_calls::{Call, Refusal};
-use crate::hall_law::{must, Checked, Law};
+use crate::hall_machine::{must, Checked, Law};
 use crate::hall_seats::{closed, is_in, receipt, seats_stand};
 use crate::machine::{Rules, Stop as RuleStop};
 use crate::random::Random;

@@ -2,7 +2,7 @@
 //! the bound. It is said here of the moments that a hall shows.
 
 use crate::good_trail::{fork_of, Deed, Label, Moment, Setting};
-use crate::hall_law::{must, Checked};
+use crate::hall_machine::{must, Checked};
 use std::cmp::Ordering;
 use std::collections::BTreeSet;
 

@@ -5,7 +5,7 @@ use crate::command::accepted;
 use crate::good_trail::Setting;
 use crate::hall::{Answer, End, Hall, Stop, Told, LIST};
 use crate::hall_calls::{Call, Refusal};
-use crate::hall_law::{Checked, Law};
+use crate::hall_machine::{Checked, Law};
 use crate::hall_seats::{closed, receipt, seats_stand};
 use crate::machine::{Rules, Stop as RuleStop};
 use crate::resolve::resolve;

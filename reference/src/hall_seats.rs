@@ -4,7 +4,7 @@ use crate::hall::{
     lane_slot, Answer, End, Hall, LaneShown, ListShown, Look, Place, Running, Seat, Stop, Told, View, LIST, POOL,
 };
 use crate::hall_calls::{Call, Refusal};
-use crate::hall_law::{must, Checked, Law};
+use crate::hall_machine::{must, Checked, Law};
 use crate::machine::Stop as RuleStop;
 use crate::thread::Next;
 use crate::trail::Kind;

@@ -29,7 +29,7 @@ const HANDED_BACK: &str =
 const MANY_ACTIONS: &str = "fn main() { let i = 0; while i < 999999 { alloc a = 0; free a; alloc b = 0; free b; i = i + 1; } \
      par { } and { } }";
 const HALVES: &str = include_str!("../../examples/halves.dfd");
-const USAGE: &str = "usage: dfd play|async|run|peak|check|make|trail|verify|loops|expand [options]/";
+const USAGE: &str = "usage: dfd play|run|peak|check|make|async|trail|verify|loops|expand [options]/";
 const LARGE_TEXT: &str = "--/end done/periods 7/ahead 2/high 48/";
 /// Each event of the run of `LARGE` by one worker with a quota of 16: worker, period, deque, thread, action, words, prefix, periods ahead,
 /// deques.

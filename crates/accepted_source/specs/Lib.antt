@@ -1,1 +1,4 @@
 pub mod Sources
+pub mod Calls
+pub mod Laws
+pub mod Sizes

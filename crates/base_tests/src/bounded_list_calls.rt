@@ -1,4 +1,4 @@
-use bounded_list::BoundedList;
+use containers::BoundedList;
 use std::test::Fail;
 
 #[test]

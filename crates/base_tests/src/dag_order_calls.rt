@@ -1,4 +1,4 @@
-use bounded_list::BoundedList;
+use containers::BoundedList;
 use dag_order::{Birth, Births, Label, Roster, RosterFail, ThreadId, before, is_in_order};
 use std::alloc::Global;
 use std::process::Abort;

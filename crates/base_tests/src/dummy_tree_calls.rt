@@ -1,4 +1,4 @@
-use dummy_tree::{Quota, Tree, dummies};
+use depth_first_list::{Quota, Tree, dummies};
 
 #[test]
 fn quotas_are_whole_pieces(rt: HostRuntime) {

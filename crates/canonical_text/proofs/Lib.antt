@@ -15,3 +15,10 @@ pub mod Counting
 pub mod Scans
 pub mod Limits
 pub mod ReadBack
+pub mod Openings
+pub mod Weights
+pub mod ParenthesisExpressions
+pub mod ParenthesisStatements
+pub mod ParenthesisFunctions
+pub mod Lexing
+pub mod Parentheses

@@ -1,3 +1,4 @@
 pub mod Canonical
 pub mod Lines
 pub mod Laws
+pub mod ParenthesisLaws

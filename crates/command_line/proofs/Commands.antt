@@ -13,21 +13,21 @@ use Rattle.command_line.specs.declared.numbers.Numbers.{Numbers}
 use Rattle.command_line.specs.declared.setting.Setting.{Setting}
 use Rattle.command_line.specs.declared.setting.Setting.TheVariants.{Quota, Workers, Arena, Steps, Deques, Seed}
 use Rattle.language_limits.specs.declared.TheConstants.{MOST_ACTIONS, MOST_GROUPS}
-use Rattle.command_line.specs.Words.{words_of, kind_word, Item, spelled, values_of, plain_of, wants_groups, most_steps, rule_of, InRange, TellsGroups, Sets, SetsGroups, AllHad, number_of, IsCommand}
+use Rattle.command_line.specs.Arguments.{arguments_of, kind_name, Item, spelled, values_of, plain_of, wants_groups, most_steps, rule_of, InRange, TellsGroups, Sets, SetsGroups, AllHad, number_of, IsCommand}
 use Rattle.command_line.specs.Reading.{slot, or_default, no_numbers, Seen, SeenGroups, MaySet, MaySetGroups, MayFit, GoesOn, NoneGoesOn, AreItems, NoItems, AreRead}
 use Rattle.command_line.proofs.Items.{some_word, goes_on, ArePlain, plain_if_may, plain_if_seen}
 
--- a test of words has told that there are some
-pub some_words : (words : List (String Global)) → false ≡ nat_eq (length words) 0 → words_of words ≢ []
+-- a test of arguments has told that there are some
+pub some_words : (arguments : List (String Global)) → false ≡ nat_eq (length arguments) 0 → arguments_of arguments ≢ []
 some_words [] e none = no e
   where
     no : false ≡ true → ⊥
     no e = cc
-some_words (w ∷ words) e none = omega (arith, ap (λ (l : List (List ℕ)). length l) none)
+some_words (w ∷ arguments) e none = omega (arith, ap (λ (l : List (List ℕ)). length l) none)
 
 -- nothing was read
-pub none_read : (kind : CommandKind) (words : List (List ℕ)) → AreRead kind words words no_numbers
-none_read kind words = record { items = []; written = refl; fit = record { had = tt; seen = none; groups = tt } }
+pub none_read : (kind : CommandKind) (arguments : List (List ℕ)) → AreRead kind arguments arguments no_numbers
+none_read kind arguments = record { items = []; written = refl; fit = record { had = tt; seen = none; groups = tt } }
   where
     none : (s : Setting) → Seen kind s [] (slot no_numbers s)
     none Quota = tt
@@ -39,9 +39,9 @@ none_read kind words = record { items = []; written = refl; fit = record { had =
 
 -- an item more was read
 pub one_read :
-    (kind : CommandKind) (words rest after : List (List ℕ)) (numbers more : Numbers) → AreRead kind words rest numbers →
-    GoesOn kind numbers rest more after → AreRead kind words after more
-one_read kind words rest after numbers more read next = record {
+    (kind : CommandKind) (arguments rest after : List (List ℕ)) (numbers more : Numbers) → AreRead kind arguments rest numbers →
+    GoesOn kind numbers rest more after → AreRead kind arguments after more
+one_read kind arguments rest after numbers more read next = record {
   items = read.items ++ next.item ∷ [];
   written =
       read.written
@@ -54,19 +54,19 @@ one_read kind words rest after numbers more read next = record {
 }
 
 -- what was read to the end
-pub all_read : (kind : CommandKind) (words rest : List (List ℕ)) (numbers : Numbers) → AreRead kind words rest numbers → rest ≡ [] →
-    AreItems kind words numbers
-all_read kind words rest numbers read none = record {
+pub all_read : (kind : CommandKind) (arguments rest : List (List ℕ)) (numbers : Numbers) → AreRead kind arguments rest numbers → rest ≡ [] →
+    AreItems kind arguments numbers
+all_read kind arguments rest numbers read none = record {
   items = read.items;
   written = read.written ∙ ap (λ (l : List (List ℕ)). flat_map spelled read.items ++ l) none ∙ append-nil (flat_map spelled read.items);
   fit = read.fit;
 }
 
--- words with which no command goes on
+-- arguments with which no command goes on
 pub no_items :
-    (kind : CommandKind) (words rest : List (List ℕ)) (numbers : Numbers) → AreRead kind words rest numbers → rest ≢ [] →
-    NoneGoesOn kind numbers rest → NoItems kind words
-no_items kind words rest numbers read some none items e may =
+    (kind : CommandKind) (arguments rest : List (List ℕ)) (numbers : Numbers) → AreRead kind arguments rest numbers → rest ≢ [] →
+    NoneGoesOn kind numbers rest → NoItems kind arguments
+no_items kind arguments rest numbers read some none items e may =
     let wanted = wants_groups kind in
     let more = goes_on read.items items rest (plain_if_seen wanted read.items numbers.groups read.fit.groups)
     (plain_if_may wanted items may.groups) (sym e ∙ read.written) in
@@ -76,22 +76,22 @@ no_items kind words rest numbers read some none items e may =
     by_tail [] are e = some e
     by_tail (t ∷ tail) are e = none read.items tail t read.fit e (subst (λ (l : List Item). MayFit kind l) are may)
 
--- the kinds have different words
+-- the kinds have different arguments
 abbrev kind_of : List ℕ → Option CommandKind
-kind_of word =
-    if bytes_eq word (codes "play") then Some Play
-    else if bytes_eq word (codes "async") then Some Async
-    else if bytes_eq word (codes "run") then Some Run
-    else if bytes_eq word (codes "peak") then Some Peak
-    else if bytes_eq word (codes "check") then Some Check
-    else if bytes_eq word (codes "make") then Some Make
-    else if bytes_eq word (codes "loops") then Some Loops
-    else if bytes_eq word (codes "expand") then Some Expand
-    else if bytes_eq word (codes "trail") then Some Trail
-    else if bytes_eq word (codes "verify") then Some Verify
+kind_of argument =
+    if bytes_eq argument (codes "play") then Some Play
+    else if bytes_eq argument (codes "async") then Some Async
+    else if bytes_eq argument (codes "run") then Some Run
+    else if bytes_eq argument (codes "peak") then Some Peak
+    else if bytes_eq argument (codes "check") then Some Check
+    else if bytes_eq argument (codes "make") then Some Make
+    else if bytes_eq argument (codes "loops") then Some Loops
+    else if bytes_eq argument (codes "expand") then Some Expand
+    else if bytes_eq argument (codes "trail") then Some Trail
+    else if bytes_eq argument (codes "verify") then Some Verify
     else None
 
-kind_back : (kind : CommandKind) → kind_of (kind_word kind) ≡ Some kind
+kind_back : (kind : CommandKind) → kind_of (kind_name kind) ≡ Some kind
 kind_back Play = refl
 kind_back Async = refl
 kind_back Run = refl
@@ -103,7 +103,7 @@ kind_back Expand = refl
 kind_back Trail = refl
 kind_back Verify = refl
 
-kind_one : (a b : CommandKind) → kind_word a ≡ kind_word b → a ≡ b
+kind_one : (a b : CommandKind) → kind_name a ≡ kind_name b → a ≡ b
 kind_one a b e = ap (λ (o : Option CommandKind). unwrap_or o a) (sym (kind_back a) ∙ ap kind_of e ∙ kind_back b)
 
 first_word : (x y : List ℕ) (xs ys : List (List ℕ)) → x ∷ xs ≡ y ∷ ys → x ≡ y
@@ -132,13 +132,13 @@ sets_one kind s (v ∷ []) m n a b = a.2 ∙ sym b.2
 sets_one kind s (v ∷ w ∷ vs) m n a b = absurd a
 
 -- what sets the groups may set them
-may_set_groups : (wanted : Bool) (words : List (List ℕ)) (n : ℕ) → SetsGroups wanted words n → MaySetGroups wanted words
+may_set_groups : (wanted : Bool) (arguments : List (List ℕ)) (n : ℕ) → SetsGroups wanted arguments n → MaySetGroups wanted arguments
 may_set_groups true [] n sets = absurd sets
 may_set_groups true (w ∷ []) n sets =
     (refl, (sets.0, subst (λ (m : ℕ). 1 ≤ m) sets.3 sets.1, subst (λ (m : ℕ). m ≤ MOST_GROUPS) sets.3 sets.2, refl))
-may_set_groups true (w ∷ x ∷ words) n sets = absurd sets
+may_set_groups true (w ∷ x ∷ arguments) n sets = absurd sets
 may_set_groups false [] n sets = tt
-may_set_groups false (w ∷ words) n sets = absurd sets
+may_set_groups false (w ∷ arguments) n sets = absurd sets
 
 none_some : (n : ℕ) → let nothing : Option ℕ = None in nothing ≡ Some n → ⊥
 none_some n e = cc
@@ -147,30 +147,30 @@ none_wanted : false ≡ true → ⊥
 none_wanted e = cc
 
 seen_sets_groups :
-    (wanted : Bool) (words : List (List ℕ)) (o : Option ℕ) (n : ℕ) → SeenGroups wanted words o → (if wanted then o else Some 0) ≡ Some n →
-    SetsGroups wanted words n
+    (wanted : Bool) (arguments : List (List ℕ)) (o : Option ℕ) (n : ℕ) → SeenGroups wanted arguments o → (if wanted then o else Some 0) ≡ Some n →
+    SetsGroups wanted arguments n
 seen_sets_groups true [] None n seen e = absurd (none_some n e)
 seen_sets_groups true [] (Some m) n seen e = absurd seen
 seen_sets_groups true (w ∷ []) None n seen e = absurd seen
 seen_sets_groups true (w ∷ []) (Some m) n seen e = subst (λ (k : ℕ). TellsGroups w k) (ap (λ (o : Option ℕ). unwrap_or o 0) e) seen.1
-seen_sets_groups true (w ∷ x ∷ words) o n seen e = absurd seen
+seen_sets_groups true (w ∷ x ∷ arguments) o n seen e = absurd seen
 seen_sets_groups false [] o n seen e = sym (ap (λ (o : Option ℕ). unwrap_or o 0) e)
 seen_sets_groups false (w ∷ []) None n seen e = absurd seen
 seen_sets_groups false (w ∷ []) (Some m) n seen e = absurd (none_wanted seen.0)
-seen_sets_groups false (w ∷ x ∷ words) o n seen e = absurd seen
+seen_sets_groups false (w ∷ x ∷ arguments) o n seen e = absurd seen
 
-sets_groups_one : (wanted : Bool) (words : List (List ℕ)) (m n : ℕ) → SetsGroups wanted words m → SetsGroups wanted words n → m ≡ n
+sets_groups_one : (wanted : Bool) (arguments : List (List ℕ)) (m n : ℕ) → SetsGroups wanted arguments m → SetsGroups wanted arguments n → m ≡ n
 sets_groups_one true [] m n a b = absurd a
 sets_groups_one true (w ∷ []) m n a b = a.3 ∙ sym b.3
-sets_groups_one true (w ∷ x ∷ words) m n a b = absurd a
+sets_groups_one true (w ∷ x ∷ arguments) m n a b = absurd a
 sets_groups_one false [] m n a b = a ∙ sym b
-sets_groups_one false (w ∷ words) m n a b = absurd a
+sets_groups_one false (w ∷ arguments) m n a b = absurd a
 
--- the words of a command begin with its word, and the others are its items
+-- the arguments of a command begin with its argument, and the others are its items
 pub no_command :
-    (words rest : List (List ℕ)) (word : List ℕ) (kind : CommandKind) → words ≡ word ∷ rest → word ≡ kind_word kind → NoItems kind rest →
-    (command : Command) → ¬ IsCommand words command
-no_command words rest word kind are is none command c =
+    (arguments rest : List (List ℕ)) (argument : List ℕ) (kind : CommandKind) → arguments ≡ argument ∷ rest → argument ≡ kind_name kind → NoItems kind rest →
+    (command : Command) → ¬ IsCommand arguments command
+no_command arguments rest argument kind are is none command c =
     let e = sym are ∙ c.written in
     let same : kind ≡ command.kind = kind_one kind command.kind (sym is ∙ first_word _ _ _ _ e) in
     none c.items (other_words _ _ _ _ e)
@@ -183,26 +183,26 @@ no_command words rest word kind are is none command c =
     })
 
 pub no_kind :
-    (words rest : List (List ℕ)) (word : List ℕ) → words ≡ word ∷ rest → ((kind : CommandKind) → ¬ (word ≡ kind_word kind)) →
-    (command : Command) → ¬ IsCommand words command
-no_kind words rest word are none command c = none command.kind (first_word _ _ _ _ (sym are ∙ c.written))
+    (arguments rest : List (List ℕ)) (argument : List ℕ) → arguments ≡ argument ∷ rest → ((kind : CommandKind) → ¬ (argument ≡ kind_name kind)) →
+    (command : Command) → ¬ IsCommand arguments command
+no_kind arguments rest argument are none command c = none command.kind (first_word _ _ _ _ (sym are ∙ c.written))
 
-pub no_word : (words : List (List ℕ)) → words ≡ [] → (command : Command) → ¬ IsCommand words command
-no_word words none command c = omega (arith, ap (λ (l : List (List ℕ)). length l) (sym none ∙ c.written))
+pub no_word : (arguments : List (List ℕ)) → arguments ≡ [] → (command : Command) → ¬ IsCommand arguments command
+no_word arguments none command c = omega (arith, ap (λ (l : List (List ℕ)). length l) (sym none ∙ c.written))
 
 pub a_command :
-    (words rest : List (List ℕ)) (word : List ℕ) (command : Command) (numbers : Numbers) → words ≡ word ∷ rest →
-    word ≡ kind_word command.kind → AreItems command.kind rest numbers → command.k ≡ or_default command.kind Quota numbers.quota →
+    (arguments rest : List (List ℕ)) (argument : List ℕ) (command : Command) (numbers : Numbers) → arguments ≡ argument ∷ rest →
+    argument ≡ kind_name command.kind → AreItems command.kind rest numbers → command.k ≡ or_default command.kind Quota numbers.quota →
     command.p ≡ or_default command.kind Workers numbers.workers → command.arena ≡ or_default command.kind Arena numbers.arena →
     command.steps ≡ or_default command.kind Steps numbers.steps → command.deques ≡ or_default command.kind Deques numbers.deques →
     command.seed ≡ or_default command.kind Seed numbers.seed →
-    (if wants_groups command.kind then numbers.groups else Some 0) ≡ Some command.groups → IsCommand words command
-a_command words rest word command numbers are is read k p arena steps deques seed groups = record {
+    (if wants_groups command.kind then numbers.groups else Some 0) ≡ Some command.groups → IsCommand arguments command
+a_command arguments rest argument command numbers are is read k p arena steps deques seed groups = record {
   items = read.items;
   written =
       are
       ∙ ap (λ (w : List ℕ). w ∷ rest) is
-      ∙ ap (λ (l : List (List ℕ)). kind_word command.kind ∷ l) read.written;
+      ∙ ap (λ (l : List (List ℕ)). kind_name command.kind ∷ l) read.written;
   had = read.fit.had;
   sets = λ s. subst (λ (n : ℕ). Sets command.kind s (values_of s read.items) n) (sym (number s))
       (seen_sets command.kind s (values_of s read.items) (slot numbers s) (read.fit.seen s));
@@ -247,17 +247,17 @@ few_steps Verify = omega arith
 
 -- the number of an option is one that it may have
 pub in_range :
-    (kind : CommandKind) (words : List (List ℕ)) (numbers : Numbers) (s : Setting) → AreItems kind words numbers →
+    (kind : CommandKind) (arguments : List (List ℕ)) (numbers : Numbers) (s : Setting) → AreItems kind arguments numbers →
     InRange kind s (or_default kind s (slot numbers s))
-in_range kind words numbers s read =
+in_range kind arguments numbers s read =
     sets_in_range kind s (values_of s read.items) (or_default kind s (slot numbers s))
     (seen_sets kind s (values_of s read.items) (slot numbers s) (read.fit.seen s))
 
 -- the groups of a command that wants some
 pub groups_in_range :
-    (words : List (List ℕ)) (command : Command) → IsCommand words command → wants_groups command.kind ≡ true →
+    (arguments : List (List ℕ)) (command : Command) → IsCommand arguments command → wants_groups command.kind ≡ true →
     (1 ≤ command.groups) × (command.groups ≤ MOST_GROUPS)
-groups_in_range words command c wants =
+groups_in_range arguments command c wants =
     by_words (plain_of c.items) (subst (λ (wanted : Bool). SetsGroups wanted (plain_of c.items) command.groups) wants c.groups)
   where
     by_words : (plain_words : List (List ℕ)) → SetsGroups true plain_words command.groups →
@@ -267,8 +267,8 @@ groups_in_range words command c wants =
     by_words (w ∷ x ∷ plain_words) sets = absurd sets
 
 -- the items of a command are read in one way
-plain_in_command : (words : List (List ℕ)) (command : Command) (c : IsCommand words command) → ArePlain c.items
-plain_in_command words command c =
+plain_in_command : (arguments : List (List ℕ)) (command : Command) (c : IsCommand arguments command) → ArePlain c.items
+plain_in_command arguments command c =
     plain_if_may (wants_groups command.kind) c.items
     (may_set_groups (wants_groups command.kind) (plain_of c.items) command.groups c.groups)
 
@@ -283,15 +283,15 @@ same_items xs ys p q e =
 
 -- the number of groups is missing
 pub no_groups :
-    (words rest : List (List ℕ)) (word : List ℕ) (kind : CommandKind) (numbers : Numbers) → words ≡ word ∷ rest → word ≡ kind_word kind →
+    (arguments rest : List (List ℕ)) (argument : List ℕ) (kind : CommandKind) (numbers : Numbers) → arguments ≡ argument ∷ rest → argument ≡ kind_name kind →
     AreItems kind rest numbers → (if wants_groups kind then numbers.groups else Some 0) ≡ None → (command : Command) →
-    ¬ IsCommand words command
-no_groups words rest word kind numbers are is read missing command c =
+    ¬ IsCommand arguments command
+no_groups arguments rest argument kind numbers are is read missing command c =
     let e = sym are ∙ c.written in
     let kinds : kind ≡ command.kind = kind_one kind command.kind (sym is ∙ first_word _ _ _ _ e) in
     let items : c.items ≡ read.items =
     same_items read.items c.items (plain_if_seen (wants_groups kind) read.items numbers.groups read.fit.groups)
-    (plain_in_command words command c) (sym (other_words _ _ _ _ e) ∙ read.written) in
+    (plain_in_command arguments command c) (sym (other_words _ _ _ _ e) ∙ read.written) in
     let sets : SetsGroups (wants_groups kind) (plain_of read.items) command.groups =
     subst (λ (k : CommandKind). SetsGroups (wants_groups k) (plain_of read.items) command.groups) (sym kinds)
     (subst (λ (l : List Item). SetsGroups (wants_groups command.kind) (plain_of l) command.groups) items c.groups) in
@@ -306,13 +306,13 @@ no_groups words rest word kind numbers are is read missing command c =
     none true (w ∷ x ∷ plain_words) o missing seen sets = sets
     none false plain_words o missing seen sets = none_some 0 (sym missing)
 
--- words are at most one command
-pub one_command : (words : List (List ℕ)) (a b : Command) → IsCommand words a → IsCommand words b → b ≡ a
-one_command words a b is_a is_b =
+-- arguments are at most one command
+pub one_command : (arguments : List (List ℕ)) (a b : Command) → IsCommand arguments a → IsCommand arguments b → b ≡ a
+one_command arguments a b is_a is_b =
     let e = sym is_b.written ∙ is_a.written in
     let kinds : b.kind ≡ a.kind = kind_one b.kind a.kind (first_word _ _ _ _ e) in
     let items : is_b.items ≡ is_a.items =
-    same_items is_a.items is_b.items (plain_in_command words a is_a) (plain_in_command words b is_b) (other_words _ _ _ _ e) in
+    same_items is_a.items is_b.items (plain_in_command arguments a is_a) (plain_in_command arguments b is_b) (other_words _ _ _ _ e) in
     let same : (s : Setting) → number_of b s ≡ number_of a s =
     λ s. sets_one a.kind s (values_of s is_a.items) (number_of b s) (number_of a s)
     (subst (λ (k : CommandKind). Sets k s (values_of s is_a.items) (number_of b s)) kinds

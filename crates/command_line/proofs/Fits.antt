@@ -8,7 +8,7 @@ use Rattle.command_line.specs.declared.command_kind.CommandKind.{CommandKind}
 use Rattle.command_line.specs.declared.numbers.Numbers.{Numbers}
 use Rattle.command_line.specs.declared.setting.Setting.{Setting}
 use Rattle.command_line.specs.declared.setting.Setting.TheVariants.{Quota, Workers, Arena, Steps, Deques, Seed}
-use Rattle.command_line.specs.Words.{Item, option, plain, name_of, has, wants_groups, is_same, values_of, plain_of, Gives, TellsGroups, AllHad}
+use Rattle.command_line.specs.Arguments.{Item, option, plain, name_of, has, wants_groups, is_same, values_of, plain_of, Gives, TellsGroups, AllHad}
 use Rattle.command_line.specs.Reading.{slot, IsWith, Seen, SeenGroups, MaySet, MaySetGroups, MayFit, MoreFit, NoneFit, MoreTell, NoneTell}
 use Rattle.command_line.proofs.Items.{name_one}
 
@@ -135,52 +135,52 @@ one_more kind numbers after s v n had fresh gives is kept items joined fit = rec
     same_words : plain_of (items ++ option s v joined ∷ []) ≡ plain_of items
     same_words = plain_of-append items (option s v joined ∷ []) ∙ append-nil (plain_of items)
 
--- a plain word among others is the only one
-only_word :
-    (wanted : Bool) (words more : List (List ℕ)) (word : List ℕ) → MaySetGroups wanted (words ++ word ∷ more) →
-    (words ≡ []) × (wanted ≡ true) × TellsGroups word (digits_value 10 word)
-only_word wanted [] [] word may = (refl, may.0, may.1)
-only_word wanted [] (x ∷ more) word may = absurd may
-only_word wanted (w ∷ []) more word may = absurd may
-only_word wanted (w ∷ x ∷ words) more word may = absurd may
+-- a plain argument among others is the only one
+only_argument :
+    (wanted : Bool) (arguments more : List (List ℕ)) (argument : List ℕ) → MaySetGroups wanted (arguments ++ argument ∷ more) →
+    (arguments ≡ []) × (wanted ≡ true) × TellsGroups argument (digits_value 10 argument)
+only_argument wanted [] [] argument may = (refl, may.0, may.1)
+only_argument wanted [] (x ∷ more) argument may = absurd may
+only_argument wanted (w ∷ []) more argument may = absurd may
+only_argument wanted (w ∷ x ∷ arguments) more argument may = absurd may
 
 pub only_plain :
-    (kind : CommandKind) (items more : List Item) (word : List ℕ) → MayFit kind (items ++ plain word ∷ more) →
-    (plain_of items ≡ []) × (wants_groups kind ≡ true) × TellsGroups word (digits_value 10 word)
-only_plain kind items more word may =
-    only_word (wants_groups kind) (plain_of items) (plain_of more) word
-    (subst (λ (l : List (List ℕ)). MaySetGroups (wants_groups kind) l) (plain_of-append items (plain word ∷ more)) may.groups)
+    (kind : CommandKind) (items more : List Item) (argument : List ℕ) → MayFit kind (items ++ plain argument ∷ more) →
+    (plain_of items ≡ []) × (wants_groups kind ≡ true) × TellsGroups argument (digits_value 10 argument)
+only_plain kind items more argument may =
+    only_argument (wants_groups kind) (plain_of items) (plain_of more) argument
+    (subst (λ (l : List (List ℕ)). MaySetGroups (wants_groups kind) l) (plain_of-append items (plain argument ∷ more)) may.groups)
 
 -- the command wants no groups
-pub not_wanted : (kind : CommandKind) (numbers : Numbers) (word : List ℕ) → wants_groups kind ≡ false → NoneTell kind numbers word
-not_wanted kind numbers word none items more fit may = no (sym none ∙ (only_plain kind items more word may).1)
+pub not_wanted : (kind : CommandKind) (numbers : Numbers) (argument : List ℕ) → wants_groups kind ≡ false → NoneTell kind numbers argument
+not_wanted kind numbers argument none items more fit may = no (sym none ∙ (only_plain kind items more argument may).1)
   where
     no : false ≡ true → ⊥
     no e = cc
 
 -- the groups were told before
-pub told_twice : (kind : CommandKind) (numbers : Numbers) (word : List ℕ) → is_some numbers.groups ≡ true → NoneTell kind numbers word
-told_twice kind numbers word told items more fit may =
+pub told_twice : (kind : CommandKind) (numbers : Numbers) (argument : List ℕ) → is_some numbers.groups ≡ true → NoneTell kind numbers argument
+told_twice kind numbers argument told items more fit may =
     by_groups numbers.groups told
-    (subst (λ (l : List (List ℕ)). SeenGroups (wants_groups kind) l numbers.groups) (only_plain kind items more word may).0 fit.groups)
+    (subst (λ (l : List (List ℕ)). SeenGroups (wants_groups kind) l numbers.groups) (only_plain kind items more argument may).0 fit.groups)
   where
     by_groups : (o : Option ℕ) → is_some o ≡ true → SeenGroups (wants_groups kind) [] o → ⊥
     by_groups None told seen = cc
     by_groups (Some n) told seen = seen
 
--- the word tells none
-pub not_told : (kind : CommandKind) (numbers : Numbers) (word : List ℕ) → ((n : ℕ) → ¬ TellsGroups word n) → NoneTell kind numbers word
-not_told kind numbers word none items more fit may = none (digits_value 10 word) (only_plain kind items more word may).2
+-- the argument tells none
+pub not_told : (kind : CommandKind) (numbers : Numbers) (argument : List ℕ) → ((n : ℕ) → ¬ TellsGroups argument n) → NoneTell kind numbers argument
+not_told kind numbers argument none items more fit may = none (digits_value 10 argument) (only_plain kind items more argument may).2
 
 -- the groups were not told, and are told now
 pub groups_told :
-    (kind : CommandKind) (numbers : Numbers) (word : List ℕ) (n : ℕ) → wants_groups kind ≡ true → is_some numbers.groups ≡ false →
-    TellsGroups word n → MoreTell kind numbers word (record numbers { groups = Some n })
-groups_told kind numbers word n wanted fresh tells items fit = record {
-  had = had_both kind items (plain word ∷ []) fit.had tt;
-  seen = λ t. subst (λ (o : Option ℕ). Seen kind t (values_of t (items ++ plain word ∷ [])) o) (sym (same_slot t))
+    (kind : CommandKind) (numbers : Numbers) (argument : List ℕ) (n : ℕ) → wants_groups kind ≡ true → is_some numbers.groups ≡ false →
+    TellsGroups argument n → MoreTell kind numbers argument (record numbers { groups = Some n })
+groups_told kind numbers argument n wanted fresh tells items fit = record {
+  had = had_both kind items (plain argument ∷ []) fit.had tt;
+  seen = λ t. subst (λ (o : Option ℕ). Seen kind t (values_of t (items ++ plain argument ∷ [])) o) (sym (same_slot t))
       (subst (λ (l : List (List ℕ)). Seen kind t l (slot numbers t)) (sym (same_values t)) (fit.seen t));
-  groups = subst (λ (l : List (List ℕ)). SeenGroups (wants_groups kind) l (Some n)) (sym (plain_of-append items (plain word ∷ [])))
+  groups = subst (λ (l : List (List ℕ)). SeenGroups (wants_groups kind) l (Some n)) (sym (plain_of-append items (plain argument ∷ [])))
       (fill (plain_of items)
       (subst (λ (o : Option ℕ). SeenGroups (wants_groups kind) (plain_of items) o) (not_some numbers.groups fresh) fit.groups));
 }
@@ -193,11 +193,11 @@ groups_told kind numbers word n wanted fresh tells items fit = record {
     same_slot Deques = refl
     same_slot Seed = refl
 
-    same_values : (t : Setting) → values_of t (items ++ plain word ∷ []) ≡ values_of t items
-    same_values t = values_of-append t items (plain word ∷ []) ∙ append-nil (values_of t items)
+    same_values : (t : Setting) → values_of t (items ++ plain argument ∷ []) ≡ values_of t items
+    same_values t = values_of-append t items (plain argument ∷ []) ∙ append-nil (values_of t items)
 
-    fill : (words : List (List ℕ)) → SeenGroups (wants_groups kind) words None →
-        SeenGroups (wants_groups kind) (words ++ word ∷ []) (Some n)
+    fill : (arguments : List (List ℕ)) → SeenGroups (wants_groups kind) arguments None →
+        SeenGroups (wants_groups kind) (arguments ++ argument ∷ []) (Some n)
     fill [] seen = (wanted, tells)
     fill (w ∷ []) seen = absurd seen
-    fill (w ∷ x ∷ words) seen = absurd seen
+    fill (w ∷ x ∷ arguments) seen = absurd seen

@@ -1,4 +1,4 @@
--- The words of items are read in one way.
+-- The arguments of items are read in one way.
 use Rattle.std.proofs.Common.{◌≡◌, ℕ, Bool, true, false, List, [], ◌∷◌, ◌++◌, length, get_or, drop, append_assoc, ap, sym, ◌∙◌, refl, subst, arith}
 use Rattle.std.specs.Prelude.{codes, Option, Some, None, unwrap_or, if◌then◌else◌}
 use Rattle.std.specs.List.{flat_map}
@@ -10,7 +10,7 @@ use Rattle.byte_cuts.specs.Lacks.{Lacks}
 use Rattle.byte_cuts.proofs.Cuts.{cut_once, not_cut, lacks_from}
 use Rattle.command_line.specs.declared.setting.Setting.{Setting}
 use Rattle.command_line.specs.declared.setting.Setting.TheVariants.{Quota, Workers, Arena, Steps, Deques, Seed}
-use Rattle.command_line.specs.Words.{words_of, name_of, Item, option, plain, spelled, plain_of, IsValue}
+use Rattle.command_line.specs.Arguments.{arguments_of, name_of, Item, option, plain, spelled, plain_of, IsValue}
 use Rattle.command_line.specs.Reading.{SeenGroups, MaySetGroups, NoOption}
 
 -- a name has no `=`
@@ -53,7 +53,7 @@ first_of_them x y xs ys e = ap (λ (l : List (List ℕ)). get_or l 0 []) e
 pub others_of_them : (x y : List ℕ) (xs ys : List (List ℕ)) → x ∷ xs ≡ y ∷ ys → xs ≡ ys
 others_of_them x y xs ys e = ap (λ (l : List (List ℕ)). drop 1 l) e
 
--- one option is spelled by the front of some words
+-- one option is spelled by the front of some arguments
 pub one_option :
     (s t : Setting) (v w : List ℕ) (b d : Bool) (ps qs : List (List ℕ)) → spelled (option s v b) ++ ps ≡ spelled (option t w d) ++ qs →
     (option s v b ≡ option t w d) × (ps ≡ qs)
@@ -75,58 +75,58 @@ one_option s t v w false false ps qs e =
 
 -- an option begins with `--`
 pub dashed :
-    (s : Setting) (v : List ℕ) (b : Bool) (word : List ℕ) (rest more : List (List ℕ)) → word ∷ rest ≡ spelled (option s v b) ++ more →
-    (body : List ℕ) × (word ≡ codes "--" ++ body)
-dashed s v true word rest more e = (name_of s ++ (codes "=" ++ v), first_of_them _ _ _ _ e)
-dashed s v false word rest more e = (name_of s, first_of_them _ _ _ _ e)
+    (s : Setting) (v : List ℕ) (b : Bool) (argument : List ℕ) (rest more : List (List ℕ)) → argument ∷ rest ≡ spelled (option s v b) ++ more →
+    (body : List ℕ) × (argument ≡ codes "--" ++ body)
+dashed s v true argument rest more e = (name_of s ++ (codes "=" ++ v), first_of_them _ _ _ _ e)
+dashed s v false argument rest more e = (name_of s, first_of_them _ _ _ _ e)
 
--- the word does not begin so
+-- the argument does not begin so
 abbrev pub NotDashed : List ℕ → Type 0
-NotDashed word = (body : List ℕ) → ¬ (word ≡ codes "--" ++ body)
+NotDashed argument = (body : List ℕ) → ¬ (argument ≡ codes "--" ++ body)
 
--- no plain word among the items does
+-- no plain argument among the items does
 abbrev pub ArePlain : List Item → Type 0
 ArePlain [] = Unit {0}
 ArePlain (option s v joined ∷ items) = ArePlain items
-ArePlain (plain word ∷ items) = NotDashed word × ArePlain items
+ArePlain (plain argument ∷ items) = NotDashed argument × ArePlain items
 
 -- a value does not
-pub value_not_dashed : (word : List ℕ) → IsValue word → NotDashed word
-value_not_dashed word is body e =
+pub value_not_dashed : (argument : List ℕ) → IsValue argument → NotDashed argument
+value_not_dashed argument is body e =
     let digits : IsValue (45 ∷ 45 ∷ body) = subst (λ (w : List ℕ). IsValue w) e is in
     omega (arith, digits.0.1.0)
 
 abbrev AreValues : List (List ℕ) → Type 0
 AreValues [] = Unit {0}
-AreValues (word ∷ words) = IsValue word × AreValues words
+AreValues (argument ∷ arguments) = IsValue argument × AreValues arguments
 
 plain_from : (items : List Item) → AreValues (plain_of items) → ArePlain items
 plain_from [] values = tt
 plain_from (option s v joined ∷ items) values = plain_from items values
-plain_from (plain word ∷ items) values = (value_not_dashed word values.0, plain_from items values.1)
+plain_from (plain argument ∷ items) values = (value_not_dashed argument values.0, plain_from items values.1)
 
 pub plain_if_may : (wanted : Bool) (items : List Item) → MaySetGroups wanted (plain_of items) → ArePlain items
 plain_if_may wanted items may = plain_from items (values (plain_of items) may)
   where
-    values : (words : List (List ℕ)) → MaySetGroups wanted words → AreValues words
+    values : (arguments : List (List ℕ)) → MaySetGroups wanted arguments → AreValues arguments
     values [] may = tt
     values (w ∷ []) may = (may.1.0, tt)
-    values (w ∷ x ∷ words) may = absurd may
+    values (w ∷ x ∷ arguments) may = absurd may
 
 pub plain_if_seen : (wanted : Bool) (items : List Item) (o : Option ℕ) → SeenGroups wanted (plain_of items) o → ArePlain items
 plain_if_seen wanted items o seen = plain_from items (values (plain_of items) o seen)
   where
-    values : (words : List (List ℕ)) (o : Option ℕ) → SeenGroups wanted words o → AreValues words
+    values : (arguments : List (List ℕ)) (o : Option ℕ) → SeenGroups wanted arguments o → AreValues arguments
     values [] o seen = tt
     values (w ∷ []) None seen = absurd seen
     values (w ∷ []) (Some n) seen = (seen.1.0, tt)
-    values (w ∷ x ∷ words) o seen = absurd seen
+    values (w ∷ x ∷ arguments) o seen = absurd seen
 
--- each item has a word
+-- each item has an argument
 pub some_word : (item : Item) (more : List (List ℕ)) → ¬ ([] ≡ spelled item ++ more)
 some_word (option s v true) more e = omega (arith, ap (λ (l : List (List ℕ)). length l) e)
 some_word (option s v false) more e = omega (arith, ap (λ (l : List (List ℕ)). length l) e)
-some_word (plain word) more e = omega (arith, ap (λ (l : List (List ℕ)). length l) e)
+some_word (plain argument) more e = omega (arith, ap (λ (l : List (List ℕ)). length l) e)
 
 -- items that begin as others do go on where those end
 pub goes_on :
@@ -154,17 +154,17 @@ goes_on (plain u ∷ begun) (plain x ∷ items) rest p q e =
       (ap (λ (w : List ℕ). plain w ∷ items) (first_of_them _ _ _ _ e) ∙ ap (λ (xs : List Item). plain u ∷ xs) more.1.0, more.1.1),
     )
 
--- a word with `=` whose name is none of an option's
+-- an argument with `=` whose name is none of an option's
 pub no_named :
-    (words rest : List (String Global)) (word : String Global) (bytes body name value : List ℕ) → words ≡ word ∷ rest →
-    bytes ≡ string_bytes word → bytes ≡ codes "--" ++ body → body ≡ name ++ 61 ∷ value → Lacks 61 name →
-    ((s : Setting) → ¬ (name ≡ name_of s)) → NoOption (words_of words)
-no_named words rest word bytes body name value are is begins cut lacks none t v joined more e = by_form t v joined (sym whole ∙ e)
+    (arguments rest : List (String Global)) (argument : String Global) (bytes body name value : List ℕ) → arguments ≡ argument ∷ rest →
+    bytes ≡ string_bytes argument → bytes ≡ codes "--" ++ body → body ≡ name ++ 61 ∷ value → Lacks 61 name →
+    ((s : Setting) → ¬ (name ≡ name_of s)) → NoOption (arguments_of arguments)
+no_named arguments rest argument bytes body name value are is begins cut lacks none t v joined more e = by_form t v joined (sym whole ∙ e)
   where
-    whole : words_of words ≡ (45 ∷ 45 ∷ (name ++ 61 ∷ value)) ∷ words_of rest
-    whole = ap words_of are ∙ ap (λ (b : List ℕ). b ∷ words_of rest) (sym is ∙ begins ∙ ap (λ (b : List ℕ). 45 ∷ 45 ∷ b) cut)
+    whole : arguments_of arguments ≡ (45 ∷ 45 ∷ (name ++ 61 ∷ value)) ∷ arguments_of rest
+    whole = ap arguments_of are ∙ ap (λ (b : List ℕ). b ∷ arguments_of rest) (sym is ∙ begins ∙ ap (λ (b : List ℕ). 45 ∷ 45 ∷ b) cut)
 
-    by_form : (s : Setting) (v : List ℕ) (b : Bool) → (45 ∷ 45 ∷ (name ++ 61 ∷ value)) ∷ words_of rest ≡ spelled (option s v b) ++ more → ⊥
+    by_form : (s : Setting) (v : List ℕ) (b : Bool) → (45 ∷ 45 ∷ (name ++ 61 ∷ value)) ∷ arguments_of rest ≡ spelled (option s v b) ++ more → ⊥
     by_form s v true e =
         none s (cut_once 61 name (name_of s) value v lacks (name_lacks s) (body_of _ _ (first_of_them _ _ _ _ e))).0
     by_form s v false e =

@@ -1,4 +1,4 @@
--- What the reading of the words finds on the way.
+-- What the reading of the arguments finds on the way.
 use Rattle.std.specs.Prelude.{◌≡◌, ℕ, Bool, true, if◌then◌else◌, List, [], ◌∷◌, ◌++◌, Option, None, Some, unwrap_or}
 use Rattle.std.specs.List.{flat_map}
 use Rattle.std.specs.Str.Parse.{digits_value}
@@ -6,15 +6,15 @@ use Rattle.command_line.specs.declared.command_kind.CommandKind.{CommandKind}
 use Rattle.command_line.specs.declared.numbers.Numbers.{Numbers}
 use Rattle.command_line.specs.declared.setting.Setting.{Setting}
 use Rattle.command_line.specs.declared.setting.Setting.TheVariants.{Quota, Workers, Arena, Steps, Deques, Seed}
-use Rattle.command_line.specs.Words.{Item, option, plain, spelled, is_same, values_of, plain_of, rule_of, Gives, TellsGroups, wants_groups, AllHad}
+use Rattle.command_line.specs.Arguments.{Item, option, plain, spelled, is_same, values_of, plain_of, rule_of, Gives, TellsGroups, wants_groups, AllHad}
 
--- the words do not begin with an option
+-- the arguments do not begin with an option
 abbrev pub NoOption : List (List ℕ) → Type 0
-NoOption words = (s : Setting) (v : List ℕ) (joined : Bool) (more : List (List ℕ)) → ¬ (words ≡ spelled (option s v joined) ++ more)
+NoOption arguments = (s : Setting) (v : List ℕ) (joined : Bool) (more : List (List ℕ)) → ¬ (arguments ≡ spelled (option s v joined) ++ more)
 
--- the words begin with an option and its value, in one word or in two, and go on with others
+-- the arguments begin with an option and its value, in one argument or in two, and go on with others
 abbrev pub IsNext : List (List ℕ) → Setting → List ℕ → List (List ℕ) → Type 0
-IsNext words s v more = (joined : Bool) × (words ≡ spelled (option s v joined) ++ more)
+IsNext arguments s v more = (joined : Bool) × (arguments ≡ spelled (option s v joined) ++ more)
 
 -- the number that was given to an option
 abbrev pub slot : Numbers → Setting → Option ℕ
@@ -49,9 +49,9 @@ Seen kind s (value ∷ again ∷ values) o = ⊥
 abbrev pub SeenGroups : (wanted : Bool) → List (List ℕ) → Option ℕ → Type 0
 SeenGroups wanted [] None = Unit {0}
 SeenGroups wanted [] (Some n) = ⊥
-SeenGroups wanted (word ∷ []) None = ⊥
-SeenGroups wanted (word ∷ []) (Some n) = (wanted ≡ true) × TellsGroups word n
-SeenGroups wanted (word ∷ again ∷ words) o = ⊥
+SeenGroups wanted (argument ∷ []) None = ⊥
+SeenGroups wanted (argument ∷ []) (Some n) = (wanted ≡ true) × TellsGroups argument n
+SeenGroups wanted (argument ∷ again ∷ arguments) o = ⊥
 
 -- the values of an option may be those of a command
 abbrev pub MaySet : CommandKind → Setting → List (List ℕ) → Type 0
@@ -62,8 +62,8 @@ MaySet kind s (value ∷ again ∷ values) = ⊥
 -- the plain words may be those of a command
 abbrev pub MaySetGroups : (wanted : Bool) → List (List ℕ) → Type 0
 MaySetGroups wanted [] = Unit {0}
-MaySetGroups wanted (word ∷ []) = (wanted ≡ true) × TellsGroups word (digits_value 10 word)
-MaySetGroups wanted (word ∷ again ∷ words) = ⊥
+MaySetGroups wanted (argument ∷ []) = (wanted ≡ true) × TellsGroups argument (digits_value 10 argument)
+MaySetGroups wanted (argument ∷ again ∷ arguments) = ⊥
 
 -- the items give these numbers to a command
 pub record Fit (kind : CommandKind) (items : List Item) (numbers : Numbers) : Type 0 where
@@ -87,38 +87,38 @@ abbrev pub NoneFit : CommandKind → Numbers → Setting → List ℕ → Type 0
 NoneFit kind before s v =
     (items more : List Item) (joined : Bool) → Fit kind items before → ¬ MayFit kind (items ++ option s v joined ∷ more)
 
--- with one plain word more the numbers are these
+-- with one plain argument more the numbers are these
 abbrev pub MoreTell : CommandKind → Numbers → List ℕ → Numbers → Type 0
-MoreTell kind before word after = (items : List Item) → Fit kind items before → Fit kind (items ++ plain word ∷ []) after
+MoreTell kind before argument after = (items : List Item) → Fit kind items before → Fit kind (items ++ plain argument ∷ []) after
 
--- no command has one plain word more, and further items
+-- no command has one plain argument more, and further items
 abbrev pub NoneTell : CommandKind → Numbers → List ℕ → Type 0
-NoneTell kind before word = (items more : List Item) → Fit kind items before → ¬ MayFit kind (items ++ plain word ∷ more)
+NoneTell kind before argument = (items more : List Item) → Fit kind items before → ¬ MayFit kind (items ++ plain argument ∷ more)
 
--- the words begin with an item, with which the numbers are these, and go on with the rest
-pub record GoesOn (kind : CommandKind) (before : Numbers) (words : List (List ℕ)) (after : Numbers) (rest : List (List ℕ)) : Type 0 where
+-- the arguments begin with an item, with which the numbers are these, and go on with the rest
+pub record GoesOn (kind : CommandKind) (before : Numbers) (arguments : List (List ℕ)) (after : Numbers) (rest : List (List ℕ)) : Type 0 where
   pub item : Item
-  pub written : words ≡ spelled item ++ rest
+  pub written : arguments ≡ spelled item ++ rest
   pub fit : (items : List Item) → Fit kind items before → Fit kind (items ++ item ∷ []) after
 
--- no command goes on with these words
+-- no command goes on with these arguments
 abbrev pub NoneGoesOn : CommandKind → Numbers → List (List ℕ) → Type 0
-NoneGoesOn kind before words =
-    (items more : List Item) (item : Item) → Fit kind items before → words ≡ spelled item ++ flat_map spelled more →
+NoneGoesOn kind before arguments =
+    (items more : List Item) (item : Item) → Fit kind items before → arguments ≡ spelled item ++ flat_map spelled more →
     ¬ MayFit kind (items ++ item ∷ more)
 
--- the words are items of a command with these numbers
-pub record AreItems (kind : CommandKind) (words : List (List ℕ)) (numbers : Numbers) : Type 0 where
+-- the arguments are items of a command with these numbers
+pub record AreItems (kind : CommandKind) (arguments : List (List ℕ)) (numbers : Numbers) : Type 0 where
   pub items : List Item
-  pub written : words ≡ flat_map spelled items
+  pub written : arguments ≡ flat_map spelled items
   pub fit : Fit kind items numbers
 
--- the words are no items of a command
+-- the arguments are no items of a command
 abbrev pub NoItems : CommandKind → List (List ℕ) → Type 0
-NoItems kind words = (items : List Item) → words ≡ flat_map spelled items → ¬ MayFit kind items
+NoItems kind arguments = (items : List Item) → arguments ≡ flat_map spelled items → ¬ MayFit kind items
 
--- the words begin with items that give these numbers, and go on with the rest
-pub record AreRead (kind : CommandKind) (words rest : List (List ℕ)) (numbers : Numbers) : Type 0 where
+-- the arguments begin with items that give these numbers, and go on with the rest
+pub record AreRead (kind : CommandKind) (arguments rest : List (List ℕ)) (numbers : Numbers) : Type 0 where
   pub items : List Item
-  pub written : words ≡ flat_map spelled items ++ rest
+  pub written : arguments ≡ flat_map spelled items ++ rest
   pub fit : Fit kind items numbers

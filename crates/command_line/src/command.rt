@@ -1,6 +1,6 @@
 use crate::command_kind::CommandKind;
 
-/// A command with its numbers. An option that the words do not give, or that the command does not have, has its default.
+/// A command with its numbers. An option that the arguments do not give, or that the command does not have, has its default.
 #[derive(Clone, Copy, PartialEq, Eq, Debug)]
 pub struct Command {
     pub kind: CommandKind,

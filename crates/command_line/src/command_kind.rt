@@ -1,5 +1,5 @@
 ghost use Rattle.std.specs.Prelude.{◌≡◌, MatchOption};
-ghost use Rattle.command_line.specs.Words.{kind_word, has, most_steps, wants_groups};
+ghost use Rattle.command_line.specs.Arguments.{kind_name, has, most_steps, wants_groups};
 ghost use Rattle.command_line.specs.declared.command_kind.CommandKind.{CommandKind};
 
 use crate::setting::Setting;
@@ -31,29 +31,29 @@ pub enum CommandKind {
 }
 
 impl CommandKind {
-    /// The kind that a word names.
-    pub fn named(word: &[u8]) -> Option<CommandKind>
-        ensures { MatchOption result ((kind : CommandKind) → ¬ (word.now ≡ kind_word kind)) (λ kind. word.now ≡ kind_word kind) }
+    /// The kind that an argument names.
+    pub fn named(argument: &[u8]) -> Option<CommandKind>
+        ensures { MatchOption result ((kind : CommandKind) → ¬ (argument.now ≡ kind_name kind)) (λ kind. argument.now ≡ kind_name kind) }
     {
-        if word == b"play".as_slice() {
+        if argument == b"play".as_slice() {
             Some(CommandKind::Play)
-        } else if word == b"async".as_slice() {
+        } else if argument == b"async".as_slice() {
             Some(CommandKind::Async)
-        } else if word == b"run".as_slice() {
+        } else if argument == b"run".as_slice() {
             Some(CommandKind::Run)
-        } else if word == b"peak".as_slice() {
+        } else if argument == b"peak".as_slice() {
             Some(CommandKind::Peak)
-        } else if word == b"check".as_slice() {
+        } else if argument == b"check".as_slice() {
             Some(CommandKind::Check)
-        } else if word == b"make".as_slice() {
+        } else if argument == b"make".as_slice() {
             Some(CommandKind::Make)
-        } else if word == b"loops".as_slice() {
+        } else if argument == b"loops".as_slice() {
             Some(CommandKind::Loops)
-        } else if word == b"expand".as_slice() {
+        } else if argument == b"expand".as_slice() {
             Some(CommandKind::Expand)
-        } else if word == b"trail".as_slice() {
+        } else if argument == b"trail".as_slice() {
             Some(CommandKind::Trail)
-        } else if word == b"verify".as_slice() {
+        } else if argument == b"verify".as_slice() {
             Some(CommandKind::Verify)
         } else {
             None
@@ -86,7 +86,7 @@ impl CommandKind {
         }
     }
 
-    /// Whether the command wants a plain word, its number of groups.
+    /// Whether the command wants a plain argument, its number of groups.
     pub fn wants_groups(self) -> bool
         ensures { result ≡ wants_groups self }
     {

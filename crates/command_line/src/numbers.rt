@@ -1,12 +1,12 @@
 ghost use Rattle.std.specs.Prelude.{◌≡◌, ◌<◌, ◌^◌, if◌then◌else◌, Option, None, Some, MatchOption, IsTrue, is_some};
-ghost use Rattle.command_line.specs.Words.{wants_groups};
+ghost use Rattle.command_line.specs.Arguments.{wants_groups};
 ghost use Rattle.command_line.specs.Reading.{slot, or_default, no_numbers, IsWith, MoreFit, NoneFit, MoreTell, NoneTell};
 
 use crate::command_kind::CommandKind;
 use crate::setting::Setting;
 use crate::value::{groups_in, number_for};
 
-/// The numbers that the words give: to the options, and of groups.
+/// The numbers that the arguments give: to the options, and of groups.
 #[derive(Clone, Copy)]
 pub struct Numbers {
     pub quota: Option<u64>,
@@ -95,10 +95,10 @@ impl Numbers {
         Some(self.with(setting, number))
     }
 
-    /// The same with the number of groups that a plain word tells. None where the command wants none, where one was told
-    /// before, or where the word tells none.
-    pub fn more_groups(self, kind: CommandKind, word: &[u8]) -> Option<Numbers>
-        ensures { MatchOption result (NoneTell kind self word.now) (λ more. MoreTell kind self word.now more) }
+    /// The same with the number of groups that a plain argument tells. None where the command wants none, where one was told
+    /// before, or where the argument tells none.
+    pub fn more_groups(self, kind: CommandKind, argument: &[u8]) -> Option<Numbers>
+        ensures { MatchOption result (NoneTell kind self argument.now) (λ more. MoreTell kind self argument.now more) }
     {
         if !kind.wants_groups() {
             return None;
@@ -106,7 +106,7 @@ impl Numbers {
         if self.groups.is_some() {
             return None;
         }
-        let groups = groups_in(word)?;
+        let groups = groups_in(argument)?;
         let mut more = self;
         more.groups = Some(groups);
         Some(more)

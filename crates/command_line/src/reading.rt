@@ -1,5 +1,5 @@
 ghost use Rattle.std.specs.Prelude.{◌≡◌, MatchOption, IfSome};
-ghost use Rattle.command_line.specs.Words.{words_of, IsCommand};
+ghost use Rattle.command_line.specs.Arguments.{arguments_of, IsCommand};
 ghost use Rattle.command_line.specs.Reading.{AreItems, NoItems, GoesOn, NoneGoesOn};
 ghost use Rattle.command_line.specs.declared.command.Command.{Command};
 
@@ -10,27 +10,31 @@ use crate::numbers::Numbers;
 use crate::setting::Setting;
 use byte_cuts::behind;
 
-/// The numbers with the item that comes next, and the words behind it.
-fn read_item(kind: CommandKind, numbers: Numbers, words: &[String]) -> Option<(Numbers, &[String])>
-    ensures { MatchOption result (NoneGoesOn kind numbers (words_of words.now))
-        (λ next. GoesOn kind numbers (words_of words.now) next.0 (words_of next.1.now)) }
+/// The numbers with the item that comes next, and the arguments behind it.
+fn read_item(
+    kind: CommandKind,
+    numbers: Numbers,
+    arguments: &[String],
+) -> Option<(Numbers, &[String])>
+    ensures { MatchOption result (NoneGoesOn kind numbers (arguments_of arguments.now))
+        (λ next. GoesOn kind numbers (arguments_of arguments.now) next.0 (arguments_of next.1.now)) }
 {
-    let (word, after) = words.split_first()?;
-    let Some(_) = behind(word.as_bytes(), b"--") else {
-        let more = numbers.more_groups(kind, word.as_bytes())?;
+    let (argument, after) = arguments.split_first()?;
+    let Some(_) = behind(argument.as_bytes(), b"--") else {
+        let more = numbers.more_groups(kind, argument.as_bytes())?;
         return Some((more, after));
     };
-    let (setting, value, after) = next_option(words)?;
+    let (setting, value, after) = next_option(arguments)?;
     let more = numbers.more(kind, setting, value)?;
     Some((more, after))
 }
 
-/// The numbers that the words behind a command give.
-fn read_items(kind: CommandKind, words: &[String]) -> Option<Numbers>
-    ensures { MatchOption result (NoItems kind (words_of words.now)) (λ numbers. AreItems kind (words_of words.now) numbers) }
+/// The numbers that the arguments behind a command give.
+fn read_items(kind: CommandKind, arguments: &[String]) -> Option<Numbers>
+    ensures { MatchOption result (NoItems kind (arguments_of arguments.now)) (λ numbers. AreItems kind (arguments_of arguments.now) numbers) }
 {
     let mut numbers = Numbers::none();
-    let mut rest = words;
+    let mut rest = arguments;
     'items: while !rest.is_empty() {
         let (more, after) = read_item(kind, numbers, rest)?;
         numbers = more;
@@ -39,13 +43,13 @@ fn read_items(kind: CommandKind, words: &[String]) -> Option<Numbers>
     Some(numbers)
 }
 
-/// The command that the words of a command line are, without the program's own name. None exactly where they are none.
-pub fn read_words(words: &[String]) -> Option<Command>
+/// The command that the arguments of a command line are, without the program's own name. None exactly where they are none.
+pub fn read_arguments(arguments: &[String]) -> Option<Command>
     ensures exact { MatchOption result ((command : Command)
-        → ¬ IsCommand (words_of words.now) command) (λ command. IsCommand (words_of words.now) command) }
-    ensures only { IfSome result (λ command. (other : Command) → IsCommand (words_of words.now) other → other ≡ command) }
+        → ¬ IsCommand (arguments_of arguments.now) command) (λ command. IsCommand (arguments_of arguments.now) command) }
+    ensures only { IfSome result (λ command. (other : Command) → IsCommand (arguments_of arguments.now) other → other ≡ command) }
 {
-    let (first, rest) = words.split_first()?;
+    let (first, rest) = arguments.split_first()?;
     let kind = CommandKind::named(first.as_bytes())?;
     let numbers = read_items(kind, rest)?;
     let groups = numbers.groups_of(kind)?;

@@ -1,5 +1,5 @@
 ghost use Rattle.std.specs.Prelude.{◌≡◌, MatchOption};
-ghost use Rattle.command_line.specs.Words.{name_of, rule_of};
+ghost use Rattle.command_line.specs.Arguments.{name_of, rule_of};
 ghost use Rattle.command_line.specs.declared.setting.Setting.{Setting};
 
 use crate::command_kind::CommandKind;

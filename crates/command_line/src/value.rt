@@ -1,6 +1,6 @@
 ghost use Rattle.std.specs.Prelude.{◌≡◌, ℕ, ◌<◌, ◌^◌, MatchOption, SomeIff};
 ghost use Rattle.std.specs.Str.Parse.{digits_value};
-ghost use Rattle.command_line.specs.Words.{IsValue, InRange, Gives, TellsGroups};
+ghost use Rattle.command_line.specs.Arguments.{IsValue, InRange, Gives, TellsGroups};
 
 use crate::command_kind::CommandKind;
 use crate::setting::Setting;
@@ -34,11 +34,11 @@ pub fn number_for(kind: CommandKind, setting: Setting, value: &[u8]) -> Option<u
     Some(number)
 }
 
-/// How many groups a plain word tells: 1 to 8,000.
-pub fn groups_in(word: &[u8]) -> Option<u32>
-    ensures { MatchOption result ((n : ℕ) → ¬ TellsGroups word.now n) (λ n. TellsGroups word.now n) }
+/// How many groups a plain argument tells: 1 to 8,000.
+pub fn groups_in(argument: &[u8]) -> Option<u32>
+    ensures { MatchOption result ((n : ℕ) → ¬ TellsGroups argument.now n) (λ n. TellsGroups argument.now n) }
 {
-    let number = number(word)?;
+    let number = number(argument)?;
     if number < 1 || number > u64::from(MOST_GROUPS) {
         return None;
     }

@@ -2,4 +2,3 @@ pub mod LabelOrder
 pub mod LabelLaws
 pub mod Births
 pub mod Changes
-pub mod Passed

@@ -1,5 +1,5 @@
 use crate::thread_id::ThreadId;
-use bounded_list::BoundedList;
+use containers::BoundedList;
 
 /// How a thread came to be: it is the fork `ordinal`, from 1, of the thread `parent`.
 #[derive(Clone, Copy, PartialEq, Eq, Debug)]

@@ -1,6 +1,6 @@
 ghost use Rattle.std.specs.Prelude.{◌≡◌, ℕ, ◌≤◌, ◌<◌, ◌^◌, ◌++◌, ◌↔◌, [], ◌∷◌, length, IsTrue, IfOk};
 
-use bounded_list::BoundedList;
+use containers::BoundedList;
 use std::alloc::{AllocError, Global};
 use std::marker::Model;
 
@@ -15,7 +15,7 @@ pub struct Label {
 
 impl Model for Label {
     ghost use Rattle.std.specs.Prelude.{ℕ, List};
-    ghost use Rattle.bounded_list.specs.BoundedList.{entries};
+    ghost use Rattle.containers.specs.BoundedList.{entries};
 
     ghost Value = { List ℕ };
 
@@ -23,7 +23,7 @@ impl Model for Label {
 }
 
 impl Label {
-    ghost use Rattle.bounded_list.specs.BoundedList.{entries};
+    ghost use Rattle.containers.specs.BoundedList.{entries};
     ghost use Rattle.dag_order.specs.LabelOrder.{fork_of, StandsDirectlyBefore};
 
     /// The label of the root. It takes no memory.

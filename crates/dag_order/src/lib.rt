@@ -9,7 +9,7 @@
 //! the later one. The scheduler's list of deques stands in this order (G. Narlikar, "Scheduling Threads for
 //! Low Space Requirement and Good Locality", SPAA 1999).
 //!
-//! The crate stands on `bounded_list`. Its one theorem is the order law: [`before`] is this order, which is
+//! The crate stands on `containers`. Its one theorem is the order law: [`before`] is this order, which is
 //! strict and total, and a fork's label stands directly before its parent's.
 #![tactic(auto)]
 

@@ -1,4 +1,4 @@
-use bounded_list::BoundedList;
+use containers::BoundedList;
 
 /// The numbers that a program printed, in order.
 pub type Lines = BoundedList<i64>;

@@ -3,7 +3,7 @@ ghost use Rattle.std.specs.Prelude.{◌≡◌, ℕ, ◌≤◌, ◌<◌, ◌^◌,
 use crate::birth::{Birth, Births};
 use crate::label::Label;
 use crate::thread_id::ThreadId;
-use bounded_list::BoundedList;
+use containers::BoundedList;
 use std::alloc::{AllocError, Global};
 use std::marker::Model;
 
@@ -39,7 +39,7 @@ pub struct Roster {
 
 impl Model for Roster {
     ghost use Rattle.std.specs.Prelude.{List, map};
-    ghost use Rattle.bounded_list.specs.BoundedList.{entries};
+    ghost use Rattle.containers.specs.BoundedList.{entries};
     ghost use Rattle.dag_order.specs.declared.birth.Birth.{Birth};
     ghost use Rattle.dag_order.specs.Births.{ParentsComeFirst};
 
@@ -51,7 +51,7 @@ impl Model for Roster {
 }
 
 impl Roster {
-    ghost use Rattle.bounded_list.specs.BoundedList.{entries};
+    ghost use Rattle.containers.specs.BoundedList.{entries};
     ghost use Rattle.dag_order.specs.Births.{birth_of, ParentComesFirst, MayFollow, root, Leads, HasLabel, StopsAt};
 
     /// A roster of no period. It takes no memory.

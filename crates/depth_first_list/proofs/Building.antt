@@ -1,6 +1,6 @@
 -- For a run that is built action by action: one more thing done by the thread, behind what it has done.
 use Rattle.std.proofs.Common.{◌≡◌, ℕ, Bool, true, false, nat_le, if◌then◌else◌, List, [], ◌∷◌, ◌++◌, refl, sym, subst, leb-true, leb-false}
-use Rattle.dummy_tree.specs.Passed.LabelOrder.{fork_of}
+use Rattle.dag_order.specs.LabelOrder.{fork_of}
 use Rattle.depth_first_list.specs.Actions.{Deed, forks, joins, allocates, Action, record_words}
 use Rattle.depth_first_list.specs.Runs.{Point, next_child, action_at_point, after_action, after_fork, after_join, after_tree, tree_run, tree_for, IsPlain, Runs, goes_on, acts, forks_a_child, joins_the_newest, allocates_behind_a_tree, RunsWhole}
 

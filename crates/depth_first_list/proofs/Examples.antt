@@ -1,7 +1,7 @@
 -- Worked examples of depth-first lists.
 use Rattle.std.proofs.Common.{◌≡◌, ℕ, List, [], ◌∷◌, refl, arith}
 use Rattle.std.specs.Prelude.{pos}
-use Rattle.dummy_tree.specs.Shapes.{leaf, forked, shape_of, halved}
+use Rattle.depth_first_list.specs.Shapes.{leaf, forked, shape_of, halved}
 use Rattle.depth_first_list.specs.Actions.{Deed, forks, joins, allocates, releases, dummy, faults, ends, Action, live_words, peak}
 use Rattle.depth_first_list.specs.Runs.{start, after_action, after_fork, after_join, after_tree, rests, goes_on, acts, forks_a_child, joins_the_newest, allocates_behind_a_tree, IsDepthFirst, tree_for}
 use Rattle.depth_first_list.specs.Laws.{IsLarge, TreeStandsBefore}

@@ -1,7 +1,7 @@
 -- The facts of depth-first lists that speak of Joins.
 use Rattle.std.proofs.Common.{◌≡◌, ℕ, suc, ◌≤◌, ◌<◌, List, [], inl, inr, length, refl, sym, subst, ap, ◌∙◌, arith}
 use Rattle.std.proofs.lemmas.Bool.{cases_order}
-use Rattle.dummy_tree.specs.Passed.LabelOrder.{fork_of}
+use Rattle.dag_order.specs.LabelOrder.{fork_of}
 use Rattle.depth_first_list.specs.Actions.{Deed, forks, joins, ends, Action}
 use Rattle.depth_first_list.specs.Runs.{start, IsDepthFirst}
 use Rattle.depth_first_list.specs.Facts.{action_at, label_at, deed_at, StemsFrom}

@@ -1,3 +1,5 @@
+pub mod QuotaLaws
+pub mod ShapeLaws
 pub mod Trace
 pub mod Steps
 pub mod Own
@@ -13,4 +15,3 @@ pub mod TreeLaws
 pub mod Peak
 pub mod Examples
 pub mod Building
-pub mod Passed

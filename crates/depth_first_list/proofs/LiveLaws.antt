@@ -2,8 +2,8 @@
 use Rattle.std.proofs.Common.{◌≡◌, ℕ, ◌≤◌, ◌<◌, List, [], ◌∷◌, ◌++◌, inl, inr, length, sym, subst, ap, ◌∙◌, arith}
 use Rattle.std.proofs.lemmas.List.{append_assoc, append-nil}
 use Rattle.std.proofs.lemmas.Bool.{cases_order, cases_lt, cases_eq}
-use Rattle.dummy_tree.specs.Passed.LabelOrder.{fork_of}
-use Rattle.dummy_tree.specs.Passed.LabelLaws.{three_ways}
+use Rattle.dag_order.specs.LabelOrder.{fork_of}
+use Rattle.dag_order.specs.LabelLaws.{three_ways}
 use Rattle.depth_first_list.specs.Actions.{forks, joins, ends, Action}
 use Rattle.depth_first_list.specs.Runs.{IsDepthFirst}
 use Rattle.depth_first_list.specs.Facts.{label_at, index_at, deed_at, IsDone, IsLive, IsNext, HasDone}

@@ -1,8 +1,8 @@
 -- The order of labels is the order of the list, and what of it is done first.
 use Rattle.std.proofs.Common.{◌≡◌, ℕ, zero, suc, ◌+◌, ◌≤◌, ◌<◌, ◌⊎◌, List, ◌∷◌, ◌++◌, inl, inr, length, refl, sym, subst, ap, ◌∙◌, arith}
 use Rattle.std.proofs.lemmas.Bool.{cases_order, cases_lt, cases_eq}
-use Rattle.dummy_tree.specs.Passed.LabelOrder.{fork_of, Before, ProperlyExtends, FirstDiffersLower}
-use Rattle.dummy_tree.specs.Passed.LabelLaws.{before_in_words, three_ways, never_before_itself}
+use Rattle.dag_order.specs.LabelOrder.{fork_of, Before, ProperlyExtends, FirstDiffersLower}
+use Rattle.dag_order.specs.LabelLaws.{before_in_words, three_ways, never_before_itself}
 use Rattle.depth_first_list.specs.Actions.{forks, Action}
 use Rattle.depth_first_list.specs.Runs.{IsDepthFirst}
 use Rattle.depth_first_list.specs.Facts.{label_at, deed_at, StemsFrom, IsDone, IsLive, IsNext}

@@ -2,7 +2,7 @@
 use Rattle.std.proofs.Common.{◌≡◌, ℕ, suc, ◌≤◌, ◌<◌, List, ◌∷◌, ◌++◌, ◌⊎◌, inl, inr, length, get_or, sym, subst, ap, ◌∙◌, arith, length-append}
 use Rattle.std.proofs.lemmas.List.{append_cancel_left}
 use Rattle.std.proofs.lemmas.Bool.{cases_eq}
-use Rattle.dummy_tree.specs.Passed.LabelOrder.{fork_of}
+use Rattle.dag_order.specs.LabelOrder.{fork_of}
 use Rattle.depth_first_list.specs.Actions.{Deed, forks, joins, ends, Action}
 use Rattle.depth_first_list.specs.Runs.{Point, next_child}
 use Rattle.depth_first_list.proofs.Trace.{IsQuiet}

@@ -2,7 +2,7 @@
 use Rattle.std.proofs.Common.{◌≡◌, ℕ, suc, ◌≤◌, ◌<◌, List, [], ◌∷◌, ◌++◌, ◌⊎◌, inl, inr, length, refl, sym, subst, ap, ◌∙◌, arith, length-append}
 use Rattle.std.proofs.lemmas.List.{append_assoc}
 use Rattle.std.proofs.lemmas.Bool.{cases_order, cases_lt}
-use Rattle.dummy_tree.specs.Passed.LabelOrder.{fork_of}
+use Rattle.dag_order.specs.LabelOrder.{fork_of}
 use Rattle.depth_first_list.specs.Actions.{Deed, forks, joins, Action, record_words}
 use Rattle.depth_first_list.specs.Runs.{Point, start, next_child, action_at_point, after_action, after_fork, after_join, end_at}
 use Rattle.depth_first_list.proofs.Trace.{IsQuiet, Trace, stays, quiet, forking, joining}

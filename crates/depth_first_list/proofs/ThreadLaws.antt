@@ -1,7 +1,7 @@
 -- The facts of depth-first lists that speak of names, forks and Ends.
 use Rattle.std.proofs.Common.{◌≡◌, ◌↔◌, ℕ, zero, suc, ◌≤◌, ◌<◌, List, [], ◌∷◌, ◌++◌, inl, inr, length, refl, sym, subst, ap, ◌∙◌, arith}
 use Rattle.std.proofs.lemmas.Bool.{cases_order, cases_lt, cases_eq}
-use Rattle.dummy_tree.specs.Passed.LabelOrder.{fork_of}
+use Rattle.dag_order.specs.LabelOrder.{fork_of}
 use Rattle.depth_first_list.specs.Actions.{forks, Action}
 use Rattle.depth_first_list.specs.Runs.{Point, start, end_at, IsDepthFirst}
 use Rattle.depth_first_list.specs.Facts.{action_at, label_at, index_at, deed_at, StemsFrom}

@@ -1,8 +1,8 @@
 -- The run of a thread along the places of a list: its own actions one by one, and the places of its children in
 -- between. `A i` is the action at place i.
 use Rattle.std.proofs.Common.{◌≡◌, ℕ, suc, ◌+◌, List, [], ◌∷◌, ◌++◌, length, refl, sym, subst, arith, length-append}
-use Rattle.dummy_tree.specs.Passed.LabelOrder.{fork_of}
-use Rattle.dummy_tree.specs.Shapes.{Shape, leaf, forked}
+use Rattle.dag_order.specs.LabelOrder.{fork_of}
+use Rattle.depth_first_list.specs.Shapes.{Shape, leaf, forked}
 use Rattle.depth_first_list.specs.Actions.{Deed, forks, joins, allocates, releases, dummy, faults, ends, Action, record_words}
 use Rattle.depth_first_list.specs.Runs.{Point, start, next_child, action_at_point, after_action, after_fork, after_join, end_at, after_tree, tree_run, tree_for, IsPlain, Runs, rests, goes_on, acts, forks_a_child, joins_the_newest, allocates_behind_a_tree}
 

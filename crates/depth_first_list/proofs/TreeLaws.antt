@@ -1,11 +1,11 @@
 -- The facts of depth-first lists that speak of large allocations and their dummies.
 use Rattle.std.proofs.Common.{◌≡◌, ℕ, suc, ◌+◌, ◌-◌, ◌*◌, ◌≤◌, ◌<◌, List, [], ◌∷◌, ◌++◌, inl, inr, length, refl, sym, subst, ap, ◌∙◌, arith, length-append}
 use Rattle.std.proofs.lemmas.Bool.{cases_order, cases_lt, cases_eq}
-use Rattle.dummy_tree.specs.Passed.LabelOrder.{fork_of}
-use Rattle.dummy_tree.specs.Quotas.{dummies_of}
-use Rattle.dummy_tree.proofs.QuotaLaws.{dummies_cover}
-use Rattle.dummy_tree.specs.Shapes.{Shape, leaves, shape_of}
-use Rattle.dummy_tree.proofs.ShapeLaws.{leaves_of_shape, shape_of_is_shape}
+use Rattle.dag_order.specs.LabelOrder.{fork_of}
+use Rattle.depth_first_list.specs.Quotas.{dummies_of}
+use Rattle.depth_first_list.proofs.QuotaLaws.{dummies_cover}
+use Rattle.depth_first_list.specs.Shapes.{Shape, leaves, shape_of}
+use Rattle.depth_first_list.proofs.ShapeLaws.{leaves_of_shape, shape_of_is_shape}
 use Rattle.depth_first_list.specs.Actions.{Deed, forks, joins, allocates, releases, dummy, faults, ends, Action, record_words}
 use Rattle.depth_first_list.specs.Runs.{Point, start, next_child, action_at_point, end_at, after_tree, tree_run, tree_for, IsPlain, Runs, rests, goes_on, acts, forks_a_child, joins_the_newest, allocates_behind_a_tree, IsDepthFirst}
 use Rattle.depth_first_list.specs.Facts.{action_at, label_at, deed_at, StemsFrom}

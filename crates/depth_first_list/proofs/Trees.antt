@@ -2,9 +2,9 @@
 use Rattle.std.proofs.Common.{◌≡◌, ℕ, zero, suc, ◌+◌, ◌*◌, ◌≤◌, ◌<◌, List, [], ◌∷◌, ◌++◌, inl, inr, length, map, cond, refl, sym, subst, ap, ◌∙◌, arith, length-append}
 use Rattle.std.proofs.lemmas.List.{append_assoc, append-nil, map-append}
 use Rattle.std.proofs.lemmas.Bool.{cases_lt, cases_eq}
-use Rattle.dummy_tree.specs.Passed.LabelOrder.{fork_of}
-use Rattle.dummy_tree.specs.Passed.KindVariants.{Fork, Join, End}
-use Rattle.dummy_tree.specs.Shapes.{Shape, leaf, forked, actions, leaves, is_dummy}
+use Rattle.dag_order.specs.LabelOrder.{fork_of}
+use Rattle.dag_order.specs.declared.kind.Kind.TheVariants.{Fork, Join, End}
+use Rattle.depth_first_list.specs.Shapes.{Shape, leaf, forked, actions, leaves, is_dummy}
 use Rattle.depth_first_list.specs.Actions.{Deed, forks, joins, allocates, dummy, ends, Action, record_words, kind_of, action_kind}
 use Rattle.depth_first_list.specs.Runs.{Point, start, next_child, action_at_point, after_fork, end_at, after_tree, tree_run}
 use Rattle.depth_first_list.specs.Facts.{action_at, label_at, deed_at, words_at, StemsFrom, IsDone}

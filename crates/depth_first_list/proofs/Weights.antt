@@ -1,7 +1,7 @@
 -- What a Fork, an End and a Dummy weigh.
 use Rattle.std.proofs.Common.{◌≡◌, ℕ, ◌<◌, List, [], ◌∷◌, ◌++◌, length, refl, sym, subst, ap, ◌∙◌, arith}
-use Rattle.dummy_tree.specs.Passed.LabelOrder.{fork_of}
-use Rattle.dummy_tree.specs.Shapes.{Shape, leaf, forked}
+use Rattle.dag_order.specs.LabelOrder.{fork_of}
+use Rattle.depth_first_list.specs.Shapes.{Shape, leaf, forked}
 use Rattle.depth_first_list.specs.Actions.{Deed, forks, joins, allocates, releases, dummy, faults, ends, Action, record_words, weight_of}
 use Rattle.depth_first_list.specs.Runs.{Point, start, next_child, action_at_point, after_fork, end_at, after_tree, tree_run, tree_for, IsPlain, Runs, rests, goes_on, acts, forks_a_child, joins_the_newest, allocates_behind_a_tree, IsDepthFirst}
 use Rattle.depth_first_list.specs.Facts.{action_at, label_at, deed_at, words_at}

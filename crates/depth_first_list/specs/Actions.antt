@@ -1,9 +1,9 @@
 -- Actions of a run, the words that they take and give back, and the peak of a list of them.
 use Rattle.std.specs.Prelude.{ℕ, List, map, ℤ, pos, neg_ℤ}
 use Rattle.language_limits.specs.declared.TheConstants.{RECORD_WORDS}
-use Rattle.dummy_tree.specs.Passed.Changes.{total, high_water}
-use Rattle.dummy_tree.specs.Passed.KindType.{Kind}
-use Rattle.dummy_tree.specs.Passed.KindVariants.{Fork, Join, Alloc, Release, Dummy, End, Fault}
+use Rattle.dag_order.specs.Changes.{total, high_water}
+use Rattle.dag_order.specs.declared.kind.Kind.{Kind}
+use Rattle.dag_order.specs.declared.kind.Kind.TheVariants.{Fork, Join, Alloc, Release, Dummy, End, Fault}
 
 -- what an action does; a Fork and a Join say which child of the thread, by its ordinal from 1
 pub data Deed : Type 0 where

@@ -1,6 +1,6 @@
 -- Actions by their places in a list, from 0, and which of them are done.
 use Rattle.std.specs.Prelude.{◌≡◌, ℕ, ◌+◌, ◌≤◌, ◌<◌, List, [], ◌++◌, length, get_or, ℤ}
-use Rattle.dummy_tree.specs.Passed.LabelOrder.{fork_of}
+use Rattle.dag_order.specs.LabelOrder.{fork_of}
 use Rattle.depth_first_list.specs.Actions.{Deed, forks, joins, ends, Action, weight}
 
 -- the action at a place; what it says where the list has no such place is never used

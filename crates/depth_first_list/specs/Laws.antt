@@ -1,8 +1,8 @@
 -- What holds of each depth-first list.
 use Rattle.std.specs.Prelude.{◌≡◌, ◌↔◌, ℕ, zero, suc, ◌+◌, ◌-◌, ◌*◌, ◌≤◌, ◌<◌, List, [], ◌∷◌, ◌++◌, ◌⊎◌, length, map, cond, take, pos, neg_ℤ, ◌≤ℤ◌}
-use Rattle.dummy_tree.specs.Passed.LabelOrder.{fork_of, Before}
-use Rattle.dummy_tree.specs.Quotas.{dummies_of}
-use Rattle.dummy_tree.specs.Shapes.{Shape, actions, is_dummy}
+use Rattle.dag_order.specs.LabelOrder.{fork_of, Before}
+use Rattle.depth_first_list.specs.Quotas.{dummies_of}
+use Rattle.depth_first_list.specs.Shapes.{Shape, actions, is_dummy}
 use Rattle.depth_first_list.specs.Actions.{Deed, forks, joins, allocates, releases, dummy, faults, ends, Action, record_words, kind_of, action_kind, live_words, peak}
 use Rattle.depth_first_list.specs.Runs.{Point, tree_run, IsDepthFirst}
 use Rattle.depth_first_list.specs.Facts.{label_at, index_at, deed_at, words_at, weight_at, StemsFrom, IsDone, IsLive, IsNext, HasDone}

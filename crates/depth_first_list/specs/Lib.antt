@@ -1,3 +1,8 @@
+pub mod Quotas
+pub mod QuotaWords
+pub mod Leaves
+pub mod TreeLeaves
+pub mod Shapes
 pub mod Actions
 pub mod Runs
 pub mod Facts

@@ -1,8 +1,8 @@
 -- The rules by which the actions of a run stand in depth-first order.
 use Rattle.std.specs.Prelude.{◌≡◌, ℕ, suc, ◌≤◌, ◌<◌, List, [], ◌∷◌, ◌++◌}
-use Rattle.dummy_tree.specs.Passed.LabelOrder.{fork_of}
-use Rattle.dummy_tree.specs.Quotas.{dummies_of}
-use Rattle.dummy_tree.specs.Shapes.{Shape, leaf, forked, shape_of}
+use Rattle.dag_order.specs.LabelOrder.{fork_of}
+use Rattle.depth_first_list.specs.Quotas.{dummies_of}
+use Rattle.depth_first_list.specs.Shapes.{Shape, leaf, forked, shape_of}
 use Rattle.depth_first_list.specs.Actions.{Deed, forks, joins, allocates, releases, dummy, faults, ends, Action, record_words}
 
 -- Where a thread is: how many actions it has done, which is the index of its next one, how many forks it has

@@ -4,12 +4,12 @@ use Rattle.std.proofs.Common.{sym, ◌∙◌, ap, arith, subst, append_assoc, ap
 use Rattle.std.proofs.lemmas.List.{length-take, length-drop, length-set, length-replicate}
 use Rattle.std.proofs.lemmas.Int.{ints}
 use borrow.Author.Tests.{leb-true, eqb-true}
-use Rattle.depth_first_list.specs.Passed.FaultKindType.{FaultKind}
-use Rattle.depth_first_list.specs.Passed.Shapes.{Shape, leaf, forked}
+use Rattle.depth_first_list.specs.Passed.FaultKind.{FaultKind}
+use Rattle.depth_first_list.specs.Shapes.{Shape, leaf, forked}
 use Rattle.depth_first_list.specs.Actions as actions
 use Rattle.depth_first_list.specs.Actions.{Action, Deed, weight, weight_of, live_words, record_words}
 use Rattle.depth_first_list.specs.Runs.{tree_for}
-use Rattle.par_ownership.specs.Passed.Tree.{Name, Expr, Target, Arg, Param, Stmt, let_stmt, assign_stmt, put_stmt, alloc_stmt, free_stmt, if_stmt, while_stmt, call_stmt, print_stmt, par_stmt, split_stmt, Body, done, step, Func, Ret, RetValue, gives, hands}
+use Rattle.par_tree.specs.Tree.{Name, Expr, Target, Arg, Param, Stmt, let_stmt, assign_stmt, put_stmt, alloc_stmt, free_stmt, if_stmt, while_stmt, call_stmt, print_stmt, par_stmt, split_stmt, Body, done, step, Func, Ret, RetValue, gives, hands}
 use Rattle.par_ownership.specs.Ownership.{function_of, main_name}
 use Rattle.depth_first_run.specs.Stores
 use Rattle.depth_first_run.specs.Stores.{Store, block_of, block_words, held_words, stored_words, hold_block, drop_block}

@@ -2,9 +2,9 @@
 use Rattle.std.proofs.Common.{inl, inr, ◌≡◌, ℕ, ◌<◌, ◌≤◌, arith}
 use Rattle.std.specs.Prelude.{◌⊎◌}
 use Rattle.std.proofs.lemmas.Bool.{cases_lt}
-use Rattle.depth_first_list.specs.Passed.Leaves.{IsTreeSize}
-use Rattle.depth_first_list.specs.Passed.Quotas.{dummies_of}
-use Rattle.depth_first_list.proofs.Passed.QuotaLaws.{no_dummies}
+use Rattle.depth_first_list.specs.Leaves.{IsTreeSize}
+use Rattle.depth_first_list.specs.Quotas.{dummies_of}
+use Rattle.depth_first_list.proofs.QuotaLaws.{no_dummies}
 
 -- there is no tree exactly where the quota covers the words
 pub few_words : (words k n : ℕ) → words ≤ 1048576 → (k < words → 1 < n) → (words ≤ 1048576 → n ≤ 65536) → (IsTreeSize n → ⊥) → words ≤ k

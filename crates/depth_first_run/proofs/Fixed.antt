@@ -5,8 +5,8 @@ use Rattle.std.proofs.Common.{sym, ◌∙◌, ap, arith, length-append}
 use Rattle.std.proofs.Math.Nat.{suc-mul}
 use Rattle.std.proofs.lemmas.Bool.{ltb-true}
 use Rattle.depth_first_list.specs.Passed.LabelOrder.{fork_of}
-use Rattle.depth_first_list.specs.Passed.FaultKindType.{FaultKind}
-use Rattle.par_ownership.specs.Passed.Tree.{Name, Target, Arg, Stmt, let_stmt, assign_stmt, put_stmt, alloc_stmt, free_stmt, if_stmt, while_stmt, call_stmt, print_stmt, par_stmt, split_stmt, Body, done, step, Func}
+use Rattle.depth_first_list.specs.Passed.FaultKind.{FaultKind}
+use Rattle.par_tree.specs.Tree.{Name, Target, Arg, Stmt, let_stmt, assign_stmt, put_stmt, alloc_stmt, free_stmt, if_stmt, while_stmt, call_stmt, print_stmt, par_stmt, split_stmt, Body, done, step, Func}
 use Rattle.par_ownership.specs.Ownership.{function_of}
 use Rattle.depth_first_list.specs.Actions.{record_words}
 use Rattle.depth_first_run.specs.Stores.{block_of}

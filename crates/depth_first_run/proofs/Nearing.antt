@@ -1,10 +1,10 @@
 -- Items only grow, and each step in the middle of a run brings its end nearer.
 use Rattle.std.specs.Prelude.{◌≡◌, ℕ, zero, suc, ◌+◌, ◌*◌, ◌-◌, ◌≤◌, ◌<◌, nat_lt, nat_le, Bool, true, false, List, [], ◌∷◌, ◌++◌, length, ℤ, Result, Ok, Err, Option, Some, None, refl}
 use Rattle.std.proofs.Common.{sym, ◌∙◌, ap, arith, append_assoc, append-nil, length-append}
-use Rattle.depth_first_list.specs.Passed.FaultKindType.{FaultKind}
-use Rattle.depth_first_list.specs.Passed.Shapes.{leaf, forked}
+use Rattle.depth_first_list.specs.Passed.FaultKind.{FaultKind}
+use Rattle.depth_first_list.specs.Shapes.{leaf, forked}
 use Rattle.depth_first_list.specs.Actions as actions
-use Rattle.par_ownership.specs.Passed.Tree.{Name, Expr, Target, Arg, Stmt, let_stmt, assign_stmt, put_stmt, alloc_stmt, free_stmt, if_stmt, while_stmt, call_stmt, print_stmt, par_stmt, split_stmt, Body, done, step, Func}
+use Rattle.par_tree.specs.Tree.{Name, Expr, Target, Arg, Stmt, let_stmt, assign_stmt, put_stmt, alloc_stmt, free_stmt, if_stmt, while_stmt, call_stmt, print_stmt, par_stmt, split_stmt, Body, done, step, Func}
 use Rattle.par_ownership.specs.Ownership.{function_of}
 use Rattle.depth_first_list.specs.Actions.{record_words}
 use Rattle.depth_first_run.specs.Stores.{block_of, block_words}

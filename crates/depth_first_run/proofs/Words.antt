@@ -4,8 +4,8 @@ use Rattle.std.specs.Int.{div_ceil}
 use Rattle.std.specs.Str.{bytes_eq}
 use Rattle.std.proofs.Common.{◌∙◌, ap, arith}
 use Rattle.std.proofs.lemmas.Grind.{div_ceil_times}
-use Rattle.depth_first_list.specs.Passed.FaultKindType.{FaultKind}
-use Rattle.par_ownership.specs.Passed.Tree.{Name, Arg, value, lend, give, Param, Target, unused, integer, block}
+use Rattle.depth_first_list.specs.Passed.FaultKind.{FaultKind}
+use Rattle.par_tree.specs.Tree.{Name, Arg, value, lend, give, Param, Target, unused, integer, block}
 use Rattle.depth_first_run.specs.Stores.{Store, Held, block_of, without, replaced, with_block, hold_block, those_named, those_not_named, block_words, held_words}
 use Rattle.depth_first_run.specs.Values as values
 use Rattle.depth_first_run.specs.Calls.{Passing, pass_integer, pass_block, pass_value, passed, lent_back, Answer, number, items, answered}

@@ -1,12 +1,12 @@
 -- The definition on small programs, whose runs were worked out by hand from the rules.
 use Rattle.std.specs.Prelude.{◌≡◌, ℕ, List, [], ◌∷◌, pos, refl, codes, Option, Some, None}
-use Rattle.depth_first_list.specs.Passed.FaultKindType.{FaultKind}
+use Rattle.depth_first_list.specs.Passed.FaultKind.{FaultKind}
 use Rattle.depth_first_list.specs.Passed.FaultKindVariants as faults
-use Rattle.depth_first_list.specs.Passed.FaultAtType.{FaultAt}
+use Rattle.depth_first_list.specs.Passed.FaultAt.{FaultAt}
 use Rattle.depth_first_list.specs.Actions as deeds
 use Rattle.depth_first_list.specs.Actions.{Action, Deed, forks, joins, allocates, releases, dummy, ends}
-use Rattle.par_ownership.specs.Passed.Tree
-use Rattle.par_ownership.specs.Passed.Tree.{Name, Expr, Stmt, Body, Func, Param, Program, done, step}
+use Rattle.par_tree.specs.Tree
+use Rattle.par_tree.specs.Tree.{Name, Expr, Stmt, Body, Func, Param, Program, done, step}
 use Rattle.par_ownership.specs.Ownership.{main_name}
 use Rattle.depth_first_run.specs.Stores
 use Rattle.depth_first_run.specs.Values
@@ -15,7 +15,7 @@ use Rattle.depth_first_run.specs.States.{Setting, State}
 use Rattle.depth_first_run.specs.Calls
 use Rattle.depth_first_run.specs.Run
 use Rattle.depth_first_run.specs.Run.{whole, actions_of, first_fault, lines_of}
-use Rattle.depth_first_list.specs.Passed.Shapes
+use Rattle.depth_first_list.specs.Shapes
 
 -- ---- programs
 

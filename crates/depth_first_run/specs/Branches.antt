@@ -1,6 +1,6 @@
 -- What a Fork and a Join do to stores, by the names that a branch names and those to which it assigns.
 use Rattle.std.specs.Prelude.{Bool, ◌++◌}
-use Rattle.par_ownership.specs.Passed.Tree.{Name}
+use Rattle.par_tree.specs.Tree.{Name}
 use Rattle.depth_first_run.specs.Stores.{Store, those_named, those_not_named}
 use Rattle.depth_first_run.specs.States.{taken_integers}
 

@@ -1,7 +1,7 @@
 -- What a call passes to a function and takes back from it.
 use Rattle.std.specs.Prelude.{ℕ, suc, pred, List, [], ◌∷◌, ℤ, pos, Result, Ok, Err, Option, Some, None}
-use Rattle.depth_first_list.specs.Passed.FaultKindType.{FaultKind}
-use Rattle.par_ownership.specs.Passed.Tree.{Name, Arg, value, lend, give, Param, Target, unused, integer, block, Ret, RetValue, gives, hands}
+use Rattle.depth_first_list.specs.Passed.FaultKind.{FaultKind}
+use Rattle.par_tree.specs.Tree.{Name, Arg, value, lend, give, Param, Target, unused, integer, block, Ret, RetValue, gives, hands}
 use Rattle.depth_first_run.specs.Stores.{Store, Held, nothing, with_integer, block_of, without, drop_block, hold_block}
 use Rattle.depth_first_run.specs.Values as values
 use Rattle.depth_first_run.specs.Values.{Outcome}

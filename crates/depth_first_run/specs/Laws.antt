@@ -2,7 +2,7 @@
 use Rattle.std.specs.Prelude.{◌≡◌, ◌<◌, ◌≤◌, ℕ, List, ◌∷◌, ◌++◌, length, take, pos, ◌≤ℤ◌}
 use Rattle.depth_first_list.specs.Actions.{live_words}
 use Rattle.depth_first_list.specs.Runs.{IsDepthFirst}
-use Rattle.par_ownership.specs.Passed.Tree.{Body}
+use Rattle.par_tree.specs.Tree.{Body}
 use Rattle.par_ownership.specs.Ownership.{function_of, main_name}
 use Rattle.depth_first_run.specs.States.{Setting, State, Item, ended}
 use Rattle.depth_first_run.specs.Run.{exec_all, run, whole, actions_of}

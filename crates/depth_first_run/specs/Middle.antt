@@ -1,13 +1,13 @@
 -- A run in the middle: what is left to do, as frames, the next one first, and the state of the thread that runs.
 -- `finish` runs what is left; `advance` does one step of it.
 use Rattle.std.specs.Prelude.{ℕ, zero, suc, ◌+◌, ◌*◌, ◌-◌, nat_le, nat_lt, Bool, true, false, List, [], ◌∷◌, length, replicate, ℤ, pos, Option, Some, None, Result, Ok, Err}
-use Rattle.depth_first_list.specs.Passed.FaultKindType.{FaultKind}
+use Rattle.depth_first_list.specs.Passed.FaultKind.{FaultKind}
 use Rattle.depth_first_list.specs.Passed.FaultKindVariants as faults
-use Rattle.depth_first_list.specs.Passed.Shapes.{Shape, leaf, forked}
+use Rattle.depth_first_list.specs.Shapes.{Shape, leaf, forked}
 use Rattle.depth_first_list.specs.Actions as actions
 use Rattle.depth_first_list.specs.Actions.{record_words}
 use Rattle.depth_first_list.specs.Runs.{tree_for}
-use Rattle.par_ownership.specs.Passed.Tree.{Name, Expr, Target, Arg, Param, Stmt, let_stmt, assign_stmt, put_stmt, alloc_stmt, free_stmt, if_stmt, while_stmt, call_stmt, print_stmt, par_stmt, split_stmt, Body, done, step, Func, Ret}
+use Rattle.par_tree.specs.Tree.{Name, Expr, Target, Arg, Param, Stmt, let_stmt, assign_stmt, put_stmt, alloc_stmt, free_stmt, if_stmt, while_stmt, call_stmt, print_stmt, par_stmt, split_stmt, Body, done, step, Func, Ret}
 use Rattle.par_ownership.specs.Ownership.{function_of}
 use Rattle.depth_first_run.specs.Stores.{hold_block, block_of, block_words}
 use Rattle.depth_first_run.specs.Values.{Outcome, value, is_true}

@@ -1,18 +1,18 @@
 -- The depth-first run of a program, by recursion over its statements, to the end of each branch.
 use Rattle.std.specs.Prelude.{ℕ, zero, suc, ◌+◌, ◌*◌, ◌-◌, ◌%◌, ◌&&◌, Bool, true, false, nat_eq, nat_le, if◌then◌else◌, List, [], ◌∷◌, ◌++◌, length, take, drop, replicate, slice_set, ℤ, pos, negsuc, Result, Ok, Err, Option, Some, None}
-use Rattle.language_limits.specs.declared.TheConstants.{PIECE_WORDS}
-use Rattle.depth_first_list.specs.Passed.FaultKindType.{FaultKind}
+use Rattle.depth_first_list.specs.Passed.Constants.{PIECE_WORDS}
+use Rattle.depth_first_list.specs.Passed.FaultKind.{FaultKind}
 use Rattle.depth_first_list.specs.Passed.FaultKindVariants as faults
-use Rattle.depth_first_list.specs.Passed.FaultAtType.{FaultAt}
-use Rattle.depth_first_list.specs.Passed.FinishType.{Finish}
+use Rattle.depth_first_list.specs.Passed.FaultAt.{FaultAt}
+use Rattle.depth_first_list.specs.Passed.Finish.{Finish}
 use Rattle.depth_first_list.specs.Passed.FinishVariants.{Done, Faulted}
-use Rattle.depth_first_list.specs.Passed.Shapes.{Shape, leaf, forked}
+use Rattle.depth_first_list.specs.Shapes.{Shape, leaf, forked}
 use Rattle.depth_first_list.specs.Actions as actions
 use Rattle.depth_first_list.specs.Actions.{Action}
 use Rattle.depth_first_list.specs.Runs.{tree_for}
-use Rattle.depth_first_list.specs.Passed.DeclaredConstants.{LONGEST_BLOCK}
-use Rattle.par_ownership.specs.Passed.Tree.{Name, Expr, Target, Arg, Stmt, let_stmt, assign_stmt, put_stmt, alloc_stmt, free_stmt, if_stmt, while_stmt, call_stmt, print_stmt, par_stmt, split_stmt, Body, done, step, Func}
-use Rattle.par_ownership.specs.Passed.Names.{names_in_body, assigns_in_body}
+use Rattle.depth_first_list.specs.Passed.Constants.{LONGEST_BLOCK}
+use Rattle.par_tree.specs.Tree.{Name, Expr, Target, Arg, Stmt, let_stmt, assign_stmt, put_stmt, alloc_stmt, free_stmt, if_stmt, while_stmt, call_stmt, print_stmt, par_stmt, split_stmt, Body, done, step, Func}
+use Rattle.par_tree.specs.Names.{names_in_body, assigns_in_body}
 use Rattle.par_ownership.specs.Ownership.{function_of, main_name}
 use Rattle.depth_first_run.specs.Stores.{Store, nothing, with_integer, block_of, drop_block, hold_block, write_block, block_words}
 use Rattle.depth_first_run.specs.Values.{value, is_true, place_in}

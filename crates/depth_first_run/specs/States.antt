@@ -1,12 +1,12 @@
 -- A thread while it runs, and what single actions do to it.
 use Rattle.std.specs.Prelude.{ℕ, zero, suc, ◌+◌, Bool, true, false, nat_lt, List, [], ◌∷◌, ◌++◌, ℤ, Ok, Err}
 use Rattle.depth_first_list.specs.Passed.LabelOrder.{fork_of}
-use Rattle.depth_first_list.specs.Passed.FaultKindType.{FaultKind}
+use Rattle.depth_first_list.specs.Passed.FaultKind.{FaultKind}
 use Rattle.depth_first_list.specs.Passed.FaultKindVariants as faults
-use Rattle.depth_first_list.specs.Passed.FaultAtType.{FaultAt}
+use Rattle.depth_first_list.specs.Passed.FaultAt.{FaultAt}
 use Rattle.depth_first_list.specs.Actions as actions
 use Rattle.depth_first_list.specs.Actions.{Action, Deed, record_words}
-use Rattle.par_ownership.specs.Passed.Tree.{Name, Program}
+use Rattle.par_tree.specs.Tree.{Name, Program}
 use Rattle.depth_first_run.specs.Stores.{Store, nothing, those_named, those_not_named, held_words, stored_words}
 use Rattle.depth_first_run.specs.Values.{Outcome}
 

@@ -2,8 +2,8 @@
 use Rattle.std.specs.Prelude.{ℕ, ◌+◌, ◌*◌, Bool, if◌then◌else◌, List, [], ◌∷◌, ◌++◌, length, ℤ, pos}
 use Rattle.std.specs.Int.{div_ceil}
 use Rattle.std.specs.Str.{bytes_eq}
-use Rattle.language_limits.specs.declared.TheConstants.{PIECE_WORDS}
-use Rattle.par_ownership.specs.Passed.Tree.{Name}
+use Rattle.depth_first_list.specs.Passed.Constants.{PIECE_WORDS}
+use Rattle.par_tree.specs.Tree.{Name}
 
 -- a block that is held, under its name: its numbers
 pub record Held : Type 0 where

@@ -3,9 +3,9 @@
 use Rattle.std.specs.Prelude.{ℕ, Bool, true, false, not, if◌then◌else◌, List, length, ℤ, pos, negsuc, int_lt, int_le, int_rem, nat_eq, nat_le, Option, Some, None, Result, Ok, Err, slice_get}
 use Rattle.std.specs.Int.{w64, int_wrapping_add, int_wrapping_sub, int_wrapping_mul, int_wrapping_div, int_wrapping_neg}
 use Rattle.std.specs.Ordering.{int_eq}
-use Rattle.depth_first_list.specs.Passed.FaultKindType.{FaultKind}
+use Rattle.depth_first_list.specs.Passed.FaultKind.{FaultKind}
 use Rattle.depth_first_list.specs.Passed.FaultKindVariants as faults
-use Rattle.par_ownership.specs.Passed.Tree.{Expr, num, var, get, len_of, neg, chain, cmp, Links, last, link, ChainOp, plus, minus, times, over, modulo, Comparison, equal, unequal, below, at_most, above, at_least}
+use Rattle.par_tree.specs.Tree.{Expr, num, var, get, len_of, neg, chain, cmp, Links, last, link, ChainOp, plus, minus, times, over, modulo, Comparison, equal, unequal, below, at_most, above, at_least}
 use Rattle.depth_first_run.specs.Stores.{Store, block_of}
 
 -- a number, or a fault

@@ -1,13 +1,13 @@
 -- Each event keeps births in order.
 use Rattle.std.proofs.Common.{◌≡◌, ℕ, ◌⊎◌, List, [], ◌∷◌, ◌++◌, inl, inr, sym, ap, subst, ◌∙◌, append_assoc, append-nil}
 use Rattle.std.specs.Prelude.{Some}
-use Rattle.depth_first_run.specs.Passed.LabelOrder.{fork_of}
-use Rattle.lawful_books.specs.Passed.Actions.{forks, Action}
-use Rattle.lawful_books.specs.Passed.Runs.{IsDepthFirst}
-use Rattle.lawful_books.specs.Passed.Facts.{label_at, deed_at, IsDone, IsLive}
-use Rattle.lawful_books.specs.Lists.{Among, Each}
-use Rattle.lawful_books.specs.Books.{Book, booked, done_in}
-use Rattle.lawful_books.proofs.Lists.{each_map, each_from, each_among, among_left, among_right, among_parts, among_times, by_end}
+use Rattle.dag_order.specs.LabelOrder.{fork_of}
+use Rattle.depth_first_run.specs.Passed.Actions.{forks, Action}
+use Rattle.depth_first_run.specs.Passed.Runs.{IsDepthFirst}
+use Rattle.depth_first_run.specs.Passed.Facts.{label_at, deed_at, IsDone, IsLive}
+use Rattle.deque_machine.specs.Lists.{Among, Each}
+use Rattle.deque_machine.specs.Books.{Book, booked, done_in}
+use Rattle.deque_machine.proofs.Lists.{each_map, each_from, each_among, among_left, among_right, among_parts, among_times, by_end}
 use Rattle.deque_machine.specs.Moments.{Deque}
 use Rattle.deque_machine.specs.LawfulOrder.{IsRootOrBorn, ParentsFirst, BornBy, OwnedBorn}
 use Rattle.deque_machine.proofs.LiveThreads.{fork_is_done}

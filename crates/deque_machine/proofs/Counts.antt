@@ -1,9 +1,9 @@
 -- Each event keeps one open period for each owner.
 use Rattle.std.proofs.Common.{◌≡◌, ◌≢◌, ℕ, ◌+◌, ◌≤◌, List, [], ◌∷◌, ◌++◌, refl, ap, arith}
 use Rattle.std.specs.Prelude.{Option, Some, unwrap_or}
-use Rattle.lawful_books.specs.Lists.{Each, one_if_same}
-use Rattle.lawful_books.specs.Books.{Book}
-use Rattle.lawful_books.proofs.Lists.{total_append, one_same}
+use Rattle.deque_machine.specs.Lists.{Each, one_if_same}
+use Rattle.deque_machine.specs.Books.{Book}
+use Rattle.deque_machine.proofs.Lists.{total_append, one_same}
 use Rattle.deque_machine.specs.Moments.{Deque, open_for, one_if_owned, one_if_open, one_if_worker}
 use Rattle.deque_machine.specs.LawfulOrder.{OnePeriodEach}
 

@@ -2,16 +2,16 @@
 use Rattle.std.proofs.Common.{◌≡◌, ℕ, suc, ◌+◌, ◌*◌, ◌≤◌, ◌<◌, ◌⊎◌, List, [], ◌∷◌, ◌++◌, length, inl, inr, refl, sym, ap, subst, ◌∙◌, arith, length-append, cond, nat_lt, nat_le, Bool, true, false}
 use Rattle.std.specs.Prelude.{Option, None, Some}
 use Rattle.std.proofs.lemmas.Bool.{cases_lt, lt-ltb, leb-true}
-use Rattle.depth_first_run.specs.Passed.LabelOrder.{fork_of}
-use Rattle.lawful_books.specs.Passed.Actions.{Deed, forks, joins, allocates, releases, dummy, faults, ends, record_words}
-use Rattle.lawful_books.specs.Passed.Runs.{IsDepthFirst}
-use Rattle.lawful_books.specs.Passed.Facts.{label_at, deed_at, words_at, IsDone}
-use Rattle.lawful_books.specs.Lists.{Among, Each, Differ, total, times, one_if_same}
-use Rattle.lawful_books.specs.Books.{Book, booked, charge, charge_at, charged, book_of}
-use Rattle.lawful_books.specs.Lawful.{LawfulBooks}
-use Rattle.lawful_books.proofs.Lists.{among_middle, each_map, total_append, each_from, times_among, among_times, one_cases, one_same, same_head, same_tail, each_join}
-use Rattle.lawful_books.proofs.Keeping.{booked_append, begun_same, times_append}
-use Rattle.lawful_books.proofs.Whole.{few_places}
+use Rattle.dag_order.specs.LabelOrder.{fork_of}
+use Rattle.depth_first_run.specs.Passed.Actions.{Deed, forks, joins, allocates, releases, dummy, faults, ends, record_words}
+use Rattle.depth_first_run.specs.Passed.Runs.{IsDepthFirst}
+use Rattle.depth_first_run.specs.Passed.Facts.{label_at, deed_at, words_at, IsDone}
+use Rattle.deque_machine.specs.Lists.{Among, Each, Differ, total, times, one_if_same}
+use Rattle.deque_machine.specs.Books.{Book, booked, charge, charge_at, charged, book_of}
+use Rattle.deque_machine.specs.Lawful.{LawfulBooks}
+use Rattle.deque_machine.proofs.Lists.{among_middle, each_map, total_append, each_from, times_among, among_times, one_cases, one_same, same_head, same_tail, each_join}
+use Rattle.deque_machine.proofs.Keeping.{booked_append, begun_same, times_append}
+use Rattle.deque_machine.proofs.Whole.{few_places}
 use Rattle.deque_machine.specs.Moments.{Deque, Waiting, Moment, opening, done_at, waiting_threads, open_for, one_if_open, one_if_worker}
 use Rattle.deque_machine.specs.Machine.{Setting, Event, gives_up, Owns, books_with, books_closed, new_book, May, steals_beside, takes_over, forks_child, joins_child, allocates_within, allocates_above, releases_words, meets_fault, runs_dummy, ends_above_parent, ends_and_wakes, ends_and_leaves, suspends_top, gives_deque_up}
 use Rattle.deque_machine.specs.LawfulOrder.{Waits, IsLawful}

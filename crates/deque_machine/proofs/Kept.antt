@@ -1,11 +1,11 @@
 -- Each case of the machine keeps a moment lawful, and the opening moment is lawful.
 use Rattle.std.proofs.Common.{◌≡◌, ℕ, ◌<◌, List, [], inl, inr, refl, arith}
-use Rattle.lawful_books.specs.Passed.Actions.{Action}
-use Rattle.lawful_books.specs.Passed.Runs.{IsDepthFirst}
-use Rattle.lawful_books.specs.Passed.Facts.{label_at, IsLive}
-use Rattle.lawful_books.proofs.Passed.ThreadLaws.{root_ends}
-use Rattle.lawful_books.proofs.Lists.{one_cases}
-use Rattle.lawful_books.proofs.Keeping.{no_books_are_lawful}
+use Rattle.depth_first_run.specs.Passed.Actions.{Action}
+use Rattle.depth_first_run.specs.Passed.Runs.{IsDepthFirst}
+use Rattle.depth_first_run.specs.Passed.Facts.{label_at, IsLive}
+use Rattle.depth_first_run.proofs.Passed.ThreadLaws.{root_ends}
+use Rattle.deque_machine.proofs.Lists.{one_cases}
+use Rattle.deque_machine.proofs.Keeping.{no_books_are_lawful}
 use Rattle.deque_machine.specs.Moments.{Moment, opening}
 use Rattle.deque_machine.specs.Machine.{Setting, Event, May}
 use Rattle.deque_machine.specs.LawfulOrder.{IsLawful}
@@ -14,7 +14,7 @@ use Rattle.deque_machine.proofs.Labels.{middle_of_fork}
 use Rattle.deque_machine.proofs.KeptOrder.{kept_order, kept_books}
 use Rattle.deque_machine.proofs.KeptPeriods.{kept_births, kept_counts, kept_workers}
 use Rattle.deque_machine.proofs.KeptBegun.{kept_begun}
-use Rattle.lawful_books.proofs.Lists.{by_end, cons_is_not_nil}
+use Rattle.deque_machine.proofs.Lists.{by_end, cons_is_not_nil}
 
 pub kept : (s : Setting) → IsDepthFirst s.quota s.list → (m : Moment) → IsLawful s m → (worker : ℕ) (event : Event) (after : Moment) → May s m worker event after → IsLawful s after
 kept s run m lawful worker event after may =

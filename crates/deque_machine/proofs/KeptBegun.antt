@@ -2,17 +2,17 @@
 use Rattle.std.proofs.Common.{◌≡◌, ◌≢◌, ℕ, ◌≤◌, ◌<◌, ◌⊎◌, List, [], ◌∷◌, ◌++◌, length, inl, inr, refl, sym, ap, subst, ◌∙◌, arith, nat_lt, nat_le, Bool, true, false, ◌||◌, true≢false}
 use Rattle.std.specs.Prelude.{Option, None, Some, is_some}
 use Rattle.std.proofs.lemmas.Bool.{cases_lt, cases_eq, cases_Bool, leb-true, leb-false, lt-ltb}
-use Rattle.depth_first_run.specs.Passed.LabelOrder.{fork_of, Before}
-use Rattle.lawful_books.specs.Passed.Actions.{Action}
-use Rattle.lawful_books.specs.Passed.Runs.{IsDepthFirst}
-use Rattle.lawful_books.specs.Passed.Facts.{label_at, deed_at, IsDone, IsLive, IsNext}
-use Rattle.lawful_books.proofs.Passed.OrderLaw.{labels_follow_the_list, first_missing_is_next}
-use Rattle.lawful_books.proofs.Passed.JoinLaws.{join_stands_behind_child}
-use Rattle.lawful_books.specs.Lists.{Among, Each, one_if_same, times}
-use Rattle.lawful_books.specs.Books.{Book, booked, done_in, IsPrefix, goes_past, is_ahead, book_of}
-use Rattle.lawful_books.specs.Lawful.{LawfulBooks}
-use Rattle.lawful_books.proofs.Lists.{each_map, each_from, each_among, each_at, each_join, each_left, each_right, each_change, among_left, among_right, among_parts, total_append, one_same, times_among}
-use Rattle.lawful_books.proofs.Keeping.{prefix_of, done_more, closed_same, begun_same}
+use Rattle.dag_order.specs.LabelOrder.{fork_of, Before}
+use Rattle.depth_first_run.specs.Passed.Actions.{Action}
+use Rattle.depth_first_run.specs.Passed.Runs.{IsDepthFirst}
+use Rattle.depth_first_run.specs.Passed.Facts.{label_at, deed_at, IsDone, IsLive, IsNext}
+use Rattle.depth_first_run.proofs.Passed.OrderLaw.{labels_follow_the_list, first_missing_is_next}
+use Rattle.depth_first_run.proofs.Passed.JoinLaws.{join_stands_behind_child}
+use Rattle.deque_machine.specs.Lists.{Among, Each, one_if_same, times}
+use Rattle.deque_machine.specs.Books.{Book, booked, done_in, IsPrefix, goes_past, is_ahead, book_of}
+use Rattle.deque_machine.specs.Lawful.{LawfulBooks}
+use Rattle.deque_machine.proofs.Lists.{each_map, each_from, each_among, each_at, each_join, each_left, each_right, each_change, among_left, among_right, among_parts, total_append, one_same, times_among}
+use Rattle.deque_machine.proofs.Keeping.{prefix_of, done_more, closed_same, begun_same}
 use Rattle.deque_machine.specs.Moments.{Deque, Waiting, Moment, threads_in, waiting_threads, done_at, owned_by, one_if_owned, one_if_worker, Rises}
 use Rattle.deque_machine.specs.Machine.{Setting, Event, Owns, deques_with, books_with, books_closed, new_book, May, steals_beside, takes_over, forks_child, joins_child, allocates_within, allocates_above, releases_words, meets_fault, runs_dummy, ends_above_parent, ends_and_wakes, ends_and_leaves, suspends_top, gives_deque_up}
 use Rattle.deque_machine.specs.LawfulOrder.{OrderOf, LawfulOrder, LawfulPeriods, OwnsFirst, BegunAhead, Waits}

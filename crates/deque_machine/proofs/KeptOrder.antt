@@ -2,16 +2,16 @@
 use Rattle.std.proofs.Common.{◌≡◌, ◌≢◌, ℕ, ◌+◌, ◌≤◌, ◌<◌, List, [], ◌∷◌, ◌++◌, length, inl, inr, refl, sym, ap, subst, ◌∙◌, arith, cond, nat_lt, true}
 use Rattle.std.specs.Prelude.{Option, None, Some}
 use Rattle.std.proofs.lemmas.Bool.{cases_lt, le-leb, lt-leb}
-use Rattle.depth_first_run.specs.Passed.LabelOrder.{fork_of}
-use Rattle.lawful_books.specs.Passed.Actions.{Deed, forks, joins, allocates, releases, dummy, faults, ends}
-use Rattle.lawful_books.specs.Passed.Runs.{IsDepthFirst}
-use Rattle.lawful_books.specs.Passed.Facts.{label_at, deed_at, words_at, IsLive, IsNext}
-use Rattle.lawful_books.proofs.Passed.ThreadLaws.{end_is_last}
-use Rattle.lawful_books.specs.Lists.{Each, times}
-use Rattle.lawful_books.specs.Books.{Book, booked, done_in, charge, charge_at, charged}
-use Rattle.lawful_books.specs.Lawful.{LawfulBooks}
-use Rattle.lawful_books.proofs.Lists.{each_at}
-use Rattle.lawful_books.proofs.Keeping.{done_more, closed_same, begun_same, running_keeps, closing_keeps, beginning_keeps}
+use Rattle.dag_order.specs.LabelOrder.{fork_of}
+use Rattle.depth_first_run.specs.Passed.Actions.{Deed, forks, joins, allocates, releases, dummy, faults, ends}
+use Rattle.depth_first_run.specs.Passed.Runs.{IsDepthFirst}
+use Rattle.depth_first_run.specs.Passed.Facts.{label_at, deed_at, words_at, IsLive, IsNext}
+use Rattle.depth_first_run.proofs.Passed.ThreadLaws.{end_is_last}
+use Rattle.deque_machine.specs.Lists.{Each, times}
+use Rattle.deque_machine.specs.Books.{Book, booked, done_in, charge, charge_at, charged}
+use Rattle.deque_machine.specs.Lawful.{LawfulBooks}
+use Rattle.deque_machine.proofs.Lists.{each_at}
+use Rattle.deque_machine.proofs.Keeping.{done_more, closed_same, begun_same, running_keeps, closing_keeps, beginning_keeps}
 use Rattle.deque_machine.specs.Moments.{Deque, Moment, threads_in, done_at, owned_by, with_id}
 use Rattle.deque_machine.specs.Machine.{Setting, Event, Owns, books_with, books_closed, IsAtTop, HasEnded, new_book, May, steals_beside, takes_over, forks_child, joins_child, allocates_within, allocates_above, releases_words, meets_fault, runs_dummy, ends_above_parent, ends_and_wakes, ends_and_leaves, suspends_top, gives_deque_up}
 use Rattle.deque_machine.specs.LawfulOrder.{Waits, OrderOf, LawfulOrder}

@@ -1,14 +1,14 @@
 -- Each case of the machine keeps the periods and the births in order.
 use Rattle.std.proofs.Common.{◌≡◌, ◌≢◌, ℕ, ◌≤◌, ◌<◌, ◌⊎◌, List, [], ◌∷◌, ◌++◌, length, inl, inr, refl, sym, ap, subst, ◌∙◌, arith, append_assoc, nat_lt, true, true≢false}
 use Rattle.std.specs.Prelude.{Option, None, Some, is_some}
-use Rattle.depth_first_run.specs.Passed.LabelOrder.{fork_of}
-use Rattle.lawful_books.specs.Passed.Actions.{forks, Action}
-use Rattle.lawful_books.specs.Passed.Runs.{IsDepthFirst}
-use Rattle.lawful_books.specs.Passed.Facts.{label_at, deed_at, IsLive, IsNext}
-use Rattle.lawful_books.specs.Lists.{Among, Each}
-use Rattle.lawful_books.specs.Books.{Book, booked, one_more, book_of}
-use Rattle.lawful_books.proofs.Lists.{each_map, each_from, each_among, each_at, each_join, each_left, each_right, among_here, among_left, among_right, among_wider, among_parts, total_append, one_cases}
-use Rattle.lawful_books.proofs.Keeping.{booked_append, closed_same, begun_same}
+use Rattle.dag_order.specs.LabelOrder.{fork_of}
+use Rattle.depth_first_run.specs.Passed.Actions.{forks, Action}
+use Rattle.depth_first_run.specs.Passed.Runs.{IsDepthFirst}
+use Rattle.depth_first_run.specs.Passed.Facts.{label_at, deed_at, IsLive, IsNext}
+use Rattle.deque_machine.specs.Lists.{Among, Each}
+use Rattle.deque_machine.specs.Books.{Book, booked, one_more, book_of}
+use Rattle.deque_machine.proofs.Lists.{each_map, each_from, each_among, each_at, each_join, each_left, each_right, among_here, among_left, among_right, among_wider, among_parts, total_append, one_cases}
+use Rattle.deque_machine.proofs.Keeping.{booked_append, closed_same, begun_same}
 use Rattle.deque_machine.specs.Moments.{Deque, Moment, threads_in, done_at, owned_by, open_for, one_if_owned, one_if_open, one_if_worker}
 use Rattle.deque_machine.specs.Machine.{Setting, Event, Owns, deques_with, books_with, books_closed, IsIdle, new_book, May, steals_beside, takes_over, forks_child, joins_child, allocates_within, allocates_above, releases_words, meets_fault, runs_dummy, ends_above_parent, ends_and_wakes, ends_and_leaves, suspends_top, gives_deque_up}
 use Rattle.deque_machine.specs.LawfulOrder.{LawfulOrder, IsRootOrBorn, ParentsFirst, BirthsOf, OnePeriodEach, LawfulPeriods}

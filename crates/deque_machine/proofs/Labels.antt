@@ -1,10 +1,10 @@
 -- Labels of forks, and lists of labels that rise.
 use Rattle.std.proofs.Common.{◌≡◌, ℕ, ◌⊎◌, List, [], ◌∷◌, ◌++◌, length, inl, inr, refl, sym, ap, subst, ◌∙◌, arith, length-append, append_assoc, append-nil}
-use Rattle.depth_first_run.specs.Passed.LabelOrder.{fork_of, Before}
-use Rattle.depth_first_run.specs.Passed.LabelLaws.{never_before_itself}
-use Rattle.lawful_books.specs.Passed.Facts.{StemsFrom}
-use Rattle.lawful_books.specs.Lists.{Among, Each}
-use Rattle.lawful_books.proofs.Lists.{each_left, each_right, each_join, each_without, each_among, same_head, same_tail, middle_is_not_nil, by_end}
+use Rattle.dag_order.specs.LabelOrder.{fork_of, Before}
+use Rattle.dag_order.specs.LabelLaws.{never_before_itself}
+use Rattle.depth_first_run.specs.Passed.Facts.{StemsFrom}
+use Rattle.deque_machine.specs.Lists.{Among, Each}
+use Rattle.deque_machine.proofs.Lists.{each_left, each_right, each_join, each_without, each_among, same_head, same_tail, middle_is_not_nil, by_end}
 use Rattle.deque_machine.specs.Moments.{Rises}
 
 pub same_ends : (xs ys : List ℕ) (x y : ℕ) → xs ++ x ∷ [] ≡ ys ++ y ∷ [] → (xs ≡ ys) × (x ≡ y)

@@ -1,3 +1,9 @@
+pub mod Lists
+pub mod Parts
+pub mod Words
+pub mod Accounting
+pub mod Keeping
+pub mod Whole
 pub mod Labels
 pub mod OneAction
 pub mod LiveThreads
@@ -16,4 +22,10 @@ pub mod Ends
 pub mod Progress
 pub mod Movers
 pub mod Playing
-pub mod Passed
+pub mod Examples
+pub mod TestLaws
+pub mod StepSound
+pub mod StepComplete
+pub mod Replay
+pub mod OnePlay
+pub mod PlayedSound

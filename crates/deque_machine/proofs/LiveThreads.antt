@@ -1,14 +1,14 @@
 -- What is known of live threads.
 use Rattle.std.proofs.Common.{◌≡◌, ◌≢◌, ℕ, suc, ◌≤◌, ◌<◌, List, ◌∷◌, ◌++◌, length, inl, inr, sym, ap, subst, ◌∙◌, arith}
 use Rattle.std.proofs.lemmas.Bool.{cases_order}
-use Rattle.depth_first_run.specs.Passed.LabelOrder.{fork_of, StemsFromForkOn}
-use Rattle.lawful_books.specs.Passed.Actions.{Deed, forks, joins, ends, Action}
-use Rattle.lawful_books.specs.Passed.Runs.{IsDepthFirst}
-use Rattle.lawful_books.specs.Passed.Facts.{label_at, deed_at, StemsFrom, IsDone, IsLive, IsNext}
-use Rattle.lawful_books.specs.Passed.Laws.{ForksAreInOrder}
-use Rattle.lawful_books.proofs.Passed.ThreadLaws.{fork_stands_before, forked_once, forks_are_in_order}
-use Rattle.lawful_books.proofs.Passed.LiveLaws.{parents_are_live, joins_the_last_live}
-use Rattle.lawful_books.proofs.Passed.JoinLaws.{join_stands_behind_child}
+use Rattle.dag_order.specs.LabelOrder.{fork_of, StemsFromForkOn}
+use Rattle.depth_first_run.specs.Passed.Actions.{Deed, forks, joins, ends, Action}
+use Rattle.depth_first_run.specs.Passed.Runs.{IsDepthFirst}
+use Rattle.depth_first_run.specs.Passed.Facts.{label_at, deed_at, StemsFrom, IsDone, IsLive, IsNext}
+use Rattle.depth_first_run.specs.Passed.Laws.{ForksAreInOrder}
+use Rattle.depth_first_run.proofs.Passed.ThreadLaws.{fork_stands_before, forked_once, forks_are_in_order}
+use Rattle.depth_first_run.proofs.Passed.LiveLaws.{parents_are_live, joins_the_last_live}
+use Rattle.depth_first_run.proofs.Passed.JoinLaws.{join_stands_behind_child}
 use Rattle.deque_machine.proofs.Labels.{stems_from_fork, above_a_fork, one_parent}
 
 -- a Join is no End, and no Fork

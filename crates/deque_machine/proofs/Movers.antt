@@ -3,15 +3,15 @@ use Rattle.std.proofs.Common.{◌≡◌, ◌≢◌, ℕ, zero, suc, ◌+◌, ◌
 use Rattle.std.specs.Prelude.{Option, None, Some, is_some, slice_get, unwrap_or}
 use Rattle.std.proofs.lemmas.Bool.{cases_lt, cases_eq}
 use Rattle.std.proofs.Math.Nat.{div-add-mod, mod-lt, mod-eq_of_lt, add-mul-mod_self_left, mul-add}
-use Rattle.depth_first_run.specs.Passed.LabelOrder.{fork_of}
-use Rattle.lawful_books.specs.Passed.Actions.{Deed, forks, joins, allocates, releases, dummy, faults, ends}
-use Rattle.lawful_books.specs.Passed.Runs.{IsDepthFirst}
-use Rattle.lawful_books.specs.Passed.Facts.{label_at, deed_at, IsLive, IsNext}
-use Rattle.lawful_books.proofs.Passed.ThreadLaws.{root_ends}
-use Rattle.lawful_books.proofs.Passed.OrderLaw.{live_has_next}
-use Rattle.lawful_books.specs.Lists.{Each, one_if_same}
-use Rattle.lawful_books.specs.Books.{Book, charge_at, charged}
-use Rattle.lawful_books.proofs.Lists.{each_at, one_cases, one_same, one_other}
+use Rattle.dag_order.specs.LabelOrder.{fork_of}
+use Rattle.depth_first_run.specs.Passed.Actions.{Deed, forks, joins, allocates, releases, dummy, faults, ends}
+use Rattle.depth_first_run.specs.Passed.Runs.{IsDepthFirst}
+use Rattle.depth_first_run.specs.Passed.Facts.{label_at, deed_at, IsLive, IsNext}
+use Rattle.depth_first_run.proofs.Passed.ThreadLaws.{root_ends}
+use Rattle.depth_first_run.proofs.Passed.OrderLaw.{live_has_next}
+use Rattle.deque_machine.specs.Lists.{Each, one_if_same}
+use Rattle.deque_machine.specs.Books.{Book, charge_at, charged}
+use Rattle.deque_machine.proofs.Lists.{each_at, one_cases, one_same, one_other}
 use Rattle.deque_machine.specs.Moments.{Deque, Moment, done_at, threads_in, owned_by, open_for, with_id, one_if_owned, one_if_open, one_if_id, one_if_worker}
 use Rattle.deque_machine.specs.Machine.{Setting, Event, steals, does, suspends, gives_up, Owns, HasEnded}
 use Rattle.deque_machine.specs.LawfulOrder.{IsLawful}

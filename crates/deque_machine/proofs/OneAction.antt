@@ -1,14 +1,14 @@
 -- Which threads are live, and what comes next, behind one action more.
 use Rattle.std.proofs.Common.{◌≡◌, ◌≢◌, ℕ, suc, ◌+◌, ◌≤◌, ◌<◌, ◌⊎◌, List, [], ◌∷◌, ◌++◌, length, inl, inr, refl, sym, ap, subst, ◌∙◌, arith, append_assoc, append-nil}
 use Rattle.std.proofs.lemmas.Bool.{cases_lt}
-use Rattle.depth_first_run.specs.Passed.LabelOrder.{fork_of}
-use Rattle.lawful_books.specs.Passed.Actions.{Deed, forks, ends, Action}
-use Rattle.lawful_books.specs.Passed.Runs.{IsDepthFirst}
-use Rattle.lawful_books.specs.Passed.Facts.{label_at, deed_at, StemsFrom, IsDone, IsLive, IsNext}
-use Rattle.lawful_books.proofs.Passed.ThreadLaws.{fork_stands_before, forked_once, child_begins_behind_fork, child_stands_together}
-use Rattle.lawful_books.proofs.Passed.Own.{one_fork}
-use Rattle.lawful_books.specs.Lists.{one_if_same}
-use Rattle.lawful_books.proofs.Lists.{one_cases}
+use Rattle.dag_order.specs.LabelOrder.{fork_of}
+use Rattle.depth_first_run.specs.Passed.Actions.{Deed, forks, ends, Action}
+use Rattle.depth_first_run.specs.Passed.Runs.{IsDepthFirst}
+use Rattle.depth_first_run.specs.Passed.Facts.{label_at, deed_at, StemsFrom, IsDone, IsLive, IsNext}
+use Rattle.depth_first_run.proofs.Passed.ThreadLaws.{fork_stands_before, forked_once, child_begins_behind_fork, child_stands_together}
+use Rattle.depth_first_run.proofs.Passed.Own.{one_fork}
+use Rattle.deque_machine.specs.Lists.{one_if_same}
+use Rattle.deque_machine.proofs.Lists.{one_cases}
 use Rattle.deque_machine.proofs.Labels.{one_parent, fork_is_longer, above_a_fork, below_a_thread, stems_from_fork}
 
 -- an End is no Fork

@@ -1,12 +1,12 @@
 -- Each event keeps the order.
 use Rattle.std.proofs.Common.{◌≡◌, ◌≢◌, ℕ, ◌+◌, ◌≤◌, ◌⊎◌, List, [], ◌∷◌, ◌++◌, inl, inr, refl, sym, ap, subst, ◌∙◌, arith, append_assoc}
 use Rattle.std.specs.Prelude.{Option, None, Some}
-use Rattle.depth_first_run.specs.Passed.LabelOrder.{fork_of}
-use Rattle.lawful_books.specs.Passed.Actions.{forks, ends, Action}
-use Rattle.lawful_books.specs.Passed.Runs.{IsDepthFirst}
-use Rattle.lawful_books.specs.Passed.Facts.{label_at, deed_at, IsDone, IsLive, IsNext}
-use Rattle.lawful_books.specs.Lists.{Among, Each, one_if_same}
-use Rattle.lawful_books.proofs.Lists.{total_append, each_map, each_from, each_among, each_at, each_change, each_join, each_left, each_right, among_here, among_left, among_right, cons_is_not_nil, one_cases}
+use Rattle.dag_order.specs.LabelOrder.{fork_of}
+use Rattle.depth_first_run.specs.Passed.Actions.{forks, ends, Action}
+use Rattle.depth_first_run.specs.Passed.Runs.{IsDepthFirst}
+use Rattle.depth_first_run.specs.Passed.Facts.{label_at, deed_at, IsDone, IsLive, IsNext}
+use Rattle.deque_machine.specs.Lists.{Among, Each, one_if_same}
+use Rattle.deque_machine.proofs.Lists.{total_append, each_map, each_from, each_among, each_at, each_change, each_join, each_left, each_right, among_here, among_left, among_right, cons_is_not_nil, one_cases}
 use Rattle.deque_machine.specs.Moments.{Deque, Waiting, threads_in, waiting_threads, owned_by, with_id, one_if_owned, one_if_id, one_if_worker}
 use Rattle.deque_machine.specs.LawfulOrder.{Waits, Stacked, ChildrenAbove, OrderOf}
 use Rattle.deque_machine.proofs.Labels.{one_parent, fork_is_longer, stands_once}

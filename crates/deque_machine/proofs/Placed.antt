@@ -1,12 +1,12 @@
 -- Where the live threads are, behind each kind of event: in the deques, as one list of labels, or among the waiting.
 use Rattle.std.proofs.Common.{◌≡◌, ◌≢◌, ℕ, ◌+◌, ◌⊎◌, List, [], ◌∷◌, ◌++◌, inl, inr, refl, sym, ap, subst, ◌∙◌, arith}
-use Rattle.depth_first_run.specs.Passed.LabelOrder.{fork_of, Before}
-use Rattle.depth_first_run.specs.Passed.LabelLaws.{extension_is_before, before_further, left_of_a_fork, right_of_a_fork, right_of_an_ended_fork}
-use Rattle.lawful_books.specs.Passed.Actions.{forks, ends, Action}
-use Rattle.lawful_books.specs.Passed.Runs.{IsDepthFirst}
-use Rattle.lawful_books.specs.Passed.Facts.{label_at, deed_at, IsDone, IsLive, IsNext}
-use Rattle.lawful_books.specs.Lists.{Among, Each, Differ, one_if_same}
-use Rattle.lawful_books.proofs.Lists.{each_map, each_from, each_among, each_without, each_at, each_join, each_left, each_right, among_here, among_wider, among_middle, among_left, among_right, differ_without, differ_at}
+use Rattle.dag_order.specs.LabelOrder.{fork_of, Before}
+use Rattle.dag_order.specs.LabelLaws.{extension_is_before, before_further, left_of_a_fork, right_of_a_fork, right_of_an_ended_fork}
+use Rattle.depth_first_run.specs.Passed.Actions.{forks, ends, Action}
+use Rattle.depth_first_run.specs.Passed.Runs.{IsDepthFirst}
+use Rattle.depth_first_run.specs.Passed.Facts.{label_at, deed_at, IsDone, IsLive, IsNext}
+use Rattle.deque_machine.specs.Lists.{Among, Each, Differ, one_if_same}
+use Rattle.deque_machine.proofs.Lists.{each_map, each_from, each_among, each_without, each_at, each_join, each_left, each_right, among_here, among_wider, among_middle, among_left, among_right, differ_without, differ_at}
 use Rattle.deque_machine.specs.Moments.{Waiting, waiting_threads, Rises}
 use Rattle.deque_machine.specs.LawfulOrder.{Waits}
 use Rattle.deque_machine.proofs.Labels.{one_parent, fork_is_longer, rises_without, rises_with, left_is_before, right_is_behind, stands_once}

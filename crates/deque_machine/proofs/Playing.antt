@@ -4,15 +4,15 @@ use Rattle.std.specs.Prelude.{Option, None, Some, is_some, slice_get, unwrap_or}
 use Rattle.std.proofs.lemmas.Bool.{cases_lt}
 use Rattle.std.proofs.lemmas.Int.{ints, by_lt_z}
 use Rattle.std.proofs.Math.Nat.{mod-lt}
-use Rattle.lawful_books.specs.Passed.Actions.{Deed, forks, joins, allocates, releases, dummy, faults, ends, record_words, weight_of}
-use Rattle.lawful_books.specs.Passed.Runs.{IsDepthFirst}
-use Rattle.lawful_books.specs.Passed.Facts.{action_at, deed_at, words_at, weight_at}
-use Rattle.lawful_books.specs.Lists.{total}
-use Rattle.lawful_books.specs.Books.{booked, periods_ahead}
-use Rattle.lawful_books.specs.Lawful.{LawfulBooks}
-use Rattle.lawful_books.proofs.Lists.{each_from, times_among}
-use Rattle.lawful_books.proofs.Keeping.{closed_same, begun_same, prefix_of}
-use Rattle.lawful_books.proofs.Whole.{few_places, total_ones}
+use Rattle.depth_first_run.specs.Passed.Actions.{Deed, forks, joins, allocates, releases, dummy, faults, ends, record_words, weight_of}
+use Rattle.depth_first_run.specs.Passed.Runs.{IsDepthFirst}
+use Rattle.depth_first_run.specs.Passed.Facts.{action_at, deed_at, words_at, weight_at}
+use Rattle.deque_machine.specs.Lists.{total}
+use Rattle.deque_machine.specs.Books.{booked, periods_ahead}
+use Rattle.deque_machine.specs.Lawful.{LawfulBooks}
+use Rattle.deque_machine.proofs.Lists.{each_from, times_among}
+use Rattle.deque_machine.proofs.Keeping.{closed_same, begun_same, prefix_of}
+use Rattle.deque_machine.proofs.Whole.{few_places, total_ones}
 use Rattle.deque_machine.specs.Moments.{Deque, Moment, opening, done_at, live_at}
 use Rattle.deque_machine.specs.Machine.{Setting, Event, steals, does, suspends, gives_up, Owns, books_with, books_closed, new_book, May, steals_beside, takes_over, forks_child, joins_child, allocates_within, allocates_above, releases_words, meets_fault, runs_dummy, ends_above_parent, ends_and_wakes, ends_and_leaves, suspends_top, gives_deque_up}
 use Rattle.deque_machine.specs.LawfulOrder.{IsLawful}

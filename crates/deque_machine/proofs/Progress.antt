@@ -2,20 +2,20 @@
 use Rattle.std.proofs.Common.{◌≡◌, ◌≢◌, ℕ, zero, suc, ◌+◌, ◌≤◌, ◌<◌, ◌⊎◌, List, [], ◌∷◌, ◌++◌, length, inl, inr, refl, sym, ap, subst, ◌∙◌, arith, cond, true≢false, mod-lt}
 use Rattle.std.specs.Prelude.{Option, None, Some, is_some, slice_get, unwrap_or}
 use Rattle.std.proofs.lemmas.Bool.{cases_lt, le-leb}
-use Rattle.depth_first_run.specs.Passed.LabelOrder.{fork_of}
-use Rattle.depth_first_run.specs.Passed.LabelLaws.{three_ways, never_before_itself}
-use Rattle.lawful_books.specs.Passed.Actions.{Deed, forks, joins, allocates, releases, dummy, faults, ends}
-use Rattle.lawful_books.specs.Passed.Runs.{IsDepthFirst}
-use Rattle.lawful_books.specs.Passed.Facts.{deed_at, words_at, IsLive, IsNext}
-use Rattle.lawful_books.specs.Lists.{Each}
-use Rattle.lawful_books.specs.Books.{charge, charge_at, charged}
-use Rattle.lawful_books.proofs.Lists.{each_at, by_end, cons_is_not_nil}
+use Rattle.dag_order.specs.LabelOrder.{fork_of}
+use Rattle.dag_order.specs.LabelLaws.{three_ways, never_before_itself}
+use Rattle.depth_first_run.specs.Passed.Actions.{Deed, forks, joins, allocates, releases, dummy, faults, ends}
+use Rattle.depth_first_run.specs.Passed.Runs.{IsDepthFirst}
+use Rattle.depth_first_run.specs.Passed.Facts.{deed_at, words_at, IsLive, IsNext}
+use Rattle.deque_machine.specs.Lists.{Each}
+use Rattle.deque_machine.specs.Books.{charge, charge_at, charged}
+use Rattle.deque_machine.proofs.Lists.{each_at, by_end, cons_is_not_nil}
 use Rattle.deque_machine.specs.Moments.{Deque, Waiting, Moment, done_at, owned_by, with_id}
 use Rattle.deque_machine.specs.Machine.{Setting, Event, steals, does, Owns, IsAtTop, HasEnded, May, steals_beside, takes_over, forks_child, joins_child, allocates_within, allocates_above, releases_words, meets_fault, runs_dummy, ends_above_parent, ends_and_wakes, ends_and_leaves, suspends_top, gives_deque_up}
 use Rattle.deque_machine.specs.LawfulOrder.{Stacked, ChildrenAbove, IsLawful, Waits}
 use Rattle.deque_machine.specs.Play.{IsReady, reach, IsThiefsId, Stays, Wants, a_theft, a_give_up, a_wait, an_action}
 use Rattle.deque_machine.proofs.KeptOrder.{suspended}
-use Rattle.depth_first_run.specs.Passed.LabelOrder.{Before as ComesBefore}
+use Rattle.dag_order.specs.LabelOrder.{Before as ComesBefore}
 
 -- a moment behind an event
 abbrev pub Comes : Setting → Moment → ℕ → Event → Type 0

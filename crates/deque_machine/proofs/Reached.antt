@@ -6,15 +6,15 @@ use Rattle.std.proofs.lemmas.Bool.{cases_Bool, ltb-false}
 use Rattle.std.proofs.lemmas.Int.{ints, clamps}
 use Rattle.std.proofs.lemmas.Nat.{mul-le}
 use Rattle.std.proofs.lemmas.List.{nil_from_length, map-append}
-use Rattle.lawful_books.specs.Passed.Actions.{Deed, forks, joins, allocates, releases, dummy, faults, ends, Action, live_words, peak, weight, weight_of}
-use Rattle.lawful_books.specs.Passed.Runs.{IsDepthFirst}
-use Rattle.lawful_books.specs.Passed.Facts.{action_at, label_at, deed_at, words_at, weight_at}
-use Rattle.lawful_books.proofs.Passed.Weights.{root_end_is_weightless}
-use Rattle.lawful_books.specs.Books.{Book, booked, words_in_use, IsPrefix, is_ahead, one_if_ahead, one_if_marked, periods_ahead, periods_marked, bound, one_more, book_of}
-use Rattle.lawful_books.proofs.Lists.{total_append, total_below, each_map}
-use Rattle.lawful_books.proofs.Parts.{live_append}
-use Rattle.lawful_books.proofs.Keeping.{booked_append, closed_same, begun_same, prefix_of, ended_has_all}
-use Rattle.lawful_books.proofs.Accounting.{accounting, arena_law}
+use Rattle.depth_first_run.specs.Passed.Actions.{Deed, forks, joins, allocates, releases, dummy, faults, ends, Action, live_words, peak, weight, weight_of}
+use Rattle.depth_first_run.specs.Passed.Runs.{IsDepthFirst}
+use Rattle.depth_first_run.specs.Passed.Facts.{action_at, label_at, deed_at, words_at, weight_at}
+use Rattle.depth_first_run.proofs.Passed.Weights.{root_end_is_weightless}
+use Rattle.deque_machine.specs.Books.{Book, booked, words_in_use, IsPrefix, is_ahead, one_if_ahead, one_if_marked, periods_ahead, periods_marked, bound, one_more, book_of}
+use Rattle.deque_machine.proofs.Lists.{total_append, total_below, each_map}
+use Rattle.deque_machine.proofs.Parts.{live_append}
+use Rattle.deque_machine.proofs.Keeping.{booked_append, closed_same, begun_same, prefix_of, ended_has_all}
+use Rattle.deque_machine.proofs.Accounting.{accounting, arena_law}
 use Rattle.deque_machine.specs.Moments.{Deque, Waiting, Moment, opening, done_at, live_at}
 use Rattle.deque_machine.specs.Machine.{Setting, Event, steals, does, suspends, gives_up, Owns, books_with, books_closed, new_book, May, steals_beside, takes_over, forks_child, joins_child, allocates_within, allocates_above, releases_words, meets_fault, runs_dummy, ends_above_parent, ends_and_wakes, ends_and_leaves, suspends_top, gives_deque_up}
 use Rattle.deque_machine.specs.LawfulOrder.{IsLawful}

@@ -2,11 +2,11 @@
 use Rattle.std.proofs.Common.{◌≡◌, ◌≢◌, ℕ, ◌≤◌, ◌⊎◌, List, [], ◌∷◌, ◌++◌, inl, inr, refl, sym, ap, subst, ◌∙◌, arith, append_assoc}
 use Rattle.std.specs.Prelude.{Option, None, Some, is_some, unwrap_or, cond, nat_eq}
 use Rattle.std.proofs.Common.{true≢false}
-use Rattle.depth_first_run.specs.Passed.LabelOrder.{fork_of}
-use Rattle.lawful_books.specs.Passed.Actions.{Action}
-use Rattle.lawful_books.specs.Passed.Facts.{IsLive}
-use Rattle.lawful_books.specs.Lists.{Among, Each}
-use Rattle.lawful_books.proofs.Lists.{total_append, each_map, each_change, each_without, each_join, each_left, each_right, among_left, among_right}
+use Rattle.dag_order.specs.LabelOrder.{fork_of}
+use Rattle.depth_first_run.specs.Passed.Actions.{Action}
+use Rattle.depth_first_run.specs.Passed.Facts.{IsLive}
+use Rattle.deque_machine.specs.Lists.{Among, Each}
+use Rattle.deque_machine.proofs.Lists.{total_append, each_map, each_change, each_without, each_join, each_left, each_right, among_left, among_right}
 use Rattle.deque_machine.specs.Moments.{Deque, Waiting, threads_in, owned_by, with_id, one_if_owned, one_if_id}
 use Rattle.deque_machine.specs.LawfulOrder.{Stacked, ChildrenAbove, OrderOf}
 use Rattle.deque_machine.proofs.Placed.{Placed}

@@ -2,15 +2,15 @@
 use Rattle.std.proofs.Common.{◌≡◌, ◌≢◌, ℕ, suc, ◌+◌, ◌≤◌, ◌<◌, List, [], ◌∷◌, ◌++◌, length, map, refl, sym, ap, ◌∙◌, arith, length-append, nat_lt, true, ℤ, pos, ◌+ℤ◌, ◌≤ℤ◌}
 use Rattle.std.specs.Prelude.{Option, None, Some}
 use Rattle.std.proofs.lemmas.Int.{ints}
-use Rattle.lawful_books.specs.Passed.Actions.{Deed, forks, joins, allocates, releases, dummy, faults, ends, Action, live_words, weight_of}
-use Rattle.lawful_books.specs.Passed.Runs.{IsDepthFirst}
-use Rattle.lawful_books.specs.Passed.Facts.{action_at, deed_at, words_at, weight_at}
-use Rattle.lawful_books.specs.Lists.{Each, total}
-use Rattle.lawful_books.specs.Books.{Book, booked, words_in_use, one_more, book_of}
-use Rattle.lawful_books.specs.Lawful.{LawfulBooks}
-use Rattle.lawful_books.proofs.Lists.{total_append, each_from, times_among}
-use Rattle.lawful_books.proofs.Keeping.{booked_append, closed_same, begun_same}
-use Rattle.lawful_books.proofs.Whole.{total_below_all, up_to, up_to_total}
+use Rattle.depth_first_run.specs.Passed.Actions.{Deed, forks, joins, allocates, releases, dummy, faults, ends, Action, live_words, weight_of}
+use Rattle.depth_first_run.specs.Passed.Runs.{IsDepthFirst}
+use Rattle.depth_first_run.specs.Passed.Facts.{action_at, deed_at, words_at, weight_at}
+use Rattle.deque_machine.specs.Lists.{Each, total}
+use Rattle.deque_machine.specs.Books.{Book, booked, words_in_use, one_more, book_of}
+use Rattle.deque_machine.specs.Lawful.{LawfulBooks}
+use Rattle.deque_machine.proofs.Lists.{total_append, each_from, times_among}
+use Rattle.deque_machine.proofs.Keeping.{booked_append, closed_same, begun_same}
+use Rattle.deque_machine.proofs.Whole.{total_below_all, up_to, up_to_total}
 use Rattle.deque_machine.specs.Moments.{Deque, Moment, opening, live_at, threads_in}
 use Rattle.deque_machine.specs.Machine.{Setting, Event, does, Owns, books_with, books_closed, new_book, May, steals_beside, takes_over, forks_child, joins_child, allocates_within, allocates_above, releases_words, meets_fault, runs_dummy, ends_above_parent, ends_and_wakes, ends_and_leaves, suspends_top, gives_deque_up}
 use Rattle.deque_machine.specs.LawfulOrder.{IsLawful}

@@ -1,8 +1,8 @@
 -- What keeps a play from each of its three stops.
 use Rattle.std.specs.Prelude.{ℕ, ◌<◌, ◌≤◌, List, length, ℤ, pos, ◌≤ℤ◌}
-use Rattle.lawful_books.specs.Passed.Facts.{action_at}
-use Rattle.lawful_books.specs.Books.{IsPrefix, periods_ahead, bound}
-use Rattle.lawful_books.specs.Lists.{total}
+use Rattle.depth_first_run.specs.Passed.Facts.{action_at}
+use Rattle.deque_machine.specs.Books.{IsPrefix, periods_ahead, bound}
+use Rattle.deque_machine.specs.Lists.{total}
 use Rattle.deque_machine.specs.Moments.{Moment, opening, done_at}
 use Rattle.deque_machine.specs.Machine.{Setting, does, May}
 use Rattle.deque_machine.specs.Play.{Limits, arena_full, steps_spent, deques_full, stopped, Plays, words_taken, one_if_fork}

@@ -1,11 +1,11 @@
 -- Lawful order, and what else holds at each moment of a run.
 use Rattle.std.specs.Prelude.{◌≡◌, ◌≢◌, ◌⊎◌, ℕ, ◌<◌, ◌≤◌, true, false, Option, None, Some, List, [], ◌∷◌, ◌++◌}
-use Rattle.depth_first_run.specs.Passed.LabelOrder.{fork_of}
-use Rattle.lawful_books.specs.Passed.Actions.{forks, joins, Action}
-use Rattle.lawful_books.specs.Passed.Facts.{label_at, deed_at, IsLive, IsNext}
-use Rattle.lawful_books.specs.Lists.{Among, Each, Differ}
-use Rattle.lawful_books.specs.Books.{Book, booked, IsPrefix, is_ahead}
-use Rattle.lawful_books.specs.Lawful.{LawfulBooks}
+use Rattle.dag_order.specs.LabelOrder.{fork_of}
+use Rattle.depth_first_run.specs.Passed.Actions.{forks, joins, Action}
+use Rattle.depth_first_run.specs.Passed.Facts.{label_at, deed_at, IsLive, IsNext}
+use Rattle.deque_machine.specs.Lists.{Among, Each, Differ}
+use Rattle.deque_machine.specs.Books.{Book, booked, IsPrefix, is_ahead}
+use Rattle.deque_machine.specs.Lawful.{LawfulBooks}
 use Rattle.deque_machine.specs.Moments.{Deque, Waiting, Moment, done_at, threads_in, waiting_threads, owned_by, open_for, with_id, Rises}
 use Rattle.deque_machine.specs.Machine.{Setting}
 

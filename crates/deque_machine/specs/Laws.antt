@@ -1,14 +1,14 @@
 -- What holds of each moment that the machine reaches, of runs and of plays.
 use Rattle.std.specs.Prelude.{◌≡◌, ℕ, ◌<◌, ◌≤◌, List, [], length, pos, ◌+ℤ◌, ◌≤ℤ◌, ◌<ℤ◌, suc, ◌+◌, ◌*◌}
-use Rattle.lawful_books.specs.Passed.Actions.{live_words, record_words}
-use Rattle.lawful_books.specs.Passed.Runs.{IsDepthFirst}
-use Rattle.lawful_books.specs.Passed.Facts.{weight_at}
-use Rattle.lawful_books.specs.Books.{IsPrefix, periods_ahead, periods_marked, bound, booked}
+use Rattle.depth_first_run.specs.Passed.Actions.{live_words, record_words}
+use Rattle.depth_first_run.specs.Passed.Runs.{IsDepthFirst}
+use Rattle.depth_first_run.specs.Passed.Facts.{weight_at}
+use Rattle.deque_machine.specs.Books.{IsPrefix, periods_ahead, periods_marked, bound, booked}
 use Rattle.deque_machine.specs.Moments.{Moment, opening, done_at, live_at}
 use Rattle.deque_machine.specs.Machine.{Setting, Event, does, May, HasEnded}
 use Rattle.deque_machine.specs.LawfulOrder.{IsLawful}
 use Rattle.deque_machine.specs.Runs.{Pair, Reaches, moves, high_water_mark}
-use Rattle.lawful_books.specs.Lists.{total}
+use Rattle.deque_machine.specs.Lists.{total}
 use Rattle.deque_machine.specs.Play.{NoneFree, words_taken, one_if_fork, Limits, Ending, finished, Wants, Turn, Plays}
 
 -- a fact of each depth-first list, quota and number of workers

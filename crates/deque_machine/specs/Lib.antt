@@ -1,3 +1,7 @@
+pub mod Lists
+pub mod Books
+pub mod Lawful
+pub mod BookLaws
 pub mod Moments
 pub mod Machine
 pub mod LawfulOrder
@@ -7,4 +11,7 @@ pub mod Terms
 pub mod Laws
 pub mod Completeness
 pub mod Fronts
-pub mod Passed
+pub mod Tests
+pub mod Step
+pub mod StepLaws
+pub mod Played

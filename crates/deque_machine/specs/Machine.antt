@@ -1,10 +1,10 @@
 -- The machine: which events may come at a moment, and what each of them does.
 use Rattle.std.specs.Prelude.{◌≡◌, ◌≢◌, ℕ, ◌+◌, ◌<◌, ◌≤◌, Bool, true, nat_lt, Option, None, Some, List, [], ◌∷◌, ◌++◌, length}
-use Rattle.depth_first_run.specs.Passed.LabelOrder.{fork_of}
-use Rattle.lawful_books.specs.Passed.Actions.{Deed, forks, joins, allocates, releases, dummy, faults, ends, Action, record_words}
-use Rattle.lawful_books.specs.Passed.Facts.{label_at, deed_at, words_at, IsNext}
-use Rattle.lawful_books.specs.Lists.{Each}
-use Rattle.lawful_books.specs.Books.{Book, charged, one_more, book_of}
+use Rattle.dag_order.specs.LabelOrder.{fork_of}
+use Rattle.depth_first_run.specs.Passed.Actions.{Deed, forks, joins, allocates, releases, dummy, faults, ends, Action, record_words}
+use Rattle.depth_first_run.specs.Passed.Facts.{label_at, deed_at, words_at, IsNext}
+use Rattle.deque_machine.specs.Lists.{Each}
+use Rattle.deque_machine.specs.Books.{Book, charged, one_more, book_of}
 use Rattle.deque_machine.specs.Moments.{Deque, Waiting, Moment, deque_of, moment_of, done_at, owned_by, with_id}
 
 -- what is fixed for a run: its depth-first list, its quota in words, and the number of its workers

@@ -1,9 +1,9 @@
 -- The moment of a run over deques.
 use Rattle.std.specs.Prelude.{ℕ, cond, nat_eq, Option, None, Some, List, [], ◌∷◌, ◌++◌, ℤ}
-use Rattle.lawful_books.specs.Passed.Actions.{Action}
-use Rattle.lawful_books.specs.Lists.{total, Each}
-use Rattle.lawful_books.specs.Books.{Book, done_in, words_in_use}
-use Rattle.depth_first_run.specs.Passed.LabelOrder.{Before}
+use Rattle.depth_first_run.specs.Passed.Actions.{Action}
+use Rattle.deque_machine.specs.Lists.{total, Each}
+use Rattle.deque_machine.specs.Books.{Book, done_in, words_in_use}
+use Rattle.dag_order.specs.LabelOrder.{Before}
 
 -- A deque: its id, the worker that owns it, or none, and its threads from top to bottom, each told by its label. The
 -- owner runs the top thread.

@@ -1,9 +1,9 @@
 -- Play: the one run of the machine that a list of words picks, and how runs end.
 use Rattle.std.specs.Prelude.{◌≡◌, ◌≢◌, ◌⊎◌, ℕ, suc, ◌+◌, ◌%◌, ◌<◌, ◌≤◌, min, None, Some, slice_get, cond, nat_eq, List, [], ◌∷◌, length, ℤ, pos, ◌+ℤ◌, ◌<ℤ◌}
-use Rattle.lawful_books.specs.Passed.Actions.{Deed, forks, joins, allocates, Action}
-use Rattle.depth_first_run.specs.Passed.LabelOrder.{fork_of}
-use Rattle.lawful_books.specs.Passed.Facts.{action_at, deed_at, words_at, IsNext}
-use Rattle.lawful_books.specs.Books.{booked, charged, charge_at}
+use Rattle.depth_first_run.specs.Passed.Actions.{Deed, forks, joins, allocates, Action}
+use Rattle.dag_order.specs.LabelOrder.{fork_of}
+use Rattle.depth_first_run.specs.Passed.Facts.{action_at, deed_at, words_at, IsNext}
+use Rattle.deque_machine.specs.Books.{booked, charged, charge_at}
 use Rattle.deque_machine.specs.Moments.{Deque, Moment, done_at, live_at, owned_by, with_id}
 use Rattle.deque_machine.specs.Machine.{Setting, Event, steals, does, suspends, gives_up, Owns, IsAtTop, HasEnded, May}
 use Rattle.deque_machine.specs.Runs.{Pair, Reaches}

@@ -1,7 +1,7 @@
 -- Runs of the machine, and their moves.
 use Rattle.std.specs.Prelude.{◌≡◌, ℕ, Bool, true, false, nat_lt, filter, map, List, [], ◌∷◌, ◌++◌, length, ℤ}
-use Rattle.lawful_books.specs.Passed.Actions.{Deed, joins, dummy, ends, Action, peak}
-use Rattle.lawful_books.specs.Passed.Facts.{action_at}
+use Rattle.depth_first_run.specs.Passed.Actions.{Deed, joins, dummy, ends, Action, peak}
+use Rattle.depth_first_run.specs.Passed.Facts.{action_at}
 use Rattle.deque_machine.specs.Moments.{Moment}
 use Rattle.deque_machine.specs.Machine.{Setting, Event, does, May}
 

@@ -1,6 +1,53 @@
+ghost use Rattle.std.specs.Prelude.{ℕ, List};
+ghost use Rattle.depth_first_run.specs.Passed.Actions.{Action};
+ghost use Rattle.depth_first_run.specs.Passed.Runs.{IsDepthFirst};
+ghost use Rattle.depth_first_run.specs.Passed.Laws.{AlwaysWithin};
+ghost use Rattle.deque_machine.specs.BookLaws.{Accounting, ArenaLaw, BeginningKeeps, ClosingKeeps, EndedHasAll, NoBooksAreLawful, OnePrefix, RunningKeeps};
 ghost use Rattle.deque_machine.specs.Completeness.{ArenasWithRoomLast, ArenasWithTheBoundLast, ActionsSuffice, DequesSuffice};
 ghost use Rattle.deque_machine.specs.Fronts.{FrontsGoOn};
 ghost use Rattle.deque_machine.specs.Laws.{InEachSetting, OpeningIsLawful, EventsKeepLawful, ReachedIsLawful, BoundAlways, AheadIsMarked, MovesAreLive, MarkedBound, MarksNeverFall, ArenaRefuses, EndedDidAll, RunsEnd, RunsAreShort, ArenaNeverFills, DequesAtMost, SomebodysTurn, WantedMayCome, PlaysAreRuns, PlaysEnd, PlaysFinish};
+ghost use Rattle.deque_machine.specs.StepLaws.{StepIsTheMachine, ReplayReaches, ReplayFails, OneWay, OnePlay, EndingsHaveCauses, PlayedIsPlay};
+
+/// The books are lawful before anything is done.
+pub fn no_books_are_lawful()
+    ensures { (k : ℕ) (l : List Action) → NoBooksAreLawful k l }
+{}
+
+/// An open period that runs the next action of a live thread, within its quota, keeps the books lawful.
+pub fn running_keeps()
+    ensures { (k : ℕ) (l : List Action) → RunningKeeps k l }
+{}
+
+/// Closing a period keeps the books lawful.
+pub fn closing_keeps()
+    ensures { (k : ℕ) (l : List Action) → ClosingKeeps k l }
+{}
+
+/// A period that begins keeps the books lawful.
+pub fn beginning_keeps()
+    ensures { (k : ℕ) (l : List Action) → BeginningKeeps k l }
+{}
+
+/// There is just one longest part of the list, from its first action on, that is all done.
+pub fn one_prefix()
+    ensures { (l : List Action) → OnePrefix l }
+{}
+
+/// Under lawful books the words in use are at most the peak, and two quotas for each period that is ahead.
+pub fn accounting()
+    ensures { AlwaysWithin Accounting }
+{}
+
+/// Where lawful books have more words in use than the peak and two quotas for each of so many periods, more
+/// periods are ahead.
+pub fn arena_law()
+    ensures { AlwaysWithin ArenaLaw }
+{}
+
+/// Where the root has ended, lawful books have each action of the list just once.
+pub fn ended_has_all()
+    ensures { (k : ℕ) (l : List Action) → IsDepthFirst k l → EndedHasAll k l }
+{}
 
 /// The opening moment has lawful order, lawful books and begun ahead.
 pub fn opening_is_lawful()
@@ -123,4 +170,39 @@ pub fn deques_suffice()
 /// A mark is never lost: along a run as many periods are marked as before, or more.
 pub fn marks_never_fall()
     ensures { InEachSetting MarksNeverFall }
+{}
+
+/// At a lawful moment the computed machine answers just the cases of the machine.
+pub fn step_is_the_machine()
+    ensures { InEachSetting StepIsTheMachine }
+{}
+
+/// A replay answers a moment just where the pairs are a run that reaches it.
+pub fn replay_reaches()
+    ensures { InEachSetting ReplayReaches }
+{}
+
+/// And a number just where the pair of this number is the first that is no case of the machine.
+pub fn replay_fails()
+    ensures { InEachSetting ReplayFails }
+{}
+
+/// At a lawful moment an event of a worker leads to one moment.
+pub fn one_way()
+    ensures { InEachSetting OneWay }
+{}
+
+/// A list of words picks one play.
+pub fn one_play()
+    ensures { InEachSetting OnePlay }
+{}
+
+/// A play that finishes has the End of the root, and one that stops has a turn whose event meets this stop.
+pub fn endings_have_causes()
+    ensures { InEachSetting EndingsHaveCauses }
+{}
+
+/// What the computed play answers is the play.
+pub fn played_is_play()
+    ensures { InEachSetting PlayedIsPlay }
 {}

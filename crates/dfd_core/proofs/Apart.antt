@@ -19,40 +19,40 @@ use Rattle.depth_first_list.proofs.ThreadLaws.{root_ends, no_index_is_skipped}
 use Rattle.depth_first_run.specs.States.{Setting}
 use Rattle.depth_first_run.specs.Run.{list_of}
 use Rattle.depth_first_run.proofs.Built.{whole_is_depth_first}
-use Rattle.deque_machine.specs.Moments as machine
-use Rattle.deque_machine.specs.Moments.{opening, done_at}
-use Rattle.deque_machine.specs.Runs.{Pair, moves}
-use Rattle.lawful_books.specs.Lists.{Among, Each, total}
-use Rattle.lawful_books.proofs.Lists.{middle_is_not_nil}
+use Rattle.open_periods.specs.Passed.Moments as machine
+use Rattle.open_periods.specs.Passed.Moments.{opening, done_at}
+use Rattle.open_periods.specs.Passed.DequeMachineRuns.{Pair, moves}
+use Rattle.open_periods.specs.Passed.Lists.{Among, Each, total}
+use Rattle.open_periods.proofs.Passed.Lists.{middle_is_not_nil}
 use Rattle.thread_frames.specs.Passed.Parts as parts
 use Rattle.thread_frames.specs.Passed.Standing.{ChildStands, ThreadStands}
 use Rattle.node_table.specs.Table.{Table}
-use Rattle.period_books.specs.Periods.{Period, closed_shown}
-use Rattle.period_books.specs.Telling.{Tell}
-use Rattle.period_books.specs.Names.{HasLabel, of_root, of_fork}
-use Rattle.period_table.specs.declared.seat.Seat.{Seat}
-use Rattle.period_table.specs.Numbers.{open_periods}
-use Rattle.period_table.specs.Tables.{periods_of, seat_in, seat_at}
+use Rattle.open_periods.specs.Periods.{Period, closed_shown}
+use Rattle.open_periods.specs.Telling.{Tell}
+use Rattle.open_periods.specs.Names.{HasLabel, of_root, of_fork}
+use Rattle.open_periods.specs.declared.seat.Seat.{Seat}
+use Rattle.open_periods.specs.Numbers.{open_periods}
+use Rattle.open_periods.specs.Tables.{periods_of, seat_in, seat_at}
 use Rattle.space_ledger.specs.BooksList.{books_list}
 use Rattle.space_ledger.specs.MovesList.{moves_list}
 use Rattle.space_ledger.specs.declared.moves.Moves.{Moves}
-use Rattle.thread_state.specs.Settings.{IsSettingOf}
+use Rattle.scheduler_state.specs.Passed.Settings.{IsSettingOf}
 use Rattle.thread_frames.specs.declared.ended.Ended.{Ended}
 use Rattle.thread_frames.specs.declared.thread.Thread.{Thread}
 use Rattle.thread_frames.specs.Points.{IsAtPoint}
 use Rattle.thread_frames.specs.Views.{label_of, done_of, children_of, thread_words}
 use Rattle.thread_frames.specs.Shown.{thread_shown, child_shown}
-use Rattle.thief_steps.specs.Passed.Shown.{deque_shown}
-use Rattle.core_parts.specs.Held.{Held, parts_in}
-use Rattle.core_parts.specs.Moments.{IsSound, CanGoOn, HasRun}
-use Rattle.core_parts.specs.Passed.Moves.{AreMovesOf}
-use Rattle.deque_machine.specs.Terms.{Terms}
-use Rattle.run_end.specs.declared.ends.RunEnd.{RunEnd}
-use Rattle.run_end.specs.declared.ends.RunEnd.TheVariants.{Finished, Stopped}
+use Rattle.list_changes.specs.Shown.{deque_shown}
+use Rattle.scheduler_state.specs.Held.{Held, parts_in}
+use Rattle.scheduler_state.specs.Moments.{IsSound, CanGoOn, HasRun}
+use Rattle.scheduler_state.specs.Passed.Moves.{AreMovesOf}
+use Rattle.open_periods.specs.Passed.Terms.{Terms}
+use Rattle.play_rules.specs.declared.ends.RunEnd.{RunEnd}
+use Rattle.play_rules.specs.declared.ends.RunEnd.TheVariants.{Finished, Stopped}
 use Rattle.dfd_core.specs.Parts.{root_behind, IsOfWholeRun, AreOfRun}
 use Rattle.thread_frames.specs.Roots.{HasDoneNothing, IsRootAlone}
 use Rattle.dfd_core.specs.Running.{IsAtMoment, IsSomewhere}
-use Rattle.core_parts.proofs.Roots.{root_result, label_of_root, root_is_result}
+use Rattle.scheduler_state.proofs.Roots.{root_result, label_of_root, root_is_result}
 use Rattle.dfd_core.proofs.Finished.{finished_keeps}
 
 -- ---- at an end

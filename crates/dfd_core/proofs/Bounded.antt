@@ -6,17 +6,17 @@ use denote.Struct.Props.{props}
 use Rattle.depth_first_run.specs.States.{Setting}
 use Rattle.depth_first_run.specs.Run.{list_of}
 use Rattle.depth_first_run.proofs.Built.{whole_is_depth_first}
-use Rattle.deque_machine.specs.LawfulOrder.{IsLawful}
-use Rattle.deque_machine.specs.Moments.{Moment, done_at, live_at}
-use Rattle.deque_machine.specs.Runs.{Pair, high_water_mark}
-use Rattle.deque_machine.specs.Terms.{Terms, machine_of}
-use Rattle.deque_machine.proofs.Reached.{bound_always, marked_bound}
-use Rattle.lawful_books.specs.Books.{IsPrefix, bound, periods_ahead, periods_marked}
-use Rattle.core_parts.specs.Held.{Held}
-use Rattle.core_parts.specs.Moments.{IsSound}
+use Rattle.open_periods.specs.Passed.LawfulOrder.{IsLawful}
+use Rattle.open_periods.specs.Passed.Moments.{Moment, done_at, live_at}
+use Rattle.open_periods.specs.Passed.DequeMachineRuns.{Pair, high_water_mark}
+use Rattle.open_periods.specs.Passed.Terms.{Terms, machine_of}
+use Rattle.open_periods.proofs.Passed.Reached.{bound_always, marked_bound}
+use Rattle.open_periods.specs.Passed.Books.{IsPrefix, bound, periods_ahead, periods_marked}
+use Rattle.scheduler_state.specs.Held.{Held}
+use Rattle.scheduler_state.specs.Moments.{IsSound}
 use Rattle.node_table.specs.Table.{Table}
 use Rattle.dfd_core.specs.declared.run.Core.{Core}
-use Rattle.run_end.specs.declared.ends.RunEnd.{RunEnd}
+use Rattle.play_rules.specs.declared.ends.RunEnd.{RunEnd}
 use Rattle.dfd_core.specs.Cores.{IsAt, terms_at}
 use Rattle.dfd_core.specs.Running.{IsSomewhere}
 

@@ -3,13 +3,13 @@ use Rattle.std.proofs.Common.{◌≡◌, ℕ}
 use Rattle.std.proofs.Math.Logic.{∥∥₁_elim}
 use Rattle.std.specs.Prelude.{Option, None, Some}
 use Rattle.dag_order.specs.declared.finish.Finish.{Finish}
-use Rattle.deque_machine.specs.Terms.{Terms}
+use Rattle.open_periods.specs.Passed.Terms.{Terms}
 use Rattle.node_table.specs.Table.{Table}
-use Rattle.run_end.specs.declared.ends.RunEnd.{RunEnd}
-use Rattle.run_end.specs.declared.ends.RunEnd.TheVariants.{Finished}
-use Rattle.core_parts.specs.Held.{Held}
-use Rattle.core_parts.specs.Moments.{IsSound}
-use Rattle.core_parts.proofs.Roots.{root_result, not_ended}
+use Rattle.play_rules.specs.declared.ends.RunEnd.{RunEnd}
+use Rattle.play_rules.specs.declared.ends.RunEnd.TheVariants.{Finished}
+use Rattle.scheduler_state.specs.Held.{Held}
+use Rattle.scheduler_state.specs.Moments.{IsSound}
+use Rattle.scheduler_state.proofs.Roots.{root_result, not_ended}
 use Rattle.dfd_core.specs.Running.{IsSomewhere}
 
 pub finished_keeps : (t : Table) (k : ℕ) (terms : Terms) (h : Held) → IsSound t k terms h → (end : Option RunEnd) → IsSomewhere t k terms h end

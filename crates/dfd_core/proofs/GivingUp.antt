@@ -5,25 +5,25 @@ use Rattle.std.specs.Prelude.{Option, None, Some, Result, Ok, Err}
 use Rattle.std.proofs.lemmas.Option.{none-some}
 use Rattle.deque_list.specs.declared.deque_id.DequeId.{DequeId}
 use Rattle.depth_first_run.specs.States.{Setting}
-use Rattle.lawful_books.specs.Books.{booked}
-use Rattle.lawful_books.specs.Lists.{times}
-use Rattle.deque_machine.specs.Moments.{Moment}
-use Rattle.deque_machine.specs.Machine as machine
-use Rattle.deque_machine.specs.Machine.{gives_up, May}
-use Rattle.deque_machine.specs.Runs.{Pair}
+use Rattle.open_periods.specs.Passed.Books.{booked}
+use Rattle.open_periods.specs.Passed.Lists.{times}
+use Rattle.open_periods.specs.Passed.Moments.{Moment}
+use Rattle.open_periods.specs.Passed.Machine as machine
+use Rattle.open_periods.specs.Passed.Machine.{gives_up, May}
+use Rattle.open_periods.specs.Passed.DequeMachineRuns.{Pair}
 use Rattle.node_table.specs.Table.{Table}
-use Rattle.core_parts.proofs.Passed.Going.{runs_go_on}
-use Rattle.core_parts.proofs.Passed.Told.{tells}
-use Rattle.thread_state.specs.Settings.{IsSettingOf}
-use Rattle.run_end.specs.declared.stop.Stop.TheVariants.{OutOfMemory}
-use Rattle.core_parts.specs.Held.{Held}
-use Rattle.core_parts.specs.Moments.{HasRun}
-use Rattle.deque_machine.specs.Terms.{Terms, machine_of}
-use Rattle.core_parts.specs.Outcomes.{GivesDequeUp}
-use Rattle.owner_steps.specs.Steps.{GivesUpOrStays}
-use Rattle.run_end.specs.declared.ends.RunEnd.{RunEnd}
+use Rattle.scheduler_state.proofs.Passed.Going.{runs_go_on}
+use Rattle.scheduler_state.proofs.Passed.Told.{tells}
+use Rattle.scheduler_state.specs.Passed.Settings.{IsSettingOf}
+use Rattle.play_rules.specs.declared.stop.Stop.TheVariants.{OutOfMemory}
+use Rattle.scheduler_state.specs.Held.{Held}
+use Rattle.scheduler_state.specs.Moments.{HasRun}
+use Rattle.open_periods.specs.Passed.Terms.{Terms, machine_of}
+use Rattle.scheduler_state.specs.Outcomes.{GivesDequeUp}
+use Rattle.worker_step.specs.Steps.{GivesUpOrStays}
+use Rattle.play_rules.specs.declared.ends.RunEnd.{RunEnd}
 use Rattle.dfd_core.specs.Running.{IsAtMoment, IsSomewhere}
-use Rattle.core_parts.specs.Ends.{end_without_memory}
+use Rattle.scheduler_state.specs.Ends.{end_without_memory}
 use Rattle.dfd_core.specs.GiveUps.{GaveUp, GivesUp, end_behind_give_up}
 use Rattle.dfd_core.proofs.Going.{stays_at}
 

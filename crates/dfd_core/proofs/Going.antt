@@ -5,27 +5,27 @@ use Rattle.std.specs.Prelude.{Option, None, Some, Result, Ok, Err, pos}
 use Rattle.std.proofs.lemmas.Option.{none-some, same_Some}
 use Rattle.dag_order.specs.declared.finish.Finish.{Finish}
 use Rattle.depth_first_run.specs.States.{Setting}
-use Rattle.deque_machine.specs.Moments.{Moment}
-use Rattle.deque_machine.specs.Play as play
-use Rattle.deque_machine.specs.Runs.{Pair}
+use Rattle.open_periods.specs.Passed.Moments.{Moment}
+use Rattle.open_periods.specs.Passed.Play as play
+use Rattle.open_periods.specs.Passed.DequeMachineRuns.{Pair}
 use Rattle.node_table.specs.Table.{Table}
-use Rattle.core_parts.proofs.Passed.Going.{runs_go_on}
-use Rattle.thread_state.specs.Settings.{IsSettingOf}
-use Rattle.core_parts.specs.declared.event.Event.{Event as Told}
-use Rattle.run_end.specs.declared.stop.Stop.{Stop}
-use Rattle.run_end.specs.declared.stop.Stop.TheVariants.{ArenaFull, DequesFull, StepsSpent, OutOfMemory}
-use Rattle.core_parts.specs.Held.{Held}
-use Rattle.core_parts.specs.Moments.{IsSound, HasRun}
-use Rattle.deque_machine.specs.Terms.{Terms, machine_of}
-use Rattle.core_parts.specs.Outcomes as parts
-use Rattle.thief_steps.specs.Thefts.{StepsBy as EventBy}
-use Rattle.run_end.specs.declared.ends.RunEnd.{RunEnd}
-use Rattle.run_end.specs.declared.ends.RunEnd.TheVariants.{Finished, Stopped}
-use Rattle.core_parts.specs.Ends.{end_behind_event}
+use Rattle.scheduler_state.proofs.Passed.Going.{runs_go_on}
+use Rattle.scheduler_state.specs.Passed.Settings.{IsSettingOf}
+use Rattle.scheduler_state.specs.declared.event.Event.{Event as Told}
+use Rattle.play_rules.specs.declared.stop.Stop.{Stop}
+use Rattle.play_rules.specs.declared.stop.Stop.TheVariants.{ArenaFull, DequesFull, StepsSpent, OutOfMemory}
+use Rattle.scheduler_state.specs.Held.{Held}
+use Rattle.scheduler_state.specs.Moments.{IsSound, HasRun}
+use Rattle.open_periods.specs.Passed.Terms.{Terms, machine_of}
+use Rattle.scheduler_state.specs.Outcomes as parts
+use Rattle.worker_step.specs.Thefts.{StepsBy as EventBy}
+use Rattle.play_rules.specs.declared.ends.RunEnd.{RunEnd}
+use Rattle.play_rules.specs.declared.ends.RunEnd.TheVariants.{Finished, Stopped}
+use Rattle.scheduler_state.specs.Ends.{end_behind_event}
 use Rattle.depth_first_run.specs.Run.{finish_of_run}
-use Rattle.core_parts.specs.Told.{end_behind}
-use Rattle.core_parts.proofs.Roots.{root_result}
-use Rattle.core_parts.proofs.Events.{few_done, event_keeps_end}
+use Rattle.scheduler_state.specs.Told.{end_behind}
+use Rattle.scheduler_state.proofs.Roots.{root_result}
+use Rattle.scheduler_state.proofs.Events.{few_done, event_keeps_end}
 use Rattle.dfd_core.specs.Running.{IsAtMoment, IsSomewhere}
 use Rattle.dfd_core.specs.Steps.{GoesOn, Stops, Comes}
 

@@ -9,4 +9,3 @@ pub mod Taking
 pub mod Underway
 pub mod Bounded
 pub mod Same
-pub mod Passed

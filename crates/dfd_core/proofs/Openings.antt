@@ -4,14 +4,14 @@ use Rattle.std.proofs.lemmas.Option.{none-some}
 use Rattle.std.specs.Prelude.{None}
 use Rattle.depth_first_list.specs.Actions.{record_words}
 use Rattle.depth_first_run.specs.States.{Setting}
-use Rattle.deque_machine.specs.Moments.{opening}
-use Rattle.deque_machine.specs.Terms.{Terms}
+use Rattle.open_periods.specs.Passed.Moments.{opening}
+use Rattle.open_periods.specs.Passed.Terms.{Terms}
 use Rattle.node_table.specs.Table.{Table}
-use Rattle.thread_state.specs.Settings.{IsSettingOf}
+use Rattle.scheduler_state.specs.Passed.Settings.{IsSettingOf}
 use Rattle.thread_frames.specs.declared.thread.Thread.{Thread}
-use Rattle.core_parts.specs.Held.{Held}
-use Rattle.core_parts.specs.Begun.{IsBegun}
-use Rattle.core_parts.proofs.Begins.{none_ended, begun_stands}
+use Rattle.scheduler_state.specs.Held.{Held}
+use Rattle.scheduler_state.specs.Begun.{IsBegun}
+use Rattle.scheduler_state.proofs.Begins.{none_ended, begun_stands}
 use Rattle.dfd_core.specs.Running.{IsAtMoment, IsSomewhere}
 
 module _ (t : Table) (k : ℕ) (terms : Terms) (h : Held) (x : Thread) (b : IsBegun t h x) (covers : record_words ≤ k) where

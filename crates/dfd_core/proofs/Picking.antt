@@ -5,26 +5,26 @@ use Rattle.std.specs.Prelude.{Option, None, Some, Bool, true, false, is_some, no
 use Rattle.std.specs.Option.{option_copied}
 use Rattle.std.proofs.lemmas.Bool.{false≢true, true≢false}
 use Rattle.depth_first_run.specs.States.{Setting}
-use Rattle.deque_machine.specs.Moments.{Moment}
-use Rattle.victim_choice.proofs.Firsts.{first_below}
-use Rattle.deque_machine.specs.Play as play
-use Rattle.deque_machine.specs.Play.{IsFirst, IsReady, reach, words_drawn}
-use Rattle.deque_machine.specs.Runs.{Pair}
-use Rattle.deque_machine.proofs.Playing.{somebodys_turn}
+use Rattle.open_periods.specs.Passed.Moments.{Moment}
+use Rattle.play_rules.proofs.Firsts.{first_below}
+use Rattle.open_periods.specs.Passed.Play as play
+use Rattle.open_periods.specs.Passed.Play.{IsFirst, IsReady, reach, words_drawn}
+use Rattle.open_periods.specs.Passed.DequeMachineRuns.{Pair}
+use Rattle.open_periods.proofs.Passed.Playing.{somebodys_turn}
 use Rattle.depth_first_run.proofs.Built.{whole_is_depth_first}
 use Rattle.node_table.specs.Table.{Table}
-use Rattle.period_table.specs.declared.seat.Seat.{Seat}
-use Rattle.period_table.specs.Tables.{seat_at}
-use Rattle.victim_choice.specs.Choices.{IsReadyAt, SomeReady, CanMove, reach_of}
+use Rattle.open_periods.specs.declared.seat.Seat.{Seat}
+use Rattle.open_periods.specs.Tables.{seat_at}
+use Rattle.play_rules.specs.Choices.{IsReadyAt, SomeReady, CanMove, reach_of}
 use Rattle.thread_frames.specs.Shown.{thread_shown}
-use Rattle.core_parts.proofs.Passed.Ready.{first_is_shown, some_ready_is_shown}
-use Rattle.core_parts.specs.Held.{Held}
-use Rattle.core_parts.specs.Moments.{IsSound}
-use Rattle.deque_machine.specs.Terms.{Terms, machine_of}
-use Rattle.run_end.specs.declared.ends.RunEnd.{RunEnd}
+use Rattle.scheduler_state.proofs.Passed.Ready.{first_is_shown, some_ready_is_shown}
+use Rattle.scheduler_state.specs.Held.{Held}
+use Rattle.scheduler_state.specs.Moments.{IsSound}
+use Rattle.open_periods.specs.Passed.Terms.{Terms, machine_of}
+use Rattle.play_rules.specs.declared.ends.RunEnd.{RunEnd}
 use Rattle.dfd_core.specs.Cores.{words_of_turn}
 use Rattle.dfd_core.specs.Running.{IsAtMoment, IsSomewhere}
-use Rattle.core_parts.proofs.Movers.{can_move_is, first_by}
+use Rattle.scheduler_state.proofs.Movers.{can_move_is, first_by}
 use Rattle.dfd_core.proofs.Turns.{idle_draws, owner_draws}
 
 module _ (t : Table) (k : ℕ) (terms : Terms) (h : Held) (sound : IsSound t k terms h) (end : Option RunEnd) where

@@ -5,10 +5,10 @@ use Rattle.language_limits.specs.declared.TheConstants.{GREATEST_COUNT, MOST_WOR
 use mathlib.Core.HLevel.{is_prop→PathP}
 use denote.Struct.Props.{props}
 use Rattle.node_table.specs.Codes.{code_shown}
-use Rattle.dummy_tree.specs.QuotaWords.{quota_words}
-use Rattle.core_parts.specs.Held.{held}
-use Rattle.core_parts.proofs.Sounds.{sound_one}
-use Rattle.core_parts.specs.Moments.{IsSound, CanGoOn, terms_of}
+use Rattle.depth_first_list.specs.QuotaWords.{quota_words}
+use Rattle.scheduler_state.specs.Held.{held}
+use Rattle.scheduler_state.proofs.Sounds.{sound_one}
+use Rattle.scheduler_state.specs.Moments.{IsSound, CanGoOn, terms_of}
 use Rattle.dfd_core.specs.Running.{IsSomewhere}
 use Rattle.dfd_core.specs.declared.run.Core.{Core}
 

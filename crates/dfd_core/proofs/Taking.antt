@@ -3,32 +3,32 @@ use Rattle.std.proofs.Common.{◌≡◌, ◌↔◌, ℕ, List, refl, sym, ap, su
 use Rattle.std.proofs.Math.Logic.{∥∥₁_elim, ∥∥₁_map}
 use Rattle.std.specs.Prelude.{Option, None, Some, Bool, true, false, Result, Ok, Err, cond, pos, is_some, unwrap_or}
 use Rattle.std.proofs.lemmas.Bool.{eq-eqb, false≢true}
-use Rattle.dummy_tree.specs.QuotaWords.{quota_words}
+use Rattle.depth_first_list.specs.QuotaWords.{quota_words}
 use Rattle.depth_first_run.specs.States.{Setting}
-use Rattle.deque_machine.specs.Moments.{Moment, owned_by}
-use Rattle.deque_machine.specs.Machine as machine
-use Rattle.deque_machine.specs.Machine.{Event, May}
-use Rattle.deque_machine.specs.Play as play
-use Rattle.deque_machine.specs.Play.{IsFirst, CanMove, Wants, a_theft, a_give_up, a_wait, an_action, Meets, Turn, words_drawn}
-use Rattle.deque_machine.specs.Runs.{Pair}
+use Rattle.open_periods.specs.Passed.Moments.{Moment, owned_by}
+use Rattle.open_periods.specs.Passed.Machine as machine
+use Rattle.open_periods.specs.Passed.Machine.{Event, May}
+use Rattle.open_periods.specs.Passed.Play as play
+use Rattle.open_periods.specs.Passed.Play.{IsFirst, CanMove, Wants, a_theft, a_give_up, a_wait, an_action, Meets, Turn, words_drawn}
+use Rattle.open_periods.specs.Passed.DequeMachineRuns.{Pair}
 use Rattle.node_table.specs.Codes.{code_shown}
-use Rattle.core_parts.specs.declared.event.Event.{Event as Told}
-use Rattle.run_end.specs.declared.stop.Stop.{Stop}
-use Rattle.run_end.specs.declared.stop.Stop.TheVariants.{ArenaFull, DequesFull, StepsSpent, OutOfMemory}
-use Rattle.core_parts.specs.Held.{held}
-use Rattle.deque_machine.specs.Terms.{machine_of}
-use Rattle.core_parts.specs.Outcomes.{HasDequesLeft}
+use Rattle.scheduler_state.specs.declared.event.Event.{Event as Told}
+use Rattle.play_rules.specs.declared.stop.Stop.{Stop}
+use Rattle.play_rules.specs.declared.stop.Stop.TheVariants.{ArenaFull, DequesFull, StepsSpent, OutOfMemory}
+use Rattle.scheduler_state.specs.Held.{held}
+use Rattle.open_periods.specs.Passed.Terms.{machine_of}
+use Rattle.scheduler_state.specs.Outcomes.{HasDequesLeft}
 use Rattle.dfd_core.specs.declared.run.Core.{Core}
-use Rattle.run_end.specs.declared.ends.RunEnd.{RunEnd}
-use Rattle.run_end.specs.declared.ends.RunEnd.TheVariants.{Finished, Stopped}
-use Rattle.core_parts.specs.declared.stepped.Stepped.{Stepped}
-use Rattle.core_parts.specs.declared.stepped.Stepped.TheVariants.{Nothing, Over}
-use Rattle.core_parts.specs.Ends.{KeepsEnd}
-use Rattle.core_parts.specs.Told.{IsTold}
+use Rattle.play_rules.specs.declared.ends.RunEnd.{RunEnd}
+use Rattle.play_rules.specs.declared.ends.RunEnd.TheVariants.{Finished, Stopped}
+use Rattle.scheduler_state.specs.declared.stepped.Stepped.{Stepped}
+use Rattle.scheduler_state.specs.declared.stepped.Stepped.TheVariants.{Nothing, Over}
+use Rattle.scheduler_state.specs.Ends.{KeepsEnd}
+use Rattle.scheduler_state.specs.Told.{IsTold}
 use Rattle.dfd_core.specs.Steps.{GoesOn, Stops, Comes}
 use Rattle.dfd_core.specs.Cores.{IsAt, end_of, terms_at, workers_of, words_of_turn}
 use Rattle.dfd_core.specs.Plays.{TurnGoesOn, TurnStops, TurnsTo}
-use Rattle.core_parts.proofs.Answering.{nothing_told, stop_told, no_stop_kept}
+use Rattle.scheduler_state.proofs.Answering.{nothing_told, stop_told, no_stop_kept}
 
 -- the word of a theft is the second that comes
 pub word_drawn : (words : ℕ → ℕ) (word : Option ℕ) → ((w : ℕ) → word ≡ Some w → w ≡ words 1) → is_some word ≡ true → unwrap_or word 0 ≡ words 1

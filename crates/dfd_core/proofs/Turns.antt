@@ -4,27 +4,27 @@ use Rattle.std.specs.Prelude.{Option, None, Some, Bool, IsTrue, cond, Result, Ok
 use Rattle.std.proofs.lemmas.Bool.{cases_lt, eq-eqb, ne_eqb}
 use Rattle.depth_first_list.specs.Actions.{record_words}
 use Rattle.depth_first_run.specs.States.{Setting}
-use Rattle.deque_machine.specs.Moments.{Moment, owned_by}
-use Rattle.deque_machine.specs.Play as play
-use Rattle.deque_machine.specs.Play.{words_drawn}
-use Rattle.deque_machine.specs.Runs.{Pair}
-use Rattle.period_table.specs.declared.seat.Seat.{Seat}
-use Rattle.period_table.specs.Tables.{seat_at}
-use Rattle.victim_choice.specs.Choices.{SomeReady, CanMove}
+use Rattle.open_periods.specs.Passed.Moments.{Moment, owned_by}
+use Rattle.open_periods.specs.Passed.Play as play
+use Rattle.open_periods.specs.Passed.Play.{words_drawn}
+use Rattle.open_periods.specs.Passed.DequeMachineRuns.{Pair}
+use Rattle.open_periods.specs.declared.seat.Seat.{Seat}
+use Rattle.open_periods.specs.Tables.{seat_at}
+use Rattle.play_rules.specs.Choices.{SomeReady, CanMove}
 use Rattle.node_table.specs.Table.{Table}
-use Rattle.core_parts.specs.declared.event.Event.{Event}
-use Rattle.run_end.specs.declared.stop.Stop.{Stop}
-use Rattle.core_parts.specs.Held.{Held, IsInOrder}
-use Rattle.core_parts.specs.Moments.{IsSound, HasRun}
-use Rattle.deque_machine.specs.Terms.{Terms, machine_of}
-use Rattle.core_parts.proofs.Sitting.{seat_owns as seated_owns, idle_owns_none}
-use Rattle.core_parts.proofs.Movers.{cannot_move, can_move_is}
-use Rattle.core_parts.proofs.Answering.{nothing_told}
-use Rattle.run_end.specs.declared.ends.RunEnd.{RunEnd}
-use Rattle.core_parts.specs.declared.stepped.Stepped.{Stepped}
-use Rattle.core_parts.specs.declared.stepped.Stepped.TheVariants.{Nothing}
+use Rattle.scheduler_state.specs.declared.event.Event.{Event}
+use Rattle.play_rules.specs.declared.stop.Stop.{Stop}
+use Rattle.scheduler_state.specs.Held.{Held, IsInOrder}
+use Rattle.scheduler_state.specs.Moments.{IsSound, HasRun}
+use Rattle.open_periods.specs.Passed.Terms.{Terms, machine_of}
+use Rattle.scheduler_state.proofs.Sitting.{seat_owns as seated_owns, idle_owns_none}
+use Rattle.scheduler_state.proofs.Movers.{cannot_move, can_move_is}
+use Rattle.scheduler_state.proofs.Answering.{nothing_told}
+use Rattle.play_rules.specs.declared.ends.RunEnd.{RunEnd}
+use Rattle.scheduler_state.specs.declared.stepped.Stepped.{Stepped}
+use Rattle.scheduler_state.specs.declared.stepped.Stepped.TheVariants.{Nothing}
 use Rattle.dfd_core.specs.Running.{IsAtMoment}
-use Rattle.core_parts.specs.Told.{IsTold}
+use Rattle.scheduler_state.specs.Told.{IsTold}
 
 module _ (c : Setting) (terms : Terms) (quota : record_words ≤ c.quota) (h : Held) (run : List Pair) (m : Moment) (at : HasRun c terms h run m) (worker : ℕ) where
   pub seat_owns : (seat : Seat) → seat_at h.table worker ≡ Some seat → 0 < owned_by worker m.deques

@@ -6,21 +6,21 @@ use Rattle.dag_order.specs.declared.finish.Finish.{Finish}
 use Rattle.depth_first_list.specs.Actions.{record_words}
 use Rattle.depth_first_run.specs.States.{Setting}
 use Rattle.depth_first_run.proofs.Built.{whole_is_depth_first}
-use Rattle.deque_machine.specs.Moments.{Moment}
-use Rattle.deque_machine.specs.Machine as machine
-use Rattle.deque_machine.specs.Machine.{HasEnded}
-use Rattle.deque_machine.specs.Play as play
-use Rattle.deque_machine.specs.Play.{IsFirst, CanMove, NoneFree, Wants, Turn, Plays, is_over, is_stopped}
-use Rattle.deque_machine.specs.Runs.{Pair, Reaches}
-use Rattle.deque_machine.proofs.Ends.{runs_are_short}
-use Rattle.deque_machine.specs.Fronts.{PlaysOn, stays_here}
-use Rattle.deque_machine.proofs.Playing.{front_is_run, front_goes_on, front_with_turn}
-use Rattle.run_end.specs.declared.stop.Stop.TheVariants.{ArenaFull, DequesFull, StepsSpent, OutOfMemory}
-use Rattle.deque_machine.specs.Terms.{Terms, machine_of}
-use Rattle.core_parts.specs.Outcomes.{HasDequesLeft}
+use Rattle.open_periods.specs.Passed.Moments.{Moment}
+use Rattle.open_periods.specs.Passed.Machine as machine
+use Rattle.open_periods.specs.Passed.Machine.{HasEnded}
+use Rattle.open_periods.specs.Passed.Play as play
+use Rattle.open_periods.specs.Passed.Play.{IsFirst, CanMove, NoneFree, Wants, Turn, Plays, is_over, is_stopped}
+use Rattle.open_periods.specs.Passed.DequeMachineRuns.{Pair, Reaches}
+use Rattle.open_periods.proofs.Passed.Ends.{runs_are_short}
+use Rattle.open_periods.specs.Passed.Fronts.{PlaysOn, stays_here}
+use Rattle.open_periods.proofs.Passed.Playing.{front_is_run, front_goes_on, front_with_turn}
+use Rattle.play_rules.specs.declared.stop.Stop.TheVariants.{ArenaFull, DequesFull, StepsSpent, OutOfMemory}
+use Rattle.open_periods.specs.Passed.Terms.{Terms, machine_of}
+use Rattle.scheduler_state.specs.Outcomes.{HasDequesLeft}
 use Rattle.dfd_core.specs.declared.run.Core.{Core}
-use Rattle.run_end.specs.declared.ends.RunEnd.{RunEnd}
-use Rattle.run_end.specs.declared.ends.RunEnd.TheVariants.{Finished, Stopped}
+use Rattle.play_rules.specs.declared.ends.RunEnd.{RunEnd}
+use Rattle.play_rules.specs.declared.ends.RunEnd.TheVariants.{Finished, Stopped}
 use Rattle.dfd_core.specs.Cores.{IsAt, SameSetting, end_of, terms_at, workers_of}
 use Rattle.dfd_core.specs.Plays.{TurnGoesOn, TurnStops, TurnLacks, TurnsTo, IsDrawn, TakesTurn, PlaysToEnd, PlaysToStop, PlaysUntil, PlaysTo}
 

@@ -3,23 +3,23 @@ use Rattle.std.specs.Prelude.{◌≡◌, ℕ, Bool, cond, Option, Some, List, le
 use Rattle.dag_order.specs.declared.finish.Finish.{Finish}
 use Rattle.depth_first_run.specs.States.{Setting}
 use Rattle.deque_list.specs.declared.deque_id.DequeId.{DequeId}
-use Rattle.deque_machine.specs.Moments.{Moment}
-use Rattle.deque_machine.specs.Runs.{Pair}
-use Rattle.dummy_tree.specs.QuotaWords.{quota_words}
+use Rattle.open_periods.specs.Passed.Moments.{Moment}
+use Rattle.open_periods.specs.Passed.DequeMachineRuns.{Pair}
+use Rattle.depth_first_list.specs.QuotaWords.{quota_words}
 use Rattle.node_table.specs.Codes.{code_shown}
-use Rattle.period_table.specs.declared.seat.Seat.{Seat}
-use Rattle.quota_period.specs.declared.period.Period.{Period}
-use Rattle.core_parts.specs.declared.event.Event.{Event}
-use Rattle.run_end.specs.declared.stop.Stop.{Stop}
-use Rattle.core_parts.specs.Held.{held}
-use Rattle.core_parts.specs.Moments.{terms_of}
-use Rattle.deque_machine.specs.Terms.{Terms}
+use Rattle.open_periods.specs.declared.seat.Seat.{Seat}
+use Rattle.open_periods.specs.declared.period.Period.{Period}
+use Rattle.scheduler_state.specs.declared.event.Event.{Event}
+use Rattle.play_rules.specs.declared.stop.Stop.{Stop}
+use Rattle.scheduler_state.specs.Held.{held}
+use Rattle.scheduler_state.specs.Moments.{terms_of}
+use Rattle.open_periods.specs.Passed.Terms.{Terms}
 use Rattle.dfd_core.specs.declared.run.Core.{Core}
-use Rattle.run_end.specs.declared.ends.RunEnd.{RunEnd}
-use Rattle.run_end.specs.declared.ends.RunEnd.TheVariants.{Finished}
-use Rattle.core_parts.specs.declared.stepped.Stepped.{Stepped}
+use Rattle.play_rules.specs.declared.ends.RunEnd.{RunEnd}
+use Rattle.play_rules.specs.declared.ends.RunEnd.TheVariants.{Finished}
+use Rattle.scheduler_state.specs.declared.stepped.Stepped.{Stepped}
 use Rattle.dfd_core.specs.Running.{IsAtMoment}
-use Rattle.core_parts.specs.Told.{IsTold}
+use Rattle.scheduler_state.specs.Told.{IsTold}
 use Rattle.dfd_core.specs.Steps.{Comes}
 use Rattle.dfd_core.specs.GiveUps as give_ups
 

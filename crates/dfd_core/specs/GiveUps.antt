@@ -2,18 +2,18 @@
 use Rattle.std.specs.Prelude.{ℕ, Option, List, [], ◌∷◌, ◌++◌, Result, Ok, Err}
 use Rattle.depth_first_run.specs.States.{Setting}
 use Rattle.deque_list.specs.declared.deque_id.DequeId.{DequeId}
-use Rattle.deque_machine.specs.Moments.{Moment}
-use Rattle.deque_machine.specs.Machine.{May, gives_up}
-use Rattle.deque_machine.specs.Runs.{Pair}
-use Rattle.period_table.specs.Tables.{periods_of}
+use Rattle.open_periods.specs.Passed.Moments.{Moment}
+use Rattle.open_periods.specs.Passed.Machine.{May, gives_up}
+use Rattle.open_periods.specs.Passed.DequeMachineRuns.{Pair}
+use Rattle.open_periods.specs.Tables.{periods_of}
 use Rattle.depth_first_run.specs.Run.{list_of}
-use Rattle.core_parts.specs.declared.event.Event.TheVariants as events
-use Rattle.core_parts.specs.Held.{Held}
-use Rattle.deque_machine.specs.Terms.{Terms, machine_of}
-use Rattle.core_parts.specs.Outcomes.{Tells}
+use Rattle.scheduler_state.specs.declared.event.Event.TheVariants as events
+use Rattle.scheduler_state.specs.Held.{Held}
+use Rattle.open_periods.specs.Passed.Terms.{Terms, machine_of}
+use Rattle.scheduler_state.specs.Outcomes.{Tells}
 use Rattle.node_table.specs.Table.{Table}
-use Rattle.run_end.specs.declared.ends.RunEnd.{RunEnd}
-use Rattle.core_parts.specs.Ends.{end_without_memory}
+use Rattle.play_rules.specs.declared.ends.RunEnd.{RunEnd}
+use Rattle.scheduler_state.specs.Ends.{end_without_memory}
 use Rattle.dfd_core.specs.Running.{IsAtMoment}
 
 -- At the moment m of a run the worker gives up this deque, which the machine allows at any time, and now what is held stands at the moment

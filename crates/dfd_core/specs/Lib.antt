@@ -5,4 +5,3 @@ pub mod Cores
 pub mod Plays
 pub mod Turns
 pub mod Parts
-pub mod Passed

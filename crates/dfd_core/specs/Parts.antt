@@ -1,29 +1,29 @@
 -- What is left of a core that is taken apart.
 use Rattle.std.specs.Prelude.{◌≡◌, ℕ, Option, None, List, [], map}
 use Rattle.dag_order.specs.Births.{root}
-use Rattle.core_parts.specs.Passed.Moves.{AreMovesOf}
-use Rattle.deque_machine.specs.Moments.{Moment, opening}
-use Rattle.deque_machine.specs.Runs.{Pair, moves}
+use Rattle.scheduler_state.specs.Passed.Moves.{AreMovesOf}
+use Rattle.open_periods.specs.Passed.Moments.{Moment, opening}
+use Rattle.open_periods.specs.Passed.DequeMachineRuns.{Pair, moves}
 use Rattle.depth_first_run.specs.States.{Setting}
 use Rattle.depth_first_run.specs.Run.{list_of}
-use Rattle.dummy_tree.specs.QuotaWords.{quota_words}
+use Rattle.depth_first_list.specs.QuotaWords.{quota_words}
 use Rattle.node_table.specs.Codes.{code_shown}
 use Rattle.node_table.specs.Table.{Table}
-use Rattle.period_books.specs.Periods.{closed_shown}
-use Rattle.period_books.specs.Telling.{Tell}
-use Rattle.period_table.specs.Tables.{seat_at}
+use Rattle.open_periods.specs.Periods.{closed_shown}
+use Rattle.open_periods.specs.Telling.{Tell}
+use Rattle.open_periods.specs.Tables.{seat_at}
 use Rattle.space_ledger.specs.BooksList.{books_list}
 use Rattle.space_ledger.specs.MovesList.{moves_list}
 use Rattle.space_ledger.specs.declared.books.Books.{Books}
 use Rattle.space_ledger.specs.declared.moves.Moves.{Moves}
-use Rattle.thread_map.specs.Kept.{kept_under}
-use Rattle.thread_state.specs.Settings.{IsSettingOf}
+use Rattle.scheduler_state.specs.Passed.Kept.{kept_under}
+use Rattle.scheduler_state.specs.Passed.Settings.{IsSettingOf}
 use Rattle.thread_frames.specs.declared.ended.Ended.{Ended}
 use Rattle.thread_frames.specs.Points.{IsResult}
 use Rattle.thread_frames.specs.Views.{ended_label}
 use Rattle.dfd_core.specs.declared.run.Core.{Core}
-use Rattle.run_end.specs.declared.ends.RunEnd.{RunEnd}
-use Rattle.run_end.specs.declared.ends.RunEnd.TheVariants.{Finished, Stopped}
+use Rattle.play_rules.specs.declared.ends.RunEnd.{RunEnd}
+use Rattle.play_rules.specs.declared.ends.RunEnd.TheVariants.{Finished, Stopped}
 use Rattle.dfd_core.specs.Cores.{IsAt, end_of}
 
 -- no worker owns a deque

@@ -1,18 +1,18 @@
 -- What one turn comes to, and a play.
 use Rattle.std.specs.Prelude.{◌≡◌, ℕ, ◌+◌, Option, None, Some, List, [], ◌∷◌, ◌++◌, pos}
 use Rattle.depth_first_run.specs.States.{Setting}
-use Rattle.deque_machine.specs.Moments.{Moment}
-use Rattle.deque_machine.specs.Machine.{May}
-use Rattle.deque_machine.specs.Play as play
-use Rattle.deque_machine.specs.Play.{Turn, Meets, words_drawn}
-use Rattle.deque_machine.specs.Fronts.{PlaysOn}
-use Rattle.deque_machine.specs.Runs.{Pair}
-use Rattle.run_end.specs.declared.stop.Stop.TheVariants.{ArenaFull, DequesFull, StepsSpent, OutOfMemory}
-use Rattle.deque_machine.specs.Terms.{Terms, machine_of}
-use Rattle.core_parts.specs.Outcomes.{HasDequesLeft}
+use Rattle.open_periods.specs.Passed.Moments.{Moment}
+use Rattle.open_periods.specs.Passed.Machine.{May}
+use Rattle.open_periods.specs.Passed.Play as play
+use Rattle.open_periods.specs.Passed.Play.{Turn, Meets, words_drawn}
+use Rattle.open_periods.specs.Passed.Fronts.{PlaysOn}
+use Rattle.open_periods.specs.Passed.DequeMachineRuns.{Pair}
+use Rattle.play_rules.specs.declared.stop.Stop.TheVariants.{ArenaFull, DequesFull, StepsSpent, OutOfMemory}
+use Rattle.open_periods.specs.Passed.Terms.{Terms, machine_of}
+use Rattle.scheduler_state.specs.Outcomes.{HasDequesLeft}
 use Rattle.dfd_core.specs.declared.run.Core.{Core}
-use Rattle.run_end.specs.declared.ends.RunEnd.{RunEnd}
-use Rattle.run_end.specs.declared.ends.RunEnd.TheVariants.{Finished, Stopped}
+use Rattle.play_rules.specs.declared.ends.RunEnd.{RunEnd}
+use Rattle.play_rules.specs.declared.ends.RunEnd.TheVariants.{Finished, Stopped}
 use Rattle.dfd_core.specs.Cores.{IsAt, terms_at, end_of}
 
 -- At the moment m of a run it is the turn of a worker, as the coming words pick it, and nothing stops its event. So many words were drawn,

@@ -2,17 +2,17 @@
 use Rattle.std.specs.Prelude.{◌≡◌, ℕ, ◌≤◌, Option, None, Some, List, [], length}
 use Rattle.dag_order.specs.declared.finish.Finish.{Finish}
 use Rattle.depth_first_run.specs.States.{Setting}
-use Rattle.lawful_books.specs.Books.{booked}
-use Rattle.deque_machine.specs.Moments.{Moment, opening}
-use Rattle.deque_machine.specs.Machine.{HasEnded}
-use Rattle.deque_machine.specs.Runs.{Pair, Reaches}
+use Rattle.open_periods.specs.Passed.Books.{booked}
+use Rattle.open_periods.specs.Passed.Moments.{Moment, opening}
+use Rattle.open_periods.specs.Passed.Machine.{HasEnded}
+use Rattle.open_periods.specs.Passed.DequeMachineRuns.{Pair, Reaches}
 use Rattle.node_table.specs.Table.{Table}
-use Rattle.thread_state.specs.Settings.{IsSettingOf}
-use Rattle.core_parts.specs.Held.{Held}
-use Rattle.core_parts.specs.Moments.{HasRun}
-use Rattle.deque_machine.specs.Terms.{Terms, machine_of}
-use Rattle.run_end.specs.declared.ends.RunEnd.{RunEnd}
-use Rattle.run_end.specs.declared.ends.RunEnd.TheVariants.{Finished}
+use Rattle.scheduler_state.specs.Passed.Settings.{IsSettingOf}
+use Rattle.scheduler_state.specs.Held.{Held}
+use Rattle.scheduler_state.specs.Moments.{HasRun}
+use Rattle.open_periods.specs.Passed.Terms.{Terms, machine_of}
+use Rattle.play_rules.specs.declared.ends.RunEnd.{RunEnd}
+use Rattle.play_rules.specs.declared.ends.RunEnd.TheVariants.{Finished}
 use Rattle.depth_first_run.specs.Run.{finish_of_run}
 
 -- What is held is at the moment to which this run of a program of this table leads, and no more actions are done than may be. The run may have

@@ -1,23 +1,23 @@
 -- What a step comes to.
 use Rattle.std.specs.Prelude.{ℕ, Option, None, Some, List, [], ◌∷◌, ◌++◌, pos, Result, Ok, Err}
 use Rattle.depth_first_run.specs.States.{Setting}
-use Rattle.deque_machine.specs.Moments.{Moment}
-use Rattle.deque_machine.specs.Machine as machine
-use Rattle.deque_machine.specs.Machine.{May}
-use Rattle.deque_machine.specs.Play as play
-use Rattle.deque_machine.specs.Play.{Wants, Meets}
-use Rattle.deque_machine.specs.Runs.{Pair}
+use Rattle.open_periods.specs.Passed.Moments.{Moment}
+use Rattle.open_periods.specs.Passed.Machine as machine
+use Rattle.open_periods.specs.Passed.Machine.{May}
+use Rattle.open_periods.specs.Passed.Play as play
+use Rattle.open_periods.specs.Passed.Play.{Wants, Meets}
+use Rattle.open_periods.specs.Passed.DequeMachineRuns.{Pair}
 use Rattle.node_table.specs.Table.{Table}
-use Rattle.period_table.specs.Tables.{periods_of}
+use Rattle.open_periods.specs.Tables.{periods_of}
 use Rattle.depth_first_run.specs.Run.{list_of}
-use Rattle.core_parts.specs.declared.event.Event.{Event}
-use Rattle.run_end.specs.declared.stop.Stop.{Stop}
-use Rattle.run_end.specs.declared.stop.Stop.TheVariants.{ArenaFull, DequesFull, StepsSpent, OutOfMemory}
-use Rattle.core_parts.specs.Held.{Held}
-use Rattle.deque_machine.specs.Terms.{Terms, machine_of}
-use Rattle.core_parts.specs.Outcomes.{Tells, HasDequesLeft}
-use Rattle.run_end.specs.declared.ends.RunEnd.{RunEnd}
-use Rattle.core_parts.specs.Ends.{KeepsEnd}
+use Rattle.scheduler_state.specs.declared.event.Event.{Event}
+use Rattle.play_rules.specs.declared.stop.Stop.{Stop}
+use Rattle.play_rules.specs.declared.stop.Stop.TheVariants.{ArenaFull, DequesFull, StepsSpent, OutOfMemory}
+use Rattle.scheduler_state.specs.Held.{Held}
+use Rattle.open_periods.specs.Passed.Terms.{Terms, machine_of}
+use Rattle.scheduler_state.specs.Outcomes.{Tells, HasDequesLeft}
+use Rattle.play_rules.specs.declared.ends.RunEnd.{RunEnd}
+use Rattle.scheduler_state.specs.Ends.{KeepsEnd}
 use Rattle.dfd_core.specs.Running.{IsAtMoment}
 
 -- At the moment m of a run the rules of play want an event of the worker, with a word for the choice of its victim, and nothing stops it;

@@ -1,10 +1,10 @@
 -- Whose turn it is.
 use Rattle.std.specs.Prelude.{◌≡◌, ℕ, ◌<◌, Some, is_some, List}
 use Rattle.depth_first_run.specs.States.{Setting}
-use Rattle.deque_machine.specs.Moments.{Moment}
-use Rattle.deque_machine.specs.Play.{IsFirst, CanMove, IsReady, reach, words_drawn}
-use Rattle.deque_machine.specs.Runs.{Pair}
-use Rattle.deque_machine.specs.Terms.{machine_of}
+use Rattle.open_periods.specs.Passed.Moments.{Moment}
+use Rattle.open_periods.specs.Passed.Play.{IsFirst, CanMove, IsReady, reach, words_drawn}
+use Rattle.open_periods.specs.Passed.DequeMachineRuns.{Pair}
+use Rattle.open_periods.specs.Passed.Terms.{machine_of}
 use Rattle.dfd_core.specs.declared.run.Core.{Core}
 use Rattle.dfd_core.specs.declared.turn.Turn.{Turn}
 use Rattle.dfd_core.specs.Cores.{IsAt, terms_at, workers_of, words_of_turn}

@@ -3,25 +3,24 @@
 ghost use Rattle.std.specs.Prelude.{◌≡◌, ◌≢◌, ◌<◌, ◌≤◌, ◌↔◌, List as AnyList, None, Ok, Err, length};
 ghost use Rattle.language_limits.specs.declared.TheConstants.{GREATEST_COUNT, MOST_WORKERS};
 ghost use Rattle.depth_first_run.specs.States.{Setting};
-ghost use Rattle.deque_machine.specs.Moments.{Moment};
-ghost use Rattle.deque_machine.specs.Runs.{Pair};
-ghost use Rattle.dummy_tree.specs.QuotaWords.{quota_words};
+ghost use Rattle.open_periods.specs.Passed.Moments.{Moment};
+ghost use Rattle.open_periods.specs.Passed.DequeMachineRuns.{Pair};
+ghost use Rattle.depth_first_list.specs.QuotaWords.{quota_words};
 ghost use Rattle.node_table.specs.Codes.{code_shown};
-ghost use Rattle.period_table.specs.Tables.{seat_at};
-ghost use Rattle.thread_state.specs.Settings.{IsSettingOf};
-ghost use Rattle.victim_choice.specs.Choices.{SomeReady};
-ghost use Rattle.run_end.specs.declared.stop.Stop.TheVariants as stops;
-ghost use Rattle.core_parts.specs.Held.{held};
-ghost use Rattle.core_parts.specs.Moments.{IsSound, CanGoOn, SameTerms, HasRun, terms_of};
-ghost use Rattle.thief_steps.specs.Thefts.{StepsBy};
+ghost use Rattle.open_periods.specs.Tables.{seat_at};
+ghost use Rattle.scheduler_state.specs.Passed.Settings.{IsSettingOf};
+ghost use Rattle.play_rules.specs.Choices.{SomeReady};
+ghost use Rattle.play_rules.specs.declared.stop.Stop.TheVariants as stops;
+ghost use Rattle.scheduler_state.specs.Held.{held};
+ghost use Rattle.scheduler_state.specs.Moments.{IsSound, CanGoOn, SameTerms, HasRun, terms_of};
+ghost use Rattle.worker_step.specs.Thefts.{StepsBy};
 
-use core_parts::{Event, Scheduler};
-use dummy_tree::Quota;
+use depth_first_list::Quota;
 use node_table::Code;
-use owner_steps::step_of_owner;
-use run_end::Stop;
+use play_rules::Stop;
+use scheduler_state::{Event, Scheduler};
 use std::alloc::Global;
-use thief_steps::step_of_thief;
+use worker_step::{step_of_owner, step_of_thief};
 
 /// The event of a worker. None comes exactly where it is idle and nothing in reach can be stolen.
 ///

@@ -3,11 +3,11 @@
 ghost use Rattle.std.specs.Prelude.{List as AnyList, ℕ, ◌≤ℤ◌};
 ghost use Rattle.depth_first_run.specs.States.{Setting};
 ghost use Rattle.depth_first_run.specs.Run.{list_of};
-ghost use Rattle.deque_machine.specs.LawfulOrder.{IsLawful};
-ghost use Rattle.deque_machine.specs.Moments.{Moment, done_at, live_at};
-ghost use Rattle.deque_machine.specs.Runs.{Pair, high_water_mark};
-ghost use Rattle.deque_machine.specs.Terms.{machine_of};
-ghost use Rattle.lawful_books.specs.Books.{IsPrefix, bound, periods_ahead, periods_marked};
+ghost use Rattle.open_periods.specs.Passed.LawfulOrder.{IsLawful};
+ghost use Rattle.open_periods.specs.Passed.Moments.{Moment, done_at, live_at};
+ghost use Rattle.open_periods.specs.Passed.DequeMachineRuns.{Pair, high_water_mark};
+ghost use Rattle.open_periods.specs.Passed.Terms.{machine_of};
+ghost use Rattle.open_periods.specs.Passed.Books.{IsPrefix, bound, periods_ahead, periods_marked};
 ghost use Rattle.dfd_core.specs.Cores.{IsAt, terms_at};
 
 use crate::run::Core;

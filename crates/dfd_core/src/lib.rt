@@ -7,8 +7,8 @@
 //! its deque at any other time, too; [`Core::into_end`] and [`Core::into_parts`] take a core apart, behind its end and before its first
 //! event.
 //!
-//! It stands on the step of a worker that owns a deque (`owner_steps`), on that of an idle one (`thief_steps`), on what a scheduler
-//! holds at a moment (`core_parts`), and on how a run begins and ends (`core_ends`). Its one theorem: whatever the program, what the core holds stands at a moment of a run of the
+//! It stands on the step of a worker that owns a deque (`worker_step`), on that of an idle one (`worker_step`), on what a scheduler
+//! holds at a moment, and how a run begins and ends (`scheduler_state`). Its one theorem: whatever the program, what the core holds stands at a moment of a run of the
 //! machine; each step is the event that the rules of play want of the worker, or meets the stop that they name; and a run that finishes
 //! has the fault and the lines of the depth-first run.
 #![tactic(auto)]
@@ -20,10 +20,10 @@ mod player;
 mod run;
 mod turn;
 
-pub use core_parts::{Choices, ListChoices, OutputFail, Stepped};
 pub use laws::cores_are_lawful;
 pub use parts::{CoreEnd, CoreParts, root_of};
+pub use play_rules::{RunEnd, Stop};
 pub use player::{most_turns, play};
 pub use run::Core;
-pub use run_end::{RunEnd, Stop};
+pub use scheduler_state::{Choices, ListChoices, OutputFail, Stepped};
 pub use turn::{Turn, draw_turn};

@@ -2,24 +2,24 @@
 
 ghost use Rattle.std.specs.Prelude.{◌≡◌, ◌↔◌, List as AnyList, [], ◌∷◌, None, Some, IfSome, IsTrue};
 ghost use Rattle.depth_first_run.specs.States.{Setting};
-ghost use Rattle.deque_machine.specs.Moments.{Moment};
-ghost use Rattle.deque_machine.specs.Runs.{Pair};
-ghost use Rattle.dummy_tree.specs.QuotaWords.{quota_words};
+ghost use Rattle.open_periods.specs.Passed.Moments.{Moment};
+ghost use Rattle.open_periods.specs.Passed.DequeMachineRuns.{Pair};
+ghost use Rattle.depth_first_list.specs.QuotaWords.{quota_words};
 ghost use Rattle.node_table.specs.Codes.{code_shown};
 ghost use Rattle.deque_list.specs.Ids.{deque_id};
-ghost use Rattle.run_end.specs.declared.ends.RunEnd.{RunEnd as AnyEnd};
+ghost use Rattle.play_rules.specs.declared.ends.RunEnd.{RunEnd as AnyEnd};
 ghost use Rattle.dfd_core.specs.Cores.{HasFinished, IsAt, end_of, terms_at};
 ghost use Rattle.dfd_core.specs.Parts.{AreAllIdle, AreOfRun, IsFresh, IsOfWholeRun, root_behind, root_result};
 ghost use Rattle.thread_frames.specs.Roots.{IsRootAlone};
 
 use crate::run::Core;
 use block_arena::Pool;
-use boxed::Boxed;
+use containers::Boxed;
 use dag_order::ThreadId;
+use depth_first_list::Quota;
 use deque_list::{DequeId, Lane, Order};
-use dummy_tree::Quota;
 use node_table::Code;
-use run_end::RunEnd;
+use play_rules::RunEnd;
 use space_ledger::{Books, Moves};
 use thread_frames::{Ended, Thread};
 

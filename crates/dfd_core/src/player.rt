@@ -1,14 +1,14 @@
 ghost use Rattle.std.specs.Prelude.{◌≡◌, ◌+◌, ◌*◌, List as AnyList, None, Some};
 ghost use Rattle.depth_first_run.specs.States.{Setting};
-ghost use Rattle.deque_machine.specs.Moments.{Moment};
-ghost use Rattle.deque_machine.specs.Runs.{Pair};
+ghost use Rattle.open_periods.specs.Passed.Moments.{Moment};
+ghost use Rattle.open_periods.specs.Passed.DequeMachineRuns.{Pair};
 ghost use Rattle.dfd_core.specs.Cores.{IsAt, SameSetting, end_of, terms_at, workers_of};
 ghost use Rattle.dfd_core.specs.Plays.{TakesTurn, PlaysTo};
 
 use crate::run::Core;
 use crate::turn::draw_turn;
-use core_parts::Choices;
-use run_end::RunEnd;
+use play_rules::RunEnd;
+use scheduler_state::Choices;
 
 /// Lets the worker move whose turn it is, in a run that has not ended.
 fn turn<C: Choices>(core: &mut Core, choices: &mut C)

@@ -1,46 +1,44 @@
 ghost use Rattle.std.specs.Prelude.{◌≡◌, ◌<◌, ◌≤◌, ◌↔◌, ℕ, List as AnyList, [], None, Some, Ok, Err, IfOk, IsTrue, MatchOption, length, pos};
 ghost use Rattle.std.specs.Option.{option_copied, option_map};
 ghost use Rattle.language_limits.specs.declared.TheConstants.{GREATEST_COUNT, MOST_WORKERS};
-ghost use Rattle.bounded_list.specs.BoundedList.{entries};
+ghost use Rattle.containers.specs.BoundedList.{entries};
 ghost use Rattle.depth_first_run.specs.States.{Setting, State};
 ghost use Rattle.depth_first_run.specs.Run.{whole, lines_of, list_of};
 ghost use Rattle.deque_list.specs.declared.deque_id.DequeId.{DequeId as AnyDequeId};
-ghost use Rattle.deque_machine.specs.Moments.{Moment, opening, live_at};
-ghost use Rattle.lawful_books.specs.Books.{booked, periods_marked};
-ghost use Rattle.deque_machine.specs.Play as play;
-ghost use Rattle.deque_machine.specs.Runs.{Pair, high_water_mark};
-ghost use Rattle.dummy_tree.specs.QuotaWords.{quota_words};
+ghost use Rattle.open_periods.specs.Passed.Moments.{Moment, opening, live_at};
+ghost use Rattle.open_periods.specs.Passed.Books.{booked, periods_marked};
+ghost use Rattle.open_periods.specs.Passed.Play as play;
+ghost use Rattle.open_periods.specs.Passed.DequeMachineRuns.{Pair, high_water_mark};
+ghost use Rattle.depth_first_list.specs.QuotaWords.{quota_words};
 ghost use Rattle.node_table.specs.Codes.{code_shown};
-ghost use Rattle.period_table.specs.Tables.{deque_at, seat_at};
-ghost use Rattle.thread_state.specs.Settings.{IsSettingOf};
-ghost use Rattle.core_parts.specs.Held.{held};
-ghost use Rattle.core_parts.specs.Moments.{IsSound, CanGoOn, terms_of};
-ghost use Rattle.deque_machine.specs.Terms.{machine_of, given_terms};
-ghost use Rattle.core_parts.specs.declared.stepped.OutputFail.TheVariants as fails;
-ghost use Rattle.core_parts.specs.declared.stepped.Stepped.TheVariants as steps;
+ghost use Rattle.open_periods.specs.Tables.{deque_at, seat_at};
+ghost use Rattle.scheduler_state.specs.Passed.Settings.{IsSettingOf};
+ghost use Rattle.scheduler_state.specs.Held.{held};
+ghost use Rattle.scheduler_state.specs.Moments.{IsSound, CanGoOn, terms_of};
+ghost use Rattle.open_periods.specs.Passed.Terms.{machine_of, given_terms};
+ghost use Rattle.scheduler_state.specs.declared.stepped.OutputFail.TheVariants as fails;
+ghost use Rattle.scheduler_state.specs.declared.stepped.Stepped.TheVariants as steps;
 ghost use Rattle.dfd_core.specs.GiveUps.{end_behind_give_up};
 ghost use Rattle.dfd_core.specs.Running.{IsSomewhere};
 
 use crate::events::event_of;
 use block_arena::Pool;
-use boxed::Boxed;
-use core_parts::{
+use containers::Boxed;
+use dag_order::{Lines, ThreadId};
+use depth_first_list::Quota;
+use deque_list::{DequeId, List};
+use language_limits::{MOST_ACTIONS, MOST_DEQUES, MOST_WORKERS};
+use node_table::Code;
+use open_periods::{Period, Seat};
+use play_rules::{RunEnd, first_mover, first_ready, some_ready};
+use scheduler_state::{
     OutputFail, Scheduler, Stepped, end_behind, end_without_memory, is_finish, open_ahead,
     scheduler_of, told,
 };
-use dag_order::{Lines, ThreadId};
-use deque_list::{DequeId, List};
-use dummy_tree::Quota;
-use language_limits::{MOST_ACTIONS, MOST_DEQUES, MOST_WORKERS};
-use node_table::Code;
-use owner_steps::give_up_deque;
-use period_table::Seat;
-use quota_period::Period;
-use run_end::RunEnd;
 use space_ledger::{Books, Moves};
 use std::alloc::{AllocError, Global};
 use thread_frames::Thread;
-use victim_choice::{first_mover, first_ready, some_ready};
+use worker_step::give_up_deque;
 
 /// A run of a program by some workers, one event at a time.
 #[derive(Drop)]
@@ -173,7 +171,7 @@ impl Core {
             return false;
         }
         let is_ready = some_ready(&self.scheduler.list, self.workers());
-        victim_choice::can_move(&self.scheduler.table, is_ready, worker)
+        play_rules::can_move(&self.scheduler.table, is_ready, worker)
     }
 
     /// The worker that moves next, picked by a word: the first that can.

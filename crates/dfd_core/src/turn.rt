@@ -3,7 +3,7 @@ ghost use Rattle.dfd_core.specs.Cores.{end_of};
 ghost use Rattle.dfd_core.specs.Turns.{PicksTurn};
 
 use crate::run::Core;
-use core_parts::Choices;
+use scheduler_state::Choices;
 
 /// Whose turn it is.
 #[derive(Clone, Copy, PartialEq, Eq, Debug)]

@@ -6,7 +6,7 @@ use Rattle.std.specs.Prelude.{Ok}
 use Rattle.depth_first_list.specs.Runs.{IsDepthFirst}
 use Rattle.depth_first_run.specs.States.{Setting}
 use Rattle.depth_first_run.proofs.Built.{whole_is_depth_first}
-use Rattle.lawful_books.specs.Books.{booked, periods_marked}
+use Rattle.deque_machine.specs.Books.{booked, periods_marked}
 use Rattle.deque_machine.specs.Machine as machine
 use Rattle.deque_machine.specs.Moments.{opening}
 use Rattle.deque_machine.specs.Runs.{Reaches}

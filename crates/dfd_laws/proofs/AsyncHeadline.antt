@@ -15,8 +15,8 @@ use Rattle.deque_machine.specs.Machine.{Setting, does}
 use Rattle.deque_machine.specs.Moments.{Moment, opening, live_at}
 use Rattle.deque_machine.specs.Play.{Ending, finished, stopped, arena_full, steps_spent, deques_full, words_taken}
 use Rattle.deque_machine.specs.Runs.{Pair, high_water_mark}
-use Rattle.lawful_books.specs.Books.{periods_marked, bound}
-use Rattle.lawful_books.specs.Lists.{total}
+use Rattle.deque_machine.specs.Books.{periods_marked, bound}
+use Rattle.deque_machine.specs.Lists.{total}
 use Rattle.par_tree.specs.Tree.{Program}
 use Rattle.ready_machine.proofs.Along.{reached_is_ready, bound_in_ready, ahead_is_marked, marks_never_fall, marked_bound, arena_refuses, events_keep_ready}
 use Rattle.ready_machine.proofs.Coming.{wanted_may_come}

@@ -3,9 +3,9 @@ use Rattle.std.proofs.Common.{◌≡◌, ℕ, zero, suc, ◌+◌, ◌≤◌, ◌
 use Rattle.std.specs.Int.{int_max}
 use Rattle.std.proofs.lemmas.Int.{ints, clamps}
 use Rattle.depth_first_list.specs.Runs.{IsDepthFirst}
-use Rattle.lawful_books.specs.Books.{booked}
-use Rattle.lawful_books.specs.Lists.{Among}
-use Rattle.lawful_books.proofs.Lists.{among_middle, among_times}
+use Rattle.deque_machine.specs.Books.{booked}
+use Rattle.deque_machine.specs.Lists.{Among}
+use Rattle.deque_machine.proofs.Lists.{among_middle, among_times}
 use Rattle.deque_machine.specs.Machine.{Setting, HasEnded}
 use Rattle.deque_machine.specs.Moments.{Moment, opening, done_at, live_at}
 use Rattle.deque_machine.specs.Play.{Limits}

@@ -8,7 +8,7 @@ use Rattle.deque_machine.specs.Play.{Limits, Ending, IsFirst, IsReady, reach, Wa
 use Rattle.deque_machine.specs.Runs.{Pair}
 use Rattle.trail_check.specs.Told.{kind_told, events_told}
 use Rattle.language_limits.specs.declared.TheConstants.{MOST_DEQUES}
-use Rattle.victim_choice.proofs.Firsts.{first_below}
+use Rattle.play_rules.proofs.Firsts.{first_below}
 use Rattle.trail_meaning.specs.Ranges.{FitsKind, FitEvents}
 
 fits_kind : (s : Setting) (m : Moment) (worker word : ℕ) (event : Event) → s.workers ≤ MOST_DEQUES → Wants s m worker word event → FitsKind (kind_told event)

@@ -23,9 +23,9 @@ use Rattle.deque_machine.specs.Machine.{Setting, does, May}
 use Rattle.deque_machine.specs.Moments.{Moment, opening, live_at}
 use Rattle.deque_machine.specs.Play.{Stop, arena_full, steps_spent, deques_full, Ending, finished, stopped, IsFirst, CanMove, Turn, words_taken, one_if_fork}
 use Rattle.deque_machine.specs.Runs.{Pair, Reaches, high_water_mark}
-use Rattle.lawful_books.specs.Books.{periods_marked, bound, booked}
-use Rattle.lawful_books.specs.Lists.{total}
-use Rattle.machine_replay.proofs.OnePlay.{one_way, endings_have_causes}
+use Rattle.deque_machine.specs.Books.{periods_marked, bound, booked}
+use Rattle.deque_machine.specs.Lists.{total}
+use Rattle.deque_machine.proofs.OnePlay.{one_way, endings_have_causes}
 use Rattle.par_tree.specs.Tree.{Program}
 use Rattle.run_report.specs.Shown.{Shown}
 use Rattle.run_report.specs.declared.summary.Summary.{Summary}

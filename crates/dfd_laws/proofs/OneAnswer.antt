@@ -16,11 +16,11 @@ use Rattle.serial_meaning.specs.Settings.{setting_of}
 use Rattle.deque_machine.specs.Moments.{Moment}
 use Rattle.deque_machine.specs.Play.{Ending, finished, stopped}
 use Rattle.deque_machine.specs.Runs.{Pair}
-use Rattle.lawful_books.specs.Books.{booked, periods_marked}
+use Rattle.deque_machine.specs.Books.{booked, periods_marked}
 use Rattle.loop_expand.specs.declared.expand_fail.ExpandFail.{ExpandFail}
 use Rattle.loop_expand.specs.declared.expand_fail.ExpandFail.TheVariants.{Refused, BadLoop, NameTaken, OutOfMemory as NoMemory}
 use Rattle.loop_expand.proofs.Answered.{one_answer as a_text_has_one_answer}
-use Rattle.machine_replay.proofs.OnePlay.{one_play}
+use Rattle.deque_machine.proofs.OnePlay.{one_play}
 use Rattle.par_ownership.specs.Accepted.{IsAccepted}
 use Rattle.par_ownership.specs.Walk.{Refusal, program_refusal}
 use Rattle.par_text.specs.Judging.{IsText, IsRefused, Verdict, tree, refusal}

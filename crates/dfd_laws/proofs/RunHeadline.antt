@@ -17,8 +17,8 @@ use Rattle.deque_machine.specs.Machine.{Setting, does, Owns}
 use Rattle.deque_machine.specs.Moments.{Moment, Deque, opening, live_at, owned_by, one_if_owned}
 use Rattle.deque_machine.specs.Play.{Ending, stopped, arena_full, steps_spent, Wants, an_action, words_taken}
 use Rattle.deque_machine.specs.Runs.{Pair, Reaches}
-use Rattle.lawful_books.proofs.Lists.{total_append, one_same}
-use Rattle.lawful_books.specs.Lists.{total}
+use Rattle.deque_machine.proofs.Lists.{total_append, one_same}
+use Rattle.deque_machine.specs.Lists.{total}
 use Rattle.par_tree.specs.Tree.{Program}
 use Rattle.run_report.specs.Shown.{Shown}
 use Rattle.dfd_plays.specs.Answer.{HasRanges}

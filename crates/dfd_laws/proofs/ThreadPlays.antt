@@ -12,9 +12,9 @@ use Rattle.deque_machine.specs.Machine.{Setting, Event}
 use Rattle.deque_machine.specs.Moments.{Moment}
 use Rattle.deque_machine.specs.Play.{Limits, Stop, arena_full, steps_spent, deques_full, Ending, stopped, Meets, no_steps}
 use Rattle.deque_machine.specs.Runs.{Pair}
-use Rattle.dfd_plays.specs.Passed.ThreadRuns.{MeetsOnTheWay, HasCause as HasThreadCause}
-use Rattle.machine_replay.proofs.OnePlay.{endings_have_causes}
-use Rattle.machine_replay.specs.Laws.{HasCause}
+use Rattle.hall_machine.specs.Runs.{MeetsOnTheWay, HasCause as HasThreadCause}
+use Rattle.deque_machine.proofs.OnePlay.{endings_have_causes}
+use Rattle.deque_machine.specs.StepLaws.{HasCause}
 use Rattle.par_tree.specs.Tree.{Program}
 use Rattle.dfd_plays.specs.Answer.{HasRanges}
 use Rattle.dfd_plays.specs.Play.{IsPlay, play_setting, play_terms, play_machine, seeded_words}

@@ -5,8 +5,8 @@ use Rattle.depth_first_run.specs.Run.{finish_of_run}
 use Rattle.deque_machine.specs.Moments.{Moment, opening}
 use Rattle.deque_machine.specs.Play.{Ending, finished, stopped, arena_full, words_taken}
 use Rattle.deque_machine.specs.Runs.{Pair}
-use Rattle.lawful_books.specs.Books.{bound}
-use Rattle.lawful_books.specs.Lists.{total}
+use Rattle.deque_machine.specs.Books.{bound}
+use Rattle.deque_machine.specs.Lists.{total}
 use Rattle.par_ownership.specs.Accepted.{IsAccepted}
 use Rattle.par_tree.specs.Tree.{Program}
 use Rattle.ready_machine.specs.PlayLaws.{CoversNext}

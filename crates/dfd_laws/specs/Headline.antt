@@ -9,8 +9,8 @@ use Rattle.deque_machine.specs.Moments.{Moment, opening, done_at, live_at, threa
 use Rattle.deque_machine.specs.Completeness.{CoversNext}
 use Rattle.deque_machine.specs.Play.{Ending, finished, stopped, arena_full, steps_spent, deques_full, Fills, Turn, words_taken, one_if_fork}
 use Rattle.deque_machine.specs.Runs.{Pair, Reaches}
-use Rattle.lawful_books.specs.Books.{IsPrefix, periods_ahead, periods_marked, bound}
-use Rattle.lawful_books.specs.Lists.{total}
+use Rattle.deque_machine.specs.Books.{IsPrefix, periods_ahead, periods_marked, bound}
+use Rattle.deque_machine.specs.Lists.{total}
 use Rattle.par_ownership.specs.Accepted.{IsAccepted}
 use Rattle.par_tree.specs.Tree.{Program}
 use Rattle.run_report.specs.Shown.{Shown}

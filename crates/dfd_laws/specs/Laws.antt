@@ -1,6 +1,6 @@
 -- What a caller may use.
 use Rattle.std.specs.Prelude.{◌≡◌, ◌≢◌, ◌↔◌, ◌⊎◌, ℕ, List, Ok}
-use Rattle.command_line.specs.Words.{IsCommand}
+use Rattle.command_line.specs.Arguments.{IsCommand}
 use Rattle.command_line.specs.declared.command.Command.{Command}
 use Rattle.command_line.specs.declared.command_kind.CommandKind.TheVariants.{Play, Run, Loops, Trail, Verify}
 use Rattle.loop_expand.specs.Expansion.{Expands}

@@ -4,7 +4,7 @@
 //! the bound; the play ends, and it finishes if nothing runs out; and `verify` accepts the trails of plays.
 //!
 //! The crate has laws alone. It uses `dfd_run`, whose definitions they are about, and the laws of what these are made of: the two machines
-//! (`deque_machine`, `machine_replay`, `ready_machine`, `ready_replay`), runs by threads (`hall_runs`), expansions (`loop_expand`) and trails
+//! (`deque_machine`, `ready_machine`), runs by threads (`hall_threads`), expansions (`loop_expand`) and trails
 //! (`trail_text`, `trail_check`).
 //!
 //! Its theorem is [`moments_are_bounded`], with [`async_moments_are_bounded`] for a ready list and [`run_moments_are_bounded`] for runs in

@@ -7,7 +7,7 @@ use Rattle.std.specs.Prelude.{Result, Ok, Err, IfOk}
 use Rattle.std.specs.declared.alloc.AllocError.{AllocError}
 use Rattle.accepted_source.specs.Sources.{ReadsSource}
 use Rattle.accepted_source.specs.declared.source_fail.SourceFail.{SourceFail}
-use Rattle.command_line.specs.Words.{IsCommand, wants_groups}
+use Rattle.command_line.specs.Arguments.{IsCommand, wants_groups}
 use Rattle.command_line.specs.declared.command.Command.{Command}
 use Rattle.command_line.specs.declared.command_kind.CommandKind.{CommandKind}
 use Rattle.command_line.specs.declared.command_kind.CommandKind.TheVariants.{Play, Async, Run, Peak, Check as Checks, Make, Loops, Expand, Trail, Verify}

@@ -8,11 +8,11 @@ use Rattle.deque_machine.specs.Moments.{Moment}
 use Rattle.deque_machine.specs.Play.{finished, stopped, arena_full, steps_spent}
 use Rattle.deque_machine.specs.Runs.{Pair}
 use Rattle.par_tree.specs.Tree.{Program}
-use Rattle.ready_core.specs.Cores.{IsAt, end_of}
-use Rattle.ready_core.specs.declared.run.AsyncCore.{AsyncCore}
-use Rattle.run_end.specs.declared.ends.RunEnd.TheVariants.{Finished, Stopped}
-use Rattle.run_end.specs.declared.stop.Stop.{Stop}
-use Rattle.run_end.specs.declared.stop.Stop.TheVariants.{ArenaFull, DequesFull, StepsSpent, OutOfMemory}
+use Rattle.async_core.specs.Cores.{IsAt, end_of}
+use Rattle.async_core.specs.declared.run.AsyncCore.{AsyncCore}
+use Rattle.play_rules.specs.declared.ends.RunEnd.TheVariants.{Finished, Stopped}
+use Rattle.play_rules.specs.declared.stop.Stop.{Stop}
+use Rattle.play_rules.specs.declared.stop.Stop.TheVariants.{ArenaFull, DequesFull, StepsSpent, OutOfMemory}
 use Rattle.dfd_plays.specs.Async.{AsyncMakes, AsyncPlayed, async_terms}
 use Rattle.dfd_plays.specs.Peak.{finish_status}
 use Rattle.dfd_plays.specs.Play.{Reports, play_setting, seeded_words}

@@ -1,13 +1,13 @@
 -- What is told of a depth-first run is its answer.
 use Rattle.std.proofs.Common.{◌≡◌, ℕ, ℤ, ◌≤◌, List, length, Option, Some, None, ap, sym, ◌∙◌, refl, subst}
 use Rattle.std.proofs.lemmas.Slice.Zip.{AllZip-long}
-use Rattle.command_line.specs.Words.{InRange}
+use Rattle.command_line.specs.Arguments.{InRange}
 use Rattle.command_line.specs.declared.command_kind.CommandKind.{CommandKind}
 use Rattle.command_line.specs.declared.setting.Setting.TheVariants.{Quota as QuotaSetting}
 use Rattle.dag_order.specs.declared.birth.Birth.{Birth}
 use Rattle.dag_order.specs.declared.fault.FaultAt.{FaultAt}
 use Rattle.dag_order.specs.declared.finish.Finish.{Finish}
-use Rattle.dummy_tree.specs.Quotas.{IsQuota}
+use Rattle.depth_first_list.specs.Quotas.{IsQuota}
 use Rattle.depth_first_run.specs.States.{Item}
 use Rattle.depth_first_run.specs.Run.{actions_of, first_fault, lines_of, finish_of}
 use Rattle.serial_journal.specs.Telling.{Told, ShowsAction}

@@ -3,16 +3,16 @@ use Rattle.std.proofs.Common.{◌≡◌, ℕ, ℤ, List, Some, pos, Result, Ok, 
 use Rattle.std.proofs.Math.Logic.{∥∥₁_map}
 use Rattle.std.specs.declared.alloc.AllocError.{AllocError}
 use Rattle.command_line.specs.declared.command.Command.{Command}
-use Rattle.run_end.specs.declared.stop.Stop.{Stop}
-use Rattle.run_end.specs.declared.stop.Stop.TheVariants.{ArenaFull, DequesFull, StepsSpent, OutOfMemory}
+use Rattle.play_rules.specs.declared.stop.Stop.{Stop}
+use Rattle.play_rules.specs.declared.stop.Stop.TheVariants.{ArenaFull, DequesFull, StepsSpent, OutOfMemory}
 use Rattle.dag_order.specs.declared.finish.Finish.{Finish}
 use Rattle.depth_first_run.specs.States.{Setting}
 use Rattle.deque_machine.specs.Moments.{Moment}
 use Rattle.deque_machine.specs.Play.{Ending, finished, stopped, arena_full, steps_spent, deques_full}
 use Rattle.deque_machine.specs.Runs.{Pair}
-use Rattle.trail_record.specs.Played.Cores.{IsAt, end_of}
-use Rattle.trail_record.specs.Played.CoreType.{Core}
-use Rattle.run_end.specs.declared.ends.RunEnd.TheVariants.{Finished, Stopped}
+use Rattle.trail_record.specs.Passed.Cores.{IsAt, end_of}
+use Rattle.trail_record.specs.Passed.Core.{Core}
+use Rattle.play_rules.specs.declared.ends.RunEnd.TheVariants.{Finished, Stopped}
 use Rattle.node_table.specs.Programs.{IsTableOf}
 use Rattle.node_table.specs.Table.{Table}
 use Rattle.par_ownership.specs.Ownership.{Ownership}

@@ -3,17 +3,17 @@ use Rattle.std.proofs.Common.{◌≡◌, ℕ, List, Some, ap, ◌∙◌, sym, su
 use Rattle.std.proofs.Math.Logic.{∥∥₁_map}
 use Rattle.std.specs.Prelude.{Result, Ok, Err}
 use Rattle.command_line.specs.declared.command.Command.{Command}
-use Rattle.run_end.specs.declared.stop.Stop.{Stop}
-use Rattle.run_end.specs.declared.stop.Stop.TheVariants.{ArenaFull, DequesFull, StepsSpent, OutOfMemory}
+use Rattle.play_rules.specs.declared.stop.Stop.{Stop}
+use Rattle.play_rules.specs.declared.stop.Stop.TheVariants.{ArenaFull, DequesFull, StepsSpent, OutOfMemory}
 use Rattle.dag_order.specs.declared.finish.Finish.{Finish}
 use Rattle.depth_first_run.specs.States.{Setting}
 use Rattle.deque_machine.specs.Moments.{Moment}
 use Rattle.deque_machine.specs.Play.{finished}
 use Rattle.deque_machine.specs.Runs.{Pair}
 use Rattle.deque_machine.specs.Terms.{Terms}
-use Rattle.trail_record.specs.Played.Cores.{IsAt, end_of}
-use Rattle.trail_record.specs.Played.CoreType.{Core}
-use Rattle.run_end.specs.declared.ends.RunEnd.TheVariants.{Finished, Stopped}
+use Rattle.trail_record.specs.Passed.Cores.{IsAt, end_of}
+use Rattle.trail_record.specs.Passed.Core.{Core}
+use Rattle.play_rules.specs.declared.ends.RunEnd.TheVariants.{Finished, Stopped}
 use Rattle.trail_check.specs.Told.{events_told}
 use Rattle.par_ownership.specs.Ownership.{Ownership}
 use Rattle.par_ownership.proofs.Law.{tells_program}

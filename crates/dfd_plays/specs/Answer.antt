@@ -1,7 +1,7 @@
 -- What a call of the program answers, and why.
 use Rattle.std.specs.Prelude.{◌≡◌, ℕ, suc, ◌≤◌, true, List, Option, take}
 use Rattle.canonical_text.specs.Canonical.{canonical}
-use Rattle.command_line.specs.Words.{IsCommand, InRange, number_of, wants_groups}
+use Rattle.command_line.specs.Arguments.{IsCommand, InRange, number_of, wants_groups}
 use Rattle.command_line.specs.declared.command.Command.{Command}
 use Rattle.command_line.specs.declared.command_kind.CommandKind.{CommandKind}
 use Rattle.command_line.specs.declared.command_kind.CommandKind.TheVariants.{Play, Async, Run, Peak, Check as Checks, Make, Loops, Expand, Trail, Verify}

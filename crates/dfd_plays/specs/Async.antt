@@ -9,10 +9,10 @@ use Rattle.deque_machine.specs.Play.{Ending}
 use Rattle.deque_machine.specs.Runs.{Pair}
 use Rattle.deque_machine.specs.Terms.{Terms, machine_of, given_terms}
 use Rattle.par_tree.specs.Tree.{Program}
-use Rattle.ready_core.specs.Plays.{PlaysTo}
-use Rattle.ready_core.specs.declared.run.AsyncCore.{AsyncCore}
+use Rattle.async_core.specs.Plays.{PlaysTo}
+use Rattle.async_core.specs.declared.run.AsyncCore.{AsyncCore}
 use Rattle.ready_machine.specs.ReadyPlay.{ReadyPlays}
-use Rattle.run_end.specs.declared.ends.RunEnd.{RunEnd}
+use Rattle.play_rules.specs.declared.ends.RunEnd.{RunEnd}
 use Rattle.dfd_plays.specs.Play.{play_setting, seeded_words, TellsRun, Reports}
 use Rattle.dfd_plays.specs.declared.status.Status.{Status}
 

@@ -3,9 +3,9 @@ use Rattle.std.specs.Prelude.{ℕ, List, []}
 use Rattle.depth_first_run.specs.States.{Setting}
 use Rattle.deque_machine.specs.Moments.{opening}
 use Rattle.deque_machine.specs.Terms.{Terms}
-use Rattle.trail_record.specs.Played.Plays.{PlaysTo}
-use Rattle.trail_record.specs.Played.CoreType.{Core}
-use Rattle.run_end.specs.declared.ends.RunEnd.{RunEnd}
+use Rattle.trail_record.specs.Passed.Plays.{PlaysTo}
+use Rattle.trail_record.specs.Passed.Core.{Core}
+use Rattle.play_rules.specs.declared.ends.RunEnd.{RunEnd}
 use Rattle.trail_meaning.specs.declared.trail_event.TrailEvent.{TrailEvent}
 use Rattle.trail_record.specs.Recorded.{PlaysRecorded}
 

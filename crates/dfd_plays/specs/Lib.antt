@@ -14,4 +14,3 @@ pub mod Threads
 pub mod TrailMessages
 pub mod Trails
 pub mod CorePlays
-pub mod Passed

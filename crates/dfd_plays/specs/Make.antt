@@ -6,7 +6,7 @@ use Rattle.depth_first_run.specs.States.{Setting}
 use Rattle.depth_first_run.specs.Run.{whole, lines_of, list_of}
 use Rattle.deque_machine.specs.Moments.{Moment}
 use Rattle.deque_machine.specs.Runs.{Pair, high_water_mark}
-use Rattle.lawful_books.specs.Books.{booked, periods_marked}
+use Rattle.deque_machine.specs.Books.{booked, periods_marked}
 use Rattle.made_source.specs.MadeSource.{made_source}
 use Rattle.par_tree.specs.Tree.{Program}
 use Rattle.run_report.specs.Texts.{summary_text}

@@ -11,7 +11,7 @@ use Rattle.run_report.specs.Texts.{line}
 
 -- the words are no command
 abbrev pub usage_text : List ℕ
-usage_text = line (codes "usage: dfd play|async|run|peak|check|make|trail|verify|loops|expand [options]")
+usage_text = line (codes "usage: dfd play|run|peak|check|make|async|trail|verify|loops|expand [options]")
 
 -- the source failed
 abbrev pub read_fault_text : List ℕ

@@ -10,7 +10,7 @@ use Rattle.deque_machine.specs.Machine as machine
 use Rattle.deque_machine.specs.Moments.{Moment, opening}
 use Rattle.deque_machine.specs.Play.{Stop, arena_full, steps_spent, deques_full, Ending, finished, stopped, Plays}
 use Rattle.deque_machine.specs.Runs.{Pair, high_water_mark}
-use Rattle.lawful_books.specs.Books.{periods_marked}
+use Rattle.deque_machine.specs.Books.{periods_marked}
 use Rattle.par_tree.specs.Tree.{Program}
 use Rattle.run_report.specs.Texts.{report_text}
 use Rattle.serial_meaning.specs.Settings.{setting_of}

@@ -1,7 +1,7 @@
 -- What is told of a stop of the core.
 use Rattle.std.specs.Prelude.{◌≡◌, ℕ, List, pos}
-use Rattle.run_end.specs.declared.stop.Stop.{Stop}
-use Rattle.run_end.specs.declared.stop.Stop.TheVariants as stops
+use Rattle.play_rules.specs.declared.stop.Stop.{Stop}
+use Rattle.play_rules.specs.declared.stop.Stop.TheVariants as stops
 use Rattle.dfd_plays.specs.Messages.{spent_text, arena_text, deques_text}
 use Rattle.dfd_plays.specs.declared.status.Status.{Status}
 use Rattle.dfd_plays.specs.declared.status.Status.TheVariants.{StepsSpent, ArenaFull, DequesFull}

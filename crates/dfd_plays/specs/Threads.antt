@@ -5,7 +5,7 @@ use Rattle.deque_machine.specs.Moments.{Moment}
 use Rattle.deque_machine.specs.Play.{Ending}
 use Rattle.deque_machine.specs.Runs.{Pair}
 use Rattle.deque_machine.specs.Terms.{Terms}
-use Rattle.hall_law.specs.Runs.{IsThreadRun}
+use Rattle.hall_machine.specs.Runs.{IsThreadRun}
 use Rattle.par_tree.specs.Tree.{Program}
 use Rattle.dfd_plays.specs.Play.{play_machine, play_terms, TellsRun, Reports}
 use Rattle.dfd_plays.specs.declared.status.Status.{Status}

@@ -6,7 +6,7 @@ use Rattle.depth_first_run.specs.Run.{list_of}
 use Rattle.deque_machine.specs.Moments.{Moment}
 use Rattle.deque_machine.specs.Runs.{Pair, high_water_mark}
 use Rattle.trail_check.specs.Told.{events_told}
-use Rattle.lawful_books.specs.Books.{periods_marked}
+use Rattle.deque_machine.specs.Books.{periods_marked}
 use Rattle.par_tree.specs.Tree.{Program}
 use Rattle.serial_meaning.specs.Settings.{setting_of}
 use Rattle.trail_meaning.specs.Shown.{Shown}

@@ -5,9 +5,9 @@
 //!
 //! It uses `accepted_source`, which reads bytes as a program that keeps the rules of ownership or says why not; `canonical_text` and
 //! `par_print`, the text of a program in one layout; `serial_meaning`, the depth-first run of a program; `frame_code`, its table of nodes, and
-//! `dfd_core` and `ready_core`, by which workers play it; `loop_expand`, which writes parallel loops out before a program is read;
+//! `dfd_core` and `async_core`, by which workers play it; `loop_expand`, which writes parallel loops out before a program is read;
 //! `trail_record`, which records a play, `trail_text`, its text, and `trail_check`, which checks one; and `run_report`, the texts of runs.
-//! Of the hall it has no code, only which runs threads may come to (`hall_law`).
+//! Of the hall it has no code, only which runs threads may come to (`hall_machine`).
 //!
 //! Its theorem is the contract of `serve`: the status and the text that the sink took are those that `CommandGives` of `specs/Answer.antt`
 //! gives for the command and the bytes read, and each fault has its cause. What follows from these definitions, of answers, plays and trails,

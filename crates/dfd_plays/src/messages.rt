@@ -11,7 +11,7 @@ use std::alloc::{AllocError, Global};
 
 /// The line of words that are no command.
 pub const USAGE: &str =
-    "usage: dfd play|async|run|peak|check|make|trail|verify|loops|expand [options]\n";
+    "usage: dfd play|run|peak|check|make|async|trail|verify|loops|expand [options]\n";
 
 /// The line of a source that failed.
 pub const READ_FAULT: &str = "read fault\n";

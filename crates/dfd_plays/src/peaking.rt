@@ -1,7 +1,7 @@
 ghost use Rattle.std.specs.Prelude.{◌≡◌, ◌≤◌, ℕ, List, IfOk, length};
 ghost use Rattle.block_check.specs.Checked.{program_of};
 ghost use Rattle.par_tree.specs.View.{program_tree};
-ghost use Rattle.command_line.specs.Words.{InRange};
+ghost use Rattle.command_line.specs.Arguments.{InRange};
 ghost use Rattle.command_line.specs.declared.command_kind.CommandKind.TheVariants.{Peak as PeakKind};
 ghost use Rattle.command_line.specs.declared.setting.Setting.TheVariants.{Quota as QuotaSetting};
 ghost use Rattle.depth_first_run.specs.States.{Item};
@@ -17,7 +17,7 @@ use crate::refusal::refusal_answer;
 use crate::status::Status;
 use accepted_source::accept;
 use block_check::Checked;
-use dummy_tree::Quota;
+use depth_first_list::Quota;
 use run_report::{PeakReport, peak_text};
 use serial_meaning::{Serial, SerialStop, depth_first};
 use std::alloc::{AllocError, Global};

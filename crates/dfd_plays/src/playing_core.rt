@@ -2,13 +2,13 @@
 
 ghost use Rattle.std.specs.Prelude.{◌≡◌, IfOk, None, Some, []};
 ghost use Rattle.block_check.specs.Checked.{program_of};
-ghost use Rattle.bounded_list.specs.BoundedList.{entries};
+ghost use Rattle.containers.specs.BoundedList.{entries};
 ghost use Rattle.depth_first_run.specs.Run.{whole, lines_of};
 ghost use Rattle.depth_first_run.specs.States.{Setting};
 ghost use Rattle.deque_machine.specs.Moments.{opening};
-ghost use Rattle.trail_record.specs.Played.Cores.{HasFinished, IsAt, end_of, terms_at};
-ghost use Rattle.trail_record.specs.Played.CoreParts.{IsFresh};
-ghost use Rattle.dummy_tree.specs.QuotaWords.{quota_words};
+ghost use Rattle.trail_record.specs.Passed.Cores.{HasFinished, IsAt, end_of, terms_at};
+ghost use Rattle.trail_record.specs.Passed.Parts.{IsFresh};
+ghost use Rattle.depth_first_list.specs.QuotaWords.{quota_words};
 ghost use Rattle.node_table.specs.Codes.{code_shown};
 ghost use Rattle.par_ownership.specs.Ownership.{Ownership};
 ghost use Rattle.par_tree.specs.View.{program_tree};
@@ -26,10 +26,10 @@ use block_arena::{Pool, PoolError};
 use block_check::Checked;
 use command_line::Command;
 use dag_order::Lines;
-use dummy_tree::Quota;
+use depth_first_list::Quota;
 use frame_code::lower;
 use node_table::Code;
-use run_end::Stop;
+use play_rules::Stop;
 use std::alloc::{AllocError, Global};
 use trail_record::{Core, OutputFail, Recorded, RunEnd, record_play};
 

@@ -1,12 +1,12 @@
 ghost use Rattle.std.specs.Prelude.{◌≡◌, IfOk, Some, List as AnyList};
 ghost use Rattle.block_check.specs.Checked.{program_of};
-ghost use Rattle.bounded_list.specs.BoundedList.{entries};
+ghost use Rattle.containers.specs.BoundedList.{entries};
 ghost use Rattle.depth_first_run.specs.States.{Setting};
 ghost use Rattle.deque_machine.specs.Moments.{Moment};
 ghost use Rattle.deque_machine.specs.Runs.{Pair};
 ghost use Rattle.deque_machine.specs.Terms.{machine_of};
-ghost use Rattle.trail_record.specs.Played.Cores.{IsAt, end_of, terms_at};
-ghost use Rattle.run_end.specs.declared.ends.RunEnd.TheVariants.{Finished};
+ghost use Rattle.trail_record.specs.Passed.Cores.{IsAt, end_of, terms_at};
+ghost use Rattle.play_rules.specs.declared.ends.RunEnd.TheVariants.{Finished};
 ghost use Rattle.trail_check.specs.Told.{events_told};
 ghost use Rattle.trail_check.specs.Verdicts.{AreNumbers};
 ghost use Rattle.par_ownership.specs.Ownership.{Ownership};

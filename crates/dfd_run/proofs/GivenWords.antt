@@ -6,7 +6,7 @@ use Rattle.std.specs.Vec.Iter.{into_iter_items, into_iter_steps}
 use Rattle.std.specs.declared.alloc.Global.{Global}
 use Rattle.std.specs.declared.string.String.{String}
 use Rattle.std.specs.declared.vec.IntoIter.{IntoIter}
-use Rattle.command_line.specs.Words.{IsCommand}
+use Rattle.command_line.specs.Arguments.{IsCommand}
 use Rattle.command_line.specs.declared.command.Command.{Command}
 use Rattle.dfd_plays.specs.Answer.{CallGives, Ends}
 use Rattle.dfd_run.specs.Program.{Given, words_given, AreNoWords}

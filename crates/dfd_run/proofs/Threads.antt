@@ -5,10 +5,10 @@ use Rattle.command_line.specs.declared.command.Command.{Command}
 use Rattle.deque_machine.specs.Moments.{Moment}
 use Rattle.deque_machine.specs.Play.{finished, stopped, arena_full, steps_spent, deques_full}
 use Rattle.deque_machine.specs.Runs.{Pair}
-use Rattle.hall_runs.specs.Reports.{IsReportOf, SomeRun, IsStoppedBy}
+use Rattle.hall_threads.specs.Reports.{IsReportOf, SomeRun, IsStoppedBy}
 use Rattle.par_tree.specs.Tree.{Program}
-use Rattle.run_end.specs.declared.stop.Stop.{Stop}
-use Rattle.run_end.specs.declared.stop.Stop.TheVariants.{ArenaFull, DequesFull, StepsSpent, OutOfMemory}
+use Rattle.hall_threads.specs.Passed.Stop.{Stop}
+use Rattle.hall_threads.specs.Passed.StopVariants.{ArenaFull, DequesFull, StepsSpent, OutOfMemory}
 use Rattle.run_report.specs.Shown.{shown_by_report}
 use Rattle.run_report.specs.Texts.{report_text}
 use Rattle.run_report.specs.declared.report.Report.{Report}

@@ -1,5 +1,5 @@
 ghost use Rattle.std.specs.Prelude.{◌≡◌, ◌⊎◌};
-ghost use Rattle.command_line.specs.Words.{words_of};
+ghost use Rattle.command_line.specs.Arguments.{arguments_of};
 ghost use Rattle.command_line.specs.declared.command_kind.CommandKind.TheVariants.{Run};
 ghost use Rattle.dfd_plays.specs.Answer.{CommandGives, CallGives, Ends, HasRanges, IsSomeCommand, NoCommand, ReadsNothing};
 ghost use Rattle.dfd_plays.specs.Counts.{Counts};
@@ -8,7 +8,7 @@ ghost use Rattle.dfd_plays.specs.declared.status.Status.TheVariants.{OutOfMemory
 
 use crate::running::run;
 use byte_streams::{ReadFail, Sink, SinkFailed, Source, read_source, write_text};
-use command_line::{Command, CommandKind, read_words};
+use command_line::{Command, CommandKind, read_arguments};
 use dfd_plays::{Status, USAGE, most_read, serve, write_answer, write_read_fault};
 use std::alloc::Global;
 use std::sync::Wait;
@@ -53,13 +53,13 @@ pub fn dfd<R: Threads + Wait + Sync, S: Source, W: Sink, G: Gate + Sync>(
     gate: &G,
 ) -> Status
     ensures ends { Ends
-        (CallGives (words_of words.now) (Rose (S.faults source.old) (S.faults source.new)) (S.left source.old) (S.left source.new))
+        (CallGives (arguments_of words.now) (Rose (S.faults source.old) (S.faults source.new)) (S.left source.old) (S.left source.new))
         (W.taken sink.old) (W.taken sink.new) result }
-    ensures no_memory { result ≡ OutOfMemory → IsSomeCommand (words_of words.now) × (sink.new ≡ sink.old) }
-    ensures unread { NoCommand (words_of words.now) ⊎ ReadsNothing (words_of words.now) → source.new ≡ source.old }
+    ensures no_memory { result ≡ OutOfMemory → IsSomeCommand (arguments_of words.now) × (sink.new ≡ sink.old) }
+    ensures unread { NoCommand (arguments_of words.now) ⊎ ReadsNothing (arguments_of words.now) → source.new ≡ source.old }
     ensures counts { Counts result (S.faults source.old) (S.faults source.new) (W.faults sink.old) (W.faults sink.new) }
 {
-    let Some(command) = read_words(words) else {
+    let Some(command) = read_arguments(words) else {
         return match write_text(sink, USAGE.as_bytes()) {
             Ok(()) => Status::Usage,
             Err(SinkFailed) => Status::WriteFault,

@@ -4,7 +4,7 @@
 //! and writes its text to a [`Sink`]. The kinds and contracts of both are those of `byte_streams`.
 //!
 //! It uses `command_line`, which says which words are a command; `dfd_plays`, which does each command but `run`, by [`serve`], and says what
-//! each is to answer; and `hall_runs`, by which workers run a program in threads.
+//! each is to answer; and `hall_threads`, by which workers run a program in threads.
 //!
 //! Its theorem is the contract of `dfd`: the status and the text that the sink took are those that `CallGives` of `specs/Answer.antt` of
 //! `dfd_plays` gives for the words and the bytes read, and each fault has its cause. What follows from these definitions, of answers, plays
@@ -20,7 +20,7 @@ pub use byte_streams::{
     Source, SourceFailed, StdinSource, StdoutSink, WriterSink, read_source, write_text,
 };
 pub use call::dfd;
-pub use command_line::{Command, CommandKind, read_words};
+pub use command_line::{Command, CommandKind, read_arguments};
 pub use dfd_plays::{PcgChoices, Status, serve};
 pub use program::exit_code;
 pub use work_loop::{FreeGate, Gate};

@@ -1,7 +1,7 @@
 ghost use Rattle.std.specs.Prelude.{◌≡◌, ◌≢◌, IfOk, IsOk, IsErr, drop};
 ghost use Rattle.std.specs.Vec.Iter.{into_iter_items};
 ghost use Rattle.byte_streams.specs.Faults.{Rose};
-ghost use Rattle.command_line.specs.Words.{words_of};
+ghost use Rattle.command_line.specs.Arguments.{arguments_of};
 ghost use Rattle.dfd_plays.specs.Answer.{CallGives, Ends};
 ghost use Rattle.dfd_plays.specs.Counts.{Counts};
 ghost use Rattle.dfd_run.specs.Program.{words_given, LacksWords, AreNoWords};
@@ -30,7 +30,7 @@ fn behind_the_name(alloc: Global, mut args: Args) -> Result<Vec<String>, AllocEr
 ///
 /// Words that cannot be read, as one that is not UTF-8, are no command: no words at all stand for them.
 fn words(alloc: Global, args: io::Result<Args>) -> Result<Vec<String>, AllocError>
-    ensures given { IfOk result (λ words. words_of words.items ≡ words_given args) }
+    ensures given { IfOk result (λ words. arguments_of words.items ≡ words_given args) }
     ensures lacking { LacksWords args → IsErr result }
     ensures no_words { AreNoWords args → IsOk result }
 {

@@ -12,7 +12,7 @@ use accepted_source::accept;
 use block_check::Checked;
 use command_line::Command;
 use dfd_plays::{Answer, PcgChoices, begun, refusal_answer, report_answer, stop_answer};
-use hall_runs::{Ran, run_in_threads};
+use hall_threads::{Ran, run_in_threads};
 use std::alloc::{AllocError, Global};
 use std::sync::Wait;
 use std::thread::Threads;

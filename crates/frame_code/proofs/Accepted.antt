@@ -13,14 +13,14 @@ use Rattle.block_check.specs.Shown.{funcs_tree}
 use Rattle.par_text.specs.Trees.{IsTreeOfText}
 use Rattle.par_tree.specs.Names.{names_in_expr, names_in_links, names_in_target, names_in_arg, names_in_args, names_in_stmt, names_in_body}
 use Rattle.par_ownership.specs.Ownership.{Ownership, function_of, main_name}
-use Rattle.accepted_laws.specs.Calls.{EachCallOfStmt, EachCall, IsCall}
+use Rattle.accepted_source.specs.Calls.{EachCallOfStmt, EachCall, IsCall}
 use Rattle.par_tree.specs.Names.{is_among, param_names, declared_in, names_in_value, names_in_return}
-use Rattle.accepted_laws.specs.Laws.{EachFunction, IsDeclared}
-use Rattle.accepted_laws.proofs.Passing.{calls}
-use Rattle.accepted_laws.proofs.Naming.{declared}
-use Rattle.accepted_laws.proofs.Functions.{main_of}
-use Rattle.accepted_laws.specs.Sizes.{HasFewNames}
-use Rattle.accepted_laws.proofs.Small.{small}
+use Rattle.accepted_source.specs.Laws.{EachFunction, IsDeclared}
+use Rattle.accepted_source.proofs.Passing.{calls}
+use Rattle.accepted_source.proofs.Naming.{declared}
+use Rattle.accepted_source.proofs.Functions.{main_of}
+use Rattle.accepted_source.specs.Sizes.{HasFewNames}
+use Rattle.accepted_source.proofs.Small.{small}
 use Rattle.node_table.specs.Names.{with_name, with_names, slot_names}
 use Rattle.node_table.specs.Programs.{name_of, function_names}
 use Rattle.frame_code.specs.Slotted.{Has, HasAll, HasExpr, HasLinks, HasTarget, HasArg, HasArgs, HasValue, HasReturn, HasStmt, HasBody, HasFunc, CanBeLowered}

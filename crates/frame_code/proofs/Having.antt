@@ -5,8 +5,8 @@ use Rattle.par_tree.specs.Tree.{Name}
 use Rattle.par_tree.specs.View.{name_tree, expr_tree, links_tree, arg_tree, args_tree, params_tree, stmt_tree, body_tree, func_tree}
 use Rattle.par_tree.specs.declared.func.Func.{Func}
 use Rattle.block_check.specs.Shown.{funcs_tree}
-use Rattle.accepted_laws.specs.Laws.{EachFunction}
-use Rattle.accepted_laws.specs.Sizes.{body_size, functions_size}
+use Rattle.accepted_source.specs.Laws.{EachFunction}
+use Rattle.accepted_source.specs.Sizes.{body_size, functions_size}
 use Rattle.par_tree.specs.declared.link.Link.{Link}
 use Rattle.par_tree.specs.declared.expr.Expr.{Expr, Chain}
 use Rattle.std.specs.declared.vec.Vec.{Vec}

@@ -9,7 +9,7 @@ use Rattle.par_tree.specs.declared.expr.Expr.{Expr as RustExpr, Chain}
 use Rattle.par_tree.specs.declared.link.Link.{Link}
 use Rattle.par_tree.specs.declared.stmt.Stmt.{Stmt as RustStmt}
 use Rattle.par_tree.proofs.Lists.{expr_tree-chain}
-use Rattle.accepted_laws.specs.Sizes.{stmt_size, body_size}
+use Rattle.accepted_source.specs.Sizes.{stmt_size, body_size}
 use Rattle.node_table.proofs.Lists.{drop_item}
 
 abbrev mutual

@@ -5,8 +5,8 @@ use Rattle.par_tree.specs.Tree
 use Rattle.par_tree.specs.Tree.{Name, Expr, num, var, get, len_of, neg, chain, cmp, Links, last, link, Target, unused, block, Arg, value, lend, give, Stmt, let_stmt, assign_stmt, put_stmt, alloc_stmt, free_stmt, if_stmt, while_stmt, call_stmt, print_stmt, par_stmt, split_stmt, Body, done, step, RetValue, gives, hands, Ret, Func, Program}
 use Rattle.par_ownership.specs.Ownership.{main_name}
 use Rattle.par_tree.specs.Names.{is_among, param_names}
-use Rattle.accepted_laws.specs.Laws.{EachFunction}
-use Rattle.accepted_laws.specs.Sizes.{functions_size}
+use Rattle.accepted_source.specs.Laws.{EachFunction}
+use Rattle.accepted_source.specs.Sizes.{functions_size}
 use Rattle.node_table.specs.Names.{slot_names}
 
 -- x is among the names

@@ -4,7 +4,7 @@ ghost use Rattle.std.specs.Prelude.{◌≡◌, ◌≤◌, ◌+◌, IfOk, length}
 ghost use Rattle.par_tree.specs.View.{params_tree, func_tree};
 ghost use Rattle.par_tree.specs.Names.{param_names};
 ghost use Rattle.block_check.specs.Shown.{funcs_tree};
-ghost use Rattle.accepted_laws.specs.Sizes.{body_size, functions_size};
+ghost use Rattle.accepted_source.specs.Sizes.{body_size, functions_size};
 ghost use Rattle.node_table.specs.Names.{slot_names};
 ghost use Rattle.node_table.specs.Programs.{IsFunc, AreFuncs};
 ghost use Rattle.node_table.specs.Reading.{AreSlots};

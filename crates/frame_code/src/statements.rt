@@ -3,7 +3,7 @@
 ghost use Rattle.std.specs.Prelude.{◌≡◌, ◌<◌, ◌≤◌, ◌+◌, ◌++◌, [], ◌∷◌, IfOk, length, slice_set};
 ghost use Rattle.par_tree.specs.View.{name_tree, expr_tree, target_tree, args_tree, stmt_tree, body_tree};
 ghost use Rattle.par_names.specs.Rows.{rows_tree};
-ghost use Rattle.accepted_laws.specs.Sizes.{stmt_size, body_size};
+ghost use Rattle.accepted_source.specs.Sizes.{stmt_size, body_size};
 ghost use Rattle.node_table.specs.Programs.{IsStmt, IsBody, AsLet, AsAssign, AsPut, AsAlloc, AsCall};
 ghost use Rattle.node_table.specs.Shown.{nodes_shown, kind_shown};
 ghost use Rattle.frame_code.specs.Growing.{Grown};

@@ -8,51 +8,51 @@ use Rattle.dag_order.specs.declared.action_id.ActionId.{ActionId}
 use Rattle.dag_order.specs.declared.finish.Finish.{Finish}
 use Rattle.dag_order.specs.declared.thread_id.ThreadId.{ThreadId}
 use Rattle.deque_list.specs.declared.deque_id.DequeId.{DequeId}
-use Rattle.part_events.specs.Passed.DequeEventsEvents.{DidEnd}
-use Rattle.deque_machine.specs.Machine as machine
-use Rattle.deque_machine.specs.Terms.{Terms, machine_of}
-use Rattle.depth_first_list.specs.Actions.{record_words}
-use Rattle.depth_first_run.proofs.Built.{whole_is_depth_first}
-use Rattle.depth_first_run.specs.Run.{list_of}
-use Rattle.depth_first_run.specs.States.{Setting}
-use Rattle.lawful_books.specs.Lists.{Each}
-use Rattle.lawful_books.proofs.Lists.{each_map}
-use Rattle.moment_parts.specs.Parts as shown
-use Rattle.period_books.specs.Periods.{open_shown}
-use Rattle.period_table.specs.Tables.{noted, shut}
-use Rattle.quota_period.specs.declared.period.Period.{Period as OpenPeriod}
-use Rattle.run_end.specs.declared.ends.RunEnd.TheVariants.{Finished}
-use Rattle.part_events.specs.Passed.Actions.{IsOfTheList}
-use Rattle.part_events.specs.Passed.Views.{label_of}
-use Rattle.part_events.specs.Passed.EndedType.{Ended}
-use Rattle.part_events.specs.Passed.NextVariants as nexts
-use Rattle.part_events.specs.Passed.ThreadType.{Thread}
-use Rattle.part_events.specs.Passed.Kept.{WaitsUnder}
-use Rattle.part_events.specs.Passed.Shown.{thread_shown, result_shown}
+use Rattle.hall_slots.specs.Passed.ListChangesEvents.{DidEnd}
+use Rattle.hall_slots.specs.Passed.Machine as machine
+use Rattle.hall_slots.specs.Passed.Terms.{Terms, machine_of}
+use Rattle.hall_slots.specs.Passed.DepthFirstListActions.{record_words}
+use Rattle.hall_slots.proofs.Passed.Built.{whole_is_depth_first}
+use Rattle.hall_slots.specs.Passed.Run.{list_of}
+use Rattle.hall_slots.specs.Passed.States.{Setting}
+use Rattle.hall_slots.specs.Passed.Lists.{Each}
+use Rattle.hall_slots.proofs.Passed.DequeMachineLists.{each_map}
+use Rattle.moment_laws.specs.Passed.Parts as shown
+use Rattle.hall_slots.specs.Passed.Periods.{open_shown}
+use Rattle.hall_slots.specs.Passed.Tables.{noted, shut}
+use Rattle.hall_slots.specs.Passed.Period.{Period as OpenPeriod}
+use Rattle.play_rules.specs.declared.ends.RunEnd.TheVariants.{Finished}
+use Rattle.hall_slots.specs.Passed.ThreadFramesActions.{IsOfTheList}
+use Rattle.hall_slots.specs.Passed.ThreadFramesViews.{label_of}
+use Rattle.hall_slots.specs.Passed.Ended.{Ended}
+use Rattle.hall_slots.specs.Passed.NextVariants as nexts
+use Rattle.hall_slots.specs.Passed.Thread.{Thread}
+use Rattle.hall_slots.specs.Passed.ThreadFramesKept.{WaitsUnder}
+use Rattle.hall_slots.specs.Passed.Shown.{thread_shown, result_shown}
 use Rattle.thread_state.specs.Settings.{IsSettingOf}
-use Rattle.part_events.specs.Passed.Changes.{after_event}
-use Rattle.part_events.specs.Passed.HallLawViews.{View}
-use Rattle.part_events.specs.Passed.Values.{Hall, ListShown, PoolShown, no_lane, finished, lane_at}
-use Rattle.part_events.specs.Passed.Steps.{did}
-use Rattle.part_events.specs.Passed.Writing.{IsAtWork, IsHanded, lane_with, list_without, written, step_of, PoolTakes}
-use Rattle.part_events.specs.Passed.Events.{still_owning, idle_after}
+use Rattle.hall_slots.specs.Passed.Changes.{after_event}
+use Rattle.hall_slots.specs.Passed.HallMachineViews.{View}
+use Rattle.hall_slots.specs.Passed.Values.{Hall, ListShown, PoolShown, no_lane, finished, lane_at}
+use Rattle.hall_slots.specs.Passed.Steps.{did}
+use Rattle.hall_slots.specs.Passed.Writing.{IsAtWork, IsHanded, lane_with, list_without, written, step_of, PoolTakes}
+use Rattle.hall_slots.specs.Passed.HallMachineEvents.{still_owning, idle_after}
 use Rattle.part_events.specs.Here.{ShowsOwn, TakesWords}
 use Rattle.part_events.specs.Ends.{EndsHere}
 use Rattle.part_events.specs.Joins.{JoinsHere}
 use Rattle.part_events.specs.ListCalls.{LeavesThere, TakesWaiting, IsHandedThere}
-use Rattle.hall_turns.specs.declared.event.Event.TheVariants.{Did}
-use Rattle.hall_turns.specs.declared.lane_slot.LaneSlot.{LaneSlot}
-use Rattle.hall_turns.specs.declared.list_slot.ListSlot.{ListSlot}
-use Rattle.hall_turns.specs.declared.pool_slot.PoolSlot.{PoolSlot}
-use Rattle.hall_turns.specs.Shown.{list_shown, lane_shown, pool_shown, running_shown, end_shown, view_of}
-use Rattle.hall_turns.specs.declared.key.HallKey.{HallKey}
-use Rattle.hall_turns.specs.Keys.{table_of, quota_of, terms_of}
-use Rattle.hall_turns.specs.Steps.{IsRunning}
-use Rattle.hall_turns.specs.Takes.{HallSeat}
+use Rattle.hall_slots.specs.declared.event.Event.TheVariants.{Did}
+use Rattle.hall_slots.specs.declared.lane_slot.LaneSlot.{LaneSlot}
+use Rattle.hall_slots.specs.declared.list_slot.ListSlot.{ListSlot}
+use Rattle.hall_slots.specs.declared.pool_slot.PoolSlot.{PoolSlot}
+use Rattle.hall_slots.specs.Shown.{list_shown, lane_shown, pool_shown, running_shown, end_shown, view_of}
+use Rattle.hall_slots.specs.declared.key.HallKey.{HallKey}
+use Rattle.hall_slots.specs.Keys.{table_of, quota_of, terms_of}
+use Rattle.hall_slots.specs.Steps.{IsRunning}
+use Rattle.hall_slots.specs.Takes.{HallSeat}
 use Rattle.hall_deciding.specs.Writes.{parts as three, hall_with, told_note}
 use Rattle.hall_deciding.specs.EventParts.{IsAtAction, MayAct, IsNext}
-use Rattle.part_events.proofs.Passed.Owners.{leaving_ends_go_on}
-use Rattle.part_events.proofs.Passed.Roots.{root_ends_go_on}
+use Rattle.hall_slots.proofs.Passed.Owners.{leaving_ends_go_on}
+use Rattle.hall_slots.proofs.Passed.Roots.{root_ends_go_on}
 use Rattle.part_events.proofs.Orders.{taken_wakes_go_on, taken_joins_go_on}
 use Rattle.hall_deciding.specs.ListRuns.{IsUnawaited, LeavingEndsMayCome, RootEndsMayCome, WakingEndsMayCome, KeptJoinsMayCome}
 use Rattle.hall_deciding.proofs.Working.{some, work, here, own, period_told, viewed, went, hall_now}

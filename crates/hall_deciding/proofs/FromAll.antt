@@ -3,15 +3,15 @@ use Rattle.std.proofs.Common.{List, refl, subst}
 use Rattle.std.specs.Prelude.{None, Some}
 use Rattle.dag_order.specs.declared.action_id.ActionId.{ActionId}
 use Rattle.deque_list.specs.declared.deque_id.DequeId.{DequeId}
-use Rattle.hall_turns.specs.declared.event.Event.TheVariants.{Did}
-use Rattle.hall_turns.specs.declared.lane_slot.LaneSlot.{LaneSlot}
-use Rattle.hall_turns.specs.declared.list_slot.ListSlot.{ListSlot}
-use Rattle.hall_turns.specs.declared.pool_slot.PoolSlot.{PoolSlot}
-use Rattle.hall_turns.specs.declared.key.HallKey.{HallKey}
-use Rattle.hall_turns.specs.Takes.{HallSeat}
+use Rattle.hall_slots.specs.declared.event.Event.TheVariants.{Did}
+use Rattle.hall_slots.specs.declared.lane_slot.LaneSlot.{LaneSlot}
+use Rattle.hall_slots.specs.declared.list_slot.ListSlot.{ListSlot}
+use Rattle.hall_slots.specs.declared.pool_slot.PoolSlot.{PoolSlot}
+use Rattle.hall_slots.specs.declared.key.HallKey.{HallKey}
+use Rattle.hall_slots.specs.Takes.{HallSeat}
 use Rattle.hall_deciding.specs.Writes.{told_note}
-use Rattle.hall_turns.specs.Passed.EndedType.{Ended}
-use Rattle.hall_turns.specs.Passed.ThreadType.{Thread}
+use Rattle.hall_slots.specs.Passed.Ended.{Ended}
+use Rattle.hall_slots.specs.Passed.Thread.{Thread}
 use Rattle.hall_deciding.specs.EventParts.{IsAtAction}
 use Rattle.hall_deciding.proofs.Ends.{leaving_ends_may_come, waking_ends_may_come, kept_joins_may_come}
 use Rattle.hall_deciding.proofs.Staying.{left_stays_sound, woken_stays_sound, handed_stays_sound}

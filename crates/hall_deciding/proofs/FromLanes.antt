@@ -3,17 +3,17 @@ use Rattle.std.proofs.Common.{inr, refl, sym, ◌∙◌, subst}
 use Rattle.std.specs.Prelude.{Some}
 use Rattle.dag_order.specs.declared.action_id.ActionId.{ActionId}
 use Rattle.deque_list.specs.declared.deque_id.DequeId.{DequeId}
-use Rattle.hall_turns.specs.declared.event.Event.TheVariants.{Did}
-use Rattle.hall_turns.specs.declared.lane_slot.LaneSlot.{LaneSlot}
-use Rattle.hall_turns.specs.declared.seat_note.SeatNote.{SeatNote}
-use Rattle.hall_turns.specs.declared.key.HallKey.{HallKey}
-use Rattle.hall_turns.specs.Keys.{table_of, quota_of}
-use Rattle.hall_turns.specs.Takes.{HallSeat}
+use Rattle.hall_slots.specs.declared.event.Event.TheVariants.{Did}
+use Rattle.hall_slots.specs.declared.lane_slot.LaneSlot.{LaneSlot}
+use Rattle.hall_slots.specs.declared.seat_note.SeatNote.{SeatNote}
+use Rattle.hall_slots.specs.declared.key.HallKey.{HallKey}
+use Rattle.hall_slots.specs.Keys.{table_of, quota_of}
+use Rattle.hall_slots.specs.Takes.{HallSeat}
 use Rattle.hall_deciding.specs.Writes.{told_note, IsShort}
-use Rattle.run_end.specs.declared.stop.Stop.TheVariants.{OutOfMemory}
+use Rattle.play_rules.specs.declared.stop.Stop.TheVariants.{OutOfMemory}
 use Rattle.std.proofs.lemmas.Option.{none-some}
-use Rattle.hall_turns.specs.Passed.Points.{IsAtPoint}
-use Rattle.hall_turns.specs.Passed.HallLawPoints.{LaneAtPoints}
+use Rattle.hall_slots.specs.Passed.ThreadFramesPoints.{IsAtPoint}
+use Rattle.hall_slots.specs.Passed.HallMachinePoints.{LaneAtPoints}
 use Rattle.hall_deciding.proofs.Lanes.{joins_may_come}
 use Rattle.hall_deciding.proofs.Untaken.{nothing_is_taken}
 use Rattle.hall_deciding.proofs.Quiet.{statements_may_come, wants_of_memory_may_come}

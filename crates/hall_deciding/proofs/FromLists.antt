@@ -7,21 +7,21 @@ use Rattle.dag_order.specs.declared.thread_id.ThreadId.{ThreadId}
 use Rattle.dag_order.specs.Births.{root}
 use Rattle.dag_order.specs.declared.action_id.ActionId.{ActionId}
 use Rattle.deque_list.specs.declared.deque_id.DequeId.{DequeId}
-use Rattle.hall_turns.specs.declared.event.Event.TheVariants.{Did, Suspended, GaveUp}
-use Rattle.hall_turns.specs.declared.lane_slot.LaneSlot.{LaneSlot}
-use Rattle.hall_turns.specs.declared.list_slot.ListSlot.{ListSlot}
-use Rattle.hall_turns.specs.declared.key.HallKey.{HallKey}
-use Rattle.hall_turns.specs.Takes.{HallSeat}
+use Rattle.hall_slots.specs.declared.event.Event.TheVariants.{Did, Suspended, GaveUp}
+use Rattle.hall_slots.specs.declared.lane_slot.LaneSlot.{LaneSlot}
+use Rattle.hall_slots.specs.declared.list_slot.ListSlot.{ListSlot}
+use Rattle.hall_slots.specs.declared.key.HallKey.{HallKey}
+use Rattle.hall_slots.specs.Takes.{HallSeat}
 use Rattle.hall_deciding.specs.Writes.{told_note}
-use Rattle.lawful_books.specs.Lists.{Each}
-use Rattle.moment_parts.specs.Parts as shown
-use Rattle.run_end.specs.declared.ends.RunEnd.TheVariants.{Finished}
-use Rattle.hall_turns.specs.Passed.EndedType.{Ended}
-use Rattle.hall_turns.specs.Passed.ThreadType.{Thread}
+use Rattle.hall_slots.specs.Passed.Lists.{Each}
+use Rattle.moment_laws.specs.Passed.Parts as shown
+use Rattle.play_rules.specs.declared.ends.RunEnd.TheVariants.{Finished}
+use Rattle.hall_slots.specs.Passed.Ended.{Ended}
+use Rattle.hall_slots.specs.Passed.Thread.{Thread}
 use Rattle.thread_map.specs.Kept.{kept_under}
-use Rattle.hall_turns.proofs.Passed.Found.{none_found}
-use Rattle.hall_turns.specs.Passed.Values.{ListShown}
-use Rattle.hall_turns.specs.Shown.{list_shown}
+use Rattle.hall_slots.proofs.Passed.Found.{none_found}
+use Rattle.hall_slots.specs.Passed.Values.{ListShown}
+use Rattle.hall_slots.specs.Shown.{list_shown}
 use Rattle.hall_deciding.specs.EventParts.{IsAtAction}
 use Rattle.hall_deciding.proofs.Pauses.{suspends_may_come, give_ups_may_come, yields_may_come, dummies_may_come}
 use Rattle.hall_deciding.proofs.Ends.{root_ends_may_come, kept_joins_may_come}

@@ -3,15 +3,15 @@ use Rattle.std.proofs.Common.{List, subst}
 use Rattle.std.specs.Prelude.{Some}
 use Rattle.dag_order.specs.declared.action_id.ActionId.{ActionId}
 use Rattle.deque_list.specs.declared.deque_id.DequeId.{DequeId}
-use Rattle.hall_turns.specs.declared.event.Event.TheVariants.{Did}
-use Rattle.hall_turns.specs.declared.lane_slot.LaneSlot.{LaneSlot}
-use Rattle.hall_turns.specs.declared.pool_slot.PoolSlot.{PoolSlot}
-use Rattle.hall_turns.specs.declared.key.HallKey.{HallKey}
-use Rattle.hall_turns.specs.Keys.{table_of, quota_of}
-use Rattle.hall_turns.specs.Takes.{HallSeat}
+use Rattle.hall_slots.specs.declared.event.Event.TheVariants.{Did}
+use Rattle.hall_slots.specs.declared.lane_slot.LaneSlot.{LaneSlot}
+use Rattle.hall_slots.specs.declared.pool_slot.PoolSlot.{PoolSlot}
+use Rattle.hall_slots.specs.declared.key.HallKey.{HallKey}
+use Rattle.hall_slots.specs.Keys.{table_of, quota_of}
+use Rattle.hall_slots.specs.Takes.{HallSeat}
 use Rattle.hall_deciding.specs.Writes.{told_note, IsShort}
-use Rattle.hall_turns.specs.Passed.Points.{IsAtPoint}
-use Rattle.hall_turns.specs.Passed.ThreadType.{Thread}
+use Rattle.hall_slots.specs.Passed.ThreadFramesPoints.{IsAtPoint}
+use Rattle.hall_slots.specs.Passed.Thread.{Thread}
 use Rattle.part_events.specs.Ends.{EndsAbove}
 use Rattle.hall_deciding.specs.EventParts.{IsAtAction}
 use Rattle.hall_deciding.proofs.Lanes.{actions_may_come, joins_may_come, ends_above_may_come}

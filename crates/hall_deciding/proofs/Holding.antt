@@ -6,24 +6,24 @@ use mathlib.Core.Option.{some}
 use lib.ListN.{get_elem?}
 use lib.Seq.{map-set}
 use Rattle.deque_list.specs.declared.deque_id.DequeId.{DequeId}
-use Rattle.deque_machine.specs.Terms.{Terms, machine_of}
-use Rattle.depth_first_run.specs.States.{Setting}
-use Rattle.hall_turns.specs.Passed.Settings.{IsSettingOf}
-use Rattle.hall_turns.specs.Passed.Values.{Hall}
-use Rattle.hall_turns.specs.Passed.Writing.{lane_slot}
-use Rattle.hall_turns.specs.Passed.State.{HallLaw}
-use Rattle.hall_turns.specs.declared.seat_note.SeatNote.{SeatNote}
-use Rattle.hall_turns.specs.declared.slot.Slot.{Slot}
-use Rattle.hall_turns.specs.declared.slot.Slot.TheVariants as slots
-use Rattle.hall_turns.specs.Shown.{value_of, view_of, list_shown, pool_shown}
-use Rattle.hall_turns.specs.declared.key.HallKey.{HallKey}
-use Rattle.hall_turns.specs.Keys.{table_of, quota_of, terms_of}
-use Rattle.hall_turns.specs.Law.{HallHolds, IsShaped}
-use Rattle.hall_turns.specs.Steps.{hall_shown}
-use Rattle.hall_turns.specs.Takes.{HallSeat}
-use Rattle.hall_turns.proofs.Lone.{noted_at}
-use Rattle.hall_turns.proofs.Putting.{law_of, shaped_set}
-use Rattle.hall_turns.proofs.Written.{list_at, pool_at, lane_shown_at, list_written, pool_written, lane_written}
+use Rattle.hall_slots.specs.Passed.Terms.{Terms, machine_of}
+use Rattle.hall_slots.specs.Passed.States.{Setting}
+use Rattle.thread_state.specs.Settings.{IsSettingOf}
+use Rattle.hall_slots.specs.Passed.Values.{Hall}
+use Rattle.hall_slots.specs.Passed.Writing.{lane_slot}
+use Rattle.hall_slots.specs.Passed.State.{HallLaw}
+use Rattle.hall_slots.specs.declared.seat_note.SeatNote.{SeatNote}
+use Rattle.hall_slots.specs.declared.slot.Slot.{Slot}
+use Rattle.hall_slots.specs.declared.slot.Slot.TheVariants as slots
+use Rattle.hall_slots.specs.Shown.{value_of, view_of, list_shown, pool_shown}
+use Rattle.hall_slots.specs.declared.key.HallKey.{HallKey}
+use Rattle.hall_slots.specs.Keys.{table_of, quota_of, terms_of}
+use Rattle.hall_slots.specs.Law.{HallHolds, IsShaped}
+use Rattle.hall_slots.specs.Steps.{hall_shown}
+use Rattle.hall_slots.specs.Takes.{HallSeat}
+use Rattle.hall_slots.proofs.Lone.{noted_at}
+use Rattle.hall_slots.proofs.Putting.{law_of, shaped_set}
+use Rattle.hall_slots.proofs.Written.{list_at, pool_at, lane_shown_at, list_written, pool_written, lane_written}
 use Rattle.hall_deciding.specs.Writes.{Parts, hall_with, slots_with, AreIn, IsOwner, MayBecome, StaySound, WrittenHallsHold}
 use Rattle.hall_deciding.proofs.Sound.{parts_now}
 

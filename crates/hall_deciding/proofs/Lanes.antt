@@ -7,43 +7,43 @@ use Rattle.dag_order.specs.declared.action_id.ActionId.{ActionId}
 use Rattle.dag_order.specs.declared.birth.Birth.{Birth}
 use Rattle.dag_order.specs.declared.thread_id.ThreadId.{ThreadId}
 use Rattle.deque_list.specs.declared.deque_id.DequeId.{DequeId}
-use Rattle.part_events.specs.Passed.DequeEventsEvents.{DidJoin, DidEnd}
-use Rattle.deque_machine.specs.Machine as machine
-use Rattle.deque_machine.specs.Terms.{Terms, machine_of}
-use Rattle.depth_first_list.specs.Actions.{record_words}
-use Rattle.depth_first_list.specs.Facts.{words_at}
-use Rattle.depth_first_run.proofs.Built.{whole_is_depth_first}
-use Rattle.depth_first_run.specs.Run.{list_of}
-use Rattle.depth_first_run.specs.States.{Setting}
-use Rattle.period_books.specs.Periods.{open_shown}
-use Rattle.period_table.specs.Tables.{noted}
-use Rattle.quota_period.specs.declared.period.Period.{Period as OpenPeriod}
-use Rattle.part_events.specs.Passed.Acts.{IsCharged}
-use Rattle.part_events.specs.Passed.Actions.{IsOfTheList}
-use Rattle.part_events.specs.Passed.NextType.{Next}
-use Rattle.part_events.specs.Passed.NextVariants as nexts
-use Rattle.part_events.specs.Passed.ThreadType.{Thread}
-use Rattle.part_events.specs.Passed.Shown.{thread_shown, result_shown}
+use Rattle.hall_slots.specs.Passed.ListChangesEvents.{DidJoin, DidEnd}
+use Rattle.hall_slots.specs.Passed.Machine as machine
+use Rattle.hall_slots.specs.Passed.Terms.{Terms, machine_of}
+use Rattle.hall_slots.specs.Passed.DepthFirstListActions.{record_words}
+use Rattle.hall_slots.specs.Passed.Facts.{words_at}
+use Rattle.hall_slots.proofs.Passed.Built.{whole_is_depth_first}
+use Rattle.hall_slots.specs.Passed.Run.{list_of}
+use Rattle.hall_slots.specs.Passed.States.{Setting}
+use Rattle.hall_slots.specs.Passed.Periods.{open_shown}
+use Rattle.hall_slots.specs.Passed.Tables.{noted}
+use Rattle.hall_slots.specs.Passed.Period.{Period as OpenPeriod}
+use Rattle.thread_actions.specs.Acts.{IsCharged}
+use Rattle.hall_slots.specs.Passed.ThreadFramesActions.{IsOfTheList}
+use Rattle.hall_slots.specs.Passed.Next.{Next}
+use Rattle.hall_slots.specs.Passed.NextVariants as nexts
+use Rattle.hall_slots.specs.Passed.Thread.{Thread}
+use Rattle.hall_slots.specs.Passed.Shown.{thread_shown, result_shown}
 use Rattle.thread_state.specs.Settings.{IsSettingOf}
-use Rattle.part_events.specs.Passed.Changes.{after_event}
-use Rattle.part_events.specs.Passed.HallLawViews.{View}
-use Rattle.part_events.specs.Passed.Values.{Hall, PoolShown, lane_at, open_for}
-use Rattle.part_events.specs.Passed.Steps.{did}
-use Rattle.part_events.specs.Passed.Writing.{IsAtWork, lane_with, written, step_of, ActsInLane, joins_handed, PoolTakes}
-use Rattle.part_events.specs.Passed.Events.{still_owning}
-use Rattle.part_events.proofs.Passed.Owners.{lane_actions_go_on, ends_above_go_on}
+use Rattle.hall_slots.specs.Passed.Changes.{after_event}
+use Rattle.hall_slots.specs.Passed.HallMachineViews.{View}
+use Rattle.hall_slots.specs.Passed.Values.{Hall, PoolShown, lane_at, open_for}
+use Rattle.hall_slots.specs.Passed.Steps.{did}
+use Rattle.hall_slots.specs.Passed.Writing.{IsAtWork, lane_with, written, step_of, ActsInLane, joins_handed, PoolTakes}
+use Rattle.hall_slots.specs.Passed.HallMachineEvents.{still_owning}
+use Rattle.hall_slots.proofs.Passed.Owners.{lane_actions_go_on, ends_above_go_on}
 use Rattle.part_events.specs.Here.{ShowsOwn, ActsHere, TakesWords}
 use Rattle.part_events.specs.Ends.{EndsAbove}
 use Rattle.part_events.specs.Joins.{JoinsHere}
-use Rattle.hall_turns.specs.declared.event.Event.TheVariants.{Did}
-use Rattle.hall_turns.specs.declared.lane_slot.LaneSlot.{LaneSlot}
-use Rattle.hall_turns.specs.declared.list_slot.ListSlot.{ListSlot}
-use Rattle.hall_turns.specs.declared.pool_slot.PoolSlot.{PoolSlot}
-use Rattle.hall_turns.specs.Shown.{list_shown, lane_shown, pool_shown, running_shown, view_of}
-use Rattle.hall_turns.specs.declared.key.HallKey.{HallKey}
-use Rattle.hall_turns.specs.Keys.{table_of, quota_of, terms_of}
-use Rattle.hall_turns.specs.Steps.{IsRunning}
-use Rattle.hall_turns.specs.Takes.{HallSeat}
+use Rattle.hall_slots.specs.declared.event.Event.TheVariants.{Did}
+use Rattle.hall_slots.specs.declared.lane_slot.LaneSlot.{LaneSlot}
+use Rattle.hall_slots.specs.declared.list_slot.ListSlot.{ListSlot}
+use Rattle.hall_slots.specs.declared.pool_slot.PoolSlot.{PoolSlot}
+use Rattle.hall_slots.specs.Shown.{list_shown, lane_shown, pool_shown, running_shown, view_of}
+use Rattle.hall_slots.specs.declared.key.HallKey.{HallKey}
+use Rattle.hall_slots.specs.Keys.{table_of, quota_of, terms_of}
+use Rattle.hall_slots.specs.Steps.{IsRunning}
+use Rattle.hall_slots.specs.Takes.{HallSeat}
 use Rattle.hall_deciding.specs.Writes.{parts as three, hall_with, told_note}
 use Rattle.hall_deciding.specs.EventParts.{IsAtAction, MayAct, IsNext, MayDoNext}
 use Rattle.hall_deciding.specs.LaneRuns.{ActionsMayCome, JoinsMayCome, EndsAboveMayCome}

@@ -1,6 +1,3 @@
--- What callers need of what this crate stands on.
-pub use Rattle.hall_turns.proofs.Keeping as Keeping
-pub use Rattle.hall_turns.proofs.Lone as Lone
-pub use Rattle.hall_turns.proofs.Reading as Reading
-pub use Rattle.hall_turns.proofs.Written as Written
+-- What the proofs of callers need of what this crate stands on.
+pub use Rattle.moment_laws.proofs.Parents as Parents
 pub use Rattle.part_events.proofs.Waits as Waits

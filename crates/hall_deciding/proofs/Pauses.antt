@@ -7,48 +7,48 @@ use Rattle.std.specs.Prelude.{None, Some, slice_get, slice_set}
 use Rattle.dag_order.specs.declared.action_id.ActionId.{ActionId}
 use Rattle.dag_order.specs.declared.thread_id.ThreadId.{ThreadId}
 use Rattle.deque_list.specs.declared.deque_id.DequeId.{DequeId}
-use Rattle.part_events.specs.Passed.DequeEventsEvents.{DidDummy}
-use Rattle.deque_machine.specs.Machine as machine
-use Rattle.deque_machine.specs.Terms.{Terms, machine_of}
-use Rattle.depth_first_list.specs.Actions.{joins, record_words}
-use Rattle.depth_first_run.proofs.Built.{whole_is_depth_first}
-use Rattle.depth_first_run.specs.Run.{list_of}
-use Rattle.depth_first_run.specs.States.{Setting}
-use Rattle.lawful_books.specs.Books.{charge_at}
-use Rattle.lawful_books.specs.Lists.{Each}
-use Rattle.moment_parts.specs.Parts as shown
-use Rattle.moment_parts.specs.Events.{IsNextOf}
-use Rattle.period_books.specs.Periods.{Period, open_shown}
-use Rattle.period_table.specs.Tables.{noted, shut}
-use Rattle.quota_period.specs.declared.period.Period.{Period as OpenPeriod}
-use Rattle.part_events.specs.Passed.Actions.{IsOfTheList, deed_of}
-use Rattle.part_events.specs.Passed.NextType.{Next}
-use Rattle.part_events.specs.Passed.NextVariants as nexts
-use Rattle.part_events.specs.Passed.ThreadType.{Thread}
-use Rattle.part_events.specs.Passed.Shown.{thread_shown}
+use Rattle.hall_slots.specs.Passed.ListChangesEvents.{DidDummy}
+use Rattle.hall_slots.specs.Passed.Machine as machine
+use Rattle.hall_slots.specs.Passed.Terms.{Terms, machine_of}
+use Rattle.hall_slots.specs.Passed.DepthFirstListActions.{joins, record_words}
+use Rattle.hall_slots.proofs.Passed.Built.{whole_is_depth_first}
+use Rattle.hall_slots.specs.Passed.Run.{list_of}
+use Rattle.hall_slots.specs.Passed.States.{Setting}
+use Rattle.hall_slots.specs.Passed.Books.{charge_at}
+use Rattle.hall_slots.specs.Passed.Lists.{Each}
+use Rattle.moment_laws.specs.Passed.Parts as shown
+use Rattle.moment_laws.specs.Passed.MomentShownEvents.{IsNextOf}
+use Rattle.hall_slots.specs.Passed.Periods.{Period, open_shown}
+use Rattle.hall_slots.specs.Passed.Tables.{noted, shut}
+use Rattle.hall_slots.specs.Passed.Period.{Period as OpenPeriod}
+use Rattle.hall_slots.specs.Passed.ThreadFramesActions.{IsOfTheList, deed_of}
+use Rattle.hall_slots.specs.Passed.Next.{Next}
+use Rattle.hall_slots.specs.Passed.NextVariants as nexts
+use Rattle.hall_slots.specs.Passed.Thread.{Thread}
+use Rattle.hall_slots.specs.Passed.Shown.{thread_shown}
 use Rattle.thread_state.specs.Settings.{IsSettingOf}
-use Rattle.part_events.specs.Passed.Changes.{after_event}
-use Rattle.part_events.specs.Passed.HallLawViews.{View}
-use Rattle.part_events.specs.Passed.Values.{Hall, ListShown, no_lane, lane_at}
-use Rattle.part_events.specs.Passed.Steps.{did, waited, gave_up}
-use Rattle.part_events.specs.Passed.Writing.{IsAtWork, lane_with, list_unowned, list_without, written, step_of}
-use Rattle.part_events.specs.Passed.Events.{idle_after}
+use Rattle.hall_slots.specs.Passed.Changes.{after_event}
+use Rattle.hall_slots.specs.Passed.HallMachineViews.{View}
+use Rattle.hall_slots.specs.Passed.Values.{Hall, ListShown, no_lane, lane_at}
+use Rattle.hall_slots.specs.Passed.Steps.{did, waited, gave_up}
+use Rattle.hall_slots.specs.Passed.Writing.{IsAtWork, lane_with, list_unowned, list_without, written, step_of}
+use Rattle.hall_slots.specs.Passed.HallMachineEvents.{idle_after}
 use Rattle.part_events.specs.Here.{ShowsOwn}
 use Rattle.part_events.specs.Dummies.{DummyHere}
 use Rattle.part_events.specs.ListCalls.{SuspendsThere}
-use Rattle.hall_turns.specs.declared.event.Event.TheVariants.{Did, Suspended, GaveUp}
-use Rattle.hall_turns.specs.declared.lane_slot.LaneSlot.{LaneSlot}
-use Rattle.hall_turns.specs.declared.list_slot.ListSlot.{ListSlot}
-use Rattle.hall_turns.specs.declared.pool_slot.PoolSlot.{PoolSlot}
-use Rattle.hall_turns.specs.Lists.{ShowsUnowned}
-use Rattle.hall_turns.specs.Shown.{list_shown, lane_shown, pool_shown, running_shown, view_of}
-use Rattle.hall_turns.specs.declared.key.HallKey.{HallKey}
-use Rattle.hall_turns.specs.Keys.{table_of, quota_of, terms_of}
-use Rattle.hall_turns.specs.Steps.{IsRunning}
-use Rattle.hall_turns.specs.Takes.{HallSeat}
+use Rattle.hall_slots.specs.declared.event.Event.TheVariants.{Did, Suspended, GaveUp}
+use Rattle.hall_slots.specs.declared.lane_slot.LaneSlot.{LaneSlot}
+use Rattle.hall_slots.specs.declared.list_slot.ListSlot.{ListSlot}
+use Rattle.hall_slots.specs.declared.pool_slot.PoolSlot.{PoolSlot}
+use Rattle.hall_slots.specs.ListCalls.{ShowsUnowned}
+use Rattle.hall_slots.specs.Shown.{list_shown, lane_shown, pool_shown, running_shown, view_of}
+use Rattle.hall_slots.specs.declared.key.HallKey.{HallKey}
+use Rattle.hall_slots.specs.Keys.{table_of, quota_of, terms_of}
+use Rattle.hall_slots.specs.Steps.{IsRunning}
+use Rattle.hall_slots.specs.Takes.{HallSeat}
 use Rattle.hall_deciding.specs.Writes.{parts as three, hall_with, told_note}
 use Rattle.hall_deciding.specs.EventParts.{IsAtAction, MayAct, MayPause, IsNext}
-use Rattle.part_events.proofs.Passed.Owners.{suspending_goes_on, forced_give_ups_go_on, giving_up_goes_on, dummies_go_on}
+use Rattle.hall_slots.proofs.Passed.Owners.{suspending_goes_on, forced_give_ups_go_on, giving_up_goes_on, dummies_go_on}
 use Rattle.hall_deciding.specs.ListRuns.{SuspendsMayCome, IsTooMuch, GiveUpsMayCome, YieldsMayCome, DummiesMayCome}
 use Rattle.hall_deciding.proofs.Working.{some, work, here, own, period_was, period_told, viewed, went, hall_now}
 

@@ -13,17 +13,17 @@ use Rattle.turn_table.proofs.NoteLaws.{put_writes}
 use Rattle.turn_table.proofs.Left.{left_of_one, first_of_two, first_of_three}
 use Rattle.turn_table.specs.Backs.{still, unchanged}
 use Rattle.turn_table.proofs.Resting.{put_rests}
-use Rattle.hall_turns.specs.Passed.Writing.{lane_slot}
-use Rattle.hall_turns.specs.declared.lane_slot.LaneSlot.{LaneSlot}
-use Rattle.hall_turns.specs.declared.list_slot.ListSlot.{ListSlot}
-use Rattle.hall_turns.specs.declared.pool_slot.PoolSlot.{PoolSlot}
-use Rattle.hall_turns.specs.declared.seat_note.SeatNote.{SeatNote}
-use Rattle.hall_turns.specs.declared.slot.Slot.{Slot}
-use Rattle.hall_turns.specs.declared.slot.Slot.TheVariants as slots
-use Rattle.hall_turns.specs.declared.key.HallKey.{HallKey}
-use Rattle.hall_turns.specs.Law.{HallHolds, places_of, joined_note}
-use Rattle.hall_turns.specs.Takes.{HallSeat, IsGiven}
-use Rattle.hall_turns.proofs.Keeping.{Whole}
+use Rattle.hall_slots.specs.Passed.Writing.{lane_slot}
+use Rattle.hall_slots.specs.declared.lane_slot.LaneSlot.{LaneSlot}
+use Rattle.hall_slots.specs.declared.list_slot.ListSlot.{ListSlot}
+use Rattle.hall_slots.specs.declared.pool_slot.PoolSlot.{PoolSlot}
+use Rattle.hall_slots.specs.declared.seat_note.SeatNote.{SeatNote}
+use Rattle.hall_slots.specs.declared.slot.Slot.{Slot}
+use Rattle.hall_slots.specs.declared.slot.Slot.TheVariants as slots
+use Rattle.hall_slots.specs.declared.key.HallKey.{HallKey}
+use Rattle.hall_slots.specs.Law.{HallHolds, places_of, joined_note}
+use Rattle.hall_slots.specs.Takes.{HallSeat, IsGiven}
+use Rattle.hall_slots.proofs.Keeping.{Whole}
 use Rattle.hall_deciding.specs.Writes.{parts, slots_with}
 use Rattle.hall_deciding.proofs.Holding.{written_halls_hold}
 use Rattle.hall_deciding.proofs.There.{slot_is, list_there, pool_there}

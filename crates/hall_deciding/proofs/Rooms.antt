@@ -3,12 +3,12 @@ use Rattle.std.proofs.Common.{◌≡◌, List, map}
 use Rattle.std.specs.Option.{option_map}
 use Rattle.block_arena.specs.Region.{Region}
 use Rattle.deque_list.specs.Orders.{OrderView}
-use Rattle.moment_parts.specs.Parts as parts
-use Rattle.period_books.specs.Periods.{closed_shown}
-use Rattle.part_events.specs.Passed.Kept.{waiting_shown, result_kept}
-use Rattle.hall_turns.specs.Shown.{list_shown, pool_shown, end_shown}
-use Rattle.hall_turns.specs.declared.list_slot.ListSlot.{ListSlot}
-use Rattle.hall_turns.specs.declared.pool_slot.PoolSlot.{PoolSlot}
+use Rattle.moment_laws.specs.Passed.Parts as parts
+use Rattle.hall_slots.specs.Passed.Periods.{closed_shown}
+use Rattle.hall_slots.specs.Passed.ThreadFramesKept.{waiting_shown, result_kept}
+use Rattle.hall_slots.specs.Shown.{list_shown, pool_shown, end_shown}
+use Rattle.hall_slots.specs.declared.list_slot.ListSlot.{ListSlot}
+use Rattle.hall_slots.specs.declared.pool_slot.PoolSlot.{PoolSlot}
 use Rattle.hall_deciding.specs.Rooms.{KeepsDeques, IsSamePool}
 
 pub pool_same : (was now : PoolSlot) → IsSamePool was now → pool_shown now ≡ pool_shown was

@@ -12,32 +12,32 @@ use Rattle.dag_order.specs.declared.finish.Finish.{Finish}
 use Rattle.deque_list.specs.declared.deque_id.DequeId.{DequeId}
 use Rattle.deque_list.specs.declared.place.Place.{Place}
 use Rattle.deque_list.specs.Ids.{deque_id}
-use Rattle.hall_turns.specs.Passed.Roots.{end_of_root}
-use Rattle.run_end.specs.declared.ends.RunEnd.{RunEnd}
-use Rattle.run_end.specs.declared.ends.RunEnd.TheVariants.{Finished}
-use Rattle.lawful_books.specs.Lists.{Among, Each}
-use Rattle.lawful_books.proofs.Lists.{each_from, each_among, each_at, among_middle, among_wider}
-use Rattle.hall_turns.proofs.Passed.Lists.{set_same, set_other}
+use Rattle.hall_slots.specs.Passed.Roots.{end_of_root}
+use Rattle.play_rules.specs.declared.ends.RunEnd.{RunEnd}
+use Rattle.play_rules.specs.declared.ends.RunEnd.TheVariants.{Finished}
+use Rattle.hall_slots.specs.Passed.Lists.{Among, Each}
+use Rattle.hall_slots.proofs.Passed.DequeMachineLists.{each_from, each_among, each_at, among_middle, among_wider}
+use Rattle.hall_slots.proofs.Passed.OpenPeriodsLists.{set_same, set_other}
 use Rattle.thread_map.specs.Kept.{kept_under}
-use Rattle.hall_turns.specs.Passed.Points.{IsAtPoint}
-use Rattle.hall_turns.specs.Passed.ThreadType.{Thread}
-use Rattle.hall_turns.specs.Passed.Views.{View}
-use Rattle.hall_turns.specs.Passed.Values.{no_memory}
-use Rattle.hall_turns.specs.Passed.Writing.{lane_slot, place_of}
-use Rattle.hall_turns.specs.Passed.HallLawPoints.{IsExcused, LaneAtPoints, AreAtPoints}
-use Rattle.hall_turns.proofs.Passed.Points.{excuses_stay}
-use Rattle.hall_turns.specs.declared.lane_slot.LaneSlot.{LaneSlot}
-use Rattle.hall_turns.specs.declared.seat_note.SeatNote.{SeatNote}
-use Rattle.hall_turns.specs.declared.slot.Slot.{Slot}
-use Rattle.hall_turns.specs.declared.slot.Slot.TheVariants as slots
-use Rattle.hall_turns.specs.Shown.{view_of, end_shown, stop_shown}
-use Rattle.hall_turns.specs.declared.key.HallKey.{HallKey}
-use Rattle.hall_turns.specs.Keys.{table_of, quota_of}
-use Rattle.hall_turns.specs.Law.{HallHolds}
-use Rattle.hall_turns.specs.Sound.{threads_in, threads_of, IsLaneOf, PoolIsSound, ListIsSound, ThreadsAreAtPoints, LanesAreInUse, EndIsSound, PartsAreSound}
-use Rattle.hall_turns.specs.Takes.{HallSeat}
-use Rattle.hall_turns.proofs.Lone.{noted_at}
-use Rattle.hall_turns.proofs.Reading.{at_of_get, get_of_at, IfList, IfPool, IfLane}
+use Rattle.hall_slots.specs.Passed.ThreadFramesPoints.{IsAtPoint}
+use Rattle.hall_slots.specs.Passed.Thread.{Thread}
+use Rattle.hall_slots.specs.Passed.HallMachineViews.{View}
+use Rattle.hall_slots.specs.Passed.Values.{no_memory}
+use Rattle.hall_slots.specs.Passed.Writing.{lane_slot, place_of}
+use Rattle.hall_slots.specs.Passed.HallMachinePoints.{IsExcused, LaneAtPoints, AreAtPoints}
+use Rattle.hall_slots.proofs.Passed.Points.{excuses_stay}
+use Rattle.hall_slots.specs.declared.lane_slot.LaneSlot.{LaneSlot}
+use Rattle.hall_slots.specs.declared.seat_note.SeatNote.{SeatNote}
+use Rattle.hall_slots.specs.declared.slot.Slot.{Slot}
+use Rattle.hall_slots.specs.declared.slot.Slot.TheVariants as slots
+use Rattle.hall_slots.specs.Shown.{view_of, end_shown, stop_shown}
+use Rattle.hall_slots.specs.declared.key.HallKey.{HallKey}
+use Rattle.hall_slots.specs.Keys.{table_of, quota_of}
+use Rattle.hall_slots.specs.Law.{HallHolds}
+use Rattle.hall_slots.specs.Sound.{threads_in, threads_of, IsLaneOf, PoolIsSound, ListIsSound, ThreadsAreAtPoints, LanesAreInUse, EndIsSound, PartsAreSound}
+use Rattle.hall_slots.specs.Takes.{HallSeat}
+use Rattle.hall_slots.proofs.Lone.{noted_at}
+use Rattle.hall_slots.proofs.Reading.{at_of_get, get_of_at, IfList, IfPool, IfLane}
 use Rattle.hall_deciding.specs.Writes.{Parts, slots_with, AreIn, IsOwner, IsShort, BecomesOf, stays, loses_owner, goes, StaySound}
 use Rattle.hall_deciding.proofs.Owned.{is_listed, is_its, is_open}
 

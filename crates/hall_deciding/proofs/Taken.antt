@@ -3,13 +3,13 @@ use Rattle.std.proofs.Common.{◌≢◌, List, [], ◌∷◌, map, refl, sym, �
 use Rattle.std.specs.Prelude.{Option}
 use Rattle.dag_order.specs.declared.thread_id.ThreadId.{ThreadId}
 use Rattle.deque_list.specs.declared.deque_id.DequeId.{DequeId}
-use Rattle.lawful_books.specs.Lists.{Each}
-use Rattle.moment_parts.specs.Parts as shown
-use Rattle.hall_turns.specs.Passed.EndedType.{Ended}
-use Rattle.hall_turns.specs.Passed.Kept.{IsUnderItsId, result_kept}
-use Rattle.hall_turns.specs.declared.event.Event.{Event}
-use Rattle.hall_turns.specs.declared.seat_note.SeatNote.{SeatNote}
-use Rattle.hall_turns.specs.Takes.{HallSeat}
+use Rattle.hall_slots.specs.Passed.Lists.{Each}
+use Rattle.moment_laws.specs.Passed.Parts as shown
+use Rattle.hall_slots.specs.Passed.Ended.{Ended}
+use Rattle.hall_slots.specs.Passed.ThreadFramesKept.{IsUnderItsId, result_kept}
+use Rattle.hall_slots.specs.declared.event.Event.{Event}
+use Rattle.hall_slots.specs.declared.seat_note.SeatNote.{SeatNote}
+use Rattle.hall_slots.specs.Takes.{HallSeat}
 use Rattle.hall_deciding.specs.Writes.{told_note, IsOwner}
 use Rattle.hall_deciding.specs.EventParts.{MayGoOn}
 use Rattle.hall_deciding.specs.Staying.{NotesOn}

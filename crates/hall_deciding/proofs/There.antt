@@ -2,11 +2,11 @@
 use Rattle.std.proofs.Common.{◌≡◌, suc-ne-zero, ℕ, suc, ◌+◌, ◌≤◌, List, [], ◌∷◌, length, refl, sym, arith}
 use mathlib.Core.Option.{some}
 use lib.ListN.{get_elem?}
-use Rattle.hall_turns.specs.declared.list_slot.ListSlot.{ListSlot}
-use Rattle.hall_turns.specs.declared.pool_slot.PoolSlot.{PoolSlot}
-use Rattle.hall_turns.specs.declared.slot.Slot.{Slot}
-use Rattle.hall_turns.specs.declared.slot.Slot.TheVariants as slots
-use Rattle.hall_turns.specs.Law.{IsShaped}
+use Rattle.hall_slots.specs.declared.list_slot.ListSlot.{ListSlot}
+use Rattle.hall_slots.specs.declared.pool_slot.PoolSlot.{PoolSlot}
+use Rattle.hall_slots.specs.declared.slot.Slot.{Slot}
+use Rattle.hall_slots.specs.declared.slot.Slot.TheVariants as slots
+use Rattle.hall_slots.specs.Law.{IsShaped}
 
 -- the slot of the lane of a deque comes after those of the list and of the pool
 pub slot_is : (n : ℕ) → n + 2 ≡ suc (suc n)

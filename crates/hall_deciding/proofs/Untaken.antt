@@ -3,22 +3,22 @@ use Rattle.std.proofs.Common.{◌≡◌, ℕ, List, [], ◌++◌, length, refl, 
 use Rattle.std.proofs.lemmas.Int.{ints}
 use Rattle.std.specs.Prelude.{false, nat_lt, neg_ℤ}
 use Rattle.dag_order.specs.declared.action_id.ActionId.{ActionId}
-use Rattle.deque_machine.specs.Runs.{is_move, moves_words}
-use Rattle.depth_first_list.specs.Actions.{Action, weight_of}
-use Rattle.depth_first_list.specs.Facts.{action_at, words_at, weight_at}
-use Rattle.depth_first_run.specs.Run.{list_of}
-use Rattle.space_ledger.specs.declared.moved.Moved.{Moved}
-use Rattle.part_events.specs.Passed.Moves.{noted_if}
-use Rattle.part_events.specs.Passed.Actions.{deed_of}
-use Rattle.part_events.specs.Passed.Views.{label_of}
-use Rattle.part_events.specs.Passed.NextVariants as nexts
-use Rattle.part_events.specs.Passed.ThreadType.{Thread}
+use Rattle.hall_slots.specs.Passed.DequeMachineRuns.{is_move, moves_words}
+use Rattle.hall_slots.specs.Passed.DepthFirstListActions.{Action, weight_of}
+use Rattle.hall_slots.specs.Passed.Facts.{action_at, words_at, weight_at}
+use Rattle.hall_slots.specs.Passed.Run.{list_of}
+use Rattle.hall_slots.specs.Passed.Moved.{Moved}
+use Rattle.moment_laws.specs.Moves.{noted_if}
+use Rattle.hall_slots.specs.Passed.ThreadFramesActions.{deed_of}
+use Rattle.hall_slots.specs.Passed.ThreadFramesViews.{label_of}
+use Rattle.hall_slots.specs.Passed.NextVariants as nexts
+use Rattle.hall_slots.specs.Passed.Thread.{Thread}
 use Rattle.thread_points.specs.Points.{words_at_end}
-use Rattle.part_events.specs.Passed.Values.{PoolShown}
-use Rattle.part_events.specs.Passed.Writing.{PoolTakes}
+use Rattle.hall_slots.specs.Passed.Values.{PoolShown}
+use Rattle.hall_slots.specs.Passed.Writing.{PoolTakes}
 use Rattle.part_events.specs.Here.{TakesWords}
-use Rattle.hall_turns.specs.declared.pool_slot.PoolSlot.{PoolSlot}
-use Rattle.hall_turns.specs.Shown.{pool_shown}
+use Rattle.hall_slots.specs.declared.pool_slot.PoolSlot.{PoolSlot}
+use Rattle.hall_slots.specs.Shown.{pool_shown}
 use Rattle.hall_deciding.specs.LaneRuns.{NothingIsTaken}
 
 unweighed : (x y : ℤ) → y ≡ pos 0 → x ≡ x +ℤ y

@@ -6,38 +6,38 @@ use mathlib.Core.List.{map-append}
 use Rattle.dag_order.specs.declared.action_id.ActionId.{ActionId}
 use Rattle.dag_order.specs.declared.birth.Birth.{Birth}
 use Rattle.deque_list.specs.declared.deque_id.DequeId.{DequeId}
-use Rattle.deque_machine.specs.Machine as machine
-use Rattle.deque_machine.specs.Moments.{Moment}
-use Rattle.deque_machine.specs.Play.{Limits}
-use Rattle.deque_machine.specs.Terms.{Terms, machine_of}
-use Rattle.depth_first_list.specs.Actions.{record_words}
-use Rattle.depth_first_run.specs.States.{Setting}
-use Rattle.lawful_books.specs.Lists.{Among}
-use Rattle.moment_parts.specs.Parts as parts
-use Rattle.period_books.specs.Periods.{Period, open_shown}
-use Rattle.period_table.specs.Tables.{noted}
-use Rattle.quota_period.specs.declared.period.Period.{Period as OpenPeriod}
-use Rattle.part_events.specs.Passed.Actions.{IsStill}
-use Rattle.part_events.specs.Passed.ThreadType.{Thread}
-use Rattle.part_events.specs.Passed.Shown.{child_shown, thread_shown}
+use Rattle.hall_slots.specs.Passed.Machine as machine
+use Rattle.hall_slots.specs.Passed.Moments.{Moment}
+use Rattle.hall_slots.specs.Passed.Play.{Limits}
+use Rattle.hall_slots.specs.Passed.Terms.{Terms, machine_of}
+use Rattle.hall_slots.specs.Passed.DepthFirstListActions.{record_words}
+use Rattle.hall_slots.specs.Passed.States.{Setting}
+use Rattle.hall_slots.specs.Passed.Lists.{Among}
+use Rattle.moment_laws.specs.Passed.Parts as parts
+use Rattle.hall_slots.specs.Passed.Periods.{Period, open_shown}
+use Rattle.hall_slots.specs.Passed.Tables.{noted}
+use Rattle.hall_slots.specs.Passed.Period.{Period as OpenPeriod}
+use Rattle.hall_slots.specs.Passed.ThreadFramesActions.{IsStill}
+use Rattle.hall_slots.specs.Passed.Thread.{Thread}
+use Rattle.hall_slots.specs.Passed.Shown.{child_shown, thread_shown}
 use Rattle.thread_state.specs.Settings.{IsSettingOf}
-use Rattle.part_events.specs.Passed.Changes.{after_event}
-use Rattle.part_events.specs.Passed.Crew.{SeatStands}
-use Rattle.part_events.specs.Passed.HallLawViews.{View}
-use Rattle.part_events.specs.Passed.Values.{Hall, ListShown, LaneShown, PoolShown, lane_at, open_for}
-use Rattle.part_events.specs.Passed.Steps.{Step, Leads}
-use Rattle.part_events.specs.Passed.Writing.{IsAtWork, place_of, lane_with, written}
-use Rattle.part_events.proofs.Passed.Closing.{owners_are_at_work}
-use Rattle.part_events.specs.Passed.State.{RunningState, IsIn, GoesOn}
+use Rattle.hall_slots.specs.Passed.Changes.{after_event}
+use Rattle.hall_slots.specs.Passed.Crew.{SeatStands}
+use Rattle.hall_slots.specs.Passed.HallMachineViews.{View}
+use Rattle.hall_slots.specs.Passed.Values.{Hall, ListShown, LaneShown, PoolShown, lane_at, open_for}
+use Rattle.hall_slots.specs.Passed.Steps.{Step, Leads}
+use Rattle.hall_slots.specs.Passed.Writing.{IsAtWork, place_of, lane_with, written}
+use Rattle.hall_slots.proofs.Passed.Closing.{owners_are_at_work}
+use Rattle.hall_slots.specs.Passed.State.{RunningState, IsIn, GoesOn}
 use Rattle.part_events.specs.Here.{ShowsOwn}
-use Rattle.hall_turns.specs.declared.event.Event.{Event}
-use Rattle.hall_turns.specs.declared.lane_slot.LaneSlot.{LaneSlot}
-use Rattle.hall_turns.specs.declared.seat_note.SeatNote.{SeatNote}
-use Rattle.hall_turns.specs.Shown.{list_shown, lane_shown, pool_shown, told_shown, view_of}
-use Rattle.hall_turns.specs.declared.key.HallKey.{HallKey}
-use Rattle.hall_turns.specs.Keys.{table_of, quota_of, terms_of}
-use Rattle.hall_turns.specs.Steps.{IsRunning}
-use Rattle.hall_turns.specs.Takes.{HallSeat}
+use Rattle.hall_slots.specs.declared.event.Event.{Event}
+use Rattle.hall_slots.specs.declared.lane_slot.LaneSlot.{LaneSlot}
+use Rattle.hall_slots.specs.declared.seat_note.SeatNote.{SeatNote}
+use Rattle.hall_slots.specs.Shown.{list_shown, lane_shown, pool_shown, told_shown, view_of}
+use Rattle.hall_slots.specs.declared.key.HallKey.{HallKey}
+use Rattle.hall_slots.specs.Keys.{table_of, quota_of, terms_of}
+use Rattle.hall_slots.specs.Steps.{IsRunning}
+use Rattle.hall_slots.specs.Takes.{HallSeat}
 use Rattle.hall_deciding.specs.Writes.{Parts, hall_with, told_note}
 use Rattle.hall_deciding.proofs.Owned.{split}
 use Rattle.hall_deciding.specs.EventParts.{IsAtAction, MayGoOn}

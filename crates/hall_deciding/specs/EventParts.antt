@@ -2,21 +2,21 @@
 use Rattle.std.specs.Prelude.{◌≡◌, ℕ, ◌<◌, true, false, Some, List, ◌∷◌}
 use Rattle.std.specs.Option.{option_map}
 use Rattle.deque_list.specs.declared.deque_id.DequeId.{DequeId}
-use Rattle.depth_first_list.specs.Facts.{words_at}
-use Rattle.depth_first_run.specs.Run.{list_of}
-use Rattle.depth_first_run.specs.States.{Setting}
-use Rattle.period_books.specs.Periods.{open_shown}
-use Rattle.quota_period.specs.declared.period.Period.{Period as OpenPeriod}
-use Rattle.part_events.specs.Passed.Acts.{IsCharged}
-use Rattle.part_events.specs.Passed.Actions.{IsOfTheList, IsStill}
-use Rattle.part_events.specs.Passed.NextType.{Next}
-use Rattle.part_events.specs.Passed.ThreadType.{Thread}
+use Rattle.hall_slots.specs.Passed.Facts.{words_at}
+use Rattle.hall_slots.specs.Passed.Run.{list_of}
+use Rattle.hall_slots.specs.Passed.States.{Setting}
+use Rattle.hall_slots.specs.Passed.Periods.{open_shown}
+use Rattle.hall_slots.specs.Passed.Period.{Period as OpenPeriod}
+use Rattle.thread_actions.specs.Acts.{IsCharged}
+use Rattle.hall_slots.specs.Passed.ThreadFramesActions.{IsOfTheList, IsStill}
+use Rattle.hall_slots.specs.Passed.Next.{Next}
+use Rattle.hall_slots.specs.Passed.Thread.{Thread}
 use Rattle.thread_state.specs.Settings.{IsSettingOf}
-use Rattle.hall_turns.specs.declared.lane_slot.LaneSlot.{LaneSlot}
-use Rattle.hall_turns.specs.declared.key.HallKey.{HallKey}
-use Rattle.hall_turns.specs.Keys.{table_of, quota_of}
-use Rattle.hall_turns.specs.Shown.{running_shown}
-use Rattle.hall_turns.specs.Takes.{HallSeat}
+use Rattle.hall_slots.specs.declared.lane_slot.LaneSlot.{LaneSlot}
+use Rattle.hall_slots.specs.declared.key.HallKey.{HallKey}
+use Rattle.hall_slots.specs.Keys.{table_of, quota_of}
+use Rattle.hall_slots.specs.Shown.{running_shown}
+use Rattle.hall_slots.specs.Takes.{HallSeat}
 
 -- The lane that was taken has these threads under its top one, which has come to its next action without doing any, and shows this period,
 -- whichever worker it is noted for. The period may have more room than it had in the lane.

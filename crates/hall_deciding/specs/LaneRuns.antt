@@ -4,24 +4,24 @@ use Rattle.dag_order.specs.declared.action_id.ActionId.{ActionId}
 use Rattle.dag_order.specs.declared.birth.Birth.{Birth}
 use Rattle.dag_order.specs.declared.thread_id.ThreadId.{ThreadId}
 use Rattle.deque_list.specs.declared.deque_id.DequeId.{DequeId}
-use Rattle.depth_first_list.specs.Actions.{record_words}
-use Rattle.quota_period.specs.declared.period.Period.{Period as OpenPeriod}
-use Rattle.run_end.specs.declared.stop.Stop.TheVariants.{OutOfMemory}
-use Rattle.part_events.specs.Passed.Acts.{IsCharged}
-use Rattle.part_events.specs.Passed.NextType.{Next}
-use Rattle.part_events.specs.Passed.NextVariants as nexts
-use Rattle.part_events.specs.Passed.ThreadType.{Thread}
+use Rattle.hall_slots.specs.Passed.DepthFirstListActions.{record_words}
+use Rattle.hall_slots.specs.Passed.Period.{Period as OpenPeriod}
+use Rattle.play_rules.specs.declared.stop.Stop.TheVariants.{OutOfMemory}
+use Rattle.thread_actions.specs.Acts.{IsCharged}
+use Rattle.hall_slots.specs.Passed.Next.{Next}
+use Rattle.hall_slots.specs.Passed.NextVariants as nexts
+use Rattle.hall_slots.specs.Passed.Thread.{Thread}
 use Rattle.part_events.specs.Here.{ActsHere, TakesWords}
 use Rattle.part_events.specs.Ends.{EndsAbove}
 use Rattle.part_events.specs.Joins.{JoinsHere, ReleasesNothing}
-use Rattle.hall_turns.specs.declared.event.Event.TheVariants.{Did}
-use Rattle.hall_turns.specs.declared.lane_slot.LaneSlot.{LaneSlot}
-use Rattle.hall_turns.specs.declared.list_slot.ListSlot.{ListSlot}
-use Rattle.hall_turns.specs.declared.pool_slot.PoolSlot.{PoolSlot}
-use Rattle.hall_turns.specs.Shown.{pool_shown, lane_shown}
-use Rattle.hall_turns.specs.declared.key.HallKey.{HallKey}
-use Rattle.hall_turns.specs.Keys.{quota_of}
-use Rattle.hall_turns.specs.Takes.{HallSeat}
+use Rattle.hall_slots.specs.declared.event.Event.TheVariants.{Did}
+use Rattle.hall_slots.specs.declared.lane_slot.LaneSlot.{LaneSlot}
+use Rattle.hall_slots.specs.declared.list_slot.ListSlot.{ListSlot}
+use Rattle.hall_slots.specs.declared.pool_slot.PoolSlot.{PoolSlot}
+use Rattle.hall_slots.specs.Shown.{pool_shown, lane_shown}
+use Rattle.hall_slots.specs.declared.key.HallKey.{HallKey}
+use Rattle.hall_slots.specs.Keys.{quota_of}
+use Rattle.hall_slots.specs.Takes.{HallSeat}
 use Rattle.hall_deciding.specs.Writes.{parts, told_note, MayBecome}
 use Rattle.hall_deciding.specs.EventParts.{IsAtAction, MayGoOn, MayAct, IsNext, MayDoNext}
 

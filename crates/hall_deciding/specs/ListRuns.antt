@@ -4,39 +4,39 @@ use Rattle.dag_order.specs.declared.action_id.ActionId.{ActionId}
 use Rattle.dag_order.specs.declared.finish.Finish.{Finish}
 use Rattle.dag_order.specs.declared.thread_id.ThreadId.{ThreadId}
 use Rattle.deque_list.specs.declared.deque_id.DequeId.{DequeId}
-use Rattle.depth_first_list.specs.Actions.{joins, record_words}
-use Rattle.depth_first_run.specs.Run.{list_of}
-use Rattle.depth_first_run.specs.States.{Setting}
-use Rattle.lawful_books.specs.Books.{charge_at}
-use Rattle.lawful_books.specs.Lists.{Each}
-use Rattle.moment_parts.specs.Parts as shown
-use Rattle.quota_period.specs.declared.period.Period.{Period as OpenPeriod}
-use Rattle.run_end.specs.declared.ends.RunEnd.TheVariants.{Finished}
-use Rattle.part_events.specs.Passed.Actions.{IsOfTheList, deed_of}
-use Rattle.part_events.specs.Passed.Views.{label_of}
-use Rattle.part_events.specs.Passed.EndedType.{Ended}
-use Rattle.part_events.specs.Passed.NextType.{Next}
-use Rattle.part_events.specs.Passed.NextVariants as nexts
-use Rattle.part_events.specs.Passed.ThreadType.{Thread}
-use Rattle.part_events.specs.Passed.Kept.{WaitsUnder}
-use Rattle.part_events.specs.Passed.Shown.{thread_shown, result_shown}
+use Rattle.hall_slots.specs.Passed.DepthFirstListActions.{joins, record_words}
+use Rattle.hall_slots.specs.Passed.Run.{list_of}
+use Rattle.hall_slots.specs.Passed.States.{Setting}
+use Rattle.hall_slots.specs.Passed.Books.{charge_at}
+use Rattle.hall_slots.specs.Passed.Lists.{Each}
+use Rattle.moment_laws.specs.Passed.Parts as shown
+use Rattle.hall_slots.specs.Passed.Period.{Period as OpenPeriod}
+use Rattle.play_rules.specs.declared.ends.RunEnd.TheVariants.{Finished}
+use Rattle.hall_slots.specs.Passed.ThreadFramesActions.{IsOfTheList, deed_of}
+use Rattle.hall_slots.specs.Passed.ThreadFramesViews.{label_of}
+use Rattle.hall_slots.specs.Passed.Ended.{Ended}
+use Rattle.hall_slots.specs.Passed.Next.{Next}
+use Rattle.hall_slots.specs.Passed.NextVariants as nexts
+use Rattle.hall_slots.specs.Passed.Thread.{Thread}
+use Rattle.hall_slots.specs.Passed.ThreadFramesKept.{WaitsUnder}
+use Rattle.hall_slots.specs.Passed.Shown.{thread_shown, result_shown}
 use Rattle.thread_state.specs.Settings.{IsSettingOf}
-use Rattle.part_events.specs.Passed.Values.{ListShown}
-use Rattle.part_events.specs.Passed.Writing.{IsHanded}
+use Rattle.hall_slots.specs.Passed.Values.{ListShown}
+use Rattle.hall_slots.specs.Passed.Writing.{IsHanded}
 use Rattle.part_events.specs.Here.{TakesWords}
 use Rattle.part_events.specs.Dummies.{DummyHere}
 use Rattle.part_events.specs.Ends.{EndsHere}
 use Rattle.part_events.specs.Joins.{JoinsHere}
 use Rattle.part_events.specs.ListCalls.{SuspendsThere, LeavesThere, TakesWaiting, IsHandedThere}
-use Rattle.hall_turns.specs.declared.event.Event.TheVariants.{Did, Suspended, GaveUp}
-use Rattle.hall_turns.specs.declared.lane_slot.LaneSlot.{LaneSlot}
-use Rattle.hall_turns.specs.declared.list_slot.ListSlot.{ListSlot}
-use Rattle.hall_turns.specs.declared.pool_slot.PoolSlot.{PoolSlot}
-use Rattle.hall_turns.specs.Lists.{ShowsUnowned}
-use Rattle.hall_turns.specs.Shown.{list_shown, pool_shown}
-use Rattle.hall_turns.specs.declared.key.HallKey.{HallKey}
-use Rattle.hall_turns.specs.Keys.{table_of, quota_of}
-use Rattle.hall_turns.specs.Takes.{HallSeat}
+use Rattle.hall_slots.specs.declared.event.Event.TheVariants.{Did, Suspended, GaveUp}
+use Rattle.hall_slots.specs.declared.lane_slot.LaneSlot.{LaneSlot}
+use Rattle.hall_slots.specs.declared.list_slot.ListSlot.{ListSlot}
+use Rattle.hall_slots.specs.declared.pool_slot.PoolSlot.{PoolSlot}
+use Rattle.hall_slots.specs.ListCalls.{ShowsUnowned}
+use Rattle.hall_slots.specs.Shown.{list_shown, pool_shown}
+use Rattle.hall_slots.specs.declared.key.HallKey.{HallKey}
+use Rattle.hall_slots.specs.Keys.{table_of, quota_of}
+use Rattle.hall_slots.specs.Takes.{HallSeat}
 use Rattle.hall_deciding.specs.Writes.{parts, told_note, MayBecome}
 use Rattle.hall_deciding.specs.EventParts.{IsAtAction, MayAct, MayPause, IsNext}
 

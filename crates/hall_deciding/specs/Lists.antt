@@ -6,34 +6,34 @@ use Rattle.dag_order.specs.declared.action_id.ActionId.{ActionId}
 use Rattle.dag_order.specs.declared.finish.Finish.{Finish}
 use Rattle.dag_order.specs.declared.thread_id.ThreadId.{ThreadId}
 use Rattle.deque_list.specs.declared.deque_id.DequeId.{DequeId}
-use Rattle.depth_first_list.specs.Actions.{joins}
-use Rattle.lawful_books.specs.Lists.{Each}
-use Rattle.hall_turns.specs.Passed.Parts.{Has}
-use Rattle.moment_parts.specs.Parts as shown
-use Rattle.quota_period.specs.declared.period.Period.{Period as OpenPeriod}
-use Rattle.run_end.specs.declared.ends.RunEnd.TheVariants.{Finished}
-use Rattle.part_events.specs.Passed.Results.{HasCome}
-use Rattle.hall_turns.specs.Passed.Actions.{deed_of}
-use Rattle.hall_turns.specs.Passed.Points.{IsAtPoint, IsResult}
-use Rattle.hall_turns.specs.Passed.ThreadFramesViews.{label_of}
-use Rattle.hall_turns.specs.Passed.EndedType.{Ended}
-use Rattle.hall_turns.specs.Passed.NextType.{Next}
-use Rattle.hall_turns.specs.Passed.NextVariants as nexts
-use Rattle.hall_turns.specs.Passed.ThreadType.{Thread}
+use Rattle.hall_slots.specs.Passed.DepthFirstListActions.{joins}
+use Rattle.hall_slots.specs.Passed.Lists.{Each}
+use Rattle.hall_slots.specs.Passed.Parts.{Has}
+use Rattle.moment_laws.specs.Passed.Parts as shown
+use Rattle.hall_slots.specs.Passed.Period.{Period as OpenPeriod}
+use Rattle.play_rules.specs.declared.ends.RunEnd.TheVariants.{Finished}
+use Rattle.thread_actions.specs.Results.{HasCome}
+use Rattle.hall_slots.specs.Passed.ThreadFramesActions.{deed_of}
+use Rattle.hall_slots.specs.Passed.ThreadFramesPoints.{IsAtPoint, IsResult}
+use Rattle.hall_slots.specs.Passed.ThreadFramesViews.{label_of}
+use Rattle.hall_slots.specs.Passed.Ended.{Ended}
+use Rattle.hall_slots.specs.Passed.Next.{Next}
+use Rattle.hall_slots.specs.Passed.NextVariants as nexts
+use Rattle.hall_slots.specs.Passed.Thread.{Thread}
 use Rattle.thread_map.specs.Kept.{kept_under}
-use Rattle.hall_turns.specs.Passed.Kept.{IsUnderItsId}
-use Rattle.hall_turns.specs.Passed.Roots.{end_of_root}
-use Rattle.hall_turns.specs.Passed.Shown.{thread_shown}
+use Rattle.hall_slots.specs.Passed.ThreadFramesKept.{IsUnderItsId}
+use Rattle.hall_slots.specs.Passed.Roots.{end_of_root}
+use Rattle.hall_slots.specs.Passed.Shown.{thread_shown}
 use Rattle.part_events.specs.Dummies.{DummyHere}
 use Rattle.part_events.specs.Ends.{EndsHere}
 use Rattle.part_events.specs.Joins.{JoinsHere, ReleasesNothing}
 use Rattle.part_events.specs.ListCalls.{SuspendsThere, LeavesThere, IsHandedThere, KeepsCrew}
-use Rattle.hall_turns.specs.declared.lane_slot.LaneSlot.{LaneSlot}
-use Rattle.hall_turns.specs.declared.list_slot.ListSlot.{ListSlot}
-use Rattle.hall_turns.specs.Lists.{ShowsUnowned, HasNoOwner, IsGone, KeepsRest}
-use Rattle.hall_turns.specs.declared.key.HallKey.{HallKey}
-use Rattle.hall_turns.specs.Keys.{table_of, quota_of}
-use Rattle.hall_turns.specs.Takes.{HallSeat}
+use Rattle.hall_slots.specs.declared.lane_slot.LaneSlot.{LaneSlot}
+use Rattle.hall_slots.specs.declared.list_slot.ListSlot.{ListSlot}
+use Rattle.hall_slots.specs.ListCalls.{ShowsUnowned, HasNoOwner, IsGone, KeepsRest}
+use Rattle.hall_slots.specs.declared.key.HallKey.{HallKey}
+use Rattle.hall_slots.specs.Keys.{table_of, quota_of}
+use Rattle.hall_slots.specs.Takes.{HallSeat}
 use Rattle.hall_deciding.specs.EventParts.{MayAct, MayPause, IsNext}
 use Rattle.hall_deciding.specs.ListRuns.{IsTooMuch, IsUnawaited}
 use Rattle.hall_deciding.specs.Staying.{AllAtPoints}

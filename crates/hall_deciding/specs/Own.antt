@@ -3,17 +3,17 @@ use Rattle.std.specs.Prelude.{◌≡◌, ◌<◌, None, Some, List, ◌∷◌}
 use Rattle.dag_order.specs.declared.action_id.ActionId.{ActionId}
 use Rattle.dag_order.specs.declared.thread_id.ThreadId.{ThreadId}
 use Rattle.deque_list.specs.declared.deque_id.DequeId.{DequeId}
-use Rattle.quota_period.specs.declared.period.Period.{Period as OpenPeriod}
-use Rattle.hall_turns.specs.Passed.NextVariants as nexts
-use Rattle.hall_turns.specs.Passed.ThreadType.{Thread}
-use Rattle.hall_turns.specs.Passed.Points.{IsAtPoint}
-use Rattle.lawful_books.specs.Lists.{Each}
+use Rattle.hall_slots.specs.Passed.Period.{Period as OpenPeriod}
+use Rattle.hall_slots.specs.Passed.NextVariants as nexts
+use Rattle.hall_slots.specs.Passed.Thread.{Thread}
+use Rattle.hall_slots.specs.Passed.ThreadFramesPoints.{IsAtPoint}
+use Rattle.hall_slots.specs.Passed.Lists.{Each}
 use Rattle.part_events.specs.Joins.{JoinsHere, ReleasesNothing}
-use Rattle.hall_turns.specs.declared.lane_slot.LaneSlot.{LaneSlot}
-use Rattle.hall_turns.specs.declared.key.HallKey.{HallKey}
-use Rattle.hall_turns.specs.Shown.{lane_shown}
-use Rattle.hall_turns.specs.Keys.{table_of, quota_of}
-use Rattle.hall_turns.specs.Takes.{HallSeat}
+use Rattle.hall_slots.specs.declared.lane_slot.LaneSlot.{LaneSlot}
+use Rattle.hall_slots.specs.declared.key.HallKey.{HallKey}
+use Rattle.hall_slots.specs.Shown.{lane_shown}
+use Rattle.hall_slots.specs.Keys.{table_of, quota_of}
+use Rattle.hall_slots.specs.Takes.{HallSeat}
 use Rattle.hall_deciding.specs.EventParts.{MayAct, MayPause, IsNext}
 use Rattle.hall_deciding.specs.Staying.{AllAtPoints}
 use Rattle.hall_deciding.specs.Taken.{IsAtEvent, its_lane}

@@ -4,19 +4,19 @@ use Rattle.dag_order.specs.declared.action_id.ActionId.{ActionId}
 use Rattle.dag_order.specs.declared.birth.Birth.{Birth}
 use Rattle.dag_order.specs.declared.thread_id.ThreadId.{ThreadId}
 use Rattle.deque_list.specs.declared.deque_id.DequeId.{DequeId}
-use Rattle.quota_period.specs.declared.period.Period.{Period as OpenPeriod}
-use Rattle.part_events.specs.Passed.Acts.{IsCharged}
-use Rattle.hall_turns.specs.Passed.NextType.{Next}
-use Rattle.hall_turns.specs.Passed.NextVariants as nexts
-use Rattle.hall_turns.specs.Passed.ThreadType.{Thread}
+use Rattle.hall_slots.specs.Passed.Period.{Period as OpenPeriod}
+use Rattle.thread_actions.specs.Acts.{IsCharged}
+use Rattle.hall_slots.specs.Passed.Next.{Next}
+use Rattle.hall_slots.specs.Passed.NextVariants as nexts
+use Rattle.hall_slots.specs.Passed.Thread.{Thread}
 use Rattle.part_events.specs.Here.{ActsHere, TakesWords}
 use Rattle.part_events.specs.Ends.{EndsAbove}
 use Rattle.part_events.specs.Joins.{JoinsHere}
-use Rattle.hall_turns.specs.declared.lane_slot.LaneSlot.{LaneSlot}
-use Rattle.hall_turns.specs.declared.pool_slot.PoolSlot.{PoolSlot}
-use Rattle.hall_turns.specs.Shown.{pool_shown}
-use Rattle.hall_turns.specs.declared.key.HallKey.{HallKey}
-use Rattle.hall_turns.specs.Takes.{HallSeat}
+use Rattle.hall_slots.specs.declared.lane_slot.LaneSlot.{LaneSlot}
+use Rattle.hall_slots.specs.declared.pool_slot.PoolSlot.{PoolSlot}
+use Rattle.hall_slots.specs.Shown.{pool_shown}
+use Rattle.hall_slots.specs.declared.key.HallKey.{HallKey}
+use Rattle.hall_slots.specs.Takes.{HallSeat}
 use Rattle.hall_deciding.specs.EventParts.{MayAct, IsNext, MayDoNext}
 use Rattle.hall_deciding.specs.Staying.{AllAtPoints, StaysSoundPool}
 use Rattle.hall_deciding.specs.Taken.{IsAtEvent, pool_and_lane}

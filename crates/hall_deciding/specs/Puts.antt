@@ -2,15 +2,15 @@
 use Rattle.std.specs.Prelude.{◌≡◌, ℕ, ◌+◌, ◌<◌, true, None, Some, List, [], ◌∷◌}
 use Rattle.deque_list.specs.declared.deque_id.DequeId.{DequeId}
 use Rattle.turn_table.specs.Seats.{with_hand}
-use Rattle.hall_turns.specs.declared.event.Event.TheVariants.{GaveUp}
-use Rattle.hall_turns.specs.declared.lane_slot.LaneSlot.{LaneSlot}
-use Rattle.hall_turns.specs.declared.list_slot.ListSlot.{ListSlot}
-use Rattle.hall_turns.specs.declared.pool_slot.PoolSlot.{PoolSlot}
-use Rattle.hall_turns.specs.declared.seat_note.SeatNote.{SeatNote}
-use Rattle.hall_turns.specs.declared.slot.Slot.{Slot}
-use Rattle.hall_turns.specs.declared.slot.Slot.TheVariants as slots
-use Rattle.hall_turns.specs.declared.key.HallKey.{HallKey}
-use Rattle.hall_turns.specs.Takes.{HallSeat}
+use Rattle.hall_slots.specs.declared.event.Event.TheVariants.{GaveUp}
+use Rattle.hall_slots.specs.declared.lane_slot.LaneSlot.{LaneSlot}
+use Rattle.hall_slots.specs.declared.list_slot.ListSlot.{ListSlot}
+use Rattle.hall_slots.specs.declared.pool_slot.PoolSlot.{PoolSlot}
+use Rattle.hall_slots.specs.declared.seat_note.SeatNote.{SeatNote}
+use Rattle.hall_slots.specs.declared.slot.Slot.{Slot}
+use Rattle.hall_slots.specs.declared.slot.Slot.TheVariants as slots
+use Rattle.hall_slots.specs.declared.key.HallKey.{HallKey}
+use Rattle.hall_slots.specs.Takes.{HallSeat}
 use Rattle.hall_deciding.specs.Writes.{Parts, parts, told_note, IsOwner, MayBecome, StaySound}
 use Rattle.hall_deciding.specs.declared.noting.Noting.{Noting}
 use Rattle.hall_deciding.specs.declared.noting.Noting.TheVariants.{Same, Found, Does, Yields}

@@ -1,10 +1,10 @@
 -- How the list and the pool change if their holder asks for memory there.
 use Rattle.std.specs.Prelude.{◌≡◌}
-use Rattle.space_ledger.specs.BooksList.{books_list}
-use Rattle.space_ledger.specs.MovesList.{moves_list}
+use Rattle.hall_slots.specs.Passed.BooksList.{books_list}
+use Rattle.hall_slots.specs.Passed.MovesList.{moves_list}
 use Rattle.thread_map.specs.Kept.{KeepsTheSame}
-use Rattle.hall_turns.specs.declared.list_slot.ListSlot.{ListSlot}
-use Rattle.hall_turns.specs.declared.pool_slot.PoolSlot.{PoolSlot}
+use Rattle.hall_slots.specs.declared.list_slot.ListSlot.{ListSlot}
+use Rattle.hall_slots.specs.declared.pool_slot.PoolSlot.{PoolSlot}
 
 -- the deques, the closed periods, the crew and the end are the same
 pub record KeepsDeques (was now : ListSlot) : Type 0 where

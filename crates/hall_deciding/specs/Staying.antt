@@ -5,28 +5,28 @@ use Rattle.dag_order.specs.Births.{root}
 use Rattle.dag_order.specs.declared.finish.Finish.{Finish}
 use Rattle.dag_order.specs.declared.thread_id.ThreadId.{ThreadId}
 use Rattle.deque_list.specs.declared.deque_id.DequeId.{DequeId}
-use Rattle.lawful_books.specs.Lists.{Each}
-use Rattle.hall_turns.specs.Passed.Parts.{Has}
-use Rattle.run_end.specs.declared.ends.RunEnd.TheVariants.{Finished}
-use Rattle.run_end.specs.declared.stop.Stop.{Stop}
-use Rattle.part_events.specs.Passed.Results.{HasCome}
-use Rattle.part_events.specs.Passed.Points.{IsAtPoint, IsResult}
-use Rattle.part_events.specs.Passed.EndedType.{Ended}
-use Rattle.part_events.specs.Passed.ThreadType.{Thread}
+use Rattle.hall_slots.specs.Passed.Lists.{Each}
+use Rattle.hall_slots.specs.Passed.Parts.{Has}
+use Rattle.play_rules.specs.declared.ends.RunEnd.TheVariants.{Finished}
+use Rattle.play_rules.specs.declared.stop.Stop.{Stop}
+use Rattle.thread_actions.specs.Results.{HasCome}
+use Rattle.hall_slots.specs.Passed.ThreadFramesPoints.{IsAtPoint, IsResult}
+use Rattle.hall_slots.specs.Passed.Ended.{Ended}
+use Rattle.hall_slots.specs.Passed.Thread.{Thread}
 use Rattle.thread_map.specs.Kept.{kept_under}
-use Rattle.part_events.specs.Passed.Kept.{WaitsUnder, IsUnderItsId}
-use Rattle.part_events.specs.Passed.Roots.{end_of_root}
-use Rattle.part_events.specs.Passed.HallLawPoints.{LaneAtPoints}
+use Rattle.hall_slots.specs.Passed.ThreadFramesKept.{WaitsUnder, IsUnderItsId}
+use Rattle.hall_slots.specs.Passed.Roots.{end_of_root}
+use Rattle.hall_slots.specs.Passed.HallMachinePoints.{LaneAtPoints}
 use Rattle.part_events.specs.ListCalls.{KeepsCrew, TakesWaiting, IsHandedThere}
-use Rattle.hall_turns.specs.declared.lane_slot.LaneSlot.{LaneSlot}
-use Rattle.hall_turns.specs.declared.list_slot.ListSlot.{ListSlot}
-use Rattle.hall_turns.specs.declared.pool_slot.PoolSlot.{PoolSlot}
-use Rattle.hall_turns.specs.declared.seat_note.SeatNote.{SeatNote}
-use Rattle.hall_turns.specs.Lists.{HasNoOwner, IsGone, KeepsRest}
-use Rattle.hall_turns.specs.declared.key.HallKey.{HallKey}
-use Rattle.hall_turns.specs.Keys.{table_of, quota_of}
-use Rattle.hall_turns.specs.Sound.{PoolIsSound}
-use Rattle.hall_turns.specs.Takes.{HallSeat}
+use Rattle.hall_slots.specs.declared.lane_slot.LaneSlot.{LaneSlot}
+use Rattle.hall_slots.specs.declared.list_slot.ListSlot.{ListSlot}
+use Rattle.hall_slots.specs.declared.pool_slot.PoolSlot.{PoolSlot}
+use Rattle.hall_slots.specs.declared.seat_note.SeatNote.{SeatNote}
+use Rattle.hall_slots.specs.ListCalls.{HasNoOwner, IsGone, KeepsRest}
+use Rattle.hall_slots.specs.declared.key.HallKey.{HallKey}
+use Rattle.hall_slots.specs.Keys.{table_of, quota_of}
+use Rattle.hall_slots.specs.Sound.{PoolIsSound}
+use Rattle.hall_slots.specs.Takes.{HallSeat}
 use Rattle.hall_deciding.specs.Writes.{parts, IsShort, StaySound}
 
 -- The note is of the same seat: it has the worker, has left or not, and was answered, as before, and a stop that it found it has found.

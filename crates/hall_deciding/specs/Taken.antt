@@ -1,17 +1,17 @@
 -- What a seat holds whose top thread has come to an event.
 use Rattle.std.specs.Prelude.{◌≡◌, ℕ, ◌+◌, ◌≤◌, List, [], ◌∷◌}
 use Rattle.deque_list.specs.declared.deque_id.DequeId.{DequeId}
-use Rattle.depth_first_list.specs.Actions.{record_words}
-use Rattle.quota_period.specs.declared.period.Period.{Period as OpenPeriod}
-use Rattle.hall_turns.specs.Passed.ThreadType.{Thread}
-use Rattle.hall_turns.specs.declared.lane_slot.LaneSlot.{LaneSlot}
-use Rattle.hall_turns.specs.declared.list_slot.ListSlot.{ListSlot}
-use Rattle.hall_turns.specs.declared.pool_slot.PoolSlot.{PoolSlot}
-use Rattle.hall_turns.specs.declared.slot.Slot.{Slot}
-use Rattle.hall_turns.specs.declared.slot.Slot.TheVariants as slots
-use Rattle.hall_turns.specs.declared.key.HallKey.{HallKey}
-use Rattle.hall_turns.specs.Keys.{quota_of}
-use Rattle.hall_turns.specs.Takes.{HallSeat}
+use Rattle.hall_slots.specs.Passed.DepthFirstListActions.{record_words}
+use Rattle.hall_slots.specs.Passed.Period.{Period as OpenPeriod}
+use Rattle.hall_slots.specs.Passed.Thread.{Thread}
+use Rattle.hall_slots.specs.declared.lane_slot.LaneSlot.{LaneSlot}
+use Rattle.hall_slots.specs.declared.list_slot.ListSlot.{ListSlot}
+use Rattle.hall_slots.specs.declared.pool_slot.PoolSlot.{PoolSlot}
+use Rattle.hall_slots.specs.declared.slot.Slot.{Slot}
+use Rattle.hall_slots.specs.declared.slot.Slot.TheVariants as slots
+use Rattle.hall_slots.specs.declared.key.HallKey.{HallKey}
+use Rattle.hall_slots.specs.Keys.{quota_of}
+use Rattle.hall_slots.specs.Takes.{HallSeat}
 use Rattle.hall_deciding.specs.EventParts.{IsAtAction}
 
 -- It holds these slots, among them its lane as it took it, whose top thread has come to its next action since; the quota covers a record block.

@@ -3,24 +3,24 @@ use Rattle.std.specs.Prelude.{◌≡◌, Some, [], ◌∷◌}
 use Rattle.dag_order.specs.declared.action_id.ActionId.{ActionId}
 use Rattle.dag_order.specs.declared.thread_id.ThreadId.{ThreadId}
 use Rattle.deque_list.specs.declared.deque_id.DequeId.{DequeId}
-use Rattle.quota_period.specs.declared.period.Period.{Period as OpenPeriod}
-use Rattle.part_events.specs.Passed.Results.{HasCome}
-use Rattle.hall_turns.specs.Passed.EndedType.{Ended}
-use Rattle.hall_turns.specs.Passed.NextVariants as nexts
-use Rattle.hall_turns.specs.Passed.ThreadType.{Thread}
-use Rattle.hall_turns.specs.Passed.Kept.{WaitsUnder}
-use Rattle.hall_turns.specs.Passed.Shown.{thread_shown, result_shown}
-use Rattle.hall_turns.specs.Passed.Writing.{IsHanded}
+use Rattle.hall_slots.specs.Passed.Period.{Period as OpenPeriod}
+use Rattle.thread_actions.specs.Results.{HasCome}
+use Rattle.hall_slots.specs.Passed.Ended.{Ended}
+use Rattle.hall_slots.specs.Passed.NextVariants as nexts
+use Rattle.hall_slots.specs.Passed.Thread.{Thread}
+use Rattle.hall_slots.specs.Passed.ThreadFramesKept.{WaitsUnder}
+use Rattle.hall_slots.specs.Passed.Shown.{thread_shown, result_shown}
+use Rattle.hall_slots.specs.Passed.Writing.{IsHanded}
 use Rattle.part_events.specs.Here.{TakesWords}
 use Rattle.part_events.specs.Ends.{EndsHere}
 use Rattle.part_events.specs.Joins.{JoinsHere}
 use Rattle.part_events.specs.ListCalls.{TakesWaiting, IsHandedThere, KeepsCrew}
-use Rattle.hall_turns.specs.declared.lane_slot.LaneSlot.{LaneSlot}
-use Rattle.hall_turns.specs.declared.list_slot.ListSlot.{ListSlot}
-use Rattle.hall_turns.specs.declared.pool_slot.PoolSlot.{PoolSlot}
-use Rattle.hall_turns.specs.Shown.{pool_shown}
-use Rattle.hall_turns.specs.declared.key.HallKey.{HallKey}
-use Rattle.hall_turns.specs.Takes.{HallSeat}
+use Rattle.hall_slots.specs.declared.lane_slot.LaneSlot.{LaneSlot}
+use Rattle.hall_slots.specs.declared.list_slot.ListSlot.{ListSlot}
+use Rattle.hall_slots.specs.declared.pool_slot.PoolSlot.{PoolSlot}
+use Rattle.hall_slots.specs.Shown.{pool_shown}
+use Rattle.hall_slots.specs.declared.key.HallKey.{HallKey}
+use Rattle.hall_slots.specs.Takes.{HallSeat}
 use Rattle.hall_deciding.specs.EventParts.{MayAct, IsNext}
 use Rattle.hall_deciding.specs.ListRuns.{IsUnawaited}
 use Rattle.hall_deciding.specs.Staying.{AllAtPoints, StaysSoundPool}

@@ -2,17 +2,17 @@
 
 ghost use Rattle.std.specs.Prelude.{◌≡◌, ◌+◌, ◌<◌, ◌∷◌, []};
 ghost use Rattle.turn_table.specs.Tables.{key_of, slot_count, IsSeatOf};
-ghost use Rattle.hall_turns.specs.declared.lane_slot.LaneSlot.{LaneSlot as AnyLane};
-ghost use Rattle.hall_turns.specs.declared.list_slot.ListSlot.{ListSlot as AnyList};
-ghost use Rattle.hall_turns.specs.declared.seat_note.SeatNote.{SeatNote as AnyNote};
-ghost use Rattle.hall_turns.specs.declared.slot.Slot.TheVariants as slots;
+ghost use Rattle.hall_slots.specs.declared.lane_slot.LaneSlot.{LaneSlot as AnyLane};
+ghost use Rattle.hall_slots.specs.declared.list_slot.ListSlot.{ListSlot as AnyList};
+ghost use Rattle.hall_slots.specs.declared.seat_note.SeatNote.{SeatNote as AnyNote};
+ghost use Rattle.hall_slots.specs.declared.slot.Slot.TheVariants as slots;
 ghost use Rattle.hall_deciding.specs.Puts.{note_of, MayPutAll, HasPut};
 
 use crate::noting::Noting;
 use crate::parts::{lane_of, list_of};
-use boxed::Boxed;
+use containers::Boxed;
 use deque_list::DequeId;
-use hall_turns::{
+use hall_slots::{
     HallPlace, HallRow, LaneSlot, ListSlot, PoolSlot, Slot, give_lane_back, give_list_back,
 };
 use std::marker::Brand;

@@ -2,12 +2,12 @@
 
 ghost use Rattle.std.specs.Prelude.{◌+◌, ◌<◌, []};
 ghost use Rattle.turn_table.specs.Tables.{key_of, slot_count, IsSeatOf};
-ghost use Rattle.hall_turns.specs.declared.seat_note.SeatNote.{SeatNote as AnyNote};
+ghost use Rattle.hall_slots.specs.declared.seat_note.SeatNote.{SeatNote as AnyNote};
 ghost use Rattle.hall_deciding.specs.Puts.{note_of, MayPutLane, HasPut};
 
 use crate::noting::Noting;
 use deque_list::DequeId;
-use hall_turns::{HallPlace, HallRow, LaneSlot, Slot};
+use hall_slots::{HallPlace, HallRow, LaneSlot, Slot};
 use std::marker::Brand;
 
 /// Puts the lane back, and notes this.

@@ -11,7 +11,7 @@
 //! - [`event_laws`] and [`sound_laws`]: what each event writes is one event of the machine, for each program that the key of the hall may be
 //!   of, and it leaves the parts sound: threads at their points, what waits and is kept under its id, lanes of deques that are gone empty.
 //!
-//! It uses the running state (`hall_law`) and the slots of a hall (`hall_turns`), and hands on the calls of `part_events`, so that a call of an
+//! It uses the running state (`hall_machine`) and the slots of a hall (`hall_slots`), and hands on the calls of `part_events`, so that a call of an
 //! owner names one crate. Its theorem: each call keeps the law of the hall between any two atomic steps, and the seat notes its event and holds
 //! nothing.
 #![tactic(auto)]

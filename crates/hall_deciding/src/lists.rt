@@ -2,19 +2,19 @@
 
 ghost use Rattle.std.specs.Prelude.{◌≡◌, ◌+◌, ◌<◌, [], true, None, Some};
 ghost use Rattle.turn_table.specs.Tables.{key_of, slot_count, IsSeatOf};
-ghost use Rattle.hall_turns.specs.declared.event.Event.TheVariants.{Did, Suspended, GaveUp};
-ghost use Rattle.run_end.specs.declared.ends.RunEnd.TheVariants.{Finished};
+ghost use Rattle.hall_slots.specs.declared.event.Event.TheVariants.{Did, Suspended, GaveUp};
+ghost use Rattle.play_rules.specs.declared.ends.RunEnd.TheVariants.{Finished};
 ghost use Rattle.hall_deciding.specs.Writes.{told_note};
 ghost use Rattle.hall_deciding.specs.Puts.{HasPut};
 ghost use Rattle.hall_deciding.specs.Lists.{Suspends, GivesUp, Yields, DoesDummy, EndsRoot, JoinsFromList};
 
 use crate::noting::Noting;
 use crate::pair_puts::put_list_and_lane;
-use boxed::Boxed;
+use containers::Boxed;
 use dag_order::{ActionId, Finish, ThreadId};
 use deque_list::DequeId;
-use hall_turns::{Event, HallPlace, HallRow, LaneSlot, ListSlot};
-use run_end::RunEnd;
+use hall_slots::{Event, HallPlace, HallRow, LaneSlot, ListSlot};
+use play_rules::RunEnd;
 
 /// Decides the wait of a thread that is alone in its deque.
 pub fn decide_wait(

@@ -1,6 +1,6 @@
 use deque_list::DequeId;
-use hall_turns::Event;
-use run_end::Stop;
+use hall_slots::Event;
+use play_rules::Stop;
 
 /// What a seat notes when it puts back what it took.
 #[derive(Clone, Copy, PartialEq, Eq, Debug)]

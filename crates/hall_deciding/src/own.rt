@@ -2,18 +2,18 @@
 
 ghost use Rattle.std.specs.Prelude.{◌+◌, ◌<◌, [], Some};
 ghost use Rattle.turn_table.specs.Tables.{key_of, slot_count, IsSeatOf};
-ghost use Rattle.hall_turns.specs.declared.event.Event.TheVariants.{Did};
+ghost use Rattle.hall_slots.specs.declared.event.Event.TheVariants.{Did};
 ghost use Rattle.hall_deciding.specs.Writes.{told_note};
 ghost use Rattle.hall_deciding.specs.Puts.{HasPut};
 ghost use Rattle.hall_deciding.specs.Own.{JoinsAlone, IsStillThere, IsShortThere};
-ghost use Rattle.run_end.specs.declared.stop.Stop.TheVariants.{OutOfMemory as NoMemory};
+ghost use Rattle.play_rules.specs.declared.stop.Stop.TheVariants.{OutOfMemory as NoMemory};
 
 use crate::lane_puts::put_lane;
 use crate::noting::Noting;
 use dag_order::ActionId;
 use deque_list::DequeId;
-use hall_turns::{Event, HallPlace, HallRow, LaneSlot};
-use run_end::Stop;
+use hall_slots::{Event, HallPlace, HallRow, LaneSlot};
+use play_rules::Stop;
 
 /// Decides a Join of a child whose result was handed over, which releases no words. Of the slots it needs its lane alone.
 pub fn decide_own_join(

@@ -2,16 +2,16 @@
 
 ghost use Rattle.std.specs.Prelude.{◌≡◌, ◌+◌, ◌<◌, ◌∷◌, []};
 ghost use Rattle.turn_table.specs.Tables.{key_of, slot_count, IsSeatOf};
-ghost use Rattle.hall_turns.specs.declared.lane_slot.LaneSlot.{LaneSlot as AnyLane};
-ghost use Rattle.hall_turns.specs.declared.seat_note.SeatNote.{SeatNote as AnyNote};
-ghost use Rattle.hall_turns.specs.declared.slot.Slot.TheVariants as slots;
+ghost use Rattle.hall_slots.specs.declared.lane_slot.LaneSlot.{LaneSlot as AnyLane};
+ghost use Rattle.hall_slots.specs.declared.seat_note.SeatNote.{SeatNote as AnyNote};
+ghost use Rattle.hall_slots.specs.declared.slot.Slot.TheVariants as slots;
 ghost use Rattle.hall_deciding.specs.Puts.{note_of, MayPutPoolAndLane, MayPutListAndLane, HasPut};
 
 use crate::noting::Noting;
 use crate::parts::lane_of;
-use boxed::Boxed;
+use containers::Boxed;
 use deque_list::DequeId;
-use hall_turns::{HallPlace, HallRow, LaneSlot, ListSlot, PoolSlot, Slot, give_lane_back};
+use hall_slots::{HallPlace, HallRow, LaneSlot, ListSlot, PoolSlot, Slot, give_lane_back};
 use std::marker::Brand;
 
 /// Puts the pool back, and notes this; from this step on the lane shows what it is to be.

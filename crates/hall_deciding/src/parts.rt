@@ -1,12 +1,12 @@
 //! The parts in slots of their kinds.
 
 ghost use Rattle.std.specs.Prelude.{◌≡◌};
-ghost use Rattle.hall_turns.specs.declared.lane_slot.LaneSlot.{LaneSlot as AnyLane};
-ghost use Rattle.hall_turns.specs.declared.list_slot.ListSlot.{ListSlot as AnyList};
-ghost use Rattle.hall_turns.specs.declared.slot.Slot.TheVariants as slots;
+ghost use Rattle.hall_slots.specs.declared.lane_slot.LaneSlot.{LaneSlot as AnyLane};
+ghost use Rattle.hall_slots.specs.declared.list_slot.ListSlot.{ListSlot as AnyList};
+ghost use Rattle.hall_slots.specs.declared.slot.Slot.TheVariants as slots;
 
-use boxed::Boxed;
-use hall_turns::{LaneSlot, ListSlot, Slot};
+use containers::Boxed;
+use hall_slots::{LaneSlot, ListSlot, Slot};
 
 /// The lane in a slot that is one.
 pub(crate) fn lane_of(slot: Slot) -> LaneSlot

@@ -2,7 +2,7 @@
 
 ghost use Rattle.std.specs.Prelude.{◌+◌, ◌<◌, [], Some};
 ghost use Rattle.turn_table.specs.Tables.{key_of, slot_count, IsSeatOf};
-ghost use Rattle.hall_turns.specs.declared.event.Event.TheVariants.{Did};
+ghost use Rattle.hall_slots.specs.declared.event.Event.TheVariants.{Did};
 ghost use Rattle.hall_deciding.specs.Writes.{told_note};
 ghost use Rattle.hall_deciding.specs.Puts.{HasPut};
 ghost use Rattle.hall_deciding.specs.Pools.{ActsWithPool, JoinsWithPool, EndsWithPool};
@@ -11,7 +11,7 @@ use crate::noting::Noting;
 use crate::pair_puts::put_pool_and_lane;
 use dag_order::ActionId;
 use deque_list::DequeId;
-use hall_turns::{Event, HallPlace, HallRow, LaneSlot, PoolSlot};
+use hall_slots::{Event, HallPlace, HallRow, LaneSlot, PoolSlot};
 
 /// Decides an Alloc, a Release, a Fault or a Fork.
 pub fn decide_action(

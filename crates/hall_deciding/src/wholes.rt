@@ -2,17 +2,17 @@
 
 ghost use Rattle.std.specs.Prelude.{◌+◌, ◌<◌, [], None, Some};
 ghost use Rattle.turn_table.specs.Tables.{key_of, slot_count, IsSeatOf};
-ghost use Rattle.hall_turns.specs.declared.event.Event.TheVariants.{Did};
+ghost use Rattle.hall_slots.specs.declared.event.Event.TheVariants.{Did};
 ghost use Rattle.hall_deciding.specs.Writes.{told_note};
 ghost use Rattle.hall_deciding.specs.Puts.{HasPut};
 ghost use Rattle.hall_deciding.specs.Wholes.{EndsAndLeaves, EndsAndWakes, JoinsFromAll};
 
 use crate::all_puts::put_all;
 use crate::noting::Noting;
-use boxed::Boxed;
+use containers::Boxed;
 use dag_order::ActionId;
 use deque_list::DequeId;
-use hall_turns::{Event, HallPlace, HallRow, LaneSlot, ListSlot, PoolSlot};
+use hall_slots::{Event, HallPlace, HallRow, LaneSlot, ListSlot, PoolSlot};
 
 /// Decides the End of a forked thread, alone in its deque, for which nobody waits.
 pub fn decide_leaving_end(

@@ -2,15 +2,15 @@
 
 ghost use Rattle.std.specs.Prelude.{◌≡◌, IfOk};
 ghost use Rattle.dfd_core.specs.Parts.{IsFresh};
-ghost use Rattle.hall_runs.specs.Passed.Seated.{IsIn, IsProgramOf};
+ghost use Rattle.hall_threads.specs.Passed.Seated.{IsIn, IsProgramOf};
 
 use accepted_source::accept;
 use block_arena::Pool;
-use core_parts::ListChoices;
+use depth_first_list::Quota;
 use dfd_core::Core;
-use dummy_tree::Quota;
 use frame_code::{Code, lower};
-use hall_runs::{Hall, HallWorker, Seat};
+use hall_threads::{Hall, HallWorker, Seat};
+use scheduler_state::ListChoices;
 use std::alloc::{AllocError, Global};
 use std::process::Abort;
 

@@ -1,12 +1,12 @@
 //! Seats that hold the list of a hall.
 
 ghost use Rattle.std.specs.Prelude.{◌≡◌};
-ghost use Rattle.hall_runs.specs.Passed.Held.{IsListHeld};
-ghost use Rattle.hall_runs.specs.Passed.Seated.{IsIn, IsProgramOf};
+ghost use Rattle.hall_threads.specs.Passed.Held.{IsListHeld};
+ghost use Rattle.hall_threads.specs.Passed.Seated.{IsIn, IsProgramOf};
 
 use crate::halls::{entered, hall_of};
 use frame_code::Code;
-use hall_runs::{EventRefused, Hall, ListHeld, Seat};
+use hall_threads::{EventRefused, Hall, ListHeld, Seat};
 use std::process::Abort;
 use turn_table::Held;
 

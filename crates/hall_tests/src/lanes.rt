@@ -2,13 +2,13 @@
 
 ghost use Rattle.std.specs.Prelude.{◌≡◌, ◌+◌, ◌<◌};
 ghost use Rattle.turn_table.specs.Tables.{slot_count};
-ghost use Rattle.hall_runs.specs.Passed.Seated.{IsIn, IsProgramOf};
+ghost use Rattle.hall_threads.specs.Passed.Seated.{IsIn, IsProgramOf};
 
 use crate::halls::{Bounds, ample, entered, hall_within};
 use crate::scripts::{add, tell_answer};
 use crate::seats::{go_on, left, owned};
-use hall_runs::{Hall, Seat};
-use hall_turns::{give_lane_back, take_lane};
+use hall_slots::{give_lane_back, take_lane};
+use hall_threads::{Hall, Seat};
 use node_table::Code;
 use std::alloc::Global;
 use std::process::Abort;

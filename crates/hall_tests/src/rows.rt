@@ -1,12 +1,12 @@
 //! Rows of calls by seats, with what each call answers and what is left once the hall is closed.
 
 ghost use Rattle.std.specs.Prelude.{◌≡◌, All, IfSome};
-ghost use Rattle.hall_runs.specs.Passed.Seated.{IsIn, IsProgramOf};
+ghost use Rattle.hall_threads.specs.Passed.Seated.{IsIn, IsProgramOf};
 
 use crate::halls::{Bounds, hall_within};
 use crate::scripts::{add, do_calls, number_of, show, tell};
 use crate::seats::{put, taken};
-use hall_runs::{CloseRefused, Closing, Hall, Seat};
+use hall_threads::{CloseRefused, Closing, Hall, Seat};
 use std::alloc::Global;
 use std::process::Abort;
 

@@ -2,7 +2,7 @@
 
 use crate::halls::{entered, hall_of, worker_of};
 use dag_order::Finish;
-use run_end::RunEnd;
+use play_rules::RunEnd;
 use work_loop::{FreeGate, work};
 
 /// Two children, of which the first one is forked.

@@ -1,14 +1,14 @@
 //! Scripts of calls by the seats of a hall, and what each call answers.
 
 ghost use Rattle.std.specs.Prelude.{◌≡◌, All, IfSome, None};
-ghost use Rattle.hall_runs.specs.Passed.Seated.{IsIn, IsProgramOf};
+ghost use Rattle.hall_threads.specs.Passed.Seated.{IsIn, IsProgramOf};
 
 use crate::hold::held;
 use crate::seats::{give_up, go_on, left, put, taken};
-use hall_runs::{EventRefused, Hall, Seat};
-use hall_turns::Event;
+use hall_slots::Event;
+use hall_threads::{EventRefused, Hall, Seat};
 use node_table::Code;
-use run_end::RunEnd;
+use play_rules::RunEnd;
 use std::fmt::{Debug, Write};
 use std::process::Abort;
 

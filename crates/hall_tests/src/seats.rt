@@ -2,11 +2,11 @@
 
 ghost use Rattle.std.specs.Prelude.{◌+◌, ◌<◌, All, IfErr, IfSome, length, vec_len};
 ghost use Rattle.turn_table.specs.Tables.{slot_count};
-ghost use Rattle.hall_runs.specs.Passed.Seated.{IsIn, IsProgramOf};
+ghost use Rattle.hall_threads.specs.Passed.Seated.{IsIn, IsProgramOf};
 
 use deque_list::DequeId;
-use hall_runs::{EventRefused, Hall, LeaveRefused, Seat};
-use hall_turns::Event;
+use hall_slots::Event;
+use hall_threads::{EventRefused, Hall, LeaveRefused, Seat};
 use node_table::Code;
 use std::process::Abort;
 

@@ -1,14 +1,14 @@
 //! Bounded numbers of tries.
 
-ghost use Rattle.hall_runs.specs.Passed.Seated.{IsIn, IsProgramOf};
-ghost use Rattle.hall_runs.specs.Working.{MayWork};
+ghost use Rattle.hall_threads.specs.Passed.Seated.{IsIn, IsProgramOf};
+ghost use Rattle.hall_threads.specs.Working.{MayWork};
 
 use crate::halls::{Bounds, ample, core_of, entered, hall_of, worker_of};
-use core_parts::ListChoices;
 use dag_order::Finish;
 use frame_code::Code;
-use hall_runs::{EventRefused, Hall, HallWorker, Seat, WorkSome, work_some};
-use run_end::{RunEnd, Stop};
+use hall_threads::{EventRefused, Hall, HallWorker, Seat, WorkSome, work_some};
+use play_rules::{RunEnd, Stop};
+use scheduler_state::ListChoices;
 use std::alloc::Global;
 use std::process::Abort;
 use work_loop::FreeGate;

@@ -2,7 +2,7 @@
 use Rattle.std.specs.Prelude.{◌≡◌, ℕ, zero, suc, ◌||◌, nat_lt, nat_le, Bool, true, false, List, [], ◌∷◌, ◌++◌, length, ℤ, Result, Ok, Err, Option, Some, None, is_some, refl}
 use Rattle.std.proofs.Common.{sym, ◌∙◌, ap, append_assoc, append-nil}
 use Rattle.dag_order.specs.declared.fault.FaultKind.{FaultKind}
-use Rattle.dummy_tree.specs.Shapes.{Shape, leaf, forked}
+use Rattle.depth_first_list.specs.Shapes.{Shape, leaf, forked}
 use Rattle.depth_first_list.specs.Actions.{Deed, record_words}
 use Rattle.depth_first_list.specs.Actions as actions
 use Rattle.depth_first_list.specs.Runs.{tree_for}

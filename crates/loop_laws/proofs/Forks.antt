@@ -2,7 +2,7 @@
 use Rattle.std.specs.Prelude.{◌≡◌, ℕ, suc, ◌+◌, Bool, true, false, List, [], ◌∷◌, ◌++◌, ℤ, pos, neg_ℤ, ◌+ℤ◌, ◌≤ℤ◌, refl}
 use Rattle.std.proofs.Common.{sym, ◌∙◌, ap, arith, subst, append_assoc}
 use Rattle.std.proofs.lemmas.Int.{ints}
-use Rattle.dummy_tree.specs.Shapes.{Shape, leaf, forked}
+use Rattle.depth_first_list.specs.Shapes.{Shape, leaf, forked}
 use Rattle.depth_first_list.specs.Actions as actions
 use Rattle.depth_first_list.specs.Actions.{record_words}
 use Rattle.par_tree.specs.Tree.{Name}

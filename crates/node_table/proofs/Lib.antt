@@ -2,4 +2,3 @@ pub mod Lists
 pub mod Showing
 pub mod Distinct
 pub mod Finding
-pub mod Passed

@@ -5,4 +5,3 @@ pub mod Reading
 pub mod Programs
 pub mod Codes
 pub mod Laws
-pub mod Passed

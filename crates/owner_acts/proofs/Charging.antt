@@ -7,10 +7,10 @@ use Rattle.depth_first_list.specs.Actions.{Deed, allocates, record_words}
 use Rattle.depth_first_list.specs.Facts.{words_at}
 use Rattle.depth_first_run.specs.Run.{list_of}
 use Rattle.depth_first_run.specs.States.{Setting}
-use Rattle.lawful_books.specs.Books.{charge}
-use Rattle.moment_parts.specs.Events.{MayDo}
-use Rattle.period_books.specs.Periods.{open_shown}
-use Rattle.quota_period.specs.declared.period.Period.{Period as OpenPeriod}
+use Rattle.hall_slots.specs.Passed.Books.{charge}
+use Rattle.thread_frames.specs.Passed.Events.{MayDo}
+use Rattle.hall_slots.specs.Passed.Periods.{open_shown}
+use Rattle.hall_slots.specs.Passed.Period.{Period as OpenPeriod}
 use Rattle.hall_deciding.specs.Passed.Acts.{AllocIsCharged, IsCharged}
 use Rattle.hall_deciding.specs.Passed.Readiness.{IsReadiness}
 use Rattle.hall_deciding.specs.Passed.ReadinessVariants.{Ready, Spent}
@@ -18,9 +18,9 @@ use Rattle.thread_frames.specs.Actions.{IsOfTheList, deed_of}
 use Rattle.thread_frames.specs.declared.next.Next.{Next}
 use Rattle.thread_frames.specs.declared.next.Next.TheVariants.{Fork, Join, Alloc, Release, Dummy, Fault, End}
 use Rattle.thread_frames.specs.declared.thread.Thread.{Thread}
-use Rattle.thread_state.specs.Settings.{IsSettingOf}
-use Rattle.hall_turns.specs.declared.key.HallKey.{HallKey}
-use Rattle.hall_turns.specs.Keys.{table_of, quota_of}
+use Rattle.hall_deciding.specs.Passed.Settings.{IsSettingOf}
+use Rattle.hall_slots.specs.declared.key.HallKey.{HallKey}
+use Rattle.hall_slots.specs.Keys.{table_of, quota_of}
 use Rattle.owner_acts.specs.Quotas.{ReadyMayBeDone, SpentIsTooMuch}
 
 -- words of which no more than the quota may be asked for are charged; more are not

@@ -13,11 +13,11 @@ use Rattle.thread_frames.specs.declared.next.Next.TheVariants as nexts
 use Rattle.thread_frames.specs.declared.thread.Thread.{Thread}
 use Rattle.thread_frames.proofs.Listing.{of_list}
 use Rattle.thread_map.specs.Kept.{Kept}
-use Rattle.hall_deciding.specs.Passed.Results.{HasCome}
+use Rattle.hall_deciding.specs.Passed.ThreadActionsResults.{HasCome}
 use Rattle.hall_deciding.specs.EventParts.{IsNext}
-use Rattle.hall_turns.specs.declared.list_slot.ListSlot.{ListSlot}
-use Rattle.hall_turns.specs.declared.key.HallKey.{HallKey}
-use Rattle.hall_turns.specs.Keys.{table_of, quota_of}
+use Rattle.hall_slots.specs.declared.list_slot.ListSlot.{ListSlot}
+use Rattle.hall_slots.specs.declared.key.HallKey.{HallKey}
+use Rattle.hall_slots.specs.Keys.{table_of, quota_of}
 use Rattle.owner_acts.specs.Kept.{CanJoinKept}
 
 -- if the newest child alone has the id, it has the result once that is delivered

@@ -4,22 +4,22 @@ use Rattle.std.specs.Prelude.{pos}
 use Rattle.language_limits.specs.declared.TheConstants.{GREATEST_COUNT}
 use Rattle.block_arena.specs.Region.{Region, with_taken, with_given}
 use Rattle.deque_list.specs.Lanes.{LaneView}
-use Rattle.lawful_books.specs.Lists.{Each}
+use Rattle.hall_slots.specs.Passed.Lists.{Each}
 use Rattle.space_ledger.specs.MovesList.{moves_list}
 use Rattle.space_ledger.specs.Sums.{total_change}
 use Rattle.thread_frames.specs.Points.{IsAtPoint, IsPlaced}
 use Rattle.thread_frames.specs.Views.{done_of}
 use Rattle.thread_frames.specs.declared.thread.Thread.{Thread}
-use Rattle.hall_turns.specs.declared.lane_slot.LaneSlot.{LaneSlot}
-use Rattle.hall_turns.specs.declared.lane_slot.Running.{Running}
+use Rattle.hall_slots.specs.declared.lane_slot.LaneSlot.{LaneSlot}
+use Rattle.hall_slots.specs.declared.lane_slot.Running.{Running}
 use Rattle.hall_deciding.specs.Passed.Here.{GoesOnTop}
 use Rattle.hall_deciding.specs.Passed.Forks.{GoBothOnTop}
-use Rattle.hall_turns.specs.declared.pool_slot.PoolSlot.{PoolSlot}
-use Rattle.hall_turns.specs.declared.slot.Slot.{Slot}
-use Rattle.hall_turns.specs.declared.key.HallKey.{HallKey}
-use Rattle.hall_turns.specs.Keys.{table_of, quota_of}
-use Rattle.hall_turns.specs.Sound.{PoolIsSound}
-use Rattle.hall_turns.specs.Takes.{HallSeat}
+use Rattle.hall_slots.specs.declared.pool_slot.PoolSlot.{PoolSlot}
+use Rattle.hall_slots.specs.declared.slot.Slot.{Slot}
+use Rattle.hall_slots.specs.declared.key.HallKey.{HallKey}
+use Rattle.hall_slots.specs.Keys.{table_of, quota_of}
+use Rattle.hall_slots.specs.Sound.{PoolIsSound}
+use Rattle.hall_slots.specs.Takes.{HallSeat}
 use Rattle.hall_deciding.specs.Taken.{IsAtEvent}
 use Rattle.owner_acts.specs.Ready.{IsReady}
 

@@ -7,16 +7,16 @@ use Rattle.dag_order.specs.declared.action_id.ActionId.{ActionId}
 use Rattle.deque_list.specs.declared.deque_id.DequeId.{DequeId}
 use Rattle.deque_list.specs.Orders.{OrderView}
 use Rattle.hall_deciding.specs.Passed.Here.{TakesWords}
-use Rattle.hall_deciding.specs.Passed.Parts.{Has}
+use Rattle.hall_slots.specs.Passed.Parts.{Has}
 use Rattle.hall_deciding.specs.Passed.ListCalls.{SuspendsThere, LeavesThere, KeepsCrew}
-use Rattle.hall_turns.specs.Passed.Values.{Hall, ListShown}
-use Rattle.hall_turns.specs.Passed.Writing.{IsAtWork}
-use Rattle.hall_turns.specs.Lists.{ShowsUnowned, HasNoOwner, IsGone, KeepsRest}
-use Rattle.hall_turns.specs.Shown.{list_shown, pool_shown}
-use Rattle.hall_turns.specs.declared.lane_slot.Running.{Running}
-use Rattle.hall_turns.specs.declared.list_slot.ListSlot.{ListSlot}
-use Rattle.hall_turns.specs.declared.pool_slot.PoolSlot.{PoolSlot}
-use Rattle.hall_turns.specs.Passed.Values.{PoolShown}
+use Rattle.hall_slots.specs.Passed.Values.{Hall, ListShown}
+use Rattle.hall_slots.specs.Passed.Writing.{IsAtWork}
+use Rattle.hall_slots.specs.ListCalls.{ShowsUnowned, HasNoOwner, IsGone, KeepsRest}
+use Rattle.hall_slots.specs.Shown.{list_shown, pool_shown}
+use Rattle.hall_slots.specs.declared.lane_slot.Running.{Running}
+use Rattle.hall_slots.specs.declared.list_slot.ListSlot.{ListSlot}
+use Rattle.hall_slots.specs.declared.pool_slot.PoolSlot.{PoolSlot}
+use Rattle.hall_slots.specs.Passed.Values.{PoolShown}
 use Rattle.thread_frames.specs.Kept.{waiting_shown, result_kept}
 use Rattle.thread_frames.specs.Shown.{result_shown}
 use Rattle.thread_frames.specs.declared.ended.Ended.{Ended}

@@ -3,4 +3,4 @@ pub mod Pauses
 pub mod Ends
 pub mod Kept
 pub mod Quotas
-pub mod Decided
+pub mod Passed

@@ -2,7 +2,7 @@
 use Rattle.std.specs.Prelude.{◌≡◌, ℕ, ◌+◌, ◌≤◌}
 use Rattle.depth_first_list.specs.Actions.{record_words}
 use Rattle.language_limits.specs.declared.TheConstants.{GREATEST_QUOTA}
-use Rattle.quota_period.specs.declared.period.Period.{Period as OpenPeriod}
+use Rattle.hall_slots.specs.Passed.Period.{Period as OpenPeriod}
 use Rattle.hall_deciding.specs.Passed.Readiness.{IsReadiness}
 use Rattle.hall_deciding.specs.Passed.ReadinessVariants.{Ready, Spent}
 use Rattle.thread_frames.specs.declared.next.Next.{Next}
@@ -10,8 +10,8 @@ use Rattle.thread_frames.specs.declared.next.Next.TheVariants as nexts
 use Rattle.thread_frames.specs.declared.thread.Thread.{Thread}
 use Rattle.hall_deciding.specs.EventParts.{IsNext, MayDoNext}
 use Rattle.hall_deciding.specs.ListRuns.{IsTooMuch}
-use Rattle.hall_turns.specs.declared.key.HallKey.{HallKey}
-use Rattle.hall_turns.specs.Keys.{quota_of}
+use Rattle.hall_slots.specs.declared.key.HallKey.{HallKey}
+use Rattle.hall_slots.specs.Keys.{quota_of}
 
 -- The period may do the action, which uses so many words of the quota, a Fork those of a record block. What it has used then can be counted.
 pub record MayUse (key : HallKey) (worker : ℕ) (next : Next) (charge : ℕ) (top : Thread) (period : OpenPeriod) : Type 0 where

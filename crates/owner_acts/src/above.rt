@@ -1,25 +1,25 @@
 //! The End of a thread above its parent.
 
 ghost use Rattle.std.specs.Prelude.{◌≡◌, ◌≤◌, ◌+◌, ◌<◌, ◌∷◌, [], Some, List as AnyList, length};
-ghost use Rattle.bounded_list.specs.BoundedList.{entries, spare};
-ghost use Rattle.hall_deciding.specs.Passed.Results.{FirstAwaits};
+ghost use Rattle.containers.specs.BoundedList.{entries, spare};
+ghost use Rattle.hall_deciding.specs.Passed.ThreadActionsResults.{FirstAwaits};
 ghost use Rattle.thread_frames.specs.Actions.{IsEnd};
 ghost use Rattle.thread_frames.specs.Views.{next_of, label_of};
 ghost use Rattle.thread_frames.specs.declared.next.Next.TheVariants as nexts;
 ghost use Rattle.thread_frames.specs.declared.thread.Thread.{Thread as AnyThread};
-ghost use Rattle.thread_points.specs.Points.{words_at_end};
+ghost use Rattle.hall_deciding.specs.Passed.Points.{words_at_end};
 ghost use Rattle.turn_table.specs.Tables.{key_of, slot_count, IsSeatOf};
-ghost use Rattle.hall_turns.specs.declared.event.Event.TheVariants.{Did};
+ghost use Rattle.hall_slots.specs.declared.event.Event.TheVariants.{Did};
 ghost use Rattle.hall_deciding.specs.Writes.{told_note};
 ghost use Rattle.hall_deciding.specs.Puts.{HasPut};
 ghost use Rattle.hall_deciding.specs.EventParts.{MayAct, IsNext};
 ghost use Rattle.owner_acts.specs.Ready.{IsReadyWithPool, PoolIsReady};
 
-use boxed::Boxed;
+use containers::Boxed;
 use dag_order::{ActionId, Births};
 use deque_list::{DequeId, Lane};
 use hall_deciding::{decide_end_above, end_above};
-use hall_turns::{HallPlace, HallRow, LaneSlot, PoolSlot, Running};
+use hall_slots::{HallPlace, HallRow, LaneSlot, PoolSlot, Running};
 use thread_frames::Thread;
 
 /// Does the End of a forked thread whose parent is directly below: this has the result at once, and runs next. Returns its name, and the

@@ -1,14 +1,14 @@
 //! Deques that are given up.
 
 ghost use Rattle.std.specs.Prelude.{◌≡◌, ◌+◌, ◌<◌, [], None};
-ghost use Rattle.bounded_list.specs.BoundedList.{entries, spare};
+ghost use Rattle.containers.specs.BoundedList.{entries, spare};
 ghost use Rattle.thread_frames.specs.Actions.{IsDummy};
 ghost use Rattle.thread_frames.specs.Views.{next_of};
 ghost use Rattle.thread_frames.specs.declared.next.Next.{Next as AnyNext};
 ghost use Rattle.thread_frames.specs.declared.next.Next.TheVariants as nexts;
 ghost use Rattle.turn_table.specs.Tables.{key_of, slot_count, IsSeatOf};
-ghost use Rattle.hall_turns.specs.declared.event.Event.TheVariants.{Did, GaveUp};
-ghost use Rattle.hall_turns.specs.Lists.{ShowsUnowned, HasNoOwner, KeepsRest};
+ghost use Rattle.hall_slots.specs.declared.event.Event.TheVariants.{Did, GaveUp};
+ghost use Rattle.hall_slots.specs.ListCalls.{ShowsUnowned, HasNoOwner, KeepsRest};
 ghost use Rattle.hall_deciding.specs.Writes.{told_note};
 ghost use Rattle.hall_deciding.specs.Puts.{HasPut};
 ghost use Rattle.hall_deciding.specs.EventParts.{MayAct, MayPause, IsNext};
@@ -17,11 +17,11 @@ ghost use Rattle.owner_acts.specs.Ready.{IsReadyWithList};
 ghost use Rattle.hall_deciding.specs.Rooms.{HasMoreBooks};
 ghost use Rattle.owner_acts.specs.Pauses.{CanClose};
 
-use boxed::Boxed;
+use containers::Boxed;
 use dag_order::{ActionId, Births};
 use deque_list::{DequeId, Lane};
 use hall_deciding::{decide_dummy, decide_give_up, do_dummy};
-use hall_turns::{HallPlace, HallRow, LaneSlot, ListSlot, Running};
+use hall_slots::{HallPlace, HallRow, LaneSlot, ListSlot, Running};
 use thread_frames::Thread;
 
 /// Takes the owner of a deque away, and closes its period.

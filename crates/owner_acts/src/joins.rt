@@ -1,24 +1,24 @@
 //! The Join of a child whose result was handed over.
 
 ghost use Rattle.std.specs.Prelude.{◌≡◌, ◌≤◌, ◌+◌, ◌<◌, [], Some, IsTrue};
-ghost use Rattle.bounded_list.specs.BoundedList.{entries, spare};
+ghost use Rattle.containers.specs.BoundedList.{entries, spare};
 ghost use Rattle.dag_order.specs.declared.thread_id.ThreadId.{ThreadId};
 ghost use Rattle.thread_frames.specs.Actions.{IsJoin, is_there};
 ghost use Rattle.thread_frames.specs.Views.{next_of, children_of, newest, join_words_of};
 ghost use Rattle.thread_frames.specs.declared.next.Next.TheVariants as nexts;
 ghost use Rattle.turn_table.specs.Tables.{key_of, slot_count, IsSeatOf};
-ghost use Rattle.hall_turns.specs.declared.event.Event.TheVariants.{Did};
+ghost use Rattle.hall_slots.specs.declared.event.Event.TheVariants.{Did};
 ghost use Rattle.hall_deciding.specs.Writes.{told_note};
 ghost use Rattle.hall_deciding.specs.Puts.{HasPut};
 ghost use Rattle.hall_deciding.specs.EventParts.{MayAct, IsNext};
 ghost use Rattle.hall_deciding.specs.Taken.{its_lane};
 ghost use Rattle.owner_acts.specs.Ready.{IsReady, IsReadyWithPool, PoolIsReady};
 
-use boxed::Boxed;
+use containers::Boxed;
 use dag_order::{ActionId, Births};
 use deque_list::{DequeId, Lane};
 use hall_deciding::{decide_join_giving, decide_own_join, do_join, do_join_giving};
-use hall_turns::{HallPlace, HallRow, LaneSlot, PoolSlot, Running};
+use hall_slots::{HallPlace, HallRow, LaneSlot, PoolSlot, Running};
 use thread_frames::Thread;
 
 /// Does a Join that releases no words, for which the seat holds its lane alone. Returns its name.

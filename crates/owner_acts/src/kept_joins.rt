@@ -1,19 +1,19 @@
 //! The Join of a child whose result is in the list.
 
 ghost use Rattle.std.specs.Prelude.{◌≡◌, ◌≤◌, ◌+◌, ◌<◌, [], Some, true};
-ghost use Rattle.bounded_list.specs.BoundedList.{entries, spare};
+ghost use Rattle.containers.specs.BoundedList.{entries, spare};
 ghost use Rattle.thread_frames.specs.Actions.{is_there};
 ghost use Rattle.thread_frames.specs.Views.{children_of, join_words_of, newest, next_of};
 ghost use Rattle.thread_frames.specs.declared.ended.Ended.{Ended as AnyEnded};
 ghost use Rattle.thread_frames.specs.declared.next.Next.TheVariants as nexts;
 ghost use Rattle.thread_map.specs.Kept.{kept_under};
-ghost use Rattle.thread_state.specs.Joins.{released};
+ghost use Rattle.hall_deciding.specs.Passed.Joins.{released};
 ghost use Rattle.turn_table.specs.Tables.{key_of, slot_count, IsSeatOf};
-ghost use Rattle.hall_turns.specs.declared.event.Event.TheVariants.{Did};
-ghost use Rattle.hall_turns.specs.declared.key.HallKey.{HallKey};
-ghost use Rattle.hall_turns.specs.Keys.{table_of, quota_of};
+ghost use Rattle.hall_slots.specs.declared.event.Event.TheVariants.{Did};
+ghost use Rattle.hall_slots.specs.declared.key.HallKey.{HallKey};
+ghost use Rattle.hall_slots.specs.Keys.{table_of, quota_of};
 ghost use Rattle.hall_deciding.specs.Passed.ListCalls.{IsHandedThere, KeepsCrew};
-ghost use Rattle.hall_deciding.specs.Passed.Results.{HasCome};
+ghost use Rattle.hall_deciding.specs.Passed.ThreadActionsResults.{HasCome};
 ghost use Rattle.hall_deciding.specs.Writes.{told_note};
 ghost use Rattle.hall_deciding.specs.Puts.{HasPut};
 ghost use Rattle.hall_deciding.specs.EventParts.{MayAct};
@@ -21,13 +21,13 @@ ghost use Rattle.hall_deciding.specs.Taken.{list_and_lane};
 ghost use Rattle.owner_acts.specs.Ready.{IsReady, IsReadyWithBoth, PoolIsReady};
 ghost use Rattle.owner_acts.specs.Kept.{CanJoinKept};
 
-use boxed::Boxed;
+use containers::Boxed;
 use dag_order::{ActionId, Births, ThreadId};
 use deque_list::{DequeId, Lane};
 use hall_deciding::{
     decide_kept_join, decide_kept_join_giving, do_join, do_join_giving, hand_over,
 };
-use hall_turns::{HallPlace, HallRow, LaneSlot, ListSlot, PoolSlot, Running};
+use hall_slots::{HallPlace, HallRow, LaneSlot, ListSlot, PoolSlot, Running};
 use thread_frames::Thread;
 
 /// Hands the result of a child over to the thread that joins it, and takes it out of the list.

@@ -2,16 +2,16 @@
 
 ghost use Rattle.std.specs.Prelude.{◌≡◌, ◌≤◌, ◌+◌, ◌<◌, ◌∷◌, [], None, Some, length};
 ghost use Rattle.std.specs.List.Sorted.{IsPermutation};
-ghost use Rattle.bounded_list.specs.BoundedList.{entries, spare};
+ghost use Rattle.containers.specs.BoundedList.{entries, spare};
 ghost use Rattle.thread_frames.specs.Actions.{IsEnd};
 ghost use Rattle.thread_frames.specs.Views.{next_of, label_of};
 ghost use Rattle.thread_frames.specs.declared.next.Next.TheVariants as nexts;
 ghost use Rattle.thread_frames.specs.declared.thread.Thread.{Thread as AnyThread};
 ghost use Rattle.thread_map.specs.Kept.{kept_under};
-ghost use Rattle.thread_points.specs.Points.{words_at_end};
+ghost use Rattle.hall_deciding.specs.Passed.Points.{words_at_end};
 ghost use Rattle.turn_table.specs.Tables.{key_of, slot_count, IsSeatOf};
-ghost use Rattle.hall_turns.specs.declared.event.Event.TheVariants.{Did};
-ghost use Rattle.hall_turns.specs.Lists.{IsGone};
+ghost use Rattle.hall_slots.specs.declared.event.Event.TheVariants.{Did};
+ghost use Rattle.hall_slots.specs.ListCalls.{IsGone};
 ghost use Rattle.hall_deciding.specs.Passed.ListCalls.{LeavesThere, KeepsCrew};
 ghost use Rattle.hall_deciding.specs.Writes.{told_note};
 ghost use Rattle.hall_deciding.specs.Puts.{HasPut};
@@ -22,11 +22,11 @@ ghost use Rattle.owner_acts.specs.Pauses.{CanClose};
 ghost use Rattle.owner_acts.specs.Ends.{CanLeave};
 
 use crate::id_of;
-use boxed::Boxed;
+use containers::Boxed;
 use dag_order::{ActionId, Births, ThreadId};
 use deque_list::{DequeId, Lane};
 use hall_deciding::{decide_leaving_end, end_forked, leave_result};
-use hall_turns::{HallPlace, HallRow, LaneSlot, ListSlot, PoolSlot, Running};
+use hall_slots::{HallPlace, HallRow, LaneSlot, ListSlot, PoolSlot, Running};
 use thread_frames::{Ended, Thread};
 
 /// Keeps the result of a thread in the list, and closes the period of its deque, which is gone.

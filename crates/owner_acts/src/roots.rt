@@ -1,16 +1,16 @@
 //! The End of the root.
 
 ghost use Rattle.std.specs.Prelude.{◌≡◌, ◌+◌, ◌<◌, [], None, Some};
-ghost use Rattle.bounded_list.specs.BoundedList.{entries, spare};
+ghost use Rattle.containers.specs.BoundedList.{entries, spare};
 ghost use Rattle.dag_order.specs.Births.{root};
-ghost use Rattle.run_end.specs.declared.ends.RunEnd.TheVariants.{Finished};
+ghost use Rattle.hall_deciding.specs.Passed.RunEndVariants.{Finished};
 ghost use Rattle.thread_frames.specs.Actions.{IsEnd};
 ghost use Rattle.thread_frames.specs.Roots.{end_of_root};
 ghost use Rattle.thread_frames.specs.Views.{next_of, label_of};
 ghost use Rattle.thread_frames.specs.declared.next.Next.TheVariants as nexts;
 ghost use Rattle.thread_frames.specs.declared.thread.Thread.{Thread as AnyThread};
 ghost use Rattle.turn_table.specs.Tables.{key_of, slot_count, IsSeatOf};
-ghost use Rattle.hall_turns.specs.declared.event.Event.TheVariants.{Did};
+ghost use Rattle.hall_slots.specs.declared.event.Event.TheVariants.{Did};
 ghost use Rattle.hall_deciding.specs.Writes.{told_note};
 ghost use Rattle.hall_deciding.specs.Puts.{HasPut};
 ghost use Rattle.hall_deciding.specs.EventParts.{MayAct, IsNext};
@@ -21,11 +21,11 @@ ghost use Rattle.owner_acts.specs.Ends.{CanLeave};
 
 use crate::id_of;
 use crate::leaving::leave_in;
-use boxed::Boxed;
+use containers::Boxed;
 use dag_order::{ActionId, Births, Finish};
 use deque_list::{DequeId, Lane};
 use hall_deciding::{decide_root_end, end_root};
-use hall_turns::{HallPlace, HallRow, LaneSlot, ListSlot, Running};
+use hall_slots::{HallPlace, HallRow, LaneSlot, ListSlot, Running};
 use thread_frames::{Ended, Thread};
 
 /// Returns how a run finishes with this result of its root.

@@ -4,10 +4,10 @@ ghost use Rattle.std.specs.Prelude.{◌≡◌, ◌≤◌, ◌+◌, ◌<◌, ◌�
 ghost use Rattle.std.specs.List.Sorted.{IsPermutation};
 ghost use Rattle.thread_map.specs.Kept.{kept_under};
 ghost use Rattle.hall_deciding.specs.Passed.ListCalls.{SuspendsThere, KeepsCrew};
-ghost use Rattle.hall_turns.specs.Lists.{IsGone};
+ghost use Rattle.hall_slots.specs.ListCalls.{IsGone};
 ghost use Rattle.thread_frames.specs.declared.thread.Thread.{Thread as AnyThread};
 ghost use Rattle.turn_table.specs.Tables.{key_of, slot_count, IsSeatOf};
-ghost use Rattle.hall_turns.specs.declared.event.Event.TheVariants.{Suspended};
+ghost use Rattle.hall_slots.specs.declared.event.Event.TheVariants.{Suspended};
 ghost use Rattle.hall_deciding.specs.Writes.{told_note};
 ghost use Rattle.hall_deciding.specs.Puts.{HasPut};
 ghost use Rattle.hall_deciding.specs.EventParts.{MayPause};
@@ -15,11 +15,11 @@ ghost use Rattle.owner_acts.specs.Ready.{IsReadyWithList};
 ghost use Rattle.hall_deciding.specs.Rooms.{HasMoreToWait};
 ghost use Rattle.owner_acts.specs.Pauses.{CanClose, CanWait};
 
-use boxed::Boxed;
+use containers::Boxed;
 use dag_order::ThreadId;
 use deque_list::{DequeId, Lane};
 use hall_deciding::{decide_wait, suspend};
-use hall_turns::{HallPlace, HallRow, LaneSlot, ListSlot, Running};
+use hall_slots::{HallPlace, HallRow, LaneSlot, ListSlot, Running};
 use thread_frames::Thread;
 
 /// Returns the id of a thread.

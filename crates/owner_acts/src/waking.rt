@@ -1,15 +1,15 @@
 //! The End of a thread for which its parent waits.
 
 ghost use Rattle.std.specs.Prelude.{◌≡◌, ◌≤◌, ◌+◌, ◌<◌, ◌∷◌, [], Some, length};
-ghost use Rattle.bounded_list.specs.BoundedList.{entries, spare};
+ghost use Rattle.containers.specs.BoundedList.{entries, spare};
 ghost use Rattle.thread_frames.specs.Actions.{IsEnd};
 ghost use Rattle.thread_frames.specs.Views.{next_of, label_of};
 ghost use Rattle.thread_frames.specs.declared.next.Next.TheVariants as nexts;
 ghost use Rattle.thread_frames.specs.declared.thread.Thread.{Thread as AnyThread};
 ghost use Rattle.thread_map.specs.Kept.{kept_under};
-ghost use Rattle.thread_points.specs.Points.{words_at_end};
+ghost use Rattle.hall_deciding.specs.Passed.Points.{words_at_end};
 ghost use Rattle.turn_table.specs.Tables.{key_of, slot_count, IsSeatOf};
-ghost use Rattle.hall_turns.specs.declared.event.Event.TheVariants.{Did};
+ghost use Rattle.hall_slots.specs.declared.event.Event.TheVariants.{Did};
 ghost use Rattle.hall_deciding.specs.Passed.ListCalls.{TakesWaiting, KeepsCrew};
 ghost use Rattle.hall_deciding.specs.Writes.{told_note};
 ghost use Rattle.hall_deciding.specs.Puts.{HasPut};
@@ -18,11 +18,11 @@ ghost use Rattle.owner_acts.specs.Ready.{IsReadyWithBoth, PoolIsReady};
 ghost use Rattle.owner_acts.specs.Ends.{CanWake};
 
 use crate::id_of;
-use boxed::Boxed;
+use containers::Boxed;
 use dag_order::{ActionId, Births, ThreadId};
 use deque_list::{DequeId, Lane};
 use hall_deciding::{decide_waking_end, end_above, take_waiting};
-use hall_turns::{HallPlace, HallRow, LaneSlot, ListSlot, PoolSlot, Running};
+use hall_slots::{HallPlace, HallRow, LaneSlot, ListSlot, PoolSlot, Running};
 use thread_frames::Thread;
 
 /// Puts the thread that waits for a child on top of a lane.

@@ -1,7 +1,7 @@
 //! Actions with blocks.
 
 ghost use Rattle.std.specs.Prelude.{◌≡◌, ◌≤◌, ◌+◌, ◌<◌, [], Some};
-ghost use Rattle.bounded_list.specs.BoundedList.{entries, spare};
+ghost use Rattle.containers.specs.BoundedList.{entries, spare};
 ghost use Rattle.dag_order.specs.declared.fault.FaultAt.{FaultAt};
 ghost use Rattle.depth_first_list.specs.Actions.{record_words};
 ghost use Rattle.language_limits.specs.declared.TheConstants.{GREATEST_QUOTA};
@@ -9,17 +9,17 @@ ghost use Rattle.thread_frames.specs.Actions.{IsAlloc, IsRelease, IsFault, IsFor
 ghost use Rattle.thread_frames.specs.Views.{next_of, words_asked, held_by};
 ghost use Rattle.thread_frames.specs.declared.next.Next.TheVariants as nexts;
 ghost use Rattle.turn_table.specs.Tables.{key_of, slot_count, IsSeatOf};
-ghost use Rattle.hall_turns.specs.declared.event.Event.TheVariants.{Did};
+ghost use Rattle.hall_slots.specs.declared.event.Event.TheVariants.{Did};
 ghost use Rattle.hall_deciding.specs.Writes.{told_note};
 ghost use Rattle.hall_deciding.specs.Puts.{HasPut};
 ghost use Rattle.hall_deciding.specs.EventParts.{MayAct, MayDoNext};
 ghost use Rattle.owner_acts.specs.Ready.{IsReadyWithPool, PoolIsReady};
 
-use boxed::Boxed;
+use containers::Boxed;
 use dag_order::{ActionId, Births};
 use deque_list::{DequeId, Lane};
 use hall_deciding::{decide_action, do_alloc, do_fault, do_fork, do_release};
-use hall_turns::{HallPlace, HallRow, LaneSlot, PoolSlot, Running};
+use hall_slots::{HallPlace, HallRow, LaneSlot, PoolSlot, Running};
 use thread_frames::{Place, Thread};
 
 /// Does an Alloc that fits the arena, and uses `charge` words of the quota. Returns its name.

@@ -13,19 +13,19 @@ use Rattle.turn_table.proofs.Standing.{shown_as}
 use Rattle.turn_table.specs.Backs.{unchanged}
 use Rattle.turn_table.proofs.Resting.{put_rests}
 use Rattle.hall_deciding.specs.Puts.{HasPut}
-use Rattle.hall_seats.specs.Lists.{answered_note, HoldsTheEnd}
-use Rattle.hall_seats.proofs.Ends.{parts_sound}
-use Rattle.hall_seats.proofs.Listed.{answered_may}
-use Rattle.hall_turns.specs.Law.{HallHolds, places_of, joined_note}
-use Rattle.hall_turns.specs.Takes.{HallSeat}
-use Rattle.hall_turns.specs.declared.key.HallKey.{HallKey}
-use Rattle.hall_turns.specs.declared.lane_slot.LaneSlot.{LaneSlot}
-use Rattle.hall_turns.specs.declared.list_slot.ListSlot.{ListSlot}
-use Rattle.hall_turns.specs.declared.seat_note.SeatNote.{SeatNote}
-use Rattle.hall_turns.specs.declared.slot.Slot.{Slot}
-use Rattle.hall_turns.specs.declared.slot.Slot.TheVariants as slots
-use Rattle.hall_turns.proofs.Keeping.{Whole}
-use Rattle.hall_turns.proofs.Putting.{list_may}
+use Rattle.hall_slots.specs.Lists.{answered_note, HoldsTheEnd}
+use Rattle.hall_slots.proofs.Ends.{parts_sound}
+use Rattle.hall_slots.proofs.Listed.{answered_may}
+use Rattle.hall_slots.specs.Law.{HallHolds, places_of, joined_note}
+use Rattle.hall_slots.specs.Takes.{HallSeat}
+use Rattle.hall_slots.specs.declared.key.HallKey.{HallKey}
+use Rattle.hall_slots.specs.declared.lane_slot.LaneSlot.{LaneSlot}
+use Rattle.hall_slots.specs.declared.list_slot.ListSlot.{ListSlot}
+use Rattle.hall_slots.specs.declared.seat_note.SeatNote.{SeatNote}
+use Rattle.hall_slots.specs.declared.slot.Slot.{Slot}
+use Rattle.hall_slots.specs.declared.slot.Slot.TheVariants as slots
+use Rattle.hall_slots.proofs.Keeping.{Whole}
+use Rattle.hall_slots.proofs.Putting.{list_may}
 use Rattle.hall_deciding.specs.Own.{IsStillThere}
 use Rattle.owner_advance.specs.Answers.{GivesAnswered, HoldsAnEnd, ReturnsEnded}
 

@@ -5,21 +5,21 @@ use Rattle.dag_order.specs.Births.{root}
 use Rattle.dag_order.specs.declared.thread_id.ThreadId.{ThreadId}
 use Rattle.dag_order.specs.LabelOrder.{fork_of}
 use Rattle.depth_first_list.specs.Runs.{IsDepthFirst}
-use Rattle.lawful_books.specs.Lists.{Among}
-use Rattle.lawful_books.proofs.Lists.{each_among}
-use Rattle.deque_machine.specs.Moments as machine
-use Rattle.deque_machine.specs.Moments.{Moment, done_at}
-use Rattle.deque_machine.specs.Machine.{Setting}
-use Rattle.deque_machine.specs.LawfulOrder.{IsLawful, Stacked}
-use Rattle.deque_machine.proofs.Labels.{fork_is_not_root}
-use Rattle.period_books.specs.Periods.{Period}
-use Rattle.period_books.specs.Names.{HasLabel, of_root, of_fork}
-use Rattle.period_books.proofs.Labels.{one_label}
-use Rattle.moment_parts.specs.Parts.{Child, Thread, Result, Parts, IsIn, label_of}
-use Rattle.moment_parts.specs.Standing.{ChildStands, EndedIn, Shows}
-use Rattle.moment_parts.specs.Events.{Works}
-use Rattle.moment_parts.proofs.Placing.{top_is_in, top_stands}
-use Rattle.hall_law.specs.Passed.Results.{IsChildOf}
+use Rattle.hall_slots.specs.Passed.Lists.{Among}
+use Rattle.hall_slots.proofs.Passed.DequeMachineLists.{each_among}
+use Rattle.hall_slots.specs.Passed.Moments as machine
+use Rattle.hall_slots.specs.Passed.Moments.{Moment, done_at}
+use Rattle.hall_slots.specs.Passed.Machine.{Setting}
+use Rattle.hall_slots.specs.Passed.LawfulOrder.{IsLawful, Stacked}
+use Rattle.hall_slots.proofs.Passed.DequeMachineLabels.{fork_is_not_root}
+use Rattle.open_periods.specs.Periods.{Period}
+use Rattle.open_periods.specs.Names.{HasLabel, of_root, of_fork}
+use Rattle.open_periods.proofs.Labels.{one_label}
+use Rattle.moment_shown.specs.Parts.{Child, Thread, Result, Parts, IsIn, label_of}
+use Rattle.moment_shown.specs.Standing.{ChildStands, EndedIn, Shows}
+use Rattle.moment_shown.specs.Events.{Works}
+use Rattle.moment_shown.proofs.Placing.{top_is_in, top_stands}
+use Rattle.hall_deciding.specs.Passed.MomentLawsResults.{IsChildOf}
 use Rattle.owner_advance.proofs.AtJoin.{in_its_deque, top_is_live}
 
 -- the thread whose label has no ordinals has the id of the root

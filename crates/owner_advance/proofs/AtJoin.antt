@@ -8,22 +8,22 @@ use Rattle.dag_order.specs.LabelOrder.{fork_of}
 use Rattle.depth_first_list.specs.Actions.{joins, ends}
 use Rattle.depth_first_list.specs.Facts.{label_at, deed_at, IsLive}
 use Rattle.depth_first_list.specs.Runs.{IsDepthFirst}
-use Rattle.lawful_books.specs.Lists.{Among, Each, Differ}
-use Rattle.lawful_books.proofs.Lists.{each_among, each_at, each_from, among_here}
-use Rattle.deque_machine.specs.Moments as machine
-use Rattle.deque_machine.specs.Moments.{Moment, done_at, threads_in}
-use Rattle.deque_machine.specs.Machine.{Setting}
-use Rattle.deque_machine.specs.LawfulOrder.{IsLawful, ChildrenAbove}
-use Rattle.deque_machine.proofs.Labels.{one_parent}
-use Rattle.deque_machine.proofs.LiveThreads.{child_live_at_join}
-use Rattle.deque_machine.proofs.Shapes.{in_threads}
-use Rattle.period_books.specs.Names.{HasLabel}
-use Rattle.period_books.proofs.Labels.{one_label}
-use Rattle.moment_parts.specs.Parts.{Child, Thread, Result, Parts, deque_shown, label_of}
-use Rattle.moment_parts.specs.Standing.{ChildStands, EndedIn, Shows, ordinal_of}
-use Rattle.moment_parts.specs.Events.{Works, IsNextOf}
-use Rattle.moment_parts.proofs.Placing.{closed, top_stands, waiting_differs, next_at_top}
-use Rattle.moment_parts.proofs.Shown.{deques_shown, among_map}
+use Rattle.hall_slots.specs.Passed.Lists.{Among, Each, Differ}
+use Rattle.hall_slots.proofs.Passed.DequeMachineLists.{each_among, each_at, each_from, among_here}
+use Rattle.hall_slots.specs.Passed.Moments as machine
+use Rattle.hall_slots.specs.Passed.Moments.{Moment, done_at, threads_in}
+use Rattle.hall_slots.specs.Passed.Machine.{Setting}
+use Rattle.hall_slots.specs.Passed.LawfulOrder.{IsLawful, ChildrenAbove}
+use Rattle.hall_slots.proofs.Passed.DequeMachineLabels.{one_parent}
+use Rattle.hall_slots.proofs.Passed.LiveThreads.{child_live_at_join}
+use Rattle.hall_slots.proofs.Passed.Shapes.{in_threads}
+use Rattle.open_periods.specs.Names.{HasLabel}
+use Rattle.open_periods.proofs.Labels.{one_label}
+use Rattle.moment_shown.specs.Parts.{Child, Thread, Result, Parts, deque_shown, label_of}
+use Rattle.moment_shown.specs.Standing.{ChildStands, EndedIn, Shows, ordinal_of}
+use Rattle.moment_shown.specs.Events.{Works, IsNextOf}
+use Rattle.moment_shown.proofs.Placing.{closed, top_stands, waiting_differs, next_at_top}
+use Rattle.moment_shown.proofs.Shown.{deques_shown, among_map}
 
 -- the deque of a worker as the moment has it, and its top thread, which is live
 module _ (s : Setting) (m : Moment) (lawful : IsLawful s m) (parts : Parts) (shows : Shows s.quota s.list parts m) (worker : ℕ) (o : Works parts worker) where

@@ -2,16 +2,16 @@
 use Rattle.std.proofs.Common.{◌≡◌, ℕ, List, [], ◌∷◌, map, reverse, refl, sym, ap, subst, ◌∙◌, true≢false}
 use Rattle.std.specs.Prelude.{Bool, true, false}
 use Rattle.std.proofs.lemmas.List.{reverse-append, map-append}
-use Rattle.lawful_books.specs.Lists.{Among, Each}
-use Rattle.lawful_books.proofs.Lists.{each_among, each_from, each_join}
-use Rattle.moment_parts.specs.Parts as parts
-use Rattle.thread_events.specs.Passed.Actions.{IsStill}
-use Rattle.thread_events.specs.Passed.Children.{same_id, IsResultFor, either_of, IsAwaited}
-use Rattle.thread_events.specs.Passed.Views.{Child}
-use Rattle.thread_events.specs.Passed.Shown.{child_shown, thread_shown}
-use Rattle.thread_events.specs.Passed.EndedType.{Ended}
-use Rattle.thread_events.specs.Passed.ThreadType.{Thread}
-use Rattle.thread_events.proofs.Passed.Found.{same_with_itself}
+use Rattle.hall_slots.specs.Passed.Lists.{Among, Each}
+use Rattle.hall_slots.proofs.Passed.DequeMachineLists.{each_among, each_from, each_join}
+use Rattle.moment_shown.specs.Parts as parts
+use Rattle.thread_frames.specs.Actions.{IsStill}
+use Rattle.thread_frames.specs.Children.{same_id, IsResultFor, either_of, IsAwaited}
+use Rattle.thread_frames.specs.Views.{Child}
+use Rattle.thread_frames.specs.Shown.{child_shown, thread_shown}
+use Rattle.thread_frames.specs.declared.ended.Ended.{Ended}
+use Rattle.thread_frames.specs.declared.thread.Thread.{Thread}
+use Rattle.thread_frames.proofs.Found.{same_with_itself}
 use Rattle.thread_map.proofs.KeptLemmas.{same_is_same}
 
 -- a thread that has done no action shows the same

@@ -2,21 +2,21 @@
 use Rattle.std.proofs.Common.{◌≡◌, ℕ, ◌+◌, ◌<◌, List, [], ◌∷◌, inl, refl, sym, ap, ◌∙◌, subst}
 use Rattle.std.specs.Option.{option_map}
 use Rattle.std.specs.Prelude.{Some, Result, Ok, Err, IfOk}
-use Rattle.bounded_list.specs.BoundedList.{spare}
+use Rattle.containers.specs.BoundedList.{spare}
 use Rattle.deque_list.specs.declared.deque_id.DequeId.{DequeId}
-use Rattle.run_end.specs.declared.stop.Stop.TheVariants.{OutOfMemory as NoMemory}
+use Rattle.hall_deciding.specs.Passed.StopVariants.{OutOfMemory as NoMemory}
 use Rattle.thread_frames.specs.declared.next.Next.{Next}
 use Rattle.turn_table.specs.Notes.{HasAs}
 use Rattle.turn_table.specs.Seats.{with_hand}
 use Rattle.hall_deciding.specs.Puts.{HasPut}
 use Rattle.owner_advance.specs.Reads.{HoldsItsLane}
 use Rattle.owner_advance.proofs.Reading.{owners_read}
-use Rattle.hall_turns.specs.Shown.{running_shown}
-use Rattle.hall_turns.specs.Takes.{HallSeat, IsTaken, MeetsLaw}
-use Rattle.hall_turns.specs.declared.key.HallKey.{HallKey}
-use Rattle.hall_turns.specs.declared.lane_slot.LaneSlot.{LaneSlot}
-use Rattle.hall_turns.specs.declared.slot.Slot.{Slot}
-use Rattle.hall_turns.specs.declared.slot.Slot.TheVariants as slots
+use Rattle.hall_slots.specs.Shown.{running_shown}
+use Rattle.hall_slots.specs.Takes.{HallSeat, IsTaken, MeetsLaw}
+use Rattle.hall_slots.specs.declared.key.HallKey.{HallKey}
+use Rattle.hall_slots.specs.declared.lane_slot.LaneSlot.{LaneSlot}
+use Rattle.hall_slots.specs.declared.slot.Slot.{Slot}
+use Rattle.hall_slots.specs.declared.slot.Slot.TheVariants as slots
 use Rattle.owner_advance.specs.Advancing.{HasCome, HasLooked, IsNotBusy, IsReadable, MayCome, RunsOn, took_lane}
 use Rattle.owner_advance.specs.declared.advancing.AdvanceRefused.{AdvanceRefused}
 use Rattle.owner_advance.specs.declared.advancing.AdvanceRefused.TheVariants.{Busy, OutOfMemory}

@@ -7,35 +7,35 @@ use mathlib.Core.Option.{some}
 use lib.ListN.{get_elem?}
 use Rattle.dag_order.specs.declared.thread_id.ThreadId.{ThreadId}
 use Rattle.deque_list.specs.declared.deque_id.DequeId.{DequeId}
-use Rattle.lawful_books.specs.Lists.{Among, total}
-use Rattle.moment_parts.specs.Parts.{Parts, deque_words, result_words}
-use Rattle.moment_parts.specs.Events.{Works}
-use Rattle.moment_parts.proofs.Shown.{among_map, deque_words_middle}
-use Rattle.thread_events.specs.Passed.Kept.{result_kept}
-use Rattle.thread_events.specs.Passed.Points.{IsPlaced}
-use Rattle.thread_events.specs.Passed.Shown.{result_shown}
-use Rattle.thread_events.specs.Passed.Views.{ended_words, next_of, thread_words}
-use Rattle.thread_events.specs.Passed.EndedType.{Ended}
-use Rattle.thread_events.specs.Passed.NextType.{Next}
-use Rattle.thread_events.specs.Passed.NextVariants as nexts
-use Rattle.thread_events.specs.Passed.ThreadType.{Thread}
-use Rattle.thread_events.proofs.Passed.Found.{found_among}
-use Rattle.thread_events.proofs.Passed.Placed.{placed_of}
+use Rattle.hall_slots.specs.Passed.Lists.{Among, total}
+use Rattle.moment_shown.specs.Parts.{Parts, deque_words, result_words}
+use Rattle.moment_shown.specs.Events.{Works}
+use Rattle.moment_shown.proofs.Shown.{among_map, deque_words_middle}
+use Rattle.thread_frames.specs.Kept.{result_kept}
+use Rattle.thread_frames.specs.Points.{IsPlaced}
+use Rattle.thread_frames.specs.Shown.{result_shown}
+use Rattle.thread_frames.specs.Views.{ended_words, next_of, thread_words}
+use Rattle.thread_frames.specs.declared.ended.Ended.{Ended}
+use Rattle.thread_frames.specs.declared.next.Next.{Next}
+use Rattle.thread_frames.specs.declared.next.Next.TheVariants as nexts
+use Rattle.thread_frames.specs.declared.thread.Thread.{Thread}
+use Rattle.thread_frames.proofs.Found.{found_among}
+use Rattle.thread_frames.proofs.Placed.{placed_of}
 use Rattle.thread_map.specs.Kept.{kept_under}
-use Rattle.thread_state.specs.Joins.{words_by, released}
-use Rattle.thread_state.specs.States.{words_held}
+use Rattle.hall_deciding.specs.Passed.Joins.{words_by, released}
+use Rattle.hall_deciding.specs.Passed.States.{words_held}
 use Rattle.turn_table.specs.Notes.{HasAs}
 use Rattle.turn_table.proofs.Standing.{shown_as}
-use Rattle.core_parts.proofs.Bounds.{release_within, join_within, end_within}
-use Rattle.hall_law.specs.Values.{PoolShown, parts_of}
-use Rattle.hall_deciding.specs.Passed.LaneSlotType.{LaneSlot}
-use Rattle.hall_deciding.specs.Passed.ListSlotType.{ListSlot}
-use Rattle.hall_deciding.specs.Passed.PoolSlotType.{PoolSlot}
-use Rattle.hall_deciding.specs.Passed.SlotVariants as slots
-use Rattle.hall_deciding.specs.Passed.HallKeyType.{HallKey}
-use Rattle.hall_deciding.specs.Passed.Keys.{table_of, quota_of}
-use Rattle.hall_deciding.specs.Passed.Takes.{HallSeat, MeetsLaw}
-use Rattle.hall_deciding.proofs.Passed.Written.{pool_at}
+use Rattle.scheduler_state.proofs.Bounds.{release_within, join_within, end_within}
+use Rattle.hall_machine.specs.Values.{PoolShown, parts_of}
+use Rattle.hall_slots.specs.declared.lane_slot.LaneSlot.{LaneSlot}
+use Rattle.hall_slots.specs.declared.list_slot.ListSlot.{ListSlot}
+use Rattle.hall_slots.specs.declared.pool_slot.PoolSlot.{PoolSlot}
+use Rattle.hall_slots.specs.declared.slot.Slot.TheVariants as slots
+use Rattle.hall_slots.specs.declared.key.HallKey.{HallKey}
+use Rattle.hall_slots.specs.Keys.{table_of, quota_of}
+use Rattle.hall_slots.specs.Takes.{HallSeat, MeetsLaw}
+use Rattle.hall_slots.proofs.Written.{pool_at}
 use Rattle.owner_advance.specs.Reads.{HoldsItsLane}
 use Rattle.owner_advance.specs.Lists.{ComesTo, words_back, WordsAreInUse, KeptWordsAreInUse}
 use Rattle.owner_advance.proofs.Listing.{gives, results_are}
@@ -79,7 +79,7 @@ module _ (key : HallKey) (seat : HallSeat) (deque : DequeId) (lane : LaneSlot) (
         ≡ total deque_words (w.left ++ record { id = w.id; owner = Some seat.hand.note.worker; threads = w.top ∷ w.under } ∷ w.right) = ap (total deque_words) w.deques_are in
         let sum = deque_words_middle w.left w.right (record { id = w.id; owner = Some seat.hand.note.worker; threads = w.top ∷ w.under }) in
         let words = law.state.stands.standing.shows.words in let live = law.state.stands.standing.live in
-        let same : PoolShown.live (Rattle.hall_law.specs.Values.Hall.pool h) ≡ pool.pool.live = ap (λ (p : PoolShown). p.live) (pool_at (shown key seat deque lane has meets) pool pool_is) in
+        let same : PoolShown.live (Rattle.hall_machine.specs.Values.Hall.pool h) ≡ pool.pool.live = ap (λ (p : PoolShown). p.live) (pool_at (shown key seat deque lane has meets) pool pool_is) in
         omega (arith, ints, its, deques, sum, words, live, same))
 
     released_within : released top.run.state ended.state ≤ pool.pool.live

@@ -6,31 +6,31 @@ use mathlib.Core.Option.{some}
 use lib.ListN.{get_elem?}
 use Rattle.deque_list.specs.declared.deque_id.DequeId.{DequeId}
 use Rattle.deque_list.proofs.DequeLaws.{same_id}
-use Rattle.deque_machine.specs.Terms.{Terms, machine_of}
-use Rattle.depth_first_run.specs.States.{Setting}
-use Rattle.lawful_books.specs.Lists.{Among, Each}
-use Rattle.lawful_books.proofs.Lists.{among_here}
-use Rattle.hall_deciding.specs.Passed.Parts.{Has}
-use Rattle.thread_events.specs.Passed.Kept.{waiting_shown, result_kept}
-use Rattle.thread_events.specs.Passed.Points.{IsAtPoint}
-use Rattle.thread_state.specs.Settings.{IsSettingOf}
+use Rattle.hall_slots.specs.Passed.Terms.{Terms, machine_of}
+use Rattle.hall_slots.specs.Passed.States.{Setting}
+use Rattle.hall_slots.specs.Passed.Lists.{Among, Each}
+use Rattle.hall_slots.proofs.Passed.DequeMachineLists.{among_here}
+use Rattle.hall_slots.specs.Passed.Parts.{Has}
+use Rattle.thread_frames.specs.Kept.{waiting_shown, result_kept}
+use Rattle.thread_frames.specs.Points.{IsAtPoint}
+use Rattle.hall_deciding.specs.Passed.Settings.{IsSettingOf}
 use Rattle.turn_table.specs.Notes.{HasAs, notes}
 use Rattle.turn_table.proofs.NoteLaws.{notes_at}
 use Rattle.turn_table.proofs.Standing.{shown_as}
-use Rattle.hall_law.specs.Values.{Hall, ListShown}
-use Rattle.hall_law.specs.State.{HallLaw}
-use Rattle.hall_law.specs.Points.{AreAtPoints}
-use Rattle.hall_deciding.specs.Passed.LaneSlotType.{LaneSlot}
-use Rattle.hall_deciding.specs.Passed.ListSlotType.{ListSlot}
-use Rattle.hall_deciding.specs.Passed.SlotVariants as slots
-use Rattle.hall_deciding.specs.Passed.HallKeyType.{HallKey}
-use Rattle.hall_deciding.specs.Passed.Keys.{table_of, quota_of, terms_of}
-use Rattle.hall_deciding.specs.Passed.Shown.{value_of, view_of}
-use Rattle.hall_deciding.specs.Passed.Sound.{ListIsSound, thread_that_waits}
-use Rattle.hall_deciding.specs.Passed.Steps.{hall_shown}
-use Rattle.hall_deciding.specs.Passed.Takes.{HallSeat, MeetsLaw}
-use Rattle.hall_deciding.proofs.Passed.Reading.{get_of_at}
-use Rattle.hall_deciding.proofs.Passed.Written.{list_at}
+use Rattle.hall_machine.specs.Values.{Hall, ListShown}
+use Rattle.hall_machine.specs.State.{HallLaw}
+use Rattle.hall_machine.specs.Points.{AreAtPoints}
+use Rattle.hall_slots.specs.declared.lane_slot.LaneSlot.{LaneSlot}
+use Rattle.hall_slots.specs.declared.list_slot.ListSlot.{ListSlot}
+use Rattle.hall_slots.specs.declared.slot.Slot.TheVariants as slots
+use Rattle.hall_slots.specs.declared.key.HallKey.{HallKey}
+use Rattle.hall_slots.specs.Keys.{table_of, quota_of, terms_of}
+use Rattle.hall_slots.specs.Shown.{value_of, view_of}
+use Rattle.hall_slots.specs.Sound.{ListIsSound, thread_that_waits}
+use Rattle.hall_slots.specs.Steps.{hall_shown}
+use Rattle.hall_slots.specs.Takes.{HallSeat, MeetsLaw}
+use Rattle.hall_slots.proofs.Reading.{get_of_at}
+use Rattle.hall_slots.proofs.Written.{list_at}
 use Rattle.hall_deciding.proofs.Owned.{is_listed, is_its, is_open}
 use Rattle.owner_advance.specs.Reads.{HoldsItsLane}
 use Rattle.owner_advance.specs.Lists.{ReadsList, ListsAreRead}

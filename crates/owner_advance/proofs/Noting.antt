@@ -5,44 +5,44 @@ use Rattle.std.proofs.lemmas.Option.{none-some}
 use Rattle.std.specs.Option.{option_map}
 use Rattle.std.specs.Prelude.{None, Some, pos, slice_get, slice_set}
 use Rattle.deque_list.specs.declared.deque_id.DequeId.{DequeId}
-use Rattle.deque_machine.specs.Play as play
-use Rattle.deque_machine.specs.Play.{words_taken}
-use Rattle.deque_machine.specs.Terms.{Terms, machine_of}
+use Rattle.hall_slots.specs.Passed.Play as play
+use Rattle.hall_slots.specs.Passed.Play.{words_taken}
+use Rattle.hall_slots.specs.Passed.Terms.{Terms, machine_of}
 use Rattle.depth_first_list.specs.Actions.{record_words}
 use Rattle.depth_first_list.specs.Facts.{action_at, words_at}
-use Rattle.depth_first_run.proofs.Built.{whole_is_depth_first}
-use Rattle.depth_first_run.specs.Run.{list_of}
-use Rattle.depth_first_run.specs.States.{Setting}
-use Rattle.lawful_books.specs.Books.{charge_at}
-use Rattle.period_books.specs.Periods.{Period}
-use Rattle.quota_period.specs.declared.period.Period.{Period as OpenPeriod}
-use Rattle.run_end.specs.declared.stop.Stop.{Stop}
-use Rattle.run_end.specs.declared.stop.Stop.TheVariants.{ArenaFull, OutOfMemory}
+use Rattle.hall_slots.proofs.Passed.Built.{whole_is_depth_first}
+use Rattle.hall_slots.specs.Passed.Run.{list_of}
+use Rattle.hall_slots.specs.Passed.States.{Setting}
+use Rattle.hall_slots.specs.Passed.Books.{charge_at}
+use Rattle.open_periods.specs.Periods.{Period}
+use Rattle.open_periods.specs.declared.period.Period.{Period as OpenPeriod}
+use Rattle.hall_deciding.specs.Passed.Stop.{Stop}
+use Rattle.hall_deciding.specs.Passed.StopVariants.{ArenaFull, OutOfMemory}
 use Rattle.thread_frames.specs.Actions.{IsOfTheList, deed_of}
 use Rattle.thread_frames.specs.declared.next.Next.{Next}
 use Rattle.thread_frames.specs.declared.thread.Thread.{Thread}
-use Rattle.thread_state.specs.Settings.{IsSettingOf}
+use Rattle.hall_deciding.specs.Passed.Settings.{IsSettingOf}
 use Rattle.hall_deciding.specs.Passed.Here.{ShowsOwn}
-use Rattle.hall_turns.specs.Passed.Seats.{finding}
-use Rattle.hall_turns.specs.Passed.State.{RunningState}
-use Rattle.hall_turns.specs.Passed.Values.{Hall, PoolShown, by_rule, lane_at}
-use Rattle.hall_turns.specs.Passed.Views.{View}
-use Rattle.hall_turns.specs.Passed.Writing.{IsAtWork}
-use Rattle.hall_turns.proofs.Passed.Stops.{full_arenas_go_on}
+use Rattle.hall_machine.specs.Seats.{finding}
+use Rattle.hall_machine.specs.State.{RunningState}
+use Rattle.hall_machine.specs.Values.{Hall, PoolShown, by_rule, lane_at}
+use Rattle.hall_machine.specs.Views.{View}
+use Rattle.hall_machine.specs.Writing.{IsAtWork}
+use Rattle.hall_machine.proofs.Stops.{full_arenas_go_on}
 use Rattle.hall_deciding.specs.Staying.{NotesOn}
 use Rattle.hall_deciding.specs.EventParts.{IsAtAction, MayPause}
 use Rattle.hall_deciding.proofs.Pauses.{next_of_it}
 use Rattle.hall_deciding.proofs.Quiet.{same_hall, statements_may_come, wants_of_memory_may_come}
 use Rattle.hall_deciding.proofs.Working.{some, work, here, own, period_was}
-use Rattle.hall_turns.specs.Keys.{table_of, quota_of, terms_of}
-use Rattle.hall_turns.specs.Shown.{list_shown, pool_shown, lane_shown, stop_shown, view_of}
-use Rattle.hall_turns.specs.Steps.{IsRunning}
-use Rattle.hall_turns.specs.Takes.{HallSeat}
-use Rattle.hall_turns.specs.declared.key.HallKey.{HallKey}
-use Rattle.hall_turns.specs.declared.lane_slot.LaneSlot.{LaneSlot}
-use Rattle.hall_turns.specs.declared.list_slot.ListSlot.{ListSlot}
-use Rattle.hall_turns.specs.declared.pool_slot.PoolSlot.{PoolSlot}
-use Rattle.hall_turns.specs.declared.seat_note.SeatNote.{SeatNote}
+use Rattle.hall_slots.specs.Keys.{table_of, quota_of, terms_of}
+use Rattle.hall_slots.specs.Shown.{list_shown, pool_shown, lane_shown, stop_shown, view_of}
+use Rattle.hall_slots.specs.Steps.{IsRunning}
+use Rattle.hall_slots.specs.Takes.{HallSeat}
+use Rattle.hall_slots.specs.declared.key.HallKey.{HallKey}
+use Rattle.hall_slots.specs.declared.lane_slot.LaneSlot.{LaneSlot}
+use Rattle.hall_slots.specs.declared.list_slot.ListSlot.{ListSlot}
+use Rattle.hall_slots.specs.declared.pool_slot.PoolSlot.{PoolSlot}
+use Rattle.hall_slots.specs.declared.seat_note.SeatNote.{SeatNote}
 use Rattle.hall_deciding.specs.Writes.{parts as three, hall_with}
 use Rattle.owner_advance.specs.Causes.{IsTooLarge, NothingMayBeNoted, MemoryMayBeNoted, FullArenasMayBeNoted}
 

@@ -3,7 +3,7 @@ use Rattle.std.proofs.Common.{◌≡◌, ◌≢◌, ◌⊎◌, List, [], ◌∷�
 use Rattle.std.proofs.lemmas.Bool.{cases_eq}
 use Rattle.deque_list.specs.declared.deque_id.DequeId.{DequeId}
 use Rattle.deque_list.specs.declared.place.Place.{Place}
-use Rattle.lawful_books.specs.Lists.{Each}
+use Rattle.hall_slots.specs.Passed.Lists.{Each}
 
 -- a place with this id, and what is left and right of it
 pub record IsAmong (places : List Place) (id : DequeId) : Type 0 where

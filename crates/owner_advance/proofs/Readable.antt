@@ -6,32 +6,32 @@ use Rattle.std.specs.Prelude.{Option, None, Some}
 use Rattle.language_limits.specs.declared.TheConstants.{GREATEST_COUNT}
 use Rattle.deque_list.specs.Lanes.{LaneView}
 use Rattle.deque_list.specs.declared.deque_id.DequeId.{DequeId}
-use Rattle.dummy_tree.specs.QuotaWords.{quota_words}
-use Rattle.dummy_tree.specs.declared.quota.Quota.{Quota}
-use Rattle.lawful_books.specs.Lists.{Each}
-use Rattle.lawful_books.proofs.Lists.{same_head}
+use Rattle.depth_first_list.specs.QuotaWords.{quota_words}
+use Rattle.depth_first_list.specs.declared.quota.Quota.{Quota}
+use Rattle.hall_slots.specs.Passed.Lists.{Each}
+use Rattle.hall_slots.proofs.Passed.DequeMachineLists.{same_head}
 use Rattle.node_table.specs.Codes.{code_shown}
 use Rattle.node_table.specs.declared.code.Code.{Code}
-use Rattle.period_books.specs.Periods.{Period, open_shown}
-use Rattle.run_end.specs.declared.stop.Stop.TheVariants.{OutOfMemory}
+use Rattle.open_periods.specs.Periods.{Period, open_shown}
+use Rattle.hall_deciding.specs.Passed.StopVariants.{OutOfMemory}
 use Rattle.thread_frames.specs.Actions.{IsStill, IsOfTheList, JoinsNewest}
 use Rattle.thread_frames.specs.Points.{IsAtPoint}
 use Rattle.thread_frames.specs.Shown.{thread_shown}
 use Rattle.thread_frames.specs.Views.{children_of, done_of, next_of, thread_words}
 use Rattle.thread_frames.specs.declared.next.Next.{Next}
 use Rattle.thread_frames.specs.declared.thread.Thread.{Thread}
-use Rattle.thread_state.specs.Settings.{IsSettingOf}
-use Rattle.depth_first_run.specs.States.{Setting}
+use Rattle.hall_deciding.specs.Passed.Settings.{IsSettingOf}
+use Rattle.hall_slots.specs.Passed.States.{Setting}
 use Rattle.hall_deciding.specs.Passed.Here.{HasRoomIn}
 use Rattle.hall_deciding.specs.Own.{IsShortThere}
 use Rattle.hall_deciding.specs.EventParts.{IsAtAction}
 use Rattle.hall_deciding.proofs.Working.{still_shows}
-use Rattle.hall_turns.specs.Keys.{table_of, quota_of}
-use Rattle.hall_turns.specs.Shown.{lane_shown, running_shown}
-use Rattle.hall_turns.specs.Takes.{HallSeat}
-use Rattle.hall_turns.specs.declared.key.HallKey.{HallKey}
-use Rattle.hall_turns.specs.declared.lane_slot.LaneSlot.{LaneSlot}
-use Rattle.hall_turns.specs.declared.lane_slot.Running.{Running}
+use Rattle.hall_slots.specs.Keys.{table_of, quota_of}
+use Rattle.hall_slots.specs.Shown.{lane_shown, running_shown}
+use Rattle.hall_slots.specs.Takes.{HallSeat}
+use Rattle.hall_slots.specs.declared.key.HallKey.{HallKey}
+use Rattle.hall_slots.specs.declared.lane_slot.LaneSlot.{LaneSlot}
+use Rattle.hall_slots.specs.declared.lane_slot.Running.{Running}
 use Rattle.owner_advance.specs.Advancing.{IsAtNext, IsReadable, IsRunBy}
 use Rattle.owner_advance.specs.declared.at_next.AtNext.{AtNext}
 

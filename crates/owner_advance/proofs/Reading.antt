@@ -8,51 +8,51 @@ use denote.Struct.Props.{props}
 use mathlib.Core.Option.{some}
 use lib.ListN.{get_elem?}
 use Rattle.deque_list.specs.declared.deque_id.DequeId.{DequeId}
-use Rattle.deque_machine.specs.Terms.{Terms, machine_of}
-use Rattle.depth_first_run.proofs.Built.{whole_is_depth_first}
-use Rattle.depth_first_run.specs.States.{Setting}
-use Rattle.lawful_books.specs.Lists.{Each}
-use Rattle.lawful_books.proofs.Lists.{cons_is_not_nil, same_head}
-use Rattle.moment_parts.specs.Parts as parts
+use Rattle.hall_slots.specs.Passed.Terms.{Terms, machine_of}
+use Rattle.hall_slots.proofs.Passed.Built.{whole_is_depth_first}
+use Rattle.hall_slots.specs.Passed.States.{Setting}
+use Rattle.hall_slots.specs.Passed.Lists.{Each}
+use Rattle.hall_slots.proofs.Passed.DequeMachineLists.{cons_is_not_nil, same_head}
+use Rattle.moment_shown.specs.Parts as parts
 use Rattle.node_table.specs.Table.{Table}
-use Rattle.period_books.specs.Periods.{Period}
-use Rattle.run_end.specs.declared.stop.Stop.{Stop}
-use Rattle.run_end.specs.declared.stop.Stop.TheVariants.{ArenaFull, DequesFull, StepsSpent, OutOfMemory}
-use Rattle.thread_events.specs.Passed.Points.{IsAtPoint}
-use Rattle.thread_events.specs.Passed.Views.{done_of, thread_words}
-use Rattle.thread_events.specs.Passed.ThreadType.{Thread}
-use Rattle.thread_events.specs.Passed.Shown.{thread_shown}
-use Rattle.thread_events.proofs.Passed.Points.{point_one}
-use Rattle.thread_state.specs.Settings.{IsSettingOf}
+use Rattle.open_periods.specs.Periods.{Period}
+use Rattle.hall_deciding.specs.Passed.Stop.{Stop}
+use Rattle.hall_deciding.specs.Passed.StopVariants.{ArenaFull, DequesFull, StepsSpent, OutOfMemory}
+use Rattle.thread_frames.specs.Points.{IsAtPoint}
+use Rattle.thread_frames.specs.Views.{done_of, thread_words}
+use Rattle.thread_frames.specs.declared.thread.Thread.{Thread}
+use Rattle.thread_frames.specs.Shown.{thread_shown}
+use Rattle.thread_frames.proofs.Points.{point_one}
+use Rattle.hall_deciding.specs.Passed.Settings.{IsSettingOf}
 use Rattle.turn_table.specs.Hands.{Shows}
 use Rattle.turn_table.specs.Law.{Stands}
 use Rattle.turn_table.specs.Notes.{HasAs, notes}
 use Rattle.turn_table.proofs.NoteLaws.{notes_at}
 use Rattle.turn_table.proofs.Standing.{shown_as}
-use Rattle.hall_law.specs.Values.{Hall, ListShown, LaneShown, PoolShown, Stop as HallStop, by_rule, no_memory, lane_at}
-use Rattle.hall_law.specs.Writing.{IsAtWork, lane_slot, lane_with, place_of}
-use Rattle.hall_law.proofs.Closing.{owners_are_at_work}
-use Rattle.hall_law.specs.Crew.{SeatStands}
-use Rattle.hall_law.specs.Points.{IsExcused, LaneAtPoints, AreAtPoints}
-use Rattle.hall_law.specs.State.{HallLaw}
-use Rattle.hall_run.proofs.Owning.{all_in_lane}
-use Rattle.hall_deciding.specs.Passed.LaneSlotType.{LaneSlot}
-use Rattle.hall_deciding.specs.Passed.RunningType.{Running}
-use Rattle.hall_deciding.specs.Passed.ListSlotType.{ListSlot}
-use Rattle.hall_deciding.specs.Passed.PoolSlotType.{PoolSlot}
-use Rattle.hall_deciding.specs.Passed.SlotType.{Slot}
-use Rattle.hall_deciding.specs.Passed.SlotVariants as slots
-use Rattle.hall_deciding.specs.Passed.Shown.{value_of, view_of, lane_shown, running_shown, stop_shown}
-use Rattle.hall_deciding.specs.Passed.HallKeyType.{HallKey}
-use Rattle.hall_deciding.specs.Passed.Keys.{table_of, quota_of, terms_of, IsKey}
-use Rattle.hall_deciding.specs.Passed.Law.{HallHolds, joined_note}
-use Rattle.hall_deciding.specs.Passed.Sound.{threads_in, threads_of, PoolIsSound}
-use Rattle.hall_deciding.specs.Passed.Steps.{hall_shown}
-use Rattle.hall_deciding.specs.Passed.Takes.{HallSeat, MeetsLaw}
-use Rattle.hall_deciding.proofs.Passed.Keeping.{Whole}
-use Rattle.hall_deciding.proofs.Passed.Lone.{noted_at}
-use Rattle.hall_deciding.proofs.Passed.Reading.{get_of_at}
-use Rattle.hall_deciding.proofs.Passed.Written.{list_at, pool_at, lane_shown_at}
+use Rattle.hall_machine.specs.Values.{Hall, ListShown, LaneShown, PoolShown, Stop as HallStop, by_rule, no_memory, lane_at}
+use Rattle.hall_machine.specs.Writing.{IsAtWork, lane_slot, lane_with, place_of}
+use Rattle.hall_machine.proofs.Closing.{owners_are_at_work}
+use Rattle.hall_machine.specs.Crew.{SeatStands}
+use Rattle.hall_machine.specs.Points.{IsExcused, LaneAtPoints, AreAtPoints}
+use Rattle.hall_machine.specs.State.{HallLaw}
+use Rattle.hall_interleavings.proofs.Owning.{all_in_lane}
+use Rattle.hall_slots.specs.declared.lane_slot.LaneSlot.{LaneSlot}
+use Rattle.hall_slots.specs.declared.lane_slot.Running.{Running}
+use Rattle.hall_slots.specs.declared.list_slot.ListSlot.{ListSlot}
+use Rattle.hall_slots.specs.declared.pool_slot.PoolSlot.{PoolSlot}
+use Rattle.hall_slots.specs.declared.slot.Slot.{Slot}
+use Rattle.hall_slots.specs.declared.slot.Slot.TheVariants as slots
+use Rattle.hall_slots.specs.Shown.{value_of, view_of, lane_shown, running_shown, stop_shown}
+use Rattle.hall_slots.specs.declared.key.HallKey.{HallKey}
+use Rattle.hall_slots.specs.Keys.{table_of, quota_of, terms_of, IsKey}
+use Rattle.hall_slots.specs.Law.{HallHolds, joined_note}
+use Rattle.hall_slots.specs.Sound.{threads_in, threads_of, PoolIsSound}
+use Rattle.hall_slots.specs.Steps.{hall_shown}
+use Rattle.hall_slots.specs.Takes.{HallSeat, MeetsLaw}
+use Rattle.hall_slots.proofs.Keeping.{Whole}
+use Rattle.hall_slots.proofs.Lone.{noted_at}
+use Rattle.hall_slots.proofs.Reading.{get_of_at}
+use Rattle.hall_slots.proofs.Written.{list_at, pool_at, lane_shown_at}
 use Rattle.hall_deciding.proofs.Owned.{split}
 use Rattle.hall_deciding.proofs.There.{slot_is, list_there, pool_there}
 use Rattle.owner_advance.specs.Within.{AreWithin}

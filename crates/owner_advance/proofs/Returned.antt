@@ -6,32 +6,32 @@ use Rattle.std.specs.Prelude.{pos, slice_set}
 use Rattle.block_arena.specs.Region.{Region}
 use Rattle.deque_list.specs.declared.deque_id.DequeId.{DequeId}
 use Rattle.deque_list.specs.Orders.{OrderView}
-use Rattle.deque_machine.specs.Terms.{Terms, machine_of}
-use Rattle.depth_first_run.specs.States.{Setting}
-use Rattle.moment_parts.specs.Parts as shown
+use Rattle.hall_slots.specs.Passed.Terms.{Terms, machine_of}
+use Rattle.hall_slots.specs.Passed.States.{Setting}
+use Rattle.moment_shown.specs.Parts as shown
 use Rattle.space_ledger.specs.Sums.{total_change}
 use Rattle.thread_frames.specs.Kept.{WaitsUnder, IsUnderItsId, waiting_shown, result_kept}
 use Rattle.thread_frames.specs.Points.{IsAtPoint, IsResult}
-use Rattle.hall_turns.specs.Passed.State.{RunningState}
-use Rattle.hall_turns.specs.Passed.Values.{Hall}
-use Rattle.hall_turns.specs.Passed.Views.{View}
-use Rattle.hall_turns.proofs.Passed.Quiet.{quiet_puts_go_on}
+use Rattle.hall_machine.specs.State.{RunningState}
+use Rattle.hall_machine.specs.Values.{Hall}
+use Rattle.hall_machine.specs.Views.{View}
+use Rattle.hall_machine.proofs.Quiet.{quiet_puts_go_on}
 use Rattle.hall_deciding.specs.Rooms.{HasMoreRoom, IsSamePool}
 use Rattle.hall_deciding.proofs.Rooms.{pool_same, shown_with}
 use Rattle.hall_deciding.proofs.Staying.{all_at, each_moved}
 use Rattle.hall_deciding.specs.Puts.{note_of, MayPutPoolAndLane, MayPutListAndLane, MayPutAll}
 use Rattle.hall_deciding.specs.declared.noting.Noting.{Noting}
 use Rattle.hall_deciding.specs.declared.noting.Noting.TheVariants.{Same, Found, Does, Yields}
-use Rattle.hall_turns.specs.Keys.{table_of, quota_of, terms_of}
-use Rattle.hall_turns.specs.Shown.{list_shown, view_of}
-use Rattle.hall_turns.specs.Sound.{thread_that_waits, PoolIsSound}
-use Rattle.hall_turns.specs.Steps.{IsRunning}
-use Rattle.hall_turns.specs.Takes.{HallSeat}
-use Rattle.hall_turns.specs.declared.key.HallKey.{HallKey}
-use Rattle.hall_turns.specs.declared.lane_slot.LaneSlot.{LaneSlot}
-use Rattle.hall_turns.specs.declared.list_slot.ListSlot.{ListSlot}
-use Rattle.hall_turns.specs.declared.pool_slot.PoolSlot.{PoolSlot}
-use Rattle.hall_turns.specs.declared.seat_note.SeatNote.{SeatNote}
+use Rattle.hall_slots.specs.Keys.{table_of, quota_of, terms_of}
+use Rattle.hall_slots.specs.Shown.{list_shown, view_of}
+use Rattle.hall_slots.specs.Sound.{thread_that_waits, PoolIsSound}
+use Rattle.hall_slots.specs.Steps.{IsRunning}
+use Rattle.hall_slots.specs.Takes.{HallSeat}
+use Rattle.hall_slots.specs.declared.key.HallKey.{HallKey}
+use Rattle.hall_slots.specs.declared.lane_slot.LaneSlot.{LaneSlot}
+use Rattle.hall_slots.specs.declared.list_slot.ListSlot.{ListSlot}
+use Rattle.hall_slots.specs.declared.pool_slot.PoolSlot.{PoolSlot}
+use Rattle.hall_slots.specs.declared.seat_note.SeatNote.{SeatNote}
 use Rattle.hall_deciding.specs.Writes.{Parts, parts, hall_with, IsShort, MayBecome, StaySound, stays}
 use Rattle.owner_advance.specs.Returning.{MayNote, ReturnsLane, ReturnsPool, ReturnsList, ReturnsAll}
 

@@ -3,28 +3,28 @@ use Rattle.std.proofs.Common.{◌≡◌, List, ◌∷◌, map, ap, ◌∙◌}
 use Rattle.std.proofs.Math.Logic.{∥∥₁_elim}
 use Rattle.std.specs.Prelude.{Some}
 use Rattle.deque_list.specs.declared.deque_id.DequeId.{DequeId}
-use Rattle.deque_machine.specs.LawfulOrder.{IsLawful}
-use Rattle.deque_machine.specs.Terms.{Terms, machine_of}
-use Rattle.depth_first_run.specs.Run.{list_of}
-use Rattle.depth_first_run.specs.States.{Setting}
-use Rattle.moment_parts.specs.Events.{Works}
-use Rattle.moment_parts.specs.Standing.{Shows}
-use Rattle.thread_events.specs.Passed.Actions.{IsOfTheList}
-use Rattle.thread_events.specs.Passed.Shown.{thread_shown}
-use Rattle.thread_events.specs.Passed.NextType.{Next}
-use Rattle.thread_events.specs.Passed.ThreadType.{Thread}
-use Rattle.thread_state.specs.Settings.{IsSettingOf}
+use Rattle.hall_slots.specs.Passed.LawfulOrder.{IsLawful}
+use Rattle.hall_slots.specs.Passed.Terms.{Terms, machine_of}
+use Rattle.hall_slots.specs.Passed.Run.{list_of}
+use Rattle.hall_slots.specs.Passed.States.{Setting}
+use Rattle.moment_shown.specs.Events.{Works}
+use Rattle.moment_shown.specs.Standing.{Shows}
+use Rattle.thread_frames.specs.Actions.{IsOfTheList}
+use Rattle.thread_frames.specs.Shown.{thread_shown}
+use Rattle.thread_frames.specs.declared.next.Next.{Next}
+use Rattle.thread_frames.specs.declared.thread.Thread.{Thread}
+use Rattle.hall_deciding.specs.Passed.Settings.{IsSettingOf}
 use Rattle.turn_table.specs.Notes.{notes}
-use Rattle.hall_law.specs.Values.{Hall, LaneShown, parts_of}
-use Rattle.hall_law.specs.Writing.{IsAtWork, lane_with}
-use Rattle.hall_law.specs.State.{HallLaw}
-use Rattle.hall_law.proofs.Own.{works}
-use Rattle.hall_deciding.specs.Passed.LaneSlotType.{LaneSlot}
-use Rattle.hall_deciding.specs.Passed.HallKeyType.{HallKey}
-use Rattle.hall_deciding.specs.Passed.Keys.{table_of, quota_of, terms_of}
-use Rattle.hall_deciding.specs.Passed.Shown.{value_of, view_of}
-use Rattle.hall_deciding.specs.Passed.Steps.{hall_shown}
-use Rattle.hall_deciding.specs.Passed.Takes.{HallSeat, MeetsLaw}
+use Rattle.hall_machine.specs.Values.{Hall, LaneShown, parts_of}
+use Rattle.hall_machine.specs.Writing.{IsAtWork, lane_with}
+use Rattle.hall_machine.specs.State.{HallLaw}
+use Rattle.hall_machine.proofs.Own.{works}
+use Rattle.hall_slots.specs.declared.lane_slot.LaneSlot.{LaneSlot}
+use Rattle.hall_slots.specs.declared.key.HallKey.{HallKey}
+use Rattle.hall_slots.specs.Keys.{table_of, quota_of, terms_of}
+use Rattle.hall_slots.specs.Shown.{value_of, view_of}
+use Rattle.hall_slots.specs.Steps.{hall_shown}
+use Rattle.hall_slots.specs.Takes.{HallSeat, MeetsLaw}
 use Rattle.owner_advance.specs.Reads.{HoldsItsLane}
 use Rattle.owner_advance.specs.Lists.{ComesTo}
 use Rattle.owner_advance.proofs.Awaiting.{still_shows}

@@ -3,22 +3,22 @@ use Rattle.std.proofs.Common.{◌≡◌, ℕ, ◌+◌, ◌≤◌, ◌<◌, min, 
 use Rattle.std.proofs.Common.{inl, refl, sym, Some}
 use Rattle.std.proofs.lemmas.Int.{ints}
 use Rattle.depth_first_list.specs.Runs.{IsDepthFirst}
-use Rattle.deque_machine.specs.Machine.{Setting}
-use Rattle.deque_machine.specs.Moments.{Moment}
-use Rattle.deque_machine.specs.Play.{Limits}
-use Rattle.lawful_books.specs.Books.{booked}
-use Rattle.lawful_books.specs.Lawful.{IsWithin}
-use Rattle.lawful_books.specs.Lists.{Among, Each, total}
-use Rattle.lawful_books.proofs.Lists.{each_at, among_here}
-use Rattle.moment_parts.specs.Parts.{Deque, Parts, IsIn, deque_words}
-use Rattle.moment_parts.proofs.Counting.{threads_count_within}
-use Rattle.moment_parts.proofs.Shown.{used_is, book_of_it, deque_words_middle}
-use Rattle.hall_law.specs.Views.{View, one_if_counting}
-use Rattle.hall_law.specs.Values.{Hall, parts_of}
-use Rattle.hall_law.specs.Steps.{Step, Leads}
-use Rattle.hall_law.specs.Writing.{IsAtWork}
-use Rattle.hall_law.proofs.Own.{works, lefts, rights, deques_were}
-use Rattle.hall_law.specs.State.{RunningState}
+use Rattle.hall_slots.specs.Passed.Machine.{Setting}
+use Rattle.hall_slots.specs.Passed.Moments.{Moment}
+use Rattle.hall_slots.specs.Passed.Play.{Limits}
+use Rattle.hall_slots.specs.Passed.Books.{booked}
+use Rattle.hall_slots.specs.Passed.Lawful.{IsWithin}
+use Rattle.hall_slots.specs.Passed.Lists.{Among, Each, total}
+use Rattle.hall_slots.proofs.Passed.DequeMachineLists.{each_at, among_here}
+use Rattle.moment_shown.specs.Parts.{Deque, Parts, IsIn, deque_words}
+use Rattle.moment_shown.proofs.Counting.{threads_count_within}
+use Rattle.moment_shown.proofs.Shown.{used_is, book_of_it, deque_words_middle}
+use Rattle.hall_machine.specs.Views.{View, one_if_counting}
+use Rattle.hall_machine.specs.Values.{Hall, parts_of}
+use Rattle.hall_machine.specs.Steps.{Step, Leads}
+use Rattle.hall_machine.specs.Writing.{IsAtWork}
+use Rattle.hall_machine.proofs.Own.{works, lefts, rights, deques_were}
+use Rattle.hall_machine.specs.State.{RunningState}
 use Rattle.owner_advance.specs.Within.{OwnersAreWithin}
 
 module _ (s : Setting) (some : 0 < s.quota) (list : IsDepthFirst s.quota s.list) (limits : Limits) (h : Hall) (steps : List Step) (m : Moment) (leads : Leads s steps m) (count : ℕ)

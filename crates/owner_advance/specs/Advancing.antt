@@ -1,14 +1,14 @@
 -- What an owner has in its hands once its top thread has come to its next action.
 use Rattle.std.specs.Prelude.{◌≡◌, ℕ, ◌+◌, ◌≤◌, ◌<◌, None, Some, List, [], ◌∷◌, ◌++◌, Result, Ok, Err}
 use Rattle.std.specs.Option.{option_map}
-use Rattle.bounded_list.specs.BoundedList.{spare}
+use Rattle.containers.specs.BoundedList.{spare}
 use Rattle.deque_list.specs.declared.deque_id.DequeId.{DequeId}
 use Rattle.depth_first_list.specs.Actions.{record_words}
-use Rattle.dummy_tree.specs.declared.quota.Quota.{Quota}
+use Rattle.depth_first_list.specs.declared.quota.Quota.{Quota}
 use Rattle.language_limits.specs.declared.TheConstants.{GREATEST_COUNT, GREATEST_QUOTA}
-use Rattle.lawful_books.specs.Lists.{Each}
+use Rattle.hall_slots.specs.Passed.Lists.{Each}
 use Rattle.node_table.specs.declared.code.Code.{Code}
-use Rattle.run_end.specs.declared.stop.Stop.TheVariants.{OutOfMemory as NoMemory}
+use Rattle.hall_deciding.specs.Passed.StopVariants.{OutOfMemory as NoMemory}
 use Rattle.thread_frames.specs.Actions.{JoinsNewest}
 use Rattle.thread_frames.specs.Points.{IsAtPoint}
 use Rattle.thread_frames.specs.Views.{children_of, done_of, next_of}
@@ -21,14 +21,14 @@ use Rattle.hall_deciding.specs.Puts.{HasPut}
 use Rattle.hall_deciding.specs.EventParts.{IsAtAction, IsNext, MayPause}
 use Rattle.hall_deciding.specs.Taken.{its_lane}
 use Rattle.owner_advance.specs.Reads.{ReadsLane}
-use Rattle.hall_turns.specs.Keys.{table_of, quota_of, IsKey}
-use Rattle.hall_turns.specs.Shown.{running_shown}
-use Rattle.hall_turns.specs.Takes.{HallSeat, IsTaken, IsRefused}
-use Rattle.hall_turns.specs.declared.key.HallKey.{HallKey}
-use Rattle.hall_turns.specs.declared.lane_slot.LaneSlot.{LaneSlot}
-use Rattle.hall_turns.specs.declared.seat_note.SeatNote.{SeatNote}
-use Rattle.hall_turns.specs.declared.slot.Slot.{Slot}
-use Rattle.hall_turns.specs.declared.slot.Slot.TheVariants as slots
+use Rattle.hall_slots.specs.Keys.{table_of, quota_of, IsKey}
+use Rattle.hall_slots.specs.Shown.{running_shown}
+use Rattle.hall_slots.specs.Takes.{HallSeat, IsTaken, IsRefused}
+use Rattle.hall_slots.specs.declared.key.HallKey.{HallKey}
+use Rattle.hall_slots.specs.declared.lane_slot.LaneSlot.{LaneSlot}
+use Rattle.hall_slots.specs.declared.seat_note.SeatNote.{SeatNote}
+use Rattle.hall_slots.specs.declared.slot.Slot.{Slot}
+use Rattle.hall_slots.specs.declared.slot.Slot.TheVariants as slots
 use Rattle.owner_advance.specs.declared.advancing.AdvanceRefused.{AdvanceRefused}
 use Rattle.owner_advance.specs.declared.advancing.AdvanceRefused.TheVariants.{Busy, OutOfMemory}
 use Rattle.owner_advance.specs.declared.at_next.AtNext.{AtNext}

@@ -5,34 +5,34 @@ use Rattle.dag_order.specs.declared.finish.Finish.{Finish}
 use Rattle.dag_order.specs.declared.thread_id.ThreadId.{ThreadId}
 use Rattle.deque_list.specs.declared.deque_id.DequeId.{DequeId}
 use Rattle.depth_first_list.specs.Actions.{joins}
-use Rattle.depth_first_run.specs.States.{Setting}
-use Rattle.hall_deciding.specs.Passed.Parts.{Has}
-use Rattle.moment_parts.specs.Parts as shown
-use Rattle.run_end.specs.declared.ends.RunEnd.TheVariants.{Finished}
-use Rattle.thread_events.specs.Results.{FirstAwaits}
-use Rattle.thread_events.specs.Passed.Actions.{IsStill, IsOfTheList, JoinsNewest, deed_of, is_there}
-use Rattle.thread_events.specs.Passed.Children.{IsAwaited, IsOnlyNewest, is_delivered}
-use Rattle.thread_events.specs.Passed.Kept.{WaitsUnder}
-use Rattle.thread_events.specs.Passed.Points.{IsAtPoint, IsResult}
-use Rattle.thread_events.specs.Passed.Shown.{thread_shown}
-use Rattle.thread_events.specs.Passed.Views.{children_of, held_by, join_words_of, label_of, newest, next_of}
-use Rattle.thread_events.specs.Passed.EndedType.{Ended}
-use Rattle.thread_events.specs.Passed.NextType.{Next}
-use Rattle.thread_events.specs.Passed.NextVariants.{Fork, Join, Alloc, Release, Dummy, Fault, End}
-use Rattle.thread_events.specs.Passed.ThreadType.{Thread}
+use Rattle.hall_slots.specs.Passed.States.{Setting}
+use Rattle.hall_slots.specs.Passed.Parts.{Has}
+use Rattle.moment_shown.specs.Parts as shown
+use Rattle.hall_deciding.specs.Passed.RunEndVariants.{Finished}
+use Rattle.thread_actions.specs.Results.{FirstAwaits}
+use Rattle.thread_frames.specs.Actions.{IsStill, IsOfTheList, JoinsNewest, deed_of, is_there}
+use Rattle.thread_frames.specs.Children.{IsAwaited, IsOnlyNewest, is_delivered}
+use Rattle.thread_frames.specs.Kept.{WaitsUnder}
+use Rattle.thread_frames.specs.Points.{IsAtPoint, IsResult}
+use Rattle.thread_frames.specs.Shown.{thread_shown}
+use Rattle.thread_frames.specs.Views.{children_of, held_by, join_words_of, label_of, newest, next_of}
+use Rattle.thread_frames.specs.declared.ended.Ended.{Ended}
+use Rattle.thread_frames.specs.declared.next.Next.{Next}
+use Rattle.thread_frames.specs.declared.next.Next.TheVariants.{Fork, Join, Alloc, Release, Dummy, Fault, End}
+use Rattle.thread_frames.specs.declared.thread.Thread.{Thread}
 use Rattle.thread_map.specs.Kept.{kept_under}
-use Rattle.thread_points.specs.Points.{words_at_end}
-use Rattle.thread_state.specs.Joins.{released}
-use Rattle.thread_state.specs.Settings.{IsSettingOf}
+use Rattle.hall_deciding.specs.Passed.Points.{words_at_end}
+use Rattle.hall_deciding.specs.Passed.Joins.{released}
+use Rattle.hall_deciding.specs.Passed.Settings.{IsSettingOf}
 use Rattle.turn_table.specs.Notes.{HasAs}
-use Rattle.hall_deciding.specs.Passed.LaneSlotType.{LaneSlot}
-use Rattle.hall_deciding.specs.Passed.ListSlotType.{ListSlot}
-use Rattle.hall_deciding.specs.Passed.PoolSlotType.{PoolSlot}
-use Rattle.hall_deciding.specs.Passed.SlotVariants as slots
-use Rattle.hall_deciding.specs.Passed.HallKeyType.{HallKey}
-use Rattle.hall_deciding.specs.Passed.Keys.{table_of, quota_of}
-use Rattle.hall_deciding.specs.Passed.Sound.{ListIsSound}
-use Rattle.hall_deciding.specs.Passed.Takes.{HallSeat, MeetsLaw}
+use Rattle.hall_slots.specs.declared.lane_slot.LaneSlot.{LaneSlot}
+use Rattle.hall_slots.specs.declared.list_slot.ListSlot.{ListSlot}
+use Rattle.hall_slots.specs.declared.pool_slot.PoolSlot.{PoolSlot}
+use Rattle.hall_slots.specs.declared.slot.Slot.TheVariants as slots
+use Rattle.hall_slots.specs.declared.key.HallKey.{HallKey}
+use Rattle.hall_slots.specs.Keys.{table_of, quota_of}
+use Rattle.hall_slots.specs.Sound.{ListIsSound}
+use Rattle.hall_slots.specs.Takes.{HallSeat, MeetsLaw}
 use Rattle.owner_advance.specs.Reads.{HoldsItsLane}
 
 -- The top thread of the lane has come to this action without doing any, and these are under it. For each program that the key may be of this is

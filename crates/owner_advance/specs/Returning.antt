@@ -6,12 +6,12 @@ use Rattle.hall_deciding.specs.Staying.{NotesOn, AllAtPoints}
 use Rattle.hall_deciding.specs.EventParts.{MayGoOn}
 use Rattle.hall_deciding.specs.Puts.{note_of}
 use Rattle.hall_deciding.specs.declared.noting.Noting.{Noting}
-use Rattle.hall_turns.specs.Shown.{lane_shown}
-use Rattle.hall_turns.specs.Takes.{HallSeat}
-use Rattle.hall_turns.specs.declared.key.HallKey.{HallKey}
-use Rattle.hall_turns.specs.declared.lane_slot.LaneSlot.{LaneSlot}
-use Rattle.hall_turns.specs.declared.list_slot.ListSlot.{ListSlot}
-use Rattle.hall_turns.specs.declared.pool_slot.PoolSlot.{PoolSlot}
+use Rattle.hall_slots.specs.Shown.{lane_shown}
+use Rattle.hall_slots.specs.Takes.{HallSeat}
+use Rattle.hall_slots.specs.declared.key.HallKey.{HallKey}
+use Rattle.hall_slots.specs.declared.lane_slot.LaneSlot.{LaneSlot}
+use Rattle.hall_slots.specs.declared.list_slot.ListSlot.{ListSlot}
+use Rattle.hall_slots.specs.declared.pool_slot.PoolSlot.{PoolSlot}
 use Rattle.hall_deciding.specs.Writes.{Parts, parts, MayBecome}
 use Rattle.hall_deciding.specs.Taken.{pool_and_lane, list_and_lane, all_three}
 

@@ -1,13 +1,13 @@
 -- The numbers of a worker at work are within those of its hall.
 use Rattle.std.specs.Prelude.{ℕ, ◌≤◌, List}
-use Rattle.deque_machine.specs.Machine.{Setting}
-use Rattle.deque_machine.specs.Moments.{Moment}
-use Rattle.deque_machine.specs.Play.{Limits}
-use Rattle.hall_law.specs.Views.{View}
-use Rattle.hall_law.specs.Values.{Hall}
-use Rattle.hall_law.specs.Steps.{Step, Leads}
-use Rattle.hall_law.specs.Writing.{IsAtWork}
-use Rattle.hall_law.specs.State.{RunningState}
+use Rattle.hall_slots.specs.Passed.Machine.{Setting}
+use Rattle.hall_slots.specs.Passed.Moments.{Moment}
+use Rattle.hall_slots.specs.Passed.Play.{Limits}
+use Rattle.hall_machine.specs.Views.{View}
+use Rattle.hall_machine.specs.Values.{Hall}
+use Rattle.hall_machine.specs.Steps.{Step, Leads}
+use Rattle.hall_machine.specs.Writing.{IsAtWork}
+use Rattle.hall_machine.specs.State.{RunningState}
 
 -- The words of its top thread are in use, this has done no more actions than may be done, and its period has used no more than the quota.
 pub record AreWithin (s : Setting) (limits : Limits) (h : Hall) {worker : ℕ} (w : IsAtWork h worker) : Type 0 where

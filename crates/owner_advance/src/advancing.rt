@@ -2,25 +2,25 @@
 
 ghost use Rattle.std.specs.Prelude.{◌≡◌, ◌+◌, ◌<◌, ◌≤◌, ℕ, Some, IfOk, OnOk, IsSome};
 ghost use Rattle.std.specs.Option.{option_map};
-ghost use Rattle.bounded_list.specs.BoundedList.{entries, spare};
+ghost use Rattle.containers.specs.BoundedList.{entries, spare};
 ghost use Rattle.turn_table.specs.Tables.{key_of, slot_count, IsSeatOf};
-ghost use Rattle.hall_turns.specs.Shown.{running_shown};
-ghost use Rattle.hall_turns.specs.Takes.{HasAllPlaces, MeetsLaw};
-ghost use Rattle.hall_turns.specs.declared.lane_slot.LaneSlot.{LaneSlot as AnyLane};
-ghost use Rattle.hall_turns.specs.declared.lane_slot.Running.{Running as AnyRunning};
+ghost use Rattle.hall_slots.specs.Shown.{running_shown};
+ghost use Rattle.hall_slots.specs.Takes.{HasAllPlaces, MeetsLaw};
+ghost use Rattle.hall_slots.specs.declared.lane_slot.LaneSlot.{LaneSlot as AnyLane};
+ghost use Rattle.hall_slots.specs.declared.lane_slot.Running.{Running as AnyRunning};
 ghost use Rattle.owner_advance.specs.Advancing.{HasCome, IsNotBusy, IsReadable, IsRunBy, MayCome, RunsOn};
 ghost use Rattle.owner_advance.specs.Rooms.{HasRoomToRun};
 
 use crate::at_next::{AtNext, put_together, take_apart};
 use crate::memory::SeatMemory;
 use crate::rooms::reserve_lane;
+use depth_first_list::Quota;
 use deque_list::DequeId;
-use dummy_tree::Quota;
 use hall_deciding::give_short_back;
-use hall_turns::{HallPlace, HallRow, LaneSlot, take_lane};
+use hall_slots::{HallPlace, HallRow, LaneSlot, take_lane};
 use node_table::Code;
 use std::alloc::{AllocError, Global};
-use thread_events::advance;
+use thread_actions::advance;
 use thread_frames::Next;
 use turn_table::Held;
 

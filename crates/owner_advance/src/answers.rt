@@ -3,13 +3,13 @@
 ghost use Rattle.std.specs.Prelude.{◌+◌, ◌<◌, []};
 ghost use Rattle.turn_table.specs.Tables.{key_of, slot_count, IsSeatOf};
 ghost use Rattle.hall_deciding.specs.Puts.{HasPut};
-ghost use Rattle.hall_seats.specs.Lists.{answered_note};
+ghost use Rattle.hall_slots.specs.Lists.{answered_note};
 ghost use Rattle.owner_advance.specs.Answers.{GivesAnswered, HoldsAnEnd, ReturnsEnded};
 
-use boxed::Boxed;
+use containers::Boxed;
 use deque_list::DequeId;
 use hall_deciding::give_still_back;
-use hall_turns::{HallPlace, HallRow, LaneSlot, ListSlot, Slot};
+use hall_slots::{HallPlace, HallRow, LaneSlot, ListSlot, Slot};
 use std::marker::Brand;
 
 /// Puts the list back in which an end is kept, which the seat is answered.

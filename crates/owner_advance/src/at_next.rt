@@ -1,12 +1,12 @@
 //! A lane whose top thread was taken out, before its next action.
 
 ghost use Rattle.std.specs.Prelude.{◌≡◌, ◌≤◌, ◌+◌, ◌∷◌, List as AnyList, Some};
-ghost use Rattle.hall_turns.specs.declared.lane_slot.Running.{Running as AnyRunning};
+ghost use Rattle.hall_slots.specs.declared.lane_slot.Running.{Running as AnyRunning};
 ghost use Rattle.thread_frames.specs.declared.thread.Thread.{Thread as AnyThread};
 
-use boxed::Boxed;
+use containers::Boxed;
 use deque_list::Lane;
-use hall_turns::{LaneSlot, Running};
+use hall_slots::{LaneSlot, Running};
 use thread_frames::Thread;
 
 /// The lane of an owner without its top thread, the period that runs there, and the top thread.

@@ -13,8 +13,8 @@
 //! point, and a period runs; the numbers of both are within the bounds that the calls on them ask for; its deque is in the list; and what the
 //! list has of the child that its top thread joins, or of the parent of one that ends.
 //!
-//! It uses the way of a thread to its action (`thread_events`), which threads are at their points (`hall_run`), how a seat puts back what
-//! it took (`hall_deciding`), and the laws of the running state (`hall_law`). Its theorem: the thread is at its point before
+//! It uses the way of a thread to its action (`thread_actions`), which threads are at their points (`hall_interleavings`), how a seat puts back what
+//! it took (`hall_deciding`), and the laws of the running state (`hall_machine`). Its theorem: the thread is at its point before
 //! the action that the depth-first list has for it, nothing is done yet, and there is memory for what it does; each put back keeps the law
 //! of the hall between any two atomic steps and leaves its moment, the seat holds nothing then, and a stop that it notes has its cause
 //! ([`advance_laws`]).

@@ -1,12 +1,12 @@
 //! The memory that a seat has for its next event.
 
 ghost use Rattle.std.specs.Prelude.{◌≡◌, ◌≤◌, [], OnOk, IsSome};
-ghost use Rattle.bounded_list.specs.BoundedList.{entries, spare};
+ghost use Rattle.containers.specs.BoundedList.{entries, spare};
 
-use boxed::Boxed;
+use containers::Boxed;
 use dag_order::Births;
 use std::alloc::{AllocError, Global};
-use thread_events::reserve_place;
+use thread_actions::reserve_place;
 use thread_frames::{Place, Thread};
 
 /// The memory that a seat keeps for its next event.

@@ -1,5 +1,5 @@
 //! The laws of what an owner reads.
-ghost use Rattle.deque_machine.specs.Laws.{InEachSetting};
+ghost use Rattle.hall_slots.specs.Passed.Laws.{InEachSetting};
 ghost use Rattle.owner_advance.specs.Within.{OwnersAreWithin};
 ghost use Rattle.owner_advance.specs.Reads.{OwnersRead, OwnersReadPools, PoolsAreSound, KeysAreSound};
 ghost use Rattle.owner_advance.specs.Lists.{ListsAreRead, JoinsAreRead, WaitsAreRead, ResultsAreAwaited, EndsAreRead, LeavesAreRead, WordsAreInUse, KeptWordsAreInUse};

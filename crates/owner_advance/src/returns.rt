@@ -5,10 +5,10 @@ ghost use Rattle.turn_table.specs.Tables.{key_of, slot_count, IsSeatOf};
 ghost use Rattle.hall_deciding.specs.Puts.{note_of, HasPut};
 ghost use Rattle.owner_advance.specs.Returning.{ReturnsPool, ReturnsList, ReturnsAll};
 
-use boxed::Boxed;
+use containers::Boxed;
 use deque_list::DequeId;
 use hall_deciding::{Noting, put_all, put_list_and_lane, put_pool_and_lane};
-use hall_turns::{HallPlace, HallRow, LaneSlot, ListSlot, PoolSlot};
+use hall_slots::{HallPlace, HallRow, LaneSlot, ListSlot, PoolSlot};
 
 /// Puts the pool and the lane of the seat's deque back, which show what they showed.
 pub fn return_pool(

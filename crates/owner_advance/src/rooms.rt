@@ -5,13 +5,13 @@ ghost use Rattle.std.specs.Option.{option_map};
 ghost use Rattle.space_ledger.specs.BooksList.{books_spare};
 ghost use Rattle.space_ledger.specs.MovesList.{moves_spare};
 ghost use Rattle.hall_deciding.specs.Rooms.{HasMoreBooks, HasMoreToWait, HasMoreToLeave, IsSamePool};
-ghost use Rattle.hall_turns.specs.Shown.{running_shown};
-ghost use Rattle.hall_turns.specs.declared.lane_slot.Running.{Running as AnyRunning};
+ghost use Rattle.hall_slots.specs.Shown.{running_shown};
+ghost use Rattle.hall_slots.specs.declared.lane_slot.Running.{Running as AnyRunning};
 ghost use Rattle.owner_advance.specs.Rooms.{HasRoomToRun};
 
-use boxed::Boxed;
-use hall_turns::{LaneSlot, ListSlot, PoolSlot, Running};
-use period_table::reserve_in;
+use containers::Boxed;
+use hall_slots::{LaneSlot, ListSlot, PoolSlot, Running};
+use open_periods::reserve_in;
 use std::alloc::AllocError;
 
 /// Makes room for an action in the period that runs in a lane, and for a birth, if it is not the first one.

@@ -3,15 +3,15 @@ use Rattle.std.proofs.Common.{◌≡◌, ℕ, ◌+◌, ◌≤◌, ◌<◌, inl, 
 use Rattle.std.proofs.Math.Logic.{∥∥₁_map}
 use Rattle.std.proofs.lemmas.Bool.{le-leb, lt-leb}
 use Rattle.std.specs.Prelude.{cond}
-use Rattle.deque_machine.specs.Play.{taken_by}
+use Rattle.hall_slots.specs.Passed.Play.{taken_by}
 use Rattle.depth_first_list.specs.Actions.{Deed, allocates}
 use Rattle.depth_first_list.specs.Facts.{words_at}
 use Rattle.depth_first_run.specs.Run.{list_of}
-use Rattle.owner_acts.specs.Decided.EventParts.{MayDoNext}
-use Rattle.hall_turns.specs.Keys.{quota_of}
-use Rattle.hall_turns.specs.declared.key.HallKey.{HallKey}
-use Rattle.lawful_books.specs.Books.{charge}
-use Rattle.moment_parts.specs.Events.{MayDo}
+use Rattle.owner_acts.specs.Passed.EventParts.{MayDoNext}
+use Rattle.hall_slots.specs.Keys.{quota_of}
+use Rattle.hall_slots.specs.declared.key.HallKey.{HallKey}
+use Rattle.hall_slots.specs.Passed.Books.{charge}
+use Rattle.thread_frames.specs.Passed.Events.{MayDo}
 use Rattle.owner_advance.specs.declared.at_next.AtNext.{AtNext}
 use Rattle.owner_events.specs.Taking.{AsksByTheList, words_asked_by}
 use Rattle.thread_frames.specs.declared.next.Next.{Next}

@@ -7,10 +7,10 @@ use Rattle.turn_table.specs.Hands.{gave, refused as refused_hand, renewed, witho
 use Rattle.turn_table.specs.Seats.{with_hand}
 use Rattle.turn_table.proofs.Left.{left_of_one}
 use Rattle.turn_table.specs.Backs.{kept, still, unchanged}
-use Rattle.hall_turns.specs.Takes.{HallSeat, IsGiven, IsRefused, IsTaken}
-use Rattle.hall_turns.specs.declared.lane_slot.LaneSlot.{LaneSlot}
-use Rattle.hall_turns.specs.declared.slot.Slot.{Slot}
-use Rattle.hall_turns.specs.declared.slot.Slot.TheVariants as slots
+use Rattle.hall_slots.specs.Takes.{HallSeat, IsGiven, IsRefused, IsTaken}
+use Rattle.hall_slots.specs.declared.lane_slot.LaneSlot.{LaneSlot}
+use Rattle.hall_slots.specs.declared.slot.Slot.{Slot}
+use Rattle.hall_slots.specs.declared.slot.Slot.TheVariants as slots
 use Rattle.owner_advance.specs.Advancing.{took_lane}
 use Rattle.owner_events.specs.Yielding.{IsBusy}
 

@@ -2,10 +2,10 @@
 use Rattle.std.proofs.Common.{◌≡◌, ℕ, ◌+◌, [], ◌∷◌, ◌++◌, inl, inr, refl, sym, ap, ◌∙◌}
 use Rattle.std.specs.Prelude.{Result, Ok, Err}
 use Rattle.deque_list.specs.declared.deque_id.DequeId.{DequeId}
-use Rattle.hall_turns.specs.Takes.{HallSeat, IsRefused, IsTaken}
-use Rattle.hall_turns.specs.declared.key.HallKey.{HallKey}
-use Rattle.hall_turns.specs.declared.lane_slot.LaneSlot.{LaneSlot}
-use Rattle.hall_turns.specs.declared.slot.Slot.TheVariants as slots
+use Rattle.hall_slots.specs.Takes.{HallSeat, IsRefused, IsTaken}
+use Rattle.hall_slots.specs.declared.key.HallKey.{HallKey}
+use Rattle.hall_slots.specs.declared.lane_slot.LaneSlot.{LaneSlot}
+use Rattle.hall_slots.specs.declared.slot.Slot.TheVariants as slots
 use Rattle.owner_advance.specs.Advancing.{HasLooked, IsAtNext, took_lane}
 use Rattle.owner_advance.specs.declared.at_next.AtNext.{AtNext}
 use Rattle.owner_events.proofs.Doing.{taken_leaves}
@@ -17,7 +17,7 @@ use Rattle.owner_events.specs.Holding.{Fails, IsAnySlot, found_note}
 use Rattle.owner_events.specs.Needs.{MayTry}
 use Rattle.owner_events.specs.declared.refused.ActRefused.{ActRefused}
 use Rattle.owner_events.specs.declared.refused.ActRefused.TheVariants.{Busy, Stopped}
-use Rattle.run_end.specs.declared.stop.Stop.TheVariants.{OutOfMemory}
+use Rattle.play_rules.specs.declared.stop.Stop.TheVariants.{OutOfMemory}
 use Rattle.thread_frames.specs.declared.next.Next.{Next}
 use Rattle.turn_table.specs.Seats.{with_hand}
 use Rattle.turn_table.specs.declared.held.Held.{Held}

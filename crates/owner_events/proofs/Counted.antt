@@ -2,17 +2,17 @@
 use Rattle.std.proofs.Common.{ℕ, List, [], ◌∷◌, ◌++◌, inl, inr, sym, ap, ◌∙◌, subst}
 use Rattle.std.specs.Prelude.{Some}
 use Rattle.deque_list.specs.declared.deque_id.DequeId.{DequeId}
-use Rattle.run_end.specs.declared.stop.Stop.{Stop}
+use Rattle.play_rules.specs.declared.stop.Stop.{Stop}
 use Rattle.thread_frames.specs.declared.next.Next.{Next}
 use Rattle.turn_table.specs.declared.look.Look.TheVariants.{Counted}
 use Rattle.turn_table.specs.Seats.{with_hand}
-use Rattle.hall_seats.specs.Counting.{HasCounted, HasFoundSpent, MayDraw}
-use Rattle.owner_acts.specs.Decided.Puts.{HasPut}
-use Rattle.owner_acts.specs.Decided.EventParts.{MayGoOn}
-use Rattle.hall_turns.specs.Takes.{HallSeat}
-use Rattle.hall_turns.specs.declared.key.HallKey.{HallKey}
-use Rattle.hall_turns.specs.declared.lane_slot.LaneSlot.{LaneSlot}
-use Rattle.hall_turns.specs.declared.slot.Slot.{Slot}
+use Rattle.hall_slots.specs.Counting.{HasCounted, HasFoundSpent, MayDraw}
+use Rattle.owner_acts.specs.Passed.Puts.{HasPut}
+use Rattle.owner_acts.specs.Passed.EventParts.{MayGoOn}
+use Rattle.hall_slots.specs.Takes.{HallSeat}
+use Rattle.hall_slots.specs.declared.key.HallKey.{HallKey}
+use Rattle.hall_slots.specs.declared.lane_slot.LaneSlot.{LaneSlot}
+use Rattle.hall_slots.specs.declared.slot.Slot.{Slot}
 use Rattle.owner_advance.specs.declared.at_next.AtNext.{AtNext}
 use Rattle.owner_events.specs.Holding.{Fails, IsHolding, IsBefore, IsNoSlot, Shows}
 use Rattle.owner_events.specs.Taking.{Draws}

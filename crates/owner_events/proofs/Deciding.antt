@@ -1,17 +1,17 @@
 -- What the next action of an owner asks for, by what it may do.
 use Rattle.std.proofs.Common.{◌≡◌, ℕ, ◌+◌, ◌<◌, true, false, [], ◌∷◌, sym, ap, ◌∙◌, subst}
 use Rattle.std.specs.Prelude.{IsTrue}
-use Rattle.bounded_list.specs.BoundedList.{entries, spare}
+use Rattle.containers.specs.BoundedList.{entries, spare}
 use Rattle.dag_order.specs.declared.thread_id.ThreadId.{ThreadId}
 use Rattle.deque_list.specs.declared.deque_id.DequeId.{DequeId}
-use Rattle.owner_acts.specs.Decided.ListRuns.{IsTooMuch}
-use Rattle.owner_acts.specs.Decided.Taken.{its_lane}
+use Rattle.owner_acts.specs.Passed.ListRuns.{IsTooMuch}
+use Rattle.owner_acts.specs.Passed.Taken.{its_lane}
 use Rattle.owner_advance.proofs.Joining.{joins_are_read}
-use Rattle.hall_turns.specs.Keys.{quota_of}
-use Rattle.hall_turns.specs.Takes.{HallSeat, IsTaken, MeetsLaw}
-use Rattle.hall_turns.specs.declared.key.HallKey.{HallKey}
-use Rattle.hall_turns.specs.declared.lane_slot.LaneSlot.{LaneSlot}
-use Rattle.hall_turns.specs.declared.slot.Slot.TheVariants as slots
+use Rattle.hall_slots.specs.Keys.{quota_of}
+use Rattle.hall_slots.specs.Takes.{HallSeat, IsTaken, MeetsLaw}
+use Rattle.hall_slots.specs.declared.key.HallKey.{HallKey}
+use Rattle.hall_slots.specs.declared.lane_slot.LaneSlot.{LaneSlot}
+use Rattle.hall_slots.specs.declared.slot.Slot.TheVariants as slots
 use Rattle.owner_acts.proofs.Charging.{ready_may_be_done, spent_is_too_much}
 use Rattle.owner_acts.specs.Quotas.{MayUse}
 use Rattle.owner_advance.specs.Advancing.{IsAtNext, MayCome}
@@ -20,8 +20,8 @@ use Rattle.owner_advance.specs.declared.memory.SeatMemory.{SeatMemory}
 use Rattle.owner_events.proofs.Held.{comes, with_lane}
 use Rattle.owner_events.specs.Ready.{IsReadyTo}
 use Rattle.owner_events.proofs.Following.{note}
-use Rattle.thread_events.specs.Readiness.{IsReadiness}
-use Rattle.thread_events.specs.declared.readiness.Readiness.TheVariants.{Ready, Spent, Missing}
+use Rattle.thread_actions.specs.Readiness.{IsReadiness}
+use Rattle.thread_actions.specs.declared.readiness.Readiness.TheVariants.{Ready, Spent, Missing}
 use Rattle.thread_frames.specs.Actions.{is_there}
 use Rattle.thread_frames.specs.Children.{is_delivered}
 use Rattle.thread_frames.specs.Views.{children_of, newest}

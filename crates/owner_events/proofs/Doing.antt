@@ -3,7 +3,7 @@ use Rattle.std.proofs.Common.{◌≡◌, ◌≢◌, ℕ, Option, List, [], ◌�
 use Rattle.std.specs.Result.{IsErrAnd}
 use Rattle.std.specs.Prelude.{Some, Result, Ok, Err}
 use Rattle.deque_list.specs.declared.deque_id.DequeId.{DequeId}
-use Rattle.thread_events.specs.Results.{FirstAwaits}
+use Rattle.thread_actions.specs.Results.{FirstAwaits}
 use Rattle.thread_frames.specs.declared.next.Next.{Next}
 use Rattle.thread_frames.specs.declared.thread.Thread.{Thread}
 use Rattle.turn_table.specs.declared.look.Look.{Look}
@@ -12,15 +12,15 @@ use Rattle.turn_table.specs.Seats.{SeatView, with_hand}
 use Rattle.turn_table.specs.Tables.{IsSeatOf}
 use Rattle.turn_table.specs.declared.hand.Hand.{Hand}
 use Rattle.turn_table.specs.declared.turns.Turns.{Turns}
-use Rattle.owner_acts.specs.Decided.Puts.{HasPut}
-use Rattle.owner_acts.specs.Decided.Writes.{told_note}
-use Rattle.hall_turns.specs.Takes.{HallSeat, IsTaken}
-use Rattle.hall_turns.specs.declared.event.Event.{Event}
-use Rattle.hall_turns.specs.declared.key.HallKey.{HallKey}
-use Rattle.hall_turns.specs.declared.lane_slot.LaneSlot.{LaneSlot}
-use Rattle.hall_turns.specs.declared.list_slot.ListSlot.{ListSlot}
-use Rattle.hall_turns.specs.declared.slot.Slot.{Slot}
-use Rattle.hall_turns.specs.declared.slot.Slot.TheVariants as slots
+use Rattle.owner_acts.specs.Passed.Puts.{HasPut}
+use Rattle.owner_acts.specs.Passed.Writes.{told_note}
+use Rattle.hall_slots.specs.Takes.{HallSeat, IsTaken}
+use Rattle.hall_slots.specs.declared.event.Event.{Event}
+use Rattle.hall_slots.specs.declared.key.HallKey.{HallKey}
+use Rattle.hall_slots.specs.declared.lane_slot.LaneSlot.{LaneSlot}
+use Rattle.hall_slots.specs.declared.list_slot.ListSlot.{ListSlot}
+use Rattle.hall_slots.specs.declared.slot.Slot.{Slot}
+use Rattle.hall_slots.specs.declared.slot.Slot.TheVariants as slots
 use Rattle.owner_advance.specs.Advancing.{HasLooked}
 use Rattle.owner_advance.specs.declared.at_next.AtNext.{AtNext}
 use Rattle.owner_events.proofs.Following.{fails, looked, note}

@@ -1,16 +1,16 @@
 -- How a seat fails, by the slots that it tried.
 use Rattle.std.proofs.Common.{◌≡◌, ◌⊎◌, ◌∙◌, ℕ, Bool, true, false, true≢false, List, [], ◌∷◌, inl, inr, sym}
-use Rattle.owner_acts.specs.Decided.ListRuns.{IsTooMuch}
-use Rattle.hall_turns.specs.Takes.{HallSeat}
-use Rattle.hall_turns.specs.declared.key.HallKey.{HallKey}
-use Rattle.hall_turns.specs.declared.slot.Slot.{Slot}
-use Rattle.lawful_books.specs.Lists.{Each}
+use Rattle.owner_acts.specs.Passed.ListRuns.{IsTooMuch}
+use Rattle.hall_slots.specs.Takes.{HallSeat}
+use Rattle.hall_slots.specs.declared.key.HallKey.{HallKey}
+use Rattle.hall_slots.specs.declared.slot.Slot.{Slot}
+use Rattle.hall_slots.specs.Passed.Lists.{Each}
 use Rattle.owner_advance.specs.declared.at_next.AtNext.{AtNext}
 use Rattle.owner_events.specs.Holding.{AreOfStop, Fails, IsListSlot, IsLookAt, IsNoSlot, IsPoolSlot}
 use Rattle.owner_events.specs.Needs.{ActionNeedsList, ActionNeedsPool, MayTry}
 use Rattle.owner_events.specs.declared.refused.ActRefused.{ActRefused}
 use Rattle.owner_events.specs.declared.refused.ActRefused.TheVariants.{Busy, Over, Stopped}
-use Rattle.run_end.specs.declared.stop.Stop.{Stop}
+use Rattle.play_rules.specs.declared.stop.Stop.{Stop}
 use Rattle.thread_frames.specs.declared.next.Next.{Next}
 use Rattle.turn_table.specs.declared.look.Look.{Look}
 use Rattle.turn_table.specs.declared.look.Look.TheVariants.{Took, Refused, Counted}

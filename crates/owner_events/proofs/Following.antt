@@ -5,14 +5,14 @@ use Rattle.thread_frames.specs.declared.next.Next.{Next}
 use Rattle.turn_table.specs.declared.look.Look.{Look}
 use Rattle.turn_table.specs.declared.look.Look.TheVariants.{Took, Refused}
 use Rattle.turn_table.specs.Seats.{with_hand}
-use Rattle.owner_acts.specs.Decided.EventParts.{MayGoOn}
-use Rattle.hall_seats.specs.Lists.{answered_note}
-use Rattle.hall_turns.specs.Takes.{HallSeat, HasAllPlaces, IsTaken}
-use Rattle.hall_turns.specs.declared.key.HallKey.{HallKey}
-use Rattle.hall_turns.specs.declared.lane_slot.LaneSlot.{LaneSlot}
-use Rattle.hall_turns.specs.declared.seat_note.SeatNote.{SeatNote}
-use Rattle.hall_turns.specs.declared.slot.Slot.{Slot}
-use Rattle.hall_turns.specs.declared.slot.Slot.TheVariants as slots
+use Rattle.owner_acts.specs.Passed.EventParts.{MayGoOn}
+use Rattle.hall_slots.specs.Lists.{answered_note}
+use Rattle.hall_slots.specs.Takes.{HallSeat, HasAllPlaces, IsTaken}
+use Rattle.hall_slots.specs.declared.key.HallKey.{HallKey}
+use Rattle.hall_slots.specs.declared.lane_slot.LaneSlot.{LaneSlot}
+use Rattle.hall_slots.specs.declared.seat_note.SeatNote.{SeatNote}
+use Rattle.hall_slots.specs.declared.slot.Slot.{Slot}
+use Rattle.hall_slots.specs.declared.slot.Slot.TheVariants as slots
 use Rattle.owner_advance.specs.Advancing.{HasLooked}
 use Rattle.owner_advance.specs.declared.at_next.AtNext.{AtNext}
 use Rattle.owner_events.proofs.Failing.{of_stop_too}

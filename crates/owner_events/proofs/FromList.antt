@@ -4,8 +4,8 @@ use Rattle.std.specs.Prelude.{None, Some}
 use Rattle.dag_order.specs.Births.{root}
 use Rattle.dag_order.specs.declared.thread_id.ThreadId.{ThreadId}
 use Rattle.deque_list.specs.declared.deque_id.DequeId.{DequeId}
-use Rattle.lawful_books.specs.Lists.{Each}
-use Rattle.hall_turns.specs.Passed.Parts.{Has}
+use Rattle.hall_slots.specs.Passed.Lists.{Each}
+use Rattle.hall_slots.specs.Passed.Parts.{Has}
 use Rattle.space_ledger.specs.BooksList.{books_spare}
 use Rattle.thread_frames.specs.Children.{is_delivered}
 use Rattle.thread_frames.specs.Kept.{WaitsUnder, IsUnderItsId}
@@ -15,17 +15,17 @@ use Rattle.thread_frames.specs.declared.next.Next.TheVariants as nexts
 use Rattle.thread_frames.specs.declared.thread.Thread.{Thread}
 use Rattle.thread_map.specs.Kept.{kept_under}
 use Rattle.turn_table.specs.Notes.{HasAs}
-use Rattle.owner_acts.specs.Decided.Rooms.{KeepsDeques, HasMoreToLeave, HasMoreToWait}
+use Rattle.owner_acts.specs.Passed.Rooms.{KeepsDeques, HasMoreToLeave, HasMoreToWait}
 use Rattle.owner_advance.proofs.Ending.{leaves_are_read}
 use Rattle.owner_advance.proofs.Joining.{joins_are_read, waits_are_read, results_are_awaited}
 use Rattle.owner_advance.proofs.Listing.{lists_are_read}
 use Rattle.owner_advance.specs.Lists.{ComesTo, ReadsJoin, ReadsLeave, ReadsList, ReadsWait}
 use Rattle.owner_advance.specs.Reads.{HoldsItsLane}
-use Rattle.hall_turns.specs.Takes.{HallSeat, MeetsLaw}
-use Rattle.hall_turns.specs.declared.key.HallKey.{HallKey}
-use Rattle.hall_turns.specs.declared.lane_slot.LaneSlot.{LaneSlot}
-use Rattle.hall_turns.specs.declared.list_slot.ListSlot.{ListSlot}
-use Rattle.hall_turns.specs.declared.slot.Slot.TheVariants as slots
+use Rattle.hall_slots.specs.Takes.{HallSeat, MeetsLaw}
+use Rattle.hall_slots.specs.declared.key.HallKey.{HallKey}
+use Rattle.hall_slots.specs.declared.lane_slot.LaneSlot.{LaneSlot}
+use Rattle.hall_slots.specs.declared.list_slot.ListSlot.{ListSlot}
+use Rattle.hall_slots.specs.declared.slot.Slot.TheVariants as slots
 use Rattle.owner_acts.specs.Ends.{CanLeave, CanWake}
 use Rattle.owner_acts.specs.Kept.{CanJoinKept}
 use Rattle.owner_acts.specs.Pauses.{CanClose, CanWait}

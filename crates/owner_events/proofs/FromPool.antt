@@ -3,15 +3,15 @@ use Rattle.std.proofs.Common.{◌≡◌, ℕ, ◌+◌, ◌≤◌, [], inr, refl,
 use Rattle.std.specs.Prelude.{None, Some, Ok}
 use Rattle.dag_order.specs.declared.action_id.ActionId.{ActionId}
 use Rattle.deque_list.specs.declared.deque_id.DequeId.{DequeId}
-use Rattle.owner_acts.specs.Decided.Puts.{HasPut}
-use Rattle.owner_acts.specs.Decided.EventParts.{IsNext, MayAct, MayDoNext}
-use Rattle.owner_acts.specs.Decided.Writes.{told_note}
-use Rattle.owner_acts.specs.Decided.Taken.{pool_and_lane}
+use Rattle.owner_acts.specs.Passed.Puts.{HasPut}
+use Rattle.owner_acts.specs.Passed.EventParts.{IsNext, MayAct, MayDoNext}
+use Rattle.owner_acts.specs.Passed.Writes.{told_note}
+use Rattle.owner_acts.specs.Passed.Taken.{pool_and_lane}
 use Rattle.owner_advance.specs.Lists.{words_back}
-use Rattle.hall_turns.specs.Takes.{HallSeat}
-use Rattle.hall_turns.specs.declared.event.Event.TheVariants.{Did}
-use Rattle.hall_turns.specs.declared.key.HallKey.{HallKey}
-use Rattle.hall_turns.specs.declared.pool_slot.PoolSlot.{PoolSlot}
+use Rattle.hall_slots.specs.Takes.{HallSeat}
+use Rattle.hall_slots.specs.declared.event.Event.TheVariants.{Did}
+use Rattle.hall_slots.specs.declared.key.HallKey.{HallKey}
+use Rattle.hall_slots.specs.declared.pool_slot.PoolSlot.{PoolSlot}
 use Rattle.owner_acts.specs.Ready.{IsReadyWithPool, PoolIsReady}
 use Rattle.owner_advance.specs.declared.at_next.AtNext.{AtNext}
 use Rattle.owner_events.proofs.Held.{is_ready}

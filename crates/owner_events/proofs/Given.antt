@@ -2,21 +2,21 @@
 use Rattle.std.proofs.Common.{◌≡◌, ℕ, List, ◌∷◌, sym, subst}
 use Rattle.std.specs.Prelude.{Some}
 use Rattle.deque_list.specs.declared.deque_id.DequeId.{DequeId}
-use Rattle.lawful_books.specs.Lists.{Each}
+use Rattle.hall_slots.specs.Passed.Lists.{Each}
 use Rattle.thread_frames.specs.Points.{IsAtPoint}
 use Rattle.thread_frames.specs.declared.next.Next.{Next}
-use Rattle.owner_acts.specs.Decided.Own.{IsStillThere}
-use Rattle.owner_acts.specs.Decided.Rooms.{HasMoreRoom, IsSamePool}
-use Rattle.owner_acts.specs.Decided.Writes.{Parts, parts}
-use Rattle.owner_acts.specs.Decided.Taken.{its_lane, pool_and_lane, list_and_lane, all_three}
-use Rattle.owner_acts.specs.Decided.Notings.{Noting}
-use Rattle.hall_turns.specs.Keys.{table_of, quota_of}
-use Rattle.hall_turns.specs.Takes.{HallSeat}
-use Rattle.hall_turns.specs.declared.key.HallKey.{HallKey}
-use Rattle.hall_turns.specs.declared.lane_slot.LaneSlot.{LaneSlot}
-use Rattle.hall_turns.specs.declared.list_slot.ListSlot.{ListSlot}
-use Rattle.hall_turns.specs.declared.pool_slot.PoolSlot.{PoolSlot}
-use Rattle.hall_turns.specs.declared.slot.Slot.{Slot}
+use Rattle.owner_acts.specs.Passed.Own.{IsStillThere}
+use Rattle.owner_acts.specs.Passed.Rooms.{HasMoreRoom, IsSamePool}
+use Rattle.owner_acts.specs.Passed.Writes.{Parts, parts}
+use Rattle.owner_acts.specs.Passed.Taken.{its_lane, pool_and_lane, list_and_lane, all_three}
+use Rattle.owner_acts.specs.Passed.Noting.{Noting}
+use Rattle.hall_slots.specs.Keys.{table_of, quota_of}
+use Rattle.hall_slots.specs.Takes.{HallSeat}
+use Rattle.hall_slots.specs.declared.key.HallKey.{HallKey}
+use Rattle.hall_slots.specs.declared.lane_slot.LaneSlot.{LaneSlot}
+use Rattle.hall_slots.specs.declared.list_slot.ListSlot.{ListSlot}
+use Rattle.hall_slots.specs.declared.pool_slot.PoolSlot.{PoolSlot}
+use Rattle.hall_slots.specs.declared.slot.Slot.{Slot}
 use Rattle.owner_advance.proofs.Readable.{shows_the_same}
 use Rattle.owner_advance.specs.declared.at_next.AtNext.{AtNext}
 use Rattle.owner_advance.specs.Returning.{MayNote, ReturnsLane, ReturnsPool, ReturnsList, ReturnsAll}

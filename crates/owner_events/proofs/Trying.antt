@@ -2,29 +2,29 @@
 use Rattle.std.proofs.Common.{◌≡◌, ℕ, ◌+◌, ◌≤◌, ◌<◌, List, [], ◌∷◌, ◌++◌, inl, inr, refl, sym, ap, ◌∙◌, subst, append-nil}
 use Rattle.std.specs.Prelude.{Some}
 use Rattle.deque_list.specs.declared.deque_id.DequeId.{DequeId}
-use Rattle.run_end.specs.declared.ends.RunEnd.{RunEnd}
-use Rattle.run_end.specs.declared.stop.Stop.{Stop}
-use Rattle.run_end.specs.declared.stop.Stop.TheVariants.{ArenaFull, OutOfMemory}
+use Rattle.play_rules.specs.declared.ends.RunEnd.{RunEnd}
+use Rattle.play_rules.specs.declared.stop.Stop.{Stop}
+use Rattle.play_rules.specs.declared.stop.Stop.TheVariants.{ArenaFull, OutOfMemory}
 use Rattle.thread_frames.specs.declared.next.Next.{Next}
 use Rattle.turn_table.specs.Notes.{HasAs}
 use Rattle.turn_table.specs.declared.held.Held.{Held}
 use Rattle.turn_table.specs.declared.look.Look.TheVariants.{Took, Refused}
 use Rattle.turn_table.specs.Seats.{with_hand}
-use Rattle.owner_acts.specs.Decided.Puts.{HasPut}
-use Rattle.owner_acts.specs.Decided.EventParts.{MayGoOn, MayPause}
-use Rattle.owner_acts.specs.Decided.Writes.{Parts}
-use Rattle.owner_acts.specs.Decided.Taken.{its_lane}
-use Rattle.owner_acts.specs.Decided.Notings.TheVariants.{Found}
+use Rattle.owner_acts.specs.Passed.Puts.{HasPut}
+use Rattle.owner_acts.specs.Passed.EventParts.{MayGoOn, MayPause}
+use Rattle.owner_acts.specs.Passed.Writes.{Parts}
+use Rattle.owner_acts.specs.Passed.Taken.{its_lane}
+use Rattle.owner_acts.specs.Passed.NotingVariants.{Found}
 use Rattle.owner_advance.proofs.Reading.{pools_are_sound}
-use Rattle.hall_seats.specs.Lists.{answered_note}
-use Rattle.hall_turns.specs.Sound.{PoolIsSound}
-use Rattle.hall_turns.specs.Takes.{HallSeat, IsTaken, IsRefused, MeetsLaw}
-use Rattle.hall_turns.specs.declared.key.HallKey.{HallKey}
-use Rattle.hall_turns.specs.declared.lane_slot.LaneSlot.{LaneSlot}
-use Rattle.hall_turns.specs.declared.list_slot.ListSlot.{ListSlot}
-use Rattle.hall_turns.specs.declared.pool_slot.PoolSlot.{PoolSlot}
-use Rattle.hall_turns.specs.declared.slot.Slot.{Slot}
-use Rattle.hall_turns.specs.declared.slot.Slot.TheVariants as slots
+use Rattle.hall_slots.specs.Lists.{answered_note}
+use Rattle.hall_slots.specs.Sound.{PoolIsSound}
+use Rattle.hall_slots.specs.Takes.{HallSeat, IsTaken, IsRefused, MeetsLaw}
+use Rattle.hall_slots.specs.declared.key.HallKey.{HallKey}
+use Rattle.hall_slots.specs.declared.lane_slot.LaneSlot.{LaneSlot}
+use Rattle.hall_slots.specs.declared.list_slot.ListSlot.{ListSlot}
+use Rattle.hall_slots.specs.declared.pool_slot.PoolSlot.{PoolSlot}
+use Rattle.hall_slots.specs.declared.slot.Slot.{Slot}
+use Rattle.hall_slots.specs.declared.slot.Slot.TheVariants as slots
 use Rattle.owner_advance.specs.declared.at_next.AtNext.{AtNext}
 use Rattle.owner_advance.proofs.Noting.{full_arenas_may_be_noted, memory_may_be_noted}
 use Rattle.owner_advance.proofs.Returned.{same_pool}

@@ -2,19 +2,19 @@
 use Rattle.std.proofs.Common.{◌≡◌, ℕ, ◌≤◌, [], ◌∷◌, sym, ◌∙◌, subst}
 use Rattle.std.specs.Prelude.{Option, Some, Ok}
 use Rattle.deque_list.specs.declared.deque_id.DequeId.{DequeId}
-use Rattle.owner_acts.specs.Decided.Puts.{HasPut}
-use Rattle.owner_acts.specs.Decided.EventParts.{IsNext, MayAct}
-use Rattle.owner_acts.specs.Decided.Writes.{told_note}
-use Rattle.owner_acts.specs.Decided.Taken.{all_three}
+use Rattle.owner_acts.specs.Passed.Puts.{HasPut}
+use Rattle.owner_acts.specs.Passed.EventParts.{IsNext, MayAct}
+use Rattle.owner_acts.specs.Passed.Writes.{told_note}
+use Rattle.owner_acts.specs.Passed.Taken.{all_three}
 use Rattle.owner_advance.proofs.InUse.{words_are_in_use}
 use Rattle.owner_advance.specs.Lists.{words_back, ComesTo}
 use Rattle.owner_advance.specs.Reads.{HoldsItsLane}
-use Rattle.hall_turns.specs.Takes.{HallSeat, MeetsLaw}
-use Rattle.hall_turns.specs.declared.event.Event.{Event}
-use Rattle.hall_turns.specs.declared.key.HallKey.{HallKey}
-use Rattle.hall_turns.specs.declared.list_slot.ListSlot.{ListSlot}
-use Rattle.hall_turns.specs.declared.pool_slot.PoolSlot.{PoolSlot}
-use Rattle.hall_turns.specs.declared.slot.Slot.TheVariants as slots
+use Rattle.hall_slots.specs.Takes.{HallSeat, MeetsLaw}
+use Rattle.hall_slots.specs.declared.event.Event.{Event}
+use Rattle.hall_slots.specs.declared.key.HallKey.{HallKey}
+use Rattle.hall_slots.specs.declared.list_slot.ListSlot.{ListSlot}
+use Rattle.hall_slots.specs.declared.pool_slot.PoolSlot.{PoolSlot}
+use Rattle.hall_slots.specs.declared.slot.Slot.TheVariants as slots
 use Rattle.owner_acts.specs.Ready.{IsReady, PoolIsReady}
 use Rattle.owner_advance.proofs.Returned.{same_sound}
 use Rattle.owner_advance.specs.Advancing.{HasLooked}

@@ -4,17 +4,17 @@ use Rattle.std.proofs.lemmas.List.Sorted.{IsPermutation-refl}
 use Rattle.std.specs.Prelude.{Option, None, Some, IsSome}
 use Rattle.dag_order.specs.declared.thread_id.ThreadId.{ThreadId}
 use Rattle.deque_list.specs.declared.deque_id.DequeId.{DequeId}
-use Rattle.owner_acts.specs.Decided.Puts.{HasPut}
-use Rattle.owner_acts.specs.Decided.Rooms.{KeepsDeques, HasMoreBooks, HasMoreRoom, HasMoreToLeave, HasMoreToWait}
-use Rattle.owner_acts.specs.Decided.Writes.{told_note}
-use Rattle.owner_acts.specs.Decided.Taken.{list_and_lane}
+use Rattle.owner_acts.specs.Passed.Puts.{HasPut}
+use Rattle.owner_acts.specs.Passed.Rooms.{KeepsDeques, HasMoreBooks, HasMoreRoom, HasMoreToLeave, HasMoreToWait}
+use Rattle.owner_acts.specs.Passed.Writes.{told_note}
+use Rattle.owner_acts.specs.Passed.Taken.{list_and_lane}
 use Rattle.owner_advance.specs.Lists.{ComesTo}
 use Rattle.owner_advance.specs.Reads.{HoldsItsLane}
-use Rattle.hall_turns.specs.Takes.{HallSeat, MeetsLaw}
-use Rattle.hall_turns.specs.declared.event.Event.{Event}
-use Rattle.hall_turns.specs.declared.key.HallKey.{HallKey}
-use Rattle.hall_turns.specs.declared.list_slot.ListSlot.{ListSlot}
-use Rattle.hall_turns.specs.declared.slot.Slot.TheVariants as slots
+use Rattle.hall_slots.specs.Takes.{HallSeat, MeetsLaw}
+use Rattle.hall_slots.specs.declared.event.Event.{Event}
+use Rattle.hall_slots.specs.declared.key.HallKey.{HallKey}
+use Rattle.hall_slots.specs.declared.list_slot.ListSlot.{ListSlot}
+use Rattle.hall_slots.specs.declared.slot.Slot.TheVariants as slots
 use Rattle.owner_acts.specs.Pauses.{CanClose}
 use Rattle.owner_acts.specs.Ready.{IsReadyWithList}
 use Rattle.owner_advance.specs.Advancing.{HasLooked}
@@ -28,7 +28,7 @@ use Rattle.thread_frames.specs.declared.ended.Ended.{Ended}
 use Rattle.thread_frames.specs.declared.next.Next.{Next}
 use Rattle.thread_frames.specs.declared.thread.Thread.{Thread}
 use Rattle.thread_map.specs.Kept.{Kept, KeepsTheSame, kept_under}
-use Rattle.thread_state.specs.Joins.{released}
+use Rattle.thread_frames.specs.Passed.Joins.{released}
 use Rattle.turn_table.specs.Notes.{HasAs}
 use Rattle.turn_table.specs.Seats.{with_hand}
 

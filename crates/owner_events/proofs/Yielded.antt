@@ -5,11 +5,11 @@ use Rattle.std.specs.Option.{option_map}
 use Rattle.std.proofs.lemmas.Option.{none-some}
 use Rattle.dag_order.specs.declared.finish.Finish.{Finish}
 use Rattle.deque_list.specs.declared.deque_id.DequeId.{DequeId}
-use Rattle.lawful_books.specs.Lists.{Each}
-use Rattle.run_end.specs.declared.ends.RunEnd.{RunEnd}
-use Rattle.run_end.specs.declared.ends.RunEnd.TheVariants.{Finished}
-use Rattle.run_end.specs.declared.stop.Stop.{Stop}
-use Rattle.run_end.specs.declared.stop.Stop.TheVariants.{OutOfMemory}
+use Rattle.hall_slots.specs.Passed.Lists.{Each}
+use Rattle.play_rules.specs.declared.ends.RunEnd.{RunEnd}
+use Rattle.play_rules.specs.declared.ends.RunEnd.TheVariants.{Finished}
+use Rattle.play_rules.specs.declared.stop.Stop.{Stop}
+use Rattle.play_rules.specs.declared.stop.Stop.TheVariants.{OutOfMemory}
 use Rattle.space_ledger.specs.BooksList.{books_spare}
 use Rattle.thread_frames.specs.Actions.{IsStill}
 use Rattle.thread_frames.specs.Points.{IsAtPoint}
@@ -18,28 +18,28 @@ use Rattle.turn_table.specs.Notes.{HasAs, notes}
 use Rattle.turn_table.proofs.NoteLaws.{notes_at}
 use Rattle.turn_table.specs.declared.look.Look.TheVariants.{Took}
 use Rattle.turn_table.specs.Seats.{with_hand}
-use Rattle.owner_acts.specs.Decided.Lists as deciding
-use Rattle.owner_acts.specs.Decided.Puts.{note_of, HasPut}
-use Rattle.owner_acts.specs.Decided.Rooms.{HasMoreBooks}
-use Rattle.owner_acts.specs.Decided.EventParts.{MayPause}
-use Rattle.owner_acts.specs.Decided.Taken.{list_and_lane}
-use Rattle.owner_acts.specs.Decided.Writes.{Parts}
-use Rattle.owner_acts.specs.Decided.Notings.{Noting}
+use Rattle.owner_acts.specs.Passed.Lists as deciding
+use Rattle.owner_acts.specs.Passed.Puts.{note_of, HasPut}
+use Rattle.owner_acts.specs.Passed.Rooms.{HasMoreBooks}
+use Rattle.owner_acts.specs.Passed.EventParts.{MayPause}
+use Rattle.owner_acts.specs.Passed.Taken.{list_and_lane}
+use Rattle.owner_acts.specs.Passed.Writes.{Parts}
+use Rattle.owner_acts.specs.Passed.Noting.{Noting}
 use Rattle.owner_advance.specs.Reads.{HoldsItsLane, ReadsLane}
 use Rattle.owner_advance.proofs.Reading.{st, shown, holds as law_holds, owners_read}
 use Rattle.owner_advance.proofs.Listing.{at, lists_are_read}
-use Rattle.hall_turns.specs.Keys.{table_of, quota_of}
-use Rattle.hall_turns.specs.Lists.{ShowsUnowned, HasNoOwner, KeepsRest}
-use Rattle.hall_turns.specs.Shown.{running_shown}
-use Rattle.hall_turns.specs.Takes.{HallSeat, AreTaken, MeetsLaw}
-use Rattle.hall_turns.specs.declared.key.HallKey.{HallKey}
-use Rattle.hall_turns.specs.declared.lane_slot.LaneSlot.{LaneSlot}
-use Rattle.hall_turns.specs.declared.lane_slot.Running.{Running}
-use Rattle.hall_turns.specs.declared.list_slot.ListSlot.{ListSlot}
-use Rattle.hall_turns.specs.declared.seat_note.SeatNote.{SeatNote}
-use Rattle.hall_turns.specs.declared.slot.Slot.{Slot}
-use Rattle.hall_turns.specs.declared.slot.Slot.TheVariants as slots
-use Rattle.hall_turns.proofs.Reading.{get_of_at}
+use Rattle.hall_slots.specs.Keys.{table_of, quota_of}
+use Rattle.hall_slots.specs.ListCalls.{ShowsUnowned, HasNoOwner, KeepsRest}
+use Rattle.hall_slots.specs.Shown.{running_shown}
+use Rattle.hall_slots.specs.Takes.{HallSeat, AreTaken, MeetsLaw}
+use Rattle.hall_slots.specs.declared.key.HallKey.{HallKey}
+use Rattle.hall_slots.specs.declared.lane_slot.LaneSlot.{LaneSlot}
+use Rattle.hall_slots.specs.declared.lane_slot.Running.{Running}
+use Rattle.hall_slots.specs.declared.list_slot.ListSlot.{ListSlot}
+use Rattle.hall_slots.specs.declared.seat_note.SeatNote.{SeatNote}
+use Rattle.hall_slots.specs.declared.slot.Slot.{Slot}
+use Rattle.hall_slots.specs.declared.slot.Slot.TheVariants as slots
+use Rattle.hall_slots.proofs.Reading.{get_of_at}
 use Rattle.owner_acts.specs.Pauses.{CanClose}
 use Rattle.owner_acts.proofs.Roomier.{has_from, rest_from, shows_unowned_from, unowned_from}
 use Rattle.owner_advance.specs.Advancing.{took_lane, MayCome}

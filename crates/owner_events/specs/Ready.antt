@@ -1,24 +1,24 @@
 -- What an owner has in its hands when it does its next action.
 use Rattle.std.specs.Prelude.{◌≡◌, ℕ, ◌+◌, ◌≤◌, Option, None, Some, [], ◌∷◌, ◌++◌, Result, Ok, Err}
-use Rattle.bounded_list.specs.BoundedList.{entries, spare}
+use Rattle.containers.specs.BoundedList.{entries, spare}
 use Rattle.deque_list.specs.declared.deque_id.DequeId.{DequeId}
 use Rattle.dag_order.specs.declared.thread_id.ThreadId.{ThreadId}
 use Rattle.thread_frames.specs.declared.ended.Ended.{Ended}
 use Rattle.thread_frames.specs.declared.next.Next.{Next}
 use Rattle.thread_frames.specs.declared.thread.Thread.{Thread}
 use Rattle.thread_map.specs.Kept.{kept_under}
-use Rattle.thread_state.specs.Joins.{released}
+use Rattle.thread_frames.specs.Passed.Joins.{released}
 use Rattle.turn_table.specs.declared.look.Look.TheVariants.{Took, Counted}
 use Rattle.turn_table.specs.Seats.{with_hand}
-use Rattle.hall_seats.specs.Counting.{counting_note}
-use Rattle.owner_acts.specs.Decided.Rooms.{IsSamePool}
-use Rattle.owner_acts.specs.Decided.Taken.{its_lane, list_and_lane, pool_and_lane}
+use Rattle.hall_slots.specs.Counting.{counting_note}
+use Rattle.owner_acts.specs.Passed.Rooms.{IsSamePool}
+use Rattle.owner_acts.specs.Passed.Taken.{its_lane, list_and_lane, pool_and_lane}
 use Rattle.owner_advance.specs.Lists.{words_back}
-use Rattle.hall_turns.specs.Takes.{HallSeat, MeetsLaw}
-use Rattle.hall_turns.specs.declared.key.HallKey.{HallKey}
-use Rattle.hall_turns.specs.declared.list_slot.ListSlot.{ListSlot}
-use Rattle.hall_turns.specs.declared.pool_slot.PoolSlot.{PoolSlot}
-use Rattle.hall_turns.specs.declared.slot.Slot.TheVariants as slots
+use Rattle.hall_slots.specs.Takes.{HallSeat, MeetsLaw}
+use Rattle.hall_slots.specs.declared.key.HallKey.{HallKey}
+use Rattle.hall_slots.specs.declared.list_slot.ListSlot.{ListSlot}
+use Rattle.hall_slots.specs.declared.pool_slot.PoolSlot.{PoolSlot}
+use Rattle.hall_slots.specs.declared.slot.Slot.TheVariants as slots
 use Rattle.owner_acts.specs.Ready.{PoolIsReady}
 use Rattle.owner_advance.specs.declared.at_next.AtNext.{AtNext}
 use Rattle.owner_advance.specs.declared.memory.SeatMemory.{SeatMemory}

@@ -2,24 +2,24 @@
 use Rattle.std.specs.Prelude.{◌≡◌, ℕ, ◌+◌, ◌<◌, ◌≤◌, Option, None, Some, List, [], ◌∷◌, ◌++◌, Result, Ok, Err}
 use Rattle.deque_list.specs.declared.deque_id.DequeId.{DequeId}
 use Rattle.depth_first_list.specs.Actions.{record_words}
-use Rattle.run_end.specs.declared.stop.Stop.{Stop}
-use Rattle.run_end.specs.declared.stop.Stop.TheVariants.{ArenaFull}
+use Rattle.play_rules.specs.declared.stop.Stop.{Stop}
+use Rattle.play_rules.specs.declared.stop.Stop.TheVariants.{ArenaFull}
 use Rattle.thread_frames.specs.declared.next.Next.{Next}
 use Rattle.thread_frames.specs.declared.next.Next.TheVariants.{Fork, Join, Alloc, Release, Dummy, Fault, End}
 use Rattle.space_ledger.specs.MovesList.{moves_spare}
 use Rattle.turn_table.specs.declared.look.Look.TheVariants.{Counted}
 use Rattle.turn_table.specs.Seats.{with_hand}
-use Rattle.hall_seats.specs.Counting.{counting_note}
-use Rattle.owner_acts.specs.Decided.Rooms.{IsSamePool}
-use Rattle.owner_acts.specs.Decided.Taken.{its_lane, pool_and_lane, list_and_lane, all_three}
-use Rattle.hall_turns.specs.Sound.{PoolIsSound}
-use Rattle.hall_turns.specs.Takes.{HallSeat, IsTaken}
-use Rattle.hall_turns.specs.declared.key.HallKey.{HallKey}
-use Rattle.hall_turns.specs.declared.lane_slot.LaneSlot.{LaneSlot}
-use Rattle.hall_turns.specs.declared.list_slot.ListSlot.{ListSlot}
-use Rattle.hall_turns.specs.declared.pool_slot.PoolSlot.{PoolSlot}
-use Rattle.hall_turns.specs.declared.slot.Slot.{Slot}
-use Rattle.hall_turns.specs.declared.slot.Slot.TheVariants as slots
+use Rattle.hall_slots.specs.Counting.{counting_note}
+use Rattle.owner_acts.specs.Passed.Rooms.{IsSamePool}
+use Rattle.owner_acts.specs.Passed.Taken.{its_lane, pool_and_lane, list_and_lane, all_three}
+use Rattle.hall_slots.specs.Sound.{PoolIsSound}
+use Rattle.hall_slots.specs.Takes.{HallSeat, IsTaken}
+use Rattle.hall_slots.specs.declared.key.HallKey.{HallKey}
+use Rattle.hall_slots.specs.declared.lane_slot.LaneSlot.{LaneSlot}
+use Rattle.hall_slots.specs.declared.list_slot.ListSlot.{ListSlot}
+use Rattle.hall_slots.specs.declared.pool_slot.PoolSlot.{PoolSlot}
+use Rattle.hall_slots.specs.declared.slot.Slot.{Slot}
+use Rattle.hall_slots.specs.declared.slot.Slot.TheVariants as slots
 use Rattle.owner_advance.specs.declared.at_next.AtNext.{AtNext}
 use Rattle.owner_advance.specs.Causes.{IsTooLarge}
 use Rattle.owner_events.specs.Holding.{Fails, IsBefore, IsCounted, IsListSlot, IsNoSlot, IsPoolSlot}

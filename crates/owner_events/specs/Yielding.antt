@@ -1,25 +1,25 @@
 -- How an owner gives its deque up though nothing asks for it.
 use Rattle.std.specs.Prelude.{◌≡◌, ◌≢◌, ◌⊎◌, ℕ, ◌+◌, true, Option, None, Some, List, [], ◌∷◌, ◌++◌, Result, Ok, Err}
 use Rattle.deque_list.specs.declared.deque_id.DequeId.{DequeId}
-use Rattle.run_end.specs.declared.stop.Stop.{Stop}
-use Rattle.run_end.specs.declared.stop.Stop.TheVariants as stops
+use Rattle.play_rules.specs.declared.stop.Stop.{Stop}
+use Rattle.play_rules.specs.declared.stop.Stop.TheVariants as stops
 use Rattle.turn_table.specs.declared.held.Held.{Held}
 use Rattle.turn_table.specs.declared.look.Look.{Look}
 use Rattle.turn_table.specs.declared.look.Look.TheVariants.{Took, Refused}
-use Rattle.owner_acts.specs.Decided.EventParts.{MayPause}
-use Rattle.owner_acts.specs.Decided.Writes.{told_note}
-use Rattle.owner_acts.specs.Decided.Taken.{list_and_lane}
-use Rattle.owner_acts.specs.Decided.Notings.{Noting}
-use Rattle.owner_acts.specs.Decided.Notings.TheVariants.{Same, Found}
-use Rattle.hall_seats.specs.Lists.{answered_note}
-use Rattle.hall_turns.specs.Takes.{HallSeat, MeetsLaw}
-use Rattle.hall_turns.specs.declared.event.Event.TheVariants.{GaveUp}
-use Rattle.hall_turns.specs.declared.key.HallKey.{HallKey}
-use Rattle.hall_turns.specs.declared.lane_slot.LaneSlot.{LaneSlot}
-use Rattle.hall_turns.specs.declared.list_slot.ListSlot.{ListSlot}
-use Rattle.hall_turns.specs.declared.seat_note.SeatNote.{SeatNote}
-use Rattle.hall_turns.specs.declared.slot.Slot.{Slot}
-use Rattle.hall_turns.specs.declared.slot.Slot.TheVariants as slots
+use Rattle.owner_acts.specs.Passed.EventParts.{MayPause}
+use Rattle.owner_acts.specs.Passed.Writes.{told_note}
+use Rattle.owner_acts.specs.Passed.Taken.{list_and_lane}
+use Rattle.owner_acts.specs.Passed.Noting.{Noting}
+use Rattle.owner_acts.specs.Passed.NotingVariants.{Same, Found}
+use Rattle.hall_slots.specs.Lists.{answered_note}
+use Rattle.hall_slots.specs.Takes.{HallSeat, MeetsLaw}
+use Rattle.hall_slots.specs.declared.event.Event.TheVariants.{GaveUp}
+use Rattle.hall_slots.specs.declared.key.HallKey.{HallKey}
+use Rattle.hall_slots.specs.declared.lane_slot.LaneSlot.{LaneSlot}
+use Rattle.hall_slots.specs.declared.list_slot.ListSlot.{ListSlot}
+use Rattle.hall_slots.specs.declared.seat_note.SeatNote.{SeatNote}
+use Rattle.hall_slots.specs.declared.slot.Slot.{Slot}
+use Rattle.hall_slots.specs.declared.slot.Slot.TheVariants as slots
 use Rattle.owner_advance.specs.Advancing.{HasLooked, took_lane}
 use Rattle.owner_events.specs.Holding.{found_note}
 use Rattle.owner_events.specs.declared.refused.ActRefused.{ActRefused}

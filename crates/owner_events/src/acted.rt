@@ -1,7 +1,7 @@
 //! What an owner did.
 
 use deque_list::DequeId;
-use hall_turns::Event;
+use hall_slots::Event;
 
 /// What an owner did.
 #[derive(Clone, Copy, PartialEq, Eq, Debug)]

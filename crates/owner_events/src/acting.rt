@@ -1,16 +1,16 @@
 //! The next event of an owner, in one call.
 
 ghost use Rattle.std.specs.Prelude.{◌≡◌, ◌+◌, ◌<◌, [], IsSome};
-ghost use Rattle.bounded_list.specs.BoundedList.{entries};
+ghost use Rattle.containers.specs.BoundedList.{entries};
 ghost use Rattle.turn_table.specs.Tables.{key_of, slot_count, IsSeatOf};
 ghost use Rattle.owner_advance.specs.Advancing.{IsRunBy, MayCome};
-ghost use Rattle.hall_turns.specs.Takes.{HasAllPlaces};
+ghost use Rattle.hall_slots.specs.Takes.{HasAllPlaces};
 ghost use Rattle.owner_events.specs.Holding.{IsNotBusy};
 ghost use Rattle.owner_events.specs.Acting.{Acts, Does};
 ghost use Rattle.owner_events.specs.Ready.{IsReadyTo};
-ghost use Rattle.hall_turns.specs.Keys.{quota_of};
-ghost use Rattle.thread_events.specs.Readiness.{IsReadiness};
-ghost use Rattle.thread_events.specs.declared.readiness.Readiness.TheVariants.{Ready};
+ghost use Rattle.hall_slots.specs.Keys.{quota_of};
+ghost use Rattle.thread_actions.specs.Readiness.{IsReadiness};
+ghost use Rattle.thread_actions.specs.declared.readiness.Readiness.TheVariants.{Ready};
 
 use crate::acted::Acted;
 use crate::ends::end;
@@ -18,14 +18,14 @@ use crate::joins::{join_delivered, join_missing};
 use crate::lists::{dummy, give_up};
 use crate::pools::{alloc, fault, fork, release};
 use crate::refused::ActRefused;
+use depth_first_list::Quota;
 use deque_list::DequeId;
-use dummy_tree::Quota;
-use hall_turns::{HallPlace, HallRow};
+use hall_slots::{HallPlace, HallRow};
 use node_table::Code;
 use owner_advance::{AdvanceRefused, AtNext, SeatMemory, come_to_next};
-use run_end::Stop;
+use play_rules::Stop;
 use std::alloc::Global;
-use thread_events::{Readiness, readiness_of};
+use thread_actions::{Readiness, readiness_of};
 use thread_frames::Next;
 
 /// Does the next action of the top thread, which its period may do and which uses `charge` words of the quota.

@@ -3,21 +3,20 @@
 ghost use Rattle.std.specs.Prelude.{◌≡◌, ◌+◌, ◌<◌, ℕ};
 ghost use Rattle.thread_frames.specs.declared.next.Next.{Next as AnyNext};
 ghost use Rattle.turn_table.specs.Tables.{key_of, slot_count, IsSeatOf};
-ghost use Rattle.owner_acts.specs.Decided.Rooms.{HasMoreRoom};
-ghost use Rattle.owner_acts.specs.Decided.Taken.{its_lane, pool_and_lane, list_and_lane, all_three};
-ghost use Rattle.hall_turns.specs.declared.list_slot.ListSlot.{ListSlot as AnyList};
+ghost use Rattle.owner_acts.specs.Passed.Rooms.{HasMoreRoom};
+ghost use Rattle.owner_acts.specs.Passed.Taken.{its_lane, pool_and_lane, list_and_lane, all_three};
+ghost use Rattle.hall_slots.specs.declared.list_slot.ListSlot.{ListSlot as AnyList};
 ghost use Rattle.owner_events.specs.Holding.{IsBefore, IsNotBusy};
 ghost use Rattle.owner_events.specs.Taking.{CountsLane, CountsWithAll, CountsWithList, CountsWithPool};
 
 use crate::giving::{give_all, give_lane, give_list, give_pool};
 use crate::refused::ActRefused;
-use boxed::Boxed;
+use containers::Boxed;
 use deque_list::DequeId;
-use hall_seats::count_action;
-use hall_turns::{HallPlace, HallRow, ListSlot, PoolSlot};
+use hall_slots::{HallPlace, HallRow, ListSlot, PoolSlot, count_action};
 use owner_acts::Noting;
 use owner_advance::{AtNext, make_room_for_move};
-use run_end::Stop;
+use play_rules::Stop;
 
 /// Counts the action for which the seat holds its lane alone.
 ///

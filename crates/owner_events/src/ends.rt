@@ -1,12 +1,12 @@
 //! The End, by where the parent is.
 
 ghost use Rattle.std.specs.Prelude.{◌≡◌, ◌+◌, ◌<◌, [], IsTrue, IsSome, ◌↔◌};
-ghost use Rattle.bounded_list.specs.BoundedList.{entries};
+ghost use Rattle.containers.specs.BoundedList.{entries};
 ghost use Rattle.thread_frames.specs.declared.next.Next.TheVariants as nexts;
 ghost use Rattle.thread_frames.specs.declared.thread.Thread.{Thread as AnyThread};
 ghost use Rattle.thread_map.specs.Kept.{kept_under};
 ghost use Rattle.turn_table.specs.Tables.{key_of, slot_count, IsSeatOf};
-ghost use Rattle.hall_turns.specs.Takes.{HasAllPlaces};
+ghost use Rattle.hall_slots.specs.Takes.{HasAllPlaces};
 ghost use Rattle.owner_events.specs.Holding.{IsNotBusy};
 ghost use Rattle.owner_events.specs.Acting.{Does};
 ghost use Rattle.owner_events.specs.Ready.{IsReadyTo};
@@ -17,10 +17,10 @@ use crate::pools::end_above;
 use crate::refused::ActRefused;
 use crate::taking::take_open_list;
 use crate::wholes::{leaving_end, waking_end};
-use boxed::Boxed;
+use containers::Boxed;
 use dag_order::Placed;
 use deque_list::DequeId;
-use hall_turns::{HallPlace, HallRow, ListSlot};
+use hall_slots::{HallPlace, HallRow, ListSlot};
 use owner_advance::{AtNext, SeatMemory};
 use thread_frames::Thread;
 

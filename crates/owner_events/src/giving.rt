@@ -3,18 +3,18 @@
 ghost use Rattle.std.specs.Prelude.{◌+◌, ◌<◌, ℕ, []};
 ghost use Rattle.thread_frames.specs.declared.next.Next.{Next as AnyNext};
 ghost use Rattle.turn_table.specs.Tables.{key_of, slot_count, IsSeatOf};
-ghost use Rattle.owner_acts.specs.Decided.Puts.{note_of, HasPut};
-ghost use Rattle.owner_acts.specs.Decided.Rooms.{HasMoreRoom, IsSamePool};
-ghost use Rattle.owner_acts.specs.Decided.Writes.{Parts};
-ghost use Rattle.owner_acts.specs.Decided.Taken.{its_lane, pool_and_lane, list_and_lane, all_three};
-ghost use Rattle.hall_turns.specs.declared.list_slot.ListSlot.{ListSlot as AnyList};
-ghost use Rattle.hall_turns.specs.declared.pool_slot.PoolSlot.{PoolSlot as AnyPool};
+ghost use Rattle.owner_acts.specs.Passed.Puts.{note_of, HasPut};
+ghost use Rattle.owner_acts.specs.Passed.Rooms.{HasMoreRoom, IsSamePool};
+ghost use Rattle.owner_acts.specs.Passed.Writes.{Parts};
+ghost use Rattle.owner_acts.specs.Passed.Taken.{its_lane, pool_and_lane, list_and_lane, all_three};
+ghost use Rattle.hall_slots.specs.declared.list_slot.ListSlot.{ListSlot as AnyList};
+ghost use Rattle.hall_slots.specs.declared.pool_slot.PoolSlot.{PoolSlot as AnyPool};
 ghost use Rattle.owner_advance.specs.Returning.{MayNote};
 ghost use Rattle.owner_events.specs.Holding.{IsHolding};
 
-use boxed::Boxed;
+use containers::Boxed;
 use deque_list::DequeId;
-use hall_turns::{HallPlace, HallRow, ListSlot, PoolSlot};
+use hall_slots::{HallPlace, HallRow, ListSlot, PoolSlot};
 use owner_acts::{Noting, give_still_back};
 use owner_advance::{AtNext, put_together, return_all, return_list, return_pool};
 

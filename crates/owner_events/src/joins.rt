@@ -1,13 +1,13 @@
 //! The Join, by where the result of the child is.
 
 ghost use Rattle.std.specs.Prelude.{◌≡◌, ◌+◌, ◌<◌, [], false, IsTrue};
-ghost use Rattle.bounded_list.specs.BoundedList.{entries};
+ghost use Rattle.containers.specs.BoundedList.{entries};
 ghost use Rattle.thread_frames.specs.Actions.{is_there};
 ghost use Rattle.thread_frames.specs.Children.{is_delivered};
 ghost use Rattle.thread_frames.specs.Views.{children_of, join_words_of, newest};
 ghost use Rattle.thread_frames.specs.declared.next.Next.TheVariants as nexts;
 ghost use Rattle.turn_table.specs.Tables.{key_of, slot_count, IsSeatOf};
-ghost use Rattle.hall_turns.specs.Takes.{HasAllPlaces};
+ghost use Rattle.hall_slots.specs.Takes.{HasAllPlaces};
 ghost use Rattle.owner_events.specs.Holding.{IsNotBusy};
 ghost use Rattle.owner_events.specs.Acting.{Does};
 ghost use Rattle.owner_events.specs.Ready.{IsKeptFor, IsReadyTo};
@@ -19,10 +19,10 @@ use crate::pools::join_giving;
 use crate::refused::ActRefused;
 use crate::taking::take_open_list;
 use crate::wholes::kept_join_giving;
-use boxed::Boxed;
+use containers::Boxed;
 use dag_order::ThreadId;
 use deque_list::DequeId;
-use hall_turns::{Event, HallPlace, HallRow, ListSlot};
+use hall_slots::{Event, HallPlace, HallRow, ListSlot};
 use owner_acts::act_own_join;
 use owner_advance::{AtNext, SeatMemory};
 use thread_frames::Thread;

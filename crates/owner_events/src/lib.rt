@@ -6,7 +6,7 @@
 //! slot is held by another seat, the run is over, there is not enough memory, or a limit of the run is met, it gives all slots back
 //! ([`ActRefused`]). A seat may also give its deque up though nothing asks for it ([`give_up_deque`]), also after the end of the run ([`yield_deque`]).
 //!
-//! It uses the way to the action and what is put back if no event comes (`owner_advance`), the count (`hall_seats`), and the
+//! It uses the way to the action and what is put back if no event comes (`owner_advance`), the count (`hall_slots`), and the
 //! events themselves (`owner_acts`). It hands the memory of a seat on ([`SeatMemory`]), so that who
 //! calls it names one crate. Its theorem: the seat notes the event for which the next action of its top thread asks, or why it did none; if
 //! it did the event, it took no slot that this does not need; if it did none, its answers show why; and the law of the hall holds between

@@ -1,8 +1,8 @@
 //! The events for which an owner holds the list beside its lane, and no pool.
 
 ghost use Rattle.std.specs.Prelude.{◌≡◌, ◌+◌, ◌<◌, ℕ, [], None, Some, false};
-ghost use Rattle.bounded_list.specs.BoundedList.{entries};
-ghost use Rattle.owner_acts.specs.Decided.ListRuns.{IsTooMuch};
+ghost use Rattle.containers.specs.BoundedList.{entries};
+ghost use Rattle.owner_acts.specs.Passed.ListRuns.{IsTooMuch};
 ghost use Rattle.thread_frames.specs.Children.{is_delivered};
 ghost use Rattle.thread_frames.specs.Views.{children_of, label_of};
 ghost use Rattle.thread_frames.specs.declared.next.Next.{Next as AnyNext};
@@ -10,13 +10,13 @@ ghost use Rattle.thread_frames.specs.declared.next.Next.TheVariants as nexts;
 ghost use Rattle.thread_map.specs.Kept.{kept_under};
 ghost use Rattle.turn_table.specs.Tables.{key_of, slot_count, IsSeatOf};
 ghost use Rattle.owner_advance.specs.declared.memory.SeatMemory.{SeatMemory as AnyMemory};
-ghost use Rattle.owner_acts.specs.Decided.Rooms.{HasMoreRoom};
-ghost use Rattle.owner_acts.specs.Decided.Taken.{list_and_lane};
-ghost use Rattle.hall_turns.specs.declared.list_slot.ListSlot.{ListSlot as AnyList};
-ghost use Rattle.run_end.specs.declared.stop.Stop.TheVariants.{OutOfMemory};
+ghost use Rattle.owner_acts.specs.Passed.Rooms.{HasMoreRoom};
+ghost use Rattle.owner_acts.specs.Passed.Taken.{list_and_lane};
+ghost use Rattle.hall_slots.specs.declared.list_slot.ListSlot.{ListSlot as AnyList};
+ghost use Rattle.play_rules.specs.declared.stop.Stop.TheVariants.{OutOfMemory};
 ghost use Rattle.owner_events.specs.declared.refused.ActRefused.TheVariants.{Stopped};
 ghost use Rattle.owner_events.specs.Holding.{Fails, IsBefore, IsNoSlot, IsNotBusy};
-ghost use Rattle.hall_turns.specs.Takes.{HasAllPlaces};
+ghost use Rattle.hall_slots.specs.Takes.{HasAllPlaces};
 ghost use Rattle.owner_events.specs.Acting.{Does, DoesWithList};
 ghost use Rattle.owner_events.specs.Ready.{IsKeptFor, IsReadyTo, IsReadyWith};
 
@@ -25,15 +25,15 @@ use crate::counting::count_with_list;
 use crate::giving::give_list;
 use crate::refused::ActRefused;
 use crate::taking::take_open_list;
-use boxed::Boxed;
+use containers::Boxed;
 use dag_order::ThreadId;
 use deque_list::DequeId;
-use hall_turns::{Event, HallPlace, HallRow, ListSlot};
+use hall_slots::{Event, HallPlace, HallRow, ListSlot};
 use owner_acts::{Noting, act_dummy, act_give_up, act_kept_join, act_root_end, act_wait};
 use owner_advance::{
     AtNext, SeatMemory, make_room_to_close, make_room_to_leave, make_room_to_wait,
 };
-use run_end::Stop;
+use play_rules::Stop;
 
 /// An event after which the seat owns no deque.
 fn left(event: Event) -> Acted

@@ -1,18 +1,18 @@
 //! The actions for which an owner holds the pool beside its lane.
 
 ghost use Rattle.std.specs.Prelude.{◌≡◌, ◌≢◌, ◌+◌, ◌<◌, ◌≤◌, ℕ, [], Some, IsSome, IsTrue};
-ghost use Rattle.bounded_list.specs.BoundedList.{entries, spare};
+ghost use Rattle.containers.specs.BoundedList.{entries, spare};
 ghost use Rattle.thread_frames.specs.Actions.{is_there};
 ghost use Rattle.thread_frames.specs.Views.{children_of, join_words_of, newest};
 ghost use Rattle.thread_frames.specs.declared.next.Next.TheVariants as nexts;
 ghost use Rattle.turn_table.specs.Tables.{key_of, slot_count, IsSeatOf};
-ghost use Rattle.owner_acts.specs.Decided.Taken.{its_lane};
+ghost use Rattle.owner_acts.specs.Passed.Taken.{its_lane};
 ghost use Rattle.owner_advance.specs.Lists.{ReadsEnd};
-ghost use Rattle.hall_turns.specs.declared.event.Event.TheVariants.{Did};
+ghost use Rattle.hall_slots.specs.declared.event.Event.TheVariants.{Did};
 ghost use Rattle.owner_acts.specs.Quotas.{MayUse};
 ghost use Rattle.owner_events.specs.Holding.{IsBefore, IsNotBusy};
 ghost use Rattle.owner_events.specs.Taking.{AsksByTheList};
-ghost use Rattle.hall_turns.specs.Takes.{HasAllPlaces};
+ghost use Rattle.hall_slots.specs.Takes.{HasAllPlaces};
 ghost use Rattle.owner_events.specs.Acting.{Does};
 ghost use Rattle.owner_events.specs.Ready.{CountsPool, IsReadyTo};
 
@@ -22,7 +22,7 @@ use crate::refused::ActRefused;
 use crate::taking::take_pool_for;
 use dag_order::{ActionId, FaultAt, ThreadId};
 use deque_list::DequeId;
-use hall_turns::{Event, HallPlace, HallRow, PoolSlot};
+use hall_slots::{Event, HallPlace, HallRow, PoolSlot};
 use owner_acts::{act_alloc, act_end_above, act_fault, act_fork, act_join_giving, act_release};
 use owner_advance::{AtNext, SeatMemory};
 use thread_frames::Next;

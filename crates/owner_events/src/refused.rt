@@ -1,6 +1,6 @@
 //! Why the call of an owner fails.
 
-use run_end::{RunEnd, Stop};
+use play_rules::{RunEnd, Stop};
 use turn_table::Held;
 
 /// Why an owner did nothing.

@@ -3,21 +3,20 @@
 ghost use Rattle.std.specs.Prelude.{◌≡◌, ◌+◌, ◌<◌, ℕ, IfOk};
 ghost use Rattle.thread_frames.specs.declared.next.Next.{Next as AnyNext};
 ghost use Rattle.turn_table.specs.Tables.{key_of, slot_count, IsSeatOf};
-ghost use Rattle.owner_acts.specs.Decided.Taken.{its_lane, list_and_lane};
-ghost use Rattle.hall_turns.specs.Takes.{HasAllPlaces, MeetsLaw};
+ghost use Rattle.owner_acts.specs.Passed.Taken.{its_lane, list_and_lane};
+ghost use Rattle.hall_slots.specs.Takes.{HasAllPlaces, MeetsLaw};
 ghost use Rattle.owner_events.specs.Holding.{IsBefore, IsNotBusy};
 ghost use Rattle.owner_events.specs.Taking.{AsksByTheList, IsFullBy, TakesList, TakesPool, TakesPoolToo, words_asked_by};
 
 use crate::giving::{give_lane, give_list};
 use crate::refused::ActRefused;
-use boxed::Boxed;
+use containers::Boxed;
 use deque_list::DequeId;
-use hall_seats::end_of;
-use hall_turns::{HallPlace, HallRow, ListSlot, PoolSlot, take_list, take_pool};
+use hall_slots::{HallPlace, HallRow, ListSlot, PoolSlot, end_of, take_list, take_pool};
 use language_limits::RECORD_WORDS;
 use owner_acts::Noting;
 use owner_advance::{AtNext, put_together, return_answered, return_pool};
-use run_end::Stop;
+use play_rules::Stop;
 use thread_frames::Next;
 
 /// The words that an action takes of the arena.

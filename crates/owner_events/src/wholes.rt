@@ -1,20 +1,20 @@
 //! The events for which an owner holds the list and the pool beside its lane.
 
 ghost use Rattle.std.specs.Prelude.{◌≡◌, ◌≢◌, ◌+◌, ◌<◌, ℕ, [], None, Some, false, length, IsSome};
-ghost use Rattle.bounded_list.specs.BoundedList.{entries};
+ghost use Rattle.containers.specs.BoundedList.{entries};
 ghost use Rattle.thread_frames.specs.Children.{is_delivered};
 ghost use Rattle.thread_frames.specs.Views.{children_of, label_of};
 ghost use Rattle.thread_frames.specs.declared.next.Next.{Next as AnyNext};
 ghost use Rattle.thread_frames.specs.declared.next.Next.TheVariants as nexts;
-ghost use Rattle.owner_acts.specs.Decided.Rooms.{HasMoreRoom};
-ghost use Rattle.owner_acts.specs.Decided.Taken.{all_three};
-ghost use Rattle.hall_turns.specs.declared.list_slot.ListSlot.{ListSlot as AnyList};
-ghost use Rattle.run_end.specs.declared.stop.Stop.TheVariants.{OutOfMemory};
+ghost use Rattle.owner_acts.specs.Passed.Rooms.{HasMoreRoom};
+ghost use Rattle.owner_acts.specs.Passed.Taken.{all_three};
+ghost use Rattle.hall_slots.specs.declared.list_slot.ListSlot.{ListSlot as AnyList};
+ghost use Rattle.play_rules.specs.declared.stop.Stop.TheVariants.{OutOfMemory};
 ghost use Rattle.owner_events.specs.declared.refused.ActRefused.TheVariants.{Stopped};
 ghost use Rattle.thread_frames.specs.declared.thread.Thread.{Thread as AnyThread};
 ghost use Rattle.thread_map.specs.Kept.{kept_under};
 ghost use Rattle.turn_table.specs.Tables.{key_of, slot_count, IsSeatOf};
-ghost use Rattle.hall_turns.specs.Takes.{HasAllPlaces};
+ghost use Rattle.hall_slots.specs.Takes.{HasAllPlaces};
 ghost use Rattle.owner_events.specs.Holding.{Fails, IsBefore, IsNoSlot, IsNotBusy};
 ghost use Rattle.owner_events.specs.Acting.{DoesWithList};
 ghost use Rattle.owner_events.specs.Ready.{IsKeptFor, IsReadyWith};
@@ -24,13 +24,13 @@ use crate::counting::count_with_all;
 use crate::giving::give_all;
 use crate::refused::ActRefused;
 use crate::taking::take_pool_too;
-use boxed::Boxed;
+use containers::Boxed;
 use dag_order::ThreadId;
 use deque_list::DequeId;
-use hall_turns::{Event, HallPlace, HallRow, ListSlot, PoolSlot};
+use hall_slots::{Event, HallPlace, HallRow, ListSlot, PoolSlot};
 use owner_acts::{Noting, act_kept_join_giving, act_leaving_end, act_waking_end};
 use owner_advance::{AtNext, SeatMemory, make_room_to_leave};
-use run_end::Stop;
+use play_rules::Stop;
 
 /// Gives the list, the pool and the lane back, since there is not enough memory.
 fn stop_with_all(

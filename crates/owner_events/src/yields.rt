@@ -2,25 +2,26 @@
 
 ghost use Rattle.std.specs.Prelude.{◌≡◌, ◌≢◌, ◌+◌, ◌<◌, [], IfOk, IsOk, MatchResult, OnOk, Some};
 ghost use Rattle.dag_order.specs.declared.finish.Finish.{Finish as AnyFinish};
-ghost use Rattle.run_end.specs.declared.ends.RunEnd.TheVariants.{Finished};
+ghost use Rattle.play_rules.specs.declared.ends.RunEnd.TheVariants.{Finished};
 ghost use Rattle.turn_table.specs.Tables.{key_of, slot_count, IsSeatOf};
-ghost use Rattle.owner_acts.specs.Decided.Puts.{note_of, HasPut};
-ghost use Rattle.owner_acts.specs.Decided.Writes.{Parts};
-ghost use Rattle.hall_turns.specs.Takes.{AreTaken, HasAllPlaces, MeetsLaw};
-ghost use Rattle.hall_turns.specs.declared.slot.Slot.TheVariants as slots;
+ghost use Rattle.owner_acts.specs.Passed.Puts.{note_of, HasPut};
+ghost use Rattle.owner_acts.specs.Passed.Writes.{Parts};
+ghost use Rattle.hall_slots.specs.Takes.{AreTaken, HasAllPlaces, MeetsLaw};
+ghost use Rattle.hall_slots.specs.declared.slot.Slot.TheVariants as slots;
 ghost use Rattle.owner_advance.specs.Advancing.{MayCome};
 ghost use Rattle.owner_advance.specs.Returning.{MayNote};
 ghost use Rattle.owner_events.specs.Holding.{IsNotBusy as IsNotRefused};
 ghost use Rattle.owner_events.specs.Yielding.{noting_then, yielded_note, GivesUp, HasBoth, IsBusy, IsNotBusy, MayYield, Yields};
 
 use crate::refused::ActRefused;
-use boxed::Boxed;
+use containers::Boxed;
 use deque_list::DequeId;
-use hall_seats::end_of;
-use hall_turns::{HallPlace, HallRow, LaneSlot, ListSlot, give_lane_back, take_lane, take_list};
+use hall_slots::{
+    HallPlace, HallRow, LaneSlot, ListSlot, end_of, give_lane_back, take_lane, take_list,
+};
 use owner_acts::{Noting, decide_yield};
 use owner_advance::{make_room_to_close, return_answered, return_list};
-use run_end::Stop;
+use play_rules::Stop;
 use std::alloc::AllocError;
 use turn_table::Held;
 

@@ -4,22 +4,22 @@ use Rattle.std.specs.Str.{bytes_eq}
 use Rattle.std.specs.List.{list_all}
 use Rattle.std.proofs.Common.{sym, ◌∙◌, ap, arith, subst}
 use Rattle.std.proofs.lemmas.Int.{ints}
-use Rattle.thread_points.specs.Passed.FaultKindType.{FaultKind}
-use Rattle.par_tree.specs.Tree.{Name, Expr, Program, Arg, Param, Target, unused, integer, block, Func, Ret, RetValue, gives, hands, call_stmt, Body}
-use Rattle.par_ownership.specs.Environment as environments
-use Rattle.par_ownership.specs.Environment.{Environment, block_entry, with_entry, after_gives, after_answer, is_released}
-use Rattle.par_tree.specs.Names.{names_in_args, names_in_target, names_in_stmt, names_in_body}
-use Rattle.par_ownership.specs.Ownership.{IsTarget, IsOwned, Passes, OwnsAll, OwnsReturn, OwnsValue, OwnsFunction, OwnsFunctions, hands_back, takes_answer, function_of}
-use Rattle.thread_points.specs.Passed.Stores
-use Rattle.thread_points.specs.Passed.Stores.{Store, block_of, block_words, held_words, stored_words, drop_block, without, hold_block}
-use Rattle.thread_points.specs.Passed.Values.{value, Outcome}
-use Rattle.thread_points.specs.Passed.States
-use Rattle.thread_points.specs.Passed.States.{Setting, State, with_number, unless_faulted, holdings}
-use Rattle.thread_points.specs.Passed.Calls
-use Rattle.thread_points.specs.Passed.Calls.{Passing, all_passed, entered, Answer, end_call, returned, with_answer, with_return, as_number, lent_back, answered}
-use Rattle.thread_points.specs.Passed.Run.{run_callee, call_with, call_function, room, run}
-use Rattle.thread_points.proofs.Passed.Words.{without_words, with_words, answer_words, PassesWords, passed_words, passes_same, both_words}
-use Rattle.thread_points.proofs.Passed.Fixed.{room_fewer}
+use Rattle.thread_points.specs.Passed.FaultKind.{FaultKind}
+use Rattle.depth_first_run.specs.Passed.Tree.{Name, Expr, Program, Arg, Param, Target, unused, integer, block, Func, Ret, RetValue, gives, hands, call_stmt, Body}
+use Rattle.depth_first_run.specs.Passed.Environment as environments
+use Rattle.depth_first_run.specs.Passed.Environment.{Environment, block_entry, with_entry, after_gives, after_answer, is_released}
+use Rattle.depth_first_run.specs.Passed.Names.{names_in_args, names_in_target, names_in_stmt, names_in_body}
+use Rattle.depth_first_run.specs.Passed.Ownership.{IsTarget, IsOwned, Passes, OwnsAll, OwnsReturn, OwnsValue, OwnsFunction, OwnsFunctions, hands_back, takes_answer, function_of}
+use Rattle.depth_first_run.specs.Stores
+use Rattle.depth_first_run.specs.Stores.{Store, block_of, block_words, held_words, stored_words, drop_block, without, hold_block}
+use Rattle.depth_first_run.specs.Values.{value, Outcome}
+use Rattle.depth_first_run.specs.States
+use Rattle.depth_first_run.specs.States.{Setting, State, with_number, unless_faulted, holdings}
+use Rattle.depth_first_run.specs.Calls
+use Rattle.depth_first_run.specs.Calls.{Passing, all_passed, entered, Answer, end_call, returned, with_answer, with_return, as_number, lent_back, answered}
+use Rattle.depth_first_run.specs.Run.{run_callee, call_with, call_function, room, run}
+use Rattle.depth_first_run.proofs.Words.{without_words, with_words, answer_words, PassesWords, passed_words, passes_same, both_words}
+use Rattle.depth_first_run.proofs.Fixed.{room_fewer}
 use Rattle.ownership_laws.specs.Counts.{hit, count, held_in, seen_in, lent_in, held_entry, lent_entry_of}
 use Rattle.ownership_laws.proofs.Counting.{by_names, hit_other, count_with, count_without, owned_block, fresh_unseen, held_without, none_counted, empty_found}
 use Rattle.ownership_laws.proofs.Environments.{seen_like, held_at_most_one, released_held, lent_seen, lent_follows, like_marked, lent_like, lent_most, lent_back_in}

@@ -4,11 +4,11 @@ use Rattle.std.specs.Str.{bytes_eq}
 use Rattle.std.specs.List.{find}
 use Rattle.std.proofs.Common.{sym, ◌∙◌, ap, arith, subst}
 use Rattle.std.proofs.lemmas.Slice.Eq.{bytes_eq-Decides}
-use Rattle.par_tree.specs.Tree.{Name}
-use Rattle.par_ownership.specs.Environment as environments
-use Rattle.par_ownership.specs.Environment.{Kind, Entry, Environment, entry_of, has_name, with_entry, marked, is_block, is_own}
-use Rattle.par_ownership.specs.Ownership.{IsFresh, IsHeld, IsOwned}
-use Rattle.thread_points.specs.Passed.Stores.{Held, without, replaced, with_block, those_named, those_not_named}
+use Rattle.depth_first_run.specs.Passed.Tree.{Name}
+use Rattle.depth_first_run.specs.Passed.Environment as environments
+use Rattle.depth_first_run.specs.Passed.Environment.{Kind, Entry, Environment, entry_of, has_name, with_entry, marked, is_block, is_own}
+use Rattle.depth_first_run.specs.Passed.Ownership.{IsFresh, IsHeld, IsOwned}
+use Rattle.depth_first_run.specs.Stores.{Held, without, replaced, with_block, those_named, those_not_named}
 use Rattle.ownership_laws.specs.Counts.{one_if, hit, count, found, held_entry, block_entry_of, is_lent, lent_entry_of, seen_entry, held_in, block_in, lent_in, seen_in}
 
 -- ---- names

@@ -4,10 +4,10 @@ use Rattle.std.specs.Prelude.{◌≡◌, ℕ, zero, suc, ◌+◌, ◌≤◌, Boo
 use Rattle.std.specs.Str.{bytes_eq}
 use Rattle.std.specs.List.{list_all}
 use Rattle.std.proofs.Common.{sym, ◌∙◌, ap, arith, subst, append_assoc}
-use Rattle.par_tree.specs.Tree.{Name}
-use Rattle.par_ownership.specs.Environment as environments
-use Rattle.par_ownership.specs.Environment.{Kind, Entry, Environment, with_entry, marked, is_block, is_own, is_released, held_in_both, held_also, lent_entry, opened}
-use Rattle.par_ownership.specs.Ownership.{HoldTheSame}
+use Rattle.depth_first_run.specs.Passed.Tree.{Name}
+use Rattle.depth_first_run.specs.Passed.Environment as environments
+use Rattle.depth_first_run.specs.Passed.Environment.{Kind, Entry, Environment, with_entry, marked, is_block, is_own, is_released, held_in_both, held_also, lent_entry, opened}
+use Rattle.depth_first_run.specs.Passed.Ownership.{HoldTheSame}
 use Rattle.ownership_laws.specs.Counts.{one_if, hit, found, held_entry, block_entry_of, is_lent, lent_entry_of, held_in, block_in, lent_in, seen_in}
 use Rattle.ownership_laws.proofs.Counting.{by_names, same_name, hit_same, hit_other, found_front, found_behind, seen_or_not, unseen_none}
 

@@ -2,23 +2,23 @@
 use Rattle.std.specs.Prelude.{◌≡◌, ℕ, zero, suc, ◌≤◌, ◌||◌, nat_lt, nat_le, Bool, true, false, not, List, [], ◌∷◌, ◌++◌, length, take, Result, Ok, Err, Option, Some, None, ℤ, refl}
 use Rattle.std.specs.Str.{bytes_eq}
 use Rattle.std.proofs.Common.{sym, ◌∙◌, arith, subst}
-use Rattle.thread_points.specs.Passed.FaultKindType.{FaultKind}
-use Rattle.thread_points.specs.Passed.Shapes.{leaf, forked}
-use Rattle.thread_points.specs.Passed.Actions.{record_words}
-use Rattle.par_tree.specs.Tree.{Name, Expr, Target, Arg, value, lend, give, Param, Ret, RetValue, gives, hands, Stmt, let_stmt, assign_stmt, put_stmt, alloc_stmt, free_stmt, if_stmt, while_stmt, call_stmt, print_stmt, par_stmt, split_stmt, Body, done, step, Func}
-use Rattle.par_ownership.specs.Environment.{Environment, opened}
-use Rattle.par_tree.specs.Names.{names_in_expr, names_in_target, names_in_args, names_in_stmt, names_in_body}
-use Rattle.par_ownership.specs.Ownership.{HoldTheSame, Owns, OwnsAll, OwnsReturn, OwnsValue, OwnsFunction, OwnsFunctions, Ownership, Passes, function_of, main_name, begins, takes_nothing, hands_back}
-use Rattle.thread_points.specs.Passed.Stores
-use Rattle.thread_points.specs.Passed.Stores.{block_of, block_words}
-use Rattle.thread_points.specs.Passed.Values as values
-use Rattle.thread_points.specs.Passed.Values.{Outcome, is_true}
-use Rattle.thread_points.specs.Passed.States
-use Rattle.thread_points.specs.Passed.States.{Setting, State, with_item, child_of, parent_of, ended}
-use Rattle.thread_points.specs.Passed.Calls.{Passing, all_passed, entered}
-use Rattle.thread_points.specs.Passed.Run.{cut_of, cut_block, on_store, size_of, names_in, run, root_start}
-use Rattle.thread_points.specs.Passed.Middle
-use Rattle.thread_points.specs.Passed.Middle.{Part, statements, tree, Frame, does, answers, rejoins, answers_main, allocates, awaits, joins, frame_done, finish, Middle, middle, finished, step_with_number, step_alloc_within, step_alloc_words, step_alloc, before_all, step_branch, step_if, step_turn, step_round, step_while, step_body, step_open_call, step_call_with, step_call, step_par, step_cut, step_statement, step_first, step_frame, advance, run_start}
+use Rattle.thread_points.specs.Passed.FaultKind.{FaultKind}
+use Rattle.depth_first_run.specs.Passed.Shapes.{leaf, forked}
+use Rattle.depth_first_run.specs.Passed.Actions.{record_words}
+use Rattle.depth_first_run.specs.Passed.Tree.{Name, Expr, Target, Arg, value, lend, give, Param, Ret, RetValue, gives, hands, Stmt, let_stmt, assign_stmt, put_stmt, alloc_stmt, free_stmt, if_stmt, while_stmt, call_stmt, print_stmt, par_stmt, split_stmt, Body, done, step, Func}
+use Rattle.depth_first_run.specs.Passed.Environment.{Environment, opened}
+use Rattle.depth_first_run.specs.Passed.Names.{names_in_expr, names_in_target, names_in_args, names_in_stmt, names_in_body}
+use Rattle.depth_first_run.specs.Passed.Ownership.{HoldTheSame, Owns, OwnsAll, OwnsReturn, OwnsValue, OwnsFunction, OwnsFunctions, Ownership, Passes, function_of, main_name, begins, takes_nothing, hands_back}
+use Rattle.depth_first_run.specs.Stores
+use Rattle.depth_first_run.specs.Stores.{block_of, block_words}
+use Rattle.depth_first_run.specs.Values as values
+use Rattle.depth_first_run.specs.Values.{Outcome, is_true}
+use Rattle.depth_first_run.specs.States
+use Rattle.depth_first_run.specs.States.{Setting, State, with_item, child_of, parent_of, ended}
+use Rattle.depth_first_run.specs.Calls.{Passing, all_passed, entered}
+use Rattle.depth_first_run.specs.Run.{cut_of, cut_block, on_store, size_of, names_in, run, root_start}
+use Rattle.depth_first_run.specs.Middle
+use Rattle.depth_first_run.specs.Middle.{Part, statements, tree, Frame, does, answers, rejoins, answers_main, allocates, awaits, joins, frame_done, finish, Middle, middle, finished, step_with_number, step_alloc_within, step_alloc_words, step_alloc, before_all, step_branch, step_if, step_turn, step_round, step_while, step_body, step_open_call, step_call_with, step_call, step_par, step_cut, step_statement, step_first, step_frame, advance, run_start}
 use Rattle.ownership_laws.specs.Counts.{count, held_in, lent_in, held_entry, lent_entry_of}
 use Rattle.ownership_laws.specs.Needs.{needs_block, needed_by_value, needed_by_return, lent_to, end_needs}
 use Rattle.thread_points.specs.Points.{after_steps}
@@ -30,7 +30,7 @@ use Rattle.ownership_laws.proofs.Passing.{taken_as, lent_as, lent_taken, or_left
 use Rattle.ownership_laws.proofs.Statements.{Agrees, cut_count, parts_left}
 use Rattle.ownership_laws.proofs.Owned.{and_two, or_none, ran_within, child_agrees, parent_agrees, split_ends, split_counts, split_agrees, no_parameters, ran_run}
 use Rattle.ownership_laws.proofs.Needed.{or_cases, held_name, reads_held, needed_is_there}
-use Rattle.thread_points.proofs.Passed.Stepping.{run_nothing}
+use Rattle.depth_first_run.proofs.Stepping.{run_nothing}
 use Rattle.thread_points.proofs.Putting.{frame_finishes, statement_finishes, statement_put, advance_put}
 
 -- ---- what fits

@@ -9,4 +9,10 @@ pub mod Calling
 pub mod Owned
 pub mod Needed
 pub mod Fitting
-pub mod Passed
+pub mod Single
+pub mod Ending
+pub mod Stepping
+pub mod Reading
+pub mod Skipping
+pub mod Taking
+pub mod Keeping

@@ -3,19 +3,19 @@
 use Rattle.std.specs.Prelude.{◌≡◌, ℕ, zero, suc, ◌+◌, ◌≤◌, nat_lt, Bool, true, false, List, [], ◌∷◌, ◌++◌, ℤ, pos, neg_ℤ, ◌+ℤ◌, Ok, Err, refl}
 use Rattle.std.proofs.Common.{sym, ◌∙◌, ap, arith, subst, append_assoc}
 use Rattle.std.proofs.lemmas.Int.{ints}
-use Rattle.thread_points.specs.Passed.FaultKindType.{FaultKind}
-use Rattle.thread_points.specs.Passed.Shapes.{Shape, leaf, forked}
-use Rattle.thread_points.specs.Passed.Actions as actions
-use Rattle.thread_points.specs.Passed.Actions.{Action, Deed, weight_of, live_words, record_words}
-use Rattle.par_tree.specs.Tree.{Name}
-use Rattle.par_ownership.specs.Environment.{Environment}
-use Rattle.thread_points.specs.Passed.Stores.{held_words, stored_words}
-use Rattle.thread_points.specs.Passed.Values.{Outcome}
-use Rattle.thread_points.specs.Passed.States
-use Rattle.thread_points.specs.Passed.States.{Setting, State, Item, with_item, with_action, with_fault, skip_if, unless_faulted, with_number, with_turns, with_turn, under_limit, with_depth, child_of, parent_of, ended, given_back, with_result, joined, own_part_then_join, fork_join, next_action, holdings}
-use Rattle.thread_points.specs.Passed.Run.{no_name, run_tree, actions_of, branch}
-use Rattle.thread_points.proofs.Passed.Words.{parted_words, held_append}
-use Rattle.thread_points.proofs.Passed.Covered.{live_append, actions_append, taking_items}
+use Rattle.thread_points.specs.Passed.FaultKind.{FaultKind}
+use Rattle.depth_first_run.specs.Passed.Shapes.{Shape, leaf, forked}
+use Rattle.depth_first_run.specs.Passed.Actions as actions
+use Rattle.depth_first_run.specs.Passed.Actions.{Action, Deed, weight_of, live_words, record_words}
+use Rattle.depth_first_run.specs.Passed.Tree.{Name}
+use Rattle.depth_first_run.specs.Passed.Environment.{Environment}
+use Rattle.depth_first_run.specs.Stores.{held_words, stored_words}
+use Rattle.depth_first_run.specs.Values.{Outcome}
+use Rattle.depth_first_run.specs.States
+use Rattle.depth_first_run.specs.States.{Setting, State, Item, with_item, with_action, with_fault, skip_if, unless_faulted, with_number, with_turns, with_turn, under_limit, with_depth, child_of, parent_of, ended, given_back, with_result, joined, own_part_then_join, fork_join, next_action, holdings}
+use Rattle.depth_first_run.specs.Run.{no_name, run_tree, actions_of, branch}
+use Rattle.depth_first_run.proofs.Words.{parted_words, held_append}
+use Rattle.depth_first_run.proofs.Covered.{live_append, actions_append, taking_items}
 use Rattle.ownership_laws.specs.Counts.{count, held_in, seen_in}
 use Rattle.ownership_laws.proofs.Counting.{count_append, count_parted}
 use Rattle.ownership_laws.proofs.Environments.{Follows, seen_follows}

@@ -2,11 +2,11 @@
 use Rattle.std.specs.Prelude.{◌≡◌, ℕ, Bool, true, false, ◌||◌, List, [], ◌∷◌, ◌++◌, refl}
 use Rattle.std.specs.Str.{bytes_eq}
 use Rattle.std.proofs.Common.{◌∙◌, subst}
-use Rattle.par_tree.specs.Tree.{Name, Program, Expr, num, var, get, len_of, neg, chain, cmp, Links, last, link, Arg, value, lend, give, Param, ParamKind, by_value, lent, owned, Stmt, let_stmt, assign_stmt, put_stmt, alloc_stmt, free_stmt, if_stmt, while_stmt, call_stmt, print_stmt, par_stmt, split_stmt}
-use Rattle.par_ownership.specs.Environment.{Environment}
-use Rattle.par_tree.specs.Names.{names_in_expr, names_in_links, names_in_args, names_in_target, names_in_stmt, names_in_body}
-use Rattle.par_ownership.specs.Ownership.{Reads, ReadsLinks, PassesOne, Passes, Owns}
-use Rattle.thread_points.specs.Passed.States.{State}
+use Rattle.depth_first_run.specs.Passed.Tree.{Name, Program, Expr, num, var, get, len_of, neg, chain, cmp, Links, last, link, Arg, value, lend, give, Param, ParamKind, by_value, lent, owned, Stmt, let_stmt, assign_stmt, put_stmt, alloc_stmt, free_stmt, if_stmt, while_stmt, call_stmt, print_stmt, par_stmt, split_stmt}
+use Rattle.depth_first_run.specs.Passed.Environment.{Environment}
+use Rattle.depth_first_run.specs.Passed.Names.{names_in_expr, names_in_links, names_in_args, names_in_target, names_in_stmt, names_in_body}
+use Rattle.depth_first_run.specs.Passed.Ownership.{Reads, ReadsLinks, PassesOne, Passes, Owns}
+use Rattle.depth_first_run.specs.States.{State}
 use Rattle.ownership_laws.specs.Counts.{count, held_in}
 use Rattle.ownership_laws.specs.Needs.{reads_block, reads_links, needed_by_args, needs_block}
 use Rattle.ownership_laws.proofs.Counting.{same_name, held_block, owned_block}

@@ -5,22 +5,22 @@ use Rattle.std.specs.List.{list_all}
 use Rattle.std.proofs.Common.{◌⊎◌, inl, inr, sym, ◌∙◌, ap, arith, subst}
 use Rattle.std.proofs.lemmas.Int.{ints}
 use Rattle.std.proofs.lemmas.Bool.{ltb-true}
-use Rattle.thread_points.specs.Passed.FaultKindType.{FaultKind}
-use Rattle.thread_points.specs.Passed.Actions as actions
-use Rattle.thread_points.specs.Passed.Actions.{live_words}
-use Rattle.par_tree.specs.Tree.{Name, Expr, Program, Param, Ret, RetValue, gives, hands, Stmt, let_stmt, assign_stmt, put_stmt, alloc_stmt, free_stmt, if_stmt, while_stmt, call_stmt, print_stmt, par_stmt, split_stmt, Body, done, step, Func}
-use Rattle.par_ownership.specs.Environment as environments
-use Rattle.par_ownership.specs.Environment.{Kind, Entry, Environment, integer_entry, block_entry, lent_entry, with_entry, regained, opened, after_gives, after_answer, held_in_both, is_released}
-use Rattle.par_tree.specs.Names.{names_in_expr, names_in_stmt, names_in_body}
-use Rattle.par_ownership.specs.Ownership.{HoldTheSame, are_apart, Owns, OwnsAll, OwnsParams, OwnsReturn, OwnsValue, OwnsFunction, OwnsFunctions, Ownership, function_of, main_name, begins, takes_nothing, hands_back}
-use Rattle.thread_points.specs.Passed.Stores.{Store, held_words, stored_words, with_integer, those_not_named}
-use Rattle.thread_points.specs.Passed.Values.{Outcome, value, is_true}
-use Rattle.thread_points.specs.Passed.States
-use Rattle.thread_points.specs.Passed.States.{Setting, State, Item, with_item, with_action, with_number, unless_faulted, with_turn, child_of, parent_of, ended, fork_join, holdings, next_action}
-use Rattle.thread_points.specs.Passed.Calls.{with_answer, with_return, as_number}
-use Rattle.thread_points.specs.Passed.Run.{set_integer, put_value, alloc_block, size_of, print_number, names_in, assigns_in, branch_on, unchanged, one_round, split_block, begin_statement, exec, exec_all, room, run, main_run, ignore_answer, root_start, whole, actions_of}
-use Rattle.thread_points.proofs.Passed.Keeping.{exec_keeps, exec_all_keeps, run_keeps}
-use Rattle.thread_points.proofs.Passed.Fixed.{room_kept, room_fewer, room_child, run_fixed}
+use Rattle.thread_points.specs.Passed.FaultKind.{FaultKind}
+use Rattle.depth_first_run.specs.Passed.Actions as actions
+use Rattle.depth_first_run.specs.Passed.Actions.{live_words}
+use Rattle.depth_first_run.specs.Passed.Tree.{Name, Expr, Program, Param, Ret, RetValue, gives, hands, Stmt, let_stmt, assign_stmt, put_stmt, alloc_stmt, free_stmt, if_stmt, while_stmt, call_stmt, print_stmt, par_stmt, split_stmt, Body, done, step, Func}
+use Rattle.depth_first_run.specs.Passed.Environment as environments
+use Rattle.depth_first_run.specs.Passed.Environment.{Kind, Entry, Environment, integer_entry, block_entry, lent_entry, with_entry, regained, opened, after_gives, after_answer, held_in_both, is_released}
+use Rattle.depth_first_run.specs.Passed.Names.{names_in_expr, names_in_stmt, names_in_body}
+use Rattle.depth_first_run.specs.Passed.Ownership.{HoldTheSame, are_apart, Owns, OwnsAll, OwnsParams, OwnsReturn, OwnsValue, OwnsFunction, OwnsFunctions, Ownership, function_of, main_name, begins, takes_nothing, hands_back}
+use Rattle.depth_first_run.specs.Stores.{Store, held_words, stored_words, with_integer, those_not_named}
+use Rattle.depth_first_run.specs.Values.{Outcome, value, is_true}
+use Rattle.depth_first_run.specs.States
+use Rattle.depth_first_run.specs.States.{Setting, State, Item, with_item, with_action, with_number, unless_faulted, with_turn, child_of, parent_of, ended, fork_join, holdings, next_action}
+use Rattle.depth_first_run.specs.Calls.{with_answer, with_return, as_number}
+use Rattle.depth_first_run.specs.Run.{set_integer, put_value, alloc_block, size_of, print_number, names_in, assigns_in, branch_on, unchanged, one_round, split_block, begin_statement, exec, exec_all, room, run, main_run, ignore_answer, root_start, whole, actions_of}
+use Rattle.depth_first_run.proofs.Keeping.{exec_keeps, exec_all_keeps, run_keeps}
+use Rattle.depth_first_run.proofs.Fixed.{room_kept, room_fewer, room_child, run_fixed}
 use Rattle.ownership_laws.specs.Laws.{HoldsFor, HasStopped, GoesOn}
 use Rattle.ownership_laws.specs.Counts.{hit, count, found, held_entry, lent_entry_of, held_in, seen_in}
 use Rattle.ownership_laws.proofs.Counting.{name_same, same_name, count_parted, count_named, count_not_named, fresh_unseen, held_block, owned_block, unseen_none, none_held, none_counted, empty_found, seen_or_not}

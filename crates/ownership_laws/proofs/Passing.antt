@@ -3,17 +3,17 @@ use Rattle.std.specs.Prelude.{◌≡◌, ℕ, zero, suc, ◌+◌, ◌≤◌, Boo
 use Rattle.std.specs.Str.{bytes_eq}
 use Rattle.std.specs.List.{find, list_any}
 use Rattle.std.proofs.Common.{◌∙◌, ap, arith, subst}
-use Rattle.thread_points.specs.Passed.FaultKindType.{FaultKind}
-use Rattle.par_tree.specs.Tree
-use Rattle.par_tree.specs.Tree.{Name, Expr, Program, Target, unused, integer, block, Arg, value, lend, give, Param, ParamKind, Func}
-use Rattle.par_ownership.specs.Environment as environments
-use Rattle.par_ownership.specs.Environment.{Entry, Environment, integer_entry, block_entry, lent_entry, with_entry, after_gives, after_answer, param_entry, is_released}
-use Rattle.par_tree.specs.Names.{names_in_args, names_in_expr}
-use Rattle.par_ownership.specs.Ownership.{Passes, passes, OwnsParams, OwnsFunction, OwnsFunctions}
-use Rattle.thread_points.specs.Passed.Stores.{Store, Held, block_of, without, with_block, hold_block, held_words}
-use Rattle.thread_points.specs.Passed.Values as values
-use Rattle.thread_points.specs.Passed.Calls.{Passing, pass_integer, pass_block, pass_value, passed, lent_back}
-use Rattle.thread_points.proofs.Passed.Words.{with_words, without_words}
+use Rattle.thread_points.specs.Passed.FaultKind.{FaultKind}
+use Rattle.depth_first_run.specs.Passed.Tree
+use Rattle.depth_first_run.specs.Passed.Tree.{Name, Expr, Program, Target, unused, integer, block, Arg, value, lend, give, Param, ParamKind, Func}
+use Rattle.depth_first_run.specs.Passed.Environment as environments
+use Rattle.depth_first_run.specs.Passed.Environment.{Entry, Environment, integer_entry, block_entry, lent_entry, with_entry, after_gives, after_answer, param_entry, is_released}
+use Rattle.depth_first_run.specs.Passed.Names.{names_in_args, names_in_expr}
+use Rattle.depth_first_run.specs.Passed.Ownership.{Passes, passes, OwnsParams, OwnsFunction, OwnsFunctions}
+use Rattle.depth_first_run.specs.Stores.{Store, Held, block_of, without, with_block, hold_block, held_words}
+use Rattle.depth_first_run.specs.Values as values
+use Rattle.depth_first_run.specs.Calls.{Passing, pass_integer, pass_block, pass_value, passed, lent_back}
+use Rattle.depth_first_run.proofs.Words.{with_words, without_words}
 use Rattle.ownership_laws.specs.Counts.{hit, count, held_in, lent_in, seen_in, seen_entry}
 use Rattle.ownership_laws.proofs.Counting.{by_names, name_same, same_name, hit_same, hit_other, hit_true, fresh_unseen, held_block, owned_block, found_with, count_with, count_without, none_held, held_without}
 use Rattle.ownership_laws.proofs.Tame.{or_split, passes_give, passes_lend, passes_number, held_with_integer, held_with_block, held_with_lent, lent_with_integer, lent_with_block, lent_with_lent}

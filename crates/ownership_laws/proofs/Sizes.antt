@@ -3,8 +3,8 @@
 use Rattle.std.specs.Prelude.{◌≡◌, ℕ, ◌+◌, ◌≤◌, Bool, true, false, if◌then◌else◌, List, [], ◌∷◌, ◌++◌, length, ℤ, refl}
 use Rattle.std.specs.Str.{bytes_eq}
 use Rattle.std.proofs.Common.{ap, arith, subst}
-use Rattle.par_tree.specs.Tree.{Name}
-use Rattle.thread_points.specs.Passed.Stores.{Held, block_of, without, replaced, with_block, those_named, those_not_named}
+use Rattle.depth_first_run.specs.Passed.Tree.{Name}
+use Rattle.depth_first_run.specs.Stores.{Held, block_of, without, replaced, with_block, those_named, those_not_named}
 use Rattle.ownership_laws.specs.Counts.{count}
 use Rattle.ownership_laws.proofs.Counting.{name_same, same_name, hit_true}
 

@@ -6,18 +6,18 @@ use Rattle.std.proofs.Common.{sym, ◌∙◌, ap, arith, subst, length-append}
 use Rattle.std.proofs.lemmas.List.{length-take, length-drop, length-set, length-replicate}
 use Rattle.std.proofs.lemmas.Int.{ints}
 use borrow.Author.Tests.{leb-true, eqb-true}
-use Rattle.thread_points.specs.Passed.Actions as actions
-use Rattle.thread_points.specs.Passed.Runs.{tree_for}
-use Rattle.par_tree.specs.Tree.{Name, Expr}
-use Rattle.par_ownership.specs.Environment as environments
-use Rattle.par_ownership.specs.Environment.{Environment, Entry, block_entry, lent_entry, with_entry, regained, opened, is_released, after_gives}
-use Rattle.par_ownership.specs.Ownership.{IsHeld}
-use Rattle.thread_points.specs.Passed.Stores
-use Rattle.thread_points.specs.Passed.Stores.{Store, block_of, block_words, held_words, hold_block, drop_block, without, with_block, write_block}
-use Rattle.thread_points.specs.Passed.Values.{value}
-use Rattle.thread_points.specs.Passed.States.{Setting, State, with_action, unless_faulted, next_action, holdings}
-use Rattle.thread_points.specs.Passed.Run.{on_store, put_in_place, put_number, put_value, run_tree_unless, run_tree_before, alloc_words, free_block, cut_block, rejoin_block, split_in_place, split_block}
-use Rattle.thread_points.proofs.Passed.Words.{cut_words, joined_words, without_words, with_words, replaced_words}
+use Rattle.depth_first_run.specs.Passed.Actions as actions
+use Rattle.depth_first_run.specs.Passed.Runs.{tree_for}
+use Rattle.depth_first_run.specs.Passed.Tree.{Name, Expr}
+use Rattle.depth_first_run.specs.Passed.Environment as environments
+use Rattle.depth_first_run.specs.Passed.Environment.{Environment, Entry, block_entry, lent_entry, with_entry, regained, opened, is_released, after_gives}
+use Rattle.depth_first_run.specs.Passed.Ownership.{IsHeld}
+use Rattle.depth_first_run.specs.Stores
+use Rattle.depth_first_run.specs.Stores.{Store, block_of, block_words, held_words, hold_block, drop_block, without, with_block, write_block}
+use Rattle.depth_first_run.specs.Values.{value}
+use Rattle.depth_first_run.specs.States.{Setting, State, with_action, unless_faulted, next_action, holdings}
+use Rattle.depth_first_run.specs.Run.{on_store, put_in_place, put_number, put_value, run_tree_unless, run_tree_before, alloc_words, free_block, cut_block, rejoin_block, split_in_place, split_block}
+use Rattle.depth_first_run.proofs.Words.{cut_words, joined_words, without_words, with_words, replaced_words}
 use Rattle.ownership_laws.specs.Counts.{hit, count, held_in, seen_in, lent_in, block_in, held_entry, seen_entry, lent_entry_of}
 use Rattle.ownership_laws.proofs.Counting.{by_names, hit_same, hit_other, count_with, count_without, count_replaced, held_block, found_front, found_marked, held_without, held_regained, unseen_none, bytes_swap}
 use Rattle.ownership_laws.proofs.Environments.{Follows, Like, like_marked, like_opened, follows_same, seen_like, lent_like, block_like, held_at_most_one, held_parts, held_opened, lent_seen}

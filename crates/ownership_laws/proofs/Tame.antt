@@ -4,11 +4,11 @@ use Rattle.std.specs.Prelude.{◌≡◌, ℕ, ◌+◌, ◌≤◌, Bool, true, fa
 use Rattle.std.specs.Str.{bytes_eq}
 use Rattle.std.specs.List.{list_all, list_any}
 use Rattle.std.proofs.Common.{sym, ◌∙◌, ap, arith, subst}
-use Rattle.par_tree.specs.Tree.{Name, Program, Expr, Target, unused, integer, block, Arg, value, lend, give, Param, ParamKind, by_value, lent, owned, Stmt, let_stmt, assign_stmt, put_stmt, alloc_stmt, free_stmt, if_stmt, while_stmt, call_stmt, print_stmt, par_stmt, split_stmt, Body, done, step}
-use Rattle.par_ownership.specs.Environment as environments
-use Rattle.par_ownership.specs.Environment.{Kind, Entry, Environment, entry_of, integer_entry, block_entry, lent_entry, with_entry, marked, regained, opened, after_gives, after_answer, held_in_both, is_released}
-use Rattle.par_tree.specs.Names.{names_in_args, names_in_stmt, names_in_body, names_in_expr, names_in_target}
-use Rattle.par_ownership.specs.Ownership.{IsFresh, IsHeld, IsOwned, IsTarget, PassesOne, Passes, passes, Owns, OwnsAll}
+use Rattle.depth_first_run.specs.Passed.Tree.{Name, Program, Expr, Target, unused, integer, block, Arg, value, lend, give, Param, ParamKind, by_value, lent, owned, Stmt, let_stmt, assign_stmt, put_stmt, alloc_stmt, free_stmt, if_stmt, while_stmt, call_stmt, print_stmt, par_stmt, split_stmt, Body, done, step}
+use Rattle.depth_first_run.specs.Passed.Environment as environments
+use Rattle.depth_first_run.specs.Passed.Environment.{Kind, Entry, Environment, entry_of, integer_entry, block_entry, lent_entry, with_entry, marked, regained, opened, after_gives, after_answer, held_in_both, is_released}
+use Rattle.depth_first_run.specs.Passed.Names.{names_in_args, names_in_stmt, names_in_body, names_in_expr, names_in_target}
+use Rattle.depth_first_run.specs.Passed.Ownership.{IsFresh, IsHeld, IsOwned, IsTarget, PassesOne, Passes, passes, Owns, OwnsAll}
 use Rattle.ownership_laws.specs.Counts.{one_if, hit, found, held_entry, block_entry_of, lent_entry_of, seen_entry, held_in, block_in, lent_in, seen_in}
 use Rattle.ownership_laws.proofs.Counting.{by_names, hit_other, fresh_unseen, held_block, owned_block, found_front, seen_or_not, unseen_none, found_with, found_marked, found_own, held_without_less}
 use Rattle.ownership_laws.proofs.Environments.{Follows, Like, like_follows, like_same, follows_same, follows_trans, follows_with, like_marked, like_trans, follows_take, seen_follows, seen_like, lent_like, block_like, lent_seen, lent_follows, held_at_most_one, held_take, like_both, held_both, like_opened, held_parts}

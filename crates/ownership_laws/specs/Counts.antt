@@ -1,9 +1,9 @@
 -- How many blocks a thread holds under a name, and how many an environment says that it holds.
 use Rattle.std.specs.Prelude.{ℕ, ◌+◌, Bool, true, false, ◌&&◌, if◌then◌else◌, List, [], ◌∷◌}
 use Rattle.std.specs.Str.{bytes_eq}
-use Rattle.par_tree.specs.Tree.{Name}
-use Rattle.par_ownership.specs.Environment.{Kind, integer, own, lent, is_block, Entry, Environment}
-use Rattle.thread_points.specs.Passed.Stores.{Held}
+use Rattle.depth_first_run.specs.Passed.Tree.{Name}
+use Rattle.depth_first_run.specs.Passed.Environment.{Kind, integer, own, lent, is_block, Entry, Environment}
+use Rattle.depth_first_run.specs.Stores.{Held}
 
 -- 1 where it holds
 abbrev pub one_if : Bool → ℕ

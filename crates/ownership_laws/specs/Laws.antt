@@ -1,13 +1,13 @@
 -- What a caller may use: an accepted program keeps its ownership promises when it runs.
 use Rattle.std.specs.Prelude.{◌≡◌, ℕ, ◌⊎◌, true, false, List, [], ◌∷◌, pos}
-use Rattle.thread_points.specs.Passed.Actions.{live_words}
-use Rattle.par_tree.specs.Tree.{Name, Program, Stmt, Body, step}
-use Rattle.par_ownership.specs.Environment.{Environment}
-use Rattle.par_tree.specs.Names.{names_in_stmt, names_in_body}
-use Rattle.par_ownership.specs.Ownership.{Ownership, Owns, OwnsAll}
-use Rattle.thread_points.specs.Passed.States.{Setting, State}
-use Rattle.thread_points.specs.Passed.Run.{run, whole, actions_of}
-use Rattle.thread_points.specs.Passed.Middle.{Frame, does, statements, middle}
+use Rattle.depth_first_run.specs.Passed.Actions.{live_words}
+use Rattle.depth_first_run.specs.Passed.Tree.{Name, Program, Stmt, Body, step}
+use Rattle.depth_first_run.specs.Passed.Environment.{Environment}
+use Rattle.depth_first_run.specs.Passed.Names.{names_in_stmt, names_in_body}
+use Rattle.depth_first_run.specs.Passed.Ownership.{Ownership, Owns, OwnsAll}
+use Rattle.depth_first_run.specs.States.{Setting, State}
+use Rattle.depth_first_run.specs.Run.{run, whole, actions_of}
+use Rattle.depth_first_run.specs.Middle.{Frame, does, statements, middle}
 use Rattle.ownership_laws.specs.Counts.{count, held_in}
 use Rattle.ownership_laws.specs.Needs.{needs_block, end_needs}
 use Rattle.thread_points.specs.Points.{after_steps}

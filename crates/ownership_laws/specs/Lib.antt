@@ -1,4 +1,5 @@
 pub mod Counts
 pub mod Needs
 pub mod Laws
-pub mod Passed
+pub mod Holdings
+pub mod PointLaws

@@ -1,8 +1,8 @@
 -- Which blocks must be there where a statement begins, and at the end of a call or of a `split`.
 use Rattle.std.specs.Prelude.{Bool, false, ◌||◌, List, [], ◌∷◌, Option, Some, None}
 use Rattle.std.specs.Str.{bytes_eq}
-use Rattle.par_tree.specs.Tree.{Name, Expr, num, var, get, len_of, neg, chain, cmp, Links, last, link, Arg, value, lend, give, Stmt, let_stmt, assign_stmt, put_stmt, alloc_stmt, free_stmt, if_stmt, while_stmt, call_stmt, print_stmt, par_stmt, split_stmt, Param, Ret, RetValue, gives, hands}
-use Rattle.thread_points.specs.Passed.Middle.{Frame, does, answers, rejoins, answers_main, allocates, awaits, joins}
+use Rattle.depth_first_run.specs.Passed.Tree.{Name, Expr, num, var, get, len_of, neg, chain, cmp, Links, last, link, Arg, value, lend, give, Stmt, let_stmt, assign_stmt, put_stmt, alloc_stmt, free_stmt, if_stmt, while_stmt, call_stmt, print_stmt, par_stmt, split_stmt, Param, Ret, RetValue, gives, hands}
+use Rattle.depth_first_run.specs.Middle.{Frame, does, answers, rejoins, answers_main, allocates, awaits, joins}
 
 -- the expression reads the block x, or its length
 abbrev mutual

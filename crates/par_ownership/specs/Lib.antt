@@ -3,4 +3,3 @@ pub mod Ownership
 pub mod Walk
 pub mod Accepted
 pub mod Laws
-pub mod Passed

@@ -8,8 +8,8 @@ use Rattle.thread_frames.specs.declared.ended.Ended.{Ended}
 use Rattle.thread_frames.specs.declared.thread.Thread.{Thread}
 use Rattle.thread_frames.specs.Shown.{thread_shown, result_shown}
 use Rattle.thread_frames.proofs.Threads.{deliveries_hand_over}
-use Rattle.thread_events.specs.Results.{IsGiven}
-use Rattle.hall_law.specs.Writing.{IsHanded}
+use Rattle.thread_actions.specs.Results.{IsGiven}
+use Rattle.hall_slots.specs.Passed.Writing.{IsHanded}
 
 -- a thread that was given a result was handed it
 pub given_is_handed : (ended : Ended) (parent now : Thread) → IsAwaited (label_of parent) ended (children_of parent) → IsGiven ended parent now

@@ -3,4 +3,3 @@ pub mod Taking
 pub mod Writing
 pub mod Orders
 pub mod Waits
-pub mod Passed

@@ -3,18 +3,18 @@
 use Rattle.std.proofs.Common.{◌≡◌, ℕ, ◌+◌, ◌<◌, List, [], ◌∷◌, refl, sym, arith}
 use Rattle.std.proofs.lemmas.List.Sorted.{IsPermutation-refl}
 use Rattle.std.specs.List.Sorted.{IsPermutation}
-use Rattle.deque_machine.specs.Moments.{Moment}
-use Rattle.deque_machine.specs.Machine.{Setting}
-use Rattle.deque_machine.specs.Play.{Limits}
-use Rattle.depth_first_list.specs.Runs.{IsDepthFirst}
-use Rattle.moment_parts.specs.Parts.{Thread, Result}
-use Rattle.hall_law.specs.Values.{Hall}
-use Rattle.hall_law.specs.Steps.{Step, Leads}
-use Rattle.hall_law.specs.Writing.{IsAtWork}
-use Rattle.hall_law.specs.Views.{View}
-use Rattle.hall_law.specs.State.{RunningState}
-use Rattle.hall_law.proofs.Quiet.{quiet_puts_go_on}
-use Rattle.hall_law.proofs.Owners.{waking_ends_go_on, kept_joins_go_on}
+use Rattle.hall_slots.specs.Passed.Moments.{Moment}
+use Rattle.hall_slots.specs.Passed.Machine.{Setting}
+use Rattle.hall_slots.specs.Passed.Play.{Limits}
+use Rattle.hall_slots.specs.Passed.DepthFirstListRuns.{IsDepthFirst}
+use Rattle.moment_laws.specs.Passed.Parts.{Thread, Result}
+use Rattle.hall_slots.specs.Passed.Values.{Hall}
+use Rattle.hall_slots.specs.Passed.Steps.{Step, Leads}
+use Rattle.hall_slots.specs.Passed.Writing.{IsAtWork}
+use Rattle.hall_slots.specs.Passed.HallMachineViews.{View}
+use Rattle.hall_slots.specs.Passed.State.{RunningState}
+use Rattle.hall_slots.proofs.Passed.Quiet.{quiet_puts_go_on}
+use Rattle.hall_slots.proofs.Passed.Owners.{waking_ends_go_on, kept_joins_go_on}
 use Rattle.part_events.specs.Taken.{TakenWakesGoOn, TakenJoinsGoOn}
 
 plus_zero : (n : ℕ) → n + 0 ≡ n

@@ -4,13 +4,13 @@ use Rattle.std.proofs.lemmas.List.Sorted.{IsPermutation-map}
 use Rattle.std.specs.List.Sorted.{IsPermutation}
 use Rattle.std.specs.Prelude.{Option, None, Some, IfSome}
 use Rattle.dag_order.specs.declared.thread_id.ThreadId.{ThreadId}
-use Rattle.lawful_books.specs.Lists.{Each}
-use Rattle.moment_parts.specs.Parts.{Child}
+use Rattle.hall_slots.specs.Passed.Lists.{Each}
+use Rattle.moment_laws.specs.Passed.Parts.{Child}
 use Rattle.thread_frames.specs.declared.thread.Thread.{Thread}
 use Rattle.thread_frames.specs.Kept.{WaitsUnder, waiting_shown}
 use Rattle.thread_frames.proofs.Found.{none_found}
-use Rattle.hall_turns.specs.declared.list_slot.ListSlot.{ListSlot}
-use Rattle.hall_turns.specs.Shown.{list_shown}
+use Rattle.hall_slots.specs.declared.list_slot.ListSlot.{ListSlot}
+use Rattle.hall_slots.specs.Shown.{list_shown}
 use Rattle.part_events.specs.ListCalls.{TakesWaiting}
 use Rattle.part_events.specs.Taken.{NobodyWaits}
 

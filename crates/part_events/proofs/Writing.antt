@@ -2,16 +2,16 @@
 use Rattle.std.proofs.Common.{◌≡◌, ℕ, List, [], ◌∷◌, map, sym, ap, subst, ◌∙◌}
 use Rattle.dag_order.specs.declared.action_id.ActionId.{ActionId}
 use Rattle.dag_order.specs.declared.birth.Birth.{Birth}
-use Rattle.depth_first_list.specs.Actions.{Action}
-use Rattle.period_books.specs.Periods.{open_shown}
-use Rattle.period_table.specs.Tables.{noted}
-use Rattle.quota_period.specs.declared.period.Period.{Period as OpenPeriod}
-use Rattle.thread_frames.specs.Passed.Parts as parts
+use Rattle.hall_slots.specs.Passed.DepthFirstListActions.{Action}
+use Rattle.open_periods.specs.Periods.{open_shown}
+use Rattle.open_periods.specs.Tables.{noted}
+use Rattle.open_periods.specs.declared.period.Period.{Period as OpenPeriod}
+use Rattle.moment_laws.specs.Passed.Parts as parts
 use Rattle.thread_frames.specs.declared.thread.Thread.{Thread}
 use Rattle.thread_frames.specs.Shown.{thread_shown}
-use Rattle.thread_events.specs.Passed.Events.{DidAlone, DidFork}
-use Rattle.hall_law.specs.Values.{Hall, open_for}
-use Rattle.hall_law.specs.Writing.{IsAtWork, ActsInLane, acts_alone, forks_child}
+use Rattle.hall_slots.specs.Passed.ListChangesEvents.{DidAlone, DidFork}
+use Rattle.hall_slots.specs.Passed.Values.{Hall, open_for}
+use Rattle.hall_slots.specs.Passed.Writing.{IsAtWork, ActsInLane, acts_alone, forks_child}
 use Rattle.part_events.specs.Here.{ShowsOwn}
 
 module _ {h : Hall} {worker : ℕ} (w : IsAtWork h worker) (k : ℕ) (l : List Action) (top after : Thread) (under threads : List Thread)

@@ -1,17 +1,17 @@
 -- What a Dummy does to the parts that its worker took.
 use Rattle.std.specs.Prelude.{◌≡◌, ℕ, List, ◌∷◌, []}
 use Rattle.dag_order.specs.declared.action_id.ActionId.{ActionId}
-use Rattle.depth_first_run.specs.Run.{list_of}
-use Rattle.depth_first_run.specs.States.{Setting}
-use Rattle.period_books.specs.Periods.{open_shown}
-use Rattle.period_table.specs.Tables.{noted}
-use Rattle.quota_period.specs.declared.period.Period.{Period as OpenPeriod}
+use Rattle.hall_slots.specs.Passed.Run.{list_of}
+use Rattle.hall_slots.specs.Passed.States.{Setting}
+use Rattle.open_periods.specs.Periods.{open_shown}
+use Rattle.open_periods.specs.Tables.{noted}
+use Rattle.open_periods.specs.declared.period.Period.{Period as OpenPeriod}
 use Rattle.thread_frames.specs.Actions.{IsOfTheList}
 use Rattle.thread_frames.specs.declared.next.Next.TheVariants as nexts
 use Rattle.thread_frames.specs.declared.thread.Thread.{Thread}
 use Rattle.thread_frames.specs.Shown.{thread_shown}
-use Rattle.thread_events.specs.Acts.{StaysAtPoint}
-use Rattle.thread_events.specs.Passed.Events.{DidDummy}
+use Rattle.thread_actions.specs.Acts.{StaysAtPoint}
+use Rattle.hall_slots.specs.Passed.ListChangesEvents.{DidDummy}
 
 -- the thread did a Dummy of this name, and is on top of the others at its next point; the period has the name
 pub record DummyHere (top : Thread) (under : List Thread) (before : OpenPeriod) (threads : List Thread) (after : OpenPeriod) (name : ActionId)

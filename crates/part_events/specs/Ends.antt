@@ -1,12 +1,12 @@
 -- What the End of a thread does to the parts that its worker took.
 use Rattle.std.specs.Prelude.{◌≡◌, ℕ, List, ◌∷◌, []}
 use Rattle.dag_order.specs.declared.action_id.ActionId.{ActionId}
-use Rattle.depth_first_run.specs.Run.{list_of}
-use Rattle.depth_first_run.specs.States.{Setting}
-use Rattle.node_table.specs.Table.{Table}
-use Rattle.period_books.specs.Periods.{open_shown}
-use Rattle.period_table.specs.Tables.{noted}
-use Rattle.quota_period.specs.declared.period.Period.{Period as OpenPeriod}
+use Rattle.hall_slots.specs.Passed.Run.{list_of}
+use Rattle.hall_slots.specs.Passed.States.{Setting}
+use Rattle.hall_slots.specs.Passed.Table.{Table}
+use Rattle.open_periods.specs.Periods.{open_shown}
+use Rattle.open_periods.specs.Tables.{noted}
+use Rattle.open_periods.specs.declared.period.Period.{Period as OpenPeriod}
 use Rattle.thread_frames.specs.Actions.{IsOfTheList}
 use Rattle.thread_frames.specs.Points.{IsAtPoint, IsResult}
 use Rattle.thread_frames.specs.Views.{label_of, ended_label}
@@ -14,9 +14,9 @@ use Rattle.thread_frames.specs.declared.ended.Ended.{Ended}
 use Rattle.thread_frames.specs.declared.next.Next.TheVariants as nexts
 use Rattle.thread_frames.specs.declared.thread.Thread.{Thread}
 use Rattle.thread_frames.specs.Shown.{thread_shown, result_shown}
-use Rattle.thread_events.specs.Passed.Events.{DidEnd}
-use Rattle.thread_events.specs.Results.{IsGiven}
-use Rattle.hall_law.specs.Writing.{IsHanded}
+use Rattle.hall_slots.specs.Passed.ListChangesEvents.{DidEnd}
+use Rattle.thread_actions.specs.Results.{IsGiven}
+use Rattle.hall_slots.specs.Passed.Writing.{IsHanded}
 
 -- The thread ended under this name, and left this result; the period has the name.
 pub record EndsHere (top : Thread) (before after : OpenPeriod) (name : ActionId) (ended : Ended) : Type 0 where

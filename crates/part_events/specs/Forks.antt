@@ -1,11 +1,11 @@
 -- What a Fork does to the parts that its worker took.
 use Rattle.std.specs.Prelude.{◌≡◌, ℕ, List, ◌∷◌, []}
 use Rattle.dag_order.specs.declared.action_id.ActionId.{ActionId}
-use Rattle.depth_first_list.specs.Actions.{record_words}
-use Rattle.quota_period.specs.declared.period.Period.{Period as OpenPeriod}
+use Rattle.hall_slots.specs.Passed.DepthFirstListActions.{record_words}
+use Rattle.open_periods.specs.declared.period.Period.{Period as OpenPeriod}
 use Rattle.thread_frames.specs.declared.next.Next.TheVariants as nexts
 use Rattle.thread_frames.specs.declared.thread.Thread.{Thread}
-use Rattle.thread_events.specs.Acts.{ForkFits, StaysAtPoint}
+use Rattle.thread_actions.specs.Acts.{ForkFits, StaysAtPoint}
 use Rattle.part_events.specs.Here.{ActsHere}
 
 -- it forked, and the birth of the child, of some ordinal, is noted

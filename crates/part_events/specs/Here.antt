@@ -1,16 +1,16 @@
 -- What an owner's event does to what its worker took: the lane of its deque, with the top thread taken out of it, the period that runs there,
 -- and the pool with its moves.
 use Rattle.std.specs.Prelude.{◌≡◌, ℕ, ◌≤◌, List, ◌∷◌, map, pos}
-use Rattle.bounded_list.specs.BoundedList.{entries, spare}
+use Rattle.containers.specs.BoundedList.{entries, spare}
 use Rattle.dag_order.specs.declared.action_id.ActionId.{ActionId}
 use Rattle.dag_order.specs.declared.birth.Birth.{Birth}
 use Rattle.deque_list.specs.Lanes.{LaneView}
-use Rattle.depth_first_list.specs.Facts.{words_at}
-use Rattle.depth_first_run.specs.Run.{list_of}
-use Rattle.depth_first_run.specs.States.{Setting}
-use Rattle.period_books.specs.Periods.{Period, open_shown}
-use Rattle.period_table.specs.Tables.{birth_room, noted}
-use Rattle.quota_period.specs.declared.period.Period.{Period as OpenPeriod}
+use Rattle.hall_slots.specs.Passed.Facts.{words_at}
+use Rattle.hall_slots.specs.Passed.Run.{list_of}
+use Rattle.hall_slots.specs.Passed.States.{Setting}
+use Rattle.open_periods.specs.Periods.{Period, open_shown}
+use Rattle.open_periods.specs.Tables.{birth_room, noted}
+use Rattle.open_periods.specs.declared.period.Period.{Period as OpenPeriod}
 use Rattle.space_ledger.specs.declared.moves.Moves.{Moves}
 use Rattle.space_ledger.specs.MovesList.{moves_list, moves_spare}
 use Rattle.space_ledger.specs.Sums.{total_change}
@@ -18,9 +18,9 @@ use Rattle.thread_frames.specs.Actions.{IsOfTheList}
 use Rattle.thread_frames.specs.declared.next.Next.{Next}
 use Rattle.thread_frames.specs.declared.thread.Thread.{Thread}
 use Rattle.thread_frames.specs.Shown.{thread_shown}
-use Rattle.thread_events.specs.Acts.{StaysAtPoint}
-use Rattle.hall_law.specs.Values.{Hall, PoolShown, open_for}
-use Rattle.hall_law.specs.Writing.{IsAtWork, ActsInLane, PoolTakes}
+use Rattle.thread_actions.specs.Acts.{StaysAtPoint}
+use Rattle.hall_slots.specs.Passed.Values.{Hall, PoolShown, open_for}
+use Rattle.hall_slots.specs.Passed.Writing.{IsAtWork, ActsInLane, PoolTakes}
 
 -- There is memory for an action and a birth in the period, where a list for so many births is ready for the first one.
 pub record HasRoomIn (period : OpenPeriod) (ready : ℕ) : Type 0 where

@@ -2,16 +2,16 @@
 use Rattle.std.specs.Prelude.{◌≡◌, ℕ, List, ◌∷◌, []}
 use Rattle.dag_order.specs.declared.action_id.ActionId.{ActionId}
 use Rattle.dag_order.specs.declared.thread_id.ThreadId.{ThreadId}
-use Rattle.depth_first_list.specs.Facts.{words_at}
-use Rattle.depth_first_run.specs.Run.{list_of}
-use Rattle.depth_first_run.specs.States.{Setting}
-use Rattle.period_books.specs.Periods.{open_shown}
-use Rattle.period_table.specs.Tables.{noted}
-use Rattle.quota_period.specs.declared.period.Period.{Period as OpenPeriod}
+use Rattle.hall_slots.specs.Passed.Facts.{words_at}
+use Rattle.hall_slots.specs.Passed.Run.{list_of}
+use Rattle.hall_slots.specs.Passed.States.{Setting}
+use Rattle.open_periods.specs.Periods.{open_shown}
+use Rattle.open_periods.specs.Tables.{noted}
+use Rattle.open_periods.specs.declared.period.Period.{Period as OpenPeriod}
 use Rattle.thread_frames.specs.Actions.{IsOfTheList}
 use Rattle.thread_frames.specs.declared.next.Next.TheVariants as nexts
 use Rattle.thread_frames.specs.declared.thread.Thread.{Thread}
-use Rattle.thread_events.specs.Acts.{ActedJoin, StaysAtPoint}
+use Rattle.thread_actions.specs.Acts.{ActedJoin, StaysAtPoint}
 
 -- the thread joined its newest open child under this name, and is on top of the others at its next point; the period has the name
 pub record JoinsHere (top : Thread) (under : List Thread) (before : OpenPeriod) (threads : List Thread) (after : OpenPeriod) (name : ActionId)

@@ -5,4 +5,3 @@ pub mod Forks
 pub mod Joins
 pub mod ListCalls
 pub mod Taken
-pub mod Passed

@@ -3,23 +3,23 @@ use Rattle.std.specs.Prelude.{◌≡◌, ◌≢◌, ℕ, true, None, Some, List,
 use Rattle.std.specs.List.Sorted.{IsPermutation}
 use Rattle.dag_order.specs.declared.action_id.ActionId.{ActionId}
 use Rattle.dag_order.specs.declared.thread_id.ThreadId.{ThreadId}
-use Rattle.lawful_books.specs.Lists.{Each}
-use Rattle.deque_machine.specs.Moments.{Moment}
-use Rattle.deque_machine.specs.Machine.{Setting, does}
-use Rattle.deque_machine.specs.Play.{Limits}
-use Rattle.period_table.specs.Tables.{noted}
-use Rattle.moment_parts.specs.Parts.{Child, Thread, Result}
-use Rattle.thread_events.specs.Passed.Events.{DidJoin, DidEnd}
-use Rattle.thread_map.specs.Kept.{kept_under}
+use Rattle.hall_slots.specs.Passed.Lists.{Each}
+use Rattle.hall_slots.specs.Passed.Moments.{Moment}
+use Rattle.hall_slots.specs.Passed.Machine.{Setting, does}
+use Rattle.hall_slots.specs.Passed.Play.{Limits}
+use Rattle.open_periods.specs.Tables.{noted}
+use Rattle.moment_laws.specs.Passed.Parts.{Child, Thread, Result}
+use Rattle.hall_slots.specs.Passed.ListChangesEvents.{DidJoin, DidEnd}
+use Rattle.hall_slots.specs.Passed.ThreadMapKept.{kept_under}
 use Rattle.thread_frames.specs.Kept.{WaitsUnder}
-use Rattle.hall_law.specs.Values.{PoolShown, Hall, ListShown}
-use Rattle.hall_law.specs.Steps.{Step, Leads, did}
-use Rattle.hall_law.specs.Writing.{lane_with, IsAtWork, written, step_of, PoolTakes, IsHanded}
-use Rattle.hall_law.specs.Views.{View}
-use Rattle.hall_law.specs.State.{RunningState, IsIn, GoesOn}
-use Rattle.hall_law.specs.Events.{still_owning}
-use Rattle.hall_turns.specs.declared.list_slot.ListSlot.{ListSlot}
-use Rattle.hall_turns.specs.Shown.{list_shown}
+use Rattle.hall_slots.specs.Passed.Values.{PoolShown, Hall, ListShown}
+use Rattle.hall_slots.specs.Passed.Steps.{Step, Leads, did}
+use Rattle.hall_slots.specs.Passed.Writing.{lane_with, IsAtWork, written, step_of, PoolTakes, IsHanded}
+use Rattle.hall_slots.specs.Passed.HallMachineViews.{View}
+use Rattle.hall_slots.specs.Passed.State.{RunningState, IsIn, GoesOn}
+use Rattle.hall_slots.specs.Passed.HallMachineEvents.{still_owning}
+use Rattle.hall_slots.specs.declared.list_slot.ListSlot.{ListSlot}
+use Rattle.hall_slots.specs.Shown.{list_shown}
 
 -- the End of a thread, alone in its deque, whose parent waits for it, where the others wait in this order once the parent is taken out
 abbrev pub TakenWakesGoOn : Setting → Type 0

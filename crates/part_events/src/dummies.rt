@@ -1,7 +1,7 @@
 //! The Dummy.
 
 ghost use Rattle.std.specs.Prelude.{◌≡◌, ◌≤◌, ◌<◌, []};
-ghost use Rattle.bounded_list.specs.BoundedList.{entries, spare};
+ghost use Rattle.containers.specs.BoundedList.{entries, spare};
 ghost use Rattle.language_limits.specs.declared.TheConstants.{GREATEST_COUNT, GREATEST_QUOTA};
 ghost use Rattle.thread_frames.specs.Actions.{IsDummy};
 ghost use Rattle.thread_frames.specs.Points.{IsPlaced};
@@ -10,11 +10,11 @@ ghost use Rattle.part_events.specs.Here.{HasRoomHere};
 ghost use Rattle.part_events.specs.Dummies.{DummyHere};
 
 use crate::tops::put_back;
-use boxed::Boxed;
+use containers::Boxed;
 use dag_order::{ActionId, Births};
 use deque_list::Lane;
-use quota_period::Period;
-use thread_events::dummy_done;
+use open_periods::Period;
+use thread_actions::dummy_done;
 use thread_frames::Thread;
 
 /// Does a Dummy, after which its caller ends the period. Returns its name.

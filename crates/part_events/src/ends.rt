@@ -1,7 +1,7 @@
 //! The End of a thread.
 
 ghost use Rattle.std.specs.Prelude.{◌≡◌, ◌≤◌, ◌<◌, ◌∷◌, [], List as AnyList, length, pos};
-ghost use Rattle.bounded_list.specs.BoundedList.{entries, spare};
+ghost use Rattle.containers.specs.BoundedList.{entries, spare};
 ghost use Rattle.block_arena.specs.Region.{with_given};
 ghost use Rattle.language_limits.specs.declared.TheConstants.{GREATEST_COUNT, GREATEST_QUOTA};
 ghost use Rattle.space_ledger.specs.MovesList.{moves_list};
@@ -13,21 +13,20 @@ ghost use Rattle.thread_frames.specs.Children.{IsAwaited};
 ghost use Rattle.thread_frames.specs.Views.{children_of, next_of, done_of, label_of};
 ghost use Rattle.thread_frames.specs.declared.next.Next.TheVariants as nexts;
 ghost use Rattle.thread_frames.specs.declared.thread.Thread.{Thread as AnyThread};
-ghost use Rattle.thread_events.specs.Results.{FirstAwaits, IsGiven};
+ghost use Rattle.thread_actions.specs.Results.{FirstAwaits, IsGiven};
 ghost use Rattle.thread_frames.specs.Shown.{thread_shown, result_shown};
-ghost use Rattle.hall_law.specs.Writing.{IsHanded};
+ghost use Rattle.hall_slots.specs.Passed.Writing.{IsHanded};
 ghost use Rattle.part_events.specs.Here.{HasRoomIn, HasMovesFor, TakesWords, pool_with};
 ghost use Rattle.part_events.specs.Ends.{EndsHere, EndsAbove};
 
 use crate::moves::note_move;
 use block_arena::Pool;
-use boxed::Boxed;
+use containers::Boxed;
 use dag_order::{ActionId, Births};
 use deque_list::Lane;
-use period_table::note_in;
-use quota_period::Period;
+use open_periods::{Period, note_in};
 use space_ledger::Moves;
-use thread_events::{end_done, give};
+use thread_actions::{end_done, give};
 use thread_frames::{Ended, Thread, give_record};
 
 /// Hands a result to the thread on top of a lane, which waits for it.

@@ -1,12 +1,12 @@
 //! The Fork.
 
 ghost use Rattle.std.specs.Prelude.{◌≡◌, ◌≤◌, ◌<◌, ◌+◌, ◌∷◌, [], ℕ, length, pos};
-ghost use Rattle.bounded_list.specs.BoundedList.{entries, spare};
+ghost use Rattle.containers.specs.BoundedList.{entries, spare};
 ghost use Rattle.block_arena.specs.Region.{with_taken};
-ghost use Rattle.depth_first_list.specs.Actions.{record_words};
+ghost use Rattle.hall_slots.specs.Passed.DepthFirstListActions.{record_words};
 ghost use Rattle.language_limits.specs.declared.TheConstants.{GREATEST_COUNT, GREATEST_QUOTA};
-ghost use Rattle.period_books.specs.Periods.{open_shown};
-ghost use Rattle.period_table.specs.Tables.{noted};
+ghost use Rattle.open_periods.specs.Periods.{open_shown};
+ghost use Rattle.open_periods.specs.Tables.{noted};
 ghost use Rattle.space_ledger.specs.MovesList.{moves_list};
 ghost use Rattle.space_ledger.specs.Sums.{total_change};
 ghost use Rattle.thread_frames.specs.Actions.{IsFork};
@@ -18,14 +18,13 @@ ghost use Rattle.part_events.specs.Forks.{ForksHere, GoBothOnTop};
 
 use crate::moves::note_move;
 use block_arena::Pool;
-use boxed::Boxed;
+use containers::Boxed;
 use dag_order::{ActionId, Birth, Births, ThreadId};
 use deque_list::Lane;
 use language_limits::RECORD_WORDS;
-use period_table::note_in;
-use quota_period::Period;
+use open_periods::{Period, note_in};
 use space_ledger::Moves;
-use thread_events::{Forked, fork_done};
+use thread_actions::{Forked, fork_done};
 use thread_frames::{Place, Thread};
 
 /// The id of the thread that a period forks next.

@@ -1,7 +1,7 @@
 //! The Join of a child whose result was handed over.
 
 ghost use Rattle.std.specs.Prelude.{◌≡◌, ◌≤◌, ◌<◌, [], pos, IsTrue};
-ghost use Rattle.bounded_list.specs.BoundedList.{entries, spare};
+ghost use Rattle.containers.specs.BoundedList.{entries, spare};
 ghost use Rattle.block_arena.specs.Region.{with_given};
 ghost use Rattle.dag_order.specs.declared.thread_id.ThreadId.{ThreadId};
 ghost use Rattle.language_limits.specs.declared.TheConstants.{GREATEST_COUNT, GREATEST_QUOTA};
@@ -17,12 +17,12 @@ ghost use Rattle.part_events.specs.Joins.{JoinsHere, ReleasesNothing};
 use crate::moves::note_move;
 use crate::tops::put_back;
 use block_arena::Pool;
-use boxed::Boxed;
+use containers::Boxed;
 use dag_order::{ActionId, Births};
 use deque_list::Lane;
-use quota_period::Period;
+use open_periods::Period;
 use space_ledger::Moves;
-use thread_events::join_done;
+use thread_actions::join_done;
 use thread_frames::Thread;
 
 /// Does a Join that releases no words. It needs no pool. Returns its name.

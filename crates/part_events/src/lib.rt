@@ -5,7 +5,7 @@
 //! list where a thread waits for a child, is woken, leaves its result, or is handed one. The list keeps what waits and the results under
 //! the ids of threads, in no order.
 //!
-//! It uses the steps of a thread around its action (`thread_events`), the slots of a hall (`hall_turns`) and its running state (`hall_law`).
+//! It uses the steps of a thread around its action (`thread_actions`), the slots of a hall (`hall_slots`) and its running state (`hall_machine`).
 //! Its theorem: each action writes into its parts what the law of the hall asks of it, for each program and each hall in which the worker is at
 //! work with these parts. Each call on the list changes what the list shows as its event writes it, and nothing else. A thread that was taken
 //! out of the list is woken, or a result handed over, in a running state ([`list_laws`]).

@@ -2,22 +2,22 @@
 
 ghost use Rattle.std.specs.Prelude.{◌≡◌, ◌≤◌, ◌∷◌, ℕ, Option, None, Some, IfSome, IfNone};
 ghost use Rattle.std.specs.List.Sorted.{IsPermutation};
-ghost use Rattle.hall_turns.specs.Passed.Parts.{Has};
+ghost use Rattle.hall_slots.specs.Passed.Parts.{Has};
 ghost use Rattle.space_ledger.specs.BooksList.{books_spare};
-ghost use Rattle.thread_map.specs.Kept.{kept_under};
-ghost use Rattle.thread_events.specs.Results.{IsToCome, HasCome, IsGiven};
+ghost use Rattle.hall_slots.specs.Passed.ThreadMapKept.{kept_under};
+ghost use Rattle.thread_actions.specs.Results.{IsToCome, HasCome, IsGiven};
 ghost use Rattle.thread_frames.specs.Children.{IsAwaited, IsOnlyNewest};
 ghost use Rattle.thread_frames.specs.Views.{children_of, join_words_of, label_of};
 ghost use Rattle.thread_frames.specs.declared.ended.Ended.{Ended as AnyEnded};
 ghost use Rattle.thread_frames.specs.Passed.Joins.{released};
-ghost use Rattle.hall_turns.specs.Lists.{IsGone};
-ghost use Rattle.hall_turns.specs.Shown.{list_shown};
+ghost use Rattle.hall_slots.specs.ListCalls.{IsGone};
+ghost use Rattle.hall_slots.specs.Shown.{list_shown};
 ghost use Rattle.part_events.specs.ListCalls.{SuspendsThere, LeavesThere, TakesWaiting, IsHandedThere, KeepsCrew};
 
-use boxed::Boxed;
+use containers::Boxed;
 use dag_order::ThreadId;
 use deque_list::DequeId;
-use hall_turns::{ListSlot, Running};
+use hall_slots::{ListSlot, Running};
 use thread_frames::{Ended, Thread};
 
 /// Lets a thread, alone in its deque, wait for a child: the deque is gone, and the period is closed. It takes no memory.

@@ -1,5 +1,5 @@
 //! The laws of what a list keeps in no order.
-ghost use Rattle.deque_machine.specs.Laws.{InEachSetting};
+ghost use Rattle.hall_slots.specs.Passed.Laws.{InEachSetting};
 ghost use Rattle.part_events.specs.Taken.{TakenWakesGoOn, TakenJoinsGoOn, NobodyWaits};
 
 /// The End of a thread whose parent was taken out of the list leads from a running state to a running state.

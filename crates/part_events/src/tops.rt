@@ -1,17 +1,16 @@
 //! The top thread goes back on top of its lane.
 
 ghost use Rattle.std.specs.Prelude.{◌≡◌, ◌≤◌, ◌+◌, ◌∷◌, [], ℕ};
-ghost use Rattle.bounded_list.specs.BoundedList.{entries, spare};
+ghost use Rattle.containers.specs.BoundedList.{entries, spare};
 ghost use Rattle.language_limits.specs.declared.TheConstants.{GREATEST_QUOTA};
-ghost use Rattle.period_books.specs.Periods.{open_shown};
-ghost use Rattle.period_table.specs.Tables.{noted};
+ghost use Rattle.open_periods.specs.Periods.{open_shown};
+ghost use Rattle.open_periods.specs.Tables.{noted};
 ghost use Rattle.part_events.specs.Here.{HasRoomHere};
 
-use boxed::Boxed;
+use containers::Boxed;
 use dag_order::{ActionId, Births};
 use deque_list::Lane;
-use period_table::note_in;
-use quota_period::Period;
+use open_periods::{Period, note_in};
 use thread_frames::Thread;
 
 /// Puts a thread on top of a lane, and notes its action in the period, with the words that it uses of the quota.

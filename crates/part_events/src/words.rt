@@ -1,7 +1,7 @@
 //! Actions with blocks.
 
 ghost use Rattle.std.specs.Prelude.{◌≡◌, ◌≤◌, ◌<◌, ◌+◌, [], pos};
-ghost use Rattle.bounded_list.specs.BoundedList.{entries, spare};
+ghost use Rattle.containers.specs.BoundedList.{entries, spare};
 ghost use Rattle.block_arena.specs.Region.{with_taken, with_given};
 ghost use Rattle.dag_order.specs.declared.fault.FaultAt.{FaultAt};
 ghost use Rattle.language_limits.specs.declared.TheConstants.{GREATEST_COUNT, GREATEST_QUOTA};
@@ -11,18 +11,18 @@ ghost use Rattle.thread_frames.specs.Actions.{IsAlloc, IsRelease, IsFault};
 ghost use Rattle.thread_frames.specs.Points.{IsPlaced};
 ghost use Rattle.thread_frames.specs.Views.{next_of, words_asked, done_of, held_by};
 ghost use Rattle.thread_frames.specs.declared.next.Next.TheVariants as nexts;
-ghost use Rattle.thread_events.specs.Acts.{AllocIsCharged, Always};
+ghost use Rattle.thread_actions.specs.Acts.{AllocIsCharged, Always};
 ghost use Rattle.part_events.specs.Here.{HasRoomHere, HasMovesFor, ActsHere, TakesWords, GoesOnTop, pool_with};
 
 use crate::moves::note_move;
 use crate::tops::put_back;
 use block_arena::Pool;
-use boxed::Boxed;
+use containers::Boxed;
 use dag_order::{ActionId, Births};
 use deque_list::Lane;
-use quota_period::Period;
+use open_periods::Period;
 use space_ledger::Moves;
-use thread_events::{alloc_done, fault_done, release_done};
+use thread_actions::{alloc_done, fault_done, release_done};
 use thread_frames::Thread;
 
 /// Does an Alloc that fits the arena, and uses `charge` words of the quota. Returns its name.

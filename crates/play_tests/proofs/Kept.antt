@@ -1,14 +1,14 @@
 -- What a depth-first run is of stays while a core goes on.
 use Rattle.std.proofs.Common.{sym, subst}
 use Rattle.std.proofs.Math.Logic.{∥∥₁_map}
-use Rattle.dummy_tree.specs.QuotaWords.{quota_words}
+use Rattle.depth_first_list.specs.QuotaWords.{quota_words}
 use Rattle.node_table.specs.Codes.{code_shown}
 use Rattle.serial_journal.specs.declared.serial.Serial.{Serial}
 use Rattle.thread_state.specs.Settings.{IsSettingOf}
-use Rattle.trail_record.specs.Played.CoreType.{Core}
-use Rattle.trail_record.specs.Played.Cores.{SameSetting}
-use Rattle.ready_core.specs.declared.run.AsyncCore.{AsyncCore}
-use Rattle.ready_core.specs.Cores.{SameSetting as SameListSetting}
+use Rattle.dfd_core.specs.declared.run.Core.{Core}
+use Rattle.dfd_core.specs.Cores.{SameSetting}
+use Rattle.async_core.specs.declared.run.AsyncCore.{AsyncCore}
+use Rattle.async_core.specs.Cores.{SameSetting as SameListSetting}
 use Rattle.prefix_laws.specs.Prefixes.{IsSerialOf, IsSerialOfList}
 
 pub serial_stays : (before after : Core) (serial : Serial) → SameSetting before after → IsSerialOf before serial → IsSerialOf after serial

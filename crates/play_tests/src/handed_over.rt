@@ -3,8 +3,8 @@
 use accepted_source::accept;
 use block_arena::Pool;
 use dag_order::Finish;
+use depth_first_list::Quota;
 use dfd_core::{Core, CoreEnd, ListChoices, RunEnd, play};
-use dummy_tree::Quota;
 use frame_code::lower;
 use std::alloc::{AllocError, Global};
 use std::process::Abort;

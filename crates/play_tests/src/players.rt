@@ -1,12 +1,12 @@
 //! The two cores that play, as one: that of deques and that of a ready list.
 
 use accepted_source::accept;
+use async_core::{AsyncCore, play_async};
 use block_arena::Pool;
-use core_parts::Scheduler;
 use dag_order::Lines;
-use dummy_tree::Quota;
+use depth_first_list::Quota;
 use frame_code::lower;
-use ready_core::{AsyncCore, play_async};
+use scheduler_state::Scheduler;
 use std::alloc::{AllocError, Global};
 use std::process::Abort;
 use trail_record::{Core, ListChoices, RunEnd, Stepped, play};

@@ -7,7 +7,7 @@ use crate::plays::number;
 use accepted_source::accept;
 use block_arena::Pool;
 use dag_order::Label;
-use dummy_tree::Quota;
+use depth_first_list::Quota;
 use frame_code::lower;
 use prefix_laws::{ahead_now, bound_margin, leaves, prefix_split};
 use serial_meaning::{Serial, depth_first};

@@ -5,11 +5,11 @@ ghost use Rattle.prefix_laws.specs.Prefixes.{IsSerialOfList};
 
 use crate::prefixes::{Row, row_of, tell_labels};
 use accepted_source::accept;
+use async_core::AsyncCore;
 use block_arena::Pool;
-use dummy_tree::Quota;
+use depth_first_list::Quota;
 use frame_code::lower;
 use prefix_laws::{async_margin, entries};
-use ready_core::AsyncCore;
 use serial_meaning::{Serial, depth_first};
 use std::alloc::{AllocError, Global};
 use std::fmt::Write;

@@ -2,7 +2,7 @@
 
 use accepted_source::accept;
 use dag_order::ThreadId;
-use dummy_tree::Quota;
+use depth_first_list::Quota;
 use serial_meaning::{Serial, depth_first};
 use std::alloc::{AllocError, Global};
 use std::fmt::Write;

@@ -8,12 +8,12 @@ use Rattle.depth_first_list.proofs.ThreadLaws.{names_differ}
 use Rattle.depth_first_run.specs.States.{Setting, State, Item}
 use Rattle.depth_first_run.specs.Run.{whole, actions_of, list_of}
 use Rattle.depth_first_run.proofs.Built.{whole_is_depth_first}
-use Rattle.lawful_books.specs.Books.{Book}
-use Rattle.lawful_books.specs.Lists.{Each}
-use Rattle.lawful_books.proofs.Lists.{each_from, each_among}
-use Rattle.period_books.specs.Periods.{Period}
-use Rattle.period_table.specs.declared.table.PeriodTable.{PeriodTable}
-use Rattle.period_table.specs.Tables.{periods_of}
+use Rattle.deque_machine.specs.Books.{Book}
+use Rattle.deque_machine.specs.Lists.{Each}
+use Rattle.deque_machine.proofs.Lists.{each_from, each_among}
+use Rattle.open_periods.specs.Periods.{Period}
+use Rattle.open_periods.specs.declared.table.PeriodTable.{PeriodTable}
+use Rattle.open_periods.specs.Tables.{periods_of}
 use Rattle.serial_journal.specs.declared.serial.Serial.{Serial}
 use Rattle.serial_journal.specs.Telling.{Tells}
 use Rattle.prefix_laws.specs.declared.names.Name.{Name}

@@ -6,9 +6,9 @@ use Rattle.std.proofs.lemmas.Int.{ints}
 use denote.Struct.Props.{props}
 use Rattle.depth_first_list.specs.Actions.{peak}
 use Rattle.depth_first_run.specs.States.{Setting}
-use Rattle.lawful_books.specs.Books.{Book, IsPrefix, bound, done_in, periods_ahead, words_in_use}
-use Rattle.lawful_books.proofs.Keeping.{one_prefix}
-use Rattle.period_table.specs.declared.table.PeriodTable.{PeriodTable}
+use Rattle.deque_machine.specs.Books.{Book, IsPrefix, bound, done_in, periods_ahead, words_in_use}
+use Rattle.deque_machine.proofs.Keeping.{one_prefix}
+use Rattle.open_periods.specs.declared.table.PeriodTable.{PeriodTable}
 use Rattle.serial_journal.specs.declared.serial.Serial.{Serial}
 use Rattle.depth_first_run.specs.Run.{list_of}
 use Rattle.prefix_laws.specs.Listing.{AreBooked}

@@ -8,11 +8,11 @@ use Rattle.deque_machine.specs.Runs.{Pair}
 use Rattle.deque_machine.specs.Terms.{Terms, machine_of}
 use Rattle.deque_machine.proofs.Reached.{bound_at}
 use Rattle.node_table.specs.Table.{Table}
-use Rattle.thread_state.specs.Settings.{IsSettingOf}
+use Rattle.scheduler_state.specs.Passed.Settings.{IsSettingOf}
 use Rattle.serial_journal.specs.declared.serial.Serial.{Serial}
-use Rattle.core_parts.specs.declared.scheduler.Scheduler.{Scheduler}
-use Rattle.core_parts.specs.Held.{held}
-use Rattle.core_parts.specs.Moments.{HasRun, IsSound}
+use Rattle.scheduler_state.specs.declared.scheduler.Scheduler.{Scheduler}
+use Rattle.scheduler_state.specs.Held.{held}
+use Rattle.scheduler_state.specs.Moments.{HasRun, IsSound}
 use Rattle.prefix_laws.specs.DequeLabels.{HasSomeRun}
 use Rattle.prefix_laws.specs.Prefixes.{IsWithin, IsWithinBeside, StandsBeside, TellsTable}
 use Rattle.prefix_laws.proofs.Sorting.{booked_at}

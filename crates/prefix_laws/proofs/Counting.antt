@@ -5,12 +5,12 @@ use Rattle.std.proofs.lemmas.List.{map-append}
 use Rattle.std.proofs.lemmas.Bool.{le-leb}
 use Rattle.std.proofs.lemmas.Bool.Decides.{leb_tells}
 use Rattle.std.proofs.lemmas.Option.{same_Some, none-some}
-use Rattle.bounded_list.specs.declared.bounded_list.BoundedList.{BoundedList}
-use Rattle.bounded_list.specs.BoundedList.{entries}
+use Rattle.containers.specs.declared.bounded_list.BoundedList.{BoundedList}
+use Rattle.containers.specs.BoundedList.{entries}
 use Rattle.depth_first_list.specs.Actions.{Action}
-use Rattle.lawful_books.specs.Books.{Book, booked, done_in, IsPrefix, goes_past, periods_ahead}
-use Rattle.lawful_books.specs.Lists.{Among, times}
-use Rattle.lawful_books.proofs.Lists.{among_parts, among_left, among_right, times_among, among_times, total_append}
+use Rattle.deque_machine.specs.Books.{Book, booked, done_in, IsPrefix, goes_past, periods_ahead}
+use Rattle.deque_machine.specs.Lists.{Among, times}
+use Rattle.deque_machine.proofs.Lists.{among_parts, among_left, among_right, times_among, among_times, total_append}
 use Rattle.prefix_laws.specs.Prefixes.{ran_of, all_ran, places_behind, one_if_past, many_past}
 use Rattle.prefix_laws.proofs.Places.{take_one_more}
 

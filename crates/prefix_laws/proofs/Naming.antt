@@ -14,12 +14,12 @@ use Rattle.depth_first_list.specs.Actions.{Action}
 use Rattle.depth_first_list.specs.Runs.{end_at, start}
 use Rattle.depth_first_list.specs.Facts.{action_at, label_at}
 use Rattle.depth_first_list.specs.Laws.{NamesDiffer}
-use Rattle.lawful_books.specs.Books.{Book}
-use Rattle.lawful_books.specs.Lists.{Each}
-use Rattle.period_books.specs.Periods.{Period}
-use Rattle.period_books.specs.Names.{IsNamed, AreNamed}
-use Rattle.period_books.specs.Telling.{Tell, AreBooks}
-use Rattle.period_books.proofs.Labels.{labels_are_by_births}
+use Rattle.deque_machine.specs.Books.{Book}
+use Rattle.deque_machine.specs.Lists.{Each}
+use Rattle.open_periods.specs.Periods.{Period}
+use Rattle.open_periods.specs.Names.{IsNamed, AreNamed}
+use Rattle.open_periods.specs.Telling.{Tell, AreBooks}
+use Rattle.open_periods.proofs.Labels.{labels_are_by_births}
 use Rattle.prefix_laws.specs.declared.names.Name.{Name}
 use Rattle.prefix_laws.specs.Listing.{born_in, ran_in}
 use Rattle.prefix_laws.specs.Naming.{name_shown, IsPlaced, ArePlaced, IsKnown}

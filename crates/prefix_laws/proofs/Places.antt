@@ -12,13 +12,13 @@ use denote.Ref.{Bor}
 use Rattle.std.specs.Option.{option_map}
 use Rattle.std.specs.Prelude.{get_or}
 use Rattle.std.proofs.lemmas.Option.{slice_get-map, slice_get_read}
-use Rattle.bounded_list.specs.declared.bounded_list.BoundedList.{BoundedList}
-use Rattle.bounded_list.specs.BoundedList.{entries}
+use Rattle.containers.specs.declared.bounded_list.BoundedList.{BoundedList}
+use Rattle.containers.specs.BoundedList.{entries}
 use Rattle.dag_order.specs.declared.action_id.ActionId.{ActionId}
 use Rattle.prefix_laws.specs.Listing.{books_behind}
 use Rattle.deque_list.specs.declared.deque_id.DequeId.{DequeId}
 use Rattle.deque_list.specs.Deques.{Deque, DequeAt, deque_ids}
-use Rattle.lawful_books.specs.Lists.{Among, Each}
+use Rattle.deque_machine.specs.Lists.{Among, Each}
 
 module _ {X : Type 0} where
   pub among_of_place : (xs : List X) (i : ℕ) (x : X) → slice_get xs i ≡ Some x → Among x xs

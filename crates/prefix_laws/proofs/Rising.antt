@@ -4,7 +4,7 @@ use Rattle.std.proofs.Math.Logic.{∥∥₁_elim, ∥∥₁_map}
 use Rattle.dag_order.specs.LabelOrder.{Before}
 use Rattle.dag_order.specs.LabelLaws.{never_before_itself, before_further, three_ways}
 use Rattle.deque_machine.specs.Moments.{Rises}
-use Rattle.lawful_books.proofs.Lists.{each_from, each_among}
+use Rattle.deque_machine.proofs.Lists.{each_from, each_among}
 
 before_from : (a b : List ℕ) → ∥ Before a b ∥₁ → Before a b
 before_from a b known = elim (three_ways a b) [

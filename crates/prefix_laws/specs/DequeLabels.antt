@@ -7,12 +7,12 @@ use Rattle.depth_first_run.specs.States.{Setting}
 use Rattle.deque_machine.specs.Moments.{Moment}
 use Rattle.deque_machine.specs.Runs.{Pair}
 use Rattle.deque_machine.specs.Terms.{Terms}
-use Rattle.lawful_books.specs.Lists.{Each}
+use Rattle.deque_machine.specs.Lists.{Each}
 use Rattle.thread_frames.specs.declared.thread.Thread.{Thread}
 use Rattle.thread_frames.specs.Views.{label_of}
-use Rattle.core_parts.specs.declared.scheduler.Scheduler.{Scheduler}
-use Rattle.core_parts.specs.Held.{held}
-use Rattle.core_parts.specs.Moments.{HasRun}
+use Rattle.scheduler_state.specs.declared.scheduler.Scheduler.{Scheduler}
+use Rattle.scheduler_state.specs.Held.{held}
+use Rattle.scheduler_state.specs.Moments.{HasRun}
 
 -- what a scheduler holds is at some moment of a program
 abbrev pub HasSomeRun : Scheduler → Type 0

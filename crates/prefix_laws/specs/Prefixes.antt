@@ -1,20 +1,20 @@
 -- What is asked of a depth-first run beside a core, and the books by the places of what they ran.
 use Rattle.std.specs.Prelude.{◌≡◌, ◌≤ℤ◌, ℕ, cond, List, [], ◌∷◌, ◌++◌, map, pos}
-use Rattle.bounded_list.specs.declared.bounded_list.BoundedList.{BoundedList}
-use Rattle.bounded_list.specs.BoundedList.{entries}
+use Rattle.containers.specs.declared.bounded_list.BoundedList.{BoundedList}
+use Rattle.containers.specs.BoundedList.{entries}
 use Rattle.depth_first_run.specs.States.{Setting, State}
 use Rattle.depth_first_run.specs.Run.{whole, list_of}
-use Rattle.dummy_tree.specs.QuotaWords.{quota_words}
-use Rattle.lawful_books.specs.Books.{Book, IsPrefix, bound, done_in, goes_past, periods_ahead, words_in_use}
-use Rattle.lawful_books.specs.Lists.{total}
+use Rattle.depth_first_list.specs.QuotaWords.{quota_words}
+use Rattle.deque_machine.specs.Books.{Book, IsPrefix, bound, done_in, goes_past, periods_ahead, words_in_use}
+use Rattle.deque_machine.specs.Lists.{total}
 use Rattle.node_table.specs.Codes.{code_shown}
 use Rattle.node_table.specs.Table.{Table}
-use Rattle.period_table.specs.declared.table.PeriodTable.{PeriodTable}
+use Rattle.open_periods.specs.declared.table.PeriodTable.{PeriodTable}
 use Rattle.serial_journal.specs.declared.serial.Serial.{Serial}
 use Rattle.serial_journal.specs.Telling.{Tells}
-use Rattle.thread_state.specs.Settings.{IsSettingOf}
+use Rattle.scheduler_state.specs.Passed.Settings.{IsSettingOf}
 use Rattle.dfd_core.specs.declared.run.Core.{Core}
-use Rattle.ready_core.specs.declared.run.AsyncCore.{AsyncCore}
+use Rattle.async_core.specs.declared.run.AsyncCore.{AsyncCore}
 use Rattle.prefix_laws.specs.Listing.{AreBooked}
 
 -- it tells the depth-first run of a program

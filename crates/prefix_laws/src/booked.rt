@@ -2,19 +2,19 @@
 
 ghost use Rattle.std.specs.Prelude.{◌≡◌, List as AnyList, IfOk, map};
 ghost use Rattle.std.specs.List.{AllZip};
-ghost use Rattle.bounded_list.specs.BoundedList.{entries};
+ghost use Rattle.containers.specs.BoundedList.{entries};
 ghost use Rattle.depth_first_run.specs.States.{Setting};
-ghost use Rattle.lawful_books.specs.Books.{Book as AnyBook};
-ghost use Rattle.lawful_books.specs.Lists.{Each};
+ghost use Rattle.deque_machine.specs.Books.{Book as AnyBook};
+ghost use Rattle.deque_machine.specs.Lists.{Each};
 ghost use Rattle.prefix_laws.specs.Listing.{AreBooked, births_behind, books_behind};
 ghost use Rattle.prefix_laws.specs.Naming.{ArePlaced, IsKnown};
 ghost use Rattle.prefix_laws.specs.Prefixes.{StandsBeside, TellsRun, ran_of, places_behind};
 
 use crate::names::{Name, name_of, names_in, place_of};
 use crate::numbered::in_order;
-use bounded_list::BoundedList;
+use containers::BoundedList;
 use dag_order::Births;
-use period_table::PeriodTable;
+use open_periods::PeriodTable;
 use serial_journal::Serial;
 use space_ledger::Book;
 use std::alloc::{AllocError, Global};

@@ -5,19 +5,19 @@ ghost use Rattle.depth_first_run.specs.States.{Setting};
 ghost use Rattle.deque_machine.specs.Moments.{Moment, threads_in, Rises};
 ghost use Rattle.deque_machine.specs.Runs.{Pair};
 ghost use Rattle.deque_machine.specs.Terms.{Terms};
-ghost use Rattle.lawful_books.specs.Lists.{Each};
-ghost use Rattle.core_parts.specs.Held.{held};
-ghost use Rattle.core_parts.specs.Moments.{HasRun};
+ghost use Rattle.deque_machine.specs.Lists.{Each};
+ghost use Rattle.scheduler_state.specs.Held.{held};
+ghost use Rattle.scheduler_state.specs.Moments.{HasRun};
 ghost use Rattle.thread_frames.specs.Views.{label_of as label_shown};
 ghost use Rattle.prefix_laws.specs.Listing.{births_behind};
 ghost use Rattle.prefix_laws.specs.DequeLabels.{AreLabelled, HasSomeRun, labels_in};
 
 use crate::labels::label_of;
 use crate::numbered::in_order;
-use boxed::Boxed;
-use core_parts::Scheduler;
+use containers::Boxed;
 use dag_order::{Births, Label};
 use deque_list::{Lane, List};
+use scheduler_state::Scheduler;
 use std::alloc::{AllocError, Global};
 use thread_frames::Thread;
 

@@ -5,7 +5,7 @@ ghost use Rattle.depth_first_run.specs.States.{Setting};
 ghost use Rattle.depth_first_run.specs.Run.{list_of};
 ghost use Rattle.deque_machine.specs.Moments.{Moment, Rises, done_at, live_at, threads_in};
 ghost use Rattle.deque_machine.specs.Runs.{Pair};
-ghost use Rattle.lawful_books.specs.Books.{IsPrefix, bound, periods_ahead};
+ghost use Rattle.deque_machine.specs.Books.{IsPrefix, bound, periods_ahead};
 ghost use Rattle.dfd_core.specs.Cores.{IsAt};
 ghost use Rattle.prefix_laws.specs.Prefixes.{IsSerialOf, TellsRun};
 

@@ -1,11 +1,11 @@
 //! The labels of threads by births.
 
 ghost use Rattle.std.specs.Prelude.{◌≡◌, ℕ, List as AnyList, IfOk};
-ghost use Rattle.bounded_list.specs.BoundedList.{entries};
+ghost use Rattle.containers.specs.BoundedList.{entries};
 ghost use Rattle.dag_order.specs.Births.{HasLabel, Leads, birth_of, root};
 ghost use Rattle.prefix_laws.specs.Listing.{births_behind};
 
-use bounded_list::BoundedList;
+use containers::BoundedList;
 use dag_order::{Birth, Births, Label, ThreadId};
 use std::alloc::{AllocError, Global};
 

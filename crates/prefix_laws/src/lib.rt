@@ -4,9 +4,9 @@
 //! in use are at most the peak of the depth-first run and two quotas for each period that is ahead of it. Here both are read off an actual
 //! [`Core`](dfd_core::Core): [`leaves`] gives the labels of its threads in the deques, [`prefix_split`] how many actions of the depth-first
 //! run are done from the first on and without a gap, [`ahead_now`] how many periods ran an action beyond these, and [`bound_margin`] how
-//! many words are left below the bound. [`entries`] and [`async_margin`] are the same for an [`AsyncCore`](ready_core::AsyncCore).
+//! many words are left below the bound. [`entries`] and [`async_margin`] are the same for an [`AsyncCore`](async_core::AsyncCore).
 //!
-//! It stands on both cores (`dfd_core`, `ready_core`), on the births of threads (`dag_order`), on periods as books (`period_books`) and on
+//! It stands on both cores (`dfd_core`, `async_core`), on the births of threads (`dag_order`), on periods as books (`open_periods`) and on
 //! the laws of the machine (`deque_machine`). Its one theorem: these are the labels and the numbers of the moment at which the core is,
 //! whatever its program; the labels rise, and the margin is never below 0.
 #![tactic(auto)]

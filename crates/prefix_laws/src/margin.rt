@@ -2,14 +2,14 @@
 
 ghost use Rattle.std.specs.Prelude.{◌≡◌, ◌<◌, ◌*◌, ℕ, List as AnyList, IfOk, pos, ◌+ℤ◌};
 ghost use Rattle.depth_first_run.specs.States.{Setting};
-ghost use Rattle.dummy_tree.specs.QuotaWords.{quota_words};
-ghost use Rattle.lawful_books.specs.Books.{Book as AnyBook, IsPrefix, bound, done_in, periods_ahead, words_in_use};
+ghost use Rattle.depth_first_list.specs.QuotaWords.{quota_words};
+ghost use Rattle.deque_machine.specs.Books.{Book as AnyBook, IsPrefix, bound, done_in, periods_ahead, words_in_use};
 ghost use Rattle.depth_first_run.specs.Run.{list_of};
 ghost use Rattle.prefix_laws.specs.Prefixes.{IsWithin, IsWithinBeside, TellsRun};
 
 use crate::prefix::ahead_of;
-use dummy_tree::Quota;
-use period_table::PeriodTable;
+use depth_first_list::Quota;
+use open_periods::PeriodTable;
 use serial_journal::Serial;
 use std::alloc::{AllocError, Global};
 

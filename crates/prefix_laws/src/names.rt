@@ -1,7 +1,7 @@
 //! The names of actions: each has the label of its thread, and its index there.
 
 ghost use Rattle.std.specs.Prelude.{◌≡◌, ◌↔◌, ℕ, List as AnyList, Some, IfOk, IsTrue, map, slice_get};
-ghost use Rattle.bounded_list.specs.BoundedList.{entries};
+ghost use Rattle.containers.specs.BoundedList.{entries};
 ghost use Rattle.dag_order.specs.Births.{HasLabel};
 ghost use Rattle.depth_first_run.specs.States.{Item};
 ghost use Rattle.depth_first_run.specs.Run.{actions_of};
@@ -10,7 +10,7 @@ ghost use Rattle.prefix_laws.specs.Listing.{births_behind};
 ghost use Rattle.prefix_laws.specs.Naming.{name_shown};
 
 use crate::labels::label_of;
-use bounded_list::BoundedList;
+use containers::BoundedList;
 use dag_order::{ActionId, Births, Label};
 use serial_journal::Serial;
 use std::alloc::{AllocError, Global};

@@ -1,17 +1,17 @@
 //! How many of the first actions of the depth-first list are all done, and how many periods are ahead of these.
 
 ghost use Rattle.std.specs.Prelude.{◌≡◌, ◌<◌, ◌≤◌, ◌↔◌, ℕ, List as AnyList, IfOk, IsTrue};
-ghost use Rattle.bounded_list.specs.BoundedList.{entries};
+ghost use Rattle.containers.specs.BoundedList.{entries};
 ghost use Rattle.depth_first_run.specs.States.{Setting};
-ghost use Rattle.lawful_books.specs.Books.{Book as AnyBook, IsPrefix, done_in, goes_past, periods_ahead};
-ghost use Rattle.lawful_books.specs.Lists.{Among};
+ghost use Rattle.deque_machine.specs.Books.{Book as AnyBook, IsPrefix, done_in, goes_past, periods_ahead};
+ghost use Rattle.deque_machine.specs.Lists.{Among};
 ghost use Rattle.depth_first_run.specs.Run.{list_of};
 ghost use Rattle.prefix_laws.specs.Listing.{AreBooked};
 ghost use Rattle.prefix_laws.specs.Prefixes.{StandsBeside, TellsRun, all_ran, many_past, places_behind};
 
 use crate::booked::{Places, booked};
-use bounded_list::BoundedList;
-use period_table::PeriodTable;
+use containers::BoundedList;
+use open_periods::PeriodTable;
 use serial_journal::Serial;
 use std::alloc::{AllocError, Global};
 

@@ -5,14 +5,14 @@ ghost use Rattle.depth_first_run.specs.States.{Setting};
 ghost use Rattle.depth_first_run.specs.Run.{list_of};
 ghost use Rattle.deque_machine.specs.Moments.{Moment, Rises, done_at, live_at, threads_in};
 ghost use Rattle.deque_machine.specs.Runs.{Pair};
-ghost use Rattle.lawful_books.specs.Books.{IsPrefix, bound, periods_ahead};
-ghost use Rattle.ready_core.specs.Cores.{IsAt};
+ghost use Rattle.deque_machine.specs.Books.{IsPrefix, bound, periods_ahead};
+ghost use Rattle.async_core.specs.Cores.{IsAt};
 ghost use Rattle.prefix_laws.specs.Prefixes.{IsSerialOfList, TellsRun};
 
 use crate::deque_labels::labels_of;
 use crate::margin::margin_of;
+use async_core::AsyncCore;
 use dag_order::Label;
-use ready_core::AsyncCore;
 use serial_journal::Serial;
 use std::alloc::{AllocError, Global};
 

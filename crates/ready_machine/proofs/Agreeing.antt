@@ -4,8 +4,8 @@ use Rattle.std.proofs.Common.{◌≡◌, ℕ, suc, ◌+◌, ◌%◌, ◌<◌, �
 use Rattle.std.specs.Prelude.{Option, None, Some, is_some, slice_get, unwrap_or}
 use Rattle.std.proofs.lemmas.Bool.{cases_lt}
 use Rattle.std.proofs.Math.Nat.{mod-eq_of_lt}
-use Rattle.lawful_books.specs.Lists.{Among, Each}
-use Rattle.lawful_books.proofs.Lists.{total_append, each_at, each_among, each_from, among_here, one_same}
+use Rattle.deque_machine.specs.Lists.{Among, Each}
+use Rattle.deque_machine.proofs.Lists.{total_append, each_at, each_among, each_from, among_here, one_same}
 use Rattle.deque_machine.specs.Moments.{Deque, Moment, deque_of, owned_by, one_if_owned}
 use Rattle.deque_machine.specs.Machine.{Setting, Event, steals, does, suspends, gives_up, Owns}
 use Rattle.deque_machine.specs.Play.{IsFirst, IsReady, CanMove, reach, Stays, Wants, a_theft, a_give_up, a_wait, an_action}

@@ -9,12 +9,12 @@ use Rattle.std.proofs.lemmas.List.{map-append}
 use Rattle.depth_first_list.specs.Actions.{Action, live_words, peak, weight}
 use Rattle.depth_first_list.specs.Runs.{IsDepthFirst}
 use Rattle.depth_first_list.specs.Facts.{action_at, weight_at}
-use Rattle.lawful_books.specs.Lists.{Each}
-use Rattle.lawful_books.specs.Books.{words_in_use, IsPrefix, is_ahead, one_if_ahead, one_if_marked, periods_ahead, periods_marked, bound}
-use Rattle.lawful_books.proofs.Lists.{total_below, each_map, each_join}
-use Rattle.lawful_books.proofs.Parts.{live_append}
-use Rattle.lawful_books.proofs.Keeping.{prefix_of, ended_has_all}
-use Rattle.lawful_books.proofs.Accounting.{arena_law}
+use Rattle.deque_machine.specs.Lists.{Each}
+use Rattle.deque_machine.specs.Books.{words_in_use, IsPrefix, is_ahead, one_if_ahead, one_if_marked, periods_ahead, periods_marked, bound}
+use Rattle.deque_machine.proofs.Lists.{total_below, each_map, each_join}
+use Rattle.deque_machine.proofs.Parts.{live_append}
+use Rattle.deque_machine.proofs.Keeping.{prefix_of, ended_has_all}
+use Rattle.deque_machine.proofs.Accounting.{arena_law}
 use Rattle.deque_machine.specs.Moments.{Moment, opening, done_at, live_at}
 use Rattle.deque_machine.specs.Machine.{Setting, Event, steals, does, suspends, gives_up, May}
 use Rattle.deque_machine.specs.LawfulOrder.{IsLawful}
@@ -22,7 +22,7 @@ use Rattle.deque_machine.specs.Runs.{Pair, place_of, places_of, is_move, moves, 
 use Rattle.deque_machine.specs.Play.{words_taken}
 use Rattle.deque_machine.proofs.Reached.{Writes, event_writes, place_inside, no_move_weighs_nothing, bound_at}
 use Rattle.deque_machine.proofs.Sizes.{live_below_whole}
-use Rattle.lawful_books.specs.Lists.{total}
+use Rattle.deque_machine.specs.Lists.{total}
 use Rattle.ready_machine.specs.Entries.{IsReadyList}
 use Rattle.ready_machine.specs.ReadyMachine.{MayReady, ReadyReaches}
 use Rattle.ready_machine.specs.Laws.{EventsKeepReady, ReachedIsReady, BoundInReady, AheadIsMarked, MovesAreLive, MarkedBound, MarksNeverFall, ArenaRefuses, EndedDidAll, ArenaNeverFills}

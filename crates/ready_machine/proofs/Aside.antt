@@ -6,19 +6,19 @@ use Rattle.depth_first_list.specs.Actions.{forks}
 use Rattle.depth_first_list.specs.Facts.{deed_at}
 use Rattle.depth_first_list.specs.Runs.{IsDepthFirst}
 use Rattle.depth_first_list.proofs.Weights.{forks_take_records}
-use Rattle.lawful_books.specs.Lists.{Each}
-use Rattle.lawful_books.proofs.Lists.{each_at, total_append, one_same, same_head, same_tail}
+use Rattle.deque_machine.specs.Lists.{Each}
+use Rattle.deque_machine.proofs.Lists.{each_at, total_append, one_same, same_head, same_tail}
 use Rattle.deque_machine.specs.Moments as machine
 use Rattle.deque_machine.specs.Moments.{Moment, opening, moment_of, with_id, one_if_id, owned_by, one_if_owned, live_at}
 use Rattle.deque_machine.specs.Machine.{Setting, Event, does, Owns, May}
 use Rattle.deque_machine.specs.Runs.{Pair}
 use Rattle.deque_machine.proofs.Reached.{place_inside}
-use Rattle.machine_replay.proofs.OnePlay as replay
-use Rattle.moment_parts.specs.Parts.{Deque, deque_shown}
-use Rattle.moment_parts.specs.Cuts.{deque_with}
-use Rattle.moment_parts.proofs.Cutting.{setting_aside_shows}
-use Rattle.step_laws.proofs.Standing.{root_stands}
-use Rattle.step_laws.proofs.Told.{actions_are_added}
+use Rattle.deque_machine.proofs.OnePlay as replay
+use Rattle.moment_laws.specs.Passed.Parts.{Deque, deque_shown}
+use Rattle.moment_laws.specs.Passed.Cuts.{deque_with}
+use Rattle.moment_laws.proofs.Passed.Cutting.{setting_aside_shows}
+use Rattle.moment_laws.proofs.Standing.{root_stands}
+use Rattle.moment_laws.proofs.Told.{actions_are_added}
 use Rattle.ready_machine.specs.Entries.{entry, IsEntry, IsLeastFree, IsReadyList}
 use Rattle.ready_machine.specs.ReadyMachine.{MayReady, ReadyReaches}
 use Rattle.ready_machine.specs.ReadyPlay.{WantsReady}

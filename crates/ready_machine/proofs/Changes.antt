@@ -3,9 +3,9 @@ use Rattle.std.proofs.Common.{◌≡◌, ℕ, ◌+◌, List, [], ◌∷◌, ◌+
 use Rattle.std.specs.Prelude.{Option, None, Some}
 use Rattle.depth_first_list.specs.Actions.{ends}
 use Rattle.depth_first_list.specs.Facts.{deed_at}
-use Rattle.lawful_books.specs.Books.{Book, booked}
-use Rattle.lawful_books.proofs.Keeping.{closed_same, begun_same}
-use Rattle.lawful_books.proofs.Whole.{total_ones}
+use Rattle.deque_machine.specs.Books.{Book, booked}
+use Rattle.deque_machine.proofs.Keeping.{closed_same, begun_same}
+use Rattle.deque_machine.proofs.Whole.{total_ones}
 use Rattle.deque_machine.specs.Moments.{Waiting, Moment}
 use Rattle.deque_machine.specs.Machine.{Setting, Event, steals, does, suspends, gives_up, Owns, books_with, books_closed, new_book, May, steals_beside, takes_over, forks_child, joins_child, allocates_within, allocates_above, releases_words, meets_fault, runs_dummy, ends_above_parent, ends_and_wakes, ends_and_leaves, suspends_top, gives_deque_up}
 use Rattle.deque_machine.specs.Runs.{place_of}

@@ -5,11 +5,11 @@ use Rattle.std.proofs.lemmas.Bool.{cases_lt, cases_eq}
 use Rattle.std.proofs.Math.Nat.{mod-lt, mod-eq_of_lt}
 use Rattle.dag_order.specs.LabelOrder.{fork_of}
 use Rattle.depth_first_list.specs.Actions.{Deed, forks, joins, allocates, releases, dummy, faults, ends, record_words}
-use Rattle.lawful_books.specs.Books.{charged}
+use Rattle.deque_machine.specs.Books.{charged}
 use Rattle.depth_first_list.specs.Runs.{IsDepthFirst}
 use Rattle.depth_first_list.specs.Facts.{deed_at}
-use Rattle.lawful_books.specs.Lists.{Each, total}
-use Rattle.lawful_books.proofs.Lists.{same_head, same_tail, cons_is_not_nil, each_left, each_right, one_other}
+use Rattle.deque_machine.specs.Lists.{Each, total}
+use Rattle.deque_machine.proofs.Lists.{same_head, same_tail, cons_is_not_nil, each_left, each_right, one_other}
 use Rattle.deque_machine.specs.Moments.{Deque, Moment, moment_of, deque_of, owned_by, with_id, one_if_id}
 use Rattle.deque_machine.specs.Machine.{Setting, Event, does, Owns, IsAtTop, booked_with, books_with, May, steals_beside, takes_over, forks_child, joins_child, allocates_within, allocates_above, releases_words, meets_fault, runs_dummy, ends_above_parent, ends_and_wakes, ends_and_leaves, suspends_top, gives_deque_up}
 use Rattle.deque_machine.specs.Play.{IsFirst, CanMove}

@@ -1,8 +1,8 @@
 -- A list is cut in one way where the element in the middle is the first, or the only one, without a property.
 use Rattle.std.proofs.Common.{◌≡◌, ℕ, zero, suc, ◌<◌, List, [], ◌∷◌, ◌++◌, length, inl, inr, refl, sym, ap, subst, ◌∙◌, arith}
 use Rattle.std.specs.Prelude.{Some, slice_get, unwrap_or}
-use Rattle.lawful_books.specs.Lists.{Among, Each}
-use Rattle.lawful_books.proofs.Lists.{each_at, same_head, same_tail}
+use Rattle.deque_machine.specs.Lists.{Among, Each}
+use Rattle.deque_machine.proofs.Lists.{each_at, same_head, same_tail}
 
 module _ {X : Type 0} where
   -- the same left parts, elements and right parts

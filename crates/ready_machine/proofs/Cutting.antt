@@ -4,9 +4,9 @@ use Rattle.std.proofs.lemmas.Bool.{cases_lt}
 use Rattle.std.proofs.lemmas.Option.{none-some}
 use Rattle.std.specs.Prelude.{None, Some}
 use Rattle.depth_first_list.specs.Actions.{Action}
-use Rattle.lawful_books.specs.Lists.{Each}
-use Rattle.lawful_books.specs.Books.{Book}
-use Rattle.lawful_books.proofs.Lists.{total_append, each_map, each_at, each_join, each_left, each_right}
+use Rattle.deque_machine.specs.Lists.{Each}
+use Rattle.deque_machine.specs.Books.{Book}
+use Rattle.deque_machine.proofs.Lists.{total_append, each_map, each_at, each_join, each_left, each_right}
 use Rattle.deque_machine.specs.Moments.{Deque, Waiting, Moment, moment_of, deque_of, done_at, owned_by, with_id, one_if_owned}
 use Rattle.deque_machine.specs.Machine.{Setting}
 use Rattle.deque_machine.specs.LawfulOrder.{OrderOf, IsRootOrBorn, OwnedBorn, OwnsFirst, IsLawful}

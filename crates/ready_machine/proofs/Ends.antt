@@ -6,12 +6,12 @@ use Rattle.dag_order.specs.LabelOrder.{fork_of}
 use Rattle.depth_first_list.specs.Actions.{Deed, forks, joins, allocates, releases, dummy, faults, ends, Action, record_words}
 use Rattle.depth_first_list.specs.Runs.{IsDepthFirst}
 use Rattle.depth_first_list.specs.Facts.{label_at, deed_at, words_at}
-use Rattle.lawful_books.specs.Lists.{Among, Each, Differ, total, times}
-use Rattle.lawful_books.specs.Books.{Book, booked, charge, charge_at, charged, book_of}
-use Rattle.lawful_books.specs.Lawful.{LawfulBooks}
-use Rattle.lawful_books.proofs.Lists.{among_middle, each_map, total_append, each_from, times_among, among_times, one_cases, each_join}
-use Rattle.lawful_books.proofs.Keeping.{booked_append, begun_same, times_append}
-use Rattle.lawful_books.proofs.Whole.{few_places}
+use Rattle.deque_machine.specs.Lists.{Among, Each, Differ, total, times}
+use Rattle.deque_machine.specs.Books.{Book, booked, charge, charge_at, charged, book_of}
+use Rattle.deque_machine.specs.Lawful.{LawfulBooks}
+use Rattle.deque_machine.proofs.Lists.{among_middle, each_map, total_append, each_from, times_among, among_times, one_cases, each_join}
+use Rattle.deque_machine.proofs.Keeping.{booked_append, begun_same, times_append}
+use Rattle.deque_machine.proofs.Whole.{few_places}
 use Rattle.deque_machine.specs.Moments.{Waiting, Moment, opening, done_at, waiting_threads, open_for}
 use Rattle.deque_machine.specs.Machine.{Setting, Event, gives_up, Owns, new_book}
 use Rattle.deque_machine.specs.LawfulOrder.{Waits, IsLawful}

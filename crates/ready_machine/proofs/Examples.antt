@@ -1,10 +1,10 @@
 -- Worked plays of ready lists: three small programs with one worker, and the first moments of a run with two.
 use Rattle.std.proofs.Common.{◌≡◌, ℕ, zero, suc, ◌∙◌, ◌<◌, Bool, false, List, [], ◌∷◌, inl, inr, refl, sym, ap, arith, take, true≢false, pos}
 use Rattle.std.specs.Prelude.{Option, None, Some, is_some}
-use Rattle.dummy_tree.specs.Shapes.{shape_of, halved}
+use Rattle.depth_first_list.specs.Shapes.{shape_of, halved}
 use Rattle.depth_first_list.specs.Actions.{Deed, forks, joins, allocates, releases, dummy, ends, Action}
 use Rattle.depth_first_list.specs.Runs.{start, after_action, after_fork, after_join, after_tree, rests, goes_on, acts, forks_a_child, joins_the_newest, allocates_behind_a_tree, IsDepthFirst, tree_for}
-use Rattle.lawful_books.specs.Books.{Book, IsPrefix, periods_ahead, bound}
+use Rattle.deque_machine.specs.Books.{Book, IsPrefix, periods_ahead, bound}
 use Rattle.deque_machine.specs.Moments.{Moment, opening, moment_of, done_at, live_at, threads_in}
 use Rattle.deque_machine.specs.Machine.{Setting, Event, steals, does, gives_up}
 use Rattle.deque_machine.specs.Runs.{Pair, high_water_mark}

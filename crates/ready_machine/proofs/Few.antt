@@ -5,11 +5,11 @@ use Rattle.std.specs.Prelude.{ℤ}
 use Rattle.dag_order.specs.LabelOrder.{Before}
 use Rattle.depth_first_list.specs.Actions.{record_words}
 use Rattle.depth_first_list.specs.Runs.{IsDepthFirst}
-use Rattle.lawful_books.specs.Lists.{Each, total}
-use Rattle.lawful_books.proofs.Lists.{same_tail, cons_is_not_nil}
+use Rattle.deque_machine.specs.Lists.{Each, total}
+use Rattle.deque_machine.proofs.Lists.{same_tail, cons_is_not_nil}
 use Rattle.deque_machine.specs.Moments.{threads_in, live_at, Rises}
 use Rattle.deque_machine.specs.Machine.{Setting}
-use Rattle.moment_parts.specs.Parts.{Thread, Deque, deque_shown, deque_words, thread_words, label_of, words_of}
+use Rattle.moment_laws.specs.Passed.Parts.{Thread, Deque, deque_shown, deque_words, thread_words, label_of, words_of}
 use Rattle.ready_machine.specs.Entries.{IsEntry}
 use Rattle.ready_machine.specs.Standing.{HasRecord, EntriesAreFew}
 

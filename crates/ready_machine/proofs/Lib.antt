@@ -15,4 +15,3 @@ pub mod PlayedSound
 pub mod Examples
 pub mod Aside
 pub mod Few
-pub mod Passed

@@ -6,9 +6,9 @@ use Rattle.dag_order.specs.LabelOrder.{fork_of}
 use Rattle.depth_first_list.specs.Actions.{forks, joins, record_words}
 use Rattle.depth_first_list.specs.Runs.{IsDepthFirst}
 use Rattle.depth_first_list.specs.Facts.{deed_at, words_at, IsNext}
-use Rattle.lawful_books.specs.Lists.{Each, one_if_same}
-use Rattle.lawful_books.specs.Books.{charge, charge_at, charged}
-use Rattle.lawful_books.proofs.Lists.{total_append, each_at, same_head, same_tail, one_same}
+use Rattle.deque_machine.specs.Lists.{Each, one_if_same}
+use Rattle.deque_machine.specs.Books.{charge, charge_at, charged}
+use Rattle.deque_machine.proofs.Lists.{total_append, each_at, same_head, same_tail, one_same}
 use Rattle.deque_machine.specs.Moments.{Deque, Moment, opening, moment_of, deque_of, done_at, owned_by, open_for, one_if_owned, one_if_worker}
 use Rattle.deque_machine.specs.Machine.{Setting, Event, steals, does, Owns, IsAtTop, HasEnded, books_with, booked_with, May, forks_child}
 use Rattle.deque_machine.specs.LawfulOrder.{IsLawful}
@@ -16,7 +16,7 @@ use Rattle.deque_machine.specs.Runs.{Pair}
 use Rattle.deque_machine.specs.Play.{Limits, Stop, Ending, stopped, IsFirst, Wants, a_theft, a_give_up, a_wait, an_action, Meets, no_deque, no_words, no_steps}
 use Rattle.deque_machine.proofs.LiveThreads.{one_next}
 use Rattle.deque_machine.proofs.Ends.{one_book}
-use Rattle.machine_replay.proofs.OnePlay as replay
+use Rattle.deque_machine.proofs.OnePlay as replay
 use Rattle.ready_machine.specs.Entries.{entry, IsEntry, IsRun, IsLeastFree, IsReadyList}
 use Rattle.ready_machine.specs.ReadyMachine.{MayReady, takes, forks_left, as_with_deques}
 use Rattle.ready_machine.specs.ReadyPlay.{CanGo, WantsReady, a_take, of_its_entry, ReadyTurn, ReadyPlays, is_over, is_stopped, goes_on}

@@ -1,9 +1,9 @@
 -- The workers that run the elements of a list, and how many they can be.
 use Rattle.std.proofs.Common.{◌≡◌, ◌≢◌, ℕ, suc, ◌+◌, ◌≤◌, ◌<◌, List, [], ◌∷◌, length, refl, arith}
 use Rattle.std.specs.Prelude.{Option, None, Some}
-use Rattle.lawful_books.specs.Lists.{Each, total, times}
-use Rattle.lawful_books.proofs.Lists.{each_from, times_among}
-use Rattle.lawful_books.proofs.Whole.{few_places}
+use Rattle.deque_machine.specs.Lists.{Each, total, times}
+use Rattle.deque_machine.proofs.Lists.{each_from, times_among}
+use Rattle.deque_machine.proofs.Whole.{few_places}
 use Rattle.deque_machine.specs.Moments.{one_if_worker}
 
 with_owner : Option ℕ → List ℕ → List ℕ

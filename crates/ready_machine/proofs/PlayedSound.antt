@@ -7,19 +7,19 @@ use Rattle.dag_order.specs.LabelOrder.{fork_of}
 use Rattle.depth_first_list.specs.Actions.{Deed, forks, joins, allocates, releases, dummy, faults, ends}
 use Rattle.depth_first_list.specs.Runs.{IsDepthFirst}
 use Rattle.depth_first_list.specs.Facts.{action_at, deed_at, words_at, IsNext}
-use Rattle.lawful_books.specs.Lists.{Among, Each}
-use Rattle.lawful_books.proofs.Lists.{each_join}
-use Rattle.lawful_books.specs.Books.{booked, charge_at, charged}
+use Rattle.deque_machine.specs.Lists.{Among, Each}
+use Rattle.deque_machine.proofs.Lists.{each_join}
+use Rattle.deque_machine.specs.Books.{booked, charge_at, charged}
 use Rattle.deque_machine.specs.Moments.{Deque, Moment, opening, done_at, live_at, owned_by}
 use Rattle.deque_machine.specs.Machine.{Setting, Event, steals, does, suspends, gives_up, HasEnded}
 use Rattle.deque_machine.specs.Runs.{Pair}
 use Rattle.deque_machine.specs.Play.{Limits, Stop, arena_full, steps_spent, finished, stopped, IsFirst, Wants, a_give_up, a_wait, an_action, Fills, Meets, no_words, no_steps, words_taken}
 use Rattle.deque_machine.proofs.KeptOrder.{own_alloc, own_release, own_dummy, own_fault, fork_is_no_join, end_is_no_join}
-use Rattle.machine_replay.specs.Tests.{next_from, ended_by}
-use Rattle.machine_replay.specs.Step.{Hand, hand_of}
-use Rattle.machine_replay.specs.Played.{first_passing, no_owner, wanted_by, wanted_at, wanted_of, exceeds, fills, Played, played_more, played_behind}
-use Rattle.machine_replay.proofs.TestLaws.{ended_by_is, ended_by_finds, next_from_is}
-use Rattle.machine_replay.proofs.StepSound.{none_is_not_some, HandFacts, hand_facts, owns_from}
+use Rattle.deque_machine.specs.Tests.{next_from, ended_by}
+use Rattle.deque_machine.specs.Step.{Hand, hand_of}
+use Rattle.deque_machine.specs.Played.{first_passing, no_owner, wanted_by, wanted_at, wanted_of, exceeds, fills, Played, played_more, played_behind}
+use Rattle.deque_machine.proofs.TestLaws.{ended_by_is, ended_by_finds, next_from_is}
+use Rattle.deque_machine.proofs.StepSound.{none_is_not_some, HandFacts, hand_facts, owns_from}
 use Rattle.ready_machine.specs.Entries.{entry, IsEntry, IsRun, IsReadyList}
 use Rattle.ready_machine.specs.ReadyMachine.{MayReady}
 use Rattle.ready_machine.specs.ReadyPlay.{SomeReady, CanGo, WantsReady, a_take, of_its_entry, ReadyTurn, ReadyPlays, is_over, is_stopped, goes_on}

@@ -7,12 +7,12 @@ use Rattle.std.proofs.Math.Nat.{mod-lt}
 use Rattle.depth_first_list.specs.Actions.{Deed, forks, joins, allocates, releases, dummy, faults, ends, record_words, weight_of}
 use Rattle.depth_first_list.specs.Runs.{IsDepthFirst}
 use Rattle.depth_first_list.specs.Facts.{action_at, deed_at, words_at, weight_at}
-use Rattle.lawful_books.specs.Lists.{total}
-use Rattle.lawful_books.specs.Books.{booked, periods_ahead}
-use Rattle.lawful_books.specs.Lawful.{LawfulBooks}
-use Rattle.lawful_books.proofs.Lists.{each_from, times_among}
-use Rattle.lawful_books.proofs.Keeping.{prefix_of}
-use Rattle.lawful_books.proofs.Whole.{few_places}
+use Rattle.deque_machine.specs.Lists.{total}
+use Rattle.deque_machine.specs.Books.{booked, periods_ahead}
+use Rattle.deque_machine.specs.Lawful.{LawfulBooks}
+use Rattle.deque_machine.proofs.Lists.{each_from, times_among}
+use Rattle.deque_machine.proofs.Keeping.{prefix_of}
+use Rattle.deque_machine.proofs.Whole.{few_places}
 use Rattle.deque_machine.specs.Moments.{Deque, Moment, opening, done_at, live_at, owned_by}
 use Rattle.deque_machine.specs.Machine.{Setting, Event, steals, does, suspends, gives_up}
 use Rattle.deque_machine.specs.Runs.{Pair}

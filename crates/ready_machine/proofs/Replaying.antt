@@ -6,17 +6,17 @@ use Rattle.dag_order.specs.LabelOrder.{fork_of}
 use Rattle.depth_first_list.specs.Actions.{Deed, forks, joins, allocates, releases, dummy, faults, ends}
 use Rattle.depth_first_list.specs.Runs.{IsDepthFirst}
 use Rattle.depth_first_list.specs.Facts.{deed_at}
-use Rattle.lawful_books.specs.Lists.{Each}
-use Rattle.lawful_books.proofs.Lists.{each_at, same_tail, cons_is_not_nil}
+use Rattle.deque_machine.specs.Lists.{Each}
+use Rattle.deque_machine.proofs.Lists.{each_at, same_tail, cons_is_not_nil}
 use Rattle.deque_machine.specs.Moments.{Deque, Moment, opening, moment_of, deque_of, with_id}
 use Rattle.deque_machine.specs.Machine.{Setting, Event, steals, does, suspends, gives_up, Owns, May, steals_beside, takes_over, forks_child, joins_child, allocates_within, allocates_above, releases_words, meets_fault, runs_dummy, ends_above_parent, ends_and_wakes, ends_and_leaves, suspends_top, gives_deque_up, books_with}
 use Rattle.deque_machine.specs.Runs.{Pair}
 use Rattle.deque_machine.proofs.KeptOrder.{own_alloc, own_release, own_dummy, own_fault}
 use Rattle.deque_machine.proofs.LiveThreads.{join_is_no_fork}
 use Rattle.deque_machine.proofs.OneAction.{end_is_no_fork}
-use Rattle.machine_replay.specs.Step.{step}
-use Rattle.machine_replay.specs.Played.{no_owner, least_id}
-use Rattle.machine_replay.proofs.StepSound.{none_is_not_some, same_moment, gate, step_sound}
+use Rattle.deque_machine.specs.Step.{step}
+use Rattle.deque_machine.specs.Played.{no_owner, least_id}
+use Rattle.deque_machine.proofs.StepSound.{none_is_not_some, same_moment, gate, step_sound}
 use Rattle.ready_machine.specs.Step.{all_owned, cut_one, cut_in_two, cut_moment, cut_at_fork, ready_step, replay_from}
 use Rattle.ready_machine.specs.ReplayLaws.{ReplaysAreRuns}
 use Rattle.ready_machine.specs.Entries.{entry, IsEntry, IsRun, IsLeastFree, IsReadyList}

@@ -4,10 +4,10 @@ use Rattle.std.specs.Prelude.{Option, None, Some}
 use Rattle.dag_order.specs.LabelOrder.{fork_of}
 use Rattle.depth_first_list.specs.Actions.{forks, record_words}
 use Rattle.depth_first_list.specs.Runs.{IsDepthFirst}
-use Rattle.lawful_books.specs.Lists.{Each, times}
-use Rattle.lawful_books.specs.Books.{charged}
-use Rattle.lawful_books.proofs.Lists.{total_append, each_at, each_change, each_without, each_join, each_left, each_right, each_from, same_tail, cons_is_not_nil, one_cases, times_among}
-use Rattle.lawful_books.proofs.Whole.{few_places}
+use Rattle.deque_machine.specs.Lists.{Each, times}
+use Rattle.deque_machine.specs.Books.{charged}
+use Rattle.deque_machine.proofs.Lists.{total_append, each_at, each_change, each_without, each_join, each_left, each_right, each_from, same_tail, cons_is_not_nil, one_cases, times_among}
+use Rattle.deque_machine.proofs.Whole.{few_places}
 use Rattle.deque_machine.specs.Moments.{Deque, Moment, opening, moment_of, deque_of, owned_by, with_id, one_if_owned, one_if_id}
 use Rattle.deque_machine.specs.Machine.{Setting, Event, steals, does, Owns, IsIdle, IsAtTop, booked_with, books_with, new_book, May, steals_beside, takes_over, forks_child, joins_child, allocates_within, allocates_above, releases_words, meets_fault, runs_dummy, ends_above_parent, ends_and_wakes, ends_and_leaves, suspends_top, gives_deque_up}
 use Rattle.deque_machine.specs.LawfulOrder.{IsLawful}

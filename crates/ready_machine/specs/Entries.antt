@@ -3,7 +3,7 @@
 -- An entry is a deque with one thread. If it has an owner, that worker runs it; if not, it is ready. So a moment of a ready list is a
 -- moment of deques, and what the machine of deques says of order, books, births and marks holds for it unchanged.
 use Rattle.std.specs.Prelude.{◌≡◌, ◌≢◌, ℕ, ◌<◌, Option, None, List, [], ◌∷◌, ◌++◌}
-use Rattle.lawful_books.specs.Lists.{Each}
+use Rattle.deque_machine.specs.Lists.{Each}
 use Rattle.deque_machine.specs.Moments.{Deque, Moment, deque_of, with_id}
 use Rattle.deque_machine.specs.Machine.{Setting}
 use Rattle.deque_machine.specs.LawfulOrder.{IsLawful}

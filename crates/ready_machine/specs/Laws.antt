@@ -3,8 +3,8 @@ use Rattle.std.specs.Prelude.{◌≡◌, ◌↔◌, ℕ, ◌+◌, ◌*◌, ◌<�
 use Rattle.dag_order.specs.LabelOrder.{fork_of}
 use Rattle.depth_first_list.specs.Actions.{forks, live_words, record_words}
 use Rattle.depth_first_list.specs.Facts.{deed_at, weight_at}
-use Rattle.lawful_books.specs.Lists.{total}
-use Rattle.lawful_books.specs.Books.{IsPrefix, periods_ahead, periods_marked, bound, booked}
+use Rattle.deque_machine.specs.Lists.{total}
+use Rattle.deque_machine.specs.Books.{IsPrefix, periods_ahead, periods_marked, bound, booked}
 use Rattle.deque_machine.specs.Moments.{Deque, Moment, opening, moment_of, deque_of, done_at, live_at}
 use Rattle.deque_machine.specs.Machine.{Setting, Event, does, HasEnded, May}
 use Rattle.deque_machine.specs.Runs.{Pair, moves, high_water_mark}

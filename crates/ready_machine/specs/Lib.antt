@@ -8,4 +8,3 @@ pub mod Step
 pub mod Played
 pub mod ReplayLaws
 pub mod Standing
-pub mod Passed

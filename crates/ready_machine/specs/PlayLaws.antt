@@ -2,8 +2,8 @@
 use Rattle.std.specs.Prelude.{◌≡◌, ℕ, ◌<◌, ◌≤◌, List, [], length, ℤ, pos, ◌≤ℤ◌}
 use Rattle.depth_first_list.specs.Actions.{record_words}
 use Rattle.depth_first_list.specs.Facts.{action_at}
-use Rattle.lawful_books.specs.Lists.{total}
-use Rattle.lawful_books.specs.Books.{IsPrefix, periods_ahead, bound}
+use Rattle.deque_machine.specs.Lists.{total}
+use Rattle.deque_machine.specs.Books.{IsPrefix, periods_ahead, bound}
 use Rattle.deque_machine.specs.Moments.{Moment, opening, done_at}
 use Rattle.deque_machine.specs.Machine.{Setting, Event, does, HasEnded}
 use Rattle.deque_machine.specs.Runs.{Pair}

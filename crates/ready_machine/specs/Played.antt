@@ -1,14 +1,14 @@
 -- Play of a ready list, computed.
 use Rattle.std.specs.Prelude.{ℕ, zero, suc, Bool, false, cond, ◌||◌, nat_eq, nat_lt, nat_le, Option, None, Some, List, [], ◌∷◌, length}
 use Rattle.depth_first_list.specs.Facts.{words_at}
-use Rattle.lawful_books.specs.Books.{booked}
+use Rattle.deque_machine.specs.Books.{booked}
 use Rattle.deque_machine.specs.Moments.{Deque, Moment, done_at, live_at, owned_by}
 use Rattle.deque_machine.specs.Machine.{Setting, Event, steals, does, suspends, gives_up}
 use Rattle.deque_machine.specs.Runs.{Pair}
 use Rattle.deque_machine.specs.Play.{Limits, Stop, arena_full, steps_spent, finished}
-use Rattle.machine_replay.specs.Tests.{ended_by}
-use Rattle.machine_replay.specs.Step.{hand_of}
-use Rattle.machine_replay.specs.Played.{first_passing, no_owner, wanted_of, fills, Played, played_behind, played_stopped}
+use Rattle.deque_machine.specs.Tests.{ended_by}
+use Rattle.deque_machine.specs.Step.{hand_of}
+use Rattle.deque_machine.specs.Played.{first_passing, no_owner, wanted_of, fills, Played, played_behind, played_stopped}
 use Rattle.ready_machine.specs.Step.{ready_step}
 
 -- whether some entry is ready, and whether a worker can move

@@ -3,7 +3,7 @@ use Rattle.std.specs.Prelude.{◌≡◌, ◌≢◌, ℕ, ◌+◌, ◌≤◌, nat
 use Rattle.dag_order.specs.LabelOrder.{fork_of}
 use Rattle.depth_first_list.specs.Actions.{forks, record_words}
 use Rattle.depth_first_list.specs.Facts.{deed_at}
-use Rattle.lawful_books.specs.Books.{charged}
+use Rattle.deque_machine.specs.Books.{charged}
 use Rattle.deque_machine.specs.Moments.{Deque, Moment, moment_of}
 use Rattle.deque_machine.specs.Machine.{Setting, Event, steals, does, suspends, gives_up, Owns, books_with, IsAtTop, IsIdle, stolen, May}
 use Rattle.deque_machine.specs.Runs.{Pair}

@@ -1,6 +1,6 @@
 -- The play of a ready list: the one run that a list of words picks, one word a turn.
 use Rattle.std.specs.Prelude.{◌≡◌, ◌⊎◌, ℕ, suc, ◌<◌, None, List, [], ◌∷◌, length}
-use Rattle.lawful_books.specs.Lists.{Among}
+use Rattle.deque_machine.specs.Lists.{Among}
 use Rattle.deque_machine.specs.Moments.{Deque, Moment, owned_by}
 use Rattle.deque_machine.specs.Machine.{Setting, Event, steals, HasEnded}
 use Rattle.deque_machine.specs.Runs.{Pair}

@@ -7,7 +7,7 @@ use Rattle.deque_machine.specs.Play.{Limits, Ending}
 use Rattle.ready_machine.specs.Entries.{IsReadyList}
 use Rattle.ready_machine.specs.ReadyMachine.{MayReady, ReadyReaches}
 use Rattle.ready_machine.specs.ReadyPlay.{ReadyPlays}
-use Rattle.machine_replay.specs.Played.{Played}
+use Rattle.deque_machine.specs.Played.{Played}
 use Rattle.ready_machine.specs.Step.{ready_step, ready_replay}
 use Rattle.ready_machine.specs.Played.{ready_play}
 

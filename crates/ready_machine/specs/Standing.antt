@@ -3,14 +3,14 @@ use Rattle.std.specs.Prelude.{◌≡◌, ℕ, ◌<◌, ◌≤◌, ◌+◌, ◌*�
 use Rattle.dag_order.specs.Births.{root}
 use Rattle.depth_first_list.specs.Actions.{Action, record_words}
 use Rattle.depth_first_list.specs.Facts.{action_at}
-use Rattle.lawful_books.specs.Lists.{Each}
+use Rattle.deque_machine.specs.Lists.{Each}
 use Rattle.deque_machine.specs.Moments as machine
 use Rattle.deque_machine.specs.Moments.{Moment, opening, moment_of, owned_by, live_at}
 use Rattle.deque_machine.specs.Machine.{Setting, Event, May}
 use Rattle.deque_machine.specs.Runs.{Pair, place_of, is_move}
-use Rattle.moment_parts.specs.Parts.{Thread, Deque, parts_with_root, deque_shown}
-use Rattle.moment_parts.specs.Cuts.{deque_with}
-use Rattle.step_laws.specs.Standing.{Showing, StandsAt}
+use Rattle.moment_laws.specs.Passed.Parts.{Thread, Deque, parts_with_root, deque_shown}
+use Rattle.moment_laws.specs.Passed.Cuts.{deque_with}
+use Rattle.moment_laws.specs.Standing.{Showing, StandsAt}
 use Rattle.ready_machine.specs.Entries.{entry, IsEntry, IsLeastFree, IsReadyList}
 use Rattle.ready_machine.specs.ReadyMachine.{MayReady, ReadyReaches}
 use Rattle.ready_machine.specs.ReadyPlay.{WantsReady}

@@ -6,8 +6,8 @@ use Rattle.depth_first_list.specs.Facts.{deed_at}
 use Rattle.deque_machine.specs.Moments.{Deque, Moment, opening, moment_of}
 use Rattle.deque_machine.specs.Machine.{Setting, Event, steals, does, suspends, gives_up}
 use Rattle.deque_machine.specs.Runs.{Pair}
-use Rattle.machine_replay.specs.Step.{step}
-use Rattle.machine_replay.specs.Played.{no_owner, least_id}
+use Rattle.deque_machine.specs.Step.{step}
+use Rattle.deque_machine.specs.Played.{no_owner, least_id}
 use Rattle.ready_machine.specs.Entries.{entry}
 
 -- whether each of the first deques, so many, is owned

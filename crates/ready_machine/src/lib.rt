@@ -9,10 +9,10 @@
 //! depth-first peak, and two quotas for each period that is ahead ([`laws::bound_in_ready`]), and that each such period is marked
 //! ([`laws::ahead_is_marked`]). A list of words picks a play, which ends ([`laws::plays_end`]). Two more modules of laws:
 //!
-//! - [`replay_laws`]: the machine of a ready list, computed over the computed machine of deques (`machine_replay`), answers only runs, and the
+//! - [`replay_laws`]: the machine of a ready list, computed over the computed machine of deques (`deque_machine`), answers only runs, and the
 //!   computed play is the play, which a list of words picks. `proofs/Examples.antt` has three small programs by one worker, with their
 //!   periods and high-water marks, one of them in an arena that is too small, and the first moments of a run by two workers.
-//! - [`scheduler_laws`]: where a scheduler with one ready list is, event by event, in the words of `step_laws`. If the rules want an event, and
+//! - [`scheduler_laws`]: where a scheduler with one ready list is, event by event, in the words of `moment_laws`. If the rules want an event, and
 //!   the scheduler did it as the machine of deques does, then it is at the next lawful ready list ([`scheduler_laws::one_thread_each`]); after a
 //!   Fork once the deque of two threads is cut ([`scheduler_laws::two_are_cut`]).
 #![tactic(auto)]

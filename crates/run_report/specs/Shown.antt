@@ -1,7 +1,7 @@
 -- What a report shows, as plain data.
 use Rattle.std.specs.Prelude.{ℕ, ◌<◌, ◌^◌, ℤ, List, [], ◌∷◌}
 use lib.Signed.{mag}
-use Rattle.bounded_list.specs.BoundedList.{entries}
+use Rattle.containers.specs.BoundedList.{entries}
 use Rattle.dag_order.specs.declared.finish.Finish.{Finish}
 use Rattle.dag_order.specs.declared.finish.Finish.TheVariants.{Done, Faulted}
 use Rattle.run_report.specs.declared.report.Report.{Report}

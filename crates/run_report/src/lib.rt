@@ -5,7 +5,7 @@
 //! `actions` and `peak` in their place; and a summary has seven counted lines. The first two begin with the
 //! printed numbers, the line `--` and the finish line.
 //!
-//! The layer stands on `dag_order`, whose `Finish` says how a run ended, on `bounded_list` and on `byte_cuts`. Its one theorem: the
+//! The layer stands on `dag_order`, whose `Finish` says how a run ended, on `containers` and on `byte_cuts`. Its one theorem: the
 //! texts are those of `specs/Texts.antt`, and [`read_report`] answers a report exactly on its own text, and else the
 //! first byte of the first line with which the bytes are no report (`specs/Reading.antt`).
 #![tactic(auto)]

@@ -1,5 +1,5 @@
 ghost use Rattle.std.specs.Prelude.{◌≡◌, IfOk, string_bytes};
-ghost use Rattle.bounded_list.specs.BoundedList.{entries};
+ghost use Rattle.containers.specs.BoundedList.{entries};
 ghost use Rattle.run_report.specs.Texts.{text_of, outcome_lines};
 
 use crate::finish_line::push_finish;

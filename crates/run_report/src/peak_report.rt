@@ -1,5 +1,5 @@
 ghost use Rattle.std.specs.Prelude.{◌≡◌, IfOk};
-ghost use Rattle.bounded_list.specs.BoundedList.{entries};
+ghost use Rattle.containers.specs.BoundedList.{entries};
 ghost use Rattle.run_report.specs.Texts.{peak_text};
 
 use crate::counted::push_counted;

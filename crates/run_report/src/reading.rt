@@ -1,6 +1,6 @@
 ghost use Rattle.std.specs.Prelude.{◌≡◌, ◌≤◌, ◌++◌, length, map, IfOk, MatchResult};
 ghost use Rattle.std.specs.Fmt.{signed_decimal};
-ghost use Rattle.bounded_list.specs.BoundedList.{entries};
+ghost use Rattle.containers.specs.BoundedList.{entries};
 ghost use Rattle.run_report.specs.Lines.{NoValue};
 ghost use Rattle.run_report.specs.Reading.{IsFailure};
 ghost use Rattle.run_report.specs.Shown.{shown_by_report, AreWords};

@@ -1,5 +1,5 @@
-use dummy_tree::Quota;
-use quota_period::{Charge, Period};
+use depth_first_list::Quota;
+use open_periods::{Charge, Period};
 use std::test::Fail;
 
 #[test]

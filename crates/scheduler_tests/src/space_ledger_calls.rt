@@ -1,4 +1,4 @@
-use bounded_list::BoundedList;
+use containers::BoundedList;
 use dag_order::{ActionId, ThreadId};
 use space_ledger::{Book, Books, Closed, Moved, Moves, NumberedBooks};
 use std::alloc::Global;

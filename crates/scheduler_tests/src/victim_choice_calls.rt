@@ -1,7 +1,7 @@
 use deque_list::List;
-use period_table::PeriodTable;
+use open_periods::PeriodTable;
+use play_rules::{first_mover, first_ready, some_ready};
 use std::test::Fail;
-use victim_choice::{first_mover, first_ready, some_ready};
 
 #[test]
 fn words_pick_once_round(rt: HostRuntime) -> Result<(), Fail> {

@@ -3,7 +3,7 @@ use Rattle.std.proofs.Common.{◌≡◌, ℕ, List, [], ◌∷◌, ◌++◌, ℤ
 use Rattle.std.proofs.lemmas.Int.{ints, clamps}
 use Rattle.std.specs.Int.{int_max}
 use Rattle.dag_order.specs.declared.fault.FaultAt.{FaultAt}
-use Rattle.depth_first_list.specs.Actions.{Deed, forks, joins, allocates, releases, dummy, faults, ends, Action, weight, live_words, peak}
+use Rattle.depth_first_run.specs.Passed.Actions.{Deed, forks, joins, allocates, releases, dummy, faults, ends, Action, weight, live_words, peak}
 use Rattle.depth_first_run.specs.States.{Item, began, acted, printed, failed}
 use Rattle.depth_first_run.specs.Run.{actions_of, first_fault, lines_of}
 use Rattle.serial_journal.specs.Telling.{ForkOf, with_fork, forks_of, IsNoFork}

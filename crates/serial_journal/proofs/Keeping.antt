@@ -3,8 +3,8 @@ use Rattle.std.proofs.Common.{◌<◌, ◌≡◌, Result, Ok, Err, MatchResult, 
 use Rattle.std.proofs.lemmas.Slice.Zip.{AllZip-long}
 use Rattle.std.specs.Int.{int_max}
 use Rattle.std.specs.List.{AllZip}
-use Rattle.bounded_list.specs.BoundedList.{entries}
-use Rattle.bounded_list.specs.declared.bounded_list.BoundedList.{BoundedList}
+use Rattle.containers.specs.BoundedList.{entries}
+use Rattle.containers.specs.declared.bounded_list.BoundedList.{BoundedList}
 use Rattle.dag_order.specs.Births.{HasLabel}
 use Rattle.dag_order.specs.declared.birth.Birth.{Birth}
 use Rattle.dag_order.specs.declared.action_id.ActionId.{ActionId}
@@ -12,7 +12,7 @@ use Rattle.dag_order.specs.declared.fault.FaultAt.{FaultAt}
 use Rattle.dag_order.specs.declared.finish.Finish.{Finish}
 use Rattle.dag_order.specs.declared.finish.Finish.TheVariants.{Done, Faulted}
 use Rattle.dag_order.specs.declared.kind.Kind.TheVariants.{Fork}
-use Rattle.depth_first_list.specs.Actions.{Deed, forks, Action, kind_of, weight_of, weight, live_words, peak}
+use Rattle.depth_first_run.specs.Passed.Actions.{Deed, forks, Action, kind_of, weight_of, weight, live_words, peak}
 use Rattle.depth_first_run.specs.States.{Item, began, acted, printed, failed}
 use Rattle.depth_first_run.specs.Run.{actions_of, first_fault, lines_of, finish_of}
 use Rattle.serial_journal.specs.declared.action.Action.{Action as Shown}

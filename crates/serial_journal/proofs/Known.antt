@@ -7,7 +7,7 @@ use Rattle.dag_order.proofs.BirthLaws.{label_of_fork}
 use Rattle.dag_order.specs.LabelOrder.{fork_of}
 use Rattle.dag_order.specs.declared.birth.Birth.{Birth}
 use Rattle.dag_order.specs.declared.thread_id.ThreadId.{ThreadId}
-use Rattle.depth_first_list.specs.Actions.{Action}
+use Rattle.depth_first_run.specs.Passed.Actions.{Action}
 use Rattle.serial_journal.specs.declared.action.Action.{Action as Shown}
 use Rattle.serial_journal.specs.Telling.{ShowsAction, ShowsBirth, ForkOf}
 use Rattle.serial_journal.specs.Journals.{KeepsLabels}

@@ -1,11 +1,11 @@
 -- What contracts see of a `Journal`.
 use Rattle.std.specs.Prelude.{◌≡◌, ℕ, suc, ◌≤◌, List, [], ◌∷◌, ◌++◌, ◌+◌, length, pos, ◌+ℤ◌}
 use Rattle.std.specs.Int.{int_max}
-use Rattle.bounded_list.specs.BoundedList.{entries}
+use Rattle.containers.specs.BoundedList.{entries}
 use Rattle.dag_order.specs.Births.{HasLabel}
 use Rattle.dag_order.specs.declared.thread_id.ThreadId.{ThreadId}
 use Rattle.dag_order.specs.declared.birth.Birth.{Birth}
-use Rattle.depth_first_list.specs.Actions.{Deed, Action, live_words}
+use Rattle.depth_first_run.specs.Passed.Actions.{Deed, Action, live_words}
 use Rattle.depth_first_run.specs.States.{Item}
 use Rattle.depth_first_run.specs.Run.{actions_of}
 use Rattle.serial_journal.specs.Telling.{Told}

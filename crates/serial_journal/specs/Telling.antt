@@ -1,13 +1,13 @@
 -- What is written down of the items of a run.
 use Rattle.std.specs.Prelude.{◌≡◌, ℕ, List, [], ◌∷◌, ℤ, pos, Option, Some, None}
 use Rattle.std.specs.List.{AllZip}
-use Rattle.bounded_list.specs.BoundedList.{entries}
+use Rattle.containers.specs.BoundedList.{entries}
 use Rattle.dag_order.specs.Births.{HasLabel}
 use Rattle.dag_order.specs.declared.birth.Birth.{Birth}
 use Rattle.dag_order.specs.declared.fault.FaultAt.{FaultAt}
 use Rattle.dag_order.specs.declared.finish.Finish.{Finish}
 use Rattle.dag_order.specs.declared.finish.Finish.TheVariants.{Done, Faulted}
-use Rattle.depth_first_list.specs.Actions.{Deed, forks, joins, allocates, releases, dummy, faults, ends, Action, kind_of, weight_of, peak}
+use Rattle.depth_first_run.specs.Passed.Actions.{Deed, forks, joins, allocates, releases, dummy, faults, ends, Action, kind_of, weight_of, peak}
 use Rattle.depth_first_run.specs.States.{Item}
 use Rattle.depth_first_run.specs.Run.{actions_of, first_fault, lines_of, finish_of}
 use Rattle.serial_journal.specs.declared.action.Action.{Action as Shown}

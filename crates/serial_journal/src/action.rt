@@ -1,4 +1,4 @@
-use bounded_list::BoundedList;
+use containers::BoundedList;
 use dag_order::{ActionId, Kind};
 
 /// An action of a run: its name, what it does, and by how many words the live words rise.

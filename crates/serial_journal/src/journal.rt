@@ -1,13 +1,13 @@
 ghost use Rattle.std.specs.Prelude.{◌≡◌, ℕ, ◌+◌, ◌≤◌, ◌<◌, ◌^◌, [], ◌∷◌, ◌++◌, List, length, IfOk, OnErr, MatchResult, Ok, Err};
 ghost use Rattle.std.specs.Prelude.{pos, ◌+ℤ◌, FitsSigned};
 ghost use Rattle.std.specs.Int.{int_max, w64};
-ghost use Rattle.depth_first_list.specs.Actions.{Deed, kind_of, weight_of};
+ghost use Rattle.depth_first_run.specs.Passed.Actions.{Deed, kind_of, weight_of};
 ghost use Rattle.serial_journal.specs.Stops.{OnStop};
 
 use crate::action::{Action, Actions};
 use crate::serial::Serial;
 use crate::serial_stop::SerialStop;
-use bounded_list::BoundedList;
+use containers::BoundedList;
 use dag_order::{ActionId, Birth, Births, FaultAt, Finish, Kind, Lines, ThreadId};
 use std::alloc::Global;
 
@@ -26,10 +26,10 @@ pub struct Journal {
 }
 
 impl Journal {
-    ghost use Rattle.bounded_list.specs.BoundedList.{entries};
+    ghost use Rattle.containers.specs.BoundedList.{entries};
     ghost use Rattle.dag_order.specs.Births.{HasLabel};
     ghost use Rattle.dag_order.specs.LabelOrder.{fork_of};
-    ghost use Rattle.depth_first_list.specs.Actions.{forks};
+    ghost use Rattle.depth_first_run.specs.Passed.Actions.{forks};
     ghost use Rattle.depth_first_run.specs.States.{Item, began, acted, printed, failed};
     ghost use Rattle.depth_first_run.specs.Run.{actions_of};
     ghost use Rattle.serial_journal.specs.Telling.{Tells, IsNoFork};

@@ -3,7 +3,7 @@ use Rattle.std.proofs.Common.{inl, inr, ◌≡◌, ℕ, suc, ◌<◌, ◌≤◌,
 use Rattle.std.specs.Prelude.{is_some, nat_lt, min, ◌⊎◌}
 use Rattle.std.proofs.lemmas.Bool.{lt-ltb, le-ltb, le-leb, lt-leb}
 use Rattle.language_limits.specs.declared.TheConstants.{GREATEST_COUNT}
-use Rattle.dummy_tree.specs.Shapes.{Shape}
+use Rattle.depth_first_list.specs.Shapes.{Shape}
 use Rattle.depth_first_list.specs.Runs.{tree_for}
 use Rattle.dag_order.specs.Births.{HasLabel}
 use Rattle.dag_order.specs.declared.birth.Birth.{Birth}

@@ -1,8 +1,8 @@
 -- The frames of a run in the middle that frames of the machine are.
 use Rattle.std.specs.Prelude.{◌≡◌, ℕ, Bool, List, []}
 use Rattle.dag_order.specs.declared.birth.Birth.{Birth}
-use Rattle.dummy_tree.specs.Shapes.{shape_of}
-use Rattle.dummy_tree.specs.TreeLeaves.{tree_leaves}
+use Rattle.depth_first_list.specs.Shapes.{shape_of}
+use Rattle.depth_first_list.specs.TreeLeaves.{tree_leaves}
 use Rattle.par_tree.specs.Tree.{Name}
 use Rattle.par_tree.specs.View.{name_tree, body_tree, ret_tree, params_tree, args_tree, target_tree}
 use Rattle.depth_first_run.specs.States.{State, parent_of}

@@ -4,7 +4,7 @@ ghost use Rattle.std.specs.Prelude.{◌≡◌, ◌<◌, ◌≤◌, ◌⊎◌, ma
 ghost use Rattle.std.specs.Option.{option_map};
 ghost use Rattle.dag_order.specs.declared.fault.FaultKind.TheVariants.{Depth, Turns};
 ghost use Rattle.std.specs.Prelude.{ℕ};
-ghost use Rattle.dummy_tree.specs.QuotaWords.{quota_words};
+ghost use Rattle.depth_first_list.specs.QuotaWords.{quota_words};
 ghost use Rattle.par_tree.specs.View.{name_tree, ret_tree, params_tree, args_tree, target_tree, func_tree, program_tree};
 ghost use Rattle.par_ownership.specs.Ownership as ownership;
 ghost use Rattle.depth_first_run.specs.States.{unless_faulted};

@@ -1,7 +1,7 @@
 ghost use Rattle.std.specs.Prelude.{◌≡◌, ℕ, OnOk};
-ghost use Rattle.dummy_tree.specs.QuotaWords.{quota_words};
-ghost use Rattle.dummy_tree.specs.TreeLeaves.{tree_leaves};
-ghost use Rattle.dummy_tree.specs.Shapes.{shape_of};
+ghost use Rattle.depth_first_list.specs.QuotaWords.{quota_words};
+ghost use Rattle.depth_first_list.specs.TreeLeaves.{tree_leaves};
+ghost use Rattle.depth_first_list.specs.Shapes.{shape_of};
 ghost use Rattle.par_tree.specs.Tree.{Program};
 ghost use Rattle.par_tree.specs.View.{program_tree};
 ghost use Rattle.serial_meaning.specs.Settings.{setting_of};
@@ -14,7 +14,7 @@ use crate::part::Part;
 use crate::plan::Plan;
 use crate::runner::Runner;
 use dag_order::Kind;
-use dummy_tree::Tree;
+use depth_first_list::Tree;
 use serial_journal::SerialStop;
 use std::alloc::{AllocError, Global};
 

@@ -1,4 +1,4 @@
-use dummy_tree::Tree;
+use depth_first_list::Tree;
 use par_tree::Stmt;
 
 /// What a thread does between two forks of its own making: statements, or a tree of dummies.

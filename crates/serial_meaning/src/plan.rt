@@ -1,4 +1,4 @@
-use dummy_tree::Quota;
+use depth_first_list::Quota;
 use par_tree::Program;
 use std::alloc::Global;
 

@@ -2,7 +2,7 @@
 
 ghost use Rattle.std.specs.Prelude.{◌≡◌, ℕ, [], MatchResult};
 ghost use Rattle.block_check.specs.Checked.{program_of};
-ghost use Rattle.dummy_tree.specs.QuotaWords.{quota_words};
+ghost use Rattle.depth_first_list.specs.QuotaWords.{quota_words};
 ghost use Rattle.par_tree.specs.View.{program_tree};
 ghost use Rattle.par_tree.specs.Tree.{Program as ProgramTree};
 ghost use Rattle.par_ownership.specs.Ownership as ownership;
@@ -22,7 +22,7 @@ use crate::runner::Runner;
 use crate::thread::Thread;
 use block_check::{Checked, function_of};
 use dag_order::{Kind, ThreadId};
-use dummy_tree::Quota;
+use depth_first_list::Quota;
 use language_limits::MOST_TURNS;
 use serial_journal::{Journal, Serial, SerialStop};
 use serial_store::Store;

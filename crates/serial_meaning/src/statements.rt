@@ -4,7 +4,7 @@ ghost use Rattle.std.specs.Prelude.{◌≡◌, ℕ, length, nat_lt, MatchResult}
 ghost use Rattle.serial_journal.specs.Stops.{OnStop};
 ghost use Rattle.par_tree.specs.View.{body_tree, name_tree, expr_tree, stmt_tree, program_tree};
 ghost use Rattle.par_tree.specs.Tree.{Program, step, while_stmt, done};
-ghost use Rattle.dummy_tree.specs.QuotaWords.{quota_words};
+ghost use Rattle.depth_first_list.specs.QuotaWords.{quota_words};
 ghost use Rattle.serial_meaning.specs.Settings.{setting_of};
 ghost use Rattle.depth_first_run.specs.Values.{value};
 ghost use Rattle.depth_first_run.specs.Middle.{middle, before_all, step_with_number, step_if, step_while, step_par, step_split, step_statement, step_part, step_alloc};
@@ -16,7 +16,7 @@ use crate::machine::Machine;
 use crate::part::Part;
 use crate::plan::Plan;
 use dag_order::FaultKind;
-use dummy_tree::{Tree, dummies};
+use depth_first_list::{Tree, dummies};
 use language_limits::MOST_FORKS;
 use number_operators::is_true;
 use par_tree::{Body, Expr, Name, Stmt, StmtKind};

@@ -4,6 +4,6 @@ pub mod Holding
 pub mod Stores
 pub mod Chains
 pub mod Joining
-pub mod Passed
+pub mod ArgumentsPassed
 pub mod Words
 pub mod Pairs

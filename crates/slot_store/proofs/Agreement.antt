@@ -3,7 +3,7 @@ use Rattle.std.proofs.Common.{◌≡◌, ℕ, zero, suc, ◌<◌, false, List, [
 use Rattle.std.specs.Prelude.{if◌then◌else◌}
 use Rattle.std.specs.Str.{bytes_eq}
 use Rattle.std.proofs.lemmas.List.{length-map}
-use Rattle.par_tree.specs.Tree.{Name}
+use Rattle.depth_first_run.specs.Passed.Tree.{Name}
 use Rattle.node_table.specs.Names.{name_at}
 use Rattle.depth_first_run.specs.Stores.{Store, Held, nothing, block_of, with_integer, hold_block, drop_block, write_block}
 use Rattle.slot_store.specs.Rows.{Entry, blank, entry_at, integer_at, blocks_at, items_at, first_of, with_integer_at, with_blocks_at, HasNone}

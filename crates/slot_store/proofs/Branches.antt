@@ -3,8 +3,8 @@ use Rattle.std.proofs.Common.{◌≡◌, ℕ, zero, suc, ◌<◌, Bool, true, fa
 use Rattle.std.specs.Prelude.{if◌then◌else◌}
 use Rattle.std.specs.Str.{bytes_eq}
 use Rattle.std.proofs.lemmas.List.{length-map}
-use Rattle.par_tree.specs.Tree.{Name}
-use Rattle.par_tree.specs.Names.{is_among}
+use Rattle.depth_first_run.specs.Passed.Tree.{Name}
+use Rattle.depth_first_run.specs.Passed.Names.{is_among}
 use Rattle.node_table.specs.Names.{name_at}
 use Rattle.node_table.specs.Reading.{AreSlots, FitsSlots, slots_read}
 use Rattle.depth_first_run.specs.Stores.{Store, those_named, those_not_named}

@@ -1,6 +1,6 @@
 -- A chain is evaluated from its front on.
 use Rattle.std.proofs.Common.{◌≡◌, ℤ, Ok, refl}
-use Rattle.par_tree.specs.Tree
+use Rattle.depth_first_run.specs.Passed.Tree
 use Rattle.depth_first_run.specs.Stores.{Store}
 use Rattle.depth_first_run.specs.Values.{value, chained}
 

@@ -1,8 +1,8 @@
 -- The words of all slots are those of the store that they show.
 use Rattle.std.proofs.Common.{◌≡◌, ℕ, ◌+◌, ◌-◌, ◌<◌, ◌||◌, zero, suc, Bool, true, false, List, [], ◌∷◌, length, refl, sym, ap, ◌∙◌, arith}
 use Rattle.std.specs.Str.{bytes_eq}
-use Rattle.par_tree.specs.Tree.{Name}
-use Rattle.par_tree.specs.Names.{is_among}
+use Rattle.depth_first_run.specs.Passed.Tree.{Name}
+use Rattle.depth_first_run.specs.Passed.Names.{is_among}
 use Rattle.node_table.specs.Names.{name_at}
 use Rattle.block_arena.specs.Region.{Region, region_of, with_given}
 use Rattle.depth_first_run.specs.Stores.{Store, Held, block_words, held_words}

@@ -1,7 +1,7 @@
 -- The blocks that a call lent come back one after another.
 use Rattle.std.proofs.Common.{◌≡◌, ℕ, ◌+◌, ◌<◌, ◌≤◌, min, Bool, true, false, nat_le, List, [], ◌∷◌, length, drop, get_or, refl, ap, ◌∙◌, subst, arith, rules, length-set}
 use Rattle.std.proofs.lemmas.List.{drop_all, drop_more}
-use Rattle.par_tree.specs.Tree.{Param, Arg}
+use Rattle.depth_first_run.specs.Passed.Tree.{Param, Arg}
 use Rattle.node_table.specs.Table
 use Rattle.node_table.specs.Shown.{arg_shown, args_shown}
 use Rattle.node_table.specs.declared.code_arg.CodeArg.{CodeArg}

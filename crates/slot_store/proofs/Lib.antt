@@ -7,6 +7,6 @@ pub mod Chains
 pub mod Holdings
 pub mod Parting
 pub mod Branches
-pub mod Passed
+pub mod ArgumentsPassed
 pub mod Moving
 pub mod Lending

@@ -2,8 +2,8 @@
 use Rattle.std.proofs.Common.{◌≡◌, ℕ, zero, suc, ◌+◌, ◌<◌, ◌≤◌, min, Bool, true, false, nat_eq, nat_le, List, [], ◌∷◌, length, drop, get_or, ℤ, Result, Ok, Err, refl, sym, ap, ◌∙◌, subst, arith, rules, length-set}
 use Rattle.std.proofs.lemmas.List.{length-map, drop_all, drop_more}
 use Rattle.dag_order.specs.declared.fault.FaultKind.{FaultKind}
-use Rattle.par_tree.specs.Tree.{Name, Param, Arg}
-use Rattle.par_tree.specs.Names.{param_names, param_name}
+use Rattle.depth_first_run.specs.Passed.Tree.{Name, Param, Arg}
+use Rattle.depth_first_run.specs.Passed.Names.{param_names, param_name}
 use Rattle.node_table.specs.Table
 use Rattle.node_table.specs.Reading.{slots_read, FitsArg, FitsArgs, args_read}
 use Rattle.node_table.specs.Shown.{arg_shown, args_shown}
@@ -15,7 +15,7 @@ use Rattle.slot_store.specs.Forks.{is_in}
 use Rattle.slot_store.specs.Calls.{EachOnce, EachHasBlock, EachHasNone, passed_slots, CanPass, CanPassAll, caller_behind, callee_behind}
 use Rattle.slot_store.proofs.Names.{neither}
 use Rattle.slot_store.proofs.Rows.{other_entry}
-use Rattle.slot_store.proofs.Passed.{no_params, no_args}
+use Rattle.slot_store.proofs.ArgumentsPassed.{no_params, no_args}
 
 -- how many there are
 slots_length : (names : List Name) (slots : List ℕ) → length (slots_read names slots) ≡ length slots

@@ -2,8 +2,8 @@
 use Rattle.std.proofs.Common.{◌≡◌, ℕ, zero, suc, ◌<◌, Bool, true, false, ◌||◌, List, [], ◌∷◌, length, refl, sym, arith}
 use Rattle.std.specs.Str.{bytes_eq}
 use Rattle.std.proofs.lemmas.Slice.Eq.{bytes_eq-Decides}
-use Rattle.par_tree.specs.Tree.{Name}
-use Rattle.par_tree.specs.Names.{is_among}
+use Rattle.depth_first_run.specs.Passed.Tree.{Name}
+use Rattle.depth_first_run.specs.Passed.Names.{is_among}
 use Rattle.node_table.specs.Names.{name_at}
 use Rattle.slot_store.specs.Agreement.{AreDistinct}
 

@@ -1,8 +1,8 @@
 -- When a row of slots is a store of the depth-first run: under the name of each slot the store has just what the slot has.
 use Rattle.std.specs.Prelude.{◌≡◌, ℕ, ◌<◌, false, if◌then◌else◌, List, [], ◌∷◌, length, map, ℤ}
 use Rattle.std.specs.Str.{bytes_eq}
-use Rattle.par_tree.specs.Tree.{Name}
-use Rattle.par_tree.specs.Names.{is_among}
+use Rattle.depth_first_run.specs.Passed.Tree.{Name}
+use Rattle.depth_first_run.specs.Passed.Names.{is_among}
 use Rattle.node_table.specs.Names.{name_at}
 use Rattle.depth_first_run.specs.Stores.{Store, Held}
 use Rattle.slot_store.specs.Rows.{Entry}

@@ -1,8 +1,8 @@
 -- What a call passes to the row of a function, and takes back from it.
 use Rattle.std.specs.Prelude.{◌≡◌, ℕ, false, List, [], ◌∷◌, ℤ, pos, Option, Some, None, Result, Ok, Err}
 use Rattle.dag_order.specs.declared.fault.FaultKind.{FaultKind}
-use Rattle.par_tree.specs.Tree
-use Rattle.par_tree.specs.Tree.{Name, Param, Arg, Ret, RetValue}
+use Rattle.depth_first_run.specs.Passed.Tree
+use Rattle.depth_first_run.specs.Passed.Tree.{Name, Param, Arg, Ret, RetValue}
 use Rattle.node_table.specs.Table
 use Rattle.depth_first_run.specs.Stores.{Store, Held, block_of, without, drop_block}
 use Rattle.depth_first_run.specs.Values.{Outcome, value}

@@ -2,7 +2,7 @@
 use Rattle.std.specs.Prelude.{◌≡◌, List, ℤ, ℕ, Option, Some, None, Result, Ok, Err, slice_set}
 use Rattle.dag_order.specs.declared.fault.FaultKind.{FaultKind}
 use Rattle.dag_order.specs.declared.fault.FaultKind.TheVariants as faults
-use Rattle.par_tree.specs.Tree.{Name}
+use Rattle.depth_first_run.specs.Passed.Tree.{Name}
 use Rattle.depth_first_run.specs.Stores.{Store, block_of, write_block}
 use Rattle.slot_store.specs.Rows.{Entry}
 use Rattle.slot_store.specs.Agreement.{ShowsStore}

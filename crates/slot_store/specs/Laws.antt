@@ -1,6 +1,6 @@
 -- What a caller may use of rows that show stores.
 use Rattle.std.specs.Prelude.{◌≡◌, ℕ, ◌<◌, List, length}
-use Rattle.par_tree.specs.Tree.{Name}
+use Rattle.depth_first_run.specs.Passed.Tree.{Name}
 use Rattle.node_table.specs.Names.{name_at}
 use Rattle.depth_first_run.specs.Stores.{Store, held_words}
 use Rattle.slot_store.specs.Rows.{Entry, entry_at, row_words}

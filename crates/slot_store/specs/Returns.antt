@@ -1,7 +1,7 @@
 -- What a call takes back from the row of a function, and where its answer goes.
 use Rattle.std.specs.Prelude.{◌≡◌, ℕ, ◌<◌, List, [], ◌∷◌, length, ℤ, Option, Some, None, Result, Ok, Err}
 use Rattle.dag_order.specs.declared.fault.FaultKind.{FaultKind}
-use Rattle.par_tree.specs.Tree.{Name, Param, Arg}
+use Rattle.depth_first_run.specs.Passed.Tree.{Name, Param, Arg}
 use Rattle.node_table.specs.Table
 use Rattle.depth_first_run.specs.Stores.{Store, Held}
 use Rattle.depth_first_run.specs.Calls as calls

@@ -1,7 +1,7 @@
 //! The blocks of slots.
 
 ghost use Rattle.std.specs.Prelude.{◌≡◌, ◌<◌, ◌∷◌, ◌↔◌, [], List, length, slice_set, IsTrue, IsFalse, OnErr};
-ghost use Rattle.par_tree.specs.Tree.{Name};
+ghost use Rattle.depth_first_run.specs.Passed.Tree.{Name};
 ghost use Rattle.node_table.specs.Names.{name_at};
 ghost use Rattle.depth_first_run.specs.Stores.{Store, block_of, hold_block, drop_block};
 ghost use Rattle.depth_first_run.specs.Values.{number_at, place_in};

@@ -1,7 +1,7 @@
 //! Expressions over slots.
 
 ghost use Rattle.std.specs.Prelude.{◌≡◌, List, length};
-ghost use Rattle.par_tree.specs.Tree.{Name, Expr};
+ghost use Rattle.depth_first_run.specs.Passed.Tree.{Name, Expr};
 ghost use Rattle.node_table.specs.Shown.{expr_shown, links_shown};
 ghost use Rattle.node_table.specs.Reading.{IsExpr, links_read, FitsLinks};
 ghost use Rattle.depth_first_run.specs.Stores.{Store};

@@ -1,7 +1,7 @@
 //! What a forked child takes of a row, and what it brings back.
 
 ghost use Rattle.std.specs.Prelude.{◌≡◌, ◌≤◌, ◌<◌, ◌+◌, ℕ, Bool, [], List, length, map, filter, IsTrue, ◌↔◌, IfOk, OnOk, OnErr};
-ghost use Rattle.par_tree.specs.Tree.{Name};
+ghost use Rattle.depth_first_run.specs.Passed.Tree.{Name};
 ghost use Rattle.node_table.specs.Reading.{AreSlots, FitsSlots};
 ghost use Rattle.depth_first_run.specs.Stores.{Store};
 ghost use Rattle.slot_store.specs.Rows.{entry_at, blocks_at, with_blocks_at, without_block};

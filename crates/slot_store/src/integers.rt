@@ -1,7 +1,7 @@
 //! A new row of slots, and the integers of slots.
 
 ghost use Rattle.std.specs.Prelude.{◌≡◌, ◌<◌, ℕ, List, [], length, replicate, IfOk};
-ghost use Rattle.par_tree.specs.Tree.{Name};
+ghost use Rattle.depth_first_run.specs.Passed.Tree.{Name};
 ghost use Rattle.node_table.specs.Names.{name_at};
 ghost use Rattle.depth_first_run.specs.Stores.{Store, nothing, with_integer};
 ghost use Rattle.slot_store.specs.Rows.{blank, integer_at, with_integer_at, HasNone};

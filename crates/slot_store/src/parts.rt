@@ -1,7 +1,7 @@
 //! A block that is cut in two, and put together again.
 
 ghost use Rattle.std.specs.Prelude.{◌≡◌, ◌≢◌, ◌<◌, ◌≤◌, ◌%◌, ◌+◌, ◌-◌, ◌∷◌, [], List, length, take, drop, IfSome, OnOk, OnErr};
-ghost use Rattle.par_tree.specs.Tree.{Name};
+ghost use Rattle.depth_first_run.specs.Passed.Tree.{Name};
 ghost use Rattle.node_table.specs.Names.{name_at};
 ghost use Rattle.block_arena.specs.Size.{words_taken, pieces_for};
 ghost use Rattle.depth_first_run.specs.Stores.{Store, block_of};

@@ -1,8 +1,8 @@
 //! What a call takes back from the row of a function.
 
 ghost use Rattle.std.specs.Prelude.{◌≡◌, ◌<◌, ◌∷◌, ℤ, List, length, Option, OnErr};
-ghost use Rattle.par_tree.specs.Tree.{Name, Param, Arg, Target, Ret, RetValue};
-ghost use Rattle.par_tree.specs.Names.{param_names};
+ghost use Rattle.depth_first_run.specs.Passed.Tree.{Name, Param, Arg, Target, Ret, RetValue};
+ghost use Rattle.depth_first_run.specs.Passed.Names.{param_names};
 ghost use Rattle.node_table.specs.Names.{name_at};
 ghost use Rattle.node_table.specs.Reading.{AreSlots, FitsSlots, IsArg, AreArgs, FitsArg, FitsArgs, IsTarget, IsReturn, IsReturnValue};
 ghost use Rattle.node_table.specs.Shown.{arg_shown, args_shown, target_shown, ret_shown, ret_value_shown};

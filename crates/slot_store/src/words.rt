@@ -1,7 +1,7 @@
 //! The words that slots hold, and giving them back.
 
 ghost use Rattle.std.specs.Prelude.{◌≡◌, ◌≤◌, ◌^◌, List};
-ghost use Rattle.par_tree.specs.Tree.{Name};
+ghost use Rattle.depth_first_run.specs.Passed.Tree.{Name};
 ghost use Rattle.block_arena.specs.Region.{with_given};
 ghost use Rattle.depth_first_run.specs.Stores.{Store, held_words};
 ghost use Rattle.slot_store.specs.Rows.{words_of, row_words};

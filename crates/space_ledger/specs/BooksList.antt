@@ -1,6 +1,6 @@
 -- What contracts see of `Books`.
 use Rattle.std.specs.Prelude.{ℕ, List}
-use Rattle.bounded_list.specs.BoundedList.{entries, spare}
+use Rattle.containers.specs.BoundedList.{entries, spare}
 use Rattle.space_ledger.specs.declared.book.Closed.{Closed}
 use Rattle.space_ledger.specs.declared.books.Books.{Books}
 

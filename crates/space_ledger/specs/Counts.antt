@@ -1,6 +1,6 @@
 -- What is counted of closed periods.
 use Rattle.std.specs.Prelude.{ℕ, Bool, length}
-use Rattle.bounded_list.specs.BoundedList.{entries}
+use Rattle.containers.specs.BoundedList.{entries}
 use Rattle.space_ledger.specs.declared.book.Closed.{Closed}
 
 -- whether it is marked ahead

@@ -1,4 +1,4 @@
-use bounded_list::BoundedList;
+use containers::BoundedList;
 use dag_order::{ActionId, Births};
 
 /// The actions that a period ran, in its order.

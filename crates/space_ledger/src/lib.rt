@@ -5,7 +5,7 @@
 //! run goes on, with their sums, so that no call walks them. Behind a run a period is found by its number, and the birth
 //! of a thread by the thread's id.
 //!
-//! The crate stands on `bounded_list` and `dag_order`. Its one theorem: [`Moves::high`] is the greatest sum
+//! The crate stands on `containers` and `dag_order`. Its one theorem: [`Moves::high`] is the greatest sum
 //! of a prefix of the moves, [`Books`] counts its periods, marks and actions, and [`NumberedBooks`] finds the periods.
 #![tactic(auto)]
 

@@ -1,11 +1,11 @@
 ghost use Rattle.std.specs.Prelude.{◌≡◌, ℕ, ◌+◌, ◌≤◌, ◌↔◌, [], ◌∷◌, ◌++◌, length, slice_get, IsTrue, IsOk, OnOk, ◌+ℤ◌, FitsSigned};
 ghost use Rattle.std.specs.Option.{option_copied};
 ghost use Rattle.std.specs.Int.{w64};
-ghost use Rattle.bounded_list.specs.BoundedList.{entries};
+ghost use Rattle.containers.specs.BoundedList.{entries};
 ghost use Rattle.space_ledger.specs.Sums.{total_change, highest, IsHighest};
 
 use crate::moved::Moved;
-use bounded_list::BoundedList;
+use containers::BoundedList;
 use std::alloc::{AllocError, Global};
 
 /// The moves of a run in their order, with their sum and the greatest sum that it had.

@@ -5,26 +5,26 @@ use Rattle.std.proofs.lemmas.List.{length-append}
 use Rattle.dag_order.specs.LabelOrder.{fork_of}
 use Rattle.dag_order.specs.declared.fault.FaultAt.{FaultAt}
 use Rattle.block_arena.specs.declared.record_block.RecordBlock.{RecordBlock}
-use Rattle.thread_state.specs.Passed.Actions.{Deed}
-use Rattle.par_tree.specs.Tree.{Name, Func, done, step}
-use Rattle.par_ownership.specs.Ownership.{Ownership}
-use Rattle.thread_stack.specs.Passed.States.{Setting, State, Item, next_action, skip_if, unless_faulted}
-use Rattle.thread_stack.specs.Passed.Calls.{with_answer, returned}
-use Rattle.thread_stack.specs.Passed.Run.{lines_of, first_fault, on_store, rejoin_block, ignore_answer}
+use Rattle.depth_first_list.specs.Actions.{Deed}
+use Rattle.thread_run.specs.Passed.Tree.{Name, Func, done, step}
+use Rattle.thread_run.specs.Passed.Ownership.{Ownership}
+use Rattle.thread_state.specs.Passed.States.{Setting, State, Item, next_action, skip_if, unless_faulted}
+use Rattle.thread_state.specs.Passed.DepthFirstRunCalls.{with_answer, returned}
+use Rattle.thread_state.specs.Passed.Run.{lines_of, first_fault, on_store, rejoin_block, ignore_answer}
 use Rattle.thread_run.specs.Passed.Holdings.{IsOfAllocation}
 use Rattle.thread_run.proofs.Passed.Skipping.{runs_without_fault}
-use Rattle.thread_stack.specs.Passed.Middle.{Frame, does, statements, tree, answers, rejoins, answers_main, allocates, awaits, joins, Middle, step_frame, step_first}
+use Rattle.thread_state.specs.Passed.Middle.{Frame, does, statements, tree, answers, rejoins, answers_main, allocates, awaits, joins, Middle, step_frame, step_first}
 use Rattle.node_table.specs.Table.{Table}
 use Rattle.node_table.specs.Names.{slot_names}
-use Rattle.thread_output.specs.Passed.Points.{Each, IsOwn, IsAt, IsPlain, mark_of, marked, step_of, StepsAlone, StepForks, words_at_end}
-use Rattle.thread_output.specs.Passed.Threads.{IsThread, open_children}
-use Rattle.thread_output.proofs.Passed.Putting.{ahead_of, frame_put}
-use Rattle.thread_output.proofs.Passed.Walking.{plain_own}
-use Rattle.thread_output.proofs.Passed.Alone.{alone_or_forks}
-use Rattle.thread_output.proofs.Passed.Telling.{thread_steps}
+use Rattle.thread_run.specs.Passed.Points.{Each, IsOwn, IsAt, IsPlain, mark_of, marked, step_of, StepsAlone, StepForks, words_at_end}
+use Rattle.thread_run.specs.Passed.Threads.{IsThread, open_children}
+use Rattle.thread_run.proofs.Passed.Putting.{ahead_of, frame_put}
+use Rattle.thread_run.proofs.Passed.Walking.{plain_own}
+use Rattle.thread_run.proofs.Passed.Alone.{alone_or_forks}
+use Rattle.thread_run.proofs.Passed.Telling.{thread_steps}
 use Rattle.thread_stack.specs.Frames.{AreFrames, RunsIn}
 use Rattle.thread_output.specs.Joining.{lines_before}
-use Rattle.thread_output.specs.Passed.Laws.{earlier_fault}
+use Rattle.thread_run.specs.Passed.Laws.{earlier_fault}
 use Rattle.thread_output.specs.Telling.{Tells, AreLines}
 use Rattle.thread_output.specs.declared.told.Told.{Told}
 use Rattle.thread_output.proofs.Both.{faults, lines}

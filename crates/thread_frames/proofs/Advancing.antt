@@ -4,13 +4,13 @@ use Rattle.std.specs.Prelude.{reverse, Vec}
 use Rattle.std.proofs.Math.Logic.{∥∥₁_elim, ∥∥₁_map, ∥∥₁_prop}
 use Rattle.std.specs.declared.alloc.Global.{Global}
 use Rattle.block_arena.specs.declared.record_block.RecordBlock.{RecordBlock}
-use Rattle.par_tree.specs.Tree.{Func}
-use Rattle.thread_stack.specs.Passed.States.{Setting, State, Item}
-use Rattle.thread_stack.specs.Passed.Middle as middles
-use Rattle.thread_stack.specs.Passed.Middle.{step_frame}
+use Rattle.thread_run.specs.Passed.Tree.{Func}
+use Rattle.thread_state.specs.Passed.States.{Setting, State, Item}
+use Rattle.thread_state.specs.Passed.Middle as middles
+use Rattle.thread_state.specs.Passed.Middle.{step_frame}
 use Rattle.node_table.specs.Table.{Table}
-use Rattle.thread_output.specs.Passed.Points.{marked, words_at_end}
-use Rattle.thread_output.specs.Passed.Threads.{open_children}
+use Rattle.thread_run.specs.Passed.Points.{marked, words_at_end}
+use Rattle.thread_run.specs.Passed.Threads.{open_children}
 use Rattle.thread_stack.specs.declared.frame.Frame.{Frame}
 use Rattle.thread_stack.specs.Frames.{AreFrames}
 use Rattle.thread_run.specs.Dones.{IsAction}

@@ -5,12 +5,12 @@ use Rattle.std.proofs.Math.Logic.{∥∥₁_elim, ∥∥₁_map}
 use denote.Struct.Props.{props}
 use Rattle.std.specs.declared.alloc.Global.{Global}
 use Rattle.language_limits.specs.declared.TheConstants.{MOST_CALLS, MOST_TURNS, MOST_FORKS}
-use Rattle.par_tree.specs.Tree.{Name, Func, Program}
-use Rattle.par_ownership.specs.Ownership.{Ownership, function_of, main_name}
-use Rattle.par_ownership.proofs.NewNames.{first_of_its_name}
-use Rattle.thread_stack.specs.Passed.States.{Setting}
-use Rattle.thread_stack.specs.Passed.Run.{root_start}
-use Rattle.thread_stack.specs.Passed.Middle.{run_start}
+use Rattle.thread_run.specs.Passed.Tree.{Name, Func, Program}
+use Rattle.thread_run.specs.Passed.Ownership.{Ownership, function_of, main_name}
+use Rattle.thread_run.proofs.Passed.NewNames.{first_of_its_name}
+use Rattle.thread_state.specs.Passed.States.{Setting}
+use Rattle.thread_state.specs.Passed.Run.{root_start}
+use Rattle.thread_state.specs.Passed.Middle.{run_start}
 use Rattle.node_table.specs.Names.{IsSlot, slot_names}
 use Rattle.node_table.specs.Table.{Table, Function}
 use Rattle.node_table.specs.Programs.{name_of, IsTableOf, IsAcceptedTable}
@@ -19,9 +19,9 @@ use Rattle.thread_state.specs.Passed.Agreement.{AreDistinct}
 use Rattle.thread_stack.specs.declared.frame.Frame.{Frame}
 use Rattle.thread_stack.specs.Frames.{AreFrames, IsFunctionOf}
 use Rattle.thread_stack.proofs.Functions.{numbered}
-use Rattle.thread_output.specs.Passed.Threads.{of_root, open_children}
-use Rattle.thread_output.proofs.Passed.Telling.{thread_begins}
-use Rattle.thread_output.proofs.Passed.Walking.{start_plain}
+use Rattle.thread_run.specs.Passed.Threads.{of_root, open_children}
+use Rattle.thread_run.proofs.Passed.Telling.{thread_begins}
+use Rattle.thread_run.proofs.Passed.Walking.{start_plain}
 use Rattle.thread_output.specs.Telling.{Tells}
 use Rattle.thread_output.specs.declared.told.Told.{Told}
 use Rattle.thread_state.specs.States.{IsState}

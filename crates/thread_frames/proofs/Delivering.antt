@@ -4,12 +4,12 @@ use Rattle.std.specs.Prelude.{reverse}
 use mathlib.Core.List.{reverse-append}
 use Rattle.dag_order.specs.LabelOrder.{fork_of}
 use Rattle.block_arena.specs.declared.record_block.RecordBlock.{RecordBlock}
-use Rattle.par_tree.specs.Tree.{Func}
-use Rattle.thread_stack.specs.Passed.States.{Setting, State, Item}
-use Rattle.thread_stack.specs.Passed.Middle.{Frame}
+use Rattle.thread_run.specs.Passed.Tree.{Func}
+use Rattle.thread_state.specs.Passed.States.{Setting, State, Item}
+use Rattle.thread_state.specs.Passed.Middle.{Frame}
 use Rattle.node_table.specs.Table.{Table}
-use Rattle.thread_output.specs.Passed.Threads as threads
-use Rattle.thread_output.specs.Passed.Threads.{open_children}
+use Rattle.thread_run.specs.Passed.Threads as threads
+use Rattle.thread_run.specs.Passed.Threads.{open_children}
 use Rattle.thread_run.specs.Stands.{InState}
 use Rattle.thread_run.specs.declared.run.ThreadRun.{ThreadRun}
 use Rattle.thread_frames.specs.Views.{newest, id_of, told_as, brought, all_brought, ended_words, ended_label, child_shown}

@@ -2,15 +2,15 @@
 use Rattle.std.proofs.Common.{◌≡◌, ℕ, ◌+◌, ◌<◌, length, replicate, pos, false, Option, List, [], ◌∷◌, map, refl, sym, ◌∙◌, ap, subst, arith}
 use denote.Struct.Props.{props}
 use Rattle.block_arena.specs.declared.record_block.RecordBlock.{RecordBlock}
-use Rattle.thread_state.specs.Passed.Actions as actions
-use Rattle.thread_state.specs.Passed.Actions.{Deed}
-use Rattle.par_tree.specs.Tree.{Name, Func, Program}
-use Rattle.par_ownership.specs.Ownership.{Ownership}
-use Rattle.thread_stack.specs.Passed.States.{Setting, State, with_action, holdings}
-use Rattle.thread_stack.specs.Passed.Run.{free_block}
-use Rattle.thread_stack.specs.Passed.Stores.{block_of, block_words}
-use Rattle.thread_stack.specs.Passed.Middle.{Frame, step_frame, allocated}
-use Rattle.thread_stack.proofs.Passed.Words.{with_words, without_words}
+use Rattle.depth_first_list.specs.Actions as actions
+use Rattle.depth_first_list.specs.Actions.{Deed}
+use Rattle.thread_run.specs.Passed.Tree.{Name, Func, Program}
+use Rattle.thread_run.specs.Passed.Ownership.{Ownership}
+use Rattle.thread_state.specs.Passed.States.{Setting, State, with_action, holdings}
+use Rattle.thread_state.specs.Passed.Run.{free_block}
+use Rattle.thread_state.specs.Passed.Stores.{block_of, block_words}
+use Rattle.thread_state.specs.Passed.Middle.{Frame, step_frame, allocated}
+use Rattle.thread_state.proofs.Passed.Words.{with_words, without_words}
 use Rattle.block_arena.specs.Size.{pieces_for, words_taken}
 use Rattle.thread_state.specs.Passed.Rows.{Entry, HasBlock, HasNone, blocks_at, items_at, words_of, first_of}
 use Rattle.thread_state.specs.Passed.Agreement.{blocks_under}
@@ -20,7 +20,7 @@ use lib.ListN.{length-replicate}
 use Rattle.node_table.specs.Table.{Table}
 use Rattle.node_table.specs.Names.{slot_names, name_at, IsSlot}
 use Rattle.thread_stack.specs.Frames.{names_now, RunsIn}
-use Rattle.thread_output.specs.Passed.Points.{IsAt, marked}
+use Rattle.thread_run.specs.Passed.Points.{IsAt, marked}
 use Rattle.thread_state.specs.Effects.{Goes}
 use Rattle.thread_state.specs.States.{IsState, own_row, words_held}
 use Rattle.thread_state.specs.declared.state.ThreadState.{ThreadState}

@@ -3,16 +3,16 @@ use Rattle.std.proofs.Common.{◌≡◌, ℕ, ◌+◌, List, [], ◌∷◌, ◌+
 use Rattle.std.specs.Prelude.{reverse}
 use mathlib.Core.List.{reverse-reverse}
 use Rattle.block_arena.specs.declared.record_block.RecordBlock.{RecordBlock}
-use Rattle.thread_state.specs.Passed.Actions as actions
-use Rattle.thread_state.specs.Passed.Actions.{Deed, record_words}
-use Rattle.par_tree.specs.Tree.{Name, Func, Program}
-use Rattle.thread_stack.specs.Passed.States.{Setting, State, Item, with_action, ended}
-use Rattle.thread_stack.specs.Passed.Middle as middles
+use Rattle.depth_first_list.specs.Actions as actions
+use Rattle.depth_first_list.specs.Actions.{Deed, record_words}
+use Rattle.thread_run.specs.Passed.Tree.{Name, Func, Program}
+use Rattle.thread_state.specs.Passed.States.{Setting, State, Item, with_action, ended}
+use Rattle.thread_state.specs.Passed.Middle as middles
 use Rattle.node_table.specs.Table.{Table}
 use Rattle.node_table.specs.Names.{slot_names}
-use Rattle.thread_output.specs.Passed.Points.{words_at_end}
-use Rattle.thread_output.specs.Passed.Threads as threads
-use Rattle.thread_output.specs.Passed.Threads.{IsThread, open_children}
+use Rattle.thread_run.specs.Passed.Points.{words_at_end}
+use Rattle.thread_run.specs.Passed.Threads as threads
+use Rattle.thread_run.specs.Passed.Threads.{IsThread, open_children}
 use Rattle.thread_stack.specs.declared.frame.Frame.{Frame}
 use Rattle.thread_stack.specs.Frames.{AreFrames, IsOne, RunsIn}
 use Rattle.thread_output.specs.Telling.{Tells}

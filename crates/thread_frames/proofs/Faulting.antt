@@ -3,13 +3,13 @@ use Rattle.std.proofs.Common.{◌≡◌, ℕ, true, List, [], ◌∷◌, ◌++�
 use Rattle.dag_order.specs.declared.fault.FaultAt.{FaultAt}
 use Rattle.dag_order.specs.declared.fault.FaultKind.{FaultKind}
 use Rattle.block_arena.specs.declared.record_block.RecordBlock.{RecordBlock}
-use Rattle.thread_state.specs.Passed.Actions as actions
-use Rattle.par_tree.specs.Tree.{Name}
-use Rattle.thread_stack.specs.Passed.States.{Setting, State, Item, failed, next_action, with_action, with_fault, holdings}
-use Rattle.thread_stack.specs.Passed.Middle.{step_frame}
+use Rattle.depth_first_list.specs.Actions as actions
+use Rattle.thread_run.specs.Passed.Tree.{Name}
+use Rattle.thread_state.specs.Passed.States.{Setting, State, Item, failed, next_action, with_action, with_fault, holdings}
+use Rattle.thread_state.specs.Passed.Middle.{step_frame}
 use Rattle.node_table.specs.Table.{Table}
 use Rattle.node_table.specs.Names.{slot_names}
-use Rattle.thread_output.specs.Passed.Points.{mark_of, marked}
+use Rattle.thread_run.specs.Passed.Points.{mark_of, marked}
 use Rattle.thread_output.specs.Telling.{Tells}
 use Rattle.thread_output.specs.declared.told.Told.{Told}
 use Rattle.thread_state.specs.Effects.{Goes}

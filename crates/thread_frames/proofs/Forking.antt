@@ -8,13 +8,13 @@ use Rattle.std.specs.declared.alloc.Global.{Global}
 use Rattle.dag_order.specs.LabelOrder.{fork_of}
 use Rattle.block_arena.specs.declared.record_block.RecordBlock.{RecordBlock}
 use Rattle.language_limits.specs.declared.TheConstants.{MOST_TURNS}
-use Rattle.thread_state.specs.Passed.Actions as actions
-use Rattle.thread_state.specs.Passed.Actions.{record_words}
-use Rattle.par_tree.specs.Tree.{Name, Func, Program}
-use Rattle.par_ownership.specs.Ownership.{Ownership}
-use Rattle.thread_stack.specs.Passed.States.{Setting, State, Item, child_of, parent_of, next_action}
-use Rattle.thread_stack.specs.Passed.Middle.{Part, Frame, does, awaits, joins, step_fork, step_frame}
-use Rattle.thread_stack.proofs.Passed.Words.{parted_words}
+use Rattle.depth_first_list.specs.Actions as actions
+use Rattle.depth_first_list.specs.Actions.{record_words}
+use Rattle.thread_run.specs.Passed.Tree.{Name, Func, Program}
+use Rattle.thread_run.specs.Passed.Ownership.{Ownership}
+use Rattle.thread_state.specs.Passed.States.{Setting, State, Item, child_of, parent_of, next_action}
+use Rattle.thread_state.specs.Passed.Middle.{Part, Frame, does, awaits, joins, step_fork, step_frame}
+use Rattle.thread_state.proofs.Passed.Words.{parted_words}
 use Rattle.node_table.specs.Table.{Table}
 use Rattle.node_table.specs.Names.{slot_names}
 use Rattle.node_table.specs.Reading.{AreSlots, FitsSlots}
@@ -24,13 +24,13 @@ use Rattle.thread_stack.specs.declared.branch.Branch.TheVariants.{Par, Dummies}
 use Rattle.thread_stack.specs.declared.frame.Frame.{Frame as OwnFrame}
 use Rattle.thread_stack.specs.declared.frame.Frame.TheVariants.{Statements, Again, Tree as DummyTree, Answers, Rejoins, AnswersMain, Allocates, Joins}
 use Rattle.thread_stack.specs.Frames.{IsFrame, AreFrames, functions_behind, RunsIn, no_function}
-use Rattle.thread_output.specs.Passed.Points.{Each, IsPlain, marked, step_of, StepsAlone, StepForks, child_start, child_end, parent_start, parent_frames, words_at_end}
-use Rattle.thread_output.specs.Passed.Laws.{fork_items}
-use Rattle.thread_output.specs.Passed.Threads.{IsThread, open_children}
-use Rattle.thread_output.proofs.Passed.Putting.{ahead_of, frame_put}
-use Rattle.thread_output.proofs.Passed.Walking.{plain_own}
-use Rattle.thread_output.proofs.Passed.Alone.{alone_or_forks}
-use Rattle.thread_output.proofs.Passed.Telling.{thread_forks}
+use Rattle.thread_run.specs.Passed.Points.{Each, IsPlain, marked, step_of, StepsAlone, StepForks, child_start, child_end, parent_start, parent_frames, words_at_end}
+use Rattle.thread_run.specs.Passed.Laws.{fork_items}
+use Rattle.thread_run.specs.Passed.Threads.{IsThread, open_children}
+use Rattle.thread_run.proofs.Passed.Putting.{ahead_of, frame_put}
+use Rattle.thread_run.proofs.Passed.Walking.{plain_own}
+use Rattle.thread_run.proofs.Passed.Alone.{alone_or_forks}
+use Rattle.thread_run.proofs.Passed.Telling.{thread_forks}
 use Rattle.thread_output.specs.Telling.{Tells}
 use Rattle.thread_output.specs.declared.told.Told.{Told}
 use Rattle.thread_state.specs.States.{own_row, words_held}

@@ -5,7 +5,7 @@ use Rattle.std.specs.Map.{lookup}
 use Rattle.std.proofs.lemmas.Bool.{eq-eqb}
 use Rattle.std.proofs.lemmas.Option.{same_Some, none-some}
 use Rattle.dag_order.specs.declared.thread_id.ThreadId.{ThreadId}
-use Rattle.moment_parts.specs.Passed.Lists.{Among, Each}
+use Rattle.deque_machine.specs.Lists.{Among, Each}
 use Rattle.thread_map.specs.Kept.{same_thread}
 use Rattle.thread_map.proofs.KeptLemmas.{same_is_same}
 

@@ -9,14 +9,14 @@ use mathlib.Core.List.{reverse-append}
 use Rattle.std.specs.declared.alloc.Global.{Global}
 use Rattle.dag_order.specs.LabelOrder.{fork_of}
 use Rattle.block_arena.specs.declared.record_block.RecordBlock.{RecordBlock}
-use Rattle.thread_state.specs.Passed.Actions as actions
-use Rattle.thread_state.specs.Passed.Actions.{record_words}
-use Rattle.par_tree.specs.Tree.{Name, Func, Program}
-use Rattle.par_ownership.specs.Ownership.{Ownership}
-use Rattle.thread_stack.specs.Passed.Stores.{Store, Held, held_words, stored_words}
-use Rattle.thread_stack.specs.Passed.States.{Setting, State, Item, next_action, with_action, joined, with_result, given_back, ended, holdings}
-use Rattle.thread_stack.specs.Passed.Middle.{Frame, joins}
-use Rattle.thread_stack.proofs.Passed.Words.{held_append}
+use Rattle.depth_first_list.specs.Actions as actions
+use Rattle.depth_first_list.specs.Actions.{record_words}
+use Rattle.thread_run.specs.Passed.Tree.{Name, Func, Program}
+use Rattle.thread_run.specs.Passed.Ownership.{Ownership}
+use Rattle.thread_state.specs.Passed.Stores.{Store, Held, held_words, stored_words}
+use Rattle.thread_state.specs.Passed.States.{Setting, State, Item, next_action, with_action, joined, with_result, given_back, ended, holdings}
+use Rattle.thread_state.specs.Passed.Middle.{Frame, joins}
+use Rattle.thread_state.proofs.Passed.Words.{held_append}
 use Rattle.node_table.specs.Table.{Table}
 use Rattle.node_table.specs.Names.{slot_names, name_at}
 use Rattle.node_table.specs.Reading.{AreSlots, FitsSlots}
@@ -29,12 +29,12 @@ use Rattle.thread_stack.specs.declared.branch.Branch.{Branch}
 use Rattle.thread_stack.specs.declared.branch.Branch.TheVariants.{Par, Dummies}
 use Rattle.thread_stack.specs.declared.frame.Frame.TheVariants.{Joins}
 use Rattle.thread_stack.specs.Frames.{AreFrames, IsJoinOf, RunsIn, no_function}
-use Rattle.thread_output.specs.Passed.Points.{words_at_end}
-use Rattle.thread_output.specs.Passed.Laws.{join_words, joined_part}
-use Rattle.thread_output.specs.Passed.Threads as threads
-use Rattle.thread_output.specs.Passed.Threads.{IsThread, open_children}
-use Rattle.thread_output.proofs.Passed.Alone.{joined_label}
-use Rattle.thread_output.proofs.Passed.Telling.{thread_joins}
+use Rattle.thread_run.specs.Passed.Points.{words_at_end}
+use Rattle.thread_run.specs.Passed.Laws.{join_words, joined_part}
+use Rattle.thread_run.specs.Passed.Threads as threads
+use Rattle.thread_run.specs.Passed.Threads.{IsThread, open_children}
+use Rattle.thread_run.proofs.Passed.Alone.{joined_label}
+use Rattle.thread_run.proofs.Passed.Telling.{thread_joins}
 use Rattle.thread_output.specs.Telling.{Tells}
 use Rattle.thread_output.specs.declared.told.Told.{Told}
 use Rattle.thread_state.specs.States.{IsState, own_row, rows_of, words_held}

@@ -16,4 +16,3 @@ pub mod Beginning
 pub mod Threads
 pub mod Found
 pub mod Points
-pub mod Passed

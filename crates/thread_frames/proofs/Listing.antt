@@ -5,27 +5,27 @@ use Rattle.std.proofs.Math.Logic.{∥∥₁_elim}
 use mathlib.Core.HLevel.{⊥_prop}
 use Rattle.std.specs.declared.alloc.Global.{Global}
 use Rattle.dag_order.specs.LabelOrder.{fork_of}
-use Rattle.thread_state.specs.Passed.Actions as actions
-use Rattle.thread_state.specs.Passed.Actions.{Action, Deed, record_words}
-use Rattle.par_tree.specs.Tree.{Name, Func, Program}
+use Rattle.depth_first_list.specs.Actions as actions
+use Rattle.depth_first_list.specs.Actions.{Action, Deed, record_words}
+use Rattle.thread_run.specs.Passed.Tree.{Name, Func, Program}
 use mathlib.Core.List.{reverse-reverse, reverse-append}
-use Rattle.thread_stack.specs.Passed.Stores.{block_words, block_of}
-use Rattle.thread_stack.specs.Passed.States.{Setting, State, Item, failed, next_action, with_action, with_fault, holdings, given_back, ended, acted}
-use Rattle.thread_stack.specs.Passed.Run.{actions_of, whole}
-use Rattle.thread_stack.proofs.Passed.Stepping.{beginning_comes}
-use Rattle.thread_stack.proofs.Passed.Nearing.{items_grow}
-use Rattle.thread_output.proofs.Passed.Reaching.{points_come}
+use Rattle.thread_state.specs.Passed.Stores.{block_words, block_of}
+use Rattle.thread_state.specs.Passed.States.{Setting, State, Item, failed, next_action, with_action, with_fault, holdings, given_back, ended, acted}
+use Rattle.thread_state.specs.Passed.Run.{actions_of, whole}
+use Rattle.thread_state.proofs.Passed.Stepping.{beginning_comes}
+use Rattle.thread_state.proofs.Passed.Nearing.{items_grow}
+use Rattle.thread_run.proofs.Passed.Reaching.{points_come}
 use Rattle.thread_frames.proofs.Acting.{stepped}
-use Rattle.thread_stack.specs.Passed.Middle.{Frame, joins, finished, step_frame}
+use Rattle.thread_state.specs.Passed.Middle.{Frame, joins, finished, step_frame}
 use Rattle.node_table.specs.Table.{Table}
 use Rattle.node_table.specs.Names.{slot_names}
-use Rattle.thread_output.specs.Passed.Points.{after_steps, IsAt, ActsNext, mark_of, place_of, words_at_end}
-use Rattle.thread_output.specs.Passed.Laws.{join_words}
-use Rattle.thread_output.specs.Passed.Threads as threads
-use Rattle.thread_output.specs.Passed.Threads.{IsThread, open_children}
-use Rattle.thread_output.proofs.Passed.Putting.{frame_put}
-use Rattle.thread_output.proofs.Passed.Placing.{acts_next, end_next, mark_is_quiet}
-use Rattle.thread_output.proofs.Passed.Telling.{join_next, thread_joins}
+use Rattle.thread_run.specs.Passed.Points.{after_steps, IsAt, ActsNext, mark_of, place_of, words_at_end}
+use Rattle.thread_run.specs.Passed.Laws.{join_words}
+use Rattle.thread_run.specs.Passed.Threads as threads
+use Rattle.thread_run.specs.Passed.Threads.{IsThread, open_children}
+use Rattle.thread_run.proofs.Passed.Putting.{frame_put}
+use Rattle.thread_run.proofs.Passed.Placing.{acts_next, end_next, mark_is_quiet}
+use Rattle.thread_run.proofs.Passed.Telling.{join_next, thread_joins}
 use Rattle.thread_stack.specs.Frames.{AreFrames, IsJoinOf, names_now}
 use Rattle.thread_stack.specs.declared.branch.Branch.{Branch}
 use Rattle.thread_stack.specs.declared.frame.Frame.{Frame as OwnFrame}

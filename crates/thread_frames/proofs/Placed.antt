@@ -2,7 +2,7 @@
 use Rattle.std.proofs.Common.{◌≡◌, ℕ, List, Option, sym, subst}
 use Rattle.std.proofs.Math.Logic.{∥∥₁_elim, ∥∥₁_map}
 use Rattle.node_table.specs.Table.{Table}
-use Rattle.thread_stack.specs.Passed.States.{Setting}
+use Rattle.thread_state.specs.Passed.States.{Setting}
 use Rattle.thread_state.specs.Settings.{IsSettingOf}
 use Rattle.block_arena.specs.declared.record_block.RecordBlock.{RecordBlock}
 use Rattle.thread_run.specs.declared.run.ThreadRun.{ThreadRun}

@@ -6,8 +6,8 @@ use denote.Struct.Props.{props}
 use mathlib.Core.HLevel.{collapsible→set, Σ_set}
 use mathlib.Core.List.{is_set}
 use Rattle.std.specs.declared.alloc.AllocError.{AllocError}
-use Rattle.bounded_list.specs.BoundedList.{entries}
-use Rattle.bounded_list.specs.declared.bounded_list.BoundedList.{BoundedList}
+use Rattle.containers.specs.BoundedList.{entries}
+use Rattle.containers.specs.declared.bounded_list.BoundedList.{BoundedList}
 use Rattle.dag_order.specs.declared.fault.FaultAt.{FaultAt}
 use Rattle.dag_order.specs.declared.fault.FaultKind.{FaultKind}
 use Rattle.dag_order.specs.declared.fault.FaultKind.TheVariants as kinds

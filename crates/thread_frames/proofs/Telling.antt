@@ -1,11 +1,11 @@
 -- What the result of the root tells of the whole run.
 use Rattle.std.proofs.Common.{◌≡◌, List, [], ◌∷◌, refl, sym, ◌∙◌, subst}
-use Rattle.thread_state.specs.Passed.Actions as actions
-use Rattle.thread_stack.specs.Passed.States.{Setting, State, Item, next_action}
-use Rattle.thread_stack.specs.Passed.Run.{whole}
+use Rattle.depth_first_list.specs.Actions as actions
+use Rattle.thread_state.specs.Passed.States.{Setting, State, Item, next_action}
+use Rattle.thread_state.specs.Passed.Run.{whole}
 use Rattle.node_table.specs.Table.{Table}
 use Rattle.thread_output.specs.Telling.{Tells}
-use Rattle.thread_output.proofs.Passed.Telling.{tells_whole}
+use Rattle.thread_run.proofs.Passed.Telling.{tells_whole}
 use Rattle.thread_frames.specs.Views.{ended_label}
 use Rattle.thread_frames.specs.Points.{IsEndOf}
 use Rattle.thread_frames.specs.declared.ended.Ended.{Ended}

@@ -4,7 +4,7 @@ use Rattle.std.specs.Prelude.{Some, nat_eq, ◌&&◌}
 use Rattle.std.proofs.lemmas.Bool.{cases_eq}
 use Rattle.std.proofs.lemmas.List.{map-append, reverse-append}
 use Rattle.dag_order.specs.declared.thread_id.ThreadId.{ThreadId}
-use Rattle.moment_parts.specs.Events as events
+use Rattle.moment_shown.specs.Events as events
 use Rattle.thread_frames.specs.Actions as frames
 use Rattle.thread_frames.specs.Actions.{is_there}
 use Rattle.thread_frames.specs.Children.{IsAwaited, IsResultFor, with_delivered, delivered_if, either_of, same_id}

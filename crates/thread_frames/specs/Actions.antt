@@ -2,12 +2,12 @@
 use Rattle.std.specs.Prelude.{◌≡◌, ℕ, suc, ◌+◌, ◌<◌, Bool, false, [], List, ◌∷◌, ◌++◌, length, Option, Some, None}
 use Rattle.dag_order.specs.LabelOrder.{fork_of}
 use Rattle.dag_order.specs.declared.thread_id.ThreadId.{ThreadId}
-use Rattle.thread_state.specs.Passed.Actions as actions
-use Rattle.thread_state.specs.Passed.Actions.{Deed, record_words}
-use Rattle.thread_state.specs.Passed.Facts.{label_at, index_at, deed_at, words_at}
-use Rattle.thread_stack.specs.Passed.States.{Setting, State, Item, acted, failed}
-use Rattle.thread_stack.specs.Passed.Run.{whole, list_of}
-use Rattle.thread_output.specs.Passed.Points.{words_at_end}
+use Rattle.depth_first_list.specs.Actions as actions
+use Rattle.depth_first_list.specs.Actions.{Deed, record_words}
+use Rattle.depth_first_list.specs.Facts.{label_at, index_at, deed_at, words_at}
+use Rattle.thread_state.specs.Passed.States.{Setting, State, Item, acted, failed}
+use Rattle.thread_state.specs.Passed.Run.{whole, list_of}
+use Rattle.thread_run.specs.Passed.Points.{words_at_end}
 use Rattle.thread_frames.specs.Views.{Child, children_of, newest, ordinal_of, result_of, next_of, label_of, done_of, forks_of, held_by, released_by, thread_words}
 use Rattle.thread_frames.specs.declared.ended.Ended.{Ended}
 use Rattle.thread_frames.specs.declared.next.Next.{Next}

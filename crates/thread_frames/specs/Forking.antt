@@ -1,9 +1,9 @@
 -- What a Fork does to the state of a thread, and the state that the child has.
 use Rattle.std.specs.Prelude.{◌≡◌, ℕ, Bool, List, [], ◌∷◌, filter}
 use Rattle.language_limits.specs.declared.TheConstants.{MOST_TURNS}
-use Rattle.par_tree.specs.Tree.{Name}
-use Rattle.thread_stack.specs.Passed.States.{Setting, State, Item, child_of, parent_of}
-use Rattle.thread_stack.specs.Passed.Run.{no_name}
+use Rattle.thread_run.specs.Passed.Tree.{Name}
+use Rattle.thread_state.specs.Passed.States.{Setting, State, Item, child_of, parent_of}
+use Rattle.thread_state.specs.Passed.Run.{no_name}
 use Rattle.node_table.specs.Reading.{AreSlots}
 use Rattle.thread_stack.specs.declared.branch.Branch.{Branch}
 use Rattle.thread_stack.specs.declared.branch.Branch.TheVariants.{Par, Dummies}

@@ -1,8 +1,8 @@
 -- What a Join does to the state of a thread.
 use Rattle.std.specs.Prelude.{ℕ, Bool, List, [], ◌∷◌, filter}
-use Rattle.par_tree.specs.Tree.{Name}
-use Rattle.thread_stack.specs.Passed.States.{State, joined}
-use Rattle.thread_stack.specs.Passed.Run.{no_name}
+use Rattle.thread_run.specs.Passed.Tree.{Name}
+use Rattle.thread_state.specs.Passed.States.{State, joined}
+use Rattle.thread_state.specs.Passed.Run.{no_name}
 use Rattle.node_table.specs.Reading.{AreSlots}
 use Rattle.thread_stack.specs.declared.branch.Branch.{Branch}
 use Rattle.thread_stack.specs.declared.branch.Branch.TheVariants.{Par, Dummies}

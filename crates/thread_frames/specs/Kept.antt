@@ -1,7 +1,7 @@
 -- What waits, and what is kept, under the id of a thread.
 use Rattle.std.specs.Prelude.{◌≡◌, List, ◌∷◌}
 use Rattle.dag_order.specs.declared.thread_id.ThreadId.{ThreadId}
-use Rattle.moment_parts.specs.Parts as parts
+use Rattle.moment_shown.specs.Parts as parts
 use Rattle.thread_frames.specs.declared.thread.Thread.{Thread}
 use Rattle.thread_frames.specs.declared.ended.Ended.{Ended}
 use Rattle.thread_frames.specs.Shown.{thread_shown, result_shown}

@@ -2,10 +2,10 @@
 use Rattle.std.specs.Prelude.{◌≡◌, ℕ, suc, true, false, List, [], ◌∷◌, ◌++◌}
 use Rattle.dag_order.specs.declared.thread_id.ThreadId.{ThreadId}
 use Rattle.dag_order.specs.LabelOrder.{fork_of}
-use Rattle.thread_stack.specs.Passed.States.{Setting}
-use Rattle.thread_stack.specs.Passed.Run.{list_of}
-use Rattle.moment_parts.specs.Parts as parts
-use Rattle.moment_parts.specs.Events as events
+use Rattle.thread_state.specs.Passed.States.{Setting}
+use Rattle.thread_state.specs.Passed.Run.{list_of}
+use Rattle.moment_shown.specs.Parts as parts
+use Rattle.moment_shown.specs.Events as events
 use Rattle.thread_frames.specs.Actions as frames
 use Rattle.thread_frames.specs.Actions.{IsOfTheList, deed_of, is_there}
 use Rattle.thread_frames.specs.Children.{IsAwaited, with_delivered}

@@ -1,14 +1,14 @@
 -- Where a thread is in the one depth-first run of the program that a table is of.
 use Rattle.std.specs.Prelude.{◌≡◌, ℕ, List, [], ◌∷◌, ◌++◌, map, reverse, Option, Some, None}
 use Rattle.dag_order.specs.LabelOrder.{fork_of}
-use Rattle.thread_state.specs.Passed.Actions.{record_words}
-use Rattle.par_tree.specs.Tree.{Func}
-use Rattle.thread_stack.specs.Passed.States.{Setting, State, Item, ended}
-use Rattle.thread_stack.specs.Passed.Middle as middles
+use Rattle.depth_first_list.specs.Actions.{record_words}
+use Rattle.thread_run.specs.Passed.Tree.{Func}
+use Rattle.thread_state.specs.Passed.States.{Setting, State, Item, ended}
+use Rattle.thread_state.specs.Passed.Middle as middles
 use Rattle.node_table.specs.Table.{Table}
-use Rattle.thread_output.specs.Passed.Points.{words_at_end}
-use Rattle.thread_output.specs.Passed.Threads as threads
-use Rattle.thread_output.specs.Passed.Threads.{IsThread, open_children}
+use Rattle.thread_run.specs.Passed.Points.{words_at_end}
+use Rattle.thread_run.specs.Passed.Threads as threads
+use Rattle.thread_run.specs.Passed.Threads.{IsThread, open_children}
 use Rattle.thread_stack.specs.declared.frame.Frame.{Frame}
 use Rattle.thread_stack.specs.declared.frame.Frame.TheVariants.{Joins}
 use Rattle.block_arena.specs.Size.{words_taken}

@@ -2,12 +2,12 @@
 use Rattle.std.specs.Prelude.{◌≡◌, ℕ, List, [], ◌∷◌, reverse, Some, Vec}
 use Rattle.std.specs.declared.alloc.Global.{Global}
 use Rattle.block_arena.specs.Size.{words_taken}
-use Rattle.par_tree.specs.Tree.{Func, Program}
-use Rattle.par_ownership.specs.Ownership.{function_of, main_name}
-use Rattle.thread_stack.specs.Passed.States.{Setting}
-use Rattle.thread_stack.specs.Passed.Run.{root_start}
-use Rattle.thread_stack.specs.Passed.Middle as middles
-use Rattle.thread_stack.specs.Passed.Middle.{run_start}
+use Rattle.thread_run.specs.Passed.Tree.{Func, Program}
+use Rattle.thread_run.specs.Passed.Ownership.{function_of, main_name}
+use Rattle.thread_state.specs.Passed.States.{Setting}
+use Rattle.thread_state.specs.Passed.Run.{root_start}
+use Rattle.thread_state.specs.Passed.Middle as middles
+use Rattle.thread_state.specs.Passed.Middle.{run_start}
 use Rattle.node_table.specs.Table.{Table}
 use Rattle.thread_stack.specs.declared.frame.Frame.{Frame}
 use Rattle.thread_stack.specs.Frames.{AreFrames, IsFunctionOf}

@@ -1,10 +1,10 @@
 -- The root: before its first action, and the end that it gives to a run.
 use Rattle.std.specs.Prelude.{◌≡◌, ℕ, Option, None, Some, List, [], ◌∷◌}
 use Rattle.dag_order.specs.Births.{root}
-use Rattle.thread_stack.specs.Passed.Run.{finish_of}
+use Rattle.thread_state.specs.Passed.Run.{finish_of}
 use Rattle.node_table.specs.Table.{Table}
-use Rattle.run_end.specs.declared.ends.RunEnd.{RunEnd}
-use Rattle.run_end.specs.declared.ends.RunEnd.TheVariants.{Finished}
+use Rattle.play_rules.specs.declared.ends.RunEnd.{RunEnd}
+use Rattle.play_rules.specs.declared.ends.RunEnd.TheVariants.{Finished}
 use Rattle.thread_frames.specs.declared.ended.Ended.{Ended}
 use Rattle.thread_frames.specs.declared.thread.Thread.{Thread}
 use Rattle.thread_frames.specs.Points.{IsAtPoint}

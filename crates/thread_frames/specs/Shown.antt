@@ -1,6 +1,6 @@
 -- Threads and results as the parts of a scheduler have them.
 use Rattle.std.specs.Prelude.{map, reverse}
-use Rattle.moment_parts.specs.Parts as parts
+use Rattle.moment_shown.specs.Parts as parts
 use Rattle.thread_frames.specs.Views.{Child, children_of, label_of, done_of, thread_words, ended_label, ended_words}
 use Rattle.thread_frames.specs.declared.thread.Thread.{Thread}
 use Rattle.thread_frames.specs.declared.ended.Ended.{Ended}

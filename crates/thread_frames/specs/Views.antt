@@ -3,7 +3,7 @@ use Rattle.std.specs.Prelude.{ℕ, ◌+◌, Bool, List, [], ◌∷◌, map, Opti
 use Rattle.dag_order.specs.Births.{root}
 use Rattle.dag_order.specs.declared.thread_id.ThreadId.{ThreadId}
 use Rattle.block_arena.specs.declared.record_block.RecordBlock.{RecordBlock}
-use Rattle.thread_state.specs.Passed.Actions.{record_words}
+use Rattle.depth_first_list.specs.Actions.{record_words}
 use Rattle.thread_state.specs.States.{words_held}
 use Rattle.thread_state.specs.Joins.{released}
 use Rattle.thread_frames.specs.declared.next.Next.{Next}

@@ -3,12 +3,12 @@
 ghost use Rattle.std.specs.Prelude.{◌≡◌, ◌≤◌, ◌<◌, ◌+◌, ℕ, [], IfOk};
 ghost use Rattle.language_limits.specs.declared.TheConstants.{GREATEST_COUNT};
 ghost use Rattle.block_arena.specs.Region.{with_given};
-ghost use Rattle.bounded_list.specs.BoundedList.{entries};
-ghost use Rattle.thread_stack.specs.Passed.States.{Setting, State};
-ghost use Rattle.thread_stack.specs.Passed.Run.{whole, lines_of, first_fault};
+ghost use Rattle.containers.specs.BoundedList.{entries};
+ghost use Rattle.thread_state.specs.Passed.States.{Setting, State};
+ghost use Rattle.thread_state.specs.Passed.Run.{whole, lines_of, first_fault};
 ghost use Rattle.node_table.specs.Table.{Table};
 ghost use Rattle.thread_output.specs.Telling.{fault_of};
-ghost use Rattle.thread_output.specs.Passed.Points.{words_at_end};
+ghost use Rattle.thread_run.specs.Passed.Points.{words_at_end};
 ghost use Rattle.thread_state.specs.Settings.{IsSettingOf};
 ghost use Rattle.thread_frames.specs.Views.{recorded, brought, all_brought};
 

@@ -3,7 +3,7 @@
 ghost use Rattle.std.specs.Prelude.{◌≡◌, ◌≤◌, ◌<◌, ◌+◌, ◌↔◌, ℕ, length, false, IsErr, IfOk, IfErr, OnOk, OnErr};
 ghost use Rattle.language_limits.specs.declared.TheConstants.{GREATEST_COUNT};
 ghost use Rattle.block_arena.specs.Region.{with_taken};
-ghost use Rattle.thread_state.specs.Passed.Actions.{record_words};
+ghost use Rattle.depth_first_list.specs.Actions.{record_words};
 ghost use Rattle.node_table.specs.Reading.{FitsSlots};
 ghost use Rattle.node_table.specs.Table.{Table};
 ghost use Rattle.thread_state.specs.States.{own_row};
@@ -18,7 +18,7 @@ use crate::place::Place;
 use crate::prepared::Prepared;
 use crate::thread::Thread;
 use block_arena::{Pool, RecordBlock};
-use boxed::Boxed;
+use containers::Boxed;
 use dag_order::ThreadId;
 use language_limits::RECORD_WORDS;
 use std::mem;

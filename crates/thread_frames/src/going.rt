@@ -2,8 +2,8 @@
 
 ghost use Rattle.std.specs.Prelude.{vec_len, vec_capacity, ◌-◌, ◌≡◌, ◌≤◌, ◌<◌, [], ℕ, Some, None, IfOk, OnOk, OnErr, Result, Ok};
 ghost use Rattle.dag_order.specs.Births.{root as root_id};
-ghost use Rattle.thread_stack.specs.Passed.States.{Setting};
-ghost use Rattle.dummy_tree.specs.QuotaWords.{quota_words};
+ghost use Rattle.thread_state.specs.Passed.States.{Setting};
+ghost use Rattle.depth_first_list.specs.QuotaWords.{quota_words};
 ghost use Rattle.std.specs.Prelude.{slice_get};
 ghost use Rattle.language_limits.specs.declared.TheConstants.{GREATEST_COUNT, MOST_WORDS};
 ghost use Rattle.node_table.specs.Table.{Function};
@@ -22,7 +22,7 @@ use crate::prepared::Prepared;
 use crate::thread::Thread;
 use block_arena::pieces_for;
 use dag_order::{Label, Placed, ThreadId};
-use dummy_tree::Quota;
+use depth_first_list::Quota;
 use language_limits::PIECE_WORDS;
 use node_table::{Code, NodeKind};
 use std::alloc::{AllocError, Global};

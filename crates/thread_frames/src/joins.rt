@@ -1,8 +1,8 @@
 //! Deliveries and Joins: how the results of children come back.
 
 ghost use Rattle.std.specs.Prelude.{◌≡◌, ◌≤◌, ◌<◌, ◌+◌, ℕ, Bool, List, [], ◌∷◌, length, false, IsTrue};
-ghost use Rattle.thread_stack.specs.Passed.States.{Setting};
-ghost use Rattle.thread_state.specs.Passed.Facts.{words_at};
+ghost use Rattle.thread_state.specs.Passed.States.{Setting};
+ghost use Rattle.depth_first_list.specs.Facts.{words_at};
 ghost use Rattle.node_table.specs.Table.{Table};
 ghost use Rattle.thread_state.specs.Joins.{released, words_released};
 ghost use Rattle.std.specs.Prelude.{option_copied};

@@ -8,7 +8,7 @@
 //! Its one theorem: at each time a thread is at its point of the depth-first run, whatever the other threads have done. What it does next
 //! is the action that the depth-first list has under its label and index, with its words; each call of an action brings it to its next
 //! point, and takes just these words from the pool, gives them back, or answers what has to go back; and its result is what the depth-first
-//! run has at its End, so that the result of the root tells the whole run. The laws of the machine's events (`moment_parts`) speak of threads
+//! run has at its End, so that the result of the root tells the whole run. The laws of the machine's events (`moment_shown`) speak of threads
 //! as plain data: which data a thread is, is here too, and that each of its calls is what the law of its event asks for. Want of memory is the one free answer: of [`Thread::root`], [`Thread::advance`] and [`Ended::lines`].
 #![tactic(auto)]
 

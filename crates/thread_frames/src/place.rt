@@ -7,7 +7,7 @@ ghost use Rattle.thread_frames.specs.declared.prepared.Prepared.TheVariants as k
 use crate::prepared::Prepared;
 use crate::thread::Thread;
 use block_arena::RecordBlock;
-use boxed::Boxed;
+use containers::Boxed;
 use dag_order::ThreadId;
 use std::alloc::{AllocError, Global};
 use thread_output::Told;

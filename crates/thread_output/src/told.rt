@@ -3,7 +3,7 @@ ghost use Rattle.language_limits.specs.declared.TheConstants.{GREATEST_COUNT};
 ghost use Rattle.thread_points.specs.Laws.{earlier_fault};
 ghost use Rattle.thread_output.specs.Joining.{IsJoined};
 ghost use Rattle.std.specs.Option.{ForSome};
-ghost use Rattle.dag_order.specs.Passed.BoundedList.{entries};
+ghost use Rattle.containers.specs.BoundedList.{entries};
 ghost use Rattle.thread_points.specs.Passed.States.{Item, printed, failed};
 ghost use Rattle.thread_points.specs.Passed.Run.{lines_of, first_fault};
 

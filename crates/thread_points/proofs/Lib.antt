@@ -6,4 +6,3 @@ pub mod Placing
 pub mod Single
 pub mod Finishing
 pub mod Telling
-pub mod Passed

@@ -3,7 +3,7 @@ use Rattle.std.specs.Prelude.{◌≡◌, Bool, ℕ, zero, suc, ◌+◌, ◌<◌,
 use Rattle.std.proofs.Common.{sym, ◌∙◌, ap, arith, subst, inl, inr, append_assoc, append-nil, length-append}
 use Rattle.std.proofs.lemmas.List.{append_cancel_left}
 use Rattle.std.proofs.Math.Seq.{get_or-append_seam}
-use Rattle.depth_first_run.specs.Passed.LabelOrder.{fork_of}
+use Rattle.dag_order.specs.LabelOrder.{fork_of}
 use Rattle.depth_first_run.specs.Passed.Actions as actions
 use Rattle.depth_first_run.specs.Passed.Actions.{Action, Deed, record_words}
 use Rattle.depth_first_run.specs.Passed.Runs.{start, end_at, IsDepthFirst}

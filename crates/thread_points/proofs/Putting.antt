@@ -1,7 +1,7 @@
 -- A step of a run puts its frames before those that are left, and changes none of them.
 use Rattle.std.specs.Prelude.{◌≡◌, ℕ, zero, suc, nat_lt, nat_le, Bool, true, false, List, [], ◌∷◌, ◌++◌, length, ℤ, Result, Ok, Err, Option, Some, None, refl}
 use Rattle.std.proofs.Common.{sym, ◌∙◌, ap, append_assoc}
-use Rattle.depth_first_run.specs.Passed.FaultKindType.{FaultKind}
+use Rattle.dag_order.specs.declared.fault.FaultKind.{FaultKind}
 use Rattle.depth_first_run.specs.Passed.Shapes.{leaf, forked}
 use Rattle.depth_first_run.specs.Passed.Tree.{Name, Expr, Target, Arg, Stmt, let_stmt, assign_stmt, put_stmt, alloc_stmt, free_stmt, if_stmt, while_stmt, call_stmt, print_stmt, par_stmt, split_stmt, Body, done, step, Func}
 use Rattle.depth_first_run.specs.Passed.Ownership.{function_of}

@@ -2,7 +2,7 @@
 use Rattle.std.specs.Prelude.{◌≡◌, Bool, ℕ, zero, suc, ◌+◌, ◌<◌, ◌≤◌, ◌⊎◌, List, [], ◌∷◌, ◌++◌, length, refl}
 use Rattle.std.proofs.Common.{sym, ◌∙◌, ap, arith, subst, inl, inr, length-append}
 use Rattle.std.proofs.lemmas.Bool.{cases_order, cases_eq}
-use Rattle.depth_first_run.specs.Passed.LabelOrder.{fork_of}
+use Rattle.dag_order.specs.LabelOrder.{fork_of}
 use Rattle.depth_first_run.specs.Passed.Actions as actions
 use Rattle.depth_first_run.specs.Passed.Actions.{Action, Deed, record_words}
 use Rattle.depth_first_run.specs.Passed.Facts.{label_at, deed_at, words_at}

@@ -1,7 +1,7 @@
 -- What a thread has left since it began is told by its parts.
 use Rattle.std.specs.Prelude.{◌≡◌, Bool, ℕ, suc, List, [], ◌∷◌, ◌++◌, length, refl}
 use Rattle.std.proofs.Common.{sym, ◌∙◌, ap, subst, append_assoc, append-nil}
-use Rattle.depth_first_run.specs.Passed.LabelOrder.{fork_of}
+use Rattle.dag_order.specs.LabelOrder.{fork_of}
 use Rattle.depth_first_run.specs.Passed.Actions as actions
 use Rattle.depth_first_run.specs.Passed.Actions.{record_words}
 use Rattle.depth_first_run.specs.Passed.Tree.{Name}

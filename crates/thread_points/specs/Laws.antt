@@ -3,8 +3,8 @@ use Rattle.std.specs.Prelude.{◌≡◌, ℕ, suc, ◌<◌, ◌⊎◌, Bool, fal
 use Rattle.depth_first_run.specs.Passed.Actions as actions
 use Rattle.depth_first_run.specs.Passed.Actions.{Action, Deed, record_words}
 use Rattle.depth_first_run.specs.Passed.Facts.{label_at, index_at}
-use Rattle.depth_first_run.specs.Passed.LabelOrder.{fork_of}
-use Rattle.depth_first_run.specs.Passed.FaultAtType.{FaultAt}
+use Rattle.dag_order.specs.LabelOrder.{fork_of}
+use Rattle.dag_order.specs.declared.fault.FaultAt.{FaultAt}
 use Rattle.depth_first_run.specs.Passed.Tree.{Name, par_stmt, Body, step}
 use Rattle.depth_first_run.specs.Passed.Shapes.{Shape, forked}
 use Rattle.depth_first_run.specs.Passed.Ownership.{function_of, main_name}

@@ -4,20 +4,20 @@ use Rattle.std.specs.Prelude.{slice_get, map}
 use Rattle.std.proofs.Math.Logic.{∥∥₁_elim}
 use Rattle.par_tree.specs.Tree.{Name, Stmt, Arg, call_stmt, step}
 use Rattle.par_ownership.specs.Ownership.{OwnsFunction}
-use Rattle.depth_first_run.specs.Middle.{does, statements}
+use Rattle.thread_points.specs.Passed.Middle.{does, statements}
 use Rattle.node_table.specs.Names.{slot_names}
 use Rattle.node_table.specs.Reading.{FitsArgs, FitsSlots, slots_read, args_read}
 use Rattle.node_table.specs.Table as tables
 use Rattle.node_table.specs.Table.{Table, Kind, Function, let_node, assign_node, put_node, alloc_node, free_node, if_node, while_node, call_node, print_node, both_node, split_node}
 use Rattle.node_table.specs.Programs.{IsStmt, function_names}
 use Rattle.node_table.proofs.Finding.{callee}
-use Rattle.thread_output.specs.Passed.Points.{IsAt}
-use Rattle.ownership_at_points.proofs.Passed.Fitting.{keeps_at, finds_at}
-use Rattle.ownership_at_points.proofs.Passed.Passing.{function_owned}
+use Rattle.thread_points.specs.Points.{IsAt}
+use Rattle.ownership_laws.proofs.Fitting.{keeps_at, finds_at}
+use Rattle.ownership_laws.proofs.Passing.{function_owned}
 use Rattle.thread_stack.specs.Frames.{IsNode}
 use Rattle.thread_stack.specs.Lists.{kind_at, kind_of_node}
 use Rattle.thread_state.specs.Passed.Agreement.{ShowsStore}
-use Rattle.thread_state.specs.Passed.Calls.{passed_slots}
+use Rattle.thread_state.specs.Passed.SlotStoreCalls.{passed_slots}
 use Rattle.thread_state.proofs.Passed.Agreement.{row_length}
 use Rattle.thread_state.specs.Calls.{CanCall}
 use Rattle.thread_state.specs.States.{own_row}

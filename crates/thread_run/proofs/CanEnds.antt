@@ -6,26 +6,26 @@ use Rattle.std.proofs.lemmas.List.{nil_from_length}
 use Rattle.par_tree.specs.Tree.{Name, Func, Target, Arg, Param, Ret}
 use Rattle.par_tree.specs.Names.{param_names}
 use Rattle.par_ownership.specs.Ownership.{takes_answer, hands_back, Ownership}
-use Rattle.depth_first_run.specs.Stores.{Store}
-use Rattle.depth_first_run.specs.States.{Setting, State}
-use Rattle.depth_first_run.specs.Middle as middles
-use Rattle.depth_first_run.specs.Middle.{answers, answers_main}
+use Rattle.thread_points.specs.Passed.Stores.{Store}
+use Rattle.thread_points.specs.Passed.States.{Setting, State}
+use Rattle.thread_points.specs.Passed.Middle as middles
+use Rattle.thread_points.specs.Passed.Middle.{answers, answers_main}
 use Rattle.node_table.specs.Names.{slot_names, name_at}
 use Rattle.node_table.specs.Reading.{FitsArgs, FitsSlots, FitsTarget, FitsRet, slots_read, args_read, target_read, ret_read, IsReturn, FitsRetValue, ret_value_read}
 use Rattle.node_table.specs.Table as tables
 use Rattle.node_table.specs.Table.{Table, Kind, Function, let_node, assign_node, put_node, alloc_node, free_node, if_node, while_node, call_node, print_node, both_node, split_node}
-use Rattle.thread_output.specs.Passed.Points.{IsAt}
-use Rattle.ownership_at_points.specs.Passed.Counts.{hit, count}
-use Rattle.ownership_at_points.proofs.Passed.Counting.{hit_same, none_counted}
-use Rattle.ownership_at_points.specs.Holdings.{lent_under, given_back_under, answered_under, handed_out, EndsCall}
-use Rattle.ownership_at_points.proofs.Reading.{one_each, call_ends, main_end}
-use Rattle.ownership_at_points.proofs.Taking.{calls_take}
+use Rattle.thread_points.specs.Points.{IsAt}
+use Rattle.ownership_laws.specs.Counts.{hit, count}
+use Rattle.ownership_laws.proofs.Counting.{hit_same, none_counted}
+use Rattle.ownership_laws.specs.Holdings.{lent_under, given_back_under, answered_under, handed_out, EndsCall}
+use Rattle.ownership_laws.proofs.Reading.{one_each, call_ends, main_end}
+use Rattle.ownership_laws.proofs.Taking.{calls_take}
 use Rattle.thread_stack.specs.declared.frame.Frame.TheVariants.{Answers, AnswersMain}
 use Rattle.thread_stack.specs.Frames.{IsFunctionOf, IsAnswerOf}
 use Rattle.thread_stack.specs.Lists.{kind_at}
 use Rattle.thread_state.specs.Passed.Rows.{Entry, blocks_at}
 use Rattle.thread_state.specs.Passed.Agreement.{ShowsStore}
-use Rattle.thread_state.specs.Passed.Calls.{lent_params, lent_slots}
+use Rattle.thread_state.specs.Passed.SlotStoreCalls.{lent_params, lent_slots}
 use Rattle.thread_state.proofs.Passed.Agreement.{row_length}
 use Rattle.thread_state.specs.Rows.{ShowStores, Holds}
 use Rattle.thread_state.specs.States.{own_row, rows_of}

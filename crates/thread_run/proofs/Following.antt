@@ -4,13 +4,13 @@ use Rattle.std.specs.Prelude.{true, is_some, IfOk, OnOk, MatchResult}
 use Rattle.std.specs.declared.alloc.AllocError.{AllocError}
 use Rattle.dag_order.specs.declared.fault.FaultAt.{FaultAt}
 use Rattle.par_tree.specs.Tree.{Program, Func, Stmt}
-use Rattle.depth_first_run.specs.States.{Setting, State, Item, printed}
-use Rattle.depth_first_run.specs.Run.{lines_of, first_fault}
-use Rattle.depth_first_run.specs.Middle as middles
-use Rattle.depth_first_run.specs.Middle.{Middle, step_frame, step_statement}
+use Rattle.thread_points.specs.Passed.States.{Setting, State, Item, printed}
+use Rattle.thread_points.specs.Passed.Run.{lines_of, first_fault}
+use Rattle.thread_points.specs.Passed.Middle as middles
+use Rattle.thread_points.specs.Passed.Middle.{Middle, step_frame, step_statement}
 use Rattle.node_table.specs.Names.{slot_names}
 use Rattle.node_table.specs.Table.{Table}
-use Rattle.thread_output.specs.Passed.Points.{IsPlain, marked}
+use Rattle.thread_points.specs.Points.{IsPlain, marked}
 use Rattle.thread_stack.specs.declared.branch.Branch.{Branch}
 use Rattle.thread_stack.specs.declared.frame.Frame.{Frame}
 use Rattle.thread_stack.specs.declared.frame.Frame.TheVariants.{Joins}
@@ -18,7 +18,7 @@ use Rattle.thread_stack.specs.Frames.{AreFrames, IsFrame, IsNode, functions_behi
 use Rattle.thread_stack.specs.Measure.{frames_cost, node_cost, turn_cost, left_to_do}
 use Rattle.thread_output.specs.Telling.{Tells, AreLines}
 use Rattle.thread_output.specs.Joining.{lines_before}
-use Rattle.thread_output.specs.Passed.Laws.{earlier_fault}
+use Rattle.thread_points.specs.Laws.{earlier_fault}
 use Rattle.thread_output.specs.declared.told.Told.{Told}
 use Rattle.thread_output.proofs.Both.{faults, lines}
 use Rattle.thread_state.specs.declared.state.ThreadState.{ThreadState}

@@ -5,13 +5,13 @@ use Rattle.std.specs.declared.alloc.AllocError.{AllocError}
 use Rattle.std.proofs.Math.Logic.{∥∥₁_elim}
 use denote.Struct.Props.{props}
 use Rattle.par_tree.specs.Tree.{Program, Func, Body, done, step}
-use Rattle.depth_first_run.specs.States.{Setting, State, began, with_item}
-use Rattle.depth_first_run.specs.Middle as middles
-use Rattle.depth_first_run.specs.Middle.{does, tree, Part, statements, answers, rejoins, answers_main, allocates, joins, Middle, before_all, step_frame, step_first, step_statement}
+use Rattle.thread_points.specs.Passed.States.{Setting, State, began, with_item}
+use Rattle.thread_points.specs.Passed.Middle as middles
+use Rattle.thread_points.specs.Passed.Middle.{does, tree, Part, statements, answers, rejoins, answers_main, allocates, joins, Middle, before_all, step_frame, step_first, step_statement}
 use Rattle.node_table.specs.Names.{slot_names}
 use Rattle.node_table.specs.Table.{Table}
-use Rattle.thread_output.specs.Passed.Points.{marked}
-use Rattle.thread_output.specs.Passed.Threads.{open_children}
+use Rattle.thread_points.specs.Points.{marked}
+use Rattle.thread_points.specs.Threads.{open_children}
 use Rattle.thread_stack.specs.declared.frame.Frame.{Frame}
 use Rattle.thread_stack.specs.declared.frame.Frame.TheVariants.{Statements, Again, Tree as DummyTree, Answers, Rejoins, AnswersMain, Allocates, Joins}
 use Rattle.thread_stack.specs.Frames.{AreFrames, frames_shown, IsOne}

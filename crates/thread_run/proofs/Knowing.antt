@@ -7,21 +7,21 @@ use denote.Struct.Props.{props}
 use Rattle.std.proofs.lemmas.List.{nil_from_length}
 use Rattle.language_limits.specs.declared.TheConstants.{MOST_WORDS}
 use Rattle.par_tree.specs.Tree.{Name, Program, Func, Stmt}
-use Rattle.depth_first_run.specs.Stores.{Held, block_of}
-use Rattle.depth_first_run.specs.Middle as middles
-use Rattle.depth_first_run.specs.Middle.{allocates, rejoins}
+use Rattle.thread_points.specs.Passed.Stores.{Held, block_of}
+use Rattle.thread_points.specs.Passed.Middle as middles
+use Rattle.thread_points.specs.Passed.Middle.{allocates, rejoins}
 use Rattle.node_table.specs.Names.{slot_names, name_at, IsSlot}
 use Rattle.node_table.specs.Table as tables
 use Rattle.node_table.specs.Table.{Table, Node, Kind, let_node, assign_node, put_node, alloc_node, free_node, if_node, while_node, call_node, print_node, both_node, split_node}
-use Rattle.thread_output.specs.Passed.Points.{IsAt}
+use Rattle.thread_points.specs.Points.{IsAt}
 use Rattle.thread_stack.specs.declared.frame.Frame.{Frame}
 use Rattle.thread_stack.specs.declared.frame.Frame.TheVariants.{Allocates, Rejoins}
 use Rattle.thread_stack.specs.Frames.{AreFrames, IsFrame, IsNode, IsSplitNode}
 use Rattle.thread_stack.specs.Lists.{kind_at}
-use Rattle.ownership_at_points.specs.Passed.Counts.{hit, count}
-use Rattle.ownership_at_points.proofs.Passed.Counting.{name_same}
-use Rattle.ownership_at_points.proofs.Passed.Fitting.{end_finds_at}
-use Rattle.ownership_at_points.proofs.Reading.{frame_where_none, split_end}
+use Rattle.ownership_laws.specs.Counts.{hit, count}
+use Rattle.ownership_laws.proofs.Counting.{name_same}
+use Rattle.ownership_laws.proofs.Fitting.{end_finds_at}
+use Rattle.ownership_laws.proofs.Reading.{frame_where_none, split_end}
 use Rattle.thread_state.specs.Passed.Rows.{Entry, blocks_at, items_at, first_of, HasBlock, HasNone}
 use Rattle.thread_state.specs.Passed.Agreement.{blocks_under, ShowsStore}
 use Rattle.thread_state.proofs.Passed.Agreement.{entry_is, row_length}

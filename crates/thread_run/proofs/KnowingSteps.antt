@@ -6,8 +6,8 @@ use Rattle.std.proofs.Math.Logic.{∥∥₁_elim}
 use denote.Struct.Props.{props}
 use Rattle.std.proofs.lemmas.List.{nil_from_length}
 use Rattle.par_tree.specs.Tree.{Name, Program, Func, Stmt, alloc_stmt, free_stmt, split_stmt, step}
-use Rattle.depth_first_run.specs.Stores.{Held}
-use Rattle.depth_first_run.specs.Middle.{does, statements}
+use Rattle.thread_points.specs.Passed.Stores.{Held}
+use Rattle.thread_points.specs.Passed.Middle.{does, statements}
 use Rattle.node_table.specs.Names.{slot_names, name_at, IsSlot}
 use Rattle.node_table.specs.Table as tables
 use Rattle.node_table.specs.Table.{Table, Node, Kind, let_node, assign_node, put_node, alloc_node, free_node, split_node}
@@ -15,13 +15,13 @@ use Rattle.node_table.specs.Programs.{IsStmt, function_names}
 use Rattle.thread_stack.specs.Frames.{IsNode}
 use Rattle.thread_stack.specs.Measure.{kind_cost, node_cost}
 use Rattle.thread_stack.proofs.Costs.{node_covers}
-use Rattle.thread_output.specs.Passed.Points.{IsAt}
-use Rattle.ownership_at_points.specs.Passed.Counts.{hit, count}
-use Rattle.ownership_at_points.specs.Passed.Needs.{needs_block}
-use Rattle.ownership_at_points.proofs.Passed.Counting.{name_same}
-use Rattle.ownership_at_points.proofs.Passed.Fitting.{finds_at}
-use Rattle.ownership_at_points.specs.Holdings.{puts_block}
-use Rattle.ownership_at_points.proofs.Reading.{puts_where_none, parts_apart}
+use Rattle.thread_points.specs.Points.{IsAt}
+use Rattle.ownership_laws.specs.Counts.{hit, count}
+use Rattle.ownership_laws.specs.Needs.{needs_block}
+use Rattle.ownership_laws.proofs.Counting.{name_same}
+use Rattle.ownership_laws.proofs.Fitting.{finds_at}
+use Rattle.ownership_laws.specs.Holdings.{puts_block}
+use Rattle.ownership_laws.proofs.Reading.{puts_where_none, parts_apart}
 use Rattle.thread_state.specs.Passed.Rows.{Entry, blocks_at, HasBlock, HasNone}
 use Rattle.thread_state.specs.Passed.Agreement.{blocks_under, ShowsStore}
 use Rattle.thread_state.proofs.Passed.Agreement.{entry_is, row_length}

@@ -4,10 +4,10 @@ use Rattle.std.specs.Prelude.{reverse}
 use Rattle.std.proofs.Math.Logic.{∥∥₁_map}
 use Rattle.std.proofs.lemmas.List.{reverse-append}
 use Rattle.par_tree.specs.Tree.{Func, Program}
-use Rattle.depth_first_run.specs.States.{Setting, State, Item}
-use Rattle.depth_first_run.specs.Middle as middles
+use Rattle.thread_points.specs.Passed.States.{Setting, State, Item}
+use Rattle.thread_points.specs.Passed.Middle as middles
 use Rattle.node_table.specs.Table.{Table}
-use Rattle.thread_output.specs.Passed.Threads.{IsThread}
+use Rattle.thread_points.specs.Threads.{IsThread}
 use Rattle.thread_stack.specs.declared.frame.Frame.{Frame}
 use Rattle.thread_stack.specs.Frames.{AreFrames, RunsIn}
 use Rattle.thread_stack.specs.Measure.{left_to_do}

@@ -5,7 +5,7 @@ use Rattle.node_table.specs.Table
 use Rattle.node_table.specs.Table.{Kind, let_node, assign_node, put_node, alloc_node, free_node, if_node, while_node, call_node, print_node, both_node, split_node, Function}
 use Rattle.node_table.specs.Reading.{FitsExpr, FitsLinks, FitsArg, FitsArgs, FitsSlots}
 use Rattle.thread_state.specs.Passed.Rows.{Entry, HasBlock, HasNone}
-use Rattle.thread_state.specs.Passed.Calls.{EachOnce, EachHasBlock, EachHasNone, lent_params, lent_slots, passed_slots}
+use Rattle.thread_state.specs.Passed.SlotStoreCalls.{EachOnce, EachHasBlock, EachHasNone, lent_params, lent_slots, passed_slots}
 use Rattle.thread_state.specs.Passed.Forks.{is_in}
 use Rattle.thread_state.specs.Calls.{CanCall, CanGoBack, CanEnd, CanEndMain, HandsNoBlock, HandsItsOwn, TakesNumber, TakesBlock, TakesValue, TakesAnswer}
 

@@ -10,16 +10,16 @@ use Rattle.par_tree.specs.Tree.{Name, Arg, Param, ParamKind, value, lend, give}
 use Rattle.par_tree.specs.Names.{param_names}
 use Rattle.par_ownership.specs.Environment.{Environment, Entry, with_entry, param_entry}
 use Rattle.par_ownership.specs.Ownership.{OwnsParams, passes, PassesOne, Passes}
-use Rattle.depth_first_run.specs.Stores.{Store}
+use Rattle.thread_points.specs.Passed.Stores.{Store}
 use Rattle.node_table.specs.Names.{name_at}
 use Rattle.node_table.specs.Reading.{FitsArgs, FitsSlots, slots_read, args_read}
 use Rattle.node_table.specs.Table as tables
-use Rattle.ownership_at_points.specs.Passed.Counts.{one_if, hit, count, seen_entry, seen_in}
-use Rattle.ownership_at_points.specs.Passed.Needs.{reads_block, needed_by_args}
-use Rattle.ownership_at_points.proofs.Passed.Counting.{same_name, hit_same, hit_other, hit_true, fresh_unseen, seen_or_not, found_with}
-use Rattle.ownership_at_points.proofs.Passed.Passing.{or_left, or_right}
+use Rattle.ownership_laws.specs.Counts.{one_if, hit, count, seen_entry, seen_in}
+use Rattle.ownership_laws.specs.Needs.{reads_block, needed_by_args}
+use Rattle.ownership_laws.proofs.Counting.{same_name, hit_same, hit_other, hit_true, fresh_unseen, seen_or_not, found_with}
+use Rattle.ownership_laws.proofs.Passing.{or_left, or_right}
 use Rattle.thread_state.specs.Passed.Rows.{Entry as Slot, blocks_at}
-use Rattle.thread_state.specs.Passed.Calls.{EachOnce, EachHasBlock, EachHasNone, passed_slots}
+use Rattle.thread_state.specs.Passed.SlotStoreCalls.{EachOnce, EachHasBlock, EachHasNone, passed_slots}
 use Rattle.thread_state.specs.Passed.Forks.{is_in}
 use Rattle.thread_state.specs.Passed.Agreement.{ShowsStore}
 use Rattle.thread_run.proofs.Knowing.{slot_count}

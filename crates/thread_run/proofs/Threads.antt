@@ -2,19 +2,19 @@
 use Rattle.std.proofs.Common.{inl, inr, ◌≡◌, suc, List, [], ◌∷◌, ◌++◌, length, refl, sym, ◌∙◌, ap, subst, arith, append_assoc}
 use Rattle.std.specs.Prelude.{◌⊎◌}
 use Rattle.std.proofs.lemmas.List.{append_cancel_left}
-use Rattle.depth_first_run.specs.Passed.Actions as actions
-use Rattle.depth_first_run.specs.Passed.Actions.{Action, record_words}
+use Rattle.depth_first_list.specs.Actions as actions
+use Rattle.depth_first_list.specs.Actions.{Action, record_words}
 use Rattle.par_ownership.specs.Ownership.{Ownership}
-use Rattle.depth_first_run.specs.States.{Setting, State, Item, next_action, given_back, holdings}
-use Rattle.depth_first_run.specs.Run.{actions_of}
-use Rattle.depth_first_run.specs.Middle.{Frame, does, answers, rejoins, answers_main, allocates, awaits, joins, Middle, step_frame}
-use Rattle.depth_first_run.proofs.Covered.{actions_append}
-use Rattle.thread_output.specs.Passed.Points.{Each, IsOwn, IsPlain, step_of, marked, mark_of, StepsAlone, StepForks}
-use Rattle.thread_output.specs.Passed.Threads.{IsThread, open_children}
-use Rattle.thread_output.proofs.Passed.Putting.{frame_put}
-use Rattle.thread_output.proofs.Passed.Alone.{joined_grown, alone_or_forks}
-use Rattle.thread_output.proofs.Passed.Telling.{thread_steps}
-use Rattle.ownership_at_points.proofs.Keeping.{quiet_keeps}
+use Rattle.thread_points.specs.Passed.States.{Setting, State, Item, next_action, given_back, holdings}
+use Rattle.thread_points.specs.Passed.Run.{actions_of}
+use Rattle.thread_points.specs.Passed.Middle.{Frame, does, answers, rejoins, answers_main, allocates, awaits, joins, Middle, step_frame}
+use Rattle.thread_state.proofs.Passed.Covered.{actions_append}
+use Rattle.thread_points.specs.Points.{Each, IsOwn, IsPlain, step_of, marked, mark_of, StepsAlone, StepForks}
+use Rattle.thread_points.specs.Threads.{IsThread, open_children}
+use Rattle.thread_points.proofs.Putting.{frame_put}
+use Rattle.thread_points.proofs.Alone.{joined_grown, alone_or_forks}
+use Rattle.thread_points.proofs.Telling.{thread_steps}
+use Rattle.ownership_laws.proofs.Keeping.{quiet_keeps}
 
 -- ---- open children
 

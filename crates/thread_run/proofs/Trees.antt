@@ -1,14 +1,14 @@
 -- A tree of dummies, and a Join, as the next frame.
 use Rattle.std.proofs.Common.{◌≡◌, ℕ, false, List, [], ◌++◌, refl, sym, ap, subst, append-nil}
-use Rattle.dummy_tree.specs.Shapes.{leaf, forked, shape_of}
-use Rattle.dummy_tree.specs.TreeLeaves.{tree_leaves}
-use Rattle.dummy_tree.specs.declared.tree.Tree.{Tree}
-use Rattle.depth_first_run.specs.Passed.Actions as actions
+use Rattle.depth_first_list.specs.Shapes.{leaf, forked, shape_of}
+use Rattle.depth_first_list.specs.TreeLeaves.{tree_leaves}
+use Rattle.depth_first_list.specs.declared.tree.Tree.{Tree}
+use Rattle.depth_first_list.specs.Actions as actions
 use Rattle.par_tree.specs.Tree.{Name, Func}
-use Rattle.depth_first_run.specs.States.{Setting, State, with_action}
-use Rattle.depth_first_run.specs.Run.{no_name}
-use Rattle.depth_first_run.specs.Middle as middles
-use Rattle.depth_first_run.specs.Middle.{middle, does, tree, allocates, allocated, step_fork, step_frame}
+use Rattle.thread_points.specs.Passed.States.{Setting, State, with_action}
+use Rattle.thread_points.specs.Passed.Run.{no_name}
+use Rattle.thread_points.specs.Passed.Middle as middles
+use Rattle.thread_points.specs.Passed.Middle.{middle, does, tree, allocates, allocated, step_fork, step_frame}
 use Rattle.node_table.specs.Names.{IsSlot}
 use Rattle.node_table.specs.Table.{Table}
 use Rattle.thread_stack.specs.declared.branch.Branch.TheVariants.{Dummies}

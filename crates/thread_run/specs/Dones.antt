@@ -2,14 +2,14 @@
 use Rattle.std.specs.Prelude.{◌≡◌, ℕ, Bool, false, List, [], ◌∷◌, ◌++◌, length, None, Result, Ok, Err, MatchResult}
 use Rattle.dag_order.specs.declared.fault.FaultKind.{FaultKind}
 use Rattle.std.specs.declared.alloc.AllocError.{AllocError}
-use Rattle.depth_first_run.specs.Passed.Actions as actions
+use Rattle.depth_first_list.specs.Actions as actions
 use Rattle.par_tree.specs.Tree
 use Rattle.par_tree.specs.Tree.{Name, Func}
-use Rattle.depth_first_run.specs.Stores.{block_of, block_words}
-use Rattle.depth_first_run.specs.States.{Setting, State, printed, with_action, with_fault}
-use Rattle.depth_first_run.specs.Run.{free_block, names_in, no_name}
-use Rattle.depth_first_run.specs.Middle as middles
-use Rattle.depth_first_run.specs.Middle.{Middle, allocated, step_fork, does}
+use Rattle.thread_points.specs.Passed.Stores.{block_of, block_words}
+use Rattle.thread_points.specs.Passed.States.{Setting, State, printed, with_action, with_fault}
+use Rattle.thread_points.specs.Passed.Run.{free_block, names_in, no_name}
+use Rattle.thread_points.specs.Passed.Middle as middles
+use Rattle.thread_points.specs.Passed.Middle.{Middle, allocated, step_fork, does}
 use Rattle.node_table.specs.Names.{IsSlot}
 use Rattle.node_table.specs.Table.{Table}
 use Rattle.thread_stack.specs.declared.branch.Branch.{Branch}

@@ -3,12 +3,12 @@ use Rattle.std.specs.Prelude.{◌≡◌, ℕ, List, [], ◌∷◌, Result, Match
 use Rattle.std.specs.declared.alloc.AllocError.{AllocError}
 use Rattle.par_tree.specs.Tree.{Func}
 use Rattle.dag_order.specs.declared.fault.FaultAt.{FaultAt}
-use Rattle.depth_first_run.specs.States.{Setting, State, Item, with_fault}
-use Rattle.depth_first_run.specs.Middle as middles
-use Rattle.depth_first_run.specs.Middle.{step_frame}
+use Rattle.thread_points.specs.Passed.States.{Setting, State, Item, with_fault}
+use Rattle.thread_points.specs.Passed.Middle as middles
+use Rattle.thread_points.specs.Passed.Middle.{step_frame}
 use Rattle.node_table.specs.Table.{Table}
-use Rattle.thread_output.specs.Passed.Points.{IsPlain, marked}
-use Rattle.thread_output.specs.Passed.Threads.{IsThread, open_children}
+use Rattle.thread_points.specs.Points.{IsPlain, marked}
+use Rattle.thread_points.specs.Threads.{IsThread, open_children}
 use Rattle.thread_stack.specs.declared.branch.Branch.{Branch}
 use Rattle.thread_stack.specs.declared.frame.Frame.TheVariants.{Joins}
 use Rattle.thread_stack.specs.Frames.{AreFrames, RunsIn}

@@ -1,13 +1,13 @@
 -- What a statement that comes next means: it is one of a thread, at a point of the run of an accepted program.
 use Rattle.std.specs.Prelude.{◌≡◌, ℕ, false, List, ◌∷◌}
 use Rattle.par_tree.specs.Tree.{Func, Stmt, Body, step}
-use Rattle.depth_first_run.specs.States.{Setting, State}
-use Rattle.depth_first_run.specs.Middle as middles
-use Rattle.depth_first_run.specs.Middle.{does, statements}
+use Rattle.thread_points.specs.Passed.States.{Setting, State}
+use Rattle.thread_points.specs.Passed.Middle as middles
+use Rattle.thread_points.specs.Passed.Middle.{does, statements}
 use Rattle.node_table.specs.Names.{slot_names}
 use Rattle.node_table.specs.Table.{Table}
 use Rattle.thread_stack.specs.Frames.{IsNode}
-use Rattle.thread_output.specs.Passed.Points.{IsAt}
+use Rattle.thread_points.specs.Points.{IsAt}
 use Rattle.thread_state.specs.declared.state.ThreadState.{ThreadState}
 use Rattle.thread_state.specs.Settings.{IsSettingOf}
 use Rattle.thread_run.specs.Stands.{InState}

@@ -2,13 +2,13 @@
 use Rattle.std.specs.Prelude.{◌≡◌, ℕ, ◌+◌, ◌≤◌, ◌⊎◌, List, [], ◌∷◌, ◌++◌, Option, Some, None, Result, IfOk, MatchResult}
 use Rattle.std.specs.declared.alloc.AllocError.{AllocError}
 use Rattle.par_tree.specs.Tree.{Func, Stmt}
-use Rattle.depth_first_run.specs.States.{Setting, State, Item, printed}
-use Rattle.depth_first_run.specs.Run.{actions_of}
-use Rattle.depth_first_run.specs.Middle as middles
-use Rattle.depth_first_run.specs.Middle.{Middle, before_all, step_frame, step_statement}
+use Rattle.thread_points.specs.Passed.States.{Setting, State, Item, printed}
+use Rattle.thread_points.specs.Passed.Run.{actions_of}
+use Rattle.thread_points.specs.Passed.Middle as middles
+use Rattle.thread_points.specs.Passed.Middle.{Middle, before_all, step_frame, step_statement}
 use Rattle.node_table.specs.Names.{slot_names}
 use Rattle.node_table.specs.Table.{Table}
-use Rattle.thread_output.specs.Passed.Threads.{IsThread, open_children}
+use Rattle.thread_points.specs.Threads.{IsThread, open_children}
 use Rattle.thread_stack.specs.declared.frame.Frame.{Frame}
 use Rattle.thread_stack.specs.Frames.{AreFrames, IsFrame, IsNode, functions_behind, frames_shown, RunsIn}
 use Rattle.thread_stack.specs.Measure.{left_to_do}

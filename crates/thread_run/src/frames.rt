@@ -11,7 +11,7 @@ ghost use Rattle.thread_run.specs.Steps.{ActsNext, StepsOn};
 
 use crate::ready::{Forking, Ready};
 use block_arena::{Shell, pieces_for};
-use dummy_tree::Tree;
+use depth_first_list::Tree;
 use node_table::{Code, NodeKind};
 use std::alloc::{AllocError, Global};
 use thread_stack::{Branch, Frame};

@@ -9,7 +9,7 @@
 //! caller at hand, and a Join is a frame of its own.
 //!
 //! It stands on the state of a thread (`thread_state`), on its frames (`thread_stack`), on the points of threads in the one depth-first run
-//! (`thread_points`) and on what a thread of an accepted program holds there (`ownership_at_points`), which says that each block is there
+//! (`thread_points`) and on what a thread of an accepted program holds there (`ownership_laws`), which says that each block is there
 //! that a statement needs, and that none is where it puts one.
 //!
 //! Its one theorem, by [`ThreadRun::advance`]: a thread that stands at a point of the one depth-first run comes to the point at which the

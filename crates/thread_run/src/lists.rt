@@ -2,7 +2,7 @@
 
 ghost use Rattle.std.specs.Prelude.{◌≡◌, ◌+◌, ◌≤◌, IfOk};
 ghost use Rattle.node_table.specs.Codes.{code_shown};
-ghost use Rattle.dummy_tree.specs.QuotaWords.{quota_words};
+ghost use Rattle.depth_first_list.specs.QuotaWords.{quota_words};
 ghost use Rattle.thread_stack.specs.Measure.{left_to_do, node_cost};
 ghost use Rattle.thread_run.specs.Functions.{functions_of};
 ghost use Rattle.thread_run.specs.Stepping.{IsKnownAt, IsMet, DoesRun, StepsRun, KeepsFunctions, RunsLess, frames_left};
@@ -10,7 +10,7 @@ ghost use Rattle.thread_run.specs.Stepping.{IsKnownAt, IsMet, DoesRun, StepsRun,
 use crate::calls::calls;
 use crate::run::ThreadRun;
 use crate::{Ready, statement};
-use dummy_tree::Quota;
+use depth_first_list::Quota;
 use node_table::Code;
 use std::alloc::{AllocError, Global};
 use thread_stack::{Frame, ListOf, numbers};

@@ -1,11 +1,11 @@
 ghost use Rattle.std.specs.Prelude.{◌≡◌, ◌≤◌, IfOk};
 ghost use Rattle.language_limits.specs.declared.TheConstants.{MOST_WORDS};
-ghost use Rattle.dummy_tree.specs.QuotaWords.{quota_words};
+ghost use Rattle.depth_first_list.specs.QuotaWords.{quota_words};
 ghost use Rattle.node_table.specs.Codes.{code_shown};
 ghost use Rattle.thread_state.specs.States.{words_held};
 
 use crate::Ready;
-use dummy_tree::Quota;
+use depth_first_list::Quota;
 use node_table::Code;
 use std::alloc::{AllocError, Global};
 use thread_output::Told;

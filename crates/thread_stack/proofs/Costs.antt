@@ -3,8 +3,8 @@ use Rattle.std.proofs.Common.{◌≡◌, ℕ, zero, suc, ◌+◌, ◌-◌, ◌�
 use Rattle.std.specs.Prelude.{slice_get, nat_lt, Bool, true, false}
 use Rattle.std.proofs.lemmas.Bool.{ltb-true, ltb-false}
 use Rattle.std.proofs.lemmas.Option.{slice_get_within}
-use Rattle.node_table.specs.Passed.Tree
-use Rattle.node_table.specs.Passed.Tree.{Name, Program, Stmt, let_stmt, assign_stmt, put_stmt, alloc_stmt, free_stmt, if_stmt, while_stmt, call_stmt, print_stmt, par_stmt, split_stmt, done, step}
+use Rattle.depth_first_run.specs.Passed.Tree
+use Rattle.depth_first_run.specs.Passed.Tree.{Name, Program, Stmt, let_stmt, assign_stmt, put_stmt, alloc_stmt, free_stmt, if_stmt, while_stmt, call_stmt, print_stmt, par_stmt, split_stmt, done, step}
 use Rattle.node_table.specs.Table.{Kind, let_node, assign_node, put_node, alloc_node, free_node, if_node, while_node, call_node, print_node, both_node, split_node, Node, Function, Table}
 use Rattle.node_table.specs.Programs.{IsStmt, IsBody, function_names}
 use Rattle.thread_stack.specs.declared.list_of.ListOf.{ListOf}

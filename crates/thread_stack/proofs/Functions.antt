@@ -1,9 +1,9 @@
 -- The function of a number: the one that a call of its name finds, and the one of `main`.
 use Rattle.std.proofs.Common.{◌≡◌, ℕ, zero, suc, List, [], ◌∷◌, map, Some, refl, sym, ◌∙◌, subst, arith}
 use Rattle.std.specs.Prelude.{slice_get, ◌<◌}
-use Rattle.node_table.specs.Passed.Tree.{Name, Func, Program}
-use Rattle.node_table.specs.Passed.Ownership.{Ownership, function_of}
-use Rattle.node_table.proofs.Passed.NewNames.{first_of_its_name}
+use Rattle.depth_first_run.specs.Passed.Tree.{Name, Func, Program}
+use Rattle.depth_first_run.specs.Passed.Ownership.{Ownership, function_of}
+use Rattle.depth_first_run.proofs.Passed.NewNames.{first_of_its_name}
 use Rattle.node_table.specs.Names.{IsSlot}
 use Rattle.node_table.specs.Table.{Node, Function, Table}
 use Rattle.node_table.specs.Programs.{IsFunc, AreFuncs, name_of, function_names, IsTableOf}

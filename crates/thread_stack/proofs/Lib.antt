@@ -1,4 +1,3 @@
 pub mod Lists
 pub mod Costs
 pub mod Functions
-pub mod Passed

@@ -2,7 +2,7 @@
 use Rattle.std.proofs.Common.{◌≡◌, ℕ, zero, suc, ◌+◌, ◌≤◌, ◌<◌, List, [], ◌∷◌, length, drop, Some, refl, sym, ap, ◌∙◌, subst, arith}
 use Rattle.std.specs.Prelude.{slice_get}
 use Rattle.std.proofs.lemmas.List.{length-drop, drop_all}
-use Rattle.node_table.specs.Passed.Tree.{Name, Func, Program, Stmt, Body, done, step}
+use Rattle.depth_first_run.specs.Passed.Tree.{Name, Func, Program, Stmt, Body, done, step}
 use Rattle.depth_first_run.specs.Middle.{before_all, does, statements}
 use Rattle.depth_first_run.specs.Middle as middles
 use Rattle.node_table.specs.Table.{Table}

@@ -1,10 +1,10 @@
 -- The frames of a thread over a node table, and which frames of the depth-first run they are.
 use Rattle.std.specs.Prelude.{◌≡◌, ℕ, ◌+◌, Bool, List, [], ◌∷◌, Option, Some, None, slice_get}
 use Rattle.std.specs.List.{filter}
-use Rattle.dummy_tree.specs.Shapes.{shape_of}
-use Rattle.dummy_tree.specs.TreeLeaves.{tree_leaves}
-use Rattle.node_table.specs.Passed.Tree
-use Rattle.node_table.specs.Passed.Tree.{Name, Func, Program, Target, Arg, Stmt, step}
+use Rattle.depth_first_list.specs.Shapes.{shape_of}
+use Rattle.depth_first_list.specs.TreeLeaves.{tree_leaves}
+use Rattle.depth_first_run.specs.Passed.Tree
+use Rattle.depth_first_run.specs.Passed.Tree.{Name, Func, Program, Target, Arg, Stmt, step}
 use Rattle.depth_first_run.specs.States.{State}
 use Rattle.depth_first_run.specs.Run.{assigns_in, no_name}
 use Rattle.depth_first_run.specs.Middle as middles

@@ -1,4 +1,3 @@
 pub mod Lists
 pub mod Frames
 pub mod Measure
-pub mod Passed

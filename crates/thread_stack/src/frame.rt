@@ -1,6 +1,6 @@
 use crate::branch::Branch;
 use crate::list_of::ListOf;
-use dummy_tree::Tree;
+use depth_first_list::Tree;
 
 /// One thing that is left to a thread, by numbers of its code.
 #[derive(Clone, Copy, PartialEq, Eq, Debug)]

@@ -1,5 +1,5 @@
 ghost use Rattle.std.specs.Prelude.{◌≡◌, ◌≤◌, ◌<◌, ◌++◌, ℕ, List, length, IsSome, IfSome, ◌↔◌, option_copied};
-ghost use Rattle.node_table.specs.Passed.Tree.{Program, Func, Body as BodyTree};
+ghost use Rattle.depth_first_run.specs.Passed.Tree.{Program, Func, Body as BodyTree};
 ghost use Rattle.depth_first_run.specs.Middle.{Frame as RunFrame, before_all};
 ghost use Rattle.node_table.specs.Codes.{code_shown};
 ghost use Rattle.thread_stack.specs.Lists.{numbers_of, numbers_from, kind_at, kinds_shown};

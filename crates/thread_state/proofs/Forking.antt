@@ -1,7 +1,7 @@
 -- What a Fork gives to a child, and what it leaves to its parent.
 use Rattle.std.proofs.Common.{◌≡◌, ℕ, suc, ◌+◌, Bool, false, List, [], ◌∷◌, refl, sym, ap, ◌∙◌, subst, arith}
 use Rattle.dag_order.specs.LabelOrder.{fork_of}
-use Rattle.par_tree.specs.Tree.{Name}
+use Rattle.depth_first_run.specs.Passed.Tree.{Name}
 use Rattle.depth_first_run.specs.Stores.{Store, Held, those_named, those_not_named}
 use Rattle.depth_first_run.specs.States.{Setting, State, Item, child_of, parent_of}
 use Rattle.depth_first_run.specs.Run.{no_name}

@@ -3,7 +3,7 @@ use Rattle.std.proofs.Common.{◌≡◌, ℕ, ◌+◌, Bool, true, false, List, 
 use Rattle.std.specs.Prelude.{reverse}
 use Rattle.std.proofs.lemmas.List.{reverse-append}
 use Rattle.dag_order.specs.declared.fault.FaultKind.{FaultKind}
-use Rattle.par_tree.specs.Tree.{Name}
+use Rattle.depth_first_run.specs.Passed.Tree.{Name}
 use Rattle.depth_first_run.specs.Stores.{Store, nothing, held_words, stored_words}
 use Rattle.depth_first_run.specs.States.{State, holdings, with_action, with_fault}
 use Rattle.slot_store.specs.Rows.{Entry}

@@ -1,6 +1,6 @@
 -- What a thread holds, where its own row changes.
 use Rattle.std.proofs.Common.{◌≡◌, Bool, true, false, List, [], ◌∷◌}
-use Rattle.par_tree.specs.Tree.{Name}
+use Rattle.depth_first_run.specs.Passed.Tree.{Name}
 use Rattle.depth_first_run.specs.Stores.{Store, nothing}
 use Rattle.slot_store.specs.Rows.{Entry}
 use Rattle.slot_store.specs.Agreement.{ShowsStore}

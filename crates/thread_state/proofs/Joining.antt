@@ -1,6 +1,6 @@
 -- What a Join does to the state that a thread is in.
 use Rattle.std.proofs.Common.{◌≡◌, ℕ, ◌+◌, Bool, true, false, List, [], ◌∷◌, ◌++◌, refl, sym, ap, ◌∙◌, arith, append-nil}
-use Rattle.par_tree.specs.Tree.{Name}
+use Rattle.depth_first_run.specs.Passed.Tree.{Name}
 use Rattle.depth_first_run.specs.Passed.Actions as actions
 use Rattle.depth_first_run.specs.Stores.{Store, Held, nothing, held_words, stored_words}
 use Rattle.depth_first_run.specs.States.{State, holdings, with_action, joined, with_result, given_back, emptied}
@@ -14,7 +14,7 @@ use Rattle.thread_state.specs.States.{IsState, own_row, rows_of, words_held}
 use Rattle.thread_state.specs.declared.state.ThreadState.{ThreadState}
 use Rattle.thread_state.proofs.Holding.{ends}
 use Rattle.thread_state.proofs.Held.{holdings_are}
-use Rattle.par_tree.specs.Names.{is_among}
+use Rattle.depth_first_run.specs.Passed.Names.{is_among}
 use Rattle.depth_first_run.specs.Passed.Actions.{Deed}
 use Rattle.thread_state.proofs.Steps.{Acting, at_same, is_counted, is_acting, own_store}
 

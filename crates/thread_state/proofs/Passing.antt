@@ -1,8 +1,8 @@
 -- One argument whose number is found.
 use Rattle.std.proofs.Common.{◌≡◌, ◌⊎◌, ℕ, ℤ, List, Ok, sym, ap, ◌∙◌, subst}
 use mathlib.Core.Logic.{inl, inr}
-use Rattle.par_tree.specs.Tree
-use Rattle.par_tree.specs.Tree.{Name, Param, Arg}
+use Rattle.depth_first_run.specs.Passed.Tree
+use Rattle.depth_first_run.specs.Passed.Tree.{Name, Param, Arg}
 use Rattle.node_table.specs.Names.{name_at}
 use Rattle.node_table.specs.Reading.{IsArg, arg_read}
 use Rattle.node_table.specs.Shown.{arg_shown}
@@ -11,7 +11,7 @@ use Rattle.node_table.specs.declared.code_arg.CodeArg.TheVariants.{Lend, Give}
 use Rattle.depth_first_run.specs.Stores.{Store}
 use Rattle.depth_first_run.specs.Values as values
 use Rattle.depth_first_run.specs.Calls.{Passing, pass_integer, pass_block}
-use Rattle.slot_store.proofs.Passed.{value_passes, lend_passes, give_passes}
+use Rattle.slot_store.proofs.ArgumentsPassed.{value_passes, lend_passes, give_passes}
 use Rattle.thread_state.specs.Calls.{PassesValue}
 
 pub value_found : (s : Store) (q : Param) (e : Tree.Expr) (a : Arg) (v : ℤ) (g : Passing) → Tree.value e ≡ a → values.value s e ≡ Ok v →

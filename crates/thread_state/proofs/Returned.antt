@@ -1,7 +1,7 @@
 -- The end of a call.
 use Rattle.std.proofs.Common.{◌≡◌, ℕ, suc, pred, ◌+◌, ◌<◌, true, false, List, [], ◌∷◌, ◌++◌, length, ℤ, Option, Some, None, Ok, Err, pos, refl, sym, ap, ◌∙◌, subst, arith}
-use Rattle.par_tree.specs.Tree
-use Rattle.par_tree.specs.Tree.{Name, Param, Arg, Target}
+use Rattle.depth_first_run.specs.Passed.Tree
+use Rattle.depth_first_run.specs.Passed.Tree.{Name, Param, Arg, Target}
 use Rattle.depth_first_run.specs.Stores.{Store, Held, drop_block}
 use Rattle.depth_first_run.specs.States.{State, with_fault, unless_faulted}
 use Rattle.dag_order.specs.declared.fault.FaultKind.{FaultKind}

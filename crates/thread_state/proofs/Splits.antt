@@ -1,6 +1,6 @@
 -- The beginning of a `split`, and calls that a thread skips that a fault ended.
 use Rattle.std.proofs.Common.{◌≡◌, ℕ, Bool, true, false, ℤ, Option, Some, sym, ap}
-use Rattle.par_tree.specs.Tree.{Name}
+use Rattle.depth_first_run.specs.Passed.Tree.{Name}
 use Rattle.depth_first_run.specs.Stores.{block_of}
 use Rattle.depth_first_run.specs.States.{State, unless_faulted, skip_if}
 use Rattle.depth_first_run.specs.Run.{on_store, cut_of, cut_block}

@@ -3,13 +3,13 @@ use Rattle.std.proofs.Common.{◌≡◌, ℕ, suc, ◌+◌, ◌-◌, Bool, false
 use Rattle.dag_order.specs.declared.fault.FaultKind.{FaultKind}
 use Rattle.dag_order.specs.declared.fault.FaultKind.TheVariants as faults
 use Rattle.depth_first_run.specs.Passed.Actions.{Deed}
-use Rattle.par_tree.specs.Tree.{Name}
+use Rattle.depth_first_run.specs.Passed.Tree.{Name}
 use Rattle.std.specs.Prelude.{slice_set}
 use Rattle.std.proofs.Common.{◌<◌, length}
 use Rattle.std.proofs.lemmas.List.{length-map}
 use Rattle.std.proofs.Common.{Option, Some, None}
 use Rattle.std.specs.Result.{IsErrAnd}
-use Rattle.par_tree.specs.Tree.{Expr}
+use Rattle.depth_first_run.specs.Passed.Tree.{Expr}
 use Rattle.depth_first_run.specs.Stores.{Store, block_of, write_block, with_integer}
 use Rattle.depth_first_run.specs.Values.{Outcome, value}
 use Rattle.depth_first_run.specs.States.{State, with_action, with_fault, with_number, with_turn, with_turns}

@@ -1,7 +1,7 @@
 -- What a call does to the state of a thread, and what stands in its rows where a call begins and where it ends.
 use Rattle.std.specs.Prelude.{◌≡◌, ℕ, ◌<◌, false, List, [], ◌∷◌, length, Option, Some, None, Result, Ok, Err}
 use Rattle.dag_order.specs.declared.fault.FaultKind.{FaultKind}
-use Rattle.par_tree.specs.Tree.{Name, Param, Arg}
+use Rattle.depth_first_run.specs.Passed.Tree.{Name, Param, Arg}
 use Rattle.node_table.specs.Reading.{FitsSlots, FitsArgs}
 use Rattle.node_table.specs.Table
 use Rattle.depth_first_run.specs.States.{Setting, State, with_fault, with_turn, with_depth}

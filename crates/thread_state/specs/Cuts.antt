@@ -1,7 +1,7 @@
 -- What the beginning of a `split` does to the state of a thread.
 use Rattle.std.specs.Prelude.{ℕ, ℤ, Option, Some, None}
 use Rattle.dag_order.specs.declared.fault.FaultKind.TheVariants as faults
-use Rattle.par_tree.specs.Tree.{Name}
+use Rattle.depth_first_run.specs.Passed.Tree.{Name}
 use Rattle.depth_first_run.specs.Stores.{block_of}
 use Rattle.depth_first_run.specs.States.{State, with_fault}
 use Rattle.depth_first_run.specs.Run.{on_store, cut_of, cut_block}

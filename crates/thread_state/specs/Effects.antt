@@ -3,7 +3,7 @@
 use Rattle.std.specs.Prelude.{◌≡◌, ℕ, List, Result, MatchResult}
 use Rattle.std.specs.declared.alloc.AllocError.{AllocError}
 use Rattle.dag_order.specs.declared.fault.FaultKind.{FaultKind}
-use Rattle.par_tree.specs.Tree.{Name}
+use Rattle.depth_first_run.specs.Passed.Tree.{Name}
 use Rattle.depth_first_run.specs.States.{State, with_fault}
 use Rattle.thread_state.specs.States.{IsState}
 use Rattle.thread_state.specs.declared.state.ThreadState.{ThreadState}

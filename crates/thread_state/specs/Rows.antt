@@ -1,6 +1,6 @@
 -- The rows of slots that a thread has, the innermost call first, and the stores that they show.
 use Rattle.std.specs.Prelude.{◌≡◌, ℕ, ◌+◌, Bool, true, false, List, [], ◌∷◌, map, reverse}
-use Rattle.par_tree.specs.Tree.{Name}
+use Rattle.depth_first_run.specs.Passed.Tree.{Name}
 use Rattle.depth_first_run.specs.Stores.{Store, nothing}
 use Rattle.slot_store.specs.Rows.{Entry, row_words}
 use Rattle.slot_store.specs.Shown.{slots_shown}

@@ -1,7 +1,7 @@
 -- The setting that a code with a quota is run in.
 use Rattle.std.specs.Prelude.{◌≡◌, ℕ}
 use Rattle.language_limits.specs.declared.TheConstants.{MOST_CALLS, MOST_TURNS, MOST_FORKS}
-use Rattle.node_table.specs.Passed.Ownership.{Ownership}
+use Rattle.depth_first_run.specs.Passed.Ownership.{Ownership}
 use Rattle.depth_first_run.specs.States.{Setting}
 use Rattle.node_table.specs.Table.{Table}
 use Rattle.node_table.specs.Programs.{IsTableOf}

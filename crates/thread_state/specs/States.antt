@@ -1,6 +1,6 @@
 -- The state of the depth-first run that a thread is in.
 use Rattle.std.specs.Prelude.{◌≡◌, ℕ, ◌+◌, List, ◌∷◌, map}
-use Rattle.par_tree.specs.Tree.{Name}
+use Rattle.depth_first_run.specs.Passed.Tree.{Name}
 use Rattle.depth_first_run.specs.States.{State}
 use Rattle.slot_store.specs.Rows.{Entry, row_words}
 use Rattle.slot_store.specs.Shown.{slots_shown}

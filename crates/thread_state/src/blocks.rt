@@ -2,7 +2,7 @@
 
 ghost use Rattle.std.specs.Prelude.{◌≡◌, ◌<◌, ◌≤◌, ◌∷◌, ℕ, List, length, false, pos, replicate};
 ghost use Rattle.language_limits.specs.declared.TheConstants.{GREATEST_COUNT};
-ghost use Rattle.par_tree.specs.Tree.{Name};
+ghost use Rattle.depth_first_run.specs.Passed.Tree.{Name};
 ghost use Rattle.block_arena.specs.Region.{with_given};
 ghost use Rattle.node_table.specs.Names.{name_at};
 ghost use Rattle.depth_first_run.specs.Stores.{block_of, block_words};

@@ -2,8 +2,8 @@
 
 ghost use Rattle.std.specs.Prelude.{◌≡◌, ◌<◌, ◌≤◌, ◌+◌, ◌⊎◌, ◌∷◌, [], ℕ, List, length, false, pred, Result, Ok, Err, MatchResult, MatchOption, vec_len, vec_capacity};
 ghost use Rattle.dag_order.specs.declared.fault.FaultKind.TheVariants.{Depth, Turns};
-ghost use Rattle.par_tree.specs.Tree.{Name, Param, Arg};
-ghost use Rattle.par_tree.specs.Names.{param_names};
+ghost use Rattle.depth_first_run.specs.Passed.Tree.{Name, Param, Arg};
+ghost use Rattle.depth_first_run.specs.Passed.Names.{param_names};
 ghost use Rattle.node_table.specs.Reading.{AreSlots, AreArgs, IsArg};
 ghost use Rattle.node_table.specs.Shown.{arg_shown, args_shown};
 ghost use Rattle.depth_first_run.specs.Stores.{Store};

@@ -1,8 +1,8 @@
 //! Calls: where they end.
 
 ghost use Rattle.std.specs.Prelude.{◌≡◌, ◌<◌, ◌+◌, ◌∷◌, ℕ, List, Option, length, false, vec_len};
-ghost use Rattle.par_tree.specs.Tree.{Name, Param, Arg, Target, Ret};
-ghost use Rattle.par_tree.specs.Names.{param_names};
+ghost use Rattle.depth_first_run.specs.Passed.Tree.{Name, Param, Arg, Target, Ret};
+ghost use Rattle.depth_first_run.specs.Passed.Names.{param_names};
 ghost use Rattle.node_table.specs.Names.{name_at};
 ghost use Rattle.node_table.specs.Reading.{AreSlots, AreArgs, IsTarget, IsReturn};
 ghost use Rattle.node_table.specs.Shown.{args_shown, target_shown, ret_shown};

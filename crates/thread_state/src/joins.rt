@@ -2,7 +2,7 @@
 
 ghost use Rattle.std.specs.Prelude.{◌≡◌, ◌≤◌, ◌<◌, ◌+◌, ◌∷◌, [], ℕ, Bool, List, length, filter, false};
 ghost use Rattle.language_limits.specs.declared.TheConstants.{GREATEST_COUNT};
-ghost use Rattle.par_tree.specs.Tree.{Name};
+ghost use Rattle.depth_first_run.specs.Passed.Tree.{Name};
 ghost use Rattle.node_table.specs.Reading.{AreSlots, FitsSlots};
 ghost use Rattle.depth_first_run.specs.States.{State, given_back, joined};
 ghost use Rattle.depth_first_run.specs.Run.{no_name};

@@ -2,7 +2,7 @@
 
 ghost use Rattle.std.specs.Prelude.{◌≡◌, ◌+◌, ◌<◌, ◌∷◌, [], ℕ, List, length, false, IfOk, MatchResult};
 ghost use Rattle.language_limits.specs.declared.TheConstants.{GREATEST_COUNT};
-ghost use Rattle.par_tree.specs.Tree.{Name, Expr};
+ghost use Rattle.depth_first_run.specs.Passed.Tree.{Name, Expr};
 ghost use Rattle.node_table.specs.Names.{name_at};
 ghost use Rattle.node_table.specs.Shown.{expr_shown};
 ghost use Rattle.node_table.specs.Reading.{IsExpr};

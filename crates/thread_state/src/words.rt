@@ -2,7 +2,7 @@
 
 ghost use Rattle.std.specs.Prelude.{◌≡◌, ◌≤◌, ◌<◌, ◌+◌, ◌*◌, ◌^◌, [], ℕ, List, length, map};
 ghost use Rattle.language_limits.specs.declared.TheConstants.{GREATEST_COUNT, MOST_CALLS};
-ghost use Rattle.par_tree.specs.Tree.{Name};
+ghost use Rattle.depth_first_run.specs.Passed.Tree.{Name};
 ghost use Rattle.dag_order.specs.declared.fault.FaultKind.{FaultKind as AnyFault};
 ghost use Rattle.block_arena.specs.Region.{with_given};
 ghost use Rattle.depth_first_run.specs.States.{State, holdings, with_fault};

@@ -8,8 +8,8 @@ use Rattle.dag_order.specs.Changes.{high_water}
 use Rattle.depth_first_list.specs.Actions.{weight}
 use Rattle.depth_first_list.specs.Runs.{IsDepthFirst}
 use Rattle.depth_first_list.specs.Facts.{deed_at, IsNext}
-use Rattle.lawful_books.specs.Books.{booked, periods_marked}
-use Rattle.lawful_books.proofs.Lists.{one_other}
+use Rattle.deque_machine.specs.Books.{booked, periods_marked}
+use Rattle.deque_machine.proofs.Lists.{one_other}
 use Rattle.deque_machine.specs.Moments.{Deque, Moment, opening, done_at, live_at, with_id}
 use Rattle.deque_machine.specs.Machine.{Setting, Event, steals, does, suspends, gives_up, HasEnded, May}
 use Rattle.deque_machine.specs.LawfulOrder.{IsLawful}
@@ -18,12 +18,12 @@ use Rattle.deque_machine.specs.Play.{Limits, IsThiefsId}
 use Rattle.deque_machine.proofs.Kept.{opening_is_lawful}
 use Rattle.deque_machine.proofs.LiveThreads.{one_next}
 use Rattle.deque_machine.proofs.Movers.{Decided, ended_or_not, stays_or_not}
-use Rattle.machine_replay.specs.Tests.{is_next, next_from}
-use Rattle.machine_replay.specs.Step.{Hand, hand_of, act_by, does_by, step}
-use Rattle.machine_replay.proofs.OnePlay.{one_way}
-use Rattle.machine_replay.proofs.StepComplete.{step_complete}
-use Rattle.machine_replay.proofs.StepSound.{none_is_not_some, gate, step_sound}
-use Rattle.machine_replay.proofs.TestLaws.{is_next_is, next_from_is, next_from_finds}
+use Rattle.deque_machine.specs.Tests.{is_next, next_from}
+use Rattle.deque_machine.specs.Step.{Hand, hand_of, act_by, does_by, step}
+use Rattle.deque_machine.proofs.OnePlay.{one_way}
+use Rattle.deque_machine.proofs.StepComplete.{step_complete}
+use Rattle.deque_machine.proofs.StepSound.{none_is_not_some, gate, step_sound}
+use Rattle.deque_machine.proofs.TestLaws.{is_next_is, next_from_is, next_from_finds}
 use Rattle.trail_meaning.specs.declared.trail_event.TrailEvent.{TrailEvent}
 use Rattle.trail_meaning.specs.declared.trail_kind.TrailKind.{TrailKind}
 use Rattle.trail_meaning.specs.declared.trail_kind.TrailKind.TheVariants.{Steal, Act, Suspend, GiveUp}

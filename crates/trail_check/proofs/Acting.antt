@@ -7,10 +7,10 @@ use Rattle.dag_order.specs.declared.kind.Kind.TheVariants as kinds
 use Rattle.depth_first_list.specs.Actions.{Deed, forks, joins, allocates, releases, dummy, faults, ends, kind_of}
 use Rattle.depth_first_list.specs.Facts.{label_at, deed_at, words_at}
 use Rattle.depth_first_list.proofs.ThreadLaws.{end_is_last, child_begins_behind_fork}
-use Rattle.lawful_books.specs.Lists.{Each, one_if_same}
-use Rattle.lawful_books.specs.Books.{done_in, charge, charge_at, charged, book_of, one_more}
-use Rattle.lawful_books.proofs.Lists.{each_left, each_right, each_join, total_append}
-use Rattle.lawful_books.proofs.Keeping.{done_more}
+use Rattle.deque_machine.specs.Lists.{Each, one_if_same}
+use Rattle.deque_machine.specs.Books.{done_in, charge, charge_at, charged, book_of, one_more}
+use Rattle.deque_machine.proofs.Lists.{each_left, each_right, each_join, total_append}
+use Rattle.deque_machine.proofs.Keeping.{done_more}
 use Rattle.deque_list.specs.Deques.{Deque}
 use Rattle.deque_machine.specs.Moments.{Moment, moment_of, deque_of, done_at, threads_in, Rises}
 use Rattle.deque_machine.specs.Machine.{Setting, does, Owns, IsAtTop, only_booked, booked_with, deques_with, books_with, May, forks_child, joins_child, allocates_within, allocates_above, releases_words, meets_fault, runs_dummy}

@@ -1,9 +1,9 @@
 -- What an event adds to the books.
 use Rattle.std.proofs.Common.{◌≡◌, ℕ, ◌+◌, [], ◌∷◌, ◌++◌, length, refl, ap, arith, nat_lt, true}
 use Rattle.std.specs.Prelude.{Option, None, Some}
-use Rattle.lawful_books.specs.Lists.{total}
-use Rattle.lawful_books.specs.Books.{booked}
-use Rattle.lawful_books.proofs.Keeping.{closed_same, begun_same}
+use Rattle.deque_machine.specs.Lists.{total}
+use Rattle.deque_machine.specs.Books.{booked}
+use Rattle.deque_machine.proofs.Keeping.{closed_same, begun_same}
 use Rattle.deque_machine.specs.Moments.{Moment}
 use Rattle.deque_machine.specs.Machine.{Setting, Event, Owns, books_with, books_closed, new_book, May, steals_beside, takes_over, forks_child, joins_child, allocates_within, allocates_above, releases_words, meets_fault, runs_dummy, ends_above_parent, ends_and_wakes, ends_and_leaves, suspends_top, gives_deque_up}
 use Rattle.deque_machine.specs.Runs.{place_of}

@@ -1,7 +1,7 @@
 -- What holds after each front of a good trail.
 use Rattle.std.proofs.Common.{◌≡◌, ◌<◌, List, ap, subst, arith}
 use Rattle.depth_first_list.specs.Runs.{IsDepthFirst}
-use Rattle.lawful_books.specs.Books.{periods_marked}
+use Rattle.deque_machine.specs.Books.{periods_marked}
 use Rattle.deque_machine.specs.Moments.{Moment, opening}
 use Rattle.deque_machine.specs.Machine.{Setting}
 use Rattle.deque_machine.specs.LawfulOrder.{IsLawful}

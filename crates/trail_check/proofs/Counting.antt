@@ -8,11 +8,11 @@ use Rattle.std.proofs.lemmas.List.{map-append}
 use Rattle.depth_first_list.specs.Actions.{Action, live_words, peak, weight}
 use Rattle.depth_first_list.specs.Runs.{IsDepthFirst}
 use Rattle.depth_first_list.specs.Facts.{action_at, weight_at}
-use Rattle.lawful_books.specs.Lists.{one_if_same, times}
-use Rattle.lawful_books.specs.Books.{Book, booked, book_of, one_if_marked, periods_marked}
-use Rattle.lawful_books.proofs.Lists.{total_append, one_cases}
-use Rattle.lawful_books.proofs.Parts.{live_append}
-use Rattle.lawful_books.proofs.Whole.{total_ones}
+use Rattle.deque_machine.specs.Lists.{one_if_same, times}
+use Rattle.deque_machine.specs.Books.{Book, booked, book_of, one_if_marked, periods_marked}
+use Rattle.deque_machine.proofs.Lists.{total_append, one_cases}
+use Rattle.deque_machine.proofs.Parts.{live_append}
+use Rattle.deque_machine.proofs.Whole.{total_ones}
 use Rattle.deque_machine.specs.Moments.{Moment, opening, done_at, live_at}
 use Rattle.deque_machine.specs.Machine.{Setting, Event, steals, does, suspends, gives_up, new_book, May}
 use Rattle.deque_machine.specs.Runs.{Pair, Reaches, place_of, places_of, is_move, moves, high_water_mark}

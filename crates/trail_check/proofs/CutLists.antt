@@ -1,8 +1,8 @@
 -- Lists that are cut in the middle.
 use Rattle.std.proofs.Common.{◌≡◌, ℕ, zero, suc, ◌+◌, ◌-◌, ◌<◌, List, [], ◌∷◌, ◌++◌, length, map, take, get_or, inl, inr, refl, sym, ap, ◌∙◌, arith, length-append, true≢false}
 use Rattle.std.specs.Prelude.{Option, None, Some, slice_get, slice_set, insert, remove, is_some}
-use Rattle.lawful_books.specs.Lists.{Among}
-use Rattle.lawful_books.proofs.Lists.{same_head, same_tail, middle_is_not_nil}
+use Rattle.deque_machine.specs.Lists.{Among}
+use Rattle.deque_machine.proofs.Lists.{same_head, same_tail, middle_is_not_nil}
 
 module _ {X : Type 0} where
   pub get_middle : (left : List X) (x : X) (right : List X) → slice_get (left ++ x ∷ right) (length left) ≡ Some x

@@ -6,8 +6,8 @@ use Rattle.depth_first_list.specs.Runs.{IsDepthFirst}
 use Rattle.depth_first_list.specs.Facts.{label_at, deed_at, IsLive}
 use Rattle.depth_first_list.proofs.LiveLaws.{root_end_means_all}
 use Rattle.depth_first_list.proofs.ThreadLaws.{each_thread_ends}
-use Rattle.lawful_books.specs.Lists.{Each, total, one_if_same}
-use Rattle.lawful_books.proofs.Lists.{each_at, one_cases}
+use Rattle.deque_machine.specs.Lists.{Each, total, one_if_same}
+use Rattle.deque_machine.proofs.Lists.{each_at, one_cases}
 use Rattle.deque_machine.specs.Moments.{Deque, Moment, opening, done_at, threads_in}
 use Rattle.deque_machine.specs.Machine.{Setting, Event, steals, does, suspends, gives_up, Owns, HasEnded, May, steals_beside, takes_over, forks_child, joins_child, allocates_within, allocates_above, releases_words, meets_fault, runs_dummy, ends_above_parent, ends_and_wakes, ends_and_leaves, suspends_top, gives_deque_up}
 use Rattle.deque_machine.specs.LawfulOrder.{IsLawful}

@@ -6,8 +6,8 @@ use Rattle.dag_order.specs.declared.kind.Kind.TheVariants as kinds
 use Rattle.depth_first_list.specs.Actions.{joins, ends}
 use Rattle.depth_first_list.specs.Facts.{label_at, deed_at, IsNext}
 use Rattle.depth_first_list.proofs.JoinLaws.{joined_once_law}
-use Rattle.lawful_books.specs.Lists.{Among, Each}
-use Rattle.lawful_books.proofs.Lists.{each_at, each_among, each_from, each_join, among_left, among_right}
+use Rattle.deque_machine.specs.Lists.{Among, Each}
+use Rattle.deque_machine.proofs.Lists.{each_at, each_among, each_from, each_join, among_left, among_right}
 use Rattle.deque_machine.specs.Moments.{Waiting, Moment, moment_of, deque_of, done_at, threads_in, waiting_threads}
 use Rattle.deque_machine.specs.Machine.{Setting, deques_with, books_with, booked_with, ends_above_parent, ends_and_wakes, ends_and_leaves}
 use Rattle.deque_machine.specs.LawfulOrder.{Stacked, Waits}

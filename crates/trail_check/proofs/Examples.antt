@@ -3,14 +3,14 @@ use Rattle.std.proofs.Common.{◌≡◌, ℕ, false, true≢false, List, [], ◌
 use Rattle.std.specs.Prelude.{Option, None, Some}
 use Rattle.std.proofs.lemmas.Int.{ints}
 use Rattle.depth_first_list.specs.Actions.{Deed, forks, joins, ends, Action}
-use Rattle.lawful_books.specs.Books.{Book}
+use Rattle.deque_machine.specs.Books.{Book}
 use Rattle.deque_machine.specs.Moments.{Moment, opening, deque_of, moment_of, done_at}
 use Rattle.deque_machine.specs.Machine.{Setting, Event, steals, does}
 use Rattle.deque_machine.specs.Play.{Limits, IsThiefsId}
 use Rattle.deque_machine.specs.Runs.{Pair}
-use Rattle.machine_replay.specs.Step.{step}
-use Rattle.machine_replay.proofs.StepSound.{step_sound, none_is_not_some}
-use Rattle.machine_replay.proofs.TestLaws.{ended_by_finds}
+use Rattle.deque_machine.specs.Step.{step}
+use Rattle.deque_machine.proofs.StepSound.{step_sound, none_is_not_some}
+use Rattle.deque_machine.proofs.TestLaws.{ended_by_finds}
 use Rattle.trail_meaning.specs.declared.trail_event.TrailEvent.{TrailEvent}
 use Rattle.trail_meaning.specs.declared.trail_kind.TrailKind.{TrailKind}
 use Rattle.trail_meaning.specs.declared.trail_kind.TrailKind.TheVariants.{Steal, Act}

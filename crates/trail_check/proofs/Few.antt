@@ -1,10 +1,10 @@
 -- A run has no more periods and actions than events.
 use Rattle.std.proofs.Common.{◌≡◌, ℕ, suc, ◌+◌, ◌≤◌, List, [], ◌∷◌, ◌++◌, length, ap, arith, length-append, cond, Bool, true, false}
-use Rattle.lawful_books.specs.Books.{Book, booked, periods_marked}
+use Rattle.deque_machine.specs.Books.{Book, booked, periods_marked}
 use Rattle.deque_machine.specs.Moments.{Moment, opening}
 use Rattle.deque_machine.specs.Machine.{Setting, Event, steals, does, suspends, gives_up, Owns, May, steals_beside, takes_over, forks_child, joins_child, allocates_within, allocates_above, releases_words, meets_fault, runs_dummy, ends_above_parent, ends_and_wakes, ends_and_leaves, suspends_top, gives_deque_up}
 use Rattle.deque_machine.specs.Runs.{Pair, Reaches, place_of}
-use Rattle.lawful_books.proofs.Whole.{total_ones}
+use Rattle.deque_machine.proofs.Whole.{total_ones}
 use Rattle.trail_check.proofs.Adding.{adds_to_books}
 use Rattle.trail_check.specs.declared.checker.Checker.{Checker}
 use Rattle.trail_check.specs.Tallies.{IsFew}

@@ -4,8 +4,8 @@ use Rattle.std.specs.Prelude.{None, Some}
 use Rattle.dag_order.specs.LabelOrder.{fork_of}
 use Rattle.depth_first_list.specs.Actions.{joins}
 use Rattle.depth_first_list.specs.Facts.{label_at, deed_at}
-use Rattle.lawful_books.specs.Lists.{Each}
-use Rattle.lawful_books.proofs.Lists.{each_left, each_right, each_join}
+use Rattle.deque_machine.specs.Lists.{Each}
+use Rattle.deque_machine.proofs.Lists.{each_left, each_right, each_join}
 use Rattle.deque_list.specs.Deques.{Deque}
 use Rattle.deque_machine.specs.Moments.{Moment, moment_of, done_at, owned_by}
 use Rattle.deque_machine.specs.Machine.{Setting, Event, suspends, gives_up, Owns, HasEnded, deques_with, books_closed, May, suspends_top, gives_deque_up}

@@ -12,7 +12,7 @@ pub mod Partnership
 pub mod Stacks
 pub mod Standing
 pub mod Listed
-pub mod Passed
+pub mod PlacesPassed
 pub mod CutLists
 pub mod Needs
 pub mod Others

@@ -4,9 +4,9 @@ use Rattle.std.specs.Prelude.{None, Some}
 use Rattle.std.proofs.lemmas.List.{map-append}
 use Rattle.depth_first_list.specs.Actions.{Action}
 use Rattle.depth_first_list.specs.Facts.{label_at}
-use Rattle.lawful_books.specs.Lists.{Each, one_if_same}
-use Rattle.lawful_books.specs.Books.{Book, charged}
-use Rattle.lawful_books.proofs.Lists.{each_at, each_map, each_join, total_append, one_same}
+use Rattle.deque_machine.specs.Lists.{Each, one_if_same}
+use Rattle.deque_machine.specs.Books.{Book, charged}
+use Rattle.deque_machine.proofs.Lists.{each_at, each_map, each_join, total_append, one_same}
 use Rattle.deque_list.specs.declared.deque_id.DequeId.{DequeId}
 use Rattle.deque_list.specs.Deques.{Deque}
 use Rattle.deque_machine.specs.Moments as machine

@@ -5,10 +5,10 @@ use Rattle.std.proofs.lemmas.Bool.{le-leb, lt-leb}
 use Rattle.dag_order.specs.LabelOrder.{fork_of}
 use Rattle.depth_first_list.specs.Actions.{Deed, forks, joins, allocates, releases, dummy, faults, ends}
 use Rattle.depth_first_list.specs.Facts.{deed_at, words_at, IsNext}
-use Rattle.lawful_books.specs.Lists.{Each}
-use Rattle.lawful_books.specs.Books.{charge, charge_at, charged}
-use Rattle.lawful_books.specs.Lawful.{IsWithin}
-use Rattle.lawful_books.proofs.Lists.{each_at}
+use Rattle.deque_machine.specs.Lists.{Each}
+use Rattle.deque_machine.specs.Books.{charge, charge_at, charged}
+use Rattle.deque_machine.specs.Lawful.{IsWithin}
+use Rattle.deque_machine.proofs.Lists.{each_at}
 use Rattle.deque_machine.specs.Moments.{Deque, Moment, done_at}
 use Rattle.deque_machine.specs.Machine.{Setting, Event, steals, does, suspends, gives_up, Owns, IsAtTop, HasEnded, IsIdle, May, steals_beside, takes_over, forks_child, joins_child, allocates_within, allocates_above, releases_words, meets_fault, runs_dummy, ends_above_parent, ends_and_wakes, ends_and_leaves, suspends_top, gives_deque_up}
 use Rattle.deque_machine.specs.LawfulOrder.{IsLawful}

@@ -7,8 +7,8 @@ use Rattle.depth_first_list.specs.Actions.{forks, Action}
 use Rattle.depth_first_list.specs.Runs.{IsDepthFirst}
 use Rattle.depth_first_list.specs.Facts.{label_at, index_at, deed_at, IsDone, StemsFrom}
 use Rattle.depth_first_list.proofs.ThreadLaws.{index_rises_law, child_begins_behind_fork}
-use Rattle.lawful_books.specs.Lists.{Among, Each, one_if_same}
-use Rattle.lawful_books.proofs.Lists.{each_left, each_right, each_map, among_left, among_right}
+use Rattle.deque_machine.specs.Lists.{Among, Each, one_if_same}
+use Rattle.deque_machine.proofs.Lists.{each_left, each_right, each_map, among_left, among_right}
 use Rattle.deque_list.specs.Deques.{Deque}
 use Rattle.deque_machine.specs.Moments.{threads_in, Rises}
 use Rattle.deque_machine.proofs.Labels.{stands_once}

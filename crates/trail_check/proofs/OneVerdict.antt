@@ -1,8 +1,8 @@
 -- A trail has at most one verdict.
 use Rattle.std.proofs.Common.{◌≡◌, ℕ, suc, ◌<◌, List, [], ◌∷◌, ◌++◌, length, refl, sym, ap, subst, ◌∙◌, ℤ, pos}
 use Rattle.depth_first_list.specs.Runs.{IsDepthFirst}
-use Rattle.lawful_books.specs.Books.{booked, periods_marked}
-use Rattle.lawful_books.proofs.Lists.{same_head, same_tail}
+use Rattle.deque_machine.specs.Books.{booked, periods_marked}
+use Rattle.deque_machine.proofs.Lists.{same_head, same_tail}
 use Rattle.deque_machine.specs.Moments.{Moment, opening}
 use Rattle.deque_machine.specs.Machine.{Setting, HasEnded}
 use Rattle.deque_machine.specs.LawfulOrder.{IsLawful}

@@ -2,7 +2,7 @@
 use Rattle.std.proofs.Common.{◌≡◌, ◌↔◌, ℕ, zero, suc, ◌-◌, ◌<◌, List, [], ◌∷◌, length, map, get_or, replicate, true, false, true≢false, refl, sym, ap, subst, ◌∙◌, arith, pos}
 use Rattle.std.specs.Prelude.{Option, None}
 use Rattle.std.specs.List.{AllZip}
-use Rattle.bounded_list.specs.BoundedList.{entries}
+use Rattle.containers.specs.BoundedList.{entries}
 use Rattle.depth_first_list.specs.Actions.{Action}
 use Rattle.depth_first_list.specs.Runs.{IsDepthFirst}
 use Rattle.depth_first_list.specs.Facts.{label_at, deed_at}
@@ -13,7 +13,7 @@ use Rattle.deque_machine.specs.Machine.{Setting, HasEnded}
 use Rattle.deque_machine.specs.Play.{Limits}
 use Rattle.deque_machine.specs.Runs.{Pair}
 use Rattle.deque_machine.proofs.Kept.{opening_is_lawful}
-use Rattle.lawful_books.specs.Lists.{Each}
+use Rattle.deque_machine.specs.Lists.{Each}
 use Rattle.trail_check.specs.Partners.{ArePartners}
 use Rattle.serial_journal.specs.Telling.{ShowsAction}
 use Rattle.serial_journal.specs.declared.action.Action.{Action as Shown}

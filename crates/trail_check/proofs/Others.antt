@@ -1,9 +1,9 @@
 -- An event of a worker leaves the deques and the books of all others as they are.
 use Rattle.std.proofs.Common.{◌≡◌, ◌≢◌, ℕ, List, [], ◌∷◌, ◌++◌, length, refl, sym, ap, subst, ◌∙◌, arith, true≢false, Bool, nat_lt, true}
 use Rattle.std.specs.Prelude.{Option, None, Some, is_some}
-use Rattle.lawful_books.specs.Lists.{Each}
-use Rattle.lawful_books.specs.Books.{Book, book_of, one_more}
-use Rattle.lawful_books.proofs.Lists.{each_change, each_without, each_join, each_left, each_right, total_append, one_other}
+use Rattle.deque_machine.specs.Lists.{Each}
+use Rattle.deque_machine.specs.Books.{Book, book_of, one_more}
+use Rattle.deque_machine.proofs.Lists.{each_change, each_without, each_join, each_left, each_right, total_append, one_other}
 use Rattle.deque_machine.specs.Moments.{Deque, Moment, deque_of, owned_by, one_if_owned}
 use Rattle.deque_machine.specs.Machine.{Setting, Event, Owns, new_book, May, steals_beside, takes_over, forks_child, joins_child, allocates_within, allocates_above, releases_words, meets_fault, runs_dummy, ends_above_parent, ends_and_wakes, ends_and_leaves, suspends_top, gives_deque_up}
 use Rattle.deque_machine.proofs.Counts.{same_worker}

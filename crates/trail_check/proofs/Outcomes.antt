@@ -2,7 +2,7 @@
 use Rattle.std.proofs.Common.{◌≡◌, ℕ, ◌≤◌, ◌<◌, ◌⊎◌, List, length, inl, inr, refl, sym, ap, subst, ◌∙◌, arith, pos, ◌≤ℤ◌}
 use Rattle.std.specs.Prelude.{◌≢◌, Result, Ok, Err}
 use Rattle.std.proofs.lemmas.Bool.{cases_order}
-use Rattle.lawful_books.specs.Books.{bound, periods_marked}
+use Rattle.deque_machine.specs.Books.{bound, periods_marked}
 use Rattle.depth_first_run.specs.States.{Setting}
 use Rattle.depth_first_run.specs.Run.{list_of}
 use Rattle.depth_first_run.proofs.Built.{whole_is_depth_first}

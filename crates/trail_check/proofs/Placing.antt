@@ -7,8 +7,8 @@ use Rattle.depth_first_list.specs.Actions.{joins, Action}
 use Rattle.depth_first_list.specs.Runs.{IsDepthFirst}
 use Rattle.depth_first_list.specs.Facts.{label_at, deed_at}
 use Rattle.depth_first_list.proofs.JoinLaws.{joined_once_law}
-use Rattle.lawful_books.specs.Lists.{Among, Each, Differ}
-use Rattle.lawful_books.proofs.Lists.{each_join, among_middle, among_wider, differ_at}
+use Rattle.deque_machine.specs.Lists.{Among, Each, Differ}
+use Rattle.deque_machine.proofs.Lists.{each_join, among_middle, among_wider, differ_at}
 use Rattle.deque_list.specs.Deques.{Deque}
 use Rattle.deque_machine.specs.Moments.{Waiting, Moment, done_at, waiting_threads}
 use Rattle.deque_machine.specs.Machine.{Setting, Event, May}

@@ -6,8 +6,8 @@ use Rattle.std.proofs.lemmas.Int.{ints, by_lt_z}
 use Rattle.depth_first_list.specs.Actions.{Deed, forks, joins, allocates, releases, dummy, faults, ends, live_words, weight_of}
 use Rattle.depth_first_list.specs.Runs.{IsDepthFirst}
 use Rattle.depth_first_list.specs.Facts.{action_at, deed_at, words_at, weight_at}
-use Rattle.lawful_books.specs.Books.{booked}
-use Rattle.lawful_books.proofs.Whole.{total_ones}
+use Rattle.deque_machine.specs.Books.{booked}
+use Rattle.deque_machine.proofs.Whole.{total_ones}
 use Rattle.deque_machine.specs.Moments.{Deque, Moment, opening, live_at}
 use Rattle.deque_machine.specs.Machine.{Setting, Event, steals, does, suspends, gives_up, Owns, HasEnded, May, steals_beside, takes_over, forks_child, joins_child, allocates_within, allocates_above, releases_words, meets_fault, runs_dummy, ends_above_parent, ends_and_wakes, ends_and_leaves, suspends_top, gives_deque_up}
 use Rattle.deque_machine.specs.Runs.{Pair, place_of}

@@ -9,9 +9,9 @@ use Rattle.dag_order.specs.declared.kind.Kind.{Kind}
 use Rattle.dag_order.specs.declared.kind.Kind.TheVariants as kinds
 use Rattle.depth_first_list.specs.Actions.{joins, kind_of}
 use Rattle.depth_first_list.specs.Facts.{label_at, deed_at, words_at, IsNext}
-use Rattle.lawful_books.specs.Lists.{Each}
-use Rattle.lawful_books.specs.Books.{charge, charge_at, charged}
-use Rattle.lawful_books.proofs.Lists.{each_at, same_head, same_tail, cons_is_not_nil}
+use Rattle.deque_machine.specs.Lists.{Each}
+use Rattle.deque_machine.specs.Books.{charge, charge_at, charged}
+use Rattle.deque_machine.proofs.Lists.{each_at, same_head, same_tail, cons_is_not_nil}
 use Rattle.deque_list.specs.Deques.{Deque}
 use Rattle.deque_machine.specs.Moments as machine
 use Rattle.deque_machine.specs.Moments.{Moment, done_at, owned_by}

@@ -5,8 +5,8 @@ use Rattle.std.proofs.lemmas.List.{map-append, length-map, length-append}
 use Rattle.std.proofs.lemmas.Option.{same_Some}
 use Rattle.depth_first_list.specs.Actions.{Action}
 use Rattle.depth_first_list.specs.Facts.{label_at}
-use Rattle.lawful_books.specs.Lists.{Each}
-use Rattle.lawful_books.proofs.Lists.{each_left, each_right, one_same, one_other}
+use Rattle.deque_machine.specs.Lists.{Each}
+use Rattle.deque_machine.proofs.Lists.{each_left, each_right, one_same, one_other}
 use Rattle.deque_list.specs.declared.deque_id.DequeId.{DequeId}
 use Rattle.deque_list.specs.Ids.{IsLive, IsSmallestFree, deque_id}
 use Rattle.deque_list.specs.Deques.{Deque, deque_ids}

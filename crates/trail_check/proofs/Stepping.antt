@@ -3,10 +3,10 @@ use Rattle.std.proofs.Common.{◌≡◌, ℕ, ◌<◌, List, [], ◌∷◌, leng
 use Rattle.std.specs.Prelude.{Option, None, Some, slice_get, set, is_some}
 use Rattle.std.proofs.lemmas.Bool.{cases_lt}
 use Rattle.std.proofs.lemmas.Option.{slice_get_past, get_or_from_slice_get, slice_get_cases, same_Some}
-use Rattle.bounded_list.specs.BoundedList.{entries}
+use Rattle.containers.specs.BoundedList.{entries}
 use Rattle.depth_first_list.specs.Actions.{joins, ends, kind_of, weight_of}
 use Rattle.depth_first_list.specs.Facts.{deed_at, words_at, weight_at}
-use Rattle.lawful_books.specs.Books.{charge, charge_at}
+use Rattle.deque_machine.specs.Books.{charge, charge_at}
 use Rattle.deque_list.specs.Ids.{IsLive}
 use Rattle.deque_list.specs.Deques.{deque_ids}
 use Rattle.deque_machine.specs.Moments.{Moment}

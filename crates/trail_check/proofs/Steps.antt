@@ -11,12 +11,12 @@ use Rattle.deque_machine.specs.Runs.{Pair, Reaches}
 use Rattle.deque_machine.specs.Play.{Limits, Stays, IsThiefsId}
 use Rattle.deque_machine.proofs.Kept.{kept}
 use Rattle.deque_machine.proofs.LiveThreads.{one_next}
-use Rattle.machine_replay.specs.Tests.{is_next}
-use Rattle.machine_replay.specs.Step.{Hand, hand_of, act_by, does_by}
-use Rattle.machine_replay.proofs.OnePlay.{one_way}
-use Rattle.machine_replay.proofs.StepComplete.{step_complete}
-use Rattle.machine_replay.proofs.StepSound.{none_is_not_some, gate}
-use Rattle.machine_replay.proofs.TestLaws.{is_next_is}
+use Rattle.deque_machine.specs.Tests.{is_next}
+use Rattle.deque_machine.specs.Step.{Hand, hand_of, act_by, does_by}
+use Rattle.deque_machine.proofs.OnePlay.{one_way}
+use Rattle.deque_machine.proofs.StepComplete.{step_complete}
+use Rattle.deque_machine.proofs.StepSound.{none_is_not_some, gate}
+use Rattle.deque_machine.proofs.TestLaws.{is_next_is}
 use Rattle.trail_meaning.specs.declared.trail_event.TrailEvent.{TrailEvent}
 use Rattle.trail_meaning.specs.declared.trail_kind.TrailKind.{TrailKind}
 use Rattle.trail_check.specs.Following.{Tells, tells_steal, tells_action, tells_wait, tells_give_up, Leads, pair_of, Follows, stays, goes_on}

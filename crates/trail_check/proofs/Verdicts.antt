@@ -3,7 +3,7 @@ use Rattle.std.proofs.Common.{◌≡◌, ℕ, ◌≤◌, ◌&&◌, not, Bool, tr
 use Rattle.std.proofs.Math.Dec.{eqb}
 use Rattle.std.proofs.lemmas.Bool.{eq-eqb, eqb-true}
 use Rattle.std.specs.Prelude.{◌≢◌, Result, Ok, Err, IsErrAnd, MatchResult}
-use Rattle.lawful_books.specs.Books.{booked}
+use Rattle.deque_machine.specs.Books.{booked}
 use Rattle.depth_first_run.specs.States as program
 use Rattle.depth_first_run.specs.Run.{list_of}
 use Rattle.deque_machine.specs.Machine.{Setting, HasEnded}

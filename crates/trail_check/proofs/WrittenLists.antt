@@ -1,6 +1,6 @@
 -- What the depth-first run of a program wrote down is its list.
 use Rattle.std.proofs.Common.{◌≡◌, ℕ, ◌<◌, ◌≤◌, length, refl, subst}
-use Rattle.bounded_list.specs.BoundedList.{entries}
+use Rattle.containers.specs.BoundedList.{entries}
 use Rattle.depth_first_run.specs.States as program
 use Rattle.depth_first_run.specs.Run.{whole, list_of}
 use Rattle.par_tree.specs.Tree.{Program}

@@ -1,6 +1,6 @@
 -- What holds of the answers to trails.
 use Rattle.std.specs.Prelude.{◌≡◌, ◌≢◌, ℕ, ◌<◌, List, ◌++◌, pos, ◌≤ℤ◌, Result, Ok, Err}
-use Rattle.lawful_books.specs.Books.{bound}
+use Rattle.deque_machine.specs.Books.{bound}
 use Rattle.depth_first_run.specs.States.{Setting}
 use Rattle.depth_first_run.specs.Run.{list_of}
 use Rattle.deque_machine.specs.Moments.{Moment}

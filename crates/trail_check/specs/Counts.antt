@@ -1,6 +1,6 @@
 -- What a checker has counted of a run.
 use Rattle.std.specs.Prelude.{◌≡◌, ◌↔◌, ℕ, ◌<◌, true, false, List, length, get_or}
-use Rattle.lawful_books.specs.Books.{booked}
+use Rattle.deque_machine.specs.Books.{booked}
 use Rattle.deque_machine.specs.Moments.{Moment, done_at, live_at}
 use Rattle.deque_machine.specs.Machine.{Setting}
 use Rattle.deque_machine.specs.Runs.{Pair}

@@ -1,6 +1,6 @@
 -- How the events of a trail follow one another.
 use Rattle.std.specs.Prelude.{ℕ, ◌≤◌, List, [], ◌∷◌, length, pos, ◌≤ℤ◌}
-use Rattle.lawful_books.specs.Books.{booked}
+use Rattle.deque_machine.specs.Books.{booked}
 use Rattle.deque_machine.specs.Machine.{Setting, Event, steals, does, suspends, gives_up, May}
 use Rattle.deque_machine.specs.Moments.{Moment, live_at}
 use Rattle.deque_machine.specs.Play.{Limits, IsThiefsId}

@@ -2,7 +2,7 @@
 use Rattle.std.specs.Prelude.{◌≡◌, ℕ, ◌<◌, ◌≤◌, List, [], ◌∷◌, ◌++◌, ◌≤ℤ◌}
 use Rattle.depth_first_list.specs.Actions.{ends}
 use Rattle.depth_first_list.specs.Facts.{label_at, deed_at}
-use Rattle.lawful_books.specs.Books.{IsPrefix, periods_ahead, periods_marked, bound}
+use Rattle.deque_machine.specs.Books.{IsPrefix, periods_ahead, periods_marked, bound}
 use Rattle.deque_machine.specs.Machine.{Setting, Event, does, HasEnded, May}
 use Rattle.deque_machine.specs.Moments.{Moment, opening, done_at, live_at, threads_in, Rises}
 use Rattle.deque_machine.specs.Play.{Limits, Plays, finished}

@@ -1,6 +1,6 @@
 -- What a busy worker has in its hands.
 use Rattle.std.specs.Prelude.{◌≡◌, ℕ, Some, List, ◌∷◌, ◌++◌}
-use Rattle.lawful_books.specs.Books.{Book}
+use Rattle.deque_machine.specs.Books.{Book}
 use Rattle.deque_list.specs.declared.deque_id.DequeId.{DequeId}
 use Rattle.deque_list.specs.Deques.{Deque}
 use Rattle.deque_machine.specs.Moments.{Moment}

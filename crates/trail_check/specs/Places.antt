@@ -2,8 +2,8 @@
 use Rattle.std.specs.Prelude.{◌≡◌, ◌↔◌, ℕ, ◌<◌, Bool, true, false, Option, None, Some, List, [], ◌∷◌, ◌++◌, length, map, get_or}
 use Rattle.depth_first_list.specs.Actions.{joins, Action}
 use Rattle.depth_first_list.specs.Facts.{label_at, deed_at, IsNext}
-use Rattle.lawful_books.specs.Lists.{Among, Each}
-use Rattle.lawful_books.specs.Books.{Book, charged}
+use Rattle.deque_machine.specs.Lists.{Among, Each}
+use Rattle.deque_machine.specs.Books.{Book, charged}
 use Rattle.deque_list.specs.Deques.{Deque}
 use Rattle.deque_machine.specs.Moments as machine
 use Rattle.deque_machine.specs.Moments.{Waiting, Moment, done_at, owned_by}

@@ -2,7 +2,7 @@
 use Rattle.std.specs.Prelude.{◌≡◌, ◌<◌, List, length}
 use Rattle.std.specs.List.{AllZip}
 use Rattle.language_limits.specs.declared.TheConstants.{GREATEST_COUNT}
-use Rattle.bounded_list.specs.BoundedList.{entries}
+use Rattle.containers.specs.BoundedList.{entries}
 use Rattle.dag_order.specs.declared.birth.Birth.{Birth}
 use Rattle.depth_first_list.specs.Runs.{IsDepthFirst}
 use Rattle.deque_machine.specs.Moments.{Moment, opening}

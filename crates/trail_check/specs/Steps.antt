@@ -3,8 +3,8 @@ use Rattle.std.specs.Prelude.{◌≡◌, ◌⊎◌, ℕ, ◌+◌, ◌<◌, ◌�
 use Rattle.dag_order.specs.LabelOrder.{fork_of}
 use Rattle.depth_first_list.specs.Actions.{Deed, joins, kind_of, weight_of}
 use Rattle.depth_first_list.specs.Facts.{label_at, deed_at, weight_at}
-use Rattle.lawful_books.specs.Books.{charge, charge_at, charged}
-use Rattle.bounded_list.specs.BoundedList.{entries}
+use Rattle.deque_machine.specs.Books.{charge, charge_at, charged}
+use Rattle.containers.specs.BoundedList.{entries}
 use Rattle.dag_order.specs.declared.kind.Kind.{Kind}
 use Rattle.dag_order.specs.declared.kind.Kind.TheVariants.{Fork, Join, Alloc, Release, Dummy, End, Fault}
 use Rattle.deque_list.specs.declared.deque_id.DequeId.{DequeId}

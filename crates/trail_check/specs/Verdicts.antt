@@ -1,6 +1,6 @@
 -- The numbers of a trail, and the verdict on it.
 use Rattle.std.specs.Prelude.{◌≡◌, ◌≢◌, ℕ, suc, List, [], ◌∷◌, ◌++◌, length, pos}
-use Rattle.lawful_books.specs.Books.{booked, periods_marked}
+use Rattle.deque_machine.specs.Books.{booked, periods_marked}
 use Rattle.deque_machine.specs.Machine.{Setting, Event, HasEnded}
 use Rattle.deque_machine.specs.Moments.{Moment, opening}
 use Rattle.deque_machine.specs.Play.{Limits}

@@ -1,6 +1,6 @@
 ghost use Rattle.std.specs.Prelude.{◌≡◌, ℕ};
 ghost use Rattle.depth_first_list.specs.Actions.{Deed, kind_of, weight_of};
-ghost use Rattle.lawful_books.specs.Books.{charge as charge_of};
+ghost use Rattle.deque_machine.specs.Books.{charge as charge_of};
 
 use dag_order::Kind;
 use language_limits::RECORD_WORDS;

@@ -1,10 +1,10 @@
 ghost use Rattle.std.specs.Prelude.{◌≡◌, ◌<◌, ◌≤◌, ◌+◌, ◌^◌, ◌↔◌, ℕ, List as AnyList, [], length, get_or, None, Some, true, false, IfOk, IfSome, IsTrue, MatchOption, pos, ◌≤ℤ◌};
-ghost use Rattle.bounded_list.specs.BoundedList.{entries};
+ghost use Rattle.containers.specs.BoundedList.{entries};
 ghost use Rattle.dag_order.specs.declared.kind.Kind.TheVariants as kinds;
 ghost use Rattle.deque_list.specs.Deques.{deque_ids};
 ghost use Rattle.deque_list.specs.Ids.{IsLive};
 ghost use Rattle.language_limits.specs.declared.TheConstants.{MOST_DEQUES};
-ghost use Rattle.lawful_books.specs.Books.{booked};
+ghost use Rattle.deque_machine.specs.Books.{booked};
 ghost use Rattle.deque_machine.specs.Moments.{Moment, opening};
 ghost use Rattle.deque_machine.specs.Machine.{Setting, HasEnded};
 ghost use Rattle.deque_machine.specs.Play.{Limits};

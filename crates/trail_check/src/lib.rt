@@ -11,8 +11,8 @@
 //! Join. What is done is a bit for each place, and a busy worker has the words that its period has used. Beside the depth-first run it takes
 //! time in proportion to the number of events, and for each steal to the number of deques.
 //!
-//! It uses the depth-first run of `serial_meaning`, the deques of `deque_list`, the machine (`deque_machine`) and how it is computed
-//! (`machine_replay`). Its theorem: [`verify`] refuses a run that is longer than the trail allows, and answers any other trail with the one verdict
+//! It uses the depth-first run of `serial_meaning`, the deques of `deque_list`, the machine and how it is computed (`deque_machine`).
+//! Its theorem: [`verify`] refuses a run that is longer than the trail allows, and answers any other trail with the one verdict
 //! on it (`Checks` in `specs/Checking.antt`), or says that there is not enough memory. An answer other than the last is the only one
 //! ([`check_laws::one_answer`]), and each trail has one ([`check_laws::an_answer`]). The laws of good trails are in [`good_laws`], those of places
 //! in [`place_laws`]; after each event of an accepted trail the words in use are at most the depth-first peak, and two quotas for each period that

@@ -1,5 +1,5 @@
 ghost use Rattle.std.specs.Prelude.{List, IfOk};
-ghost use Rattle.bounded_list.specs.BoundedList.{entries};
+ghost use Rattle.containers.specs.BoundedList.{entries};
 ghost use Rattle.depth_first_list.specs.Actions.{Action};
 ghost use Rattle.trail_check.specs.Listed.{AreListed};
 ghost use Rattle.trail_check.specs.Partners.{ArePartners};

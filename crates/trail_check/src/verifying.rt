@@ -8,7 +8,7 @@ ghost use Rattle.trail_check.specs.Checking.{Checks};
 use crate::judging::judge;
 use crate::verify_fail::VerifyFail;
 use block_check::Checked;
-use dummy_tree::Quota;
+use depth_first_list::Quota;
 use serial_meaning::{SerialStop, depth_first};
 use std::alloc::Global;
 use trail_meaning::Trail;

@@ -1,6 +1,6 @@
 -- What contracts see of a trail, as plain data.
 use Rattle.std.specs.Prelude.{ℕ, List}
-use Rattle.bounded_list.specs.BoundedList.{entries}
+use Rattle.containers.specs.BoundedList.{entries}
 use Rattle.trail_meaning.specs.declared.trail.Trail.{Trail}
 use Rattle.trail_meaning.specs.declared.trail_event.TrailEvent.{TrailEvent}
 use Rattle.trail_meaning.specs.declared.trail_numbers.TrailNumbers.{TrailNumbers}

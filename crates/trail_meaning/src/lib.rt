@@ -2,7 +2,7 @@
 //!
 //! A [`Trail`] has the setting of a play, the source that it ran, its events in order, and the numbers that it ended with. The
 //! crate has these types, the ranges of their numbers (`specs/Ranges.antt`), and what contracts see of a trail
-//! (`specs/Shown.antt`). It stands on `bounded_list` and `language_limits`. It has no theorem; `trail_text` says which bytes are
+//! (`specs/Shown.antt`). It stands on `containers` and `language_limits`. It has no theorem; `trail_text` says which bytes are
 //! a trail.
 #![tactic(auto)]
 

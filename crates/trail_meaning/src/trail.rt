@@ -1,6 +1,6 @@
 use crate::trail_event::TrailEvent;
 use crate::trail_numbers::TrailNumbers;
-use bounded_list::BoundedList;
+use containers::BoundedList;
 
 /// The events of a play, first to last.
 pub type Events = BoundedList<TrailEvent>;

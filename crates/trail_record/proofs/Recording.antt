@@ -8,11 +8,11 @@ use Rattle.deque_machine.specs.Moments.{Moment}
 use Rattle.deque_machine.specs.Play as play
 use Rattle.deque_machine.specs.Fronts.{stays_here}
 use Rattle.deque_machine.specs.Runs.{Pair}
-use Rattle.run_end.specs.declared.stop.Stop.TheVariants.{ArenaFull, DequesFull, StepsSpent, OutOfMemory}
+use Rattle.play_rules.specs.declared.stop.Stop.TheVariants.{ArenaFull, DequesFull, StepsSpent, OutOfMemory}
 use Rattle.deque_machine.specs.Terms.{Terms}
 use Rattle.dfd_core.specs.declared.run.Core.{Core}
-use Rattle.run_end.specs.declared.ends.RunEnd.{RunEnd}
-use Rattle.run_end.specs.declared.ends.RunEnd.TheVariants.{Finished, Stopped}
+use Rattle.play_rules.specs.declared.ends.RunEnd.{RunEnd}
+use Rattle.play_rules.specs.declared.ends.RunEnd.TheVariants.{Finished, Stopped}
 use Rattle.dfd_core.specs.Cores.{IsAt, SameSetting, end_of, terms_at, workers_of}
 use Rattle.dfd_core.specs.Plays.{IsDrawn}
 use Rattle.dfd_core.proofs.Underway.{Along, further, stopped_at, ended_at, lacks_at, same_setting, too_many as no_more_turns}

@@ -11,30 +11,30 @@ use Rattle.deque_machine.specs.Moments.{Moment, owned_by}
 use Rattle.deque_machine.specs.Play.{IsFirst, IsReady, CanMove, Wants, a_theft, a_give_up, a_wait, an_action, reach, words_drawn}
 use Rattle.deque_machine.specs.Runs.{Pair}
 use Rattle.deque_machine.specs.Terms.{machine_of}
-use Rattle.dummy_tree.specs.QuotaWords.{quota_words}
+use Rattle.depth_first_list.specs.QuotaWords.{quota_words}
 use Rattle.node_table.specs.Codes.{code_shown}
-use Rattle.period_books.specs.Periods.{Period}
-use Rattle.period_table.specs.Tables.{periods_of}
-use Rattle.dfd_core.specs.Passed.EventType.{Event}
-use Rattle.dfd_core.specs.Passed.EventVariants as events
-use Rattle.run_end.specs.declared.stop.Stop.{Stop}
-use Rattle.dfd_core.specs.Passed.Held.{held}
-use Rattle.dfd_core.specs.Passed.Outcomes.{Tells, tells_theft, tells_action, tells_wait, tells_give_up}
+use Rattle.scheduler_state.specs.Passed.Periods.{Period}
+use Rattle.scheduler_state.specs.Passed.Tables.{periods_of}
+use Rattle.scheduler_state.specs.declared.event.Event.{Event}
+use Rattle.scheduler_state.specs.declared.event.Event.TheVariants as events
+use Rattle.play_rules.specs.declared.stop.Stop.{Stop}
+use Rattle.scheduler_state.specs.Held.{held}
+use Rattle.scheduler_state.specs.Outcomes.{Tells, tells_theft, tells_action, tells_wait, tells_give_up}
 use Rattle.dfd_core.specs.declared.run.Core.{Core}
-use Rattle.run_end.specs.declared.ends.RunEnd.{RunEnd}
-use Rattle.run_end.specs.declared.ends.RunEnd.TheVariants.{Finished, Stopped}
-use Rattle.dfd_core.specs.Passed.SteppedType.{Stepped}
-use Rattle.dfd_core.specs.Passed.SteppedVariants.{Stole, Acted, Suspended, GaveUp, Nothing, Over}
+use Rattle.play_rules.specs.declared.ends.RunEnd.{RunEnd}
+use Rattle.play_rules.specs.declared.ends.RunEnd.TheVariants.{Finished, Stopped}
+use Rattle.scheduler_state.specs.declared.stepped.Stepped.{Stepped}
+use Rattle.scheduler_state.specs.declared.stepped.Stepped.TheVariants.{Stole, Acted, Suspended, GaveUp, Nothing, Over}
 use Rattle.dfd_core.specs.Cores.{IsAt, end_of, terms_at, workers_of, words_of_turn}
 use Rattle.dfd_core.specs.Plays.{TurnsTo}
-use Rattle.dfd_core.specs.Passed.Ends.{KeepsEnd}
-use Rattle.dfd_core.specs.Passed.Told.{IsTold}
+use Rattle.scheduler_state.specs.Ends.{KeepsEnd}
+use Rattle.scheduler_state.specs.Told.{IsTold}
 use Rattle.dfd_core.specs.Steps.{GoesOn, Comes}
-use Rattle.dfd_core.proofs.Passed.Differing.{ok_or_err, some_or_none}
-use Rattle.victim_choice.proofs.Firsts.{first_below}
-use Rattle.dfd_core.proofs.Passed.Answering.{nothing_told, no_stop_kept, stop_told}
+use Rattle.scheduler_state.proofs.Differing.{ok_or_err, some_or_none}
+use Rattle.play_rules.proofs.Firsts.{first_below}
+use Rattle.scheduler_state.proofs.Answering.{nothing_told, no_stop_kept, stop_told}
 use Rattle.dfd_core.proofs.Taking.{goes, turns_to}
-use Rattle.victim_choice.proofs.Firsts.{one_first}
+use Rattle.play_rules.proofs.Firsts.{one_first}
 use Rattle.trail_check.specs.Told.{kind_told}
 use Rattle.trail_meaning.specs.declared.trail_kind.TrailKind.{TrailKind}
 use Rattle.trail_meaning.specs.declared.trail_kind.TrailKind.TheVariants.{Steal, Act, Suspend, GiveUp}

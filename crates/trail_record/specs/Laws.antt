@@ -6,7 +6,7 @@ use Rattle.deque_machine.specs.Moments.{Moment, opening}
 use Rattle.deque_machine.specs.Runs.{Pair}
 use Rattle.deque_machine.specs.Terms.{Terms, machine_of}
 use Rattle.dfd_core.specs.declared.run.Core.{Core}
-use Rattle.run_end.specs.declared.ends.RunEnd.TheVariants.{Finished}
+use Rattle.play_rules.specs.declared.ends.RunEnd.TheVariants.{Finished}
 use Rattle.dfd_core.specs.Cores.{IsAt}
 use Rattle.trail_check.specs.Good.{IsGood}
 use Rattle.trail_meaning.specs.declared.trail_event.TrailEvent.{TrailEvent}

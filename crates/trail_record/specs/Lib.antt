@@ -1,4 +1,4 @@
 pub mod Turns
 pub mod Recorded
 pub mod Laws
-pub mod Played
+pub mod Passed

@@ -6,10 +6,10 @@ use Rattle.deque_machine.specs.Play.{IsReady, reach}
 use Rattle.deque_machine.specs.Runs.{Pair}
 use Rattle.deque_machine.specs.Terms.{Terms, machine_of}
 use Rattle.dfd_core.specs.declared.run.Core.{Core}
-use Rattle.run_end.specs.declared.ends.RunEnd.{RunEnd}
-use Rattle.run_end.specs.declared.ends.RunEnd.TheVariants.{Finished, Stopped}
-use Rattle.dfd_core.specs.Passed.SteppedType.{Stepped}
-use Rattle.dfd_core.specs.Passed.SteppedVariants.{Stole, Acted, Suspended, GaveUp, Nothing, Over}
+use Rattle.play_rules.specs.declared.ends.RunEnd.{RunEnd}
+use Rattle.play_rules.specs.declared.ends.RunEnd.TheVariants.{Finished, Stopped}
+use Rattle.scheduler_state.specs.declared.stepped.Stepped.{Stepped}
+use Rattle.scheduler_state.specs.declared.stepped.Stepped.TheVariants.{Stole, Acted, Suspended, GaveUp, Nothing, Over}
 use Rattle.dfd_core.specs.Cores.{IsAt, terms_at, end_of}
 use Rattle.dfd_core.specs.Plays.{TurnGoesOn, TurnsTo, IsDrawn}
 use Rattle.dfd_core.specs.Turns.{IsVictim}

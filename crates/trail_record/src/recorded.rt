@@ -1,4 +1,4 @@
-use run_end::RunEnd;
+use play_rules::RunEnd;
 use trail_meaning::Events;
 
 /// A recorded play.

@@ -1,5 +1,5 @@
 ghost use Rattle.std.specs.Prelude.{◌≡◌, ◌≤◌, List as AnyList, None, MatchResult};
-ghost use Rattle.bounded_list.specs.BoundedList.{entries, spare};
+ghost use Rattle.containers.specs.BoundedList.{entries, spare};
 ghost use Rattle.depth_first_run.specs.States.{Setting};
 ghost use Rattle.deque_machine.specs.Moments.{Moment};
 ghost use Rattle.deque_machine.specs.Runs.{Pair};
@@ -8,7 +8,7 @@ ghost use Rattle.trail_record.specs.Turns.{event_recorded, with_event, IsVictimO
 ghost use Rattle.trail_record.specs.Recorded.{KeepsEnd, PlaysRecorded, PlaysInPart};
 
 use crate::recorded::Recorded;
-use bounded_list::BoundedList;
+use containers::BoundedList;
 use dfd_core::{Choices, Core, Stepped, draw_turn, most_turns};
 use std::alloc::{AllocError, Global};
 use trail_meaning::{Events, TrailEvent, TrailKind};

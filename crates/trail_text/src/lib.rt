@@ -1,7 +1,7 @@
 //! The text of a trail, written and read.
 //!
 //! [`trail_text`] writes a trail. [`read_trail`] returns the trail whose text some bytes are, or the first line that breaks the
-//! form. The crate stands on `trail_meaning`, `bounded_list`, `byte_cuts`, `language_limits` and the lemmas of `run_report` on
+//! form. The crate stands on `trail_meaning`, `containers`, `byte_cuts`, `language_limits` and the lemmas of `run_report` on
 //! digits.
 //!
 //! Its theorem: what is written is the text of `specs/TrailText.antt`; what is read is the trail whose text the bytes are; other

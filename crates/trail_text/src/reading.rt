@@ -1,6 +1,6 @@
 ghost use Rattle.std.specs.Prelude.{◌≡◌, ◌≤◌, ◌++◌, length, map, IfOk, MatchResult};
 ghost use Rattle.std.specs.List.{concat};
-ghost use Rattle.bounded_list.specs.BoundedList.{entries};
+ghost use Rattle.containers.specs.BoundedList.{entries};
 ghost use Rattle.trail_meaning.specs.Shown.{shown_by_trail};
 ghost use Rattle.trail_meaning.specs.Ranges.{FitEvents};
 ghost use Rattle.trail_text.specs.TrailText.{event_line, IsTrail};

@@ -1,6 +1,6 @@
 ghost use Rattle.std.specs.Prelude.{◌≡◌, ◌++◌, ◌∷◌, [], OnOk, IfOk, map, length, string_bytes};
 ghost use Rattle.std.specs.List.{concat};
-ghost use Rattle.bounded_list.specs.BoundedList.{entries};
+ghost use Rattle.containers.specs.BoundedList.{entries};
 ghost use Rattle.trail_meaning.specs.Shown.{shown_by_trail};
 ghost use Rattle.trail_text.specs.TrailText.{head_line, source_front, event_line, end_line, trail_text};
 

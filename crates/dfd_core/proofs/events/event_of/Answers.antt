@@ -1,5 +1,5 @@
 use Rattle.std.proofs.Common.{◌∙◌}
-use Rattle.core_parts.proofs.Seats.{deque_there, read_some}
+use Rattle.scheduler_state.proofs.Seats.{deque_there, read_some}
 use Rattle.dfd_core.proofs.events.event_of.Goals as goal
 
 pub returns-then-is_none-clause-sound : goal.returns-then-is_none-clause-sound

@@ -1,7 +1,7 @@
 use Rattle.std.proofs.Common.{◌≡◌, ℕ, ◌+◌, ap, sym, subst, ◌∙◌, arith}
 use Rattle.std.proofs.lemmas.Option.{none-some, same_Some}
-use Rattle.deque_machine.specs.Play.{IsFirst, CanMove, words_drawn}
-use Rattle.deque_machine.specs.Terms.{machine_of}
+use Rattle.open_periods.specs.Passed.Play.{IsFirst, CanMove, words_drawn}
+use Rattle.open_periods.specs.Passed.Terms.{machine_of}
 use Rattle.dfd_core.specs.Cores.{terms_at, workers_of, words_of_turn}
 use Rattle.dfd_core.proofs.turn.draw_turn.Goals as goal
 

@@ -1,4 +1,4 @@
-use Rattle.command_line.specs.Words.{number_of, values_of}
+use Rattle.command_line.specs.Arguments.{number_of, values_of}
 use Rattle.command_line.proofs.Commands.{sets_in_range, groups_in_range}
 use Rattle.dfd_laws.proofs.laws.commands_have_ranges.Goals as goal
 

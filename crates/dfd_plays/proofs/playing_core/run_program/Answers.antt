@@ -1,7 +1,7 @@
 use Rattle.std.proofs.Common.{[], subst, ap}
 use Rattle.block_check.specs.Checked.{program_of}
 use Rattle.deque_machine.specs.Moments.{opening}
-use Rattle.trail_record.specs.Played.Cores.{terms_at}
+use Rattle.trail_record.specs.Passed.Cores.{terms_at}
 use Rattle.par_tree.specs.View.{program_tree}
 use Rattle.dfd_plays.specs.CorePlays.{Played}
 use Rattle.dfd_plays.specs.PcgChoices.{coming_output}

@@ -1,7 +1,7 @@
 use Rattle.std.proofs.Common.{[], subst, ap}
 use Rattle.block_check.specs.Checked.{program_of}
 use Rattle.deque_machine.specs.Moments.{opening}
-use Rattle.ready_core.specs.Cores.{terms_at}
+use Rattle.async_core.specs.Cores.{terms_at}
 use Rattle.par_tree.specs.View.{program_tree}
 use Rattle.dfd_plays.specs.Async.{AsyncPlayed}
 use Rattle.dfd_plays.specs.PcgChoices.{coming_output}

@@ -1,7 +1,7 @@
 use Rattle.std.proofs.Common.{Some, subst, ap, ◌∙◌}
 use Rattle.std.proofs.lemmas.Result.{IfOk-weaker}
 use Rattle.block_check.specs.Checked.{program_of}
-use Rattle.bounded_list.specs.BoundedList.{entries}
+use Rattle.containers.specs.BoundedList.{entries}
 use Rattle.par_tree.specs.View.{program_tree}
 use Rattle.dfd_plays.specs.CorePlays.{PlayedAs}
 use Rattle.dfd_plays.specs.Play.{play_setting, play_terms, seeded_words}

@@ -1,5 +1,5 @@
 use Rattle.std.proofs.Common.{ap, ◌∙◌, refl}
-use Rattle.command_line.specs.Words.{words_of}
+use Rattle.command_line.specs.Arguments.{arguments_of}
 use Rattle.dfd_run.proofs.GivenWords.{same_words}
 use Rattle.dfd_plays.specs.declared.status.Status.TheVariants.{OutOfMemory}
 use Rattle.dfd_run.proofs.program.exit_code.Goals as goal
@@ -9,5 +9,5 @@ returns-in_default-clause-ends g c = (OutOfMemory, (c.code.ensures, (tt, (refl, 
 
 pub returns-clause-ends : goal.returns-clause-ends
 returns-clause-ends g c =
-    let same = ap words_of c.deref.ensures.value ∙ c.in-Ok.ensures.given in
+    let same = ap arguments_of c.deref.ensures.value ∙ c.in-Ok.ensures.given in
     (c.dfd.result, (c.code-2.ensures, (same_words _ _ _ _ _ _ _ c.dfd.result same c.dfd.ensures.ends, c.dfd.ensures.counts)))

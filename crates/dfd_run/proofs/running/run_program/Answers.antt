@@ -2,9 +2,9 @@ use Rattle.std.proofs.Common.{subst}
 use Rattle.std.proofs.lemmas.Result.{IfOk-weaker}
 use Rattle.block_check.specs.Checked.{program_of}
 use Rattle.command_line.specs.declared.setting.Setting.TheVariants.{Workers}
-use Rattle.trail_record.specs.Played.Cores.{terms_at}
-use Rattle.hall_runs.specs.Reports.{ComesTo}
-use Rattle.hall_runs.specs.declared.ran.Ran.TheVariants.{Finished, Stopped}
+use Rattle.dfd_core.specs.Cores.{terms_at}
+use Rattle.hall_threads.specs.Reports.{ComesTo}
+use Rattle.hall_threads.specs.declared.ran.Ran.TheVariants.{Finished, Stopped}
 use Rattle.par_tree.specs.View.{program_tree}
 use Rattle.dfd_plays.specs.Play.{play_setting}
 use Rattle.dfd_plays.proofs.Plays.{both_ok}

@@ -1,6 +1,6 @@
 use Rattle.std.proofs.Common.{◌+◌, ◌∙◌, length, ap}
 use Rattle.par_tree.specs.View.{body_tree}
-use Rattle.accepted_laws.specs.Sizes.{body_size}
+use Rattle.accepted_source.specs.Sizes.{body_size}
 use Rattle.node_table.specs.Shown.{nodes_shown, ret_shown}
 use Rattle.frame_code.specs.Scopes.{functions_in, functions_of, names_of_scope}
 use Rattle.frame_code.proofs.Gathering.{func_made}

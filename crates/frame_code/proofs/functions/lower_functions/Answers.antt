@@ -3,7 +3,7 @@ use Rattle.std.proofs.lemmas.List.{drop_all, map-append}
 use Rattle.par_tree.specs.View.{func_tree}
 use Rattle.block_check.specs.Shown.{funcs_tree}
 use Rattle.frame_code.specs.Numbers.{func_names}
-use Rattle.accepted_laws.specs.Sizes.{functions_size}
+use Rattle.accepted_source.specs.Sizes.{functions_size}
 use Rattle.frame_code.proofs.Having.{func_has, func_size}
 use Rattle.node_table.specs.Shown.{nodes_shown, func_shown, funcs_shown}
 use Rattle.node_table.proofs.Lists.{at_item}

@@ -1,7 +1,7 @@
 use Rattle.std.proofs.Common.{◌≡◌, ◌+◌, length, drop}
 use Rattle.block_check.specs.Shown.{funcs_tree}
 use Rattle.frame_code.specs.Numbers.{func_names}
-use Rattle.accepted_laws.specs.Sizes.{functions_size}
+use Rattle.accepted_source.specs.Sizes.{functions_size}
 use Rattle.node_table.specs.Shown.{nodes_shown, funcs_shown}
 use Rattle.frame_code.proofs.Gathering.{Gathered}
 use Rattle.frame_code.proofs.functions.lower_functions.Given as goal

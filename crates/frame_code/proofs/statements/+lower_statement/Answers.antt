@@ -3,7 +3,7 @@ use Rattle.std.proofs.lemmas.List.{drop_all, length-map, map-append, map-set}
 use Rattle.par_tree.specs.Tree.{Body}
 use Rattle.par_tree.specs.View.{expr_tree, stmt_tree, body_tree}
 use Rattle.par_names.specs.Rows.{rows_tree}
-use Rattle.accepted_laws.specs.Sizes.{stmt_size, body_size}
+use Rattle.accepted_source.specs.Sizes.{stmt_size, body_size}
 use Rattle.node_table.specs.Programs.{IsBody}
 use Rattle.node_table.specs.Shown.{expr_shown, kind_shown, node_shown, nodes_shown}
 use Rattle.node_table.proofs.Lists.{at_item}

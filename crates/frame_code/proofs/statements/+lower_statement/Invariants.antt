@@ -1,7 +1,7 @@
 use Rattle.std.proofs.Common.{◌≡◌, ◌+◌, length, drop}
 use Rattle.par_tree.specs.View.{stmt_tree, body_tree}
 use Rattle.par_names.specs.Rows.{rows_tree}
-use Rattle.accepted_laws.specs.Sizes.{body_size}
+use Rattle.accepted_source.specs.Sizes.{body_size}
 use Rattle.node_table.specs.Shown.{nodes_shown}
 use Rattle.frame_code.specs.Scopes.{functions_of, names_of_scope}
 use Rattle.frame_code.proofs.Tables.{Walked}

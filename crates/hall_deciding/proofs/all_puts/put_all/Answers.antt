@@ -2,9 +2,9 @@ use Rattle.std.proofs.Common.{◌+◌, ◌<◌, [], ◌∷◌, inl, refl, sym, a
 use Rattle.turn_table.specs.Notes.{HasAs}
 use Rattle.turn_table.proofs.Left.{left_of_one, first_of_two}
 use Rattle.turn_table.specs.Backs.{unchanged}
-use Rattle.hall_turns.specs.declared.seat_note.SeatNote.{SeatNote}
-use Rattle.hall_turns.specs.declared.slot.Slot.TheVariants as slots
-use Rattle.hall_turns.specs.Takes.{HallSeat}
+use Rattle.hall_slots.specs.declared.seat_note.SeatNote.{SeatNote}
+use Rattle.hall_slots.specs.declared.slot.Slot.TheVariants as slots
+use Rattle.hall_slots.specs.Takes.{HallSeat}
 use Rattle.hall_deciding.specs.Puts.{note_of}
 use Rattle.hall_deciding.proofs.Putting.{given_back}
 use Rattle.hall_deciding.proofs.all_puts.put_all.Goals as goal

@@ -1,7 +1,7 @@
 use Rattle.std.proofs.Common.{◌+◌, [], ◌∷◌, sym, ◌∙◌}
 use Rattle.turn_table.specs.Hands.{shown_by}
 use Rattle.turn_table.specs.Tables.{key_of}
-use Rattle.hall_turns.specs.declared.slot.Slot.TheVariants as slots
+use Rattle.hall_slots.specs.declared.slot.Slot.TheVariants as slots
 use Rattle.hall_deciding.proofs.Putting.{all_keeps, all_left, has_put, named_after}
 use Rattle.hall_deciding.proofs.all_puts.write_all.Goals as goal
 

@@ -1,8 +1,8 @@
 use Rattle.std.proofs.Common.{◌+◌, [], ◌∷◌, sym, ap, ◌∙◌}
 use Rattle.turn_table.specs.Hands.{shown_by}
 use Rattle.turn_table.specs.Tables.{key_of}
-use Rattle.hall_turns.specs.declared.slot.Slot.{Slot}
-use Rattle.hall_turns.specs.declared.slot.Slot.TheVariants as slots
+use Rattle.hall_slots.specs.declared.slot.Slot.{Slot}
+use Rattle.hall_slots.specs.declared.slot.Slot.TheVariants as slots
 use Rattle.hall_deciding.proofs.Putting.{list_keeps, list_left, has_put, named_here}
 use Rattle.hall_deciding.proofs.pair_puts.write_list.Goals as goal
 

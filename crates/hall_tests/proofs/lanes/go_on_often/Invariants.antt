@@ -1,4 +1,4 @@
-use Rattle.hall_runs.specs.Passed.Seated.{IsIn, IsProgramOf}
+use Rattle.hall_threads.specs.Passed.Seated.{IsIn, IsProgramOf}
 use Rattle.hall_tests.proofs.lanes.go_on_often.Given as goal
 
 -- the seat is in

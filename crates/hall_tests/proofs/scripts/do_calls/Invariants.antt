@@ -1,5 +1,5 @@
 use Rattle.std.specs.Prelude.{All}
-use Rattle.hall_runs.specs.Passed.Seated.{IsIn, IsProgramOf}
+use Rattle.hall_threads.specs.Passed.Seated.{IsIn, IsProgramOf}
 use Rattle.hall_tests.proofs.scripts.do_calls.Given as goal
 
 -- all seats are in

@@ -1,8 +1,8 @@
 use Rattle.std.proofs.Common.{refl, sym, subst}
-use Rattle.lawful_books.specs.Lists.{Each}
+use Rattle.hall_slots.specs.Passed.Lists.{Each}
 use Rattle.thread_frames.specs.Points.{IsAtPoint}
 use Rattle.turn_table.specs.Tables.{key_of}
-use Rattle.hall_turns.specs.Keys.{table_of, quota_of}
+use Rattle.hall_slots.specs.Keys.{table_of, quota_of}
 use Rattle.hall_deciding.specs.Taken.{list_and_lane}
 use Rattle.owner_acts.proofs.Readied.{was}
 use Rattle.owner_acts.proofs.Roomier.{has_from, rest_from, shows_unowned_from, unowned_from}

@@ -1,6 +1,6 @@
 use Rattle.std.proofs.Common.{subst}
-use Rattle.hall_turns.specs.declared.list_slot.ListSlot.{ListSlot}
-use Rattle.hall_turns.specs.Lists.{ShowsUnowned, HasNoOwner}
+use Rattle.hall_slots.specs.declared.list_slot.ListSlot.{ListSlot}
+use Rattle.hall_slots.specs.ListCalls.{ShowsUnowned, HasNoOwner}
 use Rattle.owner_acts.proofs.give_ups.give_up_in.Goals as goal
 
 pub returns-clause-shown : goal.returns-clause-shown

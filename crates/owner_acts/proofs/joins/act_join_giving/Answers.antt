@@ -1,11 +1,11 @@
 use Rattle.std.proofs.Common.{refl, sym, subst}
-use Rattle.bounded_list.specs.BoundedList.{spare}
-use Rattle.lawful_books.specs.Lists.{Each}
+use Rattle.containers.specs.BoundedList.{spare}
+use Rattle.hall_slots.specs.Passed.Lists.{Each}
 use Rattle.thread_frames.specs.Points.{IsAtPoint}
 use Rattle.thread_frames.specs.Views.{join_words_of}
 use Rattle.thread_frames.specs.declared.next.Next.TheVariants as nexts
 use Rattle.turn_table.specs.Tables.{key_of}
-use Rattle.hall_turns.specs.Keys.{table_of, quota_of}
+use Rattle.hall_slots.specs.Keys.{table_of, quota_of}
 use Rattle.hall_deciding.specs.Passed.Here.{pool_with}
 use Rattle.hall_deciding.specs.Taken.{pool_and_lane}
 use Rattle.owner_acts.proofs.Roomier.{takes_from}

@@ -1,10 +1,10 @@
 use Rattle.std.proofs.Common.{refl, sym, subst}
-use Rattle.bounded_list.specs.BoundedList.{spare}
-use Rattle.lawful_books.specs.Lists.{Each}
+use Rattle.containers.specs.BoundedList.{spare}
+use Rattle.hall_slots.specs.Passed.Lists.{Each}
 use Rattle.thread_frames.specs.Points.{IsAtPoint}
 use Rattle.thread_frames.specs.Views.{join_words_of}
 use Rattle.turn_table.specs.Tables.{key_of}
-use Rattle.hall_turns.specs.Keys.{table_of, quota_of}
+use Rattle.hall_slots.specs.Keys.{table_of, quota_of}
 use Rattle.hall_deciding.specs.Taken.{all_three}
 use Rattle.owner_acts.proofs.Readied.{was, given_sound}
 use Rattle.owner_acts.proofs.Roomier.{takes_from}

@@ -5,8 +5,8 @@ use Rattle.thread_frames.specs.Children.{IsOnlyNewest}
 use Rattle.thread_frames.specs.Views.{children_of}
 use Rattle.thread_frames.specs.declared.ended.Ended.{Ended}
 use Rattle.thread_map.specs.Kept.{kept_under}
-use Rattle.hall_deciding.specs.Passed.Results.{HasCome, IsToCome}
-use Rattle.hall_turns.specs.declared.list_slot.ListSlot.{ListSlot}
+use Rattle.hall_deciding.specs.Passed.ThreadActionsResults.{HasCome, IsToCome}
+use Rattle.hall_slots.specs.declared.list_slot.ListSlot.{ListSlot}
 use Rattle.owner_acts.proofs.Handed.{has_result}
 use Rattle.owner_acts.proofs.kept_joins.hand_over_in.Goals as goal
 

@@ -1,6 +1,6 @@
 use Rattle.std.proofs.Common.{subst}
-use Rattle.hall_turns.specs.declared.list_slot.ListSlot.{ListSlot}
-use Rattle.hall_turns.specs.Lists.{IsGone}
+use Rattle.hall_slots.specs.declared.list_slot.ListSlot.{ListSlot}
+use Rattle.hall_slots.specs.ListCalls.{IsGone}
 use Rattle.owner_acts.proofs.waits.suspend_in.Goals as goal
 
 pub returns-clause-places : goal.returns-clause-places

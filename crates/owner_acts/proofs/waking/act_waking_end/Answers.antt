@@ -1,15 +1,15 @@
 use Rattle.std.proofs.Common.{◌∷◌, [], refl, sym, ap, ◌∙◌, subst}
-use Rattle.bounded_list.specs.BoundedList.{spare}
+use Rattle.containers.specs.BoundedList.{spare}
 use Rattle.dag_order.specs.declared.thread_id.ThreadId.{ThreadId}
-use Rattle.lawful_books.specs.Lists.{Each}
+use Rattle.hall_slots.specs.Passed.Lists.{Each}
 use Rattle.thread_frames.specs.Points.{IsAtPoint}
 use Rattle.thread_frames.specs.Views.{label_of}
 use Rattle.thread_map.specs.Kept.{kept_under}
-use Rattle.thread_points.specs.Points.{words_at_end}
+use Rattle.hall_deciding.specs.Passed.Points.{words_at_end}
 use Rattle.turn_table.specs.Tables.{key_of}
 use Rattle.hall_deciding.specs.Passed.ListCalls.{TakesWaiting}
 use Rattle.hall_deciding.specs.Taken.{all_three}
-use Rattle.hall_turns.specs.Keys.{table_of, quota_of}
+use Rattle.hall_slots.specs.Keys.{table_of, quota_of}
 use Rattle.owner_acts.proofs.Readied.{was, given_sound}
 use Rattle.owner_acts.proofs.Roomier.{takes_from}
 use Rattle.hall_deciding.specs.Passed.Here.{pool_with}

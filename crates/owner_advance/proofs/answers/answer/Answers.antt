@@ -1,6 +1,6 @@
 use Rattle.turn_table.specs.Tables.{key_of}
 use Rattle.turn_table.proofs.Standing.{has_as}
-use Rattle.hall_turns.specs.declared.slot.Slot.TheVariants as slots
+use Rattle.hall_slots.specs.declared.slot.Slot.TheVariants as slots
 use Rattle.owner_advance.proofs.Answered.{answer_keeps}
 use Rattle.owner_advance.proofs.answers.answer.Goals as goal
 

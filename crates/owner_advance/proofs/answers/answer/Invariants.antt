@@ -1,5 +1,5 @@
 -- The seat is answered the end that is kept in the list.
-use Rattle.hall_seats.specs.Halting.{end_in}
+use Rattle.hall_slots.specs.Halting.{end_in}
 use Rattle.owner_advance.proofs.answers.answer.Given as goal
 
 abbrev pub ghosts-put_back : goal.ghosts-put_back

@@ -1,7 +1,7 @@
 use Rattle.std.proofs.Common.{refl, sym, ap, ◌∙◌}
 use Rattle.std.specs.Option.{option_map}
 use Rattle.std.specs.Prelude.{Some}
-use Rattle.hall_turns.specs.Shown.{running_shown}
+use Rattle.hall_slots.specs.Shown.{running_shown}
 use Rattle.owner_advance.proofs.rooms.reserve_running.Goals as goal
 
 pub returns-clause-shown : goal.returns-clause-shown

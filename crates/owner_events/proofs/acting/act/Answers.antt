@@ -1,8 +1,8 @@
 use Rattle.std.proofs.Common.{◌+◌, ◌∙◌, inl, sym, subst}
 use Rattle.std.specs.Prelude.{Err}
-use Rattle.bounded_list.specs.BoundedList.{spare}
+use Rattle.containers.specs.BoundedList.{spare}
 use Rattle.turn_table.specs.Tables.{key_of}
-use Rattle.hall_turns.specs.declared.slot.Slot.TheVariants as slots
+use Rattle.hall_slots.specs.declared.slot.Slot.TheVariants as slots
 use Rattle.owner_advance.specs.Advancing.{HasCome}
 use Rattle.owner_advance.specs.declared.advancing.AdvanceRefused.{AdvanceRefused}
 use Rattle.owner_events.proofs.Following.{all_too}

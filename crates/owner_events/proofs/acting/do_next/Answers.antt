@@ -5,9 +5,9 @@ use Rattle.owner_events.specs.Acting.{Does}
 use Rattle.owner_events.proofs.Deciding as deciding
 use Rattle.owner_acts.specs.Quotas.{MayUse}
 use Rattle.owner_events.specs.Ready.{IsReadyTo}
-use Rattle.thread_events.specs.Readiness.{IsReadiness}
-use Rattle.thread_events.specs.declared.readiness.Readiness.TheVariants.{Ready}
-use Rattle.hall_turns.specs.Keys.{quota_of}
+use Rattle.thread_actions.specs.Readiness.{IsReadiness}
+use Rattle.thread_actions.specs.declared.readiness.Readiness.TheVariants.{Ready}
+use Rattle.hall_slots.specs.Keys.{quota_of}
 use Rattle.owner_events.proofs.acting.do_next.Goals as goal
 
 pub fork-requires-clause-ready : goal.fork-requires-clause-ready

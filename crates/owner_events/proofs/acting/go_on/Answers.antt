@@ -3,10 +3,10 @@ use Rattle.turn_table.specs.Tables.{key_of}
 use Rattle.owner_events.specs.Acting.{Does}
 use Rattle.owner_events.proofs.Deciding as deciding
 use Rattle.owner_events.specs.Ready.{IsReadyTo}
-use Rattle.thread_events.specs.Readiness.{IsReadiness}
-use Rattle.thread_events.specs.declared.readiness.Readiness.TheVariants.{Ready, Spent, Missing}
-use Rattle.hall_turns.specs.Keys.{quota_of}
-use Rattle.dummy_tree.specs.QuotaWords.{quota_words}
+use Rattle.thread_actions.specs.Readiness.{IsReadiness}
+use Rattle.thread_actions.specs.declared.readiness.Readiness.TheVariants.{Ready, Spent, Missing}
+use Rattle.hall_slots.specs.Keys.{quota_of}
+use Rattle.depth_first_list.specs.QuotaWords.{quota_words}
 use Rattle.owner_events.proofs.acting.go_on.Goals as goal
 
 pub do_next-requires-clause-uses : goal.do_next-requires-clause-uses

@@ -1,5 +1,5 @@
 use Rattle.turn_table.specs.Tables.{key_of}
-use Rattle.owner_acts.specs.Decided.Taken.{its_lane}
+use Rattle.owner_acts.specs.Passed.Taken.{its_lane}
 use Rattle.owner_events.proofs.Counted.{stopped}
 use Rattle.owner_events.proofs.counting.count_lane.Goals as goal
 

@@ -1,11 +1,11 @@
 use Rattle.std.proofs.Common.{◌≡◌, inl, sym, subst}
 use Rattle.std.specs.Prelude.{false}
-use Rattle.bounded_list.specs.BoundedList.{spare}
+use Rattle.containers.specs.BoundedList.{spare}
 use Rattle.thread_frames.specs.Views.{children_of}
 use Rattle.thread_frames.specs.declared.next.Next.TheVariants as nexts
 use Rattle.turn_table.specs.Tables.{key_of}
-use Rattle.owner_acts.specs.Decided.Taken.{list_and_lane}
-use Rattle.hall_turns.specs.declared.slot.Slot.TheVariants as slots
+use Rattle.owner_acts.specs.Passed.Taken.{list_and_lane}
+use Rattle.hall_slots.specs.declared.slot.Slot.TheVariants as slots
 use Rattle.owner_events.proofs.Following.{all_too}
 use Rattle.owner_events.specs.Holding.{IsBefore}
 use Rattle.owner_events.proofs.Failing.{at_list}

@@ -1,8 +1,8 @@
 use Rattle.std.proofs.Common.{sym, ap, ◌∙◌}
 use Rattle.thread_map.specs.Kept.{kept_under}
 use Rattle.thread_frames.specs.declared.thread.Thread.{Thread}
-use Rattle.thread_state.specs.Joins.{released}
-use Rattle.hall_turns.specs.declared.list_slot.ListSlot.{ListSlot}
+use Rattle.thread_frames.specs.Passed.Joins.{released}
+use Rattle.hall_slots.specs.declared.list_slot.ListSlot.{ListSlot}
 use Rattle.owner_events.proofs.joins.kept_words.Goals as goal
 
 pub returns-in-Some : goal.returns-in-Some

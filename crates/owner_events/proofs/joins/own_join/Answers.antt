@@ -1,12 +1,12 @@
 use Rattle.std.proofs.Common.{◌≡◌, inr, refl, sym, subst, arith}
 use Rattle.std.specs.Prelude.{None, Some, IsTrue}
-use Rattle.bounded_list.specs.BoundedList.{spare}
+use Rattle.containers.specs.BoundedList.{spare}
 use Rattle.thread_frames.specs.Actions.{IsJoin, is_there}
 use Rattle.thread_frames.specs.Views.{children_of, join_words_of, newest}
 use Rattle.thread_frames.specs.declared.next.Next.TheVariants as nexts
 use Rattle.turn_table.specs.Tables.{key_of}
-use Rattle.owner_acts.specs.Decided.Taken.{its_lane}
-use Rattle.hall_turns.specs.declared.event.Event.TheVariants.{Did}
+use Rattle.owner_acts.specs.Passed.Taken.{its_lane}
+use Rattle.hall_slots.specs.declared.event.Event.TheVariants.{Did}
 use Rattle.owner_events.proofs.Failing.{at_none}
 use Rattle.owner_events.specs.Needs.{MayTry}
 use Rattle.owner_events.proofs.Doing.{exit, here_too, counted_leaves}

@@ -1,14 +1,14 @@
 use Rattle.std.proofs.Common.{[], ◌∷◌, inl, refl, sym, subst, arith}
 use Rattle.std.specs.Prelude.{None, Some}
-use Rattle.bounded_list.specs.BoundedList.{spare}
+use Rattle.containers.specs.BoundedList.{spare}
 use Rattle.thread_frames.specs.Actions.{IsDummy}
 use Rattle.thread_frames.specs.declared.next.Next.TheVariants as nexts
 use Rattle.turn_table.specs.Tables.{key_of}
 use Rattle.turn_table.specs.declared.look.Look.TheVariants.{Counted}
-use Rattle.owner_acts.specs.Decided.Rooms.{HasMoreBooks}
-use Rattle.owner_acts.specs.Decided.Taken.{list_and_lane}
-use Rattle.hall_turns.specs.declared.event.Event.TheVariants.{Did}
-use Rattle.hall_turns.specs.declared.slot.Slot.TheVariants as slots
+use Rattle.owner_acts.specs.Passed.Rooms.{HasMoreBooks}
+use Rattle.owner_acts.specs.Passed.Taken.{list_and_lane}
+use Rattle.hall_slots.specs.declared.event.Event.TheVariants.{Did}
+use Rattle.hall_slots.specs.declared.slot.Slot.TheVariants as slots
 use Rattle.owner_acts.specs.Pauses.{CanClose}
 use Rattle.owner_events.proofs.Following.{fails}
 use Rattle.owner_events.specs.Holding.{IsBefore}

@@ -1,15 +1,15 @@
 use Rattle.std.proofs.Common.{[], inl, inr, refl, sym, ap, ◌∙◌, subst, arith}
 use Rattle.std.specs.Prelude.{None, Some}
-use Rattle.bounded_list.specs.BoundedList.{spare}
+use Rattle.containers.specs.BoundedList.{spare}
 use Rattle.turn_table.specs.Tables.{key_of}
 use Rattle.turn_table.specs.Seats.{with_hand}
-use Rattle.owner_acts.specs.Decided.ListRuns.{IsTooMuch}
-use Rattle.owner_acts.specs.Decided.Rooms.{HasMoreBooks}
-use Rattle.owner_acts.specs.Decided.Writes.{told_note}
-use Rattle.owner_acts.specs.Decided.Taken.{list_and_lane}
-use Rattle.hall_turns.specs.Takes.{HallSeat}
-use Rattle.hall_turns.specs.declared.event.Event.TheVariants.{GaveUp}
-use Rattle.hall_turns.specs.declared.slot.Slot.TheVariants as slots
+use Rattle.owner_acts.specs.Passed.ListRuns.{IsTooMuch}
+use Rattle.owner_acts.specs.Passed.Rooms.{HasMoreBooks}
+use Rattle.owner_acts.specs.Passed.Writes.{told_note}
+use Rattle.owner_acts.specs.Passed.Taken.{list_and_lane}
+use Rattle.hall_slots.specs.Takes.{HallSeat}
+use Rattle.hall_slots.specs.declared.event.Event.TheVariants.{GaveUp}
+use Rattle.hall_slots.specs.declared.slot.Slot.TheVariants as slots
 use Rattle.owner_events.proofs.Following.{fails}
 use Rattle.owner_events.specs.Holding.{IsBefore}
 use Rattle.owner_events.proofs.Failing.{at_list, at_none}

@@ -1,13 +1,13 @@
 use Rattle.std.proofs.Common.{◌≡◌, inr, refl, sym, ◌∙◌, subst, arith}
 use Rattle.std.specs.Prelude.{None, Some}
-use Rattle.bounded_list.specs.BoundedList.{spare}
+use Rattle.containers.specs.BoundedList.{spare}
 use Rattle.thread_frames.specs.declared.ended.Ended.{Ended}
 use Rattle.thread_frames.specs.declared.next.Next.TheVariants as nexts
 use Rattle.thread_map.specs.Kept.{kept_under}
-use Rattle.thread_state.specs.Joins.{released}
+use Rattle.thread_frames.specs.Passed.Joins.{released}
 use Rattle.turn_table.specs.Tables.{key_of}
-use Rattle.owner_acts.specs.Decided.Taken.{list_and_lane}
-use Rattle.hall_turns.specs.declared.event.Event.TheVariants.{Did}
+use Rattle.owner_acts.specs.Passed.Taken.{list_and_lane}
+use Rattle.hall_slots.specs.declared.event.Event.TheVariants.{Did}
 use Rattle.owner_acts.specs.Kept.{CanJoinKept}
 use Rattle.owner_acts.specs.Ready.{IsReady}
 use Rattle.owner_advance.proofs.Returned.{same_list}

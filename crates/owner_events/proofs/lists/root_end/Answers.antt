@@ -1,15 +1,15 @@
 use Rattle.std.proofs.Common.{◌≡◌, [], inl, refl, sym, ◌∙◌, subst, arith}
 use Rattle.std.specs.Prelude.{None, Some}
-use Rattle.bounded_list.specs.BoundedList.{spare}
+use Rattle.containers.specs.BoundedList.{spare}
 use Rattle.dag_order.specs.Births.{root}
 use Rattle.thread_frames.specs.Actions.{IsEnd}
 use Rattle.thread_frames.specs.Views.{label_of}
 use Rattle.thread_frames.specs.declared.next.Next.TheVariants as nexts
 use Rattle.turn_table.specs.Tables.{key_of}
-use Rattle.owner_acts.specs.Decided.Rooms.{HasMoreToLeave}
-use Rattle.owner_acts.specs.Decided.Taken.{list_and_lane}
-use Rattle.hall_turns.specs.declared.event.Event.TheVariants.{Did}
-use Rattle.hall_turns.specs.declared.list_slot.ListSlot.{ListSlot}
+use Rattle.owner_acts.specs.Passed.Rooms.{HasMoreToLeave}
+use Rattle.owner_acts.specs.Passed.Taken.{list_and_lane}
+use Rattle.hall_slots.specs.declared.event.Event.TheVariants.{Did}
+use Rattle.hall_slots.specs.declared.list_slot.ListSlot.{ListSlot}
 use Rattle.owner_acts.specs.Ends.{CanLeave}
 use Rattle.owner_acts.specs.Pauses.{CanClose}
 use Rattle.owner_events.proofs.Failing.{at_none}

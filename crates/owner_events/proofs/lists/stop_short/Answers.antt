@@ -1,5 +1,5 @@
 use Rattle.turn_table.specs.Tables.{key_of}
-use Rattle.owner_acts.specs.Decided.Taken.{list_and_lane}
+use Rattle.owner_acts.specs.Passed.Taken.{list_and_lane}
 use Rattle.owner_events.proofs.Trying.{may_want}
 use Rattle.owner_events.proofs.lists.stop_short.Goals as goal
 

@@ -1,11 +1,11 @@
 use Rattle.std.proofs.Common.{inl, refl, sym, subst, arith}
 use Rattle.std.specs.Prelude.{None}
-use Rattle.bounded_list.specs.BoundedList.{spare}
+use Rattle.containers.specs.BoundedList.{spare}
 use Rattle.thread_frames.specs.declared.next.Next.TheVariants as nexts
 use Rattle.turn_table.specs.Tables.{key_of}
-use Rattle.owner_acts.specs.Decided.Rooms.{HasMoreToWait}
-use Rattle.owner_acts.specs.Decided.Taken.{list_and_lane}
-use Rattle.hall_turns.specs.declared.event.Event.TheVariants.{Suspended}
+use Rattle.owner_acts.specs.Passed.Rooms.{HasMoreToWait}
+use Rattle.owner_acts.specs.Passed.Taken.{list_and_lane}
+use Rattle.hall_slots.specs.declared.event.Event.TheVariants.{Suspended}
 use Rattle.owner_events.proofs.Failing.{at_none}
 use Rattle.owner_events.specs.Needs.{MayTry}
 use Rattle.owner_events.proofs.FromList as from

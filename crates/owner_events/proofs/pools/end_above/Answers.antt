@@ -1,6 +1,6 @@
 use Rattle.std.proofs.Common.{◌≡◌, refl, sym, subst, arith}
 use Rattle.std.specs.Prelude.{Ok}
-use Rattle.bounded_list.specs.BoundedList.{spare}
+use Rattle.containers.specs.BoundedList.{spare}
 use Rattle.thread_frames.specs.declared.next.Next.TheVariants as nexts
 use Rattle.turn_table.specs.Tables.{key_of}
 use Rattle.owner_events.proofs.Asking.{asks_nothing}
@@ -9,7 +9,7 @@ use Rattle.owner_events.proofs.Failing.{at_pool}
 use Rattle.owner_events.proofs.FromPool as pool
 use Rattle.owner_events.specs.Acting.{Does}
 use Rattle.std.specs.Prelude.{◌<◌, List, ◌∷◌, length}
-use Rattle.thread_events.specs.Results.{FirstAwaits}
+use Rattle.thread_actions.specs.Results.{FirstAwaits}
 use Rattle.thread_frames.specs.Actions.{IsEnd}
 use Rattle.thread_frames.specs.Views.{label_of}
 use Rattle.thread_frames.specs.declared.thread.Thread.{Thread}

@@ -1,6 +1,6 @@
 use Rattle.std.proofs.Common.{◌+◌, ◌≤◌, refl, sym, subst, arith}
 use Rattle.std.specs.Prelude.{Ok}
-use Rattle.bounded_list.specs.BoundedList.{spare}
+use Rattle.containers.specs.BoundedList.{spare}
 use Rattle.thread_frames.specs.declared.next.Next.TheVariants as nexts
 use Rattle.turn_table.specs.Tables.{key_of}
 use Rattle.owner_events.proofs.Asking.{asks_fork}
@@ -11,7 +11,7 @@ use Rattle.owner_events.specs.Acting.{Does}
 use Rattle.depth_first_list.specs.Actions.{record_words}
 use Rattle.language_limits.specs.declared.TheConstants.{GREATEST_QUOTA}
 use Rattle.thread_frames.specs.Actions.{IsFork}
-use Rattle.owner_acts.specs.Decided.EventParts.{MayDoNext}
+use Rattle.owner_acts.specs.Passed.EventParts.{MayDoNext}
 use Rattle.owner_events.proofs.pools.fork.Goals as goal
 
 pub take_counted_pool-requires-clause-asks : goal.take_counted_pool-requires-clause-asks

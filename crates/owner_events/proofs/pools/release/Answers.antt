@@ -1,6 +1,6 @@
 use Rattle.std.proofs.Common.{◌≤◌, refl, sym, subst, arith}
 use Rattle.std.specs.Prelude.{Ok}
-use Rattle.bounded_list.specs.BoundedList.{spare}
+use Rattle.containers.specs.BoundedList.{spare}
 use Rattle.thread_frames.specs.declared.next.Next.TheVariants as nexts
 use Rattle.turn_table.specs.Tables.{key_of}
 use Rattle.owner_events.proofs.Asking.{asks_nothing}
@@ -10,7 +10,7 @@ use Rattle.owner_events.proofs.FromPool as pool
 use Rattle.owner_events.specs.Acting.{Does}
 use Rattle.thread_frames.specs.Actions.{IsRelease}
 use Rattle.thread_frames.specs.Views.{words_asked}
-use Rattle.owner_acts.specs.Decided.EventParts.{MayDoNext}
+use Rattle.owner_acts.specs.Passed.EventParts.{MayDoNext}
 use Rattle.owner_events.proofs.pools.release.Goals as goal
 
 pub take_counted_pool-requires-clause-asks : goal.take_counted_pool-requires-clause-asks

@@ -1,6 +1,6 @@
 use Rattle.std.proofs.Common.{sym, subst}
 use Rattle.turn_table.specs.Tables.{key_of}
-use Rattle.owner_acts.specs.Decided.Taken.{pool_and_lane}
+use Rattle.owner_acts.specs.Passed.Taken.{pool_and_lane}
 use Rattle.owner_events.proofs.CountedPool.{counts_pool}
 use Rattle.owner_events.proofs.Doing.{exit, here_too}
 use Rattle.owner_events.specs.Ready.{CountsPool}

@@ -1,7 +1,7 @@
 use Rattle.std.proofs.Common.{◌+◌, ◌≤◌, ◌<◌, refl, subst}
 use Rattle.turn_table.specs.Tables.{key_of}
-use Rattle.owner_acts.specs.Decided.Taken.{its_lane}
-use Rattle.hall_turns.specs.declared.slot.Slot.TheVariants as slots
+use Rattle.owner_acts.specs.Passed.Taken.{its_lane}
+use Rattle.hall_slots.specs.declared.slot.Slot.TheVariants as slots
 use Rattle.owner_events.specs.Holding.{IsPoolSlot}
 use Rattle.owner_events.proofs.Following.{is_before}
 use Rattle.owner_events.proofs.Trying.{busy, full_fails, pool_sound, stop_back}

@@ -1,5 +1,5 @@
 use Rattle.turn_table.specs.Tables.{key_of}
-use Rattle.owner_acts.specs.Decided.Taken.{all_three}
+use Rattle.owner_acts.specs.Passed.Taken.{all_three}
 use Rattle.owner_events.proofs.Trying.{may_want}
 use Rattle.owner_events.proofs.wholes.stop_with_all.Goals as goal
 

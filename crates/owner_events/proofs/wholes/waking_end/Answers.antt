@@ -1,15 +1,15 @@
 use Rattle.std.proofs.Common.{◌≡◌, ◌≤◌, ◌<◌, [], inr, refl, sym, ◌∙◌, subst, arith, length}
 use Rattle.std.specs.Prelude.{Some}
-use Rattle.bounded_list.specs.BoundedList.{spare}
+use Rattle.containers.specs.BoundedList.{spare}
 use Rattle.thread_frames.specs.Actions.{IsEnd}
 use Rattle.thread_frames.specs.Views.{label_of}
 use Rattle.thread_frames.specs.declared.next.Next.TheVariants as nexts
 use Rattle.thread_map.specs.Kept.{kept_under}
 use Rattle.turn_table.specs.Tables.{key_of}
-use Rattle.owner_acts.specs.Decided.Rooms.{HasMoreRoom}
-use Rattle.owner_acts.specs.Decided.Taken.{all_three}
-use Rattle.hall_turns.specs.declared.event.Event.TheVariants.{Did}
-use Rattle.hall_turns.specs.declared.slot.Slot.TheVariants as slots
+use Rattle.owner_acts.specs.Passed.Rooms.{HasMoreRoom}
+use Rattle.owner_acts.specs.Passed.Taken.{all_three}
+use Rattle.hall_slots.specs.declared.event.Event.TheVariants.{Did}
+use Rattle.hall_slots.specs.declared.slot.Slot.TheVariants as slots
 use Rattle.owner_acts.specs.Ends.{CanWake}
 use Rattle.owner_acts.specs.Ready.{IsReady}
 use Rattle.owner_events.proofs.Following.{fails}

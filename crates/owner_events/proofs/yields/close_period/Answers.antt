@@ -1,8 +1,8 @@
 use Rattle.std.proofs.Common.{subst, sym}
 use Rattle.turn_table.specs.Tables.{key_of}
-use Rattle.owner_acts.specs.Decided.Parts.{Has}
-use Rattle.hall_turns.specs.Lists.{ShowsUnowned, HasNoOwner, KeepsRest}
-use Rattle.hall_turns.specs.declared.list_slot.ListSlot.{ListSlot}
+use Rattle.hall_slots.specs.Passed.Parts.{Has}
+use Rattle.hall_slots.specs.ListCalls.{ShowsUnowned, HasNoOwner, KeepsRest}
+use Rattle.hall_slots.specs.declared.list_slot.ListSlot.{ListSlot}
 use Rattle.owner_events.proofs.Yielded as yielded
 use Rattle.owner_events.proofs.yields.close_period.Goals as goal
 

@@ -1,6 +1,6 @@
 use Rattle.std.proofs.Common.{◌+◌}
-use Rattle.hall_turns.specs.declared.slot.Slot.TheVariants as slots
-use Rattle.hall_turns.proofs.Pairing.{both_taken}
+use Rattle.hall_slots.specs.declared.slot.Slot.TheVariants as slots
+use Rattle.hall_slots.proofs.Pairing.{both_taken}
 use Rattle.owner_events.proofs.Busy.{busy_lane, busy_list}
 use Rattle.owner_events.proofs.yields.take_both.Goals as goal
 

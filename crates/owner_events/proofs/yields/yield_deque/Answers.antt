@@ -1,8 +1,8 @@
 use Rattle.std.proofs.Common.{◌∙◌, [], ap, subst, sym}
 use Rattle.turn_table.specs.Tables.{key_of}
-use Rattle.owner_acts.specs.Decided.Puts.{note_of, HasPut}
-use Rattle.owner_acts.specs.Decided.Notings.{Noting}
-use Rattle.hall_turns.specs.declared.seat_note.SeatNote.{SeatNote}
+use Rattle.owner_acts.specs.Passed.Puts.{note_of, HasPut}
+use Rattle.owner_acts.specs.Passed.Noting.{Noting}
+use Rattle.hall_slots.specs.declared.seat_note.SeatNote.{SeatNote}
 use Rattle.owner_advance.specs.Returning.{MayNote}
 use Rattle.owner_events.specs.Yielding.{noting_then, short_note, yielded_note}
 use Rattle.owner_events.proofs.Yielded as yielded

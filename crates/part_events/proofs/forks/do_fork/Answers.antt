@@ -1,8 +1,8 @@
 use Rattle.std.proofs.Common.{[], ◌∷◌, refl, ap, ◌∙◌}
 use Rattle.std.specs.Prelude.{pos}
-use Rattle.depth_first_list.specs.Actions.{record_words}
-use Rattle.period_books.specs.Periods.{open_shown}
-use Rattle.period_table.specs.Tables.{noted}
+use Rattle.hall_slots.specs.Passed.DepthFirstListActions.{record_words}
+use Rattle.open_periods.specs.Periods.{open_shown}
+use Rattle.open_periods.specs.Tables.{noted}
 use Rattle.thread_frames.specs.declared.next.Next.TheVariants.{Fork}
 use Rattle.part_events.proofs.Writing.{forked_written}
 use Rattle.part_events.proofs.Taking.{takes_words, taken_change}

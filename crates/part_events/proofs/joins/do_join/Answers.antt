@@ -1,6 +1,6 @@
 use Rattle.std.proofs.Common.{◌∙◌}
-use Rattle.depth_first_list.specs.Facts.{words_at}
-use Rattle.depth_first_run.specs.Run.{list_of}
+use Rattle.hall_slots.specs.Passed.Facts.{words_at}
+use Rattle.hall_slots.specs.Passed.Run.{list_of}
 use Rattle.part_events.proofs.Taking.{join_tells}
 use Rattle.part_events.proofs.joins.do_join.Goals as goal
 

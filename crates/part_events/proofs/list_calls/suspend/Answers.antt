@@ -2,7 +2,7 @@ use Rattle.std.proofs.Common.{◌∷◌, map, sym, ap, subst, ◌∙◌}
 use Rattle.std.proofs.lemmas.List.Sorted.{IsPermutation-map}
 use Rattle.std.specs.List.Sorted.{IsPermutation}
 use Rattle.thread_frames.specs.Kept.{waiting_shown}
-use Rattle.hall_law.specs.Values.{ListShown}
+use Rattle.hall_slots.specs.Passed.Values.{ListShown}
 use Rattle.part_events.proofs.list_calls.suspend.Goals as goal
 
 pub returns-clause-shown : goal.returns-clause-shown

@@ -1,6 +1,6 @@
 use Rattle.std.proofs.Common.{refl, ap, ◌∙◌}
 use Rattle.std.specs.Prelude.{pos}
-use Rattle.period_books.specs.Periods.{open_shown}
+use Rattle.open_periods.specs.Periods.{open_shown}
 use Rattle.thread_frames.specs.Views.{held_by}
 use Rattle.thread_frames.specs.declared.next.Next.TheVariants.{Fault}
 use Rattle.part_events.proofs.Writing.{alone_written}

@@ -2,8 +2,8 @@ use Rattle.std.proofs.Crossing
 use denote.Param.Send.{IsSend, IsSync, sendable}
 use denote.Param.SendFields.{declared_send, as_row_send, declared_sync, as_row_sync}
 use Rattle.node_table.proofs.code_expr.CodeExpr.TheLaws.TheKnot as knot
-use Rattle.core_parts.proofs.scheduler.Scheduler.TheSendSync as scheduler
-use Rattle.core_parts.specs.contracts.scheduler.Scheduler as parts
+use Rattle.scheduler_state.proofs.scheduler.Scheduler.TheSendSync as scheduler
+use Rattle.scheduler_state.specs.contracts.scheduler.Scheduler as parts
 use Rattle.dfd_core.specs.contracts.run.Core as core
 use Rattle.play_tests.proofs.handed_over.may_cross_threads.Goals as goal
 

@@ -1,6 +1,6 @@
 use Rattle.std.proofs.Common.{sym, ap, subst, refl}
 use Rattle.block_check.specs.Checked.{program_of}
-use Rattle.dummy_tree.specs.QuotaWords.{quota_words}
+use Rattle.depth_first_list.specs.QuotaWords.{quota_words}
 use Rattle.node_table.specs.Codes.{code_shown}
 use Rattle.node_table.specs.Programs.{IsTableOf}
 use Rattle.par_tree.specs.View.{program_tree}

@@ -1,5 +1,5 @@
 use Rattle.std.proofs.Common.{ap, sym}
-use Rattle.period_table.specs.Tables.{deque_of}
+use Rattle.open_periods.specs.Tables.{deque_of}
 use Rattle.play_tests.proofs.steps.give_up.Goals as goal
 
 pub give_up-requires : goal.give_up-requires

@@ -1,6 +1,6 @@
 use Rattle.std.proofs.Common.{◌++◌, ◌∷◌, [], ap, ◌∙◌}
-use Rattle.lawful_books.specs.Lists.{Each}
-use Rattle.bounded_list.specs.BoundedList.{entries}
+use Rattle.deque_machine.specs.Lists.{Each}
+use Rattle.containers.specs.BoundedList.{entries}
 use Rattle.std.proofs.lemmas.List.{map-append}
 use Rattle.prefix_laws.specs.Listing.{births_behind, books_behind}
 use Rattle.prefix_laws.specs.Naming.{ArePlaced, IsKnown}

@@ -1,6 +1,6 @@
 use Rattle.std.proofs.Common.{take}
 use Rattle.std.specs.List.{AllZip}
-use Rattle.bounded_list.specs.BoundedList.{entries}
+use Rattle.containers.specs.BoundedList.{entries}
 use Rattle.prefix_laws.specs.Listing.{births_behind, books_behind}
 use Rattle.prefix_laws.specs.Naming.{ArePlaced}
 use Rattle.prefix_laws.specs.Prefixes.{places_behind}

@@ -1,6 +1,6 @@
 use Rattle.std.proofs.Common.{ap, ◌∙◌}
 use Rattle.std.proofs.lemmas.Result.{IfOk-weaker}
-use Rattle.bounded_list.specs.BoundedList.{entries}
+use Rattle.containers.specs.BoundedList.{entries}
 use Rattle.prefix_laws.specs.Listing.{births_behind, books_behind}
 use Rattle.prefix_laws.specs.Prefixes.{places_behind}
 use Rattle.prefix_laws.proofs.Booking.{some_items, beside_listed, names_known, places_at}

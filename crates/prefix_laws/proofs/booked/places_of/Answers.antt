@@ -1,6 +1,6 @@
 use Rattle.std.proofs.Common.{◌++◌, ◌∷◌, [], sym, ap, ◌∙◌}
 use Rattle.std.proofs.Math.Logic.{∥∥₁_map}
-use Rattle.bounded_list.specs.BoundedList.{entries}
+use Rattle.containers.specs.BoundedList.{entries}
 use Rattle.prefix_laws.specs.Listing.{births_behind}
 use Rattle.prefix_laws.specs.Naming.{IsKnown, IsPlaced}
 use Rattle.prefix_laws.proofs.Places.{each_place}

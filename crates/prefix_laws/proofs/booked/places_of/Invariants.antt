@@ -1,5 +1,5 @@
 use Rattle.std.proofs.Common.{take}
-use Rattle.bounded_list.specs.BoundedList.{entries}
+use Rattle.containers.specs.BoundedList.{entries}
 use Rattle.prefix_laws.specs.Listing.{births_behind}
 use Rattle.prefix_laws.specs.Naming.{ArePlaced}
 use Rattle.prefix_laws.proofs.booked.places_of.Given as goal

@@ -2,7 +2,7 @@ use Rattle.std.proofs.Common.{sym, subst, ◌∙◌}
 use Rattle.std.proofs.lemmas.Result.{IfOk-weaker}
 use Rattle.deque_list.specs.Deques.{Deque}
 use Rattle.deque_machine.specs.Moments.{Rises}
-use Rattle.lawful_books.specs.Lists.{Each}
+use Rattle.deque_machine.specs.Lists.{Each}
 use Rattle.prefix_laws.specs.Listing.{births_behind}
 use Rattle.prefix_laws.specs.DequeLabels.{AreLabelled}
 use Rattle.prefix_laws.proofs.Sorting.{some_listed, all_labelled, threads_at, labels_rise}

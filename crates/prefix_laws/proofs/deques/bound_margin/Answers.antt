@@ -1,7 +1,7 @@
 use Rattle.std.proofs.Common.{sym, subst}
-use Rattle.core_parts.specs.declared.scheduler.Scheduler.{Scheduler}
+use Rattle.scheduler_state.specs.declared.scheduler.Scheduler.{Scheduler}
 use Rattle.node_table.specs.Codes.{code_shown}
-use Rattle.dummy_tree.specs.QuotaWords.{quota_words}
+use Rattle.depth_first_list.specs.QuotaWords.{quota_words}
 use Rattle.dfd_core.specs.Cores.{terms_at}
 use Rattle.prefix_laws.specs.Prefixes.{IsWithin, IsWithinBeside}
 use Rattle.prefix_laws.proofs.Cores.{within_at, within_it}

@@ -1,8 +1,8 @@
 use Rattle.std.proofs.Common.{◌≡◌, suc, Some, slice_get, arith, sym, ◌∙◌, refl}
 use denote.Ref.{Bor}
 use Rattle.std.proofs.lemmas.Option.{slice_get_read}
-use Rattle.bounded_list.specs.declared.bounded_list.BoundedList.{BoundedList}
-use Rattle.bounded_list.specs.BoundedList.{entries}
+use Rattle.containers.specs.declared.bounded_list.BoundedList.{BoundedList}
+use Rattle.containers.specs.BoundedList.{entries}
 use Rattle.dag_order.specs.declared.birth.Birth.{Birth}
 use Rattle.dag_order.proofs.BirthLemmas.{birth_found}
 use Rattle.prefix_laws.proofs.labels.birth_of.Goals as goal

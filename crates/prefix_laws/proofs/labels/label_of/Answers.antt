@@ -1,6 +1,6 @@
 use Rattle.std.proofs.Common.{◌≡◌, reverse}
 use Rattle.std.proofs.lemmas.List.{reverse-reverse}
-use Rattle.bounded_list.specs.BoundedList.{entries}
+use Rattle.containers.specs.BoundedList.{entries}
 use Rattle.prefix_laws.proofs.labels.label_of.Goals as goal
 
 pub returns : goal.returns

@@ -1,6 +1,6 @@
 use Rattle.std.proofs.Common.{sym}
 use Rattle.std.proofs.Math.Logic.{∥∥₁_elim}
-use Rattle.bounded_list.specs.BoundedList.{entries}
+use Rattle.containers.specs.BoundedList.{entries}
 use Rattle.dag_order.proofs.BirthLaws.{leads_on, label_or_stop}
 use Rattle.prefix_laws.specs.Listing.{births_behind}
 use Rattle.prefix_laws.proofs.Places.{not_the_root}

@@ -1,5 +1,5 @@
 use Rattle.std.proofs.Common.{◌-◌, length}
-use Rattle.bounded_list.specs.BoundedList.{entries}
+use Rattle.containers.specs.BoundedList.{entries}
 use Rattle.dag_order.specs.Births.{Leads}
 use Rattle.prefix_laws.specs.Listing.{births_behind}
 use Rattle.prefix_laws.proofs.labels.ordinals_up.Given as goal

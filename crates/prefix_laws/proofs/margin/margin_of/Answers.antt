@@ -1,5 +1,5 @@
 use Rattle.std.proofs.Common.{arith}
-use Rattle.dummy_tree.specs.QuotaWords.{quota_words}
+use Rattle.depth_first_list.specs.QuotaWords.{quota_words}
 use Rattle.prefix_laws.proofs.Bounding.{beside_of, live_within, margin_at}
 use Rattle.prefix_laws.proofs.margin.margin_of.Goals as goal
 

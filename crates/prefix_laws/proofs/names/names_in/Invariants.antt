@@ -1,5 +1,5 @@
 use Rattle.std.proofs.Common.{◌≡◌, List, map, take}
-use Rattle.bounded_list.specs.BoundedList.{entries}
+use Rattle.containers.specs.BoundedList.{entries}
 use Rattle.depth_first_run.specs.States.{Item}
 use Rattle.depth_first_run.specs.Run.{actions_of}
 use Rattle.serial_journal.specs.Telling.{Tells}

@@ -1,8 +1,8 @@
 use Rattle.std.proofs.Common.{◌≡◌, ap, ◌∙◌, arith}
 use Rattle.std.proofs.lemmas.Slice.Zip.{AllZip-long}
-use Rattle.bounded_list.specs.BoundedList.{entries}
-use Rattle.lawful_books.specs.Books.{done_in, periods_ahead}
-use Rattle.lawful_books.proofs.Keeping.{one_prefix_of}
+use Rattle.containers.specs.BoundedList.{entries}
+use Rattle.deque_machine.specs.Books.{done_in, periods_ahead}
+use Rattle.deque_machine.proofs.Keeping.{one_prefix_of}
 use Rattle.serial_journal.specs.Telling.{ShowsAction}
 use Rattle.depth_first_run.specs.Run.{list_of}
 use Rattle.prefix_laws.specs.Prefixes.{places_behind, many_past}

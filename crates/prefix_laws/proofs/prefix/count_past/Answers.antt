@@ -1,7 +1,7 @@
 use Rattle.std.proofs.Common.{◌≡◌, ap, ◌∙◌, sym, arith}
 use Rattle.std.specs.Prelude.{cond}
-use Rattle.bounded_list.specs.BoundedList.{entries}
-use Rattle.dfd_core.proofs.Passed.Marked.{byte_is}
+use Rattle.containers.specs.BoundedList.{entries}
+use Rattle.scheduler_state.proofs.Marked.{byte_is}
 use Rattle.prefix_laws.specs.Prefixes.{one_if_past}
 use Rattle.prefix_laws.proofs.Counting.{past_more, one_at_most}
 use Rattle.prefix_laws.proofs.prefix.count_past.Goals as goal

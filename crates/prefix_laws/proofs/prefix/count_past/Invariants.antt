@@ -1,5 +1,5 @@
 use Rattle.std.proofs.Common.{◌≡◌, ◌≤◌, take}
-use Rattle.bounded_list.specs.BoundedList.{entries}
+use Rattle.containers.specs.BoundedList.{entries}
 use Rattle.prefix_laws.specs.Prefixes.{many_past, places_behind}
 use Rattle.prefix_laws.proofs.prefix.count_past.Given as goal
 

@@ -1,8 +1,8 @@
 use Rattle.std.proofs.Common.{◌≡◌, ◌<◌, ℕ, Some}
 use Rattle.std.specs.Prelude.{slice_get}
-use Rattle.bounded_list.specs.declared.bounded_list.BoundedList.{BoundedList}
-use Rattle.bounded_list.specs.BoundedList.{entries}
-use Rattle.lawful_books.specs.Lists.{Among}
+use Rattle.containers.specs.declared.bounded_list.BoundedList.{BoundedList}
+use Rattle.containers.specs.BoundedList.{entries}
+use Rattle.deque_machine.specs.Lists.{Among}
 use Rattle.prefix_laws.proofs.prefix.is_done.Given as goal
 
 -- it stands in none of those so far

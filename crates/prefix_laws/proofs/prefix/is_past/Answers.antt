@@ -1,6 +1,6 @@
 use Rattle.std.proofs.Common.{sym, arith}
 use Rattle.std.proofs.lemmas.Option.{slice_get_within}
-use Rattle.bounded_list.specs.BoundedList.{entries}
+use Rattle.containers.specs.BoundedList.{entries}
 use Rattle.prefix_laws.proofs.Counting.{past_there, none_past}
 use Rattle.prefix_laws.proofs.prefix.is_past.Goals as goal
 

@@ -1,7 +1,7 @@
 use Rattle.std.proofs.Common.{sym, subst, inl, inr, refl}
 use Rattle.std.proofs.lemmas.Bool.{cases_eq}
-use Rattle.bounded_list.specs.BoundedList.{entries}
-use Rattle.lawful_books.specs.Lists.{Among}
+use Rattle.containers.specs.BoundedList.{entries}
+use Rattle.deque_machine.specs.Lists.{Among}
 use Rattle.prefix_laws.specs.Prefixes.{all_ran, places_behind}
 use Rattle.prefix_laws.proofs.Counting.{less}
 use Rattle.prefix_laws.proofs.prefix.prefix_in.Goals as goal

@@ -1,6 +1,6 @@
 use Rattle.std.proofs.Common.{◌<◌, ℕ}
-use Rattle.bounded_list.specs.BoundedList.{entries}
-use Rattle.lawful_books.specs.Lists.{Among}
+use Rattle.containers.specs.BoundedList.{entries}
+use Rattle.deque_machine.specs.Lists.{Among}
 use Rattle.prefix_laws.specs.Prefixes.{all_ran, places_behind}
 use Rattle.prefix_laws.proofs.prefix.prefix_in.Given as goal
 

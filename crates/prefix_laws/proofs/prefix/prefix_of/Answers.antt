@@ -1,6 +1,6 @@
 use Rattle.std.proofs.Common.{arith}
 use Rattle.std.proofs.lemmas.Slice.Zip.{AllZip-long}
-use Rattle.bounded_list.specs.BoundedList.{entries}
+use Rattle.containers.specs.BoundedList.{entries}
 use Rattle.serial_journal.specs.Telling.{ShowsAction}
 use Rattle.depth_first_run.specs.Run.{list_of}
 use Rattle.prefix_laws.specs.Prefixes.{places_behind}

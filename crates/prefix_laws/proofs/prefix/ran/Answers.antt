@@ -1,9 +1,9 @@
 use Rattle.std.proofs.lemmas.Bool.{false≢true}
 use Rattle.std.proofs.Common.{sym, subst, arith}
 use Rattle.std.proofs.lemmas.Option.{slice_get_within}
-use Rattle.bounded_list.specs.BoundedList.{entries}
-use Rattle.lawful_books.specs.Lists.{Among}
-use Rattle.period_table.proofs.Lists.{place_of_among}
+use Rattle.containers.specs.BoundedList.{entries}
+use Rattle.deque_machine.specs.Lists.{Among}
+use Rattle.open_periods.proofs.Lists.{place_of_among}
 use Rattle.std.proofs.Common.{refl}
 use Rattle.prefix_laws.proofs.Places.{among_of_place}
 use Rattle.prefix_laws.proofs.prefix.ran.Goals as goal

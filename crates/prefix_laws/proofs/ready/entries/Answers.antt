@@ -1,10 +1,10 @@
 use Rattle.std.proofs.Common.{sym, subst}
-use Rattle.core_parts.specs.declared.scheduler.Scheduler.{Scheduler}
-use Rattle.core_parts.specs.Held.{held}
-use Rattle.core_parts.specs.Moments.{HasRun}
+use Rattle.scheduler_state.specs.declared.scheduler.Scheduler.{Scheduler}
+use Rattle.scheduler_state.specs.Held.{held}
+use Rattle.scheduler_state.specs.Moments.{HasRun}
 use Rattle.node_table.specs.Codes.{code_shown}
-use Rattle.dummy_tree.specs.QuotaWords.{quota_words}
-use Rattle.ready_core.specs.Cores.{terms_at}
+use Rattle.depth_first_list.specs.QuotaWords.{quota_words}
+use Rattle.async_core.specs.Cores.{terms_at}
 use Rattle.prefix_laws.specs.DequeLabels.{HasSomeRun}
 use Rattle.prefix_laws.proofs.Cores.{some_run}
 use Rattle.prefix_laws.proofs.ready.entries.Goals as goal

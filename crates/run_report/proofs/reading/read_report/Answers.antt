@@ -1,7 +1,7 @@
 use Rattle.std.proofs.Common.{[], ◌∷◌, map}
 use Rattle.std.specs.Prelude.{codes}
 use Rattle.std.specs.Fmt.{signed_decimal}
-use Rattle.bounded_list.specs.BoundedList.{entries}
+use Rattle.containers.specs.BoundedList.{entries}
 use Rattle.run_report.specs.Texts.{finish_words, counted}
 use Rattle.run_report.proofs.Phases.{stops_at_values, stops_at_finish, stops_at_periods, stops_at_ahead, stops_at_high, stops_at_end, reads_all, one_line_more, one_more_behind, refused, are_none, are_some}
 use Rattle.run_report.proofs.reading.read_report.Goals as goal

@@ -1,6 +1,6 @@
 use Rattle.std.proofs.Common.{◌≡◌, ◌++◌, map, length}
 use Rattle.std.specs.Fmt.{signed_decimal}
-use Rattle.bounded_list.specs.BoundedList.{entries}
+use Rattle.containers.specs.BoundedList.{entries}
 use Rattle.run_report.specs.Shown.{AreWords}
 use Rattle.run_report.specs.Texts.{text_of}
 use Rattle.run_report.proofs.reading.read_values.Given as goal

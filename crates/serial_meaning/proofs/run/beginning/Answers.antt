@@ -1,6 +1,6 @@
 use Rattle.std.proofs.Common.{◌≡◌, ℕ, List, [], ◌∷◌, Some, None, Option, refl, ◌∙◌, ap, subst}
 use Rattle.std.specs.Prelude.{map}
-use Rattle.dummy_tree.specs.QuotaWords.{quota_words}
+use Rattle.depth_first_list.specs.QuotaWords.{quota_words}
 use Rattle.par_tree.specs.Tree.{Program, Func}
 use Rattle.par_tree.specs.declared.func.Func.{Func as Func'}
 use Rattle.par_tree.specs.declared.stmt.Stmt.{Stmt as Stmt'}

@@ -1,6 +1,6 @@
 use Rattle.std.proofs.Common.{◌≤◌, ◌<◌, length, subst, rules}
 use Rattle.block_check.specs.Checked.{program_of}
-use Rattle.dummy_tree.specs.QuotaWords.{quota_words}
+use Rattle.depth_first_list.specs.QuotaWords.{quota_words}
 use Rattle.par_tree.specs.View.{program_tree}
 use Rattle.par_tree.specs.declared.program.Program.{Program}
 use Rattle.depth_first_run.specs.States.{Setting, State}

@@ -1,5 +1,5 @@
 use Rattle.std.proofs.Common.{◌+◌, ◌*◌, ◌-◌, length, vec_len}
-use Rattle.dummy_tree.specs.QuotaWords.{quota_words}
+use Rattle.depth_first_list.specs.QuotaWords.{quota_words}
 use Rattle.par_tree.specs.View.{program_tree}
 use Rattle.depth_first_run.specs.States.{State}
 use Rattle.depth_first_run.specs.Run.{whole}

@@ -1,7 +1,7 @@
 use Rattle.std.proofs.lemmas.Result.{err_from_is_err_and}
 use Rattle.par_tree.specs.View.{params_tree, args_tree}
 use Rattle.serial_store.specs.Shown.{store_shown}
-use Rattle.serial_store.proofs.Passed.{passes_fail, passes_all}
+use Rattle.serial_store.proofs.ArgumentsPassed.{passes_fail, passes_all}
 use Rattle.serial_store.proofs.calls.pass.Goals as goal
 
 pub returns-in_err-pass_integers : goal.returns-in_err-pass_integers

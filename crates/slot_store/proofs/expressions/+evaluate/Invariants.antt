@@ -1,5 +1,5 @@
 use Rattle.std.proofs.Common.{◌≡◌, List, drop, length}
-use Rattle.par_tree.specs.Tree.{Name}
+use Rattle.depth_first_run.specs.Passed.Tree.{Name}
 use Rattle.node_table.specs.Shown.{links_shown}
 use Rattle.node_table.specs.Reading.{links_read, FitsLinks}
 use Rattle.depth_first_run.specs.Stores.{Store}

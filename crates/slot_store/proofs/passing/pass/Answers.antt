@@ -1,12 +1,12 @@
 use Rattle.std.proofs.Common.{[], ℤ, sym, ◌∙◌, subst}
-use Rattle.par_tree.specs.Tree.{Name}
+use Rattle.depth_first_run.specs.Passed.Tree.{Name}
 use Rattle.node_table.specs.Shown.{args_shown}
 use Rattle.depth_first_run.specs.Stores.{nothing}
 use Rattle.depth_first_run.specs.Calls.{Passing}
 use Rattle.slot_store.specs.Agreement.{ShowsStore}
 use Rattle.slot_store.specs.Calls.{store_with}
 use Rattle.slot_store.specs.Shown.{slots_shown}
-use Rattle.slot_store.proofs.Passed.{keeps_integers}
+use Rattle.slot_store.proofs.ArgumentsPassed.{keeps_integers}
 use Rattle.slot_store.proofs.Moving.{can_pass_all, each_none}
 use Rattle.slot_store.proofs.passing.pass.Goals as goal
 

@@ -1,5 +1,5 @@
 use Rattle.std.proofs.Common.{◌<◌, ◌+◌, ◌∷◌, List, length, get_or, drop, sym, ap, ◌∙◌, subst, arith}
-use Rattle.par_tree.specs.Tree.{Param, Arg}
+use Rattle.depth_first_run.specs.Passed.Tree.{Param, Arg}
 use Rattle.node_table.specs.Reading.{FitsArg}
 use Rattle.node_table.specs.Shown.{arg_shown, args_shown}
 use Rattle.depth_first_run.specs.Calls.{Passing, passed}
@@ -8,7 +8,7 @@ use Rattle.slot_store.specs.Agreement.{ShowsStore}
 use Rattle.slot_store.specs.Calls.{CanPassAll, store_with, caller_behind}
 use Rattle.slot_store.specs.Shown.{slots_shown}
 use Rattle.slot_store.proofs.Parting.{fits_at}
-use Rattle.slot_store.proofs.Passed.{next_param, next_arg}
+use Rattle.slot_store.proofs.ArgumentsPassed.{next_param, next_arg}
 use Rattle.slot_store.proofs.Moving.{params_count, values_count, end_is, fits_arg, can_next, caller_length, callee_length}
 use Rattle.slot_store.proofs.passing.pass_blocks.Goals as goal
 

@@ -8,7 +8,7 @@ use Rattle.depth_first_run.specs.Stores.{with_integer}
 use Rattle.slot_store.specs.Agreement.{ShowsStore}
 use Rattle.slot_store.specs.Shown.{slots_shown}
 use Rattle.slot_store.specs.Calls.{store_with}
-use Rattle.slot_store.proofs.Passed.{an_integer, no_integer}
+use Rattle.slot_store.proofs.ArgumentsPassed.{an_integer, no_integer}
 use Rattle.slot_store.proofs.passing.pass_integer.Goals as goal
 
 pub returns-in_ok-value-in-Value-clause-store : goal.returns-in_ok-value-in-Value-clause-store

@@ -1,10 +1,10 @@
 use Rattle.std.proofs.Common.{◌<◌, ◌+◌, ◌∷◌, List, length, drop, ap, ◌∙◌, arith}
 use Rattle.std.proofs.lemmas.Result.{err_from_is_err_and}
-use Rattle.par_tree.specs.Tree.{Param, Arg}
+use Rattle.depth_first_run.specs.Passed.Tree.{Param, Arg}
 use Rattle.depth_first_run.specs.Calls.{passed}
 use Rattle.slot_store.specs.Shown.{slots_shown}
 use Rattle.slot_store.proofs.Parting.{fits_at}
-use Rattle.slot_store.proofs.Passed.{next_param, next_arg}
+use Rattle.slot_store.proofs.ArgumentsPassed.{next_param, next_arg}
 use Rattle.slot_store.proofs.Moving.{params_count, values_count, passed_end}
 use Rattle.slot_store.proofs.passing.pass_integers.Goals as goal
 

@@ -1,6 +1,6 @@
 use Rattle.std.proofs.Common.{◌≡◌, ℕ, List, length, drop}
-use Rattle.par_tree.specs.Tree.{Name, Param, Arg}
-use Rattle.par_tree.specs.Names.{param_names}
+use Rattle.depth_first_run.specs.Passed.Tree.{Name, Param, Arg}
+use Rattle.depth_first_run.specs.Passed.Names.{param_names}
 use Rattle.node_table.specs.Reading.{AreSlots, AreArgs}
 use Rattle.node_table.specs.Shown.{args_shown}
 use Rattle.depth_first_run.specs.Stores.{Store, Held}

@@ -1,5 +1,5 @@
 use Rattle.std.proofs.Common.{◌<◌, ◌+◌, ◌∷◌, List, length, get_or, drop, sym, ap, ◌∙◌, subst, arith}
-use Rattle.par_tree.specs.Tree.{Param, Arg}
+use Rattle.depth_first_run.specs.Passed.Tree.{Param, Arg}
 use Rattle.node_table.specs.Reading.{FitsArg}
 use Rattle.node_table.specs.Shown.{arg_shown, args_shown}
 use Rattle.depth_first_run.specs.Stores.{Store, Held}
@@ -10,7 +10,7 @@ use Rattle.slot_store.specs.Calls.{store_with, left_over}
 use Rattle.slot_store.specs.Returns.{CanComeBackAll, caller_again}
 use Rattle.slot_store.specs.Shown.{slots_shown}
 use Rattle.slot_store.proofs.Parting.{fits_at}
-use Rattle.slot_store.proofs.Passed.{next_param, next_arg}
+use Rattle.slot_store.proofs.ArgumentsPassed.{next_param, next_arg}
 use Rattle.slot_store.proofs.Moving.{params_count, values_count, fits_arg}
 use Rattle.slot_store.proofs.Lending.{can_next, caller_length, callee_length, lent_end}
 use Rattle.slot_store.proofs.returning.bring_back.Goals as goal

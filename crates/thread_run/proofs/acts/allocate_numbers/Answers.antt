@@ -1,16 +1,16 @@
 use Rattle.std.proofs.Common.{◌≡◌, ◌<◌, ◌≤◌, ◌*◌, ◌∷◌, ◌∙◌, ℕ, Some, refl, sym, ap, subst, arith}
-use Rattle.dummy_tree.specs.QuotaWords.{quota_words}
-use Rattle.dummy_tree.specs.Leaves.{IsTreeSize}
-use Rattle.dummy_tree.specs.Shapes.{Shape, shape_of}
-use Rattle.dummy_tree.specs.TreeLeaves.{tree_leaves}
-use Rattle.depth_first_run.specs.Passed.Runs.{tree_for}
-use Rattle.depth_first_run.specs.Stores.{block_words}
-use Rattle.depth_first_run.specs.Middle.{middle, does, tree, allocates, allocated, step_alloc_words}
+use Rattle.depth_first_list.specs.QuotaWords.{quota_words}
+use Rattle.depth_first_list.specs.Leaves.{IsTreeSize}
+use Rattle.depth_first_list.specs.Shapes.{Shape, shape_of}
+use Rattle.depth_first_list.specs.TreeLeaves.{tree_leaves}
+use Rattle.depth_first_list.specs.Runs.{tree_for}
+use Rattle.thread_points.specs.Passed.Stores.{block_words}
+use Rattle.thread_points.specs.Passed.Middle.{middle, does, tree, allocates, allocated, step_alloc_words}
 use Rattle.thread_stack.specs.declared.frame.Frame.TheVariants.{Tree, Allocates}
 use Rattle.thread_run.specs.declared.ready.Ready.TheVariants.{Alloc}
 use Rattle.thread_run.specs.declared.done.Done.TheVariants.{Silent, Acts}
 use Rattle.thread_run.proofs.Coming.{at_point, allocated_now, allocated_later, whole_words, short_words}
-use Rattle.depth_first_run.proofs.FewWords.{few_words, many_words}
+use Rattle.thread_state.proofs.Passed.FewWords.{few_words, many_words}
 use Rattle.thread_run.proofs.acts.allocate_numbers.Goals as goal
 
 pub returns-in_ok-shell-in-None-clause-meaning : goal.returns-in_ok-shell-in-None-clause-meaning

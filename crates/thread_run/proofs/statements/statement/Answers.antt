@@ -1,5 +1,5 @@
 use Rattle.std.proofs.Common.{◌+◌, Option, Some, Ok, refl, ap, subst, arith}
-use Rattle.dummy_tree.specs.QuotaWords.{quota_words}
+use Rattle.depth_first_list.specs.QuotaWords.{quota_words}
 use Rattle.par_tree.specs.Tree.{let_stmt, assign_stmt, put_stmt, alloc_stmt, free_stmt, if_stmt, while_stmt, print_stmt, par_stmt, split_stmt}
 use Rattle.node_table.specs.Names.{slot_names}
 use Rattle.node_table.specs.Table.{Table, Kind, call_node, let_node, assign_node, put_node, alloc_node, free_node, if_node, while_node, print_node, both_node, split_node}

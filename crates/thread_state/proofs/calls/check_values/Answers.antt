@@ -1,8 +1,8 @@
 use Rattle.std.proofs.Common.{◌<◌, ◌+◌, ◌∷◌, List, length, drop, refl, ap, ◌∙◌, arith}
 use Rattle.std.proofs.lemmas.Result.{err_from_is_err_and}
-use Rattle.par_tree.specs.Tree.{Param, Arg}
+use Rattle.depth_first_run.specs.Passed.Tree.{Param, Arg}
 use Rattle.depth_first_run.specs.Calls.{passed}
-use Rattle.slot_store.proofs.Passed.{next_param, next_arg}
+use Rattle.slot_store.proofs.ArgumentsPassed.{next_param, next_arg}
 use Rattle.slot_store.proofs.Moving.{params_count, values_count, passed_end}
 use Rattle.thread_state.proofs.calls.check_values.Goals as goal
 

@@ -1,5 +1,5 @@
 use Rattle.std.proofs.lemmas.Result.{IfOk-weaker}
-use Rattle.bounded_list.specs.BoundedList.{entries}
+use Rattle.containers.specs.BoundedList.{entries}
 use Rattle.depth_first_run.specs.Run.{list_of}
 use Rattle.trail_meaning.specs.Shown.{shown_by_trail}
 use Rattle.trail_check.proofs.Ways.{given, listed, none_followed}

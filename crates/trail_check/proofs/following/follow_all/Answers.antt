@@ -1,5 +1,5 @@
 use Rattle.std.proofs.Common.{Err}
-use Rattle.bounded_list.specs.BoundedList.{entries}
+use Rattle.containers.specs.BoundedList.{entries}
 use Rattle.trail_check.specs.Judging.{HasFollowed, GivesVerdict}
 use Rattle.trail_check.proofs.Verdicts.{err_exit}
 use Rattle.trail_check.proofs.following.follow_all.Goals as goal

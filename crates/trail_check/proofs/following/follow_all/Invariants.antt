@@ -1,5 +1,5 @@
 use Rattle.std.proofs.Common.{[], take}
-use Rattle.bounded_list.specs.BoundedList.{entries}
+use Rattle.containers.specs.BoundedList.{entries}
 use Rattle.deque_machine.specs.Machine.{Setting}
 use Rattle.deque_machine.specs.Play.{Limits}
 use Rattle.trail_check.specs.Judging.{HasFollowed}

@@ -1,5 +1,5 @@
 use Rattle.std.proofs.Common.{◌<◌, length, sym, subst, arith}
-use Rattle.bounded_list.specs.BoundedList.{entries}
+use Rattle.containers.specs.BoundedList.{entries}
 use Rattle.trail_check.specs.Steps.{Followed}
 use Rattle.trail_check.proofs.Ways.{standing, followed, refused}
 use Rattle.trail_check.proofs.following.follow_at.Goals as goal

@@ -1,4 +1,4 @@
-use Rattle.bounded_list.specs.BoundedList.{entries}
+use Rattle.containers.specs.BoundedList.{entries}
 use Rattle.trail_check.proofs.Verdicts.{unended, wrong, right, same_numbers, other_numbers}
 use Rattle.trail_check.proofs.judging.conclude.Goals as goal
 

@@ -1,4 +1,4 @@
-use Rattle.bounded_list.specs.BoundedList.{entries}
+use Rattle.containers.specs.BoundedList.{entries}
 use Rattle.trail_meaning.specs.Shown.{shown_by_trail}
 use Rattle.trail_check.specs.Checking.{trail_terms, trail_machine}
 use Rattle.trail_check.proofs.Verdicts.{fail_exit}

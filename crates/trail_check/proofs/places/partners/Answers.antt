@@ -1,7 +1,7 @@
 use Rattle.std.proofs.Common.{sym, subst}
-use Rattle.bounded_list.specs.BoundedList.{entries}
+use Rattle.containers.specs.BoundedList.{entries}
 use Rattle.trail_check.specs.Passing.{pairs_of}
-use Rattle.trail_check.proofs.Passed.{IsPassing, none_passed, passing_on}
+use Rattle.trail_check.proofs.PlacesPassed.{IsPassing, none_passed, passing_on}
 use Rattle.trail_check.proofs.Stacks.{Stands, begins}
 use Rattle.trail_check.proofs.Listed.{passes, all_passed}
 use Rattle.trail_check.proofs.places.partners.Goals as goal

@@ -1,10 +1,10 @@
 -- What is known is of the places that were passed, and right if the actions are a depth-first list.
 use Rattle.std.proofs.Common.{List}
-use Rattle.bounded_list.specs.BoundedList.{entries}
+use Rattle.containers.specs.BoundedList.{entries}
 use Rattle.depth_first_list.specs.Actions.{Action}
 use Rattle.trail_check.specs.Listed.{AreListed}
 use Rattle.trail_check.specs.Passing.{pairs_of}
-use Rattle.trail_check.proofs.Passed.{IsPassing}
+use Rattle.trail_check.proofs.PlacesPassed.{IsPassing}
 use Rattle.trail_check.proofs.Stacks.{Stands}
 use Rattle.trail_check.proofs.places.partners.Given as goal
 

@@ -2,7 +2,7 @@ use Rattle.std.proofs.Common.{◌<◌, length, refl, subst}
 use Rattle.depth_first_run.specs.Run.{list_of}
 use Rattle.serial_journal.specs.Stops.{OnStop}
 use Rattle.block_check.specs.Checked.{program_of}
-use Rattle.dummy_tree.specs.QuotaWords.{quota_words}
+use Rattle.depth_first_list.specs.QuotaWords.{quota_words}
 use Rattle.par_tree.specs.View.{program_tree}
 use Rattle.serial_meaning.specs.Settings.{setting_of}
 use Rattle.trail_meaning.specs.Shown.{shown_by_trail}

@@ -1,6 +1,6 @@
 use Rattle.std.proofs.Common.{◌≤◌, ◌+◌, ◌*◌, refl, sym, ap, subst, ◌∙◌, arith}
 use Rattle.std.proofs.lemmas.Option.{same_Some}
-use Rattle.bounded_list.specs.BoundedList.{entries}
+use Rattle.containers.specs.BoundedList.{entries}
 use Rattle.dfd_core.specs.Cores.{terms_at, workers_of}
 use Rattle.trail_record.specs.Turns.{with_event}
 use Rattle.trail_record.specs.Recorded.{PlaysRecorded, PlaysInPart}

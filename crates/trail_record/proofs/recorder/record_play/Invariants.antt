@@ -1,4 +1,4 @@
-use Rattle.bounded_list.specs.BoundedList.{entries}
+use Rattle.containers.specs.BoundedList.{entries}
 use Rattle.trail_record.proofs.Recording.{IsRecording}
 use Rattle.trail_record.proofs.recorder.record_play.Given as goal
 

@@ -1,8 +1,8 @@
 use Rattle.std.proofs.Common.{sym, subst}
 use Rattle.std.specs.Prelude.{is_some}
-use Rattle.dummy_tree.specs.QuotaWords.{quota_words}
+use Rattle.depth_first_list.specs.QuotaWords.{quota_words}
 use Rattle.node_table.specs.Codes.{code_shown}
-use Rattle.dfd_core.specs.Passed.Held.{held}
+use Rattle.scheduler_state.specs.Held.{held}
 use Rattle.dfd_core.specs.Cores.{end_of, terms_at, words_of_turn}
 use Rattle.dfd_core.specs.Steps.{Comes}
 use Rattle.dfd_core.proofs.Taking.{word_drawn}

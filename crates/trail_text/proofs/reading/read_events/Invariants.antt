@@ -1,6 +1,6 @@
 use Rattle.std.proofs.Common.{◌≡◌, ◌++◌, length, map}
 use Rattle.std.specs.List.{concat}
-use Rattle.bounded_list.specs.BoundedList.{entries}
+use Rattle.containers.specs.BoundedList.{entries}
 use Rattle.trail_meaning.specs.Ranges.{FitEvents}
 use Rattle.trail_text.specs.TrailText.{event_line}
 use Rattle.trail_text.proofs.reading.read_events.Given as goal

@@ -1,5 +1,5 @@
 use Rattle.std.proofs.Common.{ℕ, List, sym, subst}
-use Rattle.bounded_list.specs.BoundedList.{entries}
+use Rattle.containers.specs.BoundedList.{entries}
 use Rattle.trail_text.specs.TrailText.{IsTrail}
 use Rattle.trail_text.proofs.Phases.{refused, stops_at_head, stops_at_source, stops_at_end, stops_after_end, reads_all, are_none, are_some}
 use Rattle.trail_text.proofs.reading.read_short.Goals as goal

@@ -1,7 +1,7 @@
 -- The new list of lists ends in the new births, which may follow.
 use Rattle.std.proofs.Common.{◌≡◌, [], ◌∷◌, ◌++◌, map, subst, sym}
 use Rattle.std.proofs.lemmas.List.{map_push}
-use Rattle.bounded_list.specs.BoundedList.{entries}
+use Rattle.containers.specs.BoundedList.{entries}
 use Rattle.dag_order.specs.Births.{ParentsComeFirst}
 use Rattle.dag_order.proofs.BirthLaws.{births_follow}
 use Rattle.dag_order.proofs.roster.Roster.add_period.Goals as goal

@@ -1,6 +1,6 @@
 -- The birth is found where the list of lists has it, and the roster's invariant tells of its parent.
 use Rattle.std.proofs.Common.{◌≡◌, suc, Some, slice_get, subst, arith, rules, ap, sym, ◌∙◌}
-use Rattle.bounded_list.specs.BoundedList.{entries}
+use Rattle.containers.specs.BoundedList.{entries}
 use Rattle.dag_order.specs.Births.{birth_of, ParentsComeFirst, ParentComesFirst}
 use Rattle.dag_order.proofs.BirthLemmas.{birth_found, if_some_from}
 use Rattle.dag_order.proofs.roster.Roster.birth.Goals as goal

@@ -2,7 +2,7 @@
 use Rattle.std.proofs.Common.{ap, ◌∙◌, ◌≡◌, reverse, inl, inr, Err}
 use Rattle.std.proofs.lemmas.Result.{err_from_is_err_and}
 use Rattle.std.proofs.lemmas.List.{reverse-reverse}
-use Rattle.bounded_list.specs.BoundedList.{entries}
+use Rattle.containers.specs.BoundedList.{entries}
 use Rattle.dag_order.specs.Births.{HasLabel}
 use Rattle.dag_order.proofs.BirthLaws.{label_or_stop}
 use Rattle.dag_order.proofs.BirthLemmas.{refused_alike}

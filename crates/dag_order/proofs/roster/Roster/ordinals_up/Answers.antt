@@ -1,7 +1,7 @@
 -- The way goes on by the birth that was found, and want of memory names no thread.
 use Rattle.std.proofs.Common.{sym}
 use Rattle.std.proofs.lemmas.Result.{err_from_is_err_and}
-use Rattle.bounded_list.specs.BoundedList.{entries}
+use Rattle.containers.specs.BoundedList.{entries}
 use Rattle.dag_order.proofs.BirthLaws.{leads_on}
 use Rattle.dag_order.proofs.roster.Roster.ordinals_up.Goals as goal
 

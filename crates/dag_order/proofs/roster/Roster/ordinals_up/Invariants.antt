@@ -1,7 +1,7 @@
 -- The ordinals so far lead from the thread to the one that is looked at, which comes before all that was
 -- looked at.
 use Rattle.std.proofs.Common.{◌+◌, ◌*◌}
-use Rattle.bounded_list.specs.BoundedList.{entries}
+use Rattle.containers.specs.BoundedList.{entries}
 use Rattle.dag_order.specs.Births.{Leads}
 use Rattle.dag_order.proofs.roster.Roster.ordinals_up.Given as goal
 

@@ -2,7 +2,7 @@ use Rattle.std.proofs.Common.{◌∙◌, ◌<◌, ap, subst}
 use Rattle.std.specs.Prelude.{count_by}
 use Rattle.space_ledger.specs.BooksList.{books_list}
 use Rattle.space_ledger.specs.Counts.{is_ahead}
-use Rattle.core_parts.proofs.Marked.{marked_at, marked_fits}
+use Rattle.scheduler_state.proofs.Marked.{marked_at, marked_fits}
 use Rattle.dfd_core.proofs.run.Core.ahead.Goals as goal
 
 pub overflow_add-result : goal.overflow_add-result

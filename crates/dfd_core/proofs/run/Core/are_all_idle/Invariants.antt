@@ -1,6 +1,6 @@
 use Rattle.std.proofs.Common.{◌≡◌, ◌<◌, ℕ}
 use Rattle.std.specs.Prelude.{None}
-use Rattle.period_table.specs.Tables.{seat_at}
+use Rattle.open_periods.specs.Tables.{seat_at}
 use Rattle.dfd_core.proofs.run.Core.are_all_idle.Given as goal
 
 -- none of the workers so far owns a deque

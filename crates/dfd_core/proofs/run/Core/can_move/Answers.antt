@@ -1,7 +1,7 @@
 use Rattle.std.proofs.Common.{◌↔◌, ℕ, subst}
 use Rattle.std.specs.Prelude.{IsTrue}
-use Rattle.victim_choice.specs.Choices.{SomeReady}
-use Rattle.core_parts.proofs.Seats.{none_is}
+use Rattle.play_rules.specs.Choices.{SomeReady}
+use Rattle.scheduler_state.proofs.Seats.{none_is}
 use Rattle.dfd_core.proofs.Turns.{can_move_at}
 use Rattle.dfd_core.proofs.run.Core.can_move.Goals as goal
 

@@ -2,10 +2,10 @@ use Rattle.std.proofs.Common.{refl, sym, ap, ◌∙◌, arith}
 use Rattle.std.proofs.lemmas.Option.{none-some}
 use Rattle.std.specs.Prelude.{Ok, Err}
 use Rattle.node_table.specs.Codes.{code_shown}
-use Rattle.dummy_tree.specs.QuotaWords.{quota_words}
-use Rattle.core_parts.specs.Held.{held}
-use Rattle.core_parts.specs.Moments.{terms_of}
-use Rattle.deque_machine.specs.Terms.{Terms}
+use Rattle.depth_first_list.specs.QuotaWords.{quota_words}
+use Rattle.scheduler_state.specs.Held.{held}
+use Rattle.scheduler_state.specs.Moments.{terms_of}
+use Rattle.open_periods.specs.Passed.Terms.{Terms}
 use Rattle.dfd_core.proofs.GivingUp.{gives_behind, somewhere_behind_give_up}
 use Rattle.dfd_core.proofs.run.Core.give_up.Goals as goal
 

@@ -1,4 +1,4 @@
-use Rattle.core_parts.proofs.Marked.{high_at}
+use Rattle.scheduler_state.proofs.Marked.{high_at}
 use Rattle.dfd_core.proofs.run.Core.high.Goals as goal
 
 pub returns : goal.returns

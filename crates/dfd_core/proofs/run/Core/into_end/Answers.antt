@@ -1,10 +1,10 @@
 use Rattle.std.proofs.Common.{◌≡◌, ◌↔◌, refl, sym, subst, ◌∙◌, ap}
 use Rattle.std.specs.Prelude.{Option, None, IfSome}
-use Rattle.dummy_tree.specs.QuotaWords.{quota_words}
+use Rattle.depth_first_list.specs.QuotaWords.{quota_words}
 use Rattle.node_table.specs.Codes.{code_shown}
 use Rattle.thread_frames.specs.declared.ended.Ended.{Ended}
 use Rattle.dfd_core.specs.Cores.{HasFinished}
-use Rattle.core_parts.specs.Held.{held}
+use Rattle.scheduler_state.specs.Held.{held}
 use Rattle.space_ledger.specs.declared.books.Books.{Books}
 use Rattle.dfd_core.specs.Parts.{IsOfWholeRun, AreOfRun, root_behind}
 use Rattle.dfd_core.proofs.Apart.{none_is_stop, of_whole_run, of_run}

@@ -4,7 +4,7 @@ use Rattle.std.proofs.lemmas.Option.{same_Some}
 use Rattle.deque_list.specs.Deques.{Deque, deque_ids}
 use Rattle.deque_list.specs.declared.deque_id.DequeId.{DequeId}
 use Rattle.thread_frames.specs.declared.thread.Thread.{Thread}
-use Rattle.core_parts.specs.Held.{held}
+use Rattle.scheduler_state.specs.Held.{held}
 use Rattle.thread_frames.specs.Roots.{IsRootAlone}
 use Rattle.dfd_core.proofs.Apart.{one_deque, first, first_id, no_owner, root_alone, none_live}
 use Rattle.dfd_core.proofs.run.Core.into_parts.Goals as goal

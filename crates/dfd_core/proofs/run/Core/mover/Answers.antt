@@ -1,7 +1,7 @@
 use Rattle.std.proofs.Common.{◌↔◌, ℕ, ◌<◌, subst}
 use Rattle.std.specs.Prelude.{IsTrue}
-use Rattle.deque_machine.specs.Play.{IsFirst}
-use Rattle.victim_choice.specs.Choices.{SomeReady, CanMove}
+use Rattle.open_periods.specs.Passed.Play.{IsFirst}
+use Rattle.play_rules.specs.Choices.{SomeReady, CanMove}
 use Rattle.dfd_core.proofs.Picking.{first_at, somebody_can}
 use Rattle.dfd_core.proofs.run.Core.mover.Goals as goal
 

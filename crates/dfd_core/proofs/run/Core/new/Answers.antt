@@ -1,11 +1,11 @@
 use Rattle.std.proofs.Common.{◌≤◌, sym, ap, arith}
 use Rattle.depth_first_list.specs.Actions.{record_words}
-use Rattle.dummy_tree.specs.QuotaWords.{quota_words}
+use Rattle.depth_first_list.specs.QuotaWords.{quota_words}
 use Rattle.node_table.specs.Codes.{code_shown}
-use Rattle.core_parts.specs.Held.{held}
-use Rattle.core_parts.specs.Moments.{terms_of}
-use Rattle.deque_machine.specs.Terms.{Terms}
-use Rattle.core_parts.proofs.Begins.{begun_is_sound, begun_can_go_on}
+use Rattle.scheduler_state.specs.Held.{held}
+use Rattle.scheduler_state.specs.Moments.{terms_of}
+use Rattle.open_periods.specs.Passed.Terms.{Terms}
+use Rattle.scheduler_state.proofs.Begins.{begun_is_sound, begun_can_go_on}
 use Rattle.dfd_core.proofs.Openings.{opening_is_at, begun_somewhere}
 use Rattle.dfd_core.proofs.run.Core.new.Goals as goal
 

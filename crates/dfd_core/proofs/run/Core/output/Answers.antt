@@ -2,7 +2,7 @@ use Rattle.std.proofs.Common.{refl, sym, ap, ◌∙◌}
 use Rattle.std.proofs.Math.Logic.{∥∥₁_elim}
 use Rattle.std.specs.Option.{option_copied}
 use denote.Struct.Props.{props}
-use Rattle.core_parts.proofs.Roots.{label_of_root, root_is_result}
+use Rattle.scheduler_state.proofs.Roots.{label_of_root, root_is_result}
 use Rattle.dfd_core.proofs.Finished.{finished_keeps}
 use Rattle.dfd_core.proofs.run.Core.output.Goals as goal
 

@@ -1,10 +1,10 @@
 use Rattle.std.proofs.Common.{Some, Ok, refl, sym, ap, subst, ◌∙◌, arith}
 use Rattle.std.proofs.lemmas.Option.{none-some}
-use Rattle.core_parts.specs.Held.{held}
-use Rattle.deque_machine.specs.Terms.{Terms}
-use Rattle.core_parts.specs.Told.{IsTold, end_behind}
-use Rattle.core_parts.proofs.Differing.{ok_or_err, some_or_none}
-use Rattle.core_parts.proofs.Roots.{root_result}
+use Rattle.scheduler_state.specs.Held.{held}
+use Rattle.open_periods.specs.Passed.Terms.{Terms}
+use Rattle.scheduler_state.specs.Told.{IsTold, end_behind}
+use Rattle.scheduler_state.proofs.Differing.{ok_or_err, some_or_none}
+use Rattle.scheduler_state.proofs.Roots.{root_result}
 use Rattle.dfd_core.proofs.Going.{somewhere_behind, comes_behind}
 use Rattle.dfd_core.proofs.Turns.{nothing_behind}
 use Rattle.dfd_core.proofs.Bounded.{done_within}

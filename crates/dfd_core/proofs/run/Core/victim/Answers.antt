@@ -1,7 +1,7 @@
 use Rattle.std.proofs.Common.{ℕ, subst}
 use Rattle.std.specs.Prelude.{MatchOption}
-use Rattle.deque_machine.specs.Play.{IsFirst}
-use Rattle.victim_choice.specs.Choices.{IsReadyAt, SomeReady, reach_of}
+use Rattle.open_periods.specs.Passed.Play.{IsFirst}
+use Rattle.play_rules.specs.Choices.{IsReadyAt, SomeReady, reach_of}
 use Rattle.dfd_core.proofs.Picking.{victim_at}
 use Rattle.dfd_core.proofs.run.Core.victim.Goals as goal
 

@@ -1,6 +1,6 @@
 use Rattle.std.proofs.Common.{◌≡◌, rules, SFits, to_z, of_z, ◌∷◌, [], ◌++◌, ◌≤◌, length, w64, ◌∙◌}
 use Rattle.std.proofs.lemmas.Int.{to_z-of_z}
-use Rattle.bounded_list.specs.BoundedList.{entries}
+use Rattle.containers.specs.BoundedList.{entries}
 use Rattle.depth_first_run.specs.States.{acted}
 use Rattle.depth_first_run.specs.Run.{actions_of}
 use Rattle.serial_journal.specs.declared.action.Action.{Action as Shown}

@@ -5,8 +5,8 @@ use Rattle.dag_order.specs.declared.thread_id.ThreadId.{ThreadId}
 use Rattle.dag_order.specs.declared.kind.Kind.TheVariants.{Fork}
 use Rattle.dag_order.specs.Births.{HasLabel}
 use Rattle.dag_order.specs.LabelOrder.{fork_of}
-use Rattle.bounded_list.specs.BoundedList.{entries}
-use Rattle.bounded_list.specs.declared.bounded_list.BoundedList.{BoundedList}
+use Rattle.containers.specs.BoundedList.{entries}
+use Rattle.containers.specs.declared.bounded_list.BoundedList.{BoundedList}
 use Rattle.depth_first_run.specs.Run.{actions_of}
 use Rattle.serial_journal.specs.declared.journal.Journal.{Journal}
 use Rattle.serial_journal.specs.declared.action.Action.{Action as Shown}

@@ -1,6 +1,6 @@
 use Rattle.std.proofs.Common.{◌≡◌, ◌∷◌, [], ◌++◌, refl, ap, ◌∙◌, w64}
 use Rattle.std.proofs.lemmas.Int.{to_z-of_z}
-use Rattle.bounded_list.specs.BoundedList.{entries}
+use Rattle.containers.specs.BoundedList.{entries}
 use Rattle.serial_journal.specs.Journals.{KeepsUp, Counted}
 use Rattle.serial_journal.specs.declared.journal.Journal.{Journal}
 use Rattle.depth_first_run.specs.States.{printed}

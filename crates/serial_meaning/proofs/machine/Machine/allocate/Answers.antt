@@ -1,10 +1,10 @@
 use Rattle.std.proofs.Common.{◌≡◌, ◌∙◌, ◌∷◌, ◌≤◌, ◌<◌, ℤ, ℕ, Some, Ok, SFits, to_z, of_z, w64, rules, refl, ap, subst}
 use Rattle.std.proofs.lemmas.Int.{to_z-of_z}
 use Rattle.dag_order.specs.declared.fault.FaultKind.TheVariants as faults
-use Rattle.dummy_tree.specs.QuotaWords.{quota_words}
-use Rattle.dummy_tree.specs.Leaves.{IsTreeSize}
-use Rattle.dummy_tree.specs.Shapes.{Shape, shape_of}
-use Rattle.dummy_tree.specs.TreeLeaves.{tree_leaves}
+use Rattle.depth_first_list.specs.QuotaWords.{quota_words}
+use Rattle.depth_first_list.specs.Leaves.{IsTreeSize}
+use Rattle.depth_first_list.specs.Shapes.{Shape, shape_of}
+use Rattle.depth_first_list.specs.TreeLeaves.{tree_leaves}
 use Rattle.depth_first_list.specs.Runs.{tree_for}
 use Rattle.par_tree.specs.Tree.{Name, Expr}
 use Rattle.par_tree.specs.View.{name_tree, expr_tree}

@@ -1,7 +1,7 @@
 use Rattle.std.proofs.Common.{◌≡◌, ◌∙◌, refl, sym, ap, subst, List, ◌∷◌, Ok, Option, Some, None}
 use Rattle.std.specs.Prelude.{map}
 use Rattle.dag_order.specs.declared.fault.FaultKind.{FaultKind}
-use Rattle.dummy_tree.specs.QuotaWords.{quota_words}
+use Rattle.depth_first_list.specs.QuotaWords.{quota_words}
 use Rattle.par_tree.specs.Tree.{Program, Func, Name}
 use Rattle.par_tree.specs.declared.func.Func.{Func as Func'}
 use Rattle.par_tree.specs.declared.param.Param.{Param as Param'}

@@ -1,7 +1,7 @@
 use Rattle.std.proofs.Common.{ℕ, sym, ap}
-use Rattle.dummy_tree.specs.QuotaWords.{quota_words}
-use Rattle.dummy_tree.specs.Shapes.{shape_of}
-use Rattle.dummy_tree.specs.TreeLeaves.{tree_leaves}
+use Rattle.depth_first_list.specs.QuotaWords.{quota_words}
+use Rattle.depth_first_list.specs.Shapes.{shape_of}
+use Rattle.depth_first_list.specs.TreeLeaves.{tree_leaves}
 use Rattle.par_tree.specs.Tree.{Program}
 use Rattle.par_tree.specs.View.{body_tree, program_tree}
 use Rattle.depth_first_run.specs.States.{Setting}

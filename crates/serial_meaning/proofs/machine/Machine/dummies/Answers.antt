@@ -1,7 +1,7 @@
 use Rattle.std.proofs.Common.{refl, sym, ap}
 use Rattle.depth_first_list.specs.Actions as deeds
-use Rattle.dummy_tree.specs.Shapes.{Shape, forked, shape_of}
-use Rattle.dummy_tree.specs.TreeLeaves.{tree_leaves}
+use Rattle.depth_first_list.specs.Shapes.{Shape, forked, shape_of}
+use Rattle.depth_first_list.specs.TreeLeaves.{tree_leaves}
 use Rattle.depth_first_run.specs.States.{with_action}
 use Rattle.depth_first_run.specs.Middle.{middle, step_part, tree}
 use Rattle.serial_meaning.specs.Settings.{setting_of}

@@ -1,5 +1,5 @@
 use Rattle.std.proofs.Common.{◌≡◌, ◌∙◌, ℕ, false, ap}
-use Rattle.dummy_tree.specs.QuotaWords.{quota_words}
+use Rattle.depth_first_list.specs.QuotaWords.{quota_words}
 use Rattle.par_tree.specs.Tree.{Body, Stmt, step}
 use Rattle.par_tree.specs.View.{body_tree, stmt_tree, program_tree}
 use Rattle.depth_first_run.specs.States.{Setting, State, began, with_item}

@@ -1,5 +1,5 @@
 use Rattle.std.proofs.Common.{◌≡◌, ◌∙◌, ℕ, List, refl, sym, ap}
-use Rattle.dummy_tree.specs.QuotaWords.{quota_words}
+use Rattle.depth_first_list.specs.QuotaWords.{quota_words}
 use Rattle.par_tree.specs.Tree.{Name, Expr, Target, Arg, Stmt, let_stmt, assign_stmt, put_stmt, free_stmt, if_stmt, while_stmt, call_stmt, print_stmt, par_stmt, split_stmt, step, done}
 use Rattle.par_tree.specs.View.{name_tree, expr_tree, body_tree, stmt_tree, target_tree, args_tree, program_tree}
 use Rattle.par_tree.proofs.Lists.{stmt_tree-if, stmt_tree-while, stmt_tree-par, stmt_tree-split}

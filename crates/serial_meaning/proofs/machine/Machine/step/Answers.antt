@@ -1,6 +1,6 @@
 use Rattle.std.proofs.Common.{ℕ, List, refl, subst}
 use Rattle.dag_order.specs.declared.birth.Birth.{Birth}
-use Rattle.dummy_tree.specs.QuotaWords.{quota_words}
+use Rattle.depth_first_list.specs.QuotaWords.{quota_words}
 use Rattle.par_tree.specs.Tree.{Program}
 use Rattle.par_tree.specs.View.{name_tree, ret_tree, params_tree, args_tree, target_tree, program_tree}
 use Rattle.depth_first_run.specs.States.{Setting, State, unless_faulted, joined}

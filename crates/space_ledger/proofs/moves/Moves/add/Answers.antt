@@ -2,7 +2,7 @@
 use Rattle.std.proofs.Common.{◌≡◌, ◌∙◌, ap, sym, List, arith, rules, ◌+ℤ◌, FitsSigned}
 use Rattle.std.specs.Int.{w64, int_max}
 use Rattle.std.proofs.lemmas.Int.{ints}
-use Rattle.bounded_list.specs.BoundedList.{entries}
+use Rattle.containers.specs.BoundedList.{entries}
 use Rattle.space_ledger.specs.Sums.{total_change, highest}
 use Rattle.space_ledger.specs.declared.moved.Moved.{Moved}
 use Rattle.space_ledger.proofs.MovesLemmas.{kept_high}

@@ -1,7 +1,7 @@
 use Rattle.std.proofs.Math.Logic.{∥∥₁_elim}
 use Rattle.thread_frames.proofs.Sets.{fault_set}
-use Rattle.thread_stack.specs.Passed.States.{State}
-use Rattle.thread_stack.specs.Passed.Run.{whole}
+use Rattle.thread_state.specs.Passed.States.{State}
+use Rattle.thread_state.specs.Passed.Run.{whole}
 use Rattle.thread_frames.proofs.Telling.{whole_told}
 use Rattle.thread_frames.proofs.ended.Ended.fault.Goals as goal
 

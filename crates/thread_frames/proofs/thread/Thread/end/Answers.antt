@@ -1,7 +1,7 @@
 use Rattle.std.proofs.Common.{refl, sym, ◌∙◌, ap}
 use denote.Struct.Props.{props}
 use Rattle.std.proofs.Math.Logic.{∥∥₁_map}
-use Rattle.thread_output.specs.Passed.Points.{words_at_end}
+use Rattle.thread_run.specs.Passed.Points.{words_at_end}
 use Rattle.thread_frames.specs.Views.{recorded}
 use Rattle.thread_frames.specs.declared.prepared.Prepared.TheVariants.{End}
 use Rattle.thread_frames.proofs.Placed.{placed_gives, prepared_as}

@@ -1,7 +1,7 @@
 use Rattle.std.proofs.Common.{◌≡◌, List, [], Ok, Option, refl, ap, subst, arith}
 use Rattle.std.specs.Prelude.{reverse}
 use Rattle.std.proofs.lemmas.List.{nil_from_length}
-use Rattle.dummy_tree.specs.QuotaWords.{quota_words}
+use Rattle.depth_first_list.specs.QuotaWords.{quota_words}
 use Rattle.node_table.specs.Codes.{code_shown}
 use Rattle.thread_stack.specs.declared.frame.Frame.{Frame}
 use Rattle.thread_run.specs.declared.ready.Ready.{Ready}

@@ -1,7 +1,7 @@
 use Rattle.std.proofs.Common.{refl, sym, subst}
-use Rattle.dummy_tree.specs.QuotaWords.{quota_words}
+use Rattle.depth_first_list.specs.QuotaWords.{quota_words}
 use Rattle.node_table.specs.Codes.{code_shown}
-use Rattle.thread_output.specs.Passed.Points.{IsPlain}
+use Rattle.thread_points.specs.Points.{IsPlain}
 use Rattle.thread_stack.specs.declared.frame.Frame.TheVariants.{Allocates}
 use Rattle.thread_run.proofs.Following.{acts_meaning, stays_meaning}
 use Rattle.thread_run.proofs.Kept.{acts_functions}

@@ -1,6 +1,6 @@
 use Rattle.std.proofs.Common.{rules, ◌≡◌, ◌+◌, ◌<◌, ◌≤◌, ◌∙◌, ℕ, List, ◌∷◌, length, slice_get, slice_index_or, Some, sym, subst}
 use Rattle.std.proofs.lemmas.Option.{slice_get-get_or}
-use Rattle.dummy_tree.specs.QuotaWords.{quota_words}
+use Rattle.depth_first_list.specs.QuotaWords.{quota_words}
 use Rattle.node_table.specs.Codes.{code_shown}
 use Rattle.thread_stack.specs.Lists.{numbers_of}
 use Rattle.thread_stack.specs.declared.frame.Frame.TheVariants.{Statements}

@@ -1,6 +1,6 @@
 use Rattle.std.proofs.Common.{◌∷◌, List, [], sym, subst}
-use Rattle.par_tree.specs.Tree
-use Rattle.par_tree.specs.Tree.{Target}
+use Rattle.depth_first_run.specs.Passed.Tree
+use Rattle.depth_first_run.specs.Passed.Tree.{Target}
 use Rattle.node_table.specs.Names.{name_at}
 use Rattle.node_table.specs.Reading.{IsTarget}
 use Rattle.node_table.specs.Shown.{args_shown, target_shown}

@@ -1,7 +1,7 @@
 -- The opening.
 use Rattle.std.proofs.Common.{◌≡◌, replicate, false, refl, ap, subst, ◌∙◌, rules}
 use Rattle.std.specs.Prelude.{None}
-use Rattle.bounded_list.specs.BoundedList.{entries}
+use Rattle.containers.specs.BoundedList.{entries}
 use Rattle.trail_check.specs.Tallies.{IsBlank}
 use Rattle.trail_check.proofs.Opening.{opens}
 use Rattle.trail_check.proofs.checker.Checker.new.Goals as goal

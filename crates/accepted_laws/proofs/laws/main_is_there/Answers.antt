@@ -1,5 +1,0 @@
-use Rattle.accepted_laws.proofs.Functions.{main_of}
-use Rattle.accepted_laws.proofs.laws.main_is_there.Goals as goal
-
-pub returns : goal.returns
-returns c = main_of

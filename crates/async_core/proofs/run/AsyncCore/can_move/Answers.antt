@@ -1,0 +1,12 @@
+use Rattle.std.proofs.Common.{◌↔◌, ℕ, subst}
+use Rattle.std.specs.Prelude.{IsTrue}
+use Rattle.play_rules.specs.Choices.{SomeReady}
+use Rattle.scheduler_state.proofs.Seats.{none_is}
+use Rattle.async_core.proofs.Movings.{can_go_at}
+use Rattle.async_core.proofs.run.AsyncCore.can_move.Goals as goal
+
+pub returns : goal.returns
+returns c = λ s run m at.
+    can_go_at _ _ _ _ c.args.self.now.sound c.args.self.now.end s run m at c.args.worker c.requires (none_is _ c.if-is_some.ensures) c.some_ready-is_ready.result c.can_move.result
+    (subst (λ (n : ℕ). IsTrue c.some_ready-is_ready.result ↔ SomeReady n c.args.self.now.scheduler.list.deques) c.workers.ensures.value c.some_ready-is_ready.ensures)
+    c.can_move.ensures

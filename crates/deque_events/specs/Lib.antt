@@ -1,5 +1,0 @@
-pub mod Shown
-pub mod Seats
-pub mod Events
-pub mod Parts
-pub mod Passed

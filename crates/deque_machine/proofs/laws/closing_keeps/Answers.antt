@@ -1,0 +1,5 @@
+use Rattle.deque_machine.proofs.Keeping as law
+use Rattle.deque_machine.proofs.laws.closing_keeps.Goals as goal
+
+pub returns : goal.returns
+returns c = law.closing_keeps

@@ -1,2 +1,0 @@
-pub mod QuotaLaws
-pub mod ShapeLaws

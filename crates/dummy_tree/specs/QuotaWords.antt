@@ -1,7 +1,0 @@
--- What contracts see of a `Quota`.
-use Rattle.std.specs.Prelude.{ℕ}
-use Rattle.dummy_tree.specs.declared.quota.Quota.{Quota}
-
--- its number of words
-abbrev pub quota_words : Quota → ℕ
-quota_words quota = quota.words

@@ -1,7 +1,0 @@
--- What contracts see of a `Tree`.
-use Rattle.std.specs.Prelude.{ℕ}
-use Rattle.dummy_tree.specs.declared.tree.Tree.{Tree}
-
--- its number of leaves
-abbrev pub tree_leaves : Tree → ℕ
-tree_leaves tree = tree.leaves

@@ -1,0 +1,5 @@
+use Rattle.hall_interleavings.proofs.GoingAtPoints as law
+use Rattle.hall_interleavings.proofs.point_laws.leaving_ends_go_on.Goals as goal
+
+pub returns : goal.returns
+returns c = law.leaving_ends_go_on

@@ -1,0 +1,5 @@
+use Rattle.hall_interleavings.proofs.Placing as law
+use Rattle.hall_interleavings.proofs.point_laws.others_keep_points.Goals as goal
+
+pub returns : goal.returns
+returns c = law.others_keep_points

@@ -1,5 +1,0 @@
-use Rattle.hall_law.proofs.Closing as law
-use Rattle.hall_law.proofs.laws.closed_is_a_run.Goals as goal
-
-pub returns : goal.returns
-returns c = law.closed_is_a_run

@@ -1,5 +1,0 @@
-use Rattle.hall_law.proofs.Closing as law
-use Rattle.hall_law.proofs.laws.owners_are_at_work.Goals as goal
-
-pub returns : goal.returns
-returns c = law.owners_are_at_work

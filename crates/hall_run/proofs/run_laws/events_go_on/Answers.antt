@@ -1,5 +1,0 @@
-use Rattle.hall_run.proofs.Going as law
-use Rattle.hall_run.proofs.run_laws.events_go_on.Goals as goal
-
-pub returns : goal.returns
-returns c = law.events_go_on

@@ -1,8 +1,0 @@
--- The seat has the places of both.
-use Rattle.turn_table.specs.Tables.{key_of}
-use Rattle.hall_turns.specs.declared.key.HallKey.{HallKey}
-use Rattle.hall_seats.specs.Leaving.{with_places}
-use Rattle.hall_seats.proofs.joining.join.Given as goal
-
-abbrev pub ghosts-join_seat : goal.ghosts-join_seat
-ghosts-join_seat a = record { note = λ hand other. with_places (HallKey.workers (key_of a.self.now)) hand.note other.note }

@@ -1,5 +1,0 @@
-use Rattle.hall_seats.proofs.Stopped as law
-use Rattle.hall_seats.proofs.stop_laws.memory_needs_no_cause.Goals as goal
-
-pub returns : goal.returns
-returns c = law.memory_needs_no_cause

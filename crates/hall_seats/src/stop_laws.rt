@@ -1,8 +1,0 @@
-//! What is a cause.
-
-ghost use Rattle.hall_seats.specs.Stopping.{MemoryNeedsNoCause};
-
-/// Want of memory needs no cause.
-pub fn memory_needs_no_cause()
-    ensures { MemoryNeedsNoCause }
-{}

@@ -1,0 +1,22 @@
+-- What the proofs of callers need of what this crate stands on.
+pub use Rattle.depth_first_run.proofs.Built as Built
+pub use Rattle.deque_machine.proofs.Labels as DequeMachineLabels
+pub use Rattle.deque_machine.proofs.Lists as DequeMachineLists
+pub use Rattle.deque_machine.proofs.LiveThreads as LiveThreads
+pub use Rattle.deque_machine.proofs.Shapes as Shapes
+pub use Rattle.hall_machine.proofs.Closing as Closing
+pub use Rattle.hall_machine.proofs.Halting as Halting
+pub use Rattle.hall_machine.proofs.Lanes as Lanes
+pub use Rattle.hall_machine.proofs.Notes as Notes
+pub use Rattle.hall_machine.proofs.Owners as Owners
+pub use Rattle.hall_machine.proofs.Points as Points
+pub use Rattle.hall_machine.proofs.Quiet as Quiet
+pub use Rattle.hall_machine.proofs.Roots as Roots
+pub use Rattle.hall_machine.proofs.Stops as Stops
+pub use Rattle.hall_machine.proofs.Thieves as Thieves
+pub use Rattle.list_changes.proofs.Middles as Middles
+pub use Rattle.list_changes.proofs.Putting as Putting
+pub use Rattle.list_changes.proofs.Stealing as Stealing
+pub use Rattle.open_periods.proofs.Labels as OpenPeriodsLabels
+pub use Rattle.open_periods.proofs.Lists as OpenPeriodsLists
+pub use Rattle.thread_frames.proofs.Found as Found

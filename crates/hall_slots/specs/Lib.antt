@@ -1,0 +1,16 @@
+pub mod Keys
+pub mod Sound
+pub mod Law
+pub mod Takes
+pub mod Steps
+pub mod Shown
+pub mod ListCalls
+pub mod First
+pub mod Halting
+pub mod Lists
+pub mod Entering
+pub mod Leaving
+pub mod Counting
+pub mod Stopping
+pub mod Closing
+pub mod Passed

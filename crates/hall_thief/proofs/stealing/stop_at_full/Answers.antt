@@ -1,0 +1,15 @@
+use Rattle.std.proofs.Common.{◌+◌, ◌<◌, subst, sym}
+use Rattle.turn_table.specs.Tables.{key_of}
+use Rattle.turn_table.proofs.Standing.{slots_of_seat}
+use Rattle.play_rules.specs.declared.stop.Stop.TheVariants.{DequesFull}
+use Rattle.hall_slots.specs.Stopping.{MayStop}
+use Rattle.hall_thief.proofs.Robbed.{inside, may_stop_at_full}
+use Rattle.hall_thief.proofs.stealing.stop_at_full.Goals as goal
+
+pub put_stopped-requires-clause-may : goal.put_stopped-requires-clause-may
+put_stopped-requires-clause-may c = subst (λ n. MayStop (key_of c.args.row.now) c.args.seat.now c.args.list (DequesFull n)) (sym c.most_deques.ensures)
+    (may_stop_at_full (key_of c.args.row.now) c.args.list c.args.place c.args.lane c.args.seat.now c.requires.prey c.args.victim c.requires.victim c.requires.may.0 c.requires.may.1 c.requires.meets c.requires.full)
+
+pub give_lane_back-requires-clause-slot : goal.give_lane_back-requires-clause-slot
+give_lane_back-requires-clause-slot c = subst (λ n. c.args.victim.id.0 + 2 < n) (slots_of_seat c.args.row.now c.args.seat.now c.requires.here)
+    (inside (key_of c.args.row.now) c.args.list c.args.place c.args.lane c.args.seat.now c.requires.prey c.args.victim c.requires.victim c.requires.meets)

@@ -1,0 +1,29 @@
+-- What a thief may steal that has chosen its victim.
+use Rattle.std.specs.Prelude.{◌≡◌, ◌≢◌, ℕ, ◌+◌, ◌≤◌, true, nat_lt, List, [], ◌∷◌, ◌++◌, length}
+use Rattle.deque_list.specs.declared.deque_id.DequeId.{DequeId}
+use Rattle.deque_list.specs.Ids.{IsSmallestFree, place_ids}
+use Rattle.open_periods.specs.declared.period.Period.{Period}
+use Rattle.hall_slots.specs.Passed.Thread.{Thread}
+use Rattle.hall_slots.specs.declared.lane_slot.LaneSlot.{LaneSlot}
+use Rattle.hall_slots.specs.declared.list_slot.ListSlot.{ListSlot}
+use Rattle.hall_slots.specs.declared.slot.Slot.TheVariants as slots
+use Rattle.hall_slots.specs.declared.key.HallKey.{HallKey}
+use Rattle.hall_slots.specs.Takes.{HallSeat, IsTaken}
+use Rattle.hall_thief.specs.Choosing.{HasVictim}
+use Rattle.hall_thief.specs.Stealing.{IsNew, IsOpenTo, MayTakeOver, MayTakeBottom}
+
+-- A seat that held the list alone has chosen the deque at a place. It is a thief to whom the list is open, and its lane has one thread.
+abbrev pub FoundMayBeTakenOver : Type 0
+FoundMayBeTakenOver = (key : HallKey) (before seat : HallSeat) (list : ListSlot) (word place worker : ℕ) (lane : LaneSlot) (period : Period)
+    (thread : Thread) → before.hand.holds ≡ (0, slots.List list) ∷ [] → (has : HasVictim key.workers word list before place lane seat)
+    → IsOpenTo seat list worker → lane.lane.items ≡ thread ∷ [] → IsNew period (nat_lt 0 place) (list.part.begun + 1)
+    → MayTakeOver key seat list (HasVictim.victim has).id lane worker period
+
+-- Or it has more, and the seat took the lane of the next free deque besides, for which there is an empty one with room.
+abbrev pub FoundBottomsMayBeTaken : Type 0
+FoundBottomsMayBeTaken = (key : HallKey) (before middle seat : HallSeat) (list : ListSlot) (word place worker : ℕ) (lane new_was new : LaneSlot)
+    (id : DequeId) (period : Period) (first bottom : Thread) (others : List Thread) → before.hand.holds ≡ (0, slots.List list) ∷ []
+    → (has : HasVictim key.workers word list before place lane middle) → IsTaken middle (id.0 + 2) (slots.Lane new_was) seat
+    → IsOpenTo seat list worker → lane.lane.items ≡ first ∷ (others ++ bottom ∷ []) → IsSmallestFree (place_ids list.part.order.places) id
+    → length list.part.order.places ≢ list.part.order.most → new.lane.items ≡ [] → 1 ≤ new.lane.spare
+    → IsNew period true (list.part.begun + 1) → MayTakeBottom key seat list (HasVictim.victim has).id lane id new worker period

@@ -1,0 +1,24 @@
+use containers::Boxed;
+use hall_slots::{LaneSlot, ListSlot};
+use play_rules::RunEnd;
+use turn_table::Held;
+
+/// What a thief holds that has found a deque to rob.
+#[derive(Drop)]
+pub struct Prey {
+    pub list: Boxed<ListSlot>,
+    /// The place of the deque, from 0 at the left.
+    pub place: u32,
+    pub lane: LaneSlot,
+}
+
+/// Why a thief has found none.
+#[derive(Clone, Copy, PartialEq, Eq, Debug)]
+pub enum SeekRefused {
+    /// Another seat holds a slot that the thief needs.
+    Busy(Held),
+    /// No deque in reach has a thread to steal.
+    Nothing,
+    /// The run has ended so.
+    Over(RunEnd),
+}

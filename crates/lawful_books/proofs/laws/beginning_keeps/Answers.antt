@@ -1,5 +1,0 @@
-use Rattle.lawful_books.proofs.Keeping as law
-use Rattle.lawful_books.proofs.laws.beginning_keeps.Goals as goal
-
-pub returns : goal.returns
-returns c = law.beginning_keeps

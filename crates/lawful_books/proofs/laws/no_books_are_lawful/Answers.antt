@@ -1,5 +1,0 @@
-use Rattle.lawful_books.proofs.Keeping as law
-use Rattle.lawful_books.proofs.laws.no_books_are_lawful.Goals as goal
-
-pub returns : goal.returns
-returns c = law.no_books_are_lawful

@@ -1,0 +1,4 @@
+pub mod Shown
+pub mod Seats
+pub mod Events
+pub mod Parts

@@ -1,4 +1,0 @@
-pub mod Tests
-pub mod Step
-pub mod Laws
-pub mod Played

@@ -1,0 +1,5 @@
+use Rattle.moment_laws.proofs.Going as law
+use Rattle.moment_laws.proofs.laws.moves_go_on.Goals as goal
+
+pub returns : goal.returns
+returns c = law.moves_go_on

@@ -1,0 +1,5 @@
+use Rattle.moment_laws.proofs.Ready as law
+use Rattle.moment_laws.proofs.laws.some_ready_is_shown.Goals as goal
+
+pub returns : goal.returns
+returns g c = law.some_ready_is_shown

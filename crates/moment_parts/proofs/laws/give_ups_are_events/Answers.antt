@@ -1,5 +1,0 @@
-use Rattle.moment_parts.proofs.Moving as law
-use Rattle.moment_parts.proofs.laws.give_ups_are_events.Goals as goal
-
-pub returns : goal.returns
-returns c = law.give_ups_are_events

@@ -1,5 +1,0 @@
-use Rattle.moment_parts.proofs.Handing as law
-use Rattle.moment_parts.proofs.laws.handing_over_is_no_event.Goals as goal
-
-pub returns : goal.returns
-returns c = law.handing_over_is_no_event

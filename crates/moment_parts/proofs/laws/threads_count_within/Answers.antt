@@ -1,5 +1,0 @@
-use Rattle.moment_parts.proofs.Counting as law
-use Rattle.moment_parts.proofs.laws.threads_count_within.Goals as goal
-
-pub returns : goal.returns
-returns c = law.threads_count_within

@@ -1,5 +1,0 @@
-use Rattle.moment_parts.proofs.Moving as law
-use Rattle.moment_parts.proofs.laws.waits_are_events.Goals as goal
-
-pub returns : goal.returns
-returns c = law.waits_are_events

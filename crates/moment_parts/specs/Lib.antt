@@ -1,6 +1,0 @@
-pub mod Parts
-pub mod Standing
-pub mod Events
-pub mod Laws
-pub mod Cuts
-pub mod Passed

@@ -1,0 +1,12 @@
+pub mod Facts
+pub mod Shown
+pub mod Placing
+pub mod Alone
+pub mod Forking
+pub mod Ending
+pub mod Acting
+pub mod Moving
+pub mod Handing
+pub mod Births
+pub mod Counting
+pub mod Cutting

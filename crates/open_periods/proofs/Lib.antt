@@ -1,0 +1,6 @@
+pub mod Sorting
+pub mod Labels
+pub mod Changes
+pub mod Lists
+pub mod Seats
+pub mod Passed

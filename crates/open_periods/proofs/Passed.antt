@@ -1,0 +1,26 @@
+-- What the proofs of callers need of what this crate stands on.
+pub use Rattle.depth_first_list.proofs.JoinLaws as JoinLaws
+pub use Rattle.depth_first_list.proofs.LiveLaws as LiveLaws
+pub use Rattle.depth_first_list.proofs.OrderLaw as OrderLaw
+pub use Rattle.depth_first_list.proofs.Own as Own
+pub use Rattle.depth_first_list.proofs.ThreadLaws as ThreadLaws
+pub use Rattle.depth_first_list.proofs.Weights as Weights
+pub use Rattle.depth_first_list.proofs.Whole as DepthFirstListWhole
+pub use Rattle.deque_list.proofs.DequeLaws as DequeLaws
+pub use Rattle.deque_machine.proofs.Ends as Ends
+pub use Rattle.deque_machine.proofs.Keeping as Keeping
+pub use Rattle.deque_machine.proofs.Kept as Kept
+pub use Rattle.deque_machine.proofs.KeptOrder as KeptOrder
+pub use Rattle.deque_machine.proofs.Labels as Labels
+pub use Rattle.deque_machine.proofs.Lists as Lists
+pub use Rattle.deque_machine.proofs.LiveThreads as LiveThreads
+pub use Rattle.deque_machine.proofs.Movers as Movers
+pub use Rattle.deque_machine.proofs.OneAction as OneAction
+pub use Rattle.deque_machine.proofs.Parts as Parts
+pub use Rattle.deque_machine.proofs.Placed as Placed
+pub use Rattle.deque_machine.proofs.Playing as Playing
+pub use Rattle.deque_machine.proofs.Progress as Progress
+pub use Rattle.deque_machine.proofs.Reached as Reached
+pub use Rattle.deque_machine.proofs.Shapes as Shapes
+pub use Rattle.deque_machine.proofs.Sizes as Sizes
+pub use Rattle.deque_machine.proofs.Whole as DequeMachineWhole

@@ -1,0 +1,5 @@
+use Rattle.open_periods.proofs.Labels as law
+use Rattle.open_periods.proofs.laws.labels_stay_at_a_beginning.Goals as goal
+
+pub returns : goal.returns
+returns c = law.labels_stay_at_a_beginning

@@ -1,0 +1,9 @@
+pub mod Charges
+pub mod Periods
+pub mod Names
+pub mod Telling
+pub mod Laws
+pub mod Numbers
+pub mod Tables
+pub mod TableLaws
+pub mod Passed

@@ -1,0 +1,26 @@
+-- What callers need of what this crate stands on.
+pub use Rattle.containers.specs.BoundedList as BoundedList
+pub use Rattle.dag_order.specs.Births as Births
+pub use Rattle.dag_order.specs.LabelOrder as LabelOrder
+pub use Rattle.dag_order.specs.declared.action_id.ActionId as ActionId
+pub use Rattle.dag_order.specs.declared.birth.Birth as Birth
+pub use Rattle.dag_order.specs.declared.thread_id.ThreadId as ThreadId
+pub use Rattle.depth_first_list.specs.Actions as Actions
+pub use Rattle.depth_first_list.specs.Facts as Facts
+pub use Rattle.depth_first_list.specs.Laws as DepthFirstListLaws
+pub use Rattle.depth_first_list.specs.Runs as DepthFirstListRuns
+pub use Rattle.deque_list.specs.Deques as Deques
+pub use Rattle.deque_list.specs.Ids as Ids
+pub use Rattle.deque_list.specs.declared.deque_id.DequeId as DequeId
+pub use Rattle.deque_machine.specs.Books as Books
+pub use Rattle.deque_machine.specs.Fronts as Fronts
+pub use Rattle.deque_machine.specs.Lawful as Lawful
+pub use Rattle.deque_machine.specs.LawfulOrder as LawfulOrder
+pub use Rattle.deque_machine.specs.Laws as DequeMachineLaws
+pub use Rattle.deque_machine.specs.Lists as Lists
+pub use Rattle.deque_machine.specs.Machine as Machine
+pub use Rattle.deque_machine.specs.Moments as Moments
+pub use Rattle.deque_machine.specs.Play as Play
+pub use Rattle.deque_machine.specs.Runs as DequeMachineRuns
+pub use Rattle.deque_machine.specs.Terms as Terms
+pub use Rattle.space_ledger.specs.declared.moved.Moved as Moved

@@ -1,5 +1,0 @@
-use Rattle.ownership_at_points.proofs.Reading.{one_each}
-use Rattle.ownership_at_points.proofs.laws.each_name_has_one_block.Goals as goal
-
-pub returns : goal.returns
-returns c = λ setting owned own s at. one_each setting owned own s at

@@ -1,5 +1,0 @@
-use Rattle.ownership_at_points.proofs.Skipping.{skips_all}
-use Rattle.ownership_at_points.proofs.laws.faulted_threads_skip.Goals as goal
-
-pub returns : goal.returns
-returns c = λ setting owned skipped own s parts th over plain. skips_all setting owned skipped own s parts th over plain

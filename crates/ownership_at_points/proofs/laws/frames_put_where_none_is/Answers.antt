@@ -1,5 +1,0 @@
-use Rattle.ownership_at_points.proofs.Reading.{frame_where_none}
-use Rattle.ownership_at_points.proofs.laws.frames_put_where_none_is.Goals as goal
-
-pub returns : goal.returns
-returns c = λ setting owned f own s at running x puts. frame_where_none setting owned f own s at running x puts

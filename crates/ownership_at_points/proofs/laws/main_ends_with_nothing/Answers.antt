@@ -1,5 +1,0 @@
-use Rattle.ownership_at_points.proofs.Reading.{main_end}
-use Rattle.ownership_at_points.proofs.laws.main_ends_with_nothing.Goals as goal
-
-pub returns : goal.returns
-returns c = λ setting owned ret own s at running. main_end setting owned ret own s at running

@@ -1,5 +1,0 @@
-use Rattle.ownership_at_points.proofs.Keeping.{quiet_keeps}
-use Rattle.ownership_at_points.proofs.laws.quiet_steps_keep_the_words.Goals as goal
-
-pub returns : goal.returns
-returns c = λ setting owned f own s at plain puts same. quiet_keeps setting owned f own s at plain puts same

@@ -1,5 +1,0 @@
-use Rattle.ownership_at_points.proofs.Reading.{keeps_cut}
-use Rattle.ownership_at_points.proofs.laws.split_bodies_keep_the_cut.Goals as goal
-
-pub returns : goal.returns
-returns c = λ setting owned line b e l r a rest own s at running v cut is. keeps_cut setting owned line b e l r a rest own s at running v cut is

@@ -1,5 +1,0 @@
-use Rattle.ownership_at_points.proofs.Reading.{puts_where_none}
-use Rattle.ownership_at_points.proofs.laws.statements_put_where_none_is.Goals as goal
-
-pub returns : goal.returns
-returns c = λ setting owned line stmt rest own s at running x puts. puts_where_none setting owned line stmt rest own s at running x puts

@@ -1,4 +1,0 @@
-pub mod Sorting
-pub mod Labels
-pub mod Changes
-pub mod Passed

@@ -1,5 +1,0 @@
-use Rattle.period_books.proofs.Labels as law
-use Rattle.period_books.proofs.laws.labels_stay.Goals as goal
-
-pub returns : goal.returns
-returns c = law.labels_stay

@@ -1,5 +1,0 @@
-use Rattle.period_books.proofs.Changes as law
-use Rattle.period_books.proofs.laws.running_is_told.Goals as goal
-
-pub returns : goal.returns
-returns c = law.running_is_told

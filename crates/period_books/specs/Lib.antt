@@ -1,5 +1,0 @@
-pub mod Periods
-pub mod Names
-pub mod Telling
-pub mod Laws
-pub mod Passed

@@ -1,5 +1,0 @@
-use Rattle.step_laws.proofs.Told as law
-use Rattle.step_laws.proofs.laws.actions_are_added.Goals as goal
-
-pub returns : goal.returns
-returns c = law.actions_are_added

@@ -1,5 +1,0 @@
-use Rattle.step_laws.proofs.Going as law
-use Rattle.step_laws.proofs.laws.moves_go_on.Goals as goal
-
-pub returns : goal.returns
-returns c = law.moves_go_on

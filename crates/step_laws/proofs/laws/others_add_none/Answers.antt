@@ -1,5 +1,0 @@
-use Rattle.step_laws.proofs.Told as law
-use Rattle.step_laws.proofs.laws.others_add_none.Goals as goal
-
-pub returns : goal.returns
-returns c = law.others_add_none

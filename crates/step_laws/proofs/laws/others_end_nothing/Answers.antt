@@ -1,5 +1,0 @@
-use Rattle.step_laws.proofs.Ending as law
-use Rattle.step_laws.proofs.laws.others_end_nothing.Goals as goal
-
-pub returns : goal.returns
-returns c = law.others_end_nothing

@@ -1,5 +1,0 @@
-use Rattle.step_laws.proofs.Parents as law
-use Rattle.step_laws.proofs.laws.parents_await.Goals as goal
-
-pub returns : goal.returns
-returns c = law.parents_await

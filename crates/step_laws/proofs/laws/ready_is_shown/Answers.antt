@@ -1,5 +1,0 @@
-use Rattle.step_laws.proofs.Ready as law
-use Rattle.step_laws.proofs.laws.ready_is_shown.Goals as goal
-
-pub returns : goal.returns
-returns g c = law.ready_is_shown

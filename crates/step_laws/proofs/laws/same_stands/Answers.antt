@@ -1,5 +1,0 @@
-use Rattle.step_laws.proofs.Standing as law
-use Rattle.step_laws.proofs.laws.same_stands.Goals as goal
-
-pub returns : goal.returns
-returns c = law.same_stands

@@ -1,5 +1,0 @@
-use Rattle.step_laws.proofs.Sums as law
-use Rattle.step_laws.proofs.laws.sums_go_on.Goals as goal
-
-pub returns : goal.returns
-returns c = law.sums_go_on

@@ -1,5 +1,0 @@
-pub mod Robbing
-pub mod Victims
-pub mod Wanting
-pub mod Stepping
-pub mod Filled

@@ -1,2 +1,0 @@
-pub mod Thefts
-pub mod Passed

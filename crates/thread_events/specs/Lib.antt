@@ -1,4 +1,0 @@
-pub mod Acts
-pub mod Readiness
-pub mod Results
-pub mod Passed

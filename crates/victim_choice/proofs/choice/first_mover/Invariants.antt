@@ -1,6 +1,0 @@
-use Rattle.std.proofs.Common.{◌<◌, ◌+◌, ◌%◌, ℕ}
-use Rattle.victim_choice.specs.Choices.{CanMove}
-use Rattle.victim_choice.proofs.choice.first_mover.Given as goal
-
-abbrev pub invariant-loop-turn : goal.invariant-loop-turn
-invariant-loop-turn l = (e : ℕ) → e < l.turn → ¬ CanMove l.table l.some_ready ((l.word + e) % l.workers)

@@ -1,6 +1,0 @@
-use Rattle.std.proofs.Common.{◌<◌, ℕ}
-use Rattle.victim_choice.specs.Choices.{IsReadyAt}
-use Rattle.victim_choice.proofs.choice.some_ready.Given as goal
-
-abbrev pub invariant-loop-place : goal.invariant-loop-place
-invariant-loop-place g l = (p : ℕ) → p < l.place → ¬ IsReadyAt l.list.deques p

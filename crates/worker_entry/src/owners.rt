@@ -1,0 +1,61 @@
+//! How a worker that owns a deque acts.
+
+ghost use Rattle.std.specs.Prelude.{◌≡◌, Some};
+ghost use Rattle.worker_entry.specs.Owners.{ActsIn};
+ghost use Rattle.worker_entry.specs.Seated.{IsIn, IsProgramOf};
+ghost use Rattle.worker_entry.specs.Thieves.{IsNotBusy};
+
+use crate::hall::Hall;
+use crate::refused::EventRefused;
+use crate::seat::Seat;
+use deque_list::DequeId;
+use hall_slots::Event;
+use node_table::Code;
+use owner_events::{ActRefused, act};
+
+impl Hall {
+    /// Does the next event of a worker that owns a deque: its top thread does its next action, or waits for a child, or the deque is given up. The
+    /// seat says then which deque it owns, if any.
+    ///
+    /// # Errors
+    ///
+    /// Another seat holds a slot that the event needs (never, if this one has all places), or an end is kept in the list that it took. Or the
+    /// seat found a stop before, or finds one now: the words of the action do not fit the arena, there is not enough memory, or as many actions as
+    /// are allowed were counted. The stop is not kept in the list yet. The moment of the hall is what it was.
+    pub fn act(&self, code: &Code, seat: &mut Seat) -> Result<Event, EventRefused>
+        requires program { IsProgramOf self.now code.now }
+        requires here { IsIn self.now seat.old }
+        requires owns { (deque : DequeId) × (seat.old.owned ≡ Some deque) }
+        ensures here { IsIn self.now seat.new }
+        ensures seat { ActsIn self.now seat.old seat.new result }
+        ensures lone { seat.old.places ≡ self.now.workers → IsNotBusy result }
+    {
+        if let Some(stop) = seat.stop {
+            return Err(EventRefused::Stopped(stop));
+        }
+        let Some(deque) = seat.owned else {
+            unreachable!();
+        };
+        match act(
+            &self.row,
+            &mut seat.place,
+            deque,
+            code,
+            self.quota,
+            self.limit,
+            self.alloc,
+            &mut seat.memory,
+        ) {
+            Ok(acted) => {
+                seat.owned = acted.owned;
+                Ok(acted.event)
+            }
+            Err(ActRefused::Busy(held)) => Err(EventRefused::Busy(held)),
+            Err(ActRefused::Over(end)) => Err(EventRefused::Over(end)),
+            Err(ActRefused::Stopped(stop)) => {
+                seat.stop = Some(stop);
+                Err(EventRefused::Stopped(stop))
+            }
+        }
+    }
+}

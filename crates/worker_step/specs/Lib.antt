@@ -1,0 +1,11 @@
+pub mod Keeping
+pub mod Results
+pub mod Memory
+pub mod Tops
+pub mod Acts
+pub mod Ends
+pub mod Leaves
+pub mod Refusals
+pub mod Steps
+pub mod Decisions
+pub mod Thefts
