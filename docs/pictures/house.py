@@ -1,5 +1,6 @@
-"""The rooms of the house: the crates of crates.txt, what each imports, and a map of them, a band a room and a box a crate."""
+"""The rooms of the house: the crates of crates.txt, what each imports and what it is, and a map of them, a band a room and a box a crate."""
 import os
+import re
 import sys
 from typing import NamedTuple
 
@@ -60,6 +61,15 @@ def rooms():
         elif line and not line.startswith("#"):
             found[-1].crates.append(crate_of(line, crates))
     return [room for room in found if room.name or room.crates]
+
+
+def what_is(name):
+    """Returns the first sentence of the head of a crate, without the marks of links."""
+    paths = [f"{TOP}/crates/{name}/src/{root}" for root in ("lib.rt", "main.rt")]
+    with open(next(path for path in paths if os.path.exists(path)), encoding="utf-8") as file:
+        head = [line[3:].strip() for line in file if line.startswith("//!")]
+    first = " ".join(head[: head.index("")] if "" in head else head)
+    return re.sub(r"\[(`[^`]*`)\](?:\([^)]*\))?", r"\1", re.match(r".*?\.(?=\s|$)|.*", first)[0])
 
 
 def used_by(room, house):
