@@ -64,12 +64,12 @@ def rooms():
 
 
 def what_is(name):
-    """Returns the first sentence of the head of a crate, without the marks of links."""
+    """Returns the first sentence of the head of a crate, as a cell of a table: without the marks of links."""
     paths = [f"{TOP}/crates/{name}/src/{root}" for root in ("lib.rt", "main.rt")]
     with open(next(path for path in paths if os.path.exists(path)), encoding="utf-8") as file:
         head = [line[3:].strip() for line in file if line.startswith("//!")]
     first = " ".join(head[: head.index("")] if "" in head else head)
-    return re.sub(r"\[(`[^`]*`)\](?:\([^)]*\))?", r"\1", re.match(r".*?\.(?=\s|$)|.*", first)[0])
+    return re.sub(r"\[(`[^`]*`)\](?:\([^)]*\))?", r"\1", re.match(r".*?\.(?=\s|$)|.*", first)[0]).replace("|", r"\|")
 
 
 def used_by(room, house):
