@@ -4,6 +4,7 @@ use crate::canonical::canonical_text;
 use crate::choices::Pcg;
 use crate::depth_first::{depth_first, PeakReport};
 use crate::good_trail::{verdict, Setting, Verdict};
+use crate::held::{first_fault, held};
 use crate::in_threads;
 use crate::kept_books::play_with_books;
 use crate::loops::expand;
@@ -156,7 +157,11 @@ fn serve_source(command: &Command, source: &[u8]) -> Answer {
 fn run(command: &Command, code: &Code) -> Answer {
     let (rules, seed) = (rules_of(command), command.number("seed"));
     let mut choices = Pcg::from_seed(seed);
+    if command.is_where {
+        return held(code, command.name, rules, seed).map_or_else(|stop| stop_answer(stop, rules), |text| answer(0, text));
+    }
     match command.name {
+        "fault" => first_fault(code, rules).map_or_else(|stop| stop_answer(stop, rules), |text| answer(0, text)),
         "peak" => peak_answer(depth_first(code, rules.quota, rules.steps), rules),
         "span" => span(code, rules.quota, rules.steps).map_or_else(|| stop_answer(Stop::StepsSpent, rules), span_answer),
         "steal" => {

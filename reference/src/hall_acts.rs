@@ -188,8 +188,8 @@ impl<'a> Scene<'a> {
                 self.fork(branch);
                 Some(RECORD_WORDS as i64)
             }
-            Next::Alloc { slot, numbers } => {
-                top.body.do_alloc(slot, numbers);
+            Next::Alloc { slot, numbers, site } => {
+                top.body.do_alloc(slot, numbers, site);
                 Some(World::asked(next) as i64)
             }
             Next::Release(slot) => Some(-(top.body.do_release(slot) as i64)),

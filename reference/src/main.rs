@@ -21,6 +21,7 @@ mod hall_machine;
 mod hall_order;
 mod hall_rows;
 mod hall_seats;
+mod held;
 mod in_threads;
 mod kept_books;
 mod looped;

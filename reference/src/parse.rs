@@ -119,7 +119,7 @@ impl Parser<'_> {
         let body = self.statements()?;
         let answer = if self.sees("return") { Some(self.answer()?) } else { None };
         self.want_close("}")?;
-        Ok(Function { name, line, parameters, body, answer, slots: 0 })
+        Ok(Function { name, line, parameters, body, answer, names: Vec::new() })
     }
 
     fn in_parentheses<T>(&mut self, one: fn(&mut Self) -> Parsed<T>) -> Parsed<Vec<T>> {

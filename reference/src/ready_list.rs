@@ -99,7 +99,7 @@ impl<'a> ReadyList<'a> {
     }
 
     /// The first of the workers from this word on that can move does its event.
-    fn turn(&mut self, choices: &mut impl Choices) -> Result<Event<'a>, Stop> {
+    pub fn turn(&mut self, choices: &mut impl Choices) -> Result<Event<'a>, Stop> {
         let worker = around(choices.word(), self.rules.workers)
             .find(|worker| self.can_move(*worker))
             .expect("there is always a worker that can move");

@@ -13,7 +13,7 @@ pub fn resolve(program: &Program<String>) -> Program<usize> {
 }
 
 fn resolve_function(places: &HashMap<&str, usize>, function: &Function<String>) -> Function<usize> {
-    let mut scope = Scope { places, visible: Vec::new(), slots: 0 };
+    let mut scope = Scope { places, visible: Vec::new(), names: Vec::new() };
     let parameters = function
         .parameters
         .iter()
@@ -21,7 +21,7 @@ fn resolve_function(places: &HashMap<&str, usize>, function: &Function<String>) 
         .collect();
     let body = scope.statements(&function.body);
     let answer = function.answer.as_ref().map(|answer| scope.answer(answer));
-    Function { name: function.name.clone(), line: function.line, parameters, body, answer, slots: scope.slots }
+    Function { name: function.name.clone(), line: function.line, parameters, body, answer, names: scope.names }
 }
 
 struct Visible<'a> {
@@ -33,14 +33,15 @@ struct Visible<'a> {
 struct Scope<'a> {
     places: &'a HashMap<&'a str, usize>,
     visible: Vec<Visible<'a>>,
-    slots: usize,
+    /// All names that the function has declared so far: each has the slot of its place.
+    names: Vec<String>,
 }
 
 impl<'a> Scope<'a> {
     fn declare(&mut self, name: &'a str, is_block: bool) -> usize {
-        let slot = self.slots;
+        let slot = self.names.len();
         self.visible.push(Visible { name, slot, is_block });
-        self.slots += 1;
+        self.names.push(name.to_string());
         slot
     }
 

@@ -81,6 +81,13 @@ const LARGE_BY_THREE: &str =
     20 2 7 4 [] release 0 11 0 | 4:2:[]/\
     21 2 7 4 [] end 0 12 0 |/\
     --/end done/periods 7/ahead 4/high 48/";
+/// A block in two parts beside another one, and a fault of each kind that has a cause.
+const IN_PARTS: &str =
+    "fn main() {\n  alloc b = 40;\n  split b at 32 into l, r {\n    par { l[0] = 1; alloc c = 20; free c; } and { r[0] = 2; }\n  }\n  free b;\n}\n";
+const IN_PARTS_HELD: &str = "action 3/alloc line 2 function main name b blocks 1 words 48/\
+     alloc line 4 function main name c blocks 1 words 32/records threads 1 words 16/peak 96/";
+const NO_SIZE: &str = "fn f(n) { alloc b = n - 2; free b; } fn main() { call f(1); }";
+const NO_END: &str = "fn f() { call f(); } fn main() { call f(); }";
 /// A loop of three rounds: the halves are 1 and 2 numbers, and the second one is halved again.
 const THREE_ROUNDS: &str = "fn f(i) { print i; return i * i; } fn main() { let x = 7; par call x = f(2 into 5); print x; }";
 /// A loop over 40 numbers in parts of at most 16: 32 and 8 numbers, and the first of these 16 and 16.
@@ -226,6 +233,36 @@ const ROWS: &[Row] = &[
     Row("a made source, a step too few", "make 1 --steps 7", "", 7, "stop StepsSpent limit 7/"),
     Row("no size", "make", "", 1, USAGE),
     Row("two sizes", "make 1 2", "", 1, USAGE),
+    Row(
+        "held at the peak",
+        "where peak",
+        TWO_BLOCKS,
+        0,
+        "action 2/alloc line 1 function main name a blocks 1 words 16/records threads 1 words 16/peak 32/",
+    ),
+    Row(
+        "held after dummies",
+        "where play --k 16 --p 1",
+        LARGE,
+        0,
+        "action 10/alloc line 1 function main name b blocks 1 words 48/records threads 0 words 0/high 48/",
+    ),
+    Row("held by records alone", "where async --k 16 --p 1", THREE_LINES, 0, "action 1/records threads 1 words 16/high 16/"),
+    Row("held in parts", "where peak", IN_PARTS, 0, IN_PARTS_HELD),
+    Row("nothing held", "where peak", "fn main() { }", 0, "action 0/records threads 0 words 0/peak 0/"),
+    Row("held in a small arena", "where play --k 16 --p 1 --arena 32", LARGE, 8, "stop ArenaFull live 0 asked 48/"),
+    Row("held of a refused source", "where peak", "fn main() {", 4, "syntax Expected at 11/"),
+    Row("held in threads", "where run", LARGE, 1, USAGE),
+    Row("held of nothing", "where", LARGE, 1, USAGE),
+    Row("held twice", "where where peak", LARGE, 1, USAGE),
+    Row("the place of an Index", "fault", EMPTY_BLOCK, 0, "fault Index line 1 function main name z place 0 length 0/"),
+    Row("the place of a Split", "fault", CUT, 0, "fault Split line 1 function main name b place 24 length 40/"),
+    Row("the sides of a Divide", "fault", TWO_FAULTS, 0, "fault Divide line 2 function main left 1 right 0/"),
+    Row("the length of a Size", "fault", NO_SIZE, 0, "fault Size line 1 function f name b size -1/"),
+    Row("a fault without a cause", "fault", NO_END, 0, "fault Depth line 1 function f/"),
+    Row("no fault", "fault", SMALL, 0, "end done/"),
+    Row("a fault after too many steps", "fault --steps 2", TWO_FAULTS, 0, "fault Divide line 2 function main left 1 right 0/"),
+    Row("no step for a fault", "fault --steps 2", THREE_LINES, 7, "stop StepsSpent limit 2/"),
     Row("a size that is too large", "make 8001", "", 1, USAGE),
     Row("a size where none belongs", "play 1", SMALL, 1, USAGE),
 ];

@@ -1,6 +1,6 @@
 //! A thread: what it has, what is left for it to do, and its next action.
 
-use crate::evaluate::{block_of, evaluate, place_in, words_of, Fault, Value};
+use crate::evaluate::{block_of, evaluate, place_in, words_of, Block, Cause, Failure, Fault, Site, Value};
 use crate::tree::*;
 
 const MOST_NUMBERS: i64 = 1_048_576;
@@ -17,7 +17,7 @@ type Slots = Vec<Value>;
 pub enum Next<'a> {
     Fork(Branch<'a>),
     Join(usize),
-    Alloc { slot: usize, numbers: u64 },
+    Alloc { slot: usize, numbers: u64, site: Site },
     Release(usize),
     Dummy,
     Fault(Fault, u32),
@@ -41,7 +41,7 @@ enum Task<'a> {
     ReturnOfMain,
     Join,
     Dummies(u64),
-    Alloc { slot: usize, numbers: u64 },
+    Alloc { slot: usize, numbers: u64, site: Site },
 }
 
 #[derive(Clone)]
@@ -59,6 +59,9 @@ pub struct Thread<'a> {
     turns: u32,
     /// The slots of the function that runs, last, and of its callers.
     frames: Vec<Slots>,
+    /// The functions of the frames, and what the last fault of this thread was met with.
+    functions: Vec<usize>,
+    pub cause: Option<Cause>,
     tasks: Vec<Task<'a>>,
     open: Vec<Open<'a>>,
     is_faulted: bool,
@@ -80,13 +83,16 @@ type Met = (Fault, u32);
 
 impl<'a> Thread<'a> {
     pub fn root(code: &'a Code) -> Self {
-        let main = main_of(code);
+        let place = place_of_main(code);
+        let main = &code.functions[place];
         Thread {
             code,
             forks_above: 0,
             calls: 1,
             turns: 0,
-            frames: vec![vec![Value::Gone; main.slots]],
+            frames: vec![vec![Value::Gone; main.names.len()]],
+            functions: vec![place],
+            cause: None,
             tasks: vec![Task::ReturnOfMain, Task::List(&main.body)],
             open: Vec::new(),
             is_faulted: false,
@@ -130,7 +136,7 @@ impl<'a> Thread<'a> {
             Task::ReturnOfMain => self.return_of_main()?,
             Task::Join => return Ok(self.open.last().map(|open| Next::Join(open.child))),
             Task::Dummies(leaves) => return Ok(Some(self.dummies(leaves))),
-            Task::Alloc { slot, numbers } => return Ok(Some(Next::Alloc { slot, numbers })),
+            Task::Alloc { slot, numbers, site } => return Ok(Some(Next::Alloc { slot, numbers, site })),
         }
         Ok(None)
     }
@@ -150,7 +156,18 @@ impl<'a> Thread<'a> {
     }
 
     fn value(&mut self, expression: &Expression<usize>, line: u32) -> Result<i64, Met> {
-        evaluate(expression, self.frame()).map_err(|fault| (fault, line))
+        evaluate(expression, self.frame()).map_err(|failure| self.met(failure, line))
+    }
+
+    /// Notes the cause of a fault.
+    fn met(&mut self, (fault, cause): Failure, line: u32) -> Met {
+        self.cause = Some(cause);
+        (fault, line)
+    }
+
+    /// The function that runs.
+    pub fn function(&self) -> usize {
+        self.functions.last().copied().unwrap_or_default()
     }
 
     fn statement(
@@ -185,9 +202,9 @@ impl<'a> Thread<'a> {
     fn put(&mut self, slot: usize, index: &Expression<usize>, value: &Expression<usize>, line: u32) -> Result<(), Met> {
         let index = self.value(index, line)?;
         let value = self.value(value, line)?;
-        let place = place_in(block_of(&self.frame()[slot]), index).map_err(|fault| (fault, line))?;
+        let place = place_in(self.frame(), slot, index).map_err(|failure| self.met(failure, line))?;
         if let Value::Block(block) = &mut self.frame()[slot] {
-            block[place] = value;
+            block.numbers[place] = value;
         }
         Ok(())
     }
@@ -195,10 +212,11 @@ impl<'a> Thread<'a> {
     fn alloc(&mut self, slot: usize, size: &Expression<usize>, quota: u64, line: u32) -> Result<(), Met> {
         let size = self.value(size, line)?;
         if !(0..=MOST_NUMBERS).contains(&size) {
-            return Err((Fault::Size, line));
+            return Err(self.met((Fault::Size, Cause { slot: Some(slot), numbers: (size, MOST_NUMBERS) }), line));
         }
         let numbers = size as u64;
-        self.tasks.push(Task::Alloc { slot, numbers });
+        let site = Site { line, function: self.function(), slot };
+        self.tasks.push(Task::Alloc { slot, numbers, site });
         if words_of(numbers) > quota {
             self.tasks.push(Task::Dummies(words_of(numbers).div_ceil(quota)));
         }
@@ -234,10 +252,11 @@ impl<'a> Thread<'a> {
 
     fn split(&mut self, split: &'a Split<usize>, line: u32) -> Result<(), Met> {
         let at = self.value(&split.at, line)?;
-        let length = block_of(&self.frame()[split.block]).len();
+        let length = block_of(&self.frame()[split.block]).numbers.len();
         let is_cut = (0..=length as i64).contains(&at) && at % PIECE == 0;
         if !is_cut {
-            return Err((Fault::Split, line));
+            let cause = Cause { slot: Some(split.block), numbers: (at, length as i64) };
+            return Err(self.met((Fault::Split, cause), line));
         }
         if let Value::Block(mut left) = self.frame()[split.block].take() {
             let right = left.split_off(at as usize);
@@ -253,7 +272,7 @@ impl<'a> Thread<'a> {
         let left = self.frame()[split.left].take();
         let right = self.frame()[split.right].take();
         if let (Value::Block(mut whole), Value::Block(mut rest)) = (left, right) {
-            whole.append(&mut rest);
+            whole.numbers.append(&mut rest.numbers);
             self.frame()[split.block] = Value::Block(whole);
         }
     }
@@ -261,7 +280,7 @@ impl<'a> Thread<'a> {
     fn call(&mut self, call: &'a Call<usize>, line: u32) -> Result<(), Met> {
         let code = self.code;
         let function = &code.functions[call.function];
-        let mut slots = vec![Value::Gone; function.slots];
+        let mut slots = vec![Value::Gone; function.names.len()];
         for (parameter, argument) in function.parameters.iter().zip(&call.arguments) {
             if let Argument::Value(value) = argument {
                 slots[parameter.name] = Value::Number(self.value(value, line)?);
@@ -278,6 +297,7 @@ impl<'a> Thread<'a> {
         }
         self.calls += 1;
         self.frames.push(slots);
+        self.functions.push(call.function);
         self.tasks.push(Task::Return(call));
         self.tasks.push(Task::List(&function.body));
         Ok(())
@@ -296,6 +316,7 @@ impl<'a> Thread<'a> {
         let function = &code.functions[call.function];
         let answer = self.answer_of(function)?;
         let mut slots = self.frames.pop().unwrap_or_default();
+        self.functions.pop();
         self.calls -= 1;
         for (parameter, argument) in function.parameters.iter().zip(&call.arguments) {
             if let Argument::Lent(slot) = argument {
@@ -310,7 +331,12 @@ impl<'a> Thread<'a> {
 
     fn return_of_main(&mut self) -> Result<(), Met> {
         let code = self.code;
-        self.answer_of(main_of(code)).map(drop)
+        self.answer_of(&code.functions[place_of_main(code)]).map(drop)
+    }
+
+    /// All blocks that the thread has, and parts of blocks.
+    pub fn blocks(&self) -> impl Iterator<Item = &Block> {
+        self.frames.iter().flatten().filter_map(|value| if let Value::Block(block) = value { Some(block) } else { None })
     }
 
     /// The words of all blocks that the thread has.
@@ -327,9 +353,9 @@ impl<'a> Thread<'a> {
         words
     }
 
-    pub fn do_alloc(&mut self, slot: usize, numbers: u64) {
+    pub fn do_alloc(&mut self, slot: usize, numbers: u64, site: Site) {
         self.next = None;
-        self.frame()[slot] = Value::Block(vec![0; numbers as usize]);
+        self.frame()[slot] = Value::Block(Block::new(numbers, site));
     }
 
     /// Answers the words that are given back.
@@ -362,6 +388,8 @@ impl<'a> Thread<'a> {
             calls: self.calls,
             turns: 0,
             frames: vec![frame],
+            functions: vec![self.function()],
+            cause: None,
             tasks: vec![task],
             open: Vec::new(),
             is_faulted: false,
@@ -410,6 +438,6 @@ fn copy_of_number(value: &Value) -> Value {
     }
 }
 
-fn main_of(code: &Code) -> &Function<usize> {
-    code.functions.iter().find(|function| function.name == "main").expect("an accepted program has a main")
+fn place_of_main(code: &Code) -> usize {
+    code.functions.iter().position(|function| function.name == "main").expect("an accepted program has a main")
 }

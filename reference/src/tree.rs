@@ -10,8 +10,8 @@ pub struct Function<N> {
     pub parameters: Vec<Parameter<N>>,
     pub body: List<N>,
     pub answer: Option<Answer<N>>,
-    /// How many names the function declares. Filled where names are resolved.
-    pub slots: usize,
+    /// The names that the function declares, in their order. Filled where names are resolved.
+    pub names: Vec<String>,
 }
 
 #[derive(Clone, Copy, PartialEq, Eq)]

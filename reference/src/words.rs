@@ -5,6 +5,8 @@ use std::collections::HashMap;
 #[derive(Clone, Debug, PartialEq, Eq)]
 pub struct Command {
     pub name: &'static str,
+    /// Whether what the run holds at its high-water mark is asked for.
+    pub is_where: bool,
     numbers: HashMap<&'static str, u64>,
     /// The plain word of `make`: how many groups the made source has.
     pub groups: u64,
@@ -41,7 +43,10 @@ const OF_MACHINE: &[&str] = &["k", "p", "arena", "steps", "deques", "seed"];
 /// The ready list has no limit of its own.
 const OF_READY_LIST: &[&str] = &["k", "p", "arena", "steps", "seed"];
 
-const COMMANDS: [(&str, &[&str]); 17] = [
+/// The commands that may come after `where`.
+const OF_WHERE: [&str; 3] = ["peak", "play", "async"];
+
+const COMMANDS: [(&str, &[&str]); 18] = [
     ("check", &[]),
     ("peak", &["k", "steps"]),
     ("play", OF_MACHINE),
@@ -59,6 +64,7 @@ const COMMANDS: [(&str, &[&str]); 17] = [
     ("bound", OF_MACHINE),
     ("span", &["k", "steps"]),
     ("steal", &["p", "steps", "seed"]),
+    ("fault", &["k", "steps"]),
 ];
 
 const MOST_DIGITS: usize = 20;
@@ -81,6 +87,10 @@ fn rule_of(command: &str, option: &str) -> Option<&'static Rule> {
 /// The command that the words give, or none.
 pub fn read_words(words: &[String]) -> Option<Command> {
     let (first, rest) = words.split_first()?;
+    if first == "where" {
+        let command = read_words(rest).filter(|it| !it.is_where && OF_WHERE.contains(&it.name))?;
+        return Some(Command { is_where: true, ..command });
+    }
     let (name, options) = COMMANDS.iter().find(|(name, _)| name == first)?;
     let (mut numbers, mut groups) = (HashMap::new(), Vec::new());
     let mut rest = rest.iter();
@@ -99,7 +109,12 @@ pub fn read_words(words: &[String]) -> Option<Command> {
         }
     }
     let plain_words = usize::from(*name == "make");
-    (groups.len() == plain_words).then(|| Command { name, numbers, groups: groups.first().copied().unwrap_or(0) })
+    (groups.len() == plain_words).then(|| Command {
+        name,
+        is_where: false,
+        numbers,
+        groups: groups.first().copied().unwrap_or(0),
+    })
 }
 
 fn number(text: &str, rule: &Rule) -> Option<u64> {

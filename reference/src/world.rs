@@ -1,6 +1,6 @@
 //! All threads of a run, its live words, and what it printed. An action changes nothing but these.
 
-use crate::evaluate::{words_of, Fault};
+use crate::evaluate::{words_of, Block, Cause, Fault};
 use crate::thread::{Code, Item, Next, Thread};
 
 pub const RECORD_WORDS: u64 = 16;
@@ -57,6 +57,26 @@ impl<'a> World<'a> {
         }
     }
 
+    /// The function in which a thread that runs is, and what its fault was met with.
+    pub fn met_by(&self, thread: usize) -> (usize, Option<Cause>) {
+        let Life::Running(running) = &self.lives[thread] else { unreachable!("only a thread that runs meets a fault") };
+        (running.function(), running.cause)
+    }
+
+    /// All blocks of threads that run or wait to be joined, and parts of blocks.
+    pub fn blocks(&self) -> impl Iterator<Item = &Block> {
+        let threads = self.lives.iter().filter_map(|life| match life {
+            Life::Running(thread) | Life::Ended(thread) => Some(thread),
+            Life::Joined => None,
+        });
+        threads.flat_map(Thread::blocks)
+    }
+
+    /// How many threads were forked and have not ended.
+    pub fn forked_threads(&self) -> u64 {
+        self.lives[1..].iter().filter(|life| matches!(life, Life::Running(_))).count() as u64
+    }
+
     pub fn has_ended(&self, thread: usize) -> bool {
         matches!(self.lives[thread], Life::Ended(_))
     }
@@ -86,7 +106,7 @@ impl<'a> World<'a> {
                 self.items.push(Vec::new());
                 return Done::Forked(number);
             }
-            Next::Alloc { slot, numbers } => running.do_alloc(slot, numbers),
+            Next::Alloc { slot, numbers, site } => running.do_alloc(slot, numbers, site),
             Next::Release(slot) => self.live -= running.do_release(slot),
             Next::Dummy => running.do_dummy(),
             Next::Fault(fault, line) => {
