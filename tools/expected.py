@@ -30,14 +30,55 @@ def token_at(text, at):
 
 def token_before(text, at):
     """The last token before a place, if it is a word."""
-    code = re.sub(rb"#[^\n]*", b"", text[:at]).rstrip()
-    found = re.search(rb"[A-Za-z_]\w*\Z", code)
-    return found[0].decode() if found else ""
+    found = re.search(r"[A-Za-z_]\w*\Z", code_before(text, at))
+    return found[0] if found else ""
+
+
+def code_before(text, at):
+    """The text before a place, without comments and the blanks at its end."""
+    return re.sub(rb"#[^\n]*", b"", text[:at]).rstrip().decode("ascii", "replace")
+
+
+LOOP = (
+    "`par call` is a parallel loop, which is no statement: `dfd loops` plays it. For other commands write it out first: "
+    "`dfd expand < FILE | dfd peak`."
+)
+# What begins no token, and what to write instead.
+INSTEAD = {
+    "&": "There is no `&&`: put one `if` into another, or multiply the comparisons: `if (a < b) * (c < d) { .. }`.",
+    "|": "There is no `||`: add the comparisons: `if (a < b) + (c < d) { .. }`.",
+    "!": "There is no `!`: write `x == 0`.",
+    '"': "There are no texts: `print e;` prints a number.",
+    "'": "There are no texts: `print e;` prints a number.",
+}
+
+
+def hint_of_token(text, at):
+    """What to write instead of a token without a form, or nothing."""
+    return INSTEAD.get(text[at : at + 1].decode("ascii", "replace"), "")
+
+
+def hint_of_statement(text, at, names):
+    """What to write instead of a statement that is written as in another language, or nothing."""
+    token, code = token_at(text, at), code_before(text, at)
+    declared = re.search(r"(\w+) =\Z", re.sub(r"\s*=\Z", " =", code))
+    if token == "call" and re.search(r"\bpar\Z", code):
+        return LOOP
+    if token == "return" and "`let`" in names or names == ["`}`"] and re.search(r"\breturn [^;{}]*;\Z", code):
+        return "`return` may only be the last statement of a function: put the answer into an integer `r` before, and end with `return r;`."
+    if declared and token == "alloc":
+        return f"A block is made by a statement of its own: `alloc {declared[1]} = e;`."
+    if declared and token == "call":
+        return f"A call is a statement of its own: `call {declared[1]} = f(..);`, after `let {declared[1]} = 0;`."
+    return ""
 
 
 def hint(text, at, names):
     """What was probably meant, or nothing."""
     token, before = token_at(text, at), token_before(text, at)
+    meant = hint_of_statement(text, at, names)
+    if meant:
+        return meant
     if text[at : at + 2] == b"//" or text[max(at - 1, 0) : at + 1] == b"//":
         return "A comment begins with `#`."
     if token == "if" and before == "else":
