@@ -64,7 +64,8 @@ def hint_of_statement(text, at, names):
     declared = re.search(r"(\w+) =\Z", re.sub(r"\s*=\Z", " =", code))
     if token == "call" and re.search(r"\bpar\Z", code):
         return LOOP
-    if token == "return" and "`let`" in names or names == ["`}`"] and re.search(r"\breturn [^;{}]*;\Z", code):
+    is_after_return = token and names == ["`}`"] and re.search(r"\breturn [^;{}]*;\Z", code)
+    if is_after_return or token == "return" and "`let`" in names:
         return "`return` may only be the last statement of a function: put the answer into an integer `r` before, and end with `return r;`."
     if declared and token == "alloc":
         return f"A block is made by a statement of its own: `alloc {declared[1]} = e;`."

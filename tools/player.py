@@ -2,6 +2,7 @@
 import os
 import shutil
 import subprocess
+import sys
 from typing import NamedTuple
 
 TOP = os.path.dirname(os.path.dirname(os.path.realpath(__file__)))
@@ -20,7 +21,8 @@ class Player(NamedTuple):
 def has_reference():
     """Builds the reference if there is a compiler for it, and returns whether it is there."""
     if shutil.which("rustc"):
-        subprocess.run([f"{TOP}/reference/build"], check=False)
+        # The standard output belongs to what is asked.
+        subprocess.run([f"{TOP}/reference/build"], stdout=sys.stderr, check=False)
     return os.access(REFERENCE, os.X_OK)
 
 
