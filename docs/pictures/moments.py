@@ -1,9 +1,13 @@
 """Draws one run: the words in use after each event, the peak of the depth-first run, and the bound of each moment."""
+import textwrap
+
 from canvas import Canvas
 from curves import step_of
 
-WIDTH, HEIGHT = 860, 430
-LEFT, RIGHT, TOP, BOTTOM = 88, 196, 70, 58
+WIDTH, HEIGHT = 860, 446
+LEFT, RIGHT, TOP, BOTTOM = 88, 196, 86, 58
+# How many characters a line of the note may have, so that it is not cut where letters are wide, and how far its lines are apart.
+NOTE_COLUMNS, NOTE_LINE = 80, 17
 STYLE = """
   .area { fill: #0b6e69; opacity: 0.22; } .slack { fill: #c9480f; opacity: 0.07; }
   @media (prefers-color-scheme: dark) { .area { fill: #3ecfc5; } .slack { fill: #ff9457; } }
@@ -59,7 +63,8 @@ class Moments(Canvas):
         middle = (TOP + HEIGHT - BOTTOM) / 2
         self.text(20, middle, "name", "words", "middle", f' transform="rotate(-90 20 {middle:.1f})"')
         self.text(LEFT, 26, "title", title)
-        self.text(LEFT, 48, "note", note)
+        for at, line in enumerate(textwrap.wrap(note, NOTE_COLUMNS)):
+            self.text(LEFT, 48 + at * NOTE_LINE, "note", line)
 
     def path(self, column):
         return " ".join(f"{self.x(at):.1f},{self.y(it[column]):.1f}" for at, it in enumerate(self.columns))
