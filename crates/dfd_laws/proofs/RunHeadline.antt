@@ -1,5 +1,5 @@
 -- What holds of each run by threads, by the laws of the machine.
-use Rattle.std.proofs.Common.{◌≡◌, ◌≢◌, ◌⊎◌, ℕ, ◌<◌, ◌≤◌, List, ◌∷◌, ◌++◌, length, ℤ, pos, Some, arith, refl, ap, subst}
+use Rattle.std.proofs.Common.{◌≡◌, ◌≢◌, ◌⊎◌, ℕ, ◌<◌, ◌≤◌, List, ◌++◌, length, ℤ, pos, arith, subst}
 use Rattle.std.proofs.lemmas.Int.{ints}
 use Rattle.std.specs.Prelude.{◌≤ℤ◌, ◌<ℤ◌, ◌+ℤ◌}
 use Rattle.command_line.specs.declared.command.Command.{Command}
@@ -13,11 +13,10 @@ use Rattle.deque_machine.proofs.Playing.{wanted_may_come}
 use Rattle.deque_machine.proofs.Reached.{lawful_along}
 use Rattle.deque_machine.proofs.Sizes.{arena_never_fills}
 use Rattle.deque_machine.specs.LawfulOrder.{IsLawful}
-use Rattle.deque_machine.specs.Machine.{Setting, does, Owns}
-use Rattle.deque_machine.specs.Moments.{Moment, Deque, opening, live_at, owned_by, one_if_owned}
-use Rattle.deque_machine.specs.Play.{Ending, stopped, arena_full, steps_spent, Wants, an_action, words_taken}
+use Rattle.deque_machine.specs.Machine.{Setting, does}
+use Rattle.deque_machine.specs.Moments.{Moment, opening, live_at}
+use Rattle.deque_machine.specs.Play.{Ending, stopped, arena_full, steps_spent, Wants, words_taken}
 use Rattle.deque_machine.specs.Runs.{Pair, Reaches}
-use Rattle.deque_machine.proofs.Lists.{total_append, one_same}
 use Rattle.deque_machine.specs.Lists.{total}
 use Rattle.par_tree.specs.Tree.{Program}
 use Rattle.run_report.specs.Shown.{Shown}
@@ -30,17 +29,6 @@ use Rattle.dfd_plays.specs.declared.status.Status.TheVariants.{Done, UserFault, 
 use Rattle.dfd_laws.specs.Headline.{play_list, AreBounded, IsBoundedReport}
 use Rattle.dfd_laws.proofs.ArenaStops.{taken_is_weight, filled}
 use Rattle.dfd_laws.proofs.Headline.{bounded_reports, run_is_bounded, mark_is_bounded, statuses_left}
-
--- who is to do an action owns a deque
-actor : (s : Setting) (m : Moment) (worker word place : ℕ) → Wants s m worker word (does place) → Owns m worker
-actor s m worker word place (an_action o which next joined fits) = o
-
-owner_is_counted : (m : Moment) (worker : ℕ) → Owns m worker → 0 < owned_by worker m.deques
-owner_is_counted m worker o =
-    let d : Deque = record { id = o.id; owner = Some worker; threads = o.top ∷ o.under } in
-    let cut : owned_by worker m.deques ≡ owned_by worker (o.left ++ d ∷ o.right) = ap (owned_by worker) o.deques_are in
-    let sum = total_append (one_if_owned worker) o.left (d ∷ o.right) in
-    let own : one_if_owned worker d ≡ 1 = one_same worker worker refl in omega (arith, cut, sum, own)
 
 no_room_lacks : (x w : ℤ) (n t c : ℕ) → (x +ℤ w) ≤ℤ pos t → w ≡ pos n → pos c <ℤ (x +ℤ pos n) → t ≤ c → ⊥
 no_room_lacks x w n t c most is above room = omega (arith, ints)
@@ -66,10 +54,9 @@ module _ (command : Command) (p : Program) (ranges : HasRanges command) where
       let m = met.3 in
       let worker = (met.5).0 in
       let lawful : IsLawful s m = lawful_along s listed met.0 opening m (opening_is_lawful s listed) met.4 in
-      let fills = filled s (play_terms command).limits m (met.5).2 live asked (met.5).4 in
-      let acts = subst (λ e. Wants s m worker (met.5).1 e) fills.1 (met.5).3 in
-      let below = lawful.owners_below worker (owner_is_counted m worker (actor s m worker (met.5).1 fills.0 acts)) in
-      let comes = wanted_may_come s some listed m worker (met.5).1 (does fills.0) lawful below acts in
+      let fills = filled s (play_terms command).limits m (met.5).3 live asked (met.5).5 in
+      let acts = subst (λ e. Wants s m worker (met.5).2 e) fills.1 (met.5).4 in
+      let comes = wanted_may_come s some listed m worker (met.5).2 (does fills.0) lawful (met.5).1 acts in
       let most = arena_never_fills s some listed met.0 m comes.0 worker fills.0 met.4 comes.1 in
       no_room_lacks (live_at s.list m) (weight_at s.list fills.0) (words_at s.list fills.0) (total words_taken s.list) command.arena most
       (taken_is_weight (deed_at s.list fills.0) (words_at s.list fills.0) (fills.2).0) (fills.2).1 words

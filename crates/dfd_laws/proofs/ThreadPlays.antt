@@ -10,8 +10,9 @@ use Rattle.depth_first_run.specs.Run.{list_of}
 use Rattle.deque_machine.proofs.Playing.{excluded, plays_are_runs}
 use Rattle.deque_machine.specs.Machine.{Setting, Event}
 use Rattle.deque_machine.specs.Moments.{Moment}
-use Rattle.deque_machine.specs.Play.{Limits, Stop, arena_full, steps_spent, deques_full, Ending, stopped, Meets, no_steps}
+use Rattle.deque_machine.specs.Play.{CanMove, Limits, Stop, arena_full, steps_spent, deques_full, Ending, stopped, Meets, no_steps}
 use Rattle.deque_machine.specs.Runs.{Pair}
+use Rattle.hall_machine.proofs.Stops.{in_range}
 use Rattle.hall_machine.specs.Runs.{MeetsOnTheWay, HasCause as HasThreadCause}
 use Rattle.deque_machine.proofs.OnePlay.{endings_have_causes}
 use Rattle.deque_machine.specs.StepLaws.{HasCause}
@@ -39,7 +40,8 @@ module _ (command : Command) (p : Program) (ranges : HasRanges command) where
       let limits = (play_terms command).limits in
       let reaches = (plays_are_runs s some_quota listed limits words run last (stopped stop) plays).0 in
       let cause = endings_have_causes s some_quota listed limits words run last (stopped stop) plays in
-      (run, [], sym (append-nil run), last, reaches, ((cause.1).worker, words (suc cause.0), (cause.1).event, (cause.2).wants, cause.3))
+      let below = in_range s.workers (words cause.0) (CanMove s last) (cause.1).worker (cause.2).first in
+      (run, [], sym (append-nil run), last, reaches, ((cause.1).worker, below, words (suc cause.0), (cause.1).event, (cause.2).wants, cause.3))
 
   spent : (run : List Pair) (last : Moment) (limit : ℕ) → IsPlay command p run last (stopped (steps_spent limit)) →
       HasThreadCause (play_machine command p) (play_terms command).limits run (steps_spent limit)

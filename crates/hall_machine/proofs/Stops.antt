@@ -161,6 +161,7 @@ full_arenas_go_on s some list limits h steps m leads count views seat v w place 
     finding_keeps_crew s limits h steps m leads count views seat v (by_rule (play.arena_full (pos h.pool.live) (words_at s.list place))) state.crew here.noted here.placed free none
     (met_now s limits steps m leads (play.arena_full (pos h.pool.live) (words_at s.list place)) (
       v.worker,
+      worker_below s limits h steps m leads count views seat v state here,
       0,
       does place,
       wants s list limits h steps m leads count views v w place deed state is_next takes within 0,
@@ -190,7 +191,7 @@ first_once n word Passes x y a b = elim (cases_lt a.turns b.turns) [
   ]
 ]
 
-in_range : (n word : ℕ) (Passes : ℕ → Type 0) (x : ℕ) → IsFirst n word Passes x → x < n
+pub in_range : (n word : ℕ) (Passes : ℕ → Type 0) (x : ℕ) → IsFirst n word Passes x → x < n
 in_range n word Passes x first = let few = first.few in subst (λ t. t < n) (sym first.is) (mod-lt (word + first.turns) (let some : 0 < n = omega (arith, few) in some))
 
 -- what stands in a list stands mapped in the mapped list
@@ -218,7 +219,7 @@ theft_at s m worker word place event none first (an_action o p next joined fits)
 pub full_lists_go_on : (s : Setting) → 0 < s.quota → IsDepthFirst s.quota s.list → FullListsGoOn s
 full_lists_go_on s some list limits h steps m leads count views seat v word place victim state here idle none first is stays full =
     finding_keeps_crew s limits h steps m leads count views seat v (by_rule (play.deques_full limits.deques)) state.crew here.noted here.placed free none
-    (met_now s limits steps m leads (play.deques_full limits.deques) (v.worker, word, steals place theft.0, theft.1, meets))
+    (met_now s limits steps m leads (play.deques_full limits.deques) (v.worker, worker_below s limits h steps m leads count views seat v state here, word, steals place theft.0, theft.1, meets))
   where
     shown_as : DequeOf Thread → Deque
     shown_as d = parts.deque_shown (deque_shown the_thread d)

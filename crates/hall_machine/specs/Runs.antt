@@ -6,7 +6,7 @@ use Rattle.deque_machine.specs.Play.{Limits, Stop, arena_full, steps_spent, dequ
 use Rattle.deque_machine.specs.Runs.{Pair, Reaches}
 use Rattle.hall_machine.specs.Steps.{MeetsAt}
 
--- at some moment of this run the rules want an event of some worker that meets this stop
+-- at some moment of this run the rules want an event of one of its workers that meets this stop
 abbrev pub MeetsOnTheWay : Setting → Limits → List Pair → Stop → Type 0
 MeetsOnTheWay s limits run stop =
     (front rest : List Pair) × (run ≡ front ++ rest) × (m : Moment) × Reaches s opening front m × MeetsAt s limits m stop

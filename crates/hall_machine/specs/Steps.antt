@@ -1,5 +1,5 @@
 -- A run as the hall tells it: its steps, the newest first, each with the seat that did it and with what the seat was told.
-use Rattle.std.specs.Prelude.{◌≡◌, ℕ, suc, ◌⊎◌, cond, nat_eq, Option, None, Some, List, [], ◌∷◌, ◌++◌, length}
+use Rattle.std.specs.Prelude.{◌≡◌, ◌<◌, ℕ, suc, ◌⊎◌, cond, nat_eq, Option, None, Some, List, [], ◌∷◌, ◌++◌, length}
 use Rattle.depth_first_list.specs.Passed.ThreadId.{ThreadId}
 use Rattle.depth_first_list.specs.Passed.ActionId.{ActionId}
 use Rattle.depth_first_list.specs.Actions.{Action}
@@ -96,9 +96,10 @@ abbrev pub NoneFree : (s : Setting) (steps : List Step) (m : Moment) → Leads s
 NoneFree s [] m leads = Unit {0}
 NoneFree s (step ∷ earlier) m leads = (step.event ≡ gives_up → IsForced s leads.0 step.worker) × NoneFree s earlier leads.0 leads.1
 
--- at a moment the rules want an event of some worker that meets this stop
+-- at a moment the rules want an event of a worker of the run that meets this stop
 abbrev pub MeetsAt : Setting → Limits → Moment → play.Stop → Type 0
-MeetsAt s limits m stop = (worker : ℕ) × (word : ℕ) × (event : Event) × Wants s m worker word event × Meets s limits m event stop
+MeetsAt s limits m stop =
+    (worker : ℕ) × (worker < s.workers) × (word : ℕ) × (event : Event) × Wants s m worker word event × Meets s limits m event stop
 
 -- so it was at some moment of these steps
 abbrev pub HasMet : (s : Setting) → Limits → (steps : List Step) (m : Moment) → Leads s steps m → play.Stop → Type 0
