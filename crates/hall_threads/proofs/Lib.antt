@@ -9,3 +9,4 @@ mod Told
 mod Crews
 mod Ending
 mod Left
+mod Stepped

@@ -83,7 +83,27 @@ pub(crate) fn make_try<C: Choices>(
     answer_of(go_on(hall, code, seat, choices))
 }
 
-/// Makes one try, and answers as a loop is told it.
+/// How many steps a thread goes on before its worker gives the lane back for a while: some 100 microseconds of statements, so that a thief need not
+/// wait for long, and the time in which the lane is free costs less than a hundredth.
+const STEPS_AT_ONCE: u32 = 2_000;
+
+/// Lets the top thread of a worker that owns a deque go on without an event, and says whether it is still on its way to its next action.
+fn is_on_its_way(hall: &Hall, code: &Code, seat: &mut Seat) -> bool
+    requires program { IsProgramOf hall.now code.now }
+    requires here { IsIn hall.now seat.old }
+    ensures here { IsIn hall.now seat.new }
+    ensures same { IsSameWorker seat.old seat.new }
+{
+    if seat.owns().is_none() || seat.found().is_some() {
+        return false;
+    }
+    match hall.step_on(code, seat, STEPS_AT_ONCE) {
+        Ok(came) => !came,
+        Err(_) => false,
+    }
+}
+
+/// Makes one try, and answers as a loop is told it. A worker whose top thread has a long way to its next action gives its lane back in between.
 pub(crate) fn try_next<C: Choices>(
     hall: &Hall,
     code: &Code,
@@ -96,6 +116,9 @@ pub(crate) fn try_next<C: Choices>(
     ensures same { IsSameWorker seat.old seat.new }
     ensures ended { EndsAs result (HasSeen seat.new) }
 {
+    if is_on_its_way(hall, code, seat) {
+        return Tried::Runs;
+    }
     match make_try(hall, code, seat, choices) {
         Answer::Did(_) | Answer::Found(_) => Tried::Did,
         Answer::Refused(_) => Tried::Waits,

@@ -1,7 +1,7 @@
 -- The seat that took its lane, and what its call comes to.
 use Rattle.std.proofs.Common.{◌≡◌, ℕ, ◌+◌, ◌<◌, List, [], ◌∷◌, inl, refl, sym, ap, ◌∙◌, subst}
 use Rattle.std.specs.Option.{option_map}
-use Rattle.std.specs.Prelude.{Some, Result, Ok, Err, IfOk}
+use Rattle.std.specs.Prelude.{Some, Bool, Result, Ok, Err, IfOk}
 use Rattle.containers.specs.BoundedList.{spare}
 use Rattle.deque_list.specs.declared.deque_id.DequeId.{DequeId}
 use Rattle.hall_deciding.specs.Passed.StopVariants.{OutOfMemory as NoMemory}
@@ -18,6 +18,7 @@ use Rattle.hall_slots.specs.declared.lane_slot.LaneSlot.{LaneSlot}
 use Rattle.hall_slots.specs.declared.slot.Slot.{Slot}
 use Rattle.hall_slots.specs.declared.slot.Slot.TheVariants as slots
 use Rattle.owner_advance.specs.Advancing.{HasCome, HasLooked, IsNotBusy, IsReadable, MayCome, RunsOn, took_lane}
+use Rattle.owner_advance.specs.Stepping.{HasStepped, StepsBack, StepsFreely}
 use Rattle.owner_advance.specs.declared.advancing.AdvanceRefused.{AdvanceRefused}
 use Rattle.owner_advance.specs.declared.advancing.AdvanceRefused.TheVariants.{Busy, OutOfMemory}
 use Rattle.owner_advance.specs.declared.at_next.AtNext.{AtNext}
@@ -53,6 +54,18 @@ module _ (key : HallKey) (before middle : HallSeat) (deque : DequeId) (was : Lan
   has_come memory (Ok come) after runs = (was, runs.0 ∙ taken, runs.1)
   has_come memory (Err (Busy held)) after runs = absurd runs
   has_come memory (Err OutOfMemory) after runs = (was, fell_short after runs)
+
+  -- a lane that went back behind some steps
+  pub has_stepped : (r : Result Bool AdvanceRefused) (after : HallSeat) → StepsBack middle r after → HasStepped before deque r after
+  has_stepped (Ok came) after put = (was, put ∙ ap (λ (s : HallSeat). with_hand s (record { seated = s.hand.seated; holds = []; note = s.hand.note; looks = s.hand.looks })) taken)
+  has_stepped (Err (Busy held)) after put = absurd put
+  has_stepped (Err OutOfMemory) after put = (was, fell_short after put)
+
+-- and which was refused nothing on the way
+pub steps_freely : (before : HallSeat) (r : Result Bool AdvanceRefused) (after : HallSeat) → StepsBack before r after → StepsFreely r
+steps_freely before (Ok came) after put = tt
+steps_freely before (Err (Busy held)) after put = absurd put
+steps_freely before (Err OutOfMemory) after put = tt
 
 -- a seat whose thread has come there still meets the law
 pub still_meets : (key : HallKey) (middle : HallSeat) (was : LaneSlot) (ready : ℕ) (r : Result (AtNext × Next) AdvanceRefused) (after : HallSeat)

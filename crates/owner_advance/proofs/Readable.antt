@@ -23,7 +23,7 @@ use Rattle.thread_frames.specs.declared.thread.Thread.{Thread}
 use Rattle.hall_deciding.specs.Passed.Settings.{IsSettingOf}
 use Rattle.hall_slots.specs.Passed.States.{Setting}
 use Rattle.hall_deciding.specs.Passed.Here.{HasRoomIn}
-use Rattle.hall_deciding.specs.Own.{IsShortThere}
+use Rattle.hall_deciding.specs.Own.{IsShortThere, IsStillThere}
 use Rattle.hall_deciding.specs.EventParts.{IsAtAction}
 use Rattle.hall_deciding.proofs.Working.{still_shows}
 use Rattle.hall_slots.specs.Keys.{table_of, quota_of}
@@ -124,6 +124,16 @@ module _ (key : HallKey) (seat : HallSeat) (deque : DequeId) (was lane : LaneSlo
         under = under;
         items = back_items;
         points = points.1;
+      }
+
+      pub still_now : At now → (back : LaneSlot) → back.lane.items ≡ now ∷ under → back.running ≡ Some running → IsStillThere key seat deque back
+      still_now point back back_items back_runs = record {
+        placed = r.may.goes.placed;
+        owns = r.may.goes.owns;
+        lane_was = was;
+        holds = r.holds;
+        same = shows_the_same was back now under running at_action back_items back_runs;
+        points = subst (Each At) (sym back_items) (point, points.1);
       }
 
       pub at_next : (next : Next) (ready spare : ℕ) → quota_of key ≤ 1048576 → At now → next_of now ≡ Some next → JoinsNewest next (children_of now)

@@ -6,3 +6,4 @@ pub mod Returning
 pub mod Causes
 pub mod Answers
 pub mod Advancing
+pub mod Stepping

@@ -1,6 +1,6 @@
 //! What comes before the next action of a top thread: a place for the child that it may fork, and the way to the action.
 
-ghost use Rattle.std.specs.Prelude.{◌≡◌, ◌≤◌, ◌<◌, ℕ, Some, OnOk, IfOk, IsSome};
+ghost use Rattle.std.specs.Prelude.{◌≡◌, ◌≤◌, ◌<◌, ℕ, Some, OnOk, IfOk, IsSome, is_some};
 ghost use Rattle.language_limits.specs.declared.TheConstants.{GREATEST_COUNT, MOST_WORDS};
 ghost use Rattle.depth_first_list.specs.QuotaWords.{quota_words};
 ghost use Rattle.thread_points.specs.Passed.States.{Setting};
@@ -62,4 +62,26 @@ pub fn advance(
         → IfOk result (λ next. ∥ IsOfTheList c top.new next ∥₁) }
 {
     top.get_mut().advance(alloc, code, k)
+}
+
+/// Lets a thread go at most `most` steps on its way to its next action, and says whether it has come there. No pool is touched.
+///
+/// # Errors
+///
+/// There is not enough memory. The thread may be of no further use.
+pub fn step_on(
+    top: &mut Boxed<Thread>,
+    alloc: Global,
+    code: &Code,
+    k: Quota,
+    most: u32,
+) -> Result<bool, AllocError>
+    requires point { IsAtPoint (code_shown code.now) (quota_words k) top.old }
+    requires fits { thread_words top.old ≤ MOST_WORDS }
+    requires few { done_of top.old < GREATEST_COUNT }
+    ensures point { OnOk result (IsAtPoint (code_shown code.now) (quota_words k) top.new) }
+    ensures came { IfOk result (λ came. came ≡ is_some (next_of top.new)) }
+    ensures still { IsStill top.old top.new }
+{
+    top.get_mut().step_on(alloc, code, k, most)
 }

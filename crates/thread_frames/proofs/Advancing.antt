@@ -18,6 +18,7 @@ use Rattle.thread_run.specs.declared.ready.Ready.{Ready}
 use Rattle.thread_run.specs.declared.ready.Ready.TheVariants as ready
 use Rattle.thread_run.specs.Functions.{functions_of, frames_of, frames_before}
 use Rattle.thread_run.specs.Going.{IsNext, ActsBy, IsBefore, IsKnown, Comes}
+use Rattle.thread_run.specs.Stepping.{GoesOn}
 use Rattle.thread_run.specs.declared.run.ThreadRun.{ThreadRun}
 use Rattle.thread_frames.specs.Views.{told_as}
 use Rattle.thread_frames.specs.Points.{At, Stands, AreChildren, IsAtPoint, frames_left}
@@ -155,3 +156,25 @@ came c t func run after fs children more block ready p a to h functions label sa
           ∙ a.run_in;
       record_block = a.record_block ∙ ap words_at_end (sym labelled);
     })
+
+-- a thread that has gone on without an action has nothing prepared
+pub gone : (c : Setting) (t : Table) (func : Option ℕ) (run after : ThreadRun) (children : List OpenChild) (block : Option RecordBlock)
+    (a : At c t func run children block Nothing) → GoesOn c t a.own a.older after
+    → functions_of after.func (frames_of after) ≡ functions_of run.func (frames_of run) → after.state.label ≡ run.state.label
+    → At c t func after children block Nothing
+gone c t func run after children block a to functions label =
+    let labelled : to.at.label ≡ a.at.label = sym to.going.state.label ∙ label ∙ a.stands.state.label in
+    record {
+      functions = to.functions;
+      own = to.frames;
+      at = to.at;
+      part = to.part;
+      older = a.older;
+      point = to.thread;
+      stands = to.going;
+      children =
+          subst (λ (l : List ℕ). AreChildren c t l (open_children to.frames) a.older (reverse children)) (sym labelled)
+          (subst (λ os. AreChildren c t a.at.label os a.older (reverse children)) (sym to.children) a.children);
+      run_in = functions ∙ a.run_in;
+      record_block = a.record_block ∙ ap words_at_end (sym labelled);
+    }

@@ -1,6 +1,6 @@
 //! What a thread is, how the root begins, and the way to the next action.
 
-ghost use Rattle.std.specs.Prelude.{vec_len, vec_capacity, ◌-◌, ◌≡◌, ◌≤◌, ◌<◌, [], ℕ, Some, None, IfOk, OnOk, OnErr, Result, Ok};
+ghost use Rattle.std.specs.Prelude.{vec_len, vec_capacity, ◌-◌, ◌≡◌, ◌≤◌, ◌<◌, [], ℕ, Some, None, IfOk, OnOk, OnErr, Result, Ok, is_some};
 ghost use Rattle.dag_order.specs.Births.{root as root_id};
 ghost use Rattle.thread_state.specs.Passed.States.{Setting};
 ghost use Rattle.depth_first_list.specs.QuotaWords.{quota_words};
@@ -129,6 +129,33 @@ impl Thread {
         self.go_on(alloc, code, k)
     }
 
+    /// Goes at most `most` steps on its way to the next action, and says whether it has come there: then the action is prepared, and
+    /// [`Thread::advance`] tells it. No action is done.
+    ///
+    /// # Errors
+    ///
+    /// There is not enough memory. The actions, the children and the words of the thread are as they were; its plain state may be in the
+    /// middle, and it is of no further use but to give its blocks back.
+    pub fn step_on(
+        &mut self,
+        alloc: Global,
+        code: &Code,
+        k: Quota,
+        most: u32,
+    ) -> Result<bool, AllocError>
+        requires point { IsAtPoint (code_shown code.now) (quota_words k) self.old }
+        requires fits { thread_words self.old ≤ MOST_WORDS }
+        requires count { done_of self.old < GREATEST_COUNT }
+        ensures point { OnOk result (IsAtPoint (code_shown code.now) (quota_words k) self.new) }
+        ensures came { IfOk result (λ came. came ≡ is_some (next_of self.new)) }
+        ensures still { IsStill self.old self.new }
+    {
+        if self.told().is_some() {
+            return Ok(true);
+        }
+        self.go_some(alloc, code, k, most)
+    }
+
     /// The action that is prepared.
     fn told(&self) -> Option<Next>
         ensures { result ≡ next_of self.now }
@@ -170,6 +197,33 @@ impl Thread {
             Some(next) => Ok(next),
             None => unreachable!(),
         }
+    }
+
+    /// Goes at most `most` steps on, where no action is prepared.
+    fn go_some(
+        &mut self,
+        alloc: Global,
+        code: &Code,
+        k: Quota,
+        most: u32,
+    ) -> Result<bool, AllocError>
+        requires point { IsAtPoint (code_shown code.now) (quota_words k) self.old }
+        requires fits { thread_words self.old ≤ MOST_WORDS }
+        requires count { done_of self.old < GREATEST_COUNT }
+        requires nothing { next_of self.old ≡ None }
+        ensures point { OnOk result (IsAtPoint (code_shown code.now) (quota_words k) self.new) }
+        ensures came { IfOk result (λ came. came ≡ is_some (next_of self.new)) }
+        ensures still { IsStill self.old self.new }
+    {
+        // For the prover alone: the table is that of an accepted program.
+        code.is_accepted();
+        let Some(ready) = self.run.step_on(alloc, code, k, most)? else {
+            return Ok(false);
+        };
+        let prepared = prepared_for(&self.run.state, alloc, code, ready)?;
+        reserve(&mut self.run.frames, &mut self.children, &prepared)?;
+        self.prepared = prepared;
+        Ok(true)
     }
 }
 

@@ -175,6 +175,13 @@ abbrev pub KnownAgain : Table → ℕ → ThreadRun → Option Ready → Type 0
 KnownAgain t k after None = IsKnown t k after
 KnownAgain t k after (Some ready) = Unit {0}
 
+-- For each program of which the table is the table, a thread at a point has gone on to a later one, or has come to its next action.
+abbrev pub StepsOn : Table → ℕ → ThreadRun → Result (Option Ready) AllocError → ThreadRun → Type 0
+StepsOn t k before result after =
+    (c : Setting) (gs : List Func) (own : List middles.Frame) (s : State) (part : List Item) (older : List (List Item))
+    → IsSettingOf t k c → IsThread c own s (part ∷ older) → IsGoing c t gs before own s part
+    → MatchResult result (λ o. ComesTo c t own older after o) (λ _. Unit {0})
+
 -- on the way from `start`: each thread with this table has gone on, and has kept what it keeps
 pub record UnderWay (t : Table) (k : ℕ) (start now : ThreadRun) : Type 0 where
   pub known : IsKnown t k now

@@ -27,6 +27,7 @@ pub struct ThreadRun {
 
 impl ThreadRun {
     ghost use Rattle.thread_run.specs.Going.{IsKnown, Advances};
+    ghost use Rattle.thread_run.specs.Stepping.{KnownAgain, StepsOn, frames_left};
     ghost use Rattle.thread_run.specs.Functions.{functions_of, frames_of, frames_before};
 
     /// Runs up to the next action, which the answer tells with the memory that it needs. The action is not done.
@@ -52,5 +53,34 @@ impl ThreadRun {
             }
         }
         Ok(Ready::End)
+    }
+
+    /// Goes at most `most` steps on its way to the next action, and answers the action if it came to it. The action is not done.
+    ///
+    /// # Errors
+    ///
+    /// There is not enough memory. The thread may be in the middle of its way, and is of no further use but to give its blocks back.
+    pub fn step_on(&mut self, alloc: Global, code: &Code, k: Quota, most: u32) -> Result<Option<Ready>, AllocError>
+        requires known { IsKnown (code_shown code.now) (quota_words k) self.old }
+        requires fits { words_held self.old.state ≤ MOST_WORDS }
+        ensures meaning { StepsOn (code_shown code.now) (quota_words k) self.old result self.new }
+        ensures known { IfOk result (λ o. KnownAgain (code_shown code.now) (quota_words k) self.new o) }
+        ensures functions { IfOk result (λ o. functions_of self.new.func (frames_left o (frames_of self.new))
+            ≡ functions_of self.old.func (frames_of self.old)) }
+        ensures label { self.new.state.label ≡ self.old.state.label }
+        ensures done { self.new.state.done ≡ self.old.state.done }
+        ensures forks { self.new.state.forks ≡ self.old.state.forks }
+        ensures faulted { self.new.state.faulted ≡ self.old.state.faulted }
+        ensures words { words_held self.new.state ≡ words_held self.old.state }
+    {
+        'steps: for _ in 0..most {
+            let Some(frame) = self.frames.pop() else {
+                return Ok(Some(Ready::End));
+            };
+            if let Some(ready) = self.go_on(alloc, code, k, frame)? {
+                return Ok(Some(ready));
+            }
+        }
+        Ok(None)
     }
 }

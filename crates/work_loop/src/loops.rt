@@ -5,7 +5,8 @@ use crate::pause::Pause;
 use crate::works::{Tried, Works};
 use std::sync::Wait;
 
-/// Works until the work has ended, and returns how. Before each try the worker passes the gate; after a try that did nothing it pauses.
+/// Works until the work has ended, and returns how. Before each try the worker passes the gate; after a try that did nothing it pauses, and
+/// after one that runs on it lets others in.
 pub fn work<R: Wait, T, K, E, W: Works<T, K, E>, G: Gate>(
     rt: &R,
     table: &T,
@@ -23,6 +24,7 @@ pub fn work<R: Wait, T, K, E, W: Works<T, K, E>, G: Gate>(
         gate.pass(worker.number());
         match worker.try_once(table, code) {
             Tried::Did => pause.end(),
+            Tried::Runs => pause.let_others_in(),
             Tried::Waits => pause.wait(),
             Tried::Ended(end) => return end,
         }

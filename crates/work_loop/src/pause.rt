@@ -4,6 +4,10 @@ use std::{hint, thread};
 /// How many turns of the processor the longest pause waits for before it gives the processor away.
 const MOST_TURNS: u32 = 64;
 
+/// How many turns of the processor a worker leaves what it held free before it takes it again. With none it would take it back before any other
+/// sees that it is free.
+const FREE_TURNS: u32 = 100;
+
 /// How long a worker pauses after its next try that does nothing: one turn at first, twice as long after each such try. From `MOST_TURNS`
 /// on it lets other threads run, so that the workers that have something to do are not kept from a processor by those that have not.
 #[derive(Drop)]
@@ -19,6 +23,14 @@ impl Pause {
     /// Begins again with the shortest pause, after a try that did something.
     pub(crate) fn end(&mut self) {
         self.turns = 1;
+    }
+
+    /// Leaves what the worker held free for a while, after a try that runs on.
+    pub(crate) fn let_others_in(&mut self) {
+        self.end();
+        for _ in 0..FREE_TURNS {
+            hint::spin_loop();
+        }
     }
 
     /// Pauses, and makes the next pause longer.

@@ -6,6 +6,8 @@ ghost use Rattle.work_loop.specs.Tries.{EndsAs};
 pub enum Tried<E> {
     /// It did something.
     Did,
+    /// It went on and has not come to its end, and what it held is free for others now.
+    Runs,
     /// It did nothing: a part was held by another worker, or there was nothing to do.
     Waits,
     /// The work has ended so.

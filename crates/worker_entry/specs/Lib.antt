@@ -7,3 +7,4 @@ pub mod Leaving
 pub mod Held
 pub mod Closing
 pub mod Passed
+pub mod Steps

@@ -2,7 +2,7 @@
 //!
 //! A [`Hall`] is the slots of a scheduler with its terms, beside its program; a [`Seat`] is the right of one worker to work there. A hall is made of
 //! a core that has done no step ([`Hall::new`]), with a seat for the worker 0, which has the places of all workers. A worker enters by a seat
-//! that has two places, steals, acts, gives its deque up, keeps the stop that it found, and leaves into another seat. A seat that is to steal may
+//! that has two places, steals, acts, goes on without an event, gives its deque up, keeps the stop that it found, and leaves into another seat. A seat that is to steal may
 //! hold the list first ([`ListHeld`]). The seat that has all places closes the hall.
 //!
 //! It uses what a core is taken apart into (`dfd_core`), the steal of a thief (`hall_thief`), the events of an owner (`owner_events`), and what
@@ -22,6 +22,7 @@ mod opening;
 mod owners;
 mod refused;
 mod seat;
+mod steps;
 mod thieves;
 
 pub use closing::Closing;

@@ -1,0 +1,55 @@
+//! How a worker that owns a deque goes on without an event.
+
+ghost use Rattle.std.specs.Prelude.{◌≡◌, Some};
+ghost use Rattle.worker_entry.specs.Seated.{IsIn, IsProgramOf};
+ghost use Rattle.worker_entry.specs.Steps.{IsNeverBusy, StepsIn};
+
+use crate::hall::Hall;
+use crate::refused::EventRefused;
+use crate::seat::Seat;
+use deque_list::DequeId;
+use node_table::Code;
+use owner_advance::{AdvanceRefused, go_some_steps};
+use play_rules::Stop;
+
+impl Hall {
+    /// Lets the top thread of a worker's deque go at most `most` steps on its way to its next action, and says whether it has come there. A step
+    /// is one statement, or what lies between two. No event is done, and the moment of the hall is what it was: the seat takes its lane and
+    /// puts it back, so that a thief may take the lane between two such calls.
+    ///
+    /// # Errors
+    ///
+    /// Another seat holds the lane (never, if this one has all places). Or the seat found a stop before, or finds one now: there is not enough
+    /// memory.
+    pub fn step_on(&self, code: &Code, seat: &mut Seat, most: u32) -> Result<bool, EventRefused>
+        requires program { IsProgramOf self.now code.now }
+        requires here { IsIn self.now seat.old }
+        requires owns { (deque : DequeId) × (seat.old.owned ≡ Some deque) }
+        ensures here { IsIn self.now seat.new }
+        ensures seat { StepsIn seat.old seat.new result }
+        ensures lone { seat.old.places ≡ self.now.workers → IsNeverBusy result }
+    {
+        if let Some(stop) = seat.stop {
+            return Err(EventRefused::Stopped(stop));
+        }
+        let Some(deque) = seat.owned else {
+            unreachable!();
+        };
+        match go_some_steps(
+            &self.row,
+            &mut seat.place,
+            deque,
+            code,
+            self.quota,
+            self.alloc,
+            most,
+        ) {
+            Ok(came) => Ok(came),
+            Err(AdvanceRefused::Busy(held)) => Err(EventRefused::Busy(held)),
+            Err(AdvanceRefused::OutOfMemory) => {
+                seat.stop = Some(Stop::OutOfMemory);
+                Err(EventRefused::Stopped(Stop::OutOfMemory))
+            }
+        }
+    }
+}
