@@ -7,11 +7,12 @@ use std::alloc::{AllocError, Global};
 use std::process::Abort;
 use std::sync::Wait;
 use std::thread::Threads;
+use std::time::Clock;
 
 /// What a test runs in: it may stop there, start threads and wait for them.
-pub trait Host: Abort + Threads + Wait + Sync {}
+pub trait Host: Abort + Threads + Wait + Clock + Sync {}
 
-impl<R: Abort + Threads + Wait + Sync> Host for R {}
+impl<R: Abort + Threads + Wait + Clock + Sync> Host for R {}
 
 /// The words of a line.
 pub fn words_of(alloc: Global, line: &str) -> Result<Vec<String>, AllocError> {

@@ -13,10 +13,11 @@ use dfd_plays::{Status, USAGE, most_read, serve, write_answer, write_read_fault}
 use std::alloc::Global;
 use std::sync::Wait;
 use std::thread::Threads;
+use std::time::Clock;
 use work_loop::Gate;
 
 /// Reads the source, runs its program with a thread for each worker, and writes what that comes to.
-fn serve_in_threads<R: Threads + Wait + Sync, S: Source, W: Sink, G: Gate + Sync>(
+fn serve_in_threads<R: Threads + Wait + Clock + Sync, S: Source, W: Sink, G: Gate + Sync>(
     rt: &R,
     alloc: Global,
     command: &Command,
@@ -44,7 +45,7 @@ fn serve_in_threads<R: Threads + Wait + Sync, S: Source, W: Sink, G: Gate + Sync
 /// Words that are no command are answered by the usage line, and the source is left unread. `run` takes the runtime's threads, and its
 /// workers pass the gate before each try; each other command is done by [`serve`]. A status for a fault comes exactly where a fault was
 /// counted.
-pub fn dfd<R: Threads + Wait + Sync, S: Source, W: Sink, G: Gate + Sync>(
+pub fn dfd<R: Threads + Wait + Clock + Sync, S: Source, W: Sink, G: Gate + Sync>(
     rt: &R,
     alloc: Global,
     words: &[String],

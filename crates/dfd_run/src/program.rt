@@ -16,6 +16,7 @@ use std::env::Args;
 use std::io;
 use std::sync::Wait;
 use std::thread::Threads;
+use std::time::Clock;
 use work_loop::Gate;
 
 /// The words behind the first one, which is the program's own name.
@@ -44,7 +45,7 @@ fn words(alloc: Global, args: io::Result<Args>) -> Result<Vec<String>, AllocErro
 /// Does what the program does, and answers its exit code: [`dfd`] with the words that the system gave.
 ///
 /// Words that cannot be read are no command, and want of memory for them is that of the call.
-pub fn exit_code<R: Threads + Wait + Sync, S: Source, W: Sink, G: Gate + Sync>(
+pub fn exit_code<R: Threads + Wait + Clock + Sync, S: Source, W: Sink, G: Gate + Sync>(
     rt: &R,
     alloc: Global,
     args: io::Result<Args>,

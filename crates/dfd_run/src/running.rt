@@ -16,6 +16,7 @@ use hall_threads::{Ran, run_in_threads};
 use std::alloc::{AllocError, Global};
 use std::sync::Wait;
 use std::thread::Threads;
+use std::time::Clock;
 use work_loop::Gate;
 
 /// The choices of the workers from 1 on: each has a generator of its own, whose seed is that of the command and the number of the worker.
@@ -32,7 +33,7 @@ fn choices_of_others(alloc: Global, command: &Command) -> Result<Vec<PcgChoices>
 }
 
 /// Lets the workers of a command run a program in threads, and reports the run.
-fn run_program<R: Threads + Wait + Sync, G: Gate + Sync>(
+fn run_program<R: Threads + Wait + Clock + Sync, G: Gate + Sync>(
     rt: &R,
     alloc: Global,
     command: &Command,
@@ -54,7 +55,7 @@ fn run_program<R: Threads + Wait + Sync, G: Gate + Sync>(
 
 /// What workers in threads make of the program whose text these bytes are, or why and where they are refused. Before each try a worker passes
 /// the gate.
-pub fn run<R: Threads + Wait + Sync, G: Gate + Sync>(
+pub fn run<R: Threads + Wait + Clock + Sync, G: Gate + Sync>(
     rt: &R,
     alloc: Global,
     command: &Command,

@@ -25,8 +25,8 @@ steps_keep before after (Err (Over end)) steps = absurd steps
 steps_keep before after (Err (Stopped stop)) steps = elim steps [
   | inl same ↦ subst (IsSameWorker before) (sym same.1) (same_worker before)
   | inr found ↦ record {
-    worker = found.2.0;
-    places = found.2.1;
-    yields = ap (λ (s : HallSeat). s.hand.note.yielded) found.1.1.2.1;
+    worker = found.1;
+    places = found.2;
+    yields = ap (λ (s : HallSeat). s.hand.note.yielded) found.0.1.2.2.1.1;
   }
 ]

@@ -12,6 +12,7 @@ use play_rules::RunEnd;
 use scheduler_state::Choices;
 use std::sync::Wait;
 use std::thread::Threads;
+use std::time::Clock;
 use work_loop::{Gate, Member, WorksToEnd, work_all};
 use worker_entry::Hall;
 
@@ -31,7 +32,7 @@ fn work_program<R: Threads + Sync, T: Sync, M: WorksToEnd<R, T, Code, G> + Send,
 }
 
 /// Works all members of a crew in a hall, each in a thread of its own, until the run has ended for each. Each member then has its end.
-pub fn work_crew<R: Threads + Wait + Sync, C: Choices + Send, G: Gate + Sync>(
+pub fn work_crew<R: Threads + Wait + Clock + Sync, C: Choices + Send, G: Gate + Sync>(
     rt: &R,
     hall: &Hall,
     code: &Code,

@@ -26,11 +26,12 @@ use scheduler_state::Choices;
 use std::alloc::{AllocError, Global};
 use std::sync::Wait;
 use std::thread::Threads;
+use std::time::Clock;
 use work_loop::{Gate, Member};
 use worker_entry::{CloseRefused, Closing, Core, Hall};
 
 /// Works a crew, each member in a thread of its own, until the run has ended for each.
-fn work_to_end<R: Threads + Wait + Sync, C: Choices + Send + Drop, G: Gate + Sync>(
+fn work_to_end<R: Threads + Wait + Clock + Sync, C: Choices + Send + Drop, G: Gate + Sync>(
     rt: &R,
     hall: &Hall,
     code: &Code,
@@ -60,7 +61,7 @@ fn close_by<C: Drop>(hall: Hall, last: Member<HallWorker<C>, RunEnd>) -> Result<
 }
 
 /// Runs the program of a core that has done no step, with a thread for each worker, and gives what is left of the run.
-fn close_run<R: Threads + Wait + Sync, C: Choices + Send + Drop, G: Gate + Sync>(
+fn close_run<R: Threads + Wait + Clock + Sync, C: Choices + Send + Drop, G: Gate + Sync>(
     rt: &R,
     alloc: Global,
     core: Core,
@@ -91,7 +92,7 @@ fn close_run<R: Threads + Wait + Sync, C: Choices + Send + Drop, G: Gate + Sync>
 /// # Errors
 ///
 /// There is not enough memory.
-pub fn run_in_threads<R: Threads + Wait + Sync, C: Choices + Send + Drop, G: Gate + Sync>(
+pub fn run_in_threads<R: Threads + Wait + Clock + Sync, C: Choices + Send + Drop, G: Gate + Sync>(
     rt: &R,
     alloc: Global,
     core: Core,

@@ -4,3 +4,4 @@ pub mod Needs
 pub mod Ready
 pub mod Acting
 pub mod Yielding
+pub mod Stepping

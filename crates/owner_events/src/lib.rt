@@ -4,7 +4,7 @@
 //! a wait for a child, or a give up of the deque. It takes the slots that the event needs in one order, its lane first, then the list, then
 //! the pool; counts the action once there is memory for it; does it to the parts; and puts them back, by which the event is decided. If a
 //! slot is held by another seat, the run is over, there is not enough memory, or a limit of the run is met, it gives all slots back
-//! ([`ActRefused`]). A seat may also give its deque up though nothing asks for it ([`give_up_deque`]), also after the end of the run ([`yield_deque`]).
+//! ([`ActRefused`]). Between two events it may let its top thread go on for a while with its lane free in between ([`step_on`]). A seat may also give its deque up though nothing asks for it ([`give_up_deque`]), also after the end of the run ([`yield_deque`]).
 //!
 //! It uses the way to the action and what is put back if no event comes (`owner_advance`), the count (`hall_slots`), and the
 //! events themselves (`owner_acts`). It hands the memory of a seat on ([`SeatMemory`]), so that who
@@ -22,6 +22,7 @@ mod joins;
 mod lists;
 mod pools;
 mod refused;
+mod stepping;
 mod taking;
 mod wholes;
 mod yields;
@@ -30,4 +31,5 @@ pub use acted::Acted;
 pub use acting::act;
 pub use owner_advance::SeatMemory;
 pub use refused::ActRefused;
+pub use stepping::step_on;
 pub use yields::{YieldRefused, give_up_deque, yield_deque};

@@ -4,10 +4,11 @@ use crate::gates::Gate;
 use crate::pause::Pause;
 use crate::works::{Tried, Works};
 use std::sync::Wait;
+use std::time::Clock;
 
 /// Works until the work has ended, and returns how. Before each try the worker passes the gate; after a try that did nothing it pauses, and
 /// after one that runs on it lets others in.
-pub fn work<R: Wait, T, K, E, W: Works<T, K, E>, G: Gate>(
+pub fn work<R: Wait + Clock, T, K, E, W: Works<T, K, E>, G: Gate>(
     rt: &R,
     table: &T,
     code: &K,
@@ -25,7 +26,7 @@ pub fn work<R: Wait, T, K, E, W: Works<T, K, E>, G: Gate>(
         match worker.try_once(table, code) {
             Tried::Did => pause.end(),
             Tried::Runs => pause.let_others_in(),
-            Tried::Waits => pause.wait(),
+            Tried::Waits => pause.wait(rt),
             Tried::Ended(end) => return end,
         }
     }

@@ -5,6 +5,7 @@ use crate::gates::Gate;
 use crate::loops::work;
 use crate::works::Works;
 use std::sync::Wait;
+use std::time::Clock;
 
 /// A worker, and how its work ended.
 #[derive(Drop)]
@@ -15,7 +16,7 @@ pub struct Member<W, E> {
     pub end: Option<E>,
 }
 
-impl<R: Wait, T, K, E: Drop, W: Works<T, K, E>, G: Gate> WorksToEnd<R, T, K, G> for Member<W, E> {
+impl<R: Wait + Clock, T, K, E: Drop, W: Works<T, K, E>, G: Gate> WorksToEnd<R, T, K, G> for Member<W, E> {
     ghost use Rattle.work_loop.specs.declared.member.Member.{Member as AnyMember};
     ghost use Rattle.work_loop.specs.Working.{HasWorked};
 

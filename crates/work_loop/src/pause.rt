@@ -1,47 +1,73 @@
-//! The pause after a try that did nothing.
+//! The pause after a try that did nothing, and the time in which a worker leaves what it held free.
+
+use std::time::{Clock, Duration};
 use std::{hint, thread};
 
-/// How many turns of the processor the longest pause waits for before it gives the processor away.
-const MOST_TURNS: u32 = 64;
+/// How many tries are made soon after one another, each pause twice as long as the one before.
+const SHORT_PAUSES: u32 = 6;
+
+/// How many tries are made before the worker sleeps. They take some 100 microseconds or more, longer than a thread runs before its worker leaves
+/// its lane free, so that a worker that looks for work finds each lane free once.
+const TRIES_AWAKE: u32 = 250;
+
+/// The microseconds of the first sleep and of the longest one: a worker that finds nothing costs a thirtieth of a processor.
+const FIRST_SLEEP: u64 = 50;
+const LONGEST_SLEEP: u64 = 3_200;
 
 /// How many turns of the processor a worker leaves what it held free before it takes it again. With none it would take it back before any other
 /// sees that it is free.
 const FREE_TURNS: u32 = 100;
 
-/// How long a worker pauses after its next try that does nothing: one turn at first, twice as long after each such try. From `MOST_TURNS`
-/// on it lets other threads run, so that the workers that have something to do are not kept from a processor by those that have not.
+/// How long a worker pauses after its next try that does nothing: a turn of the processor at first, and twice as long after each of the next tries;
+/// then it only lets other threads run; and where many tries in a row did nothing, it sleeps, each time twice as long, with as many tries in between.
 #[derive(Drop)]
 pub(crate) struct Pause {
-    turns: u32,
+    /// The tries since it slept that did nothing.
+    tries: u32,
+    /// The microseconds of its next sleep.
+    sleep: u64,
 }
 
 impl Pause {
     pub(crate) fn new() -> Pause {
-        Pause { turns: 1 }
+        Pause {
+            tries: 0,
+            sleep: FIRST_SLEEP,
+        }
     }
 
     /// Begins again with the shortest pause, after a try that did something.
     pub(crate) fn end(&mut self) {
-        self.turns = 1;
+        self.tries = 0;
+        self.sleep = FIRST_SLEEP;
     }
 
     /// Leaves what the worker held free for a while, after a try that runs on.
     pub(crate) fn let_others_in(&mut self) {
         self.end();
-        for _ in 0..FREE_TURNS {
-            hint::spin_loop();
-        }
+        spin(FREE_TURNS);
     }
 
     /// Pauses, and makes the next pause longer.
-    pub(crate) fn wait(&mut self) {
-        if self.turns >= MOST_TURNS {
-            thread::yield_now();
+    pub(crate) fn wait<R: Clock>(&mut self, clock: &R) {
+        if self.tries >= TRIES_AWAKE {
+            thread::sleep(clock, Duration::from_micros(self.sleep));
+            self.sleep = self.sleep.saturating_mul(2).min(LONGEST_SLEEP);
+            self.tries = SHORT_PAUSES;
             return;
         }
-        for _ in 0..self.turns {
-            hint::spin_loop();
+        if self.tries < SHORT_PAUSES {
+            spin(1 << self.tries);
+        } else {
+            thread::yield_now();
         }
-        self.turns *= 2;
+        self.tries += 1;
+    }
+}
+
+/// Waits for so many turns of the processor.
+fn spin(turns: u32) {
+    for _ in 0..turns {
+        hint::spin_loop();
     }
 }

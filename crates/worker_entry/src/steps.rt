@@ -9,8 +9,7 @@ use crate::refused::EventRefused;
 use crate::seat::Seat;
 use deque_list::DequeId;
 use node_table::Code;
-use owner_advance::{AdvanceRefused, go_some_steps};
-use play_rules::Stop;
+use owner_events::{ActRefused, step_on};
 
 impl Hall {
     /// Lets the top thread of a worker's deque go at most `most` steps on its way to its next action, and says whether it has come there. A step
@@ -35,7 +34,7 @@ impl Hall {
         let Some(deque) = seat.owned else {
             unreachable!();
         };
-        match go_some_steps(
+        match step_on(
             &self.row,
             &mut seat.place,
             deque,
@@ -45,10 +44,11 @@ impl Hall {
             most,
         ) {
             Ok(came) => Ok(came),
-            Err(AdvanceRefused::Busy(held)) => Err(EventRefused::Busy(held)),
-            Err(AdvanceRefused::OutOfMemory) => {
-                seat.stop = Some(Stop::OutOfMemory);
-                Err(EventRefused::Stopped(Stop::OutOfMemory))
+            Err(ActRefused::Busy(held)) => Err(EventRefused::Busy(held)),
+            Err(ActRefused::Over(_)) => unreachable!(),
+            Err(ActRefused::Stopped(stop)) => {
+                seat.stop = Some(stop);
+                Err(EventRefused::Stopped(stop))
             }
         }
     }

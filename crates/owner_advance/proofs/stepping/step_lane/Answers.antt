@@ -30,7 +30,7 @@ pub give_short_back-requires-clause-short : goal.give_short_back-requires-clause
 give_short_back-requires-clause-short c = let at = c.take_apart-at in
     readable.short_now (key_of c.args.row.now) c.args.seat.now c.args.deque c.requires.readable.0 c.args.lane c.requires.readable.1
     at.result.top at.result.lane.items at.result.running at.ensures.items at.ensures.running
-    c.step_on.new.top c.step_on.ensures.still c.put_together.result c.put_together.ensures.items c.put_together.ensures.running
+    c.step_on.new.top c.step_on.ensures.still c.put_together-in-Err.result c.put_together-in-Err.ensures.items c.put_together-in-Err.ensures.running
 
 pub give_still_back-requires-clause-still : goal.give_still_back-requires-clause-still
 give_still_back-requires-clause-still c = let at = c.take_apart-at in
