@@ -47,7 +47,10 @@ impl ThreadRun {
         ensures words { words_held self.new.state ≡ words_held self.old.state }
     {
         'steps: while let Some(frame) = self.frames.pop() {
-            if let Some(ready) = self.go_on(alloc, code, k, frame)? {
+            let Some(next) = self.ahead(code, k, frame)? else {
+                return Ok(Ready::End);
+            };
+            if let Some(ready) = self.go_on(alloc, code, k, next)? {
                 return Ok(ready);
             }
         }
