@@ -28,12 +28,19 @@ impl ThreadRun {
     ghost use Rattle.thread_run.specs.Functions.{frames_of};
 
     /// Goes on from a frame that was taken off, through statements that do no action, call nothing and print nothing. Before any other
-    /// frame or statement, and before a fault, the frame that comes next is the answer, and is not on the stack; None where nothing is left.
+    /// frame or statement, before a fault, and behind so many lists, the frame that comes next is the answer, and is not on the stack; None
+    /// where nothing is left.
     ///
     /// # Errors
     ///
     /// There is not enough memory.
-    pub(crate) fn ahead(&mut self, code: &Code, k: Quota, frame: Frame) -> Result<Option<Frame>, AllocError>
+    pub(crate) fn ahead(
+        &mut self,
+        code: &Code,
+        k: Quota,
+        frame: Frame,
+        most: u32,
+    ) -> Result<Option<Frame>, AllocError>
         requires known { IsKnownAt (code_shown code.now) (quota_words k) self.old frame }
         requires room { HasRoom self.old.frames }
         ensures way { (room : HasRoom self.old.frames)
@@ -45,9 +52,14 @@ impl ThreadRun {
             return Ok(Some(frame));
         }
         let mut next = frame;
+        let mut left = most;
         'frames: loop {
             match self.one_ahead(code, k, next)? {
                 Ahead::Next(frame) => {
+                    if left == 0 {
+                        return Ok(Some(frame));
+                    }
+                    left -= 1;
                     next = frame;
                 }
                 Ahead::Over => {

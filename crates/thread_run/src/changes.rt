@@ -96,8 +96,10 @@ pub(crate) fn repeat(
     code: &Code,
     number: u32,
     cond: &CodeExpr,
+    body: &[u32],
 ) -> Plain
-    requires { state.old.faulted ≡ false }
+    requires going { state.old.faulted ≡ false }
+    requires round { numbers_of (code_shown code.now) (ListOf.Round number) ≡ body.now }
     ensures meaning { (k line : ℕ) (c : Setting) (g : Func) (e : Expr) (a : Body) → IsExpr (slot_names g) (expr_shown cond.now) e
         → AreStatements c.program (code_shown code.now) (slot_names g) (numbers_of (code_shown code.now) (ListOf.Round number)) a
         → AreStatements c.program (code_shown code.now) (slot_names g) (number ∷ []) (step line (while_stmt e a) done)
@@ -109,7 +111,7 @@ pub(crate) fn repeat(
     match state.evaluate(cond) {
         Ok(value) => {
             if is_true(value) {
-                go_round(state, code, number)
+                go_round(state, code, number, body)
             } else {
                 Plain::Nothing
             }
@@ -120,8 +122,9 @@ pub(crate) fn repeat(
 
 /// A round of a loop, which comes again behind its body.
 #[inline(always)]
-fn go_round(state: &mut ThreadState, code: &Code, number: u32) -> Plain
-    requires { state.old.faulted ≡ false }
+fn go_round(state: &mut ThreadState, code: &Code, number: u32, body: &[u32]) -> Plain
+    requires going { state.old.faulted ≡ false }
+    requires round { numbers_of (code_shown code.now) (ListOf.Round number) ≡ body.now }
     ensures meaning { (k line : ℕ) (c : Setting) (g : Func) (e : Expr) (a : Body)
         → AreStatements c.program (code_shown code.now) (slot_names g) (numbers_of (code_shown code.now) (ListOf.Round number)) a
         → AreStatements c.program (code_shown code.now) (slot_names g) (number ∷ []) (step line (while_stmt e a) done)
@@ -131,14 +134,15 @@ fn go_round(state: &mut ThreadState, code: &Code, number: u32) -> Plain
     ensures left { IsLeft result → state.new ≡ state.old }
 {
     match state.turn() {
-        Ok(()) => round(code, number),
+        Ok(()) => round(code, number, body),
         Err(kind) => Plain::Faults(kind),
     }
 }
 
 /// The body of a loop and the loop again, or the loop alone where the body is empty.
 #[inline(always)]
-fn round(code: &Code, number: u32) -> Plain
+fn round(code: &Code, number: u32, body: &[u32]) -> Plain
+    requires { numbers_of (code_shown code.now) (ListOf.Round number) ≡ body.now }
     ensures frames { (line : ℕ) (p : Program) (gs : List Func) (a : Body) (xs : List Frame) (fs : List RunFrame)
         → AreStatements p (code_shown code.now) (names_now gs) (numbers_of (code_shown code.now) (ListOf.Round number)) a
         → AreFrames p (code_shown code.now) gs (Frame.Again number ∷ xs) fs
@@ -148,9 +152,10 @@ fn round(code: &Code, number: u32) -> Plain
         ≤ list_cost (node_cost (code_shown code.now)) (numbers_of (code_shown code.now) (ListOf.Round number))
         + (1 + node_cost (code_shown code.now) number) }
 {
-    match frame_from(code, ListOf::Round(number), 0) {
-        Some(_) => Plain::Round,
-        None => Plain::Again,
+    if body.is_empty() {
+        Plain::Again
+    } else {
+        Plain::Round
     }
 }
 

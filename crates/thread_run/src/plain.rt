@@ -69,7 +69,7 @@ pub(crate) fn do_plainly(
             value,
         } => put(state, *block, index, value),
         NodeKind::If { cond, .. } => choose(state, code, number, cond),
-        NodeKind::While { cond, .. } => repeat(state, code, number, cond),
+        NodeKind::While { cond, body } => repeat(state, code, number, cond, body),
         _ => Plain::Other,
     }
 }

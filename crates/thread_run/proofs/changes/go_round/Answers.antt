@@ -33,7 +33,7 @@ returns-in-Err-clause-meaning c = λ k line setting g e a body again gs xs fs s 
     let stop = c.in-Err.ensures.state (map slot_names (g ∷ gs)) line s at.state in
     faulted (code_shown c.args.code.now) k setting g gs c.turn.new.self xs fs s c.in-Err.kind line (step_turn s.turns line (before_all a (before_all loop fs)) fs s) (Acts (Fault (record { kind = c.in-Err.kind; line = line }))) refl
     (record { setting = at.setting; frames = at.frames; state = stop.0 })
-    (turn_fails line c.in-Err.kind (before_all a (before_all loop fs)) fs s (sym at.state.faulted ∙ c.requires) stop.1)
+    (turn_fails line c.in-Err.kind (before_all a (before_all loop fs)) fs s (sym at.state.faulted ∙ c.requires.going) stop.1)
 
 pub returns-in-Ok-clause-cost : goal.returns-in-Ok-clause-cost
 returns-in-Ok-clause-cost c = λ line. inr (c.in-Ok.ensures.turns, c.round.ensures.cost line)

@@ -1,4 +1,4 @@
-use Rattle.std.proofs.Common.{◌+◌, Option, Some, Ok, refl, ap, subst, arith}
+use Rattle.std.proofs.Common.{◌∙◌, ◌+◌, Option, Some, Ok, refl, ap, subst, arith, sym}
 use Rattle.depth_first_list.specs.QuotaWords.{quota_words}
 use Rattle.par_tree.specs.Tree.{let_stmt, assign_stmt, put_stmt, alloc_stmt, free_stmt, if_stmt, while_stmt, print_stmt, par_stmt, split_stmt}
 use Rattle.node_table.specs.Names.{slot_names}
@@ -7,7 +7,7 @@ use Rattle.node_table.specs.Programs.{function_names}
 use Rattle.node_table.specs.Shown.{kind_shown, node_shown, expr_shown, target_shown, args_shown}
 use Rattle.node_table.specs.Codes.{code_shown}
 use Rattle.thread_run.specs.Called.{IsNoCall}
-use Rattle.thread_stack.specs.Lists.{numbers_of}
+use Rattle.thread_stack.specs.Lists.{numbers_of, round_of}
 use Rattle.thread_stack.specs.Measure.{list_cost, node_cost}
 use Rattle.thread_stack.specs.declared.list_of.ListOf.TheVariants.{Then, Other, Inside}
 use Rattle.thread_run.proofs.Which.{of_let, of_assign, of_put, of_alloc, of_free, of_if, of_while, of_print, of_both, of_split}
@@ -37,8 +37,8 @@ put-requires-clause-within c = put_within (code_shown c.args.code.now) (quota_wo
 pub choose-requires : goal.choose-requires
 choose-requires c = runs_on (code_shown c.args.code.now) (quota_words c.args.k) c.args.number c.args.state.now (node_shown c.args.node.now) c.requires.meant c.requires.there
 
-pub repeat-requires : goal.repeat-requires
-repeat-requires c = runs_on (code_shown c.args.code.now) (quota_words c.args.k) c.args.number c.args.state.now (node_shown c.args.node.now) c.requires.meant c.requires.there
+pub repeat-requires-clause-going : goal.repeat-requires-clause-going
+repeat-requires-clause-going c = runs_on (code_shown c.args.code.now) (quota_words c.args.k) c.args.number c.args.state.now (node_shown c.args.node.now) c.requires.meant c.requires.there
 
 pub returns-in-Let-clause-meaning : goal.returns-in-Let-clause-meaning
 returns-in-Let-clause-meaning c = λ setting g line stmt node is_plain.
@@ -138,3 +138,8 @@ returns-in-While-clause-cost c = λ is_plain.
     let there = kind_there t c.args.number (node_shown c.args.node.now) i c.requires.there (ap kind_shown c.in-While.is) in
     let at = round_covers t c.args.number (expr_shown c.in-While.cond) c.in-While.body.items there (covers_at t c.args.number (node_shown c.args.node.now) (Some i) there c.requires.there covers) in
     loop_cost t c.args.number c.args.state.now.turns c.repeat.new.state.turns (done_of c.args.number c.args.node.now.line c.repeat.result) (node_shown c.args.node.now) c.requires.there at (c.repeat.ensures.cost c.args.node.now.line)
+
+pub repeat-requires-clause-round : goal.repeat-requires-clause-round
+repeat-requires-clause-round c =
+    let i : Kind = while_node (expr_shown c.in-While.cond) c.in-While.body.items in
+    ap round_of (kind_there (code_shown c.args.code.now) c.args.number (node_shown c.args.node.now) i c.requires.there (ap kind_shown c.in-While.is)) ∙ sym c.deref.ensures.value

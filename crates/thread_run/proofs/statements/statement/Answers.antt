@@ -1,4 +1,4 @@
-use Rattle.std.proofs.Common.{◌+◌, Option, Some, Ok, refl, ap, subst, arith}
+use Rattle.std.proofs.Common.{◌∙◌, ◌+◌, Option, Some, Ok, refl, ap, subst, arith, sym}
 use Rattle.depth_first_list.specs.QuotaWords.{quota_words}
 use Rattle.par_tree.specs.Tree.{let_stmt, assign_stmt, put_stmt, alloc_stmt, free_stmt, if_stmt, while_stmt, print_stmt, par_stmt, split_stmt}
 use Rattle.node_table.specs.Names.{slot_names}
@@ -7,7 +7,7 @@ use Rattle.node_table.specs.Programs.{function_names}
 use Rattle.node_table.specs.Shown.{kind_shown, node_shown, expr_shown, target_shown, args_shown}
 use Rattle.node_table.specs.Codes.{code_shown}
 use Rattle.thread_run.specs.Called.{IsNoCall}
-use Rattle.thread_stack.specs.Lists.{numbers_of}
+use Rattle.thread_stack.specs.Lists.{numbers_of, round_of}
 use Rattle.thread_stack.specs.Measure.{list_cost, node_cost}
 use Rattle.thread_stack.specs.declared.list_of.ListOf.TheVariants.{Then, Other, Inside}
 use Rattle.thread_run.proofs.Which.{of_let, of_assign, of_put, of_alloc, of_free, of_if, of_while, of_print, of_both, of_split}
@@ -50,8 +50,8 @@ free-requires-clause-has c = free_has (code_shown c.args.code.now) (quota_words 
 pub choose-requires : goal.choose-requires
 choose-requires c = runs_on (code_shown c.args.code.now) (quota_words c.args.k) c.args.number c.args.state.now (node_shown c.args.node.now) c.requires.meant c.requires.there
 
-pub repeat-requires : goal.repeat-requires
-repeat-requires c = runs_on (code_shown c.args.code.now) (quota_words c.args.k) c.args.number c.args.state.now (node_shown c.args.node.now) c.requires.meant c.requires.there
+pub repeat-requires-clause-going : goal.repeat-requires-clause-going
+repeat-requires-clause-going c = runs_on (code_shown c.args.code.now) (quota_words c.args.k) c.args.number c.args.state.now (node_shown c.args.node.now) c.requires.meant c.requires.there
 
 pub print-requires : goal.print-requires
 print-requires c = runs_on (code_shown c.args.code.now) (quota_words c.args.k) c.args.number c.args.state.now (node_shown c.args.node.now) c.requires.meant c.requires.there
@@ -267,3 +267,8 @@ pub unreachable-requires : goal.unreachable-requires
 unreachable-requires c =
     let i : Kind = call_node (target_shown c.in-Call.target) c.in-Call.func (args_shown c.in-Call.args.items) in
     subst (λ (o : Option Kind). IsNoCall o) (kind_there (code_shown c.args.code.now) c.args.number (node_shown c.args.node.now) i c.requires.there (ap kind_shown c.in-Call.is)) c.requires.no_call
+
+pub repeat-requires-clause-round : goal.repeat-requires-clause-round
+repeat-requires-clause-round c =
+    let i : Kind = while_node (expr_shown c.in-While.cond) c.in-While.body.items in
+    ap round_of (kind_there (code_shown c.args.code.now) c.args.number (node_shown c.args.node.now) i c.requires.there (ap kind_shown c.in-While.is)) ∙ sym c.deref.ensures.value

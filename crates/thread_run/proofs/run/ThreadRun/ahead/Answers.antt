@@ -188,3 +188,34 @@ returns-in-Stops-clause-less c =
 
 pub returns-in-Stops-clause-counts : goal.returns-in-Stops-clause-counts
 returns-in-Stops-clause-counts c = (returns-in-Stops-clause-way c c.requires.room).1.counts
+
+pub returns-then-left-eq0-clause-way : goal.returns-then-left-eq0-clause-way
+returns-then-left-eq0-clause-way c =
+    let t = code_shown c.args.code.now in
+    let k = quota_words c.args.k in
+    let old : ThreadRun = c.args.self.now in
+    let run : ThreadRun = c.frames.self in
+    let now : ThreadRun = c.one_ahead.new.self in
+    let next = c.frames.next in
+    let here : HasRoom run.frames = c.frames.invariant.0 in
+    let m = subst (λ (a : Ahead). IsAhead t k (on_top run next here) now a) c.in-Next.is (c.in_ok-frame.ensures.way here) in
+    let less = subst (λ (a : Ahead). LeavesLessAhead t run next now a) c.in-Next.is c.in_ok-frame.ensures.less in
+    let so_far = c.frames.invariant.2 in
+    λ room. (m.0, way_trans t k (on_top old c.args.frame room) (on_top run next here) (on_top now c.in-Next.frame m.0) (c.frames.invariant.1 room here) m.1)
+
+pub returns-then-left-eq0-clause-less : goal.returns-then-left-eq0-clause-less
+returns-then-left-eq0-clause-less c =
+    let t = code_shown c.args.code.now in
+    let k = quota_words c.args.k in
+    let old : ThreadRun = c.args.self.now in
+    let run : ThreadRun = c.frames.self in
+    let now : ThreadRun = c.one_ahead.new.self in
+    let next = c.frames.next in
+    let here : HasRoom run.frames = c.frames.invariant.0 in
+    let m = subst (λ (a : Ahead). IsAhead t k (on_top run next here) now a) c.in-Next.is (c.in_ok-frame.ensures.way here) in
+    let less = subst (λ (a : Ahead). LeavesLessAhead t run next now a) c.in-Next.is c.in_ok-frame.ensures.less in
+    let so_far = c.frames.invariant.2 in
+    omega (arith, less, so_far)
+
+pub returns-then-left-eq0-clause-counts : goal.returns-then-left-eq0-clause-counts
+returns-then-left-eq0-clause-counts c = (returns-then-left-eq0-clause-way c c.requires.room).1.counts
