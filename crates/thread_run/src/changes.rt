@@ -69,12 +69,7 @@ pub(crate) fn set(state: &mut ThreadState, slot: u16, expr: &CodeExpr) -> Plain
 
 /// `block[index] = value;`
 #[inline(always)]
-pub(crate) fn put(
-    state: &mut ThreadState,
-    slot: u16,
-    index: &CodeExpr,
-    expr: &CodeExpr,
-) -> Plain
+pub(crate) fn put(state: &mut ThreadState, slot: u16, index: &CodeExpr, expr: &CodeExpr) -> Plain
     requires going { state.old.faulted ≡ false }
     requires within { slot < length (own_row state.old) }
     ensures meaning { (t : Table) (k n line : ℕ) (c : Setting) (g : Func) (b : Name) (i e : Expr) → IsSlot (slot_names g) slot b

@@ -59,7 +59,11 @@ pub fn statement(
         NodeKind::Alloc { name, size } => allocate(state, alloc, k, line, *name, size),
         NodeKind::Free { name } => Ok(free(state, *name)),
         NodeKind::If { cond, .. } => Ok(told(number, line, choose(state, code, number, cond))),
-        NodeKind::While { cond, body } => Ok(told(number, line, repeat(state, code, number, cond, body))),
+        NodeKind::While { cond, body } => Ok(told(
+            number,
+            line,
+            repeat(state, code, number, cond, body),
+        )),
         NodeKind::Call { .. } => unreachable!(),
         NodeKind::Print { value } => Ok(print(state, line, value)),
         NodeKind::Both { .. } => Ok(both(state, number, line)),

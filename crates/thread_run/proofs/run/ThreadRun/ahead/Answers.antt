@@ -150,8 +150,7 @@ frames-preserved c =
     let popped : ThreadRun = record { func = now.func; state = now.state; frames = c.pop.new.self; told = now.told } in
     let y = c.in-Some.frame in
     let taken : frames_of now ≡ y ∷ frames_of popped = taken_off now popped y c.in-Some.ensures.items in
-    let cost : left_to_do t now.state.turns (frames_of now) ≡ left_to_do t now.state.turns (y ∷ frames_of popped) = ap (λ (xs : List Frame). left_to_do t now.state.turns xs) taken in
-    (
+    let cost : left_to_do t now.state.turns (frames_of now) ≡ left_to_do t now.state.turns (y ∷ frames_of popped) = ap (λ (xs : List Frame). left_to_do t now.state.turns xs) taken in (
       omega (arith, now.frames.ok.1, c.in-Some.ensures.cases, c.pop.ensures.capacity),
       λ room there. way_same t k now (on_top popped y there) refl refl refl (top_frames popped y there ∙ sym taken) (on_top old c.args.frame room)
           (way_trans t k (on_top old c.args.frame room) (on_top run next here) now (c.frames.invariant.1 room here) m),

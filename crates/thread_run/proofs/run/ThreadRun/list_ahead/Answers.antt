@@ -26,14 +26,14 @@ use Rattle.thread_run.proofs.run.ThreadRun.list_ahead.Goals as goal
 
 pub places-init : goal.places-init
 places-init c = (
-    c.requires.room,
-    c.numbers-numbers.ensures,
-    λ room here. list_begins (code_shown c.args.code.now) (quota_words c.args.k) (on_top c.args.self.now (Statements c.args.list c.args.from) room) c.args.self.now c.args.list c.args.from here
-        (way_same (code_shown c.args.code.now) (quota_words c.args.k) (on_top c.args.self.now (Statements c.args.list c.args.from) room) (on_top c.args.self.now (Statements c.args.list c.args.from) here) refl refl refl refl
-        (on_top c.args.self.now (Statements c.args.list c.args.from) room)
-        (top_begins (code_shown c.args.code.now) (quota_words c.args.k) c.args.self.now (Statements c.args.list c.args.from) room c.requires.known)),
-    omega arith,
-  )
+  c.requires.room,
+  c.numbers-numbers.ensures,
+  λ room here. list_begins (code_shown c.args.code.now) (quota_words c.args.k) (on_top c.args.self.now (Statements c.args.list c.args.from) room) c.args.self.now c.args.list c.args.from here
+      (way_same (code_shown c.args.code.now) (quota_words c.args.k) (on_top c.args.self.now (Statements c.args.list c.args.from) room) (on_top c.args.self.now (Statements c.args.list c.args.from) here) refl refl refl refl
+      (on_top c.args.self.now (Statements c.args.list c.args.from) room)
+      (top_begins (code_shown c.args.code.now) (quota_words c.args.k) c.args.self.now (Statements c.args.list c.args.from) room c.requires.known)),
+  omega arith,
+)
 
 pub unreachable-requires : goal.unreachable-requires
 unreachable-requires c =
@@ -105,8 +105,8 @@ places-preserved c =
           (λ setting g line stmt node. c.in-Nothing.ensures.meaning setting g line stmt node tt) list next there
           (list_stands t k (on_top c.args.self.now (Statements list c.args.from) first) run list next here some (c.places.invariant.2 first here)) refl,
       let less = place_less t n run.state.turns u.turns list next (frames_of run) there (c.in-Nothing.ensures.cost tt) in
-      let so_far = c.places.invariant.3 in
-      omega (arith, less, so_far),
+          let so_far = c.places.invariant.3 in
+          omega (arith, less, so_far),
     )
 
 pub returns-in-Enters-clause-way : goal.returns-in-Enters-clause-way

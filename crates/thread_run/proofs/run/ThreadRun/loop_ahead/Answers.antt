@@ -57,7 +57,7 @@ returns-in-Nothing-clause-way c =
     let room : HasRoom run.frames = omega (arith, c.requires.room) in
     let after : ThreadRun = record { func = run.func; state = c.do_plainly.new.state; frames = run.frames; told = run.told } in
     λ first. again_on t k n (on_top run (Again n) first) run after c.do_plainly.new.state None None refl refl refl first c.requires.going
-        (λ setting g line stmt node. c.in-Nothing.ensures.meaning setting g line stmt node tt) (top_begins t k run (Again n) first c.requires.known) refl
+    (λ setting g line stmt node. c.in-Nothing.ensures.meaning setting g line stmt node tt) (top_begins t k run (Again n) first c.requires.known) refl
 
 pub returns-in-Nothing-clause-less : goal.returns-in-Nothing-clause-less
 returns-in-Nothing-clause-less c =

@@ -47,7 +47,7 @@ returns-in_ok-reserve-in-Statements-clause-way c =
     let here : HasRoom after.frames = omega (arith, c.in_ok-reserve-in-Statements.ensures.ok) in
     let known : IsKnownAt t k run (Statements c.in-Statements.list c.in-Statements.next) = subst (λ (x : Frame). IsKnownAt t k run x) c.in-Statements.is c.requires.known in
     λ room. subst (λ (x : Frame). IsAhead t k (on_top run x room) c.list_ahead.new.self c.list_ahead.result) (sym c.in-Statements.is)
-        (ahead_trans t k (on_top run (Statements c.in-Statements.list c.in-Statements.next) room) (on_top after (Statements c.in-Statements.list c.in-Statements.next) here) c.list_ahead.new.self c.list_ahead.result (reserved t k run after (Statements c.in-Statements.list c.in-Statements.next) room here refl refl refl c.reserve.ensures.items known) (c.list_ahead.ensures.way here))
+    (ahead_trans t k (on_top run (Statements c.in-Statements.list c.in-Statements.next) room) (on_top after (Statements c.in-Statements.list c.in-Statements.next) here) c.list_ahead.new.self c.list_ahead.result (reserved t k run after (Statements c.in-Statements.list c.in-Statements.next) room here refl refl refl c.reserve.ensures.items known) (c.list_ahead.ensures.way here))
 
 pub returns-in_ok-reserve-in-Statements-clause-less : goal.returns-in_ok-reserve-in-Statements-clause-less
 returns-in_ok-reserve-in-Statements-clause-less c =
@@ -85,7 +85,7 @@ returns-in_ok-reserve-in-Again-clause-way c =
     let here : HasRoom after.frames = omega (arith, c.in_ok-reserve-in-Again.ensures.ok) in
     let known : IsKnownAt t k run (Again c.in-Again.number) = subst (λ (x : Frame). IsKnownAt t k run x) c.in-Again.is c.requires.known in
     λ room. subst (λ (x : Frame). IsAhead t k (on_top run x room) c.loop_ahead.new.self c.loop_ahead.result) (sym c.in-Again.is)
-        (ahead_trans t k (on_top run (Again c.in-Again.number) room) (on_top after (Again c.in-Again.number) here) c.loop_ahead.new.self c.loop_ahead.result (reserved t k run after (Again c.in-Again.number) room here refl refl refl c.reserve-in-Again.ensures.items known) (c.loop_ahead.ensures.way here))
+    (ahead_trans t k (on_top run (Again c.in-Again.number) room) (on_top after (Again c.in-Again.number) here) c.loop_ahead.new.self c.loop_ahead.result (reserved t k run after (Again c.in-Again.number) room here refl refl refl c.reserve-in-Again.ensures.items known) (c.loop_ahead.ensures.way here))
 
 pub returns-in_ok-reserve-in-Again-clause-less : goal.returns-in_ok-reserve-in-Again-clause-less
 returns-in_ok-reserve-in-Again-clause-less c =
