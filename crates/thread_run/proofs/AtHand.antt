@@ -1,5 +1,5 @@
 -- A thread whose next frame is at hand goes on by statements without an action.
-use Rattle.std.proofs.Common.{inl, inr, ◌≡◌, ℕ, suc, ◌+◌, ◌*◌, ◌<◌, ◌≤◌, Bool, true, false, List, [], ◌∷◌, ◌++◌, length, Ok, Option, Some, None, refl, sym, ap, ◌∙◌, subst, arith, append-nil}
+use Rattle.std.proofs.Common.{inl, inr, ◌≡◌, ℕ, ◌+◌, ◌<◌, ◌≤◌, Bool, true, false, List, [], ◌∷◌, ◌++◌, length, Ok, Option, Some, None, refl, sym, ap, ◌∙◌, subst, arith, append-nil}
 use Rattle.std.specs.Prelude.{reverse, nat_lt, slice_get, ◌⊎◌}
 use Rattle.std.specs.declared.vec.Vec.{Vec}
 use Rattle.std.specs.declared.alloc.Global.{Global}
@@ -16,7 +16,7 @@ use Rattle.thread_stack.specs.declared.frame.Frame.TheVariants.{Statements, Agai
 use Rattle.thread_stack.specs.declared.list_of.ListOf.{ListOf}
 use Rattle.thread_stack.specs.Frames.{AreFrames, RunsIn, frames_shown}
 use Rattle.thread_stack.specs.Lists.{numbers_of}
-use Rattle.thread_stack.specs.Measure.{node_cost, turn_cost, frames_cost, left_to_do}
+use Rattle.thread_stack.specs.Measure.{frames_cost, left_to_do}
 use Rattle.thread_stack.proofs.Costs.{rest_costs}
 use Rattle.thread_output.specs.Telling.{Tells}
 use Rattle.thread_output.specs.declared.told.Told.{Told}
@@ -32,9 +32,9 @@ use Rattle.thread_run.specs.Stepping.{KnowingAt, IsKnownAt, GoesOn, UnderWay, Ke
 use Rattle.thread_run.specs.AtHand.{HasRoom, with_frame, on_top, with_rest, IsAhead, LeavesLessAhead}
 use Rattle.thread_run.specs.declared.ahead.Ahead.{Ahead}
 use Rattle.thread_run.specs.declared.ahead.Ahead.TheVariants.{Next, Over, Stops}
-use Rattle.thread_run.proofs.OnTheWay.{counts_trans, begins, taken_off, known_at, further}
+use Rattle.thread_run.proofs.OnTheWay.{counts_trans, begins, known_at, further}
 use Rattle.thread_run.proofs.Outcomes.{comes_by, knows_again, keeps_counts}
-use Rattle.thread_run.proofs.Meetings.{RestPut, list_met, list_does, list_functions, list_cost_falls, again_met, again_does, again_cost, none_there, skip_cost}
+use Rattle.thread_run.proofs.Meetings.{RestPut, list_met, list_does, list_functions, list_cost_falls, again_met, again_does, again_cost, none_there}
 use Rattle.thread_run.proofs.Following.{LeadsAt, follow_meaning, follow_cost}
 use Rattle.thread_run.proofs.Kept.{follow_functions}
 

@@ -1,18 +1,17 @@
-use Rattle.std.proofs.Common.{◌∙◌, ◌+◌, Option, Some, Ok, refl, ap, subst, arith, sym}
+use Rattle.std.proofs.Common.{◌∙◌, ◌+◌, Some, Ok, refl, ap, arith, sym}
 use Rattle.depth_first_list.specs.QuotaWords.{quota_words}
-use Rattle.par_tree.specs.Tree.{let_stmt, assign_stmt, put_stmt, alloc_stmt, free_stmt, if_stmt, while_stmt, print_stmt, par_stmt, split_stmt}
+use Rattle.par_tree.specs.Tree.{let_stmt, assign_stmt, put_stmt, if_stmt, while_stmt}
 use Rattle.node_table.specs.Names.{slot_names}
-use Rattle.node_table.specs.Table.{Table, Kind, call_node, let_node, assign_node, put_node, alloc_node, free_node, if_node, while_node, print_node, both_node, split_node}
+use Rattle.node_table.specs.Table.{Table, Kind, let_node, assign_node, put_node, if_node, while_node}
 use Rattle.node_table.specs.Programs.{function_names}
-use Rattle.node_table.specs.Shown.{kind_shown, node_shown, expr_shown, target_shown, args_shown}
+use Rattle.node_table.specs.Shown.{kind_shown, node_shown, expr_shown}
 use Rattle.node_table.specs.Codes.{code_shown}
-use Rattle.thread_run.specs.Called.{IsNoCall}
 use Rattle.thread_stack.specs.Lists.{numbers_of, round_of}
 use Rattle.thread_stack.specs.Measure.{list_cost, node_cost}
-use Rattle.thread_stack.specs.declared.list_of.ListOf.TheVariants.{Then, Other, Inside}
-use Rattle.thread_run.proofs.Which.{of_let, of_assign, of_put, of_alloc, of_free, of_if, of_while, of_print, of_both, of_split}
-use Rattle.thread_run.proofs.KnowingSteps.{is_stmt, is_kind, runs_on, let_within, assign_within, put_within, alloc_none, free_has, covered, can_cut}
-use Rattle.thread_run.proofs.Arms.{kind_there, known, then_list, other_list, round_list, inside_list, loop_list, par_node, split_at, quiet_cost, covers_at, loop_cost, result_cost, if_covers, round_covers, inside_covers}
+use Rattle.thread_stack.specs.declared.list_of.ListOf.TheVariants.{Then, Other}
+use Rattle.thread_run.proofs.Which.{of_let, of_assign, of_put, of_if, of_while}
+use Rattle.thread_run.proofs.KnowingSteps.{is_stmt, is_kind, runs_on, let_within, assign_within, put_within, covered}
+use Rattle.thread_run.proofs.Arms.{kind_there, known, then_list, other_list, round_list, loop_list, quiet_cost, covers_at, loop_cost, if_covers, round_covers}
 use Rattle.thread_run.specs.Plains.{done_of}
 use Rattle.thread_run.proofs.plain.do_plainly.Goals as goal
 

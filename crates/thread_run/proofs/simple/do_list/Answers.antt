@@ -1,4 +1,4 @@
-use Rattle.std.proofs.Common.{◌∷◌, ◌++◌, List, refl, subst, arith}
+use Rattle.std.proofs.Common.{◌∷◌, refl, subst, arith}
 use Rattle.thread_points.specs.Passed.Middle.{before_all}
 use Rattle.node_table.specs.Codes.{code_shown}
 use Rattle.thread_stack.specs.declared.frame.Frame.{Frame}

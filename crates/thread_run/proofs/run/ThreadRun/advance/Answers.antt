@@ -1,4 +1,4 @@
-use Rattle.std.proofs.Common.{◌≡◌, ◌≤◌, ◌<◌, ◌+◌, ℕ, List, [], ◌∷◌, Ok, Option, refl, sym, ap, ◌∙◌, subst, arith}
+use Rattle.std.proofs.Common.{◌≡◌, List, [], ◌∷◌, Ok, Option, refl, sym, ap, ◌∙◌, subst, arith}
 use Rattle.std.specs.Prelude.{reverse}
 use Rattle.std.proofs.lemmas.List.{nil_from_length}
 use Rattle.depth_first_list.specs.QuotaWords.{quota_words}
@@ -9,8 +9,8 @@ use Rattle.thread_run.specs.declared.ready.Ready.{Ready}
 use Rattle.thread_run.specs.declared.run.ThreadRun.{ThreadRun}
 use Rattle.thread_run.specs.Functions.{frames_of}
 use Rattle.thread_run.specs.AtHand.{HasRoom, on_top, IsHanded, LeavesNoMore}
-use Rattle.thread_run.specs.Stepping.{ComesBy, KnownAgain, KeepsFunctions, FallsBy, UnderWay, KeepsCounts}
-use Rattle.thread_run.proofs.OnTheWay.{taken_off, known_at, fits_at, further, arrives, ends, functions_there, counts_after, counts_trans}
+use Rattle.thread_run.specs.Stepping.{ComesBy, KnownAgain, KeepsFunctions, FallsBy, UnderWay}
+use Rattle.thread_run.proofs.OnTheWay.{taken_off, known_at, fits_at, further, arrives, ends, functions_there, counts_after}
 use Rattle.thread_run.proofs.AtHand.{way_same, way_trans, top_frames, known_of_top, falls_by}
 use Rattle.thread_run.proofs.run.ThreadRun.advance.Goals as goal
 

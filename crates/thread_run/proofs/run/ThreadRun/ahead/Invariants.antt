@@ -1,4 +1,4 @@
-use Rattle.std.proofs.Common.{◌≡◌, ◌+◌, ◌≤◌, ◌∷◌}
+use Rattle.std.proofs.Common.{◌≤◌, ◌∷◌}
 use Rattle.depth_first_list.specs.QuotaWords.{quota_words}
 use Rattle.node_table.specs.Codes.{code_shown}
 use Rattle.thread_stack.specs.Measure.{left_to_do}

@@ -1,8 +1,8 @@
-use Rattle.std.proofs.Common.{◌≡◌, ◌+◌, [], ◌∷◌, ◌++◌, ◌∙◌, ◌≤◌, ◌<◌, List, ℕ, length, slice_get, slice_index_or, Option, Some, None, refl, sym, ap, subst, arith, rules}
-use Rattle.std.specs.Prelude.{reverse, vec_len, vec_capacity}
+use Rattle.std.proofs.Common.{◌≡◌, [], ◌∷◌, ◌++◌, ◌∙◌, ◌≤◌, List, ℕ, slice_get, Option, Some, None, refl, sym, ap, subst, arith, rules}
+use Rattle.std.specs.Prelude.{reverse}
 use Rattle.std.specs.Option.{option_map}
 use Rattle.std.proofs.Math.Logic.{∥∥₁_elim, ∥∥₁_map}
-use Rattle.std.proofs.lemmas.Option.{slice_get-get_or, slice_get-map}
+use Rattle.std.proofs.lemmas.Option.{slice_get-map}
 use Rattle.std.proofs.lemmas.List.{reverse-append}
 use Rattle.depth_first_list.specs.QuotaWords.{quota_words}
 use Rattle.node_table.specs.Codes.{code_shown, nodes_of}
@@ -11,15 +11,13 @@ use Rattle.node_table.specs.Table as tables
 use Rattle.node_table.specs.declared.node.Node.{Node}
 use Rattle.thread_stack.specs.Frames.{frames_shown}
 use Rattle.thread_stack.specs.Measure.{left_to_do}
-use Rattle.thread_stack.specs.Lists.{numbers_of}
 use Rattle.thread_stack.specs.declared.frame.Frame.{Frame}
 use Rattle.thread_stack.specs.declared.frame.Frame.TheVariants.{Statements, Again}
 use Rattle.thread_stack.specs.declared.list_of.ListOf.TheVariants as lists
 use Rattle.thread_state.specs.declared.state.ThreadState.{ThreadState}
 use Rattle.thread_run.specs.declared.run.ThreadRun.{ThreadRun}
 use Rattle.thread_run.specs.Functions.{frames_of}
-use Rattle.thread_run.specs.AtHand.{HasRoom, on_top, with_rest}
-use Rattle.thread_run.specs.Stepping.{IsMet, UnderWay}
+use Rattle.thread_run.specs.AtHand.{HasRoom, on_top}
 use Rattle.thread_run.proofs.Meetings.{again_met}
 use Rattle.thread_run.proofs.AtHand.{way_same, top_begins, again_on, again_less, rounds, rounds_less}
 use Rattle.thread_run.proofs.run.ThreadRun.loop_ahead.Goals as goal
