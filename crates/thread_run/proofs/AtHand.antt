@@ -1,5 +1,6 @@
 -- A thread whose next frame is at hand goes on by statements without an action.
-use Rattle.std.proofs.Common.{inl, inr, ◌≡◌, ℕ, ◌+◌, ◌<◌, ◌≤◌, Bool, true, false, List, [], ◌∷◌, ◌++◌, length, Ok, Option, Some, None, refl, sym, ap, ◌∙◌, subst, arith, append-nil}
+use Rattle.std.proofs.Common.{inl, inr, ◌≡◌, ℕ, ◌+◌, ◌<◌, ◌≤◌, Bool, true, false, List, [], ◌∷◌, ◌++◌, length, Ok, Option, Some, None, refl, sym, ap, ◌∙◌}
+use Rattle.std.proofs.Common.{subst, arith, append-nil}
 use Rattle.std.specs.Prelude.{reverse, nat_lt, slice_get, ◌⊎◌}
 use Rattle.std.specs.declared.vec.Vec.{Vec}
 use Rattle.std.specs.declared.alloc.Global.{Global}
@@ -40,8 +41,10 @@ use Rattle.thread_run.proofs.Kept.{follow_functions}
 
 -- ---- threads that show the same are on the same way
 
-module _ (t : Table) (k : ℕ) (now after : ThreadRun) (same_func : after.func ≡ now.func) (same_state : after.state ≡ now.state) (same_told : after.told ≡ now.told) (same_frames : frames_of after ≡ frames_of now) where
-  going_same : (c : Setting) (gs : List Func) (own : List middles.Frame) (s : State) (part : List Item) → IsGoing c t gs now own s part → IsGoing c t gs after own s part
+module _ (t : Table) (k : ℕ) (now after : ThreadRun) (same_func : after.func ≡ now.func) (same_state : after.state ≡ now.state)
+    (same_told : after.told ≡ now.told) (same_frames : frames_of after ≡ frames_of now) where
+  going_same : (c : Setting) (gs : List Func) (own : List middles.Frame) (s : State) (part : List Item) → IsGoing c t gs now own s part
+      → IsGoing c t gs after own s part
   going_same c gs own s part g = record {
     runs = subst (λ (n : Option ℕ). RunsIn c.program t n gs) (sym same_func) g.runs;
     frames = subst (λ (xs : List Frame). AreFrames c.program t gs xs own) (sym same_frames) g.frames;
@@ -53,14 +56,25 @@ module _ (t : Table) (k : ℕ) (now after : ThreadRun) (same_func : after.func �
   known_same known = ∥∥₁_map known (λ (m : Knowing t k now). again m (going_same m.setting m.functions m.own m.at m.part m.going))
     where
       again : (m : Knowing t k now) → IsGoing m.setting t m.functions after m.own m.at m.part → Knowing t k after
-      again m g = record { setting = m.setting; of_table = m.of_table; functions = m.functions; own = m.own; at = m.at; part = m.part; older = m.older; thread = m.thread; going = g }
+      again m g = record {
+        setting = m.setting;
+        of_table = m.of_table;
+        functions = m.functions;
+        own = m.own;
+        at = m.at;
+        part = m.part;
+        older = m.older;
+        thread = m.thread;
+        going = g;
+      }
 
   pub way_same : (start : ThreadRun) → UnderWay t k start now → UnderWay t k start after
   way_same start way = record {
     known = known_same way.known;
     goes = λ c gs own s part older of_table thread going. on c own older (way.goes c gs own s part older of_table thread going);
     counts = subst (λ (u : ThreadState). KeepsCounts start.state u) (sym same_state) way.counts;
-    functions = ap (λ (n : Option ℕ). functions_of n (frames_of after)) same_func ∙ ap (λ (xs : List Frame). functions_of now.func xs) same_frames ∙ way.functions;
+    functions = ap (λ (n : Option ℕ). functions_of n (frames_of after)) same_func ∙ ap (λ (xs : List Frame). functions_of now.func xs) same_frames
+        ∙ way.functions;
   }
     where
       on : (c : Setting) (own : List middles.Frame) (older : List (List Item)) → GoesOn c t own older now → GoesOn c t own older after
@@ -83,7 +97,8 @@ way_trans t k start mid now p q = record {
   functions = q.functions ∙ p.functions;
 }
   where
-    on : (c : Setting) (gs : List Func) (own : List middles.Frame) (s : State) (part : List Item) (older : List (List Item)) → IsSettingOf t k c → IsThread c own s (part ∷ older)
+    on : (c : Setting) (gs : List Func) (own : List middles.Frame) (s : State) (part : List Item) (older : List (List Item)) → IsSettingOf t k c
+        → IsThread c own s (part ∷ older)
         → IsGoing c t gs start own s part → GoesOn c t own older mid → GoesOn c t own older now
     on c gs own s part older of_table thread going g =
         let h = q.goes c g.functions g.frames g.at g.part older of_table g.thread g.going in
@@ -133,47 +148,57 @@ known_top t k run x room known = ∥∥₁_map known (λ (m : KnowingAt t k run 
 pub known_of_top : (t : Table) (k : ℕ) (run : ThreadRun) (x : Frame) (room : HasRoom run.frames) → IsKnown t k (on_top run x room) → IsKnownAt t k run x
 known_of_top t k run x room known = known_at t k (on_top run x room) (on_top run x room) run x refl refl refl (top_frames run x room) known
 
-pub top_begins : (t : Table) (k : ℕ) (run : ThreadRun) (x : Frame) (room : HasRoom run.frames) → IsKnownAt t k run x → UnderWay t k (on_top run x room) (on_top run x room)
+pub top_begins : (t : Table) (k : ℕ) (run : ThreadRun) (x : Frame) (room : HasRoom run.frames) → IsKnownAt t k run x
+    → UnderWay t k (on_top run x room) (on_top run x room)
 top_begins t k run x room known = begins t k (on_top run x room) (known_top t k run x room known)
 
 -- a frame is at hand with which a step leads on without an action
-step_on : (t : Table) (k : ℕ) (start popped after : ThreadRun) (x : Frame) (room : HasRoom popped.frames) → UnderWay t k start (on_top popped x room) → StepsRun t k popped x (Ok None) after → KeepsFunctions popped x (Ok None) after
+step_on : (t : Table) (k : ℕ) (start popped after : ThreadRun) (x : Frame) (room : HasRoom popped.frames) → UnderWay t k start (on_top popped x room)
+    → StepsRun t k popped x (Ok None) after → KeepsFunctions popped x (Ok None) after
     → UnderWay t k start after
 step_on t k start popped after x room way steps kept =
     let now = on_top popped x room in
     let taken = top_frames popped x room in
     let known = known_of_top t k popped x room way.known in
-    further t k start now popped x refl refl refl taken after way (comes_by t k popped after x (Ok None) steps) (knows_again t k popped after x (Ok None) known steps) (keeps_counts t k popped after x (Ok None) known steps) kept
+    further t k start now popped x refl refl refl taken after way (comes_by t k popped after x (Ok None) steps) (knows_again t k popped after x
+    (Ok None) known steps) (keeps_counts t k popped after x (Ok None) known steps) kept
 
 -- ---- the statements of a list
 
 -- a list begins
-pub list_begins : (t : Table) (k : ℕ) (start run : ThreadRun) (list : ListOf) (next : ℕ) (room : HasRoom run.frames) → UnderWay t k start (on_top run (Statements list next) room) → UnderWay t k start (with_rest t list next run room)
+pub list_begins : (t : Table) (k : ℕ) (start run : ThreadRun) (list : ListOf) (next : ℕ) (room : HasRoom run.frames)
+    → UnderWay t k start (on_top run (Statements list next) room) → UnderWay t k start (with_rest t list next run room)
 list_begins t k start run list next room way = by (cases_lt next (length (numbers_of t list)))
   where
     rest : RestPut t list next run (with_rest t list next run room)
     rest = rest_put t list next run room
 
     by : (next < length (numbers_of t list)) ⊎ (length (numbers_of t list) ≤ next) → UnderWay t k start (with_rest t list next run room)
-    by (inl some) = way_same t k (on_top run (Statements list next) room) (with_rest t list next run room) refl refl refl (rest.some some ∙ sym (top_frames run (Statements list next) room)) start way
+    by (inl some) = way_same t k (on_top run (Statements list next) room) (with_rest t list next run room) refl refl refl (rest.some some ∙ sym
+        (top_frames run (Statements list next) room)) start way
     by (inr none) = way_same t k run (with_rest t list next run room) refl refl refl (rest.none none) start
         (step_on t k start run run (Statements list next) room way (none_there t k run list next none) refl)
 
-pub list_stands : (t : Table) (k : ℕ) (start run : ThreadRun) (list : ListOf) (next : ℕ) (room : HasRoom run.frames) → next < length (numbers_of t list) → UnderWay t k start (with_rest t list next run room)
+pub list_stands : (t : Table) (k : ℕ) (start run : ThreadRun) (list : ListOf) (next : ℕ) (room : HasRoom run.frames) → next < length (numbers_of t list)
+    → UnderWay t k start (with_rest t list next run room)
     → UnderWay t k start (on_top run (Statements list next) room)
 list_stands t k start run list next room some way =
     let rest = rest_put t list next run room in
-    way_same t k (with_rest t list next run room) (on_top run (Statements list next) room) refl refl refl (top_frames run (Statements list next) room ∙ sym (rest.some some)) start way
+    way_same t k (with_rest t list next run room) (on_top run (Statements list next) room) refl refl refl (top_frames run (Statements list next) room ∙ sym
+    (rest.some some)) start way
 
-pub list_ends : (t : Table) (k : ℕ) (start run : ThreadRun) (list : ListOf) (next : ℕ) (room : HasRoom run.frames) → length (numbers_of t list) ≤ next → UnderWay t k start (with_rest t list next run room) → UnderWay t k start run
+pub list_ends : (t : Table) (k : ℕ) (start run : ThreadRun) (list : ListOf) (next : ℕ) (room : HasRoom run.frames) → length (numbers_of t list) ≤ next
+    → UnderWay t k start (with_rest t list next run room) → UnderWay t k start run
 list_ends t k start run list next room none way =
     let rest = rest_put t list next run room in
     way_same t k (with_rest t list next run room) run refl refl refl (sym (rest.none none)) start way
 
-module _ (t : Table) (k n : ℕ) (start popped after : ThreadRun) (u : ThreadState) (first second : Option Frame) (same_func : after.func ≡ popped.func) (same_state : after.state ≡ u) (same_told : after.told ≡ popped.told)
+module _ (t : Table) (k n : ℕ) (start popped after : ThreadRun) (u : ThreadState) (first second : Option Frame) (same_func : after.func ≡ popped.func)
+    (same_state : after.state ≡ u) (same_told : after.told ≡ popped.told)
     (room : HasRoom popped.frames) (going : popped.state.faulted ≡ false) (leads : LeadsAt t k n popped.state (Ok (Silent first second)) u) where
   tells_on : (part : List Item) → Tells popped.told part → Tells after.told (part ++ [])
-  tells_on part tells = subst (λ (x : Told). Tells x (part ++ [])) (sym same_told) (subst (λ (xs : List Item). Tells popped.told xs) (sym (append-nil part)) tells)
+  tells_on part tells = subst (λ (x : Told). Tells x (part ++ [])) (sym same_told) (subst (λ (xs : List Item). Tells popped.told xs) (sym
+      (append-nil part)) tells)
 
   -- a statement of a list leads on
   pub list_on : (list : ListOf) (next : ℕ) → slice_get (numbers_of t list) next ≡ Some n → UnderWay t k start (on_top popped (Statements list next) room)
@@ -186,10 +211,12 @@ module _ (t : Table) (k n : ℕ) (start popped after : ThreadRun) (u : ThreadSta
       let does = follow_meaning t k n mid after u (Silent first second) (Ok None) leads same_state same_func refl left tells_on in
       step_on t k start popped after (Statements list next) room way
       (list_does t k n popped mid after refl list next (Ok None) going there rest refl refl does)
-      (list_functions t list next popped mid after (Ok None) rest refl (follow_functions t k n mid after u (Silent first second) (Ok None) met leads same_func refl left))
+      (list_functions t list next popped mid after (Ok None) rest refl (follow_functions t k n mid after u (Silent first second)
+      (Ok None) met leads same_func refl left))
 
   -- a loop that comes again leads on
-  pub again_on : UnderWay t k start (on_top popped (Again n) room) → frames_of after ≡ frames_shown first ++ (frames_shown second ++ frames_of popped) → UnderWay t k start after
+  pub again_on : UnderWay t k start (on_top popped (Again n) room) → frames_of after ≡ frames_shown first ++ (frames_shown second ++ frames_of popped)
+      → UnderWay t k start after
   again_on way left =
       let known = known_of_top t k popped (Again n) room way.known in
       let met : IsMet t k popped n = again_met t k n popped going known in
@@ -199,26 +226,33 @@ module _ (t : Table) (k n : ℕ) (start popped after : ThreadRun) (u : ThreadSta
 
 -- ---- what is left
 
-pub list_less : (t : Table) (n : ℕ) (popped after : ThreadRun) (turns : ℕ) (first second : Option Frame) (room : HasRoom popped.frames) (list : ListOf) (next : ℕ) → slice_get (numbers_of t list) next ≡ Some n
-    → LeavesLess t n popped.state.turns turns (Ok (Silent first second)) → after.state.turns ≡ turns → frames_of after ≡ frames_shown first ++ (frames_shown second ++ frames_of (with_rest t list (next + 1) popped room))
+pub list_less : (t : Table) (n : ℕ) (popped after : ThreadRun) (turns : ℕ) (first second : Option Frame) (room : HasRoom popped.frames) (list : ListOf)
+    (next : ℕ) → slice_get (numbers_of t list) next ≡ Some n
+    → LeavesLess t n popped.state.turns turns (Ok (Silent first second)) → after.state.turns ≡ turns
+    → frames_of after ≡ frames_shown first ++ (frames_shown second ++ frames_of (with_rest t list (next + 1) popped room))
     → left_to_do t after.state.turns (frames_of after) + 1 ≤ left_to_do t popped.state.turns (Statements list next ∷ frames_of popped)
 list_less t n popped after turns first second room list next there less same left =
     let mid = with_rest t list (next + 1) popped room in
-    list_cost_falls t n popped mid after list next (Ok None) there (rest_put t list (next + 1) popped room) refl (follow_cost t n mid after turns (Silent first second) (Ok None) less same left)
+    list_cost_falls t n popped mid after list next (Ok None) there (rest_put t list (next + 1) popped room) refl (follow_cost t n mid after turns
+    (Silent first second) (Ok None) less same left)
 
 pub again_less : (t : Table) (n : ℕ) (popped after : ThreadRun) (turns : ℕ) (first second : Option Frame)
-    → LeavesLess t n popped.state.turns turns (Ok (Silent first second)) → after.state.turns ≡ turns → frames_of after ≡ frames_shown first ++ (frames_shown second ++ frames_of popped)
+    → LeavesLess t n popped.state.turns turns (Ok (Silent first second)) → after.state.turns ≡ turns
+    → frames_of after ≡ frames_shown first ++ (frames_shown second ++ frames_of popped)
     → left_to_do t after.state.turns (frames_of after) + 1 ≤ left_to_do t popped.state.turns (Again n ∷ frames_of popped)
-again_less t n popped after turns first second less same left = again_cost t n popped after (Ok None) (follow_cost t n popped after turns (Silent first second) (Ok None) less same left)
+again_less t n popped after turns first second less same left = again_cost t n popped after (Ok None) (follow_cost t n popped after turns
+    (Silent first second) (Ok None) less same left)
 
 -- a statement without frames, in a list
-pub place_less : (t : Table) (n turns_before turns : ℕ) (list : ListOf) (next : ℕ) (xs : List Frame) → slice_get (numbers_of t list) next ≡ Some n → LeavesLess t n turns_before turns (Ok (Silent None None))
+pub place_less : (t : Table) (n turns_before turns : ℕ) (list : ListOf) (next : ℕ) (xs : List Frame) → slice_get (numbers_of t list) next ≡ Some n
+    → LeavesLess t n turns_before turns (Ok (Silent None None))
     → left_to_do t turns (Statements list (next + 1) ∷ xs) + 1 ≤ left_to_do t turns_before (Statements list next ∷ xs)
 place_less t n turns_before turns list next xs there less = let rest = rest_costs t list next n there in omega (arith, rest, less)
 
 -- ---- a frame that comes to hand
 
-rest_same : (t : Table) (list : ListOf) (next : ℕ) (run put : ThreadRun) (room : HasRoom run.frames) → RestPut t list next run put → frames_of put ≡ frames_of (with_rest t list next run room)
+rest_same : (t : Table) (list : ListOf) (next : ℕ) (run put : ThreadRun) (room : HasRoom run.frames) → RestPut t list next run put
+    → frames_of put ≡ frames_of (with_rest t list next run room)
 rest_same t list next run put room h = by (cases_lt next (length (numbers_of t list)))
   where
     rest : RestPut t list next run (with_rest t list next run room)
@@ -229,45 +263,57 @@ rest_same t list next run put room h = by (cases_lt next (length (numbers_of t l
     by (inr none) = h.none none ∙ sym (rest.none none)
 
 -- a statement of a list after which the frame x is at hand, where `put` has what is left of the list
-module _ (t : Table) (k n : ℕ) (start popped put after : ThreadRun) (u : ThreadState) (first second : Option Frame) (x : Frame) (room : HasRoom popped.frames) (here : HasRoom after.frames)
+module _ (t : Table) (k n : ℕ) (start popped put after : ThreadRun) (u : ThreadState) (first second : Option Frame) (x : Frame)
+    (room : HasRoom popped.frames) (here : HasRoom after.frames)
     (list : ListOf) (next : ℕ) (there : slice_get (numbers_of t list) next ≡ Some n) (rest : RestPut t list (next + 1) popped put)
     (left : x ∷ frames_of after ≡ frames_shown first ++ (frames_shown second ++ frames_of put)) (same_state : after.state ≡ u) where
   all_left : frames_of (on_top after x here) ≡ frames_shown first ++ (frames_shown second ++ frames_of (with_rest t list (next + 1) popped room))
-  all_left = top_frames after x here ∙ left ∙ ap (λ (xs : List Frame). frames_shown first ++ (frames_shown second ++ xs)) (rest_same t list (next + 1) popped put room rest)
+  all_left = top_frames after x here ∙ left ∙ ap (λ (xs : List Frame). frames_shown first ++ (frames_shown second ++ xs)) (rest_same t list
+      (next + 1) popped put room rest)
 
-  pub enters : after.func ≡ popped.func → after.told ≡ popped.told → popped.state.faulted ≡ false → LeadsAt t k n popped.state (Ok (Silent first second)) u → UnderWay t k start (on_top popped (Statements list next) room)
+  pub enters : after.func ≡ popped.func → after.told ≡ popped.told → popped.state.faulted ≡ false → LeadsAt t k n popped.state (Ok (Silent first second)) u
+      → UnderWay t k start (on_top popped (Statements list next) room)
       → UnderWay t k start (on_top after x here)
   enters same_func same_told going leads way =
       list_on t k n start popped (on_top after x here) u first second same_func same_state same_told room going leads list next there way all_left
 
-  pub enters_less : (before : ℕ) → LeavesLess t n popped.state.turns u.turns (Ok (Silent first second)) → left_to_do t popped.state.turns (Statements list next ∷ frames_of popped) ≤ before
+  pub enters_less : (before : ℕ) → LeavesLess t n popped.state.turns u.turns (Ok (Silent first second))
+      → left_to_do t popped.state.turns (Statements list next ∷ frames_of popped) ≤ before
       → left_to_do t after.state.turns (x ∷ frames_of after) + 1 ≤ before
   enters_less before less most =
-      let a = list_less t n popped (on_top after x here) u.turns first second room list next there less (ap (λ (v : ThreadState). v.turns) same_state) all_left in
-      let e : frames_cost t (frames_of (on_top after x here)) ≡ frames_cost t (x ∷ frames_of after) = ap (λ (xs : List Frame). frames_cost t xs) (top_frames after x here) in
+      let a = list_less t n popped (on_top after x here) u.turns first second room list next there less (ap (λ
+      (v : ThreadState). v.turns) same_state) all_left in
+      let e : frames_cost t (frames_of (on_top after x here)) ≡ frames_cost t (x ∷ frames_of after) = ap (λ (xs : List Frame). frames_cost t xs)
+      (top_frames after x here) in
       omega (arith, a, e, most)
 
 -- a loop after which the frame x is at hand
-module _ (t : Table) (k n : ℕ) (start popped after : ThreadRun) (u : ThreadState) (first second : Option Frame) (x : Frame) (room : HasRoom popped.frames) (here : HasRoom after.frames)
+module _ (t : Table) (k n : ℕ) (start popped after : ThreadRun) (u : ThreadState) (first second : Option Frame) (x : Frame) (room : HasRoom popped.frames)
+    (here : HasRoom after.frames)
     (left : x ∷ frames_of after ≡ frames_shown first ++ (frames_shown second ++ frames_of popped)) (same_state : after.state ≡ u) where
   loop_left : frames_of (on_top after x here) ≡ frames_shown first ++ (frames_shown second ++ frames_of popped)
   loop_left = top_frames after x here ∙ left
 
-  pub rounds : after.func ≡ popped.func → after.told ≡ popped.told → popped.state.faulted ≡ false → LeadsAt t k n popped.state (Ok (Silent first second)) u → UnderWay t k start (on_top popped (Again n) room)
+  pub rounds : after.func ≡ popped.func → after.told ≡ popped.told → popped.state.faulted ≡ false → LeadsAt t k n popped.state (Ok (Silent first second)) u
+      → UnderWay t k start (on_top popped (Again n) room)
       → UnderWay t k start (on_top after x here)
-  rounds same_func same_told going leads way = again_on t k n start popped (on_top after x here) u first second same_func same_state same_told room going leads way loop_left
+  rounds same_func same_told going leads way = again_on t k n start popped
+      (on_top after x here) u first second same_func same_state same_told room going leads way loop_left
 
   pub rounds_less : LeavesLess t n popped.state.turns u.turns (Ok (Silent first second))
       → left_to_do t after.state.turns (x ∷ frames_of after) + 1 ≤ left_to_do t popped.state.turns (Again n ∷ frames_of popped)
   rounds_less less =
       let a = again_less t n popped (on_top after x here) u.turns first second less (ap (λ (v : ThreadState). v.turns) same_state) loop_left in
-      let e : frames_cost t (frames_of (on_top after x here)) ≡ frames_cost t (x ∷ frames_of after) = ap (λ (xs : List Frame). frames_cost t xs) (top_frames after x here) in
+      let e : frames_cost t (frames_of (on_top after x here)) ≡ frames_cost t (x ∷ frames_of after) = ap (λ (xs : List Frame). frames_cost t xs)
+      (top_frames after x here) in
       omega (arith, a, e)
 
 -- the place of a list at which there is a statement has one that is met
-pub place_met : (t : Table) (k n : ℕ) (run : ThreadRun) (list : ListOf) (next : ℕ) (room : HasRoom run.frames) → run.state.faulted ≡ false → slice_get (numbers_of t list) next ≡ Some n → IsKnownAt t k run (Statements list next)
+pub place_met : (t : Table) (k n : ℕ) (run : ThreadRun) (list : ListOf) (next : ℕ) (room : HasRoom run.frames) → run.state.faulted ≡ false
+    → slice_get (numbers_of t list) next ≡ Some n → IsKnownAt t k run (Statements list next)
     → IsMet t k (with_rest t list (next + 1) run room) n
-place_met t k n run list next room going there known = list_met t k n run (with_rest t list (next + 1) run room) list next going there (rest_put t list (next + 1) run room) refl known
+place_met t k n run list next room going there known = list_met t k n run (with_rest t list (next + 1) run room) list next going there (rest_put t list
+    (next + 1) run room) refl known
 
 -- ---- one step behind another
 
@@ -278,22 +324,26 @@ pub falls_by : (a b c d : ℕ) → a + 1 ≤ b → b ≤ c → d ≡ c → a < d
 falls_by a b c d h i e = omega (arith, h, i, e)
 
 -- a stack that has more room
-pub reserved : (t : Table) (k : ℕ) (run after : ThreadRun) (x : Frame) (room : HasRoom run.frames) (here : HasRoom after.frames) → after.func ≡ run.func → after.state ≡ run.state → after.told ≡ run.told
+pub reserved : (t : Table) (k : ℕ) (run after : ThreadRun) (x : Frame) (room : HasRoom run.frames) (here : HasRoom after.frames) → after.func ≡ run.func
+    → after.state ≡ run.state → after.told ≡ run.told
     → Vec.items after.frames ≡ Vec.items run.frames → IsKnownAt t k run x → UnderWay t k (on_top run x room) (on_top after x here)
 reserved t k run after x room here same_func same_state same_told same_items known =
     way_same t k (on_top run x room) (on_top after x here) same_func same_state same_told
-    (top_frames after x here ∙ ap (λ (xs : List Frame). x ∷ reverse xs) same_items ∙ sym (top_frames run x room)) (on_top run x room) (top_begins t k run x room known)
+    (top_frames after x here ∙ ap (λ (xs : List Frame). x ∷ reverse xs) same_items ∙ sym (top_frames run x room)) (on_top run x room)
+    (top_begins t k run x room known)
 
 pub ahead_trans : (t : Table) (k : ℕ) (start mid now : ThreadRun) (a : Ahead) → UnderWay t k start mid → IsAhead t k mid now a → IsAhead t k start now a
 ahead_trans t k start mid now (Next x) way h = (h.0, way_trans t k start mid (on_top now x h.0) way h.1)
 ahead_trans t k start mid now Over way h = way_trans t k start mid now way h
 ahead_trans t k start mid now (Stops x) way h = (h.0, way_trans t k start mid (on_top now x h.0) way h.1)
 
-pub ahead_less : (t : Table) (run after now : ThreadRun) (x : Frame) (a : Ahead) → frames_of after ≡ frames_of run → after.state ≡ run.state → LeavesLessAhead t after x now a → LeavesLessAhead t run x now a
+pub ahead_less : (t : Table) (run after now : ThreadRun) (x : Frame) (a : Ahead) → frames_of after ≡ frames_of run → after.state ≡ run.state
+    → LeavesLessAhead t after x now a → LeavesLessAhead t run x now a
 ahead_less t run after now x a same_frames same_state h = go a h
   where
     e : left_to_do t after.state.turns (x ∷ frames_of after) ≡ left_to_do t run.state.turns (x ∷ frames_of run)
-    e = ap (λ (xs : List Frame). left_to_do t after.state.turns (x ∷ xs)) same_frames ∙ ap (λ (u : ThreadState). left_to_do t u.turns (x ∷ frames_of run)) same_state
+    e = ap (λ (xs : List Frame). left_to_do t after.state.turns (x ∷ xs)) same_frames ∙ ap (λ (u : ThreadState). left_to_do t u.turns
+        (x ∷ frames_of run)) same_state
 
     go : (a : Ahead) → LeavesLessAhead t after x now a → LeavesLessAhead t run x now a
     go (Next y) h = omega (arith, h, e)

@@ -50,8 +50,10 @@ never_left A Again silent left = absurd left
 never_left A (Faults kind) silent left = absurd silent
 never_left A Other silent left = absurd silent
 
-pub silent_comes : (c : Setting) (t : Table) (gs : List Func) (u : ThreadState) (xs : List Frame) (fs : List middles.Frame) (s : State) (m : Middle) (n line : ℕ) (p : Plain) → IsSilent p
-    → AreFrames c.program t gs (frames_with (done_of n line p) xs) m.frames → InState gs u m.state → m.state.items ≡ s.items → Comes c t gs u xs fs s m (done_of n line p)
+pub silent_comes : (c : Setting) (t : Table) (gs : List Func) (u : ThreadState) (xs : List Frame) (fs : List middles.Frame) (s : State) (m : Middle)
+    (n line : ℕ) (p : Plain) → IsSilent p
+    → AreFrames c.program t gs (frames_with (done_of n line p) xs) m.frames → InState gs u m.state → m.state.items ≡ s.items
+    → Comes c t gs u xs fs s m (done_of n line p)
 silent_comes c t gs u xs fs s m n line Nothing silent frames is quiet = (frames, is, quiet)
 silent_comes c t gs u xs fs s m n line (Enters list) silent frames is quiet = (frames, is, quiet)
 silent_comes c t gs u xs fs s m n line Round silent frames is quiet = (frames, is, quiet)
@@ -60,7 +62,8 @@ silent_comes c t gs u xs fs s m n line (Faults kind) silent frames is quiet = ab
 silent_comes c t gs u xs fs s m n line Other silent frames is quiet = absurd silent
 
 -- a statement that is known
-pub known_told : (t : Table) (k : ℕ) (c : Setting) (g : Func) (old u : ThreadState) (d e : Done) (line here : ℕ) (stmt form : Stmt) → d ≡ e → here ≡ line → stmt ≡ form
+pub known_told : (t : Table) (k : ℕ) (c : Setting) (g : Func) (old u : ThreadState) (d e : Done) (line here : ℕ) (stmt form : Stmt) → d ≡ e → here ≡ line
+    → stmt ≡ form
     → Leads t k c g old e u (step_statement c here form) → LeadsOrWants t k c g old (Ok d) u (step_statement c line stmt)
 known_told t k c g old u d e line here stmt form is on_line same h =
     known t k c g old u (Ok d) line here stmt form on_line same (subst (λ (x : Done). Leads t k c g old x u (step_statement c here form)) (sym is) h)

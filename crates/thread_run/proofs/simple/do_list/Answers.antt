@@ -14,7 +14,12 @@ returns-in-Some-clause-meaning c = λ k n line setting g u b list gs xs fs s at.
 )
 
 pub returns-in-None-clause-meaning : goal.returns-in-None-clause-meaning
-returns-in-None-clause-meaning c = λ k n line setting g u b list gs xs fs s at. (c.in-None.ensures.frames setting.program (g ∷ gs) b xs fs list at.frames, at.state, refl)
+returns-in-None-clause-meaning c = λ k n line setting g u b list gs xs fs s at. (
+  c.in-None.ensures.frames setting.program
+      (g ∷ gs) b xs fs list at.frames,
+  at.state,
+  refl,
+)
 
 pub returns-in-Some-clause-cost : goal.returns-in-Some-clause-cost
 returns-in-Some-clause-cost c = λ n line. omega arith

@@ -488,7 +488,8 @@ steps-smaller c =
 pub returns-clause-meaning : goal.returns-clause-meaning
 returns-clause-meaning c =
     let popped : ThreadRun = record { func = c.steps.self.func; state = c.steps.self.state; frames = c.pop.new.self; told = c.steps.self.told } in
-    let before : c.steps.self.frames.items ≡ [] = nil_from_length c.steps.self.frames.items (omega (arith, c.steps.self.frames.ok.0, c.in_default.ensures.cases.0)) in
+    let before : c.steps.self.frames.items ≡ [] = nil_from_length c.steps.self.frames.items (omega
+    (arith, c.steps.self.frames.ok.0, c.in_default.ensures.cases.0)) in
     let behind : c.pop.new.self.items ≡ [] = nil_from_length c.pop.new.self.items (omega (arith, c.pop.new.self.ok.0, c.in_default.ensures.cases.1)) in
     ends (code_shown c.args.code.now) (quota_words c.args.k) c.args.self.now c.steps.self popped refl refl refl
     (ap (λ (xs : List Frame). reverse xs) before) (ap (λ (xs : List Frame). reverse xs) behind) c.steps.invariant

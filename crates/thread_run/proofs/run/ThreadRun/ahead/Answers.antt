@@ -15,7 +15,11 @@ use Rattle.thread_run.proofs.AtHand.{way_same, way_trans, top_begins, top_frames
 use Rattle.thread_run.proofs.run.ThreadRun.ahead.Goals as goal
 
 pub returns-then-is_faulted-clause-way : goal.returns-then-is_faulted-clause-way
-returns-then-is_faulted-clause-way c = λ room. (room, top_begins (code_shown c.args.code.now) (quota_words c.args.k) c.args.self.now c.args.frame room c.requires.known)
+returns-then-is_faulted-clause-way c = λ room. (
+  room,
+  top_begins (code_shown c.args.code.now)
+      (quota_words c.args.k) c.args.self.now c.args.frame room c.requires.known,
+)
 
 pub returns-then-is_faulted-clause-less : goal.returns-then-is_faulted-clause-less
 returns-then-is_faulted-clause-less c = omega arith
@@ -29,13 +33,15 @@ frames-init c =
     let k = quota_words c.args.k in
     let run : ThreadRun = c.args.self.now in (
       c.requires.room,
-      λ room here. way_same t k (on_top run c.args.frame room) (on_top run c.args.frame here) refl refl refl refl (on_top run c.args.frame room) (top_begins t k run c.args.frame room c.requires.known),
+      λ room here. way_same t k (on_top run c.args.frame room) (on_top run c.args.frame here) refl refl refl refl (on_top run c.args.frame room)
+          (top_begins t k run c.args.frame room c.requires.known),
       omega arith,
     )
 
 pub one_ahead-requires-clause-known : goal.one_ahead-requires-clause-known
 one_ahead-requires-clause-known c =
-    known_of_top (code_shown c.args.code.now) (quota_words c.args.k) c.frames.self c.frames.next c.frames.invariant.0 (c.frames.invariant.1 c.requires.room c.frames.invariant.0).known
+    known_of_top (code_shown c.args.code.now) (quota_words c.args.k) c.frames.self c.frames.next c.frames.invariant.0
+    (c.frames.invariant.1 c.requires.room c.frames.invariant.0).known
 
 pub one_ahead-requires-clause-going : goal.one_ahead-requires-clause-going
 one_ahead-requires-clause-going c = (c.frames.invariant.1 c.requires.room c.frames.invariant.0).counts.3 ∙ sym c.is_faulted.ensures ∙ c.if-is_faulted.false
@@ -45,7 +51,8 @@ one_ahead-requires-clause-room c = c.frames.invariant.0
 
 pub returns-in_err-frame-clause-counts : goal.returns-in_err-frame-clause-counts
 returns-in_err-frame-clause-counts c =
-    counts_trans c.args.self.now.state c.frames.self.state c.one_ahead.new.self.state (c.frames.invariant.1 c.requires.room c.frames.invariant.0).counts c.one_ahead.ensures.counts
+    counts_trans c.args.self.now.state c.frames.self.state c.one_ahead.new.self.state
+    (c.frames.invariant.1 c.requires.room c.frames.invariant.0).counts c.one_ahead.ensures.counts
 
 pub frames-smaller-in-Next : goal.frames-smaller-in-Next
 frames-smaller-in-Next c =
@@ -119,7 +126,8 @@ frames-smaller c =
     let popped : ThreadRun = record { func = now.func; state = now.state; frames = c.pop.new.self; told = now.told } in
     let y = c.in-Some.frame in
     let taken : frames_of now ≡ y ∷ frames_of popped = taken_off now popped y c.in-Some.ensures.items in
-    let cost : left_to_do t now.state.turns (frames_of now) ≡ left_to_do t now.state.turns (y ∷ frames_of popped) = ap (λ (xs : List Frame). left_to_do t now.state.turns xs) taken in
+    let cost : left_to_do t now.state.turns (frames_of now) ≡ left_to_do t now.state.turns (y ∷ frames_of popped) = ap (λ
+    (xs : List Frame). left_to_do t now.state.turns xs) taken in
     smaller _ _ (subst (λ (m : ℕ). m + 1 ≤ left_to_do t run.state.turns (next ∷ frames_of run)) cost less)
 
 pub frames-preserved : goal.frames-preserved
@@ -137,7 +145,8 @@ frames-preserved c =
     let popped : ThreadRun = record { func = now.func; state = now.state; frames = c.pop.new.self; told = now.told } in
     let y = c.in-Some.frame in
     let taken : frames_of now ≡ y ∷ frames_of popped = taken_off now popped y c.in-Some.ensures.items in
-    let cost : left_to_do t now.state.turns (frames_of now) ≡ left_to_do t now.state.turns (y ∷ frames_of popped) = ap (λ (xs : List Frame). left_to_do t now.state.turns xs) taken in (
+    let cost : left_to_do t now.state.turns (frames_of now) ≡ left_to_do t now.state.turns (y ∷ frames_of popped) = ap (λ
+    (xs : List Frame). left_to_do t now.state.turns xs) taken in (
       omega (arith, now.frames.ok.1, c.in-Some.ensures.cases, c.pop.ensures.capacity),
       λ room there. way_same t k now (on_top popped y there) refl refl refl (top_frames popped y there ∙ sym taken) (on_top old c.args.frame room)
           (way_trans t k (on_top old c.args.frame room) (on_top run next here) now (c.frames.invariant.1 room here) m),

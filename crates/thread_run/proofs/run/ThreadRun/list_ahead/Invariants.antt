@@ -16,7 +16,8 @@ invariant-places l =
     (vec_len l.self.frames + 3 ≤ vec_capacity l.self.frames)
     × (l.numbers ≡ numbers_of (code_shown l.code) l.list)
     × ((room : HasRoom l.initial.self.frames) (here : HasRoom l.self.frames)
-    → UnderWay (code_shown l.code) (quota_words l.k) (on_top l.initial.self (Statements l.list l.from) room) (with_rest (code_shown l.code) l.list l.next l.self here))
+    → UnderWay (code_shown l.code) (quota_words l.k) (on_top l.initial.self (Statements l.list l.from) room) (with_rest
+    (code_shown l.code) l.list l.next l.self here))
     × (left_to_do (code_shown l.code) l.self.state.turns (Statements l.list l.next ∷ frames_of l.self)
     ≤ left_to_do (code_shown l.code) l.initial.self.state.turns (Statements l.list l.from ∷ frames_of l.initial.self))
 

@@ -30,12 +30,14 @@ unreachable-requires c =
     let run : ThreadRun = c.args.self.now in
     let room : HasRoom run.frames = omega (arith, c.requires.room) in
     ∥∥₁_elim (again_met t k n run c.requires.going c.requires.known) (λ x y. absurd x) (λ m.
-    let none : slice_get (tables.Table.nodes t) n ≡ None = slice_get-map node_shown (nodes_of c.args.code.now) n ∙ ap (λ (o : Option Node). option_map node_shown o) (sym c.in_default.ensures) in
+    let none : slice_get (tables.Table.nodes t) n ≡ None = slice_get-map node_shown (nodes_of c.args.code.now) n ∙ ap (λ
+    (o : Option Node). option_map node_shown o) (sym c.in_default.ensures) in
     let is = m.meaning.node.there in
     let never : ⊥ = cc in never)
 
 pub do_plainly-requires-clause-there : goal.do_plainly-requires-clause-there
-do_plainly-requires-clause-there c = slice_get-map node_shown (nodes_of c.args.code.now) c.args.number ∙ ap (λ (o : Option Node). option_map node_shown o) (sym c.in-Some.ensures)
+do_plainly-requires-clause-there c = slice_get-map node_shown (nodes_of c.args.code.now) c.args.number ∙ ap (λ (o : Option Node). option_map node_shown o)
+    (sym c.in-Some.ensures)
 
 pub do_plainly-requires-clause-meant : goal.do_plainly-requires-clause-meant
 do_plainly-requires-clause-meant c =
@@ -79,10 +81,12 @@ returns-in-Enters-clause-way c =
     let room : HasRoom run.frames = omega (arith, c.requires.room) in
     let after : ThreadRun = record { func = run.func; state = c.do_plainly.new.state; frames = run.frames; told = run.told } in
     let here : HasRoom after.frames = room in
-    let left : Statements c.in-Enters.list 0 ∷ frames_of after ≡ frames_shown (Some (Statements c.in-Enters.list 0)) ++ (frames_shown (None) ++ frames_of run) = refl in
+    let left : Statements c.in-Enters.list 0 ∷ frames_of after ≡ frames_shown (Some (Statements c.in-Enters.list 0)) ++ (frames_shown
+    (None) ++ frames_of run) = refl in
     λ start. (
       here,
-      rounds t k n (on_top run (Again n) start) run after c.do_plainly.new.state (Some (Statements c.in-Enters.list 0)) (None) (Statements c.in-Enters.list 0) start here left refl refl refl c.requires.going
+      rounds t k n (on_top run (Again n) start) run after c.do_plainly.new.state (Some (Statements c.in-Enters.list 0)) (None)
+          (Statements c.in-Enters.list 0) start here left refl refl refl c.requires.going
           (λ setting g line stmt node. c.in-Enters.ensures.meaning setting g line stmt node tt) (top_begins t k run (Again n) start c.requires.known),
     )
 
@@ -95,8 +99,10 @@ returns-in-Enters-clause-less c =
     let room : HasRoom run.frames = omega (arith, c.requires.room) in
     let after : ThreadRun = record { func = run.func; state = c.do_plainly.new.state; frames = run.frames; told = run.told } in
     let here : HasRoom after.frames = room in
-    let left : Statements c.in-Enters.list 0 ∷ frames_of after ≡ frames_shown (Some (Statements c.in-Enters.list 0)) ++ (frames_shown (None) ++ frames_of run) = refl in
-    rounds_less t k n run run after c.do_plainly.new.state (Some (Statements c.in-Enters.list 0)) (None) (Statements c.in-Enters.list 0) room here left refl (c.in-Enters.ensures.cost tt)
+    let left : Statements c.in-Enters.list 0 ∷ frames_of after ≡ frames_shown (Some (Statements c.in-Enters.list 0)) ++ (frames_shown
+    (None) ++ frames_of run) = refl in
+    rounds_less t k n run run after c.do_plainly.new.state (Some (Statements c.in-Enters.list 0)) (None) (Statements c.in-Enters.list 0) room here left refl
+    (c.in-Enters.ensures.cost tt)
 
 pub returns-in-Enters-clause-counts : goal.returns-in-Enters-clause-counts
 returns-in-Enters-clause-counts c = (returns-in-Enters-clause-way c (omega (arith, c.requires.room))).1.counts
@@ -110,10 +116,13 @@ returns-in-Round-clause-way c =
     let room : HasRoom run.frames = omega (arith, c.requires.room) in
     let after : ThreadRun = record { func = run.func; state = c.do_plainly.new.state; frames = c.push_reserved.new.self; told = run.told } in
     let here : HasRoom after.frames = omega (arith, c.requires.room, c.push_reserved.ensures.capacity, c.push_reserved.ensures.len) in
-    let left : Statements (lists.Round n) 0 ∷ frames_of after ≡ frames_shown (Some (Statements (lists.Round n) 0)) ++ (frames_shown (Some (Again n)) ++ frames_of run) = ap (λ (xs : List Frame). Statements (lists.Round n) 0 ∷ reverse xs) c.push_reserved.ensures.items ∙ ap (λ (xs : List Frame). Statements (lists.Round n) 0 ∷ xs) (reverse-append run.frames.items (Again n ∷ [])) in
+    let left : Statements (lists.Round n) 0 ∷ frames_of after ≡ frames_shown (Some (Statements (lists.Round n) 0)) ++ (frames_shown (Some
+    (Again n)) ++ frames_of run) = ap (λ (xs : List Frame). Statements (lists.Round n) 0 ∷ reverse xs) c.push_reserved.ensures.items ∙ ap (λ
+    (xs : List Frame). Statements (lists.Round n) 0 ∷ xs) (reverse-append run.frames.items (Again n ∷ [])) in
     λ start. (
       here,
-      rounds t k n (on_top run (Again n) start) run after c.do_plainly.new.state (Some (Statements (lists.Round n) 0)) (Some (Again n)) (Statements (lists.Round n) 0) start here left refl refl refl c.requires.going
+      rounds t k n (on_top run (Again n) start) run after c.do_plainly.new.state (Some (Statements (lists.Round n) 0)) (Some (Again n)) (Statements
+          (lists.Round n) 0) start here left refl refl refl c.requires.going
           (λ setting g line stmt node. c.in-Round.ensures.meaning setting g line stmt node tt) (top_begins t k run (Again n) start c.requires.known),
     )
 
@@ -126,8 +135,11 @@ returns-in-Round-clause-less c =
     let room : HasRoom run.frames = omega (arith, c.requires.room) in
     let after : ThreadRun = record { func = run.func; state = c.do_plainly.new.state; frames = c.push_reserved.new.self; told = run.told } in
     let here : HasRoom after.frames = omega (arith, c.requires.room, c.push_reserved.ensures.capacity, c.push_reserved.ensures.len) in
-    let left : Statements (lists.Round n) 0 ∷ frames_of after ≡ frames_shown (Some (Statements (lists.Round n) 0)) ++ (frames_shown (Some (Again n)) ++ frames_of run) = ap (λ (xs : List Frame). Statements (lists.Round n) 0 ∷ reverse xs) c.push_reserved.ensures.items ∙ ap (λ (xs : List Frame). Statements (lists.Round n) 0 ∷ xs) (reverse-append run.frames.items (Again n ∷ [])) in
-    rounds_less t k n run run after c.do_plainly.new.state (Some (Statements (lists.Round n) 0)) (Some (Again n)) (Statements (lists.Round n) 0) room here left refl (c.in-Round.ensures.cost tt)
+    let left : Statements (lists.Round n) 0 ∷ frames_of after ≡ frames_shown (Some (Statements (lists.Round n) 0)) ++ (frames_shown (Some
+    (Again n)) ++ frames_of run) = ap (λ (xs : List Frame). Statements (lists.Round n) 0 ∷ reverse xs) c.push_reserved.ensures.items ∙ ap (λ
+    (xs : List Frame). Statements (lists.Round n) 0 ∷ xs) (reverse-append run.frames.items (Again n ∷ [])) in
+    rounds_less t k n run run after c.do_plainly.new.state (Some (Statements (lists.Round n) 0)) (Some (Again n)) (Statements
+    (lists.Round n) 0) room here left refl (c.in-Round.ensures.cost tt)
 
 pub returns-in-Round-clause-counts : goal.returns-in-Round-clause-counts
 returns-in-Round-clause-counts c = (returns-in-Round-clause-way c (omega (arith, c.requires.room))).1.counts
@@ -144,7 +156,8 @@ returns-in-Again-clause-way c =
     let left : Again n ∷ frames_of after ≡ frames_shown (None) ++ (frames_shown (Some (Again n)) ++ frames_of run) = refl in
     λ start. (
       here,
-      rounds t k n (on_top run (Again n) start) run after c.do_plainly.new.state (None) (Some (Again n)) (Again n) start here left refl refl refl c.requires.going
+      rounds t k n (on_top run (Again n) start) run after c.do_plainly.new.state (None) (Some (Again n))
+          (Again n) start here left refl refl refl c.requires.going
           (λ setting g line stmt node. c.in-Again.ensures.meaning setting g line stmt node tt) (top_begins t k run (Again n) start c.requires.known),
     )
 
@@ -177,13 +190,15 @@ returns-in-Faults-clause-way c =
     let same : c.do_plainly.new.state ≡ run.state = c.do_plainly.ensures.left (search rules) in
     λ start. (
       room,
-      way_same t k (on_top run (Again n) start) (on_top after (Again n) room) refl same refl refl (on_top run (Again n) start) (top_begins t k run (Again n) start c.requires.known),
+      way_same t k (on_top run (Again n) start) (on_top after (Again n) room) refl same refl refl (on_top run (Again n) start) (top_begins t k run
+          (Again n) start c.requires.known),
     )
 
 pub returns-in-Faults-clause-less : goal.returns-in-Faults-clause-less
 returns-in-Faults-clause-less c =
     let turns : c.do_plainly.new.state.turns ≡ c.args.self.now.state.turns = ap (λ (u : ThreadState). u.turns) (c.do_plainly.ensures.left (search rules)) in
-    subst (λ (m : ℕ). left_to_do (code_shown c.args.code.now) m (Again c.args.number ∷ frames_of c.args.self.now) ≤ left_to_do (code_shown c.args.code.now) c.args.self.now.state.turns (Again c.args.number ∷ frames_of c.args.self.now)) (sym turns) (omega arith)
+    subst (λ (m : ℕ). left_to_do (code_shown c.args.code.now) m (Again c.args.number ∷ frames_of c.args.self.now) ≤ left_to_do
+    (code_shown c.args.code.now) c.args.self.now.state.turns (Again c.args.number ∷ frames_of c.args.self.now)) (sym turns) (omega arith)
 
 pub returns-in-Faults-clause-counts : goal.returns-in-Faults-clause-counts
 returns-in-Faults-clause-counts c = (returns-in-Faults-clause-way c (omega (arith, c.requires.room))).1.counts

@@ -18,8 +18,10 @@ list_ahead-requires-clause-known c =
     let run : ThreadRun = c.args.self.now in
     let after : ThreadRun = record { func = run.func; state = run.state; frames = c.reserve.new.self; told = run.told } in
     let here : HasRoom after.frames = omega (arith, c.in_ok-reserve-in-Statements.ensures.ok) in
-    let known : IsKnownAt t k run (Statements c.in-Statements.list c.in-Statements.next) = subst (λ (x : Frame). IsKnownAt t k run x) c.in-Statements.is c.requires.known in
-    known_of_top t k after (Statements c.in-Statements.list c.in-Statements.next) here (reserved t k run after (Statements c.in-Statements.list c.in-Statements.next) c.requires.room here refl refl refl c.reserve.ensures.items known).known
+    let known : IsKnownAt t k run (Statements c.in-Statements.list c.in-Statements.next) = subst (λ
+    (x : Frame). IsKnownAt t k run x) c.in-Statements.is c.requires.known in
+    known_of_top t k after (Statements c.in-Statements.list c.in-Statements.next) here (reserved t k run after
+    (Statements c.in-Statements.list c.in-Statements.next) c.requires.room here refl refl refl c.reserve.ensures.items known).known
 
 pub list_ahead-requires-clause-room : goal.list_ahead-requires-clause-room
 list_ahead-requires-clause-room c = c.in_ok-reserve-in-Statements.ensures.ok
@@ -31,9 +33,12 @@ returns-in_ok-reserve-in-Statements-clause-way c =
     let run : ThreadRun = c.args.self.now in
     let after : ThreadRun = record { func = run.func; state = run.state; frames = c.reserve.new.self; told = run.told } in
     let here : HasRoom after.frames = omega (arith, c.in_ok-reserve-in-Statements.ensures.ok) in
-    let known : IsKnownAt t k run (Statements c.in-Statements.list c.in-Statements.next) = subst (λ (x : Frame). IsKnownAt t k run x) c.in-Statements.is c.requires.known in
+    let known : IsKnownAt t k run (Statements c.in-Statements.list c.in-Statements.next) = subst (λ
+    (x : Frame). IsKnownAt t k run x) c.in-Statements.is c.requires.known in
     λ room. subst (λ (x : Frame). IsAhead t k (on_top run x room) c.list_ahead.new.self c.list_ahead.result) (sym c.in-Statements.is)
-    (ahead_trans t k (on_top run (Statements c.in-Statements.list c.in-Statements.next) room) (on_top after (Statements c.in-Statements.list c.in-Statements.next) here) c.list_ahead.new.self c.list_ahead.result (reserved t k run after (Statements c.in-Statements.list c.in-Statements.next) room here refl refl refl c.reserve.ensures.items known) (c.list_ahead.ensures.way here))
+    (ahead_trans t k (on_top run (Statements c.in-Statements.list c.in-Statements.next) room) (on_top after
+    (Statements c.in-Statements.list c.in-Statements.next) here) c.list_ahead.new.self c.list_ahead.result (reserved t k run after
+    (Statements c.in-Statements.list c.in-Statements.next) room here refl refl refl c.reserve.ensures.items known) (c.list_ahead.ensures.way here))
 
 pub returns-in_ok-reserve-in-Statements-clause-less : goal.returns-in_ok-reserve-in-Statements-clause-less
 returns-in_ok-reserve-in-Statements-clause-less c =
@@ -42,9 +47,11 @@ returns-in_ok-reserve-in-Statements-clause-less c =
     let run : ThreadRun = c.args.self.now in
     let after : ThreadRun = record { func = run.func; state = run.state; frames = c.reserve.new.self; told = run.told } in
     let here : HasRoom after.frames = omega (arith, c.in_ok-reserve-in-Statements.ensures.ok) in
-    let known : IsKnownAt t k run (Statements c.in-Statements.list c.in-Statements.next) = subst (λ (x : Frame). IsKnownAt t k run x) c.in-Statements.is c.requires.known in
+    let known : IsKnownAt t k run (Statements c.in-Statements.list c.in-Statements.next) = subst (λ
+    (x : Frame). IsKnownAt t k run x) c.in-Statements.is c.requires.known in
     subst (λ (x : Frame). LeavesLessAhead t run x c.list_ahead.new.self c.list_ahead.result) (sym c.in-Statements.is)
-    (ahead_less t run after c.list_ahead.new.self (Statements c.in-Statements.list c.in-Statements.next) c.list_ahead.result (ap (λ (xs : List Frame). reverse xs) c.reserve.ensures.items) refl c.list_ahead.ensures.less)
+    (ahead_less t run after c.list_ahead.new.self (Statements c.in-Statements.list c.in-Statements.next) c.list_ahead.result (ap (λ
+    (xs : List Frame). reverse xs) c.reserve.ensures.items) refl c.list_ahead.ensures.less)
 
 pub returns-in_ok-reserve-in-Statements-clause-counts : goal.returns-in_ok-reserve-in-Statements-clause-counts
 returns-in_ok-reserve-in-Statements-clause-counts c = c.list_ahead.ensures.counts
@@ -57,7 +64,8 @@ loop_ahead-requires-clause-known c =
     let after : ThreadRun = record { func = run.func; state = run.state; frames = c.reserve-in-Again.new.self; told = run.told } in
     let here : HasRoom after.frames = omega (arith, c.in_ok-reserve-in-Again.ensures.ok) in
     let known : IsKnownAt t k run (Again c.in-Again.number) = subst (λ (x : Frame). IsKnownAt t k run x) c.in-Again.is c.requires.known in
-    known_of_top t k after (Again c.in-Again.number) here (reserved t k run after (Again c.in-Again.number) c.requires.room here refl refl refl c.reserve-in-Again.ensures.items known).known
+    known_of_top t k after (Again c.in-Again.number) here (reserved t k run after
+    (Again c.in-Again.number) c.requires.room here refl refl refl c.reserve-in-Again.ensures.items known).known
 
 pub loop_ahead-requires-clause-room : goal.loop_ahead-requires-clause-room
 loop_ahead-requires-clause-room c = c.in_ok-reserve-in-Again.ensures.ok
@@ -71,7 +79,8 @@ returns-in_ok-reserve-in-Again-clause-way c =
     let here : HasRoom after.frames = omega (arith, c.in_ok-reserve-in-Again.ensures.ok) in
     let known : IsKnownAt t k run (Again c.in-Again.number) = subst (λ (x : Frame). IsKnownAt t k run x) c.in-Again.is c.requires.known in
     λ room. subst (λ (x : Frame). IsAhead t k (on_top run x room) c.loop_ahead.new.self c.loop_ahead.result) (sym c.in-Again.is)
-    (ahead_trans t k (on_top run (Again c.in-Again.number) room) (on_top after (Again c.in-Again.number) here) c.loop_ahead.new.self c.loop_ahead.result (reserved t k run after (Again c.in-Again.number) room here refl refl refl c.reserve-in-Again.ensures.items known) (c.loop_ahead.ensures.way here))
+    (ahead_trans t k (on_top run (Again c.in-Again.number) room) (on_top after (Again c.in-Again.number) here) c.loop_ahead.new.self c.loop_ahead.result
+    (reserved t k run after (Again c.in-Again.number) room here refl refl refl c.reserve-in-Again.ensures.items known) (c.loop_ahead.ensures.way here))
 
 pub returns-in_ok-reserve-in-Again-clause-less : goal.returns-in_ok-reserve-in-Again-clause-less
 returns-in_ok-reserve-in-Again-clause-less c =
@@ -82,7 +91,8 @@ returns-in_ok-reserve-in-Again-clause-less c =
     let here : HasRoom after.frames = omega (arith, c.in_ok-reserve-in-Again.ensures.ok) in
     let known : IsKnownAt t k run (Again c.in-Again.number) = subst (λ (x : Frame). IsKnownAt t k run x) c.in-Again.is c.requires.known in
     subst (λ (x : Frame). LeavesLessAhead t run x c.loop_ahead.new.self c.loop_ahead.result) (sym c.in-Again.is)
-    (ahead_less t run after c.loop_ahead.new.self (Again c.in-Again.number) c.loop_ahead.result (ap (λ (xs : List Frame). reverse xs) c.reserve-in-Again.ensures.items) refl c.loop_ahead.ensures.less)
+    (ahead_less t run after c.loop_ahead.new.self (Again c.in-Again.number) c.loop_ahead.result (ap (λ
+    (xs : List Frame). reverse xs) c.reserve-in-Again.ensures.items) refl c.loop_ahead.ensures.less)
 
 pub returns-in_ok-reserve-in-Again-clause-counts : goal.returns-in_ok-reserve-in-Again-clause-counts
 returns-in_ok-reserve-in-Again-clause-counts c = c.loop_ahead.ensures.counts
