@@ -1,5 +1,6 @@
 pub mod Rows
 pub mod Shown
+pub mod Outcomes
 pub mod Agreement
 pub mod Effects
 pub mod Forks

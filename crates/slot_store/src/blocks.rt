@@ -106,6 +106,7 @@ impl Slots {
             → Puts names (name_at names slot) value (place_in (block_of store.blocks (name_at names slot)) index) store result
             (slots_shown self.new) }
         ensures err { OnErr result (slots_shown self.new ≡ slots_shown self.old) }
+        ensures same { OnErr result (self.new ≡ self.old) }
     {
         let Some(place) = place_in(self.length(slot), index) else {
             return Err(FaultKind::Index);

@@ -1,18 +1,23 @@
 //! Expressions over slots.
 
-ghost use Rattle.std.specs.Prelude.{◌≡◌, List, length};
+ghost use Rattle.std.specs.Prelude.{◌≡◌, ◌<◌, List, length};
 ghost use Rattle.depth_first_run.specs.Passed.Tree.{Name, Expr};
+ghost use Rattle.par_tree.specs.View.{chain_op_tree};
+ghost use Rattle.node_table.specs.Names.{name_at};
 ghost use Rattle.node_table.specs.Shown.{expr_shown, links_shown};
 ghost use Rattle.node_table.specs.Reading.{IsExpr, links_read, FitsLinks};
-ghost use Rattle.depth_first_run.specs.Stores.{Store};
-ghost use Rattle.depth_first_run.specs.Values.{value, chained};
+ghost use Rattle.depth_first_run.specs.Stores.{Store, block_of};
+ghost use Rattle.depth_first_run.specs.Values.{value, chained, operated, number_at};
 ghost use Rattle.slot_store.specs.Shown.{slots_shown};
 ghost use Rattle.slot_store.specs.Agreement.{ShowsStore};
+ghost use Rattle.slot_store.specs.Outcomes.{outcome_shown};
 
+use crate::outcome::Outcome;
 use crate::slots::Slots;
 use dag_order::FaultKind;
 use node_table::{CodeExpr, CodeLink};
 use number_operators::{compare, negate, operate};
+use par_tree::ChainOp;
 
 /// The number of an expression, or the fault that comes in its place.
 ///
@@ -21,44 +26,115 @@ use number_operators::{compare, negate, operate};
 /// # Errors
 ///
 /// `Index` or `Divide`, exactly as the depth-first run says.
-#[cycle(evaluate)]
-#[tactic(auto, unfolding(depth_first_run::specs::Values::value))]
+#[inline(always)]
 pub fn evaluate(slots: &Slots, expr: &CodeExpr) -> Result<i64, FaultKind>
     ensures { (names : List Name) (store : Store) (e : Expr) → ShowsStore names (slots_shown slots.now) store
         → IsExpr names (expr_shown expr.now) e → result ≡ value store e }
 {
-    match expr {
-        CodeExpr::Num(number) => Ok(*number),
-        CodeExpr::Var(slot) => Ok(slots.integer(*slot)),
-        CodeExpr::Get(slot, index) => {
-            let index = evaluate(slots, index)?;
-            slots.element(*slot, index)
-        }
-        CodeExpr::Len(slot) => Ok(i64::from(slots.length(*slot))),
-        CodeExpr::Neg(operand) => Ok(negate(evaluate(slots, operand)?)),
-        CodeExpr::Chain { first, rest } => {
-            let front = evaluate(slots, first)?;
-            chain(slots, front, rest)
-        }
-        CodeExpr::Cmp { op, left, right } => {
-            let left = evaluate(slots, left)?;
-            let right = evaluate(slots, right)?;
-            Ok(compare(*op, left, right))
-        }
+    match outcome(slots, expr) {
+        Outcome::Number(number) => Ok(number),
+        Outcome::Index => Err(FaultKind::Index),
+        Outcome::Divide => Err(FaultKind::Divide),
     }
 }
 
-/// The number of a chain, from that of its front.
+/// What an expression comes to.
 #[cycle(evaluate)]
+#[inline(never)]
+#[tactic(auto, unfolding(depth_first_run::specs::Values::value))]
+fn outcome(slots: &Slots, expr: &CodeExpr) -> Outcome
+    ensures { (names : List Name) (store : Store) (e : Expr) → ShowsStore names (slots_shown slots.now) store
+        → IsExpr names (expr_shown expr.now) e → outcome_shown result ≡ value store e }
+{
+    match expr {
+        CodeExpr::Num(number) => Outcome::Number(*number),
+        CodeExpr::Var(slot) => Outcome::Number(slots.integer(*slot)),
+        CodeExpr::Get(slot, index) => match operand(slots, index) {
+            Outcome::Number(index) => element(slots, *slot, index),
+            fault => fault,
+        },
+        CodeExpr::Len(slot) => Outcome::Number(i64::from(slots.length(*slot))),
+        CodeExpr::Neg(inner) => match operand(slots, inner) {
+            Outcome::Number(number) => Outcome::Number(negate(number)),
+            fault => fault,
+        },
+        CodeExpr::Chain { first, rest } => match operand(slots, first) {
+            Outcome::Number(front) => chain(slots, front, rest),
+            fault => fault,
+        },
+        CodeExpr::Cmp { op, left, right } => match operand(slots, left) {
+            Outcome::Number(left) => match operand(slots, right) {
+                Outcome::Number(right) => Outcome::Number(compare(*op, left, right)),
+                fault => fault,
+            },
+            fault => fault,
+        },
+    }
+}
+
+/// What an operand comes to. Most are a number or a slot, which are read where they stand, without a call.
+#[cycle(evaluate)]
+#[inline(always)]
+#[tactic(auto, unfolding(depth_first_run::specs::Values::value))]
+fn operand(slots: &Slots, expr: &CodeExpr) -> Outcome
+    ensures { (names : List Name) (store : Store) (e : Expr) → ShowsStore names (slots_shown slots.now) store
+        → IsExpr names (expr_shown expr.now) e → outcome_shown result ≡ value store e }
+{
+    match expr {
+        CodeExpr::Num(number) => Outcome::Number(*number),
+        CodeExpr::Var(slot) => Outcome::Number(slots.integer(*slot)),
+        _ => outcome(slots, expr),
+    }
+}
+
+/// What a chain comes to, from the number of its front.
+#[cycle(evaluate)]
+#[inline(always)]
 #[tactic(auto, unfolding(depth_first_run::specs::Values::chained))]
-fn chain(slots: &Slots, front: i64, rest: &[CodeLink]) -> Result<i64, FaultKind>
+fn chain(slots: &Slots, front: i64, rest: &[CodeLink]) -> Outcome
     ensures { (names : List Name) (store : Store) → ShowsStore names (slots_shown slots.now) store
-        → FitsLinks (length names) (links_shown rest.now) → result ≡ chained store (links_read names (links_shown rest.now)) front }
+        → FitsLinks (length names) (links_shown rest.now)
+        → outcome_shown result ≡ chained store (links_read names (links_shown rest.now)) front }
 {
     let mut number = front;
     for link in rest {
-        let operand = evaluate(slots, &link.operand)?;
-        number = operate(link.op, number, operand)?;
+        match operand(slots, &link.operand) {
+            Outcome::Number(right) => match joined(link.op, number, right) {
+                Outcome::Number(next) => {
+                    number = next;
+                }
+                fault => {
+                    return fault;
+                }
+            },
+            fault => {
+                return fault;
+            }
+        }
     }
-    Ok(number)
+    Outcome::Number(number)
+}
+
+/// What an operator comes to on its two operands.
+#[inline(always)]
+#[tactic(auto, unfolding(depth_first_run::specs::Values::operated))]
+fn joined(op: ChainOp, left: i64, right: i64) -> Outcome
+    ensures { outcome_shown result ≡ operated (chain_op_tree op) left right }
+{
+    match operate(op, left, right) {
+        Ok(number) => Outcome::Number(number),
+        Err(_) => Outcome::Divide,
+    }
+}
+
+/// What the number at a place of the block of a slot comes to.
+#[inline(always)]
+fn element(slots: &Slots, slot: u16, index: i64) -> Outcome
+    ensures { (names : List Name) (store : Store) → ShowsStore names (slots_shown slots.now) store → slot < length names
+        → outcome_shown result ≡ number_at (block_of store.blocks (name_at names slot)) index }
+{
+    match slots.element(slot, index) {
+        Ok(number) => Outcome::Number(number),
+        Err(_) => Outcome::Index,
+    }
 }

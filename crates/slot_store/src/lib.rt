@@ -20,6 +20,7 @@ mod expressions;
 mod forks;
 mod integers;
 mod laws;
+mod outcome;
 mod parts;
 mod passing;
 mod returning;

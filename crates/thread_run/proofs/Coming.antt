@@ -1,6 +1,6 @@
 -- What a step comes to, from the parts of its statement.
-use Rattle.std.proofs.Common.{inl, inr, ◌≡◌, ℕ, zero, suc, ◌<◌, ◌≤◌, Bool, true, false, List, ◌∷◌, ◌++◌, length, ℤ, Result, Ok, Err, Option, Some, None, refl, sym, ◌∙◌, ap, subst, arith}
-use Rattle.std.specs.Prelude.{nat_lt, ◌⊎◌, ◌*◌}
+use Rattle.std.proofs.Common.{◌≡◌, ℕ, zero, suc, ◌<◌, ◌≤◌, Bool, true, false, List, ◌∷◌, ◌++◌, length, ℤ, Result, Ok, Err, Option, Some, None, refl, sym, ◌∙◌, ap, subst, arith}
+use Rattle.std.specs.Prelude.{nat_lt, ◌*◌}
 use Rattle.std.specs.Int.{div_ceil}
 use Rattle.std.specs.Prelude.{map, MatchResult}
 use Rattle.node_table.specs.Names.{slot_names}
@@ -20,7 +20,7 @@ use Rattle.thread_points.specs.Passed.Values.{Outcome, value, place_in}
 use Rattle.thread_points.specs.Passed.States.{Setting, State, Item, with_number, with_fault, with_turn, with_turns}
 use Rattle.thread_points.specs.Passed.Run.{names_in, assigns_in, size_of, unchanged, put_value, put_number, put_in_place}
 use Rattle.thread_points.specs.Passed.Middle as middles
-use Rattle.thread_points.specs.Passed.Middle.{Middle, middle, statements, does, tree, allocates, allocated, step_with_number, step_if, step_branch, step_fork, step_par, step_alloc, step_alloc_words, step_alloc_within, step_turn, step_cut, rejoins, before_all}
+use Rattle.thread_points.specs.Passed.Middle.{Middle, middle, statements, does, tree, allocates, allocated, step_with_number, step_fork, step_par, step_alloc, step_alloc_words, step_alloc_within, step_turn, step_cut, rejoins, before_all}
 use Rattle.node_table.specs.Table.{Table, Kind}
 use Rattle.thread_stack.specs.declared.frame.Frame.{Frame}
 use Rattle.thread_stack.specs.Frames.{AreFrames, AreStatements, IsParNode, frames_shown}

@@ -10,7 +10,7 @@ use Rattle.thread_points.specs.Passed.Stores.{Store}
 use Rattle.thread_points.specs.Passed.States.{Setting, State, skip_if, unless_faulted}
 use Rattle.thread_points.specs.Passed.Run.{on_store, rejoin_block}
 use Rattle.thread_points.specs.Passed.Middle as middles
-use Rattle.thread_points.specs.Passed.Middle.{middle, rejoins, step_frame}
+use Rattle.thread_points.specs.Passed.Middle.{rejoins, step_frame}
 use Rattle.node_table.specs.Names.{slot_names, name_at}
 use Rattle.node_table.specs.Table as tables
 use Rattle.node_table.specs.Table.{Table, Kind, split_node}

@@ -7,7 +7,7 @@ use denote.Struct.Props.{props}
 use Rattle.par_tree.specs.Tree.{Program, Func, Body, done, step}
 use Rattle.thread_points.specs.Passed.States.{Setting, State, began, with_item}
 use Rattle.thread_points.specs.Passed.Middle as middles
-use Rattle.thread_points.specs.Passed.Middle.{does, tree, Part, statements, answers, rejoins, answers_main, allocates, joins, Middle, before_all, step_frame, step_first, step_statement}
+use Rattle.thread_points.specs.Passed.Middle.{does, statements, answers, rejoins, answers_main, allocates, Middle, before_all, step_frame, step_first, step_statement}
 use Rattle.node_table.specs.Names.{slot_names}
 use Rattle.node_table.specs.Table.{Table}
 use Rattle.thread_points.specs.Points.{marked}

@@ -18,4 +18,6 @@ pub mod Meetings
 pub mod CanEnds
 pub mod Outcomes
 pub mod OnTheWay
+pub mod AtHand
+pub mod PlainSteps
 pub mod Passed

@@ -8,7 +8,7 @@ use Rattle.par_tree.specs.Tree.{Func}
 use Rattle.thread_points.specs.Passed.States.{Setting, State, Item, holdings}
 use Rattle.thread_points.specs.Passed.Run.{actions_of}
 use Rattle.thread_points.specs.Passed.Middle as middles
-use Rattle.thread_points.specs.Passed.Middle.{Middle, step_frame}
+use Rattle.thread_points.specs.Passed.Middle.{step_frame}
 use Rattle.node_table.specs.Names.{slot_names}
 use Rattle.node_table.specs.Table.{Table}
 use Rattle.thread_points.specs.Threads.{IsThread}

@@ -11,7 +11,7 @@ use Rattle.thread_points.specs.Passed.States.{Setting, State, Item, with_fault, 
 use Rattle.thread_points.specs.Passed.Calls.{Answer, number, items, end_call, returned, with_answer, with_return, as_number}
 use Rattle.thread_points.specs.Passed.Run.{ignore_answer}
 use Rattle.thread_points.specs.Passed.Middle as middles
-use Rattle.thread_points.specs.Passed.Middle.{Middle, middle, answers, answers_main, step_frame}
+use Rattle.thread_points.specs.Passed.Middle.{answers, answers_main, step_frame}
 use Rattle.node_table.specs.Names.{slot_names}
 use Rattle.node_table.specs.Reading.{IsTarget, AreArgs, AreSlots, IsReturn}
 use Rattle.node_table.specs.Table as tables

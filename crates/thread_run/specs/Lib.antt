@@ -9,4 +9,6 @@ pub mod Going
 pub mod Functions
 pub mod Stepping
 pub mod Calling
+pub mod Plains
+pub mod AtHand
 pub mod Passed

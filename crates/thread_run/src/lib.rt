@@ -8,6 +8,9 @@
 //! ([`statement`], [`dummies`], [`allocates`], [`rejoins`]). Calls are begun and ended by the run itself, since it has the frames of the
 //! caller at hand, and a Join is a frame of its own.
 //!
+//! Plain statements, which do no action, call nothing and print nothing, go one after another in one loop, which holds the next frame in a
+//! variable. It hands back the frame of any other statement, and of one that faults: a single step does that.
+//!
 //! It stands on the state of a thread (`thread_state`), on its frames (`thread_stack`), on the points of threads in the one depth-first run
 //! (`thread_points`) and on what a thread of an accepted program holds there (`ownership_laws`), which says that each block is there
 //! that a statement needs, and that none is where it puts one.
@@ -19,12 +22,14 @@
 #![tactic(auto)]
 
 mod acts;
+mod ahead;
 mod calls;
 mod changes;
 mod done;
 mod ends;
 mod frames;
 mod lists;
+mod plain;
 mod putting;
 mod ready;
 mod run;

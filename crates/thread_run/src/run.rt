@@ -48,7 +48,10 @@ impl ThreadRun {
         ensures words { words_held self.new.state ≡ words_held self.old.state }
     {
         'steps: while let Some(frame) = self.frames.pop() {
-            if let Some(ready) = self.go_on(alloc, code, k, frame)? {
+            let Some(next) = self.ahead(code, k, frame, u32::MAX)? else {
+                return Ok(Ready::End);
+            };
+            if let Some(ready) = self.go_on(alloc, code, k, next)? {
                 return Ok(ready);
             }
         }

@@ -19,6 +19,7 @@ ghost use Rattle.thread_run.specs.Meanings.{IsMeant};
 use crate::acts::{allocate, both, free};
 use crate::changes::{Parts, put, repeat, set, split};
 use crate::done::Done;
+use crate::plain::told;
 use crate::simple::{choose, print};
 use depth_first_list::Quota;
 use node_table::{Code, Node, NodeKind};
@@ -48,17 +49,21 @@ pub fn statement(
 {
     let line = node.line;
     match &node.kind {
-        NodeKind::Let { name, value } => Ok(set(state, line, *name, value)),
-        NodeKind::Assign { name, value } => Ok(set(state, line, *name, value)),
+        NodeKind::Let { name, value } => Ok(told(number, line, set(state, *name, value))),
+        NodeKind::Assign { name, value } => Ok(told(number, line, set(state, *name, value))),
         NodeKind::Put {
             block,
             index,
             value,
-        } => Ok(put(state, line, *block, index, value)),
+        } => Ok(told(number, line, put(state, *block, index, value))),
         NodeKind::Alloc { name, size } => allocate(state, alloc, k, line, *name, size),
         NodeKind::Free { name } => Ok(free(state, *name)),
-        NodeKind::If { cond, .. } => Ok(choose(state, code, number, line, cond)),
-        NodeKind::While { cond, .. } => Ok(repeat(state, code, number, line, cond)),
+        NodeKind::If { cond, .. } => Ok(told(number, line, choose(state, code, number, cond))),
+        NodeKind::While { cond, body } => Ok(told(
+            number,
+            line,
+            repeat(state, code, number, cond, body),
+        )),
         NodeKind::Call { .. } => unreachable!(),
         NodeKind::Print { value } => Ok(print(state, line, value)),
         NodeKind::Both { .. } => Ok(both(state, number, line)),

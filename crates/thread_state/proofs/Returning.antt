@@ -2,7 +2,7 @@
 use Rattle.std.proofs.Common.{◌≡◌, ℕ, ◌<◌, Bool, true, false, nat_eq, List, [], ◌∷◌, ◌++◌, length, ℤ, refl, sym, ap, ◌∙◌, arith, rules, append_assoc, append-nil}
 use Rattle.std.specs.Str.{bytes_eq}
 use Rattle.depth_first_run.specs.Passed.Tree
-use Rattle.depth_first_run.specs.Passed.Tree.{Name, Param, Arg, Target}
+use Rattle.depth_first_run.specs.Passed.Tree.{Name, Param, Arg}
 use Rattle.node_table.specs.Names.{name_at}
 use Rattle.node_table.specs.Reading.{args_read, FitsArgs}
 use Rattle.node_table.specs.Table

@@ -1,6 +1,6 @@
 //! The beginning of the root, expressions, and the statements that do no action.
 
-ghost use Rattle.std.specs.Prelude.{◌≡◌, ◌+◌, ◌<◌, ◌∷◌, [], ℕ, List, length, false, IfOk, MatchResult};
+ghost use Rattle.std.specs.Prelude.{◌≡◌, ◌+◌, ◌<◌, ◌∷◌, [], ℕ, List, length, false, IfOk, OnErr, MatchResult};
 ghost use Rattle.language_limits.specs.declared.TheConstants.{GREATEST_COUNT};
 ghost use Rattle.depth_first_run.specs.Passed.Tree.{Name, Expr};
 ghost use Rattle.node_table.specs.Names.{name_at};
@@ -88,6 +88,7 @@ impl ThreadState {
             (λ s. with_number line (value s.store e) (set_integer (name_at names slot)) s) }
         ensures going { self.new.faulted ≡ self.old.faulted }
         ensures turns { self.new.turns ≡ self.old.turns }
+        ensures same { OnErr result (self.new ≡ self.old) }
     {
         let value = evaluate(&self.slots, expr)?;
         self.slots.set_integer(slot, value);
@@ -108,6 +109,7 @@ impl ThreadState {
             (λ s. with_number line (value s.store i) (put_value line (name_at names slot) e) s) }
         ensures going { self.new.faulted ≡ self.old.faulted }
         ensures turns { self.new.turns ≡ self.old.turns }
+        ensures same { OnErr result (self.new ≡ self.old) }
     {
         let index = evaluate(&self.slots, index)?;
         let value = evaluate(&self.slots, expr)?;
@@ -127,6 +129,7 @@ impl ThreadState {
             (with_turn line unchanged) }
         ensures going { self.new.faulted ≡ self.old.faulted }
         ensures turns { MatchResult result (λ _. self.new.turns + 1 ≡ self.old.turns) (λ _. self.new.turns ≡ self.old.turns) }
+        ensures same { OnErr result (self.new ≡ self.old) }
     {
         if self.turns == 0 {
             return Err(FaultKind::Turns);

@@ -7,23 +7,24 @@ use Rattle.node_table.specs.declared.code_expr.CodeExpr.{CodeExpr}
 use Rattle.node_table.specs.declared.code_link.CodeLink.{CodeLink}
 use Rattle.node_table.proofs.Showing.{expr_shown-chain}
 use Rattle.depth_first_run.specs.Values.{value, chained}
+use Rattle.slot_store.specs.Outcomes.{outcome_shown}
 use Rattle.slot_store.proofs.Chains.{chain_value}
 use Rattle.slot_store.proofs.expressions.+evaluate.Goals as goal
 
-pub evaluate-returns-in_ok-front-in-Chain : goal.evaluate-returns-in_ok-front-in-Chain
-evaluate-returns-in_ok-front-in-Chain t c names store e shows is =
-    let front = c.in_ok-front-in-Chain.front in
+pub outcome-returns-in-Number-operand-2 : goal.outcome-returns-in-Number-operand-2
+outcome-returns-in-Number-operand-2 t c names store e shows is =
+    let front = c.in-Number-operand-2.front in
     let head = expr_shown c.in-Chain.first.value in
     let rest = links_shown c.in-Chain.rest.items in
     let same = ap expr_shown c.in-Chain.is ∙ expr_shown-chain c.in-Chain.first c.in-Chain.rest in
     let read = subst (λ (x : Table.Expr). IsExpr names x e) same is in
-    let first = sym (c.evaluate-in-Chain.ensures names store (expr_read names head) shows
+    let first = sym (c.operand-in-Chain.ensures names store (expr_read names head) shows
     (subst (λ (x : CodeExpr). IsExpr names (expr_shown x) (expr_read names head)) (sym c.deref-in-Chain.ensures) (refl, read.1.0)))
-    ∙ c.in_ok-front-in-Chain.was in
-    let fits = subst (λ (ls : List CodeLink). FitsLinks (length names) (links_shown ls)) (sym c.deref-in-Chain-2.ensures.value) read.1.1 in
+    ∙ ap outcome_shown c.in-Number-operand-2.is in
+    let fits = subst (λ (ls : List CodeLink). FitsLinks (length names) (links_shown ls)) (sym c.deref-in-Number-operand-2.ensures.value) read.1.1 in
     let number = to_z-of_z w64 front (search rules) in
     c.chain.ensures names store shows fits
-    ∙ ap (λ v. chained store (links_read names (links_shown c.deref-in-Chain-2.result.now)) v) number
-    ∙ ap (λ (ls : List CodeLink). chained store (links_read names (links_shown ls)) front) c.deref-in-Chain-2.ensures.value
+    ∙ ap (λ v. chained store (links_read names (links_shown c.deref-in-Number-operand-2.result.now)) v) number
+    ∙ ap (λ (ls : List CodeLink). chained store (links_read names (links_shown ls)) front) c.deref-in-Number-operand-2.ensures.value
     ∙ sym (chain_value store (expr_read names head) (links_read names rest) front first)
     ∙ ap (value store) read.0

@@ -1,4 +1,4 @@
-use Rattle.std.proofs.Common.{◌≡◌, ◌+◌, ◌≤◌, length, refl, sym, subst, arith, rules}
+use Rattle.std.proofs.Common.{◌+◌, ◌≤◌, length, refl, sym, subst, arith, rules}
 use Rattle.slot_store.specs.Rows.{blocks_at}
 use Rattle.slot_store.specs.Shown.{slots_shown}
 use Rattle.slot_store.proofs.Rows.{block_or_none, past_end}
