@@ -10,10 +10,9 @@ pub mod Quiet
 pub mod Lanes
 pub mod Pauses
 pub mod Ends
+pub mod Deciding
 pub mod Staying
-mod Taken
-mod FromLanes
-mod FromPools
-mod FromLists
-mod FromAll
+pub mod Taken
+pub mod Noted
+mod Still
 pub mod Passed

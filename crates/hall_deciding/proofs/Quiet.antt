@@ -12,7 +12,7 @@ use Rattle.hall_slots.specs.Passed.State.{RunningState}
 use Rattle.hall_slots.specs.Shown.{lane_shown, stop_shown, view_of}
 use Rattle.hall_slots.specs.Keys.{terms_of}
 use Rattle.hall_slots.proofs.Reading.{at_of_get}
-use Rattle.hall_deciding.specs.LaneRuns.{StatementsMayCome, WantsOfMemoryMayCome}
+use Rattle.hall_deciding.specs.Quiet.{StatementsMayCome, WantsOfMemoryMayCome}
 
 -- a lane that is written as it is there is not written
 written_again : (lanes : List LaneShown) (n : ℕ) → slice_set lanes n (slice_index_or lanes n no_lane) ≡ lanes

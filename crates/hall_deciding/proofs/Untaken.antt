@@ -19,7 +19,7 @@ use Rattle.hall_slots.specs.Passed.Writing.{PoolTakes}
 use Rattle.part_events.specs.Here.{TakesWords}
 use Rattle.hall_slots.specs.declared.pool_slot.PoolSlot.{PoolSlot}
 use Rattle.hall_slots.specs.Shown.{pool_shown}
-use Rattle.hall_deciding.specs.LaneRuns.{NothingIsTaken}
+use Rattle.hall_deciding.specs.Quiet.{NothingIsTaken}
 
 unweighed : (x y : ℤ) → y ≡ pos 0 → x ≡ x +ℤ y
 unweighed x y none = omega (arith, ints, none)

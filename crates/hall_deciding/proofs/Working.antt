@@ -95,17 +95,6 @@ module _ {h : Hall} {worker : ℕ} (w : IsAtWork h worker) (deque : DequeId) (la
       → noted w.period name 0 [] ≡ open_shown holder after
   period_told after name notes = ap (λ p. noted p name 0 []) period_was ∙ sym (notes holder)
 
-module _ (s : machine.Setting) (limits : Limits) where
-  -- a step more leads to a running state, also of what is the same
-  pub went : (after next : Hall) (steps : List Step) (m : Moment) (leads : Leads s steps m) (step : Step) (count : ℕ) (views vs : List View)
-      → GoesOn s limits after steps m leads step count views → after ≡ next → views ≡ vs → IsRunning s limits next count vs
-  went after next steps m leads step count views vs goes is same = (
-    step ∷ steps,
-    goes.0,
-    (m, leads, goes.1, goes.2),
-    subst (λ (z : Hall × List View). RunningState s limits z.0 (step ∷ steps) goes.0 (m, leads, goes.1, goes.2) count z.1) (λ i. (is i, same i)) goes.3,
-  )
-
 module _ (key : HallKey) (seat : HallSeat) (deque : DequeId) (goes : MayGoOn seat deque) (c : Setting) (h : Hall) (count : ℕ) (views : List View)
     (run : IsRunning (machine_of c (terms_of key)) (Terms.limits (terms_of key)) h count views) (its : slice_get views seat.number ≡ Some (view_of seat.hand.note)) where
   abbrev pub s : machine.Setting

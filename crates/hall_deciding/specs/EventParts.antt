@@ -1,7 +1,11 @@
 -- What an owner's call has in its hands when it comes to its event.
-use Rattle.std.specs.Prelude.{◌≡◌, ℕ, ◌<◌, true, false, Some, List, ◌∷◌}
+use Rattle.std.specs.Prelude.{◌≡◌, ◌≢◌, ℕ, ◌+◌, ◌<◌, true, false, Some, List, ◌∷◌}
 use Rattle.std.specs.Option.{option_map}
+use Rattle.dag_order.specs.declared.thread_id.ThreadId.{ThreadId}
 use Rattle.deque_list.specs.declared.deque_id.DequeId.{DequeId}
+use Rattle.hall_slots.specs.Passed.Books.{charge_at}
+use Rattle.hall_slots.specs.Passed.Lists.{Each}
+use Rattle.moment_laws.specs.Passed.Parts as shown
 use Rattle.hall_slots.specs.Passed.Facts.{words_at}
 use Rattle.hall_slots.specs.Passed.Run.{list_of}
 use Rattle.hall_slots.specs.Passed.States.{Setting}
@@ -12,10 +16,12 @@ use Rattle.hall_slots.specs.Passed.ThreadFramesActions.{IsOfTheList, IsStill}
 use Rattle.hall_slots.specs.Passed.Next.{Next}
 use Rattle.hall_slots.specs.Passed.Thread.{Thread}
 use Rattle.thread_state.specs.Settings.{IsSettingOf}
+use Rattle.hall_slots.specs.Passed.Values.{ListShown}
 use Rattle.hall_slots.specs.declared.lane_slot.LaneSlot.{LaneSlot}
+use Rattle.hall_slots.specs.declared.list_slot.ListSlot.{ListSlot}
 use Rattle.hall_slots.specs.declared.key.HallKey.{HallKey}
 use Rattle.hall_slots.specs.Keys.{table_of, quota_of}
-use Rattle.hall_slots.specs.Shown.{running_shown}
+use Rattle.hall_slots.specs.Shown.{list_shown, running_shown}
 use Rattle.hall_slots.specs.Takes.{HallSeat}
 
 -- The lane that was taken has these threads under its top one, which has come to its next action without doing any, and shows this period,
@@ -49,3 +55,13 @@ IsNext key top next = (c : Setting) → IsSettingOf (table_of key) (quota_of key
 abbrev pub MayDoNext : HallKey → (worker : ℕ) → Next → (charge : ℕ) → Thread → OpenPeriod → Type 0
 MayDoNext key worker next charge top period = (c : Setting) → IsSettingOf (table_of key) (quota_of key) c
     → ∥ ((is : IsOfTheList c top next) × IsCharged charge next c.quota (open_shown worker period) (words_at (list_of c) (IsOfTheList.place is))) ∥₁
+
+-- for each program that the key may be of the next action of the thread takes more of the quota than its period has left
+abbrev pub IsTooMuch : HallKey → Next → Thread → OpenPeriod → Type 0
+IsTooMuch key next top period = (c : Setting) → IsSettingOf (table_of key) (quota_of key) c
+    → ∥ ((is : IsOfTheList c top next) × (c.quota < period.used + charge_at c.quota (list_of c) (IsOfTheList.place is))) ∥₁
+
+-- no thread waits for this one as its newest child
+abbrev pub IsUnawaited : ListSlot → ThreadId → Type 0
+IsUnawaited list id = Each (λ x. (newest : shown.Child) (older : List shown.Child) → x.children ≡ newest ∷ older → newest.id ≢ id)
+    (ListShown.waiting (list_shown list))

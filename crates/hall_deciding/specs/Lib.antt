@@ -1,13 +1,10 @@
 pub mod Writes
 pub mod Puts
 pub mod EventParts
-pub mod LaneRuns
-pub mod ListRuns
+pub mod Quiet
 pub mod Staying
 pub mod Rooms
 pub mod Taken
 pub mod Own
-pub mod Pools
-pub mod Lists
-pub mod Wholes
+pub mod Writing
 pub mod Passed

@@ -1,34 +1,17 @@
--- An event that is written into the lane alone, and lanes in which nothing is decided.
+-- Lanes in which nothing is decided.
 use Rattle.std.specs.Prelude.{◌≡◌, ◌<◌, None, Some, List, ◌∷◌}
-use Rattle.dag_order.specs.declared.action_id.ActionId.{ActionId}
-use Rattle.dag_order.specs.declared.thread_id.ThreadId.{ThreadId}
 use Rattle.deque_list.specs.declared.deque_id.DequeId.{DequeId}
-use Rattle.hall_slots.specs.Passed.Period.{Period as OpenPeriod}
-use Rattle.hall_slots.specs.Passed.NextVariants as nexts
 use Rattle.hall_slots.specs.Passed.Thread.{Thread}
 use Rattle.hall_slots.specs.Passed.ThreadFramesPoints.{IsAtPoint}
 use Rattle.hall_slots.specs.Passed.Lists.{Each}
-use Rattle.part_events.specs.Joins.{JoinsHere, ReleasesNothing}
 use Rattle.hall_slots.specs.declared.lane_slot.LaneSlot.{LaneSlot}
 use Rattle.hall_slots.specs.declared.key.HallKey.{HallKey}
 use Rattle.hall_slots.specs.Shown.{lane_shown}
 use Rattle.hall_slots.specs.Keys.{table_of, quota_of}
 use Rattle.hall_slots.specs.Takes.{HallSeat}
-use Rattle.hall_deciding.specs.EventParts.{MayAct, MayPause, IsNext}
+use Rattle.hall_deciding.specs.EventParts.{MayPause}
 use Rattle.hall_deciding.specs.Staying.{AllAtPoints}
-use Rattle.hall_deciding.specs.Taken.{IsAtEvent, its_lane}
-
--- the Join of a child that was handed over before, which releases no words
-pub record JoinsAlone (key : HallKey) (seat : HallSeat) (deque : DequeId) (lane : LaneSlot) (name : ActionId) : Type 0 where
-  pub was : IsAtEvent key seat (its_lane deque)
-  pub may : MayAct seat deque
-  pub child : ThreadId
-  pub after : OpenPeriod
-  pub running : lane.running ≡ Some (record { worker = IsAtEvent.holder was; period = after })
-  pub acts : JoinsHere (IsAtEvent.top was) (IsAtEvent.under was) (IsAtEvent.period was) lane.lane.items after name
-  pub nothing : ReleasesNothing (IsAtEvent.top was)
-  pub next : IsNext key (IsAtEvent.top was) (nexts.Join child)
-  pub points : AllAtPoints key lane
+use Rattle.hall_deciding.specs.Taken.{its_lane}
 
 -- A lane in which nothing was done: it shows what it showed, and its threads are at their points.
 pub record IsStillThere (key : HallKey) (seat : HallSeat) (deque : DequeId) (lane : LaneSlot) : Type 0 where

@@ -98,6 +98,6 @@ WokenStaysSound = (key : HallKey) (seat : HallSeat) (deque : DequeId) (list_was 
 abbrev pub HandedStaysSound : Type 0
 HandedStaysSound = (key : HallKey) (seat : HallSeat) (deque : DequeId) (list_was list : ListSlot) (pool_was pool : PoolSlot)
     (lane_was lane : LaneSlot) (note : SeatNote) (child : ThreadId) (top handed : Thread) → NotesOn seat.hand.note note
-    → IsHandedThere list_was list top handed → HasCome list_was.part.results list.part.results top handed child → KeepsCrew list_was list
+    → IsHandedThere list_was list top handed child → HasCome list_was.part.results list.part.results top handed child → KeepsCrew list_was list
     → list.part.waiting ≡ list_was.part.waiting → StaysSoundPool key pool_was pool → AllAtPoints key lane
     → StaySound key seat deque (parts list_was pool_was lane_was) (parts list pool lane) note

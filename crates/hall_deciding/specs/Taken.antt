@@ -1,29 +1,11 @@
--- What a seat holds whose top thread has come to an event.
-use Rattle.std.specs.Prelude.{◌≡◌, ℕ, ◌+◌, ◌≤◌, List, [], ◌∷◌}
+-- The slots that a seat holds.
+use Rattle.std.specs.Prelude.{ℕ, ◌+◌, List, [], ◌∷◌}
 use Rattle.deque_list.specs.declared.deque_id.DequeId.{DequeId}
-use Rattle.hall_slots.specs.Passed.DepthFirstListActions.{record_words}
-use Rattle.hall_slots.specs.Passed.Period.{Period as OpenPeriod}
-use Rattle.hall_slots.specs.Passed.Thread.{Thread}
 use Rattle.hall_slots.specs.declared.lane_slot.LaneSlot.{LaneSlot}
 use Rattle.hall_slots.specs.declared.list_slot.ListSlot.{ListSlot}
 use Rattle.hall_slots.specs.declared.pool_slot.PoolSlot.{PoolSlot}
 use Rattle.hall_slots.specs.declared.slot.Slot.{Slot}
 use Rattle.hall_slots.specs.declared.slot.Slot.TheVariants as slots
-use Rattle.hall_slots.specs.declared.key.HallKey.{HallKey}
-use Rattle.hall_slots.specs.Keys.{quota_of}
-use Rattle.hall_slots.specs.Takes.{HallSeat}
-use Rattle.hall_deciding.specs.EventParts.{IsAtAction}
-
--- It holds these slots, among them its lane as it took it, whose top thread has come to its next action since; the quota covers a record block.
-pub record IsAtEvent (key : HallKey) (seat : HallSeat) (taken : LaneSlot → List (ℕ × Slot)) : Type 0 where
-  pub quota : record_words ≤ quota_of key
-  pub lane : LaneSlot
-  pub top : Thread
-  pub under : List Thread
-  pub holder : ℕ
-  pub period : OpenPeriod
-  pub at : IsAtAction lane top under holder period
-  pub holds : seat.hand.holds ≡ taken lane
 
 -- the lane of its deque alone; the pool and the lane; the list and the lane; all three
 abbrev pub its_lane : DequeId → LaneSlot → List (ℕ × Slot)

@@ -1,17 +1,19 @@
 //! How each event of an owner is decided, by one put back.
 //!
 //! A call of an owner took the lane of its deque, and the pool or the list if the event needs them, and the event has written them
-//! (`part_events`). Here they go back by one call for each event. From the first put back on each of them shows what it is to be, so the event is
-//! decided there, and the seat notes it; then the others are put back.
+//! (`part_events`). Here they go back, by one call for each set of slots. From the first put back on each of them shows what it is to be, so
+//! the event is decided there, and the seat notes it; then the others are put back.
 //!
 //! - [`write_laws`]: what each part has to be so that the law of the hall holds over its slots. The hall that they show has to be in a running
 //!   state, and the parts sound. A part that the seat does not hold is the one that is there.
 //! - [`put_all`], [`put_list_and_lane`], [`put_pool_and_lane`] and [`put_lane`] put sets of slots back. What the seat notes at the first of them
 //!   is a [`Noting`]: an event, a stop that it found, or nothing new.
-//! - [`event_laws`] and [`sound_laws`]: what each event writes is one event of the machine, for each program that the key of the hall may be
-//!   of, and it leaves the parts sound: threads at their points, what waits and is kept under its id, lanes of deques that are gone empty.
+//! - [`event_laws`] and [`sound_laws`]: what an owner writes by any event leads from a running state to a running state, for each program that
+//!   the key of the hall may be of, and leaves the parts sound: threads at their points, what waits and is kept under its id, lanes of deques
+//!   that are gone empty.
 //!
-//! It uses the running state (`hall_machine`) and the slots of a hall (`hall_slots`), and hands on the calls of `part_events`, so that a call of an
+//! It uses the running state (`hall_machine`), the events of seats as they are interleaved (`hall_interleavings`) and the slots of a hall
+//! (`hall_slots`), and hands on the calls of `part_events`, so that a call of an
 //! owner names one crate. Its theorem: each call keeps the law of the hall between any two atomic steps, and the seat notes its event and holds
 //! nothing.
 #![tactic(auto)]
@@ -19,26 +21,19 @@
 mod all_puts;
 pub mod event_laws;
 mod lane_puts;
-mod lists;
 mod noting;
 mod own;
 mod pair_puts;
 mod parts;
-mod pools;
 pub mod sound_laws;
-mod wholes;
 pub mod write_laws;
 
 pub use all_puts::put_all;
-pub use lists::{
-    decide_dummy, decide_give_up, decide_kept_join, decide_root_end, decide_wait, decide_yield,
-};
 pub use noting::Noting;
-pub use own::{decide_own_join, give_short_back, give_still_back};
+pub use lane_puts::put_lane;
+pub use own::{give_short_back, give_still_back};
 pub use pair_puts::{put_list_and_lane, put_pool_and_lane};
 pub use part_events::{
     do_alloc, do_dummy, do_fault, do_fork, do_join, do_join_giving, do_release, end_above,
     end_forked, end_root, hand_over, leave_result, suspend, take_waiting,
 };
-pub use pools::{decide_action, decide_end_above, decide_join_giving};
-pub use wholes::{decide_kept_join_giving, decide_leaving_end, decide_waking_end};

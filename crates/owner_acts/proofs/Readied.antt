@@ -20,7 +20,6 @@ use Rattle.hall_slots.specs.declared.key.HallKey.{HallKey}
 use Rattle.hall_slots.specs.Keys.{table_of, quota_of}
 use Rattle.hall_slots.specs.Sound.{PoolIsSound}
 use Rattle.hall_slots.specs.Takes.{HallSeat}
-use Rattle.hall_deciding.specs.Taken.{IsAtEvent}
 use Rattle.owner_acts.specs.Ready.{IsReady}
 
 module _ (key : HallKey) (seat : HallSeat) (taken : LaneSlot → List (ℕ × Slot)) (threads : LaneView Thread) (running : Running) (top : Thread) (more ready : ℕ)
@@ -33,9 +32,6 @@ module _ (key : HallKey) (seat : HallSeat) (taken : LaneSlot → List (ℕ × Sl
 
   pub fits : running.period.used ≤ 1048576
   fits = let used = is.used in let small = is.small in omega (arith, used, small)
-
-  abbrev pub was : IsAtEvent key seat taken
-  was = record { quota = is.quota; lane = is.lane; top = top; under = threads.items; holder = running.worker; period = running.period; at = is.at; holds = is.holds }
 
 -- the pool stays sound where words went out of it, or came back
 module _ (key : HallKey) (was now : PoolSlot) (words : ℕ) (sum : total_change (moves_list now.moves) ≡ pos now.pool.live) (sound : PoolIsSound key was) where

@@ -1,7 +1,5 @@
 -- What callers need of what this crate stands on.
 pub use Rattle.hall_deciding.specs.EventParts as EventParts
-pub use Rattle.hall_deciding.specs.ListRuns as ListRuns
-pub use Rattle.hall_deciding.specs.Lists as Lists
 pub use Rattle.hall_deciding.specs.Own as Own
 pub use Rattle.hall_deciding.specs.Puts as Puts
 pub use Rattle.hall_deciding.specs.Rooms as Rooms

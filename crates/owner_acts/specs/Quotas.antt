@@ -8,8 +8,7 @@ use Rattle.hall_deciding.specs.Passed.ReadinessVariants.{Ready, Spent}
 use Rattle.thread_frames.specs.declared.next.Next.{Next}
 use Rattle.thread_frames.specs.declared.next.Next.TheVariants as nexts
 use Rattle.thread_frames.specs.declared.thread.Thread.{Thread}
-use Rattle.hall_deciding.specs.EventParts.{IsNext, MayDoNext}
-use Rattle.hall_deciding.specs.ListRuns.{IsTooMuch}
+use Rattle.hall_deciding.specs.EventParts.{IsNext, MayDoNext, IsTooMuch}
 use Rattle.hall_slots.specs.declared.key.HallKey.{HallKey}
 use Rattle.hall_slots.specs.Keys.{quota_of}
 

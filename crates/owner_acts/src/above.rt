@@ -18,8 +18,8 @@ ghost use Rattle.owner_acts.specs.Ready.{IsReadyWithPool, PoolIsReady};
 use containers::Boxed;
 use dag_order::{ActionId, Births};
 use deque_list::{DequeId, Lane};
-use hall_deciding::{decide_end_above, end_above};
-use hall_slots::{HallPlace, HallRow, LaneSlot, PoolSlot, Running};
+use hall_deciding::{Noting, end_above, put_pool_and_lane};
+use hall_slots::{Event, HallPlace, HallRow, LaneSlot, PoolSlot, Running};
 use thread_frames::Thread;
 
 /// Does the End of a forked thread whose parent is directly below: this has the result at once, and runs next. Returns its name, and the
@@ -64,6 +64,10 @@ pub fn act_end_above(
         lane,
         running: Some(running),
     };
-    decide_end_above(row, seat, deque, pool, lane, name);
+    let noting = Noting::Does {
+        event: Event::Did(name),
+        owns: Some(deque),
+    };
+    put_pool_and_lane(row, seat, deque, pool, lane, noting);
     (name, top)
 }

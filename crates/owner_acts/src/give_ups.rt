@@ -12,7 +12,7 @@ ghost use Rattle.hall_slots.specs.ListCalls.{ShowsUnowned, HasNoOwner, KeepsRest
 ghost use Rattle.hall_deciding.specs.Writes.{told_note};
 ghost use Rattle.hall_deciding.specs.Puts.{HasPut};
 ghost use Rattle.hall_deciding.specs.EventParts.{MayAct, MayPause, IsNext};
-ghost use Rattle.hall_deciding.specs.ListRuns.{IsTooMuch};
+ghost use Rattle.hall_deciding.specs.EventParts.{IsTooMuch};
 ghost use Rattle.owner_acts.specs.Ready.{IsReadyWithList};
 ghost use Rattle.hall_deciding.specs.Rooms.{HasMoreBooks};
 ghost use Rattle.owner_acts.specs.Pauses.{CanClose};
@@ -20,8 +20,8 @@ ghost use Rattle.owner_acts.specs.Pauses.{CanClose};
 use containers::Boxed;
 use dag_order::{ActionId, Births};
 use deque_list::{DequeId, Lane};
-use hall_deciding::{decide_dummy, decide_give_up, do_dummy};
-use hall_slots::{HallPlace, HallRow, LaneSlot, ListSlot, Running};
+use hall_deciding::{Noting, do_dummy, put_list_and_lane};
+use hall_slots::{Event, HallPlace, HallRow, LaneSlot, ListSlot, Running};
 use thread_frames::Thread;
 
 /// Takes the owner of a deque away, and closes its period.
@@ -60,7 +60,11 @@ pub fn act_give_up(
         lane,
         running: None,
     };
-    decide_give_up(row, seat, deque, list, lane);
+    let noting = Noting::Does {
+        event: Event::GaveUp(deque),
+        owns: None,
+    };
+    put_list_and_lane(row, seat, deque, list, lane, noting);
 }
 
 /// Does a Dummy, with which the deque is given up. Returns its name.
@@ -94,6 +98,10 @@ pub fn act_dummy(
         lane,
         running: None,
     };
-    decide_dummy(row, seat, deque, list, lane, name);
+    let noting = Noting::Does {
+        event: Event::Did(name),
+        owns: None,
+    };
+    put_list_and_lane(row, seat, deque, list, lane, noting);
     name
 }

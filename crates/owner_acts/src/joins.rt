@@ -17,8 +17,8 @@ ghost use Rattle.owner_acts.specs.Ready.{IsReady, IsReadyWithPool, PoolIsReady};
 use containers::Boxed;
 use dag_order::{ActionId, Births};
 use deque_list::{DequeId, Lane};
-use hall_deciding::{decide_join_giving, decide_own_join, do_join, do_join_giving};
-use hall_slots::{HallPlace, HallRow, LaneSlot, PoolSlot, Running};
+use hall_deciding::{Noting, do_join, do_join_giving, put_lane, put_pool_and_lane};
+use hall_slots::{Event, HallPlace, HallRow, LaneSlot, PoolSlot, Running};
 use thread_frames::Thread;
 
 /// Does a Join that releases no words, for which the seat holds its lane alone. Returns its name.
@@ -50,7 +50,11 @@ pub fn act_own_join(
         lane,
         running: Some(running),
     };
-    decide_own_join(row, seat, deque, lane, name);
+    let noting = Noting::Does {
+        event: Event::Did(name),
+        owns: Some(deque),
+    };
+    put_lane(row, seat, deque, lane, noting);
     name
 }
 
@@ -94,6 +98,10 @@ pub fn act_join_giving(
         lane,
         running: Some(running),
     };
-    decide_join_giving(row, seat, deque, pool, lane, name);
+    let noting = Noting::Does {
+        event: Event::Did(name),
+        owns: Some(deque),
+    };
+    put_pool_and_lane(row, seat, deque, pool, lane, noting);
     name
 }

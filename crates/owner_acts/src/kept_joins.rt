@@ -24,17 +24,15 @@ ghost use Rattle.owner_acts.specs.Kept.{CanJoinKept};
 use containers::Boxed;
 use dag_order::{ActionId, Births, ThreadId};
 use deque_list::{DequeId, Lane};
-use hall_deciding::{
-    decide_kept_join, decide_kept_join_giving, do_join, do_join_giving, hand_over,
-};
-use hall_slots::{HallPlace, HallRow, LaneSlot, ListSlot, PoolSlot, Running};
+use hall_deciding::{Noting, do_join, do_join_giving, hand_over, put_all, put_list_and_lane};
+use hall_slots::{Event, HallPlace, HallRow, LaneSlot, ListSlot, PoolSlot, Running};
 use thread_frames::Thread;
 
 /// Hands the result of a child over to the thread that joins it, and takes it out of the list.
 fn hand_over_in(list: &mut Boxed<ListSlot>, top: &mut Boxed<Thread>, child: ThreadId)
     requires { (key : HallKey) × CanJoinKept key list.old top.old child }
     ensures come { HasCome list.old.part.results list.new.part.results top.old top.new child }
-    ensures shown { IsHandedThere list.old list.new top.old top.new }
+    ensures shown { IsHandedThere list.old list.new top.old top.new child }
     ensures words { (ended : AnyEnded) → kept_under list.old.part.results child ≡ Some ended
         → join_words_of top.new ≡ released top.old.run.state ended.state }
     ensures there { is_there (newest (children_of top.new)) ≡ true }
@@ -76,7 +74,11 @@ pub fn act_kept_join(
         lane,
         running: Some(running),
     };
-    decide_kept_join(row, seat, deque, list, lane, name);
+    let noting = Noting::Does {
+        event: Event::Did(name),
+        owns: Some(deque),
+    };
+    put_list_and_lane(row, seat, deque, list, lane, noting);
     name
 }
 
@@ -123,6 +125,10 @@ pub fn act_kept_join_giving(
         lane,
         running: Some(running),
     };
-    decide_kept_join_giving(row, seat, deque, list, pool, lane, name);
+    let noting = Noting::Does {
+        event: Event::Did(name),
+        owns: Some(deque),
+    };
+    put_all(row, seat, deque, list, pool, lane, noting);
     name
 }

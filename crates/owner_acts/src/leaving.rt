@@ -25,8 +25,8 @@ use crate::id_of;
 use containers::Boxed;
 use dag_order::{ActionId, Births, ThreadId};
 use deque_list::{DequeId, Lane};
-use hall_deciding::{decide_leaving_end, end_forked, leave_result};
-use hall_slots::{HallPlace, HallRow, LaneSlot, ListSlot, PoolSlot, Running};
+use hall_deciding::{Noting, end_forked, leave_result, put_all};
+use hall_slots::{Event, HallPlace, HallRow, LaneSlot, ListSlot, PoolSlot, Running};
 use thread_frames::{Ended, Thread};
 
 /// Keeps the result of a thread in the list, and closes the period of its deque, which is gone.
@@ -96,6 +96,10 @@ pub fn act_leaving_end(
         lane,
         running: None,
     };
-    decide_leaving_end(row, seat, deque, list, pool, lane, name);
+    let noting = Noting::Does {
+        event: Event::Did(name),
+        owns: None,
+    };
+    put_all(row, seat, deque, list, pool, lane, noting);
     (name, top)
 }

@@ -23,7 +23,7 @@ mod words;
 
 pub use above::act_end_above;
 pub use give_ups::{act_dummy, act_give_up};
-pub use hall_deciding::{Noting, decide_yield, give_still_back};
+pub use hall_deciding::{Noting, give_still_back, put_list_and_lane};
 pub use joins::{act_join_giving, act_own_join};
 pub use kept_joins::{act_kept_join, act_kept_join_giving};
 pub use leaving::act_leaving_end;

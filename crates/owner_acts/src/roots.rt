@@ -24,8 +24,9 @@ use crate::leaving::leave_in;
 use containers::Boxed;
 use dag_order::{ActionId, Births, Finish};
 use deque_list::{DequeId, Lane};
-use hall_deciding::{decide_root_end, end_root};
-use hall_slots::{HallPlace, HallRow, LaneSlot, ListSlot, Running};
+use hall_deciding::{Noting, end_root, put_list_and_lane};
+use hall_slots::{Event, HallPlace, HallRow, LaneSlot, ListSlot, Running};
+use play_rules::RunEnd;
 use thread_frames::{Ended, Thread};
 
 /// Returns how a run finishes with this result of its root.
@@ -36,6 +37,13 @@ fn finish_of(ended: &Ended) -> Finish
         None => Finish::Done,
         Some(at) => Finish::Faulted(at),
     }
+}
+
+/// Keeps in a list that the run has finished.
+fn keep_finish(list: &mut Boxed<ListSlot>, finish: Finish)
+    ensures { list.new ≡ record list.old { end = Some (Finished finish) } }
+{
+    list.get_mut().end = Some(RunEnd::Finished(finish));
 }
 
 /// Does the End of the root, which is alone in its deque, and keeps in the list that the run has finished: the deque is gone. Returns its
@@ -77,6 +85,11 @@ pub fn act_root_end(
         lane,
         running: None,
     };
-    decide_root_end(row, seat, deque, list, lane, name, finish);
+    keep_finish(&mut list, finish);
+    let noting = Noting::Does {
+        event: Event::Did(name),
+        owns: None,
+    };
+    put_list_and_lane(row, seat, deque, list, lane, noting);
     (name, top)
 }

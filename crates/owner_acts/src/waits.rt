@@ -18,8 +18,8 @@ ghost use Rattle.owner_acts.specs.Pauses.{CanClose, CanWait};
 use containers::Boxed;
 use dag_order::ThreadId;
 use deque_list::{DequeId, Lane};
-use hall_deciding::{decide_wait, suspend};
-use hall_slots::{HallPlace, HallRow, LaneSlot, ListSlot, Running};
+use hall_deciding::{Noting, put_list_and_lane, suspend};
+use hall_slots::{Event, HallPlace, HallRow, LaneSlot, ListSlot, Running};
 use thread_frames::Thread;
 
 /// Returns the id of a thread.
@@ -77,6 +77,10 @@ pub fn act_wait(
         lane,
         running: None,
     };
-    decide_wait(row, seat, deque, list, lane, thread);
+    let noting = Noting::Does {
+        event: Event::Suspended(thread),
+        owns: None,
+    };
+    put_list_and_lane(row, seat, deque, list, lane, noting);
     thread
 }

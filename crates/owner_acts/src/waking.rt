@@ -21,8 +21,8 @@ use crate::id_of;
 use containers::Boxed;
 use dag_order::{ActionId, Births, ThreadId};
 use deque_list::{DequeId, Lane};
-use hall_deciding::{decide_waking_end, end_above, take_waiting};
-use hall_slots::{HallPlace, HallRow, LaneSlot, ListSlot, PoolSlot, Running};
+use hall_deciding::{Noting, end_above, put_all, take_waiting};
+use hall_slots::{Event, HallPlace, HallRow, LaneSlot, ListSlot, PoolSlot, Running};
 use thread_frames::Thread;
 
 /// Puts the thread that waits for a child on top of a lane.
@@ -87,6 +87,10 @@ pub fn act_waking_end(
         lane,
         running: Some(running),
     };
-    decide_waking_end(row, seat, deque, list, pool, lane, name);
+    let noting = Noting::Does {
+        event: Event::Did(name),
+        owns: Some(deque),
+    };
+    put_all(row, seat, deque, list, pool, lane, noting);
     (name, top)
 }

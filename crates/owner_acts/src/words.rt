@@ -18,8 +18,8 @@ ghost use Rattle.owner_acts.specs.Ready.{IsReadyWithPool, PoolIsReady};
 use containers::Boxed;
 use dag_order::{ActionId, Births};
 use deque_list::{DequeId, Lane};
-use hall_deciding::{decide_action, do_alloc, do_fault, do_fork, do_release};
-use hall_slots::{HallPlace, HallRow, LaneSlot, PoolSlot, Running};
+use hall_deciding::{Noting, do_alloc, do_fault, do_fork, do_release, put_pool_and_lane};
+use hall_slots::{Event, HallPlace, HallRow, LaneSlot, PoolSlot, Running};
 use thread_frames::{Place, Thread};
 
 /// Does an Alloc that fits the arena, and uses `charge` words of the quota. Returns its name.
@@ -63,7 +63,11 @@ pub fn act_alloc(
         lane,
         running: Some(running),
     };
-    decide_action(row, seat, deque, pool, lane, name);
+    let noting = Noting::Does {
+        event: Event::Did(name),
+        owns: Some(deque),
+    };
+    put_pool_and_lane(row, seat, deque, pool, lane, noting);
     name
 }
 
@@ -105,7 +109,11 @@ pub fn act_release(
         lane,
         running: Some(running),
     };
-    decide_action(row, seat, deque, pool, lane, name);
+    let noting = Noting::Does {
+        event: Event::Did(name),
+        owns: Some(deque),
+    };
+    put_pool_and_lane(row, seat, deque, pool, lane, noting);
     name
 }
 
@@ -147,7 +155,11 @@ pub fn act_fault(
         lane,
         running: Some(running),
     };
-    decide_action(row, seat, deque, pool, lane, name);
+    let noting = Noting::Does {
+        event: Event::Did(name),
+        owns: Some(deque),
+    };
+    put_pool_and_lane(row, seat, deque, pool, lane, noting);
     name
 }
 
@@ -192,6 +204,10 @@ pub fn act_fork(
         lane,
         running: Some(running),
     };
-    decide_action(row, seat, deque, pool, lane, name);
+    let noting = Noting::Does {
+        event: Event::Did(name),
+        owns: Some(deque),
+    };
+    put_pool_and_lane(row, seat, deque, pool, lane, noting);
     name
 }

@@ -4,7 +4,7 @@ use Rattle.std.specs.Prelude.{IsTrue}
 use Rattle.containers.specs.BoundedList.{entries, spare}
 use Rattle.dag_order.specs.declared.thread_id.ThreadId.{ThreadId}
 use Rattle.deque_list.specs.declared.deque_id.DequeId.{DequeId}
-use Rattle.owner_acts.specs.Passed.ListRuns.{IsTooMuch}
+use Rattle.owner_acts.specs.Passed.EventParts.{IsTooMuch}
 use Rattle.owner_acts.specs.Passed.Taken.{its_lane}
 use Rattle.owner_advance.proofs.Joining.{joins_are_read}
 use Rattle.hall_slots.specs.Keys.{quota_of}

@@ -1,6 +1,6 @@
 -- How a seat fails, by the slots that it tried.
 use Rattle.std.proofs.Common.{◌≡◌, ◌⊎◌, ◌∙◌, ℕ, Bool, true, false, true≢false, List, [], ◌∷◌, inl, inr, sym}
-use Rattle.owner_acts.specs.Passed.ListRuns.{IsTooMuch}
+use Rattle.owner_acts.specs.Passed.EventParts.{IsTooMuch}
 use Rattle.hall_slots.specs.Takes.{HallSeat}
 use Rattle.hall_slots.specs.declared.key.HallKey.{HallKey}
 use Rattle.hall_slots.specs.declared.slot.Slot.{Slot}

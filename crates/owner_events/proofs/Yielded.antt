@@ -18,8 +18,7 @@ use Rattle.turn_table.specs.Notes.{HasAs, notes}
 use Rattle.turn_table.proofs.NoteLaws.{notes_at}
 use Rattle.turn_table.specs.declared.look.Look.TheVariants.{Took}
 use Rattle.turn_table.specs.Seats.{with_hand}
-use Rattle.owner_acts.specs.Passed.Lists as deciding
-use Rattle.owner_acts.specs.Passed.Puts.{note_of, HasPut}
+use Rattle.owner_acts.specs.Passed.Puts.{note_of, HasPut, MayPutListAndLane}
 use Rattle.owner_acts.specs.Passed.Rooms.{HasMoreBooks}
 use Rattle.owner_acts.specs.Passed.EventParts.{MayPause}
 use Rattle.owner_acts.specs.Passed.Taken.{list_and_lane}
@@ -41,12 +40,12 @@ use Rattle.hall_slots.specs.declared.slot.Slot.{Slot}
 use Rattle.hall_slots.specs.declared.slot.Slot.TheVariants as slots
 use Rattle.hall_slots.proofs.Reading.{get_of_at}
 use Rattle.owner_acts.specs.Pauses.{CanClose}
-use Rattle.owner_acts.proofs.Roomier.{has_from, rest_from, shows_unowned_from, unowned_from}
+use Rattle.owner_acts.proofs.Listing.{yields_may}
 use Rattle.owner_advance.specs.Advancing.{took_lane, MayCome}
 use Rattle.owner_advance.specs.Answers.{ReturnsEnded}
 use Rattle.owner_advance.specs.Returning.{MayNote, ReturnsList}
 use Rattle.owner_advance.proofs.Noting.{memory_may_be_noted, nothing_may_be_noted}
-use Rattle.owner_events.specs.Yielding.{noting_then, short_note, stop_then, HasBoth, HasTakenBoth, MayYield}
+use Rattle.owner_events.specs.Yielding.{noting_then, short_note, stop_then, yielded_note, HasBoth, HasTakenBoth, MayYield}
 use Rattle.owner_events.proofs.FromList as from
 use Rattle.owner_events.proofs.WithList.{more_books}
 
@@ -109,31 +108,11 @@ module _ (key : HallKey) (seat : HallSeat) (deque : DequeId) (list : ListSlot) (
 
     pub yields : (running : Running) → lane.running ≡ Some running → 1 ≤ books_spare now.part.books → (after : ListSlot)
         → ShowsUnowned now after deque running → HasNoOwner deque now.part.order.places after.part.order.places → KeepsRest now after
-        → deciding.Yields key seat deque after (record { lane = lane.lane; running = None })
-    yields running is room after shows_it places rest = record {
-      list_was = list;
-      was = record {
-        quota = reads.quota;
-        lane = lane;
-        top = reads.top;
-        under = reads.under;
-        holder = running.worker;
-        period = running.period;
-        at = record { top_was = reads.top; items = reads.items; still = same_thread reads.top; running = ap (option_map running_shown) is };
-        holds = both.holds;
-      };
-      may = both.may;
-      items = reads.items;
-      given = record {
-        idle = refl;
-        owner = (closes room).owner;
-        has = has_from list now deque (closes room).owner more.deques (closes room).has;
-        written = shows_unowned_from list now after deque running more shows_it;
-        unowned = unowned_from list now after deque more.deques places;
-        rest = rest_from list now after deque more.deques more.waiting more.results rest;
-      };
-      points = at_points;
-    }
+        → MayPutListAndLane key seat deque after (record { lane = lane.lane; running = None }) (yielded_note seat.hand.note deque)
+    yields running is room after shows_it places rest = yields_may key seat deque both.may reads.quota list now after lane
+        (record { lane = lane.lane; running = None }) reads.top reads.under running.worker running.period
+        (record { top_was = reads.top; items = reads.items; still = same_thread reads.top; running = ap (option_map running_shown) is }) both.holds more
+        (closes room) places rest shows_it reads.items refl at_points
 
 -- a seat that may come to its next event may yield
 pub come_may_yield : (seat : HallSeat) (deque : DequeId) → MayCome seat deque → MayYield seat deque

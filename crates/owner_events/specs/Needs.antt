@@ -4,7 +4,7 @@ use Rattle.thread_frames.specs.Children.{is_delivered}
 use Rattle.thread_frames.specs.Views.{children_of, join_words_of, label_of}
 use Rattle.thread_frames.specs.declared.next.Next.{Next}
 use Rattle.thread_frames.specs.declared.next.Next.TheVariants.{Fork, Join, Alloc, Release, Dummy, Fault, End}
-use Rattle.owner_acts.specs.Passed.ListRuns.{IsTooMuch}
+use Rattle.owner_acts.specs.Passed.EventParts.{IsTooMuch}
 use Rattle.hall_slots.specs.declared.event.Event.{Event}
 use Rattle.hall_slots.specs.declared.event.Event.TheVariants.{Stole, Did, Suspended, GaveUp, Halted}
 use Rattle.hall_slots.specs.declared.key.HallKey.{HallKey}

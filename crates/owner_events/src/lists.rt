@@ -2,7 +2,7 @@
 
 ghost use Rattle.std.specs.Prelude.{◌≡◌, ◌+◌, ◌<◌, ℕ, [], None, Some, false};
 ghost use Rattle.containers.specs.BoundedList.{entries};
-ghost use Rattle.owner_acts.specs.Passed.ListRuns.{IsTooMuch};
+ghost use Rattle.owner_acts.specs.Passed.EventParts.{IsTooMuch};
 ghost use Rattle.thread_frames.specs.Children.{is_delivered};
 ghost use Rattle.thread_frames.specs.Views.{children_of, label_of};
 ghost use Rattle.thread_frames.specs.declared.next.Next.{Next as AnyNext};

@@ -19,7 +19,7 @@ use deque_list::DequeId;
 use hall_slots::{
     HallPlace, HallRow, LaneSlot, ListSlot, end_of, give_lane_back, take_lane, take_list,
 };
-use owner_acts::{Noting, decide_yield};
+use owner_acts::{Noting, put_list_and_lane};
 use owner_advance::{make_room_to_close, return_answered, return_list};
 use play_rules::Stop;
 use std::alloc::AllocError;
@@ -99,7 +99,7 @@ fn close_period(
         lane,
         running: None,
     };
-    decide_yield(row, seat, deque, list, lane);
+    put_list_and_lane(row, seat, deque, list, lane, Noting::Yields(deque));
     Ok(())
 }
 

@@ -1,5 +1,4 @@
 pub mod Giving
 pub mod Taking
 pub mod Writing
-pub mod Orders
 pub mod Waits

@@ -1,10 +1,11 @@
 -- What the calls on the list do to what it shows.
-use Rattle.std.specs.Prelude.{◌≡◌, ℕ, List, ◌∷◌}
+use Rattle.std.specs.Prelude.{◌≡◌, ℕ, Some, List, ◌∷◌}
 use Rattle.std.specs.List.Sorted.{IsPermutation}
 use Rattle.dag_order.specs.declared.thread_id.ThreadId.{ThreadId}
 use Rattle.deque_list.specs.declared.deque_id.DequeId.{DequeId}
 use Rattle.moment_laws.specs.Passed.Parts as parts
 use Rattle.open_periods.specs.Tables.{shut}
+use Rattle.hall_slots.specs.Passed.ThreadMapKept.{kept_under}
 use Rattle.thread_frames.specs.declared.ended.Ended.{Ended}
 use Rattle.thread_frames.specs.declared.thread.Thread.{Thread}
 use Rattle.thread_frames.specs.Shown.{thread_shown, result_shown}
@@ -33,9 +34,10 @@ pub record TakesWaiting (before after : ListSlot) (child : ThreadId) (parent : T
   pub shown : list_shown after ≡ record (list_shown before) { waiting = waiting }
   pub was : IsPermutation (ListShown.waiting (list_shown before)) (thread_shown parent ∷ waiting)
 
--- a result was taken out of the list, and handed to the thread that joins its child
-pub record IsHandedThere (before after : ListSlot) (top now : Thread) : Type 0 where
+-- the result that was kept for this child was taken out of the list, and handed to the thread that joins it
+pub record IsHandedThere (before after : ListSlot) (top now : Thread) (child : ThreadId) : Type 0 where
   pub ended : Ended
+  pub kept : kept_under before.part.results child ≡ Some ended
   pub results : List parts.Result
   pub shown : list_shown after ≡ record (list_shown before) { results = results }
   pub was : IsPermutation (ListShown.results (list_shown before)) (result_shown ended ∷ results)

@@ -7,8 +7,8 @@
 //!
 //! It uses the steps of a thread around its action (`thread_actions`), the slots of a hall (`hall_slots`) and its running state (`hall_machine`).
 //! Its theorem: each action writes into its parts what the law of the hall asks of it, for each program and each hall in which the worker is at
-//! work with these parts. Each call on the list changes what the list shows as its event writes it, and nothing else. A thread that was taken
-//! out of the list is woken, or a result handed over, in a running state ([`list_laws`]).
+//! work with these parts. Each call on the list changes what the list shows as its event writes it, and nothing else. No thread waits for one
+//! under whose id nothing is kept ([`list_laws`]).
 #![tactic(auto)]
 
 mod dummies;

@@ -91,7 +91,7 @@ fn deliver(top: &mut Boxed<Thread>, ended: Ended)
 pub fn hand_over(list: &mut ListSlot, top: &mut Boxed<Thread>, child: ThreadId)
     requires { IsToCome list.old.part.results top.old child }
     ensures come { HasCome list.old.part.results list.new.part.results top.old top.new child }
-    ensures shown { IsHandedThere list.old list.new top.old top.new }
+    ensures shown { IsHandedThere list.old list.new top.old top.new child }
     ensures releases { (ended : AnyEnded) → kept_under list.old.part.results child ≡ Some ended → IsOnlyNewest ended.id (children_of top.old)
         → join_words_of top.new ≡ released top.old.run.state ended.state }
     ensures waiting { list.new.part.waiting ≡ list.old.part.waiting }

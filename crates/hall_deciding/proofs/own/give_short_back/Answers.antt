@@ -1,5 +1,5 @@
 use Rattle.turn_table.specs.Tables.{key_of}
-use Rattle.hall_deciding.proofs.FromLanes.{short_there}
+use Rattle.hall_deciding.proofs.Still.{short_there}
 use Rattle.hall_deciding.proofs.own.give_short_back.Goals as goal
 
 pub put_lane-requires-clause-may : goal.put_lane-requires-clause-may

@@ -1,30 +1,32 @@
-use Rattle.std.proofs.Common.{refl, sym, subst}
-use Rattle.containers.specs.BoundedList.{spare}
-use Rattle.hall_slots.specs.Passed.Lists.{Each}
-use Rattle.thread_frames.specs.Points.{IsAtPoint}
+use Rattle.std.proofs.Common.{refl}
+use Rattle.std.specs.Prelude.{None}
 use Rattle.turn_table.specs.Tables.{key_of}
-use Rattle.hall_slots.specs.Keys.{table_of, quota_of}
-use Rattle.hall_deciding.specs.Taken.{list_and_lane}
-use Rattle.owner_acts.proofs.Readied.{was}
-use Rattle.owner_acts.proofs.Roomier.{has_from, rest_from, shows_unowned_from, unowned_from}
+use Rattle.hall_slots.specs.declared.event.Event.TheVariants.{Did}
+use Rattle.hall_slots.specs.declared.lane_slot.LaneSlot.{LaneSlot}
+use Rattle.hall_slots.specs.declared.lane_slot.Running.{Running}
+use Rattle.hall_deciding.specs.Writes.{parts}
+use Rattle.hall_deciding.specs.declared.noting.Noting.TheVariants.{Does}
+use Rattle.hall_deciding.proofs.Pauses.{dummies_do}
+use Rattle.hall_deciding.proofs.Taken.{on}
+use Rattle.owner_acts.proofs.Listing.{given_up_may}
+use Rattle.owner_acts.proofs.Putting.{on_top_again}
+use Rattle.owner_acts.proofs.Roomier.{shows_unowned_from}
 use Rattle.owner_acts.proofs.give_ups.act_dummy.Goals as goal
 
-pub decide_dummy-requires-clause-event : goal.decide_dummy-requires-clause-event
-decide_dummy-requires-clause-event c = let closes = c.requires.closes in let acts = c.do_dummy-name.ensures.acts in record {
-  list_was = c.requires.ready.0;
-  was = was (key_of c.args.row.now) c.args.seat.now (list_and_lane c.args.deque c.requires.ready.0) c.args.lane c.args.running c.args.top 1 (spare c.args.first.now) c.requires.ready.2;
-  may = c.requires.may;
-  after = c.do_dummy-name.new.period;
-  acts = acts;
-  next = c.requires.listed;
-  given = record {
-    idle = refl;
-    owner = closes.owner;
-    has = has_from c.requires.ready.0 c.args.list c.args.deque closes.owner c.requires.ready.1.deques closes.has;
-    written = shows_unowned_from c.requires.ready.0 c.args.list c.give_up_in.new.list c.args.deque (record { worker = c.args.running.worker; period = c.do_dummy-name.new.period }) c.requires.ready.1 c.give_up_in.ensures.shown;
-    unowned = unowned_from c.requires.ready.0 c.args.list c.give_up_in.new.list c.args.deque c.requires.ready.1.deques c.give_up_in.ensures.places;
-    rest = rest_from c.requires.ready.0 c.args.list c.give_up_in.new.list c.args.deque c.requires.ready.1.deques c.requires.ready.1.waiting c.requires.ready.1.results c.give_up_in.ensures.rest;
-  };
-  points = subst (Each (IsAtPoint (table_of (key_of c.args.row.now)) (quota_of (key_of c.args.row.now)))) (sym acts.threads_are)
-      (acts.point (table_of (key_of c.args.row.now)) (quota_of (key_of c.args.row.now)) c.requires.ready.2.point, c.requires.ready.2.under);
-}
+pub put_list_and_lane-requires-clause-may : goal.put_list_and_lane-requires-clause-may
+put_list_and_lane-requires-clause-may c =
+    let ready = c.requires.ready in
+    let done = c.do_dummy-name in
+    let did = done.ensures.acts in
+    let gave = c.give_up_in in
+    let seat = c.args.seat.now in
+    let running : Running = record { worker = c.args.running.worker; period = done.new.period } in
+    let lane : LaneSlot = record { lane = done.new.lane; running = None } in
+    given_up_may (key_of c.args.row.now) seat c.args.deque (Does (Did done.result) None) ready.2.quota c.requires.may.goes c.requires.may.counting
+    (on seat.hand.note None (Did done.result)) ready.0 c.args.list gave.new.list ready.2.lane lane ready.1 c.requires.closes gave.ensures.places
+    gave.ensures.rest refl
+    (on_top_again (key_of c.args.row.now) c.args.top did.now c.args.lane.items done.new.lane.items did.threads_are did.point ready.2.point ready.2.under)
+    ready.2.holds
+    (λ pool. dummies_do (key_of c.args.row.now) seat.hand.note.worker c.args.deque (parts ready.0 pool ready.2.lane) (parts gave.new.list pool lane)
+    c.args.top c.args.lane.items c.args.running.worker c.args.running.period ready.2.at refl refl done.result done.new.period did
+    (shows_unowned_from ready.0 c.args.list gave.new.list c.args.deque running ready.1 gave.ensures.shown) c.requires.listed)

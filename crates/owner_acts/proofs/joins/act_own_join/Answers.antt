@@ -1,23 +1,29 @@
-use Rattle.std.proofs.Common.{refl, sym, subst}
-use Rattle.containers.specs.BoundedList.{spare}
-use Rattle.hall_slots.specs.Passed.Lists.{Each}
-use Rattle.thread_frames.specs.Points.{IsAtPoint}
+use Rattle.std.proofs.Common.{refl}
+use Rattle.std.specs.Prelude.{Some}
+use Rattle.thread_frames.specs.declared.next.Next.TheVariants as nexts
 use Rattle.turn_table.specs.Tables.{key_of}
-use Rattle.hall_slots.specs.Keys.{table_of, quota_of}
-use Rattle.hall_deciding.specs.Taken.{its_lane}
-use Rattle.owner_acts.proofs.Readied.{was}
+use Rattle.hall_slots.specs.declared.event.Event.TheVariants.{Did}
+use Rattle.hall_slots.specs.declared.lane_slot.LaneSlot.{LaneSlot}
+use Rattle.hall_deciding.specs.Writes.{parts}
+use Rattle.hall_deciding.specs.declared.noting.Noting.TheVariants.{Does}
+use Rattle.hall_deciding.proofs.Lanes.{joins_do}
+use Rattle.hall_deciding.proofs.Noted.{lane_may}
+use Rattle.hall_deciding.proofs.Taken.{on}
+use Rattle.hall_deciding.proofs.Untaken.{nothing_is_taken}
+use Rattle.owner_acts.proofs.Putting.{on_top_again}
 use Rattle.owner_acts.proofs.joins.act_own_join.Goals as goal
 
-pub decide_own_join-requires-clause-event : goal.decide_own_join-requires-clause-event
-decide_own_join-requires-clause-event c = let acts = c.do_join-name.ensures.acts in record {
-  was = was (key_of c.args.row.now) c.args.seat.now (its_lane c.args.deque) c.args.lane c.args.running c.args.top 1 (spare c.args.first.now) c.requires.ready;
-  may = c.requires.may;
-  child = c.requires.listed.0;
-  after = c.do_join-name.new.period;
-  running = refl;
-  acts = acts;
-  nothing = c.do_join-name.ensures.words;
-  next = c.requires.listed.1;
-  points = subst (Each (IsAtPoint (table_of (key_of c.args.row.now)) (quota_of (key_of c.args.row.now)))) (sym acts.threads_are)
-      (acts.point (table_of (key_of c.args.row.now)) (quota_of (key_of c.args.row.now)) c.requires.ready.point, c.requires.ready.under);
-}
+pub put_lane-requires-clause-may : goal.put_lane-requires-clause-may
+put_lane-requires-clause-may c =
+    let ready = c.requires.ready in
+    let done = c.do_join-name in
+    let did = done.ensures.acts in
+    let seat = c.args.seat.now in
+    let lane : LaneSlot = record { lane = done.new.lane; running = Some (record { worker = c.args.running.worker; period = done.new.period }) } in
+    lane_may (key_of c.args.row.now) seat c.args.deque (Does (Did done.result) (Some c.args.deque)) ready.quota c.requires.may.goes c.requires.may.counting
+    (on seat.hand.note (Some c.args.deque) (Did done.result)) ready.lane lane
+    (on_top_again (key_of c.args.row.now) c.args.top did.now c.args.lane.items done.new.lane.items did.threads_are did.point ready.point ready.under)
+    ready.holds
+    (λ list pool. joins_do (key_of c.args.row.now) seat.hand.note.worker c.args.deque (parts list pool ready.lane) (parts list pool lane)
+    c.args.top c.args.lane.items c.args.running.worker c.args.running.period ready.at refl done.result done.new.period refl
+    c.requires.listed.0 did (nothing_is_taken c.requires.listed.0 c.args.top done.result pool done.ensures.words) c.requires.listed.1)

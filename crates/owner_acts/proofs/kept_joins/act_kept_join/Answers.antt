@@ -1,33 +1,38 @@
-use Rattle.std.proofs.Common.{refl, sym, subst}
-use Rattle.containers.specs.BoundedList.{spare}
-use Rattle.hall_slots.specs.Passed.Lists.{Each}
-use Rattle.thread_frames.specs.Points.{IsAtPoint}
+use Rattle.std.proofs.Common.{refl}
+use Rattle.std.specs.Prelude.{Some}
 use Rattle.turn_table.specs.Tables.{key_of}
-use Rattle.hall_slots.specs.Keys.{table_of, quota_of}
-use Rattle.hall_deciding.specs.Taken.{list_and_lane}
-use Rattle.owner_acts.proofs.Readied.{was}
-use Rattle.owner_acts.proofs.Handed.{its_point, is_listed}
+use Rattle.hall_slots.specs.declared.event.Event.TheVariants.{Did}
+use Rattle.hall_slots.specs.declared.lane_slot.LaneSlot.{LaneSlot}
+use Rattle.hall_deciding.specs.Writes.{parts, told_note}
+use Rattle.hall_deciding.specs.declared.noting.Noting.TheVariants.{Does}
+use Rattle.hall_deciding.proofs.Ends.{kept_joins_do}
+use Rattle.hall_deciding.proofs.Noted.{list_may}
+use Rattle.hall_deciding.proofs.Staying.{handed_stays_sound}
+use Rattle.hall_deciding.proofs.Taken.{on}
+use Rattle.hall_deciding.proofs.Untaken.{nothing_is_taken}
+use Rattle.owner_acts.proofs.Handed.{its_point, is_listed, is_newest}
+use Rattle.owner_acts.proofs.Putting.{on_top_again}
 use Rattle.owner_acts.proofs.kept_joins.act_kept_join.Goals as goal
 
-pub decide_kept_join-requires-clause-event : goal.decide_kept_join-requires-clause-event
-decide_kept_join-requires-clause-event c =
-    let acts = c.do_join-name.ensures.acts in
-    let come = c.hand_over_in.ensures.come in
-    let point = its_point (key_of c.args.row.now) c.args.list c.args.top c.args.child c.requires.joins c.hand_over_in.new.list.part.results c.hand_over_in.new.top come c.requires.ready.point in record {
-      list_was = c.args.list;
-      was = was (key_of c.args.row.now) c.args.seat.now (list_and_lane c.args.deque c.args.list) c.args.lane c.args.running c.args.top 1 (spare c.args.first.now) c.requires.ready;
-      may = c.requires.may;
-      child = c.args.child;
-      handed = c.hand_over_in.new.top;
-      after = c.do_join-name.new.period;
-      running = refl;
-      acts = acts;
-      nothing = c.do_join-name.ensures.words;
-      come = come;
-      written = c.hand_over_in.ensures.shown;
-      waiting = c.hand_over_in.ensures.waiting;
-      rest = c.hand_over_in.ensures.rest;
-      next = is_listed (key_of c.args.row.now) c.args.list c.args.top c.args.child c.requires.joins c.hand_over_in.new.list.part.results c.hand_over_in.new.top come c.requires.ready.point;
-      points = subst (Each (IsAtPoint (table_of (key_of c.args.row.now)) (quota_of (key_of c.args.row.now)))) (sym acts.threads_are)
-          (acts.point (table_of (key_of c.args.row.now)) (quota_of (key_of c.args.row.now)) point, c.requires.ready.under);
-    }
+pub put_list_and_lane-requires-clause-may : goal.put_list_and_lane-requires-clause-may
+put_list_and_lane-requires-clause-may c =
+    let key = key_of c.args.row.now in
+    let seat = c.args.seat.now in
+    let ready = c.requires.ready in
+    let done = c.do_join-name in
+    let did = done.ensures.acts in
+    let over = c.hand_over_in in
+    let come = over.ensures.come in
+    let point = its_point key c.args.list c.args.top c.args.child c.requires.joins over.new.list.part.results over.new.top come ready.point in
+    let lane : LaneSlot = record { lane = done.new.lane; running = Some (record { worker = c.args.running.worker; period = done.new.period }) } in
+    let points = on_top_again key over.new.top did.now c.args.lane.items done.new.lane.items did.threads_are did.point point ready.under in
+    list_may key seat c.args.deque (Does (Did done.result) (Some c.args.deque)) ready.quota c.requires.may.goes c.requires.may.counting
+    ready.lane lane c.args.list over.new.list ready.holds
+    (λ pool. kept_joins_do key seat.hand.note.worker c.args.deque (parts c.args.list pool ready.lane) (parts over.new.list pool lane)
+    c.args.top c.args.lane.items c.args.running.worker c.args.running.period ready.at done.result done.new.period c.args.child over.new.top did refl
+    over.ensures.shown (is_newest key c.args.list c.args.top c.args.child c.requires.joins over.new.list over.new.top over.ensures.shown)
+    (nothing_is_taken c.args.child over.new.top done.result pool done.ensures.words)
+    (is_listed key c.args.list c.args.top c.args.child c.requires.joins over.new.list.part.results over.new.top come ready.point))
+    (λ pool. handed_stays_sound key seat c.args.deque c.args.list over.new.list pool pool ready.lane lane
+    (told_note seat.hand.note (Some c.args.deque) (Did done.result)) c.args.child c.args.top over.new.top
+    (on seat.hand.note (Some c.args.deque) (Did done.result)) over.ensures.shown come over.ensures.rest over.ensures.waiting (λ s. s) points)

@@ -1,40 +1,46 @@
-use Rattle.std.proofs.Common.{refl, sym, subst}
-use Rattle.containers.specs.BoundedList.{spare}
-use Rattle.hall_slots.specs.Passed.Lists.{Each}
-use Rattle.thread_frames.specs.Points.{IsAtPoint}
+use Rattle.std.proofs.Common.{refl}
+use Rattle.std.specs.Prelude.{Some}
 use Rattle.thread_frames.specs.Views.{join_words_of}
-use Rattle.turn_table.specs.Tables.{key_of}
-use Rattle.hall_slots.specs.Keys.{table_of, quota_of}
-use Rattle.hall_deciding.specs.Taken.{all_three}
-use Rattle.owner_acts.proofs.Readied.{was, given_sound}
-use Rattle.owner_acts.proofs.Roomier.{takes_from}
-use Rattle.hall_deciding.specs.Passed.Here.{pool_with}
 use Rattle.thread_frames.specs.declared.next.Next.TheVariants as nexts
-use Rattle.owner_acts.proofs.Handed.{its_point, is_listed}
+use Rattle.turn_table.specs.Tables.{key_of}
+use Rattle.hall_slots.specs.declared.event.Event.TheVariants.{Did}
+use Rattle.hall_slots.specs.declared.lane_slot.LaneSlot.{LaneSlot}
+use Rattle.hall_slots.specs.declared.pool_slot.PoolSlot.{PoolSlot}
+use Rattle.hall_deciding.specs.Passed.Here.{pool_with}
+use Rattle.hall_deciding.specs.Writes.{parts, told_note}
+use Rattle.hall_deciding.specs.declared.noting.Noting.TheVariants.{Does}
+use Rattle.hall_deciding.proofs.Ends.{kept_joins_do}
+use Rattle.hall_deciding.proofs.Noted.{all_may}
+use Rattle.hall_deciding.proofs.Staying.{handed_stays_sound}
+use Rattle.hall_deciding.proofs.Taken.{on}
+use Rattle.owner_acts.proofs.Readied.{given_sound}
+use Rattle.owner_acts.proofs.Roomier.{takes_from}
+use Rattle.owner_acts.proofs.Handed.{its_point, is_listed, is_newest}
+use Rattle.owner_acts.proofs.Putting.{on_top_again}
 use Rattle.owner_acts.proofs.kept_joins.act_kept_join_giving.Goals as goal
 
-pub decide_kept_join_giving-requires-clause-event : goal.decide_kept_join_giving-requires-clause-event
-decide_kept_join_giving-requires-clause-event c =
-    let acts = c.do_join_giving-name.ensures.acts in
-    let come = c.hand_over_in.ensures.come in
-    let point = its_point (key_of c.args.row.now) c.args.list c.args.top c.args.child c.requires.joins c.hand_over_in.new.list.part.results c.hand_over_in.new.top come c.requires.ready.2.point in record {
-      list_was = c.args.list;
-      pool_was = c.requires.ready.0;
-      was = was (key_of c.args.row.now) c.args.seat.now (all_three c.args.deque c.args.list c.requires.ready.0) c.args.lane c.args.running c.args.top 1 (spare c.args.first.now) c.requires.ready.2;
-      may = c.requires.may;
-      child = c.args.child;
-      handed = c.hand_over_in.new.top;
-      after = c.do_join_giving-name.new.period;
-      running = refl;
-      acts = acts;
-      come = come;
-      written = c.hand_over_in.ensures.shown;
-      waiting = c.hand_over_in.ensures.waiting;
-      rest = c.hand_over_in.ensures.rest;
-      takes = takes_from (nexts.Join c.args.child) c.hand_over_in.new.top c.do_join_giving-name.result c.requires.ready.0 c.args.pool (pool_with c.do_join_giving-name.new.pool.live c.do_join_giving-name.new.moves) c.requires.ready.1 (c.do_join_giving-name.ensures.words c.args.child);
-      next = is_listed (key_of c.args.row.now) c.args.list c.args.top c.args.child c.requires.joins c.hand_over_in.new.list.part.results c.hand_over_in.new.top come c.requires.ready.2.point;
-      pool_sound = λ before. given_sound (key_of c.args.row.now) c.args.pool (record { pool = c.do_join_giving-name.new.pool; moves = c.do_join_giving-name.new.moves }) (join_words_of c.hand_over_in.new.top)
-          c.do_join_giving-name.ensures.sum c.requires.pool.sound c.do_join_giving-name.ensures.pool;
-      points = subst (Each (IsAtPoint (table_of (key_of c.args.row.now)) (quota_of (key_of c.args.row.now)))) (sym acts.threads_are)
-          (acts.point (table_of (key_of c.args.row.now)) (quota_of (key_of c.args.row.now)) point, c.requires.ready.2.under);
-    }
+pub put_all-requires-clause-may : goal.put_all-requires-clause-may
+put_all-requires-clause-may c =
+    let key = key_of c.args.row.now in
+    let seat = c.args.seat.now in
+    let ready = c.requires.ready in
+    let done = c.do_join_giving-name in
+    let did = done.ensures.acts in
+    let over = c.hand_over_in in
+    let come = over.ensures.come in
+    let point = its_point key c.args.list c.args.top c.args.child c.requires.joins over.new.list.part.results over.new.top come ready.2.point in
+    let pool : PoolSlot = record { pool = done.new.pool; moves = done.new.moves } in
+    let lane : LaneSlot = record { lane = done.new.lane; running = Some (record { worker = c.args.running.worker; period = done.new.period }) } in
+    let points = on_top_again key over.new.top did.now c.args.lane.items done.new.lane.items did.threads_are did.point point ready.2.under in
+    all_may key seat c.args.deque (Does (Did done.result) (Some c.args.deque)) ready.2.quota c.requires.may.goes c.requires.may.counting
+    ready.2.lane lane c.args.list over.new.list ready.0 pool ready.2.holds
+    (kept_joins_do key seat.hand.note.worker c.args.deque (parts c.args.list ready.0 ready.2.lane) (parts over.new.list pool lane)
+    c.args.top c.args.lane.items c.args.running.worker c.args.running.period ready.2.at done.result done.new.period c.args.child over.new.top did refl
+    over.ensures.shown (is_newest key c.args.list c.args.top c.args.child c.requires.joins over.new.list over.new.top over.ensures.shown)
+    (takes_from (nexts.Join c.args.child) over.new.top done.result ready.0 c.args.pool (pool_with done.new.pool.live done.new.moves) ready.1
+    (done.ensures.words c.args.child))
+    (is_listed key c.args.list c.args.top c.args.child c.requires.joins over.new.list.part.results over.new.top come ready.2.point))
+    (handed_stays_sound key seat c.args.deque c.args.list over.new.list ready.0 pool ready.2.lane lane
+    (told_note seat.hand.note (Some c.args.deque) (Did done.result)) c.args.child c.args.top over.new.top
+    (on seat.hand.note (Some c.args.deque) (Did done.result)) over.ensures.shown come over.ensures.rest over.ensures.waiting 
+    (λ before. given_sound key c.args.pool pool (join_words_of over.new.top) done.ensures.sum c.requires.pool.sound done.ensures.pool) points)

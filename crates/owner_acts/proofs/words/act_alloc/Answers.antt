@@ -1,27 +1,30 @@
 use Rattle.std.proofs.Common.{[], refl}
+use Rattle.std.specs.Prelude.{Some}
 use Rattle.containers.specs.BoundedList.{spare}
 use Rattle.thread_frames.specs.Views.{next_of, words_asked}
 use Rattle.thread_frames.specs.declared.next.Next.TheVariants as nexts
 use Rattle.turn_table.specs.Tables.{key_of}
+use Rattle.hall_slots.specs.declared.lane_slot.LaneSlot.{LaneSlot}
+use Rattle.hall_slots.specs.declared.pool_slot.PoolSlot.{PoolSlot}
 use Rattle.hall_deciding.specs.Passed.Here.{pool_with}
-use Rattle.hall_deciding.specs.Taken.{pool_and_lane}
+use Rattle.hall_deciding.specs.Writes.{parts}
+use Rattle.hall_deciding.proofs.Lanes.{actions_do}
+use Rattle.owner_acts.proofs.Putting.{acted}
 use Rattle.owner_acts.proofs.Roomier.{takes_from}
-use Rattle.owner_acts.proofs.Readied.{was, taken_sound, on_top}
+use Rattle.owner_acts.proofs.Readied.{taken_sound, on_top}
 use Rattle.owner_acts.proofs.words.act_alloc.Goals as goal
 
-pub decide_action-requires-clause-event : goal.decide_action-requires-clause-event
-decide_action-requires-clause-event c = record {
-  pool_was = c.requires.ready.0;
-  was = was (key_of c.args.row.now) c.args.seat.now (pool_and_lane c.args.deque c.requires.ready.0) c.args.lane c.args.running c.args.top 1 (spare c.args.first.now) c.requires.ready.2;
-  may = c.requires.may;
-  next = nexts.Alloc (words_asked (next_of c.args.top));
-  after = c.do_alloc-name.new.period;
-  words = c.args.charge;
-  births = [];
-  running = refl;
-  acts = c.do_alloc-name.ensures.acts;
-  takes = takes_from (nexts.Alloc (words_asked (next_of c.args.top))) c.args.top c.do_alloc-name.result c.requires.ready.0 c.args.pool (pool_with c.do_alloc-name.new.pool.live c.do_alloc-name.new.moves) c.requires.ready.1 (c.do_alloc-name.ensures.words);
-  next_is = c.requires.listed;
-  pool_sound = λ before. taken_sound (key_of c.args.row.now) c.args.pool (record { pool = c.do_alloc-name.new.pool; moves = c.do_alloc-name.new.moves }) (words_asked (next_of c.args.top)) c.do_alloc-name.ensures.sum c.requires.pool.sound c.do_alloc-name.ensures.pool c.requires.arena;
-  points = on_top (key_of c.args.row.now) c.args.top c.args.lane.items c.do_alloc-name.new.lane.items c.requires.ready.2.point c.requires.ready.2.under c.do_alloc-name.ensures.top;
-}
+pub put_pool_and_lane-requires-clause-may : goal.put_pool_and_lane-requires-clause-may
+put_pool_and_lane-requires-clause-may c =
+    let ready = c.requires.ready in
+    let done = c.do_alloc-name in
+    let pool : PoolSlot = record { pool = done.new.pool; moves = done.new.moves } in
+    let lane : LaneSlot = record { lane = done.new.lane; running = Some (record { worker = c.args.running.worker; period = done.new.period }) } in
+    acted (key_of c.args.row.now) c.args.seat.now c.args.deque c.args.pool pool c.args.lane c.args.running c.args.top 1 (spare c.args.first.now) lane done.result
+    c.requires.may ready
+    (λ list. actions_do (key_of c.args.row.now) c.args.seat.now.hand.note.worker c.args.deque (parts list ready.0 ready.2.lane) (parts list pool lane)
+    c.args.top c.args.lane.items c.args.running.worker c.args.running.period ready.2.at refl done.result done.new.period refl
+    (nexts.Alloc (words_asked (next_of c.args.top))) c.args.charge [] done.ensures.acts
+    (takes_from (nexts.Alloc (words_asked (next_of c.args.top))) c.args.top done.result ready.0 c.args.pool (pool_with done.new.pool.live done.new.moves) ready.1 (done.ensures.words)) c.requires.listed)
+    (taken_sound (key_of c.args.row.now) c.args.pool pool (words_asked (next_of c.args.top)) done.ensures.sum c.requires.pool.sound done.ensures.pool c.requires.arena)
+    (on_top (key_of c.args.row.now) c.args.top c.args.lane.items done.new.lane.items ready.2.point ready.2.under done.ensures.top)

@@ -3,7 +3,7 @@ use Rattle.std.specs.Prelude.{None, Some}
 use Rattle.containers.specs.BoundedList.{spare}
 use Rattle.turn_table.specs.Tables.{key_of}
 use Rattle.turn_table.specs.Seats.{with_hand}
-use Rattle.owner_acts.specs.Passed.ListRuns.{IsTooMuch}
+use Rattle.owner_acts.specs.Passed.EventParts.{IsTooMuch}
 use Rattle.owner_acts.specs.Passed.Rooms.{HasMoreBooks}
 use Rattle.owner_acts.specs.Passed.Writes.{told_note}
 use Rattle.owner_acts.specs.Passed.Taken.{list_and_lane}

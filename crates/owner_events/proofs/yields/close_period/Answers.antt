@@ -19,8 +19,8 @@ give_up-requires-clause-has c =
     c.make_room_to_close.new.list c.make_room_to_close.ensures.same c.in-Ok.ensures.room in
     (closes.owner, subst (λ (l : ListSlot). Has l.part.order.places c.args.deque closes.owner) (sym c.get_mut.ensures.value) closes.has)
 
-pub decide_yield-requires-clause-event : goal.decide_yield-requires-clause-event
-decide_yield-requires-clause-event c = yielded.yields (key_of c.args.row.now) c.args.seat.now c.args.deque c.args.list c.args.lane c.requires.both
+pub put_list_and_lane-requires-clause-may : goal.put_list_and_lane-requires-clause-may
+put_list_and_lane-requires-clause-may c = yielded.yields (key_of c.args.row.now) c.args.seat.now c.args.deque c.args.list c.args.lane c.requires.both
     c.make_room_to_close.new.list c.make_room_to_close.ensures.same c.in-Some.running c.in-Some.is c.in-Ok.ensures.room c.give_up.new.self
     (subst (λ (l : ListSlot). ShowsUnowned l c.give_up.new.self c.args.deque c.in-Some.running) c.get_mut.ensures.value c.give_up.ensures.shown)
     (subst (λ (l : ListSlot). HasNoOwner c.args.deque l.part.order.places c.give_up.new.self.part.order.places) c.get_mut.ensures.value c.give_up.ensures.places)

@@ -25,6 +25,7 @@ returns-clause-shown c =
     let same = same_Some c.requires.ended c.in-Some.ended (sym c.requires.kept ∙ kept) in
     record {
       ended = c.in-Some.ended;
+      kept = kept;
       results = map result_kept c.take.new.self.entries;
       shown = refl;
       was = IsPermutation-map result_kept c.args.list.now.part.results.entries ((c.args.child, c.in-Some.ended) ∷ c.take.new.self.entries) c.in-Some.ensures.entries;

@@ -1,42 +1,24 @@
--- What is written into the lane alone may be put back.
+-- A lane in which nothing was decided may be put back.
 use Rattle.std.proofs.Common.{inr, refl, sym, ◌∙◌, subst}
 use Rattle.std.specs.Prelude.{Some}
-use Rattle.dag_order.specs.declared.action_id.ActionId.{ActionId}
 use Rattle.deque_list.specs.declared.deque_id.DequeId.{DequeId}
-use Rattle.hall_slots.specs.declared.event.Event.TheVariants.{Did}
 use Rattle.hall_slots.specs.declared.lane_slot.LaneSlot.{LaneSlot}
 use Rattle.hall_slots.specs.declared.seat_note.SeatNote.{SeatNote}
 use Rattle.hall_slots.specs.declared.key.HallKey.{HallKey}
 use Rattle.hall_slots.specs.Keys.{table_of, quota_of}
 use Rattle.hall_slots.specs.Takes.{HallSeat}
-use Rattle.hall_deciding.specs.Writes.{told_note, IsShort}
+use Rattle.hall_deciding.specs.Writes.{IsShort}
 use Rattle.play_rules.specs.declared.stop.Stop.TheVariants.{OutOfMemory}
 use Rattle.std.proofs.lemmas.Option.{none-some}
 use Rattle.hall_slots.specs.Passed.ThreadFramesPoints.{IsAtPoint}
 use Rattle.hall_slots.specs.Passed.HallMachinePoints.{LaneAtPoints}
-use Rattle.hall_deciding.proofs.Lanes.{joins_may_come}
-use Rattle.hall_deciding.proofs.Untaken.{nothing_is_taken}
 use Rattle.hall_deciding.proofs.Quiet.{statements_may_come, wants_of_memory_may_come}
 use Rattle.hall_deciding.proofs.Staying.{all_at, lanes_stay_sound}
 use Rattle.hall_deciding.specs.Puts.{MayPutLane}
-use Rattle.hall_deciding.specs.Own.{JoinsAlone, IsStillThere, IsShortThere}
-use Rattle.hall_deciding.proofs.Taken.{on, owner_of}
+use Rattle.hall_deciding.specs.Own.{IsStillThere, IsShortThere}
+use Rattle.hall_deciding.proofs.Taken.{owner_of}
 
 module _ (key : HallKey) (seat : HallSeat) (deque : DequeId) (lane : LaneSlot) where
-  pub own_join : (name : ActionId) → JoinsAlone key seat deque lane name → MayPutLane key seat deque lane (told_note seat.hand.note (Some deque) (Did name))
-  own_join name j = record {
-    lane_was = j.was.lane;
-    holds = j.was.holds;
-    owner = owner_of seat deque j.may.goes;
-    placed = j.may.goes.placed;
-    may = λ list pool. record {
-      goes_on = joins_may_come key seat deque list pool pool j.was.lane lane j.child j.was.top j.was.under j.was.holder j.was.period j.after name j.was.quota j.may j.was.at
-          j.running j.acts (nothing_is_taken j.child j.was.top name pool j.nothing) j.next;
-      sound = lanes_stay_sound key seat deque list pool pool j.was.lane lane (told_note seat.hand.note (Some deque) (Did name)) (on seat.hand.note (Some deque) (Did name)) (λ s. s)
-          (all_at (IsAtPoint (table_of key) (quota_of key)) (IsShort (told_note seat.hand.note (Some deque) (Did name)) list.part.order.places list.part.order.places) lane.lane.items j.points);
-    };
-  }
-
   pub still_there : IsStillThere key seat deque lane → MayPutLane key seat deque lane seat.hand.note
   still_there j = record {
     lane_was = j.lane_was;
