@@ -1,4 +1,4 @@
-ghost use Rattle.std.specs.Prelude.{◌≡◌, ◌≤◌, IfOk};
+ghost use Rattle.std.specs.Prelude.{◌≡◌, ◌≤◌, ◌<◌, None, Ok, IfOk};
 ghost use Rattle.language_limits.specs.declared.TheConstants.{MOST_WORDS};
 ghost use Rattle.depth_first_list.specs.QuotaWords.{quota_words};
 ghost use Rattle.node_table.specs.Codes.{code_shown};
@@ -47,23 +47,24 @@ impl ThreadRun {
         ensures faulted { self.new.state.faulted ≡ self.old.state.faulted }
         ensures words { words_held self.new.state ≡ words_held self.old.state }
     {
-        'steps: while let Some(frame) = self.frames.pop() {
-            let Some(next) = self.ahead(code, k, frame, u32::MAX)? else {
-                return Ok(Ready::End);
-            };
-            if let Some(ready) = self.go_on(alloc, code, k, next)? {
-                return Ok(ready);
-            }
+        match self.go_until(alloc, code, k, 0, u32::MAX)? {
+            Some(ready) => Ok(ready),
+            None => unreachable!(),
         }
-        Ok(Ready::End)
     }
 
-    /// Goes at most `most` steps on its way to the next action, and answers the action if it came to it. The action is not done.
+    /// Goes on towards the next action for some `most` turns of loops and calls, and answers the action if it came to it. The action is not done.
     ///
     /// # Errors
     ///
     /// There is not enough memory. The thread may be in the middle of its way, and is of no further use but to give its blocks back.
-    pub fn step_on(&mut self, alloc: Global, code: &Code, k: Quota, most: u32) -> Result<Option<Ready>, AllocError>
+    pub fn step_on(
+        &mut self,
+        alloc: Global,
+        code: &Code,
+        k: Quota,
+        most: u32,
+    ) -> Result<Option<Ready>, AllocError>
         requires known { IsKnown (code_shown code.now) (quota_words k) self.old }
         requires fits { words_held self.old.state ≤ MOST_WORDS }
         ensures meaning { StepsOn (code_shown code.now) (quota_words k) self.old result self.new }
@@ -76,11 +77,45 @@ impl ThreadRun {
         ensures faulted { self.new.state.faulted ≡ self.old.state.faulted }
         ensures words { words_held self.new.state ≡ words_held self.old.state }
     {
-        'steps: for _ in 0..most {
+        let stop = self.state.turns().saturating_sub(most);
+        self.go_until(alloc, code, k, stop, most)
+    }
+
+    /// Goes on until the next action comes, or fewer than `stop` turns are left to the thread. It looks at them at least once in `lists` lists of
+    /// statements.
+    ///
+    /// # Errors
+    ///
+    /// There is not enough memory.
+    fn go_until(
+        &mut self,
+        alloc: Global,
+        code: &Code,
+        k: Quota,
+        stop: u32,
+        lists: u32,
+    ) -> Result<Option<Ready>, AllocError>
+        requires known { IsKnown (code_shown code.now) (quota_words k) self.old }
+        requires fits { words_held self.old.state ≤ MOST_WORDS }
+        ensures meaning { StepsOn (code_shown code.now) (quota_words k) self.old result self.new }
+        ensures known { IfOk result (λ o. KnownAgain (code_shown code.now) (quota_words k) self.new o) }
+        ensures stopped { result ≡ Ok None → self.new.state.turns < stop }
+        ensures functions { IfOk result (λ o. functions_of self.new.func (frames_left o (frames_of self.new))
+            ≡ functions_of self.old.func (frames_of self.old)) }
+        ensures label { self.new.state.label ≡ self.old.state.label }
+        ensures done { self.new.state.done ≡ self.old.state.done }
+        ensures forks { self.new.state.forks ≡ self.old.state.forks }
+        ensures faulted { self.new.state.faulted ≡ self.old.state.faulted }
+        ensures words { words_held self.new.state ≡ words_held self.old.state }
+    {
+        'steps: while self.state.turns() >= stop {
             let Some(frame) = self.frames.pop() else {
                 return Ok(Some(Ready::End));
             };
-            if let Some(ready) = self.go_on(alloc, code, k, frame)? {
+            let Some(next) = self.ahead(code, k, frame, lists)? else {
+                return Ok(Some(Ready::End));
+            };
+            if let Some(ready) = self.go_on(alloc, code, k, next)? {
                 return Ok(Some(ready));
             }
         }

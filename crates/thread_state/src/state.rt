@@ -38,6 +38,13 @@ impl ThreadState {
         self.done
     }
 
+    /// How many turns of loops and calls are left to the thread before it meets the limit.
+    pub fn turns(&self) -> u32
+        ensures { result ≡ self.now.turns }
+    {
+        self.turns
+    }
+
     /// How many forks the thread has done.
     pub fn forks(&self) -> u32
         ensures value { result ≡ self.now.forks }

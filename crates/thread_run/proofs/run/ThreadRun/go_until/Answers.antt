@@ -12,7 +12,7 @@ use Rattle.thread_run.specs.AtHand.{HasRoom, on_top, IsHanded, LeavesNoMore}
 use Rattle.thread_run.specs.Stepping.{ComesBy, KnownAgain, KeepsFunctions, FallsBy, UnderWay}
 use Rattle.thread_run.proofs.OnTheWay.{taken_off, known_at, fits_at, further, arrives, ends, functions_there, counts_after}
 use Rattle.thread_run.proofs.AtHand.{way_same, way_trans, top_frames, known_of_top, falls_by}
-use Rattle.thread_run.proofs.run.ThreadRun.advance.Goals as goal
+use Rattle.thread_run.proofs.run.ThreadRun.go_until.Goals as goal
 
 pub ahead-requires-clause-known : goal.ahead-requires-clause-known
 ahead-requires-clause-known c =
@@ -485,8 +485,8 @@ steps-smaller c =
     (subst (λ (o : Option Frame). LeavesNoMore t popped x run o) c.in-Some-2.is c.in_ok-next.ensures.less)
     (ap (λ (xs : List Frame). left_to_do t steps.state.turns xs) taken)
 
-pub returns-clause-meaning : goal.returns-clause-meaning
-returns-clause-meaning c =
+pub returns-in_default-clause-meaning : goal.returns-in_default-clause-meaning
+returns-in_default-clause-meaning c =
     let popped : ThreadRun = record { func = c.steps.self.func; state = c.steps.self.state; frames = c.pop.new.self; told = c.steps.self.told } in
     let before : c.steps.self.frames.items ≡ [] = nil_from_length c.steps.self.frames.items (omega
     (arith, c.steps.self.frames.ok.0, c.in_default.ensures.cases.0)) in
