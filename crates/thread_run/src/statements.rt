@@ -26,7 +26,8 @@ use node_table::{Code, Node, NodeKind};
 use std::alloc::{AllocError, Global};
 use thread_state::ThreadState;
 
-/// One statement of a thread that no fault has ended: the node of this number, which is no call.
+/// One statement of a thread that no fault has ended: the node of this number, which is no call. A plain statement comes here where the loop
+/// over them left it, at its fault.
 ///
 /// # Errors
 ///
