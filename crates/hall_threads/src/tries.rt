@@ -83,9 +83,9 @@ pub(crate) fn make_try<C: Choices>(
     answer_of(go_on(hall, code, seat, choices))
 }
 
-/// How many steps a thread goes on before its worker gives the lane back for a while: some 100 microseconds of statements, so that a thief need not
-/// wait for long, and the time in which the lane is free costs less than a hundredth.
-const STEPS_AT_ONCE: u32 = 2_000;
+/// For how many turns of loops and calls a thread goes on before its worker gives the lane back for a while: some 100 microseconds, so that a
+/// thief need not wait for long, and the time in which the lane is free costs less than a hundredth.
+const TURNS_AT_ONCE: u32 = 1_000;
 
 /// Lets the top thread of a worker that owns a deque go on without an event, and says whether it is still on its way to its next action.
 fn is_on_its_way(hall: &Hall, code: &Code, seat: &mut Seat) -> bool
@@ -97,7 +97,7 @@ fn is_on_its_way(hall: &Hall, code: &Code, seat: &mut Seat) -> bool
     if seat.owns().is_none() || seat.found().is_some() {
         return false;
     }
-    match hall.step_on(code, seat, STEPS_AT_ONCE) {
+    match hall.step_on(code, seat, TURNS_AT_ONCE) {
         Ok(came) => !came,
         Err(_) => false,
     }

@@ -3,7 +3,7 @@
 //! [`come_to_next`] takes the lane of the seat's deque, asks for the memory that the next event needs in the lane and in the seat, takes
 //! the top thread out, and lets it run its plain statements up to its next action. If there is not enough memory, the lane goes back, and
 //! the seat notes that stop. [`put_together`] puts the thread back on its lane. [`make_room_to_close`] and the calls beside it ask for
-//! memory in the list and in the pool. [`go_some_steps`] lets the top thread go on for a while without an event, so that its lane is free in
+//! memory in the list and in the pool. [`go_some_turns`] lets the top thread go on for a while without an event, so that its lane is free in
 //! between.
 //!
 //! If the event does not come, the owner puts back what it took. The parts show what they showed, perhaps with more room ([`return_pool`],
@@ -37,4 +37,4 @@ pub use at_next::{AtNext, put_together};
 pub use memory::SeatMemory;
 pub use returns::{return_all, return_list, return_pool};
 pub use rooms::{make_room_for_move, make_room_to_close, make_room_to_leave, make_room_to_wait};
-pub use stepping::go_some_steps;
+pub use stepping::go_some_turns;

@@ -17,7 +17,7 @@ use node_table::Code;
 use std::alloc::Global;
 use thread_actions::step_on;
 
-/// Lets the top thread of a lane that the seat holds go at most `most` steps on, gives the lane back, and says whether the thread has come to
+/// Lets the top thread of a lane that the seat holds go on for some `most` turns, gives the lane back, and says whether the thread has come to
 /// its next action.
 fn step_lane(
     row: &HallRow,
@@ -48,14 +48,14 @@ fn step_lane(
     }
 }
 
-/// Takes the lane of the seat's deque, lets its top thread go at most `most` steps on its way to its next action, and gives the lane back. It says
+/// Takes the lane of the seat's deque, lets its top thread go on towards its next action for some `most` turns, and gives the lane back. It says
 /// whether the thread has come to its action, which is not done. The seat holds nothing, and notes what it noted.
 ///
 /// # Errors
 ///
 /// Another seat holds the lane (never, if this one has all places), or there is not enough memory, which the seat notes as the stop that it
 /// found.
-pub fn go_some_steps(
+pub fn go_some_turns(
     row: &HallRow,
     seat: &mut HallPlace,
     deque: DequeId,

@@ -11,11 +11,11 @@ use depth_first_list::Quota;
 use deque_list::DequeId;
 use hall_slots::{HallPlace, HallRow};
 use node_table::Code;
-use owner_advance::{AdvanceRefused, go_some_steps};
+use owner_advance::{AdvanceRefused, go_some_turns};
 use play_rules::Stop;
 use std::alloc::Global;
 
-/// Lets the top thread of a seat's deque go at most `most` steps on its way to its next action, and says whether it has come there. No event is
+/// Lets the top thread of a seat's deque go on towards its next action for some `most` turns, and says whether it has come there. No event is
 /// done: the lane is taken and put back, and the moment of the hall is what it was.
 ///
 /// # Errors
@@ -37,7 +37,7 @@ pub fn step_on(
     ensures seat { GoesSteps seat.old deque result seat.new }
     ensures lone { HasAllPlaces (key_of row.now) seat.old → GoesFreely result }
 {
-    match go_some_steps(row, seat, deque, code, quota, alloc, most) {
+    match go_some_turns(row, seat, deque, code, quota, alloc, most) {
         Ok(came) => Ok(came),
         Err(AdvanceRefused::Busy(held)) => Err(ActRefused::Busy(held)),
         Err(AdvanceRefused::OutOfMemory) => Err(ActRefused::Stopped(Stop::OutOfMemory)),

@@ -64,7 +64,7 @@ pub fn advance(
     top.get_mut().advance(alloc, code, k)
 }
 
-/// Lets a thread go at most `most` steps on its way to its next action, and says whether it has come there. No pool is touched.
+/// Lets a thread go on towards its next action for some `most` turns, and says whether it has come there. No pool is touched.
 ///
 /// # Errors
 ///

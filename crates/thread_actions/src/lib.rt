@@ -1,6 +1,6 @@
 //! The actions of a worker's top thread, one by one.
 //!
-//! The top thread was taken out of its deque. [`advance`] leads it to its next action, or [`step_on`] some steps on its way there, and [`readiness_of`] says whether it may do it, by the
+//! The top thread was taken out of its deque. [`advance`] leads it to its next action, or [`step_on`] some way towards it, and [`readiness_of`] says whether it may do it, by the
 //! quota of its period and the results that it has. [`give`], [`hand_over`] and [`take_result`] bring it the result of a child. The calls named
 //! `_done` let it do the action, with the blocks of the pool that it takes or gives. All these touch nothing else: they are for each
 //! scheduler, whatever it holds its parts in. The others put the thread back into a list as well, and write the action into the worker's

@@ -129,7 +129,7 @@ impl Thread {
         self.go_on(alloc, code, k)
     }
 
-    /// Goes at most `most` steps on its way to the next action, and says whether it has come there: then the action is prepared, and
+    /// Goes on towards the next action for some `most` turns of loops and calls, and says whether it has come there: then the action is prepared, and
     /// [`Thread::advance`] tells it. No action is done.
     ///
     /// # Errors
@@ -199,7 +199,7 @@ impl Thread {
         }
     }
 
-    /// Goes at most `most` steps on, where no action is prepared.
+    /// Goes on for some `most` turns, where no action is prepared.
     fn go_some(
         &mut self,
         alloc: Global,

@@ -16,7 +16,8 @@ pub struct Member<W, E> {
     pub end: Option<E>,
 }
 
-impl<R: Wait + Clock, T, K, E: Drop, W: Works<T, K, E>, G: Gate> WorksToEnd<R, T, K, G> for Member<W, E> {
+impl<R: Wait + Clock, T, K, E: Drop, W: Works<T, K, E>, G: Gate> WorksToEnd<R, T, K, G>
+    for Member<W, E> {
     ghost use Rattle.work_loop.specs.declared.member.Member.{Member as AnyMember};
     ghost use Rattle.work_loop.specs.Working.{HasWorked};
 

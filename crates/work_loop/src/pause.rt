@@ -12,6 +12,7 @@ const TRIES_AWAKE: u32 = 250;
 
 /// The microseconds of the first sleep and of the longest one: a worker that finds nothing costs a thirtieth of a processor.
 const FIRST_SLEEP: u64 = 50;
+
 const LONGEST_SLEEP: u64 = 3_200;
 
 /// How many turns of the processor a worker leaves what it held free before it takes it again. With none it would take it back before any other

@@ -12,8 +12,8 @@ use node_table::Code;
 use owner_events::{ActRefused, step_on};
 
 impl Hall {
-    /// Lets the top thread of a worker's deque go at most `most` steps on its way to its next action, and says whether it has come there. A step
-    /// is one statement, or what lies between two. No event is done, and the moment of the hall is what it was: the seat takes its lane and
+    /// Lets the top thread of a worker's deque go on towards its next action for some `most` turns of loops and calls, and says whether it
+    /// has come there. No event is done, and the moment of the hall is what it was: the seat takes its lane and
     /// puts it back, so that a thief may take the lane between two such calls.
     ///
     /// # Errors

@@ -14,7 +14,7 @@ pub step_on-requires-clause-point : goal.step_on-requires-clause-point
 step_on-requires-clause-point c = let at = c.take_apart-at in
     readable.at_code (key_of c.args.row.now) c.args.code.now c.args.quota c.requires.terms at.result.top
     (readable.points (key_of c.args.row.now) c.args.seat.now c.args.deque c.requires.readable.0 c.args.lane c.requires.readable.1
-        at.result.top at.result.lane.items at.result.running at.ensures.items at.ensures.running).0
+    at.result.top at.result.lane.items at.result.running at.ensures.items at.ensures.running).0
 
 pub step_on-requires-clause-fits : goal.step_on-requires-clause-fits
 step_on-requires-clause-fits c = let at = c.take_apart-at in

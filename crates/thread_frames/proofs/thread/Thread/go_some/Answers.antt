@@ -25,9 +25,9 @@ returns-in_default-clause-point c =
     prepared_as setting t b.func after b.children.items b.record_block b.prepared Nothing is
     (gone setting t b.func b.run after b.children.items b.record_block a
     (subst (λ (o : Option Ready). ComesTo setting t a.own a.older after o) c.in_default.is
-        (c.in_ok-ready.ensures.meaning setting a.functions a.own a.at a.part a.older of a.point a.stands))
+    (c.in_ok-ready.ensures.meaning setting a.functions a.own a.at a.part a.older of a.point a.stands))
     (subst (λ (o : Option Ready). functions_of after.func (frames_left o (frames_of after)) ≡ functions_of b.run.func (frames_of b.run)) c.in_default.is
-        c.in_ok-ready.ensures.functions)
+    c.in_ok-ready.ensures.functions)
     c.step_on.ensures.label))) c.requires.point
 
 pub returns-clause-point : goal.returns-clause-point
@@ -42,8 +42,8 @@ returns-clause-point c =
     came setting t b.func b.run after c.reserve.new.frames b.children.items c.reserve.new.children.items b.record_block c.in-Some.ready
     c.in_ok-prepared.prepared a
     (subst (λ (o : Option Ready). ComesTo setting t a.own a.older after o) c.in-Some.is
-        (c.in_ok-ready.ensures.meaning setting a.functions a.own a.at a.part a.older of a.point a.stands))
+    (c.in_ok-ready.ensures.meaning setting a.functions a.own a.at a.part a.older of a.point a.stands))
     c.in_ok-prepared.ensures
     (subst (λ (o : Option Ready). functions_of after.func (frames_left o (frames_of after)) ≡ functions_of b.run.func (frames_of b.run)) c.in-Some.is
-        c.in_ok-ready.ensures.functions)
+    c.in_ok-ready.ensures.functions)
     c.step_on.ensures.label c.reserve.ensures.frames c.reserve.ensures.children)) c.requires.point

@@ -1,7 +1,7 @@
 use Rattle.std.proofs.Common.{refl}
 use Rattle.turn_table.specs.Tables.{key_of}
 use Rattle.owner_advance.proofs.Coming as coming
-use Rattle.owner_advance.proofs.stepping.go_some_steps.Goals as goal
+use Rattle.owner_advance.proofs.stepping.go_some_turns.Goals as goal
 
 pub step_lane-requires-clause-readable : goal.step_lane-requires-clause-readable
 step_lane-requires-clause-readable c = let lane = c.in-Ok.lane in (
