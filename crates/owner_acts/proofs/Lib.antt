@@ -2,5 +2,6 @@ pub mod Readied
 pub mod Roomier
 pub mod Charging
 mod Putting
+pub mod Pooled
 pub mod Listing
 mod Handed

@@ -1,4 +1,5 @@
 pub mod Ready
+pub mod WithPool
 pub mod Pauses
 pub mod Ends
 pub mod Kept

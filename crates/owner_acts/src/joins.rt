@@ -1,6 +1,6 @@
 //! The Join of a child whose result was handed over.
 
-ghost use Rattle.std.specs.Prelude.{◌≡◌, ◌≤◌, ◌+◌, ◌<◌, [], Some, IsTrue};
+ghost use Rattle.std.specs.Prelude.{◌≡◌, ◌+◌, ◌<◌, [], Some, IsTrue};
 ghost use Rattle.containers.specs.BoundedList.{entries, spare};
 ghost use Rattle.dag_order.specs.declared.thread_id.ThreadId.{ThreadId};
 ghost use Rattle.thread_frames.specs.Actions.{IsJoin, is_there};
@@ -12,13 +12,13 @@ ghost use Rattle.hall_deciding.specs.Writes.{told_note};
 ghost use Rattle.hall_deciding.specs.Puts.{HasPut};
 ghost use Rattle.hall_deciding.specs.EventParts.{MayAct, IsNext};
 ghost use Rattle.hall_deciding.specs.Taken.{its_lane};
-ghost use Rattle.owner_acts.specs.Ready.{IsReady, IsReadyWithPool, PoolIsReady};
+ghost use Rattle.owner_acts.specs.Ready.{IsReady};
 
 use containers::Boxed;
 use dag_order::{ActionId, Births};
 use deque_list::{DequeId, Lane};
-use hall_deciding::{Noting, do_join, do_join_giving, put_lane, put_pool_and_lane};
-use hall_slots::{Event, HallPlace, HallRow, LaneSlot, PoolSlot, Running};
+use hall_deciding::{Noting, do_join, put_lane};
+use hall_slots::{Event, HallPlace, HallRow, LaneSlot, Running};
 use thread_frames::Thread;
 
 /// Does a Join that releases no words, for which the seat holds its lane alone. Returns its name.
@@ -55,53 +55,5 @@ pub fn act_own_join(
         owns: Some(deque),
     };
     put_lane(row, seat, deque, lane, noting);
-    name
-}
-
-/// Does a Join that releases words. Returns its name.
-pub fn act_join_giving(
-    row: &HallRow,
-    seat: &mut HallPlace,
-    deque: DequeId,
-    lane: Lane<Boxed<Thread>>,
-    running: Running,
-    pool: PoolSlot,
-    top: Boxed<Thread>,
-    first: &mut Births,
-) -> ActionId
-    requires here { IsSeatOf row.now seat.old }
-    requires slot { deque.0 + 2 < slot_count row.now }
-    requires may { MayAct seat.old deque }
-    requires ready { IsReadyWithPool (key_of row.now) seat.old deque pool lane running top 1 (spare first.old) }
-    requires pool { PoolIsReady (key_of row.now) pool }
-    requires next { IsJoin (next_of top) }
-    requires delivered { IsTrue (is_there (newest (children_of top))) }
-    requires words { 0 < join_words_of top }
-    requires live { join_words_of top ≤ pool.pool.live }
-    requires listed { (child : ThreadId) × IsNext (key_of row.now) top (nexts.Join child) }
-    requires none { entries first.old ≡ [] }
-    ensures seat { HasPut seat.old (told_note seat.old.hand.note (Some deque) (Did result)) [] seat.new }
-    ensures none { entries first.new ≡ [] }
-{
-    let mut lane = lane;
-    let mut running = running;
-    let mut pool = pool;
-    let name = do_join_giving(
-        &mut lane,
-        &mut running.period,
-        first,
-        &mut pool.pool,
-        &mut pool.moves,
-        top,
-    );
-    let lane = LaneSlot {
-        lane,
-        running: Some(running),
-    };
-    let noting = Noting::Does {
-        event: Event::Did(name),
-        owns: Some(deque),
-    };
-    put_pool_and_lane(row, seat, deque, pool, lane, noting);
     name
 }

@@ -1,5 +1,5 @@
 -- An action whose words do not fit the arena is one that the depth-first list has there, and that its period may do.
-use Rattle.std.proofs.Common.{◌≡◌, ℕ, ◌+◌, ◌≤◌, ◌<◌, inl, inr, sym, ap, subst, arith}
+use Rattle.std.proofs.Common.{◌≡◌, ℕ, ◌+◌, ◌≤◌, ◌<◌, inl, inr, refl, sym, ap, subst, arith}
 use Rattle.std.proofs.Math.Logic.{∥∥₁_map}
 use Rattle.std.proofs.lemmas.Bool.{le-leb, lt-leb}
 use Rattle.std.specs.Prelude.{cond}
@@ -13,9 +13,10 @@ use Rattle.hall_slots.specs.declared.key.HallKey.{HallKey}
 use Rattle.hall_slots.specs.Passed.Books.{charge}
 use Rattle.thread_frames.specs.Passed.Events.{MayDo}
 use Rattle.owner_advance.specs.declared.at_next.AtNext.{AtNext}
-use Rattle.owner_events.specs.Taking.{AsksByTheList, words_asked_by}
+use Rattle.owner_events.specs.Taking.{AsksByTheList}
+use Rattle.owner_acts.specs.WithPool.{words_asked_by}
 use Rattle.thread_frames.specs.declared.next.Next.{Next}
-use Rattle.thread_frames.specs.declared.next.Next.TheVariants.{Fork, Alloc}
+use Rattle.thread_frames.specs.declared.next.Next.TheVariants.{Fork, Join, Alloc, Release, Dummy, Fault, End}
 
 pub asks_nothing : (key : HallKey) (at : AtNext) (next : Next) → words_asked_by next ≡ 0 → AsksByTheList key at next
 asks_nothing key at next none live few full = absurd (omega (arith, none, few, full))
@@ -45,3 +46,14 @@ asks_alloc key at worker charged words within may live few full c of = ∥∥₁
       (charge_fits c.quota at.running.period.used (words_at (list_of c) m.0.place) (subst (λ q. at.running.period.used ≤ q) (sym of.quota) within) m.1.0),
   full,
 ))
+
+-- whichever the action is
+pub asks : (key : HallKey) (at : AtNext) (worker charged : ℕ) (next : Next) → at.running.period.used ≤ quota_of key
+    → MayDoNext key worker next charged at.top at.running.period → AsksByTheList key at next
+asks key at worker charged Fork within may = asks_fork key at worker charged may
+asks key at worker charged (Join child) within may = asks_nothing key at (Join child) refl
+asks key at worker charged (Alloc words) within may = asks_alloc key at worker charged words within may
+asks key at worker charged (Release words) within may = asks_nothing key at (Release words) refl
+asks key at worker charged Dummy within may = asks_nothing key at Dummy refl
+asks key at worker charged (Fault fault) within may = asks_nothing key at (Fault fault) refl
+asks key at worker charged End within may = asks_nothing key at End refl

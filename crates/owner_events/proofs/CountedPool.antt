@@ -17,7 +17,8 @@ use Rattle.owner_events.specs.Ready.{CountsPool}
 use Rattle.owner_events.proofs.Failing.{at_none}
 use Rattle.owner_events.proofs.Following.{fails}
 use Rattle.owner_events.specs.Holding.{IsPoolSlot}
-use Rattle.owner_events.specs.Taking.{CountsWithPool, HasPool, words_asked_by}
+use Rattle.owner_events.specs.Taking.{CountsWithPool, HasPool}
+use Rattle.owner_acts.specs.WithPool.{words_asked_by}
 use Rattle.owner_events.specs.declared.refused.ActRefused.{ActRefused}
 use Rattle.thread_frames.specs.declared.next.Next.{Next}
 use Rattle.turn_table.specs.declared.look.Look.TheVariants.{Took, Counted}

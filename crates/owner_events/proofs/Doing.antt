@@ -1,9 +1,8 @@
 -- How a seat leaves once its event was put back.
-use Rattle.std.proofs.Common.{◌≡◌, ◌≢◌, ℕ, Option, List, [], ◌∷◌, ◌++◌, inl, refl, sym, ap, ◌∙◌, subst}
+use Rattle.std.proofs.Common.{◌≡◌, ◌≢◌, ℕ, ◌<◌, Option, List, [], ◌∷◌, ◌++◌, length, inl, refl, sym, ap, ◌∙◌, subst, arith}
 use Rattle.std.specs.Result.{IsErrAnd}
 use Rattle.std.specs.Prelude.{Some, Result, Ok, Err}
 use Rattle.deque_list.specs.declared.deque_id.DequeId.{DequeId}
-use Rattle.thread_actions.specs.Results.{FirstAwaits}
 use Rattle.thread_frames.specs.declared.next.Next.{Next}
 use Rattle.thread_frames.specs.declared.thread.Thread.{Thread}
 use Rattle.turn_table.specs.declared.look.Look.{Look}
@@ -71,8 +70,7 @@ does_with_list key before middle after deque at next list needs taken (Ok acted)
 does_with_list key before middle after deque at next list needs taken (Err refused) d =
     fails before middle 0 (slots.List list) taken after (MayTry key at next) (inl (refl, inl needs)) refused d
 
--- who is directly below, and waits for the result
-pub first_below : (top : Thread) (under : List Thread) → under ≢ [] → FirstAwaits top under
-    → (parent : Thread) × (below : List Thread) × (under ≡ parent ∷ below) × FirstAwaits top (parent ∷ below)
-first_below top [] some awaits = absurd (some refl)
-first_below top (parent ∷ below) some awaits = (parent, below, refl, awaits)
+-- a thread is below, if there are some
+pub some_below : (n : ℕ) (under : List Thread) → 0 < n → n ≡ length under → under ≢ []
+some_below n under some is none =
+    let never : 0 < 0 = subst (λ (xs : List Thread). 0 < length xs) none (subst (λ m. 0 < m) is some) in absurd (omega (arith, never))

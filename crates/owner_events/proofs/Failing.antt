@@ -11,6 +11,8 @@ use Rattle.owner_events.specs.Needs.{ActionNeedsList, ActionNeedsPool, MayTry}
 use Rattle.owner_events.specs.declared.refused.ActRefused.{ActRefused}
 use Rattle.owner_events.specs.declared.refused.ActRefused.TheVariants.{Busy, Over, Stopped}
 use Rattle.play_rules.specs.declared.stop.Stop.{Stop}
+use Rattle.owner_acts.specs.WithPool.{IsWithPool}
+use Rattle.thread_frames.specs.declared.next.Next.TheVariants.{Fork, Join, Alloc, Release, Dummy, Fault, End}
 use Rattle.thread_frames.specs.declared.next.Next.{Next}
 use Rattle.turn_table.specs.declared.look.Look.{Look}
 use Rattle.turn_table.specs.declared.look.Look.TheVariants.{Took, Refused, Counted}
@@ -50,3 +52,13 @@ at_none May = fails_too IsNoSlot May (λ slot no. absurd no)
 -- a child that is not delivered is not delivered
 pub not_there : {b : Bool} {A : Type 0} → b ≡ false → b ≡ true → A
 not_there {b} {A} is there = absurd (true≢false (sym there ∙ is))
+
+-- an action for which the pool is held needs it
+pub needs_pool : (at : AtNext) (next : Next) → IsWithPool next at.top at.lane.items → ActionNeedsPool at next
+needs_pool at Fork suits = tt
+needs_pool at (Join child) suits = λ delivered. suits.1
+needs_pool at (Alloc words) suits = tt
+needs_pool at (Release words) suits = tt
+needs_pool at Dummy suits = absurd suits
+needs_pool at (Fault fault) suits = tt
+needs_pool at End suits = suits.0

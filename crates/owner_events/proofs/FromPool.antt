@@ -18,7 +18,7 @@ use Rattle.owner_events.proofs.Held.{is_ready}
 use Rattle.owner_events.specs.Acting.{HasDone}
 use Rattle.owner_events.specs.Needs.{ActionNeedsPool}
 use Rattle.owner_events.specs.Ready.{CountsPool}
-use Rattle.owner_events.specs.Taking.{words_asked_by}
+use Rattle.owner_acts.specs.WithPool.{words_asked_by}
 use Rattle.thread_frames.specs.Views.{next_of}
 use Rattle.thread_frames.specs.declared.next.Next.{Next}
 use Rattle.turn_table.specs.Seats.{with_hand}

@@ -32,7 +32,8 @@ use Rattle.owner_advance.specs.Returning.{MayNote, ReturnsPool}
 use Rattle.owner_events.proofs.Following.{is_before}
 use Rattle.owner_events.proofs.Given.{lane_back}
 use Rattle.owner_events.specs.Holding.{Fails, IsHolding, IsBefore, IsListSlot, IsNoSlot, IsPoolSlot, Shows, found_note}
-use Rattle.owner_events.specs.Taking.{AsksByTheList, words_asked_by}
+use Rattle.owner_events.specs.Taking.{AsksByTheList}
+use Rattle.owner_acts.specs.WithPool.{words_asked_by}
 use Rattle.owner_events.specs.declared.refused.ActRefused.TheVariants.{Busy, Over, Stopped}
 
 -- it may ask for memory

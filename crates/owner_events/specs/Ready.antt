@@ -23,7 +23,7 @@ use Rattle.owner_acts.specs.Ready.{PoolIsReady}
 use Rattle.owner_advance.specs.declared.at_next.AtNext.{AtNext}
 use Rattle.owner_advance.specs.declared.memory.SeatMemory.{SeatMemory}
 use Rattle.owner_events.specs.Holding.{Fails, IsBefore, IsCounted, IsPoolSlot}
-use Rattle.owner_events.specs.Taking.{words_asked_by}
+use Rattle.owner_acts.specs.WithPool.{words_asked_by}
 use Rattle.owner_events.specs.declared.refused.ActRefused.{ActRefused}
 
 -- The seat holds its lane, whose top thread has come to this action, and meets the law.

@@ -1,11 +1,9 @@
 -- What an owner has once it took the list or the pool beside its lane.
 use Rattle.std.specs.Prelude.{◌≡◌, ℕ, ◌+◌, ◌<◌, ◌≤◌, Option, None, Some, List, [], ◌∷◌, ◌++◌, Result, Ok, Err}
 use Rattle.deque_list.specs.declared.deque_id.DequeId.{DequeId}
-use Rattle.depth_first_list.specs.Actions.{record_words}
 use Rattle.play_rules.specs.declared.stop.Stop.{Stop}
 use Rattle.play_rules.specs.declared.stop.Stop.TheVariants.{ArenaFull}
 use Rattle.thread_frames.specs.declared.next.Next.{Next}
-use Rattle.thread_frames.specs.declared.next.Next.TheVariants.{Fork, Join, Alloc, Release, Dummy, Fault, End}
 use Rattle.space_ledger.specs.MovesList.{moves_spare}
 use Rattle.turn_table.specs.declared.look.Look.TheVariants.{Counted}
 use Rattle.turn_table.specs.Seats.{with_hand}
@@ -20,20 +18,11 @@ use Rattle.hall_slots.specs.declared.list_slot.ListSlot.{ListSlot}
 use Rattle.hall_slots.specs.declared.pool_slot.PoolSlot.{PoolSlot}
 use Rattle.hall_slots.specs.declared.slot.Slot.{Slot}
 use Rattle.hall_slots.specs.declared.slot.Slot.TheVariants as slots
+use Rattle.owner_acts.specs.WithPool.{words_asked_by}
 use Rattle.owner_advance.specs.declared.at_next.AtNext.{AtNext}
 use Rattle.owner_advance.specs.Causes.{IsTooLarge}
 use Rattle.owner_events.specs.Holding.{Fails, IsBefore, IsCounted, IsListSlot, IsNoSlot, IsPoolSlot}
 use Rattle.owner_events.specs.declared.refused.ActRefused.{ActRefused}
-
--- the words that an action takes of the arena
-abbrev pub words_asked_by : Next → ℕ
-words_asked_by Fork = record_words
-words_asked_by (Join child) = 0
-words_asked_by (Alloc words) = words
-words_asked_by (Release words) = 0
-words_asked_by Dummy = 0
-words_asked_by (Fault fault) = 0
-words_asked_by End = 0
 
 -- if they do not fit the arena, this is so by the list of the program
 abbrev pub AsksByTheList : HallKey → AtNext → Next → Type 0

@@ -16,7 +16,7 @@ use crate::acted::Acted;
 use crate::ends::end;
 use crate::joins::{join_delivered, join_missing};
 use crate::lists::{dummy, give_up};
-use crate::pools::{alloc, fault, fork, release};
+use crate::pools::do_with_pool;
 use crate::refused::ActRefused;
 use depth_first_list::Quota;
 use deque_list::DequeId;
@@ -50,13 +50,13 @@ fn do_next(
     ensures lone { HasAllPlaces (key_of row.now) seat.old → IsNotBusy result }
 {
     match next {
-        Next::Fork => fork(row, seat, deque, limit, memory, at, charge),
-        Next::Join { child } => join_delivered(row, seat, deque, limit, memory, at, child),
-        Next::Alloc { words } => alloc(row, seat, deque, limit, memory, at, words, charge),
-        Next::Release { words } => release(row, seat, deque, limit, memory, at, words),
+        Next::Fork => do_with_pool(row, seat, deque, limit, memory, at, next, charge),
+        Next::Join { child } => join_delivered(row, seat, deque, limit, memory, at, child, charge),
+        Next::Alloc { words: _words } => do_with_pool(row, seat, deque, limit, memory, at, next, charge),
+        Next::Release { words: _words } => do_with_pool(row, seat, deque, limit, memory, at, next, charge),
         Next::Dummy => dummy(row, seat, deque, limit, memory, at),
-        Next::Fault(found) => fault(row, seat, deque, limit, memory, at, found),
-        Next::End => end(row, seat, deque, limit, memory, at),
+        Next::Fault(_found) => do_with_pool(row, seat, deque, limit, memory, at, next, charge),
+        Next::End => end(row, seat, deque, limit, memory, at, charge),
     }
 }
 

@@ -8,12 +8,13 @@ ghost use Rattle.thread_map.specs.Kept.{kept_under};
 ghost use Rattle.turn_table.specs.Tables.{key_of, slot_count, IsSeatOf};
 ghost use Rattle.hall_slots.specs.Takes.{HasAllPlaces};
 ghost use Rattle.owner_events.specs.Holding.{IsNotBusy};
+ghost use Rattle.owner_acts.specs.Quotas.{MayUse};
 ghost use Rattle.owner_events.specs.Acting.{Does};
 ghost use Rattle.owner_events.specs.Ready.{IsReadyTo};
 
 use crate::acted::Acted;
 use crate::lists::root_end;
-use crate::pools::end_above;
+use crate::pools::do_with_pool;
 use crate::refused::ActRefused;
 use crate::taking::take_open_list;
 use crate::wholes::{leaving_end, waking_end};
@@ -22,7 +23,7 @@ use dag_order::Placed;
 use deque_list::DequeId;
 use hall_slots::{HallPlace, HallRow, ListSlot};
 use owner_advance::{AtNext, SeatMemory};
-use thread_frames::Thread;
+use thread_frames::{Next, Thread};
 
 /// Whether the parent of a thread waits for it in the list.
 fn is_awaited(list: &Boxed<ListSlot>, top: &Boxed<Thread>) -> bool
@@ -67,17 +68,20 @@ pub(crate) fn end(
     limit: u32,
     memory: &mut SeatMemory,
     at: AtNext,
+    charge: u32,
 ) -> Result<Acted, ActRefused>
     requires here { IsSeatOf row.now seat.old }
     requires slot { deque.0 + 2 < slot_count row.now }
     requires limit { limit ≡ (key_of row.now).actions }
     requires ready { IsReadyTo (key_of row.now) seat.old deque at nexts.End memory.old }
+    requires place { IsSome memory.old.place }
+    requires uses { MayUse (key_of row.now) seat.old.hand.note.worker nexts.End charge at.top at.running.period }
     ensures seat { Does (key_of row.now) seat.old deque at nexts.End result seat.new }
     ensures births { entries memory.new.births ≡ [] }
     ensures lone { HasAllPlaces (key_of row.now) seat.old → IsNotBusy result }
 {
     if at.lane.len() > 0 {
-        return end_above(row, seat, deque, limit, memory, at);
+        return do_with_pool(row, seat, deque, limit, memory, at, Next::End, charge);
     }
     end_alone(row, seat, deque, limit, memory, at)
 }

@@ -1,6 +1,6 @@
 //! The Join, by where the result of the child is.
 
-ghost use Rattle.std.specs.Prelude.{◌≡◌, ◌+◌, ◌<◌, [], false, IsTrue};
+ghost use Rattle.std.specs.Prelude.{◌≡◌, ◌+◌, ◌<◌, [], false, IsSome, IsTrue};
 ghost use Rattle.containers.specs.BoundedList.{entries};
 ghost use Rattle.thread_frames.specs.Actions.{is_there};
 ghost use Rattle.thread_frames.specs.Children.{is_delivered};
@@ -9,13 +9,14 @@ ghost use Rattle.thread_frames.specs.declared.next.Next.TheVariants as nexts;
 ghost use Rattle.turn_table.specs.Tables.{key_of, slot_count, IsSeatOf};
 ghost use Rattle.hall_slots.specs.Takes.{HasAllPlaces};
 ghost use Rattle.owner_events.specs.Holding.{IsNotBusy};
+ghost use Rattle.owner_acts.specs.Quotas.{MayUse};
 ghost use Rattle.owner_events.specs.Acting.{Does};
 ghost use Rattle.owner_events.specs.Ready.{IsKeptFor, IsReadyTo};
 
 use crate::acted::Acted;
 use crate::counting::count_lane;
 use crate::lists::{kept_join, wait};
-use crate::pools::join_giving;
+use crate::pools::do_with_pool;
 use crate::refused::ActRefused;
 use crate::taking::take_open_list;
 use crate::wholes::kept_join_giving;
@@ -25,7 +26,7 @@ use deque_list::DequeId;
 use hall_slots::{Event, HallPlace, HallRow, ListSlot};
 use owner_acts::act_own_join;
 use owner_advance::{AtNext, SeatMemory};
-use thread_frames::Thread;
+use thread_frames::{Next, Thread};
 
 /// Does the Join of a child whose result was handed over, which releases no words. It needs the lane alone.
 fn own_join(
@@ -68,18 +69,22 @@ pub(crate) fn join_delivered(
     memory: &mut SeatMemory,
     at: AtNext,
     child: ThreadId,
+    charge: u32,
 ) -> Result<Acted, ActRefused>
     requires here { IsSeatOf row.now seat.old }
     requires slot { deque.0 + 2 < slot_count row.now }
     requires limit { limit ≡ (key_of row.now).actions }
     requires ready { IsReadyTo (key_of row.now) seat.old deque at (nexts.Join child) memory.old }
+    requires place { IsSome memory.old.place }
+    requires uses { MayUse (key_of row.now) seat.old.hand.note.worker (nexts.Join child) charge at.top at.running.period }
     requires delivered { IsTrue (is_there (newest (children_of at.top))) }
     ensures seat { Does (key_of row.now) seat.old deque at (nexts.Join child) result seat.new }
     ensures births { entries memory.new.births ≡ [] }
     ensures lone { HasAllPlaces (key_of row.now) seat.old → IsNotBusy result }
 {
     if at.top.get().join_releases() > 0 {
-        return join_giving(row, seat, deque, limit, memory, at, child);
+        let next = Next::Join { child };
+        return do_with_pool(row, seat, deque, limit, memory, at, next, charge);
     }
     own_join(row, seat, deque, limit, memory, at, child)
 }

@@ -6,7 +6,8 @@ ghost use Rattle.turn_table.specs.Tables.{key_of, slot_count, IsSeatOf};
 ghost use Rattle.owner_acts.specs.Passed.Taken.{its_lane, list_and_lane};
 ghost use Rattle.hall_slots.specs.Takes.{HasAllPlaces, MeetsLaw};
 ghost use Rattle.owner_events.specs.Holding.{IsBefore, IsNotBusy};
-ghost use Rattle.owner_events.specs.Taking.{AsksByTheList, IsFullBy, TakesList, TakesPool, TakesPoolToo, words_asked_by};
+ghost use Rattle.owner_events.specs.Taking.{AsksByTheList, IsFullBy, TakesList, TakesPool, TakesPoolToo};
+ghost use Rattle.owner_acts.specs.WithPool.{words_asked_by};
 
 use crate::giving::{give_lane, give_list};
 use crate::refused::ActRefused;
