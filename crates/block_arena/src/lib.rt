@@ -1,7 +1,7 @@
 //! The region of memory that all blocks of a run come from: a pool of pieces of 16 words.
 //!
-//! A [`Pool`] makes all its pieces once. A [`Block`] is a list of numbers that lies in pieces, which it takes
-//! out of the pool and gives back to it. It comes from [`Pool::take`], and from cuts and joins of such blocks,
+//! A [`Pool`] makes its pieces once, and more of them where it is asked for room. A [`Block`] is a list of numbers that
+//! lies in pieces, which it takes out of the pool and gives back to it. It comes from [`Pool::take`], and from cuts and joins of such blocks,
 //! and from nothing else. Its pieces move and are never copied or made anew, so blocks are taken, given, cut and
 //! joined without memory: the list that holds the pieces of a block was had before, as a [`Shell`], or was given
 //! room by [`Block::make_room`].
@@ -45,4 +45,4 @@ pub use own_block::OwnBlock;
 pub use pool::Pool;
 pub use record_block::RecordBlock;
 pub use shell::Shell;
-pub use size::pieces_for;
+pub use size::{MOST_COUNTED, MOST_PIECES, pieces_for};

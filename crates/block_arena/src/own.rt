@@ -52,7 +52,7 @@ impl Numbers {
         ensures fits { IfSome result (λ len. words_taken len ≤ MOST_WORDS) }
         ensures none { IsNone result → MOST_WORDS < words_taken (length self.now.items + length right.now.items) }
     {
-        let len = self.len + right.len;
+        let len = self.len.checked_add(right.len)?;
         if len <= MOST_WORDS { Some(len) } else { None }
     }
 

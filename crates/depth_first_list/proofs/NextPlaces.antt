@@ -2,12 +2,12 @@
 use Rattle.std.proofs.Common.{◌≡◌, ℕ, suc, ◌≤◌, ◌<◌, List, [], inl, inr, length, refl, sym, subst, ap, ◌∙◌, arith}
 use Rattle.std.proofs.lemmas.Bool.{cases_lt}
 use Rattle.dag_order.specs.LabelOrder.{fork_of}
-use Rattle.depth_first_list.specs.Actions.{Deed, forks, joins, ends, Action}
+use Rattle.depth_first_list.specs.Actions.{Deed, forks, joins, allocates, releases, dummy, faults, ends, Action}
 use Rattle.depth_first_list.specs.Runs.{Point, start, next_child, end_at, IsDepthFirst}
 use Rattle.depth_first_list.specs.Facts.{action_at, label_at, index_at, deed_at}
 use Rattle.depth_first_list.specs.Laws.{IsAlone, HasAction, NextPlaces, EndIsLast}
 use Rattle.depth_first_list.proofs.Trace.{IsQuiet}
-use Rattle.depth_first_list.proofs.Steps.{IsBelow, Steps, none, more, Step, Does, acts, forks_one, joins_one, where_is, label_not_below, GoesOn, goes_on}
+use Rattle.depth_first_list.proofs.Steps.{Child, IsBelow, Steps, none, more, Step, Does, acts, forks_one, joins_one, where_is, label_not_below, GoesOn, goes_on}
 use Rattle.depth_first_list.proofs.Own.{one_fork}
 use Rattle.depth_first_list.proofs.Whole.{own_steps, RootWhole, root_whole, own_inside, not_the_end, forks_do_not_end, HasWhole, own_whole}
 use Rattle.depth_first_list.proofs.ThreadLaws.{first_action, end_is_last}

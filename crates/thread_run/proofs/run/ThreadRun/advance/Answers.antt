@@ -10,10 +10,10 @@ use Rattle.thread_run.specs.Stepping.{ComesBy, KnownAgain, KeepsFunctions}
 use Rattle.thread_run.proofs.OnTheWay.{taken_off, known_at, further, arrives, ends}
 use Rattle.thread_run.proofs.run.ThreadRun.advance.Goals as goal
 
-pub go_on-requires-clause-known : goal.go_on-requires-clause-known
-go_on-requires-clause-known c =
+pub go_on-requires : goal.go_on-requires
+go_on-requires c =
     let popped : ThreadRun = record { func = c.steps.self.func; state = c.steps.self.state; frames = c.pop.new.self; told = c.steps.self.told } in
-    known_at (code_shown c.args.code.now) (quota_words c.args.k) c.args.self.now c.steps.self popped c.in-Some.frame refl refl refl (taken_off c.steps.self popped c.in-Some.frame c.in-Some.ensures.items) c.steps.invariant.known
+    record { known = known_at (code_shown c.args.code.now) (quota_words c.args.k) c.args.self.now c.steps.self popped c.in-Some.frame refl refl refl (taken_off c.steps.self popped c.in-Some.frame c.in-Some.ensures.items) c.steps.invariant.known }
 
 pub returns-in-Some-2-clause-meaning : goal.returns-in-Some-2-clause-meaning
 returns-in-Some-2-clause-meaning c =
