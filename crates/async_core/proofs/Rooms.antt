@@ -21,7 +21,7 @@ use Rattle.thread_frames.specs.Shown.{thread_shown}
 use Rattle.scheduler_state.specs.declared.scheduler.Scheduler.{Scheduler}
 use Rattle.scheduler_state.specs.Held.{held}
 use Rattle.scheduler_state.specs.Moments.{IsSound, CanGoOn, SameTerms, HasRun, terms_of}
-use Rattle.scheduler_state.proofs.Bounds.{end_within}
+use Rattle.thread_frames.proofs.Bounds.{end_within}
 use Rattle.ready_machine.specs.Standing.{HasRecord}
 
 few_prop : (a b : ℕ) → IsProp (a < b)

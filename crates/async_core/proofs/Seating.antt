@@ -14,7 +14,7 @@ use Rattle.thread_frames.specs.declared.thread.Thread.{Thread}
 use Rattle.scheduler_state.specs.declared.scheduler.Scheduler.{Scheduler}
 use Rattle.scheduler_state.specs.Held.{held, IsInOrder, OwnersSit}
 use Rattle.scheduler_state.specs.Moments.{IsSound}
-use Rattle.scheduler_state.proofs.Bounds.{seat_deque}
+use Rattle.scheduler_state.proofs.SeatDeques.{seat_deque}
 
 -- the owner of a deque has it in its seat
 pub sits_there : (s : Scheduler) → IsInOrder (held s) → {worker : ℕ} {id : DequeId} {items : List Thread} → Stands s.list worker id items

@@ -1,5 +1,5 @@
 use block_arena::{
-    Block, Full, OutOfRange, OwnBlock, Pool, PoolError, Shell, SplitRefused, pieces_for,
+    Block, Full, MOST_PIECES, OutOfRange, Pool, PoolError, Shell, SplitRefused, pieces_for,
 };
 use language_limits::MOST_WORDS;
 use std::process::Abort;
@@ -32,7 +32,7 @@ fn shell_of(rt: &(impl Abort + AllocGlobal), len: u32) -> Shell {
 // A block of `len` zeros, if there is room for it.
 fn take(rt: &(impl Abort + AllocGlobal), pool: &mut Pool, len: u32) -> Result<Block, Full> {
     let shell = shell_of(rt, len);
-    assert!(rt; pieces_for(len) <= shell.room());
+    assert!(rt; pieces_for(len) <= shell.room() && pieces_for(len) <= MOST_PIECES);
     pool.take(len, shell)
 }
 
@@ -92,6 +92,22 @@ fn the_greatest_pool_goes_out_whole(rt: HostRuntime) {
         give(&rt, &mut pool, block);
     }
     assert!(rt; pool.live() == 0 && pool.high() == 67_108_864);
+}
+
+// A pool of one piece makes what is wanting to the next block, and what came back is used again.
+#[test]
+fn a_pool_makes_room(rt: HostRuntime) {
+    let mut pool = pool_of(&rt, 16);
+    for (len, capacity) in [(16, 16), (100, 128), (0, 128), (17, 160)] {
+        pool.make_room(rt.alloc(), len).expect(&rt, "memory");
+        let block = taken(&rt, &mut pool, len);
+        check(&rt, &block, len, len);
+        assert!(rt; pool.capacity() == capacity, "{len}");
+        if len == 16 {
+            give(&rt, &mut pool, block);
+            let _record = pool.take_record().expect(&rt, "room in the pool");
+        }
+    }
 }
 
 // Blocks are joined where they can be, after room was made in the left one.
@@ -184,45 +200,4 @@ fn refusals_say_why(rt: HostRuntime) {
         "the words of the pool are no whole pieces, the words of the pool are too many, out of memory, \
         16 words do not fit beside 32 that are out, the place is not below the length of the block, the block can't be cut at this place";
     assert!(rt; told.as_str() == want, "{told}");
-}
-
-// A block of `len` numbers in memory of its own, whose last number is written.
-fn own(rt: &(impl Abort + AllocGlobal), len: u16) -> OwnBlock {
-    let mut block = OwnBlock::zeros(rt.alloc(), u32::from(len)).expect(rt, "memory");
-    if len != 0 {
-        let last = block.set(u32::from(len) - 1, i64::from(len));
-        last.expect(rt, "a place");
-    }
-    block
-}
-
-// The blocks are one block, which has so many numbers, and the last of them is this one.
-fn are_one(rt: &(impl Abort + AllocGlobal), left: OwnBlock, right: OwnBlock, len: u32, last: u16) {
-    let whole = left.append(rt.alloc(), right).expect(rt, "memory");
-    assert!(rt; whole.len() == len);
-    assert!(rt; len == 0 || whole.get(len - 1) == Some(i64::from(last)));
-}
-
-// The parts of a block of 40 numbers that is cut at place 32.
-fn parts(rt: &(impl Abort + AllocGlobal)) -> (OwnBlock, OwnBlock) {
-    let block = own(rt, 40);
-    let rest = block.len().saturating_sub(32);
-    let shell = shell_of(rt, rest);
-    assert!(rt; pieces_for(rest) <= shell.room());
-    match block.split(32, shell) {
-        Ok(parts) => parts,
-        Err(_) => panic!(rt; "a block was not cut"),
-    }
-}
-
-#[test]
-fn blocks_of_their_own_are_appended(rt: HostRuntime) {
-    for (left, right) in [(0, 1), (5, 40), (16, 16), (65_535, 65_535)] {
-        let len = u32::from(left) + u32::from(right);
-        are_one(&rt, own(&rt, left), own(&rt, right), len, right);
-    }
-    let alloc = rt.alloc();
-    are_one(&rt, OwnBlock::empty(alloc), OwnBlock::empty(alloc), 0, 0);
-    let (left, right) = parts(&rt);
-    are_one(&rt, left, right, 40, 40);
 }

@@ -1,5 +1,5 @@
 //! Tests of small crates: lists, cuts of bytes, labels and rosters, dummies, operators, tokens, made sources, the maps and outputs of threads, the
-//! arena (blocks out of a pool, and blocks of their own), and the edge of the program: its arguments, its streams, its texts and its trails.
+//! arena (blocks out of a pool), and the edge of the program: its arguments, its streams, its texts and its trails.
 //!
 //! This crate has only tests. It uses the crates that it tests, each of which is so proved only once. It has no theorem.
 #![tactic(auto)]

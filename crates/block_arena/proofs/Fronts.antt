@@ -6,9 +6,9 @@ use Rattle.std.proofs.lemmas.List.{take_more, set-append_right, length-take-le, 
 use Rattle.std.proofs.lemmas.Option.{get_or_from_slice_get}
 use Rattle.std.proofs.lemmas.List.Concat.{flat_map-append}
 use Rattle.std.proofs.Math.Seq.{take-set-lt, take-append-add}
-use Rattle.language_limits.specs.declared.TheConstants.{MOST_WORDS}
+use Rattle.block_arena.specs.declared.size.TheConstants.{MOST_PIECES}
 use Rattle.block_arena.specs.declared.piece.Piece.{Piece}
-use Rattle.block_arena.specs.Size.{pieces_for, words_taken}
+use Rattle.block_arena.specs.Size.{pieces_for}
 use Rattle.block_arena.specs.Content.{Content, zeros, left_of, right_of, joined, IsCut, CanJoin}
 use Rattle.block_arena.specs.Pieces.{words_in, contents, block_in}
 use Rattle.block_arena.proofs.Lists.{slice_get-take}
@@ -128,7 +128,7 @@ shown-joined left right all len more before after shown shows items room exact w
 
 -- the parts of a block can be joined again, to the block
 pub CanJoin-cut : (block : Content) (at room : ℕ) → IsCut block at → pieces_for (length block.items) ≤ block.room →
-    words_taken (length block.items) ≤ MOST_WORDS → CanJoin (left_of block at) (right_of block at room)
+    pieces_for (length block.items) ≤ MOST_PIECES → CanJoin (left_of block at) (right_of block at room)
 CanJoin-cut block at room cut fits greatest =
     let front = length-take-le at block.items cut.within in
     let back = length-drop at block.items in
@@ -145,7 +145,7 @@ joined-cut block at room =
     ap (λ (items : List ℤ). record { items = items; room = block.room }) (take-append-drop at block.items)
 
 pub rejoins : (block left right : Content) (at room : ℕ) → left ≡ left_of block at → right ≡ right_of block at room →
-    IsCut block at → pieces_for (length block.items) ≤ block.room → words_taken (length block.items) ≤ MOST_WORDS →
+    IsCut block at → pieces_for (length block.items) ≤ block.room → pieces_for (length block.items) ≤ MOST_PIECES →
     CanJoin left right × (joined left right ≡ block)
 rejoins block left right at room is_left is_right cut fits greatest =
     rw (is_left, is_right) (CanJoin-cut block at room cut fits greatest, joined-cut block at room)

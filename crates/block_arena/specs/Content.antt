@@ -1,7 +1,8 @@
 -- What contracts see of a `Block`, and how blocks are cut and joined.
 use Rattle.std.specs.Prelude.{◌≡◌, ℕ, ◌+◌, ◌*◌, ◌%◌, ◌^◌, ◌<◌, ◌≤◌, List, ◌++◌, length, take, drop, replicate, ℤ, pos}
-use Rattle.language_limits.specs.declared.TheConstants.{MOST_WORDS, PIECE_WORDS}
-use Rattle.block_arena.specs.Size.{pieces_for, words_taken}
+use Rattle.language_limits.specs.declared.TheConstants.{PIECE_WORDS}
+use Rattle.block_arena.specs.declared.size.TheConstants.{MOST_PIECES}
+use Rattle.block_arena.specs.Size.{pieces_for}
 
 -- the numbers of a block, and for how many pieces its list has room
 pub record Content : Type 0 where
@@ -30,14 +31,14 @@ pub record IsCut (block : Content) (at : ℕ) : Type 0 where
   pub within : at ≤ length block.items
 
 -- The left block has no piece in part and room for the pieces of both, and both together are no more
--- than the greatest pool has.
+-- than a block has.
 pub record CanJoin (left right : Content) : Type 0 where
   pub whole : length left.items % PIECE_WORDS ≡ 0
   pub room : pieces_for (length left.items) + pieces_for (length right.items) ≤ left.room
-  pub fits : words_taken (length left.items) + words_taken (length right.items) ≤ MOST_WORDS
+  pub fits : pieces_for (length left.items) + pieces_for (length right.items) ≤ MOST_PIECES
 
 -- What every block keeps: it has just the pieces that its length needs.
 pub record HoldsPieces (pieces room len : ℕ) : Type 0 where
   pub exact : pieces ≡ pieces_for len
-  pub greatest : PIECE_WORDS * pieces ≤ MOST_WORDS
+  pub greatest : pieces ≤ MOST_PIECES
   pub room_fits : room < 2 ^ 32

@@ -1,6 +1,7 @@
 -- What contracts see of a `Pool`, and how it changes.
 use Rattle.std.specs.Prelude.{◌≡◌, ℕ, ◌+◌, ◌-◌, ◌*◌, ◌%◌, ◌<◌, ◌≤◌, max}
-use Rattle.language_limits.specs.declared.TheConstants.{MOST_WORDS, PIECE_WORDS}
+use Rattle.language_limits.specs.declared.TheConstants.{PIECE_WORDS}
+use Rattle.block_arena.specs.declared.size.TheConstants.{MOST_COUNTED}
 
 -- the words of a pool, those of them that are out in blocks, and the most that ever were out at once
 pub record Region : Type 0 where
@@ -31,13 +32,13 @@ abbrev pub with_given : Region → ℕ → Region
 with_given region words = region_of region.capacity (region.live - words) region.high
 
 -- What holds of every pool: it has whole pieces and whole pieces are out, the mark is as high as what is out,
--- and no more is out than the pool has.
+-- no more is out than the pool has, and it has no more than are counted.
 pub record IsSound (region : Region) : Type 0 where
   pub whole : region.capacity % PIECE_WORDS ≡ 0
   pub whole_live : region.live % PIECE_WORDS ≡ 0
   pub raised : region.live ≤ region.high
   pub within : region.high ≤ region.capacity
-  pub greatest : region.capacity ≤ MOST_WORDS
+  pub greatest : region.capacity ≤ MOST_COUNTED
 
 -- What every pool keeps, of the `free` pieces that lie in it and the `room` of its list of them: each piece
 -- that it was made with is free or out, and there is room for all of them.

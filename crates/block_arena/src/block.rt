@@ -5,8 +5,8 @@ ghost use Rattle.block_arena.specs.Content.{left_of, right_of, joined, IsCut, Ca
 use crate::error::{OutOfRange, SplitRefused};
 use crate::numbers::Numbers;
 use crate::shell::Shell;
-use crate::size::pieces_for;
-use language_limits::{MOST_WORDS, PIECE_WORDS};
+use crate::size::{MOST_PIECES, pieces_for};
+use language_limits::PIECE_WORDS;
 use std::alloc::AllocError;
 use std::marker::Model;
 
@@ -27,11 +27,10 @@ impl Model for Block {
 }
 
 impl Block {
-    /// How many numbers the block has: no more than the greatest pool has words, and no more than the list
-    /// has room for.
+    /// How many numbers the block has: no more than [`MOST_PIECES`] hold, and no more than the list has room for.
     pub fn len(&self) -> u32
         ensures value { result ≡ length self.now.items }
-        ensures greatest { words_taken (length self.now.items) ≤ MOST_WORDS }
+        ensures greatest { pieces_for (length self.now.items) ≤ MOST_PIECES }
         ensures room { pieces_for (length self.now.items) ≤ self.now.room }
     {
         self.numbers.len()

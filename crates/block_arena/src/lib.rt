@@ -1,13 +1,10 @@
 //! The region of memory that all blocks of a run come from: a pool of pieces of 16 words.
 //!
-//! A [`Pool`] makes all its pieces once. A [`Block`] is a list of numbers that lies in pieces, which it takes
-//! out of the pool and gives back to it. It comes from [`Pool::take`], and from cuts and joins of such blocks,
+//! A [`Pool`] makes its pieces once, and more of them where it is asked for room. A [`Block`] is a list of numbers that
+//! lies in pieces, which it takes out of the pool and gives back to it. It comes from [`Pool::take`], and from cuts and joins of such blocks,
 //! and from nothing else. Its pieces move and are never copied or made anew, so blocks are taken, given, cut and
 //! joined without memory: the list that holds the pieces of a block was had before, as a [`Shell`], or was given
 //! room by [`Block::make_room`].
-//!
-//! An [`OwnBlock`] lies in pieces of its own, which no pool counts. It is a type of its own, so that no pool
-//! takes it and none that asks for a [`Block`] gets it.
 //!
 //! A [`RecordBlock`] is the 16 words which a forked thread takes: one piece without a list, so it needs no shell.
 //! Nobody reads or writes its words, and only their count is told.
@@ -30,8 +27,6 @@
 mod block;
 mod error;
 mod numbers;
-mod own;
-mod own_block;
 mod piece;
 mod pieces;
 mod pool;
@@ -41,8 +36,7 @@ mod size;
 
 pub use block::Block;
 pub use error::{Full, OutOfRange, PoolError, SplitRefused};
-pub use own_block::OwnBlock;
 pub use pool::Pool;
 pub use record_block::RecordBlock;
 pub use shell::Shell;
-pub use size::pieces_for;
+pub use size::{MOST_COUNTED, MOST_PIECES, pieces_for};

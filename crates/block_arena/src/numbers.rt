@@ -1,12 +1,12 @@
 ghost use Rattle.std.specs.Prelude.{◌≡◌, ◌≤◌, ◌<◌, ◌-◌, ◌↔◌, ◌⊎◌, ◌≢◌, ◌%◌, ◌^◌, length, max, slice_get, slice_set, IsOk, IsErr, IsNone, IsTrue, IfOk, IfErr, OnOk, OnErr};
-ghost use Rattle.block_arena.specs.Size.{pieces_for, words_taken};
+ghost use Rattle.block_arena.specs.Size.{pieces_for};
 ghost use Rattle.block_arena.specs.Content.{zeros, left_of, right_of, joined, IsCut, CanJoin};
 
 use crate::error::{OutOfRange, SplitRefused};
 use crate::pieces::{PieceList, move_tail};
 use crate::shell::Shell;
-use crate::size::pieces_for;
-use language_limits::{MOST_WORDS, PIECE_WORDS};
+use crate::size::{MOST_PIECES, pieces_for};
+use language_limits::PIECE_WORDS;
 use std::alloc::AllocError;
 use std::marker::Model;
 
@@ -30,11 +30,10 @@ impl Model for Numbers {
 }
 
 impl Numbers {
-    /// How many numbers there are: no more than the greatest pool has words, and no more than the list has
-    /// room for.
+    /// How many numbers there are: no more than [`MOST_PIECES`] hold, and no more than the list has room for.
     pub(crate) fn len(&self) -> u32
         ensures value { result ≡ length self.now.items }
-        ensures greatest { words_taken (length self.now.items) ≤ MOST_WORDS }
+        ensures greatest { pieces_for (length self.now.items) ≤ MOST_PIECES }
         ensures room { pieces_for (length self.now.items) ≤ self.now.room }
     {
         self.len
@@ -111,7 +110,7 @@ impl Numbers {
         if left.pieces.capacity() < pieces as usize {
             return false;
         }
-        if MOST_WORDS < pieces * PIECE_WORDS {
+        if MOST_PIECES < pieces {
             return false;
         }
         true

@@ -1,4 +1,4 @@
-ghost use Rattle.std.specs.Prelude.{◌≡◌, ◌≢◌, ◌+◌, ◌%◌, ◌<◌, ◌≤◌, ◌↔◌, ◌⊎◌, length, IsErr, IsNone, IfOk, IfErr, OnOk, OnErr, OnSome};
+ghost use Rattle.std.specs.Prelude.{◌≡◌, ◌≢◌, ◌+◌, ◌%◌, ◌<◌, ◌≤◌, ◌*◌, ◌^◌, ◌↔◌, ◌⊎◌, length, IsErr, IsNone, IfOk, IfErr, OnOk, OnErr, OnSome};
 ghost use Rattle.block_arena.specs.Size.{pieces_for, words_taken};
 ghost use Rattle.block_arena.specs.Region.{IsWhole, IsSound, fresh_region, with_taken, with_given};
 ghost use Rattle.block_arena.specs.Content.{zeros};
@@ -9,15 +9,15 @@ use crate::numbers::Numbers;
 use crate::pieces::{PieceList, clear_all, move_tail, new_pieces};
 use crate::record_block::RecordBlock;
 use crate::shell::Shell;
-use crate::size::pieces_for;
+use crate::size::{MOST_COUNTED, MOST_PIECES, pieces_for};
 use language_limits::{MOST_WORDS, PIECE_WORDS};
-use std::alloc::Global;
+use std::alloc::{AllocError, Global};
 use std::marker::Model;
 
 /// The pieces that are not out in blocks.
 ///
-/// All pieces are made once, by [`Pool::new`]. From then on each lies in the pool or in a block, in one place,
-/// and moves. It is of no account which pieces lie in the pool, so none that is free is ever out of reach.
+/// All pieces are made by [`Pool::new`] and [`Pool::make_room`]. From then on each lies in the pool or in a block, in one
+/// place, and moves. It is of no account which pieces lie in the pool, so none that is free is ever out of reach.
 #[derive(Debug, Drop)]
 pub struct Pool {
     free: PieceList,
@@ -65,7 +65,7 @@ impl Pool {
         })
     }
 
-    /// How many words the pool was made with.
+    /// How many words the pool has.
     pub fn capacity(&self) -> u64
         ensures value { result ≡ self.now.capacity }
         ensures sound { IsSound self.now }
@@ -89,11 +89,55 @@ impl Pool {
         self.high
     }
 
+    /// Makes the pieces that are wanting to a block of `words` words beside those that are out, if any are.
+    ///
+    /// # Errors
+    ///
+    /// There is not enough memory. The pool is as it was.
+    pub fn make_room(&mut self, alloc: Global, words: u32) -> Result<(), AllocError>
+        ensures live { self.new.live ≡ self.old.live }
+        ensures high { self.new.high ≡ self.old.high }
+        ensures room { OnOk result (self.new.live + words_taken words ≤ self.new.capacity) }
+        ensures err { OnErr result (self.new ≡ self.old) }
+    {
+        let count = u64::from(pieces_for(words));
+        let free = self.free.len() as u64;
+        if count <= free {
+            return Ok(());
+        }
+        self.grow(alloc, count - free)
+    }
+
+    /// Makes so many pieces more.
+    ///
+    /// # Errors
+    ///
+    /// There is not enough memory, or the words would be more than are counted, which no memory has. The pool is as it was.
+    fn grow(&mut self, alloc: Global, count: u64) -> Result<(), AllocError>
+        requires few { count < 2 ^ 32 }
+        ensures live { self.new.live ≡ self.old.live }
+        ensures high { self.new.high ≡ self.old.high }
+        ensures more { OnOk result (self.new.capacity ≡ self.old.capacity + PIECE_WORDS * count) }
+        ensures err { OnErr result (self.new ≡ self.old) }
+    {
+        let capacity = self.capacity + count * u64::from(PIECE_WORDS);
+        if MOST_COUNTED < capacity {
+            return Err(AllocError);
+        }
+        let mut more = new_pieces(alloc, count as u32)?;
+        let room = (capacity / u64::from(PIECE_WORDS)) as usize;
+        self.free.reserve(room - self.free.len())?;
+        move_tail(&mut more, 0, &mut self.free);
+        self.capacity = capacity;
+        Ok(())
+    }
+
     /// Takes a block of `words` zeros out of the pool. It becomes the list of `shell`.
     ///
     /// It is refused only where the words that are out and those of the block are more than the pool has.
     pub fn take(&mut self, words: u32, shell: Shell) -> Result<Block, Full>
-        requires { pieces_for words ≤ shell }
+        requires shell { pieces_for words ≤ shell }
+        requires few { pieces_for words ≤ MOST_PIECES }
         // Which pieces are free is of no account, only how many.
         ensures full { IsErr result ↔ (self.old.capacity < self.old.live + words_taken words) }
 

@@ -6,6 +6,7 @@ pub mod Own
 pub mod Joins
 pub mod Whole
 pub mod ThreadLaws
+pub mod NextPlaces
 pub mod JoinLaws
 pub mod OrderLaw
 pub mod LiveLaws

@@ -92,7 +92,7 @@ child_at k l run f child inside deed =
     let h : HasWhole l (label_at l f) = own_whole k l run f inside in
     (h.e, h.whole.inside, child_whole l (label_at l f) h.s h.e h.whole f child inside refl deed)
 
-first_action : (A : ℕ → Action) (a : List ℕ) (s : ℕ) (p : Point) (t : ℕ) (q : Point) (words : ℕ) → Steps A a s p t q → A t ≡ end_at a q words
+pub first_action : (A : ℕ → Action) (a : List ℕ) (s : ℕ) (p : Point) (t : ℕ) (q : Point) (words : ℕ) → Steps A a s p t q → A t ≡ end_at a q words
     → ((A s).label ≡ a) × ((A s).index ≡ p.done)
 first_action A a s p t q words (none s' p') end = (ap (λ x. x.label) end, ap (λ x. x.index) end)
 first_action A a s p t q words (more s' p' u r t' q' step rest) end = (step.label_is, step.index_is)

@@ -37,6 +37,28 @@ abbrev pub ChildBeginsBehindFork : List Action → Type 0
 ChildBeginsBehindFork l = (f child : ℕ) → f < length l → deed_at l f ≡ forks child
     → (suc f < length l) × (label_at l (suc f) ≡ fork_of (label_at l f) child) × (index_at l (suc f) ≡ 0)
 
+-- all but a Fork, behind which its child acts, and an End, behind which its thread does nothing
+abbrev pub IsAlone : Deed → Type 0
+IsAlone (forks child) = ⊥
+IsAlone (joins child) = Unit {0}
+IsAlone allocates = Unit {0}
+IsAlone releases = Unit {0}
+IsAlone dummy = Unit {0}
+IsAlone faults = Unit {0}
+IsAlone ends = ⊥
+
+-- a place has the action of this thread with this index
+abbrev pub HasAction : List Action → ℕ → List ℕ → ℕ → Type 0
+HasAction l i label index = (i < length l) × (label_at l i ≡ label) × (index_at l i ≡ index)
+
+-- What stands at each next place, but for the first action of a child, directly behind its Fork: the root begins; behind an action that
+-- is neither a Fork nor an End its thread goes on; and behind the End of a child the thread that forked it goes on from the Fork.
+pub record NextPlaces (l : List Action) : Type 0 where
+  pub begins : HasAction l 0 [] 0
+  pub goes_on : (i : ℕ) → i < length l → IsAlone (deed_at l i) → HasAction l (suc i) (label_at l i) (suc (index_at l i))
+  pub returns : (f child e : ℕ) → f < length l → deed_at l f ≡ forks child → e < length l → label_at l e ≡ fork_of (label_at l f) child
+      → deed_at l e ≡ ends → HasAction l (suc e) (label_at l f) (suc (index_at l f))
+
 -- Directly behind a Fork stand all actions of the child and of those that stem from it, and no others, up to
 -- the End of the child.
 abbrev pub ChildStandsTogether : List Action → Type 0

@@ -1,6 +1,6 @@
 ghost use Rattle.std.specs.Prelude.{List};
 ghost use Rattle.depth_first_list.specs.Actions.{Action};
-ghost use Rattle.depth_first_list.specs.Laws.{Always, AlwaysWithin, PeakIsHighest, TreeRunsAsShaped, ForksTakeRecords, ChildEndsGiveBack, RootEndIsWeightless, DummiesAreWeightless, EndMeansAll, RootEndMeansAll, ParentsAreLive, JoinsTheLastLive, NextIsOfItsIndex, FirstMissingGoesFirst, FirstMissingNeverWaits, ChildBeginsBehindFork, ChildStandsBeforeParent, ChildStandsTogether, DummiesAreOfTrees, EachChildIsJoined, EachThreadEnds, EndIsLast, FirstMissingIsNext, ForkStandsBefore, ForkedOnce, ForksAreInOrder, IndexRises, JoinStandsBehindChild, JoinedOnce, JoinsTheNewest, LabelsFollowTheList, LiveHasNext, NamesDiffer, NoIndexIsSkipped, IndexIsWithin, OrdinalIsWithin, RootEnds, TreesAreApart, TreesAreDoneFirst, TreesStandBefore};
+ghost use Rattle.depth_first_list.specs.Laws.{Always, AlwaysWithin, PeakIsHighest, TreeRunsAsShaped, ForksTakeRecords, ChildEndsGiveBack, RootEndIsWeightless, DummiesAreWeightless, EndMeansAll, RootEndMeansAll, ParentsAreLive, JoinsTheLastLive, NextIsOfItsIndex, FirstMissingGoesFirst, FirstMissingNeverWaits, ChildBeginsBehindFork, ChildStandsBeforeParent, ChildStandsTogether, DummiesAreOfTrees, EachChildIsJoined, EachThreadEnds, EndIsLast, FirstMissingIsNext, ForkStandsBefore, ForkedOnce, ForksAreInOrder, IndexRises, JoinStandsBehindChild, JoinedOnce, JoinsTheNewest, LabelsFollowTheList, LiveHasNext, NamesDiffer, NextPlaces, NoIndexIsSkipped, IndexIsWithin, OrdinalIsWithin, RootEnds, TreesAreApart, TreesAreDoneFirst, TreesStandBefore};
 
 /// The root acts, and its End is the last action of the list.
 pub fn root_ends()
@@ -35,6 +35,11 @@ pub fn fork_stands_before()
 /// Each forked thread acts, first directly behind its Fork.
 pub fn child_begins_behind_fork()
     ensures { Always ChildBeginsBehindFork }
+{}
+
+/// What stands at each next place: its thread goes on behind an action that it does alone, and a parent behind the End of its child.
+pub fn next_places()
+    ensures { Always NextPlaces }
 {}
 
 /// The actions of a child and of those that stem from it stand together behind its Fork, its End last.

@@ -16,7 +16,7 @@ mod scope;
 mod slot_names;
 mod statements;
 
-pub use lowering::lower;
+pub use lowering::{lower, table_of};
 pub use node_table::{
     Code, CodeArg, CodeArgs, CodeExpr, CodeLink, CodeRest, CodeRet, CodeRetValue, CodeTarget,
     FuncCode, Node, NodeKind, NodeList, Slots,

@@ -18,12 +18,23 @@ use std::alloc::{AllocError, Global};
 /// # Errors
 ///
 /// There is not enough memory.
-pub fn lower(alloc: Global, program: Checked) -> Result<Code, AllocError>
-    ensures { IfOk result (λ c. IsTableOf (program_tree (program_of program)) (code_shown c)) }
+pub fn table_of(alloc: Global, program: &Checked) -> Result<Code, AllocError>
+    ensures { IfOk result (λ c. IsTableOf (program_tree (program_of program.now)) (code_shown c)) }
 {
     let funcs = &program.program().funcs;
     let functions = FunctionNumbers::of(alloc, funcs)?;
     let (nodes, codes) = lower_functions(alloc, &functions)?;
     let main = functions.number(b"main".as_slice());
     Ok(Code::of(nodes, codes, main))
+}
+
+/// The table of a program, of which there is no further use.
+///
+/// # Errors
+///
+/// There is not enough memory.
+pub fn lower(alloc: Global, program: Checked) -> Result<Code, AllocError>
+    ensures { IfOk result (λ c. IsTableOf (program_tree (program_of program)) (code_shown c)) }
+{
+    table_of(alloc, &program)
 }

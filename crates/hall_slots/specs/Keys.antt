@@ -1,6 +1,7 @@
 -- What is fixed for a hall, as definitions speak of it.
 use Rattle.std.specs.Prelude.{ℕ, ◌≤◌, ◌<◌}
-use Rattle.depth_first_list.specs.Passed.Constants.{GREATEST_COUNT, MOST_WORDS, MOST_WORKERS}
+use Rattle.depth_first_list.specs.Passed.Constants.{GREATEST_COUNT, MOST_WORKERS}
+use Rattle.block_arena.specs.declared.size.TheConstants.{MOST_COUNTED}
 use Rattle.depth_first_list.specs.Actions.{record_words}
 use Rattle.deque_machine.specs.Terms.{Terms, given_terms}
 use Rattle.depth_first_list.specs.QuotaWords.{quota_words}
@@ -26,5 +27,5 @@ pub record IsKey (key : HallKey) : Type 0 where
   pub quota : record_words ≤ quota_of key
   pub some_worker : 1 ≤ key.workers
   pub few_workers : key.workers ≤ MOST_WORKERS
-  pub few_words : key.capacity ≤ MOST_WORDS
+  pub few_words : key.capacity ≤ MOST_COUNTED
   pub few_actions : key.actions < GREATEST_COUNT

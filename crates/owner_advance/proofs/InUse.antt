@@ -26,7 +26,7 @@ use Rattle.hall_deciding.specs.Passed.Joins.{words_by, released}
 use Rattle.hall_deciding.specs.Passed.States.{words_held}
 use Rattle.turn_table.specs.Notes.{HasAs}
 use Rattle.turn_table.proofs.Standing.{shown_as}
-use Rattle.scheduler_state.proofs.Bounds.{release_within, join_within, end_within}
+use Rattle.thread_frames.proofs.Bounds.{release_within, join_within, end_within}
 use Rattle.hall_machine.specs.Values.{PoolShown, parts_of}
 use Rattle.hall_slots.specs.declared.lane_slot.LaneSlot.{LaneSlot}
 use Rattle.hall_slots.specs.declared.list_slot.ListSlot.{ListSlot}

@@ -17,7 +17,7 @@ use Rattle.hall_deciding.specs.Passed.StopVariants.{OutOfMemory}
 use Rattle.thread_frames.specs.Actions.{IsStill, IsOfTheList, JoinsNewest}
 use Rattle.thread_frames.specs.Points.{IsAtPoint}
 use Rattle.thread_frames.specs.Shown.{thread_shown}
-use Rattle.thread_frames.specs.Views.{children_of, done_of, next_of, thread_words}
+use Rattle.thread_frames.specs.Views.{children_of, done_of, next_of}
 use Rattle.thread_frames.specs.declared.next.Next.{Next}
 use Rattle.thread_frames.specs.declared.thread.Thread.{Thread}
 use Rattle.hall_deciding.specs.Passed.Settings.{IsSettingOf}
@@ -85,9 +85,6 @@ module _ (key : HallKey) (seat : HallSeat) (deque : DequeId) (was lane : LaneSlo
 
     top_was : r.reads.top ≡ top
     top_was = same_head r.reads.top top r.reads.under under (sym r.reads.items ∙ was_items)
-
-    pub fits : thread_words top ≤ 67108864
-    fits = let words : thread_words top ≤ key.capacity = subst (λ t. thread_words t ≤ key.capacity) top_was r.reads.words in let few = r.is_key.few_words in omega (arith, words, few)
 
     done : done_of top ≤ key.actions
     done = subst (λ t. done_of t ≤ key.actions) top_was r.reads.done

@@ -2,7 +2,7 @@
 
 ghost use Rattle.std.specs.Prelude.{◌≡◌, ◌≤◌, ◌++◌, ◌∷◌, [], pos, ◌+ℤ◌, ◌-ℤ◌, FitsSigned};
 ghost use Rattle.std.specs.Int.{w64};
-ghost use Rattle.language_limits.specs.declared.TheConstants.{MOST_WORDS};
+ghost use Rattle.block_arena.specs.declared.size.TheConstants.{MOST_COUNTED};
 ghost use Rattle.space_ledger.specs.MovesList.{moves_list, moves_spare};
 ghost use Rattle.space_ledger.specs.Sums.{total_change};
 ghost use Rattle.part_events.specs.Here.{HasMovesFor};
@@ -23,8 +23,8 @@ fn add_move(moves: &mut Moves, moved: Moved)
 /// Notes by how much an action changed the words in use.
 pub(crate) fn note_move(moves: &mut Moves, name: ActionId, before: u64, after: u64)
     requires moves { HasMovesFor before moves.old }
-    requires before { before ≤ MOST_WORDS }
-    requires after { after ≤ MOST_WORDS }
+    requires before { before ≤ MOST_COUNTED }
+    requires after { after ≤ MOST_COUNTED }
     ensures moves { moves_list moves.new ≡ moves_list moves.old ++ record { by = name; change = pos after -ℤ pos before } ∷ [] }
     ensures sum { total_change (moves_list moves.new) ≡ pos after }
 {

@@ -8,7 +8,7 @@ pub mod AtTop
 pub mod Sitting
 pub mod Joining
 pub mod AtEnd
-pub mod Bounds
+pub mod SeatDeques
 pub mod Differing
 pub mod Answering
 pub mod Roots

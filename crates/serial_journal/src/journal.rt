@@ -1,4 +1,4 @@
-ghost use Rattle.std.specs.Prelude.{◌≡◌, ℕ, ◌+◌, ◌≤◌, ◌<◌, ◌^◌, [], ◌∷◌, ◌++◌, List, length, IfOk, OnErr, MatchResult, Ok, Err};
+ghost use Rattle.std.specs.Prelude.{◌≡◌, ℕ, suc, ◌+◌, ◌≤◌, ◌<◌, ◌^◌, [], ◌∷◌, ◌++◌, List, length, IfOk, OnOk, OnErr, MatchResult, Ok, Err};
 ghost use Rattle.std.specs.Prelude.{pos, ◌+ℤ◌, FitsSigned};
 ghost use Rattle.std.specs.Int.{int_max, w64};
 ghost use Rattle.depth_first_run.specs.Passed.Actions.{Deed, kind_of, weight_of};
@@ -136,6 +136,10 @@ impl Journal {
     pub fn fork(&mut self, name: ActionId, ordinal: u32, words: u32) -> Result<ThreadId, SerialStop>
         ensures unchanged { OnErr result (IsUnchanged self.old self.new) }
         ensures labels { KeepsLabels (births_of self.old) (births_of self.new) }
+        ensures nth { IfOk result (λ child. child.nth ≡ length (births_of self.old)) }
+        ensures more { OnOk result (length (births_of self.new) ≡ suc (length (births_of self.old))) }
+        ensures child { (label : List ℕ) → HasLabel (births_of self.old ∷ []) name.by label
+            → IfOk result (λ child. HasLabel (births_of self.new ∷ []) child (fork_of label ordinal)) }
         ensures keeps_up { (limit : ℕ) (items : List Item) (label : List ℕ) → KeepsUp limit items self.old
             → HasLabel (births_of self.old ∷ []) name.by label
             → MatchResult result (λ child. KeepsUp limit

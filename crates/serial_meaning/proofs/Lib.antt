@@ -1,8 +1,7 @@
-pub mod Steps
-pub mod Stack
+pub mod Lists
+pub mod Standing
+pub mod Next
+pub mod Acting
 pub mod Forking
-pub mod Joining
-pub mod Running
-pub mod OneStatement
-pub mod Calling
-pub mod Refusing
+pub mod Ending
+pub mod Telling

@@ -1,9 +1,7 @@
 pub mod Settings
-pub mod Lengths
-pub mod Views
-pub mod Frames
-pub mod Moving
-pub mod Forks
+pub mod Doing
+pub mod Stacks
+pub mod Writing
 pub mod Runs
-pub mod Cuts
-pub mod Opening
+pub mod Ending
+pub mod Underway

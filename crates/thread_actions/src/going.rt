@@ -1,7 +1,7 @@
 //! What comes before the next action of a top thread: a place for the child that it may fork, and the way to the action.
 
 ghost use Rattle.std.specs.Prelude.{◌≡◌, ◌≤◌, ◌<◌, ℕ, Some, OnOk, IfOk, IsSome, is_some};
-ghost use Rattle.language_limits.specs.declared.TheConstants.{GREATEST_COUNT, MOST_WORDS};
+ghost use Rattle.language_limits.specs.declared.TheConstants.{GREATEST_COUNT};
 ghost use Rattle.depth_first_list.specs.QuotaWords.{quota_words};
 ghost use Rattle.thread_points.specs.Passed.States.{Setting};
 ghost use Rattle.node_table.specs.Codes.{code_shown};
@@ -51,7 +51,6 @@ pub fn advance(
     k: Quota,
 ) -> Result<Next, AllocError>
     requires point { IsAtPoint (code_shown code.now) (quota_words k) top.old }
-    requires fits { thread_words top.old ≤ MOST_WORDS }
     requires few { done_of top.old < GREATEST_COUNT }
     ensures point { OnOk result (IsAtPoint (code_shown code.now) (quota_words k) top.new) }
     ensures next { IfOk result (λ next. next_of top.new ≡ Some next) }
@@ -77,7 +76,6 @@ pub fn step_on(
     most: u32,
 ) -> Result<bool, AllocError>
     requires point { IsAtPoint (code_shown code.now) (quota_words k) top.old }
-    requires fits { thread_words top.old ≤ MOST_WORDS }
     requires few { done_of top.old < GREATEST_COUNT }
     ensures point { OnOk result (IsAtPoint (code_shown code.now) (quota_words k) top.new) }
     ensures came { IfOk result (λ came. came ≡ is_some (next_of top.new)) }

@@ -1,6 +1,7 @@
 pub mod Placed
 pub mod Acting
 pub mod Doing
+pub mod Bounds
 pub mod Faulting
 pub mod Newest
 pub mod Telling

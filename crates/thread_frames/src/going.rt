@@ -5,7 +5,7 @@ ghost use Rattle.dag_order.specs.Births.{root as root_id};
 ghost use Rattle.thread_state.specs.Passed.States.{Setting};
 ghost use Rattle.depth_first_list.specs.QuotaWords.{quota_words};
 ghost use Rattle.std.specs.Prelude.{slice_get};
-ghost use Rattle.language_limits.specs.declared.TheConstants.{GREATEST_COUNT, MOST_WORDS};
+ghost use Rattle.language_limits.specs.declared.TheConstants.{GREATEST_COUNT};
 ghost use Rattle.node_table.specs.Table.{Function};
 ghost use Rattle.node_table.specs.Codes.{code_shown};
 ghost use Rattle.thread_state.specs.Settings.{IsSettingOf};
@@ -113,7 +113,6 @@ impl Thread {
     /// middle, and it is of no further use but to give its blocks back.
     pub fn advance(&mut self, alloc: Global, code: &Code, k: Quota) -> Result<Next, AllocError>
         requires point { IsAtPoint (code_shown code.now) (quota_words k) self.old }
-        requires fits { thread_words self.old ≤ MOST_WORDS }
         requires count { done_of self.old < GREATEST_COUNT }
         ensures point { OnOk result (IsAtPoint (code_shown code.now) (quota_words k) self.new) }
         ensures next { IfOk result (λ next. next_of self.new ≡ Some next) }
@@ -144,7 +143,6 @@ impl Thread {
         most: u32,
     ) -> Result<bool, AllocError>
         requires point { IsAtPoint (code_shown code.now) (quota_words k) self.old }
-        requires fits { thread_words self.old ≤ MOST_WORDS }
         requires count { done_of self.old < GREATEST_COUNT }
         ensures point { OnOk result (IsAtPoint (code_shown code.now) (quota_words k) self.new) }
         ensures came { IfOk result (λ came. came ≡ is_some (next_of self.new)) }
@@ -177,7 +175,6 @@ impl Thread {
     /// Runs up to the next action, where none is prepared.
     fn go_on(&mut self, alloc: Global, code: &Code, k: Quota) -> Result<Next, AllocError>
         requires point { IsAtPoint (code_shown code.now) (quota_words k) self.old }
-        requires fits { thread_words self.old ≤ MOST_WORDS }
         requires count { done_of self.old < GREATEST_COUNT }
         requires nothing { next_of self.old ≡ None }
         ensures point { OnOk result (IsAtPoint (code_shown code.now) (quota_words k) self.new) }
@@ -208,7 +205,6 @@ impl Thread {
         most: u32,
     ) -> Result<bool, AllocError>
         requires point { IsAtPoint (code_shown code.now) (quota_words k) self.old }
-        requires fits { thread_words self.old ≤ MOST_WORDS }
         requires count { done_of self.old < GREATEST_COUNT }
         requires nothing { next_of self.old ≡ None }
         ensures point { OnOk result (IsAtPoint (code_shown code.now) (quota_words k) self.new) }

@@ -5,7 +5,6 @@ use Rattle.std.specs.Str.{bytes_eq}
 use Rattle.std.proofs.Math.Logic.{∥∥₁_elim}
 use denote.Struct.Props.{props}
 use Rattle.std.proofs.lemmas.List.{nil_from_length}
-use Rattle.language_limits.specs.declared.TheConstants.{MOST_WORDS}
 use Rattle.par_tree.specs.Tree.{Name, Program, Func, Stmt}
 use Rattle.thread_points.specs.Passed.Stores.{Held, block_of}
 use Rattle.thread_points.specs.Passed.Middle as middles
@@ -208,8 +207,8 @@ module _ (t : Table) (k : ℕ) (run : ThreadRun) (n s : ℕ) (e : tables.Expr) (
         let long = ap (λ xs. length xs) (slot_items (slot_names p.at.runs) (own_row run.state) m.at.store l p.left shows p.first) in
         let whole = e.whole in omega (arith, long, whole)
 
-  pub rejoins_at : IsKnownAt t k run (Rejoins n) → words_held run.state ≤ MOST_WORDS → CanRejoin (own_row run.state) s l r
-  rejoins_at known fits = record {
+  pub rejoins_at : IsKnownAt t k run (Rejoins n) → CanRejoin (own_row run.state) s l r
+  rejoins_at known = record {
     within = ∥∥₁_elim known (search props) (λ m. let p = parts m in slot_within (slot_names p.at.runs) (own_row run.state) m.at.store s p.block (shows m p) p.whole);
     within_left = ∥∥₁_elim known (search props) (λ m. let p = parts m in slot_within (slot_names p.at.runs) (own_row run.state) m.at.store l p.left (shows m p) p.first);
     within_right = ∥∥₁_elim known (search props) (λ m. let p = parts m in slot_within (slot_names p.at.runs) (own_row run.state) m.at.store r p.right (shows m p) p.second);
@@ -218,11 +217,10 @@ module _ (t : Table) (k : ℕ) (run : ThreadRun) (n s : ℕ) (e : tables.Expr) (
     has_right = ∥∥₁_elim known (search props) (λ m. right_has m (parts m));
     apart = λ same. ∥∥₁_elim known (λ x y. absurd x) (λ m. two m (parts m) same);
     whole = ∥∥₁_elim known (search props) (λ m. pieces m (parts m));
-    fits = omega (arith, fits);
   }
 
-pub can_rejoin : (t : Table) (k : ℕ) (run : ThreadRun) (n : ℕ) → IsKnownAt t k run (Rejoins n) → words_held run.state ≤ MOST_WORDS → run.state.faulted ≡ false → CanRejoinAt (own_row run.state) (kind_at t n)
-can_rejoin t k run n known fits going = go (kind_at t n) refl
+pub can_rejoin : (t : Table) (k : ℕ) (run : ThreadRun) (n : ℕ) → IsKnownAt t k run (Rejoins n) → run.state.faulted ≡ false → CanRejoinAt (own_row run.state) (kind_at t n)
+can_rejoin t k run n known going = go (kind_at t n) refl
   where
     go : (o : Option Kind) → kind_at t n ≡ o → CanRejoinAt (own_row run.state) o
     go None e = tt
@@ -236,4 +234,4 @@ can_rejoin t k run n known fits going = go (kind_at t n) refl
     go (Some (call_node to func from)) e = tt
     go (Some (print_node c)) e = tt
     go (Some (both_node a b blocks assigned)) e = tt
-    go (Some (split_node s c l r body)) e = rejoins_at t k run n s c l r body e going known fits
+    go (Some (split_node s c l r body)) e = rejoins_at t k run n s c l r body e going known

@@ -1,5 +1,4 @@
-ghost use Rattle.std.specs.Prelude.{◌≡◌, ◌≤◌, ◌<◌, None, Ok, IfOk};
-ghost use Rattle.language_limits.specs.declared.TheConstants.{MOST_WORDS};
+ghost use Rattle.std.specs.Prelude.{◌≡◌, ◌<◌, None, Ok, IfOk};
 ghost use Rattle.depth_first_list.specs.QuotaWords.{quota_words};
 ghost use Rattle.node_table.specs.Codes.{code_shown};
 ghost use Rattle.thread_state.specs.States.{words_held};
@@ -37,7 +36,6 @@ impl ThreadRun {
     /// There is not enough memory. The thread may be in the middle of its way, and is of no further use but to give its blocks back.
     pub fn advance(&mut self, alloc: Global, code: &Code, k: Quota) -> Result<Ready, AllocError>
         requires known { IsKnown (code_shown code.now) (quota_words k) self.old }
-        requires fits { words_held self.old.state ≤ MOST_WORDS }
         ensures meaning { Advances (code_shown code.now) (quota_words k) self.old result self.new }
         ensures functions { IfOk result (λ ready. functions_of self.new.func (frames_before ready (frames_of self.new))
             ≡ functions_of self.old.func (frames_of self.old)) }
@@ -66,7 +64,6 @@ impl ThreadRun {
         most: u32,
     ) -> Result<Option<Ready>, AllocError>
         requires known { IsKnown (code_shown code.now) (quota_words k) self.old }
-        requires fits { words_held self.old.state ≤ MOST_WORDS }
         ensures meaning { StepsOn (code_shown code.now) (quota_words k) self.old result self.new }
         ensures known { IfOk result (λ o. KnownAgain (code_shown code.now) (quota_words k) self.new o) }
         ensures functions { IfOk result (λ o. functions_of self.new.func (frames_left o (frames_of self.new))
@@ -96,7 +93,6 @@ impl ThreadRun {
         lists: u32,
     ) -> Result<Option<Ready>, AllocError>
         requires known { IsKnown (code_shown code.now) (quota_words k) self.old }
-        requires fits { words_held self.old.state ≤ MOST_WORDS }
         ensures meaning { StepsOn (code_shown code.now) (quota_words k) self.old result self.new }
         ensures known { IfOk result (λ o. KnownAgain (code_shown code.now) (quota_words k) self.new o) }
         ensures stopped { result ≡ Ok None → self.new.state.turns < stop }

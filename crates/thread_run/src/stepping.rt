@@ -1,10 +1,8 @@
 //! One step of a thread, by the frame that comes next.
 
-ghost use Rattle.std.specs.Prelude.{◌≤◌, IfOk};
-ghost use Rattle.language_limits.specs.declared.TheConstants.{MOST_WORDS};
+ghost use Rattle.std.specs.Prelude.{IfOk};
 ghost use Rattle.node_table.specs.Codes.{code_shown};
 ghost use Rattle.depth_first_list.specs.QuotaWords.{quota_words};
-ghost use Rattle.thread_state.specs.States.{words_held};
 ghost use Rattle.thread_run.specs.Stepping.{IsKnownAt, StepsRun, KeepsFunctions, KeepsCounts, RunsLess, ComesBy, KnownAgain};
 
 use crate::run::ThreadRun;
@@ -28,7 +26,6 @@ impl ThreadRun {
         frame: Frame,
     ) -> Result<Option<Ready>, AllocError>
         requires known { IsKnownAt (code_shown code.now) (quota_words k) self.old frame }
-        requires fits { words_held self.old.state ≤ MOST_WORDS }
         ensures meaning { StepsRun (code_shown code.now) (quota_words k) self.old frame result self.new }
         ensures comes { ComesBy (code_shown code.now) (quota_words k) self.old frame result self.new }
         ensures known { IfOk result (λ o. KnownAgain (code_shown code.now) (quota_words k) self.new o) }
@@ -55,7 +52,6 @@ impl ThreadRun {
     /// There is not enough memory.
     fn rejoin(&mut self, code: &Code, k: Quota, number: u32) -> Result<Option<Ready>, AllocError>
         requires known { IsKnownAt (code_shown code.now) (quota_words k) self.old (Frame.Rejoins number) }
-        requires fits { words_held self.old.state ≤ MOST_WORDS }
         ensures meaning { StepsRun (code_shown code.now) (quota_words k) self.old (Frame.Rejoins number) result self.new }
         ensures functions { KeepsFunctions self.old (Frame.Rejoins number) result self.new }
         ensures cost { RunsLess (code_shown code.now) self.old (Frame.Rejoins number) result self.new }

@@ -1,7 +1,7 @@
 -- What must stand in the row of a thread before a block is cut or put together again.
 use Rattle.std.specs.Prelude.{◌≡◌, ◌≢◌, ℕ, ◌%◌, ◌<◌, ◌≤◌, List, length}
-use Rattle.language_limits.specs.declared.TheConstants.{MOST_WORDS, PIECE_WORDS}
-use Rattle.slot_store.specs.Rows.{Entry, items_at, HasBlock, HasNone, row_words}
+use Rattle.language_limits.specs.declared.TheConstants.{PIECE_WORDS}
+use Rattle.slot_store.specs.Rows.{Entry, items_at, HasBlock, HasNone}
 
 -- a block may be cut into two slots that have none
 pub record CanCut (row : List Entry) (slot left right : ℕ) : Type 0 where
@@ -13,7 +13,7 @@ pub record CanCut (row : List Entry) (slot left right : ℕ) : Type 0 where
   pub no_right : HasNone row right
   pub apart : left ≢ right
 
--- two parts may be put together in a slot that has none: the left one is whole pieces of 16, and the blocks of the row fit in a pool
+-- two parts may be put together in a slot that has none: the left one is whole pieces of 16
 pub record CanRejoin (row : List Entry) (slot left right : ℕ) : Type 0 where
   pub within : slot < length row
   pub within_left : left < length row
@@ -23,4 +23,3 @@ pub record CanRejoin (row : List Entry) (slot left right : ℕ) : Type 0 where
   pub has_right : HasBlock row right
   pub apart : left ≢ right
   pub whole : length (items_at row left) % PIECE_WORDS ≡ 0
-  pub fits : row_words row ≤ MOST_WORDS

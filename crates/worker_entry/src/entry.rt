@@ -1,7 +1,7 @@
 //! The hall of a core.
 
 ghost use Rattle.std.specs.Prelude.{◌≡◌, ◌+◌, ◌≤◌, [], ◌∷◌, IfOk};
-ghost use Rattle.language_limits.specs.declared.TheConstants.{MOST_WORDS};
+ghost use Rattle.block_arena.specs.declared.size.TheConstants.{MOST_COUNTED};
 ghost use Rattle.deque_list.specs.Ids.{first_place};
 ghost use Rattle.dfd_core.specs.Cores.{terms_at};
 ghost use Rattle.dfd_core.specs.Parts.{IsFresh};
@@ -28,7 +28,7 @@ fn shown_code(code: &Code) -> Snapshot<Code>
 /// The words of a pool.
 fn words_of(pool: &Pool) -> u64
     ensures value { result ≡ pool.now.capacity }
-    ensures few { result ≤ MOST_WORDS }
+    ensures few { result ≤ MOST_COUNTED }
 {
     pool.capacity()
 }

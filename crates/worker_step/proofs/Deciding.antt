@@ -35,7 +35,7 @@ use Rattle.scheduler_state.specs.Held.{held_under}
 use Rattle.scheduler_state.specs.Moments.{terms_of, HasRun}
 use Rattle.open_periods.specs.Passed.Terms.{machine_of}
 use Rattle.scheduler_state.proofs.AtEnd.{parent_awaits}
-use Rattle.scheduler_state.proofs.Bounds.{release_within, end_within}
+use Rattle.thread_frames.proofs.Bounds.{release_within, end_within}
 use Rattle.scheduler_state.proofs.Joining.{awaited_one}
 use Rattle.worker_step.specs.Decisions.{Decides}
 use Rattle.worker_step.specs.Memory.{MayAct, words_taken_by}

@@ -47,7 +47,7 @@ use Rattle.scheduler_state.proofs.Passed.Standing.{the_same}
 use Rattle.scheduler_state.proofs.Going.{acted_goes_on, sum_is}
 use Rattle.scheduler_state.proofs.Leaving.{gave_up, gave_up_goes_on}
 use Rattle.scheduler_state.proofs.Still.{reordered_stands}
-use Rattle.scheduler_state.proofs.Bounds.{join_within}
+use Rattle.thread_frames.proofs.Bounds.{join_within}
 use Rattle.scheduler_state.proofs.AtTop.{words_within, not_kept, named, next_at_top, owns_none, its_period, period_there, used_within}
 use Rattle.std.proofs.lemmas.List.{nil_from_length}
 use Rattle.std.proofs.lemmas.Option.{none-some}

@@ -37,7 +37,7 @@ use Rattle.worker_step.specs.Memory.{HasMemory}
 use Rattle.worker_step.specs.Tops.{TakesTop}
 use Rattle.worker_step.specs.Steps.{IsBeforeAction, Comes}
 use Rattle.scheduler_state.proofs.AtTop.{owns_none, words_within, used_within, counts_within}
-use Rattle.scheduler_state.proofs.Bounds.{seat_deque}
+use Rattle.scheduler_state.proofs.SeatDeques.{seat_deque}
 use Rattle.thread_frames.proofs.Points.{point_one}
 use Rattle.worker_step.proofs.Owning.{quota_is}
 

@@ -1,7 +1,8 @@
 //! The actions of a worker's top thread, counted and noted.
 
 ghost use Rattle.std.specs.Prelude.{◌≡◌, ◌≤◌, ◌<◌, ◌+◌, ◌++◌, pos};
-ghost use Rattle.language_limits.specs.declared.TheConstants.{GREATEST_COUNT, MOST_WORDS};
+ghost use Rattle.language_limits.specs.declared.TheConstants.{GREATEST_COUNT};
+ghost use Rattle.block_arena.specs.declared.size.TheConstants.{MOST_COUNTED};
 ghost use Rattle.space_ledger.specs.MovesList.{moves_list, moves_spare};
 ghost use Rattle.space_ledger.specs.Sums.{total_change};
 ghost use Rattle.thread_frames.specs.Views.{done_of};
@@ -23,8 +24,8 @@ fn count(moves: &mut Moves, done: &mut u32, name: ActionId, before: u64, after: 
     requires room { 1 ≤ moves_spare moves.old }
     requires few { done.old < GREATEST_COUNT }
     requires sum { total_change (moves_list moves.old) ≡ pos before }
-    requires after { after ≤ MOST_WORDS }
-    requires before { before ≤ MOST_WORDS }
+    requires after { after ≤ MOST_COUNTED }
+    requires before { before ≤ MOST_COUNTED }
     ensures done { done.new ≡ done.old + 1 }
     ensures moves { moves_list moves.new ≡ moves_list moves.old ++ noted is_move name (change before after) }
 {

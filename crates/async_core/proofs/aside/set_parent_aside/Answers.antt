@@ -7,7 +7,7 @@ use Rattle.list_changes.proofs.Putting.{live, here, at_rank}
 use Rattle.scheduler_state.specs.Passed.Tables.{deque_of, deque_at}
 use Rattle.scheduler_state.specs.declared.scheduler.Scheduler.{Scheduler}
 use Rattle.scheduler_state.specs.Moments.{terms_of}
-use Rattle.scheduler_state.proofs.Bounds.{seat_deque}
+use Rattle.scheduler_state.proofs.SeatDeques.{seat_deque}
 use Rattle.async_core.specs.Aside.{stays, is_cut}
 use Rattle.async_core.proofs.Seating.{two_there, no_two}
 use Rattle.async_core.proofs.aside.set_parent_aside.Goals as goal

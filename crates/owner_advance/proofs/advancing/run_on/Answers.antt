@@ -16,10 +16,6 @@ advance-requires-clause-point c = let at = c.take_apart-at in
     readable.at_code (key_of c.args.row.now) c.args.code.now c.args.quota c.requires.terms at.result.top
     (readable.points (key_of c.args.row.now) c.args.seat.now c.args.deque c.requires.readable.0 c.args.lane c.requires.readable.1 at.result.top at.result.lane.items at.result.running at.ensures.items at.ensures.running).0
 
-pub advance-requires-clause-fits : goal.advance-requires-clause-fits
-advance-requires-clause-fits c = let at = c.take_apart-at in
-    readable.fits (key_of c.args.row.now) c.args.seat.now c.args.deque c.requires.readable.0 c.args.lane c.requires.readable.1 at.result.top at.result.lane.items at.result.running at.ensures.items at.ensures.running
-
 pub advance-requires-clause-few : goal.advance-requires-clause-few
 advance-requires-clause-few c = let at = c.take_apart-at in
     readable.few (key_of c.args.row.now) c.args.seat.now c.args.deque c.requires.readable.0 c.args.lane c.requires.readable.1 at.result.top at.result.lane.items at.result.running at.ensures.items at.ensures.running

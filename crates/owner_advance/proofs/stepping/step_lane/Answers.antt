@@ -16,11 +16,6 @@ step_on-requires-clause-point c = let at = c.take_apart-at in
     (readable.points (key_of c.args.row.now) c.args.seat.now c.args.deque c.requires.readable.0 c.args.lane c.requires.readable.1
     at.result.top at.result.lane.items at.result.running at.ensures.items at.ensures.running).0
 
-pub step_on-requires-clause-fits : goal.step_on-requires-clause-fits
-step_on-requires-clause-fits c = let at = c.take_apart-at in
-    readable.fits (key_of c.args.row.now) c.args.seat.now c.args.deque c.requires.readable.0 c.args.lane c.requires.readable.1
-    at.result.top at.result.lane.items at.result.running at.ensures.items at.ensures.running
-
 pub step_on-requires-clause-few : goal.step_on-requires-clause-few
 step_on-requires-clause-few c = let at = c.take_apart-at in
     readable.few (key_of c.args.row.now) c.args.seat.now c.args.deque c.requires.readable.0 c.args.lane c.requires.readable.1

@@ -8,7 +8,7 @@ use Rattle.scheduler_state.specs.Outcomes.{StepsTo}
 use Rattle.scheduler_state.proofs.Still.{reordered_sound, reordered_stands, still_sound, still_stands}
 use Rattle.worker_step.specs.Steps.{IsBeforeAction}
 use Rattle.worker_step.proofs.Seated.{seated_has_left}
-use Rattle.worker_step.proofs.Taking.{taken_sound, taken_points, taken_at, point_at_top, words_at_top, done_at_top, is_before, comes_of_taken}
+use Rattle.worker_step.proofs.Taking.{taken_sound, taken_points, taken_at, point_at_top, done_at_top, is_before, comes_of_taken}
 use Rattle.worker_step.proofs.owner.step_of_owner.Goals as goal
 
 pub take_top-requires-clause-sound : goal.take_top-requires-clause-sound
@@ -33,14 +33,6 @@ advance-requires-clause-point c =
     let sound = taken_sound (code_shown c.args.code.now) (quota_words c.args.k) c.args.limit c.args.scheduler.now c.take_top.new.scheduler c.args.worker c.in-Ok.deque c.in-Ok.top takes c.requires.sound in
     point_at_top (code_shown c.args.code.now) (quota_words c.args.k) c.args.limit c.take_top.new.scheduler takes.stands c.in-Ok.top sound
     (taken_points (code_shown c.args.code.now) (quota_words c.args.k) c.args.limit c.args.scheduler.now c.take_top.new.scheduler c.args.worker c.in-Ok.deque c.in-Ok.top takes c.requires.points)
-
-pub advance-requires-clause-fits : goal.advance-requires-clause-fits
-advance-requires-clause-fits c =
-    let takes = c.in-Ok.ensures.takes in
-    let few = words_at_top (code_shown c.args.code.now) (quota_words c.args.k) c.args.limit c.take_top.new.scheduler takes.stands c.in-Ok.top
-    (taken_sound (code_shown c.args.code.now) (quota_words c.args.k) c.args.limit c.args.scheduler.now c.take_top.new.scheduler c.args.worker c.in-Ok.deque c.in-Ok.top takes c.requires.sound) in
-    let raised = c.live-live.ensures.sound.raised in let within = c.live-live.ensures.sound.within in let greatest = c.live-live.ensures.sound.greatest in
-    omega (arith, few, raised, within, greatest)
 
 pub advance-requires-clause-few : goal.advance-requires-clause-few
 advance-requires-clause-few c =

@@ -7,7 +7,7 @@ use Rattle.open_periods.specs.Tables.{deque_of, shown_of, deque_at}
 use Rattle.open_periods.specs.Periods.{open_shown}
 use Rattle.scheduler_state.specs.declared.scheduler.Scheduler.{Scheduler}
 use Rattle.scheduler_state.specs.Moments.{terms_of}
-use Rattle.scheduler_state.proofs.Bounds.{seat_deque}
+use Rattle.scheduler_state.proofs.SeatDeques.{seat_deque}
 use Rattle.worker_step.proofs.Taking.{taken_out, takes_top}
 use Rattle.worker_step.proofs.tops.take_top.Goals as goal
 

@@ -17,8 +17,8 @@ returns-then-capacity-pieces c =
     let more = shown-length right.pieces right.len c.args.right.now c.right.view_is c.right.invariant.exact in
     (λ h. (cc), λ can. absurd (let enough = rw (len, more, room) at can.room in omega arith))
 
-pub returns-then-pieces-gt-MOST_WORDS : goal.returns-then-pieces-gt-MOST_WORDS
-returns-then-pieces-gt-MOST_WORDS c =
+pub returns-then-pieces-gt-MOST_PIECES : goal.returns-then-pieces-gt-MOST_PIECES
+returns-then-pieces-gt-MOST_PIECES c =
     let left = c.left.inside in
     let right = c.right.inside in
     let len = shown-length left.pieces left.len c.args.left.now c.left.view_is c.left.invariant.exact in

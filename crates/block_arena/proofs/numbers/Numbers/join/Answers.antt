@@ -2,6 +2,13 @@ use Rattle.std.proofs.Common.{arith}
 use Rattle.block_arena.proofs.Fronts.{shown-length, shown-room, shown-joined}
 use Rattle.block_arena.proofs.numbers.Numbers.join.Goals as goal
 
+pub overflow_add-whole : goal.overflow_add-whole
+overflow_add-whole c =
+    let len = shown-length c.left.inside.pieces c.left.inside.len c.args.left c.left.view_is c.left.invariant.exact in
+    let more = shown-length c.right.inside.pieces c.right.inside.len c.args.right c.right.view_is c.right.invariant.exact in
+    let fits = rw (len, more) at c.requires.fits in
+    omega arith
+
 pub move_tail-requires-clause-room : goal.move_tail-requires-clause-room
 move_tail-requires-clause-room c =
     let len = shown-length c.left.inside.pieces c.left.inside.len c.args.left c.left.view_is c.left.invariant.exact in

@@ -2,6 +2,13 @@ use Rattle.std.proofs.Common.{arith}
 use Rattle.block_arena.proofs.Fronts.{shown-length, shown-appended}
 use Rattle.block_arena.proofs.numbers.Numbers.moved.Goals as goal
 
+pub overflow_add-len : goal.overflow_add-len
+overflow_add-len c =
+    let len = shown-length c.self.inside.pieces c.self.inside.len c.args.self c.self.view_is c.self.invariant.exact in
+    let more = shown-length c.right.inside.pieces c.right.inside.len c.args.right c.right.view_is c.right.invariant.exact in
+    let fits = rw (len, more) at c.requires.fits in
+    omega arith
+
 pub invariant_of-result : goal.invariant_of-result
 invariant_of-result c =
     let len = shown-length c.self.inside.pieces c.self.inside.len c.args.self c.self.view_is c.self.invariant.exact in

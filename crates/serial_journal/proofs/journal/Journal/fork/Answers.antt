@@ -1,5 +1,5 @@
 use Rattle.std.proofs.lemmas.Int.{to_z-of_z}
-use Rattle.std.proofs.Common.{rules, SFits, to_z, of_z, w64, ℤ, ◌≡◌, ◌≤◌, ◌∷◌, [], ◌++◌, ap, ◌∙◌, subst, sym, pos, List, length}
+use Rattle.std.proofs.Common.{arith, length-append, rules, SFits, to_z, of_z, w64, ℤ, ◌≡◌, ◌≤◌, ◌∷◌, [], ◌++◌, ap, ◌∙◌, subst, sym, pos, List, length}
 use Rattle.dag_order.specs.declared.birth.Birth.{Birth}
 use Rattle.dag_order.specs.declared.thread_id.ThreadId.{ThreadId}
 use Rattle.dag_order.specs.declared.kind.Kind.TheVariants.{Fork}
@@ -27,6 +27,30 @@ returns-clause-labels c =
     c.add.ensures.entries ∙ ap (λ (bs : BoundedList Birth). entries bs ++ birth ∷ []) c.in_default.ensures.births
     ∙ ap (λ (bs : List Birth). bs ++ birth ∷ []) c.in_ok-reserve.ensures.entries in
     subst (λ (bs : List Birth). KeepsLabels (births_of c.args.self.now) bs) (sym added) (labels_stay (births_of c.args.self.now) (birth ∷ []))
+
+pub returns-clause-nth : goal.returns-clause-nth
+returns-clause-nth c = c.len-nth.ensures
+
+pub returns-clause-more : goal.returns-clause-more
+returns-clause-more c =
+    let birth : Birth = record { parent = c.args.name.by; ordinal = c.args.ordinal } in
+    let added : entries c.add.new.self ≡ births_of c.args.self.now ++ birth ∷ [] =
+    c.add.ensures.entries ∙ ap (λ (bs : BoundedList Birth). entries bs ++ birth ∷ []) c.in_default.ensures.births
+    ∙ ap (λ (bs : List Birth). bs ++ birth ∷ []) c.in_ok-reserve.ensures.entries in
+    let long = length-append (births_of c.args.self.now) (birth ∷ []) in
+    let same = ap length added in omega (arith, long, same)
+
+pub returns-clause-child : goal.returns-clause-child
+returns-clause-child c = λ label labelled.
+    let birth : Birth = record { parent = c.args.name.by; ordinal = c.args.ordinal } in
+    let same : births_of (record c.args.self.now { births = c.reserve.new.self; small = c.self-1.given.0 }) ≡ births_of c.args.self.now = c.in_ok-reserve.ensures.entries in
+    let added : entries c.add.new.self ≡ births_of c.args.self.now ++ birth ∷ [] =
+    c.add.ensures.entries ∙ ap (λ (bs : BoundedList Birth). entries bs ++ birth ∷ []) c.in_default.ensures.births
+    ∙ ap (λ (bs : List Birth). bs ++ birth ∷ []) same in
+    let id : ThreadId = record { period = 1; nth = length (births_of c.args.self.now) } in
+    let child : HasLabel (entries c.add.new.self ∷ []) id (fork_of label c.args.ordinal) =
+    subst (λ (bs : List Birth). HasLabel (bs ∷ []) id (fork_of label c.args.ordinal)) (sym added) (child_has_label (births_of c.args.self.now) c.args.name.by c.args.ordinal label labelled) in
+    subst (λ n. HasLabel (entries c.add.new.self ∷ []) (record { period = 1; nth = n }) (fork_of label c.args.ordinal)) (sym c.len-nth.ensures) child
 
 pub returns-clause-keeps_up : goal.returns-clause-keeps_up
 returns-clause-keeps_up c = λ limit items label keeps labelled.

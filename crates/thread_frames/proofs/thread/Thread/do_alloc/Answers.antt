@@ -10,8 +10,20 @@ use Rattle.thread_frames.proofs.Acting.{Counts}
 use Rattle.thread_frames.proofs.Doing.{acted_counts, can_hold, alloc_done}
 use Rattle.thread_frames.proofs.thread.Thread.do_alloc.Goals as goal
 
-pub take-requires : goal.take-requires
-take-requires c =
+pub take-requires-clause-few : goal.take-requires-clause-few
+take-requires-clause-few c =
+    let b = c.args.self.now in
+    let is = sym c.replace.ensures.value ∙ c.in-Alloc.is in
+    let asked = ap (λ p. words_asked (told_as b.children.items p)) is in
+    let told : c.in-Alloc.words ≡ words_taken c.in-Alloc.len =
+    placed_gives b (search props) c.requires.placed (λ t k setting of a. (can_hold setting t b.func b.run b.children.items b.record_block c.in-Alloc.slot c.in-Alloc.len c.in-Alloc.words c.in-Alloc.shell of.owned
+    (prepared_as setting t b.func b.run b.children.items b.record_block _ _ (sym is) a)).told) in
+    let d = c.words_asked-asked.ensures in
+    let small = c.words_asked-asked.type_inv in
+    omega (arith, asked, told, d, small)
+
+pub take-requires-clause-shell : goal.take-requires-clause-shell
+take-requires-clause-shell c =
     let b = c.args.self.now in
     let is = sym c.replace.ensures.value ∙ c.in-Alloc.is in
     placed_gives b (search props) c.requires.placed (λ t k setting of a. (let room = (can_hold setting t b.func b.run b.children.items b.record_block c.in-Alloc.slot c.in-Alloc.len c.in-Alloc.words c.in-Alloc.shell of.owned

@@ -8,8 +8,8 @@ use Rattle.thread_frames.proofs.Advancing.{is_nothing, known, came}
 use Rattle.thread_frames.proofs.Listing.{of_list, joins_newest}
 use Rattle.thread_frames.proofs.thread.Thread.go_on.Goals as goal
 
-pub advance-requires-clause-known : goal.advance-requires-clause-known
-advance-requires-clause-known c = known _ _ c.args.self.now (is_nothing c.args.self.now.children.items c.args.self.now.prepared c.requires.nothing) c.requires.point
+pub advance-requires : goal.advance-requires
+advance-requires c = record { known = known _ _ c.args.self.now (is_nothing c.args.self.now.children.items c.args.self.now.prepared c.requires.nothing) c.requires.point }
 
 pub returns-clause-point : goal.returns-clause-point
 returns-clause-point c =

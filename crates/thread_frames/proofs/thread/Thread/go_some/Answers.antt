@@ -9,9 +9,10 @@ use Rattle.thread_frames.proofs.Placed.{next_point, prepared_as}
 use Rattle.thread_frames.proofs.Advancing.{is_nothing, known, came, gone}
 use Rattle.thread_frames.proofs.thread.Thread.go_some.Goals as goal
 
-pub step_on-requires-clause-known : goal.step_on-requires-clause-known
-step_on-requires-clause-known c =
-    known _ _ c.args.self.now (is_nothing c.args.self.now.children.items c.args.self.now.prepared c.requires.nothing) c.requires.point
+pub step_on-requires : goal.step_on-requires
+step_on-requires c = record {
+  known = known _ _ c.args.self.now (is_nothing c.args.self.now.children.items c.args.self.now.prepared c.requires.nothing) c.requires.point;
+}
 
 pub returns-in_default-clause-point : goal.returns-in_default-clause-point
 returns-in_default-clause-point c =

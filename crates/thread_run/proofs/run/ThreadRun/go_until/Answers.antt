@@ -10,7 +10,7 @@ use Rattle.thread_run.specs.declared.run.ThreadRun.{ThreadRun}
 use Rattle.thread_run.specs.Functions.{frames_of}
 use Rattle.thread_run.specs.AtHand.{HasRoom, on_top, IsHanded, LeavesNoMore}
 use Rattle.thread_run.specs.Stepping.{ComesBy, KnownAgain, KeepsFunctions, FallsBy, UnderWay}
-use Rattle.thread_run.proofs.OnTheWay.{taken_off, known_at, fits_at, further, arrives, ends, functions_there, counts_after}
+use Rattle.thread_run.proofs.OnTheWay.{taken_off, known_at, further, arrives, ends, functions_there, counts_after}
 use Rattle.thread_run.proofs.AtHand.{way_same, way_trans, top_frames, known_of_top, falls_by}
 use Rattle.thread_run.proofs.run.ThreadRun.go_until.Goals as goal
 
@@ -38,8 +38,8 @@ ahead-requires-clause-room c =
     let room : HasRoom popped.frames = omega (arith, steps.frames.ok.1, c.in-Some.ensures.cases, c.pop.ensures.capacity) in
     room
 
-pub go_on-requires-clause-known : goal.go_on-requires-clause-known
-go_on-requires-clause-known c =
+pub go_on-requires : goal.go_on-requires
+go_on-requires c =
     let t = code_shown c.args.code.now in
     let k = quota_words c.args.k in
     let start : ThreadRun = c.args.self.now in
@@ -55,26 +55,7 @@ go_on-requires-clause-known c =
     let m = subst (λ (o : Option Frame). IsHanded t k top run o) c.in-Some-2.is (c.in_ok-next.ensures.way room) in
     let now : ThreadRun = on_top run y m.0 in
     let way : UnderWay t k start now = way_trans t k start top now to_top m.1 in
-    known_of_top t k run y m.0 way.known
-
-pub go_on-requires-clause-fits : goal.go_on-requires-clause-fits
-go_on-requires-clause-fits c =
-    let t = code_shown c.args.code.now in
-    let k = quota_words c.args.k in
-    let start : ThreadRun = c.args.self.now in
-    let steps : ThreadRun = c.steps.self in
-    let x : Frame = c.in-Some.frame in
-    let popped : ThreadRun = record { func = steps.func; state = steps.state; frames = c.pop.new.self; told = steps.told } in
-    let taken : frames_of steps ≡ x ∷ frames_of popped = taken_off steps popped x c.in-Some.ensures.items in
-    let room : HasRoom popped.frames = omega (arith, steps.frames.ok.1, c.in-Some.ensures.cases, c.pop.ensures.capacity) in
-    let top : ThreadRun = on_top popped x room in
-    let to_top : UnderWay t k start top = way_same t k steps top refl refl refl (top_frames popped x room ∙ sym taken) start c.steps.invariant in
-    let run : ThreadRun = c.ahead.new.self in
-    let y : Frame = c.in-Some-2.next in
-    let m = subst (λ (o : Option Frame). IsHanded t k top run o) c.in-Some-2.is (c.in_ok-next.ensures.way room) in
-    let now : ThreadRun = on_top run y m.0 in
-    let way : UnderWay t k start now = way_trans t k start top now to_top m.1 in
-    fits_at t k start now run y refl refl refl (top_frames run y m.0) way c.requires.fits
+    record { known = known_of_top t k run y m.0 way.known }
 
 pub returns-in_err-next-clause-label : goal.returns-in_err-next-clause-label
 returns-in_err-next-clause-label c = c.ahead.ensures.counts.0 ∙ c.steps.invariant.counts.0

@@ -8,7 +8,7 @@ use Rattle.thread_run.proofs.Knowing.{can_rejoin}
 use Rattle.thread_run.proofs.run.ThreadRun.rejoin.Goals as goal
 
 pub rejoins-requires : goal.rejoins-requires
-rejoins-requires c = can_rejoin (code_shown c.args.code.now) (quota_words c.args.k) c.args.self.now c.args.number c.requires.known c.requires.fits
+rejoins-requires c = can_rejoin (code_shown c.args.code.now) (quota_words c.args.k) c.args.self.now c.args.number c.requires.known
 
 pub returns-in-Ok-clause-meaning : goal.returns-in-Ok-clause-meaning
 returns-in-Ok-clause-meaning c =

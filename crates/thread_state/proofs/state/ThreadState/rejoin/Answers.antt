@@ -1,10 +1,7 @@
-use Rattle.std.proofs.Common.{◌∷◌, ◌∙◌, refl, sym, arith}
+use Rattle.std.proofs.Common.{◌∷◌, ◌∙◌, refl, sym}
 use Rattle.depth_first_run.specs.Run.{on_store, rejoin_block}
 use Rattle.depth_first_run.specs.States.{unless_faulted}
 use Rattle.node_table.specs.Names.{name_at}
-use Rattle.thread_state.specs.States.{own_row}
-use Rattle.thread_state.specs.Conditions.{CanRejoin}
-use Rattle.thread_state.proofs.Totals.{both_taken}
 use Rattle.thread_state.proofs.Steps.{own_store, is_stored, at_same}
 use Rattle.thread_state.proofs.Splits.{skipped, unskipped}
 use Rattle.thread_state.proofs.state.ThreadState.rejoin.Goals as goal
@@ -13,13 +10,6 @@ pub returns-then-self-clause-state : goal.returns-then-self-clause-state
 returns-then-self-clause-state c = λ contexts names s is.
     let f = on_store (rejoin_block (name_at names c.args.slot) (name_at names c.args.left) (name_at names c.args.right)) in
     at_same (names ∷ contexts) c.args.self.now s (unless_faulted f s) (sym (skipped f s (sym is.faulted ∙ c.if-self.true))) is
-
-pub rejoin-requires-clause-fits : goal.rejoin-requires-clause-fits
-rejoin-requires-clause-fits c =
-    let can : CanRejoin (own_row c.args.self.now) c.args.slot c.args.left c.args.right = c.requires c.if-self.false in
-    let both = both_taken (own_row c.args.self.now) c.args.left c.args.right can.within_left can.within_right can.apart can.has_left can.has_right in
-    let fits = can.fits in
-    omega (arith, both, fits)
 
 pub returns-in-Ok-clause-state : goal.returns-in-Ok-clause-state
 returns-in-Ok-clause-state c = λ contexts names s is.

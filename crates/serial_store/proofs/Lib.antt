@@ -1,9 +1,0 @@
-pub mod Names
-pub mod Setting
-pub mod Holding
-pub mod Stores
-pub mod Chains
-pub mod Joining
-pub mod ArgumentsPassed
-pub mod Words
-pub mod Pairs

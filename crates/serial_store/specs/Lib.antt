@@ -1,5 +1,0 @@
-pub mod Places
-pub mod Shown
-pub mod Branches
-pub mod Effects
-pub mod Passing
