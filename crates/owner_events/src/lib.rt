@@ -28,6 +28,6 @@ mod yields;
 
 pub use acted::Acted;
 pub use acting::act;
-pub use owner_advance::SeatMemory;
+pub use owner_acts::SeatMemory;
 pub use refused::ActRefused;
 pub use yields::{YieldRefused, give_up_deque, yield_deque};
