@@ -138,8 +138,7 @@ module _ (key : HallKey) (worker : ℕ) (deque : DequeId) (was now : Parts) (top
           let list_is : list ≡ list_shown now.list = ap {A = ListShown} (λ l. record l { waiting = taken.waiting }) x.list_is ∙ sym taken.shown in
           let hall_now_is : written x.work list (pool_shown now.pool) lane ≡ hall_with x.hall deque now =
           hall_is key worker deque was now top under holder before at x list (pool_shown now.pool) lane list_is refl
-          (runs_on key worker deque was now top under holder before at x threads after name (ap (map thread_shown) (sym items)) running did.period) in
-          (
+          (runs_on key worker deque was now top under holder before at x threads after name (ap (map thread_shown) (sym items)) running did.period) in (
             waiting,
             x.hall.list.results,
             subst (λ (l : ListShown). IsPermutation l.waiting waiting) (sym x.list_is) taken.was,
@@ -179,8 +178,7 @@ module _ (key : HallKey) (worker : ℕ) (deque : DequeId) (was now : Parts) (top
         let hall_now_is : written x.work list (pool_shown now.pool) lane ≡ hall_with x.hall deque now =
         hall_is key worker deque was now top under holder before at x list (pool_shown now.pool) lane list_is refl
         (runs_on key worker deque was now top under holder before at x threads after name
-        (ap (λ u. thread_shown did.now ∷ u) own_is.under_is ∙ ap (map thread_shown) (sym did.threads_are)) running did.period) in
-        (
+        (ap (λ u. thread_shown did.now ∷ u) own_is.under_is ∙ ap (map thread_shown) (sym did.threads_are)) running did.period) in (
           x.hall.list.waiting,
           results,
           IsPermutation-refl x.hall.list.waiting,

@@ -59,8 +59,11 @@ module _ (key : HallKey) (worker : ℕ) (deque : DequeId) (was now : Parts) (top
       x.hall.list.results,
       IsPermutation-refl x.hall.list.waiting,
       IsPermutation-refl x.hall.list.results,
-      (place, subst (λ (z : Hall × Option DequeId). ActsOn (machine_of x.setting (terms_of key)) x.hall x.work place name z.0 z.1)
-          (λ i. (is i, same i)) did),
+      (
+        place,
+        subst (λ (z : Hall × Option DequeId). ActsOn (machine_of x.setting (terms_of key)) x.hall x.work place name z.0 z.1)
+            (λ i. (is i, same i)) did,
+      ),
     )
 
     pub takes_there : (next : Next) (t : Thread) (name : ActionId) → TakesWords next t name (pool_shown was.pool) (pool_shown now.pool)

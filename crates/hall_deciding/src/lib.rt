@@ -29,8 +29,8 @@ pub mod sound_laws;
 pub mod write_laws;
 
 pub use all_puts::put_all;
-pub use noting::Noting;
 pub use lane_puts::put_lane;
+pub use noting::Noting;
 pub use own::{give_short_back, give_still_back};
 pub use pair_puts::{put_list_and_lane, put_pool_and_lane};
 pub use part_events::{

@@ -52,8 +52,12 @@ fn do_next(
     match next {
         Next::Fork => do_with_pool(row, seat, deque, limit, memory, at, next, charge),
         Next::Join { child } => join_delivered(row, seat, deque, limit, memory, at, child, charge),
-        Next::Alloc { words: _words } => do_with_pool(row, seat, deque, limit, memory, at, next, charge),
-        Next::Release { words: _words } => do_with_pool(row, seat, deque, limit, memory, at, next, charge),
+        Next::Alloc { words: _words } => do_with_pool(
+            row, seat, deque, limit, memory, at, next, charge,
+        ),
+        Next::Release { words: _words } => do_with_pool(
+            row, seat, deque, limit, memory, at, next, charge,
+        ),
         Next::Dummy => dummy(row, seat, deque, limit, memory, at),
         Next::Fault(_found) => do_with_pool(row, seat, deque, limit, memory, at, next, charge),
         Next::End => end(row, seat, deque, limit, memory, at, charge),

@@ -42,5 +42,5 @@ put_all-requires-clause-may c =
     (is_listed key c.args.list c.args.top c.args.child c.requires.joins over.new.list.part.results over.new.top come ready.2.point))
     (handed_stays_sound key seat c.args.deque c.args.list over.new.list ready.0 pool ready.2.lane lane
     (told_note seat.hand.note (Some c.args.deque) (Did done.result)) c.args.child c.args.top over.new.top
-    (on seat.hand.note (Some c.args.deque) (Did done.result)) over.ensures.shown come over.ensures.rest over.ensures.waiting 
+    (on seat.hand.note (Some c.args.deque) (Did done.result)) over.ensures.shown come over.ensures.rest over.ensures.waiting
     (λ before. given_sound key c.args.pool pool (join_words_of over.new.top) done.ensures.sum c.requires.pool.sound done.ensures.pool) points)

@@ -52,9 +52,9 @@ act_with_pool-name-requires-clause-back c = pool.back (key_of c.args.row.now) c.
 pub act_with_pool-name-requires-clause-uses : goal.act_with_pool-name-requires-clause-uses
 act_with_pool-name-requires-clause-uses c = record {
   may = pool.may_do (key_of c.args.row.now) c.args.seat.now c.args.deque c.args.at c.args.next (spare c.args.memory.now.births)
-    c.in_ok-at.at c.in_ok-at.pool c.take_counted_pool.new.seat (c.in_ok-at.ensures.seat (spare c.args.memory.now.births) c.requires.ready.before) c.args.charge c.requires.uses.may;
+      c.in_ok-at.at c.in_ok-at.pool c.take_counted_pool.new.seat (c.in_ok-at.ensures.seat (spare c.args.memory.now.births) c.requires.ready.before) c.args.charge c.requires.uses.may;
   fits = pool.so (key_of c.args.row.now) c.args.seat.now c.args.deque c.args.at c.args.next (spare c.args.memory.now.births)
-    c.in_ok-at.at c.in_ok-at.pool c.take_counted_pool.new.seat (c.in_ok-at.ensures.seat (spare c.args.memory.now.births) c.requires.ready.before) (λ a. a.running.period.used + c.args.charge ≤ GREATEST_QUOTA) c.requires.uses.fits;
+      c.in_ok-at.at c.in_ok-at.pool c.take_counted_pool.new.seat (c.in_ok-at.ensures.seat (spare c.args.memory.now.births) c.requires.ready.before) (λ a. a.running.period.used + c.args.charge ≤ GREATEST_QUOTA) c.requires.uses.fits;
   forks = c.requires.uses.forks;
 }
 
