@@ -5,3 +5,4 @@ mod Putting
 pub mod Pooled
 pub mod Listing
 mod Handed
+pub mod Passed

@@ -7,7 +7,7 @@
 //! ([`act_wait`], [`act_give_up`], [`act_dummy`], [`act_leaving_end`], [`act_root_end`]). Whether the quota covers an action is asked of its
 //! period before ([`laws`]).
 //!
-//! It hands on what a caller needs of `hall_deciding`. Its theorem: so it is with each event, and the law of the hall holds between any two atomic steps.
+//! It uses the way of the top thread to its action (`owner_advance`), and hands on what a caller needs of it and of `hall_deciding`. Its theorem: so it is with each event, and the law of the hall holds between any two atomic steps.
 #![tactic(auto)]
 
 mod give_ups;
@@ -25,6 +25,11 @@ pub use hall_deciding::{Noting, give_still_back, put_list_and_lane};
 pub use joins::act_own_join;
 pub use kept_joins::{act_kept_join, act_kept_join_giving};
 pub use leaving::act_leaving_end;
+pub use owner_advance::{
+    AdvanceRefused, AtNext, SeatMemory, come_to_next, make_room_for_move, make_room_to_close,
+    make_room_to_leave, make_room_to_wait, put_together, return_all, return_answered, return_list,
+    return_pool,
+};
 pub use roots::act_root_end;
 pub use waits::{act_wait, id_of};
 pub use waking::act_waking_end;

@@ -12,7 +12,7 @@ use Rattle.hall_slots.specs.Keys.{quota_of}
 use Rattle.hall_slots.specs.declared.key.HallKey.{HallKey}
 use Rattle.hall_slots.specs.Passed.Books.{charge}
 use Rattle.thread_frames.specs.Passed.Events.{MayDo}
-use Rattle.owner_advance.specs.declared.at_next.AtNext.{AtNext}
+use Rattle.owner_acts.specs.Passed.AtNext.{AtNext}
 use Rattle.owner_events.specs.Taking.{AsksByTheList}
 use Rattle.owner_acts.specs.WithPool.{words_asked_by}
 use Rattle.thread_frames.specs.declared.next.Next.{Next}

@@ -11,7 +11,7 @@ use Rattle.hall_slots.specs.Takes.{HallSeat, IsGiven, IsRefused, IsTaken}
 use Rattle.hall_slots.specs.declared.lane_slot.LaneSlot.{LaneSlot}
 use Rattle.hall_slots.specs.declared.slot.Slot.{Slot}
 use Rattle.hall_slots.specs.declared.slot.Slot.TheVariants as slots
-use Rattle.owner_advance.specs.Advancing.{took_lane}
+use Rattle.owner_acts.specs.Passed.Advancing.{took_lane}
 use Rattle.owner_events.specs.Yielding.{IsBusy}
 
 pub busy_lane : (before after : HallSeat) (deque : DequeId) (held : Held) → before.hand.holds ≡ [] → IsRefused before (deque.0 + 2) held after

@@ -6,8 +6,8 @@ use Rattle.hall_slots.specs.Takes.{HallSeat, IsRefused, IsTaken}
 use Rattle.hall_slots.specs.declared.key.HallKey.{HallKey}
 use Rattle.hall_slots.specs.declared.lane_slot.LaneSlot.{LaneSlot}
 use Rattle.hall_slots.specs.declared.slot.Slot.TheVariants as slots
-use Rattle.owner_advance.specs.Advancing.{HasLooked, IsAtNext, took_lane}
-use Rattle.owner_advance.specs.declared.at_next.AtNext.{AtNext}
+use Rattle.owner_acts.specs.Passed.Advancing.{HasLooked, IsAtNext, took_lane}
+use Rattle.owner_acts.specs.Passed.AtNext.{AtNext}
 use Rattle.owner_events.proofs.Doing.{taken_leaves}
 use Rattle.owner_events.specs.Acting.{Acts, Does, IsLaneOf, look_at_count, look_at_list, look_at_pool}
 use Rattle.owner_events.specs.declared.acted.Acted.{Acted}

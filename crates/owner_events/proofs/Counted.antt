@@ -13,7 +13,7 @@ use Rattle.hall_slots.specs.Takes.{HallSeat}
 use Rattle.hall_slots.specs.declared.key.HallKey.{HallKey}
 use Rattle.hall_slots.specs.declared.lane_slot.LaneSlot.{LaneSlot}
 use Rattle.hall_slots.specs.declared.slot.Slot.{Slot}
-use Rattle.owner_advance.specs.declared.at_next.AtNext.{AtNext}
+use Rattle.owner_acts.specs.Passed.AtNext.{AtNext}
 use Rattle.owner_events.specs.Holding.{Fails, IsHolding, IsBefore, IsNoSlot, Shows}
 use Rattle.owner_events.specs.Taking.{Draws}
 use Rattle.owner_events.specs.declared.refused.ActRefused.TheVariants.{Stopped}

@@ -3,14 +3,14 @@ use Rattle.std.proofs.Common.{ℕ, ◌+◌, ◌≤◌, [], ◌∷◌, ◌++◌, 
 use Rattle.std.specs.Prelude.{Result, Ok, Err}
 use Rattle.deque_list.specs.declared.deque_id.DequeId.{DequeId}
 use Rattle.hall_slots.specs.Counting.{counting_note}
-use Rattle.owner_advance.proofs.InUse.{words_are_in_use}
-use Rattle.owner_advance.specs.Lists.{words_back}
+use Rattle.owner_acts.proofs.Passed.InUse.{words_are_in_use}
+use Rattle.owner_acts.specs.Passed.Lists.{words_back}
 use Rattle.hall_slots.specs.Takes.{HallSeat, MeetsLaw}
 use Rattle.hall_slots.specs.declared.key.HallKey.{HallKey}
 use Rattle.hall_slots.specs.declared.pool_slot.PoolSlot.{PoolSlot}
 use Rattle.hall_slots.specs.declared.slot.Slot.TheVariants as slots
-use Rattle.owner_advance.proofs.Returned.{same_sound}
-use Rattle.owner_advance.specs.declared.at_next.AtNext.{AtNext}
+use Rattle.owner_acts.proofs.Passed.Returned.{same_sound}
+use Rattle.owner_acts.specs.Passed.AtNext.{AtNext}
 use Rattle.owner_events.proofs.Held.{comes, pool_held, with_pool}
 use Rattle.owner_acts.specs.Passed.Taken.{pool_and_lane}
 use Rattle.owner_events.specs.Ready.{CountsPool}

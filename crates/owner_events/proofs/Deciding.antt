@@ -6,7 +6,7 @@ use Rattle.dag_order.specs.declared.thread_id.ThreadId.{ThreadId}
 use Rattle.deque_list.specs.declared.deque_id.DequeId.{DequeId}
 use Rattle.owner_acts.specs.Passed.EventParts.{IsTooMuch}
 use Rattle.owner_acts.specs.Passed.Taken.{its_lane}
-use Rattle.owner_advance.proofs.Joining.{joins_are_read}
+use Rattle.owner_acts.proofs.Passed.Joining.{joins_are_read}
 use Rattle.hall_slots.specs.Keys.{quota_of}
 use Rattle.hall_slots.specs.Takes.{HallSeat, IsTaken, MeetsLaw}
 use Rattle.hall_slots.specs.declared.key.HallKey.{HallKey}
@@ -14,9 +14,9 @@ use Rattle.hall_slots.specs.declared.lane_slot.LaneSlot.{LaneSlot}
 use Rattle.hall_slots.specs.declared.slot.Slot.TheVariants as slots
 use Rattle.owner_acts.proofs.Charging.{ready_may_be_done, spent_is_too_much}
 use Rattle.owner_acts.specs.Quotas.{MayUse}
-use Rattle.owner_advance.specs.Advancing.{IsAtNext, MayCome}
-use Rattle.owner_advance.specs.declared.at_next.AtNext.{AtNext}
-use Rattle.owner_advance.specs.declared.memory.SeatMemory.{SeatMemory}
+use Rattle.owner_acts.specs.Passed.Advancing.{IsAtNext, MayCome}
+use Rattle.owner_acts.specs.Passed.AtNext.{AtNext}
+use Rattle.owner_acts.specs.Passed.SeatMemory.{SeatMemory}
 use Rattle.owner_events.proofs.Held.{comes, with_lane}
 use Rattle.owner_events.specs.Ready.{IsReadyTo}
 use Rattle.owner_events.proofs.Following.{note}

@@ -5,7 +5,7 @@ use Rattle.hall_slots.specs.Takes.{HallSeat}
 use Rattle.hall_slots.specs.declared.key.HallKey.{HallKey}
 use Rattle.hall_slots.specs.declared.slot.Slot.{Slot}
 use Rattle.hall_slots.specs.Passed.Lists.{Each}
-use Rattle.owner_advance.specs.declared.at_next.AtNext.{AtNext}
+use Rattle.owner_acts.specs.Passed.AtNext.{AtNext}
 use Rattle.owner_events.specs.Holding.{AreOfStop, Fails, IsListSlot, IsLookAt, IsNoSlot, IsPoolSlot}
 use Rattle.owner_events.specs.Needs.{ActionNeedsList, ActionNeedsPool, MayTry}
 use Rattle.owner_events.specs.declared.refused.ActRefused.{ActRefused}

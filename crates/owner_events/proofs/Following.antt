@@ -13,8 +13,8 @@ use Rattle.hall_slots.specs.declared.lane_slot.LaneSlot.{LaneSlot}
 use Rattle.hall_slots.specs.declared.seat_note.SeatNote.{SeatNote}
 use Rattle.hall_slots.specs.declared.slot.Slot.{Slot}
 use Rattle.hall_slots.specs.declared.slot.Slot.TheVariants as slots
-use Rattle.owner_advance.specs.Advancing.{HasLooked}
-use Rattle.owner_advance.specs.declared.at_next.AtNext.{AtNext}
+use Rattle.owner_acts.specs.Passed.Advancing.{HasLooked}
+use Rattle.owner_acts.specs.Passed.AtNext.{AtNext}
 use Rattle.owner_events.proofs.Failing.{of_stop_too}
 use Rattle.owner_events.specs.Holding.{Fails, IsHolding, IsBefore, found_note}
 use Rattle.owner_events.specs.declared.refused.ActRefused.{ActRefused}

@@ -8,7 +8,7 @@ use Rattle.hall_slots.specs.declared.key.HallKey.{HallKey}
 use Rattle.hall_slots.specs.declared.lane_slot.LaneSlot.{LaneSlot}
 use Rattle.hall_slots.specs.declared.slot.Slot.{Slot}
 use Rattle.owner_acts.specs.Ready.{IsReady}
-use Rattle.owner_advance.specs.declared.at_next.AtNext.{AtNext}
+use Rattle.owner_acts.specs.Passed.AtNext.{AtNext}
 use Rattle.owner_events.proofs.Held.{is_ready}
 use Rattle.owner_events.specs.Taking.{Draws}
 use Rattle.thread_frames.specs.Views.{next_of}

@@ -16,11 +16,11 @@ use Rattle.thread_frames.specs.declared.thread.Thread.{Thread}
 use Rattle.thread_map.specs.Kept.{kept_under}
 use Rattle.turn_table.specs.Notes.{HasAs}
 use Rattle.owner_acts.specs.Passed.Rooms.{KeepsDeques, HasMoreToLeave, HasMoreToWait}
-use Rattle.owner_advance.proofs.Ending.{leaves_are_read}
-use Rattle.owner_advance.proofs.Joining.{joins_are_read, waits_are_read, results_are_awaited}
-use Rattle.owner_advance.proofs.Listing.{lists_are_read}
-use Rattle.owner_advance.specs.Lists.{ComesTo, ReadsJoin, ReadsLeave, ReadsList, ReadsWait}
-use Rattle.owner_advance.specs.Reads.{HoldsItsLane}
+use Rattle.owner_acts.proofs.Passed.Ending.{leaves_are_read}
+use Rattle.owner_acts.proofs.Passed.Joining.{joins_are_read, waits_are_read, results_are_awaited}
+use Rattle.owner_acts.proofs.Passed.Listing.{lists_are_read}
+use Rattle.owner_acts.specs.Passed.Lists.{ComesTo, ReadsJoin, ReadsLeave, ReadsList, ReadsWait}
+use Rattle.owner_acts.specs.Passed.Reads.{HoldsItsLane}
 use Rattle.hall_slots.specs.Takes.{HallSeat, MeetsLaw}
 use Rattle.hall_slots.specs.declared.key.HallKey.{HallKey}
 use Rattle.hall_slots.specs.declared.lane_slot.LaneSlot.{LaneSlot}

@@ -7,13 +7,13 @@ use Rattle.owner_acts.specs.Passed.Puts.{HasPut}
 use Rattle.owner_acts.specs.Passed.EventParts.{IsNext, MayAct, MayDoNext}
 use Rattle.owner_acts.specs.Passed.Writes.{told_note}
 use Rattle.owner_acts.specs.Passed.Taken.{pool_and_lane}
-use Rattle.owner_advance.specs.Lists.{words_back}
+use Rattle.owner_acts.specs.Passed.Lists.{words_back}
 use Rattle.hall_slots.specs.Takes.{HallSeat}
 use Rattle.hall_slots.specs.declared.event.Event.TheVariants.{Did}
 use Rattle.hall_slots.specs.declared.key.HallKey.{HallKey}
 use Rattle.hall_slots.specs.declared.pool_slot.PoolSlot.{PoolSlot}
 use Rattle.owner_acts.specs.Ready.{IsReadyWithPool, PoolIsReady}
-use Rattle.owner_advance.specs.declared.at_next.AtNext.{AtNext}
+use Rattle.owner_acts.specs.Passed.AtNext.{AtNext}
 use Rattle.owner_events.proofs.Held.{is_ready}
 use Rattle.owner_events.specs.Acting.{HasDone}
 use Rattle.owner_events.specs.Needs.{ActionNeedsPool}

@@ -17,9 +17,9 @@ use Rattle.hall_slots.specs.declared.lane_slot.LaneSlot.{LaneSlot}
 use Rattle.hall_slots.specs.declared.list_slot.ListSlot.{ListSlot}
 use Rattle.hall_slots.specs.declared.pool_slot.PoolSlot.{PoolSlot}
 use Rattle.hall_slots.specs.declared.slot.Slot.{Slot}
-use Rattle.owner_advance.proofs.Readable.{shows_the_same}
-use Rattle.owner_advance.specs.declared.at_next.AtNext.{AtNext}
-use Rattle.owner_advance.specs.Returning.{MayNote, ReturnsLane, ReturnsPool, ReturnsList, ReturnsAll}
+use Rattle.owner_acts.proofs.Passed.Readable.{shows_the_same}
+use Rattle.owner_acts.specs.Passed.AtNext.{AtNext}
+use Rattle.owner_acts.specs.Passed.Returning.{MayNote, ReturnsLane, ReturnsPool, ReturnsList, ReturnsAll}
 use Rattle.owner_events.specs.Holding.{IsHolding}
 
 module _ (key : HallKey) (seat : HallSeat) (deque : DequeId) (taken : LaneSlot → List (ℕ × Slot)) (at : AtNext) (next : Next) (ready : ℕ)

@@ -7,8 +7,8 @@ use Rattle.hall_slots.specs.Passed.Tables.{birth_room}
 use Rattle.thread_frames.specs.declared.next.Next.{Next}
 use Rattle.turn_table.specs.Notes.{HasAs}
 use Rattle.owner_acts.specs.Passed.Taken.{its_lane, pool_and_lane, list_and_lane, all_three}
-use Rattle.owner_advance.specs.Lists.{ComesTo}
-use Rattle.owner_advance.specs.Reads.{HoldsItsLane}
+use Rattle.owner_acts.specs.Passed.Lists.{ComesTo}
+use Rattle.owner_acts.specs.Passed.Reads.{HoldsItsLane}
 use Rattle.hall_slots.specs.Takes.{HallSeat}
 use Rattle.hall_slots.specs.declared.key.HallKey.{HallKey}
 use Rattle.hall_slots.specs.declared.lane_slot.LaneSlot.{LaneSlot}
@@ -17,7 +17,7 @@ use Rattle.hall_slots.specs.declared.pool_slot.PoolSlot.{PoolSlot}
 use Rattle.hall_slots.specs.declared.slot.Slot.{Slot}
 use Rattle.hall_slots.specs.declared.slot.Slot.TheVariants as slots
 use Rattle.owner_acts.specs.Ready.{IsReady}
-use Rattle.owner_advance.specs.declared.at_next.AtNext.{AtNext}
+use Rattle.owner_acts.specs.Passed.AtNext.{AtNext}
 use Rattle.owner_events.specs.Holding.{IsHolding}
 
 -- a period that has room with any list of births that is ready has it with a list for one

@@ -15,7 +15,7 @@ use Rattle.owner_acts.specs.Passed.EventParts.{MayGoOn, MayPause}
 use Rattle.owner_acts.specs.Passed.Writes.{Parts}
 use Rattle.owner_acts.specs.Passed.Taken.{its_lane}
 use Rattle.owner_acts.specs.Passed.NotingVariants.{Found}
-use Rattle.owner_advance.proofs.Reading.{pools_are_sound}
+use Rattle.owner_acts.proofs.Passed.Reading.{pools_are_sound}
 use Rattle.hall_slots.specs.Lists.{answered_note}
 use Rattle.hall_slots.specs.Sound.{PoolIsSound}
 use Rattle.hall_slots.specs.Takes.{HallSeat, IsTaken, IsRefused, MeetsLaw}
@@ -25,10 +25,10 @@ use Rattle.hall_slots.specs.declared.list_slot.ListSlot.{ListSlot}
 use Rattle.hall_slots.specs.declared.pool_slot.PoolSlot.{PoolSlot}
 use Rattle.hall_slots.specs.declared.slot.Slot.{Slot}
 use Rattle.hall_slots.specs.declared.slot.Slot.TheVariants as slots
-use Rattle.owner_advance.specs.declared.at_next.AtNext.{AtNext}
-use Rattle.owner_advance.proofs.Noting.{full_arenas_may_be_noted, memory_may_be_noted}
-use Rattle.owner_advance.proofs.Returned.{same_pool}
-use Rattle.owner_advance.specs.Returning.{MayNote, ReturnsPool}
+use Rattle.owner_acts.specs.Passed.AtNext.{AtNext}
+use Rattle.owner_acts.proofs.Passed.Noting.{full_arenas_may_be_noted, memory_may_be_noted}
+use Rattle.owner_acts.proofs.Passed.Returned.{same_pool}
+use Rattle.owner_acts.specs.Passed.Returning.{MayNote, ReturnsPool}
 use Rattle.owner_events.proofs.Following.{is_before}
 use Rattle.owner_events.proofs.Given.{lane_back}
 use Rattle.owner_events.specs.Holding.{Fails, IsHolding, IsBefore, IsListSlot, IsNoSlot, IsPoolSlot, Shows, found_note}

@@ -6,9 +6,9 @@ use Rattle.owner_acts.specs.Passed.Puts.{HasPut}
 use Rattle.owner_acts.specs.Passed.EventParts.{IsNext, MayAct}
 use Rattle.owner_acts.specs.Passed.Writes.{told_note}
 use Rattle.owner_acts.specs.Passed.Taken.{all_three}
-use Rattle.owner_advance.proofs.InUse.{words_are_in_use}
-use Rattle.owner_advance.specs.Lists.{words_back, ComesTo}
-use Rattle.owner_advance.specs.Reads.{HoldsItsLane}
+use Rattle.owner_acts.proofs.Passed.InUse.{words_are_in_use}
+use Rattle.owner_acts.specs.Passed.Lists.{words_back, ComesTo}
+use Rattle.owner_acts.specs.Passed.Reads.{HoldsItsLane}
 use Rattle.hall_slots.specs.Takes.{HallSeat, MeetsLaw}
 use Rattle.hall_slots.specs.declared.event.Event.{Event}
 use Rattle.hall_slots.specs.declared.key.HallKey.{HallKey}
@@ -16,9 +16,9 @@ use Rattle.hall_slots.specs.declared.list_slot.ListSlot.{ListSlot}
 use Rattle.hall_slots.specs.declared.pool_slot.PoolSlot.{PoolSlot}
 use Rattle.hall_slots.specs.declared.slot.Slot.TheVariants as slots
 use Rattle.owner_acts.specs.Ready.{IsReady, PoolIsReady}
-use Rattle.owner_advance.proofs.Returned.{same_sound}
-use Rattle.owner_advance.specs.Advancing.{HasLooked}
-use Rattle.owner_advance.specs.declared.at_next.AtNext.{AtNext}
+use Rattle.owner_acts.proofs.Passed.Returned.{same_sound}
+use Rattle.owner_acts.specs.Passed.Advancing.{HasLooked}
+use Rattle.owner_acts.specs.Passed.AtNext.{AtNext}
 use Rattle.owner_events.proofs.Doing.{counted_leaves, taken_leaves}
 use Rattle.owner_events.proofs.FromCount as count
 use Rattle.owner_events.proofs.Held.{all_list, all_pool, comes, with_all}

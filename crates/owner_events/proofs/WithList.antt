@@ -8,8 +8,8 @@ use Rattle.owner_acts.specs.Passed.Puts.{HasPut}
 use Rattle.owner_acts.specs.Passed.Rooms.{KeepsDeques, HasMoreBooks, HasMoreRoom, HasMoreToLeave, HasMoreToWait}
 use Rattle.owner_acts.specs.Passed.Writes.{told_note}
 use Rattle.owner_acts.specs.Passed.Taken.{list_and_lane}
-use Rattle.owner_advance.specs.Lists.{ComesTo}
-use Rattle.owner_advance.specs.Reads.{HoldsItsLane}
+use Rattle.owner_acts.specs.Passed.Lists.{ComesTo}
+use Rattle.owner_acts.specs.Passed.Reads.{HoldsItsLane}
 use Rattle.hall_slots.specs.Takes.{HallSeat, MeetsLaw}
 use Rattle.hall_slots.specs.declared.event.Event.{Event}
 use Rattle.hall_slots.specs.declared.key.HallKey.{HallKey}
@@ -17,8 +17,8 @@ use Rattle.hall_slots.specs.declared.list_slot.ListSlot.{ListSlot}
 use Rattle.hall_slots.specs.declared.slot.Slot.TheVariants as slots
 use Rattle.owner_acts.specs.Pauses.{CanClose}
 use Rattle.owner_acts.specs.Ready.{IsReadyWithList}
-use Rattle.owner_advance.specs.Advancing.{HasLooked}
-use Rattle.owner_advance.specs.declared.at_next.AtNext.{AtNext}
+use Rattle.owner_acts.specs.Passed.Advancing.{HasLooked}
+use Rattle.owner_acts.specs.Passed.AtNext.{AtNext}
 use Rattle.owner_events.proofs.FromList as from
 use Rattle.owner_events.proofs.Held.{comes, is_ready_bare, list_held, with_list}
 use Rattle.owner_events.specs.Holding.{IsBefore}

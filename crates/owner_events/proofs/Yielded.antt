@@ -24,9 +24,9 @@ use Rattle.owner_acts.specs.Passed.EventParts.{MayPause}
 use Rattle.owner_acts.specs.Passed.Taken.{list_and_lane}
 use Rattle.owner_acts.specs.Passed.Writes.{Parts}
 use Rattle.owner_acts.specs.Passed.Noting.{Noting}
-use Rattle.owner_advance.specs.Reads.{HoldsItsLane, ReadsLane}
-use Rattle.owner_advance.proofs.Reading.{st, shown, holds as law_holds, owners_read}
-use Rattle.owner_advance.proofs.Listing.{at, lists_are_read}
+use Rattle.owner_acts.specs.Passed.Reads.{HoldsItsLane, ReadsLane}
+use Rattle.owner_acts.proofs.Passed.Reading.{st, shown, holds as law_holds, owners_read}
+use Rattle.owner_acts.proofs.Passed.Listing.{at, lists_are_read}
 use Rattle.hall_slots.specs.Keys.{table_of, quota_of}
 use Rattle.hall_slots.specs.ListCalls.{ShowsUnowned, HasNoOwner, KeepsRest}
 use Rattle.hall_slots.specs.Shown.{running_shown}
@@ -41,10 +41,10 @@ use Rattle.hall_slots.specs.declared.slot.Slot.TheVariants as slots
 use Rattle.hall_slots.proofs.Reading.{get_of_at}
 use Rattle.owner_acts.specs.Pauses.{CanClose}
 use Rattle.owner_acts.proofs.Listing.{yields_may}
-use Rattle.owner_advance.specs.Advancing.{took_lane, MayCome}
-use Rattle.owner_advance.specs.Answers.{ReturnsEnded}
-use Rattle.owner_advance.specs.Returning.{MayNote, ReturnsList}
-use Rattle.owner_advance.proofs.Noting.{memory_may_be_noted, nothing_may_be_noted}
+use Rattle.owner_acts.specs.Passed.Advancing.{took_lane, MayCome}
+use Rattle.owner_acts.specs.Passed.Answers.{ReturnsEnded}
+use Rattle.owner_acts.specs.Passed.Returning.{MayNote, ReturnsList}
+use Rattle.owner_acts.proofs.Passed.Noting.{memory_may_be_noted, nothing_may_be_noted}
 use Rattle.owner_events.specs.Yielding.{noting_then, short_note, stop_then, yielded_note, HasBoth, HasTakenBoth, MayYield}
 use Rattle.owner_events.proofs.FromList as from
 use Rattle.owner_events.proofs.WithList.{more_books}

@@ -8,7 +8,7 @@ use Rattle.owner_acts.specs.Passed.EventParts.{IsTooMuch}
 use Rattle.hall_slots.specs.declared.event.Event.{Event}
 use Rattle.hall_slots.specs.declared.event.Event.TheVariants.{Stole, Did, Suspended, GaveUp, Halted}
 use Rattle.hall_slots.specs.declared.key.HallKey.{HallKey}
-use Rattle.owner_advance.specs.declared.at_next.AtNext.{AtNext}
+use Rattle.owner_acts.specs.Passed.AtNext.{AtNext}
 
 -- The list: for a Dummy, the Join of a child that is not delivered, and an End if no thread is below;
 abbrev pub ActionNeedsList : AtNext → Next → Type 0

@@ -13,15 +13,15 @@ use Rattle.turn_table.specs.Seats.{with_hand}
 use Rattle.hall_slots.specs.Counting.{counting_note}
 use Rattle.owner_acts.specs.Passed.Rooms.{IsSamePool}
 use Rattle.owner_acts.specs.Passed.Taken.{its_lane, list_and_lane, pool_and_lane}
-use Rattle.owner_advance.specs.Lists.{words_back}
+use Rattle.owner_acts.specs.Passed.Lists.{words_back}
 use Rattle.hall_slots.specs.Takes.{HallSeat, MeetsLaw}
 use Rattle.hall_slots.specs.declared.key.HallKey.{HallKey}
 use Rattle.hall_slots.specs.declared.list_slot.ListSlot.{ListSlot}
 use Rattle.hall_slots.specs.declared.pool_slot.PoolSlot.{PoolSlot}
 use Rattle.hall_slots.specs.declared.slot.Slot.TheVariants as slots
 use Rattle.owner_acts.specs.Ready.{PoolIsReady}
-use Rattle.owner_advance.specs.declared.at_next.AtNext.{AtNext}
-use Rattle.owner_advance.specs.declared.memory.SeatMemory.{SeatMemory}
+use Rattle.owner_acts.specs.Passed.AtNext.{AtNext}
+use Rattle.owner_acts.specs.Passed.SeatMemory.{SeatMemory}
 use Rattle.owner_events.specs.Holding.{Fails, IsBefore, IsCounted, IsPoolSlot}
 use Rattle.owner_acts.specs.WithPool.{words_asked_by}
 use Rattle.owner_events.specs.declared.refused.ActRefused.{ActRefused}

@@ -19,8 +19,8 @@ use Rattle.hall_slots.specs.declared.pool_slot.PoolSlot.{PoolSlot}
 use Rattle.hall_slots.specs.declared.slot.Slot.{Slot}
 use Rattle.hall_slots.specs.declared.slot.Slot.TheVariants as slots
 use Rattle.owner_acts.specs.WithPool.{words_asked_by}
-use Rattle.owner_advance.specs.declared.at_next.AtNext.{AtNext}
-use Rattle.owner_advance.specs.Causes.{IsTooLarge}
+use Rattle.owner_acts.specs.Passed.AtNext.{AtNext}
+use Rattle.owner_acts.specs.Passed.Causes.{IsTooLarge}
 use Rattle.owner_events.specs.Holding.{Fails, IsBefore, IsCounted, IsListSlot, IsNoSlot, IsPoolSlot}
 use Rattle.owner_events.specs.declared.refused.ActRefused.{ActRefused}
 

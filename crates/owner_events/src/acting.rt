@@ -3,7 +3,7 @@
 ghost use Rattle.std.specs.Prelude.{◌≡◌, ◌+◌, ◌<◌, [], IsSome};
 ghost use Rattle.containers.specs.BoundedList.{entries};
 ghost use Rattle.turn_table.specs.Tables.{key_of, slot_count, IsSeatOf};
-ghost use Rattle.owner_advance.specs.Advancing.{IsRunBy, MayCome};
+ghost use Rattle.owner_acts.specs.Passed.Advancing.{IsRunBy, MayCome};
 ghost use Rattle.hall_slots.specs.Takes.{HasAllPlaces};
 ghost use Rattle.owner_events.specs.Holding.{IsNotBusy};
 ghost use Rattle.owner_events.specs.Acting.{Acts, Does};
@@ -22,7 +22,7 @@ use depth_first_list::Quota;
 use deque_list::DequeId;
 use hall_slots::{HallPlace, HallRow};
 use node_table::Code;
-use owner_advance::{AdvanceRefused, AtNext, SeatMemory, come_to_next};
+use owner_acts::{AdvanceRefused, AtNext, SeatMemory, come_to_next};
 use play_rules::Stop;
 use std::alloc::Global;
 use thread_actions::{Readiness, readiness_of};

@@ -14,8 +14,7 @@ use crate::refused::ActRefused;
 use containers::Boxed;
 use deque_list::DequeId;
 use hall_slots::{HallPlace, HallRow, ListSlot, PoolSlot, count_action};
-use owner_acts::Noting;
-use owner_advance::{AtNext, make_room_for_move};
+use owner_acts::{AtNext, Noting, make_room_for_move};
 use play_rules::Stop;
 
 /// Counts the action for which the seat holds its lane alone.

@@ -22,7 +22,7 @@ use containers::Boxed;
 use dag_order::Placed;
 use deque_list::DequeId;
 use hall_slots::{HallPlace, HallRow, ListSlot};
-use owner_advance::{AtNext, SeatMemory};
+use owner_acts::{AtNext, SeatMemory};
 use thread_frames::{Next, Thread};
 
 /// Whether the parent of a thread waits for it in the list.

@@ -9,14 +9,15 @@ ghost use Rattle.owner_acts.specs.Passed.Writes.{Parts};
 ghost use Rattle.owner_acts.specs.Passed.Taken.{its_lane, pool_and_lane, list_and_lane, all_three};
 ghost use Rattle.hall_slots.specs.declared.list_slot.ListSlot.{ListSlot as AnyList};
 ghost use Rattle.hall_slots.specs.declared.pool_slot.PoolSlot.{PoolSlot as AnyPool};
-ghost use Rattle.owner_advance.specs.Returning.{MayNote};
+ghost use Rattle.owner_acts.specs.Passed.Returning.{MayNote};
 ghost use Rattle.owner_events.specs.Holding.{IsHolding};
 
 use containers::Boxed;
 use deque_list::DequeId;
 use hall_slots::{HallPlace, HallRow, ListSlot, PoolSlot};
-use owner_acts::{Noting, give_still_back};
-use owner_advance::{AtNext, put_together, return_all, return_list, return_pool};
+use owner_acts::{
+    AtNext, Noting, give_still_back, put_together, return_all, return_list, return_pool,
+};
 
 /// Gives the lane back.
 pub(crate) fn give_lane(row: &HallRow, seat: &mut HallPlace, deque: DequeId, at: AtNext)

@@ -24,8 +24,7 @@ use containers::Boxed;
 use dag_order::ThreadId;
 use deque_list::DequeId;
 use hall_slots::{Event, HallPlace, HallRow, ListSlot};
-use owner_acts::act_own_join;
-use owner_advance::{AtNext, SeatMemory};
+use owner_acts::{AtNext, SeatMemory, act_own_join};
 use thread_frames::{Next, Thread};
 
 /// Does the Join of a child whose result was handed over, which releases no words. It needs the lane alone.

@@ -29,7 +29,7 @@ mod yields;
 
 pub use acted::Acted;
 pub use acting::act;
-pub use owner_advance::SeatMemory;
+pub use owner_acts::SeatMemory;
 pub use refused::ActRefused;
 pub use stepping::step_on;
 pub use yields::{YieldRefused, give_up_deque, yield_deque};

@@ -9,7 +9,7 @@ ghost use Rattle.thread_frames.specs.declared.next.Next.{Next as AnyNext};
 ghost use Rattle.thread_frames.specs.declared.next.Next.TheVariants as nexts;
 ghost use Rattle.thread_map.specs.Kept.{kept_under};
 ghost use Rattle.turn_table.specs.Tables.{key_of, slot_count, IsSeatOf};
-ghost use Rattle.owner_advance.specs.declared.memory.SeatMemory.{SeatMemory as AnyMemory};
+ghost use Rattle.owner_acts.specs.Passed.SeatMemory.{SeatMemory as AnyMemory};
 ghost use Rattle.owner_acts.specs.Passed.Rooms.{HasMoreRoom};
 ghost use Rattle.owner_acts.specs.Passed.Taken.{list_and_lane};
 ghost use Rattle.hall_slots.specs.declared.list_slot.ListSlot.{ListSlot as AnyList};
@@ -29,9 +29,9 @@ use containers::Boxed;
 use dag_order::ThreadId;
 use deque_list::DequeId;
 use hall_slots::{Event, HallPlace, HallRow, ListSlot};
-use owner_acts::{Noting, act_dummy, act_give_up, act_kept_join, act_root_end, act_wait};
-use owner_advance::{
-    AtNext, SeatMemory, make_room_to_close, make_room_to_leave, make_room_to_wait,
+use owner_acts::{
+    AtNext, Noting, SeatMemory, act_dummy, act_give_up, act_kept_join, act_root_end, act_wait,
+    make_room_to_close, make_room_to_leave, make_room_to_wait,
 };
 use play_rules::Stop;
 

@@ -18,8 +18,7 @@ use crate::refused::ActRefused;
 use crate::taking::take_pool_for;
 use deque_list::DequeId;
 use hall_slots::{Event, HallPlace, HallRow, PoolSlot};
-use owner_acts::act_with_pool;
-use owner_advance::{AtNext, SeatMemory};
+use owner_acts::{AtNext, SeatMemory, act_with_pool};
 use thread_frames::Next;
 
 /// Takes the pool for an action, asks for the memory of a move, and counts the action.

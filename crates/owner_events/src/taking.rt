@@ -15,8 +15,7 @@ use containers::Boxed;
 use deque_list::DequeId;
 use hall_slots::{HallPlace, HallRow, ListSlot, PoolSlot, end_of, take_list, take_pool};
 use language_limits::RECORD_WORDS;
-use owner_acts::Noting;
-use owner_advance::{AtNext, put_together, return_answered, return_pool};
+use owner_acts::{AtNext, Noting, put_together, return_answered, return_pool};
 use play_rules::Stop;
 use thread_frames::Next;
 

@@ -28,8 +28,10 @@ use containers::Boxed;
 use dag_order::ThreadId;
 use deque_list::DequeId;
 use hall_slots::{Event, HallPlace, HallRow, ListSlot, PoolSlot};
-use owner_acts::{Noting, act_kept_join_giving, act_leaving_end, act_waking_end};
-use owner_advance::{AtNext, SeatMemory, make_room_to_leave};
+use owner_acts::{
+    AtNext, Noting, SeatMemory, act_kept_join_giving, act_leaving_end, act_waking_end,
+    make_room_to_leave,
+};
 use play_rules::Stop;
 
 /// Gives the list, the pool and the lane back, since there is not enough memory.

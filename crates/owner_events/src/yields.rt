@@ -8,8 +8,8 @@ ghost use Rattle.owner_acts.specs.Passed.Puts.{note_of, HasPut};
 ghost use Rattle.owner_acts.specs.Passed.Writes.{Parts};
 ghost use Rattle.hall_slots.specs.Takes.{AreTaken, HasAllPlaces, MeetsLaw};
 ghost use Rattle.hall_slots.specs.declared.slot.Slot.TheVariants as slots;
-ghost use Rattle.owner_advance.specs.Advancing.{MayCome};
-ghost use Rattle.owner_advance.specs.Returning.{MayNote};
+ghost use Rattle.owner_acts.specs.Passed.Advancing.{MayCome};
+ghost use Rattle.owner_acts.specs.Passed.Returning.{MayNote};
 ghost use Rattle.owner_events.specs.Holding.{IsNotBusy as IsNotRefused};
 ghost use Rattle.owner_events.specs.Yielding.{noting_then, yielded_note, GivesUp, HasBoth, IsBusy, IsNotBusy, MayYield, Yields};
 
@@ -19,8 +19,7 @@ use deque_list::DequeId;
 use hall_slots::{
     HallPlace, HallRow, LaneSlot, ListSlot, end_of, give_lane_back, take_lane, take_list,
 };
-use owner_acts::{Noting, put_list_and_lane};
-use owner_advance::{make_room_to_close, return_answered, return_list};
+use owner_acts::{Noting, make_room_to_close, put_list_and_lane, return_answered, return_list};
 use play_rules::Stop;
 use std::alloc::AllocError;
 use turn_table::Held;

@@ -3,8 +3,8 @@ use Rattle.std.specs.Prelude.{Err}
 use Rattle.containers.specs.BoundedList.{spare}
 use Rattle.turn_table.specs.Tables.{key_of}
 use Rattle.hall_slots.specs.declared.slot.Slot.TheVariants as slots
-use Rattle.owner_advance.specs.Advancing.{HasCome}
-use Rattle.owner_advance.specs.declared.advancing.AdvanceRefused.{AdvanceRefused}
+use Rattle.owner_acts.specs.Passed.Advancing.{HasCome}
+use Rattle.owner_acts.specs.Passed.AdvanceRefused.{AdvanceRefused}
 use Rattle.owner_events.proofs.Following.{all_too}
 use Rattle.owner_events.proofs.Doing.{here_too}
 use Rattle.owner_events.proofs.Called.{acts, refused_lane, short_of_action}

@@ -1,6 +1,6 @@
 use Rattle.turn_table.specs.Tables.{key_of}
 use Rattle.owner_acts.specs.Passed.Taken.{all_three}
-use Rattle.owner_advance.proofs.Noting.{nothing_may_be_noted}
+use Rattle.owner_acts.proofs.Passed.Noting.{nothing_may_be_noted}
 use Rattle.owner_events.proofs.Counted.{still_holds, stopped}
 use Rattle.owner_events.proofs.Trying.{may_want}
 use Rattle.owner_events.proofs.counting.count_with_all.Goals as goal

@@ -2,7 +2,7 @@ use Rattle.containers.specs.BoundedList.{spare}
 use Rattle.thread_frames.specs.declared.next.Next.TheVariants as nexts
 use Rattle.turn_table.specs.Tables.{key_of}
 use Rattle.owner_acts.specs.Passed.Taken.{its_lane}
-use Rattle.owner_advance.proofs.Ending.{ends_are_read}
+use Rattle.owner_acts.proofs.Passed.Ending.{ends_are_read}
 use Rattle.owner_events.proofs.Held.{comes, with_lane}
 use Rattle.owner_events.proofs.Doing.{some_below}
 use Rattle.owner_events.proofs.ends.end.Goals as goal

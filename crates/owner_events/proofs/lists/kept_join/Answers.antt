@@ -10,7 +10,7 @@ use Rattle.owner_acts.specs.Passed.Taken.{list_and_lane}
 use Rattle.hall_slots.specs.declared.event.Event.TheVariants.{Did}
 use Rattle.owner_acts.specs.Kept.{CanJoinKept}
 use Rattle.owner_acts.specs.Ready.{IsReady}
-use Rattle.owner_advance.proofs.Returned.{same_list}
+use Rattle.owner_acts.proofs.Passed.Returned.{same_list}
 use Rattle.owner_events.proofs.Failing.{at_none}
 use Rattle.owner_events.specs.Needs.{MayTry}
 use Rattle.owner_events.proofs.Doing.{exit, here_too, counted_leaves}

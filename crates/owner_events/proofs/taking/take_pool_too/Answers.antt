@@ -2,8 +2,8 @@ use Rattle.std.proofs.Common.{refl}
 use Rattle.turn_table.specs.Tables.{key_of}
 use Rattle.owner_acts.specs.Passed.Taken.{list_and_lane}
 use Rattle.hall_slots.specs.declared.slot.Slot.TheVariants as slots
-use Rattle.owner_advance.proofs.Noting.{nothing_may_be_noted}
-use Rattle.owner_advance.proofs.Returned.{same_list}
+use Rattle.owner_acts.proofs.Passed.Noting.{nothing_may_be_noted}
+use Rattle.owner_acts.proofs.Passed.Returned.{same_list}
 use Rattle.owner_events.specs.Holding.{IsPoolSlot}
 use Rattle.owner_events.proofs.Following.{is_before}
 use Rattle.owner_events.proofs.Trying.{busy, pool_sound, still_holding}

@@ -13,7 +13,7 @@ use Rattle.hall_slots.specs.declared.slot.Slot.TheVariants as slots
 use Rattle.owner_acts.specs.Kept.{CanJoinKept}
 use Rattle.owner_acts.specs.Ready.{IsReady}
 use Rattle.owner_events.proofs.Following.{fails}
-use Rattle.owner_advance.proofs.Returned.{same_list}
+use Rattle.owner_acts.proofs.Passed.Returned.{same_list}
 use Rattle.owner_events.proofs.Failing.{at_none, at_pool, not_there}
 use Rattle.owner_events.specs.Needs.{MayTry}
 use Rattle.owner_events.proofs.Doing.{exit, here_too}
@@ -21,7 +21,7 @@ use Rattle.owner_events.proofs.FromList as from
 use Rattle.owner_events.proofs.WithAll as all
 use Rattle.owner_events.proofs.WithList as with
 use Rattle.owner_events.specs.Acting.{DoesWithList}
-use Rattle.owner_advance.proofs.InUse.{kept_words_are_in_use}
+use Rattle.owner_acts.proofs.Passed.InUse.{kept_words_are_in_use}
 use Rattle.owner_events.proofs.wholes.kept_join_giving.Goals as goal
 
 pub returns-in_err-at-clause-seat : goal.returns-in_err-at-clause-seat

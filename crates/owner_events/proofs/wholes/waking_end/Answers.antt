@@ -13,7 +13,7 @@ use Rattle.hall_slots.specs.declared.slot.Slot.TheVariants as slots
 use Rattle.owner_acts.specs.Ends.{CanWake}
 use Rattle.owner_acts.specs.Ready.{IsReady}
 use Rattle.owner_events.proofs.Following.{fails}
-use Rattle.owner_advance.proofs.Returned.{same_list}
+use Rattle.owner_acts.proofs.Passed.Returned.{same_list}
 use Rattle.owner_events.proofs.Failing.{at_none, at_pool}
 use Rattle.owner_events.specs.Needs.{MayTry}
 use Rattle.owner_events.proofs.Doing.{exit, here_too}

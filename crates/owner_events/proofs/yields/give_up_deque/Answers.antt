@@ -3,7 +3,7 @@ use Rattle.turn_table.specs.Tables.{key_of}
 use Rattle.hall_slots.specs.Lists.{answered_note}
 use Rattle.hall_slots.specs.declared.seat_note.SeatNote.{SeatNote}
 use Rattle.play_rules.specs.declared.stop.Stop.TheVariants.{OutOfMemory}
-use Rattle.owner_advance.proofs.Noting.{memory_may_be_noted}
+use Rattle.owner_acts.proofs.Passed.Noting.{memory_may_be_noted}
 use Rattle.owner_events.specs.Holding.{found_note}
 use Rattle.owner_events.specs.Yielding.{yielded_note}
 use Rattle.owner_events.proofs.Yielded as yielded

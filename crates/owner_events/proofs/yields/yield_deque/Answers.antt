@@ -3,7 +3,7 @@ use Rattle.turn_table.specs.Tables.{key_of}
 use Rattle.owner_acts.specs.Passed.Puts.{note_of, HasPut}
 use Rattle.owner_acts.specs.Passed.Noting.{Noting}
 use Rattle.hall_slots.specs.declared.seat_note.SeatNote.{SeatNote}
-use Rattle.owner_advance.specs.Returning.{MayNote}
+use Rattle.owner_acts.specs.Passed.Returning.{MayNote}
 use Rattle.owner_events.specs.Yielding.{noting_then, short_note, yielded_note}
 use Rattle.owner_events.proofs.Yielded as yielded
 use Rattle.owner_events.proofs.yields.yield_deque.Goals as goal
