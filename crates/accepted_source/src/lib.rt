@@ -7,6 +7,14 @@
 //! written is declared, there is a `main`, and functions, names and statements are few. So it can be run by names and by small numbers.
 //!
 //! It uses the parser (`par_parse`), the checker (`block_check`) and the definitions of both.
+//!
+//! # Why
+//!
+//! - What those who run a program need of the rules is in a crate of its own, as laws over `Ownership`. The laws say what each call finds, that
+//!   `main` is there, that function names differ, and that a written name is declared. That no case meets a gone block or a name of the wrong
+//!   kind is what the cases of the relation say, and has no law beside them.
+//! - Reading and checking a source are one call, `accept`, so that every user of a source has the same two refusals. The table of the rules is
+//!   its test, since a refused program is most plainly a text.
 #![tactic(auto)]
 
 mod laws;

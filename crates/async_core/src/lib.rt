@@ -9,6 +9,17 @@
 //! and one cut of a deque of two (`list_changes`). Its one theorem: whatever the program, what is held is at a moment of a
 //! run of the ready list (`ready_machine`), each step is the event that its rules want of the worker, or meets the stop that they name, and
 //! a run that finishes has the fault and the lines of the depth-first run.
+//!
+//! # Why
+//!
+//! - **A step is one of the deques, and a cut after a Fork**: `step_of_thief` with the word 0 takes the leftmost ready thread, `step_of_owner`
+//!   does everything else, and `set_aside` gives the parent of a Fork an entry of its own. So no code of an event is written twice.
+//! - **Room for one more entry is made before the step of an owner**, since the step takes none (`spare` of `step_of_owner`). If as many
+//!   entries are in the list as may be, none is made: then the arena has no room for a record, and no Fork can come (`entries_are_few`).
+//! - The list may have one entry, and one for each record of 16 words in the pool. So a place in the list is never wanting, and no answer says
+//!   so (`MeetsBy`).
+//! - After a Fork the code looks at the lane of the worker's deque: it has two threads exactly if the event was a Fork (`one_or_two`).
+//! - A turn draws one word, also if the worker is idle: no word picks from whom it takes.
 #![tactic(auto)]
 
 mod aside;

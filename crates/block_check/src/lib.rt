@@ -1,4 +1,4 @@
-//! The checker of ownership.
+//! The checker: whether a program keeps the rules, and otherwise the first refusal.
 //!
 //! This layer decides whether a program keeps the rules of ownership, and names the first rule that it
 //! breaks. It stands on the tree of programs and on the rules, which are a relation between the visible

@@ -1,4 +1,4 @@
-//! How bytes are cut: at the first of some byte, and behind a front.
+//! How bytes are cut: at the first of some byte, and after a first part.
 //!
 //! The readers of small texts (reports, words of a command line) stand on these two calls, and on the laws of
 //! `proofs/Cuts.antt`, above all that bytes are cut in one way. The layer stands on std alone. Its one theorem is that

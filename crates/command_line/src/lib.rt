@@ -9,6 +9,18 @@
 //!
 //! The layer stands on `byte_cuts` and `language_limits`, and takes no memory. Its one theorem is the contract of
 //! [`read_arguments`]: the answer is the one command that the arguments are by `specs/Arguments.antt`, and None where they are none.
+//!
+//! # Why
+//!
+//! - **An item is an option, its value, and whether both are in one argument; or a plain argument, which `make` requires once.** The arguments
+//!   are the name of the command and then those of the items, so the definition asks nothing of arguments that look like options. No name of an
+//!   option has a `=`, so arguments are spelled by one list of items.
+//! - **`run` is no command**: it is missing from the type, and not refused by a rule.
+//! - A further option is a variant of `Setting` with its name, its rule and its field, here and in the definition, and a place in the lists of
+//!   the commands that have it. The laws go over the variants by clauses and need one more each.
+//! - An option that a command does not have has its default in the answer, so that equal commands are equal values.
+//! - **`Command` has a field for the number of groups**, which is 0 for every command except `make`. So the kind of a command carries no data,
+//!   and what is said of a kind is said by cases on six names.
 #![tactic(auto)]
 
 mod command;

@@ -11,6 +11,17 @@
 //!
 //! The crate stands on `containers`. Its one theorem is the order law: [`before`] is this order, which is
 //! strict and total, and a fork's label stands directly before its parent's.
+//!
+//! # Why
+//!
+//! - `Label` and `Roster` are types of their own, with a model: contracts see a label as the list of its ordinals and a roster as a list of
+//!   lists of births. `Label::fork` takes its allocator from the label.
+//! - A label's fork has in its contract that it is directly before its parent: what is between the two comes from a later fork of the same
+//!   parent.
+//! - `Placed` carries the laws of a strict order as trait laws with proofs, so no `impl` has to give them. `is_in_order` compares only
+//!   neighbours and rests on these laws.
+//! - `Roster::add_period` asks of the new births only that their parents come first. The births of a scheduler's periods do, one period after
+//!   the other: the law is `births_may_follow` of `moment_shown`.
 #![tactic(auto)]
 
 mod action_id;

@@ -1,4 +1,10 @@
 //! The program: `dfd_run::exit_code` over its command line, its standard input and its standard output.
+//!
+//! # Why
+//!
+//! - An argument that is not UTF-8 makes the arguments no command.
+//! - `main` hands the runtime, the arguments, the two real streams and an open gate to `exit_code` of `dfd_run`, whose contract says which
+//!   arguments they are and the number of each status. The rest of `main` has no clause, and `tools/check_statuses` runs it.
 #![tactic(auto)]
 
 use dfd_run::{FreeGate, StdinSource, StdoutSink, exit_code};

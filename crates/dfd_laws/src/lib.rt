@@ -9,6 +9,15 @@
 //!
 //! Its theorem is [`moments_are_bounded`], with [`async_moments_are_bounded`] for a ready list and [`run_moments_are_bounded`] for runs in
 //! threads.
+//!
+//! # Why
+//!
+//! - **Laws on what a call answers are in a crate above the call.** They are about its definitions and use none of its code, and no code uses
+//!   them. So the program is built without them, and a new law leaves the proofs below it as they are.
+//! - **What holds of `play` and of `async` alike is one definition**, with the kind of play as an argument: the relation of its runs (`OfEach`,
+//!   `AllEnd`), how a run reaches a moment (`AreBounded`), or the rules of its turns and events (`StopsLate`).
+//! - That a command has one answer is a law with a function of its own, so that a definition that allowed two would be refused. `run` is left
+//!   out of it, and only of it: that there is an answer holds for `run` too, since each play is a run that threads may make.
 #![tactic(auto)]
 
 mod laws;

@@ -1,4 +1,4 @@
-//! What the program does, over any source and any sink.
+//! The whole call over any source and any sink, and the command `run`.
 //!
 //! [`dfd`] takes the words of the command line, reads its program from a [`Source`] (`make` writes its own, by `made_source`)
 //! and writes its text to a [`Sink`]. The kinds and contracts of both are those of `byte_streams`.

@@ -1,9 +1,9 @@
 -- What callers need of what this crate stands on.
 pub use Rattle.moment_laws.specs.Results as MomentLawsResults
-pub use Rattle.part_events.specs.Ends as PartEnds
+pub use Rattle.part_events.specs.Ends as Ends
 pub use Rattle.part_events.specs.Forks as Forks
 pub use Rattle.part_events.specs.Here as Here
-pub use Rattle.part_events.specs.Joins as PartJoins
+pub use Rattle.part_events.specs.Joins as PartEventsJoins
 pub use Rattle.part_events.specs.ListCalls as ListCalls
 pub use Rattle.play_rules.specs.declared.ends.RunEnd as RunEnd
 pub use Rattle.play_rules.specs.declared.ends.RunEnd.TheVariants as RunEndVariants

@@ -16,6 +16,25 @@
 //! (`hall_slots`), and hands on the calls of `part_events`, so that a call of an
 //! owner names one crate. Its theorem: each call keeps the law of the hall between any two atomic steps, and the seat notes its event and holds
 //! nothing.
+//!
+//! # Why
+//!
+//! - **An action is written once more only where it touches its parts**: `thread_actions` does it to the thread and the pool, `part_events`
+//!   puts the thread back on its lane, notes it in the period, and notes the move. The clauses of `part_events` are the premises of
+//!   `hall_machine` as they are, for each program and each hall that shows these parts.
+//! - **A Join has two calls**, one with the pool and one without, since a hall takes the pool only where words are released. Which one it is,
+//!   `join_releases` says before the action, and `would_release` if the result is in the list: it has to be known before the result is handed
+//!   over, since nothing undoes that. So `hand_over` of `part_events` delivers the result itself, and says that these are the words.
+//! - **What a map keeps has no order**, so what an event takes out of the list is any of it. The steps of `hall_interleavings` take it out of a
+//!   list that is cut there; so what an owner writes is such a step in some order of the list (`WritesInAnOrder`), and a quiet step leads to it.
+//! - **What an owner writes is a step of `hall_interleavings`** (`ActsOn`, `PausesOn`), for each event: so one law, `events_may_come`, leads
+//!   on from a running state, and the sequences of steps in that crate are those of the code.
+//! - **An event is decided at the first put back.** From then on the other parts show what they are to be, though the seat still holds them.
+//! - **All events write the same three parts**: the list, the pool and the lane. A part that the seat does not hold is whichever one is there.
+//!   So the law of a written hall is one (`written_halls_hold`), and each set of slots has one put back.
+//! - **What a seat notes is a value** (`Noting`) that the put back takes, since the note of a step is read from the arguments of its call.
+//! - **Whose period runs in a lane the list says**, by the owner of the deque. The worker that a lane notes beside its period is of no account:
+//!   the calls that close a period ask nothing of it.
 #![tactic(auto)]
 
 mod all_puts;

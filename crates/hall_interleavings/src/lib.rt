@@ -15,6 +15,14 @@
 //! - [`point_laws::seats_keep_points`]: the threads of a hall are at their points of the depth-first run at each time. There are two
 //!   exceptions, and neither thread runs again: the top one of a deque whose owner found that there is not enough memory, and the top one
 //!   of a deque that nobody owns while an end is kept.
+//!
+//! # Why
+//!
+//! - **No step of `hall_interleavings` asks anything of the run**: a stop is found by what the slots show (`MayFind`), and a give up that the
+//!   rules ask for by the action. A free give up is an event of its own, so the other events of a seat never make it yield.
+//! - **A put back that changes slots and notes may be two steps in a row.**
+//! - **What an owner decides is by the open child whose ordinal is joined**, since plain values do not say that it is the newest.
+//! - **Points are said of `Threads`, a function from deques**, for any slots that show them. How they move is by cases on the event.
 #![tactic(auto)]
 
 pub mod point_laws;

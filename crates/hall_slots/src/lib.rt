@@ -24,6 +24,14 @@
 //! except for the answers that it had, and a seat that has all places is never refused a slot. A worker that enters has the smallest number that
 //! the list does not name, and a count never wraps. A stop has its cause; want of memory needs none ([`stop_laws::memory_needs_no_cause`]). What
 //! comes out of a closed hall is of one run, which ended as the list says.
+//!
+//! # Why
+//!
+//! - **A lane keeps the worker of its period**, though the list says who owns the deque, since what a steal writes has a worker.
+//! - **The law of the slots is truncated for each program**, because a thread names its next action only so. What is said of the parts in
+//!   memory is not.
+//! - **A seat's note is a struct of the code**, of which no value is made. So what a seat was answered keeps the fault at which a run finished.
+//! - **The key of a row has the program as a snapshot**, for contracts alone.
 #![tactic(auto)]
 
 mod backs;

@@ -1,4 +1,4 @@
-//! The steal of a thief of a hall, once it holds the list.
+//! The steal of an idle seat of a hall, once it holds the list.
 //!
 //! A thief that holds the list alone chooses a deque by a word ([`steal`]). It takes over a deque that nobody owns and that has one thread; from
 //! any other it takes the bottom thread, into the next free deque, whose lane it takes too. If a further deque is one too many, or there is not

@@ -1,4 +1,4 @@
-//! The limits of the language and of a run, each once.
+//! The limits of the language and of a run, each a constant.
 //!
 //! This page is the lowest of the layers. Code and definitions both cite its constants, so a limit is changed here and nowhere else. It
 //! has no theorem: what a limit means is said by the layer that keeps it.

@@ -1,4 +1,4 @@
-//! Parallel loops with sums, written out as calls and `par` trees.
+//! Writes the parallel loops of a text out, as calls of helpers that halve the range or the block.
 //!
 //! A text may have two forms that the grammar does not know, `par call x = f(1 into n, c);` and
 //! `par call x = f(use b at 64, c);`. This layer puts a call in place of each such loop, and behind the text its helper, the

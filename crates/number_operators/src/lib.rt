@@ -5,6 +5,11 @@
 //!
 //! The layer stands on the depth-first run as a definition. Its one theorem is that each function gives just what that definition gives,
 //! and is refused just where it has a fault. No function needs memory.
+//!
+//! # Why
+//!
+//! - The operators and the tests of lengths, places and cuts are in a crate of their own below the stores of threads, and each says once what
+//!   the depth-first run says.
 #![tactic(auto)]
 
 mod comparisons;

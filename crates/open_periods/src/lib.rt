@@ -10,6 +10,12 @@
 //!   `close_in`) is a function of its own, for a scheduler that keeps its periods elsewhere.
 //!
 //! It uses names (`dag_order`), the ledger (`space_ledger`), the ids of deques (`deque_list`) and the books of the machine (`deque_machine`).
+//!
+//! # Why
+//!
+//! - `Period::start` makes room for a first action, so it may answer "not enough memory". Most periods fork nothing when the quota is small. So
+//!   the memory for a first birth is in the `PeriodTable`, one list for all periods, and goes to the period with the birth.
+//! - `Period::note` asks that the words used stay within the largest quota, which is what 'the allocation fits some quota' means.
 #![tactic(auto)]
 
 mod calls;

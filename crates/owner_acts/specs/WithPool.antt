@@ -5,8 +5,8 @@ use Rattle.depth_first_list.specs.Actions.{record_words}
 use Rattle.hall_deciding.specs.Passed.Acts.{AllocIsCharged, Always}
 use Rattle.hall_deciding.specs.Passed.Forks.{ForksHere}
 use Rattle.hall_deciding.specs.Passed.Here.{ActsHere}
-use Rattle.hall_deciding.specs.Passed.PartEnds.{EndsAbove}
-use Rattle.hall_deciding.specs.Passed.PartJoins.{JoinsHere}
+use Rattle.hall_deciding.specs.Passed.Ends.{EndsAbove}
+use Rattle.hall_deciding.specs.Passed.PartEventsJoins.{JoinsHere}
 use Rattle.hall_deciding.specs.Passed.ThreadActionsResults.{FirstAwaits}
 use Rattle.hall_slots.specs.Passed.Period.{Period as OpenPeriod}
 use Rattle.thread_frames.specs.Actions.{is_there}

@@ -26,9 +26,9 @@ pub use joins::act_own_join;
 pub use kept_joins::{act_kept_join, act_kept_join_giving};
 pub use leaving::act_leaving_end;
 pub use owner_advance::{
-    AdvanceRefused, AtNext, SeatMemory, come_to_next, make_room_for_move, make_room_to_close,
-    make_room_to_leave, make_room_to_wait, put_together, return_all, return_answered, return_list,
-    return_pool,
+    AdvanceRefused, AtNext, SeatMemory, come_to_next, go_some_turns, make_room_for_move,
+    make_room_to_close, make_room_to_leave, make_room_to_wait, put_together, return_all,
+    return_answered, return_list, return_pool,
 };
 pub use roots::act_root_end;
 pub use waits::{act_wait, id_of};

@@ -4,7 +4,7 @@ use Rattle.deque_list.specs.declared.deque_id.DequeId.{DequeId}
 use Rattle.hall_slots.specs.Takes.{HallSeat, IsRefused}
 use Rattle.hall_slots.specs.declared.lane_slot.LaneSlot.{LaneSlot}
 use Rattle.hall_slots.specs.declared.seat_note.SeatNote.{SeatNote}
-use Rattle.owner_advance.specs.Advancing.{HasLooked, took_lane}
+use Rattle.owner_acts.specs.Passed.Advancing.{HasLooked, took_lane}
 use Rattle.owner_events.specs.declared.refused.ActRefused.{ActRefused}
 use Rattle.owner_events.specs.declared.refused.ActRefused.TheVariants.{Busy, Over, Stopped}
 use Rattle.play_rules.specs.declared.stop.Stop.TheVariants.{OutOfMemory}

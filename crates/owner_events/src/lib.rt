@@ -11,6 +11,17 @@
 //! calls it names one crate. Its theorem: the seat notes the event for which the next action of its top thread asks, or why it did none; if
 //! it did the event, it took no slot that this does not need; if it did none, its answers show why; and the law of the hall holds between
 //! any two atomic steps.
+//!
+//! # Why
+//!
+//! - **An owner asks for memory in the parts that it holds, before its action is counted.** A list or a pool can only be asked for room by the
+//!   seat that holds it. If there is not enough memory, the parts go back showing what they showed, and the count has not been drawn.
+//! - **A seat takes its lane, then the list, then the pool.** It takes the list only if the event needs it, so owners that fork, allocate,
+//!   release, fault, or end below a parent in the same deque never wait for it.
+//! - **A failed call answers what the event would need first**: a slot that another seat holds, then an end that is kept, then the arena, then
+//!   memory, then the count of actions. The arena comes before the count, since the count that was drawn is not given back.
+//! - **The place of the next child belongs to the seat** (`SeatMemory`). It is asked for before each event, though only a Fork uses it: the
+//!   owner does not know its next action before it has run up to it, and there it holds its lane.
 #![tactic(auto)]
 
 mod acted;

@@ -3,7 +3,7 @@
 ghost use Rattle.std.specs.Prelude.{◌+◌, ◌<◌};
 ghost use Rattle.turn_table.specs.Tables.{key_of, slot_count, IsSeatOf};
 ghost use Rattle.hall_slots.specs.Takes.{HasAllPlaces};
-ghost use Rattle.owner_advance.specs.Advancing.{IsRunBy, MayCome};
+ghost use Rattle.owner_acts.specs.Passed.Advancing.{IsRunBy, MayCome};
 ghost use Rattle.owner_events.specs.Stepping.{GoesFreely, GoesSteps};
 
 use crate::refused::ActRefused;
@@ -11,7 +11,7 @@ use depth_first_list::Quota;
 use deque_list::DequeId;
 use hall_slots::{HallPlace, HallRow};
 use node_table::Code;
-use owner_advance::{AdvanceRefused, go_some_turns};
+use owner_acts::{AdvanceRefused, go_some_turns};
 use play_rules::Stop;
 use std::alloc::Global;
 

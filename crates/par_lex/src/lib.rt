@@ -1,4 +1,4 @@
-//! The tokens of a text.
+//! The lexer: bytes to tokens.
 //!
 //! This layer cuts bytes into tokens. It stands on what a text is. Its one theorem is that it has the tokens that
 //! the definition gives, each with its kind, its value and its place, exactly where all bytes are allowed and each

@@ -4,6 +4,10 @@
 //! The layer stands on the tree of programs and on the definitions of what a list mentions; its one theorem is
 //! that the tests decide them. `names_in` and `assigns_in` walk the statements for each name. Who asks for many
 //! names of one list makes a `NamedBody`, which walks it once.
+//!
+//! # Why
+//!
+//! - **The mention tests are a crate of their own**, since the checker and the table of nodes both part names by them.
 #![tactic(auto)]
 
 mod assigned;

@@ -1,4 +1,4 @@
-//! The tree of a text.
+//! The parser: tokens to a tree.
 //!
 //! This layer reads the tokens of a text into a tree. It stands on what a text is, on its tokens, and on the tree of
 //! a program. Its one theorem is that `parse` answers a tree exactly on the texts, and it is the tree of the text; all

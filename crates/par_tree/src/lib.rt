@@ -1,4 +1,4 @@
-//! The tree of a program.
+//! The types of the tree of a program, and the tree as plain data.
 //!
 //! This layer has the types that a parser makes and that a checker, an evaluator and a printer read,
 //! and the meaning of these types as plain data, which all definitions about programs speak of. It

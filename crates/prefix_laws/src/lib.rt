@@ -1,4 +1,4 @@
-//! What a core shows of the laws of its machine.
+//! How far a core of either scheduler is, and how many words are left below the bound.
 //!
 //! At each moment of a run by workers the threads in the deques, or in the entries of a ready list, stand in depth-first order, and the words
 //! in use are at most the peak of the depth-first run and two quotas for each period that is ahead of it. Here both are read off an actual
@@ -9,6 +9,15 @@
 //! It stands on both cores (`dfd_core`, `async_core`), on the births of threads (`dag_order`), on periods as books (`open_periods`) and on
 //! the laws of the machine (`deque_machine`). Its one theorem: these are the labels and the numbers of the moment at which the core is,
 //! whatever its program; the labels rise, and the margin is never below 0.
+//!
+//! # Why
+//!
+//! - **`leaves` gives labels, a `Vec<Label>`**, and not ids, since the law that they rise is one on labels. Each label is made from the id of
+//!   its thread and the births of all periods. This takes memory, so the answer may be "not enough memory".
+//! - **It stands above both cores.** What it reads off is in the periods of a table and in the deques of a scheduler, whichever core has them
+//!   (`AreBooked`, `HasRun`), and each public function is one call. So `entries` and `async_margin` are functions here and no calls of
+//!   `AsyncCore`, and the cores need no journal of a depth-first run.
+//! - **The bound needs no run of a machine**: it holds at each lawful moment (`bound_at`).
 #![tactic(auto)]
 
 mod booked;

@@ -15,6 +15,14 @@
 //! - [`scheduler_laws`]: where a scheduler with one ready list is, event by event, in the words of `moment_laws`. If the rules want an event, and
 //!   the scheduler did it as the machine of deques does, then it is at the next lawful ready list ([`scheduler_laws::one_thread_each`]); after a
 //!   Fork once the deque of two threads is cut ([`scheduler_laws::two_are_cut`]).
+//!
+//! # Why
+//!
+//! - **A ready list is a list of deques of one thread each.** So order, books, bound and marks are those of `deque_machine`, and none of them
+//!   is written twice. A Take is a steal with the word 0, and a Fork is that machine's, with the deque of two cut in two.
+//! - **The parent's entry gets the least id that is free**, so that a play is one.
+//! - **The limit of deques stays in the play** of a ready list. `lists_never_fill` says that it never matters.
+//! - **The bound on entries is said of parts** (`entries_are_few`): each thread but the root has a record block.
 #![tactic(auto)]
 
 pub mod laws;

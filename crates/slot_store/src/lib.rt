@@ -12,6 +12,15 @@
 //! Blocks move, and their numbers are never copied. A call that needs memory asks for all of it before anything moves, so that behind want
 //! of memory the slots are as they were. A new row, a fork, a join, and giving all blocks back take time by the number of slots; every other
 //! call takes time by what it touches.
+//!
+//! # Why
+//!
+//! - **A row of slots shows a named store by equality at each slot**: the integer of a slot is that of its name, and the blocks under the name
+//!   are just the block of the slot. So a clause is said for every store that the row shows, and no proof goes through a search by names.
+//! - **At most one block of a name** is part of what it means that a row shows a store. Calls keep it under the condition that what is put
+//!   under a slot meets none there. The laws of `ownership_laws` give this condition, so nothing is tested as a program runs.
+//! - **Memory first.** A call asks for all memory before anything moves, and after "not enough memory" the row is unchanged.
+//! - A fork and a join take time by the slots of the function. A block moves and is never copied.
 #![tactic(auto)]
 
 mod answer;

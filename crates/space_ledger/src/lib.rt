@@ -1,4 +1,4 @@
-//! What a run did: the words that it took and gave back, and which actions stand in which period.
+//! What a run did: the words that it took and gave back with their high-water mark, and which actions each period ran.
 //!
 //! The live words of a run are the sum of its moves, and its high-water mark is their greatest sum at any
 //! time. Each period, from a steal to the next, has a book of the actions that it ran. Both are kept as the
@@ -7,6 +7,13 @@
 //!
 //! The crate stands on `containers` and `dag_order`. Its one theorem: [`Moves::high`] is the greatest sum
 //! of a prefix of the moves, [`Books`] counts its periods, marks and actions, and [`NumberedBooks`] finds the periods.
+//!
+//! # Why
+//!
+//! - The high-water mark is a function of the list of moves (by cases on the list), and `high` says besides that it is the greatest sum of a
+//!   prefix. The running sum and the greatest sum are kept, so neither call walks.
+//! - Books do not know the numbers of their periods while they grow: a map from numbers to places cost a fifth of a run whose periods are
+//!   short. `NumberedBooks` makes it when a closed period is looked for by its number, or a birth by the id of its thread.
 #![tactic(auto)]
 
 mod book;

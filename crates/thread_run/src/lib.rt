@@ -19,6 +19,23 @@
 //! run does the next action of this thread, and the answer is this action. What a step leaves is what the step of the depth-first run
 //! leaves there, and a statement leaves less than there was, so that steps come to an action. Want of memory is the one free answer, and
 //! after it the thread has done what it had done, and has the words that it had.
+//!
+//! # Why
+//!
+//! - **A statement answers what comes before the rest**, at most two frames; the layer above puts the rest of its list on the stack before the
+//!   statement is done. So no step needs the stack, the numbers of a list and the node of a statement are looked up once each, and little is
+//!   moved.
+//! - An action is not done by a step: the step names it, with the memory that it needs. The mark of its statement and the action are one step
+//!   of the run, so they are done together.
+//! - **A call and a Join are no steps of this layer.** A call needs the frames of its caller, so the layer above, which looks the node up,
+//!   begins it there; a Join is its own frame.
+//! - **Clauses hold for every program, conditions for some.** `advance` asks that some accepted program with this table has a point at which
+//!   the thread is, and answers for each such program and point. So two threads that each know only that there is a program can be joined.
+//! - **What is asked below is shown, never tested**: that a block is there, that a slot is empty, that a call finds its function. Such a fact
+//!   has at most one proof, so it may be shown from what is only known to be.
+//! - "Not enough memory" leaves a thread in the middle of its way. It has its label, its counts and its words, which is all that giving it back
+//!   needs.
+//! - The functions of open children are kept as numbers beside the frames, as plain data: a Join finds the names of the child's slots by them.
 #![tactic(auto)]
 
 mod acts;

@@ -17,6 +17,25 @@
 //! ([`check_laws::one_answer`]), and each trail has one ([`check_laws::an_answer`]). The laws of good trails are in [`good_laws`], those of places
 //! in [`place_laws`]; after each event of an accepted trail the words in use are at most the depth-first peak, and two quotas for each period that
 //! is ahead ([`check_laws::accepted_trails_are_bounded`]).
+//!
+//! # Why
+//!
+//! - **The victim of a steal is asked for before the step** (`Core::victim`), since a trail has the place that it has then. A step picks it
+//!   once more: each is one look at the deques in reach.
+//! - **Whose turn it is has a function of its own** (`draw_turn`), which draws the words and changes no core. `play` and the recorder both step
+//!   the worker that it names.
+//! - **A turn that meets a stop is no event**, so a play that a limit stops has no trail: `trail` writes then what `play` writes.
+//! - **`trail` allows at most 400,000 actions**, by its own range of `--steps`. Its trail then has at most 2,000,128 events, and its text fewer
+//!   than 33,554,432 bytes.
+//! - **`verify` asks in this order**: is it a trail, is its source accepted, is the depth-first run short enough, is each event allowed, has
+//!   the root ended, are the numbers right.
+//! - **The events of a finished play are good only if at least one deque is allowed** (`0 < limits.deques`). With no deque allowed a play can
+//!   still finish: the opening moment has one deque, and taking it over meets no stop. A trail allows at least one deque (`HasTrailRanges`), so
+//!   each recorded play meets the condition.
+//! - **`verify` is given a program, and does not read the source of the trail.** Its clause is about that program. Its caller has read and
+//!   checked the source, whose refusals come before those of `verify`.
+//! - **The depth-first run has the trail's limit of actions.** So a run that is too long is known before an event is read, and no event is
+//!   refused for that limit: a list has no more actions than the trail allows.
 #![tactic(auto)]
 
 mod charges;

@@ -7,6 +7,20 @@
 //!
 //! The crate stands on std alone. Its one theorem: whatever the other threads do, a worker whose loop returns has ended with what the loop
 //! returned, and it is the same worker of the same shared parts. That a loop returns is not claimed.
+//!
+//! # Why
+//!
+//! - **The loop of a worker knows nothing of a hall.** A hall is a table, a program and seats; `Works` asks for one try at a time over the
+//!   first two. So the threads, the pauses and the gate are proved once, and with type parameters alone. Whether a real table and a real
+//!   program may be shared by threads is then asked one at a time; a search for both together does not end.
+//! - **A pause after a try that did nothing doubles up to 32 turns of the processor; then the thread gives the processor away; and after 250
+//!   tries in a row it sleeps**, 50 microseconds at first and 3.2 milliseconds at most. With more workers than processors, those with nothing
+//!   to do would otherwise keep those with something to do from running, and a serial program by four workers took 2.4 times the processor
+//!   time that it takes by one. A sleep has an end of its own, so no worker has to be woken.
+//! - **The 250 tries between two sleeps take longer than a worker holds its lane** (`TURNS_AT_ONCE` of `hall_threads`). A thief that was awake
+//!   for less would find the lane of a long branch held each time. In a model, sleeps without this look took 257 batches until a steal.
+//! - **A worker that gives its lane back for a while leaves it free for 100 turns of the processor** (`FREE_TURNS`). With none it took the lane
+//!   back some 400 times before a thief that was always looking had it; with 100 once, at less than a hundredth of the time.
 #![tactic(auto)]
 
 mod crew;

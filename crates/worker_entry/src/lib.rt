@@ -9,6 +9,28 @@
 //! a seat does with the list (`hall_slots`). Its theorem: for each core that has done no step there is a hall with its program, its quota and its
 //! terms, whose law holds; what a seat says of itself (its worker, its places, its deque, the stop that it found) is what the law of the hall
 //! says of it; and what a closed hall gives is of one run.
+//!
+//! # Why
+//!
+//! - **A held list is a value that cannot be dropped** (`ListHeld` has no `Drop`). If a seat could be dropped with the list, every other worker
+//!   would stop, so the compiler asks for a steal or a put back.
+//! - **A seat that had found a stop may hold the list.** Its steal puts the list back and answers this stop, as a steal in one call does, also
+//!   if an end is kept there.
+//! - **An owner leaves in two steps**: it gives its deque up, and then it leaves as an idle worker does. Between the two the hall is in a
+//!   running state, so nothing has to be said of it twice. If the second step is refused, the seat comes back without its deque.
+//! - **A give up that nothing asks for runs no statement of the thread on top**, so a worker whose run was stopped can leave. Only a worker
+//!   that found too little memory keeps its deque: its top thread may be in the middle of a statement.
+//! - **`give_up` is refused where an end is kept, the give up of `leave` and of `close` is not.** An event of a seat is `Over` then. A worker
+//!   has to leave also then, so it gives its deque up by another call (`yield_deque` of `owner_events`).
+//! - **If there is not enough memory, `give_up` stops as `act` does**: the seat notes the stop, and the list does not keep it yet. The next
+//!   `halt` of the seat keeps it, or its `leave`.
+//! - **A worker that has not enough memory to leave halts**: `leave` then keeps the stop of the seat by its `halt`, so the seat is answered the
+//!   end that is kept. So the contract shows that one is. If the list is held by another seat, the answer is `Busy`.
+//! - **`leave` asks nothing of the places of the two seats.** The places of all seats are those of the workers, so two seats have no more. But
+//!   no call tells this of two seats at once, so the clause says how many places there are with the bound that is never met (`places_with` of
+//!   `hall_slots`), and the code has it too. A caller that has kept the sum of its seats knows that they are those of both.
+//! - **A hall is closed also by a seat that owns a deque.** It looks for the end before it gives the deque up, so where none is kept the moment
+//!   of the hall is what it was.
 #![tactic(auto)]
 
 mod calls;
