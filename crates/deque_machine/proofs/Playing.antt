@@ -325,6 +325,22 @@ module _ (s : Setting) (some : 0 < s.quota) (list : IsDepthFirst s.quota s.list)
       (each_from (λ i. i < length s.list) (booked after.books) (λ i there. books.of_the_list i (times_among i (booked after.books) there))) in
       omega (arith, more, few, many, actions)
 
+-- one event more leads to one moment more
+one_further : (s : Setting) (run : List Pair) (first m next : Moment) (pair : Pair) → Reaches s first run m → May s m pair.worker pair.event next
+    → Reaches s first (run ++ pair ∷ []) next
+one_further s [] first m next pair reaches may = (next, subst (λ x. May s x pair.worker pair.event next) (sym reaches) may, refl)
+one_further s (done ∷ run) first m next pair reaches may = (reaches.0, reaches.1, one_further s run reaches.0 m next pair reaches.2 may)
+
+-- an event that the rules want at a moment of a run meets no stop that is excluded there
+pub wanted_meets_none : (s : Setting) → 0 < s.quota → IsDepthFirst s.quota s.list → (limits : Limits) (front : List Pair) (m : Moment)
+    → Reaches s opening front m → (worker word : ℕ) (event : Event) → worker < s.workers → Wants s m worker word event
+    → (stop : Stop) → Meets s limits m event stop → Excluded s limits m stop → ⊥
+wanted_meets_none s some list limits front m reaches worker word event few wants stop meets none =
+    let lawful : IsLawful s m = lawful_along s list front opening m (opening_is_lawful s list) reaches in
+    let next = wanted_comes s list m lawful worker few word event wants in
+    let longer = one_further s front opening m next.0 (record { worker = worker; event = event }) reaches next.1 in
+    no_stop s some list limits front m reaches worker event next.0 next.1 longer stop meets none
+
 module _ (s : Setting) (some : 0 < s.quota) (list : IsDepthFirst s.quota s.list) (limits : Limits) (words : ℕ → ℕ) where
   stopped_from : (n : ℕ) (m : Moment) (run : List Pair) (last : Moment) (ending : Ending) (so_far : List Pair)
       (reaches : Reaches s opening so_far m) → NoneFree s opening so_far m reaches

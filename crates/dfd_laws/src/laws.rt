@@ -3,7 +3,7 @@ ghost use Rattle.dfd_plays.specs.Play.{PlayMakes};
 ghost use Rattle.dfd_plays.specs.Threads.{RunMakes};
 ghost use Rattle.dfd_laws.specs.AsyncHeadline.{AsyncActionsSuffice, AsyncArenasStopLate, AsyncArenasSuffice, AsyncListsNeverFill, AsyncMomentsAreBounded, AsyncPlaysEnd, AsyncPlaysWithRoomFinish, AsyncStatusesWithRoom};
 ghost use Rattle.dfd_laws.specs.Headline.{ActionsSuffice, ArenasStopLate, ArenasSuffice, DequesSuffice, MomentsAreBounded, PlaysEnd, PlaysWithRoomFinish, ReportsAreBounded, StatusesWithRoom, SummariesAreBounded};
-ghost use Rattle.dfd_laws.specs.RunHeadline.{RunMomentsAreBounded};
+ghost use Rattle.dfd_laws.specs.RunHeadline.{RunArenasSuffice, RunDequesSuffice, RunMomentsAreBounded};
 ghost use Rattle.dfd_laws.specs.Laws.{AcceptedTrailsAreBounded, AnAnswer, CommandsHaveRanges, LoopsArePlays, OneAnswer, RecordedTrailsAreAccepted};
 
 /// A command other than `run` has at most one answer to the bytes that it reads: one status and one text.
@@ -51,6 +51,17 @@ pub fn run_moments_are_bounded()
 /// the depth-first peak, and two quotas for each period that the report counts as ahead.
 pub fn run_reports_are_bounded()
     ensures { ReportsAreBounded RunMakes }
+{}
+
+/// With room for all words that the depth-first run takes, or for the bound after each action that may come next at each moment on the way, the
+/// arena stops no run by threads.
+pub fn run_arenas_suffice()
+    ensures { RunArenasSuffice }
+{}
+
+/// With more deques than the depth-first run has Forks, their limit stops no run by threads.
+pub fn run_deques_suffice()
+    ensures { RunDequesSuffice }
 {}
 
 /// With room for all words that the depth-first run takes and for its actions, `run` ends well, or with the fault of the program, or at the
