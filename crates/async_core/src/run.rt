@@ -1,5 +1,5 @@
 ghost use Rattle.std.specs.Prelude.{◌≡◌, ◌<◌, ◌≤◌, ◌+◌, ◌/◌, ◌↔◌, List as AnyList, [], None, Some, Ok, Err, IfOk, IsTrue, length, pos};
-ghost use Rattle.language_limits.specs.declared.TheConstants.{GREATEST_COUNT, MOST_WORKERS, RECORD_WORDS};
+ghost use Rattle.language_limits.specs.declared.TheConstants.{GREATEST_COUNT, MOST_WORDS, MOST_WORKERS, RECORD_WORDS};
 ghost use Rattle.containers.specs.BoundedList.{entries};
 ghost use Rattle.depth_first_run.specs.States.{Setting, State};
 ghost use Rattle.depth_first_run.specs.Run.{whole, lines_of, list_of};
@@ -51,6 +51,7 @@ pub struct AsyncCore {
 
 /// How many entries the list may have: one, and one for each record that the pool has room for.
 fn places(pool: &Pool) -> u32
+    requires { pool.now.capacity ≤ MOST_WORDS }
     ensures value { result ≡ 1 + pool.now.capacity / RECORD_WORDS }
     ensures few { (1 ≤ result) × (result ≤ MOST_ENTRIES) }
 {
@@ -77,6 +78,7 @@ impl AsyncCore {
         requires workers { (1 ≤ workers) × (workers ≤ MOST_WORKERS) }
         requires limit { (1 ≤ limit) × (limit ≤ MOST_ACTIONS) }
         requires pool { pool.live ≡ 0 }
+        requires arena { pool.capacity ≤ MOST_WORDS }
         ensures opening { IfOk result (λ core. (c : Setting) → IsSettingOf (code_shown code) (quota_words k) c
             → IsAt c core [] opening) }
         ensures going { IfOk result (λ core. end_of core ≡ None) }

@@ -1,6 +1,6 @@
-use Rattle.std.proofs.Common.{arith}
+use Rattle.std.proofs.Common.{arith, rules}
 use Rattle.command_line.proofs.Commands.{few_steps}
-use Rattle.command_line.specs.declared.setting.Setting.TheVariants.{Workers, Steps}
+use Rattle.command_line.specs.declared.setting.Setting.TheVariants.{Arena, Workers, Steps}
 use Rattle.dfd_plays.proofs.ready_playing.begun.Goals as goal
 
 pub new-requires-clause-workers : goal.new-requires-clause-workers
@@ -10,3 +10,6 @@ pub new-requires-clause-limit : goal.new-requires-clause-limit
 new-requires-clause-limit c =
     let range = c.requires.ranges.numbers Steps in let few = few_steps c.args.command.now.kind in
     let most = range.1 in (range.0, omega (arith, most, few))
+
+pub new-requires-clause-arena : goal.new-requires-clause-arena
+new-requires-clause-arena c = search (rules, (c.requires.ranges.numbers Arena).1)
