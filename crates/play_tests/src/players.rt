@@ -47,7 +47,7 @@ fn begun(alloc: Global, text: &str, lists: Lists, of: Numbers) -> Result<Player,
     if of.workers < 1 || 64 < of.workers || of.limit < 1 || 4_000_000 < of.limit {
         return Err(AllocError);
     }
-    if of.most < 1 || 4_096 < of.most {
+    if of.most < 1 || 4_096 < of.most || 67_108_864 < of.arena {
         return Err(AllocError);
     }
     match lists {
