@@ -9,4 +9,3 @@ mod Told
 mod Crews
 mod Ending
 mod Left
-mod Stepped
