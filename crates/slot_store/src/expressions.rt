@@ -40,7 +40,7 @@ pub fn evaluate(slots: &Slots, expr: &CodeExpr) -> Result<i64, FaultKind>
 
 /// What an expression comes to.
 #[cycle(evaluate)]
-#[inline(never)]
+#[inline(always)]
 #[tactic(auto, unfolding(depth_first_run::specs::Values::value))]
 fn outcome(slots: &Slots, expr: &CodeExpr) -> Outcome
     ensures { (names : List Name) (store : Store) (e : Expr) → ShowsStore names (slots_shown slots.now) store
@@ -83,8 +83,18 @@ fn operand(slots: &Slots, expr: &CodeExpr) -> Outcome
     match expr {
         CodeExpr::Num(number) => Outcome::Number(*number),
         CodeExpr::Var(slot) => Outcome::Number(slots.integer(*slot)),
-        _ => outcome(slots, expr),
+        _ => nested(slots, expr),
     }
+}
+
+/// What an expression in another one comes to: the one call that evaluation makes.
+#[cycle(evaluate)]
+#[inline(never)]
+fn nested(slots: &Slots, expr: &CodeExpr) -> Outcome
+    ensures { (names : List Name) (store : Store) (e : Expr) → ShowsStore names (slots_shown slots.now) store
+        → IsExpr names (expr_shown expr.now) e → outcome_shown result ≡ value store e }
+{
+    outcome(slots, expr)
 }
 
 /// What a chain comes to, from the number of its front.

@@ -1,6 +1,6 @@
 //! What a thread is, how the root begins, and the way to the next action.
 
-ghost use Rattle.std.specs.Prelude.{vec_len, vec_capacity, ◌-◌, ◌≡◌, ◌≤◌, ◌<◌, [], ℕ, Some, None, IfOk, OnOk, OnErr, Result, Ok, is_some};
+ghost use Rattle.std.specs.Prelude.{vec_len, vec_capacity, ◌-◌, ◌≡◌, ◌≤◌, ◌<◌, [], ℕ, Some, None, IfOk, OnOk, OnErr, Result, Ok, false, is_some};
 ghost use Rattle.dag_order.specs.Births.{root as root_id};
 ghost use Rattle.thread_state.specs.Passed.States.{Setting};
 ghost use Rattle.depth_first_list.specs.QuotaWords.{quota_words};
@@ -125,7 +125,11 @@ impl Thread {
         if let Some(next) = self.told() {
             return Ok(next);
         }
-        self.go_on(alloc, code, k)
+        self.go_on(alloc, code, k, 0, u32::MAX)?;
+        match self.told() {
+            Some(next) => Ok(next),
+            None => unreachable!(),
+        }
     }
 
     /// Goes on towards the next action for some `most` turns of loops and calls, and says whether it has come there: then the action is prepared, and
@@ -151,7 +155,8 @@ impl Thread {
         if self.told().is_some() {
             return Ok(true);
         }
-        self.go_some(alloc, code, k, most)
+        let stop = self.run.state.turns().saturating_sub(most);
+        self.go_on(alloc, code, k, stop, most)
     }
 
     /// The action that is prepared.
@@ -172,48 +177,27 @@ impl Thread {
         }
     }
 
-    /// Runs up to the next action, where none is prepared.
-    fn go_on(&mut self, alloc: Global, code: &Code, k: Quota) -> Result<Next, AllocError>
-        requires point { IsAtPoint (code_shown code.now) (quota_words k) self.old }
-        requires count { done_of self.old < GREATEST_COUNT }
-        requires nothing { next_of self.old ≡ None }
-        ensures point { OnOk result (IsAtPoint (code_shown code.now) (quota_words k) self.new) }
-        ensures next { IfOk result (λ next. next_of self.new ≡ Some next) }
-        ensures newest { IfOk result (λ next. JoinsNewest next (children_of self.new)) }
-        ensures still { IsStill self.old self.new }
-        ensures list { (c : Setting) → IsSettingOf (code_shown code.now) (quota_words k) c
-            → IfOk result (λ next. ∥ IsOfTheList c self.new next ∥₁) }
-    {
-        // For the prover alone: the table is that of an accepted program.
-        code.is_accepted();
-        let ready = self.run.advance(alloc, code, k)?;
-        let prepared = prepared_for(&self.run.state, alloc, code, ready)?;
-        reserve(&mut self.run.frames, &mut self.children, &prepared)?;
-        self.prepared = prepared;
-        match self.told() {
-            Some(next) => Ok(next),
-            None => unreachable!(),
-        }
-    }
-
-    /// Goes on for some `most` turns, where no action is prepared.
-    fn go_some(
+    /// Goes on, where no action is prepared, until one is, or until fewer than `stop` turns of loops and calls are left, and says which: true for an action.
+    /// The turns are looked at once in `lists` lists of statements, or more often.
+    fn go_on(
         &mut self,
         alloc: Global,
         code: &Code,
         k: Quota,
-        most: u32,
+        stop: u32,
+        lists: u32,
     ) -> Result<bool, AllocError>
         requires point { IsAtPoint (code_shown code.now) (quota_words k) self.old }
         requires count { done_of self.old < GREATEST_COUNT }
         requires nothing { next_of self.old ≡ None }
         ensures point { OnOk result (IsAtPoint (code_shown code.now) (quota_words k) self.new) }
         ensures came { IfOk result (λ came. came ≡ is_some (next_of self.new)) }
+        ensures stopped { result ≡ Ok false → self.new.run.state.turns < stop }
         ensures still { IsStill self.old self.new }
     {
         // For the prover alone: the table is that of an accepted program.
         code.is_accepted();
-        let Some(ready) = self.run.step_on(alloc, code, k, most)? else {
+        let Some(ready) = self.run.advance(alloc, code, k, stop, lists)? else {
             return Ok(false);
         };
         let prepared = prepared_for(&self.run.state, alloc, code, ready)?;

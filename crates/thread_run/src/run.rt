@@ -25,66 +25,17 @@ pub struct ThreadRun {
 }
 
 impl ThreadRun {
-    ghost use Rattle.thread_run.specs.Going.{IsKnown, Advances};
+    ghost use Rattle.thread_run.specs.Going.{IsKnown};
     ghost use Rattle.thread_run.specs.Stepping.{KnownAgain, StepsOn, frames_left};
-    ghost use Rattle.thread_run.specs.Functions.{functions_of, frames_of, frames_before};
+    ghost use Rattle.thread_run.specs.Functions.{functions_of, frames_of};
 
-    /// Runs up to the next action, which the answer tells with the memory that it needs. The action is not done.
+    /// Goes on until the next action comes, which the answer names with the memory that it needs, or until fewer than `stop` turns of loops and
+    /// calls are left: then the answer is None. The turns are looked at once in `lists` lists of statements, or more often. The action is not done.
     ///
     /// # Errors
     ///
     /// There is not enough memory. The thread may be in the middle of its way, and is of no further use but to give its blocks back.
-    pub fn advance(&mut self, alloc: Global, code: &Code, k: Quota) -> Result<Ready, AllocError>
-        requires known { IsKnown (code_shown code.now) (quota_words k) self.old }
-        ensures meaning { Advances (code_shown code.now) (quota_words k) self.old result self.new }
-        ensures functions { IfOk result (λ ready. functions_of self.new.func (frames_before ready (frames_of self.new))
-            ≡ functions_of self.old.func (frames_of self.old)) }
-        ensures label { self.new.state.label ≡ self.old.state.label }
-        ensures done { self.new.state.done ≡ self.old.state.done }
-        ensures forks { self.new.state.forks ≡ self.old.state.forks }
-        ensures faulted { self.new.state.faulted ≡ self.old.state.faulted }
-        ensures words { words_held self.new.state ≡ words_held self.old.state }
-    {
-        match self.go_until(alloc, code, k, 0, u32::MAX)? {
-            Some(ready) => Ok(ready),
-            None => unreachable!(),
-        }
-    }
-
-    /// Goes on towards the next action for some `most` turns of loops and calls, and answers the action if it came to it. The action is not done.
-    ///
-    /// # Errors
-    ///
-    /// There is not enough memory. The thread may be in the middle of its way, and is of no further use but to give its blocks back.
-    pub fn step_on(
-        &mut self,
-        alloc: Global,
-        code: &Code,
-        k: Quota,
-        most: u32,
-    ) -> Result<Option<Ready>, AllocError>
-        requires known { IsKnown (code_shown code.now) (quota_words k) self.old }
-        ensures meaning { StepsOn (code_shown code.now) (quota_words k) self.old result self.new }
-        ensures known { IfOk result (λ o. KnownAgain (code_shown code.now) (quota_words k) self.new o) }
-        ensures functions { IfOk result (λ o. functions_of self.new.func (frames_left o (frames_of self.new))
-            ≡ functions_of self.old.func (frames_of self.old)) }
-        ensures label { self.new.state.label ≡ self.old.state.label }
-        ensures done { self.new.state.done ≡ self.old.state.done }
-        ensures forks { self.new.state.forks ≡ self.old.state.forks }
-        ensures faulted { self.new.state.faulted ≡ self.old.state.faulted }
-        ensures words { words_held self.new.state ≡ words_held self.old.state }
-    {
-        let stop = self.state.turns().saturating_sub(most);
-        self.go_until(alloc, code, k, stop, most)
-    }
-
-    /// Goes on until the next action comes, or fewer than `stop` turns are left to the thread. It looks at them at least once in `lists` lists of
-    /// statements.
-    ///
-    /// # Errors
-    ///
-    /// There is not enough memory.
-    fn go_until(
+    pub fn advance(
         &mut self,
         alloc: Global,
         code: &Code,

@@ -3,7 +3,7 @@ use Rattle.node_table.specs.Codes.{code_shown}
 use Rattle.thread_stack.specs.Measure.{left_to_do}
 use Rattle.thread_run.specs.Functions.{frames_of}
 use Rattle.thread_run.specs.Stepping.{UnderWay}
-use Rattle.thread_run.proofs.run.ThreadRun.go_until.Given as goal
+use Rattle.thread_run.proofs.run.ThreadRun.advance.Given as goal
 
 abbrev pub invariant-steps : goal.invariant-steps
 invariant-steps l = UnderWay (code_shown l.code) (quota_words l.k) l.initial.self l.self
