@@ -24,7 +24,9 @@ use Rattle.ownership_laws.specs.Counts.{hit, count, held_in, seen_in, lent_in, h
 use Rattle.ownership_laws.proofs.Counting.{by_names, hit_other, count_with, count_without, owned_block, fresh_unseen, held_without, none_counted, empty_found}
 use Rattle.ownership_laws.proofs.Environments.{seen_like, held_at_most_one, released_held, lent_seen, lent_follows, like_marked, lent_like, lent_most, lent_back_in}
 use Rattle.ownership_laws.proofs.Tame.{held_with_block, like_gives, tame_all}
+use Rattle.ownership_laws.specs.Holdings.{AreShort}
 use Rattle.ownership_laws.proofs.Sizes.{size, weigh_other, size_with, size_without}
+use Rattle.ownership_laws.proofs.Short.{short_block, short_without, PassesShort, passed_short, short_back, IsShort, short_answered}
 use Rattle.ownership_laws.proofs.Moves.{Exact, exact_trans, exact_quiet, Moved, Way, stopped, went, Ran, ran_fault, ran_with_depth, ran_with_turn, unless_stopped, unless_running, live, stops}
 use Rattle.ownership_laws.proofs.Passing.{lends, taken_as, lent_as, lent_size, or_left, or_right, Ready, Passed, PassedWell, NewNames, Apart, passed_well, params_held, held_gives, lent_back_count, lent_back_exact, lent_size_same, lent_back_size, function_owned}
 use Rattle.ownership_laws.proofs.Passing as passing
@@ -113,6 +115,7 @@ record Made (env : Environment) (params : List Param) (args : List Arg) (t : Tar
   passes : Passes env [] params args
   passed : Passed params args (record { callee = Stores.nothing; caller = s.store }) h
   apart : Apart params args
+  short : AreShort s.store.blocks → AreShort h.caller.blocks × AreShort h.callee.blocks
 
 -- what the function leaves behind its `return`
 record Left (params : List Param) (args : List Arg) (h : Passing) (s v : State) : Type 0 where
@@ -121,12 +124,13 @@ record Left (params : List Param) (args : List Arg) (h : Passing) (s v : State) 
   few : (y : Name) → count v.store.blocks y ≤ lent_as params args y
   one : (y : Name) → count v.store.blocks y ≤ 1
   sizes : (y : Name) → 1 ≤ lent_as params args y → size v.store.blocks y ≡ size h.callee.blocks y
+  short : AreShort s.store.blocks → AreShort v.store.blocks
 
 ran_returned : (env : Environment) (line : ℕ) (params : List Param) (args : List Arg) (t : Target) (a : Answer) (h : Passing) (s v : State)
-    → Made env params args t h s → Left params args h s v → Fits t a
+    → Made env params args t h s → Left params args h s v → Fits t a → (AreShort s.store.blocks → IsShort a)
     → (pos (holdings v + answer_words a) +ℤ live s.items) ≡ (pos (holdings s) +ℤ live v.items)
     → Ran env (after_answer (after_gives env args) t line) s (returned params args t a v)
-ran_returned env line params args t a h s v m l f e =
+ran_returned env line params args t a h s v m l f few e =
     let w : State = end_call (h.caller ∷ s.callers) params args t a v in
     let back : Store = lent_back params args v.store.blocks h.caller in
     let after : Environment = after_answer (after_gives env args) t line in
@@ -157,6 +161,7 @@ ran_returned env line params args t a h s v m l f e =
           let s3 = lent_size_same (size v.store.blocks) (size h.callee.blocks) params args x l.sizes in
           let s4 = m.passed.sizes x none in
           omega (arith, s1, s2, s3, s4);
+      short = λ p. short_answered t a back (few p) (short_back params args v.store.blocks h.caller (l.short p) (m.short p).0);
     }))
 
 -- the environments of the function
@@ -213,10 +218,11 @@ ran_answering p env line g args t h s v start end after m b takes owns released 
       few = λ y. let c = counted y in let r = released_held end y rel in let l = lent_before y in let k = b.lent y in omega (arith, c, r, l, k);
       one = λ y. let c = counted y in let o = held_at_most_one end y in omega (arith, c, o);
       sizes = kept_size;
+      short = λ p. w.short (m.short p).1;
     }
 
     number_end : (z : ℤ) → takes_answer t false ≡ true → list_all is_released end ≡ true → Ran env (after_answer (after_gives env args) t line) s (returned g.params args t (Calls.number z) v)
-    number_end z tk rel = ran_returned env line g.params args t (Calls.number z) h s v m (number_left rel) (fits_number t z tk) words
+    number_end z tk rel = ran_returned env line g.params args t (Calls.number z) h s v m (number_left rel) (fits_number t z tk) (λ p. tt) words
 
     -- a block is handed over
     block_end : (c : Name) → takes_answer t true ≡ true → IsOwned end c → list_all is_released (environments.without end c) ≡ true
@@ -245,7 +251,8 @@ ran_answering p env line g args t h s v start end after m b takes owns released 
               let d = size_without v.store.blocks c y in
               let z = weigh_other c y (length xs) (apart_names c y o1 le2) in
               let k = kept_size y n in omega (arith, d, z, k);
-        }) (fits_items t xs tk)
+          short = λ p. short_without v.store.blocks c (w.short (m.short p).1);
+        }) (fits_items t xs tk) (λ p. short_block v.store.blocks c (w.short (m.short p).1))
         (handed (holdings v) (holdings u + block_words (length xs)) (holdings s) (live s.items) (live v.items) (omega (arith, less)) e.same)
       where
         apart_names : (c y : Name) → lent_in end c ≡ 0 → lent_in end y ≡ 1 → bytes_eq c y ≡ false
@@ -300,18 +307,18 @@ ran_body c n good env line g args t h s less f m words takes owns =
 
 ran_calling_with : (c : Setting) (env : Environment) (line : ℕ) (g : Func) (args : List Arg) (t : Target) (r : Result Passing FaultKind) (s : State) → Good c (room c s)
     → s.faulted ≡ false → IsTarget env t → Passes env [] g.params args → Apart g.params args
-    → PassedWell g.params args (record { callee = Stores.nothing; caller = s.store }) r → PassesWords (held_words s.store.blocks) r
+    → PassedWell g.params args (record { callee = Stores.nothing; caller = s.store }) r → PassesWords (held_words s.store.blocks) r → (AreShort s.store.blocks → PassesShort r)
     → takes_answer t (hands_back g.ret) ≡ true → OwnsFunction c.program g
     → Ran env (after_answer (after_gives env args) t line) s (call_with c (run c) line t args g r s)
-unfolding PassedWell PassesWords
-ran_calling_with c env line g args t (Err kind) s good f target passes apart well words takes owns = ran_fault env (after_answer (after_gives env args) t line) kind line s
-ran_calling_with c env line g args t (Ok h) s good f target passes apart well words takes owns =
+unfolding PassedWell PassesWords PassesShort
+ran_calling_with c env line g args t (Err kind) s good f target passes apart well words few takes owns = ran_fault env (after_answer (after_gives env args) t line) kind line s
+ran_calling_with c env line g args t (Ok h) s good f target passes apart well words few takes owns =
     ran_with_depth env (after_answer (after_gives env args) t line) s.calls c.most_calls line (States.with_turn line (run_callee (run c) t args g h)) s
     (λ below. ran_with_turn env (after_answer (after_gives env args) t line) line (run_callee (run c) t args g h) s
     (λ left is.
     let u : State = record s { turns = left } in
     ran_body c (room c s) good env line g args t h u (room_fewer c s left is) f
-    (record { target = target; passes = passes; passed = record { caller = well.caller; callee = well.callee; kept = well.kept; sizes = well.sizes }; apart = apart }) words takes owns))
+    (record { target = target; passes = passes; passed = record { caller = well.caller; callee = well.callee; kept = well.kept; sizes = well.sizes }; apart = apart; short = few }) words takes owns))
 
 zero_plus : (n : ℕ) → 0 + n ≡ n
 zero_plus n = omega arith
@@ -331,4 +338,4 @@ ran_calling c env line t f args g s good all running target is takes passes agre
     (λ x b held n. agrees x (or_right (names_in_target x t) (names_in_args x args) n) ∙ held) (λ y le. none_counted y) in
     let words : PassesWords (held_words s.store.blocks) r = passes_same (zero_plus (held_words s.store.blocks)) r (passed_words s.store g.params args h) in
     subst (λ o. Ran env (after_answer (after_gives env args) t line) s (call_function c (run c) line t args o s)) (sym is)
-    (ran_calling_with c env line g args t r s good running target passes apart well words takes owns)
+    (ran_calling_with c env line g args t r s good running target passes apart well words (λ p. passed_short s.store g.params args h p tt) takes owns)

@@ -20,12 +20,13 @@ use Rattle.ownership_laws.proofs.Environments.{held_at_most_one, released_held, 
 use Rattle.ownership_laws.proofs.Tame.{tame_all}
 use Rattle.ownership_laws.proofs.Moves.{Way, stopped, went}
 use Rattle.ownership_laws.proofs.Passing.{taken_as, lent_as, lends, lent_taken, Passed, params_held}
-use Rattle.ownership_laws.proofs.Statements.{Agrees, SplitEnds, left_stays}
+use Rattle.ownership_laws.proofs.Statements.{Agrees, SplitEnds, left_stays, parts_length}
 use Rattle.ownership_laws.proofs.Owned.{ran_run}
 use Rattle.ownership_laws.proofs.Fitting.{FitsBody, function_fits}
-use Rattle.ownership_laws.specs.Holdings.{OneEach, taken_under, lent_under, given_back_under, answered_under, handed_by, handed_out, EndsCall, EndsSplit}
+use Rattle.language_limits.specs.declared.TheConstants.{LONGEST_BLOCK}
+use Rattle.ownership_laws.specs.Holdings.{OneEach, AreShort, taken_under, lent_under, given_back_under, answered_under, handed_by, handed_out, EndsCall, EndsSplit}
 use Rattle.ownership_laws.specs.PointLaws.{KeepsTheCut}
-use Rattle.ownership_laws.proofs.Single.{Single}
+use Rattle.ownership_laws.proofs.Single.{IsSingle, Single}
 
 -- ---- the numbers of a call in the words of the laws below
 
@@ -129,9 +130,9 @@ pub record Function (c : Setting) (g : Func) (args : List Arg) (t : Target) (v :
 
 pub function_ends : (c : Setting) → OwnsFunctions c.program c.program → (env : Environment) (g : Func) (args : List Arg) (t : Target) (h : Passing) (s u : State) → OwnsFunction c.program g → Passes env [] g.params args
     → Passed g.params args (record { callee = Stores.nothing; caller = s.store }) h → IsTarget env t → ((x : Name) → names_in_target x t ≡ true → count s.store.blocks x ≡ held_in env x)
-    → Single s → u.faulted ≡ false → u.callers ≡ s.callers → Function c g args t (entered h u)
+    → AreShort h.caller.blocks × AreShort h.callee.blocks → Single s → u.faulted ≡ false → u.callers ≡ s.callers → Function c g args t (entered h u)
 unfolding Agrees
-function_ends c all env g args t h s u owns passes passed target agrees one f callers =
+function_ends c all env g args t h s u owns passes passed target agrees short one f callers =
     let v : State = entered h u in
     let start : Environment = owns.0 in let end : Environment = owns.2.0 in
     let held : (y : Name) → held_in start y ≡ taken_as g.params args y =
@@ -147,14 +148,14 @@ function_ends c all env g args t h s u owns passes passed target agrees one f ca
       back = λ y. lent_back_in start end y (tame_all c.program g.body start end y owns.2.1).follows;
     } in
     let le : (x : Name) → count h.caller.blocks x + given_back_under args x ≤ count s.store.blocks x = λ x. let a = passed.caller x in let b = back_is args x in omega (arith, a, b) in
-    let caller_one : OneEach h.caller = λ x. let a = le x in let o = one.0 x in omega (arith, a, o) in
+    let caller_one : OneEach h.caller = λ x. let a = le x in let o = one.0.0 x in omega (arith, a, o) in
     record {
       single = (
-        λ y. let a = holds y in let o = held_at_most_one start y in omega (arith, a, o),
-        (caller_one, subst (λ cs. Each OneEach cs) (sym callers) one.1),
+        (λ y. let a = holds y in let o = held_at_most_one start y in omega (arith, a, o), short.1),
+        ((caller_one, short.0), subst (λ cs. Each IsSingle cs) (sym callers) one.1),
       );
       body = (function_fits c all env g args v owns passes f taken).0;
-      ends = by (run c g.body v) holds keeps (target_meets env t args s.store (count h.caller.blocks) target agrees one.0 le) (ran_run c all g.body start end v owns.2.1 f (λ y n. holds y)).way;
+      ends = by (run c g.body v) holds keeps (target_meets env t args s.store (count h.caller.blocks) target agrees one.0.0 le) (ran_run c all g.body start end v owns.2.1 f (λ y n. holds y)).way;
     }
   where
     by : (w : State) → ((y : Name) → count h.callee.blocks y ≡ held_in owns.0 y) → Holds owns.0 owns.2.0 g.params args → ((x : Name) → count h.caller.blocks x + (given_back_under args x + answered_under t x) ≤ 1)
@@ -193,12 +194,13 @@ cut_is items (pos n) at e = by (nat_le n (length items)) refl (nat_eq (n % 16) 0
     by false le y whole k = let never : ⊥ = cc in absurd never
 
 pub parts_end : (env end : Environment) (b l r : Name) (line at q : ℕ) (s v : State) → SplitEnds env end b l r line → at ≤ length (block_of s.store.blocks b) → at ≡ 16 * q
-    → count s.store.blocks b ≡ 1 → count s.store.blocks l ≡ 0 → count s.store.blocks r ≡ 0
+    → count s.store.blocks b ≡ 1 → count s.store.blocks l ≡ 0 → count s.store.blocks r ≡ 0 → length (block_of s.store.blocks b) ≤ LONGEST_BLOCK
     → Way (opened env b l r line) end (on_store (cut_block b l r at) s) v → (v.faulted ≡ true) ⊎ EndsSplit b l r v
-parts_end env end b l r line at q s v ends le whole cb cl cr (stopped k) = inl k.faulted
-parts_end env end b l r line at q s v ends le whole cb cl cr (went m) =
+parts_end env end b l r line at q s v ends le whole cb cl cr few (stopped k) = inl k.faulted
+parts_end env end b l r line at q s v ends le whole cb cl cr few (went m) =
     let left = left_stays env end b l r line at s v ends le cb cl cr m in
-    inr (record { none = left.0; apart = ends.two; pieces = q; whole = left.1 ∙ whole })
+    let both = parts_length env end b l r line at s v ends le cb cl cr m in
+    inr (record { none = left.0; apart = ends.two; pieces = q; whole = left.1 ∙ whole; short = omega (arith, both, few) })
 
 pub cut_kept : (env end : Environment) (b l r : Name) (line at : ℕ) (s v : State) → SplitEnds env end b l r line → at ≤ length (block_of s.store.blocks b)
     → count s.store.blocks b ≡ 1 → count s.store.blocks l ≡ 0 → count s.store.blocks r ≡ 0

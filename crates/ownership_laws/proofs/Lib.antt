@@ -2,6 +2,7 @@ pub mod Counting
 pub mod Environments
 pub mod Tame
 pub mod Sizes
+pub mod Short
 pub mod Moves
 pub mod Passing
 pub mod Statements

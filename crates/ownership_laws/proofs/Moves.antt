@@ -19,7 +19,9 @@ use Rattle.depth_first_run.proofs.Covered.{live_append, actions_append, taking_i
 use Rattle.ownership_laws.specs.Counts.{count, held_in, seen_in}
 use Rattle.ownership_laws.proofs.Counting.{count_append, count_parted}
 use Rattle.ownership_laws.proofs.Environments.{Follows, seen_follows}
+use Rattle.ownership_laws.specs.Holdings.{AreShort}
 use Rattle.ownership_laws.proofs.Sizes.{size, size_append, size_parted}
+use Rattle.ownership_laws.proofs.Short.{short_append, short_parted}
 
 -- ---- words
 
@@ -89,6 +91,7 @@ pub record Moved (env after : Environment) (s t : State) : Type 0 where
   pub callers : t.callers ≡ s.callers
   pub counts : (x : Name) → count t.store.blocks x + held_in env x ≡ count s.store.blocks x + held_in after x
   pub sizes : (x : Name) → seen_in env x ≡ 1 → held_in after x ≡ 1 → size t.store.blocks x ≡ size s.store.blocks x
+  pub short : AreShort s.store.blocks → AreShort t.store.blocks
 
 pub data Way (env after : Environment) (s t : State) : Type 0 where
   stopped : Stopped t → Way env after s t
@@ -106,7 +109,7 @@ pub ran_fault : (env after : Environment) (kind : FaultKind) (line : ℕ) (s : S
 ran_fault env after kind line s = record { exact = exact_fault kind line s; way = stopped (stops kind line s) }
 
 pub moved_same : (env : Environment) (s : State) → s.faulted ≡ false → Moved env env s s
-moved_same env s f = record { running = f; callers = refl; counts = λ x. refl; sizes = λ x a b. refl }
+moved_same env s f = record { running = f; callers = refl; counts = λ x. refl; sizes = λ x a b. refl; short = λ p. p }
 
 -- a visible block is not held behind a part where it was not held before it
 abbrev pub Falls : Environment → Environment → Type 0
@@ -126,6 +129,7 @@ moved_trans env mid after s t u f l one p q = record {
   sizes = λ x v h.
       let w = seen_follows env mid x f v in
       q.sizes x w h ∙ p.sizes x v (held_between env mid x (held_in after x) (one x) (l x w) h);
+  short = λ k. q.short (p.short k);
 }
 
 pub way_trans : (env mid after : Environment) (s t u : State) → Follows env mid → Falls mid after → ((x : Name) → held_in mid x ≤ 1) → Moved env mid s t → Way mid after t u → Way env after s u
@@ -139,6 +143,7 @@ moved_from env after s u t c b m = record {
   callers = m.callers ∙ c;
   counts = λ x. m.counts x ∙ ap (λ hs. count hs x + held_in after x) b;
   sizes = λ x v h. m.sizes x v h ∙ ap (λ hs. size hs x) b;
+  short = λ k. m.short (subst AreShort (sym b) k);
 }
 
 way_from : (env after : Environment) (s u t : State) → u.callers ≡ s.callers → u.store.blocks ≡ s.store.blocks → Way env after u t → Way env after s t
@@ -154,6 +159,7 @@ moved_to env after other s t e m = record {
   callers = m.callers;
   counts = λ x. let a = m.counts x in let b = e x in omega (arith, a, b);
   sizes = λ x v h. m.sizes x v (sym (e x) ∙ h);
+  short = m.short;
 }
 
 way_to : (env after other : Environment) (s t : State) → ((x : Name) → held_in other x ≡ held_in after x) → Way env after s t → Way env other s t
@@ -279,6 +285,7 @@ both_went c named assigned env left right after s e q we wq me mq sum both =
             let two = both x v h in
             let a = size_append q.store.blocks e.store.blocks x in let b = size_parted named s.store.blocks x in
             let ce = me.sizes x v two.0 in let cq = mq.sizes x v two.1 in omega (arith, a, b, ce, cq);
+        short = λ k. let parts = short_parted named s.store.blocks k in short_append q.store.blocks e.store.blocks (mq.short parts.1) (me.short parts.0);
       },
     )
 
@@ -337,7 +344,7 @@ pub tree_went : (c : Setting) (shape : Shape) (env : Environment) (s : State) �
 unfolding run_tree fork_join own_part_then_join joined ended with_action after_join
 tree_went c leaf env s f = (
   exact_light s (run_tree c leaf s) (next_action actions.dummy 0 s) refl refl refl,
-  record { running = f; callers = refl; counts = λ x. refl; sizes = λ x a b. refl },
+  record { running = f; callers = refl; counts = λ x. refl; sizes = λ x a b. refl; short = λ p. p },
 )
 tree_went c (forked child own) env s f =
     let k : State = child_of c no_name s in

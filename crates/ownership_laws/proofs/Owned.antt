@@ -27,6 +27,7 @@ use Rattle.ownership_laws.proofs.Counting.{name_same, same_name, count_parted, c
 use Rattle.ownership_laws.proofs.Environments.{Follows, Like, follows_same, follows_take, seen_like, like_back, held_at_most_one, held_take, held_both, held_the_same, released_held, lent_back_in}
 use Rattle.ownership_laws.proofs.Tame.{Tame, tame_stmt, tame_all, follows_all, held_with_integer, fresh_pair}
 use Rattle.ownership_laws.proofs.Moves.{Exact, exact_same, exact_trans, exact_light, Stopped, Moved, Way, stopped, went, Ran, ran_fault, moved_same, way_trans, ran_from, ran_to, ran_settled, ran_unless, ran_with_turn, ran_with_depth, ran_branching, ran_forking, unless_stopped, unless_running, falls_same, live, stops}
+use Rattle.ownership_laws.proofs.Short.{size_within}
 use Rattle.ownership_laws.proofs.Passing.{or_left, or_right, function_owned}
 use Rattle.ownership_laws.proofs.Statements.{Agrees, went_ran, ran_integers, ran_putting_value, ran_allocating, ran_freeing, SplitEnds, inner_held, ran_splitting}
 use Rattle.ownership_laws.proofs.Calling.{Good, ran_calling}
@@ -242,7 +243,7 @@ mutual
   ran_exec c all line (alloc_stmt b e) env after s good h f agrees =
       let mid : Environment = with_entry env (block_entry b line) in
       ran_end env mid after s (exec c (run c) line (alloc_stmt b e) s) h.2
-      (ran_settled env mid line (value s.store e) (alloc_block c line b) s (λ v. ran_allocating c env line b (size_of v) s f (fresh_unseen env b h.0)))
+      (ran_settled env mid line (value s.store e) (alloc_block c line b) s (λ v. ran_allocating c env line b (size_of v) s f (fresh_unseen env b h.0) (λ n is. size_within v n is)))
   ran_exec c all line (free_stmt b) env after s good h f agrees =
       let o = (owned_block env b h.0).0 in
       ran_end env (environments.without env b) after s (exec c (run c) line (free_stmt b) s) h.1
@@ -291,7 +292,7 @@ mutual
       ran_end env env after s (exec c (run c) line (print_stmt e) s) h.1
       (ran_settled env env line (value s.store e) print_number s
       (λ v. went_ran env env s (print_number v s) (exact_light s (print_number v s) (States.printed v) refl refl refl)
-      (record { running = f; callers = refl; counts = λ x. refl; sizes = λ x p q. refl })))
+      (record { running = f; callers = refl; counts = λ x. refl; sizes = λ x p q. refl; short = λ p. p })))
   ran_exec c all line (par_stmt a b) env after s good h f agrees =
       let l : Environment = h.1.1.0 in let r : Environment = h.1.2.1.0 in
       let left : Environment = take (length env) l in let right : Environment = take (length env) r in

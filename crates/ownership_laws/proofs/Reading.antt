@@ -7,7 +7,7 @@ use Rattle.depth_first_run.specs.Passed.Tree.{Name, Expr, Arg, Target, unused, i
 use Rattle.depth_first_run.specs.Passed.Names.{names_in_expr, names_in_args, names_in_stmt, names_in_body}
 use Rattle.depth_first_run.specs.Passed.Environment.{Environment, opened}
 use Rattle.depth_first_run.specs.Passed.Ownership.{IsFresh, Owns, OwnsFunction, Ownership, function_of}
-use Rattle.depth_first_run.specs.Stores.{block_of, block_words}
+use Rattle.depth_first_run.specs.Stores.{Store, block_of, block_words}
 use Rattle.depth_first_run.specs.States.{Setting, State, with_action, with_result, joined, given_back}
 use Rattle.depth_first_run.specs.Run.{cut_of, cut_block, on_store, run}
 use Rattle.depth_first_run.specs.Middle.{Frame, does, statements, answers, rejoins, answers_main, allocates, awaits, joins, frame_done}
@@ -20,14 +20,25 @@ use Rattle.ownership_laws.proofs.Passing.{or_left, params_held, function_owned}
 use Rattle.ownership_laws.proofs.Statements.{Agrees, cut_count, whole_words}
 use Rattle.ownership_laws.proofs.Owned.{split_ends, split_counts, split_agrees, ran_run}
 use Rattle.ownership_laws.proofs.Fitting.{keeps_at, not_both}
-use Rattle.ownership_laws.specs.Holdings.{OneEach, taken_under, puts_block, frame_puts, EndsCall, EndsSplit}
+use Rattle.ownership_laws.specs.Holdings.{OneEach, NoneTooLong, taken_under, puts_block, frame_puts, EndsCall, EndsSplit}
 use Rattle.ownership_laws.specs.PointLaws.{KeepsTheCut}
-use Rattle.ownership_laws.proofs.Single.{Single}
+use Rattle.ownership_laws.proofs.Single.{IsSingle, Single}
 use Rattle.ownership_laws.proofs.Ending.{taken_is, cut_is, cut_kept}
 use Rattle.ownership_laws.proofs.Stepping.{FrameEnds, Unless, carried, carries_at, next_carries}
 
 pub one_each : (c : Setting) → Ownership c.program → (own : List Frame) (s : State) → IsAt c own s → OneEach s.store × Each OneEach s.callers
-one_each c o own s at = carried c (own ++ at.parents) s (carries_at c o own s at)
+one_each c o own s at = let p = carried c (own ++ at.parents) s (carries_at c o own s at) in (p.0.0, each_one s.callers p.1)
+  where
+    each_one : (callers : List Store) → Each IsSingle callers → Each OneEach callers
+    each_one [] p = tt
+    each_one (st ∷ more) p = (p.0.0, each_one more p.1)
+
+pub none_too_long : (c : Setting) → Ownership c.program → (own : List Frame) (s : State) → IsAt c own s → NoneTooLong s.store × Each NoneTooLong s.callers
+none_too_long c o own s at = let p = carried c (own ++ at.parents) s (carries_at c o own s at) in (p.0.1, each_short s.callers p.1)
+  where
+    each_short : (callers : List Store) → Each IsSingle callers → Each NoneTooLong callers
+    each_short [] p = tt
+    each_short (st ∷ more) p = (p.0.1, each_short more p.1)
 
 -- ---- where a statement begins
 
@@ -115,7 +126,7 @@ frame_none c (does part) s f ends e x p = let never : ⊥ = cc in absurd never
 frame_none c (answers ret params args t) s f ends e x p = let never : ⊥ = cc in absurd never
 frame_none c (rejoins b l r) s f ends e x p = subst (λ (y : Name). count s.store.blocks y ≡ 0) (same_name b x p) (sound_ends s f ends).none
 frame_none c (answers_main ret) s f ends e x p = let never : ⊥ = cc in absurd never
-frame_none c (allocates b n) s f ends e x p = let o = e.0 x in let w = count_with s.store.blocks b (replicate n (pos 0)) x in let h = hit_true b x p in omega (arith, o, w, h)
+frame_none c (allocates b n) s f ends e x p = let o = e.0.0 x in let w = count_with s.store.blocks b (replicate n (pos 0)) x in let h = hit_true b x p in omega (arith, o, w, h)
 frame_none c (awaits named assigned own parent) s f ends e x p = let never : ⊥ = cc in absurd never
 frame_none c (joins assigned child d) s f ends e x p = let never : ⊥ = cc in absurd never
 
@@ -154,6 +165,6 @@ pub join_meets_none : (c : Setting) → Ownership c.program → (assigned : Name
     → s.faulted ≡ false → d.faulted ≡ false → (x : Name) → count s.store.blocks x + count d.store.blocks x ≤ 1
 join_meets_none c o assigned child d own s at f g x =
     let p = (next_carries c o (joins assigned child d) own s at).2 in
-    let one = p.0 x in
+    let one = p.0.0 x in
     let is : count (joined assigned child d s).store.blocks x ≡ count (s.store.blocks ++ d.store.blocks) x = ap (λ hs. count hs x) (joined_blocks assigned child d s f g) in
     let a = count_append s.store.blocks d.store.blocks x in omega (arith, one, is, a)

@@ -22,6 +22,9 @@ use Rattle.ownership_laws.specs.Counts.{hit, count, held_in, seen_in, lent_in, b
 use Rattle.ownership_laws.proofs.Counting.{by_names, hit_same, hit_other, count_with, count_without, count_replaced, held_block, found_front, found_marked, held_without, held_regained, unseen_none, bytes_swap}
 use Rattle.ownership_laws.proofs.Environments.{Follows, Like, like_marked, like_opened, follows_same, seen_like, lent_like, block_like, held_at_most_one, held_parts, held_opened, lent_seen}
 use Rattle.ownership_laws.proofs.Tame.{held_with_block, held_with_lent, lent_with_lent}
+use Rattle.language_limits.specs.declared.TheConstants.{LONGEST_BLOCK}
+use Rattle.ownership_laws.specs.Holdings.{AreShort}
+use Rattle.ownership_laws.proofs.Short.{short_with, short_block, short_without, short_replaced, short_cut, short_rejoin}
 use Rattle.ownership_laws.proofs.Sizes.{weigh, size, weigh_same, weigh_other, size_with, size_without, size_replaced, size_one, size_none}
 use Rattle.ownership_laws.proofs.Moves.{Exact, exact_same, exact_trans, exact_act, exact_quiet, Moved, Way, stopped, went, Ran, ran_fault, moved_same, moved_trans, ran_settled, tree_went, unless_stopped, unless_running}
 
@@ -49,6 +52,7 @@ ran_integers env after st s f b h = went_ran env after s (record s { store = st 
       callers = refl;
       counts = λ x. let a : count st.blocks x ≡ count s.store.blocks x = ap (λ hs. count hs x) b in let e = h x in omega (arith, a, e);
       sizes = λ x v w. ap (λ hs. size hs x) b;
+      short = λ k. subst AreShort (sym b) k;
     })
 
 ran_putting_at : (env : Environment) (line : ℕ) (b : Name) (v : ℤ) (o : Option ℕ) (s : State) → s.faulted ≡ false → Ran env env s (put_in_place line b v o s)
@@ -64,6 +68,7 @@ ran_putting_at env line b v (Some i) s f =
       callers = refl;
       counts = λ x. let a = count_replaced s.store.blocks b xs x in omega (arith, a);
       sizes = λ x p q. size_replaced s.store.blocks b xs x l;
+      short = λ k. let few = short_block s.store.blocks b k in short_replaced s.store.blocks b xs k (omega (arith, few, l));
     })
 
 pub ran_putting_value : (env : Environment) (line : ℕ) (b : Name) (e : Expr) (i : ℤ) (s : State) → s.faulted ≡ false → Ran env env s (put_value line b e i s)
@@ -74,10 +79,10 @@ went_delaying true c words env s f = (exact_same s, moved_same env s f)
 went_delaying false c words env s f = tree_went c (tree_for c.quota words) env s f
 
 pub ran_allocating : (c : Setting) (env : Environment) (line : ℕ) (b : Name) (o : Option ℕ) (s : State) → s.faulted ≡ false → seen_in env b ≡ 0
-    → Ran env (with_entry env (block_entry b line)) s (alloc_words c line b o s)
+    → ((n : ℕ) → o ≡ Some n → n ≤ LONGEST_BLOCK) → Ran env (with_entry env (block_entry b line)) s (alloc_words c line b o s)
 unfolding run_tree_before with_action
-ran_allocating c env line b None s f u = ran_fault env (with_entry env (block_entry b line)) _ line s
-ran_allocating c env line b (Some n) s f u =
+ran_allocating c env line b None s f u within = ran_fault env (with_entry env (block_entry b line)) _ line s
+ran_allocating c env line b (Some n) s f u within =
     let after : Environment = with_entry env (block_entry b line) in
     let t : State = run_tree_unless (nat_le (block_words n) c.quota) c (block_words n) s in
     let d = went_delaying (nat_le (block_words n) c.quota) c (block_words n) env s f in
@@ -94,6 +99,7 @@ ran_allocating c env line b (Some n) s f u =
       callers = refl;
       counts = λ x. let a = count_with t.store.blocks b xs x in let h = held_with_block env b line x u in omega (arith, a, h);
       sizes = λ x v h. let a = size_with t.store.blocks b xs x in let z = weigh_other b x (length xs) (differs env b x u v) in omega (arith, a, z);
+      short = λ k. let few = within n refl in let long = length-replicate n (pos 0) in short_with t.store.blocks b xs k (omega (arith, few, long));
     }))
   where
     alone : (n : ℕ) → (pos n +ℤ pos 0) ≡ pos n
@@ -121,6 +127,7 @@ ran_freeing env b s f h e =
       sizes = λ x v k. let a = size_without s.store.blocks b x in
           let d = held_without env b x h in let m = held_at_most_one env x in
           let z = weigh_unless b x (length (block_of s.store.blocks b)) (omega (arith, d, m, k)) in omega (arith, a, z);
+      short = λ p. short_without s.store.blocks b p;
     })
   where
     alone : (z : ℤ) → (z +ℤ pos 0) ≡ z
@@ -356,6 +363,30 @@ left_stays env end b l r line at s v ends le cb cl cr m =
     let tl = taken_length at bs le in
     (omega (arith, ub, mb, ib, eb, cb, bb, lb, rb), omega (arith, one_l, kept_l, sl, wll, wrl, wbl, zl, tl))
 
+-- and so is its right part
+pub right_stays : (env end : Environment) (b l r : Name) (line at : ℕ) (s v : State) → SplitEnds env end b l r line → count s.store.blocks r ≡ 0
+    → Moved (opened env b l r line) end (on_store (cut_block b l r at) s) v → size v.store.blocks r ≡ length (block_of s.store.blocks b) - at
+right_stays env end b l r line at s v ends cr m =
+    let k = split_numbers env end b l r line ends in
+    let bs : List ℤ = block_of s.store.blocks b in
+    let zr = size_none s.store.blocks r cr in
+    let sr = cut_size b l r at s.store r in
+    let wrr = weigh_same r (length (drop at bs)) in let wlr = weigh_other l r (length (take at bs)) ends.two in
+    let wbr = weigh_other b r (length bs) (bytes_swap r b (differs env r b ends.right_new ends.seen)) in
+    let kept = m.sizes r k.seen_right k.end_right in
+    let td = dropped_length at bs in omega (arith, zr, sr, wrr, wlr, wbr, kept, td)
+
+-- so both together are as long as the block
+pub parts_length : (env end : Environment) (b l r : Name) (line at : ℕ) (s v : State) → SplitEnds env end b l r line → at ≤ length (block_of s.store.blocks b)
+    → count s.store.blocks b ≡ 1 → count s.store.blocks l ≡ 0 → count s.store.blocks r ≡ 0
+    → Moved (opened env b l r line) end (on_store (cut_block b l r at) s) v
+    → length (block_of v.store.blocks l) + length (block_of v.store.blocks r) ≡ length (block_of s.store.blocks b)
+parts_length env end b l r line at s v ends le cb cl cr m =
+    let left = (left_stays env end b l r line at s v ends le cb cl cr m).1 in
+    let right = right_stays env end b l r line at s v ends cr m in
+    let there = (parts_left env end b l r line at s v ends cb cl cr m).1 in
+    let one = size_one v.store.blocks r (omega (arith, there)) in omega (arith, left, right, one, le)
+
 cut_moved : (env end : Environment) (b l r : Name) (line : ℕ) (body : State → State) (at q : ℕ) (s : State) → SplitEnds env end b l r line → at ≡ 16 * q → at ≤ length (block_of s.store.blocks b)
     → s.faulted ≡ false → count s.store.blocks b ≡ 1 → count s.store.blocks l ≡ 0 → count s.store.blocks r ≡ 0
     → (v : State) → Moved (opened env b l r line) end (on_store (cut_block b l r at) s) v
@@ -365,8 +396,6 @@ cut_moved env end b l r line body at q s ends whole le f cb cl cr v m =
     let u : State = on_store (cut_block b l r at) s in
     let bs : List ℤ = block_of s.store.blocks b in
     let lr : hit l r ≡ 0 = hit_other l r ends.two in
-    let br_ : bytes_eq b r ≡ false = bytes_swap r b (differs env r b ends.right_new ends.seen) in
-    let er = k.end_right in
     let left = left_stays env end b l r line at s v ends le cb cl cr m in
     let two = parts_left env end b l r line at s v ends cb cl cr m in
     let vl : count v.store.blocks l ≡ 1 = two.0 in
@@ -377,16 +406,12 @@ cut_moved env end b l r line body at q s ends whole le f cb cl cr v m =
     let ys : List ℤ = block_of t.blocks r in
     let lx : length xs ≡ at = left.1 in
     -- the right part is as long as it was
-    let zr = size_none s.store.blocks r cr in
-    let sr = cut_size b l r at s.store r in
-    let wrr = weigh_same r (length (drop at bs)) in let wlr = weigh_other l r (length (take at bs)) ends.two in let wbr = weigh_other b r (length bs) br_ in
+    let right = right_stays env end b l r line at s v ends cr m in
     let dr = count_without v.store.blocks l r (omega (arith, vl)) in
     let one_r = size_one t.blocks r (omega (arith, dr, vr, lr)) in
     let without_r = size_without v.store.blocks l r in
     let wxr = weigh_other l r (length xs) ends.two in
-    let kept_r = m.sizes r k.seen_right er in
-    let td = dropped_length at bs in
-    let ly : length ys ≡ length bs - at = omega (arith, one_r, without_r, wxr, kept_r, sr, wrr, wlr, wbr, zr, td) in (
+    let ly : length ys ≡ length bs - at = omega (arith, one_r, without_r, wxr, right) in (
       rejoin_exact b l r q v.store (lx ∙ whole),
       record {
         running = m.running;
@@ -417,6 +442,7 @@ cut_moved env end b l r line body at q s ends whole le f cb cl cr v m =
             let cl0 = weigh_other l x (length (take at bs)) (differs env l x ends.left_new w) in
             let cr0 = weigh_other r x (length (drop at bs)) (differs env r x ends.right_new w) in
             omega (arith, d, xl, xr, xb, kept, c, cb0, cl0, cr0)) refl refl;
+        short = λ p. let few = short_block s.store.blocks b p in short_rejoin b l r v.store (m.short (short_cut b l r at s.store p)) (omega (arith, lx, ly, le, few));
       },
     )
 

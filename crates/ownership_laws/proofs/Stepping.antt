@@ -32,6 +32,7 @@ use Rattle.ownership_laws.proofs.Owned.{and_two, or_none, child_agrees, split_en
 use Rattle.ownership_laws.proofs.Fitting.{FitsBody, body_over, body_fits, FitsPart, FitsFrame, Fitting, loop_fits, rest_fits, fits_after, not_both}
 use Rattle.ownership_laws.specs.Holdings.{EndsCall, EndsSplit}
 use Rattle.ownership_laws.proofs.Single.{Single, single_empty, put_one, single_run, single_tree}
+use Rattle.ownership_laws.proofs.Short.{short_block, short_parted, short_cut, PassesShort, passed_short}
 use Rattle.ownership_laws.proofs.Ending.{Function, function_ends, cut_is, parts_end, main_ends}
 
 -- ---- what is carried along the frames
@@ -147,13 +148,13 @@ opening_carries false c all line t args g h s k e = e
 
 calling_with_carries : (c : Setting) → OwnsFunctions c.program c.program → (env : Environment) (line : ℕ) (t : Target) (args : List Arg) (g : Func) (r : Result Passing FaultKind) (s : State)
     → OwnsFunction c.program g → Passes env [] g.params args → IsTarget env t → ((x : Name) → names_in_target x t ≡ true → count s.store.blocks x ≡ held_in env x) → s.faulted ≡ false → Single s
-    → PassedWell g.params args (record { callee = Stores.nothing; caller = s.store }) r
+    → PassedWell g.params args (record { callee = Stores.nothing; caller = s.store }) r → PassesShort r
     → Single (finished c (step_call_with c line t args g r [] s)) → CarriesPoint c (step_call_with c line t args g r [] s)
-unfolding Carries finish PassedWell
-calling_with_carries c all env line t args g (Err kind) s owns passes target agrees f p well e = e
-calling_with_carries c all env line t args g (Ok h) s owns passes target agrees f p well e =
+unfolding Carries finish PassedWell PassesShort
+calling_with_carries c all env line t args g (Err kind) s owns passes target agrees f p well few e = e
+calling_with_carries c all env line t args g (Ok h) s owns passes target agrees f p well few e =
     opening_carries (nat_lt s.calls c.most_calls) c all line t args g h s
-    (λ left. function_ends c all env g args t h s (record s { turns = left }) owns passes well target agrees p f refl) e
+    (λ left. function_ends c all env g args t h s (record s { turns = left }) owns passes well target agrees few p f refl) e
 
 calling_carries : (c : Setting) → OwnsFunctions c.program c.program → (line : ℕ) (t : Target) (f : Name) (args : List Arg) (env after : Environment) (s : State)
     → Owns c.program line (call_stmt t f args) env after → s.faulted ≡ false → Agrees (λ x. names_in_stmt x (call_stmt t f args)) env s.store → Single s
@@ -168,15 +169,16 @@ calling_carries c all line t f args env after s h running agrees p e =
     passed_well s.store env [] g.params args k h.1.3 apart (λ x b held n. agrees x (or_right (names_in_target x t) (names_in_args x args) n) ∙ held) (λ y le. none_counted y) in
     let P : Option Func → Type 0 = λ o. Single (finished c (step_call c line t args o [] s)) → CarriesPoint c (step_call c line t args o [] s) in
     let some : P (Some g) =
-    calling_with_carries c all env line t args g (all_passed s.store g.params args) s owns h.1.3 h.0 (λ x n. agrees x (or_left (names_in_target x t) (names_in_args x args) n)) running p well in
+    calling_with_carries c all env line t args g (all_passed s.store g.params args) s owns h.1.3 h.0 (λ x n. agrees x (or_left (names_in_target x t) (names_in_args x args) n)) running p well
+    (passed_short s.store g.params args k p.0.1 tt) in
     subst P (sym h.1.1) some e
 
 -- a Fork: what each side has
 child_single : (c : Setting) (named : Name → Bool) (s : State) → Single s → Single (child_of c named s)
-child_single c named s p = (λ x. let n = count_parted named s.store.blocks x in let o = p.0 x in omega (arith, n, o), tt)
+child_single c named s p = ((λ x. let n = count_parted named s.store.blocks x in let o = p.0.0 x in omega (arith, n, o), (short_parted named s.store.blocks p.0.1).0), tt)
 
 parent_single : (named : Name → Bool) (items : List Item) (s : State) → Single s → Single (parent_of named items s)
-parent_single named items s p = (λ x. let n = count_parted named s.store.blocks x in let o = p.0 x in omega (arith, n, o), p.1)
+parent_single named items s p = ((λ x. let n = count_parted named s.store.blocks x in let o = p.0.0 x in omega (arith, n, o), (short_parted named s.store.blocks p.0.1).1), p.1)
 
 both_carries : (v : Bool) (c : Setting) → OwnsFunctions c.program c.program → (line : ℕ) (a b : Body) (env after : Environment) (s : State) → Owns c.program line (par_stmt a b) env after
     → Agrees (λ x. names_in_stmt x (par_stmt a b)) env s.store → Single s → Single (finished c (step_par v c line a b [] s)) → CarriesPoint c (step_par v c line a b [] s)
@@ -191,10 +193,10 @@ both_carries true c all line a b env after s h agrees p e =
 -- a cut: its two parts, the body, and the end of the `split` behind it
 cut_single : (b l r : Name) (at : ℕ) (s : State) → count s.store.blocks b ≡ 1 → count s.store.blocks l ≡ 0 → count s.store.blocks r ≡ 0 → bytes_eq l r ≡ false → Single s
     → Single (on_store (cut_block b l r at) s)
-cut_single b l r at s cb cl cr lr p = (λ x. let n = cut_count b l r at s.store x cb in let t = two x in omega (arith, n, t), p.1)
+cut_single b l r at s cb cl cr lr p = ((λ x. let n = cut_count b l r at s.store x cb in let t = two x in omega (arith, n, t), short_cut b l r at s.store p.0.1), p.1)
   where
     left : (x : Name) → count s.store.blocks x + hit l x ≤ 1
-    left = put_one (count s.store.blocks) l cl p.0
+    left = put_one (count s.store.blocks) l cl p.0.0
 
     two : (x : Name) → (count s.store.blocks x + hit l x) + hit r x ≤ 1
     two = put_one (λ x. count s.store.blocks x + hit l x) r (let z = hit_other l r lr in omega (arith, z, cr)) left
@@ -215,7 +217,7 @@ cut_carries c all line b e l r a v (Some at) env after s h f agrees is p end =
     let way = (ran_run c all a inner h.4.1.0 u h.4.1.1 f inside).way in
     before_carries c a (rejoins b l r ∷ []) u q (
       single_run c all a u (body_fits inner h.4.1.0 h.4.1.1 inside) q,
-      parts_end env h.4.1.0 b l r line at (at / 16) s (run c a u) ends k.0 k.1 n.0 n.1 n.2 way,
+      parts_end env h.4.1.0 b l r line at (at / 16) s (run c a u) ends k.0 k.1 n.0 n.1 n.2 (short_block s.store.blocks b p.0.1) way,
       behind_all c a (rejoins b l r ∷ []) u end,
     )
 

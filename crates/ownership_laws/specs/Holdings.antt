@@ -1,9 +1,9 @@
 -- How often a name is given a block, and what stands where a call or a `split` ends.
 use Rattle.std.specs.Prelude.{◌≡◌, ℕ, ◌+◌, ◌*◌, ◌≤◌, Bool, false, ◌||◌, List, [], ◌∷◌, length, Option, Some, None}
 use Rattle.std.specs.Str.{bytes_eq}
-use Rattle.language_limits.specs.declared.TheConstants.{PIECE_WORDS}
+use Rattle.language_limits.specs.declared.TheConstants.{LONGEST_BLOCK, PIECE_WORDS}
 use Rattle.depth_first_run.specs.Passed.Tree.{Name, Arg, value, lend, give, Target, unused, integer, block, Stmt, let_stmt, assign_stmt, put_stmt, alloc_stmt, free_stmt, if_stmt, while_stmt, call_stmt, print_stmt, par_stmt, split_stmt, Param, Ret, RetValue, gives, hands}
-use Rattle.depth_first_run.specs.Stores.{Store, block_of}
+use Rattle.depth_first_run.specs.Stores.{Store, Held, block_of}
 use Rattle.depth_first_run.specs.States.{State}
 use Rattle.depth_first_run.specs.Middle.{Frame, does, statements, tree, answers, rejoins, answers_main, allocates, awaits, joins}
 use Rattle.ownership_laws.specs.Counts.{hit, count}
@@ -11,6 +11,14 @@ use Rattle.ownership_laws.specs.Counts.{hit, count}
 -- of each name at most one block
 abbrev pub OneEach : Store → Type 0
 OneEach st = (x : Name) → count st.blocks x ≤ 1
+
+-- no block has more numbers than a block may have
+abbrev pub AreShort : List Held → Type 0
+AreShort [] = Unit {0}
+AreShort (h ∷ hs) = (length h.items ≤ LONGEST_BLOCK) × AreShort hs
+
+abbrev pub NoneTooLong : Store → Type 0
+NoneTooLong st = AreShort st.blocks
 
 -- how many parameters of the name take a block, and how many of these are lent one
 abbrev pub taken_under : List Param → List Arg → Name → ℕ
@@ -97,10 +105,11 @@ pub record EndsCall (ret : Option Ret) (params : List Param) (args : List Arg) (
   pub holds : (x : Name) → count s.store.blocks x ≡ lent_under params args x + handed_out ret x
   pub meets_none : (x : Name) → count caller.blocks x + (given_back_under args x + answered_under t x) ≤ 1
 
--- The end of a `split` of b: the block itself is not there, its two parts have different names, and the left one is still
--- whole pieces of 16 numbers, as it was cut.
+-- The end of a `split` of b: the block itself is not there, its two parts have different names, the left one is still
+-- whole pieces of 16 numbers, as it was cut, and both together have no more numbers than a block may have.
 pub record EndsSplit (b l r : Name) (s : State) : Type 0 where
   pub none : count s.store.blocks b ≡ 0
   pub apart : bytes_eq l r ≡ false
   pub pieces : ℕ
   pub whole : length (block_of s.store.blocks l) ≡ PIECE_WORDS * pieces
+  pub short : length (block_of s.store.blocks l) + length (block_of s.store.blocks r) ≤ LONGEST_BLOCK

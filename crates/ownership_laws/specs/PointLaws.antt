@@ -10,12 +10,17 @@ use Rattle.depth_first_run.specs.Middle.{Frame, does, statements, answers, rejoi
 use Rattle.thread_points.specs.Points.{Each, IsPlain, IsAt, step_of, marked}
 use Rattle.thread_points.specs.Threads.{IsThread}
 use Rattle.ownership_laws.specs.Counts.{count}
-use Rattle.ownership_laws.specs.Holdings.{OneEach, taken_under, puts_block, frame_puts, IsOfAllocation, EndsCall, EndsSplit}
+use Rattle.ownership_laws.specs.Holdings.{OneEach, NoneTooLong, taken_under, puts_block, frame_puts, IsOfAllocation, EndsCall, EndsSplit}
 
 -- of each name there is at most one block, in what the thread can reach and in the store of each caller that waits
 abbrev pub EachNameHasOneBlock : Type 0
 EachNameHasOneBlock = (c : Setting) → Ownership c.program → (own : List Frame) (s : State) → IsAt c own s
     → OneEach s.store × Each OneEach s.callers
+
+-- and none of these blocks has more numbers than a block may have, however often blocks were cut and put together
+abbrev pub NoBlockIsTooLong : Type 0
+NoBlockIsTooLong = (c : Setting) → Ownership c.program → (own : List Frame) (s : State) → IsAt c own s
+    → NoneTooLong s.store × Each NoneTooLong s.callers
 
 -- where a statement begins that puts a block under a name, there is none under it
 abbrev pub StatementsPutWhereNoneIs : Type 0

@@ -1,5 +1,5 @@
 ghost use Rattle.ownership_laws.specs.Laws.{StatementsFindTheirBlocks, RunsHoldWhatTheRulesSay, NothingIsHeldAtTheEnd, LiveWordsEndAtZero, EachStatementKeepsTheRules, EachStatementFindsItsBlocks, EachEndFindsItsBlocks};
-ghost use Rattle.ownership_laws.specs.PointLaws.{EachNameHasOneBlock, StatementsPutWhereNoneIs, PartsAreApart, ParametersAreApart, FramesPutWhereNoneIs, CallsEndWithWhatGoesBack, MainEndsWithNothing, SplitBodiesKeepTheCut, SplitsEndInWholePieces, JoinsMeetNone, CallsTakeTheirAnswers, QuietStepsKeepTheWords, AllocationsRunWithoutFault, FaultedThreadsSkip};
+ghost use Rattle.ownership_laws.specs.PointLaws.{EachNameHasOneBlock, NoBlockIsTooLong, StatementsPutWhereNoneIs, PartsAreApart, ParametersAreApart, FramesPutWhereNoneIs, CallsEndWithWhatGoesBack, MainEndsWithNothing, SplitBodiesKeepTheCut, SplitsEndInWholePieces, JoinsMeetNone, CallsTakeTheirAnswers, QuietStepsKeepTheWords, AllocationsRunWithoutFault, FaultedThreadsSkip};
 
 /// A statement that keeps the ownership rules finds each block that it needs.
 pub fn statements_find_their_blocks()
@@ -41,6 +41,11 @@ pub fn each_end_finds_its_blocks()
 /// At each point of a thread there is of each name at most one block.
 pub fn each_name_has_one_block()
     ensures { EachNameHasOneBlock }
+{}
+
+/// At each point of a thread no block has more numbers than a block may have.
+pub fn no_block_is_too_long()
+    ensures { NoBlockIsTooLong }
 {}
 
 /// A statement puts a block under a name where none is.

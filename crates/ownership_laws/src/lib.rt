@@ -5,9 +5,10 @@
 //! a statement, a call or the end of one.
 //!
 //! Its theorem, by the functions of [`laws`]: if a program keeps the rules, each thread holds at each point the blocks that the rules say, at most
-//! one of each name, and at the end all words are given back. A block is put under a name only if there is none. At the end of a call there is no
-//! block but those that go back and the one that is handed out, which its target takes. A block that was split comes back in whole pieces. A step
-//! without an action keeps the words of its thread. So no word that was taken is ever lost.
+//! one of each name, none longer than a block may be, and at the end all words are given back. A block is put under a name only if there is none.
+//! At the end of a call there is no block but those that go back and the one that is handed out, which its target takes. A block that was split
+//! comes back in whole pieces, no longer than it was. A step without an action keeps the words of its thread. So no word that was taken is ever
+//! lost.
 //!
 //! # Why
 //!
@@ -17,6 +18,8 @@
 //!   names that the list writes; of all other names it says that nothing changes. So it holds of a forked branch, which has only the blocks of
 //!   its own names, as it holds of the root.
 //! - A fault ends a thread with nothing held and no open call; the laws say so beside what they say of a thread that goes on.
+//! - That no block is too long is carried along with the counts. So the two parts at the end of a `split` are no longer than a block may be, and
+//!   the code joins them without a test.
 //! - What holds at each point is said of the points that a count of steps reaches from the beginning, and a law of its own says that they reach
 //!   the end. The invariant, that each frame fits the state that those before it lead to, is only in the proofs.
 #![tactic(auto)]

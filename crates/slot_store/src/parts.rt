@@ -11,8 +11,8 @@ ghost use Rattle.slot_store.specs.Shown.{slots_shown};
 ghost use Rattle.slot_store.specs.Agreement.{ShowsStore};
 
 use crate::slots::Slots;
-use block_arena::{Block, MOST_PIECES, Shell, pieces_for};
-use language_limits::PIECE_WORDS;
+use block_arena::{Block, Shell, pieces_for};
+use language_limits::{LONGEST_BLOCK, PIECE_WORDS};
 use number_operators::cut_of;
 use std::alloc::{AllocError, Global};
 
@@ -87,7 +87,7 @@ impl Slots {
     ///
     /// # Errors
     ///
-    /// There is not enough memory, or the parts are more pieces than a block has. The slots are as they were.
+    /// There is not enough memory. The slots are as they were.
     pub fn rejoin(&mut self, slot: u16, left: u16, right: u16) -> Result<(), AllocError>
         requires within { slot < length (slots_shown self.old) }
         requires within_left { left < length (slots_shown self.old) }
@@ -97,15 +97,13 @@ impl Slots {
         requires has_right { HasBlock (slots_shown self.old) right }
         requires apart { left ≢ right }
         requires whole { length (items_at (slots_shown self.old) left) % PIECE_WORDS ≡ 0 }
+        requires short { length (items_at (slots_shown self.old) left) + length (items_at (slots_shown self.old) right) ≤ LONGEST_BLOCK }
         ensures store { (names : List Name) (store : Store) → ShowsStore names (slots_shown self.old) store
             → OnOk result (ShowsStore names (slots_shown self.new)
             (rejoin_block (name_at names slot) (name_at names left) (name_at names right) store)) }
         ensures err { OnErr result (slots_shown self.new ≡ slots_shown self.old) }
     {
         let pieces = pieces_for(self.length(left)) + pieces_for(self.length(right));
-        if MOST_PIECES < pieces {
-            return Err(AllocError);
-        }
         let mut before = self.take(left);
         if let Err(error) = before.make_room(pieces) {
             self.hold(left, before);

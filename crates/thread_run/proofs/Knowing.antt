@@ -1,10 +1,11 @@
 -- What a thread at a point of an accepted program knows of its nodes and rows.
-use Rattle.std.proofs.Common.{◌≡◌, ℕ, ◌%◌, ◌<◌, ◌≤◌, Bool, true, false, List, [], ◌∷◌, length, Option, Some, None, refl, sym, ap, ◌∙◌, subst, arith}
+use Rattle.std.proofs.Common.{◌≡◌, ℕ, ◌+◌, ◌%◌, ◌<◌, ◌≤◌, Bool, true, false, List, [], ◌∷◌, length, Option, Some, None, refl, sym, ap, ◌∙◌, subst, arith}
 use Rattle.std.specs.Prelude.{slice_get, map, ◌||◌}
 use Rattle.std.specs.Str.{bytes_eq}
 use Rattle.std.proofs.Math.Logic.{∥∥₁_elim}
 use denote.Struct.Props.{props}
 use Rattle.std.proofs.lemmas.List.{nil_from_length}
+use Rattle.language_limits.specs.declared.TheConstants.{LONGEST_BLOCK}
 use Rattle.par_tree.specs.Tree.{Name, Program, Func, Stmt}
 use Rattle.thread_points.specs.Passed.Stores.{Held, block_of}
 use Rattle.thread_points.specs.Passed.Middle as middles
@@ -207,6 +208,13 @@ module _ (t : Table) (k : ℕ) (run : ThreadRun) (n s : ℕ) (e : tables.Expr) (
         let long = ap (λ xs. length xs) (slot_items (slot_names p.at.runs) (own_row run.state) m.at.store l p.left shows p.first) in
         let whole = e.whole in omega (arith, long, whole)
 
+    both_short : length (items_at (own_row run.state) l) + length (items_at (own_row run.state) r) ≤ LONGEST_BLOCK
+    both_short =
+        let e = (split_end m.setting m.of_table.owned p.block p.left p.right p.at.own m.at p.point on).0 in
+        let first = ap (λ xs. length xs) (slot_items (slot_names p.at.runs) (own_row run.state) m.at.store l p.left shows p.first) in
+        let second = ap (λ xs. length xs) (slot_items (slot_names p.at.runs) (own_row run.state) m.at.store r p.right shows p.second) in
+        let few = e.short in omega (arith, first, second, few)
+
   pub rejoins_at : IsKnownAt t k run (Rejoins n) → CanRejoin (own_row run.state) s l r
   rejoins_at known = record {
     within = ∥∥₁_elim known (search props) (λ m. let p = parts m in slot_within (slot_names p.at.runs) (own_row run.state) m.at.store s p.block (shows m p) p.whole);
@@ -217,6 +225,7 @@ module _ (t : Table) (k : ℕ) (run : ThreadRun) (n s : ℕ) (e : tables.Expr) (
     has_right = ∥∥₁_elim known (search props) (λ m. right_has m (parts m));
     apart = λ same. ∥∥₁_elim known (λ x y. absurd x) (λ m. two m (parts m) same);
     whole = ∥∥₁_elim known (search props) (λ m. pieces m (parts m));
+    short = ∥∥₁_elim known (search props) (λ m. both_short m (parts m));
   }
 
 pub can_rejoin : (t : Table) (k : ℕ) (run : ThreadRun) (n : ℕ) → IsKnownAt t k run (Rejoins n) → run.state.faulted ≡ false → CanRejoinAt (own_row run.state) (kind_at t n)
