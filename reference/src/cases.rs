@@ -51,6 +51,31 @@ pub fn machine_case(number: u64) -> Case {
     Case { kind, words, source }
 }
 
+/// How many numbers of a series may belong to one number of a command.
+const NUMBERS_A_COMMAND: u64 = 64;
+
+/// The first case of a series, from a place on that the number names, whose words begin with a command.
+fn first_of(command: &str, series: fn(u64) -> Case, number: u64) -> Case {
+    let first = number.wrapping_mul(NUMBERS_A_COMMAND);
+    let of_command = |it: &Case| it.words.first().is_some_and(|word| word == command);
+    (0..NUMBERS_A_COMMAND).map(|at| series(first.wrapping_add(at))).find(of_command).unwrap_or_else(|| series(first))
+}
+
+/// The case of a number whose command is `peak`.
+pub fn peak_case(number: u64) -> Case {
+    first_of("peak", case, number)
+}
+
+/// The case of a number whose command is `trail`.
+pub fn recorded_case(number: u64) -> Case {
+    first_of("trail", trail_case, number)
+}
+
+/// The case of a number whose command is `verify`.
+pub fn verified_case(number: u64) -> Case {
+    first_of("verify", trail_case, number)
+}
+
 /// The case of a number that runs in threads.
 pub fn run_case(number: u64) -> Case {
     let kinds = KINDS_OF_MACHINE.len() as u64;

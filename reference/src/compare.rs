@@ -1,8 +1,8 @@
 //! Runs the program and the reference on random cases, and prints where they differ with the smallest source that shows it.
 
 use crate::cases::{
-    case, loop_case, machine_case, ready_case, run_case, trail_case, Case, KINDS, KINDS_OF_LOOPS, KINDS_OF_MACHINE,
-    KINDS_OF_READY, KINDS_OF_TRAILS,
+    case, loop_case, machine_case, peak_case, ready_case, recorded_case, run_case, trail_case, verified_case, Case, KINDS,
+    KINDS_OF_LOOPS, KINDS_OF_MACHINE, KINDS_OF_READY, KINDS_OF_TRAILS,
 };
 use crate::command::{accepted, answer_to, command_of, Answer};
 use crate::depth_first::depth_first;
@@ -32,7 +32,10 @@ const MACHINE_ONE_IN: u64 = 4;
 /// The exit status: 0 where nothing differs, 1 where something does, 2 where the words are wrong.
 pub fn compare(words: &[String]) -> u8 {
     let Some(plan) = read_plan(words) else {
-        eprintln!("usage: reference/compare [--product FILE] [--count N] [--from N] [--only machine|run|loops|trails|async]");
+        eprintln!(
+            "usage: reference/compare [--product FILE] [--count N] [--from N] \
+             [--only machine|run|loops|trails|async|peak|trail|verify]"
+        );
         return 2;
     };
     if !Path::new(&plan.product).exists() {
@@ -82,6 +85,9 @@ fn read_plan(words: &[String]) -> Option<Plan> {
             "--only" if value == "loops" => plan.only = Some(loop_case),
             "--only" if value == "trails" => plan.only = Some(trail_case),
             "--only" if value == "async" => plan.only = Some(ready_case),
+            "--only" if value == "peak" => plan.only = Some(peak_case),
+            "--only" if value == "trail" => plan.only = Some(recorded_case),
+            "--only" if value == "verify" => plan.only = Some(verified_case),
             _ => return None,
         }
     }
