@@ -1,7 +1,6 @@
 -- A run whose top thread has ended, and whose result has not yet gone to its parent.
 use Rattle.std.specs.Prelude.{◌≡◌, ℕ, suc, ◌+◌, List, [], ◌∷◌, ◌++◌}
-use Rattle.depth_first_list.specs.Actions.{ends}
-use Rattle.depth_first_run.specs.States.{Item, acted}
+use Rattle.depth_first_list.specs.Actions.{Action, ends}
 use Rattle.node_table.specs.Table.{Table}
 use Rattle.thread_run.specs.Passed.Points.{words_at_end}
 use Rattle.thread_frames.specs.declared.ended.Ended.{Ended}
@@ -21,5 +20,5 @@ pub record HasEnded (t : Table) (k : ℕ) (before after : Run) (ended : Ended) :
   pub births : births_of after.journal ≡ births_of before.journal
   pub done : after.done ≡ before.done + 1
   pub live : after.pool.live ≡ ended_words ended + all_words (below before)
-  pub written : (limit : ℕ) (items : List Item) → KeepsUp limit items before.journal
-      → KeepsUp limit (items ++ acted (action_named (label_of before.top) (done_of before.top) ends (words_at_end (label_of before.top))) ∷ []) after.journal
+  pub written : (limit : ℕ) (actions : List Action) → KeepsUp limit actions before.journal
+      → KeepsUp limit (actions ++ action_named (label_of before.top) (done_of before.top) ends (words_at_end (label_of before.top)) ∷ []) after.journal

@@ -54,9 +54,9 @@ impl Run {
         ensures never { (limit : ℕ) (t : Table) (k : ℕ) (c : Setting) → Stand t k self.old → Write c limit self.old → self.old.done < limit → NeverSpent result }
     {
         let name = name_of(&self.top);
-        let (ended, record) = self.top.get_mut().end();
-        self.journal.act(name, Kind::End, words_of(&record))?;
-        give_record(record, &mut self.pool);
+        let (ended, block) = self.top.get_mut().end();
+        self.journal.act(name, Kind::End, words_of(&block))?;
+        give_record(block, &mut self.pool);
         self.done += 1;
         Ok(ended)
     }
@@ -79,10 +79,10 @@ impl Run {
 }
 
 /// The words of a record block, if there is one.
-fn words_of(record: &Option<RecordBlock>) -> u64
-    ensures { result ≡ words_recorded record.now }
+fn words_of(block: &Option<RecordBlock>) -> u64
+    ensures { result ≡ words_recorded block.now }
 {
-    match record {
+    match block {
         Some(_) => u64::from(RECORD_WORDS),
         None => 0,
     }
