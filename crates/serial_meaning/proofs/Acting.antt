@@ -1,10 +1,10 @@
 -- An action that the thread that runs does by itself.
-use Rattle.std.proofs.Common.{append-nil, ◌-◌, ◌≡◌, ℕ, suc, ◌+◌, ◌≤◌, ◌<◌, List, [], ◌∷◌, ◌++◌, take, reverse, length, refl, sym, ap, ◌∙◌, subst, arith}
+use Rattle.std.proofs.Common.{append-nil, ◌-◌, ◌≡◌, ℕ, suc, ◌+◌, ◌≤◌, List, [], ◌∷◌, ◌++◌, take, reverse, length, refl, sym, ap, ◌∙◌, subst, arith}
 use Rattle.std.specs.Prelude.{IsTrue, is_some, map, Option, None, Some, Result, Ok, MatchResult}
 use Rattle.dag_order.specs.Births.{root, HasLabel}
 use Rattle.dag_order.specs.declared.birth.Birth.{Birth}
 use Rattle.depth_first_list.specs.Actions.{Action, Deed, kind_of}
-use Rattle.depth_first_list.specs.Facts.{label_at, index_at, deed_at, words_at}
+use Rattle.depth_first_list.specs.Facts.{label_at, index_at, words_at}
 use Rattle.depth_first_list.specs.Laws.{HasAction, IsAlone}
 use Rattle.depth_first_run.specs.States.{Setting}
 use Rattle.depth_first_run.specs.Run.{list_of}
@@ -23,8 +23,8 @@ use Rattle.serial_journal.specs.Telling.{IsNoFork}
 use Rattle.serial_journal.specs.declared.journal.Journal.{Journal}
 use Rattle.serial_journal.specs.declared.serial_stop.SerialStop.{SerialStop}
 use Rattle.serial_meaning.specs.Doing.{kind_of_next, DoesAlone, JoinsDelivered, ActsAlone}
-use Rattle.serial_meaning.specs.Stacks.{IsDelivered, IsBornWithin, IsMember, AreWaiting, Stand, all_words, below}
-use Rattle.serial_meaning.specs.Writing.{Forked, AreForked, Write}
+use Rattle.serial_meaning.specs.Stacks.{IsDelivered, IsBornWithin, AreWaiting, Stand, all_words, below}
+use Rattle.serial_meaning.specs.Writing.{AreForked, Write}
 use Rattle.serial_meaning.specs.declared.run.Run.{Run}
 use Rattle.serial_meaning.proofs.Lists.{each_front}
 use Rattle.serial_meaning.proofs.Next.{NextIs, next_places, written}

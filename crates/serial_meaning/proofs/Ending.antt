@@ -1,5 +1,5 @@
 -- The End of a thread, whose result goes to its parent, and that of the root.
-use Rattle.std.proofs.Common.{◌≡◌, ℕ, zero, suc, ◌+◌, ◌≤◌, ◌<◌, Bool, true, false, List, [], ◌∷◌, ◌++◌, take, reverse, length, inl, inr, refl, sym, ap, ◌∙◌, subst, arith}
+use Rattle.std.proofs.Common.{◌≡◌, ℕ, suc, ◌+◌, ◌<◌, Bool, true, false, List, [], ◌∷◌, ◌++◌, take, reverse, length, inl, inr, refl, sym, ap, ◌∙◌, subst, arith}
 use Rattle.std.specs.Prelude.{nat_eq, ◌&&◌}
 use Rattle.std.proofs.lemmas.Bool.{ne_eqb}
 use Rattle.std.proofs.lemmas.List.{take_all}
@@ -7,13 +7,12 @@ use Rattle.std.proofs.lemmas.Bool.Decides.{eqb_tells}
 use Rattle.dag_order.specs.LabelOrder.{fork_of}
 use Rattle.dag_order.specs.declared.thread_id.ThreadId.{ThreadId}
 use Rattle.depth_first_list.specs.Actions.{Action, ends}
-use Rattle.depth_first_list.specs.Facts.{label_at, index_at, deed_at, words_at}
+use Rattle.depth_first_list.specs.Facts.{label_at, index_at}
 use Rattle.depth_first_list.specs.Laws.{HasAction}
 use Rattle.depth_first_list.proofs.ThreadLaws as laws
 use Rattle.depth_first_run.specs.States.{Setting}
 use Rattle.depth_first_run.specs.Run.{list_of}
 use Rattle.node_table.specs.Table.{Table}
-use Rattle.thread_run.specs.Passed.Points.{words_at_end}
 use Rattle.thread_points.specs.Points.{Each}
 use Rattle.thread_frames.specs.declared.ended.Ended.{Ended}
 use Rattle.thread_frames.specs.declared.next.Next.TheVariants as nexts
@@ -21,7 +20,7 @@ use Rattle.thread_frames.specs.declared.thread.Thread.{Thread}
 use Rattle.thread_frames.specs.Actions.{IsSame}
 use Rattle.thread_frames.specs.Children.{same_id, delivered_if, with_delivered, either_of, IsResultFor, IsAwaited}
 use Rattle.thread_frames.specs.Points.{IsAtPoint}
-use Rattle.thread_frames.specs.Views.{Child, children_of, label_of, done_of, thread_words, ended_label, ended_words}
+use Rattle.thread_frames.specs.Views.{Child, children_of, label_of, done_of, thread_words, ended_words}
 use Rattle.serial_journal.specs.Journals.{KeepsUp, births_of, action_named}
 use Rattle.serial_journal.specs.declared.journal.Journal.{Journal}
 use Rattle.serial_meaning.specs.Ending.{HasEnded}

@@ -1,12 +1,11 @@
 -- A Fork: the child runs, and its parent waits.
-use Rattle.std.proofs.Common.{◌≡◌, ℕ, suc, ◌+◌, ◌≤◌, ◌<◌, false, List, [], ◌∷◌, ◌++◌, take, reverse, length, refl, sym, ap, ◌∙◌, subst, arith}
+use Rattle.std.proofs.Common.{◌≡◌, ℕ, suc, ◌+◌, false, List, [], ◌∷◌, ◌++◌, take, length, sym, ap, ◌∙◌, subst, arith}
 use Rattle.dag_order.specs.Births.{HasLabel}
 use Rattle.dag_order.specs.LabelOrder.{fork_of}
 use Rattle.dag_order.specs.declared.birth.Birth.{Birth}
 use Rattle.dag_order.specs.declared.thread_id.ThreadId.{ThreadId}
 use Rattle.depth_first_list.specs.Actions.{Action, forks, record_words}
-use Rattle.depth_first_list.specs.Facts.{label_at, index_at, deed_at, words_at}
-use Rattle.depth_first_list.specs.Laws.{HasAction}
+use Rattle.depth_first_list.specs.Facts.{label_at}
 use Rattle.depth_first_list.proofs.ThreadLaws as laws
 use Rattle.depth_first_run.specs.States.{Setting}
 use Rattle.depth_first_run.specs.Run.{list_of}
@@ -19,7 +18,7 @@ use Rattle.thread_frames.specs.Points.{IsAtPoint}
 use Rattle.thread_frames.specs.Views.{Child, children_of, label_of, done_of, forks_of, thread_words}
 use Rattle.serial_journal.specs.Journals.{KeepsUp, KeepsLabels, births_of, action_named}
 use Rattle.serial_meaning.specs.Stacks.{IsDelivered, IsBornWithin, IsMember, WaitsFor, AreWaiting, Stand, all_words, below}
-use Rattle.serial_meaning.specs.Writing.{Forked, AreForked, Write}
+use Rattle.serial_meaning.specs.Writing.{AreForked, Write}
 use Rattle.serial_meaning.specs.declared.run.Run.{Run}
 use Rattle.serial_meaning.proofs.Acting.{forked_so, action_so}
 use Rattle.serial_meaning.proofs.Lists.{each_more, each_one_more, newest_first}

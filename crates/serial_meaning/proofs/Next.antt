@@ -1,11 +1,10 @@
 -- The next action of the run is the next one of the depth-first list.
-use Rattle.std.proofs.Common.{◌≡◌, ℕ, suc, ◌+◌, ◌≤◌, ◌<◌, List, [], ◌∷◌, ◌++◌, take, length, refl, sym, ap, ◌∙◌, subst, arith}
+use Rattle.std.proofs.Common.{◌≡◌, ℕ, ◌+◌, ◌≤◌, ◌<◌, List, [], ◌∷◌, ◌++◌, take, length, sym, ap, ◌∙◌, subst, arith}
 use Rattle.std.specs.Prelude.{Option, None, Some, Result, Ok, Err, MatchResult, IsErrAnd}
 use Rattle.std.proofs.Math.Logic.{∥∥₁_elim}
 use Rattle.std.proofs.lemmas.List.{length-take-le}
 use denote.Struct.Props.{props}
-use Rattle.dag_order.specs.Births.{HasLabel}
-use Rattle.depth_first_list.specs.Actions.{Action, Deed}
+use Rattle.depth_first_list.specs.Actions.{Action}
 use Rattle.depth_first_list.specs.Facts.{action_at, label_at, index_at, deed_at, words_at}
 use Rattle.depth_first_list.specs.Laws.{HasAction, NextPlaces}
 use Rattle.depth_first_list.specs.Runs.{IsDepthFirst}

@@ -41,7 +41,8 @@ impl Run {
         Ok(self.hand_over(ended))
     }
 
-    /// The End of the top thread, whose record block goes back, and which is of no further use but for its place.
+    /// The End of the top thread, whose record block goes back, and which is of no further use but for its place. There is room for it among
+    /// those that have ended.
     ///
     /// # Errors
     ///
@@ -53,6 +54,7 @@ impl Run {
         ensures ended { (t : Table) (k : ℕ) → Stand t k self.old → IfOk result (HasEnded t k self.old self.new) }
         ensures never { (limit : ℕ) (t : Table) (k : ℕ) (c : Setting) → Stand t k self.old → Write c limit self.old → self.old.done < limit → NeverSpent result }
     {
+        self.used.reserve(1)?;
         let name = name_of(&self.top);
         let (ended, block) = self.top.get_mut().end();
         self.journal.act(name, Kind::End, words_of(&block))?;
@@ -73,7 +75,8 @@ impl Run {
             return Some(ended);
         };
         parent.get_mut().deliver(ended);
-        self.used = Some(mem::replace(&mut self.top, parent));
+        let used = mem::replace(&mut self.top, parent);
+        self.used.push_reserved(used);
         None
     }
 }

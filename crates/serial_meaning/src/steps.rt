@@ -44,7 +44,7 @@ impl Run {
             pool,
             journal: Journal::new(alloc, limit),
             done: 0,
-            used: None,
+            used: Vec::new(alloc),
         })
     }
 

@@ -1,4 +1,4 @@
-use Rattle.std.proofs.Common.{◌≡◌, ℕ, ◌∷◌, [], ◌++◌, ◌∙◌, refl, sym, ap, subst, take, arith}
+use Rattle.std.proofs.Common.{◌≡◌, ◌∷◌, [], ◌++◌, ◌∙◌, refl, sym, ap, subst, take, arith}
 use Rattle.block_arena.specs.Region.{Region}
 use Rattle.dag_order.specs.Births.{HasLabel}
 use Rattle.depth_first_list.specs.Actions.{ends}
@@ -43,6 +43,7 @@ returns-clause-ended c = λ t k s.
       parents = refl;
       births = c.act.ensures.births;
       done = refl;
+      room = omega (arith, c.in_ok-reserve.ensures);
       live = omega (arith, words, record_is, label, all, live, pool);
       written = λ limit items keeps.
           let named = subst (λ i. HasLabel (births_of c.args.self.now.journal ∷ []) i (label_of top)) (sym c.name_of-name.ensures.by) s.top.named in
@@ -58,5 +59,5 @@ returns-in_err-act-clause-never c = λ limit t k setting s w less.
     let l = list_of setting in
     let inside = w.next.0 in
     let named = subst (λ i. HasLabel (births_of before.journal ∷ []) i (label_of before.top)) (sym c.name_of-name.ensures.by) s.top.named in
-    stopped_so c.from_residual.result c.in_err-act.field-0.0 c.from_residual.ensures.1
+    stopped_so c.from_residual-in_err-act.result c.in_err-act.field-0.0 c.from_residual-in_err-act.ensures.1
     (never_stops l before.done limit c.in_err-act.field-0.0 (omega (arith, inside)) less (c.in_err-act.ensures.keeps_up limit (take before.done l) (label_of before.top) ends w.keeps named refl tt))

@@ -1,7 +1,6 @@
-use Rattle.std.proofs.Common.{◌≡◌, suc, length, ◌+◌, ◌∷◌, [], ◌++◌, ◌∙◌, refl, sym, ap, subst, take, arith}
+use Rattle.std.proofs.Common.{◌≡◌, suc, length, ◌+◌, ◌∷◌, [], ◌++◌, ◌∙◌, sym, ap, subst, take, arith}
 use Rattle.dag_order.specs.Births.{HasLabel}
 use Rattle.dag_order.specs.LabelOrder.{fork_of}
-use Rattle.dag_order.specs.declared.thread_id.ThreadId.{ThreadId}
 use Rattle.depth_first_list.specs.Actions.{forks, record_words}
 use Rattle.depth_first_run.specs.Run.{list_of}
 use Rattle.serial_journal.specs.Journals.{KeepsUp, KeepsLabels, births_of, action_named}
@@ -11,7 +10,7 @@ use Rattle.thread_frames.specs.Actions.{HasForked}
 use Rattle.thread_frames.specs.Points.{IsAtPoint, IsPlaced}
 use Rattle.thread_frames.specs.Views.{label_of, done_of, forks_of, thread_words}
 use Rattle.thread_frames.proofs.Placed.{placed_of}
-use Rattle.serial_meaning.proofs.Forking.{HasGoneDown, stand_forked, write_forked}
+use Rattle.serial_meaning.proofs.Forking.{stand_forked, write_forked}
 use Rattle.serial_meaning.proofs.Next.{next_is, never_stops, stopped_so}
 use Rattle.serial_meaning.proofs.run.Run.fork.Goals as goal
 
