@@ -1,27 +1,24 @@
 ghost use Rattle.std.specs.Prelude.{◌≡◌, ℕ, suc, ◌+◌, ◌≤◌, ◌<◌, ◌^◌, [], ◌∷◌, ◌++◌, List, length, IfOk, OnOk, OnErr, MatchResult, Ok, Err};
 ghost use Rattle.std.specs.Prelude.{pos, ◌+ℤ◌, FitsSigned};
 ghost use Rattle.std.specs.Int.{int_max, w64};
-ghost use Rattle.depth_first_run.specs.Passed.Actions.{Deed, kind_of, weight_of};
+ghost use Rattle.depth_first_run.specs.Passed.Actions.{Action as AnyAction, Deed, kind_of, weight_of};
 ghost use Rattle.serial_journal.specs.Stops.{OnStop};
 
 use crate::action::{Action, Actions};
 use crate::serial::Serial;
 use crate::serial_stop::SerialStop;
 use containers::BoundedList;
-use dag_order::{ActionId, Birth, Births, FaultAt, Finish, Kind, Lines, ThreadId};
+use dag_order::{ActionId, Birth, Births, Finish, Kind, Lines, ThreadId};
 use std::alloc::Global;
 
 /// What is written down of a depth-first run as it goes on.
 #[derive(Drop)]
 pub struct Journal {
-    finish: Finish,
-    output: Lines,
     actions: Actions,
     births: Births,
     live: i64,
     peak: u64,
     limit: u32,
-    items: u64,
     ghost small: { peak < 9223372036854775808 },
 }
 
@@ -30,88 +27,26 @@ impl Journal {
     ghost use Rattle.dag_order.specs.Births.{HasLabel};
     ghost use Rattle.dag_order.specs.LabelOrder.{fork_of};
     ghost use Rattle.depth_first_run.specs.Passed.Actions.{forks};
-    ghost use Rattle.depth_first_run.specs.States.{Item, began, acted, printed, failed};
-    ghost use Rattle.depth_first_run.specs.Run.{actions_of};
+    ghost use Rattle.depth_first_run.specs.States.{Item};
+    ghost use Rattle.depth_first_run.specs.Run.{actions_of, finish_of, first_fault, lines_of};
     ghost use Rattle.serial_journal.specs.Telling.{Tells, IsNoFork};
-    ghost use Rattle.serial_journal.specs.Journals.{KeepsUp, KeepsLabels, IsUnchanged, Counted, Recorded, births_of, action_named};
+    ghost use Rattle.serial_journal.specs.Journals.{KeepsUp, KeepsLabels, IsUnchanged, Recorded, births_of, action_named};
 
-    /// A journal of no item, which takes at most `limit` actions. It takes no memory.
+    /// A journal of no action, which takes at most `limit` of them. It takes no memory.
     pub fn new(alloc: Global, limit: u32) -> Journal
         ensures keeps_up { KeepsUp limit [] result }
         ensures births { births_of result ≡ [] }
     {
         Journal {
-            finish: Finish::Done,
-            output: BoundedList::new(alloc),
             actions: BoundedList::new(alloc),
             births: BoundedList::new(alloc),
             live: 0,
             peak: 0,
             limit,
-            items: 0,
         }
     }
 
-    /// A statement begins. Behind an error nothing is changed, here and in the other calls.
-    ///
-    /// # Errors
-    ///
-    /// `OutOfMemory` exactly where 64 bits do not count one item more: no memory is asked for.
-    pub fn begin(&mut self) -> Result<(), SerialStop>
-        ensures many { OnErr result (2 ^ 64 ≤ self.old.items + 1) }
-        ensures unchanged { OnErr result (IsUnchanged self.old self.new) }
-        ensures births { births_of self.new ≡ births_of self.old }
-        ensures keeps_up { (limit line : ℕ) (items : List Item) → KeepsUp limit items self.old
-            → MatchResult result (λ _. KeepsUp limit (items ++ began line ∷ []) self.new) (λ stop. OnStop stop ⊥) }
-    {
-        self.count()
-    }
-
-    /// A number is printed. It is no part of the output where a fault came before.
-    ///
-    /// # Errors
-    ///
-    /// `OutOfMemory`, where memory is wanting for the number, or 64 bits do not count one item more.
-    pub fn print(&mut self, value: i64) -> Result<(), SerialStop>
-        ensures unchanged { OnErr result (IsUnchanged self.old self.new) }
-        ensures births { births_of self.new ≡ births_of self.old }
-        ensures keeps_up { (limit : ℕ) (items : List Item) → KeepsUp limit items self.old
-            → MatchResult result (λ _. KeepsUp limit (items ++ printed value ∷ []) self.new) (λ stop. OnStop stop ⊥) }
-    {
-        match self.finish {
-            Finish::Done => {
-                self.output.reserve()?;
-                self.count()?;
-                self.output.add(value);
-                Ok(())
-            }
-            Finish::Faulted(_) => self.count(),
-        }
-    }
-
-    /// A fault comes. It is the finish where it is the first one.
-    ///
-    /// # Errors
-    ///
-    /// `OutOfMemory` exactly where 64 bits do not count one item more: no memory is asked for.
-    pub fn fail(&mut self, fault: FaultAt) -> Result<(), SerialStop>
-        ensures many { OnErr result (2 ^ 64 ≤ self.old.items + 1) }
-        ensures unchanged { OnErr result (IsUnchanged self.old self.new) }
-        ensures births { births_of self.new ≡ births_of self.old }
-        ensures keeps_up { (limit : ℕ) (items : List Item) → KeepsUp limit items self.old
-            → MatchResult result (λ _. KeepsUp limit (items ++ failed fault ∷ []) self.new) (λ stop. OnStop stop ⊥) }
-    {
-        self.count()?;
-        match self.finish {
-            Finish::Done => {
-                self.finish = Finish::Faulted(fault);
-                Ok(())
-            }
-            Finish::Faulted(_) => Ok(()),
-        }
-    }
-
-    /// A thread does an action that is no Fork, of so many words.
+    /// A thread does an action that is no Fork, of so many words. After an error nothing is changed, here and in the other calls.
     ///
     /// # Errors
     ///
@@ -119,10 +54,10 @@ impl Journal {
     pub fn act(&mut self, name: ActionId, kind: Kind, words: u64) -> Result<(), SerialStop>
         ensures unchanged { OnErr result (IsUnchanged self.old self.new) }
         ensures births { births_of self.new ≡ births_of self.old }
-        ensures keeps_up { (limit : ℕ) (items : List Item) (label : List ℕ) (deed : Deed) → KeepsUp limit items self.old
+        ensures keeps_up { (limit : ℕ) (actions : List AnyAction) (label : List ℕ) (deed : Deed) → KeepsUp limit actions self.old
             → HasLabel (births_of self.old ∷ []) name.by label → kind ≡ kind_of deed → IsNoFork deed
-            → MatchResult result (λ _. KeepsUp limit (items ++ acted (action_named label name.index deed words) ∷ []) self.new)
-            (λ stop. OnStop stop (limit ≤ length (actions_of items))) }
+            → MatchResult result (λ _. KeepsUp limit (actions ++ action_named label name.index deed words ∷ []) self.new)
+            (λ stop. OnStop stop (limit ≤ length actions)) }
     {
         let change = change_of(kind, words)?;
         self.write_down(Action { name, kind, change })
@@ -140,11 +75,10 @@ impl Journal {
         ensures more { OnOk result (length (births_of self.new) ≡ suc (length (births_of self.old))) }
         ensures child { (label : List ℕ) → HasLabel (births_of self.old ∷ []) name.by label
             → IfOk result (λ child. HasLabel (births_of self.new ∷ []) child (fork_of label ordinal)) }
-        ensures keeps_up { (limit : ℕ) (items : List Item) (label : List ℕ) → KeepsUp limit items self.old
+        ensures keeps_up { (limit : ℕ) (actions : List AnyAction) (label : List ℕ) → KeepsUp limit actions self.old
             → HasLabel (births_of self.old ∷ []) name.by label
-            → MatchResult result (λ child. KeepsUp limit
-            (items ++ acted (action_named label name.index (forks ordinal) words) ∷ []) self.new
-            × HasLabel (births_of self.new ∷ []) child (fork_of label ordinal)) (λ stop. OnStop stop (limit ≤ length (actions_of items))) }
+            → MatchResult result (λ child. KeepsUp limit (actions ++ action_named label name.index (forks ordinal) words ∷ []) self.new
+            × HasLabel (births_of self.new ∷ []) child (fork_of label ordinal)) (λ stop. OnStop stop (limit ≤ length actions)) }
     {
         let nth = self.births.len();
         self.births.reserve()?;
@@ -163,28 +97,18 @@ impl Journal {
         Ok(ThreadId { period: 1, nth })
     }
 
-    /// What the run gave, where it has ended.
-    pub fn close(self) -> Serial
-        ensures { (limit : ℕ) (items : List Item) → KeepsUp limit items self → Tells items result × (length (actions_of items) ≤ limit) }
+    /// What the run gave, where it has ended, with its finish and its output.
+    pub fn close(self, finish: Finish, output: Lines) -> Serial
+        ensures { (limit : ℕ) (items : List Item) → KeepsUp limit (actions_of items) self → finish ≡ finish_of (first_fault items)
+            → entries output ≡ lines_of items → Tells items result × (length (actions_of items) ≤ limit) }
     {
         Serial {
-            finish: self.finish,
-            output: self.output,
+            finish,
+            output,
             actions: self.actions,
             births: self.births,
             peak: self.peak,
         }
-    }
-
-    // One item more, where 64 bits count it.
-    fn count(&mut self) -> Result<(), SerialStop>
-        ensures many { OnErr result (2 ^ 64 ≤ self.old.items + 1) }
-        ensures births { self.new.births ≡ self.old.births }
-        ensures unchanged { OnErr result (self.new ≡ self.old) }
-        ensures cases { MatchResult result (λ _. Counted self.old self.new) (λ stop. OnStop stop ⊥) }
-    {
-        self.items = self.items.checked_add(1).ok_or(SerialStop::OutOfMemory)?;
-        Ok(())
     }
 
     // One action more, with the words that are live behind it.
@@ -199,7 +123,6 @@ impl Journal {
         }
         let live = raised(self.live, action.change)?;
         self.actions.reserve()?;
-        self.count()?;
         self.live = live;
         self.peak = self.peak.max(above_zero(live));
         self.actions.add(action);

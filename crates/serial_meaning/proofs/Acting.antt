@@ -1,12 +1,12 @@
 -- An action that the thread that runs does by itself.
-use Rattle.std.proofs.Common.{append-nil, ◌-◌, ◌≡◌, ℕ, suc, ◌+◌, ◌≤◌, ◌<◌, List, [], ◌∷◌, ◌++◌, take, reverse, length, refl, sym, ap, ◌∙◌, subst, arith}
+use Rattle.std.proofs.Common.{append-nil, ◌-◌, ◌≡◌, ℕ, suc, ◌+◌, ◌≤◌, List, [], ◌∷◌, ◌++◌, take, reverse, length, refl, sym, ap, ◌∙◌, subst, arith}
 use Rattle.std.specs.Prelude.{IsTrue, is_some, map, Option, None, Some, Result, Ok, MatchResult}
 use Rattle.dag_order.specs.Births.{root, HasLabel}
 use Rattle.dag_order.specs.declared.birth.Birth.{Birth}
 use Rattle.depth_first_list.specs.Actions.{Action, Deed, kind_of}
-use Rattle.depth_first_list.specs.Facts.{label_at, index_at, deed_at, words_at}
+use Rattle.depth_first_list.specs.Facts.{label_at, index_at, words_at}
 use Rattle.depth_first_list.specs.Laws.{HasAction, IsAlone}
-use Rattle.depth_first_run.specs.States.{Setting, acted}
+use Rattle.depth_first_run.specs.States.{Setting}
 use Rattle.depth_first_run.specs.Run.{list_of}
 use Rattle.node_table.specs.Table.{Table}
 use Rattle.thread_points.specs.Points.{Each}
@@ -23,8 +23,8 @@ use Rattle.serial_journal.specs.Telling.{IsNoFork}
 use Rattle.serial_journal.specs.declared.journal.Journal.{Journal}
 use Rattle.serial_journal.specs.declared.serial_stop.SerialStop.{SerialStop}
 use Rattle.serial_meaning.specs.Doing.{kind_of_next, DoesAlone, JoinsDelivered, ActsAlone}
-use Rattle.serial_meaning.specs.Stacks.{IsDelivered, IsBornWithin, IsMember, AreWaiting, Stand, all_words, below}
-use Rattle.serial_meaning.specs.Writing.{items_of, Forked, AreForked, Write}
+use Rattle.serial_meaning.specs.Stacks.{IsDelivered, IsBornWithin, AreWaiting, Stand, all_words, below}
+use Rattle.serial_meaning.specs.Writing.{AreForked, Write}
 use Rattle.serial_meaning.specs.declared.run.Run.{Run}
 use Rattle.serial_meaning.proofs.Lists.{each_front}
 use Rattle.serial_meaning.proofs.Next.{NextIs, next_places, written}
@@ -181,7 +181,7 @@ action_so l n m label other index number at same count h =
 
 pub write_acted : (c : Setting) (limit : ℕ) (before after : Run) (next : Next) → Write c limit before → NextIs (list_of c) before.done before.top next → DoesAlone next
     → ActsAlone before.top after.top before.pool.live after.pool.live → after.parents.items ≡ before.parents.items → after.done ≡ before.done + 1
-    → KeepsUp limit (items_of (take before.done (list_of c)) ++ acted (action_named (label_of before.top) (done_of before.top) (deed_of before.top next) (words_at (list_of c) before.done)) ∷ []) after.journal
+    → KeepsUp limit (take before.done (list_of c) ++ action_named (label_of before.top) (done_of before.top) (deed_of before.top next) (words_at (list_of c) before.done) ∷ []) after.journal
     → Write c limit after
 write_acted c limit before after next w is alone acts parents done keeps =
     let l : List Action = list_of c in
@@ -190,7 +190,7 @@ write_acted c limit before after next w is alone acts parents done keeps =
     (next_places c).goes_on n is.inside (subst IsAlone (sym is.deed) (alone_deed before.top next alone)) in
     let more = acts.done in let index = is.index in
     record {
-      keeps = subst (λ m. KeepsUp limit (items_of (take m l)) after.journal) (sym done) (written l n limit _ after.journal is.inside is.action keeps);
+      keeps = subst (λ m. KeepsUp limit (take m l) after.journal) (sym done) (written l n limit _ after.journal is.inside is.action keeps);
       next = action_so l (suc n) after.done (label_at l n) (label_of after.top) (suc (index_at l n)) (done_of after.top) (omega (arith, done)) (acts.same.label ∙ sym is.label) (omega (arith, more, index)) at;
       forked = subst (λ xs. AreForked l after.done after.top xs) (sym (ap (λ xs. reverse xs) parents)) (forked_so l n after.done before.top after.top (below before) (omega (arith, done)) acts.same.label w.forked);
     }
@@ -200,18 +200,18 @@ pub write_still : (c : Setting) (limit : ℕ) (before after : Run) → Write c l
 write_still c limit before after w still parents journal done =
     let l : List Action = list_of c in
     record {
-      keeps = subst (λ j. KeepsUp limit (items_of (take after.done l)) j) (sym journal) (subst (λ m. KeepsUp limit (items_of (take m l)) before.journal) (sym done) w.keeps);
+      keeps = subst (λ j. KeepsUp limit (take after.done l) j) (sym journal) (subst (λ m. KeepsUp limit (take m l) before.journal) (sym done) w.keeps);
       next = action_so l before.done after.done (label_of before.top) (label_of after.top) (done_of before.top) (done_of after.top) done still.same.label still.done w.next;
       forked = subst (λ xs. AreForked l after.done after.top xs) (sym (ap (λ xs. reverse xs) parents)) (forked_so l before.done after.done before.top after.top (below before) (omega (arith, done)) still.same.label w.forked);
     }
 
 -- what the journal has written down behind an action, by the names that the code has for its parts
 pub told_so : (limit index words told : ℕ) (l : List Action) (n : ℕ) (x : Thread) (deed : Deed) (journal : Journal) → index ≡ done_of x → told ≡ words
-    → KeepsUp limit (items_of (take n l) ++ acted (action_named (label_of x) index deed told) ∷ []) journal
-    → KeepsUp limit (items_of (take n l) ++ acted (action_named (label_of x) (done_of x) deed words) ∷ []) journal
+    → KeepsUp limit (take n l ++ action_named (label_of x) index deed told ∷ []) journal
+    → KeepsUp limit (take n l ++ action_named (label_of x) (done_of x) deed words ∷ []) journal
 told_so limit index words told l n x deed journal same told_is keeps =
-    subst (λ i. KeepsUp limit (items_of (take n l) ++ acted (action_named (label_of x) i deed words) ∷ []) journal) same
-    (subst (λ w. KeepsUp limit (items_of (take n l) ++ acted (action_named (label_of x) index deed w) ∷ []) journal) told_is keeps)
+    subst (λ i. KeepsUp limit (take n l ++ action_named (label_of x) i deed words ∷ []) journal) same
+    (subst (λ w. KeepsUp limit (take n l ++ action_named (label_of x) index deed w ∷ []) journal) told_is keeps)
 
 pub well : {A : Type 0} (P : A → Type 0) (Q : SerialStop → Type 0) (x : A) (r : Result A SerialStop) → r ≡ Ok x → MatchResult r P Q → P x
 well P Q x r e h = subst (λ y. MatchResult y P Q) e h
@@ -236,7 +236,7 @@ stand_begun t k run point id label done children words parents births live count
 
 pub write_begun : (c : Setting) (limit : ℕ) (run : Run) → label_of run.top ≡ [] → done_of run.top ≡ 0 → run.parents.items ≡ [] → run.done ≡ 0 → KeepsUp limit [] run.journal → Write c limit run
 write_begun c limit run label done parents count keeps = record {
-  keeps = subst (λ n. KeepsUp limit (items_of (take n (list_of c))) run.journal) (sym count) keeps;
+  keeps = subst (λ n. KeepsUp limit (take n (list_of c)) run.journal) (sym count) keeps;
   next = action_so (list_of c) 0 run.done [] (label_of run.top) 0 (done_of run.top) count label done (next_places c).begins;
   forked = subst (λ xs. AreForked (list_of c) run.done run.top xs) (sym (ap (λ xs. reverse xs) parents)) tt;
 }

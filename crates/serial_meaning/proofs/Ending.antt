@@ -1,18 +1,18 @@
 -- The End of a thread, whose result goes to its parent, and that of the root.
-use Rattle.std.proofs.Common.{◌≡◌, ℕ, zero, suc, ◌+◌, ◌≤◌, ◌<◌, Bool, true, false, List, [], ◌∷◌, ◌++◌, take, reverse, length, inl, inr, refl, sym, ap, ◌∙◌, subst, arith}
+use Rattle.std.proofs.Common.{◌≡◌, ℕ, suc, ◌+◌, ◌<◌, Bool, true, false, List, [], ◌∷◌, ◌++◌, take, reverse, length, inl, inr, refl, sym, ap, ◌∙◌, subst, arith}
 use Rattle.std.specs.Prelude.{nat_eq, ◌&&◌}
 use Rattle.std.proofs.lemmas.Bool.{ne_eqb}
+use Rattle.std.proofs.lemmas.List.{take_all}
 use Rattle.std.proofs.lemmas.Bool.Decides.{eqb_tells}
 use Rattle.dag_order.specs.LabelOrder.{fork_of}
 use Rattle.dag_order.specs.declared.thread_id.ThreadId.{ThreadId}
 use Rattle.depth_first_list.specs.Actions.{Action, ends}
-use Rattle.depth_first_list.specs.Facts.{label_at, index_at, deed_at, words_at}
+use Rattle.depth_first_list.specs.Facts.{label_at, index_at}
 use Rattle.depth_first_list.specs.Laws.{HasAction}
 use Rattle.depth_first_list.proofs.ThreadLaws as laws
-use Rattle.depth_first_run.specs.States.{Setting, acted}
+use Rattle.depth_first_run.specs.States.{Setting}
 use Rattle.depth_first_run.specs.Run.{list_of}
 use Rattle.node_table.specs.Table.{Table}
-use Rattle.thread_run.specs.Passed.Points.{words_at_end}
 use Rattle.thread_points.specs.Points.{Each}
 use Rattle.thread_frames.specs.declared.ended.Ended.{Ended}
 use Rattle.thread_frames.specs.declared.next.Next.TheVariants as nexts
@@ -20,15 +20,15 @@ use Rattle.thread_frames.specs.declared.thread.Thread.{Thread}
 use Rattle.thread_frames.specs.Actions.{IsSame}
 use Rattle.thread_frames.specs.Children.{same_id, delivered_if, with_delivered, either_of, IsResultFor, IsAwaited}
 use Rattle.thread_frames.specs.Points.{IsAtPoint}
-use Rattle.thread_frames.specs.Views.{Child, children_of, label_of, done_of, thread_words, ended_label, ended_words}
+use Rattle.thread_frames.specs.Views.{Child, children_of, label_of, done_of, thread_words, ended_words}
 use Rattle.serial_journal.specs.Journals.{KeepsUp, births_of, action_named}
 use Rattle.serial_journal.specs.declared.journal.Journal.{Journal}
 use Rattle.serial_meaning.specs.Ending.{HasEnded}
 use Rattle.serial_meaning.specs.Stacks.{IsDelivered, IsBornWithin, IsMember, WaitsFor, AreWaiting, Stand, all_words, below}
-use Rattle.serial_meaning.specs.Writing.{items_of, Forked, AreForked, Write}
+use Rattle.serial_meaning.specs.Writing.{Forked, AreForked, Write}
 use Rattle.serial_meaning.specs.declared.run.Run.{Run}
 use Rattle.serial_meaning.proofs.Acting.{forked_so, action_so, named_so, born_so}
-use Rattle.serial_meaning.proofs.Lists.{each_one_more, newest_first, all_items}
+use Rattle.serial_meaning.proofs.Lists.{each_one_more, newest_first}
 use Rattle.serial_meaning.proofs.Next.{NextIs, is_depth_first, next_places, written}
 use Rattle.serial_meaning.proofs.Standing.{waiting_later, waiting_so, labels_same}
 
@@ -125,7 +125,7 @@ module _ (t : Table) (k : ℕ) (before mid : Run) (ended : Ended) (parent : Thre
         }
 
     pub write_handed : (c : Setting) (limit : ℕ) → Write c limit before → NextIs (list_of c) before.done before.top nexts.End
-        → KeepsUp limit (items_of (take (before.done + 1) (list_of c))) mid.journal → Write c limit after
+        → KeepsUp limit (take (before.done + 1) (list_of c)) mid.journal → Write c limit after
     write_handed c limit wrote is keeps =
         let l : List Action = list_of c in
         let n : ℕ = before.done in
@@ -135,17 +135,17 @@ module _ (t : Table) (k : ℕ) (before mid : Run) (ended : Ended) (parent : Thre
         let at : HasAction l (suc n) (label_at l f.place) (suc (index_at l f.place)) =
         (next_places c).returns f.place f.child n (omega (arith, early, inside)) f.deed is.inside (is.label ∙ f.child_is ∙ ap (λ m. fork_of m f.child) (sym f.by)) is.deed in
         record {
-          keeps = subst (λ m. KeepsUp limit (items_of (take m l)) after.journal) (sym count) (subst (λ j. KeepsUp limit (items_of (take (n + 1) l)) j) (sym journal) keeps);
+          keeps = subst (λ m. KeepsUp limit (take m l) after.journal) (sym count) (subst (λ j. KeepsUp limit (take (n + 1) l) j) (sym journal) keeps);
           next = action_so l (suc n) after.done (label_at l f.place) (label_of after.top) (suc (index_at l f.place)) (done_of after.top) (omega (arith, on)) (same.label ∙ sym f.by) (omega (arith, as_before, since)) at;
           forked = subst (λ xs. AreForked l after.done after.top xs) (sym below_is) (forked_so l n after.done parent after.top (reverse rest) (omega (arith, on)) same.label forked.1);
         }
 
 -- the End is written down
 pub end_written : (t : Table) (k : ℕ) (c : Setting) (limit : ℕ) (before mid : Run) (ended : Ended) → HasEnded t k before mid ended → Write c limit before → NextIs (list_of c) before.done before.top nexts.End
-    → KeepsUp limit (items_of (take (before.done + 1) (list_of c))) mid.journal
+    → KeepsUp limit (take (before.done + 1) (list_of c)) mid.journal
 end_written t k c limit before mid ended e w is =
     written (list_of c) before.done limit _ mid.journal is.inside (is.action ∙ (λ i. action_named (label_of before.top) (done_of before.top) ends (is.words i)))
-    (e.written limit (items_of (take before.done (list_of c))) w.keeps)
+    (e.written limit (take before.done (list_of c)) w.keeps)
 
 -- ---- the root
 
@@ -153,8 +153,8 @@ pub root_label : (t : Table) (k : ℕ) (before : Run) → Stand t k before → b
 root_label t k before s none = subst (λ xs. AreWaiting t k before.done (births_of before.journal) before.top xs) (ap (λ xs. reverse xs) none) s.stack
 
 -- its End is the last action
-pub all_written : (c : Setting) (n limit : ℕ) (x : Thread) (journal : Journal) → NextIs (list_of c) n x nexts.End → label_of x ≡ [] → KeepsUp limit (items_of (take (n + 1) (list_of c))) journal
-    → KeepsUp limit (items_of (list_of c)) journal
+pub all_written : (c : Setting) (n limit : ℕ) (x : Thread) (journal : Journal) → NextIs (list_of c) n x nexts.End → label_of x ≡ [] → KeepsUp limit (take (n + 1) (list_of c)) journal
+    → KeepsUp limit (list_of c) journal
 all_written c n limit x journal is root keeps =
     let l : List Action = list_of c in
     let last = laws.root_ends c.quota l (is_depth_first c) in
@@ -162,4 +162,4 @@ all_written c n limit x journal is root keeps =
     let inside = is.inside in
     let one_way = laws.end_is_last c.quota l (is_depth_first c) n last.0 is.inside (omega (arith, size)) (is.label ∙ root ∙ sym last.2) last.3 in
     let other_way = laws.end_is_last c.quota l (is_depth_first c) last.0 n (omega (arith, size)) is.inside (last.2 ∙ sym (is.label ∙ root)) is.deed in
-    subst (λ items. KeepsUp limit items journal) (all_items l (n + 1) (omega (arith, size, one_way, other_way))) keeps
+    subst (λ actions. KeepsUp limit actions journal) (take_all (n + 1) l (omega (arith, size, one_way, other_way))) keeps

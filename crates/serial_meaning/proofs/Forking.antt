@@ -1,14 +1,13 @@
 -- A Fork: the child runs, and its parent waits.
-use Rattle.std.proofs.Common.{◌≡◌, ℕ, suc, ◌+◌, ◌≤◌, ◌<◌, false, List, [], ◌∷◌, ◌++◌, take, reverse, length, refl, sym, ap, ◌∙◌, subst, arith}
+use Rattle.std.proofs.Common.{◌≡◌, ℕ, suc, ◌+◌, false, List, [], ◌∷◌, ◌++◌, take, length, sym, ap, ◌∙◌, subst, arith}
 use Rattle.dag_order.specs.Births.{HasLabel}
 use Rattle.dag_order.specs.LabelOrder.{fork_of}
 use Rattle.dag_order.specs.declared.birth.Birth.{Birth}
 use Rattle.dag_order.specs.declared.thread_id.ThreadId.{ThreadId}
 use Rattle.depth_first_list.specs.Actions.{Action, forks, record_words}
-use Rattle.depth_first_list.specs.Facts.{label_at, index_at, deed_at, words_at}
-use Rattle.depth_first_list.specs.Laws.{HasAction}
+use Rattle.depth_first_list.specs.Facts.{label_at}
 use Rattle.depth_first_list.proofs.ThreadLaws as laws
-use Rattle.depth_first_run.specs.States.{Setting, acted}
+use Rattle.depth_first_run.specs.States.{Setting}
 use Rattle.depth_first_run.specs.Run.{list_of}
 use Rattle.node_table.specs.Table.{Table}
 use Rattle.thread_points.specs.Points.{Each}
@@ -19,7 +18,7 @@ use Rattle.thread_frames.specs.Points.{IsAtPoint}
 use Rattle.thread_frames.specs.Views.{Child, children_of, label_of, done_of, forks_of, thread_words}
 use Rattle.serial_journal.specs.Journals.{KeepsUp, KeepsLabels, births_of, action_named}
 use Rattle.serial_meaning.specs.Stacks.{IsDelivered, IsBornWithin, IsMember, WaitsFor, AreWaiting, Stand, all_words, below}
-use Rattle.serial_meaning.specs.Writing.{items_of, Forked, AreForked, Write}
+use Rattle.serial_meaning.specs.Writing.{AreForked, Write}
 use Rattle.serial_meaning.specs.declared.run.Run.{Run}
 use Rattle.serial_meaning.proofs.Acting.{forked_so, action_so}
 use Rattle.serial_meaning.proofs.Lists.{each_more, each_one_more, newest_first}
@@ -98,7 +97,7 @@ stand_forked t k before after parent id h at_parent at_child s = record {
 
 pub write_forked : (c : Setting) (limit : ℕ) (before after : Run) (parent : Thread) (id : ThreadId) → HasGoneDown before after parent id → Write c limit before
     → NextIs (list_of c) before.done before.top nexts.Fork
-    → KeepsUp limit (items_of (take before.done (list_of c)) ++ acted (action_named (label_of before.top) (done_of before.top) (forks (forks_of before.top + 1)) record_words) ∷ []) after.journal
+    → KeepsUp limit (take before.done (list_of c) ++ action_named (label_of before.top) (done_of before.top) (forks (forks_of before.top + 1)) record_words ∷ []) after.journal
     → Write c limit after
 write_forked c limit before after parent id h w is keeps =
     let l : List Action = list_of c in
@@ -109,7 +108,7 @@ write_forked c limit before after parent id h w is keeps =
     let first = f.child_done in let done = h.done in let more = f.done in let index = is.index in
     let child_is : label_of after.top ≡ fork_of (label_of before.top) (suc (forks_of before.top)) = f.child_label ∙ ap (λ m. fork_of (label_of before.top) m) one in
     record {
-      keeps = subst (λ m. KeepsUp limit (items_of (take m l)) after.journal) (sym done)
+      keeps = subst (λ m. KeepsUp limit (take m l) after.journal) (sym done)
           (written l n limit _ after.journal is.inside
           (is.action ∙ (λ i. action_named (label_of before.top) (done_of before.top) (forks (sym one i)) (is.words i))) keeps);
       next = action_so l (suc n) after.done (fork_of (label_at l n) (suc (forks_of before.top))) (label_of after.top) 0 (done_of after.top)

@@ -4,4 +4,3 @@ pub mod Next
 pub mod Acting
 pub mod Forking
 pub mod Ending
-pub mod Telling

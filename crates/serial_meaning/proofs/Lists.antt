@@ -1,15 +1,12 @@
--- Facts of lists, of deeds, and of the front of a list of actions as items of a run.
-use Rattle.std.proofs.Common.{◌≡◌, ℕ, zero, suc, ◌+◌, ◌≤◌, ◌<◌, List, [], ◌∷◌, ◌++◌, map, length, take, reverse, refl, sym, ap, ◌∙◌, subst, arith}
+-- Facts of lists, of deeds, and of the front of a list of actions.
+use Rattle.std.proofs.Common.{◌≡◌, ℕ, zero, suc, ◌+◌, ◌<◌, List, [], ◌∷◌, ◌++◌, length, take, reverse, refl, sym, ap, ◌∙◌}
 use Rattle.std.specs.Prelude.{Result, Ok, Err, OnOk, IfOk}
 use Rattle.std.proofs.Math.Logic.{∥∥₁_elim}
-use Rattle.std.proofs.lemmas.List.{reverse-append, map-append, take_more, take_all, length-take-le}
+use Rattle.std.proofs.lemmas.List.{reverse-append, take_more}
 use denote.Struct.Props.{props}
 use Rattle.depth_first_list.specs.Actions.{Action, Deed, forks, joins, allocates, releases, dummy, faults, ends}
 use Rattle.depth_first_list.specs.Facts.{action_at}
-use Rattle.depth_first_run.specs.States.{Item, acted}
-use Rattle.depth_first_run.specs.Run.{actions_of}
 use Rattle.thread_points.specs.Points.{Each}
-use Rattle.serial_meaning.specs.Writing.{items_of}
 
 pub each_more : {A : Type 0} (P Q : A → Type 0) (xs : List A) → ((x : A) → P x → Q x) → Each P xs → Each Q xs
 each_more P Q [] f h = tt
@@ -72,21 +69,10 @@ same_deed x a b f =
     let child : child_in a ≡ child_in b = ∥∥₁_elim x (search props) (λ y. ap child_in (f y)) in
     sym (comes_back a) ∙ (λ i. deed_with (number i) (child i)) ∙ comes_back b
 
--- ---- actions as items
+-- ---- the first actions of a list
 
-pub actions_back : (actions : List Action) → actions_of (items_of actions) ≡ actions
-actions_back [] = refl
-actions_back (a ∷ actions) = ap (λ xs. a ∷ xs) (actions_back actions)
-
-pub one_item_more : (l : List Action) (n : ℕ) (a : Action) → n < length l → action_at l n ≡ a → items_of (take n l) ++ acted a ∷ [] ≡ items_of (take (n + 1) l)
-one_item_more l n a inside is =
-    sym (ap (λ xs. items_of xs) (take_more l n _ inside) ∙ map-append acted (take n l) (action_at l n ∷ []) ∙ ap (λ x. items_of (take n l) ++ acted x ∷ []) is)
-
-pub all_items : (l : List Action) (n : ℕ) → length l ≡ n → items_of (take n l) ≡ items_of l
-all_items l n long = ap (λ xs. items_of xs) (take_all n l (omega (arith, long)))
-
-pub how_many : (l : List Action) (n : ℕ) → n ≤ length l → length (actions_of (items_of (take n l))) ≡ n
-how_many l n within = ap length (actions_back (take n l)) ∙ length-take-le n l within
+pub one_more : (l : List Action) (n : ℕ) (a : Action) → n < length l → action_at l n ≡ a → take n l ++ a ∷ [] ≡ take (n + 1) l
+one_more l n a inside is = sym (take_more l n _ inside ∙ ap (λ x. take n l ++ x ∷ []) is)
 
 -- ---- what holds of an answer
 

@@ -1,17 +1,17 @@
 -- The next action of the run is the next one of the depth-first list.
-use Rattle.std.proofs.Common.{◌≡◌, ℕ, suc, ◌+◌, ◌≤◌, ◌<◌, List, [], ◌∷◌, ◌++◌, take, length, refl, sym, ap, ◌∙◌, subst, arith}
+use Rattle.std.proofs.Common.{◌≡◌, ℕ, ◌+◌, ◌≤◌, ◌<◌, List, [], ◌∷◌, ◌++◌, take, length, sym, ap, ◌∙◌, subst, arith}
 use Rattle.std.specs.Prelude.{Option, None, Some, Result, Ok, Err, MatchResult, IsErrAnd}
 use Rattle.std.proofs.Math.Logic.{∥∥₁_elim}
+use Rattle.std.proofs.lemmas.List.{length-take-le}
 use denote.Struct.Props.{props}
-use Rattle.dag_order.specs.Births.{HasLabel}
-use Rattle.depth_first_list.specs.Actions.{Action, Deed}
+use Rattle.depth_first_list.specs.Actions.{Action}
 use Rattle.depth_first_list.specs.Facts.{action_at, label_at, index_at, deed_at, words_at}
 use Rattle.depth_first_list.specs.Laws.{HasAction, NextPlaces}
 use Rattle.depth_first_list.specs.Runs.{IsDepthFirst}
 use Rattle.depth_first_list.proofs.ThreadLaws as laws
 use Rattle.depth_first_list.proofs.NextPlaces as laws_of_places
-use Rattle.depth_first_run.specs.States.{Setting, Item, acted}
-use Rattle.depth_first_run.specs.Run.{list_of, actions_of}
+use Rattle.depth_first_run.specs.States.{Setting}
+use Rattle.depth_first_run.specs.Run.{list_of}
 use Rattle.depth_first_run.proofs.Built.{whole_is_depth_first}
 use Rattle.thread_frames.specs.declared.ended.Ended.{Ended}
 use Rattle.thread_frames.specs.declared.next.Next.{Next}
@@ -24,8 +24,8 @@ use Rattle.serial_journal.specs.Stops.{OnStop}
 use Rattle.serial_journal.specs.declared.journal.Journal.{Journal}
 use Rattle.serial_journal.specs.declared.serial_stop.SerialStop.{SerialStop}
 use Rattle.serial_journal.specs.declared.serial_stop.SerialStop.TheVariants.{StepsSpent, OutOfMemory}
-use Rattle.serial_meaning.specs.Writing.{items_of, NeverSpent}
-use Rattle.serial_meaning.proofs.Lists.{same_deed, one_item_more, how_many}
+use Rattle.serial_meaning.specs.Writing.{NeverSpent}
+use Rattle.serial_meaning.proofs.Lists.{same_deed, one_more}
 
 -- the list of a program keeps the laws of depth-first lists
 pub is_depth_first : (c : Setting) → IsDepthFirst c.quota (list_of c)
@@ -77,19 +77,19 @@ next_is c n x next at told = record {
     deed = same_deed told (deed_at l n) (deed_of x next) (λ is. ap (λ m. deed_at l m) (sym (here is)) ∙ is.deed)
 
 -- one action more is written down
-pub written : (l : List Action) (n limit : ℕ) (a : Action) (j : Journal) → n < length l → action_at l n ≡ a → KeepsUp limit (items_of (take n l) ++ acted a ∷ []) j
-    → KeepsUp limit (items_of (take (n + 1) l)) j
-written l n limit a j inside is keeps = subst (λ items. KeepsUp limit items j) (one_item_more l n a inside is) keeps
+pub written : (l : List Action) (n limit : ℕ) (a : Action) (j : Journal) → n < length l → action_at l n ≡ a → KeepsUp limit (take n l ++ a ∷ []) j
+    → KeepsUp limit (take (n + 1) l) j
+written l n limit a j inside is keeps = subst (λ actions. KeepsUp limit actions j) (one_more l n a inside is) keeps
 
 -- the limit does not stop an action that comes before it
 pub never_spent : {A : Type 0} (Q : A → Type 0) (l : List Action) (n limit : ℕ) (r : Result A SerialStop) → n ≤ length l → n < limit
-    → MatchResult r Q (λ stop. OnStop stop (limit ≤ length (actions_of (items_of (take n l))))) → NeverSpent r
+    → MatchResult r Q (λ stop. OnStop stop (limit ≤ length (take n l))) → NeverSpent r
 never_spent Q l n limit (Ok x) inside before h = tt
-never_spent Q l n limit (Err StepsSpent) inside before h = let long = how_many l n inside in omega (arith, long, before, h)
+never_spent Q l n limit (Err StepsSpent) inside before h = let long = length-take-le n l inside in omega (arith, long, before, h)
 never_spent Q l n limit (Err OutOfMemory) inside before h = tt
 
-pub never_stops : (l : List Action) (n limit : ℕ) (stop : SerialStop) → n ≤ length l → n < limit → OnStop stop (limit ≤ length (actions_of (items_of (take n l)))) → OnStop stop ⊥
-never_stops l n limit StepsSpent inside before h = let long = how_many l n inside in omega (arith, long, before, h)
+pub never_stops : (l : List Action) (n limit : ℕ) (stop : SerialStop) → n ≤ length l → n < limit → OnStop stop (limit ≤ length (take n l)) → OnStop stop ⊥
+never_stops l n limit StepsSpent inside before h = let long = length-take-le n l inside in omega (arith, long, before, h)
 never_stops l n limit OutOfMemory inside before h = tt
 
 -- the answer of a call that ends by another's refusal

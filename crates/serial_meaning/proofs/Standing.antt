@@ -1,13 +1,12 @@
 -- The threads that wait, as a run goes on above them.
-use Rattle.std.proofs.Common.{◌≡◌, ℕ, ◌+◌, ◌≤◌, ◌<◌, false, List, [], ◌∷◌, ◌++◌, length, refl, sym, ap, ◌∙◌, subst, arith}
+use Rattle.std.proofs.Common.{◌≡◌, ℕ, ◌≤◌, false, List, [], ◌∷◌, ◌++◌, length, sym, ◌∙◌, subst, arith}
 use Rattle.dag_order.specs.Births.{HasLabel}
-use Rattle.dag_order.specs.LabelOrder.{fork_of}
 use Rattle.dag_order.specs.declared.birth.Birth.{Birth}
 use Rattle.dag_order.specs.declared.thread_id.ThreadId.{ThreadId}
 use Rattle.node_table.specs.Table.{Table}
 use Rattle.thread_points.specs.Points.{Each}
 use Rattle.thread_frames.specs.declared.thread.Thread.{Thread}
-use Rattle.thread_frames.specs.Views.{Child, children_of, label_of, done_of}
+use Rattle.thread_frames.specs.Views.{children_of, label_of}
 use Rattle.serial_journal.specs.Journals.{KeepsLabels}
 use Rattle.serial_meaning.specs.Stacks.{IsBornWithin, IsMember, WaitsFor, AreWaiting}
 use Rattle.serial_meaning.proofs.Lists.{each_more}

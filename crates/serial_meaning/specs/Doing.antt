@@ -1,5 +1,5 @@
 -- What an action that a thread does by itself changes of it and of the pool.
-use Rattle.std.specs.Prelude.{◌≡◌, ℕ, ◌+◌, List, ◌++◌, Option, IsTrue}
+use Rattle.std.specs.Prelude.{◌≡◌, ℕ, ◌+◌, List, ◌++◌, IsTrue}
 use Rattle.dag_order.specs.declared.kind.Kind.{Kind}
 use Rattle.dag_order.specs.declared.kind.Kind.TheVariants as kinds
 use Rattle.node_table.specs.Table.{Table}

@@ -1,10 +1,10 @@
 -- What is written down of a depth-first run, and where the run is in the depth-first list.
-use Rattle.std.specs.Prelude.{◌≡◌, ℕ, suc, ◌<◌, List, [], ◌∷◌, map, take, Option, None, Some, Result, MatchResult}
+use Rattle.std.specs.Prelude.{◌≡◌, ℕ, suc, ◌<◌, List, [], ◌∷◌, take, Option, None, Some, Result, MatchResult}
 use Rattle.dag_order.specs.LabelOrder.{fork_of}
 use Rattle.depth_first_list.specs.Actions.{Action, forks}
 use Rattle.depth_first_list.specs.Facts.{label_at, index_at, deed_at}
 use Rattle.depth_first_list.specs.Laws.{HasAction}
-use Rattle.depth_first_run.specs.States.{Setting, Item, acted}
+use Rattle.depth_first_run.specs.States.{Setting}
 use Rattle.depth_first_run.specs.Run.{list_of}
 use Rattle.node_table.specs.Table.{Table}
 use Rattle.thread_frames.specs.declared.ended.Ended.{Ended}
@@ -16,10 +16,6 @@ use Rattle.serial_journal.specs.Stops.{OnStop}
 use Rattle.serial_journal.specs.declared.serial_stop.SerialStop.{SerialStop}
 use Rattle.serial_meaning.specs.Stacks.{Stand, below}
 use Rattle.serial_meaning.specs.declared.run.Run.{Run}
-
--- the first n actions, as items of a run
-abbrev pub items_of : List Action → List Item
-items_of actions = map acted actions
 
 -- before place n stands the Fork of the thread above by x, which has done it and nothing since
 pub record Forked (l : List Action) (n : ℕ) (above x : Thread) : Type 0 where
@@ -38,7 +34,7 @@ AreForked l n above (x ∷ xs) = Forked l n above x × AreForked l n x xs
 -- The first actions of the list are done and written down, as many as the run says; the thread that runs does the next one, and those that
 -- wait go on behind the Ends of their children.
 pub record Write (c : Setting) (limit : ℕ) (run : Run) : Type 0 where
-  pub keeps : KeepsUp limit (items_of (take run.done (list_of c))) run.journal
+  pub keeps : KeepsUp limit (take run.done (list_of c)) run.journal
   pub next : HasAction (list_of c) run.done (label_of run.top) (done_of run.top)
   pub forked : AreForked (list_of c) run.done run.top (below run)
 
@@ -49,7 +45,7 @@ GoesOrEnds t k run (Some root) = IsResult t k root × (ended_label root ≡ [])
 
 abbrev pub WritesOrEnds : Setting → ℕ → Run → Option Ended → Type 0
 WritesOrEnds c limit run None = Write c limit run
-WritesOrEnds c limit run (Some root) = KeepsUp limit (items_of (list_of c)) run.journal
+WritesOrEnds c limit run (Some root) = KeepsUp limit (list_of c) run.journal
 
 -- the limit does not stop the call
 abbrev pub NeverSpent : {A : Type 0} → Result A SerialStop → Type 0

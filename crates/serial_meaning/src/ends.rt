@@ -41,7 +41,8 @@ impl Run {
         Ok(self.hand_over(ended))
     }
 
-    /// The End of the top thread, whose record block goes back, and which is of no further use but for its place.
+    /// The End of the top thread, whose record block goes back, and which is of no further use but for its place. There is room for it among
+    /// those that have ended.
     ///
     /// # Errors
     ///
@@ -53,10 +54,11 @@ impl Run {
         ensures ended { (t : Table) (k : ℕ) → Stand t k self.old → IfOk result (HasEnded t k self.old self.new) }
         ensures never { (limit : ℕ) (t : Table) (k : ℕ) (c : Setting) → Stand t k self.old → Write c limit self.old → self.old.done < limit → NeverSpent result }
     {
+        self.used.reserve(1)?;
         let name = name_of(&self.top);
-        let (ended, record) = self.top.get_mut().end();
-        self.journal.act(name, Kind::End, words_of(&record))?;
-        give_record(record, &mut self.pool);
+        let (ended, block) = self.top.get_mut().end();
+        self.journal.act(name, Kind::End, words_of(&block))?;
+        give_record(block, &mut self.pool);
         self.done += 1;
         Ok(ended)
     }
@@ -73,16 +75,17 @@ impl Run {
             return Some(ended);
         };
         parent.get_mut().deliver(ended);
-        self.used = Some(mem::replace(&mut self.top, parent));
+        let used = mem::replace(&mut self.top, parent);
+        self.used.push_reserved(used);
         None
     }
 }
 
 /// The words of a record block, if there is one.
-fn words_of(record: &Option<RecordBlock>) -> u64
-    ensures { result ≡ words_recorded record.now }
+fn words_of(block: &Option<RecordBlock>) -> u64
+    ensures { result ≡ words_recorded block.now }
 {
-    match record {
+    match block {
         Some(_) => u64::from(RECORD_WORDS),
         None => 0,
     }

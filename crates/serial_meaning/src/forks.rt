@@ -68,7 +68,7 @@ impl Run {
     {
         self.pool.make_room(alloc, RECORD_WORDS)?;
         self.parents.reserve(1)?;
-        match self.used.take() {
+        match self.used.pop() {
             Some(thread) => Place::of(thread),
             None => Place::new(alloc),
         }

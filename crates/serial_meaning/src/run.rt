@@ -15,6 +15,6 @@ pub(crate) struct Run {
     pub(crate) journal: Journal,
     /// How many actions are done.
     pub(crate) done: u32,
-    /// A thread that has ended, whose place is used again.
-    pub(crate) used: Option<Boxed<Thread>>,
+    /// Threads that have ended, whose places are used again.
+    pub(crate) used: Vec<Boxed<Thread>>,
 }

@@ -15,7 +15,7 @@ ghost use Rattle.serial_journal.specs.Journals.{KeepsUp};
 ghost use Rattle.serial_journal.specs.Telling.{Tells};
 ghost use Rattle.serial_meaning.specs.Settings.{setting_of};
 ghost use Rattle.serial_meaning.specs.Stacks.{Stand};
-ghost use Rattle.serial_meaning.specs.Writing.{Write, items_of};
+ghost use Rattle.serial_meaning.specs.Writing.{Write};
 ghost use Rattle.serial_meaning.specs.Runs.{TellsOrStops};
 
 use crate::run::Run;
@@ -73,23 +73,11 @@ fn run_all(alloc: Global, code: &Code, k: Quota, limit: u32) -> Result<Serial, S
 /// There is not enough memory.
 fn close(alloc: Global, journal: Journal, root: Ended) -> Result<Serial, AllocError>
     ensures { (limit : ℕ) (t : Table) (k : ℕ) (c : Setting) → IsSettingOf t k c → IsResult t k root → ended_label root ≡ []
-        → KeepsUp limit (items_of (list_of c)) journal
+        → KeepsUp limit (list_of c) journal
         → IfOk result (λ serial. Tells (State.items (whole c)) serial × (length (list_of c) ≤ limit)) }
 {
     let output = root.lines(alloc)?;
-    let Serial {
-        actions,
-        births,
-        peak,
-        ..
-    } = journal.close();
-    Ok(Serial {
-        finish: finish_of(&root),
-        output,
-        actions,
-        births,
-        peak,
-    })
+    Ok(journal.close(finish_of(&root), output))
 }
 
 /// How the root ended.

@@ -16,7 +16,7 @@ ghost use Rattle.serial_meaning.specs.Writing.{Write, GoesOrEnds, WritesOrEnds, 
 use crate::alone::do_alone;
 use crate::naming::{kind_of, name_of};
 use crate::run::Run;
-use block_arena::Pool;
+use block_arena::{Pool, PoolError};
 use containers::Boxed;
 use depth_first_list::Quota;
 use language_limits::PIECE_WORDS;
@@ -44,7 +44,7 @@ impl Run {
             pool,
             journal: Journal::new(alloc, limit),
             done: 0,
-            used: None,
+            used: Vec::new(alloc),
         })
     }
 
@@ -149,6 +149,7 @@ fn first_pool(alloc: Global) -> Result<Pool, AllocError>
 {
     match Pool::new(alloc, PIECE_WORDS) {
         Ok(pool) => Ok(pool),
-        Err(_) => Err(AllocError),
+        Err(PoolError::OutOfMemory) => Err(AllocError),
+        Err(PoolError::NotWhole | PoolError::TooLarge) => unreachable!(),
     }
 }

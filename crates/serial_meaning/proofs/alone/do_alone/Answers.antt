@@ -1,4 +1,4 @@
-use Rattle.std.proofs.Common.{◌≡◌, ◌∙◌, refl, sym, ap, subst, arith}
+use Rattle.std.proofs.Common.{◌≡◌, ◌∙◌, sym, ap, subst, arith}
 use Rattle.std.specs.Prelude.{Some}
 use Rattle.block_arena.specs.Region.{Region}
 use Rattle.thread_frames.specs.declared.next.Next.{Next}

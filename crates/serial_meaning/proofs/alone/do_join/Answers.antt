@@ -1,4 +1,4 @@
-use Rattle.std.proofs.Common.{◌∙◌, ap, arith}
+use Rattle.std.proofs.Common.{ap, arith}
 use Rattle.block_arena.specs.Region.{Region}
 use Rattle.thread_frames.proofs.Bounds.{join_within}
 use Rattle.serial_meaning.proofs.Acting.{acts_joined}

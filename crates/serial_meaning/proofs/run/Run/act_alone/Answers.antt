@@ -9,7 +9,6 @@ use Rattle.thread_frames.specs.Points.{IsPlaced}
 use Rattle.thread_frames.specs.Views.{children_of, label_of, done_of, thread_words}
 use Rattle.thread_frames.proofs.Placed.{placed_of}
 use Rattle.serial_meaning.specs.Doing.{ActsAlone, JoinsDelivered}
-use Rattle.serial_meaning.specs.Writing.{items_of}
 use Rattle.serial_meaning.proofs.Acting.{newest_there, stand_acted, write_acted, kinds_same, no_fork, told_so}
 use Rattle.serial_meaning.proofs.Next.{next_is, never_stops, stopped_so}
 use Rattle.serial_meaning.proofs.run.Run.act_alone.Goals as goal
@@ -44,7 +43,7 @@ returns-clause-write c = λ limit t k setting of s told w less.
     let words : c.in_ok-words.words ≡ words_at l before.done =
     c.in_ok-words.ensures.words (words_at l before.done) (subst (λ (x : Thread). TellsWords x c.args.next (words_at l before.done)) (sym c.get_mut.ensures.value) is.words) in
     let named = subst (λ i. HasLabel (births_of before.journal ∷ []) i (label_of before.top)) (sym c.name_of-name.ensures.by) s.top.named in
-    let kept = c.in_ok-act.ensures.keeps_up limit (items_of (take before.done l)) (label_of before.top) (deed_of before.top c.args.next) w.keeps named
+    let kept = c.in_ok-act.ensures.keeps_up limit (take before.done l) (label_of before.top) (deed_of before.top c.args.next) w.keeps named
     (c.kind_of.ensures ∙ kinds_same before.top c.args.next) (no_fork before.top c.args.next c.requires.alone) in
     write_acted setting limit before _ c.args.next w is c.requires.alone acts refl refl
     (told_so limit c.name_of-name.result.index (words_at l before.done) c.in_ok-words.words l before.done before.top (deed_of before.top c.args.next) c.act.new.self c.name_of-name.ensures.index words kept)
@@ -57,5 +56,5 @@ returns-in_err-act-clause-never c = λ limit t k setting s w less.
     let named = subst (λ i. HasLabel (births_of before.journal ∷ []) i (label_of before.top)) (sym c.name_of-name.ensures.by) s.top.named in
     stopped_so c.from_residual-in_err-act.result c.in_err-act.field-0.0 c.from_residual-in_err-act.ensures.1
     (never_stops l before.done limit c.in_err-act.field-0.0 (omega (arith, inside)) less
-    (c.in_err-act.ensures.keeps_up limit (items_of (take before.done l)) (label_of before.top) (deed_of before.top c.args.next) w.keeps named
+    (c.in_err-act.ensures.keeps_up limit (take before.done l) (label_of before.top) (deed_of before.top c.args.next) w.keeps named
     (c.kind_of.ensures ∙ kinds_same before.top c.args.next) (no_fork before.top c.args.next c.requires.alone)))

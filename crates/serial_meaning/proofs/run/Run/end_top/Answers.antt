@@ -1,9 +1,8 @@
-use Rattle.std.proofs.Common.{◌≡◌, ℕ, ◌∷◌, [], ◌++◌, ◌∙◌, refl, sym, ap, subst, take, arith}
+use Rattle.std.proofs.Common.{◌≡◌, ◌∷◌, [], ◌++◌, ◌∙◌, refl, sym, ap, subst, take, arith}
 use Rattle.block_arena.specs.Region.{Region}
 use Rattle.dag_order.specs.Births.{HasLabel}
 use Rattle.depth_first_list.specs.Actions.{ends}
 use Rattle.depth_first_run.specs.Run.{list_of}
-use Rattle.depth_first_run.specs.States.{acted}
 use Rattle.serial_journal.specs.Journals.{KeepsUp, births_of, action_named}
 use Rattle.thread_frames.specs.declared.thread.Thread.{Thread}
 use Rattle.thread_frames.specs.Points.{IsAtPoint, IsPlaced}
@@ -11,7 +10,6 @@ use Rattle.thread_frames.specs.Views.{label_of, done_of, thread_words}
 use Rattle.thread_run.specs.Passed.Points.{words_at_end}
 use Rattle.thread_frames.proofs.Bounds.{end_within}
 use Rattle.thread_frames.proofs.Placed.{placed_of}
-use Rattle.serial_meaning.specs.Writing.{items_of}
 use Rattle.serial_meaning.proofs.Next.{never_stops, stopped_so}
 use Rattle.serial_meaning.proofs.run.Run.end_top.Goals as goal
 
@@ -45,13 +43,14 @@ returns-clause-ended c = λ t k s.
       parents = refl;
       births = c.act.ensures.births;
       done = refl;
+      room = omega (arith, c.in_ok-reserve.ensures);
       live = omega (arith, words, record_is, label, all, live, pool);
       written = λ limit items keeps.
           let named = subst (λ i. HasLabel (births_of c.args.self.now.journal ∷ []) i (label_of top)) (sym c.name_of-name.ensures.by) s.top.named in
           let kept = c.in_ok-act.ensures.keeps_up limit items (label_of top) ends keeps named refl tt in
           let told : c.words_of.result ≡ words_at_end (label_of top) = c.words_of.ensures ∙ record_is ∙ label in
-          subst (λ i. KeepsUp limit (items ++ acted (action_named (label_of top) i ends (words_at_end (label_of top))) ∷ []) c.act.new.self) c.name_of-name.ensures.index
-          (subst (λ n. KeepsUp limit (items ++ acted (action_named (label_of top) c.name_of-name.result.index ends n) ∷ []) c.act.new.self) told kept);
+          subst (λ i. KeepsUp limit (items ++ action_named (label_of top) i ends (words_at_end (label_of top)) ∷ []) c.act.new.self) c.name_of-name.ensures.index
+          (subst (λ n. KeepsUp limit (items ++ action_named (label_of top) c.name_of-name.result.index ends n ∷ []) c.act.new.self) told kept);
     }
 
 pub returns-in_err-act-clause-never : goal.returns-in_err-act-clause-never
@@ -60,5 +59,5 @@ returns-in_err-act-clause-never c = λ limit t k setting s w less.
     let l = list_of setting in
     let inside = w.next.0 in
     let named = subst (λ i. HasLabel (births_of before.journal ∷ []) i (label_of before.top)) (sym c.name_of-name.ensures.by) s.top.named in
-    stopped_so c.from_residual.result c.in_err-act.field-0.0 c.from_residual.ensures.1
-    (never_stops l before.done limit c.in_err-act.field-0.0 (omega (arith, inside)) less (c.in_err-act.ensures.keeps_up limit (items_of (take before.done l)) (label_of before.top) ends w.keeps named refl tt))
+    stopped_so c.from_residual-in_err-act.result c.in_err-act.field-0.0 c.from_residual-in_err-act.ensures.1
+    (never_stops l before.done limit c.in_err-act.field-0.0 (omega (arith, inside)) less (c.in_err-act.ensures.keeps_up limit (take before.done l) (label_of before.top) ends w.keeps named refl tt))

@@ -1,10 +1,8 @@
-use Rattle.std.proofs.Common.{◌≡◌, suc, length, ◌+◌, ◌∷◌, [], ◌++◌, ◌∙◌, refl, sym, ap, subst, take, arith}
+use Rattle.std.proofs.Common.{◌≡◌, suc, length, ◌+◌, ◌∷◌, [], ◌++◌, ◌∙◌, sym, ap, subst, take, arith}
 use Rattle.dag_order.specs.Births.{HasLabel}
 use Rattle.dag_order.specs.LabelOrder.{fork_of}
-use Rattle.dag_order.specs.declared.thread_id.ThreadId.{ThreadId}
 use Rattle.depth_first_list.specs.Actions.{forks, record_words}
 use Rattle.depth_first_run.specs.Run.{list_of}
-use Rattle.depth_first_run.specs.States.{acted}
 use Rattle.serial_journal.specs.Journals.{KeepsUp, KeepsLabels, births_of, action_named}
 use Rattle.serial_journal.specs.declared.journal.Journal.{Journal}
 use Rattle.thread_frames.specs.declared.thread.Thread.{Thread}
@@ -12,8 +10,7 @@ use Rattle.thread_frames.specs.Actions.{HasForked}
 use Rattle.thread_frames.specs.Points.{IsAtPoint, IsPlaced}
 use Rattle.thread_frames.specs.Views.{label_of, done_of, forks_of, thread_words}
 use Rattle.thread_frames.proofs.Placed.{placed_of}
-use Rattle.serial_meaning.specs.Writing.{items_of}
-use Rattle.serial_meaning.proofs.Forking.{HasGoneDown, stand_forked, write_forked}
+use Rattle.serial_meaning.proofs.Forking.{stand_forked, write_forked}
 use Rattle.serial_meaning.proofs.Next.{next_is, never_stops, stopped_so}
 use Rattle.serial_meaning.proofs.run.Run.fork.Goals as goal
 
@@ -63,9 +60,9 @@ returns-in_err-id-clause-never c = λ limit t k setting s w less.
     let by = c.name_of-name.ensures.by ∙ ap (λ (x : Thread). x.id) c.room_for_child.ensures.top in
     let named : HasLabel (births_of c.room_for_child.new.self.journal ∷ []) c.name_of-name.result.by (label_of before.top) =
     subst (λ bs. HasLabel (bs ∷ []) c.name_of-name.result.by (label_of before.top)) (sym births) (subst (λ i. HasLabel (births_of before.journal ∷ []) i (label_of before.top)) (sym by) s.top.named) in
-    let keeps = subst (λ (j : Journal). KeepsUp limit (items_of (take before.done l)) j) (sym c.room_for_child.ensures.journal) w.keeps in
+    let keeps = subst (λ (j : Journal). KeepsUp limit (take before.done l) j) (sym c.room_for_child.ensures.journal) w.keeps in
     stopped_so c.from_residual-in_err-id.result c.in_err-id.field-0.0 c.from_residual-in_err-id.ensures.1
-    (never_stops l before.done limit c.in_err-id.field-0.0 (omega (arith, inside)) less (c.in_err-id.ensures.keeps_up limit (items_of (take before.done l)) (label_of before.top) keeps named))
+    (never_stops l before.done limit c.in_err-id.field-0.0 (omega (arith, inside)) less (c.in_err-id.ensures.keeps_up limit (take before.done l) (label_of before.top) keeps named))
 
 pub returns-clause-write : goal.returns-clause-write
 returns-clause-write c = λ limit t k setting of s told w less.
@@ -84,8 +81,8 @@ returns-clause-write c = λ limit t k setting of s told w less.
     let its = ap thread_words child in let kept_words = ap thread_words parent in
     let live_now : c.fork_child-child.new.pool.live + thread_words before.top ≡ before.pool.live + (thread_words c.replace-parent.result + thread_words c.replace-parent.new.dest) = omega (arith, words, all, live, its, kept_words) in
     let is = next_is setting before.done before.top _ w.next told in
-    let keeps = subst (λ (j : Journal). KeepsUp limit (items_of (take before.done l)) j) (sym c.room_for_child.ensures.journal) w.keeps in
-    let kept = (c.in_ok-id.ensures.keeps_up limit (items_of (take before.done l)) (label_of before.top) keeps named).0 in
+    let keeps = subst (λ (j : Journal). KeepsUp limit (take before.done l) j) (sym c.room_for_child.ensures.journal) w.keeps in
+    let kept = (c.in_ok-id.ensures.keeps_up limit (take before.done l) (label_of before.top) keeps named).0 in
     let index = c.name_of-name.ensures.index ∙ ap done_of c.room_for_child.ensures.top in
     write_forked setting limit before _ c.replace-parent.result c.in_ok-id.id
     (record {
@@ -99,5 +96,5 @@ returns-clause-write c = λ limit t k setting of s told w less.
       done = ap (λ n. n + 1) c.room_for_child.ensures.done;
       live = live_now;
     }) w is
-    (subst (λ i. KeepsUp limit (items_of (take before.done l) ++ acted (action_named (label_of before.top) i (forks (forks_of before.top + 1)) record_words) ∷ []) c.fork.new.self) index
-    (subst (λ n. KeepsUp limit (items_of (take before.done l) ++ acted (action_named (label_of before.top) c.name_of-name.result.index (forks (n + 1)) record_words) ∷ []) c.fork.new.self) ordinal kept))
+    (subst (λ i. KeepsUp limit (take before.done l ++ action_named (label_of before.top) i (forks (forks_of before.top + 1)) record_words ∷ []) c.fork.new.self) index
+    (subst (λ n. KeepsUp limit (take before.done l ++ action_named (label_of before.top) c.name_of-name.result.index (forks (n + 1)) record_words ∷ []) c.fork.new.self) ordinal kept))

@@ -33,7 +33,7 @@ deliver-requires c =
 pub returns-clause-stand : goal.returns-clause-stand
 returns-clause-stand c = λ t k before s e.
     let was = c.get_mut.ensures.value in
-    let now : c.replace.new.dest ≡ c.deliver.new.self = c.replace.ensures.after in
+    let now : c.replace-used.new.dest ≡ c.deliver.new.self = c.replace-used.ensures.after in
     stand_handed t k before c.args.self.now c.args.ended c.in-Some.parent c.pop.new.self.items s e c.in-Some.ensures.items
     _ (subst (λ (x : Thread). IsSame c.in-Some.parent x) (sym now) (subst (λ (x : Thread). IsSame x c.deliver.new.self) was c.deliver.ensures.same)) (ap done_of now ∙ c.deliver.ensures.done ∙ ap done_of was)
     (ap children_of now ∙ c.deliver.ensures.children ∙ ap (λ (x : Thread). with_delivered c.args.ended.id (children_of x)) was)
@@ -43,10 +43,13 @@ returns-clause-stand c = λ t k before s e.
 pub returns-clause-write : goal.returns-clause-write
 returns-clause-write c = λ limit t k setting before of s e told w less.
     let was = c.get_mut.ensures.value in
-    let now : c.replace.new.dest ≡ c.deliver.new.self = c.replace.ensures.after in
+    let now : c.replace-used.new.dest ≡ c.deliver.new.self = c.replace-used.ensures.after in
     let is = next_is setting before.done before.top _ w.next told in
     write_handed t k before c.args.self.now c.args.ended c.in-Some.parent c.pop.new.self.items s e c.in-Some.ensures.items
     _ (subst (λ (x : Thread). IsSame c.in-Some.parent x) (sym now) (subst (λ (x : Thread). IsSame x c.deliver.new.self) was c.deliver.ensures.same)) (ap done_of now ∙ c.deliver.ensures.done ∙ ap done_of was)
     (ap children_of now ∙ c.deliver.ensures.children ∙ ap (λ (x : Thread). with_delivered c.args.ended.id (children_of x)) was)
     (ap thread_words now ∙ c.deliver.ensures.words ∙ ap (λ (x : Thread). thread_words x + ended_words c.args.ended) was) refl refl refl refl
     setting limit w is (end_written t k setting limit before c.args.self.now c.args.ended e w is)
+
+pub push_reserved-requires : goal.push_reserved-requires
+push_reserved-requires c = let r = c.requires.ended in let room = r.4.room in omega (arith, room)
