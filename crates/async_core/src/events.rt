@@ -1,6 +1,6 @@
 //! The event of a worker, whether it is idle or not.
 
-ghost use Rattle.std.specs.Prelude.{◌≡◌, ◌≢◌, ◌<◌, ◌≤◌, ◌+◌, ◌/◌, ◌↔◌, ℕ, List as AnyList, None, Some, Ok, Err, OnOk, length};
+ghost use Rattle.std.specs.Prelude.{◌≡◌, ◌≢◌, ◌<◌, ◌≤◌, ◌+◌, ◌/◌, ◌↔◌, ℕ, List as AnyList, None, Some, Ok, Err, OnOk, IsOk, length};
 ghost use Rattle.language_limits.specs.declared.TheConstants.{GREATEST_COUNT, MOST_WORKERS, RECORD_WORDS};
 ghost use Rattle.depth_first_run.specs.States.{Setting};
 ghost use Rattle.deque_list.specs.declared.deque_id.DequeId.{DequeId};
@@ -34,12 +34,13 @@ use worker_step::{step_of_owner, step_of_thief};
 ///
 /// # Errors
 ///
-/// There is not enough memory.
+/// There is not enough memory. A full list is no error.
 fn make_room(list: &mut List<Boxed<Thread>>) -> Result<(), Stop>
     ensures deques { list.new.deques ≡ list.old.deques }
     ensures most { list.new.most ≡ list.old.most }
     ensures room { OnOk result (length list.old.deques < list.old.most → list.new.spare ≡ 1) }
     ensures stop { (stop : AnyStop) → result ≡ Err stop → stop ≡ stops.OutOfMemory }
+    ensures full { length list.old.deques ≡ list.old.most → IsOk result }
 {
     match list.room_right() {
         Ok(()) => Ok(()),

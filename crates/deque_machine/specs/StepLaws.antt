@@ -8,6 +8,7 @@ use Rattle.deque_machine.specs.Runs.{Pair, Reaches}
 use Rattle.deque_machine.specs.Play.{Limits, Ending, finished, stopped, Turn, Meets, Plays}
 use Rattle.deque_machine.specs.Step.{step, replay}
 use Rattle.deque_machine.specs.Played.{Played, play}
+use Rattle.deque_machine.specs.Fronts.{PlaysOn}
 
 -- at a lawful moment an event leads to a moment just where the machine has this case
 abbrev pub StepIsTheMachine : Setting → Type 0
@@ -44,14 +45,16 @@ OnePlay s = (limits : Limits) (words : ℕ → ℕ) (run run' : List Pair) (last
     → Plays s limits words 0 opening run last ending → Plays s limits words 0 opening run' last' ending'
     → (run ≡ run') × (last ≡ last') × (ending ≡ ending')
 
--- why a play ends as it does, at its last moment: the root has ended, or the event of the turn meets the stop
-abbrev pub HasCause : Setting → Limits → (ℕ → ℕ) → Moment → Ending → Type 0
-HasCause s limits words last finished = HasEnded s last []
-HasCause s limits words last (stopped stop) = (n : ℕ) × (pair : Pair) × Turn s words n last pair × Meets s limits last pair.event stop
+-- Why what is played from a moment on, after n words, ends as it does at its last moment: the root has ended, or the event of the turn meets the
+-- stop. The turn is the one after the words that this front of the play drew.
+abbrev pub HasCause : Setting → Limits → (words : ℕ → ℕ) → (n : ℕ) → (first : Moment) → List Pair → (last : Moment) → Ending → Type 0
+HasCause s limits words n first run last finished = HasEnded s last []
+HasCause s limits words n first run last (stopped stop) = (drawn : ℕ) × (pair : Pair) × Turn s words drawn last pair
+    × Meets s limits last pair.event stop × PlaysOn s limits words n first run drawn last
 
 abbrev pub EndingsHaveCauses : Setting → Type 0
 EndingsHaveCauses s = (limits : Limits) (words : ℕ → ℕ) (run : List Pair) (last : Moment) (ending : Ending)
-    → Plays s limits words 0 opening run last ending → HasCause s limits words last ending
+    → Plays s limits words 0 opening run last ending → HasCause s limits words 0 opening run last ending
 
 -- what the computed play answers is the play
 abbrev pub PlayedIsPlay : Setting → Type 0

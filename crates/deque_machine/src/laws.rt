@@ -197,7 +197,7 @@ pub fn one_play()
     ensures { InEachSetting OnePlay }
 {}
 
-/// A play that finishes has the End of the root, and one that stops has a turn whose event meets this stop.
+/// A play that finishes has the End of the root. One that stops has a turn, after the words that it drew, whose event meets this stop.
 pub fn endings_have_causes()
     ensures { InEachSetting EndingsHaveCauses }
 {}

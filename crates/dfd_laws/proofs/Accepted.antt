@@ -1,19 +1,18 @@
 -- The trail of a play that finishes is accepted.
-use Rattle.std.proofs.Common.{◌≡◌, ℕ, ◌+◌, ◌≤◌, ◌<◌, ◌^◌, List, [], length, map, refl, sym, ap, subst, ◌∙◌, arith, ℤ, pos, ◌≤ℤ◌}
+use Rattle.std.proofs.Common.{◌≡◌, ℕ, ◌≤◌, ◌<◌, ◌^◌, [], length, refl, sym, ap, subst, ◌∙◌, arith, ℤ, pos, ◌≤ℤ◌}
 use Rattle.std.proofs.lemmas.Int.{ints}
 use Rattle.std.proofs.lemmas.List.{length-map}
 use Rattle.std.specs.Prelude.{Ok}
 use Rattle.depth_first_list.specs.Runs.{IsDepthFirst}
 use Rattle.depth_first_run.specs.States.{Setting}
 use Rattle.depth_first_run.proofs.Built.{whole_is_depth_first}
-use Rattle.deque_machine.specs.Books.{booked, periods_marked}
+use Rattle.deque_machine.specs.Books.{booked}
 use Rattle.deque_machine.specs.Machine as machine
 use Rattle.deque_machine.specs.Moments.{opening}
 use Rattle.deque_machine.specs.Runs.{Reaches}
 use Rattle.deque_machine.proofs.Ends.{runs_are_short}
 use Rattle.deque_machine.proofs.Kept.{opening_is_lawful}
 use Rattle.deque_machine.proofs.Playing.{plays_are_runs}
-use Rattle.trail_check.specs.Following.{Follows}
 use Rattle.trail_check.specs.Good.{IsGood}
 use Rattle.trail_check.specs.Told.{event_told, events_told}
 use Rattle.trail_check.specs.Verdicts.{is_accepted}

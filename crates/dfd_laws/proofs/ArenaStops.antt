@@ -1,13 +1,14 @@
 -- What is known of an event that meets the stop of an arena, in whichever machine it may come.
-use Rattle.std.proofs.Common.{◌≡◌, ℕ, ◌<◌, ℤ, pos, arith, refl, ap, ◌∙◌}
+use Rattle.std.proofs.Common.{◌≡◌, ℕ, ◌<◌, ℤ, pos, arith, refl, sym, ap, subst, ◌∙◌}
+use Rattle.std.specs.Prelude.{◌<ℤ◌, ◌+ℤ◌}
 use Rattle.depth_first_list.specs.Actions.{Deed, forks, joins, allocates, releases, dummy, faults, ends, weight_of}
-use Rattle.depth_first_list.specs.Facts.{words_at}
+use Rattle.depth_first_list.specs.Facts.{deed_at, words_at, weight_at}
 use Rattle.deque_machine.specs.Machine.{Setting, Event, steals, does, suspends, gives_up}
 use Rattle.deque_machine.specs.Moments.{Moment, live_at}
 use Rattle.deque_machine.specs.Play.{Limits, Stop, arena_full, steps_spent, deques_full, Meets, no_deque, no_words, no_steps, Fills, taken_by}
 
 -- an action that takes words has them as its weight
-pub taken_is_weight : (deed : Deed) (words : ℕ) → 0 < taken_by deed words → weight_of deed words ≡ pos words
+taken_is_weight : (deed : Deed) (words : ℕ) → 0 < taken_by deed words → weight_of deed words ≡ pos words
 taken_is_weight (forks child) words some = refl
 taken_is_weight (joins child) words some = absurd (omega (arith, some))
 taken_is_weight allocates words some = refl
@@ -15,6 +16,12 @@ taken_is_weight releases words some = absurd (omega (arith, some))
 taken_is_weight dummy words some = absurd (omega (arith, some))
 taken_is_weight faults words some = absurd (omega (arith, some))
 taken_is_weight ends words some = absurd (omega (arith, some))
+
+-- what the arena has no room for has so many words as its weight
+pub filling_weighs : (s : Setting) (limits : Limits) (m : Moment) (place : ℕ) → Fills s limits m place →
+    pos limits.capacity <ℤ (live_at s.list m +ℤ weight_at s.list place)
+filling_weighs s limits m place fills = subst (λ w. pos limits.capacity <ℤ (live_at s.list m +ℤ w))
+    (sym (taken_is_weight (deed_at s.list place) (words_at s.list place) fills.0)) fills.1
 
 place_done : Event → ℕ
 place_done (steals place id) = 0

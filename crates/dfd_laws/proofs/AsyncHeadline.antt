@@ -2,17 +2,16 @@
 use Rattle.std.proofs.Common.{◌≡◌, ◌⊎◌, inl, inr, ℕ, ◌<◌, ◌≤◌, ℤ, List, [], ◌∷◌, ◌++◌, length, pos, arith, refl, sym, ap, subst, ◌∙◌}
 use Rattle.std.proofs.Math.Logic.{∥∥₁_elim}
 use denote.Struct.Props.{props}
-use Rattle.std.specs.Prelude.{◌≤ℤ◌, ◌<ℤ◌, ◌+ℤ◌}
+use Rattle.std.specs.Prelude.{◌≤ℤ◌}
 use Rattle.command_line.specs.declared.command.Command.{Command}
 use Rattle.command_line.specs.declared.setting.Setting.TheVariants.{Quota, Workers}
 use Rattle.dag_order.specs.declared.finish.Finish.{Finish}
 use Rattle.dag_order.specs.declared.finish.Finish.TheVariants as finishes
-use Rattle.depth_first_list.specs.Facts.{deed_at, words_at}
 use Rattle.depth_first_list.specs.Runs.{IsDepthFirst}
 use Rattle.depth_first_run.proofs.Built.{whole_is_depth_first}
 use Rattle.depth_first_run.specs.Run.{finish_of_run}
-use Rattle.deque_machine.specs.Machine.{Setting, does}
-use Rattle.deque_machine.specs.Moments.{Moment, opening, live_at}
+use Rattle.deque_machine.specs.Machine.{Setting}
+use Rattle.deque_machine.specs.Moments.{Moment, opening}
 use Rattle.deque_machine.specs.Play.{Ending, finished, stopped, arena_full, steps_spent, deques_full, words_taken}
 use Rattle.deque_machine.specs.Runs.{Pair, high_water_mark}
 use Rattle.deque_machine.specs.Books.{periods_marked, bound}
@@ -31,13 +30,14 @@ use Rattle.ready_machine.proofs.Ones.{one_way}
 use Rattle.run_report.specs.Shown.{Shown}
 use Rattle.dfd_plays.specs.Answer.{HasRanges}
 use Rattle.dfd_plays.specs.Async.{IsAsyncPlay, AsyncMakes, async_terms, async_machine}
+use Rattle.dfd_laws.specs.AsyncHeadline.{AsyncHasDrawn}
 use Rattle.dfd_laws.specs.Headline.{play_list, HoldsAt, AreBounded, IsBoundedReport, HasShortPlays, StopsLate, LastsInArena, LastsInActions}
 use Rattle.dfd_plays.specs.Peak.{finish_status}
 use Rattle.dfd_plays.specs.Play.{TellsEnding, Reports, play_setting, seeded_words}
 use Rattle.dfd_plays.specs.Status.{code_of}
 use Rattle.dfd_plays.specs.declared.status.Status.{Status}
 use Rattle.dfd_plays.specs.declared.status.Status.TheVariants.{Done, UserFault, DequesFull}
-use Rattle.dfd_laws.proofs.ArenaStops.{taken_is_weight, filled, asked_at}
+use Rattle.dfd_laws.proofs.ArenaStops.{filling_weighs, filled, asked_at}
 use Rattle.dfd_laws.proofs.Headline.{in_range, bounded_reports}
 use Rattle.dfd_laws.proofs.Statuses.{same_status}
 
@@ -130,31 +130,37 @@ module _ (command : Command) (p : Program) (ranges : HasRanges command) where
             runs_end s some_quota listed (omega (arith, quota)) run last reaches.0 reaches.1;
       }
 
-  pub async_arenas_stop_late : (run : List Pair) (last : Moment) (live : ℤ) (asked : ℕ) → IsAsyncPlay command p run last (stopped (arena_full live asked)) →
-      (periods : ℕ) → bound command.k (play_list command p) periods ≤ℤ pos command.arena → StopsLate ReadyTurn MayReady command p last live asked periods
+  pub async_arenas_stop_late : (run : List Pair) (last : Moment) (live : ℤ) (asked : ℕ) →
+      IsAsyncPlay command p run last (stopped (arena_full live asked)) →
+      (periods : ℕ) → bound command.k (play_list command p) periods ≤ℤ pos command.arena →
+      StopsLate AsyncHasDrawn ReadyTurn MayReady command p run last live asked periods
   async_arenas_stop_late run last live asked plays periods room =
       let s = async_machine command p in
-      let cause = endings_have_causes s (async_terms command).limits (seeded_words command.seed) run last (stopped (arena_full live asked)) plays in
-      let reaches = (plays_are_runs s (async_terms command).limits (seeded_words command.seed) run last (stopped (arena_full live asked)) plays).0 in
+      let words = seeded_words command.seed in
+      let limits = (async_terms command).limits in
+      let ending = stopped (arena_full live asked) in
+      let cause = endings_have_causes s limits words run last ending plays in
+      let reaches = (plays_are_runs s limits words run last ending plays).0 in
       let ready : IsReadyList s last = reached_is_ready s some_quota listed run last reaches in
-      let fills = filled s (async_terms command).limits last (cause.1).event live asked cause.3 in
-      let asks = asked_at s (async_terms command).limits last (cause.1).event live asked fills.0 fills.1 cause.3 in
-      let below = in_range command.p (seeded_words command.seed cause.0) (CanGo last) (cause.1).worker (cause.2).first in
-      let comes = wanted_may_come s listed last (cause.1).worker (cause.1).event ready below (cause.2).wants in
-      let may : MayReady s last (cause.1).worker (does fills.0) comes.0 = subst (λ e. MayReady s last (cause.1).worker e comes.0) fills.1 comes.1 in record {
+      let fills = filled s limits last (cause.1).event live asked cause.3 in
+      let asks = asked_at s limits last (cause.1).event live asked fills.0 fills.1 cause.3 in
+      let below = in_range command.p (words cause.0) (CanGo last) (cause.1).worker (cause.2).first in
+      let comes = wanted_may_come s listed last (cause.1).worker (cause.1).event ready below (cause.2).wants in record {
         drawn = cause.0;
+        drew = cause.4;
         worker = (cause.1).worker;
         place = fills.0;
-        turn = subst (λ e. ReadyTurn s (seeded_words command.seed) cause.0 last (record { worker = (cause.1).worker; event = e })) fills.1 cause.2;
-        live_is = asks.0;
-        asked_is = asks.1;
-        fills = fills.2;
-        after = comes.0;
-        may = may;
-        more_ahead = λ n prefix.
-            arena_refuses s some_quota listed run last comes.0 (cause.1).worker fills.0 n periods command.arena reaches may room
-            (subst (λ w. pos command.arena <ℤ (live_at (play_list command p) last +ℤ w))
-            (sym (taken_is_weight (deed_at (play_list command p) fills.0) (words_at (play_list command p) fills.0) (fills.2).0)) (fills.2).1) prefix;
+        turn = subst (λ e. ReadyTurn s words cause.0 last (record { worker = (cause.1).worker; event = e })) fills.1 cause.2;
+        late = record {
+          live_is = asks.0;
+          asked_is = asks.1;
+          fills = fills.2;
+          after = comes.0;
+          may = subst (λ e. MayReady s last (cause.1).worker e comes.0) fills.1 comes.1;
+          more_ahead = λ other next later full may n prefix.
+              arena_refuses s some_quota listed run last later other next n periods command.arena reaches may room
+              (filling_weighs s limits last next full) prefix;
+        };
       }
 
   pub async_arenas_suffice : (run : List Pair) (last : Moment) (ending : Ending) → IsAsyncPlay command p run last ending → LastsInArena CoversNext command p last ending

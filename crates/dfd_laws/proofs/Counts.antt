@@ -1,5 +1,5 @@
 -- What a play that has finished did, and how many words were in use.
-use Rattle.std.proofs.Common.{◌≡◌, ℕ, zero, suc, ◌+◌, ◌≤◌, ◌<◌, List, [], ◌∷◌, ◌++◌, length, inl, inr, refl, sym, ap, subst, ◌∙◌, arith, length-append, append_assoc, append-nil, ℤ, pos, ◌≤ℤ◌}
+use Rattle.std.proofs.Common.{◌≡◌, ℕ, zero, suc, ◌≤◌, ◌<◌, List, [], ◌∷◌, ◌++◌, length, inl, inr, sym, ap, subst, arith, length-append, append_assoc, append-nil, ℤ, pos, ◌≤ℤ◌}
 use Rattle.std.specs.Int.{int_max}
 use Rattle.std.proofs.lemmas.Int.{ints, clamps}
 use Rattle.depth_first_list.specs.Runs.{IsDepthFirst}
@@ -11,7 +11,7 @@ use Rattle.deque_machine.specs.Moments.{Moment, opening, done_at, live_at}
 use Rattle.deque_machine.specs.Play.{Limits}
 use Rattle.deque_machine.specs.Runs.{Pair, Reaches, high_water_mark}
 use Rattle.deque_machine.proofs.Reached.{ended_did_all}
-use Rattle.trail_check.specs.Following.{IsWithin, Leads, Follows, pair_of, stays, goes_on}
+use Rattle.trail_check.specs.Following.{IsWithin, Follows, pair_of, stays, goes_on}
 use Rattle.trail_meaning.specs.declared.trail_event.TrailEvent.{TrailEvent}
 use Rattle.trail_check.proofs.Counting.{high_more, reaches_more}
 

@@ -1,10 +1,8 @@
 -- The events of a play have places and workers that a trail may have.
-use Rattle.std.proofs.Common.{◌≡◌, ℕ, ◌+◌, ◌≤◌, ◌<◌, List, [], ◌∷◌, sym, subst, arith}
-use Rattle.std.proofs.Math.Nat.{mod-lt}
-use Rattle.std.specs.Prelude.{min, length}
+use Rattle.std.proofs.Common.{ℕ, ◌+◌, ◌≤◌, List, arith}
 use Rattle.deque_machine.specs.Machine.{Setting, Event}
 use Rattle.deque_machine.specs.Moments.{Moment}
-use Rattle.deque_machine.specs.Play.{Limits, Ending, IsFirst, IsReady, reach, Wants, a_theft, a_give_up, a_wait, an_action, words_drawn, Plays, is_over, is_stopped, goes_on}
+use Rattle.deque_machine.specs.Play.{Limits, Ending, IsReady, reach, Wants, a_theft, a_give_up, a_wait, an_action, words_drawn, Plays, is_over, is_stopped, goes_on}
 use Rattle.deque_machine.specs.Runs.{Pair}
 use Rattle.trail_check.specs.Told.{kind_told, events_told}
 use Rattle.language_limits.specs.declared.TheConstants.{MOST_DEQUES}

@@ -4,12 +4,11 @@ use Rattle.std.proofs.Math.Logic.{∥∥₁_elim, ∥∥₁_map}
 use Rattle.std.proofs.Math.Nat.{mod-lt}
 use Rattle.std.proofs.lemmas.Bool.{cases_eq}
 use denote.Struct.Props.{props}
-use Rattle.std.specs.Prelude.{◌≤ℤ◌, ◌<ℤ◌, ◌+ℤ◌}
+use Rattle.std.specs.Prelude.{◌≤ℤ◌}
 use Rattle.command_line.specs.declared.command.Command.{Command}
 use Rattle.command_line.specs.declared.setting.Setting.TheVariants.{Quota, Workers}
 use Rattle.dag_order.specs.declared.finish.Finish.{Finish}
 use Rattle.dag_order.specs.declared.finish.Finish.TheVariants as finishes
-use Rattle.depth_first_list.specs.Facts.{deed_at, words_at}
 use Rattle.depth_first_list.specs.Runs.{IsDepthFirst}
 use Rattle.depth_first_run.proofs.Built.{whole_is_depth_first}
 use Rattle.depth_first_run.specs.Run.{whole, lines_of, finish_of_run}
@@ -19,9 +18,9 @@ use Rattle.deque_machine.proofs.Playing.{Excluded, excluded, plays_are_runs, pla
 use Rattle.deque_machine.proofs.Reached.{lawful_along, events_keep_lawful, bound_always, ahead_is_marked, marks_never_fall, marked_bound, arena_refuses}
 use Rattle.deque_machine.specs.Completeness.{CoversNext}
 use Rattle.deque_machine.specs.LawfulOrder.{IsLawful}
-use Rattle.deque_machine.specs.Machine.{Setting, does, May}
-use Rattle.deque_machine.specs.Moments.{Moment, opening, live_at}
-use Rattle.deque_machine.specs.Play.{Stop, arena_full, steps_spent, deques_full, Ending, finished, stopped, IsFirst, CanMove, Turn, words_taken, one_if_fork}
+use Rattle.deque_machine.specs.Machine.{Setting, Event, does, May}
+use Rattle.deque_machine.specs.Moments.{Moment, opening}
+use Rattle.deque_machine.specs.Play.{Stop, arena_full, steps_spent, deques_full, Ending, finished, stopped, IsFirst, CanMove, Wants, Meets, Turn, words_taken, one_if_fork}
 use Rattle.deque_machine.specs.Runs.{Pair, Reaches, high_water_mark}
 use Rattle.deque_machine.specs.Books.{periods_marked, bound, booked}
 use Rattle.deque_machine.specs.Lists.{total}
@@ -31,13 +30,13 @@ use Rattle.run_report.specs.Shown.{Shown}
 use Rattle.run_report.specs.declared.summary.Summary.{Summary}
 use Rattle.dfd_plays.specs.Make.{MakeMakes, Summarizes, sum_of}
 use Rattle.dfd_plays.specs.Answer.{HasRanges}
-use Rattle.dfd_laws.specs.Headline.{play_list, HoldsAt, AreBounded, HasShortPlays, StopsLate, LastsInArena, LastsInActions, LastsInDeques, IsBoundedReport, IsBoundedSummary}
+use Rattle.dfd_laws.specs.Headline.{play_list, HoldsAt, AreBounded, HasShortPlays, HasDrawn, FillsLate, StopsLate, LastsInArena, LastsInActions, LastsInDeques, IsBoundedReport, IsBoundedSummary}
 use Rattle.dfd_plays.specs.Peak.{finish_status}
 use Rattle.dfd_plays.specs.Play.{IsPlay, TellsRun, TellsEnding, Reports, PlayMakes, play_setting, play_terms, play_machine, seeded_words}
 use Rattle.dfd_plays.specs.Status.{code_of}
 use Rattle.dfd_plays.specs.declared.status.Status.{Status}
 use Rattle.dfd_plays.specs.declared.status.Status.TheVariants.{Done, UserFault, DequesFull}
-use Rattle.dfd_laws.proofs.ArenaStops.{taken_is_weight, filled, asked_at}
+use Rattle.dfd_laws.proofs.ArenaStops.{filling_weighs, filled, asked_at}
 use Rattle.dfd_laws.proofs.Statuses.{same_status, not_stopped}
 
 -- a front of a run reaches a moment, and the rest goes on from there
@@ -161,13 +160,6 @@ module _ (command : Command) (p : Program) (ranges : HasRanges command) where
         once = lawful.periods.lawful.different;
       }
 
-  lawful_last : (run : List Pair) (last : Moment) (ending : Ending) → IsPlay command p run last ending →
-      IsLawful (play_machine command p) last
-  lawful_last run last ending plays =
-      let reaches = (plays_are_runs (play_machine command p) some_quota listed (play_terms command).limits (seeded_words command.seed)
-      run last ending plays).0 in
-      lawful_along (play_machine command p) listed run opening last (opening_is_lawful (play_machine command p) listed) reaches
-
   -- whatever picks the events of a run
   pub run_is_bounded : (run : List Pair) (last : Moment) → Reaches (play_machine command p) opening run last →
       (front rest : List Pair) → run ≡ front ++ rest → AreBounded (Reaches (play_machine command p) opening) command p front last
@@ -244,34 +236,52 @@ module _ (command : Command) (p : Program) (ranges : HasRanges command) where
   summaries_are_bounded bytes status text makes ended =
       ∥∥₁_map makes (λ w. summed_up bytes w.0 w.1 w.2 status text w.3 w.4 ended)
 
+  -- so it is where an arena stops an event that the rules want of a worker, at a moment of a run
+  pub fills_late : (run : List Pair) (m : Moment) → Reaches (play_machine command p) opening run m → (worker word : ℕ) (event : Event) →
+      worker < command.p → Wants (play_machine command p) m worker word event → (live : ℤ) (asked : ℕ) →
+      Meets (play_machine command p) (play_terms command).limits m event (arena_full live asked) →
+      (periods : ℕ) → bound command.k (play_list command p) periods ≤ℤ pos command.arena →
+      (place : ℕ) × (event ≡ does place) × FillsLate May command p m worker place live asked periods
+  fills_late run m reaches worker word event below wants live asked meets periods room =
+      let s = play_machine command p in
+      let limits = (play_terms command).limits in
+      let lawful : IsLawful s m = lawful_along s listed run opening m (opening_is_lawful s listed) reaches in
+      let fills = filled s limits m event live asked meets in
+      let asks = asked_at s limits m event live asked fills.0 fills.1 meets in
+      let comes = wanted_may_come s some_quota listed m worker word event lawful below wants in (
+        fills.0,
+        fills.1,
+        record {
+          live_is = asks.0;
+          asked_is = asks.1;
+          fills = fills.2;
+          after = comes.0;
+          may = subst (λ e. May s m worker e comes.0) fills.1 comes.1;
+          more_ahead = λ other next later full may n prefix.
+              arena_refuses s some_quota listed run m later other next n periods command.arena reaches may room
+              (filling_weighs s limits m next full) prefix;
+        },
+      )
+
   pub arenas_stop_late : (run : List Pair) (last : Moment) (live : ℤ) (asked : ℕ) → IsPlay command p run last (stopped (arena_full live asked)) →
-      (periods : ℕ) → bound command.k (play_list command p) periods ≤ℤ pos command.arena → StopsLate Turn May command p last live asked periods
+      (periods : ℕ) → bound command.k (play_list command p) periods ≤ℤ pos command.arena →
+      StopsLate HasDrawn Turn May command p run last live asked periods
   arenas_stop_late run last live asked plays periods room =
       let s = play_machine command p in
-      let cause = endings_have_causes s some_quota listed (play_terms command).limits (seeded_words command.seed)
-      run last (stopped (arena_full live asked)) plays in
-      let lawful = lawful_last run last (stopped (arena_full live asked)) plays in
-      let fills = filled s (play_terms command).limits last (cause.1).event live asked cause.3 in
-      let asks = asked_at s (play_terms command).limits last (cause.1).event live asked fills.0 fills.1 cause.3 in
-      let below = in_range command.p (seeded_words command.seed cause.0) (CanMove s last) (cause.1).worker (cause.2).first in
-      let comes = wanted_may_come s some_quota listed last (cause.1).worker (seeded_words command.seed (suc cause.0))
-      (cause.1).event lawful below (cause.2).wants in
-      let may : May s last (cause.1).worker (does fills.0) comes.0 = subst (λ e. May s last (cause.1).worker e comes.0) fills.1 comes.1 in
-      let reaches = (plays_are_runs s some_quota listed (play_terms command).limits (seeded_words command.seed)
-      run last (stopped (arena_full live asked)) plays).0 in record {
+      let words = seeded_words command.seed in
+      let limits = (play_terms command).limits in
+      let ending = stopped (arena_full live asked) in
+      let cause = endings_have_causes s some_quota listed limits words run last ending plays in
+      let below = in_range command.p (words cause.0) (CanMove s last) (cause.1).worker (cause.2).first in
+      let reaches = (plays_are_runs s some_quota listed limits words run last ending plays).0 in
+      let stops = fills_late run last reaches (cause.1).worker (words (suc cause.0)) (cause.1).event below (cause.2).wants live asked cause.3
+      periods room in record {
         drawn = cause.0;
+        drew = cause.4;
         worker = (cause.1).worker;
-        place = fills.0;
-        turn = subst (λ e. Turn s (seeded_words command.seed) cause.0 last (record { worker = (cause.1).worker; event = e })) fills.1 cause.2;
-        live_is = asks.0;
-        asked_is = asks.1;
-        fills = fills.2;
-        after = comes.0;
-        may = may;
-        more_ahead = λ n prefix.
-            arena_refuses s some_quota listed run last comes.0 (cause.1).worker fills.0 n periods command.arena reaches may room
-            (subst (λ w. pos command.arena <ℤ (live_at (play_list command p) last +ℤ w))
-            (sym (taken_is_weight (deed_at (play_list command p) fills.0) (words_at (play_list command p) fills.0) (fills.2).0)) (fills.2).1) prefix;
+        place = stops.0;
+        turn = subst (λ e. Turn s words cause.0 last (record { worker = (cause.1).worker; event = e })) stops.1 cause.2;
+        late = stops.2;
       }
 
   -- a play does not end with a stop that is excluded

@@ -1,17 +1,17 @@
 -- How long the text of a trail is.
-use Rattle.std.proofs.Common.{◌≡◌, ℕ, ◌+◌, ◌*◌, ◌≤◌, ◌<◌, ◌^◌, List, [], ◌∷◌, ◌++◌, length, map, ap, arith, length-append}
+use Rattle.std.proofs.Common.{◌≡◌, ℕ, ◌+◌, ◌*◌, ◌≤◌, ◌<◌, ◌^◌, List, [], ◌∷◌, ◌++◌, length, map, arith, length-append}
 use Rattle.std.specs.Prelude.{codes}
 use Rattle.std.specs.List.{concat}
 use Rattle.std.specs.Fmt.{decimal}
 use Rattle.std.proofs.lemmas.Fmt.{length-decimal-le}
-use Rattle.language_limits.specs.declared.TheConstants.{MOST_DEQUES, MOST_TRAIL, MOST_WORKERS}
+use Rattle.language_limits.specs.declared.TheConstants.{MOST_TRAIL, MOST_WORKERS}
 use Rattle.trail_meaning.specs.Ranges.{HasTrailRanges, FitsKind, FitEvents, FitNumbers, FitSetting}
 use Rattle.trail_meaning.specs.Shown.{Shown}
 use Rattle.trail_meaning.specs.declared.trail_event.TrailEvent.{TrailEvent}
 use Rattle.trail_meaning.specs.declared.trail_kind.TrailKind.{TrailKind}
 use Rattle.trail_meaning.specs.declared.trail_kind.TrailKind.TheVariants.{Steal, Act, Suspend, GiveUp}
 use Rattle.trail_meaning.specs.declared.trail_numbers.TrailNumbers.{TrailNumbers}
-use Rattle.trail_text.specs.TrailText.{head_line, source_front, source_line, kind_words, event_line, end_line, trail_lines, trail_text}
+use Rattle.trail_text.specs.TrailText.{head_line, source_front, source_line, kind_words, event_line, end_line, trail_text}
 
 -- a number of 64 bits has at most 20 digits
 digits : (n : ℕ) → n < 2 ^ 64 → length (decimal n) ≤ 20

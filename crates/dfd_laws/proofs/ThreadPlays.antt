@@ -9,7 +9,7 @@ use Rattle.depth_first_run.proofs.Built.{whole_is_depth_first}
 use Rattle.depth_first_run.specs.Run.{list_of}
 use Rattle.deque_machine.proofs.Playing.{excluded, plays_are_runs}
 use Rattle.deque_machine.specs.Machine.{Setting, Event}
-use Rattle.deque_machine.specs.Moments.{Moment}
+use Rattle.deque_machine.specs.Moments.{Moment, opening}
 use Rattle.deque_machine.specs.Play.{CanMove, Limits, Stop, arena_full, steps_spent, deques_full, Ending, stopped, Meets, no_steps}
 use Rattle.deque_machine.specs.Runs.{Pair}
 use Rattle.hall_machine.proofs.Stops.{in_range}
@@ -72,7 +72,7 @@ module _ (command : Command) (p : Program) (ranges : HasRanges command) where
       let is = plays_are_runs s some_quota listed limits words run last ending plays in
       let cause = endings_have_causes s some_quota listed limits words run last ending plays in record {
         reaches = is.0;
-        ended = λ finishes. subst (HasCause s limits words last) finishes cause;
+        ended = λ finishes. subst (HasCause s limits words 0 opening run last) finishes cause;
         none_free = λ finishes. is.1;
         stopped_by = λ stop stops. stop_has_cause run last stop (subst (IsPlay command p run last) stops plays);
       }

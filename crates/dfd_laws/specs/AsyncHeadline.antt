@@ -10,12 +10,13 @@ use Rattle.deque_machine.specs.Lists.{total}
 use Rattle.par_ownership.specs.Accepted.{IsAccepted}
 use Rattle.par_tree.specs.Tree.{Program}
 use Rattle.ready_machine.specs.PlayLaws.{CoversNext}
+use Rattle.ready_machine.specs.ReadyFronts.{ReadyPlaysOn}
 use Rattle.ready_machine.specs.ReadyMachine.{MayReady, ReadyReaches}
 use Rattle.ready_machine.specs.ReadyPlay.{ReadyTurn}
 use Rattle.dfd_plays.specs.Answer.{HasRanges}
-use Rattle.dfd_plays.specs.Async.{IsAsyncPlay, AsyncMakes, async_machine}
+use Rattle.dfd_plays.specs.Async.{IsAsyncPlay, AsyncMakes, async_terms, async_machine}
 use Rattle.dfd_plays.specs.Peak.{finish_status}
-use Rattle.dfd_plays.specs.Play.{play_setting}
+use Rattle.dfd_plays.specs.Play.{play_setting, seeded_words}
 use Rattle.dfd_plays.specs.declared.status.Status.{Status}
 use Rattle.dfd_plays.specs.declared.status.Status.TheVariants.{DequesFull}
 use Rattle.dfd_laws.specs.Headline.{play_list, AreBounded, StopsLate, OfEach, AllEnd, LastsInArena, LastsInActions}
@@ -35,12 +36,17 @@ AsyncListsNeverFill = (command : Command) (p : Program) → HasRanges command �
 abbrev pub AsyncPlaysEnd : Type 0
 AsyncPlaysEnd = AllEnd IsAsyncPlay
 
+-- a play begins with these events, and its turns have drawn so many words by then
+abbrev pub AsyncHasDrawn : Command → Program → List Pair → (drawn : ℕ) → Moment → Type 0
+AsyncHasDrawn command p run drawn last =
+    ReadyPlaysOn (async_machine command p) (async_terms command).limits (seeded_words command.seed) 0 opening run drawn last
+
 -- an arena with room for the peak and two quotas for each of so many periods stops a play only where more periods would be ahead
 abbrev pub AsyncArenasStopLate : Type 0
 AsyncArenasStopLate = (command : Command) (p : Program) → HasRanges command → IsAccepted p
     → (run : List Pair) (last : Moment) (live : ℤ) (asked : ℕ) → IsAsyncPlay command p run last (stopped (arena_full live asked))
     → (periods : ℕ) → bound command.k (play_list command p) periods ≤ℤ pos command.arena
-    → StopsLate ReadyTurn MayReady command p last live asked periods
+    → StopsLate AsyncHasDrawn ReadyTurn MayReady command p run last live asked periods
 
 -- and one with room for all words, or for the bound after the next action, stops none
 abbrev pub AsyncArenasSuffice : Type 0

@@ -7,6 +7,7 @@ use Rattle.depth_first_run.specs.Run.{whole, lines_of, list_of, finish_of_run}
 use Rattle.deque_machine.specs.Machine.{Setting, Event, does, May}
 use Rattle.deque_machine.specs.Moments.{Moment, opening, done_at, live_at, threads_in, Rises}
 use Rattle.deque_machine.specs.Completeness.{CoversNext}
+use Rattle.deque_machine.specs.Fronts.{PlaysOn}
 use Rattle.deque_machine.specs.Play.{Ending, finished, stopped, arena_full, steps_spent, deques_full, Fills, Turn, words_taken, one_if_fork}
 use Rattle.deque_machine.specs.Runs.{Pair, Reaches}
 use Rattle.deque_machine.specs.Books.{IsPrefix, periods_ahead, periods_marked, bound}
@@ -74,26 +75,43 @@ SummariesAreBounded = (command : Command) (bytes : List ℕ) (p : Program) → H
     → (status : Status) (text : List ℕ) → MakeMakes command bytes p status text → (status ≡ Done) ⊎ (status ≡ UserFault)
     → ∥ ((shown : Summary) × IsBoundedSummary command p text shown) ∥₁
 
--- At the last moment of a play the action of the turn asks for so many words beside so many in use, which the arena has no room for. It might
--- come, and after it more than so many periods would be ahead. Which event a turn is and which may come is by the rules of the kind of play.
-pub record StopsLate (IsTurn : Setting → (ℕ → ℕ) → ℕ → Moment → Pair → Type 0) (MayDo : Setting → Moment → ℕ → Event → Moment → Type 0)
-    (command : Command) (p : Program) (last : Moment) (live : ℤ) (asked periods : ℕ) : Type 0 where
+-- a play of a command begins with these events, and its turns have drawn so many words by then
+abbrev pub HasDrawn : Command → Program → List Pair → (drawn : ℕ) → Moment → Type 0
+HasDrawn command p run drawn last =
+    PlaysOn (play_machine command p) (play_terms command).limits (seeded_words command.seed) 0 opening run drawn last
+
+-- At a moment of a run an action of a worker asks for so many words beside so many in use, which the arena has no room for. It might come. After
+-- each action that might come there and for which the arena has no room, more than so many periods would be ahead. Which may come is by the rules
+-- of the kind of run.
+pub record FillsLate (MayDo : Setting → Moment → ℕ → Event → Moment → Type 0) (command : Command) (p : Program) (m : Moment) (worker place : ℕ)
+    (live : ℤ) (asked periods : ℕ) : Type 0 where
+  pub live_is : live ≡ live_at (play_list command p) m
+  pub asked_is : asked ≡ words_at (play_list command p) place
+  pub fills : Fills (play_machine command p) (play_terms command).limits m place
+  pub after : Moment
+  pub may : MayDo (play_machine command p) m worker (does place) after
+  pub more_ahead : (other next : ℕ) (later : Moment) → Fills (play_machine command p) (play_terms command).limits m next
+      → MayDo (play_machine command p) m other (does next) later
+      → (n : ℕ) → IsPrefix (play_list command p) (done_at later) n → periods < periods_ahead n later.books
+
+-- So it is at the last moment of a play with the action of the turn, after the words that its turns drew. How many words are drawn, which event
+-- a turn is and which may come is by the rules of the kind of play.
+pub record StopsLate (Drew : Command → Program → List Pair → ℕ → Moment → Type 0)
+    (IsTurn : Setting → (ℕ → ℕ) → ℕ → Moment → Pair → Type 0) (MayDo : Setting → Moment → ℕ → Event → Moment → Type 0)
+    (command : Command) (p : Program) (run : List Pair) (last : Moment) (live : ℤ) (asked periods : ℕ) : Type 0 where
   pub drawn : ℕ
+  pub drew : Drew command p run drawn last
   pub worker : ℕ
   pub place : ℕ
   pub turn : IsTurn (play_machine command p) (seeded_words command.seed) drawn last (record { worker = worker; event = does place })
-  pub live_is : live ≡ live_at (play_list command p) last
-  pub asked_is : asked ≡ words_at (play_list command p) place
-  pub fills : Fills (play_machine command p) (play_terms command).limits last place
-  pub after : Moment
-  pub may : MayDo (play_machine command p) last worker (does place) after
-  pub more_ahead : (n : ℕ) → IsPrefix (play_list command p) (done_at after) n → periods < periods_ahead n after.books
+  pub late : FillsLate MayDo command p last worker place live asked periods
 
 -- So an arena with room for the peak and two quotas for each of so many periods stops a play.
 abbrev pub ArenasStopLate : Type 0
 ArenasStopLate = (command : Command) (p : Program) → HasRanges command → IsAccepted p
     → (run : List Pair) (last : Moment) (live : ℤ) (asked : ℕ) → IsPlay command p run last (stopped (arena_full live asked))
-    → (periods : ℕ) → bound command.k (play_list command p) periods ≤ℤ pos command.arena → StopsLate Turn May command p last live asked periods
+    → (periods : ℕ) → bound command.k (play_list command p) periods ≤ℤ pos command.arena
+    → StopsLate HasDrawn Turn May command p run last live asked periods
 
 -- a fact of each play of each command, of this kind of play, by its last moment and its ending
 abbrev pub OfEach : (IsRun : Command → Program → List Pair → Moment → Ending → Type 0) → (Command → Program → Moment → Ending → Type 0) → Type 0

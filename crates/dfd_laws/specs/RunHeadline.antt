@@ -1,17 +1,40 @@
 -- What holds of each run by threads. Its machine is that of `play`, and which of its events comes next is left open.
-use Rattle.std.specs.Prelude.{◌≡◌, ◌≢◌, ◌⊎◌, ℕ, ℤ, ◌≤◌, List, ◌++◌}
+use Rattle.std.specs.Prelude.{◌≡◌, ◌≢◌, ◌⊎◌, ℕ, ℤ, pos, ◌<◌, ◌≤◌, ◌≤ℤ◌, List, ◌++◌}
 use Rattle.command_line.specs.declared.command.Command.{Command}
+use Rattle.deque_machine.specs.Books.{bound}
+use Rattle.deque_machine.specs.Machine.{does, May}
 use Rattle.deque_machine.specs.Moments.{Moment, opening}
 use Rattle.deque_machine.specs.Lists.{total}
 use Rattle.deque_machine.specs.Completeness.{CoversNext}
-use Rattle.deque_machine.specs.Play.{Ending, stopped, arena_full, words_taken}
+use Rattle.deque_machine.specs.Play.{Ending, stopped, arena_full, Wants, words_taken}
 use Rattle.deque_machine.specs.Runs.{Pair, Reaches}
 use Rattle.par_ownership.specs.Accepted.{IsAccepted}
 use Rattle.par_tree.specs.Tree.{Program}
 use Rattle.dfd_plays.specs.Answer.{HasRanges}
 use Rattle.dfd_plays.specs.Play.{play_machine}
 use Rattle.dfd_plays.specs.Threads.{IsRunByThreads}
-use Rattle.dfd_laws.specs.Headline.{play_list, AreBounded, LastsInDeques, OfEach}
+use Rattle.dfd_laws.specs.Headline.{play_list, AreBounded, FillsLate, LastsInDeques, OfEach}
+
+-- At some moment on the way of a run the arena has no room for an action that the rules want of a worker, and more than so many periods would be
+-- ahead after it. Other workers may do events after it.
+pub record RunStopsLate (command : Command) (p : Program) (run : List Pair) (live : ℤ) (asked periods : ℕ) : Type 0 where
+  pub front : List Pair
+  pub rest : List Pair
+  pub is : run ≡ front ++ rest
+  pub moment : Moment
+  pub reached : Reaches (play_machine command p) opening front moment
+  pub worker : ℕ
+  pub below : worker < command.p
+  pub word : ℕ
+  pub place : ℕ
+  pub wants : Wants (play_machine command p) moment worker word (does place)
+  pub late : FillsLate May command p moment worker place live asked periods
+
+-- So an arena with room for the peak and two quotas for each of so many periods stops a run.
+abbrev pub RunArenasStopLate : Type 0
+RunArenasStopLate = (command : Command) (p : Program) → HasRanges command → IsAccepted p
+    → (run : List Pair) (last : Moment) (live : ℤ) (asked : ℕ) → IsRunByThreads command p run last (stopped (arena_full live asked))
+    → (periods : ℕ) → bound command.k (play_list command p) periods ≤ℤ pos command.arena → RunStopsLate command p run live asked periods
 
 -- the arena has room for the bound after each action that may come next, at each moment on the way of a run
 abbrev pub CoversOnTheWay : Command → Program → List Pair → Type 0

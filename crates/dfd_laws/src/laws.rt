@@ -3,7 +3,7 @@ ghost use Rattle.dfd_plays.specs.Play.{PlayMakes};
 ghost use Rattle.dfd_plays.specs.Threads.{RunMakes};
 ghost use Rattle.dfd_laws.specs.AsyncHeadline.{AsyncActionsSuffice, AsyncArenasStopLate, AsyncArenasSuffice, AsyncListsNeverFill, AsyncMomentsAreBounded, AsyncPlaysEnd, AsyncPlaysWithRoomFinish, AsyncStatusesWithRoom};
 ghost use Rattle.dfd_laws.specs.Headline.{ActionsSuffice, ArenasStopLate, ArenasSuffice, DequesSuffice, MomentsAreBounded, PlaysEnd, PlaysWithRoomFinish, ReportsAreBounded, StatusesWithRoom, SummariesAreBounded};
-ghost use Rattle.dfd_laws.specs.RunHeadline.{RunArenasSuffice, RunDequesSuffice, RunMomentsAreBounded};
+ghost use Rattle.dfd_laws.specs.RunHeadline.{RunArenasStopLate, RunArenasSuffice, RunDequesSuffice, RunMomentsAreBounded};
 ghost use Rattle.dfd_laws.specs.Laws.{AcceptedTrailsAreBounded, AnAnswer, CommandsHaveRanges, LoopsArePlays, OneAnswer, RecordedTrailsAreAccepted};
 
 /// A command other than `run` has at most one answer to the bytes that it reads: one status and one text.
@@ -53,6 +53,12 @@ pub fn run_reports_are_bounded()
     ensures { ReportsAreBounded RunMakes }
 {}
 
+/// An arena with room for the depth-first peak and two quotas for each of so many periods stops a run by threads only where, at some moment on
+/// the way, an action of a worker does not fit, and after it more periods would be ahead.
+pub fn run_arenas_stop_late()
+    ensures { RunArenasStopLate }
+{}
+
 /// With room for all words that the depth-first run takes, or for the bound after each action that may come next at each moment on the way, the
 /// arena stops no run by threads.
 pub fn run_arenas_suffice()
@@ -76,7 +82,7 @@ pub fn summaries_are_bounded()
 {}
 
 /// An arena with room for the depth-first peak and two quotas for each of so many periods stops a play only at an action of the turn that
-/// does not fit, and after which more periods would be ahead.
+/// does not fit. After it, and after each other action that may come there and does not fit, more periods would be ahead.
 pub fn arenas_stop_late()
     ensures { ArenasStopLate }
 {}
@@ -131,7 +137,7 @@ pub fn async_lists_never_fill()
 {}
 
 /// An arena with room for the depth-first peak and two quotas for each of so many periods stops a play of `async` only at an action of the
-/// turn that does not fit, and after which more periods would be ahead.
+/// turn that does not fit. After it, and after each other action that may come there and does not fit, more periods would be ahead.
 pub fn async_arenas_stop_late()
     ensures { AsyncArenasStopLate }
 {}

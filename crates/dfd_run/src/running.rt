@@ -7,6 +7,7 @@ ghost use Rattle.par_tree.specs.View.{program_tree};
 ghost use Rattle.dfd_plays.specs.Answer.{HasRanges};
 ghost use Rattle.dfd_plays.specs.Sources.{SourceGives};
 ghost use Rattle.dfd_plays.specs.Threads.{RunMakes};
+ghost use Rattle.dfd_run.specs.Seeds.{AreSeeded};
 
 use accepted_source::accept;
 use block_check::Checked;
@@ -19,10 +20,12 @@ use std::thread::Threads;
 use std::time::Clock;
 use work_loop::Gate;
 
-/// The choices of the workers from 1 on: each has a generator of its own, whose seed is that of the command and the number of the worker.
+/// The choices of the workers from 1 on: each has a generator of its own, whose seed is that of the command and the number of the worker,
+/// modulo 2^64.
 fn choices_of_others(alloc: Global, command: &Command) -> Result<Vec<PcgChoices>, AllocError>
     requires { 1 ≤ command.now.p }
-    ensures { IfOk result (λ others. length others.items + 1 ≡ command.now.p) }
+    ensures count { IfOk result (λ others. length others.items + 1 ≡ command.now.p) }
+    ensures seeds { IfOk result (λ others. AreSeeded command.now.seed 1 others.items) }
 {
     let mut others = Vec::new(alloc);
     'workers: for worker in 1..command.p {

@@ -54,3 +54,4 @@ pub mod OneCall
 pub mod WholeExpansions
 pub mod Sizes
 pub mod Loops
+pub mod InRuns

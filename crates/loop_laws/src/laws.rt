@@ -1,4 +1,4 @@
-ghost use Rattle.loop_laws.specs.Laws.{WrittenOutLoopsArePlain, WrittenOutLoopsStayLow};
+ghost use Rattle.loop_laws.specs.Laws.{LoopsFindTheirBlocks, LoopsOfRunsArePlain, WrittenOutLoopsArePlain, WrittenOutLoopsStayLow};
 
 /// In the program of an accepted expansion each loop of the text means the plain loop.
 pub fn written_out_loops_are_plain()
@@ -9,4 +9,14 @@ pub fn written_out_loops_are_plain()
 /// halved.
 pub fn written_out_loops_stay_low()
     ensures { WrittenOutLoopsStayLow }
+{}
+
+/// Where the call of a loop over the parts of a block comes next in the run of an accepted program, this block is held once.
+pub fn loops_find_their_blocks()
+    ensures { LoopsFindTheirBlocks }
+{}
+
+/// So in such a run each loop of the text means the plain loop, where the block of a loop over parts is no longer than a block may be.
+pub fn loops_of_runs_are_plain()
+    ensures { LoopsOfRunsArePlain }
 {}

@@ -22,6 +22,7 @@ use Rattle.deque_machine.proofs.Playing.{forced_of}
 use Rattle.ready_machine.specs.Entries.{entry, IsLeftmostReady, IsReadyList}
 use Rattle.ready_machine.specs.ReadyMachine.{MayReady, ReadyReaches, NoneGivenFree}
 use Rattle.ready_machine.specs.ReadyPlay.{CanGo, WantsReady, a_take, of_its_entry, ReadyTurn, ReadyPlays, is_over, is_stopped, goes_on}
+use Rattle.ready_machine.specs.ReadyFronts.{ReadyPlaysOn, stays_here, takes_turn}
 use Rattle.ready_machine.specs.PlayLaws.{PlaysAreRuns, PlaysEnd, PlaysFinish, ListsNeverFill, ActionsSuffice, ArenasWithRoomLast, CoversNext, ArenasWithTheBoundLast, HasCause, EndingsHaveCauses}
 use Rattle.ready_machine.proofs.Sharing.{kept_ready, opening_is_ready}
 use Rattle.ready_machine.proofs.Along.{ready_along, arena_refuses, arena_never_fills}
@@ -63,12 +64,20 @@ module _ (s : Setting) (limits : Limits) (words : ℕ → ℕ) where
       let r = are_runs (suc n) next later last ending rest in
       ((next, may, r.0), (forced s m pair.worker pair.event turn.wants, r.1))
 
+  -- one turn more in front leads to the same cause
+  cause_after : (n : ℕ) (m next last : Moment) (pair : Pair) (later : List Pair) (ending : Ending) → ReadyTurn s words n m pair
+      → ((stop : Stop) → ¬ Meets s limits m pair.event stop) → MayReady s m pair.worker pair.event next
+      → HasCause s limits words (suc n) next later last ending → HasCause s limits words n m (pair ∷ later) last ending
+  cause_after n m next last pair later finished turn none may has = has
+  cause_after n m next last pair later (stopped stop) turn none may cause =
+      (cause.0, cause.1, cause.2, cause.3, takes_turn n m next last pair later cause.0 turn none may cause.4)
+
   cause_of : (n : ℕ) (m : Moment) (run : List Pair) (last : Moment) (ending : Ending) → ReadyPlays s limits words n m run last ending
-      → HasCause s limits words last ending
+      → HasCause s limits words n m run last ending
   cause_of n m run last ending (is_over n' m' has) = has
-  cause_of n m run last ending (is_stopped n' m' pair stop turn meets) = (n, pair, turn, meets)
-  cause_of n m run last ending (goes_on n' m' next last' pair later ending' turn none may rest) = cause_of
-      (suc n) next later last ending rest
+  cause_of n m run last ending (is_stopped n' m' pair stop turn meets) = (n, pair, turn, meets, stays_here n m)
+  cause_of n m run last ending (goes_on n' m' next last' pair later ending' turn none may rest) =
+      cause_after n m next last pair later ending turn none may (cause_of (suc n) next later last ending rest)
 
 pub plays_are_runs : (s : Setting) → PlaysAreRuns s
 plays_are_runs s limits words run last ending plays = are_runs s limits words 0 opening run last ending plays
@@ -277,8 +286,7 @@ module _ (s : Setting) (some : 0 < s.quota) (list : IsDepthFirst s.quota s.list)
   excluded limits words run last stop none plays =
       let reaches : ReadyReaches s opening run last = (plays_are_runs s limits words run last (stopped stop) plays).0 in
       let ready : IsReadyList s last = ready_along s list run opening last (opening_is_ready s list) reaches in
-      let cause : (n : ℕ) × (pair : Pair) × ReadyTurn s words n last pair × Meets s limits last pair.event stop =
-      endings_have_causes s limits words run last (stopped stop) plays in
+      let cause : HasCause s limits words 0 opening run last (stopped stop) = endings_have_causes s limits words run last (stopped stop) plays in
       let turn : ReadyTurn s words cause.0 last cause.1 = cause.2 in
       let below = in_range s.workers (words cause.0) (CanGo last) (cause.1).worker turn.first in
       let next = wanted_may_come s list last (cause.1).worker (cause.1).event ready below turn.wants in

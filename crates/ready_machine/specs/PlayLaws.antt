@@ -11,6 +11,7 @@ use Rattle.deque_machine.specs.Play.{Limits, Ending, arena_full, steps_spent, de
 use Rattle.ready_machine.specs.Entries.{IsReadyList}
 use Rattle.ready_machine.specs.ReadyMachine.{MayReady, ReadyReaches, NoneGivenFree}
 use Rattle.ready_machine.specs.ReadyPlay.{WantsReady, ReadyTurn, ReadyPlays}
+use Rattle.ready_machine.specs.ReadyFronts.{ReadyPlaysOn}
 
 -- what the rules want of a worker may come
 abbrev pub WantedMayCome : Setting → Type 0
@@ -65,11 +66,13 @@ abbrev pub ArenasWithTheBoundLast : Setting → Type 0
 ArenasWithTheBoundLast s = (limits : Limits) (words : ℕ → ℕ) (run : List Pair) (last : Moment) (live : ℤ) (asked : ℕ)
     → CoversNext s limits.capacity last → ¬ ReadyPlays s limits words 0 opening run last (stopped (arena_full live asked))
 
--- why a play ends as it does, at its last moment: the root has ended, or the event of the turn meets the stop
-abbrev pub HasCause : Setting → Limits → (ℕ → ℕ) → Moment → Ending → Type 0
-HasCause s limits words last finished = HasEnded s last []
-HasCause s limits words last (stopped stop) = (n : ℕ) × (pair : Pair) × ReadyTurn s words n last pair × Meets s limits last pair.event stop
+-- Why what is played from a moment on, after n words, ends as it does at its last moment: the root has ended, or the event of the turn meets the
+-- stop. The turn is the one after the words that this front of the play drew.
+abbrev pub HasCause : Setting → Limits → (words : ℕ → ℕ) → (n : ℕ) → (first : Moment) → List Pair → (last : Moment) → Ending → Type 0
+HasCause s limits words n first run last finished = HasEnded s last []
+HasCause s limits words n first run last (stopped stop) = (drawn : ℕ) × (pair : Pair) × ReadyTurn s words drawn last pair
+    × Meets s limits last pair.event stop × ReadyPlaysOn s limits words n first run drawn last
 
 abbrev pub EndingsHaveCauses : Setting → Type 0
 EndingsHaveCauses s = (limits : Limits) (words : ℕ → ℕ) (run : List Pair) (last : Moment) (ending : Ending)
-    → ReadyPlays s limits words 0 opening run last ending → HasCause s limits words last ending
+    → ReadyPlays s limits words 0 opening run last ending → HasCause s limits words 0 opening run last ending

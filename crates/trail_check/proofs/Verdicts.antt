@@ -1,5 +1,5 @@
 -- The verdict on a trail whose events were all followed.
-use Rattle.std.proofs.Common.{◌≡◌, ℕ, ◌≤◌, ◌&&◌, not, Bool, true, false, List, [], length, refl, ap, subst, sym}
+use Rattle.std.proofs.Common.{◌≡◌, ℕ, ◌<◌, ◌≤◌, ◌&&◌, not, Bool, true, false, List, [], length, refl, ap, subst, sym}
 use Rattle.std.proofs.Math.Dec.{eqb}
 use Rattle.std.proofs.lemmas.Bool.{eq-eqb, eqb-true}
 use Rattle.std.specs.Prelude.{◌≢◌, Result, Ok, Err, IsErrAnd, MatchResult}
@@ -13,7 +13,10 @@ use Rattle.trail_meaning.specs.Shown.{Shown}
 use Rattle.trail_meaning.specs.declared.trail_event.TrailEvent.{TrailEvent}
 use Rattle.trail_meaning.specs.declared.trail_numbers.TrailNumbers.{TrailNumbers}
 use Rattle.trail_check.specs.declared.checker.Checker.{Checker}
-use Rattle.trail_check.specs.Checking.{trail_terms, trail_machine, Checks}
+use Rattle.serial_journal.specs.Stops.{OnStop}
+use Rattle.serial_journal.specs.declared.serial_stop.SerialStop.{SerialStop}
+use Rattle.serial_journal.specs.declared.serial_stop.SerialStop.TheVariants as stops
+use Rattle.trail_check.specs.Checking.{trail_terms, trail_machine, fail_of, Checks}
 use Rattle.trail_check.specs.Judging.{HasFollowed, GivesVerdict}
 use Rattle.trail_check.specs.declared.verify_fail.VerifyFail.{VerifyFail}
 use Rattle.trail_check.specs.declared.verify_fail.VerifyFail.TheVariants.{LongRun, BadEvent, NotEnded, WrongNumbers, OutOfMemory}
@@ -74,3 +77,8 @@ checked c t (Err (BadEvent event)) within gives = (within, gives)
 checked c t (Err (NotEnded n)) within gives = (within, gives)
 checked c t (Err (WrongNumbers numbers)) within gives = (within, gives)
 checked c t (Err OutOfMemory) within gives = tt
+
+-- and so is what is answered where the depth-first run was stopped
+pub stopped : (c : program.Setting) (t : Shown) (stop : SerialStop) → OnStop stop (t.steps < length (list_of c)) → Checks c t (Err (fail_of t.steps stop))
+stopped c t stops.StepsSpent long = (refl, long)
+stopped c t stops.OutOfMemory free = tt

@@ -8,6 +8,8 @@ use Rattle.depth_first_list.specs.Facts.{label_at}
 use Rattle.deque_machine.specs.Lists.{Each}
 use Rattle.deque_machine.proofs.Lists.{by_end, each_at}
 use Rattle.deque_list.specs.declared.deque_id.DequeId.{DequeId}
+use Rattle.deque_list.specs.declared.insert_refused.InsertRefused.{InsertRefused}
+use Rattle.deque_list.specs.declared.insert_refused.InsertRefused.TheVariants.{Full, OutOfMemory}
 use Rattle.deque_list.specs.declared.place.Place.{Place}
 use Rattle.deque_list.specs.Ids.{IsLive}
 use Rattle.deque_list.specs.Deques.{Deque, DequeAt, place_of, deque_ids}
@@ -109,5 +111,14 @@ module _ {X : Type 0} where
   is_absent (Some x) is = absurd (true≢false (sym is))
 
 -- as many deques have as many ids
+IsFull : InsertRefused → Type 0
+IsFull (Full deques) = Unit {0}
+IsFull OutOfMemory = ⊥
+
+-- a full list of deques is told as such
+pub not_memory : (deques : ℕ) → Full deques ≡ OutOfMemory → ⊥
+unfolding IsFull
+not_memory deques is = subst IsFull is tt
+
 pub as_many : (xs ys : List (Deque ℕ)) → deque_ids xs ≡ deque_ids ys → length xs ≡ length ys
 as_many xs ys same = sym (length-map xs (λ d. Deque.id d)) ∙ ap length same ∙ length-map ys (λ d. Deque.id d)

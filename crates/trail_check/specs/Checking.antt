@@ -4,6 +4,8 @@ use Rattle.depth_first_run.specs.States as program
 use Rattle.depth_first_run.specs.Run.{list_of}
 use Rattle.deque_machine.specs.Machine.{Setting}
 use Rattle.deque_machine.specs.Terms.{Terms, given_terms, machine_of}
+use Rattle.serial_journal.specs.declared.serial_stop.SerialStop.{SerialStop}
+use Rattle.serial_journal.specs.declared.serial_stop.SerialStop.TheVariants as stops
 use Rattle.trail_check.specs.Verdicts.{Verdict, accepted, bad_event, not_ended, wrong_numbers, IsVerdict}
 use Rattle.trail_meaning.specs.Shown.{Shown}
 use Rattle.trail_check.specs.declared.verify_fail.VerifyFail.{VerifyFail}
@@ -20,6 +22,11 @@ trail_machine c t = machine_of c (trail_terms t)
 -- The depth-first list of the program has no more actions than the trail allows, and this is the verdict on the trail.
 abbrev pub HasVerdict : program.Setting → Shown → Verdict → Type 0
 HasVerdict c t verdict = (length (list_of c) ≤ t.steps) × IsVerdict (trail_machine c t) (trail_terms t).limits t.events t.numbers verdict
+
+-- what is answered where the depth-first run was stopped
+abbrev pub fail_of : (steps : ℕ) → SerialStop → VerifyFail
+fail_of steps stops.StepsSpent = LongRun steps
+fail_of steps stops.OutOfMemory = OutOfMemory
 
 -- The answer to a trail, checked against a program: a run that is longer than the trail allows is refused; any other trail is answered with
 -- the verdict on it; and want of memory is free.

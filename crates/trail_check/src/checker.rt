@@ -1,4 +1,4 @@
-ghost use Rattle.std.specs.Prelude.{◌≡◌, ◌<◌, ◌≤◌, ◌+◌, ◌^◌, ◌↔◌, ℕ, List as AnyList, [], length, get_or, None, Some, true, false, IfOk, IfSome, IsTrue, MatchOption, pos, ◌≤ℤ◌};
+ghost use Rattle.std.specs.Prelude.{◌≡◌, ◌<◌, ◌≤◌, ◌+◌, ◌^◌, ◌↔◌, ℕ, List as AnyList, [], length, get_or, None, Some, true, false, IfOk, IsOk, IfSome, IsTrue, MatchOption, pos, ◌≤ℤ◌};
 ghost use Rattle.containers.specs.BoundedList.{entries};
 ghost use Rattle.dag_order.specs.declared.kind.Kind.TheVariants as kinds;
 ghost use Rattle.deque_list.specs.Deques.{deque_ids};
@@ -123,10 +123,11 @@ impl Checker {
     /// # Errors
     ///
     /// `AllocError` if a deque needs memory and there is none, or exactly where 63 bits do not count the words in use after the event
-    /// (`many` of `Tally::act`).
+    /// (`many` of `Tally::act`). A steal beyond the limit of deques is no such error.
     pub fn follow(&mut self, told: TrailEvent) -> Result<bool, AllocError>
         requires { IsStanding self.old }
-        ensures { (s : Setting) (limits : Limits) (run : AnyList Pair) (m : Moment) → StandsFor s limits run m self.old
+        ensures full { (place : ℕ) → told.kind ≡ Steal place → length self.old.deques.deques ≡ self.old.deques.most → IsOk result }
+        ensures followed { (s : Setting) (limits : Limits) (run : AnyList Pair) (m : Moment) → StandsFor s limits run m self.old
             → IfOk result (λ leads. Followed s limits run m told leads self.new) }
     {
         if !self.take(told)? {
@@ -138,7 +139,8 @@ impl Checker {
     // Takes the next event, whatever the limits of words and actions say of it.
     fn take(&mut self, told: TrailEvent) -> Result<bool, AllocError>
         requires { IsStanding self.old }
-        ensures { (s : Setting) (limits : Limits) (run : AnyList Pair) (m : Moment) → StandsFor s limits run m self.old
+        ensures full { (place : ℕ) → told.kind ≡ Steal place → length self.old.deques.deques ≡ self.old.deques.most → IsOk result }
+        ensures came { (s : Setting) (limits : Limits) (run : AnyList Pair) (m : Moment) → StandsFor s limits run m self.old
             → IfOk result (λ came. Came s limits run m told came self.new) }
     {
         match told.kind {
@@ -152,7 +154,8 @@ impl Checker {
     // A worker takes the bottom thread of the deque at a place.
     fn steal(&mut self, worker: u32, place: u32) -> Result<bool, AllocError>
         requires { IsStanding self.old }
-        ensures { (s : Setting) (limits : Limits) (run : AnyList Pair) (m : Moment) → StandsFor s limits run m self.old
+        ensures full { length self.old.deques.deques ≡ self.old.deques.most → IsOk result }
+        ensures came { (s : Setting) (limits : Limits) (run : AnyList Pair) (m : Moment) → StandsFor s limits run m self.old
             → IfOk result (λ came. Came s limits run m (told_of worker (Steal place)) came self.new) }
     {
         if self.workers <= worker {
@@ -177,11 +180,13 @@ impl Checker {
         Ok(true)
     }
 
-    // A worker takes the bottom thread of a deque, which keeps another one, into a new deque to the right of it.
+    // A worker takes the bottom thread of a deque, which keeps another one, into a new deque to the right of it. If there are as many deques as
+    // may be, it may not.
     fn steal_beside(&mut self, worker: u32, place: u32, victim: DequeId) -> Result<bool, AllocError>
         requires live { IsLive (deque_ids self.old.deques.deques) victim }
         requires few { IsFew self.old.tally }
-        ensures { (s : Setting) (limits : Limits) (run : AnyList Pair) (m : Moment) → StandsFor s limits run m self.old
+        ensures full { length self.old.deques.deques ≡ self.old.deques.most → IsOk result }
+        ensures came { (s : Setting) (limits : Limits) (run : AnyList Pair) (m : Moment) → StandsFor s limits run m self.old
             → (can : CanSteal s m self.old worker place victim) → 2 ≤ length can.items
             → IfOk result (λ came. Came s limits run m (told_of worker (Steal place)) came self.new) }
     {

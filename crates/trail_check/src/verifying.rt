@@ -1,9 +1,10 @@
+ghost use Rattle.std.specs.Prelude.{◌≡◌};
 ghost use Rattle.block_check.specs.Checked.{program_of};
 ghost use Rattle.par_tree.specs.View.{program_tree};
 ghost use Rattle.serial_meaning.specs.Settings.{setting_of};
 ghost use Rattle.trail_meaning.specs.Shown.{shown_by_trail};
 ghost use Rattle.trail_meaning.specs.Ranges.{HasTrailRanges};
-ghost use Rattle.trail_check.specs.Checking.{Checks};
+ghost use Rattle.trail_check.specs.Checking.{Checks, fail_of};
 
 use crate::judging::judge;
 use crate::verify_fail::VerifyFail;
@@ -12,6 +13,16 @@ use depth_first_list::Quota;
 use serial_meaning::{SerialStop, depth_first};
 use std::alloc::Global;
 use trail_meaning::Trail;
+
+/// Why there is no depth-first run to check a trail against: the program has more actions than the trail allows, or there is not enough memory.
+fn fail_of(stop: SerialStop, steps: u32) -> VerifyFail
+    ensures { result ≡ fail_of steps stop }
+{
+    match stop {
+        SerialStop::StepsSpent => VerifyFail::LongRun { limit: steps },
+        SerialStop::OutOfMemory => VerifyFail::OutOfMemory,
+    }
+}
 
 /// Checks a trail against the program of its source, and returns how many actions it did.
 ///
@@ -34,7 +45,6 @@ pub fn verify(alloc: Global, program: &Checked, trail: &Trail) -> Result<u32, Ve
     };
     match depth_first(alloc, program, quota, trail.steps) {
         Ok(serial) => judge(alloc, serial.actions, trail),
-        Err(SerialStop::StepsSpent) => Err(VerifyFail::LongRun { limit: trail.steps }),
-        Err(SerialStop::OutOfMemory) => Err(VerifyFail::OutOfMemory),
+        Err(stop) => Err(fail_of(stop, trail.steps)),
     }
 }

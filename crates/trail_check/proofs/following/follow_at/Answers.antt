@@ -14,10 +14,10 @@ pub returns-then-not-branch : goal.returns-then-not-branch
 returns-then-not-branch c = λ s limits numbers had.
     refused s limits (entries c.args.events.now) numbers c.args.at c.in-Some.told.now c.args.checker.now (sym c.in-Some.ensures) had
     (subst (λ leads. Followed s limits had.run had.moment c.in-Some.told.now leads c.follow.new.self) c.if-not-branch.true
-    (c.in_ok-follow.ensures s limits had.run had.moment had.stands))
+    (c.in_ok-follow.ensures.followed s limits had.run had.moment had.stands))
 
 pub returns : goal.returns
 returns c = λ s limits numbers had.
     followed s limits (entries c.args.events.now) c.args.at c.in-Some.told.now c.args.checker.now c.follow.new.self (sym c.in-Some.ensures) had
     (subst (λ leads. Followed s limits had.run had.moment c.in-Some.told.now leads c.follow.new.self) c.if-not-branch.false
-    (c.in_ok-follow.ensures s limits had.run had.moment had.stands))
+    (c.in_ok-follow.ensures.followed s limits had.run had.moment had.stands))
