@@ -8,23 +8,35 @@ use std::test::Fail;
 /// How long a worker is held at most.
 const MOST_TURNS: u32 = 1_000_000_000;
 
-/// A gate for two workers, which counts how often each of them has come.
+/// How the workers of a run are forced to go on.
+#[derive(Clone, Copy)]
+enum Forced {
+    /// The second one steals the root directly after its Fork.
+    Beside,
+    /// The first one does the whole run before the second one begins.
+    Alone,
+    /// After two Forks by the first one, the second one steals the root and the third one its child.
+    ByThree,
+}
+
+/// A gate for at most three workers, which counts how often each of them has come.
 #[derive(Drop)]
 struct Forcing {
     first: AtomicU64,
     second: AtomicU64,
-    /// Whether the second worker takes part, or comes too late.
-    takes_part: bool,
+    third: AtomicU64,
+    forced: Forced,
     /// Whether a worker was held longer than may be.
     has_failed: AtomicU64,
 }
 
 impl Forcing {
-    fn new(takes_part: bool) -> Forcing {
+    fn new(forced: Forced) -> Forcing {
         Forcing {
             first: AtomicU64::new(0),
             second: AtomicU64::new(0),
-            takes_part,
+            third: AtomicU64::new(0),
+            forced,
             has_failed: AtomicU64::new(0),
         }
     }
@@ -42,40 +54,56 @@ impl Forcing {
 
 impl Gate for Forcing {
     fn pass(&self, worker: u32) {
-        let count = if worker == 0 {
-            &self.first
-        } else {
-            &self.second
+        let count = match worker {
+            0 => &self.first,
+            1 => &self.second,
+            _ => &self.third,
         };
         let came = count.fetch_add(1, Ordering::SeqCst);
-        match (worker, came) {
-            (0, 2) if self.takes_part => self.hold(&self.second, 2),
-            (1, 0) if self.takes_part => self.hold(&self.first, 3),
-            (1, 0) => self.hold(&self.first, 6),
+        match (self.forced, worker, came) {
+            (Forced::Beside, 0, 2) => self.hold(&self.second, 2),
+            (Forced::Beside, 1, 0) => self.hold(&self.first, 3),
+            (Forced::Alone, 1, 0) => self.hold(&self.first, 6),
+            (Forced::ByThree, 0, 3) => self.hold(&self.third, 2),
+            (Forced::ByThree, 1, 0) => self.hold(&self.first, 4),
+            (Forced::ByThree, 1, 1) => self.hold(&self.third, 2),
+            (Forced::ByThree, 2, 0) => self.hold(&self.second, 2),
             _ => (),
         }
     }
 }
 
-/// What two workers write behind this gate. It hands no clause on, since each goal of its callers would carry it.
-fn written(rt: &impl Host, alloc: Global, gate: &Forcing) -> Result<(Status, Vec<u8>), AllocError> {
-    let program = "fn main() { par { print 1; } and { print 2; } print 3; }";
+/// What the workers of these words write with this gate. It hands no clause on, since each goal of its callers would carry it.
+fn written(
+    rt: &impl Host,
+    alloc: Global,
+    line: &str,
+    program: &str,
+    gate: &Forcing,
+) -> Result<(Status, Vec<u8>), AllocError> {
     let mut source = CleanSource::new(Vec::from_slice(alloc, program.as_bytes())?);
     let mut sink = CleanSink::new(alloc, 64)?;
-    let words = words_of(alloc, "run --p 2")?;
+    let words = words_of(alloc, line)?;
     let status = dfd(rt, alloc, &words, &mut source, &mut sink, gate);
     Ok((status, Vec::from_slice(alloc, sink.kept())?))
 }
 
-/// Two workers write this behind this gate, and nobody was held for too long.
-fn is_forced(rt: &impl Host, alloc: Global, gate: &Forcing, want: &str) -> Result<(), Fail> {
-    let (status, text) = written(rt, alloc, gate)?;
-    is_right(rt, status == Status::Done, "run --p 2", "done");
-    is_right(rt, text == lines_of(alloc, want)?, "run --p 2", want);
+/// The workers write this with this gate, and nobody was held for too long.
+fn is_forced(
+    rt: &impl Host,
+    alloc: Global,
+    line: &str,
+    program: &str,
+    gate: &Forcing,
+    want: &str,
+) -> Result<(), Fail> {
+    let (status, text) = written(rt, alloc, line, program, gate)?;
+    is_right(rt, status == Status::Done, line, "done");
+    is_right(rt, text == lines_of(alloc, want)?, line, want);
     is_right(
         rt,
         gate.has_failed.load(Ordering::SeqCst) == 0,
-        "run --p 2",
+        line,
         "nobody waits for ever",
     );
     Ok(())
@@ -84,11 +112,39 @@ fn is_forced(rt: &impl Host, alloc: Global, gate: &Forcing, want: &str) -> Resul
 /// The second worker steals the root directly after its Fork, or the first one does the whole run before the second one begins.
 #[test]
 fn a_gate_decides_who_works(rt: HostRuntime) -> Result<(), Fail> {
-    for (takes_part, want) in [
-        (true, "1~2~3~--~end done~periods 2~ahead 1~high 16~"),
-        (false, "1~2~3~--~end done~periods 1~ahead 0~high 16~"),
+    let program = "fn main() { par { print 1; } and { print 2; } print 3; }";
+    for (forced, want) in [
+        (
+            Forced::Beside,
+            "1~2~3~--~end done~periods 2~ahead 1~high 16~",
+        ),
+        (
+            Forced::Alone,
+            "1~2~3~--~end done~periods 1~ahead 0~high 16~",
+        ),
     ] {
-        is_forced(&rt, rt.alloc(), &Forcing::new(takes_part), want)?;
+        is_forced(
+            &rt,
+            rt.alloc(),
+            "run --p 2",
+            program,
+            &Forcing::new(forced),
+            want,
+        )?;
     }
     Ok(())
+}
+
+/// Each of three workers does a part: after two Forks there are two records, and both thieves begin to the right of a deque. Whoever waits is
+/// run by the one that ends its child, so nobody steals again.
+#[test]
+fn a_gate_lets_three_workers_work(rt: HostRuntime) -> Result<(), Fail> {
+    is_forced(
+        &rt,
+        rt.alloc(),
+        "run --p 3",
+        "fn main() { par { par { print 1; } and { print 2; } } and { print 3; } print 4; }",
+        &Forcing::new(Forced::ByThree),
+        "1~2~3~4~--~end done~periods 3~ahead 2~high 32~",
+    )
 }
