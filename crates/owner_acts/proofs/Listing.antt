@@ -1,5 +1,5 @@
 -- What a give up, or an event that leaves a result, wrote into the list and the lane may be put back.
-use Rattle.std.proofs.Common.{◌≡◌, ℕ, ◌≤◌, List, ◌∷◌, [], refl, sym, ap, ◌∙◌, subst}
+use Rattle.std.proofs.Common.{◌≡◌, ◌≢◌, ℕ, ◌≤◌, List, ◌∷◌, refl, sym, ap, ◌∙◌, subst}
 use Rattle.std.proofs.lemmas.List.Sorted.{IsPermutation-cons, IsPermutation-trans}
 use Rattle.std.specs.List.Sorted.{IsPermutation}
 use Rattle.std.specs.Prelude.{None}
@@ -7,13 +7,17 @@ use Rattle.dag_order.specs.declared.thread_id.ThreadId.{ThreadId}
 use Rattle.deque_list.specs.declared.deque_id.DequeId.{DequeId}
 use Rattle.depth_first_list.specs.Actions.{record_words}
 use Rattle.hall_slots.specs.Passed.Lists.{Each}
-use Rattle.thread_frames.specs.Kept.{WaitsUnder}
+use Rattle.hall_slots.specs.Passed.Values.{ListShown}
+use Rattle.hall_slots.specs.Shown.{list_shown}
+use Rattle.thread_frames.specs.Kept.{IsUnderItsId, WaitsUnder}
+use Rattle.thread_frames.specs.Passed.Parts as shown
+use Rattle.thread_frames.proofs.Found.{none_found}
 use Rattle.thread_frames.specs.declared.ended.Ended.{Ended}
 use Rattle.thread_frames.specs.declared.thread.Thread.{Thread}
 use Rattle.thread_map.specs.Kept.{Kept, kept_under}
 use Rattle.hall_deciding.specs.EventParts.{IsAtAction, MayGoOn, MayPause, IsUnawaited}
 use Rattle.hall_deciding.specs.Puts.{note_of, MayPutListAndLane}
-use Rattle.hall_deciding.specs.Rooms.{HasMoreBooks, HasMoreToLeave}
+use Rattle.hall_deciding.specs.Rooms.{HasMoreBooks, HasMoreToLeave, HasMoreToWait}
 use Rattle.hall_deciding.specs.Staying.{NotesOn, AllAtPoints}
 use Rattle.hall_deciding.specs.Taken.{list_and_lane}
 use Rattle.hall_deciding.specs.Writes.{parts}
@@ -24,6 +28,7 @@ use Rattle.hall_deciding.proofs.Pauses.{yields_do}
 use Rattle.hall_deciding.proofs.Noted.{list_may}
 use Rattle.hall_deciding.proofs.Passed.Waits.{nobody_waits}
 use Rattle.hall_deciding.proofs.Staying.{given_up_stays_sound}
+use Rattle.hall_deciding.proofs.Taken.{unkept}
 use Rattle.hall_slots.specs.Passed.Period.{Period as OpenPeriod}
 use Rattle.hall_slots.specs.ListCalls.{ShowsUnowned, HasNoOwner, KeepsRest}
 use Rattle.hall_slots.specs.declared.lane_slot.LaneSlot.{LaneSlot}
@@ -33,7 +38,7 @@ use Rattle.hall_slots.specs.declared.key.HallKey.{HallKey}
 use Rattle.hall_slots.specs.Keys.{quota_of}
 use Rattle.hall_slots.specs.Takes.{HallSeat}
 use Rattle.owner_acts.specs.Ends.{CanLeave}
-use Rattle.owner_acts.specs.Pauses.{CanClose}
+use Rattle.owner_acts.specs.Pauses.{CanClose, CanWait}
 use Rattle.owner_acts.proofs.Roomier.{has_from, rest_from, shows_unowned_from, unowned_from}
 
 -- the list that was taken, with room to close a period, in which the deque has no owner now
@@ -61,6 +66,14 @@ yields_may key seat deque may quota was now after lane_was lane top under holder
     was now after lane_was lane more closes places rest idle points holds
     (λ pool. yields_do key seat.hand.note.worker deque (parts was pool lane_was) (parts after pool lane) top under holder period at refl idle items
     (shows_unowned_from was now after deque (record { worker = holder; period = period }) more shows_it))
+
+-- the list that was taken, with room for a thread that waits, has no result of the child for which it waits
+pub none_there : (was now : ListSlot) → HasMoreToWait was now → (key : HallKey) (top : Thread) (child : ThreadId) (waits : CanWait key now top child)
+    → Each (λ result. shown.Result.id result ≢ shown.Child.id waits.newest) (ListShown.results (list_shown was))
+none_there was now more key top child waits =
+    subst (λ (i : ThreadId). Each (λ result. shown.Result.id result ≢ i) (ListShown.results (list_shown was))) (sym waits.waits_for)
+    (unkept child was.part.results.entries (subst (λ (k : Kept Ended). Each IsUnderItsId k.entries) more.results waits.ids)
+    (none_found child was.part.results.entries (ap (λ (k : Kept Ended). kept_under k child) (sym more.results) ∙ waits.no_result)))
 
 -- the list that was taken, with room for a result, before the result of a thread that ended is left there
 module _ (was now : ListSlot) (more : HasMoreToLeave was now) where

@@ -1,5 +1,7 @@
 pub mod Ready
 pub mod WithPool
+pub mod WithList
+pub mod WithAll
 pub mod Pauses
 pub mod Ends
 pub mod Kept

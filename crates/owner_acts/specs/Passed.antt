@@ -13,6 +13,7 @@ pub use Rattle.owner_advance.specs.Causes as Causes
 pub use Rattle.owner_advance.specs.Lists as Lists
 pub use Rattle.owner_advance.specs.Reads as Reads
 pub use Rattle.owner_advance.specs.Returning as Returning
+pub use Rattle.owner_advance.specs.Stepping as Stepping
 pub use Rattle.owner_advance.specs.declared.advancing.AdvanceRefused as AdvanceRefused
 pub use Rattle.owner_advance.specs.declared.at_next.AtNext as AtNext
 pub use Rattle.owner_advance.specs.declared.memory.SeatMemory as SeatMemory

@@ -12,7 +12,6 @@ use Rattle.thread_frames.specs.declared.thread.Thread.{Thread}
 use Rattle.hall_deciding.specs.Passed.Here.{HasRoomHere}
 use Rattle.hall_slots.specs.declared.lane_slot.LaneSlot.{LaneSlot}
 use Rattle.hall_slots.specs.declared.lane_slot.Running.{Running}
-use Rattle.hall_slots.specs.declared.list_slot.ListSlot.{ListSlot}
 use Rattle.hall_slots.specs.declared.pool_slot.PoolSlot.{PoolSlot}
 use Rattle.hall_slots.specs.declared.slot.Slot.{Slot}
 use Rattle.hall_slots.specs.declared.key.HallKey.{HallKey}
@@ -21,7 +20,7 @@ use Rattle.hall_slots.specs.Sound.{PoolIsSound}
 use Rattle.hall_slots.specs.Takes.{HallSeat}
 use Rattle.hall_deciding.specs.Rooms.{IsSamePool}
 use Rattle.hall_deciding.specs.EventParts.{IsAtAction}
-use Rattle.hall_deciding.specs.Taken.{pool_and_lane, list_and_lane, all_three}
+use Rattle.hall_deciding.specs.Taken.{pool_and_lane}
 
 -- It holds these slots, among them its lane as it took it. Of this it has the threads without the top one, the period that runs, and the top
 -- thread, which has come to its next action since. All are at their points, the numbers are within their bounds, and there is memory for so
@@ -45,23 +44,7 @@ pub record PoolIsReady (key : HallKey) (pool : PoolSlot) : Type 0 where
   pub sound : PoolIsSound key pool
   pub room : 1 ≤ moves_spare pool.moves
 
--- It holds the pool too, which may have more room now; or the list, which was so when it took it; or both; or the pool and a list that is as it
--- was.
+-- It holds the pool too, which may have more room now.
 abbrev pub IsReadyWithPool : HallKey → HallSeat → DequeId → PoolSlot → LaneView Thread → Running → Thread → (more ready : ℕ) → Type 0
 IsReadyWithPool key seat deque pool threads running top more ready =
     (was : PoolSlot) × IsSamePool was pool × IsReady key seat (pool_and_lane deque was) threads running top more ready
-
-abbrev pub IsReadyWithList : (ListSlot → ListSlot → Type 0) → HallKey → HallSeat → DequeId → ListSlot → LaneView Thread → Running → Thread
-    → (more ready : ℕ) → Type 0
-IsReadyWithList Was key seat deque list threads running top more ready =
-    (was : ListSlot) × Was was list × IsReady key seat (list_and_lane deque was) threads running top more ready
-
-abbrev pub IsReadyWithAll : (ListSlot → ListSlot → Type 0) → HallKey → HallSeat → DequeId → ListSlot → PoolSlot → LaneView Thread → Running
-    → Thread → (more ready : ℕ) → Type 0
-IsReadyWithAll Was key seat deque list pool threads running top more ready =
-    (was : ListSlot) × Was was list × (pool_was : PoolSlot) × IsSamePool pool_was pool
-    × IsReady key seat (all_three deque was pool_was) threads running top more ready
-
-abbrev pub IsReadyWithBoth : HallKey → HallSeat → DequeId → ListSlot → PoolSlot → LaneView Thread → Running → Thread → (more ready : ℕ) → Type 0
-IsReadyWithBoth key seat deque list pool threads running top more ready =
-    (was : PoolSlot) × IsSamePool was pool × IsReady key seat (all_three deque list was) threads running top more ready

@@ -55,17 +55,24 @@ module _ (key : HallKey) (before middle : HallSeat) (deque : DequeId) (was : Lan
   has_come memory (Err (Busy held)) after runs = absurd runs
   has_come memory (Err OutOfMemory) after runs = (was, fell_short after runs)
 
-  -- a lane that went back behind some steps
-  pub has_stepped : (r : Result Bool AdvanceRefused) (after : HallSeat) → StepsBack middle r after → HasStepped before deque r after
-  has_stepped (Ok came) after put = (was, put ∙ ap (λ (s : HallSeat). with_hand s (record { seated = s.hand.seated; holds = []; note = s.hand.note; looks = s.hand.looks })) taken)
+  -- a lane that went back after some steps
+  pub has_stepped : (r : Result Bool AdvanceRefused) (after : HallSeat) → StepsBack key middle was r after → HasStepped key before deque r after
+  has_stepped (Ok came) after back = (
+    was,
+    back.0,
+    back.1,
+    back.2
+        ∙ ap (λ (s : HallSeat). with_hand s (record { seated = s.hand.seated; holds = []; note = s.hand.note; looks = s.hand.looks })) taken,
+  )
   has_stepped (Err (Busy held)) after put = absurd put
   has_stepped (Err OutOfMemory) after put = (was, fell_short after put)
 
 -- and which was refused nothing on the way
-pub steps_freely : (before : HallSeat) (r : Result Bool AdvanceRefused) (after : HallSeat) → StepsBack before r after → StepsFreely r
-steps_freely before (Ok came) after put = tt
-steps_freely before (Err (Busy held)) after put = absurd put
-steps_freely before (Err OutOfMemory) after put = tt
+pub steps_freely : (key : HallKey) (before : HallSeat) (was : LaneSlot) (r : Result Bool AdvanceRefused) (after : HallSeat)
+    → StepsBack key before was r after → StepsFreely r
+steps_freely key before was (Ok came) after back = tt
+steps_freely key before was (Err (Busy held)) after back = absurd back
+steps_freely key before was (Err OutOfMemory) after back = tt
 
 -- a seat whose thread has come there still meets the law
 pub still_meets : (key : HallKey) (middle : HallSeat) (was : LaneSlot) (ready : ℕ) (r : Result (AtNext × Next) AdvanceRefused) (after : HallSeat)

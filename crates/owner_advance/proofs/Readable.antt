@@ -2,7 +2,7 @@
 use Rattle.std.proofs.Common.{◌≡◌, ℕ, ◌≤◌, ◌<◌, List, ◌∷◌, map, refl, sym, ap, ◌∙◌, subst, arith}
 use Rattle.std.proofs.lemmas.Option.{none-some}
 use Rattle.std.specs.Option.{option_map}
-use Rattle.std.specs.Prelude.{Option, None, Some}
+use Rattle.std.specs.Prelude.{Option, None, Some, Bool, is_some}
 use Rattle.language_limits.specs.declared.TheConstants.{GREATEST_COUNT}
 use Rattle.deque_list.specs.Lanes.{LaneView}
 use Rattle.deque_list.specs.declared.deque_id.DequeId.{DequeId}
@@ -33,6 +33,7 @@ use Rattle.hall_slots.specs.declared.key.HallKey.{HallKey}
 use Rattle.hall_slots.specs.declared.lane_slot.LaneSlot.{LaneSlot}
 use Rattle.hall_slots.specs.declared.lane_slot.Running.{Running}
 use Rattle.owner_advance.specs.Advancing.{IsAtNext, IsReadable, IsRunBy}
+use Rattle.owner_advance.specs.Stepping.{GoesOn}
 use Rattle.owner_advance.specs.declared.at_next.AtNext.{AtNext}
 
 some_running : (r : Option Running) (shown : Period) → option_map running_shown r ≡ Some shown → (running : Running) × (r ≡ Some running)
@@ -131,6 +132,20 @@ module _ (key : HallKey) (seat : HallSeat) (deque : DequeId) (was lane : LaneSlo
         holds = r.holds;
         same = shows_the_same was back now under running at_action back_items back_runs;
         points = subst (Each At) (sym back_items) (point, points.1);
+      }
+
+      pub went_on : At now → (came : Bool) → came ≡ is_some (next_of now) → (back : LaneSlot) → back.lane.items ≡ now ∷ under
+          → back.running ≡ Some running → GoesOn key lane back came
+      went_on point came is back back_items back_runs = record {
+        top_was = top;
+        top = now;
+        under = under;
+        items_were = items;
+        items = back_items;
+        running = back_runs ∙ sym runs;
+        still = still;
+        point = point;
+        answers = is;
       }
 
       pub at_next : (next : Next) (ready spare : ℕ) → quota_of key ≤ 1048576 → At now → next_of now ≡ Some next → JoinsNewest next (children_of now)

@@ -33,7 +33,7 @@ fn step_lane(
     requires slot { deque.0 + 2 < slot_count row.now }
     requires terms { IsRunBy (key_of row.now) code.now quota }
     requires readable { (was : AnyLane) × IsReadable (key_of row.now) seat.old deque was lane }
-    ensures { StepsBack seat.old result seat.new }
+    ensures { StepsBack (key_of row.now) seat.old lane result seat.new }
 {
     let mut at = take_apart(lane);
     match step_on(&mut at.top, alloc, code, quota, most) {
@@ -49,7 +49,7 @@ fn step_lane(
 }
 
 /// Takes the lane of the seat's deque, lets its top thread go on towards its next action for some `most` turns, and gives the lane back. It says
-/// whether the thread has come to its action, which is not done. The seat holds nothing, and notes what it noted.
+/// whether the thread in the lane that goes back is before its action, which is not done. The seat holds nothing, and notes what it noted.
 ///
 /// # Errors
 ///
@@ -68,7 +68,7 @@ pub fn go_some_turns(
     requires slot { deque.0 + 2 < slot_count row.now }
     requires terms { IsRunBy (key_of row.now) code.now quota }
     requires may { MayCome seat.old deque }
-    ensures seat { HasStepped seat.old deque result seat.new }
+    ensures seat { HasStepped (key_of row.now) seat.old deque result seat.new }
     ensures lone { HasAllPlaces (key_of row.now) seat.old → StepsFreely result }
 {
     match take_lane(row, seat, deque) {

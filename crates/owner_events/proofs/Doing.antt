@@ -1,5 +1,5 @@
 -- How a seat leaves once its event was put back.
-use Rattle.std.proofs.Common.{◌≡◌, ◌≢◌, ℕ, ◌<◌, Option, List, [], ◌∷◌, ◌++◌, length, inl, refl, sym, ap, ◌∙◌, subst, arith}
+use Rattle.std.proofs.Common.{◌≡◌, ◌≢◌, ◌⊎◌, ℕ, ◌<◌, Option, List, [], ◌∷◌, ◌++◌, length, inl, refl, sym, ap, ◌∙◌, subst, arith}
 use Rattle.std.specs.Result.{IsErrAnd}
 use Rattle.std.specs.Prelude.{Some, Result, Ok, Err}
 use Rattle.deque_list.specs.declared.deque_id.DequeId.{DequeId}
@@ -11,6 +11,7 @@ use Rattle.turn_table.specs.Seats.{SeatView, with_hand}
 use Rattle.turn_table.specs.Tables.{IsSeatOf}
 use Rattle.turn_table.specs.declared.hand.Hand.{Hand}
 use Rattle.turn_table.specs.declared.turns.Turns.{Turns}
+use Rattle.owner_acts.specs.Passed.EventParts.{IsTooMuch}
 use Rattle.owner_acts.specs.Passed.Puts.{HasPut}
 use Rattle.owner_acts.specs.Passed.Writes.{told_note}
 use Rattle.hall_slots.specs.Takes.{HallSeat, IsTaken}
@@ -46,18 +47,21 @@ module _ (before middle after : HallSeat) (owned : Option DequeId) (event : Even
       (d : Draws key before deque others at next ready middle) → HasPut middle (told_note middle.hand.note owned event) [] after
       → HasLooked before (Counted d.found ∷ []) (told_note before.hand.note owned event) after
   counted_leaves key deque others at next ready d put = put
-      ∙ ap (λ (s : HallSeat). with_hand s (record { seated = s.hand.seated; holds = []; note = told_note s.hand.note owned event; looks = s.hand.looks })) d.drew
+      ∙ ap (λ (s : HallSeat). with_hand s (record { seated = s.hand.seated; holds = []; note = told_note s.hand.note owned event; looks = s.hand.looks }))
+      d.drew
 
   -- if it had taken a slot more.
   pub taken_leaves : (slot : ℕ) (found : Slot) (taken : IsTaken before slot found middle) (more : List (Look Slot))
       → HasLooked middle more (told_note middle.hand.note owned event) after
       → HasLooked before (Took slot found ∷ more) (told_note before.hand.note owned event) after
-  taken_leaves slot found taken more leaves = subst (λ n. HasLooked before (Took slot found ∷ more) (told_note n owned event) after) (note before middle slot found taken)
+  taken_leaves slot found taken more leaves = subst (λ n. HasLooked before (Took slot found ∷ more) (told_note n owned event) after)
+      (note before middle slot found taken)
       (looked before middle slot found taken after more (told_note middle.hand.note owned event) leaves)
 
 -- what it did with the list that it took
-pub does_with_list : (key : HallKey) (before middle after : HallSeat) (deque : DequeId) (at : AtNext) (next : Next) (list : ListSlot) → ActionNeedsList at next
-    → IsTaken before 0 (slots.List list) middle → (r : Result Acted ActRefused) → DoesWithList key middle deque at next r after → Does key before deque at next r after
+pub does_with_list : (key : HallKey) (before middle after : HallSeat) (deque : DequeId) (at : AtNext) (next : Next) (list : ListSlot)
+    → ActionNeedsList at next ⊎ IsTooMuch key next at.top at.running.period → IsTaken before 0 (slots.List list) middle
+    → (r : Result Acted ActRefused) → DoesWithList key middle deque at next r after → Does key before deque at next r after
 does_with_list key before middle after deque at next list needs taken (Ok acted) d = record {
   list = Some list;
   pool = d.pool;
@@ -65,10 +69,11 @@ does_with_list key before middle after deque at next list needs taken (Ok acted)
   owns = d.owns;
   lists = λ _. d.lists;
   pools = d.pools;
-  leaves = taken_leaves before middle after acted.owned acted.event 0 (slots.List list) taken (look_at_pool d.pool ++ look_at_count d.count) d.leaves;
+  leaves = taken_leaves before middle after acted.owned acted.event 0 (slots.List list) taken (look_at_pool d.pool ++ look_at_count d.count)
+      d.leaves;
 }
 does_with_list key before middle after deque at next list needs taken (Err refused) d =
-    fails before middle 0 (slots.List list) taken after (MayTry key at next) (inl (refl, inl needs)) refused d
+    fails before middle 0 (slots.List list) taken after (MayTry key at next) (inl (refl, needs)) refused d
 
 -- a thread is below, if there are some
 pub some_below : (n : ℕ) (under : List Thread) → 0 < n → n ≡ length under → under ≢ []

@@ -1,9 +1,6 @@
 -- What an owner has in its hands, in the words of the events and of what it may read.
-use Rattle.std.proofs.Common.{ℕ, ◌+◌, ◌≤◌, ◌∷◌, List, [], inl, inr, refl, sym, subst, arith}
-use Rattle.containers.specs.BoundedList.{entries, spare}
-use Rattle.dag_order.specs.declared.birth.Birth.{Birth}
+use Rattle.std.proofs.Common.{ℕ, ◌+◌, ◌≤◌, List, inl, inr, refl, sym, subst, arith}
 use Rattle.deque_list.specs.declared.deque_id.DequeId.{DequeId}
-use Rattle.hall_slots.specs.Passed.Tables.{birth_room}
 use Rattle.thread_frames.specs.declared.next.Next.{Next}
 use Rattle.turn_table.specs.Notes.{HasAs}
 use Rattle.owner_acts.specs.Passed.Taken.{its_lane, pool_and_lane, list_and_lane, all_three}
@@ -19,11 +16,6 @@ use Rattle.hall_slots.specs.declared.slot.Slot.TheVariants as slots
 use Rattle.owner_acts.specs.Ready.{IsReady}
 use Rattle.owner_acts.specs.Passed.AtNext.{AtNext}
 use Rattle.owner_events.specs.Holding.{IsHolding}
-
--- a period that has room with any list of births that is ready has it with a list for one
-pub room_with_one : (births : List Birth) (own ready : ℕ) → 1 ≤ birth_room births own ready → 1 ≤ birth_room births own 1
-room_with_one [] own ready room = omega (arith)
-room_with_one (birth ∷ births) own ready room = room
 
 module _ (key : HallKey) (seat : HallSeat) (deque : DequeId) (taken : LaneSlot → List (ℕ × Slot)) (at : AtNext) (next : Next) (ready : ℕ)
     (h : IsHolding key seat deque taken at next ready) where
@@ -41,28 +33,6 @@ module _ (key : HallKey) (seat : HallSeat) (deque : DequeId) (taken : LaneSlot �
     point = h.is_next.point;
     under = h.is_next.under;
     room = record { lane = omega (arith, few, room); period = h.is_next.room.period };
-  }
-
-  -- and for one without a birth,
-  pub is_ready_bare : (more : ℕ) → more ≤ 2 → IsReady key seat taken at.lane at.running at.top more 1
-  is_ready_bare more few = let room = h.is_next.room.lane in record {
-    quota = h.is_next.within.quota;
-    small = h.is_next.within.small;
-    few = h.is_next.within.few;
-    lane = h.lane;
-    at = h.is_next.at_action;
-    holds = h.holds;
-    used = h.is_next.within.used;
-    done = h.is_next.within.done;
-    point = h.is_next.point;
-    under = h.is_next.under;
-    room = record {
-      lane = omega (arith, few, room);
-      period = record {
-        book = h.is_next.room.period.book;
-        births = room_with_one (entries at.running.period.births) (spare at.running.period.births) ready h.is_next.room.period.births;
-      };
-    };
   }
 
   -- its top thread has come to its action,

@@ -12,6 +12,7 @@ mod FromCount
 mod CountedPool
 mod WithList
 mod WithAll
+mod Listed
 mod Deciding
 pub mod Called
 mod Yielded

@@ -1,12 +1,12 @@
 -- A seat that took the pool beside the list for the next action of its top thread, and counted it.
-use Rattle.std.proofs.Common.{◌≡◌, ℕ, ◌≤◌, [], ◌∷◌, sym, ◌∙◌, subst}
-use Rattle.std.specs.Prelude.{Option, Some, Ok}
+use Rattle.std.proofs.Common.{◌≡◌, ◌⊎◌, ℕ, ◌≤◌, ◌<◌, [], ◌∷◌, length, inl, inr, sym, ap, ◌∙◌, subst, arith}
+use Rattle.std.specs.Prelude.{Option, None, Some, Ok}
 use Rattle.deque_list.specs.declared.deque_id.DequeId.{DequeId}
 use Rattle.owner_acts.specs.Passed.Puts.{HasPut}
 use Rattle.owner_acts.specs.Passed.EventParts.{IsNext, MayAct}
 use Rattle.owner_acts.specs.Passed.Writes.{told_note}
 use Rattle.owner_acts.specs.Passed.Taken.{all_three}
-use Rattle.owner_acts.proofs.Passed.InUse.{words_are_in_use}
+use Rattle.owner_acts.proofs.Passed.InUse.{words_are_in_use, kept_words_are_in_use}
 use Rattle.owner_acts.specs.Passed.Lists.{words_back, ComesTo}
 use Rattle.owner_acts.specs.Passed.Reads.{HoldsItsLane}
 use Rattle.hall_slots.specs.Takes.{HallSeat, MeetsLaw}
@@ -15,8 +15,21 @@ use Rattle.hall_slots.specs.declared.key.HallKey.{HallKey}
 use Rattle.hall_slots.specs.declared.list_slot.ListSlot.{ListSlot}
 use Rattle.hall_slots.specs.declared.pool_slot.PoolSlot.{PoolSlot}
 use Rattle.hall_slots.specs.declared.slot.Slot.TheVariants as slots
-use Rattle.owner_acts.specs.Ready.{IsReady, PoolIsReady}
-use Rattle.owner_acts.proofs.Passed.Returned.{same_sound}
+use Rattle.owner_acts.specs.Passed.Rooms.{HasMoreRoom, IsSamePool}
+use Rattle.owner_acts.specs.WithAll.{EndsForked, HasMoreWith, HasRoomWith, IsReadyForAll, IsWithAll, owned_with}
+use Rattle.owner_acts.specs.declared.with_all.WholeEvent.{WholeEvent}
+use Rattle.owner_acts.specs.declared.with_all.WholeEvent.TheVariants.{Join, Wake, Leave}
+use Rattle.owner_events.specs.Asked.{IsAskedByAll}
+use Rattle.owner_events.specs.Needs.{ActionNeedsList, ActionNeedsPool}
+use Rattle.owner_events.proofs.Failing.{not_there}
+use Rattle.owner_events.proofs.FromList as from
+use Rattle.owner_events.proofs.WithList.{more_to_leave, only_kept, some_of}
+use Rattle.thread_points.specs.Points.{words_at_end}
+use Rattle.thread_frames.specs.Actions.{IsEnd}
+use Rattle.thread_frames.specs.Passed.Joins.{released}
+use Rattle.thread_frames.specs.declared.next.Next.TheVariants as nexts
+use Rattle.thread_map.specs.Kept.{kept_under}
+use Rattle.owner_acts.proofs.Passed.Returned.{same_list, same_sound}
 use Rattle.owner_acts.specs.Passed.Advancing.{HasLooked}
 use Rattle.owner_acts.specs.Passed.AtNext.{AtNext}
 use Rattle.owner_events.proofs.Doing.{counted_leaves, taken_leaves}
@@ -24,10 +37,34 @@ use Rattle.owner_events.proofs.FromCount as count
 use Rattle.owner_events.proofs.Held.{all_list, all_pool, comes, with_all}
 use Rattle.owner_events.specs.Holding.{IsBefore}
 use Rattle.owner_events.specs.Taking.{CountsWithAll, HasPoolToo}
-use Rattle.thread_frames.specs.Views.{next_of}
+use Rattle.thread_frames.specs.Views.{label_of, next_of}
 use Rattle.thread_frames.specs.declared.next.Next.{Next}
 use Rattle.turn_table.specs.Notes.{HasAs}
 use Rattle.turn_table.specs.declared.look.Look.TheVariants.{Took, Counted}
+
+-- room for one event is room of any kind
+pub more_with : (event : WholeEvent) (was now : ListSlot) → HasMoreWith event was now → HasMoreRoom was now
+more_with (Join child) was now more = subst (HasMoreRoom was) (sym more) (same_list was)
+more_with Wake was now more = subst (HasMoreRoom was) (sym more) (same_list was)
+more_with Leave was now more = more_to_leave was now more
+
+-- the action needs the list and the pool, and leaves the seat its deque or none
+module _ (list : ListSlot) (at : AtNext) (next : Next) where
+  pub needs_list : (event : WholeEvent) → IsAskedByAll list at next event → ActionNeedsList at next
+  needs_list (Join child) asked = subst (ActionNeedsList at) (sym asked.0) asked.1
+  needs_list Wake asked = subst (ActionNeedsList at) (sym asked.0) asked.2
+  needs_list Leave asked = subst (ActionNeedsList at) (sym asked.0) asked.2
+
+  pub needs_pool_too : (event : WholeEvent) → IsAskedByAll list at next event → ActionNeedsPool at next
+  needs_pool_too (Join child) asked = subst (ActionNeedsPool at) (sym asked.0) (not_there asked.1)
+  needs_pool_too Wake asked = subst (ActionNeedsPool at) (sym asked.0) asked.1
+  needs_pool_too Leave asked = subst (ActionNeedsPool at) (sym asked.0) asked.1
+
+pub owns_then : (event : WholeEvent) (deque : DequeId) (owned : Option DequeId) → owned ≡ owned_with event deque
+    → (owned ≡ None) ⊎ (owned ≡ Some deque)
+owns_then (Join child) deque owned is = inr is
+owns_then Wake deque owned is = inr is
+owns_then Leave deque owned is = inl is
 
 module _ (key : HallKey) (before : HallSeat) (deque : DequeId) (at : AtNext) (next : Next) (ready : ℕ) (list : ListSlot) (pool : PoolSlot)
     (middle : HallSeat) (has : HasPoolToo key before deque at next ready list pool middle) (meets : MeetsLaw key middle) where
@@ -48,6 +85,48 @@ module _ (key : HallKey) (before : HallSeat) (deque : DequeId) (at : AtNext) (ne
   in_use = words_are_in_use key middle deque has.is_before.holding.lane pool at.top at.lane.items next lane_held pool_held meets come
       has.is_before.holding.is_next.next_is has.is_before.holding.is_next.point
 
+  -- what it has in its hands for the event, once memory was asked for
+  next_is_now : next_of at.top ≡ Some next
+  next_is_now = has.is_before.holding.is_next.next_is
+
+  module _ (kept : PoolSlot) (same : IsSamePool pool kept) where
+    live : (n : ℕ) → n ≤ pool.pool.live → n ≤ kept.pool.live
+    live n = subst (λ p. n ≤ p.live) (sym same.pool)
+
+    ends : next ≡ nexts.End → 0 < length (label_of at.top) → at.lane.items ≡ [] → EndsForked key kept at
+    ends is forked alone = record {
+      alone = alone;
+      forked = forked;
+      live = live (words_at_end (label_of at.top)) (subst (λ n. words_back at.top n ≤ pool.pool.live) is in_use);
+      next = subst IsEnd (sym (next_is_now ∙ ap Some is)) tt;
+      listed = subst (IsNext key at.top) is has.is_before.holding.is_next.listed;
+    }
+
+    pub can : (event : WholeEvent) → IsAskedByAll list at next event → (roomy : ListSlot) → HasMoreWith event list roomy → HasRoomWith event roomy
+        → IsWithAll key deque roomy kept at event
+    can (Join child) asked roomy more room =
+        let comes = subst (ComesTo key has.is_before.holding.lane at.top at.lane.items) asked.0 come in
+        subst (λ (l : ListSlot). IsWithAll key deque l kept at (Join child)) (sym more) (
+          from.joins_kept key middle deque has.is_before.holding.lane list lane_held list_held meets at.top at.lane.items child comes asked.1
+              asked.4.0 asked.4.1 (next_is_now ∙ ap Some asked.0),
+          λ ended is. subst (λ n. 0 < n) (only_kept list at.top child asked.2 asked.4 ended is) asked.3,
+          λ ended is. live (released at.top.run.state ended.state) (kept_words_are_in_use key middle deque has.is_before.holding.lane list pool
+              at.top at.lane.items child ended lane_held list_held pool_held meets comes is),
+        )
+    can Wake asked roomy more room =
+        let comes = subst (ComesTo key has.is_before.holding.lane at.top at.lane.items) asked.0 come in
+        let waits = some_of (kept_under list.part.waiting at.top.id) asked.3 in
+        subst (λ (l : ListSlot). IsWithAll key deque l kept at Wake) (sym more) (
+          ends asked.0 asked.1 asked.2,
+          from.wakes key middle deque has.is_before.holding.lane list lane_held list_held meets at.top at.lane.items comes waits.0 waits.1,
+        )
+    can Leave asked roomy more room =
+        let comes = subst (ComesTo key has.is_before.holding.lane at.top at.lane.items) asked.0 come in (
+          ends asked.0 asked.1 asked.2,
+          from.closes key middle deque has.is_before.holding.lane list lane_held list_held meets roomy more.deques room.0,
+          from.leaves key middle deque has.is_before.holding.lane list lane_held list_held meets at.top at.lane.items comes roomy more room.1 asked.3,
+        )
+
   module _ (first : AtNext) (is_first : first ≡ at) where
     pub then : IsBefore key middle deque (all_three deque list pool) first next ready
     then = subst (λ a. IsBefore key middle deque (all_three deque list pool) a next ready) (sym is_first) has.is_before
@@ -55,29 +134,28 @@ module _ (key : HallKey) (before : HallSeat) (deque : DequeId) (at : AtNext) (ne
     -- once it is counted
     module _ (roomy : ListSlot) (now : AtNext) (left : ListSlot) (kept : PoolSlot) (after : HallSeat)
         (counts : CountsWithAll key middle deque first next ready list roomy pool (Ok (now, left, kept)) after) where
-      pub so : (P : AtNext → Type 0) → P at → P now
+      so : (P : AtNext → Type 0) → P at → P now
       so P = subst P (sym (counts.0 ∙ is_first))
 
-      pub so_list : (P : ListSlot → Type 0) → P roomy → P left
+      so_list : (P : ListSlot → Type 0) → P roomy → P left
       so_list P = subst P (sym counts.1)
 
-      pub so_pool : (n : ℕ) → n ≤ pool.pool.live → n ≤ kept.pool.live
-      so_pool n = subst (λ p. n ≤ p.live) (sym counts.2.pool)
-
-      pub may : MayAct after deque
+      may : MayAct after deque
       may = count.may key middle deque (all_three deque list pool) first next ready after counts.4 now counts.0
 
-      pub ready_for : (more : ℕ) → more ≤ 2 → IsReady key after (all_three deque list pool) now.lane now.running now.top more ready
-      ready_for = count.ready_for key middle deque (all_three deque list pool) first next ready after counts.4 now counts.0
-
-      pub pool_ready : PoolIsReady key kept
-      pool_ready = record { sound = same_sound key pool kept counts.2 has.sound; room = counts.3 }
-
-      pub next_is : next_of now.top ≡ Some next
-      next_is = count.next_is key middle deque (all_three deque list pool) first next ready after counts.4 now counts.0
-
-      pub listed : IsNext key now.top next
-      listed = count.listed key middle deque (all_three deque list pool) first next ready after counts.4 now counts.0
+      pub ready_for : (event : WholeEvent) → HasMoreWith event list roomy → IsWithAll key deque roomy kept at event
+          → IsReadyForAll key after deque left kept now ready event
+      ready_for event more can = record {
+        goes = may.goes;
+        counting = may.counting;
+        was = list;
+        more = so_list (HasMoreWith event list) more;
+        pool_was = pool;
+        same = counts.2;
+        pool_ready = record { sound = same_sound key pool kept counts.2 has.sound; room = counts.3 };
+        is = count.ready_for key middle deque (all_three deque list pool) first next ready after counts.4 now counts.0 1 (omega (arith));
+        can = so (λ a. IsWithAll key deque left kept a event) (so_list (λ l. IsWithAll key deque l kept at event) can);
+      }
 
       pub leaves : (owned : Option DequeId) (event : Event) (final : HallSeat) → HasPut after (told_note after.hand.note owned event) [] final
           → HasLooked before (Took 1 (slots.Pool pool) ∷ Counted counts.4.found ∷ []) (told_note before.hand.note owned event) final

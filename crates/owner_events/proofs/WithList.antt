@@ -1,26 +1,21 @@
 -- A seat that holds its lane and the list, in the words of the events.
-use Rattle.std.proofs.Common.{◌≡◌, ℕ, ◌≤◌, [], refl, sym, ap, ◌∙◌, subst, append-nil}
+use Rattle.std.proofs.Common.{◌≡◌, ℕ, ◌≤◌, refl, sym, ap, ◌∙◌, subst}
 use Rattle.std.proofs.lemmas.List.Sorted.{IsPermutation-refl}
 use Rattle.std.specs.Prelude.{Option, None, Some, IsSome}
 use Rattle.dag_order.specs.declared.thread_id.ThreadId.{ThreadId}
 use Rattle.deque_list.specs.declared.deque_id.DequeId.{DequeId}
-use Rattle.owner_acts.specs.Passed.Puts.{HasPut}
 use Rattle.owner_acts.specs.Passed.Rooms.{KeepsDeques, HasMoreBooks, HasMoreRoom, HasMoreToLeave, HasMoreToWait}
-use Rattle.owner_acts.specs.Passed.Writes.{told_note}
 use Rattle.owner_acts.specs.Passed.Taken.{list_and_lane}
 use Rattle.owner_acts.specs.Passed.Lists.{ComesTo}
 use Rattle.owner_acts.specs.Passed.Reads.{HoldsItsLane}
 use Rattle.hall_slots.specs.Takes.{HallSeat, MeetsLaw}
-use Rattle.hall_slots.specs.declared.event.Event.{Event}
 use Rattle.hall_slots.specs.declared.key.HallKey.{HallKey}
 use Rattle.hall_slots.specs.declared.list_slot.ListSlot.{ListSlot}
 use Rattle.hall_slots.specs.declared.slot.Slot.TheVariants as slots
 use Rattle.owner_acts.specs.Pauses.{CanClose}
-use Rattle.owner_acts.specs.Ready.{IsReadyWithList}
-use Rattle.owner_acts.specs.Passed.Advancing.{HasLooked}
 use Rattle.owner_acts.specs.Passed.AtNext.{AtNext}
 use Rattle.owner_events.proofs.FromList as from
-use Rattle.owner_events.proofs.Held.{comes, is_ready_bare, list_held, with_list}
+use Rattle.owner_events.proofs.Held.{comes, list_held, with_list}
 use Rattle.owner_events.specs.Holding.{IsBefore}
 use Rattle.space_ledger.specs.BooksList.{books_spare}
 use Rattle.owner_events.specs.Ready.{IsKeptFor}
@@ -30,7 +25,6 @@ use Rattle.thread_frames.specs.declared.thread.Thread.{Thread}
 use Rattle.thread_map.specs.Kept.{Kept, KeepsTheSame, kept_under}
 use Rattle.thread_frames.specs.Passed.Joins.{released}
 use Rattle.turn_table.specs.Notes.{HasAs}
-use Rattle.turn_table.specs.Seats.{with_hand}
 
 -- room of one kind is room of any kind
 same_kept : {T : Type 0} (was now : Kept T) → now ≡ was → KeepsTheSame was now
@@ -76,12 +70,3 @@ module _ (key : HallKey) (seat : HallSeat) (deque : DequeId) (at : AtNext) (next
 
   pub closes : (now : ListSlot) → KeepsDeques list now → 1 ≤ books_spare now.part.books → CanClose deque now
   closes = from.closes key seat deque b.holding.lane list lane_held has_list meets
-
-  pub bare : (Was : ListSlot → ListSlot → Type 0) (now : ListSlot) → Was list now → (more : ℕ) → more ≤ 2
-      → IsReadyWithList Was key seat deque now at.lane at.running at.top more 1
-  bare Was now was more few = (list, was, is_ready_bare key seat deque (list_and_lane deque list) at next ready b.holding more few)
-
--- a seat whose event took no count
-module _ (before after : HallSeat) (event : Event) where
-  pub bare_leaves : HasPut before (told_note before.hand.note None event) [] after → HasLooked before [] (told_note before.hand.note None event) after
-  bare_leaves put = put ∙ ap (λ looks. with_hand before (record { seated = before.hand.seated; holds = []; note = told_note before.hand.note None event; looks = looks })) (sym (append-nil before.hand.looks))

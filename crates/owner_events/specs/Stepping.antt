@@ -4,22 +4,26 @@ use Rattle.deque_list.specs.declared.deque_id.DequeId.{DequeId}
 use Rattle.hall_slots.specs.Takes.{HallSeat, IsRefused}
 use Rattle.hall_slots.specs.declared.lane_slot.LaneSlot.{LaneSlot}
 use Rattle.hall_slots.specs.declared.seat_note.SeatNote.{SeatNote}
+use Rattle.hall_slots.specs.declared.key.HallKey.{HallKey}
 use Rattle.owner_acts.specs.Passed.Advancing.{HasLooked, took_lane}
+use Rattle.owner_acts.specs.Passed.Stepping.{GoesOn}
 use Rattle.owner_events.specs.declared.refused.ActRefused.{ActRefused}
 use Rattle.owner_events.specs.declared.refused.ActRefused.TheVariants.{Busy, Over, Stopped}
 use Rattle.play_rules.specs.declared.stop.Stop.TheVariants.{OutOfMemory}
 
--- The seat took its lane, put it back and notes this.
-abbrev pub HasPutBack : HallSeat → DequeId → SeatNote → HallSeat → Type 0
-HasPutBack before deque note after = (lane : LaneSlot) × HasLooked before (took_lane deque lane ∷ []) note after
+-- The seat took this lane, put it back and notes this.
+abbrev pub HasPutBack : HallSeat → DequeId → LaneSlot → SeatNote → HallSeat → Type 0
+HasPutBack before deque lane note after = HasLooked before (took_lane deque lane ∷ []) note after
 
--- It notes what it noted; or it was refused the lane; or memory was wanting, which it notes. It never sees an end, since it looks at its lane alone.
-abbrev pub GoesSteps : HallSeat → DequeId → Result Bool ActRefused → HallSeat → Type 0
-GoesSteps before deque (Ok came) after = HasPutBack before deque before.hand.note after
-GoesSteps before deque (Err (Busy held)) after = IsRefused before (deque.0 + 2) held after
-GoesSteps before deque (Err (Over end)) after = ⊥
-GoesSteps before deque (Err (Stopped stop)) after =
-    (stop ≡ OutOfMemory) × HasPutBack before deque (record before.hand.note { found = Some stop }) after
+-- It notes what it noted, and the answer is whether the next action of the top thread had come when the lane went back; or it was refused the lane; or
+-- memory was wanting, which it notes. It never sees an end, since it looks at its lane alone.
+abbrev pub GoesSteps : HallKey → HallSeat → DequeId → Result Bool ActRefused → HallSeat → Type 0
+GoesSteps key before deque (Ok came) after =
+    (was : LaneSlot) × (now : LaneSlot) × GoesOn key was now came × HasPutBack before deque was before.hand.note after
+GoesSteps key before deque (Err (Busy held)) after = IsRefused before (deque.0 + 2) held after
+GoesSteps key before deque (Err (Over end)) after = ⊥
+GoesSteps key before deque (Err (Stopped stop)) after =
+    (stop ≡ OutOfMemory) × ((lane : LaneSlot) × HasPutBack before deque lane (record before.hand.note { found = Some stop }) after)
 
 -- the lane was not refused to it
 abbrev pub GoesFreely : Result Bool ActRefused → Type 0

@@ -1,5 +1,5 @@
 -- What an owner has once it took the list or the pool beside its lane.
-use Rattle.std.specs.Prelude.{◌≡◌, ℕ, ◌+◌, ◌<◌, ◌≤◌, Option, None, Some, List, [], ◌∷◌, ◌++◌, Result, Ok, Err}
+use Rattle.std.specs.Prelude.{◌≡◌, ℕ, ◌+◌, ◌<◌, ◌≤◌, Bool, true, false, Option, None, Some, List, [], ◌∷◌, ◌++◌, Result, Ok, Err}
 use Rattle.deque_list.specs.declared.deque_id.DequeId.{DequeId}
 use Rattle.play_rules.specs.declared.stop.Stop.{Stop}
 use Rattle.play_rules.specs.declared.stop.Stop.TheVariants.{ArenaFull}
@@ -79,6 +79,13 @@ abbrev pub CountsWithList : HallKey → HallSeat → DequeId → AtNext → Next
 CountsWithList key before deque at next ready was list (Ok taken) after = (taken.0 ≡ at) × (taken.1 ≡ list)
     × Draws key before deque (list_and_lane deque was) at next ready after
 CountsWithList key before deque at next ready was list (Err refused) after = Fails IsNoSlot before refused after
+
+-- so it is if the event is an action; for another nothing is counted
+abbrev pub CountsFor : Bool → HallKey → HallSeat → DequeId → AtNext → Next → (ready : ℕ) → (was list : ListSlot)
+    → Result (AtNext × ListSlot) ActRefused → HallSeat → Type 0
+CountsFor true key before deque at next ready was list result after = CountsWithList key before deque at next ready was list result after
+CountsFor false key before deque at next ready was list (Ok taken) after = (taken.0 ≡ at) × (taken.1 ≡ list) × (after ≡ before)
+CountsFor false key before deque at next ready was list (Err refused) after = ⊥
 
 abbrev pub CountsWithAll : HallKey → HallSeat → DequeId → AtNext → Next → (ready : ℕ) → (was list : ListSlot) → (pool_was : PoolSlot)
     → Result (AtNext × ListSlot × PoolSlot) ActRefused → HallSeat → Type 0

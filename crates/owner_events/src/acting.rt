@@ -15,14 +15,14 @@ ghost use Rattle.thread_actions.specs.declared.readiness.Readiness.TheVariants.{
 use crate::acted::Acted;
 use crate::ends::end;
 use crate::joins::{join_delivered, join_missing};
-use crate::lists::{dummy, give_up};
+use crate::lists::take_list_and_do;
 use crate::pools::do_with_pool;
 use crate::refused::ActRefused;
 use depth_first_list::Quota;
 use deque_list::DequeId;
 use hall_slots::{HallPlace, HallRow};
 use node_table::Code;
-use owner_acts::{AdvanceRefused, AtNext, SeatMemory, come_to_next};
+use owner_acts::{AdvanceRefused, AtNext, ListEvent, SeatMemory, come_to_next};
 use play_rules::Stop;
 use std::alloc::Global;
 use thread_actions::{Readiness, readiness_of};
@@ -58,7 +58,7 @@ fn do_next(
         Next::Release { words: _words } => do_with_pool(
             row, seat, deque, limit, memory, at, next, charge,
         ),
-        Next::Dummy => dummy(row, seat, deque, limit, memory, at),
+        Next::Dummy => { take_list_and_do(row, seat, deque, limit, memory, at, ListEvent::Dummy) }
         Next::Fault(_found) => do_with_pool(row, seat, deque, limit, memory, at, next, charge),
         Next::End => end(row, seat, deque, limit, memory, at, charge),
     }
@@ -89,7 +89,9 @@ fn go_on(
         Readiness::Ready { charge } => {
             do_next(row, seat, deque, limit, memory, at, next, charge)
         }
-        Readiness::Spent => give_up(row, seat, deque, at),
+        Readiness::Spent => {
+            take_list_and_do(row, seat, deque, limit, memory, at, ListEvent::GiveUp)
+        }
         Readiness::Missing { child } => join_missing(row, seat, deque, limit, memory, at, child),
     }
 }

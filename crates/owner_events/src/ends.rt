@@ -1,7 +1,8 @@
 //! The End, by where the parent is.
 
-ghost use Rattle.std.specs.Prelude.{◌≡◌, ◌+◌, ◌<◌, [], IsTrue, IsSome, ◌↔◌};
+ghost use Rattle.std.specs.Prelude.{◌≡◌, ◌+◌, ◌<◌, [], false, length, IsTrue, IsSome, ◌↔◌};
 ghost use Rattle.containers.specs.BoundedList.{entries};
+ghost use Rattle.thread_frames.specs.Views.{label_of};
 ghost use Rattle.thread_frames.specs.declared.next.Next.TheVariants as nexts;
 ghost use Rattle.thread_frames.specs.declared.thread.Thread.{Thread as AnyThread};
 ghost use Rattle.thread_map.specs.Kept.{kept_under};
@@ -13,16 +14,16 @@ ghost use Rattle.owner_events.specs.Acting.{Does};
 ghost use Rattle.owner_events.specs.Ready.{IsReadyTo};
 
 use crate::acted::Acted;
-use crate::lists::root_end;
+use crate::lists::do_with_list;
 use crate::pools::do_with_pool;
 use crate::refused::ActRefused;
 use crate::taking::take_open_list;
-use crate::wholes::{leaving_end, waking_end};
+use crate::wholes::do_with_all;
 use containers::Boxed;
 use dag_order::Placed;
 use deque_list::DequeId;
 use hall_slots::{HallPlace, HallRow, ListSlot};
-use owner_acts::{AtNext, SeatMemory};
+use owner_acts::{AtNext, ListEvent, SeatMemory, WholeEvent};
 use thread_frames::{Next, Thread};
 
 /// Whether the parent of a thread waits for it in the list.
@@ -30,6 +31,14 @@ fn is_awaited(list: &Boxed<ListSlot>, top: &Boxed<Thread>) -> bool
     ensures { IsTrue result ↔ IsSome (kept_under list.now.part.waiting (AnyThread.id top.now)) }
 {
     list.get().part.waiting.has(top.get().id())
+}
+
+/// Whether a thread is the root.
+fn is_root(top: &Boxed<Thread>) -> bool
+    ensures root { IsTrue result ↔ (label_of top.now ≡ []) }
+    ensures forked { result ≡ false → 0 < length (label_of top.now) }
+{
+    top.get().label().is_empty()
 }
 
 /// Does the End of a thread that is alone in its deque.
@@ -51,13 +60,14 @@ fn end_alone(
     ensures lone { HasAllPlaces (key_of row.now) seat.old → IsNotBusy result }
 {
     let (at, list) = take_open_list(row, seat, deque, at)?;
-    if at.top.get().label().is_empty() {
-        return root_end(row, seat, deque, limit, memory, at, list);
+    if is_root(&at.top) {
+        let event = ListEvent::RootEnd;
+        return do_with_list(row, seat, deque, limit, memory, at, list, event);
     }
     if is_awaited(&list, &at.top) {
-        return waking_end(row, seat, deque, limit, memory, at, list);
+        return do_with_all(row, seat, deque, limit, memory, at, list, WholeEvent::Wake);
     }
-    leaving_end(row, seat, deque, limit, memory, at, list)
+    do_with_all(row, seat, deque, limit, memory, at, list, WholeEvent::Leave)
 }
 
 /// Does the End of a thread.

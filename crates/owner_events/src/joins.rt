@@ -15,16 +15,16 @@ ghost use Rattle.owner_events.specs.Ready.{IsKeptFor, IsReadyTo};
 
 use crate::acted::Acted;
 use crate::counting::count_lane;
-use crate::lists::{kept_join, wait};
+use crate::lists::do_with_list;
 use crate::pools::do_with_pool;
 use crate::refused::ActRefused;
 use crate::taking::take_open_list;
-use crate::wholes::kept_join_giving;
+use crate::wholes::do_with_all;
 use containers::Boxed;
 use dag_order::ThreadId;
 use deque_list::DequeId;
 use hall_slots::{Event, HallPlace, HallRow, ListSlot};
-use owner_acts::{AtNext, SeatMemory, act_own_join};
+use owner_acts::{AtNext, ListEvent, SeatMemory, WholeEvent, act_own_join};
 use thread_frames::{Next, Thread};
 
 /// Does the Join of a child whose result was handed over, which releases no words. It needs the lane alone.
@@ -119,8 +119,17 @@ pub(crate) fn join_missing(
 {
     let (at, list) = take_open_list(row, seat, deque, at)?;
     match kept_words(&list, &at.top, child) {
-        None => wait(row, seat, deque, at, list, child),
-        Some(0) => kept_join(row, seat, deque, limit, memory, at, list, child),
-        Some(_) => kept_join_giving(row, seat, deque, limit, memory, at, list, child),
+        None => {
+            let event = ListEvent::Wait { child };
+            do_with_list(row, seat, deque, limit, memory, at, list, event)
+        }
+        Some(0) => {
+            let event = ListEvent::Join { child };
+            do_with_list(row, seat, deque, limit, memory, at, list, event)
+        }
+        Some(_) => {
+            let event = WholeEvent::Join { child };
+            do_with_all(row, seat, deque, limit, memory, at, list, event)
+        }
     }
 }

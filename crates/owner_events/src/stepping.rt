@@ -34,7 +34,7 @@ pub fn step_on(
     requires slot { deque.0 + 2 < slot_count row.now }
     requires terms { IsRunBy (key_of row.now) code.now quota }
     requires may { MayCome seat.old deque }
-    ensures seat { GoesSteps seat.old deque result seat.new }
+    ensures seat { GoesSteps (key_of row.now) seat.old deque result seat.new }
     ensures lone { HasAllPlaces (key_of row.now) seat.old → GoesFreely result }
 {
     match go_some_turns(row, seat, deque, code, quota, alloc, most) {

@@ -25,7 +25,7 @@ impl Hall {
         requires here { IsIn self.now seat.old }
         requires owns { (deque : DequeId) × (seat.old.owned ≡ Some deque) }
         ensures here { IsIn self.now seat.new }
-        ensures seat { StepsIn seat.old seat.new result }
+        ensures seat { StepsIn self.now seat.old seat.new result }
         ensures lone { seat.old.places ≡ self.now.workers → IsNeverBusy result }
     {
         if let Some(stop) = seat.stop {

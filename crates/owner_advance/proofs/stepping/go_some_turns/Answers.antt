@@ -15,4 +15,4 @@ returns-in-Ok-clause-seat c = coming.has_stepped (key_of c.args.row.now) c.args.
     c.in-Ok.ensures.seat c.step_lane.result c.step_lane.new.seat c.step_lane.ensures
 
 pub returns-in-Ok-clause-lone : goal.returns-in-Ok-clause-lone
-returns-in-Ok-clause-lone c all = coming.steps_freely c.take_lane.new.seat c.step_lane.result c.step_lane.new.seat c.step_lane.ensures
+returns-in-Ok-clause-lone c all = coming.steps_freely (key_of c.args.row.now) c.take_lane.new.seat c.in-Ok.lane c.step_lane.result c.step_lane.new.seat c.step_lane.ensures

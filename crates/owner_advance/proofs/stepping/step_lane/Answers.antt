@@ -34,3 +34,14 @@ give_still_back-requires-clause-still c = let at = c.take_apart-at in
     c.step_on.new.top c.step_on.ensures.still
     (readable.of_code (key_of c.args.row.now) c.args.code.now c.args.quota c.requires.terms c.step_on.new.top c.in-Ok.ensures.point)
     c.put_together.result c.put_together.ensures.items c.put_together.ensures.running
+
+pub returns-in-Ok : goal.returns-in-Ok
+returns-in-Ok c = let at = c.take_apart-at in (
+  c.put_together.result,
+  readable.went_on (key_of c.args.row.now) c.args.seat.now c.args.deque c.requires.readable.0 c.args.lane c.requires.readable.1
+      at.result.top at.result.lane.items at.result.running at.ensures.items at.ensures.running
+      c.step_on.new.top c.step_on.ensures.still
+      (readable.of_code (key_of c.args.row.now) c.args.code.now c.args.quota c.requires.terms c.step_on.new.top c.in-Ok.ensures.point)
+      c.in-Ok.came c.in-Ok.ensures.came c.put_together.result c.put_together.ensures.items c.put_together.ensures.running,
+  c.give_still_back.ensures,
+)

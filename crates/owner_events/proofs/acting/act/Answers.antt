@@ -19,20 +19,29 @@ pub go_on-requires-clause-here : goal.go_on-requires-clause-here
 go_on-requires-clause-here c = here_too c.args.row.now c.args.seat.now c.come_to_next.new.seat c.in-Ok.ensures.seat.1 c.requires.here
 
 pub go_on-requires-clause-ready : goal.go_on-requires-clause-ready
-go_on-requires-clause-ready c = deciding.ready_to (key_of c.args.row.now) c.args.seat.now c.come_to_next.new.seat c.args.deque c.in-Ok.ensures.seat.0 c.in-Ok.at c.in-Ok.next c.come_to_next.new.memory c.requires.may c.in-Ok.ensures.seat.1 c.in-Ok.ensures.seat.2 c.in-Ok.ensures.meets (c.in-Ok.ensures.births ∙ c.requires.births)
+go_on-requires-clause-ready c =
+    deciding.ready_to (key_of c.args.row.now) c.args.seat.now c.come_to_next.new.seat c.args.deque c.in-Ok.ensures.seat.0 c.in-Ok.at c.in-Ok.next
+    c.come_to_next.new.memory c.requires.may c.in-Ok.ensures.seat.1 c.in-Ok.ensures.seat.2 c.in-Ok.ensures.meets (c.in-Ok.ensures.births ∙ c.requires.births)
 
 pub returns-in-Ok-clause-seat : goal.returns-in-Ok-clause-seat
-returns-in-Ok-clause-seat c = acts (key_of c.args.row.now) c.args.seat.now c.come_to_next.new.seat c.args.deque c.in-Ok.ensures.seat.0 c.in-Ok.at c.in-Ok.next (spare c.come_to_next.new.memory.births) c.in-Ok.ensures.seat.1 c.in-Ok.ensures.seat.2 c.go_on.result c.go_on.new.seat c.go_on.ensures.seat
+returns-in-Ok-clause-seat c =
+    acts (key_of c.args.row.now) c.args.seat.now c.come_to_next.new.seat c.args.deque c.in-Ok.ensures.seat.0 c.in-Ok.at c.in-Ok.next
+    (spare c.come_to_next.new.memory.births) c.in-Ok.ensures.seat.1 c.in-Ok.ensures.seat.2 c.go_on.result c.go_on.new.seat c.go_on.ensures.seat
 
 pub returns-in-Ok-clause-lone : goal.returns-in-Ok-clause-lone
-returns-in-Ok-clause-lone c all = c.go_on.ensures.lone (all_too c.args.seat.now c.come_to_next.new.seat (c.args.deque.0 + 2) (slots.Lane c.in-Ok.ensures.seat.0) c.in-Ok.ensures.seat.1 (key_of c.args.row.now) all)
+returns-in-Ok-clause-lone c all =
+    c.go_on.ensures.lone (all_too c.args.seat.now c.come_to_next.new.seat (c.args.deque.0 + 2) (slots.Lane c.in-Ok.ensures.seat.0) c.in-Ok.ensures.seat.1
+    (key_of c.args.row.now) all)
 
 pub returns-in-Err-Busy-clause-seat : goal.returns-in-Err-Busy-clause-seat
-returns-in-Err-Busy-clause-seat c = inl (subst (λ (h : Held). Fails (IsLaneOf c.args.deque) c.args.seat.now (Busy h) c.come_to_next.new.seat) (sym c.in-Err-Busy.held-is)
+returns-in-Err-Busy-clause-seat c =
+    inl (subst (λ (h : Held). Fails (IsLaneOf c.args.deque) c.args.seat.now (Busy h) c.come_to_next.new.seat) (sym c.in-Err-Busy.held-is)
     (refused_lane c.args.seat.now c.come_to_next.new.seat c.args.deque c.in-Err-Busy.held c.requires.may.free
-    (subst (λ (e : AdvanceRefused). HasCome (key_of c.args.row.now) c.args.seat.now c.args.deque c.come_to_next.new.memory (Err e) c.come_to_next.new.seat) c.in-Err-Busy.field-0-is c.in-Err-Busy.ensures.seat)))
+    (subst (λ (e : AdvanceRefused). HasCome (key_of c.args.row.now) c.args.seat.now c.args.deque c.come_to_next.new.memory (Err e) c.come_to_next.new.seat)
+    c.in-Err-Busy.field-0-is c.in-Err-Busy.ensures.seat)))
 
 pub returns-in-Err-OutOfMemory-clause-seat : goal.returns-in-Err-OutOfMemory-clause-seat
 returns-in-Err-OutOfMemory-clause-seat c =
-    let short = subst (λ (e : AdvanceRefused). HasCome (key_of c.args.row.now) c.args.seat.now c.args.deque c.come_to_next.new.memory (Err e) c.come_to_next.new.seat) c.in-Err-OutOfMemory.field-0-is c.in-Err-OutOfMemory.ensures.seat in
+    let short = subst (λ (e : AdvanceRefused). HasCome (key_of c.args.row.now) c.args.seat.now c.args.deque c.come_to_next.new.memory (Err e)
+    c.come_to_next.new.seat) c.in-Err-OutOfMemory.field-0-is c.in-Err-OutOfMemory.ensures.seat in
     inl (short_of_action c.args.seat.now c.come_to_next.new.seat c.args.deque short.0 short.1)

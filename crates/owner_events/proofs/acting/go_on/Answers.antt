@@ -10,20 +10,40 @@ use Rattle.depth_first_list.specs.QuotaWords.{quota_words}
 use Rattle.owner_events.proofs.acting.go_on.Goals as goal
 
 pub do_next-requires-clause-uses : goal.do_next-requires-clause-uses
-do_next-requires-clause-uses c = subst (λ k. IsReadiness c.args.at.running.period.used (quota_words k) c.args.at.top c.args.next (Ready c.in-Ready.charge)) (sym c.requires.quota) c.in-Ready.ensures
+do_next-requires-clause-uses c =
+    subst (λ k. IsReadiness c.args.at.running.period.used (quota_words k) c.args.at.top c.args.next (Ready c.in-Ready.charge)) (sym c.requires.quota)
+    c.in-Ready.ensures
 
-pub give_up-requires-clause-ready : goal.give_up-requires-clause-ready
-give_up-requires-clause-ready c = (c.args.next, c.args.memory.now, c.requires.ready, deciding.too_much (key_of c.args.row.now) c.args.seat.now c.args.deque c.args.at c.args.next c.args.memory.now c.requires.ready (subst (λ k. IsReadiness c.args.at.running.period.used (quota_words k) c.args.at.top c.args.next Spent) (sym c.requires.quota) c.in-Spent.ensures))
+pub take_list_and_do-requires-clause-ready : goal.take_list_and_do-requires-clause-ready
+take_list_and_do-requires-clause-ready c = (
+  c.args.next,
+  c.requires.ready,
+  deciding.too_much (key_of c.args.row.now) c.args.seat.now c.args.deque c.args.at c.args.next c.args.memory.now
+      c.requires.ready
+      (subst (λ k. IsReadiness c.args.at.running.period.used (quota_words k) c.args.at.top c.args.next Spent) (sym c.requires.quota) c.in-Spent.ensures),
+)
 
 pub join_missing-requires-clause-ready : goal.join_missing-requires-clause-ready
-join_missing-requires-clause-ready c = subst (λ n. IsReadyTo (key_of c.args.row.now) c.args.seat.now c.args.deque c.args.at n c.args.memory.now) (deciding.missing_is c.args.at.running.period.used (quota_of (key_of c.args.row.now)) c.args.at.top c.args.next c.in-Missing.child (subst (λ k. IsReadiness c.args.at.running.period.used (quota_words k) c.args.at.top c.args.next (Missing c.in-Missing.child)) (sym c.requires.quota) c.in-Missing.ensures)).0 c.requires.ready
+join_missing-requires-clause-ready c =
+    subst (λ n. IsReadyTo (key_of c.args.row.now) c.args.seat.now c.args.deque c.args.at n c.args.memory.now)
+    (deciding.missing_is c.args.at.running.period.used (quota_of (key_of c.args.row.now)) c.args.at.top c.args.next c.in-Missing.child
+    (subst (λ k. IsReadiness c.args.at.running.period.used (quota_words k) c.args.at.top c.args.next (Missing c.in-Missing.child)) (sym c.requires.quota)
+    c.in-Missing.ensures)).0 c.requires.ready
 
 pub join_missing-requires-clause-missing : goal.join_missing-requires-clause-missing
-join_missing-requires-clause-missing c = (deciding.missing_is c.args.at.running.period.used (quota_of (key_of c.args.row.now)) c.args.at.top c.args.next c.in-Missing.child (subst (λ k. IsReadiness c.args.at.running.period.used (quota_words k) c.args.at.top c.args.next (Missing c.in-Missing.child)) (sym c.requires.quota) c.in-Missing.ensures)).1
+join_missing-requires-clause-missing c =
+    (deciding.missing_is c.args.at.running.period.used (quota_of (key_of c.args.row.now)) c.args.at.top c.args.next c.in-Missing.child
+    (subst (λ k. IsReadiness c.args.at.running.period.used (quota_words k) c.args.at.top c.args.next (Missing c.in-Missing.child)) (sym c.requires.quota)
+    c.in-Missing.ensures)).1
 
 pub returns-in-Missing-clause-seat : goal.returns-in-Missing-clause-seat
-returns-in-Missing-clause-seat c = subst (λ n. Does (key_of c.args.row.now) c.args.seat.now c.args.deque c.args.at n c.join_missing.result c.join_missing.new.seat) (sym (deciding.missing_is c.args.at.running.period.used (quota_of (key_of c.args.row.now)) c.args.at.top c.args.next c.in-Missing.child (subst (λ k. IsReadiness c.args.at.running.period.used (quota_words k) c.args.at.top c.args.next (Missing c.in-Missing.child)) (sym c.requires.quota) c.in-Missing.ensures)).0) c.join_missing.ensures.seat
+returns-in-Missing-clause-seat c =
+    subst (λ n. Does (key_of c.args.row.now) c.args.seat.now c.args.deque c.args.at n c.join_missing.result c.join_missing.new.seat)
+    (sym (deciding.missing_is c.args.at.running.period.used (quota_of (key_of c.args.row.now)) c.args.at.top c.args.next c.in-Missing.child
+    (subst (λ k. IsReadiness c.args.at.running.period.used (quota_words k) c.args.at.top c.args.next (Missing c.in-Missing.child)) (sym c.requires.quota)
+    c.in-Missing.ensures)).0) c.join_missing.ensures.seat
 
 pub returns-in-Spent-clause-seat : goal.returns-in-Spent-clause-seat
-returns-in-Spent-clause-seat c = c.give_up.ensures.seat c.args.next c.args.memory.now c.requires.ready
-    (deciding.too_much (key_of c.args.row.now) c.args.seat.now c.args.deque c.args.at c.args.next c.args.memory.now c.requires.ready (subst (λ k. IsReadiness c.args.at.running.period.used (quota_words k) c.args.at.top c.args.next Spent) (sym c.requires.quota) c.in-Spent.ensures))
+returns-in-Spent-clause-seat c = c.take_list_and_do.ensures.seat c.args.next c.requires.ready
+    (deciding.too_much (key_of c.args.row.now) c.args.seat.now c.args.deque c.args.at c.args.next c.args.memory.now c.requires.ready
+    (subst (λ k. IsReadiness c.args.at.running.period.used (quota_words k) c.args.at.top c.args.next Spent) (sym c.requires.quota) c.in-Spent.ensures))

@@ -4,4 +4,6 @@ use Rattle.owner_events.proofs.Trying.{may_want}
 use Rattle.owner_events.proofs.wholes.stop_with_all.Goals as goal
 
 pub give_all-requires-clause-note : goal.give_all-requires-clause-note
-give_all-requires-clause-note c = may_want (key_of c.args.row.now) c.args.seat.now c.args.deque (all_three c.args.deque c.requires.before.2 c.args.pool) c.args.at c.requires.before.0 c.requires.before.1 c.requires.before.4
+give_all-requires-clause-note c =
+    may_want (key_of c.args.row.now) c.args.seat.now c.args.deque (all_three c.args.deque c.requires.before.2 c.args.pool) c.args.at c.requires.before.0
+    c.requires.before.1 c.requires.before.4
