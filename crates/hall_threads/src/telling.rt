@@ -1,6 +1,6 @@
 //! What is told of a run whose hall is closed.
 
-ghost use Rattle.std.specs.Prelude.{◌≡◌, ◌≢◌, ℕ, [], IfOk, count_by, length, pos};
+ghost use Rattle.std.specs.Prelude.{◌≡◌, ◌≢◌, ℕ, [], IfOk, IsErr, count_by, length, pos};
 ghost use Rattle.containers.specs.BoundedList.{entries};
 ghost use Rattle.depth_first_run.specs.Run.{whole, lines_of};
 ghost use Rattle.depth_first_run.specs.States.{Setting, State};
@@ -31,9 +31,10 @@ use std::alloc::{AllocError, Global};
 use thread_frames::Ended;
 use worker_entry::Closing;
 
-/// A stop, as it is told. Want of memory is told as such.
+/// A stop, as it is told. Only that there was not enough memory is told as an error.
 fn stop_told(stop: Stop) -> Result<Ran, AllocError>
-    ensures { IfOk result (λ ran. (ran ≡ WasStopped stop) × (stop ≢ NoMemory)) }
+    ensures told { IfOk result (λ ran. (ran ≡ WasStopped stop) × (stop ≢ NoMemory)) }
+    ensures cause { IsErr result → stop ≡ NoMemory }
 {
     match stop {
         Stop::OutOfMemory => Err(AllocError),
