@@ -17,15 +17,17 @@
 //! - **Room for one more entry is made before the step of an owner**, since the step takes none (`spare` of `step_of_owner`). If as many
 //!   entries are in the list as may be, none is made: then the arena has no room for a record, and no Fork can come (`entries_are_few`).
 //! - The list may have one entry, and one for each record of 16 words in the pool. So a place in the list is never wanting, and no answer says
-//!   so (`MeetsBy`).
+//!   so (`MeetsBy`). A pool that can grow may have more words than an arena; the type [`Arena`] says that this one has not.
 //! - After a Fork the code looks at the lane of the worker's deque: it has two threads exactly if the event was a Fork (`one_or_two`).
 //! - A turn draws one word, also if the worker is idle: no word picks from whom it takes.
 #![tactic(auto)]
 
+mod arena;
 mod aside;
 mod events;
 mod player;
 mod run;
 
+pub use arena::Arena;
 pub use player::play_async;
 pub use run::AsyncCore;

@@ -1,5 +1,5 @@
 ghost use Rattle.std.specs.Prelude.{◌≡◌, ◌<◌, ◌≤◌, ◌+◌, ◌/◌, ◌↔◌, List as AnyList, [], None, Some, Ok, Err, IfOk, IsTrue, length, pos};
-ghost use Rattle.language_limits.specs.declared.TheConstants.{GREATEST_COUNT, MOST_WORDS, MOST_WORKERS, RECORD_WORDS};
+ghost use Rattle.language_limits.specs.declared.TheConstants.{GREATEST_COUNT, MOST_WORKERS, RECORD_WORDS};
 ghost use Rattle.containers.specs.BoundedList.{entries};
 ghost use Rattle.depth_first_run.specs.States.{Setting, State};
 ghost use Rattle.depth_first_run.specs.Run.{whole, lines_of, list_of};
@@ -17,8 +17,8 @@ ghost use Rattle.scheduler_state.specs.Moments.{IsSound, CanGoOn, terms_of};
 ghost use Rattle.ready_machine.specs.ReadyPlay.{CanGo};
 ghost use Rattle.async_core.specs.Running.{IsSomewhere};
 
+use crate::arena::Arena;
 use crate::events::event_of;
-use block_arena::Pool;
 use dag_order::{Lines, ThreadId};
 use depth_first_list::Quota;
 use language_limits::{MOST_ACTIONS, MOST_ENTRIES, MOST_WORKERS, RECORD_WORDS};
@@ -49,20 +49,19 @@ pub struct AsyncCore {
     pub ghost few_workers: { length scheduler.table.seats.items ≤ MOST_WORKERS },
 }
 
-/// How many entries the list may have: one, and one for each record that the pool has room for.
-fn places(pool: &Pool) -> u32
-    requires { pool.now.capacity ≤ MOST_WORDS }
-    ensures value { result ≡ 1 + pool.now.capacity / RECORD_WORDS }
+/// How many entries the list may have: one, and one for each record that the arena has room for.
+fn places(arena: &Arena) -> u32
+    ensures value { result ≡ 1 + arena.now.pool.capacity / RECORD_WORDS }
     ensures few { (1 ≤ result) × (result ≤ MOST_ENTRIES) }
 {
-    1 + (pool.capacity() / u64::from(RECORD_WORDS)) as u32
+    1 + (arena.pool.capacity() / u64::from(RECORD_WORDS)) as u32
 }
 
 impl AsyncCore {
     ghost use Rattle.async_core.specs.Cores.{IsAt, Steps, SameSetting, HasFinished, end_of, terms_at, workers_of};
 
     /// The run of a program by so many workers, at its start: the root is ready, and all workers are idle. It may do `limit` actions. The
-    /// list has a place for each entry that the words of the pool allow.
+    /// list has a place for each entry that the words of the arena allow.
     ///
     /// # Errors
     ///
@@ -72,21 +71,21 @@ impl AsyncCore {
         code: Code,
         k: Quota,
         workers: u32,
-        pool: Pool,
+        arena: Arena,
         limit: u32,
     ) -> Result<AsyncCore, AllocError>
         requires workers { (1 ≤ workers) × (workers ≤ MOST_WORKERS) }
         requires limit { (1 ≤ limit) × (limit ≤ MOST_ACTIONS) }
-        requires pool { pool.live ≡ 0 }
-        requires arena { pool.capacity ≤ MOST_WORDS }
+        requires pool { arena.pool.live ≡ 0 }
         ensures opening { IfOk result (λ core. (c : Setting) → IsSettingOf (code_shown code) (quota_words k) c
             → IsAt c core [] opening) }
         ensures going { IfOk result (λ core. end_of core ≡ None) }
         ensures code { IfOk result (λ core. core.code ≡ code) }
         ensures quota { IfOk result (λ core. core.k ≡ k) }
-        ensures terms { IfOk result (λ core. terms_at core ≡ given_terms workers pool.capacity limit (1 + pool.capacity / RECORD_WORDS)) }
+        ensures terms { IfOk result (λ core. terms_at core ≡ given_terms workers arena.pool.capacity limit (1 + arena.pool.capacity / RECORD_WORDS)) }
     {
-        let most = places(&pool);
+        let most = places(&arena);
+        let Arena { pool } = arena;
         let scheduler = scheduler_of(alloc, &code, workers, pool, most)?;
         Ok(AsyncCore {
             scheduler,

@@ -27,7 +27,7 @@ use crate::pcg_choices::PcgChoices;
 use crate::playing_core::{Start, start_of, stop_answer};
 use crate::refusal::refusal_answer;
 use accepted_source::accept;
-use async_core::{AsyncCore, play_async};
+use async_core::{Arena, AsyncCore, play_async};
 use block_check::Checked;
 use command_line::Command;
 use dag_order::{Finish, Lines};
@@ -45,7 +45,10 @@ fn begun(alloc: Global, command: &Command, program: Checked) -> Result<AsyncCore
     ensures terms { IfOk result (λ core. terms_at core ≡ async_terms command.now) }
 {
     let Start { code, quota, pool } = start_of(alloc, command, program)?;
-    AsyncCore::new(alloc, code, quota, command.p, pool, command.steps)
+    let Some(arena) = Arena::of(pool) else {
+        unreachable!();
+    };
+    AsyncCore::new(alloc, code, quota, command.p, arena, command.steps)
 }
 
 /// Lets the workers of a command run a program with one ready list, up to the end of the run.

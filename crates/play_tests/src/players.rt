@@ -1,7 +1,7 @@
 //! The two cores that play, as one: that of deques and that of a ready list.
 
 use accepted_source::accept;
-use async_core::{AsyncCore, play_async};
+use async_core::{Arena, AsyncCore, play_async};
 use block_arena::Pool;
 use dag_order::Lines;
 use depth_first_list::Quota;
@@ -47,7 +47,7 @@ fn begun(alloc: Global, text: &str, lists: Lists, of: Numbers) -> Result<Player,
     if of.workers < 1 || 64 < of.workers || of.limit < 1 || 4_000_000 < of.limit {
         return Err(AllocError);
     }
-    if of.most < 1 || 4_096 < of.most || 67_108_864 < of.arena {
+    if of.most < 1 || 4_096 < of.most {
         return Err(AllocError);
     }
     match lists {
@@ -56,7 +56,10 @@ fn begun(alloc: Global, text: &str, lists: Lists, of: Numbers) -> Result<Player,
             Ok(Player::Deques(core))
         }
         Lists::Ready => {
-            let core = AsyncCore::new(alloc, code, k, of.workers, pool, of.limit)?;
+            let Some(arena) = Arena::of(pool) else {
+                return Err(AllocError);
+            };
+            let core = AsyncCore::new(alloc, code, k, of.workers, arena, of.limit)?;
             Ok(Player::Ready(core))
         }
     }

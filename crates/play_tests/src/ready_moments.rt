@@ -5,7 +5,7 @@ ghost use Rattle.prefix_laws.specs.Prefixes.{IsSerialOfList};
 
 use crate::prefixes::{Row, row_of, tell_labels};
 use accepted_source::accept;
-use async_core::AsyncCore;
+use async_core::{Arena, AsyncCore};
 use block_arena::Pool;
 use depth_first_list::Quota;
 use frame_code::lower;
@@ -52,7 +52,10 @@ fn begun(alloc: Global, text: &str, k: u32, workers: u32) -> Result<Compared, Al
     if workers < 1 || 64 < workers {
         return Err(AllocError);
     }
-    let core = AsyncCore::new(alloc, code, k, workers, pool, 1_000)?;
+    let Some(arena) = Arena::of(pool) else {
+        return Err(AllocError);
+    };
+    let core = AsyncCore::new(alloc, code, k, workers, arena, 1_000)?;
     Ok(Compared { core, serial })
 }
 

@@ -1,4 +1,4 @@
-use Rattle.std.proofs.Common.{arith, rules}
+use Rattle.std.proofs.Common.{arith, refl}
 use Rattle.command_line.proofs.Commands.{few_steps}
 use Rattle.command_line.specs.declared.setting.Setting.TheVariants.{Arena, Workers, Steps}
 use Rattle.dfd_plays.proofs.ready_playing.begun.Goals as goal
@@ -11,5 +11,8 @@ new-requires-clause-limit c =
     let range = c.requires.ranges.numbers Steps in let few = few_steps c.args.command.now.kind in
     let most = range.1 in (range.0, omega (arith, most, few))
 
-pub new-requires-clause-arena : goal.new-requires-clause-arena
-new-requires-clause-arena c = search (rules, (c.requires.ranges.numbers Arena).1)
+pub unreachable-requires : goal.unreachable-requires
+unreachable-requires c =
+    let few = (c.requires.ranges.numbers Arena).1 in
+    let asked = c.in_ok-code.ensures.pool.1 in
+    let more = c.in_default.ensures.none.0 refl in omega (arith, few, asked, more)

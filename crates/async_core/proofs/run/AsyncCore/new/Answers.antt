@@ -35,4 +35,4 @@ returns-clause-opening c = λ s of.
 
 pub returns-clause-terms : goal.returns-clause-terms
 returns-clause-terms c = c.in_ok-scheduler.ensures.terms c.args.limit
-    ∙ ap (given_terms c.args.workers c.args.pool.capacity c.args.limit) c.places-most.ensures.value
+    ∙ ap (given_terms c.args.workers c.args.arena.pool.capacity c.args.limit) c.places-most.ensures.value
