@@ -6,7 +6,7 @@ use block_arena::Pool;
 use dag_order::Lines;
 use depth_first_list::Quota;
 use frame_code::lower;
-use scheduler_state::Scheduler;
+use scheduler_state::{OutputFail, Scheduler};
 use std::alloc::{AllocError, Global};
 use std::process::Abort;
 use trail_record::{Core, ListChoices, RunEnd, Stepped, play};
@@ -109,6 +109,15 @@ pub(crate) fn report_of(player: &Player) -> Report {
             high: core.high(),
         },
     }
+}
+
+/// Whether a run says that it has no output, since it has not finished.
+pub(crate) fn is_unfinished(player: &Player) -> bool {
+    let output = match player {
+        Player::Deques(core) => core.output(),
+        Player::Ready(core) => core.output(),
+    };
+    matches!(output, Err(OutputFail::NotFinished))
 }
 
 /// What a run printed that has finished.

@@ -1,6 +1,6 @@
 //! Steps of workers, told one by one: one that waits, one that finds nothing to steal, and one that gives its deque up.
 
-use crate::players::{Numbers, Player, player_of, step_of};
+use crate::players::{Numbers, Player, is_unfinished, player_of, step_of};
 use crate::plays::{lists_of, number};
 use dfd_core::Core;
 use std::alloc::Global;
@@ -60,6 +60,7 @@ fn step_row(rt: &impl Abort, alloc: Global, row: &str) -> Option<()> {
     let moves = parts.next()?;
     let want = parts.next()?.trim();
     let mut player = player_of(rt, alloc, TWO, lists, numbers);
+    assert!(rt; is_unfinished(&player), "a new run has no output");
     let mut text = String::new(alloc);
     tell_moves(rt, &mut text, &mut player, moves);
     assert!(rt; text.trim_end() == want, "{text}");

@@ -2,6 +2,7 @@
 
 use crate::plays::number;
 use accepted_source::accept;
+use block_check::SetsFail;
 use frame_code::{Code, lower};
 use std::alloc::Global;
 use std::fmt::Write;
@@ -67,4 +68,15 @@ fn large_tables_are_copied(rt: HostRuntime) {
     for row in TEXTS.trim().split('\n') {
         is_copied(&rt, rt.alloc(), row).expect(&rt, "a row");
     }
+}
+
+/// The branches of the one `par` of a program are known, and there is no second one.
+#[test]
+fn there_is_no_second_par(rt: HostRuntime) {
+    let text = "fn main() { par { print 1; } and { print 2; } print 3; }";
+    let Ok(program) = accept(rt.alloc(), text.as_bytes()) else {
+        panic!(&rt; "an accepted text");
+    };
+    let second = program.branch_sets(rt.alloc(), 0, 1);
+    assert!(&rt; matches!(second, Err(SetsFail::NoSuchPar)));
 }
