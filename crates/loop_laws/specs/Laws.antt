@@ -13,7 +13,7 @@ use Rattle.loop_expand.specs.Texts.{bytes_of}
 use Rattle.loop_expand.specs.Expansion.{Expands}
 use Rattle.loop_laws.specs.LoopCalls.{IsCall}
 use Rattle.loop_laws.specs.TreeLaws.{IsExpansionOf}
-use Rattle.loop_laws.specs.Meaning.{HoldsRange, IsShort, MeansPlain, StaysLow}
+use Rattle.loop_laws.specs.Meaning.{HoldsRange, MeansPlain, StaysLow}
 
 -- Where a text has an expansion, and this is accepted: its program has the loops of the text, each with its call and its helper, and each
 -- statement that is the call of a loop means the plain loop, in whatever state a run comes to it.
@@ -43,12 +43,11 @@ LoopsFindTheirBlocks =
     → l.range ≡ parts block most → IsCall text j l stmt → after_steps c n ≡ middle (does (statements (step line stmt rest)) ∷ fs) s
     → s.faulted ≡ false → count s.store.blocks (bytes_of text block) ≡ 1
 
--- So at the points of such a run each call of a loop means the plain loop, where the block of a loop over parts is no longer than a block may be.
+-- So at the points of such a run each call of a loop means the plain loop: over parts, its block is held once and is not too long.
 abbrev pub LoopsOfRunsArePlain : Type 0
 LoopsOfRunsArePlain =
     (text bytes : List ℕ) (c : Setting) → Expands text (Ok bytes) → IsText bytes c.program → Ownership c.program
     → (x : IsExpansionOf text c.program)
     × ((before : List Loop) (l : Loop) (behind : List Loop) → x.loops ≡ before ++ l ∷ behind
     → (n line : ℕ) (stmt : Stmt) (rest : Body) (fs : List Frame) (s : State) → IsCall text (length before) l stmt
-    → after_steps c n ≡ middle (does (statements (step line stmt rest)) ∷ fs) s → s.faulted ≡ false → IsShort text l.range s.store
-    → MeansPlain text c line l stmt s)
+    → after_steps c n ≡ middle (does (statements (step line stmt rest)) ∷ fs) s → s.faulted ≡ false → MeansPlain text c line l stmt s)

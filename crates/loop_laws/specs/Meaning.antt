@@ -34,11 +34,6 @@ HoldsRange text (numbers low high) s = Unit {0}
 HoldsRange text (parts block most) s =
     (count s.blocks (bytes_of text block) ≡ 1) × (length (block_of s.blocks (bytes_of text block)) ≤ LONGEST_BLOCK)
 
--- the block that a loop goes over is no longer than a block may be
-abbrev pub IsShort : List ℕ → Range → Store → Type 0
-IsShort text (numbers low high) s = Unit {0}
-IsShort text (parts block most) s = length (block_of s.blocks (bytes_of text block)) ≤ LONGEST_BLOCK
-
 -- A statement that stands for a loop means the plain loop: where it begins without a fault, and neither of both meets a limit.
 abbrev pub MeansPlain : List ℕ → Setting → (line : ℕ) → Loop → Stmt → State → Type 0
 MeansPlain text c line l stmt s =

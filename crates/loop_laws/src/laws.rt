@@ -16,7 +16,7 @@ pub fn loops_find_their_blocks()
     ensures { LoopsFindTheirBlocks }
 {}
 
-/// So in such a run each loop of the text means the plain loop, where the block of a loop over parts is no longer than a block may be.
+/// So in such a run each loop of the text means the plain loop.
 pub fn loops_of_runs_are_plain()
     ensures { LoopsOfRunsArePlain }
 {}

@@ -4,7 +4,7 @@
 //! (`par_ownership`, `ownership_laws`) and the depth-first run (`depth_first_run`). Its theorem, [`laws::written_out_loops_are_plain`]: each
 //! loop of the text has its call in the program. In the depth-first run this call prints what the calls of the loop's function print one
 //! after another, ends by the same fault, and leaves the same store, as long as no limit of the language is met.
-//! [`laws::loops_of_runs_are_plain`] says so of the points of a run, where the block of a loop over parts is held once.
+//! [`laws::loops_of_runs_are_plain`] says so of all points of a run: the block of a loop over parts is held once there, and is not too long.
 //! [`laws::written_out_loops_stay_low`] bounds the words that the call of a loop over numbers takes. These are put together from:
 //!
 //! - [`run_laws`]: what statements print, whether and how a fault ends them, the store that they leave and the words that they take at most
