@@ -95,7 +95,7 @@ quiet s one m ready worker event after (forks_left o place child new at fits lea
     quiet_action m worker o (Some worker) place after.deques after.waiting
 quiet s one m ready worker event after (as_with_deques event' after' shared may) = quiet_shared s m worker event after shared may
 
--- where no period that is ahead may be unmarked, and none is marked, what is done is among the first n
+-- what a period ran that is not ahead is among the first n
 ran_before : (n : ℕ) (ran : List ℕ) → goes_past n ran ≡ false → (i : ℕ) → 0 < times i ran → i < n
 ran_before n [] none i did = omega (arith, did)
 ran_before n (place ∷ later) none i did = elim (cases_Bool (nat_le n place)) [
@@ -107,6 +107,7 @@ ran_before n (place ∷ later) none i did = elim (cases_Bool (nat_le n place)) [
   ]
 ]
 
+-- and where no period is marked, and those ahead are, so is all that is done
 done_before : (n : ℕ) (books : List Book) → Each (λ book. is_ahead n book ≡ true → book.ahead ≡ true) books → periods_marked books ≡ 0
     → (i : ℕ) → 0 < done_in books i → i < n
 done_before n [] marked none i did = omega (arith, did)
@@ -247,7 +248,8 @@ module _ (s : Setting) (some : 0 < s.quota) (list : IsDepthFirst s.quota s.list)
       (in_order_from later reaches.0 last between.0 k next unmarked reaches.2 between.1 now)
     where
       by_event : (event : Event) → ((i : ℕ) → done_at reaches.0 i ≡ done_at first i + times i (place_of event)) → (j : ℕ)
-          → DoneUpTo reaches.0 j → ((place : ℕ) → done_at reaches.0 place ≤ 1) → ((place : ℕ) → 0 < done_at reaches.0 place → place < length s.list)
+          → DoneUpTo reaches.0 j → ((place : ℕ) → done_at reaches.0 place ≤ 1)
+          → ((place : ℕ) → 0 < done_at reaches.0 place → place < length s.list)
           → drop j s.list ≡ map (action_at s.list) (places_of later) ++ drop k s.list
           → drop n s.list ≡ map (action_at s.list) (place_of event ++ places_of later) ++ drop k s.list
       by_event (steals place id) more j after once inside rest =

@@ -80,7 +80,7 @@ pub record StaysLow (command : Command) (p : Program) (run : List Pair) (m : Mom
   pub none_ahead : (n : ℕ) → IsPrefix (play_list command p) (done_at m) n → periods_ahead n m.books ≡ 0
   pub low : live_at (play_list command p) m ≤ℤ peak (play_list command p)
 
--- So it is with one worker at each moment of each play: after each first part of its events there is one.
+-- So it is with one worker at each moment of each play. There is a moment after each first part of its events, by `AsyncMomentsAreBounded`.
 abbrev pub AsyncOfOneStaysLow : Type 0
 AsyncOfOneStaysLow = (command : Command) (p : Program) → HasRanges command → IsAccepted p → command.p ≡ 1
     → (run : List Pair) (last : Moment) (ending : Ending) → IsAsyncPlay command p run last ending
