@@ -9,6 +9,8 @@ pub mod Expansions
 pub mod ArenaStops
 pub mod Headline
 pub mod AsyncHeadline
+pub mod OneWorker
+pub mod AsyncOfOne
 pub mod RunHeadline
 pub mod ThreadPlays
 pub mod TrailLaws

@@ -1,7 +1,7 @@
 ghost use Rattle.dfd_plays.specs.Async.{AsyncMakes};
 ghost use Rattle.dfd_plays.specs.Play.{PlayMakes};
 ghost use Rattle.dfd_plays.specs.Threads.{RunMakes};
-ghost use Rattle.dfd_laws.specs.AsyncHeadline.{AsyncActionsSuffice, AsyncArenasStopLate, AsyncArenasSuffice, AsyncListsNeverFill, AsyncMomentsAreBounded, AsyncPlaysEnd, AsyncPlaysWithRoomFinish, AsyncStatusesWithRoom};
+ghost use Rattle.dfd_laws.specs.AsyncHeadline.{AsyncActionsSuffice, AsyncArenasStopLate, AsyncArenasSuffice, AsyncListsNeverFill, AsyncMomentsAreBounded, AsyncOfOneReportsThePeak, AsyncOfOneStaysLow, AsyncPlaysEnd, AsyncPlaysWithRoomFinish, AsyncStatusesWithRoom};
 ghost use Rattle.dfd_laws.specs.Headline.{ActionsSuffice, ArenasStopLate, ArenasSuffice, DequesSuffice, MomentsAreBounded, PlaysEnd, PlaysWithRoomFinish, ReportsAreBounded, StatusesWithRoom, SummariesAreBounded};
 ghost use Rattle.dfd_laws.specs.RunHeadline.{RunArenasStopLate, RunArenasSuffice, RunDequesSuffice, RunMomentsAreBounded};
 ghost use Rattle.dfd_laws.specs.Laws.{AcceptedTrailsAreBounded, AnAnswer, CommandsHaveRanges, LoopsArePlays, OneAnswer, RecordedTrailsAreAccepted};
@@ -129,6 +129,18 @@ pub fn async_moments_are_bounded()
 /// bound.
 pub fn async_reports_are_bounded()
     ensures { ReportsAreBounded AsyncMakes }
+{}
+
+/// With one worker the actions of a play of `async` are, at each moment, the first ones of the depth-first run, in its order. No period is
+/// marked, so none is ahead, and the words in use are at most the depth-first peak.
+pub fn async_of_one_stays_low()
+    ensures { AsyncOfOneStaysLow }
+{}
+
+/// If no limit stops such a play, `async` reports the lines and the finish of the depth-first run, no period as ahead, and the depth-first peak
+/// as the high-water mark.
+pub fn async_of_one_reports_the_peak()
+    ensures { AsyncOfOneReportsThePeak }
 {}
 
 /// No play of `async` ends for want of a place in the list.
