@@ -1,5 +1,5 @@
 -- What holds of each play of `async` with one worker.
-use Rattle.std.proofs.Common.{◌≡◌, ◌⊎◌, ℕ, ◌*◌, ◌<◌, List, ◌++◌, length, ℤ, pos, ◌+ℤ◌, ◌≤ℤ◌, arith, refl, ◌∙◌}
+use Rattle.std.proofs.Common.{◌≡◌, ◌≢◌, ◌⊎◌, subst, ℕ, ◌*◌, ◌<◌, List, ◌++◌, length, ℤ, pos, ◌+ℤ◌, ◌≤ℤ◌, arith, refl, ◌∙◌}
 use Rattle.std.proofs.Math.Logic.{∥∥₁_map}
 use Rattle.std.proofs.lemmas.Int.{ints}
 use Rattle.command_line.specs.declared.command.Command.{Command}
@@ -9,11 +9,11 @@ use Rattle.depth_first_list.specs.Runs.{IsDepthFirst}
 use Rattle.depth_first_run.proofs.Built.{whole_is_depth_first}
 use Rattle.depth_first_run.specs.Run.{whole, lines_of, finish_of_run}
 use Rattle.deque_machine.specs.Moments.{Moment, opening}
-use Rattle.deque_machine.specs.Play.{Ending, finished, stopped}
+use Rattle.deque_machine.specs.Play.{Ending, finished, stopped, arena_full}
 use Rattle.deque_machine.specs.Runs.{Pair}
 use Rattle.deque_machine.specs.Books.{periods_marked}
 use Rattle.par_tree.specs.Tree.{Program}
-use Rattle.ready_machine.proofs.Playing.{plays_are_runs, endings_have_causes}
+use Rattle.ready_machine.proofs.Playing.{plays_are_runs, endings_have_causes, arenas_with_the_bound_last}
 use Rattle.ready_machine.specs.ReadyMachine.{ReadyReaches}
 use Rattle.run_report.specs.Shown.{Shown}
 use Rattle.dfd_plays.specs.Answer.{HasRanges}
@@ -23,7 +23,7 @@ use Rattle.dfd_plays.specs.declared.status.Status.{Status}
 use Rattle.dfd_plays.specs.declared.status.Status.TheVariants.{Done, UserFault}
 use Rattle.dfd_laws.specs.AsyncHeadline.{StaysLow, IsLowReport}
 use Rattle.dfd_laws.specs.Headline.{play_list}
-use Rattle.dfd_laws.proofs.OneWorker.{none_marked, none_ahead, never_above_peak, in_list_order, high_is_peak}
+use Rattle.dfd_laws.proofs.OneWorker.{none_marked, none_ahead, never_above_peak, in_list_order, peak_covers, high_is_peak}
 use Rattle.dfd_laws.proofs.Statuses.{not_stopped}
 
 module _ (command : Command) (p : Program) (ranges : HasRanges command) where
@@ -79,3 +79,13 @@ module _ (command : Command) (p : Program) (ranges : HasRanges command) where
       (status ≡ Done) ⊎ (status ≡ UserFault) → ∥ ((shown : Shown) × IsLowReport command p text shown) ∥₁
   async_of_one_reports_the_peak one status text makes ended =
       ∥∥₁_map makes (λ w. reported one w.0 w.1 w.2 status text w.3 w.4 ended)
+
+  pub async_of_one_lasts_at_the_peak : command.p ≡ 1 → (run : List Pair) (last : Moment) (ending : Ending) → IsAsyncPlay command p run last ending →
+      peak (play_list command p) ≤ℤ pos command.arena → (live : ℤ) (asked : ℕ) → ending ≢ stopped (arena_full live asked)
+  async_of_one_lasts_at_the_peak one run last ending plays room live asked is =
+      let s = async_machine command p in
+      let words = seeded_words command.seed in
+      let reaches = (plays_are_runs s (async_terms command).limits words run last ending plays).0 in
+      arenas_with_the_bound_last s some_quota listed (async_terms command).limits words run last live asked
+      (peak_covers s some_quota listed one run last command.arena reaches room)
+      (subst (λ e. IsAsyncPlay command p run last e) is plays)

@@ -18,8 +18,10 @@ use Rattle.deque_machine.proofs.Keeping.{times_append, done_more, closed_same, b
 use Rattle.deque_machine.proofs.Lists.{total_append, one_same, one_other}
 use Rattle.deque_machine.proofs.Reached.{no_move_weighs_nothing}
 use Rattle.ready_machine.proofs.Along.{ahead_is_marked, bound_in_ready, events_keep_ready, reached_is_ready, ended_did_all}
+use Rattle.ready_machine.proofs.Aside.{ready_runs_go_on}
 use Rattle.ready_machine.proofs.Sharing.{in_reach, opening_is_ready}
 use Rattle.ready_machine.specs.Entries.{entry, IsReadyList}
+use Rattle.ready_machine.specs.PlayLaws.{CoversNext}
 use Rattle.ready_machine.specs.ReadyMachine.{IsShared, MayReady, takes, forks_left, as_with_deques, ReadyReaches}
 
 -- what an event that begins no marked period does to the books: its action is done once more, and as many periods are marked as before
@@ -222,6 +224,17 @@ module _ (s : Setting) (some : 0 < s.quota) (list : IsDepthFirst s.quota s.list)
     where
       no_more : (x top : ℤ) → x ≤ℤ (top +ℤ pos (2 * s.quota * 0)) → x ≤ℤ top
       no_more x top le = omega (arith, ints, le)
+
+  -- an arena with room for the peak has room for the bound after whatever comes next
+  pub peak_covers : (run : List Pair) (m : Moment) (capacity : ℕ) → ReadyReaches s opening run m → peak s.list ≤ℤ pos capacity
+      → CoversNext s capacity m
+  peak_covers run m capacity reaches room worker place n after may takes_words prefix =
+      let next = ready_runs_go_on s run m after worker (does place) reaches may in
+      let none = none_ahead (run ++ record { worker = worker; event = does place } ∷ []) after n next prefix in
+      subst (λ a. bound s.quota s.list a ≤ℤ pos capacity) (sym none) (no_more (peak s.list) (pos capacity) room)
+    where
+      no_more : (top y : ℤ) → top ≤ℤ y → (top +ℤ pos (2 * s.quota * 0)) ≤ℤ y
+      no_more top y le = omega (arith, ints, le)
 
   up_to : (m : Moment) → IsReadyList s m → periods_marked m.books ≡ 0 → (n : ℕ) × DoneUpTo m n
   up_to m ready none =

@@ -99,3 +99,9 @@ abbrev pub AsyncOfOneReportsThePeak : Type 0
 AsyncOfOneReportsThePeak = (command : Command) (p : Program) → HasRanges command → IsAccepted p → command.p ≡ 1
     → (status : Status) (text : List ℕ) → AsyncMakes command p status text → (status ≡ Done) ⊎ (status ≡ UserFault)
     → ∥ ((shown : Shown) × IsLowReport command p text shown) ∥₁
+
+-- And an arena with room for the depth-first peak stops no play of one worker.
+abbrev pub AsyncOfOneLastsAtThePeak : Type 0
+AsyncOfOneLastsAtThePeak = (command : Command) (p : Program) → HasRanges command → IsAccepted p → command.p ≡ 1
+    → (run : List Pair) (last : Moment) (ending : Ending) → IsAsyncPlay command p run last ending
+    → peak (play_list command p) ≤ℤ pos command.arena → (live : ℤ) (asked : ℕ) → ending ≢ stopped (arena_full live asked)

@@ -1,7 +1,7 @@
 ghost use Rattle.dfd_plays.specs.Async.{AsyncMakes};
 ghost use Rattle.dfd_plays.specs.Play.{PlayMakes};
 ghost use Rattle.dfd_plays.specs.Threads.{RunMakes};
-ghost use Rattle.dfd_laws.specs.AsyncHeadline.{AsyncActionsSuffice, AsyncArenasStopLate, AsyncArenasSuffice, AsyncListsNeverFill, AsyncMomentsAreBounded, AsyncOfOneReportsThePeak, AsyncOfOneStaysLow, AsyncPlaysEnd, AsyncPlaysWithRoomFinish, AsyncStatusesWithRoom};
+ghost use Rattle.dfd_laws.specs.AsyncHeadline.{AsyncActionsSuffice, AsyncArenasStopLate, AsyncArenasSuffice, AsyncListsNeverFill, AsyncMomentsAreBounded, AsyncOfOneLastsAtThePeak, AsyncOfOneReportsThePeak, AsyncOfOneStaysLow, AsyncPlaysEnd, AsyncPlaysWithRoomFinish, AsyncStatusesWithRoom};
 ghost use Rattle.dfd_laws.specs.Headline.{ActionsSuffice, ArenasStopLate, ArenasSuffice, DequesSuffice, MomentsAreBounded, PlaysEnd, PlaysWithRoomFinish, ReportsAreBounded, StatusesWithRoom, SummariesAreBounded};
 ghost use Rattle.dfd_laws.specs.RunHeadline.{RunArenasStopLate, RunArenasSuffice, RunDequesSuffice, RunMomentsAreBounded};
 ghost use Rattle.dfd_laws.specs.Laws.{AcceptedTrailsAreBounded, AnAnswer, CommandsHaveRanges, LoopsArePlays, OneAnswer, RecordedTrailsAreAccepted};
@@ -141,6 +141,11 @@ pub fn async_of_one_stays_low()
 /// as the high-water mark.
 pub fn async_of_one_reports_the_peak()
     ensures { AsyncOfOneReportsThePeak }
+{}
+
+/// And an arena with room for the depth-first peak stops no play of `async` with one worker.
+pub fn async_of_one_lasts_at_the_peak()
+    ensures { AsyncOfOneLastsAtThePeak }
 {}
 
 /// No play of `async` ends for want of a place in the list.
