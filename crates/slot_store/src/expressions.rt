@@ -1,6 +1,6 @@
 //! Expressions over slots.
 
-ghost use Rattle.std.specs.Prelude.{◌≡◌, ◌<◌, List, length};
+ghost use Rattle.std.specs.Prelude.{◌≡◌, ◌<◌, List, Ok, MatchOption, ⊤, length};
 ghost use Rattle.depth_first_run.specs.Passed.Tree.{Name, Expr};
 ghost use Rattle.par_tree.specs.View.{chain_op_tree};
 ghost use Rattle.node_table.specs.Names.{name_at};
@@ -38,27 +38,108 @@ pub fn evaluate(slots: &Slots, expr: &CodeExpr) -> Result<i64, FaultKind>
     }
 }
 
-/// What an expression comes to.
+/// What an expression comes to. One whose operands are numbers and slots makes no further call.
 #[cycle(evaluate)]
+#[inline(never)]
+fn outcome(slots: &Slots, expr: &CodeExpr) -> Outcome
+    ensures { (names : List Name) (store : Store) (e : Expr) → ShowsStore names (slots_shown slots.now) store
+        → IsExpr names (expr_shown expr.now) e → outcome_shown result ≡ value store e }
+{
+    match flat_outcome(slots, expr) {
+        Some(outcome) => outcome,
+        None => nested_outcome(slots, expr),
+    }
+}
+
+/// What an expression comes to whose operands are numbers and slots, which are read where they stand; None of any other.
 #[inline(always)]
 #[tactic(auto, unfolding(depth_first_run::specs::Values::value))]
-fn outcome(slots: &Slots, expr: &CodeExpr) -> Outcome
+fn flat_outcome(slots: &Slots, expr: &CodeExpr) -> Option<Outcome>
+    ensures { (names : List Name) (store : Store) (e : Expr) → ShowsStore names (slots_shown slots.now) store
+        → IsExpr names (expr_shown expr.now) e → MatchOption result ⊤ (λ outcome. outcome_shown outcome ≡ value store e) }
+{
+    match expr {
+        CodeExpr::Num(number) => Some(Outcome::Number(*number)),
+        CodeExpr::Var(slot) => Some(Outcome::Number(slots.integer(*slot))),
+        CodeExpr::Get(slot, index) => {
+            let index = leaf(slots, index)?;
+            Some(element(slots, *slot, index))
+        }
+        CodeExpr::Len(slot) => Some(Outcome::Number(i64::from(slots.length(*slot)))),
+        CodeExpr::Neg(inner) => {
+            let number = leaf(slots, inner)?;
+            Some(Outcome::Number(negate(number)))
+        }
+        CodeExpr::Chain { first, rest } => {
+            let front = leaf(slots, first)?;
+            flat_chain(slots, front, rest)
+        }
+        CodeExpr::Cmp { op, left, right } => {
+            let left = leaf(slots, left)?;
+            let right = leaf(slots, right)?;
+            Some(Outcome::Number(compare(*op, left, right)))
+        }
+    }
+}
+
+/// What a chain comes to whose operands are numbers and slots, from the number of its front; None of any other.
+#[inline(always)]
+#[tactic(auto, unfolding(depth_first_run::specs::Values::chained))]
+fn flat_chain(slots: &Slots, front: i64, rest: &[CodeLink]) -> Option<Outcome>
+    ensures { (names : List Name) (store : Store) → ShowsStore names (slots_shown slots.now) store
+        → FitsLinks (length names) (links_shown rest.now)
+        → MatchOption result ⊤ (λ outcome. outcome_shown outcome ≡ chained store (links_read names (links_shown rest.now)) front) }
+{
+    let mut number = front;
+    for link in rest {
+        let right = leaf(slots, &link.operand)?;
+        match joined(link.op, number, right) {
+            Outcome::Number(next) => {
+                number = next;
+            }
+            fault => {
+                return Some(fault);
+            }
+        }
+    }
+    Some(Outcome::Number(number))
+}
+
+/// The number of an expression that is a number or a slot; None of any other.
+#[inline(always)]
+#[tactic(auto, unfolding(depth_first_run::specs::Values::value))]
+fn leaf(slots: &Slots, expr: &CodeExpr) -> Option<i64>
+    ensures { (names : List Name) (store : Store) (e : Expr) → ShowsStore names (slots_shown slots.now) store
+        → IsExpr names (expr_shown expr.now) e → MatchOption result ⊤ (λ number. value store e ≡ Ok number) }
+{
+    match expr {
+        CodeExpr::Num(number) => Some(*number),
+        CodeExpr::Var(slot) => Some(slots.integer(*slot)),
+        _ => None,
+    }
+}
+
+/// What an expression comes to, operand by operand.
+#[cycle(evaluate)]
+#[inline(never)]
+#[tactic(auto, unfolding(depth_first_run::specs::Values::value))]
+fn nested_outcome(slots: &Slots, expr: &CodeExpr) -> Outcome
     ensures { (names : List Name) (store : Store) (e : Expr) → ShowsStore names (slots_shown slots.now) store
         → IsExpr names (expr_shown expr.now) e → outcome_shown result ≡ value store e }
 {
     match expr {
         CodeExpr::Num(number) => Outcome::Number(*number),
         CodeExpr::Var(slot) => Outcome::Number(slots.integer(*slot)),
-        CodeExpr::Get(slot, index) => match operand(slots, index) {
+        CodeExpr::Get(slot, index) => match outcome(slots, index) {
             Outcome::Number(index) => element(slots, *slot, index),
             fault => fault,
         },
         CodeExpr::Len(slot) => Outcome::Number(i64::from(slots.length(*slot))),
-        CodeExpr::Neg(inner) => match operand(slots, inner) {
+        CodeExpr::Neg(inner) => match outcome(slots, inner) {
             Outcome::Number(number) => Outcome::Number(negate(number)),
             fault => fault,
         },
-        CodeExpr::Chain { first, rest } => match operand(slots, first) {
+        CodeExpr::Chain { first, rest } => match outcome(slots, first) {
             Outcome::Number(front) => chain(slots, front, rest),
             fault => fault,
         },
@@ -72,7 +153,7 @@ fn outcome(slots: &Slots, expr: &CodeExpr) -> Outcome
     }
 }
 
-/// What an operand comes to. Most are a number or a slot, which are read where they stand, without a call.
+/// What an operand comes to.
 #[cycle(evaluate)]
 #[inline(always)]
 #[tactic(auto, unfolding(depth_first_run::specs::Values::value))]
@@ -80,28 +161,31 @@ fn operand(slots: &Slots, expr: &CodeExpr) -> Outcome
     ensures { (names : List Name) (store : Store) (e : Expr) → ShowsStore names (slots_shown slots.now) store
         → IsExpr names (expr_shown expr.now) e → outcome_shown result ≡ value store e }
 {
-    match expr {
-        CodeExpr::Num(number) => Outcome::Number(*number),
-        CodeExpr::Var(slot) => Outcome::Number(slots.integer(*slot)),
-        _ => nested(slots, expr),
+    match leaf(slots, expr) {
+        Some(number) => Outcome::Number(number),
+        None => outcome(slots, expr),
     }
-}
-
-/// What an expression in another one comes to: the one call that evaluation makes.
-#[cycle(evaluate)]
-#[inline(never)]
-fn nested(slots: &Slots, expr: &CodeExpr) -> Outcome
-    ensures { (names : List Name) (store : Store) (e : Expr) → ShowsStore names (slots_shown slots.now) store
-        → IsExpr names (expr_shown expr.now) e → outcome_shown result ≡ value store e }
-{
-    outcome(slots, expr)
 }
 
 /// What a chain comes to, from the number of its front.
 #[cycle(evaluate)]
 #[inline(always)]
-#[tactic(auto, unfolding(depth_first_run::specs::Values::chained))]
 fn chain(slots: &Slots, front: i64, rest: &[CodeLink]) -> Outcome
+    ensures { (names : List Name) (store : Store) → ShowsStore names (slots_shown slots.now) store
+        → FitsLinks (length names) (links_shown rest.now)
+        → outcome_shown result ≡ chained store (links_read names (links_shown rest.now)) front }
+{
+    match flat_chain(slots, front, rest) {
+        Some(outcome) => outcome,
+        None => nested_chain(slots, front, rest),
+    }
+}
+
+/// What a chain comes to, from the number of its front, operand by operand.
+#[cycle(evaluate)]
+#[inline(never)]
+#[tactic(auto, unfolding(depth_first_run::specs::Values::chained))]
+fn nested_chain(slots: &Slots, front: i64, rest: &[CodeLink]) -> Outcome
     ensures { (names : List Name) (store : Store) → ShowsStore names (slots_shown slots.now) store
         → FitsLinks (length names) (links_shown rest.now)
         → outcome_shown result ≡ chained store (links_read names (links_shown rest.now)) front }

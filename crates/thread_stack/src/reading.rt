@@ -11,6 +11,7 @@ use crate::list_of::ListOf;
 use node_table::{Code, FuncCode, NodeKind};
 
 /// The numbers of the statements of a list, in their order; none where the code has no such list.
+#[inline(always)]
 pub fn numbers(code: &Code, list: ListOf) -> &[u32]
     ensures { result.now ≡ numbers_of (code_shown code.now) list }
 {
