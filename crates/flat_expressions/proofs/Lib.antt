@@ -1,0 +1,5 @@
+pub mod Rows
+pub mod Coded
+pub mod Statements
+pub mod Shown
+mod Examples

@@ -1,0 +1,5 @@
+pub mod Acts
+pub mod Values
+pub mod Codes
+pub mod Meanings
+pub mod Laws
