@@ -1,0 +1,5 @@
+pub mod Running
+pub mod Reaching
+pub mod Following
+pub mod Stepping
+mod Examples
