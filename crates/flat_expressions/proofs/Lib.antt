@@ -2,4 +2,5 @@ pub mod Rows
 pub mod Coded
 pub mod Statements
 pub mod Shown
+pub mod OneAct
 mod Examples

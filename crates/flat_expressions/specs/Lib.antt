@@ -2,4 +2,5 @@ pub mod Acts
 pub mod Values
 pub mod Codes
 pub mod Meanings
+pub mod Shown
 pub mod Laws
