@@ -8,7 +8,7 @@ use Rattle.thread_stack.specs.declared.list_of.ListOf.TheVariants.{Then, Other, 
 use Rattle.thread_stack.specs.Lists.{kind_at, then_of, other_of, round_of, numbers_of, numbers_from}
 use Rattle.flat_statements.specs.Flat.{FlatCode, frames_at}
 use Rattle.flat_statements.specs.Threads.{rest_of}
-use Rattle.flat_statements.specs.Codes.{StatementCode, IsListCode, IsArmEnd, IsAgainCode, IsNodeCode, IsWholeCode}
+use Rattle.flat_statements.specs.Codes.{StatementCode, IsByItself, IsKindCode, IsListCode, IsArmEnd, IsAgainCode, IsNodeCode, IsWholeCode}
 use Rattle.flat_statements.specs.Follows.{Jumps, Reaches, IsRestCode, IsLoopCode, IsCodeOf}
 
 -- ---- numbers of lists
@@ -127,3 +127,37 @@ module _ (t : Table) (f : FlatCode) (k size : ℕ) where
 
   pub whole_reaches : (list : ListOf) (place : ℕ) → IsWholeCode t f k size list place → ReachesCode (rest_of (numbers_from t list 0) list 0 []) place
   whole_reaches list place h = list_reaches h.depth (numbers_from t list 0) list 0 [] place h.behind h.code refl (zero, h.behind, refl, h.end)
+
+  -- ---- behind a statement that the thread does by itself
+
+  left_behind : (P : StatementCode) (n : ℕ) (here xs : List Frame) (place behind : ℕ) (kind : Option Kind) → IsByItself kind
+      → IsKindCode f k size P n here xs place behind kind → behind ≡ suc place
+  left_behind P n here xs place behind None itself h = absurd h
+  left_behind P n here xs place behind (Some (let_node s e)) itself h = absurd itself
+  left_behind P n here xs place behind (Some (assign_node s e)) itself h = absurd itself
+  left_behind P n here xs place behind (Some (put_node b i e)) itself h = absurd itself
+  left_behind P n here xs place behind (Some (if_node e a b)) itself h = absurd itself
+  left_behind P n here xs place behind (Some (while_node e a)) itself h = absurd itself
+  left_behind P n here xs place behind (Some (alloc_node s e)) itself h = h.next
+  left_behind P n here xs place behind (Some (free_node s)) itself h = h.next
+  left_behind P n here xs place behind (Some (call_node to func from)) itself h = h.next
+  left_behind P n here xs place behind (Some (print_node e)) itself h = h.next
+  left_behind P n here xs place behind (Some (both_node a b blocks assigned)) itself h = h.next
+  left_behind P n here xs place behind (Some (split_node s e l r a)) itself h = h.next
+
+  node_behind : (depth n : ℕ) (here xs : List Frame) (place behind : ℕ) → IsByItself (kind_at t n) → IsNodeCode t f k size depth place n here xs behind
+      → behind ≡ suc place
+  node_behind zero n here xs place behind itself h = absurd h
+  node_behind (suc depth) n here xs place behind itself h =
+      left_behind (IsNodeCode t f k size depth) n here xs place behind (kind_at t n) itself h
+
+  pub goes_on : (place : ℕ) (list : ListOf) (next n : ℕ) (ns : List ℕ) (xs : List Frame) → IsCodeOf t f k size (Statements list next ∷ xs) place
+      → numbers_from t list next ≡ n ∷ ns → IsByItself (kind_at t n) → ReachesCode (rest_of ns list (next + 1) xs) (suc place)
+  goes_on place list next n ns xs h e itself =
+      let depth = h.0 in
+      let code : IsRestCode f (IsNodeCode t f k size depth) (IsCodeOf t f k size xs) (n ∷ ns) list next xs place =
+      subst (λ (ms : List ℕ). IsRestCode f (IsNodeCode t f k size depth) (IsCodeOf t f k size xs) ms list next xs place) e h.1 in
+      let statement = code.1.1 in
+      subst (λ (b : ℕ). ReachesCode (rest_of ns list (next + 1) xs) b)
+      (node_behind depth n (Statements list next ∷ xs) (rest_of ns list (next + 1) xs) place statement.0 itself statement.1)
+      (list_reaches depth ns list (next + 1) xs statement.0 code.0 statement.2 (next_numbers t list next n ns e) code.2)

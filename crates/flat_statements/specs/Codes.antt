@@ -94,7 +94,21 @@ pub record IsWhileCode (f : FlatCode) (k size : ℕ) (P : StatementCode) (n : �
   pub test : IsRoundCode f k size e here place body behind
   pub again : IsAgainCode f k size P n e a xs again_at body behind
 
--- a statement that the thread does by itself
+-- The kinds of statements that a thread does by itself, since they act, call, print or split; and the code of such a statement.
+abbrev pub IsByItself : Option Kind → Type 0
+IsByItself None = ⊥
+IsByItself (Some (let_node s e)) = ⊥
+IsByItself (Some (assign_node s e)) = ⊥
+IsByItself (Some (put_node b i e)) = ⊥
+IsByItself (Some (alloc_node s e)) = Unit {0}
+IsByItself (Some (free_node s)) = Unit {0}
+IsByItself (Some (if_node e a b)) = ⊥
+IsByItself (Some (while_node e a)) = ⊥
+IsByItself (Some (call_node to func from)) = Unit {0}
+IsByItself (Some (print_node e)) = Unit {0}
+IsByItself (Some (both_node a b blocks assigned)) = Unit {0}
+IsByItself (Some (split_node s e l r a)) = Unit {0}
+
 pub record IsLeft (f : FlatCode) (here : List Frame) (place behind : ℕ) : Type 0 where
   pub there : Has f place leaves here
   pub next : behind ≡ suc place

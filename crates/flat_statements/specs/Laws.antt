@@ -1,17 +1,19 @@
 -- What a caller may use of flat code.
-use Rattle.std.specs.Prelude.{◌≡◌, ℕ, List, [], ◌∷◌}
+use Rattle.std.specs.Prelude.{◌≡◌, ℕ, suc, ◌+◌, List, [], ◌∷◌}
 use Rattle.depth_first_run.specs.Passed.Tree.{Func}
 use Rattle.depth_first_run.specs.States.{Setting, State}
 use Rattle.depth_first_run.specs.Middle as middles
 use Rattle.depth_first_run.specs.Middle.{step_frame}
 use Rattle.node_table.specs.Names.{slot_names}
 use Rattle.node_table.specs.Table.{Table}
+use Rattle.thread_stack.specs.declared.frame.Frame.{Frame}
+use Rattle.thread_stack.specs.declared.frame.Frame.TheVariants.{Statements}
 use Rattle.thread_stack.specs.declared.list_of.ListOf.{ListOf}
-use Rattle.thread_stack.specs.Lists.{numbers_from}
+use Rattle.thread_stack.specs.Lists.{kind_at, numbers_from}
 use Rattle.thread_stack.specs.Frames.{AreFrames}
 use Rattle.flat_statements.specs.Flat.{FlatCode, frames_at, Point}
 use Rattle.flat_statements.specs.Threads.{Standing, rest_of, thread_step}
-use Rattle.flat_statements.specs.Codes.{IsWholeCode}
+use Rattle.flat_statements.specs.Codes.{IsByItself, IsWholeCode}
 use Rattle.flat_statements.specs.Runs.{IsInState, IsStepOf}
 use Rattle.flat_statements.specs.Follows.{Reaches, IsCodeOf, StandsFor, Follows}
 
@@ -30,6 +32,13 @@ abbrev pub WholeListsAreCode : Type 0
 WholeListsAreCode =
     (t : Table) (f : FlatCode) (k size : ℕ) (list : ListOf) (place : ℕ) → IsWholeCode t f k size list place
     → Reaches f (rest_of (numbers_from t list 0) list 0 []) (IsCodeOf t f k size (rest_of (numbers_from t list 0) list 0 [])) place
+
+-- behind a statement that the thread does by itself there is, at the next place, the code of what is left behind it
+abbrev pub CodeGoesOn : Type 0
+CodeGoesOn =
+    (t : Table) (f : FlatCode) (k size place : ℕ) (list : ListOf) (next n : ℕ) (ns : List ℕ) (xs : List Frame)
+    → IsCodeOf t f k size (Statements list next ∷ xs) place → numbers_from t list next ≡ n ∷ ns → IsByItself (kind_at t n)
+    → Reaches f (rest_of ns list (next + 1) xs) (IsCodeOf t f k size (rest_of ns list (next + 1) xs)) (suc place)
 
 -- each step of a thread over slots is the step of the depth-first run
 abbrev pub ThreadStepsAreOfTheRun : Type 0

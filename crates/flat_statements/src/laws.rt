@@ -1,4 +1,4 @@
-ghost use Rattle.flat_statements.specs.Laws.{MarksAreFrames, MachineFollowsTheThread, WholeListsAreCode, ThreadStepsAreOfTheRun};
+ghost use Rattle.flat_statements.specs.Laws.{MarksAreFrames, MachineFollowsTheThread, WholeListsAreCode, CodeGoesOn, ThreadStepsAreOfTheRun};
 
 /// The mark of the machine's place is the frames of the thread for which it stands.
 pub fn marks_are_frames()
@@ -13,6 +13,11 @@ pub fn machine_follows_the_thread()
 /// The code of a whole list begins where a thread begins the list.
 pub fn whole_lists_are_code()
     ensures { WholeListsAreCode }
+{}
+
+/// Behind a statement that a thread does by itself the next place is the code of what is left.
+pub fn code_goes_on()
+    ensures { CodeGoesOn }
 {}
 
 /// Each step of a thread over slots is the step of the depth-first run.

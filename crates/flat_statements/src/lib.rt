@@ -12,7 +12,8 @@
 //! Its theorem, [`machine_follows_the_thread`]: where the machine stands for a thread, each step of the thread is some steps of the
 //! machine behind which it stands for the thread again; or the machine comes to the same fault, or to a place where flat code ends, and
 //! there the thread is as it was. By [`marks_are_frames`] the frames of the thread are always the mark of the machine's place. So the
-//! machine holds no frames: where it ends it reads them off its place. [`whole_lists_are_code`] says where it begins, and
+//! machine holds no frames: where it ends it reads them off its place. [`whole_lists_are_code`] says where it begins,
+//! [`code_goes_on`] where it goes on behind a statement that the thread did by itself, and
 //! [`thread_steps_are_of_the_run`] that a step of a thread over slots is the step of the depth-first run, where the row shows the store of
 //! a state and the thread's frames are the run's.
 //!
@@ -37,5 +38,6 @@
 mod laws;
 
 pub use laws::{
-    machine_follows_the_thread, marks_are_frames, thread_steps_are_of_the_run, whole_lists_are_code,
+    code_goes_on, machine_follows_the_thread, marks_are_frames, thread_steps_are_of_the_run,
+    whole_lists_are_code,
 };
