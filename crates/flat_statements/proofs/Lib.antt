@@ -2,4 +2,5 @@ pub mod Running
 pub mod Reaching
 pub mod Following
 pub mod Stepping
+pub mod Behind
 mod Examples

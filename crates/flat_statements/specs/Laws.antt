@@ -1,18 +1,19 @@
 -- What a caller may use of flat code.
-use Rattle.std.specs.Prelude.{◌≡◌, ℕ, suc, ◌+◌, List, [], ◌∷◌}
+use Rattle.std.specs.Prelude.{◌≡◌, ℕ, suc, ◌+◌, List, [], ◌∷◌, ◌++◌}
 use Rattle.depth_first_run.specs.Passed.Tree.{Func}
 use Rattle.depth_first_run.specs.States.{Setting, State}
 use Rattle.depth_first_run.specs.Middle as middles
 use Rattle.depth_first_run.specs.Middle.{step_frame}
 use Rattle.node_table.specs.Names.{slot_names}
 use Rattle.node_table.specs.Table.{Table}
+use Rattle.slot_store.specs.Rows.{Entry}
 use Rattle.thread_stack.specs.declared.frame.Frame.{Frame}
 use Rattle.thread_stack.specs.declared.frame.Frame.TheVariants.{Statements}
 use Rattle.thread_stack.specs.declared.list_of.ListOf.{ListOf}
 use Rattle.thread_stack.specs.Lists.{kind_at, numbers_from}
 use Rattle.thread_stack.specs.Frames.{AreFrames}
 use Rattle.flat_statements.specs.Flat.{FlatCode, frames_at, Point}
-use Rattle.flat_statements.specs.Threads.{Standing, rest_of, thread_step}
+use Rattle.flat_statements.specs.Threads.{Standing, standing, rest_of, thread_step, with_behind}
 use Rattle.flat_statements.specs.Codes.{IsByItself, IsWholeCode}
 use Rattle.flat_statements.specs.Runs.{IsInState, IsStepOf}
 use Rattle.flat_statements.specs.Follows.{Reaches, IsCodeOf, StandsFor, Follows}
@@ -39,6 +40,12 @@ CodeGoesOn =
     (t : Table) (f : FlatCode) (k size place : ℕ) (list : ListOf) (next n : ℕ) (ns : List ℕ) (xs : List Frame)
     → IsCodeOf t f k size (Statements list next ∷ xs) place → numbers_from t list next ≡ n ∷ ns → IsByItself (kind_at t n)
     → Reaches f (rest_of ns list (next + 1) xs) (IsCodeOf t f k size (rest_of ns list (next + 1) xs)) (suc place)
+
+-- a step of a thread leaves the frames as they are that stand behind its function
+abbrev pub FramesBehindStay : Type 0
+FramesBehindStay =
+    (t : Table) (zs : List Frame) (row : List Entry) (x : Frame) (xs : List Frame) (turns : ℕ)
+    → thread_step t (standing (x ∷ (xs ++ zs)) row turns) ≡ with_behind zs (thread_step t (standing (x ∷ xs) row turns))
 
 -- each step of a thread over slots is the step of the depth-first run
 abbrev pub ThreadStepsAreOfTheRun : Type 0

@@ -1,6 +1,6 @@
 -- One step of a thread over slots, by its next frame: the frames that it has behind the step, its row and its turns. Statements that act,
 -- call, print or split are not done here.
-use Rattle.std.specs.Prelude.{ℕ, zero, suc, ◌+◌, Bool, true, false, List, [], ◌∷◌, Option, Some, None, Result, Ok, Err}
+use Rattle.std.specs.Prelude.{ℕ, zero, suc, ◌+◌, Bool, true, false, List, [], ◌∷◌, ◌++◌, Option, Some, None, Result, Ok, Err}
 use Rattle.dag_order.specs.declared.fault.FaultKind.{FaultKind}
 use Rattle.dag_order.specs.declared.fault.FaultKind.TheVariants as faults
 use Rattle.depth_first_run.specs.Values.{Outcome, is_true}
@@ -90,3 +90,9 @@ frames_step t (x ∷ xs) row turns = frame_step t x xs row turns
 
 abbrev pub thread_step : Table → Standing → Came Standing
 thread_step t s = frames_step t s.frames s.row s.turns
+
+-- with the frames zs of what is behind the function
+abbrev pub with_behind : List Frame → Came Standing → Came Standing
+with_behind zs (goes_to s) = goes_to (standing (s.frames ++ zs) s.row s.turns)
+with_behind zs (meets kind) = meets kind
+with_behind zs stops = stops

@@ -1,4 +1,4 @@
-ghost use Rattle.flat_statements.specs.Laws.{MarksAreFrames, MachineFollowsTheThread, WholeListsAreCode, CodeGoesOn, ThreadStepsAreOfTheRun};
+ghost use Rattle.flat_statements.specs.Laws.{MarksAreFrames, MachineFollowsTheThread, WholeListsAreCode, CodeGoesOn, FramesBehindStay, ThreadStepsAreOfTheRun};
 
 /// The mark of the machine's place is the frames of the thread for which it stands.
 pub fn marks_are_frames()
@@ -18,6 +18,11 @@ pub fn whole_lists_are_code()
 /// Behind a statement that a thread does by itself the next place is the code of what is left.
 pub fn code_goes_on()
     ensures { CodeGoesOn }
+{}
+
+/// A step of a thread leaves the frames as they are that stand behind its function.
+pub fn frames_behind_stay()
+    ensures { FramesBehindStay }
 {}
 
 /// Each step of a thread over slots is the step of the depth-first run.

@@ -38,6 +38,6 @@
 mod laws;
 
 pub use laws::{
-    code_goes_on, machine_follows_the_thread, marks_are_frames, thread_steps_are_of_the_run,
-    whole_lists_are_code,
+    code_goes_on, frames_behind_stay, machine_follows_the_thread, marks_are_frames,
+    thread_steps_are_of_the_run, whole_lists_are_code,
 };
