@@ -1,0 +1,6 @@
+pub mod Rows
+pub mod Coded
+pub mod Statements
+pub mod Shown
+pub mod OneAct
+mod Examples

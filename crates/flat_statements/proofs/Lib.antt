@@ -1,0 +1,6 @@
+pub mod Running
+pub mod Reaching
+pub mod Following
+pub mod Stepping
+pub mod Behind
+mod Examples

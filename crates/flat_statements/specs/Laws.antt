@@ -1,0 +1,55 @@
+-- What a caller may use of flat code.
+use Rattle.std.specs.Prelude.{◌≡◌, ℕ, suc, ◌+◌, List, [], ◌∷◌, ◌++◌}
+use Rattle.depth_first_run.specs.Passed.Tree.{Func}
+use Rattle.depth_first_run.specs.States.{Setting, State}
+use Rattle.depth_first_run.specs.Middle as middles
+use Rattle.depth_first_run.specs.Middle.{step_frame}
+use Rattle.node_table.specs.Names.{slot_names}
+use Rattle.node_table.specs.Table.{Table}
+use Rattle.slot_store.specs.Rows.{Entry}
+use Rattle.thread_stack.specs.declared.frame.Frame.{Frame}
+use Rattle.thread_stack.specs.declared.frame.Frame.TheVariants.{Statements}
+use Rattle.thread_stack.specs.declared.list_of.ListOf.{ListOf}
+use Rattle.thread_stack.specs.Lists.{kind_at, numbers_from}
+use Rattle.thread_stack.specs.Frames.{AreFrames}
+use Rattle.flat_statements.specs.Flat.{FlatCode, frames_at, Point}
+use Rattle.flat_statements.specs.Threads.{Standing, standing, rest_of, thread_step, with_behind}
+use Rattle.flat_statements.specs.Codes.{IsByItself, IsWholeCode}
+use Rattle.flat_statements.specs.Runs.{IsInState, IsStepOf}
+use Rattle.flat_statements.specs.Follows.{Reaches, IsCodeOf, StandsFor, Follows}
+
+-- where the machine stands for a thread, the mark of its place is the frames of the thread
+abbrev pub MarksAreFrames : Type 0
+MarksAreFrames =
+    (t : Table) (f : FlatCode) (k size : ℕ) (p : Point) (s : Standing) → StandsFor t f k size p s → frames_at f p.place ≡ s.frames
+
+-- it follows each step of the thread
+abbrev pub MachineFollowsTheThread : Type 0
+MachineFollowsTheThread =
+    (t : Table) (f : FlatCode) (k size : ℕ) (p : Point) (s : Standing) → StandsFor t f k size p s → Follows t f k size p s (thread_step t s)
+
+-- the code of a whole list begins with the code of the frames with which a thread begins the list
+abbrev pub WholeListsAreCode : Type 0
+WholeListsAreCode =
+    (t : Table) (f : FlatCode) (k size : ℕ) (list : ListOf) (place : ℕ) → IsWholeCode t f k size list place
+    → Reaches f (rest_of (numbers_from t list 0) list 0 []) (IsCodeOf t f k size (rest_of (numbers_from t list 0) list 0 [])) place
+
+-- behind a statement that the thread does by itself there is, at the next place, the code of what is left behind it
+abbrev pub CodeGoesOn : Type 0
+CodeGoesOn =
+    (t : Table) (f : FlatCode) (k size place : ℕ) (list : ListOf) (next n : ℕ) (ns : List ℕ) (xs : List Frame)
+    → IsCodeOf t f k size (Statements list next ∷ xs) place → numbers_from t list next ≡ n ∷ ns → IsByItself (kind_at t n)
+    → Reaches f (rest_of ns list (next + 1) xs) (IsCodeOf t f k size (rest_of ns list (next + 1) xs)) (suc place)
+
+-- a step of a thread leaves the frames as they are that stand behind its function
+abbrev pub FramesBehindStay : Type 0
+FramesBehindStay =
+    (t : Table) (zs : List Frame) (row : List Entry) (x : Frame) (xs : List Frame) (turns : ℕ)
+    → thread_step t (standing (x ∷ (xs ++ zs)) row turns) ≡ with_behind zs (thread_step t (standing (x ∷ xs) row turns))
+
+-- each step of a thread over slots is the step of the depth-first run
+abbrev pub ThreadStepsAreOfTheRun : Type 0
+ThreadStepsAreOfTheRun =
+    (c : Setting) (t : Table) (g : Func) (gs : List Func) (s : Standing) (f : middles.Frame) (fs : List middles.Frame) (at : State)
+    → AreFrames c.program t (g ∷ gs) s.frames (f ∷ fs) → IsInState (slot_names g) s.row s.turns at
+    → IsStepOf c t (g ∷ gs) at (step_frame c f fs at) (thread_step t s)

@@ -1,0 +1,31 @@
+ghost use Rattle.flat_statements.specs.Laws.{MarksAreFrames, MachineFollowsTheThread, WholeListsAreCode, CodeGoesOn, FramesBehindStay, ThreadStepsAreOfTheRun};
+
+/// The mark of the machine's place is the frames of the thread for which it stands.
+pub fn marks_are_frames()
+    ensures { MarksAreFrames }
+{}
+
+/// The machine follows each step of a thread for which it stands.
+pub fn machine_follows_the_thread()
+    ensures { MachineFollowsTheThread }
+{}
+
+/// The code of a whole list begins where a thread begins the list.
+pub fn whole_lists_are_code()
+    ensures { WholeListsAreCode }
+{}
+
+/// Behind a statement that a thread does by itself the next place is the code of what is left.
+pub fn code_goes_on()
+    ensures { CodeGoesOn }
+{}
+
+/// A step of a thread leaves the frames as they are that stand behind its function.
+pub fn frames_behind_stay()
+    ensures { FramesBehindStay }
+{}
+
+/// Each step of a thread over slots is the step of the depth-first run.
+pub fn thread_steps_are_of_the_run()
+    ensures { ThreadStepsAreOfTheRun }
+{}
