@@ -194,7 +194,7 @@ module _ (key : HallKey) (seat : HallSeat) (list : ListSlot) (pool : PoolSlot) (
       },
     ))
 
--- what holds in any case holds where there is an error
+-- what holds in any case holds of a call that failed
 pub on_err : {T E P : Type 0} (r : Result T E) → P → OnErr r P
 on_err (Ok x) holds = tt
 on_err (Err e) holds = holds

@@ -70,6 +70,6 @@ pub record HasTaken (hall : Hall) (gone before after : Seat) : Type 0 where
   pub answered : after.place.hand.note.answered ≡ before.place.hand.note.answered
   pub rules : (finish : Finish) → WasTold gone (Finished finish) → HasKeptRules gone → HasKeptRules before → HasKeptRules after
 
--- There was not enough memory for a seat of this hall to give its deque up.
+-- A seat of this hall lacked memory to give its deque up.
 abbrev pub RanShort : Hall → Type 0
 RanShort hall = (before : Seat) × (after : Seat) × IsIn hall before × IsShort before after
