@@ -44,7 +44,7 @@ abbrev pub ComesTo : Setting → Terms → Ran → Type 0
 ComesTo c terms (ran.Finished report) = SomeRun c terms finished (λ run last. IsReportOf c run last report)
 ComesTo c terms (ran.Stopped stop) = IsStoppedBy c terms stop
 
--- Want of memory stopped the run, or the run has finished, and the memory for its report was wanting.
+-- The run stopped for lack of memory, or it has finished and lacked memory for its report.
 abbrev pub LacksMemory : RunEnd → Type 0
 LacksMemory (ends.Finished finish) = Unit {0}
 LacksMemory (ends.Stopped stop) = stop ≡ OutOfMemory

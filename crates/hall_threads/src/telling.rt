@@ -89,8 +89,7 @@ fn finish_told(alloc: Global, finish: Finish, closing: &Closing) -> Result<Ran, 
     Ok(Ran::Finished(report))
 }
 
-/// The report of a run that has finished, or the stop that it met. Want of memory is no stop here: a run that met it is told so, and any other
-/// stop is told as what it is.
+/// The report of a run that has finished, or the stop that it met. Want of memory is no stop here, but an error, and each other stop is one.
 pub(crate) fn ran_of(alloc: Global, closing: &Closing) -> Result<Ran, AllocError>
     requires { (core : AnyCore) × IsLeftOf core closing.now }
     ensures comes { (core : AnyCore) → IsLeftOf core closing.now → (c : Setting) → IsSettingOf (code_shown core.code) (quota_words core.k) c
