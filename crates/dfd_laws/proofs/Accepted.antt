@@ -22,7 +22,7 @@ use Rattle.trail_meaning.specs.Shown.{Shown}
 use Rattle.trail_check.proofs.Few.{few_from, few_marks}
 use Rattle.trail_check.specs.Checking.{trail_terms, trail_machine, Checks}
 use Rattle.trail_text.specs.TrailText.{IsTrail, trail_text}
-use Rattle.dfd_laws.specs.RecordedTrails.{IsOfPlay, RecordedTrailsAreAccepted}
+use Rattle.dfd_laws.specs.RecordedTrails.{IsOfPlay, TrailsOfPlaysCheck}
 use Rattle.dfd_laws.proofs.Counts.{all_done, last_within, high_fits}
 use Rattle.dfd_laws.proofs.Fits.{fit_events}
 use Rattle.dfd_laws.proofs.Lengths.{trail_is_short}
@@ -95,5 +95,5 @@ module _ (c : Setting) (t : Shown) (o : IsOfPlay c t) where
     is_accepted o.run o.last (subst (λ e. IsGood s (trail_terms t).limits e o.run o.last) (sym o.events) good) o.numbers,
   )
 
-pub recorded_trails_are_accepted : RecordedTrailsAreAccepted
-recorded_trails_are_accepted c t o = (is_trail c t o, (length (booked o.last.books), is_accepted_so c t o))
+pub trails_of_plays_check : TrailsOfPlaysCheck
+trails_of_plays_check c t o = (is_trail c t o, (length (booked o.last.books), is_accepted_so c t o))

@@ -31,7 +31,7 @@ use Rattle.run_report.specs.Shown.{Shown}
 use Rattle.dfd_plays.specs.Answer.{HasRanges}
 use Rattle.dfd_plays.specs.Async.{IsAsyncPlay, AsyncMakes, async_terms, async_machine}
 use Rattle.dfd_laws.specs.AsyncHeadline.{AsyncHasDrawn}
-use Rattle.dfd_laws.specs.Headline.{play_list, HoldsAt, AreBounded, IsBoundedReport, HasShortPlays, StopsLate, LastsInArena, LastsInActions}
+use Rattle.dfd_laws.specs.Headline.{play_list, BoundHolds, BoundStays, IsBoundedReport, HasShortPlays, StopsLate, LastsInArena, LastsInActions}
 use Rattle.dfd_plays.specs.Peak.{finish_status}
 use Rattle.dfd_plays.specs.Play.{TellsEnding, Reports, play_setting, seeded_words}
 use Rattle.dfd_plays.specs.Status.{code_of}
@@ -69,7 +69,7 @@ module _ (command : Command) (p : Program) (ranges : HasRanges command) where
   listed : IsDepthFirst command.k (play_list command p)
   listed = whole_is_depth_first (play_setting command p)
 
-  holds_at : (run : List Pair) (m : Moment) → ReadyReaches (async_machine command p) opening run m → HoldsAt command p m
+  holds_at : (run : List Pair) (m : Moment) → ReadyReaches (async_machine command p) opening run m → BoundHolds command p m
   holds_at run m reaches = let ready = reached_is_ready (async_machine command p) some_quota listed run m reaches in record {
     bounded = λ n prefix. bound_in_ready (async_machine command p) some_quota listed run m n reaches prefix;
     in_order = ready.lawful.order.rises;
@@ -77,7 +77,7 @@ module _ (command : Command) (p : Program) (ranges : HasRanges command) where
   }
 
   pub async_moments_are_bounded : (run : List Pair) (last : Moment) (ending : Ending) → IsAsyncPlay command p run last ending →
-      (front rest : List Pair) → run ≡ front ++ rest → AreBounded (ReadyReaches (async_machine command p) opening) command p front last
+      (front rest : List Pair) → run ≡ front ++ rest → BoundStays (ReadyReaches (async_machine command p) opening) command p front last
   async_moments_are_bounded run last ending plays front rest is =
       let s = async_machine command p in
       let reaches = (plays_are_runs s (async_terms command).limits (seeded_words command.seed) run last ending plays).0 in

@@ -30,7 +30,7 @@ use Rattle.run_report.specs.Shown.{Shown}
 use Rattle.run_report.specs.declared.summary.Summary.{Summary}
 use Rattle.dfd_plays.specs.Make.{MakeMakes, Summarizes, sum_of}
 use Rattle.dfd_plays.specs.Answer.{HasRanges}
-use Rattle.dfd_laws.specs.Headline.{play_list, HoldsAt, AreBounded, HasShortPlays, HasDrawn, FillsLate, StopsLate, LastsInArena, LastsInActions, LastsInDeques, IsBoundedReport, IsBoundedSummary}
+use Rattle.dfd_laws.specs.Headline.{play_list, BoundHolds, BoundStays, HasShortPlays, HasDrawn, FillsLate, StopsLate, LastsInArena, LastsInActions, LastsInDeques, IsBoundedReport, IsBoundedSummary}
 use Rattle.dfd_plays.specs.Peak.{finish_status}
 use Rattle.dfd_plays.specs.Play.{IsPlay, TellsRun, TellsEnding, Reports, PlayMakes, play_setting, play_terms, play_machine, seeded_words}
 use Rattle.dfd_plays.specs.Status.{code_of}
@@ -151,7 +151,7 @@ module _ (command : Command) (p : Program) (ranges : HasRanges command) where
   listed : IsDepthFirst command.k (play_list command p)
   listed = whole_is_depth_first (play_setting command p)
 
-  holds_at : (run : List Pair) (m : Moment) → Reaches (play_machine command p) opening run m → HoldsAt command p m
+  holds_at : (run : List Pair) (m : Moment) → Reaches (play_machine command p) opening run m → BoundHolds command p m
   holds_at run m reaches =
       let lawful : IsLawful (play_machine command p) m =
       lawful_along (play_machine command p) listed run opening m (opening_is_lawful (play_machine command p) listed) reaches in record {
@@ -162,7 +162,7 @@ module _ (command : Command) (p : Program) (ranges : HasRanges command) where
 
   -- whatever picks the events of a run
   pub run_is_bounded : (run : List Pair) (last : Moment) → Reaches (play_machine command p) opening run last →
-      (front rest : List Pair) → run ≡ front ++ rest → AreBounded (Reaches (play_machine command p) opening) command p front last
+      (front rest : List Pair) → run ≡ front ++ rest → BoundStays (Reaches (play_machine command p) opening) command p front last
   run_is_bounded run last reaches front rest is =
       let s = play_machine command p in
       let cut = reached_front s front rest opening last (subst (λ r. Reaches s opening r last) is reaches) in
@@ -178,7 +178,7 @@ module _ (command : Command) (p : Program) (ranges : HasRanges command) where
       }
 
   pub moments_are_bounded : (run : List Pair) (last : Moment) (ending : Ending) → IsPlay command p run last ending →
-      (front rest : List Pair) → run ≡ front ++ rest → AreBounded (Reaches (play_machine command p) opening) command p front last
+      (front rest : List Pair) → run ≡ front ++ rest → BoundStays (Reaches (play_machine command p) opening) command p front last
   moments_are_bounded run last ending plays =
       run_is_bounded run last
       (plays_are_runs (play_machine command p) some_quota listed (play_terms command).limits (seeded_words command.seed) run last ending plays).0

@@ -21,13 +21,13 @@ use Rattle.dfd_plays.specs.Play.{play_setting, play_terms, play_machine}
 use Rattle.dfd_plays.specs.Threads.{IsRunByThreads, RunMakes}
 use Rattle.dfd_plays.specs.declared.status.Status.{Status}
 use Rattle.dfd_plays.specs.declared.status.Status.TheVariants.{Done, UserFault, DequesFull}
-use Rattle.dfd_laws.specs.Headline.{play_list, AreBounded, IsBoundedReport}
+use Rattle.dfd_laws.specs.Headline.{play_list, BoundStays, IsBoundedReport}
 use Rattle.dfd_laws.specs.RunHeadline.{CoversOnTheWay, RunStopsLate}
 use Rattle.dfd_laws.proofs.Headline.{bounded_reports, run_is_bounded, mark_is_bounded, fills_late, statuses_left}
 
 module _ (command : Command) (p : Program) (ranges : HasRanges command) where
   pub moments_are_bounded : (run : List Pair) (last : Moment) (ending : Ending) → IsRunByThreads command p run last ending →
-      (front rest : List Pair) → run ≡ front ++ rest → AreBounded (Reaches (play_machine command p) opening) command p front last
+      (front rest : List Pair) → run ≡ front ++ rest → BoundStays (Reaches (play_machine command p) opening) command p front last
   moments_are_bounded run last ending runs = run_is_bounded command p ranges run last runs.reaches
 
   pub reports_are_bounded : (status : Status) (text : List ℕ) → RunMakes command p status text → (status ≡ Done) ⊎ (status ≡ UserFault) →

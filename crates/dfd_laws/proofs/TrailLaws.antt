@@ -23,7 +23,7 @@ use Rattle.trail_text.specs.TrailText.{IsTrail}
 use Rattle.dfd_laws.specs.RecordedTrails.{IsOfPlay}
 use Rattle.dfd_laws.proofs.Accepted as laws
 use Rattle.dfd_plays.specs.Answer.{BytesGive, HasRanges}
-use Rattle.dfd_laws.specs.Laws.{RecordedTrailsAreAccepted, AcceptedTrailsAreBounded}
+use Rattle.dfd_laws.specs.Laws.{RecordedTrailsAreAccepted, VerifiedTrailsAreBounded}
 use Rattle.dfd_plays.specs.Play.{IsPlay, TellsEnding, TellsPlay, play_setting, seeded_words}
 use Rattle.dfd_plays.specs.Status.{code_of}
 use Rattle.dfd_plays.specs.Trails.{Records, TellsCheck, VerifyGives, trail_of}
@@ -66,7 +66,7 @@ module _ (command : Command) (bytes trail : List ℕ) (ranges : HasRanges (recor
         events = refl;
         numbers = record { periods = refl; ahead = refl; high = records.1.0 };
       } in
-      let a = laws.recorded_trails_are_accepted (setting_of p command.k) t o in (
+      let a = laws.trails_of_plays_check (setting_of p command.k) t o in (
         trail_ok_text t.numbers a.1.0,
         inr (t, (subst (λ b. IsTrail b t) (sym records.1.1) a.0, (p, (is, (own, (Ok a.1.0, (a.1.1, (refl, refl)))))))),
       )
@@ -109,9 +109,9 @@ accepted_answer t p text (Err (NotEnded events)) is told = absurd (done_or_refus
 accepted_answer t p text (Err (WrongNumbers numbers)) is told = absurd (done_or_refused told.0)
 accepted_answer t p text (Err NoRoom) is told = absurd told
 
-pub accepted_trails_are_bounded : AcceptedTrailsAreBounded
-accepted_trails_are_bounded command bytes text (inl none) = absurd (done_or_refused none.1.1.0)
-accepted_trails_are_bounded command bytes text (inr of) =
+pub verified_trails_are_bounded : VerifiedTrailsAreBounded
+verified_trails_are_bounded command bytes text (inl none) = absurd (done_or_refused none.1.1.0)
+verified_trails_are_bounded command bytes text (inr of) =
     let t = of.0 in let p = of.1.1.0 in let least = of.1.0.0.setting.quota.0 in
     let m = of.1.1.1.1.1 in
     let a = accepted_answer t p text m.0 m.1.0 m.1.1 in

@@ -22,13 +22,13 @@ use Rattle.dfd_plays.specs.Peak.{finish_status}
 use Rattle.dfd_plays.specs.Play.{play_setting, seeded_words}
 use Rattle.dfd_plays.specs.declared.status.Status.{Status}
 use Rattle.dfd_plays.specs.declared.status.Status.TheVariants.{Done, UserFault, DequesFull}
-use Rattle.dfd_laws.specs.Headline.{play_list, AreBounded, IsBoundedReport, StopsLate, OfEach, AllEnd, LastsInArena, LastsInActions}
+use Rattle.dfd_laws.specs.Headline.{play_list, BoundStays, IsBoundedReport, StopsLate, OfEach, AllEnd, LastsInArena, LastsInActions}
 
 -- at each moment of each play the words in use are within the bound, the threads are in depth-first order, and no action was done twice
 abbrev pub AsyncMomentsAreBounded : Type 0
 AsyncMomentsAreBounded = (command : Command) (p : Program) → HasRanges command → IsAccepted p
     → (run : List Pair) (last : Moment) (ending : Ending) → IsAsyncPlay command p run last ending
-    → (front rest : List Pair) → run ≡ front ++ rest → AreBounded (ReadyReaches (async_machine command p) opening) command p front last
+    → (front rest : List Pair) → run ≡ front ++ rest → BoundStays (ReadyReaches (async_machine command p) opening) command p front last
 
 -- no play ends for want of a place in the list
 abbrev pub AsyncListsNeverFill : Type 0

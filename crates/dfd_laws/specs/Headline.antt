@@ -30,7 +30,7 @@ play_list command p = list_of (play_setting command p)
 
 -- The words in use are at most the depth-first peak, and two quotas for each period that by then ran an action ahead of the prefix; the
 -- threads in the deques stand in depth-first order, from left to right and from top to bottom; and no action was done twice.
-pub record HoldsAt (command : Command) (p : Program) (m : Moment) : Type 0 where
+pub record BoundHolds (command : Command) (p : Program) (m : Moment) : Type 0 where
   pub bounded : (n : ℕ) → IsPrefix (play_list command p) (done_at m) n
       → live_at (play_list command p) m ≤ℤ bound command.k (play_list command p) (periods_ahead n m.books)
   pub in_order : Rises (threads_in m.deques)
@@ -38,17 +38,17 @@ pub record HoldsAt (command : Command) (p : Program) (m : Moment) : Type 0 where
 
 -- So it is at each moment of each play, whatever events came up to there, and whatever comes then. There is a moment after each front of
 -- the events; and the periods that are marked at the end of the play are at least those ahead there.
-pub record AreBounded (Reached : List Pair → Moment → Type 0) (command : Command) (p : Program) (front : List Pair) (last : Moment) : Type 0 where
+pub record BoundStays (Reached : List Pair → Moment → Type 0) (command : Command) (p : Program) (front : List Pair) (last : Moment) : Type 0 where
   pub moment : Moment
   pub reached : Reached front moment
-  pub each : (m : Moment) → Reached front m → HoldsAt command p m
+  pub each : (m : Moment) → Reached front m → BoundHolds command p m
   pub told : (m : Moment) (n : ℕ) → Reached front m → IsPrefix (play_list command p) (done_at m) n
       → periods_ahead n m.books ≤ periods_marked last.books
 
 abbrev pub MomentsAreBounded : Type 0
 MomentsAreBounded = (command : Command) (p : Program) → HasRanges command → IsAccepted p
     → (run : List Pair) (last : Moment) (ending : Ending) → IsPlay command p run last ending
-    → (front rest : List Pair) → run ≡ front ++ rest → AreBounded (Reaches (play_machine command p) opening) command p front last
+    → (front rest : List Pair) → run ≡ front ++ rest → BoundStays (Reaches (play_machine command p) opening) command p front last
 
 -- The text is a report with the lines and the finish of the depth-first run, and with a high-water mark of at most the peak and two quotas
 -- for each marked period.

@@ -16,14 +16,15 @@ use Rattle.dfd_plays.specs.declared.status.Status.{Status}
 use Rattle.dfd_plays.specs.declared.status.Status.TheVariants.{Done, UserFault}
 
 -- a command that starts no threads has one answer to the bytes of a source, one status and one text
-abbrev pub OneAnswer : Type 0
-OneAnswer =
+abbrev pub CommandsHaveOneAnswer : Type 0
+CommandsHaveOneAnswer =
     (command : Command) (bytes : List ℕ) (s s' : Status) (t t' : List ℕ) → HasRanges command → command.kind ≢ Run →
     BytesGive command bytes s t → BytesGive command bytes s' t' → (s ≡ s') × (t ≡ t')
 
 -- a command has an answer to the bytes of a source
-abbrev pub AnAnswer : Type 0
-AnAnswer = (command : Command) (bytes : List ℕ) → HasRanges command → (s : Status) × ((t : List ℕ) × BytesGive command bytes s t)
+abbrev pub CommandsHaveAnAnswer : Type 0
+CommandsHaveAnAnswer =
+    (command : Command) (bytes : List ℕ) → HasRanges command → (s : Status) × ((t : List ℕ) × BytesGive command bytes s t)
 
 -- where the bytes have an expansion, `loops` answers what `play` with the same numbers answers to it
 abbrev pub LoopsArePlays : Type 0
@@ -42,6 +43,6 @@ RecordedTrailsAreAccepted = (command : Command) (bytes trail : List ℕ) (status
     → (text : List ℕ) × BytesGive (record command { kind = Verify }) trail Done text
 
 -- what `verify` accepts is a trail, of an accepted program, and the bound holds after each of its events
-abbrev pub AcceptedTrailsAreBounded : Type 0
-AcceptedTrailsAreBounded = (command : Command) (bytes text : List ℕ) → BytesGive (record command { kind = Verify }) bytes Done text
+abbrev pub VerifiedTrailsAreBounded : Type 0
+VerifiedTrailsAreBounded = (command : Command) (bytes text : List ℕ) → BytesGive (record command { kind = Verify }) bytes Done text
     → (t : Shown) × (p : Program) × IsTrail bytes t × IsText t.source p × IsAccepted p × IsBounded (setting_of p t.k) t

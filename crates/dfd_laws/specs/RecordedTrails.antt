@@ -26,6 +26,6 @@ pub record IsOfPlay (c : Setting) (t : Shown) : Type 0 where
   pub numbers : AreNumbers (trail_machine c t) run last t.numbers
 
 -- its text is the text of a trail, and it is accepted
-abbrev pub RecordedTrailsAreAccepted : Type 0
-RecordedTrailsAreAccepted = (c : Setting) (t : Shown) → IsOfPlay c t
+abbrev pub TrailsOfPlaysCheck : Type 0
+TrailsOfPlaysCheck = (c : Setting) (t : Shown) → IsOfPlay c t
     → IsTrail (trail_text t) t × ((actions : ℕ) × Checks c t (Ok actions))

@@ -13,7 +13,7 @@ use Rattle.par_tree.specs.Tree.{Program}
 use Rattle.dfd_plays.specs.Answer.{HasRanges}
 use Rattle.dfd_plays.specs.Play.{play_machine}
 use Rattle.dfd_plays.specs.Threads.{IsRunByThreads}
-use Rattle.dfd_laws.specs.Headline.{play_list, AreBounded, FillsLate, LastsInDeques, OfEach}
+use Rattle.dfd_laws.specs.Headline.{play_list, BoundStays, FillsLate, LastsInDeques, OfEach}
 
 -- At some moment on the way of a run the arena has no room for an action that the rules want of a worker, and more than so many periods would be
 -- ahead after it. Other workers may do events after it.
@@ -56,4 +56,4 @@ RunDequesSuffice = OfEach IsRunByThreads LastsInDeques
 abbrev pub RunMomentsAreBounded : Type 0
 RunMomentsAreBounded = (command : Command) (p : Program) → HasRanges command → IsAccepted p
     → (run : List Pair) (last : Moment) (ending : Ending) → IsRunByThreads command p run last ending
-    → (front rest : List Pair) → run ≡ front ++ rest → AreBounded (Reaches (play_machine command p) opening) command p front last
+    → (front rest : List Pair) → run ≡ front ++ rest → BoundStays (Reaches (play_machine command p) opening) command p front last

@@ -4,16 +4,16 @@ ghost use Rattle.dfd_plays.specs.Threads.{RunMakes};
 ghost use Rattle.dfd_laws.specs.AsyncHeadline.{AsyncActionsSuffice, AsyncArenasStopLate, AsyncArenasSuffice, AsyncListsNeverFill, AsyncMomentsAreBounded, AsyncOfOneLastsAtThePeak, AsyncOfOneReportsThePeak, AsyncOfOneStaysLow, AsyncPlaysEnd, AsyncPlaysWithRoomFinish, AsyncStatusesWithRoom};
 ghost use Rattle.dfd_laws.specs.Headline.{ActionsSuffice, ArenasStopLate, ArenasSuffice, DequesSuffice, MomentsAreBounded, PlaysEnd, PlaysWithRoomFinish, ReportsAreBounded, StatusesWithRoom, SummariesAreBounded};
 ghost use Rattle.dfd_laws.specs.RunHeadline.{RunArenasStopLate, RunArenasSuffice, RunDequesSuffice, RunMomentsAreBounded};
-ghost use Rattle.dfd_laws.specs.Laws.{AcceptedTrailsAreBounded, AnAnswer, CommandsHaveRanges, LoopsArePlays, OneAnswer, RecordedTrailsAreAccepted};
+ghost use Rattle.dfd_laws.specs.Laws.{VerifiedTrailsAreBounded, CommandsHaveAnAnswer, CommandsHaveRanges, LoopsArePlays, CommandsHaveOneAnswer, RecordedTrailsAreAccepted};
 
 /// A command other than `run` has at most one answer to the bytes that it reads: one status and one text.
 pub fn a_command_has_one_answer()
-    ensures { OneAnswer }
+    ensures { CommandsHaveOneAnswer }
 {}
 
 /// A command has an answer to whatever bytes it reads.
 pub fn a_command_has_an_answer()
-    ensures { AnAnswer }
+    ensures { CommandsHaveAnAnswer }
 {}
 
 /// `loops` answers what `play` with the same numbers answers to the expansion of the bytes, if they have one. So the laws below on plays
@@ -193,6 +193,6 @@ pub fn recorded_trails_are_accepted()
 /// What `verify` accepts is the trail of an accepted program. After each of its events the words in use are at most the depth-first peak,
 /// and two quotas for each period that by then ran an action ahead of the prefix. The threads in the deques are in depth-first order, and
 /// no action was done twice.
-pub fn accepted_trails_are_bounded()
-    ensures { AcceptedTrailsAreBounded }
+pub fn verified_trails_are_bounded()
+    ensures { VerifiedTrailsAreBounded }
 {}

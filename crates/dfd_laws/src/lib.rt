@@ -15,7 +15,7 @@
 //! - **Laws on what a call answers are in a crate above the call.** They are about its definitions and use none of its code, and no code uses
 //!   them. So the program is built without them, and a new law leaves the proofs below it as they are.
 //! - **What holds of `play` and of `async` alike is one definition**, with the kind of play as an argument: the relation of its runs (`OfEach`,
-//!   `AllEnd`), how a run reaches a moment (`AreBounded`), or the rules of its turns and events (`StopsLate`, `FillsLate`).
+//!   `AllEnd`), how a run reaches a moment (`BoundStays`), or the rules of its turns and events (`StopsLate`, `FillsLate`).
 //! - That a command has one answer is a law with a function of its own, so that a definition that allowed two would be refused. `run` is left
 //!   out of it, and only of it: that there is an answer holds for `run` too, since each play is a run that threads may make.
 #![tactic(auto)]
@@ -24,14 +24,13 @@ mod laws;
 mod trail_laws;
 
 pub use laws::{
-    a_command_has_an_answer, a_command_has_one_answer, accepted_trails_are_bounded,
-    actions_suffice, arenas_stop_late, arenas_suffice, async_actions_suffice,
-    async_arenas_stop_late, async_arenas_suffice, async_lists_never_fill,
-    async_moments_are_bounded, async_of_one_lasts_at_the_peak, async_of_one_reports_the_peak,
-    async_of_one_stays_low, async_plays_end, async_plays_with_room_finish,
-    async_reports_are_bounded, async_statuses_with_room, commands_have_ranges, deques_suffice,
-    loops_are_plays, moments_are_bounded, plays_end, plays_with_room_finish,
-    recorded_trails_are_accepted, reports_are_bounded, run_arenas_stop_late, run_arenas_suffice,
-    run_deques_suffice, run_moments_are_bounded, run_reports_are_bounded, run_statuses_with_room,
-    statuses_with_room, summaries_are_bounded,
+    a_command_has_an_answer, a_command_has_one_answer, actions_suffice, arenas_stop_late,
+    arenas_suffice, async_actions_suffice, async_arenas_stop_late, async_arenas_suffice,
+    async_lists_never_fill, async_moments_are_bounded, async_of_one_lasts_at_the_peak,
+    async_of_one_reports_the_peak, async_of_one_stays_low, async_plays_end,
+    async_plays_with_room_finish, async_reports_are_bounded, async_statuses_with_room,
+    commands_have_ranges, deques_suffice, loops_are_plays, moments_are_bounded, plays_end,
+    plays_with_room_finish, recorded_trails_are_accepted, reports_are_bounded, run_arenas_stop_late,
+    run_arenas_suffice, run_deques_suffice, run_moments_are_bounded, run_reports_are_bounded,
+    run_statuses_with_room, statuses_with_room, summaries_are_bounded, verified_trails_are_bounded,
 };

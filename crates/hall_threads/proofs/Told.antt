@@ -2,7 +2,7 @@
 use Rattle.std.proofs.Common.{◌≡◌, ◌≢◌, pos, false, List, [], ◌++◌, map, length, sym, ap, ◌∙◌, subst, append-nil}
 use Rattle.std.proofs.Math.Logic.{∥∥₁_elim, ∥∥₁_map}
 use Rattle.std.specs.Option.{option_map}
-use Rattle.std.specs.Prelude.{Option, None, Some, count_by}
+use Rattle.std.specs.Prelude.{Option, None, Some, Result, Ok, Err, OnErr, count_by}
 use denote.Struct.Props.{props}
 use Rattle.containers.specs.BoundedList.{entries}
 use Rattle.scheduler_state.proofs.Lists.{among_mapped}
@@ -193,3 +193,8 @@ module _ (key : HallKey) (seat : HallSeat) (list : ListSlot) (pool : PoolSlot) (
         high = high ∙ high_are r;
       },
     ))
+
+-- what holds in any case holds of a call that failed
+pub on_err : {T E P : Type 0} (r : Result T E) → P → OnErr r P
+on_err (Ok x) holds = tt
+on_err (Err e) holds = holds

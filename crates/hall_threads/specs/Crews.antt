@@ -6,6 +6,7 @@ use Rattle.play_rules.specs.declared.ends.RunEnd.TheVariants.{Finished}
 use Rattle.work_loop.specs.declared.member.Member.{Member}
 use Rattle.worker_entry.specs.declared.hall.Hall.{Hall}
 use Rattle.worker_entry.specs.declared.seat.Seat.{Seat}
+use Rattle.worker_entry.specs.Leaving.{IsShort}
 use Rattle.worker_entry.specs.Seated.{IsIn}
 use Rattle.hall_threads.specs.declared.worker.HallWorker.{HallWorker}
 
@@ -68,3 +69,7 @@ pub record HasTaken (hall : Hall) (gone before after : Seat) : Type 0 where
   pub places : after.places ≡ before.places + gone.places
   pub answered : after.place.hand.note.answered ≡ before.place.hand.note.answered
   pub rules : (finish : Finish) → WasTold gone (Finished finish) → HasKeptRules gone → HasKeptRules before → HasKeptRules after
+
+-- A seat of this hall lacked memory to give its deque up.
+abbrev pub RanShort : Hall → Type 0
+RanShort hall = (before : Seat) × (after : Seat) × IsIn hall before × IsShort before after

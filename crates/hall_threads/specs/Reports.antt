@@ -9,6 +9,8 @@ use Rattle.deque_machine.specs.Play.{Ending, finished, stopped}
 use Rattle.deque_machine.specs.Runs.{Pair, high_water_mark}
 use Rattle.deque_machine.specs.Terms.{Terms, machine_of}
 use Rattle.deque_machine.specs.Books.{periods_marked}
+use Rattle.play_rules.specs.declared.ends.RunEnd.{RunEnd}
+use Rattle.play_rules.specs.declared.ends.RunEnd.TheVariants as ends
 use Rattle.play_rules.specs.declared.stop.Stop.{Stop}
 use Rattle.play_rules.specs.declared.stop.Stop.TheVariants.{ArenaFull, DequesFull, StepsSpent, OutOfMemory}
 use Rattle.run_report.specs.declared.report.Report.{Report}
@@ -41,3 +43,8 @@ IsStoppedBy c terms OutOfMemory = ⊥
 abbrev pub ComesTo : Setting → Terms → Ran → Type 0
 ComesTo c terms (ran.Finished report) = SomeRun c terms finished (λ run last. IsReportOf c run last report)
 ComesTo c terms (ran.Stopped stop) = IsStoppedBy c terms stop
+
+-- The run stopped for lack of memory, or it has finished and lacked memory for its report.
+abbrev pub LacksMemory : RunEnd → Type 0
+LacksMemory (ends.Finished finish) = Unit {0}
+LacksMemory (ends.Stopped stop) = stop ≡ OutOfMemory

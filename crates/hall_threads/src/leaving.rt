@@ -1,8 +1,8 @@
 //! How the workers of a run leave.
 
-ghost use Rattle.std.specs.Prelude.{◌≡◌, ◌≢◌, ◌+◌, ◌≤◌, [], Some, IfOk, MatchBool, OnOk};
+ghost use Rattle.std.specs.Prelude.{◌≡◌, ◌≢◌, ◌+◌, ◌≤◌, [], Some, IfOk, MatchBool, OnErr, OnOk};
 ghost use Rattle.dag_order.specs.declared.finish.Finish.{Finish as AnyFinish};
-ghost use Rattle.hall_threads.specs.Crews.{AreLeft, HasItsEnd, HasTaken, IsToLeave, seat_of};
+ghost use Rattle.hall_threads.specs.Crews.{AreLeft, HasItsEnd, HasTaken, IsToLeave, RanShort, seat_of};
 ghost use Rattle.worker_entry.specs.Seated.{IsIn};
 ghost use Rattle.play_rules.specs.declared.ends.RunEnd.TheVariants.{Finished as AFinish};
 
@@ -14,11 +14,16 @@ use work_loop::Member;
 use worker_entry::{Hall, LeaveRefused, Seat};
 
 /// Lets a seat leave into another, once no third one holds a slot that this needs.
+///
+/// # Errors
+///
+/// There is not enough memory to give its deque up. A slot that is held is no error.
 fn leave_into<R: Wait>(rt: &R, hall: &Hall, seat: Seat, into: &mut Seat) -> Result<(), AllocError>
     requires here { IsIn hall.now seat }
     requires into { IsIn hall.now into.old }
     requires few { into.old.places + seat.places ≤ hall.now.workers }
-    ensures { OnOk result (HasTaken hall.now seat into.old into.new) }
+    ensures taken { OnOk result (HasTaken hall.now seat into.old into.new) }
+    ensures short { OnErr result (RanShort hall.now) }
 {
     let mut leaving = seat;
     'tries: for _ in rt.forever() {
@@ -51,6 +56,7 @@ fn leave_one<R: Wait, C: Drop>(
     requires few { (seat_of stays).places + 1 ≤ hall.now.workers }
     ensures end { IfOk result (HasItsEnd hall.now) }
     ensures places { IfOk result (λ left. (seat_of left).places ≡ (seat_of stays).places + 1) }
+    ensures short { OnErr result (RanShort hall.now) }
 {
     let (goes, mut stays) = if has_finished(&stays) {
         (stays, member)
@@ -71,7 +77,8 @@ pub(crate) fn leave_all<R: Wait, C: Drop>(
     crew: Vec<Member<HallWorker<C>, RunEnd>>,
 ) -> Result<Member<HallWorker<C>, RunEnd>, AllocError>
     requires { AreLeft hall.now last crew.items }
-    ensures { IfOk result (λ left. AreLeft hall.now left []) }
+    ensures left { IfOk result (λ left. AreLeft hall.now left []) }
+    ensures short { OnErr result (RanShort hall.now) }
 {
     let mut stays = last;
     for member in crew {

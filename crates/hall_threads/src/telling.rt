@@ -1,6 +1,6 @@
 //! What is told of a run whose hall is closed.
 
-ghost use Rattle.std.specs.Prelude.{◌≡◌, ◌≢◌, ℕ, [], IfOk, IsErr, count_by, length, pos};
+ghost use Rattle.std.specs.Prelude.{◌≡◌, ◌≢◌, ℕ, [], IfOk, OnErr, count_by, length, pos};
 ghost use Rattle.containers.specs.BoundedList.{entries};
 ghost use Rattle.depth_first_run.specs.Run.{whole, lines_of};
 ghost use Rattle.depth_first_run.specs.States.{Setting, State};
@@ -8,7 +8,7 @@ ghost use Rattle.worker_entry.specs.Passed.Cores.{terms_at};
 ghost use Rattle.worker_entry.specs.Passed.Core.{Core as AnyCore};
 ghost use Rattle.depth_first_list.specs.QuotaWords.{quota_words};
 ghost use Rattle.hall_threads.specs.Closed.{IsLeftOf};
-ghost use Rattle.hall_threads.specs.Reports.{ComesTo};
+ghost use Rattle.hall_threads.specs.Reports.{ComesTo, LacksMemory};
 ghost use Rattle.hall_threads.specs.declared.ran.Ran.TheVariants.{Stopped as WasStopped};
 ghost use Rattle.node_table.specs.Codes.{code_shown};
 ghost use Rattle.node_table.specs.Table.{Table};
@@ -34,7 +34,7 @@ use worker_entry::Closing;
 /// A stop, as it is told. Only that there was not enough memory is told as an error.
 fn stop_told(stop: Stop) -> Result<Ran, AllocError>
     ensures told { IfOk result (λ ran. (ran ≡ WasStopped stop) × (stop ≢ NoMemory)) }
-    ensures cause { IsErr result → stop ≡ NoMemory }
+    ensures cause { OnErr result (stop ≡ NoMemory) }
 {
     match stop {
         Stop::OutOfMemory => Err(AllocError),
@@ -89,11 +89,12 @@ fn finish_told(alloc: Global, finish: Finish, closing: &Closing) -> Result<Ran, 
     Ok(Ran::Finished(report))
 }
 
-/// The report of a run that has finished, or the stop that it met. Want of memory is no stop here.
+/// The report of a run that has finished, or the stop that it met. Want of memory is no stop here, but an error, and each other stop is one.
 pub(crate) fn ran_of(alloc: Global, closing: &Closing) -> Result<Ran, AllocError>
     requires { (core : AnyCore) × IsLeftOf core closing.now }
-    ensures { (core : AnyCore) → IsLeftOf core closing.now → (c : Setting) → IsSettingOf (code_shown core.code) (quota_words core.k) c
+    ensures comes { (core : AnyCore) → IsLeftOf core closing.now → (c : Setting) → IsSettingOf (code_shown core.code) (quota_words core.k) c
         → IfOk result (ComesTo c (terms_at core)) }
+    ensures cause { OnErr result (LacksMemory closing.now.end) }
 {
     match closing.end {
         RunEnd::Finished(finish) => finish_told(alloc, finish, closing),

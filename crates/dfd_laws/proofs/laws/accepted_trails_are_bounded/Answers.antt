@@ -1,5 +1,0 @@
-use Rattle.dfd_laws.proofs.TrailLaws as law
-use Rattle.dfd_laws.proofs.laws.accepted_trails_are_bounded.Goals as goal
-
-pub returns : goal.returns
-returns c = law.accepted_trails_are_bounded
