@@ -30,7 +30,8 @@ pub use laws::{
     async_of_one_reports_the_peak, async_of_one_stays_low, async_plays_end,
     async_plays_with_room_finish, async_reports_are_bounded, async_statuses_with_room,
     commands_have_ranges, deques_suffice, loops_are_plays, moments_are_bounded, plays_end,
-    plays_with_room_finish, recorded_trails_are_accepted, reports_are_bounded, run_arenas_stop_late,
-    run_arenas_suffice, run_deques_suffice, run_moments_are_bounded, run_reports_are_bounded,
-    run_statuses_with_room, statuses_with_room, summaries_are_bounded, verified_trails_are_bounded,
+    plays_with_room_finish, recorded_trails_are_accepted, reports_are_bounded,
+    run_arenas_stop_late, run_arenas_suffice, run_deques_suffice, run_moments_are_bounded,
+    run_reports_are_bounded, run_statuses_with_room, statuses_with_room, summaries_are_bounded,
+    verified_trails_are_bounded,
 };

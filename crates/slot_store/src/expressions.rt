@@ -38,7 +38,7 @@ pub fn evaluate(slots: &Slots, expr: &CodeExpr) -> Result<i64, FaultKind>
     }
 }
 
-/// What an expression comes to. One whose operands are numbers and slots makes no further call.
+/// The outcome of an expression. One whose operands are numbers and slots makes no further call.
 #[cycle(evaluate)]
 #[inline(never)]
 fn outcome(slots: &Slots, expr: &CodeExpr) -> Outcome
@@ -51,7 +51,7 @@ fn outcome(slots: &Slots, expr: &CodeExpr) -> Outcome
     }
 }
 
-/// What an expression comes to whose operands are numbers and slots, which are read where they stand; None of any other.
+/// The outcome of an expression whose operands are numbers and slots, which are read in place; None of any other.
 #[inline(always)]
 #[tactic(auto, unfolding(depth_first_run::specs::Values::value))]
 fn flat_outcome(slots: &Slots, expr: &CodeExpr) -> Option<Outcome>
@@ -82,7 +82,7 @@ fn flat_outcome(slots: &Slots, expr: &CodeExpr) -> Option<Outcome>
     }
 }
 
-/// What a chain comes to whose operands are numbers and slots, from the number of its front; None of any other.
+/// The outcome of a chain whose operands are numbers and slots, from the number of its front; None of any other.
 #[inline(always)]
 #[tactic(auto, unfolding(depth_first_run::specs::Values::chained))]
 fn flat_chain(slots: &Slots, front: i64, rest: &[CodeLink]) -> Option<Outcome>
@@ -119,7 +119,7 @@ fn leaf(slots: &Slots, expr: &CodeExpr) -> Option<i64>
     }
 }
 
-/// What an expression comes to, operand by operand.
+/// The outcome of an expression, operand by operand.
 #[cycle(evaluate)]
 #[inline(never)]
 #[tactic(auto, unfolding(depth_first_run::specs::Values::value))]
@@ -153,7 +153,7 @@ fn nested_outcome(slots: &Slots, expr: &CodeExpr) -> Outcome
     }
 }
 
-/// What an operand comes to.
+/// The outcome of an operand.
 #[cycle(evaluate)]
 #[inline(always)]
 #[tactic(auto, unfolding(depth_first_run::specs::Values::value))]
@@ -167,7 +167,7 @@ fn operand(slots: &Slots, expr: &CodeExpr) -> Outcome
     }
 }
 
-/// What a chain comes to, from the number of its front.
+/// The outcome of a chain, from the number of its front.
 #[cycle(evaluate)]
 #[inline(always)]
 fn chain(slots: &Slots, front: i64, rest: &[CodeLink]) -> Outcome
@@ -181,7 +181,7 @@ fn chain(slots: &Slots, front: i64, rest: &[CodeLink]) -> Outcome
     }
 }
 
-/// What a chain comes to, from the number of its front, operand by operand.
+/// The outcome of a chain, from the number of its front, operand by operand.
 #[cycle(evaluate)]
 #[inline(never)]
 #[tactic(auto, unfolding(depth_first_run::specs::Values::chained))]

@@ -20,7 +20,7 @@ returns-in_ok-front-in-Chain c names store e shows is =
     let same = ap expr_shown c.in-Chain.is ∙ expr_shown-chain c.in-Chain.first c.in-Chain.rest in
     let read = subst (λ (x : Table.Expr). IsExpr names x e) same is in
     let told = c.leaf-in-Chain.ensures names store (expr_read names head) shows
-        (subst (λ (x : CodeExpr). IsExpr names (expr_shown x) (expr_read names head)) (sym c.deref-in-Chain.ensures) (refl, read.1.0)) in
+    (subst (λ (x : CodeExpr). IsExpr names (expr_shown x) (expr_read names head)) (sym c.deref-in-Chain.ensures) (refl, read.1.0)) in
     let first = subst (λ (o : Option ℤ). MatchOption o ⊤ (λ n. value store (expr_read names head) ≡ Ok n)) c.in_ok-front-in-Chain.was told in
     let fits = subst (λ (ls : List CodeLink). FitsLinks (length names) (links_shown ls)) (sym c.deref-in-Chain-2.ensures.value) read.1.1 in
     subst (λ (v : Outcome). MatchOption c.flat_chain.result ⊤ (λ outcome. outcome_shown outcome ≡ v))
