@@ -12,7 +12,7 @@ use Rattle.flat_expressions.specs.Codes.{operand_of, slot_behind, more_links, co
 use Rattle.flat_expressions.specs.Meanings.{SameBelow, Leaves}
 use Rattle.flat_expressions.proofs.Rows.{same_self, same_trans, same_less, value_same, chained_same, items_same, set_left, left_leaves, left_from, leaves_from, last_act, IsBelow, operand_same}
 
--- ---- one code behind another
+-- ---- one code after another
 
 abbrev pub then_run : Ran → List Act → Ran
 then_run (ends row) acts = straight acts row
@@ -28,7 +28,7 @@ pub straight_append : (xs ys : List Act) (row : List Entry) → straight (xs ++ 
 straight_append [] ys row = refl
 straight_append (x ∷ xs) ys row = append_next (act_on x row) row xs ys (straight_append xs ys)
 
--- ---- what the code of an operand comes to: its number stands where the operand is, and below k nothing is changed
+-- ---- what the code of an operand gives: its number is where the operand is, and below k nothing is changed
 
 abbrev pub Brings : (k : ℕ) → (before : List Entry) → Operand → Outcome → Ran → Type 0
 Brings k before a (Ok v) (ends after) = SameBelow k before after × (operand_in after a ≡ v)
@@ -114,7 +114,7 @@ behind_operand : (k d : ℕ) (row : List Entry) (o : Outcome) (xs ys : List Act)
     → Leaves k d row o (straight (xs ++ ys) row)
 behind_operand k d row o xs ys h = subst (λ (x : Ran). Leaves k d row o x) (sym (straight_append xs ys row)) h
 
--- ---- the rest of a chain, behind an operator
+-- ---- the rest of a chain, after an operator
 
 module _ (n size d k : ℕ) (row after : List Entry) (long : length row ≡ size) (less : n ≤ k) (here : k < size) (to : d < size)
     (same : SameBelow (suc k) row after) where

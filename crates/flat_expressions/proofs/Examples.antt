@@ -1,4 +1,4 @@
--- Worked examples: the code of an expression, and what it comes to.
+-- Worked examples: the code of an expression, and what it gives.
 use Rattle.std.proofs.Common.{◌≡◌, [], ◌∷◌, ℤ, pos, Ok, refl}
 use Rattle.dag_order.specs.declared.fault.FaultKind.TheVariants as faults
 use Rattle.depth_first_run.specs.Passed.Tree.{plus, times, over, below}

@@ -7,7 +7,7 @@ use Rattle.depth_first_run.specs.Passed.Tree.{ChainOp, Comparison}
 use Rattle.depth_first_run.specs.Values.{Outcome, operated, negated, compared, number_at, place_in, holds, is_true}
 use Rattle.slot_store.specs.Rows.{Entry, integer_at, items_at, with_integer_at, with_blocks_at}
 
--- where the number of an operand stands: in a slot, or in the act itself
+-- where the number of an operand is: in a slot, or in the act itself
 pub data Operand : Type 0 where
   at_slot : ℕ → Operand
   literal : ℤ → Operand
@@ -38,7 +38,7 @@ abbrev pub written_in : ℕ → List Entry → ℤ → Option ℕ → Result (Li
 written_in b row v (Some i) = Ok (with_blocks_at row b (slice_set (items_at row b) i v ∷ []))
 written_in b row v None = Err faults.Index
 
--- the row behind an act, or its fault
+-- the row after an act, or its fault
 abbrev pub act_on : Act → List Entry → Result (List Entry) FaultKind
 act_on (move_to d a) row = left_in d row (Ok (operand_in row a))
 act_on (length_to d b) row = left_in d row (Ok (pos (length (items_at row b))))
@@ -48,7 +48,7 @@ act_on (operate_to op d a b) row = left_in d row (operated op (operand_in row a)
 act_on (compare_to op d a b) row = left_in d row (compared op (operand_in row a) (operand_in row b))
 act_on (write_at b i a) row = written_in b row (operand_in row a) (place_in (items_at row b) (operand_in row i))
 
--- What straight code comes to: the row behind its last act; or the first fault, and the row before the act that met it.
+-- What straight code gives: the row after its last act; or the first fault, and the row before the act that met it.
 pub data Ran : Type 0 where
   ends : List Entry → Ran
   fails : FaultKind → List Entry → Ran

@@ -1,10 +1,10 @@
--- The straight code of an expression. It leaves intermediate numbers in temporary slots from k on, which stand behind the function's own
--- slots, and its last act alone writes the slot that the number goes to. A number or a slot that is an operand is read where it stands.
+-- The straight code of an expression. It leaves intermediate numbers in temporary slots from k on, which are after the function's own
+-- slots, and its last act alone writes the slot that the number goes to. A number or a slot that is an operand is read in place.
 use Rattle.std.specs.Prelude.{ℕ, suc, ◌<◌, List, [], ◌∷◌, ◌++◌}
 use Rattle.node_table.specs.Table.{Expr, num, var, get, len_of, neg, chain, cmp, Links, last, link}
 use Rattle.flat_expressions.specs.Acts.{Operand, at_slot, literal, Act, move_to, length_to, element_to, negate_to, operate_to, compare_to, write_at, Test, is_set, compares}
 
--- where an operand stands: itself, if it is a number or a slot; else in the temporary slot k
+-- where an operand is: itself, if it is a number or a slot; else in the temporary slot k
 abbrev pub operand_of : Expr → ℕ → Operand
 operand_of (num n) k = literal n
 operand_of (var s) k = at_slot s
@@ -24,7 +24,7 @@ brought (neg e) acts = acts
 brought (chain e ls) acts = acts
 brought (cmp op l r) acts = acts
 
--- the slot of a chain's number so far: the one that it goes to behind the last link, else the temporary slot k
+-- the slot of a chain's number so far: the one that it goes to after the last link, else the temporary slot k
 abbrev pub slot_behind : Links → (d k : ℕ) → ℕ
 slot_behind last d k = d
 slot_behind (link op e ls) d k = k

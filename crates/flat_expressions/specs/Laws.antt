@@ -1,4 +1,4 @@
--- What a caller may use of the straight code of expressions. The function has k slots, and temporary slots stand behind them.
+-- What a caller may use of the straight code of expressions. The function has k slots, and temporary slots are after them.
 use Rattle.std.specs.Prelude.{◌≡◌, ℕ, suc, ◌<◌, ◌≤◌, List, length}
 use Rattle.depth_first_run.specs.Passed.Tree.{Name}
 use Rattle.depth_first_run.specs.Stores.{Store}

@@ -6,7 +6,7 @@ use Rattle.node_table.specs.Table.{Expr, num, var, get, len_of, neg, chain, cmp,
 use Rattle.slot_store.specs.Rows.{Entry, integer_at, items_at}
 use Rattle.flat_expressions.specs.Acts.{left_in, written_in}
 
--- An expression, and the rest of a chain behind the number of its front: the integer of a slot is a variable's, and its block that of a
+-- An expression, and the rest of a chain after the number of its front: the integer of a slot is a variable's, and its block that of a
 -- name. It is the value of the depth-first run, read off a row.
 abbrev mutual
   pub value_in : List Entry → Expr → Outcome

@@ -2,15 +2,15 @@
 //!
 //! An act leaves a number in a slot, or writes one to a block, or meets a fault (`specs/Acts.antt`); straight code is acts one after
 //! another. The code of an expression (`specs/Codes.antt`) leaves its intermediate
-//! numbers in temporary slots, which stand behind the function's own slots, and its last act alone writes the slot that the number goes
-//! to. A number or a slot that is an operand is read where it stands. A comparison that is a condition is made by the test of the
+//! numbers in temporary slots, which are after the function's own slots, and its last act alone writes the slot that the number goes
+//! to. A number or a slot that is an operand is read in place. A comparison that is a condition is made by the test of the
 //! condition, and left nowhere.
 //!
-//! It stands on the node table (`node_table`), on rows of slots (`slot_store`), on the operators (`number_operators`) and on the
+//! It builds on the node table (`node_table`), on rows of slots (`slot_store`), on the operators (`number_operators`) and on the
 //! depth-first run as a definition (`depth_first_run`).
 //!
 //! Its theorem, [`expressions_have_code`]: in each row that is long enough, the code of an expression leaves in its slot the number of
-//! the expression over the row and changes no other slot of the function, or it comes to the same fault and changes none. By
+//! the expression over the row and changes no other slot of the function, or it meets the same fault and changes none. By
 //! [`rows_give_the_value`] this number is the value that the depth-first run gives over the store that the row shows. The same is said of
 //! assignments, of writes to blocks and of conditions, in the words in which flat code of statements needs it ([`assignments_have_code`],
 //! [`writes_have_code`], [`conditions_have_code`]). [`run`] does what straight code does to a row.

@@ -1,4 +1,4 @@
-/// Where the number of an operand stands.
+/// Where the number of an operand is.
 #[derive(Clone, Copy)]
 pub enum Operand {
     /// In a slot.

@@ -1,4 +1,4 @@
--- A step of a thread leaves the frames as they are that stand behind its function.
+-- A step of a thread leaves the frames after its function as they are.
 use Rattle.std.proofs.Common.{◌≡◌, ℕ, zero, suc, ◌+◌, Bool, true, false, List, [], ◌∷◌, ◌++◌, Option, Some, None, Result, Ok, Err, refl, ap, ◌∙◌}
 use Rattle.dag_order.specs.declared.fault.FaultKind.{FaultKind}
 use Rattle.depth_first_run.specs.Values.{Outcome, is_true}

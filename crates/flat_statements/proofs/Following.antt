@@ -20,7 +20,7 @@ use Rattle.flat_statements.proofs.Running.{point, runs_on, stepped, jumps_run, R
 use Rattle.flat_statements.proofs.Reaching.{next_numbers, then_numbers, other_numbers, ReachesCode, list_reaches, arm_reaches, body_reaches}
 
 module _ (t : Table) (f : FlatCode) (k size : ℕ) where
-  -- what it comes to behind some steps
+  -- what it gives after some steps
   follows_behind : (p q : Point) (s : Standing) (c : Came Standing) → Runs f p q → Follows t f k size q s c → Follows t f k size p s c
   follows_behind p q s (goes_to after) runs h = (h.0, runs_on runs h.1, h.2)
   follows_behind p q s (meets kind) runs h = (h.0, runs_on runs h.1, h.2, h.3)
@@ -92,7 +92,7 @@ module _ (t : Table) (f : FlatCode) (k size : ℕ) where
               (stepped f here h.at after turns (unless h.test h.other) h.jumps_by ∙ ap (chosen (point h.at after turns) h.other) passed)
               (list_reaches t f k size depth b (Other n) 0 xs h.other behind h.second (other_numbers t n e a b is) reach) now
 
-      -- ---- loops: from a test the body comes, if there is a turn left, or what is behind the loop
+      -- ---- loops: from a test the body comes, if there is a turn left, or what is after the loop
 
       round_follows : (e : Expr) (a : List ℕ) (again_at body : ℕ) (row : List Entry) → kind_at t n ≡ Some (while_node e a)
           → IsRoundCode f k size e here place body behind → IsAgainCode f k size (IsNodeCode t f k size depth) n e a xs again_at body behind

@@ -81,7 +81,7 @@ module _ (t : Table) (f : FlatCode) (k size : ℕ) where
   abbrev pub ReachesCode : List Frame → ℕ → Type 0
   ReachesCode xs place = Reaches f xs (IsCodeOf t f k size xs) place
 
-  -- from the place of a list there is the code of the frame of the list, if there is any, and of what is behind it
+  -- from the place of a list there is the code of the frame of the list, if there is any, and of what is after it
   pub list_reaches : (depth : ℕ) (ns : List ℕ) (list : ListOf) (next : ℕ) (xs : List Frame) (place behind : ℕ)
       → IsListCode f (IsNodeCode t f k size depth) ns list next xs place behind → numbers_from t list next ≡ ns → ReachesCode xs behind
       → ReachesCode (rest_of ns list next xs) place
@@ -97,7 +97,7 @@ module _ (t : Table) (f : FlatCode) (k size : ℕ) where
     ),
   )
 
-  -- from the end of the first arm of an `if` there is the code of what is behind the `if`
+  -- from the end of the first arm of an `if` there is the code of what is after the `if`
   pub arm_reaches : (b : List ℕ) (xs : List Frame) (place behind : ℕ) → IsArmEnd f xs b place behind → ReachesCode xs behind → ReachesCode xs place
   arm_reaches [] xs place behind h reach = subst (λ (b : ℕ). ReachesCode xs b) (sym h) reach
   arm_reaches (n ∷ ns) xs place behind h reach = (suc reach.0, reach.1, (behind, h, reach.2), reach.3)
@@ -128,7 +128,7 @@ module _ (t : Table) (f : FlatCode) (k size : ℕ) where
   pub whole_reaches : (list : ListOf) (place : ℕ) → IsWholeCode t f k size list place → ReachesCode (rest_of (numbers_from t list 0) list 0 []) place
   whole_reaches list place h = list_reaches h.depth (numbers_from t list 0) list 0 [] place h.behind h.code refl (zero, h.behind, refl, h.end)
 
-  -- ---- behind a statement that the thread does by itself
+  -- ---- after a statement that the thread does by itself
 
   left_behind : (P : StatementCode) (n : ℕ) (here xs : List Frame) (place behind : ℕ) (kind : Option Kind) → IsByItself kind
       → IsKindCode f k size P n here xs place behind kind → behind ≡ suc place

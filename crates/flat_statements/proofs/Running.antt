@@ -16,7 +16,7 @@ runs_on arrived s = s
 runs_on (further q e h) s = further q e (runs_on h s)
 
 module _ (f : FlatCode) (here : List Frame) where
-  -- the step at a place, by what stands there
+  -- the step at a place, by what is there
   pub stepped : (place : ℕ) (row : List Entry) (turns : ℕ) (what : Flat) → Has f place what here
       → flat_step f (point place row turns) ≡ step_at (point place row turns) (Some what)
   stepped place row turns what has = ap (λ o. step_at (point place row turns) o) has.is
@@ -27,7 +27,7 @@ module _ (f : FlatCode) (here : List Frame) where
   jumps_run (suc many) place end row turns h =
       further (point h.0 row turns) (stepped place row turns (jumps h.0) h.1) (jumps_run many h.0 end row turns h.2)
 
-  -- straight code: the machine comes behind it with the row that it leaves; or it comes to a fault within it, which has its mark
+  -- straight code: the machine comes after it with the row that it leaves; or it meets a fault within it, which has its mark
   module _ (behind turns : ℕ) where
     abbrev pub RunsTo : (place : ℕ) → List Entry → Ran → Type 0
     RunsTo place row (ends after) = Runs f (point place row turns) (point behind after turns)

@@ -1,8 +1,8 @@
 -- What code of statements is: at which place each statement begins, which frames are left there, and where it goes on.
 --
--- A list of statements ends at the place at which what is behind the list begins. So a statement that is the last of its list goes on
--- there at once, and no frame of the list is left, as a thread has none. A loop has its test twice. A thread that comes to a loop in a
--- list has the frame of the list, and one that comes to it again behind its body has the frame of the loop: these are two places, with
+-- A list of statements ends at the place at which what is after the list begins. So a statement that is the last of its list goes on
+-- there at once, and no frame of the list is left, as a thread has none. A loop has its test twice. A thread that meets a loop in a
+-- list has the frame of the list, and one that meets it again after its body has the frame of the loop: these are two places, with
 -- two marks, and both go on alike.
 use Rattle.std.specs.Prelude.{◌≡◌, ℕ, zero, suc, ◌+◌, List, [], ◌∷◌, Option, Some, None, slice_get}
 use Rattle.node_table.specs.Table.{Expr, Kind, let_node, assign_node, put_node, alloc_node, free_node, if_node, while_node, call_node, print_node, both_node, split_node, Table}
@@ -17,12 +17,12 @@ use Rattle.flat_expressions.specs.Meanings.{Do, AreTest}
 use Rattle.flat_statements.specs.Flat.{Flat, doing, unless, rounds, jumps, leaves, FlatCode, frames_at}
 use Rattle.flat_statements.specs.Threads.{rest_of}
 
--- at a place stands this, and its mark is these frames
+-- this is at a place, and its mark is these frames
 pub record Has (f : FlatCode) (place : ℕ) (what : Flat) (here : List Frame) : Type 0 where
   pub is : slice_get f.places place ≡ Some what
   pub mark : frames_at f place ≡ here
 
--- from a place on stand these acts of one statement, and behind the last one is the place `behind`
+-- these acts of one statement are from a place on, and after the last one is the place `behind`
 abbrev pub HasActs : FlatCode → (here : List Frame) → ℕ → List Act → (behind : ℕ) → Type 0
 HasActs f here place [] behind = place ≡ behind
 HasActs f here place (a ∷ rest) behind = Has f place (doing a) here × HasActs f here (suc place) rest behind
@@ -38,20 +38,20 @@ pub record IsPutCode (f : FlatCode) (k size : ℕ) (b : ℕ) (i e : Expr) (here 
   pub there : HasActs f here place code behind
   pub does : Do k size (put_by b i e) code
 
--- a condition, whose test stands at the place `at` behind its acts
+-- a condition, whose test is at the place `at` after its acts
 pub record IsTestCode (f : FlatCode) (k size : ℕ) (e : Expr) (test : Test) (here : List Frame) (place at : ℕ) : Type 0 where
   pub code : List Act
   pub there : HasActs f here place code at
   pub tests : AreTest k size e code test
 
--- the test of a loop, from which its body or what is behind it comes next
+-- the test of a loop, from which its body or what is after it comes next
 pub record IsRoundCode (f : FlatCode) (k size : ℕ) (e : Expr) (here : List Frame) (place body behind : ℕ) : Type 0 where
   pub test : Test
   pub at : ℕ
   pub before : IsTestCode f k size e test here place at
   pub jumps_by : Has f at (rounds test body behind) here
 
--- what the code of a statement is: by its place, its node, the frames before it and behind it, and the place at which it goes on
+-- what the code of a statement is: by its place, its node, the frames before it and after it, and the place at which it goes on
 abbrev pub StatementCode : Type 1
 StatementCode = (place n : ℕ) → (here xs : List Frame) → (behind : ℕ) → Type 0
 
@@ -80,7 +80,7 @@ pub record IsIfCode (f : FlatCode) (k size : ℕ) (P : StatementCode) (n : ℕ) 
   pub over : IsArmEnd f xs b arm_end behind
   pub second : IsListCode f P b (Other n) 0 xs other behind
 
--- the second test of a loop, behind its body
+-- the second test of a loop, after its body
 pub record IsAgainCode (f : FlatCode) (k size : ℕ) (P : StatementCode) (n : ℕ) (e : Expr) (a : List ℕ) (xs : List Frame)
     (place body behind : ℕ) : Type 0 where
   pub mark : frames_at f place ≡ Again n ∷ xs
@@ -113,7 +113,7 @@ pub record IsLeft (f : FlatCode) (here : List Frame) (place behind : ℕ) : Type
   pub there : Has f place leaves here
   pub next : behind ≡ suc place
 
--- The statement of the node n, with the frames `here` before it and xs behind it, from a place on. It goes on at the place `behind`.
+-- The statement of the node n, with the frames `here` before it and xs after it, from a place on. It goes on at the place `behind`.
 abbrev pub IsKindCode : FlatCode → (k size : ℕ) → StatementCode → ℕ → (here xs : List Frame) → (place behind : ℕ)
     → Option Kind → Type 0
 IsKindCode f k size P n here xs place behind None = ⊥
@@ -129,13 +129,13 @@ IsKindCode f k size P n here xs place behind (Some (print_node e)) = IsLeft f he
 IsKindCode f k size P n here xs place behind (Some (both_node a b blocks assigned)) = IsLeft f here place behind
 IsKindCode f k size P n here xs place behind (Some (split_node s e l r a)) = IsLeft f here place behind
 
--- nodes stand in one another so many deep at most
+-- nodes are nested so many deep at most
 abbrev pub IsNodeCode : Table → FlatCode → (k size : ℕ) → (depth : ℕ) → (place n : ℕ) → (here xs : List Frame) → (behind : ℕ) → Type 0
 IsNodeCode t f k size zero place n here xs behind = ⊥
 IsNodeCode t f k size (suc depth) place n here xs behind =
     IsKindCode f k size (IsNodeCode t f k size depth) n here xs place behind (kind_at t n)
 
--- a whole list that a thread does not leave by itself, as the body of a function or a branch of a `par`: no frame is behind it
+-- a whole list that a thread does not leave by itself, as the body of a function or a branch of a `par`: no frame is after it
 pub record IsWholeCode (t : Table) (f : FlatCode) (k size : ℕ) (list : ListOf) (place : ℕ) : Type 0 where
   pub depth : ℕ
   pub behind : ℕ

@@ -7,8 +7,8 @@ use Rattle.slot_store.specs.Rows.{Entry}
 use Rattle.thread_stack.specs.declared.frame.Frame.{Frame}
 use Rattle.flat_expressions.specs.Acts.{Act, act_on, Test, passes}
 
--- What stands at a place of the code, with the places at which it goes on if not at the next one. An act on slots. The test of an `if`,
--- with the place of its other arm. The test of a loop: where it passes a turn is taken, and the body comes; else what is behind the loop. A
+-- What is at a place of the code, with the places at which it goes on if not at the next one. An act on slots. The test of an `if`,
+-- with the place of its other arm. The test of a loop: where it passes a turn is taken, and the body comes; else what is after the loop. A
 -- jump. The end of flat code: a statement that the thread does by itself, or the end of a list that the thread does not leave by itself.
 pub data Flat : Type 0 where
   doing : Act → Flat
@@ -17,7 +17,7 @@ pub data Flat : Type 0 where
   jumps : ℕ → Flat
   leaves : Flat
 
--- With each place goes its mark: the frames that a thread has inside its function where it stands before the statement to which the place
+-- With each place goes its mark: the frames that a thread has inside its function where it is before the statement to which the place
 -- belongs, the next one first.
 pub record FlatCode : Type 0 where
   pub places : List Flat
@@ -26,13 +26,13 @@ pub record FlatCode : Type 0 where
 abbrev pub frames_at : FlatCode → ℕ → List Frame
 frames_at f place = get_or f.marks place []
 
--- where the machine stands: the place, the row, which has temporary slots behind those of the function, and the turns that are left
+-- where the machine is: the place, the row, which has temporary slots after those of the function, and the turns that are left
 pub record Point : Type 0 where
   pub place : ℕ
   pub row : List Entry
   pub turns : ℕ
 
--- what a step comes to: it goes on, a fault, or what is not for flat code
+-- what a step gives: it goes on, a fault, or what is not for flat code
 pub data Came (A : Type 0) : Type 0 where
   goes_to : A → Came A
   meets : FaultKind → Came A

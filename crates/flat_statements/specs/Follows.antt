@@ -1,4 +1,4 @@
--- Where flat code stands for a thread, and that it follows the thread step by step.
+-- Where flat code represents a thread, and that it follows the thread step by step.
 use Rattle.std.specs.Prelude.{◌≡◌, ℕ, zero, suc, List, [], ◌∷◌, Option, Some, None}
 use Rattle.node_table.specs.Table.{Kind, let_node, assign_node, put_node, alloc_node, free_node, if_node, while_node, call_node, print_node, both_node, split_node, Table}
 use Rattle.thread_stack.specs.declared.frame.Frame.{Frame}
@@ -15,7 +15,7 @@ abbrev pub Jumps : FlatCode → List Frame → ℕ → (place end : ℕ) → Typ
 Jumps f xs zero place end = place ≡ end
 Jumps f xs (suc many) place end = (next : ℕ) × Has f place (jumps next) xs × Jumps f xs many next end
 
--- from a place there is code P, at once or behind jumps
+-- from a place there is code P, at once or after jumps
 abbrev pub Reaches : FlatCode → List Frame → (ℕ → Type 0) → ℕ → Type 0
 Reaches f xs P place = (many : ℕ) × (end : ℕ) × Jumps f xs many place end × P end
 
@@ -56,20 +56,20 @@ abbrev pub IsCodeOf : Table → FlatCode → (k size : ℕ) → List Frame → �
 IsCodeOf t f k size [] place = Has f place leaves []
 IsCodeOf t f k size (x ∷ xs) place = IsFrameCode t f k size (IsCodeOf t f k size xs) x xs place
 
--- The machine stands for a thread: from its place on there is the code of the thread's frames, the function's slots are in front of its
+-- The machine represents a thread: from its place on there is the code of the thread's frames, the function's slots are in front of its
 -- row, and it has as many turns.
 pub record StandsFor (t : Table) (f : FlatCode) (k size : ℕ) (p : Point) (s : Standing) : Type 0 where
   pub code : Reaches f s.frames (IsCodeOf t f k size s.frames) p.place
   pub front : HasInFront k size p.row s.row
   pub turns : p.turns ≡ s.turns
 
--- It stands before or within the statement that comes next to the thread: the mark of its place is the thread's frames.
+-- It is before or within the statement that comes next to the thread: the mark of its place is the thread's frames.
 pub record IsWithin (f : FlatCode) (k size : ℕ) (p : Point) (s : Standing) : Type 0 where
   pub mark : frames_at f p.place ≡ s.frames
   pub front : HasInFront k size p.row s.row
   pub turns : p.turns ≡ s.turns
 
--- What the machine comes to from p where the thread s comes to this by one step: it stands for the thread behind the step; or it meets the
+-- What the machine does from p where one step of the thread s gives this: it represents the thread after the step; or it meets the
 -- same fault, or stops, within the statement, so that the thread is as it was.
 abbrev pub Follows : Table → FlatCode → (k size : ℕ) → Point → Standing → Came Standing → Type 0
 Follows t f k size p s (goes_to after) = (q : Point) × Runs f p q × StandsFor t f k size q after

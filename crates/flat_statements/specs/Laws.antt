@@ -18,7 +18,7 @@ use Rattle.flat_statements.specs.Codes.{IsByItself, IsWholeCode}
 use Rattle.flat_statements.specs.Runs.{IsInState, IsStepOf}
 use Rattle.flat_statements.specs.Follows.{Reaches, IsCodeOf, StandsFor, Follows}
 
--- where the machine stands for a thread, the mark of its place is the frames of the thread
+-- where the machine represents a thread, the mark of its place is the frames of the thread
 abbrev pub MarksAreFrames : Type 0
 MarksAreFrames =
     (t : Table) (f : FlatCode) (k size : ℕ) (p : Point) (s : Standing) → StandsFor t f k size p s → frames_at f p.place ≡ s.frames
@@ -34,14 +34,14 @@ WholeListsAreCode =
     (t : Table) (f : FlatCode) (k size : ℕ) (list : ListOf) (place : ℕ) → IsWholeCode t f k size list place
     → Reaches f (rest_of (numbers_from t list 0) list 0 []) (IsCodeOf t f k size (rest_of (numbers_from t list 0) list 0 [])) place
 
--- behind a statement that the thread does by itself there is, at the next place, the code of what is left behind it
+-- after a statement that the thread does by itself there is, at the next place, the code of what is left after it
 abbrev pub CodeGoesOn : Type 0
 CodeGoesOn =
     (t : Table) (f : FlatCode) (k size place : ℕ) (list : ListOf) (next n : ℕ) (ns : List ℕ) (xs : List Frame)
     → IsCodeOf t f k size (Statements list next ∷ xs) place → numbers_from t list next ≡ n ∷ ns → IsByItself (kind_at t n)
     → Reaches f (rest_of ns list (next + 1) xs) (IsCodeOf t f k size (rest_of ns list (next + 1) xs)) (suc place)
 
--- a step of a thread leaves the frames as they are that stand behind its function
+-- a step of a thread leaves the frames after its function as they are
 abbrev pub FramesBehindStay : Type 0
 FramesBehindStay =
     (t : Table) (zs : List Frame) (row : List Entry) (x : Frame) (xs : List Frame) (turns : ℕ)

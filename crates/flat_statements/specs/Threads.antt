@@ -1,4 +1,4 @@
--- One step of a thread over slots, by its next frame: the frames that it has behind the step, its row and its turns. Statements that act,
+-- One step of a thread over slots, by its next frame: the frames that it has after the step, its row and its turns. Statements that act,
 -- call, print or split are not done here.
 use Rattle.std.specs.Prelude.{ℕ, zero, suc, ◌+◌, Bool, true, false, List, [], ◌∷◌, ◌++◌, Option, Some, None, Result, Ok, Err}
 use Rattle.dag_order.specs.declared.fault.FaultKind.{FaultKind}
@@ -28,8 +28,8 @@ abbrev pub rest_of : List ℕ → ListOf → ℕ → List Frame → List Frame
 rest_of [] list next xs = xs
 rest_of (n ∷ ns) list next xs = Statements list next ∷ xs
 
--- The steps of statements, with the frames xs behind them: an assignment or a write; an `if`, by the number of its condition; a round of a
--- loop, which comes again behind its body, and takes a turn.
+-- The steps of statements, with the frames xs after them: an assignment or a write; an `if`, by the number of its condition; a round of a
+-- loop, which comes again after its body, and takes a turn.
 abbrev pub row_step : List Frame → ℕ → Result (List Entry) FaultKind → Came Standing
 row_step xs turns (Ok row) = goes_to (standing xs row turns)
 row_step xs turns (Err kind) = meets kind
@@ -54,7 +54,7 @@ abbrev pub while_step : ℕ → List ℕ → List Frame → List Entry → ℕ �
 while_step n a xs row turns (Ok v) = round_step n a xs row turns (is_true v)
 while_step n a xs row turns (Err kind) = meets kind
 
--- the statement of the node n, with the frames xs behind it
+-- the statement of the node n, with the frames xs after it
 abbrev pub kind_step : ℕ → List Frame → List Entry → ℕ → Option Kind → Came Standing
 kind_step n xs row turns None = stops
 kind_step n xs row turns (Some (let_node s e)) = row_step xs turns (set_by s e row)
@@ -69,7 +69,7 @@ kind_step n xs row turns (Some (print_node e)) = stops
 kind_step n xs row turns (Some (both_node a b blocks assigned)) = stops
 kind_step n xs row turns (Some (split_node s e l r a)) = stops
 
--- the first statement of a list, with what is left of it behind
+-- the first statement of a list, with what is left of it after this
 abbrev pub list_step : Table → List ℕ → ListOf → ℕ → List Frame → List Entry → ℕ → Came Standing
 list_step t [] list next xs row turns = goes_to (standing xs row turns)
 list_step t (n ∷ ns) list next xs row turns = kind_step n (rest_of ns list (next + 1) xs) row turns (kind_at t n)
@@ -91,7 +91,7 @@ frames_step t (x ∷ xs) row turns = frame_step t x xs row turns
 abbrev pub thread_step : Table → Standing → Came Standing
 thread_step t s = frames_step t s.frames s.row s.turns
 
--- with the frames zs of what is behind the function
+-- with the frames zs of what is after the function
 abbrev pub with_behind : List Frame → Came Standing → Came Standing
 with_behind zs (goes_to s) = goes_to (standing (s.frames ++ zs) s.row s.turns)
 with_behind zs (meets kind) = meets kind

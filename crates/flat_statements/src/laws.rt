@@ -1,11 +1,11 @@
 ghost use Rattle.flat_statements.specs.Laws.{MarksAreFrames, MachineFollowsTheThread, WholeListsAreCode, CodeGoesOn, FramesBehindStay, ThreadStepsAreOfTheRun};
 
-/// The mark of the machine's place is the frames of the thread for which it stands.
+/// The mark of the machine's place is the frames of the thread that it represents.
 pub fn marks_are_frames()
     ensures { MarksAreFrames }
 {}
 
-/// The machine follows each step of a thread for which it stands.
+/// The machine follows each step of a thread that it represents.
 pub fn machine_follows_the_thread()
     ensures { MachineFollowsTheThread }
 {}
@@ -15,12 +15,12 @@ pub fn whole_lists_are_code()
     ensures { WholeListsAreCode }
 {}
 
-/// Behind a statement that a thread does by itself the next place is the code of what is left.
+/// After a statement that a thread does by itself the next place is the code of what is left.
 pub fn code_goes_on()
     ensures { CodeGoesOn }
 {}
 
-/// A step of a thread leaves the frames as they are that stand behind its function.
+/// A step of a thread leaves the frames after its function as they are.
 pub fn frames_behind_stay()
     ensures { FramesBehindStay }
 {}
