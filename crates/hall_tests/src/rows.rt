@@ -123,7 +123,9 @@ fn tell_so(rt: &impl Abort, alloc: Global, rows: &str) {
 }
 
 /// One seat that gives its deque up, steals from it and has to wait; one that leaves its deque to another; two that stop; one that acts while
-/// another holds the list, for a run and for a run that needs the pool alone.
+/// another holds the list, for a run and for a run that needs the pool alone; a child that has a fault, after which its parent, faulted too,
+/// gives its own blocks back at the Join; and a root that has a fault beside its child, whose End, with one line, leaves in the list a result
+/// with a block: the Join takes it from there and gives the block back.
 const ROWS: &str = "
 @ 16 1 1024 64 | 0 steal/0 act/0 give-up/0 steal/0 act/0 steal/0 act/0 act/0 act/0 steal | |
 stole 0 1, did 0 0 0, gave up 0, stole 1 2, suspended 0 0, stole 0 3, did 1 0 0, did 0 0 1, did 0 0 2, \
@@ -151,6 +153,14 @@ fn main() { par { print 1; } and { print 2; } print 3; }
 stole 0 1, entered 1, did 0 0 0, did 1 0 0, did 1 0 1, did 1 0 2, did 0 0 1, did 0 0 2, did 0 0 3, Busy(Held { slot: 0, seen: 1 }), did 0 0 4, left, \
 closed Finished(Done) periods 1 0 root |
 fn main() { par { alloc a = 16; free a; } and { alloc b = 16; free b; } }
+@ 1024 1 1024 64 | 0 steal/0 act/0 act/0 act/0 act/0 act/0 act/0 act/0 act/0 steal | |
+stole 0 1, did 0 0 0, did 0 0 1, did 0 0 2, did 0 0 3, did 1 0 0, did 1 0 1, did 0 0 4, did 0 0 5, \
+Over(Finished(Faulted(FaultAt { kind: Index, line: 1 }))), closed Finished(Faulted(FaultAt { kind: Index, line: 1 })) periods 1 0 root |
+fn f(use u) { alloc n = 2; par { n[2] = 1; } and { u[0] = 1; } free n; } fn main() { alloc a = 1; alloc c = 1; call f(use a); free a; free c; }
+@ 1024 2 1024 64 | 0 steal/0 act/0 act/0 enter/1 steal/0 act/1 act/1 act/1 act/0 steal/1 leave 0 | |
+stole 0 1, did 0 0 0, did 0 0 1, entered 1, stole 1 2, did 1 0 0, did 0 0 2, did 0 0 3, did 0 0 4, \
+Over(Finished(Faulted(FaultAt { kind: Divide, line: 1 }))), left, closed Finished(Faulted(FaultAt { kind: Divide, line: 1 })) periods 2 1 root |
+fn main() { alloc a = 16; par { a[0] = 1; print 7; } and { print 1 / 0; } free a; }
 ";
 
 #[test]

@@ -7,9 +7,6 @@ use std::alloc::Global;
 use std::fmt::Write;
 use std::process::Abort;
 
-/// Two children, of which the first one is forked.
-const TWO: &str = "fn main() { par { print 1; } and { print 2; } print 3; }";
-
 /// The first worker gives its deque up.
 fn give_up(rt: &impl Abort, core: &mut Core) {
     let owned = match core.seat(0) {
@@ -35,15 +32,19 @@ fn tell_moves(rt: &impl Abort, text: &mut String, player: &mut Player, moves: &s
     }
 }
 
-/// Moves of the workers of a run with a quota of 16: `deques` or `ready`, how many workers there are, the moves, and what they tell.
+/// Moves of the workers of a run with a quota of 16: `deques` or `ready`, how many workers there are, the moves, what they tell, and the
+/// program.
 ///
 /// The second worker steals the root while the first one runs the child that it forked, and has to wait; with a ready list it finds no entry
 /// while the root runs, and the parent of a Fork is one. A worker forks and gives its deque up: then it steals the root, which has to wait,
-/// and after that the child.
+/// and after that the child. In the last row the block is three quotas, so three dummies come before it: one of the root and two of its
+/// child, which forks a child of its own for the first of them. The quota pays for one Fork, so the worker gives up at that of the child; and
+/// after each dummy it has to steal again, always from the leftmost deque.
 const MOVES: &str = "
-deques | 2 | 10100111 | Stole { deque: DequeId(0), period: 1 } Nothing Acted(ActionId { by: ThreadId { period: 0, nth: 0 }, index: 0 }) Stole { deque: DequeId(1), period: 2 } Suspended(ThreadId { period: 0, nth: 0 }) Acted(ActionId { by: ThreadId { period: 1, nth: 0 }, index: 0 }) Acted(ActionId { by: ThreadId { period: 0, nth: 0 }, index: 1 }) Acted(ActionId { by: ThreadId { period: 0, nth: 0 }, index: 2 })
-deques | 1 | 00g0000000 | Stole { deque: DequeId(0), period: 1 } Acted(ActionId { by: ThreadId { period: 0, nth: 0 }, index: 0 }) Stole { deque: DequeId(1), period: 2 } Suspended(ThreadId { period: 0, nth: 0 }) Stole { deque: DequeId(0), period: 3 } Acted(ActionId { by: ThreadId { period: 1, nth: 0 }, index: 0 }) Acted(ActionId { by: ThreadId { period: 0, nth: 0 }, index: 1 }) Acted(ActionId { by: ThreadId { period: 0, nth: 0 }, index: 2 }) Over(Finished(Done))
-ready | 2 | 0101 | Stole { deque: DequeId(0), period: 1 } Nothing Acted(ActionId { by: ThreadId { period: 0, nth: 0 }, index: 0 }) Stole { deque: DequeId(1), period: 2 }
+deques | 2 | 10100111 | Stole { deque: DequeId(0), period: 1 } Nothing Acted(ActionId { by: ThreadId { period: 0, nth: 0 }, index: 0 }) Stole { deque: DequeId(1), period: 2 } Suspended(ThreadId { period: 0, nth: 0 }) Acted(ActionId { by: ThreadId { period: 1, nth: 0 }, index: 0 }) Acted(ActionId { by: ThreadId { period: 0, nth: 0 }, index: 1 }) Acted(ActionId { by: ThreadId { period: 0, nth: 0 }, index: 2 }) | fn main() { par { print 1; } and { print 2; } print 3; }
+deques | 1 | 00g0000000 | Stole { deque: DequeId(0), period: 1 } Acted(ActionId { by: ThreadId { period: 0, nth: 0 }, index: 0 }) Stole { deque: DequeId(1), period: 2 } Suspended(ThreadId { period: 0, nth: 0 }) Stole { deque: DequeId(0), period: 3 } Acted(ActionId { by: ThreadId { period: 1, nth: 0 }, index: 0 }) Acted(ActionId { by: ThreadId { period: 0, nth: 0 }, index: 1 }) Acted(ActionId { by: ThreadId { period: 0, nth: 0 }, index: 2 }) Over(Finished(Done)) | fn main() { par { print 1; } and { print 2; } print 3; }
+ready | 2 | 0101 | Stole { deque: DequeId(0), period: 1 } Nothing Acted(ActionId { by: ThreadId { period: 0, nth: 0 }, index: 0 }) Stole { deque: DequeId(1), period: 2 } | fn main() { par { print 1; } and { print 2; } print 3; }
+deques | 1 | 000000000000000000000 | Stole { deque: DequeId(0), period: 1 } Acted(ActionId { by: ThreadId { period: 0, nth: 0 }, index: 0 }) GaveUp(DequeId(0)) Stole { deque: DequeId(1), period: 2 } Acted(ActionId { by: ThreadId { period: 0, nth: 0 }, index: 1 }) Stole { deque: DequeId(0), period: 3 } Acted(ActionId { by: ThreadId { period: 1, nth: 0 }, index: 0 }) Acted(ActionId { by: ThreadId { period: 3, nth: 0 }, index: 0 }) Stole { deque: DequeId(2), period: 4 } Acted(ActionId { by: ThreadId { period: 1, nth: 0 }, index: 1 }) Stole { deque: DequeId(0), period: 5 } Acted(ActionId { by: ThreadId { period: 3, nth: 0 }, index: 1 }) Stole { deque: DequeId(2), period: 6 } Acted(ActionId { by: ThreadId { period: 1, nth: 0 }, index: 2 }) Acted(ActionId { by: ThreadId { period: 1, nth: 0 }, index: 3 }) Stole { deque: DequeId(1), period: 7 } Acted(ActionId { by: ThreadId { period: 0, nth: 0 }, index: 2 }) Acted(ActionId { by: ThreadId { period: 0, nth: 0 }, index: 3 }) Acted(ActionId { by: ThreadId { period: 0, nth: 0 }, index: 4 }) Acted(ActionId { by: ThreadId { period: 0, nth: 0 }, index: 5 }) Over(Finished(Done)) | fn main() { alloc b = 40; free b; }
 ";
 
 /// The workers of a row do what the row says.
@@ -59,7 +60,7 @@ fn step_row(rt: &impl Abort, alloc: Global, row: &str) -> Option<()> {
     };
     let moves = parts.next()?;
     let want = parts.next()?.trim();
-    let mut player = player_of(rt, alloc, TWO, lists, numbers);
+    let mut player = player_of(rt, alloc, parts.next()?.trim(), lists, numbers);
     assert!(rt; is_unfinished(&player), "a new run has no output");
     let mut text = String::new(alloc);
     tell_moves(rt, &mut text, &mut player, moves);
