@@ -1,5 +1,5 @@
 -- What the answers of a seat show of its choice.
-use Rattle.std.proofs.Common.{◌≡◌, ℕ, suc, ◌+◌, ◌%◌, ◌<◌, min, List, [], ◌∷◌, ◌++◌, map, length, inl, inr, refl, sym, ap, ◌∙◌, subst, arith}
+use Rattle.std.proofs.Common.{◌≡◌, ℕ, zero, suc, ◌+◌, ◌%◌, ◌<◌, min, List, [], ◌∷◌, ◌++◌, map, length, inl, inr, refl, sym, ap, ◌∙◌, subst, arith}
 use Rattle.std.proofs.lemmas.Bool.{cases_lt}
 use Rattle.std.proofs.lemmas.List.{append_assoc, length-map}
 use Rattle.std.proofs.lemmas.Option.{same_Some}
@@ -84,7 +84,7 @@ module _ (word reach : ℕ) (places : List Place) where
 
   -- what was tried has no thread to steal
   pub none_ready : (turns : ℕ) (looks : List (Look Slot)) → Tried word reach turns places looks → NoneReady word reach turns looks places
-  none_ready 0 looks tried e p few its = absurd (omega (arith, few))
+  none_ready zero looks tried = λ e p few its. absurd (omega (arith, few))
   none_ready (suc turn) looks tried = subst (λ (ls : List (Look Slot)). NoneReady word reach (suc turn) ls places) (sym tried.6)
       (subst (λ n. NoneReady word reach n (tried.0 ++ took_lane tried.2 tried.3 ∷ []) places) (next_is turn)
       (one_more turn ((word + turn) % reach) tried.2 tried.3 tried.0 refl tried.4 tried.5 (none_ready turn tried.0 tried.1)))

@@ -1,5 +1,5 @@
 -- Whom a thief robs, by what its seat was answered.
-use Rattle.std.specs.Prelude.{◌≡◌, ◌⊎◌, ℕ, suc, ◌+◌, ◌%◌, ◌<◌, ◌≤◌, min, Option, None, Some, List, [], ◌∷◌, ◌++◌, map, length, slice_get}
+use Rattle.std.specs.Prelude.{◌≡◌, ◌⊎◌, ℕ, zero, suc, ◌+◌, ◌%◌, ◌<◌, ◌≤◌, min, Option, None, Some, List, [], ◌∷◌, ◌++◌, map, length, slice_get}
 use Rattle.deque_list.specs.declared.place.Place.{Place}
 use Rattle.turn_table.specs.declared.held.Held.{Held}
 use Rattle.turn_table.specs.declared.look.Look.{Look}
@@ -46,7 +46,7 @@ HasTried place before (Some lane) after = IsTaken before (place.id.0 + 2) (slots
 -- The answers of a thief that tried the deques of so many turns, in their order, and found no thread to steal there: each is the lane of the place
 -- that its turn picks.
 abbrev pub Tried : (word reach turns : ℕ) → List Place → List (Look Slot) → Type 0
-Tried word reach 0 places looks = looks ≡ []
+Tried word reach zero places looks = looks ≡ []
 Tried word reach (suc turn) places looks = (earlier : List (Look Slot)) × Tried word reach turn places earlier
     × (place : Place) × (lane : LaneSlot) × (slice_get places ((word + turn) % reach) ≡ Some place) × (¬ IsReadyBy place lane)
     × (looks ≡ earlier ++ took_lane place lane ∷ [])

@@ -1,4 +1,5 @@
 use Rattle.std.proofs.Common.{◌+◌, ◌<◌, [], ◌∷◌, ◌++◌, sym, ap, ◌∙◌, subst, arith}
+use Rattle.std.proofs.lemmas.Result.{err_from_is_err_and}
 use Rattle.std.specs.Prelude.{Option, min, length, slice_get}
 use Rattle.turn_table.specs.Tables.{key_of}
 use Rattle.turn_table.proofs.Standing.{slots_of_seat}
@@ -32,8 +33,9 @@ pub returns-in_err-lane-clause-seat : goal.returns-in_err-lane-clause-seat
 returns-in_err-lane-clause-seat c =
     let there = ap (λ (l : ListSlot). slice_get l.part.order.places c.picked-at.result) (sym c.get.ensures) ∙ sym c.place.ensures ∙ c.in-Some.is in
     let reach = c.leftmost-reach.ensures ∙ ap (λ (l : ListSlot). min c.args.workers (length l.part.order.places)) c.get.ensures in
-    held_off c.args.workers c.args.word c.args.list.now c.tries.invariant.0 c.leftmost-reach.result c.tries.turn c.picked-at.result c.in-Some.place reach c.tries-test.true c.picked-at.ensures.value there
-    c.tries.invariant.2 c.args.seat.now c.tries.seat c.try_place.new.seat c.tries.invariant.1 c.in_err-lane.error c.in_err-lane.ensures.seat
+    let p = err_from_is_err_and c.from_residual.result c.from_residual.ensures.1 in
+    rw (p.1, p.2) (held_off c.args.workers c.args.word c.args.list.now c.tries.invariant.0 c.leftmost-reach.result c.tries.turn c.picked-at.result c.in-Some.place reach c.tries-test.true c.picked-at.ensures.value there
+    c.tries.invariant.2 c.args.seat.now c.tries.seat c.try_place.new.seat c.tries.invariant.1 c.in_err-lane.field-0.0 c.in_err-lane.ensures.seat)
 
 pub tries-preserved : goal.tries-preserved
 tries-preserved c =
