@@ -31,7 +31,7 @@ use Rattle.hall_slots.proofs.Lone.{noted_at}
 use Rattle.hall_slots.proofs.Written.{list_at}
 use Rattle.hall_slots.specs.Lists.{Leaves}
 use Rattle.hall_slots.proofs.Listed.{leaves_of}
-use Rattle.hall_slots.specs.Entering.{MayEnter, entering_note, giving_note, worker_note, last_of, HoldsTheNamed, PutsNamed, GivesAPlace, PutsGiven, EntersWith, HasEntered}
+use Rattle.hall_slots.specs.Entering.{MayEnter, entering_note, giving_note, worker_note, last_of, HoldsTheNamed, PutsNamed, GivesAPlace, PutsGiven, EntersWith, HasEntered, FindsListFree}
 use Rattle.hall_slots.specs.declared.refused.EnterRefused.{EnterRefused}
 use Rattle.hall_slots.specs.declared.refused.EnterRefused.TheVariants.{Busy, Over, OutOfMemory}
 use Rattle.hall_slots.proofs.EnteredLists.{last_snoc}
@@ -107,3 +107,10 @@ entered key before middle after list (Ok made) taken enters = (list, subst (λ (
 entered key before middle after list (Err (Busy held)) taken enters = absurd enters
 entered key before middle after list (Err (Over end)) taken enters = (list, subst (λ (s : HallSeat). EntersWith key list s after (Err (Over end))) taken enters)
 entered key before middle after list (Err OutOfMemory) taken enters = (list, subst (λ (s : HallSeat). EntersWith key list s after (Err OutOfMemory)) taken enters)
+
+-- who has the list is refused no slot
+pub free_of : (key : HallKey) (list : ListSlot) (before after : HallSeat) (result : Result (HallSeat × ℕ) EnterRefused) → EntersWith key list before after result → FindsListFree result
+free_of key list before after (Ok made) enters = tt
+free_of key list before after (Err (Busy held)) enters = enters
+free_of key list before after (Err (Over end)) enters = tt
+free_of key list before after (Err OutOfMemory) enters = tt

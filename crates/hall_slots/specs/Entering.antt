@@ -100,3 +100,10 @@ HasEntered key before after (Ok made) = (list : ListSlot) × EntersWith key list
 HasEntered key before after (Err (Busy held)) = IsRefused before 0 held after
 HasEntered key before after (Err (Over end)) = (list : ListSlot) × EntersWith key list (with_list before list) after (Err (Over end))
 HasEntered key before after (Err OutOfMemory) = (list : ListSlot) × EntersWith key list (with_list before list) after (Err OutOfMemory)
+
+-- no other seat held the list
+abbrev pub FindsListFree : Result (HallSeat × ℕ) EnterRefused → Type 0
+FindsListFree (Ok made) = Unit {0}
+FindsListFree (Err (Busy held)) = ⊥
+FindsListFree (Err (Over end)) = Unit {0}
+FindsListFree (Err OutOfMemory) = Unit {0}

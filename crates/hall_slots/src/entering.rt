@@ -3,8 +3,8 @@
 ghost use Rattle.std.specs.Prelude.{◌≡◌, [], ◌∷◌, None, IfOk};
 ghost use Rattle.turn_table.specs.Tables.{key_of, IsSeatOf};
 ghost use Rattle.hall_slots.specs.declared.slot.Slot.TheVariants as slots;
-ghost use Rattle.hall_slots.specs.Takes.{MeetsLaw};
-ghost use Rattle.hall_slots.specs.Entering.{EntersWith, HasEntered, MayEnter};
+ghost use Rattle.hall_slots.specs.Takes.{HasAllPlaces, MeetsLaw};
+ghost use Rattle.hall_slots.specs.Entering.{EntersWith, FindsListFree, HasEntered, MayEnter};
 
 use crate::entered_lists::enter_in;
 use crate::lists::{end_of, put_answered, put_same};
@@ -79,6 +79,7 @@ pub fn enter(
     requires free { seat.old.hand.holds ≡ [] }
     ensures seat { HasEntered (key_of row.now) seat.old seat.new result }
     ensures made { IfOk result (λ made. IsSeatOf row.now made.0) }
+    ensures lone { HasAllPlaces (key_of row.now) seat.old → FindsListFree result }
 {
     match take_list(row, seat) {
         Ok(list) => enter_with(row, seat, list, workers),

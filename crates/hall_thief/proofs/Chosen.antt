@@ -1,5 +1,5 @@
 -- What the answers of a seat show of its choice.
-use Rattle.std.proofs.Common.{◌≡◌, ℕ, suc, ◌+◌, ◌%◌, ◌<◌, min, List, [], ◌∷◌, ◌++◌, map, length, inl, inr, refl, sym, ap, ◌∙◌, subst, arith}
+use Rattle.std.proofs.Common.{◌≡◌, ℕ, zero, suc, ◌+◌, ◌%◌, ◌<◌, min, List, [], ◌∷◌, ◌++◌, map, length, inl, inr, refl, sym, ap, ◌∙◌, subst, arith}
 use Rattle.std.proofs.lemmas.Bool.{cases_lt}
 use Rattle.std.proofs.lemmas.List.{append_assoc, length-map}
 use Rattle.std.proofs.lemmas.Option.{same_Some}
@@ -8,7 +8,9 @@ use mathlib.Core.List.{map-append}
 use Rattle.deque_list.specs.declared.place.Place.{Place}
 use Rattle.hall_slots.specs.Passed.Lists.{Among}
 use Rattle.hall_slots.specs.Passed.Shown.{thread_shown}
+use Rattle.turn_table.specs.declared.held.Held.{Held}
 use Rattle.turn_table.specs.declared.look.Look.{Look}
+use Rattle.turn_table.specs.declared.look.Look.TheVariants.{Refused}
 use Rattle.turn_table.specs.Hands.{took}
 use Rattle.turn_table.specs.Seats.{with_hand}
 use Rattle.turn_table.specs.Backs.{kept, told_more}
@@ -22,8 +24,9 @@ use Rattle.hall_slots.specs.declared.list_slot.ListSlot.{ListSlot}
 use Rattle.hall_slots.specs.declared.slot.Slot.{Slot}
 use Rattle.hall_slots.specs.declared.slot.Slot.TheVariants as slots
 use Rattle.hall_slots.specs.Shown.{lane_shown}
-use Rattle.hall_slots.specs.Takes.{HallSeat}
-use Rattle.hall_thief.specs.Choosing.{look_shown, IsToldMore, IsReadyBy, took_lane, HasTried, NoneReady, HasVictim}
+use Rattle.hall_slots.specs.Takes.{HallSeat, IsRefused}
+use Rattle.hall_thief.specs.Robbing.{TriesShowNothing}
+use Rattle.hall_thief.specs.Choosing.{look_shown, IsToldMore, IsReadyBy, took_lane, HasTried, HasTriedAll, HasVictim, IsNextHeld, IsRefusedALane, PicksNext, Tried, reach_in, refused_look}
 
 -- what was seen stays seen
 among_more : {X : Type 0} (x : X) (xs ys : List X) → Among x xs → Among x (xs ++ ys)
@@ -58,6 +61,14 @@ unready_more looks more p shows = (
 as_many : (lane : LaneSlot) → length (LaneShown.threads (lane_shown lane)) ≡ length lane.lane.items
 as_many lane = length-map lane.lane.items thread_shown
 
+-- by these answers none of the places of the first turns has a thread to steal
+abbrev pub NoneReady : (word reach turns : ℕ) → List (Look Slot) → List Place → Type 0
+NoneReady word reach turns looks places =
+    (e : ℕ) (p : Place) → e < turns → slice_get places ((word + e) % reach) ≡ Some p → ShowsUnready (map look_shown looks) p
+
+next_is : (n : ℕ) → n + 1 ≡ suc n
+next_is n = omega arith
+
 module _ (word reach : ℕ) (places : List Place) where
   -- one turn more, at a place that has no thread to steal
   pub one_more : (turn at : ℕ) (place : Place) (lane : LaneSlot) (looks : List (Look Slot)) → at ≡ (word + turn) % reach → slice_get places at ≡ Some place → ¬ IsReadyBy place lane
@@ -70,6 +81,19 @@ module _ (word reach : ℕ) (places : List Place) where
         let short : length (LaneShown.threads (lane_shown lane)) < 2 = (let many = as_many lane in elim (cases_lt (length lane.lane.items) 2) [ inl few ↦ omega (arith, many, few) | inr two ↦ absurd (unready (inr two)) ]) in
         subst (λ (q : Place). ShowsUnready (map look_shown (looks ++ took_lane place lane ∷ [])) q) this ((λ none. unready (inl none)), (lane_shown lane, saw_last looks place lane, short))
   ]
+
+  -- what was tried has no thread to steal
+  pub none_ready : (turns : ℕ) (looks : List (Look Slot)) → Tried word reach turns places looks → NoneReady word reach turns looks places
+  none_ready zero looks tried = λ e p few its. absurd (omega (arith, few))
+  none_ready (suc turn) looks tried = subst (λ (ls : List (Look Slot)). NoneReady word reach (suc turn) ls places) (sym tried.6)
+      (subst (λ n. NoneReady word reach n (tried.0 ++ took_lane tried.2 tried.3 ∷ []) places) (next_is turn)
+      (one_more turn ((word + turn) % reach) tried.2 tried.3 tried.0 refl tried.4 tried.5 (none_ready turn tried.0 tried.1)))
+
+  -- one more is tried
+  pub try_more : (turn at : ℕ) (place : Place) (lane : LaneSlot) (looks : List (Look Slot)) → at ≡ (word + turn) % reach → slice_get places at ≡ Some place → ¬ IsReadyBy place lane
+      → Tried word reach turn places looks → Tried word reach (turn + 1) places (looks ++ took_lane place lane ∷ [])
+  try_more turn at place lane looks is there unready tried = subst (λ n. Tried word reach n places (looks ++ took_lane place lane ∷ [])) (sym (next_is turn))
+      (looks, tried, place, lane, ap (slice_get places) (sym is) ∙ there, unready, refl)
 
   -- after all turns nothing is to be stolen
   pub nothing : (workers : ℕ) (looks : List (Look Slot)) → reach ≡ min workers (length places) → NoneReady word reach reach looks places → ShowsNothing workers (map look_shown looks) places
@@ -101,15 +125,45 @@ pub told_twice : (before middle after : HallSeat) (first second : List (Look Slo
 told_twice before middle after first second one two = two ∙ ap (λ (s : HallSeat). with_hand s (told_more s.hand second)) one
     ∙ ap (λ (ls : List (Look Slot)). with_hand before (record { seated = before.hand.seated; holds = before.hand.holds; note = before.hand.note; looks = ls })) (append_assoc before.hand.looks first second)
 
--- it took the lane of its victim
-pub victim_of : (workers word : ℕ) (list : ListSlot) (before middle after : HallSeat) (more : List (Look Slot)) (reach turn at : ℕ) (place : Place) (lane : LaneSlot)
-    → IsToldMore before more middle → HasTried place middle (Some lane) after → reach ≡ min workers (length list.part.order.places) → turn < reach → at ≡ (word + turn) % reach
-    → slice_get list.part.order.places at ≡ Some place → NoneReady word reach turn more list.part.order.places → HasVictim workers word list before at lane after
-victim_of workers word list before middle after more reach turn at place lane told tried is few here there none = record {
-  more = more;
-  victim = place;
-  at = there;
-  is_ready = tried.1;
-  after_is = tried.0 ∙ ap (λ (s : HallSeat). with_hand s (took kept s.hand (place.id.0 + 2) (slots.Lane lane))) told;
-  shows = victim_shown word reach list.part.order.places workers turn at place lane more is few here there tried.1 none;
-}
+module _ (workers word : ℕ) (list : ListSlot) (more : List (Look Slot)) (reach turn at : ℕ) (place : Place) (is : reach ≡ reach_in workers list) (few : turn < reach)
+    (here : at ≡ (word + turn) % reach) (there : slice_get list.part.order.places at ≡ Some place) (tried : Tried word reach turn list.part.order.places more) where
+  -- the turn picks this place
+  pub picks_next : PicksNext workers word list more at place
+  picks_next = record {
+    turn = turn;
+    in_reach = subst (λ n. turn < n) is few;
+    tried = subst (λ n. Tried word n turn list.part.order.places more) is tried;
+    is = here ∙ ap (λ n. (word + turn) % n) is;
+    there = there;
+  }
+
+  module _ (before middle after : HallSeat) (told : IsToldMore before more middle) where
+    -- it took the lane of its victim
+    pub victim_of : (lane : LaneSlot) → HasTried place middle (Some lane) after → HasVictim workers word list before at lane after
+    victim_of lane tries = record {
+      more = more;
+      victim = place;
+      picks = picks_next;
+      is_ready = tries.1;
+      after_is = tries.0 ∙ ap (λ (s : HallSeat). with_hand s (took kept s.hand (place.id.0 + 2) (slots.Lane lane))) told;
+      shows = victim_shown word reach list.part.order.places workers turn at place lane more is few here there tries.1 (none_ready word reach list.part.order.places turn more tried);
+    }
+
+    -- it was refused that lane
+    pub held_off : (held : Held) → IsRefused middle (place.id.0 + 2) held after → IsRefusedALane workers word list before held after
+    held_off held refuses = (
+      more,
+      record { at = at; place = place; picks = picks_next; its_lane = refuses.0 },
+      told_twice before middle after more (refused_look held ∷ []) told (refuses.1
+          ∙ (λ k. with_hand middle (record { seated = middle.hand.seated; holds = middle.hand.holds; note = middle.hand.note; looks = middle.hand.looks ++ Refused (sym refuses.0 k) held.seen ∷ [] }))),
+    )
+
+-- all turns were tried
+pub tried_all : (workers word : ℕ) (list : ListSlot) (looks : List (Look Slot)) (reach turn : ℕ) → reach ≡ reach_in workers list → turn ≡ reach → Tried word reach turn list.part.order.places looks
+    → HasTriedAll workers word list looks
+tried_all workers word list looks reach turn is all tried = subst (λ n. Tried word n n list.part.order.places looks) is (subst (λ n. Tried word reach n list.part.order.places looks) all tried)
+
+-- then nothing is to be stolen
+pub tries_show_nothing : TriesShowNothing
+tries_show_nothing workers word list looks tried =
+    nothing word (reach_in workers list) list.part.order.places workers looks refl (none_ready word (reach_in workers list) list.part.order.places (reach_in workers list) looks tried)

@@ -158,5 +158,6 @@ module _ (list : ListSlot) (victim : Place) (lane : LaneSlot) (id : DequeId) (ne
   ends_steal (Err (Stopped stop)) ends = (
     Took (id.0 + 2) (slots.Lane new) ∷ [],
     subst (IsItsStop list lane) (sym ends.0) (λ many. few many.1),
+    inr (id, record { two = two; next = next; few = few; new = new; told = refl }),
     took_then (λ n. found_note n stop) ends.1,
   )

@@ -13,7 +13,7 @@ use Rattle.open_periods.specs.declared.period.Period.{Period}
 use Rattle.hall_slots.specs.Passed.Thread.{Thread}
 use Rattle.hall_slots.specs.Passed.Shown.{thread_shown}
 use Rattle.turn_table.specs.declared.look.Look.{Look}
-use Rattle.turn_table.specs.declared.look.Look.TheVariants.{Took, Refused}
+use Rattle.turn_table.specs.declared.look.Look.TheVariants.{Took}
 use Rattle.turn_table.specs.Hands.{Has}
 use Rattle.turn_table.specs.Notes.{HasAs}
 use Rattle.turn_table.specs.Seats.{with_hand}
@@ -33,7 +33,7 @@ use Rattle.hall_slots.specs.declared.slot.Slot.{Slot}
 use Rattle.hall_slots.specs.declared.slot.Slot.TheVariants as slots
 use Rattle.hall_slots.specs.Shown.{lane_shown}
 use Rattle.hall_slots.specs.Takes.{HallSeat, HasAllPlaces, IsTaken, MeetsLaw}
-use Rattle.hall_thief.specs.Choosing.{look_shown, took_lane, HasVictim}
+use Rattle.hall_thief.specs.Choosing.{look_shown, took_lane, refused_look, HasVictim, PicksNext}
 use Rattle.hall_slots.specs.Lists.{with_list}
 use Rattle.hall_thief.specs.declared.prey.Prey.{Prey}
 use Rattle.hall_thief.specs.declared.prey.SeekRefused.{SeekRefused}
@@ -62,7 +62,7 @@ open_to seat list worker may no_end = record { thief = may.thief; its_worker = m
 
 module _ (key : HallKey) (list : ListSlot) (place : ℕ) (lane : LaneSlot) (seat : HallSeat) (prey : HasPrey key list place lane seat) (victim : Place) (there : slice_get list.part.order.places place ≡ Some victim) where
   pub it_is : HasVictim.victim prey.victim ≡ victim
-  it_is = same_Some (HasVictim.victim prey.victim) victim (sym (HasVictim.at prey.victim) ∙ there)
+  it_is = same_Some (HasVictim.victim prey.victim) victim (sym (PicksNext.there (HasVictim.picks prey.victim)) ∙ there)
 
   pub held_two : seat.hand.holds ≡ (victim.id.0 + 2, slots.Lane lane) ∷ (0, slots.List list) ∷ []
   held_two = subst (λ (v : Place). seat.hand.holds ≡ (v.id.0 + 2, slots.Lane lane) ∷ (0, slots.List list) ∷ []) it_is (holds_both key prey.start seat list prey.word place lane prey.victim prey.alone)
@@ -209,7 +209,7 @@ module _ (workers word : ℕ) (before middle after : HallSeat) (free : before.ha
   seen = has.more ++ took_lane has.victim lane ∷ []
 
   finds : Finds workers word list seen place has.victim lane
-  finds = record { no_end = no_end; there = has.at; chosen = has.shows; tried = has.more; last = refl }
+  finds = record { no_end = no_end; tried = has.more; picks = has.picks; last = refl; chosen = has.shows }
 
   all_left : (note : SeatNote → SeatNote) (more : List (Look Slot)) → LeavesWith middle (note middle.hand.note) more after → LeavesWith before (note before.hand.note) (all_told list seen more) after
   all_left note more leaves =
@@ -227,7 +227,7 @@ module _ (workers word : ℕ) (before middle after : HallSeat) (free : before.ha
     lane = lane;
     finds = finds;
     id = steals.0;
-    shows = record { chosen = has.shows; victim = has.victim; there = has.at; its_id = shows_id list has.victim lane steals.0 has.more steals.1 steals.2 };
+    shows = record { chosen = has.shows; victim = has.victim; there = PicksNext.there has.picks; its_id = shows_id list has.victim lane steals.0 has.more steals.1 steals.2 };
     more = steals.1;
     into = steals.2;
     leaves = (
@@ -236,12 +236,18 @@ module _ (workers word : ℕ) (before middle after : HallSeat) (free : before.ha
       all_left (λ n. stolen_note n steals.0 (list.part.begun + 1)) steals.1 steals.3.2,
     );
   }
-  steals_of (Err (Busy held)) steals = (
-    Took 0 (slots.List list) ∷ seen,
-    all_left (λ n. n) (Refused held.slot held.seen ∷ []) steals
-        ∙ ap (λ (xs : List (ℕ × Slot)). with_hand before (record { seated = before.hand.seated; holds = xs; note = before.hand.note; looks = before.hand.looks ++ all_told list seen (Refused held.slot held.seen ∷ []) }))
-        (sym free),
-  )
+  steals_of (Err (Busy held)) steals = inr (record {
+    list = list;
+    seen = seen;
+    place = place;
+    victim = has.victim;
+    lane = lane;
+    finds = finds;
+    new_held = steals.0;
+    told = all_left (λ n. n) (refused_look held ∷ []) steals.1
+        ∙ ap (λ (xs : List (ℕ × Slot)). with_hand before (record { seated = before.hand.seated; holds = xs; note = before.hand.note; looks = before.hand.looks ++ all_told list seen (refused_look held ∷ []) }))
+        (sym free);
+  })
   steals_of (Err Nothing) steals = absurd steals
   steals_of (Err (Over end)) steals = absurd steals
   steals_of (Err (Stopped stop)) steals = record {
@@ -253,7 +259,8 @@ module _ (workers word : ℕ) (before middle after : HallSeat) (free : before.ha
     finds = finds;
     its_stop = steals.1;
     more = steals.0;
-    leaves = all_left (λ n. found_note n stop) steals.0 steals.2;
+    takes = steals.2;
+    leaves = all_left (λ n. found_note n stop) steals.0 steals.3;
   }
 
 -- a seat that held nothing, took the list and then found a deque has stolen
@@ -262,11 +269,11 @@ pub steals_then : (workers word : ℕ) (before held middle after : HallSeat) (li
     → ((victim : Place) → slice_get prey.list.part.order.places prey.place ≡ Some victim → StealsWith prey.list victim prey.lane middle after result) → Steals workers word before after result
 steals_then workers word before held middle after list prey free taken seeks result steals =
     let found = begun.sought workers word before held middle list (Ok prey) taken free seeks in
-    steals_of workers word before middle after free prey.list prey.place prey.lane found.0 found.1 result (steals (HasVictim.victim found.1) (HasVictim.at found.1))
+    steals_of workers word before middle after free prey.list prey.place prey.lane found.0 found.1 result (steals (HasVictim.victim found.1) (PicksNext.there (HasVictim.picks found.1)))
 
 -- what the choice was refused by is what the call is refused by
 refused_as : (workers word : ℕ) (before after : HallSeat) (refused : SeekRefused) → HasSought workers word before after (Err refused) → Steals workers word before after (Err (refusal_of refused))
-refused_as workers word before after (sought.Busy held) has = has
+refused_as workers word before after (sought.Busy held) has = inl has
 refused_as workers word before after sought.Nothing has = has
 refused_as workers word before after (sought.Over end) has = has
 

@@ -12,13 +12,13 @@ use Rattle.hall_slots.specs.declared.slot.Slot.{Slot}
 use Rattle.hall_slots.specs.declared.slot.Slot.TheVariants as slots
 use Rattle.hall_slots.specs.declared.key.HallKey.{HallKey}
 use Rattle.hall_slots.specs.Takes.{HallSeat}
-use Rattle.hall_thief.specs.Choosing.{HasVictim}
+use Rattle.hall_thief.specs.Choosing.{HasVictim, PicksNext}
 use Rattle.hall_thief.specs.Stealing.{IsNew}
 use Rattle.hall_thief.specs.Robbing.{FoundMayBeTakenOver, FoundBottomsMayBeTaken}
 
 module _ (key : HallKey) (before seat : HallSeat) (list : ListSlot) (word place : ℕ) (lane : LaneSlot) (has : HasVictim key.workers word list before place lane seat) where
   abbrev cut : (left right : List Place) × (list.part.order.places ≡ left ++ has.victim ∷ right) × (length left ≡ place)
-  cut = cut_at list.part.order.places place has.victim has.at
+  cut = cut_at list.part.order.places place has.victim (PicksNext.there has.picks)
 
   -- it is in the middle of the places
   abbrev pub middle_of : (owner : Option ℕ) → has.victim.owner ≡ owner → Has list.part.order.places has.victim.id owner

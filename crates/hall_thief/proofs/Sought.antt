@@ -3,13 +3,13 @@ use Rattle.std.proofs.Common.{◌≡◌, ℕ, List, [], ◌∷◌, ◌++◌, sym
 use Rattle.std.proofs.lemmas.List.{append_assoc}
 use Rattle.std.specs.Prelude.{Result, Ok, Err}
 use Rattle.turn_table.specs.declared.look.Look.{Look}
-use Rattle.turn_table.specs.declared.look.Look.TheVariants.{Took, Refused}
+use Rattle.turn_table.specs.declared.look.Look.TheVariants.{Took}
 use Rattle.turn_table.specs.Seats.{with_hand}
 use Rattle.hall_slots.specs.declared.list_slot.ListSlot.{ListSlot}
 use Rattle.hall_slots.specs.declared.slot.Slot.{Slot}
 use Rattle.hall_slots.specs.declared.slot.Slot.TheVariants as slots
 use Rattle.hall_slots.specs.Takes.{HallSeat, IsTaken}
-use Rattle.hall_thief.specs.Choosing.{IsToldMore, HasVictim}
+use Rattle.hall_thief.specs.Choosing.{IsToldMore, HasVictim, refused_look}
 use Rattle.hall_slots.specs.Lists.{with_list}
 use Rattle.hall_thief.specs.declared.prey.Prey.{Prey}
 use Rattle.hall_thief.specs.declared.prey.SeekRefused.{SeekRefused}
@@ -32,6 +32,6 @@ sought workers word before middle after list (Ok prey) taken free seeks = (
       (subst (λ (s : HallSeat). HasVictim workers word list s prey.place prey.lane after) taken seeks.2),
 )
 sought workers word before middle after list (Err (Busy held)) taken free seeks =
-    (Took 0 (slots.List list) ∷ seeks.0, taken_and_left before middle after list (seeks.0 ++ Refused held.slot held.seen ∷ []) taken free seeks.1)
+    (list, seeks.0, seeks.1, seeks.2, taken_and_left before middle after list (seeks.1 ++ refused_look held ∷ []) taken free seeks.3)
 sought workers word before middle after list (Err Nothing) taken free seeks = (list, subst (λ (s : HallSeat). SeeksWith workers word list s after (Err Nothing)) taken seeks)
 sought workers word before middle after list (Err (Over end)) taken free seeks = (list, subst (λ (s : HallSeat). SeeksWith workers word list s after (Err (Over end))) taken seeks)

@@ -6,7 +6,8 @@ use Rattle.deque_list.specs.Ids.{IsSmallestFree, place_ids}
 use Rattle.play_rules.specs.declared.stop.Stop.{Stop}
 use Rattle.play_rules.specs.declared.stop.Stop.TheVariants.{ArenaFull, DequesFull, StepsSpent, OutOfMemory}
 use Rattle.turn_table.specs.declared.look.Look.{Look}
-use Rattle.turn_table.specs.declared.look.Look.TheVariants.{Took, Refused}
+use Rattle.turn_table.specs.declared.look.Look.TheVariants.{Took}
+use Rattle.turn_table.specs.declared.held.Held.{Held}
 use Rattle.turn_table.specs.Seats.{with_hand}
 use Rattle.hall_slots.specs.declared.event.Event.{Event}
 use Rattle.hall_slots.specs.declared.event.Event.TheVariants.{Stole}
@@ -17,7 +18,7 @@ use Rattle.hall_slots.specs.declared.seat_note.SeatNote.{SeatNote}
 use Rattle.hall_slots.specs.declared.slot.Slot.{Slot}
 use Rattle.hall_slots.specs.declared.slot.Slot.TheVariants as slots
 use Rattle.hall_slots.specs.Takes.{HallSeat, IsTaken}
-use Rattle.hall_thief.specs.Choosing.{HasVictim}
+use Rattle.hall_thief.specs.Choosing.{HasVictim, refused_look}
 use Rattle.hall_thief.specs.Thefts.{stolen_note, IsThief}
 use Rattle.hall_slots.specs.Stopping.{found_note}
 use Rattle.hall_thief.specs.declared.refused.StealRefused.{StealRefused}
@@ -88,16 +89,29 @@ IsItsStop list lane (DequesFull deques) = IsOneTooMany list lane × (deques ≡ 
 IsItsStop list lane (StepsSpent limit) = ⊥
 IsItsStop list lane OutOfMemory = ¬ (IsOneTooMany list lane)
 
+-- The victim keeps other threads, and another seat held the lane of the next free deque.
+pub record IsNewHeld (list : ListSlot) (lane : LaneSlot) (held : Held) : Type 0 where
+  pub id : DequeId
+  pub two : 2 ≤ length lane.lane.items
+  pub next : IsSmallestFree (place_ids list.part.order.places) id
+  pub few : length list.part.order.places ≢ list.part.order.most
+  pub its_lane : held.slot ≡ id.0 + 2
+
+-- the lanes that it took after that of its victim: none, or that of the next free deque, where the victim keeps other threads
+abbrev pub MayTakeNext : ListSlot → LaneSlot → List (Look Slot) → Type 0
+MayTakeNext list lane more = (more ≡ []) ⊎ ((id : DequeId) × TakesBottom list lane id more)
+
 -- How it is with a thief that held this list and the lane of its victim: it stole, was refused the lane of a new deque, or met a stop.
 abbrev pub StealsWith : ListSlot → Place → LaneSlot → HallSeat → HallSeat → Result Event StealRefused → Type 0
 StealsWith list victim lane before after (Ok event) =
     (id : DequeId) × (more : List (Look Slot)) × StealsInto list victim lane id more × LeavesStolen list id more before after event
 StealsWith list victim lane before after (Err (Busy held)) =
-    LeavesWith before before.hand.note (Refused held.slot held.seen ∷ []) after
+    IsNewHeld list lane held × LeavesWith before before.hand.note (refused_look held ∷ []) after
 StealsWith list victim lane before after (Err Nothing) = ⊥
 StealsWith list victim lane before after (Err (Over end)) = ⊥
 StealsWith list victim lane before after (Err (Stopped stop)) =
-    (more : List (Look Slot)) × IsItsStop list lane stop × LeavesWith before (found_note before.hand.note stop) more after
+    (more : List (Look Slot)) × IsItsStop list lane stop × MayTakeNext list lane more
+    × LeavesWith before (found_note before.hand.note stop) more after
 
 -- So it is with one that held the lane of the new deque too: it stole, or memory was wanting.
 abbrev pub EndsWith : ListSlot → DequeId → HallSeat → HallSeat → Result Event StealRefused → Type 0

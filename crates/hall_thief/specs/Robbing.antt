@@ -1,15 +1,18 @@
 -- What a thief may steal that has chosen its victim.
-use Rattle.std.specs.Prelude.{◌≡◌, ◌≢◌, ℕ, ◌+◌, ◌≤◌, true, nat_lt, List, [], ◌∷◌, ◌++◌, length}
+use Rattle.std.specs.Prelude.{◌≡◌, ◌≢◌, ℕ, ◌+◌, ◌≤◌, true, nat_lt, List, [], ◌∷◌, ◌++◌, map, length}
 use Rattle.deque_list.specs.declared.deque_id.DequeId.{DequeId}
 use Rattle.deque_list.specs.Ids.{IsSmallestFree, place_ids}
 use Rattle.open_periods.specs.declared.period.Period.{Period}
+use Rattle.hall_slots.specs.Passed.Receipts.{ShowsNothing}
 use Rattle.hall_slots.specs.Passed.Thread.{Thread}
+use Rattle.turn_table.specs.declared.look.Look.{Look}
 use Rattle.hall_slots.specs.declared.lane_slot.LaneSlot.{LaneSlot}
 use Rattle.hall_slots.specs.declared.list_slot.ListSlot.{ListSlot}
+use Rattle.hall_slots.specs.declared.slot.Slot.{Slot}
 use Rattle.hall_slots.specs.declared.slot.Slot.TheVariants as slots
 use Rattle.hall_slots.specs.declared.key.HallKey.{HallKey}
 use Rattle.hall_slots.specs.Takes.{HallSeat, IsTaken}
-use Rattle.hall_thief.specs.Choosing.{HasVictim}
+use Rattle.hall_thief.specs.Choosing.{HasTriedAll, HasVictim, look_shown}
 use Rattle.hall_thief.specs.Stealing.{IsNew, IsOpenTo, MayTakeOver, MayTakeBottom}
 
 -- A seat that held the list alone has chosen the deque at a place. It is a thief to whom the list is open, and its lane has one thread.
@@ -27,3 +30,8 @@ FoundBottomsMayBeTaken = (key : HallKey) (before middle seat : HallSeat) (list :
     → IsOpenTo seat list worker → lane.lane.items ≡ first ∷ (others ++ bottom ∷ []) → IsSmallestFree (place_ids list.part.order.places) id
     → length list.part.order.places ≢ list.part.order.most → new.lane.items ≡ [] → 1 ≤ new.lane.spare
     → IsNew period true (list.part.begun + 1) → MayTakeBottom key seat list (HasVictim.victim has).id lane id new worker period
+
+-- What a thief was answered that tried all deques in reach shows that none has a thread to steal.
+abbrev pub TriesShowNothing : Type 0
+TriesShowNothing = (workers word : ℕ) (list : ListSlot) (looks : List (Look Slot)) → HasTriedAll workers word list looks
+    → ShowsNothing workers (map look_shown looks) list.part.order.places

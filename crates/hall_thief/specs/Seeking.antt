@@ -1,15 +1,15 @@
 -- What a thief has found, and what its seat is then.
-use Rattle.std.specs.Prelude.{◌≡◌, ℕ, None, Some, List, [], ◌∷◌, ◌++◌, map, Result, Ok, Err}
+use Rattle.std.specs.Prelude.{◌≡◌, ℕ, None, Some, List, [], ◌∷◌, ◌++◌, Result, Ok, Err}
 use Rattle.turn_table.specs.declared.look.Look.{Look}
-use Rattle.turn_table.specs.declared.look.Look.TheVariants.{Refused}
+use Rattle.turn_table.specs.declared.look.Look.TheVariants.{Took}
+use Rattle.turn_table.specs.declared.held.Held.{Held}
 use Rattle.turn_table.specs.Seats.{with_hand}
-use Rattle.turn_table.specs.Backs.{IsBack}
-use Rattle.hall_slots.specs.Passed.Receipts.{ShowsNothing}
 use Rattle.hall_slots.specs.declared.list_slot.ListSlot.{ListSlot}
 use Rattle.hall_slots.specs.declared.slot.Slot.{Slot}
+use Rattle.hall_slots.specs.declared.slot.Slot.TheVariants as slots
 use Rattle.hall_slots.specs.Takes.{HallSeat}
 use Rattle.hall_slots.specs.Lists.{answered_note, Leaves, with_list}
-use Rattle.hall_thief.specs.Choosing.{look_shown, HasVictim}
+use Rattle.hall_thief.specs.Choosing.{HasTriedAll, HasVictim, IsNextHeld, IsToldMore, refused_look}
 use Rattle.hall_thief.specs.declared.prey.Prey.{Prey}
 use Rattle.hall_thief.specs.declared.prey.SeekRefused.{SeekRefused}
 use Rattle.hall_thief.specs.declared.prey.SeekRefused.TheVariants.{Busy, Nothing, Over}
@@ -28,19 +28,23 @@ LeavesTold before more after = after ≡ with_hand before (record {
 abbrev pub SeeksWith : (workers word : ℕ) → ListSlot → HallSeat → HallSeat → Result Prey SeekRefused → Type 0
 SeeksWith workers word list before after (Ok prey) =
     (prey.list ≡ list) × (list.end ≡ None) × HasVictim workers word list before prey.place prey.lane after
-SeeksWith workers word list before after (Err (Busy held)) =
-    (earlier : List (Look Slot)) × LeavesTold before (earlier ++ Refused held.slot held.seen ∷ []) after
+SeeksWith workers word list before after (Err (Busy held)) = (list.end ≡ None) × (tried : List (Look Slot))
+    × IsNextHeld workers word list tried held × LeavesTold before (tried ++ refused_look held ∷ []) after
 SeeksWith workers word list before after (Err Nothing) =
-    (list.end ≡ None) × (more : List (Look Slot)) × LeavesTold before more after
-    × ShowsNothing workers (map look_shown more) list.part.order.places
+    (list.end ≡ None) × (more : List (Look Slot)) × LeavesTold before more after × HasTriedAll workers word list more
 SeeksWith workers word list before after (Err (Over end)) =
     (list.end ≡ Some end) × Leaves before (answered_note before.hand.note list) after
 
--- So it is with a seat that held nothing and took the list first; or it was refused a slot, and is what it was but for its answers.
+-- It took the list, in which no end is kept, and was refused a lane that its turns came to. It is what it was but for its answers.
+abbrev pub IsHeldOff : (workers word : ℕ) → HallSeat → Held → HallSeat → Type 0
+IsHeldOff workers word before held after = (list : ListSlot) × (list.end ≡ None) × (tried : List (Look Slot))
+    × IsNextHeld workers word list tried held × IsToldMore before (Took 0 (slots.List list) ∷ (tried ++ refused_look held ∷ [])) after
+
+-- So it is with a seat that held nothing and took the list first; or it was refused a lane.
 abbrev pub HasSought : (workers word : ℕ) → HallSeat → HallSeat → Result Prey SeekRefused → Type 0
 HasSought workers word before after (Ok prey) =
     (prey.list.end ≡ None) × HasVictim workers word prey.list (with_list before prey.list) prey.place prey.lane after
-HasSought workers word before after (Err (Busy held)) = IsBack before after held
+HasSought workers word before after (Err (Busy held)) = IsHeldOff workers word before held after
 HasSought workers word before after (Err Nothing) =
     (list : ListSlot) × SeeksWith workers word list (with_list before list) after (Err Nothing)
 HasSought workers word before after (Err (Over end)) =

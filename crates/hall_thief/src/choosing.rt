@@ -2,10 +2,9 @@
 
 ghost use Rattle.std.specs.Prelude.{◌≡◌, ◌+◌, ◌<◌, ◌≤◌, ◌⊎◌, ◌↔◌, ◌∷◌, [], None, IsTrue, IfOk, IsOk, MatchResult, length};
 ghost use Rattle.turn_table.specs.Tables.{key_of, slot_count, IsSeatOf};
-ghost use Rattle.turn_table.specs.Backs.{IsBack};
 ghost use Rattle.hall_slots.specs.declared.slot.Slot.TheVariants as slots;
 ghost use Rattle.hall_slots.specs.Takes.{HasAllPlaces, IsPlaced, IsRefused, MeetsLaw};
-ghost use Rattle.hall_thief.specs.Choosing.{HasChosen, HasTried, HoldsTheList, IsReadyBy};
+ghost use Rattle.hall_thief.specs.Choosing.{HasChosen, HasTried, HoldsTheList, IsReadyBy, IsRefusedALane};
 
 use containers::Boxed;
 use deque_list::Place;
@@ -59,7 +58,8 @@ pub fn choose(
     requires placed { IsPlaced seat.old }
     requires holds { seat.old.hand.holds ≡ (0, slots.List list.now) ∷ [] }
     requires meets { MeetsLaw (key_of row.now) seat.old }
-    ensures seat { MatchResult result (λ found. HasChosen workers word list.now seat.old found seat.new) (λ held. IsBack seat.old seat.new held) }
+    ensures seat { MatchResult result (λ found. HasChosen workers word list.now seat.old found seat.new)
+        (λ held. IsRefusedALane workers word list.now seat.old held seat.new) }
     ensures meets { IfOk result (λ _. MeetsLaw (key_of row.now) seat.new) }
     ensures lone { HasAllPlaces (key_of row.now) seat.old → IsOk result }
 {

@@ -5,6 +5,7 @@ use Rattle.play_rules.specs.declared.ends.RunEnd.{RunEnd}
 use Rattle.play_rules.specs.declared.stop.Stop.{Stop}
 use Rattle.turn_table.specs.declared.held.Held.{Held}
 use Rattle.worker_entry.proofs.Failed.{busy_notes, over_notes, stopped_notes}
+use Rattle.worker_entry.proofs.HeldFrom.{held_from_notes}
 use Rattle.worker_entry.specs.Owners.{ActsIn}
 use Rattle.worker_entry.specs.Seated.{SameSeat}
 use Rattle.worker_entry.specs.Thieves.{StealsIn}
@@ -38,7 +39,7 @@ steals_keep : (hall : Hall) (word : ℕ) (before after : Seat) (r : Result Event
 steals_keep hall word before after (Ok event) steals =
     record { worker = steals.2; places = steals.3; yields = ap (λ (s : HallSeat). s.hand.note.yielded) steals.1.leaves.2 }
 steals_keep hall word before after (Err (Busy held)) steals =
-    record { worker = steals.2.worker; places = steals.2.places; yields = ap (λ (s : HallSeat). s.hand.note.yielded) steals.1.1 }
+    record { worker = steals.2.worker; places = steals.2.places; yields = ap (λ (n : SeatNote). n.yielded) (held_from_notes hall.workers word before.place after.place held steals.1) }
 steals_keep hall word before after (Err Nothing) steals =
     record { worker = steals.2.worker; places = steals.2.places; yields = ap (λ (s : HallSeat). s.hand.note.yielded) steals.1.1.2 }
 steals_keep hall word before after (Err (Over end)) steals =

@@ -3,6 +3,7 @@ use Rattle.std.proofs.Common.{◌≡◌, ℕ, List, [], ◌∷◌, ◌++◌, inl
 use Rattle.std.specs.Prelude.{None, Some, Result, Ok, Err}
 use Rattle.play_rules.specs.declared.stop.Stop.{Stop}
 use Rattle.worker_entry.proofs.Failed.{busy_notes, over_notes, stopped_notes}
+use Rattle.worker_entry.proofs.HeldFrom.{held_from_notes}
 use Rattle.worker_entry.specs.Owners.{ActsIn}
 use Rattle.worker_entry.specs.Thieves.{StealsIn}
 use Rattle.worker_entry.specs.declared.hall.Hall.{Hall}
@@ -35,7 +36,7 @@ acts_refused hall before after (Stopped stop) acts = elim acts [
 ]
 
 steals_refused : (hall : Hall) (word : ℕ) (before after : Seat) (why : EventRefused) → StealsIn hall word before after (Err why) → mine after ≡ mine before
-steals_refused hall word before after (Busy held) steals = ap (λ (s : HallSeat). s.hand.note.mine) steals.1.1
+steals_refused hall word before after (Busy held) steals = ap (λ (n : SeatNote). n.mine) (held_from_notes hall.workers word before.place after.place held steals.1)
 steals_refused hall word before after Nothing steals = ap (λ (s : HallSeat). s.hand.note.mine) steals.1.1.2
 steals_refused hall word before after (Over end) steals = ap (λ (s : HallSeat). s.hand.note.mine) steals.1.1.1
 steals_refused hall word before after (Stopped stop) steals = elim steals [

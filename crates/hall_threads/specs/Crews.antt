@@ -1,5 +1,5 @@
 -- The members of a crew before and after they work, and the seats that they have together.
-use Rattle.std.specs.Prelude.{◌≡◌, ◌+◌, false, Option, None, Some, List, length, All}
+use Rattle.std.specs.Prelude.{◌≡◌, ◌⊎◌, ◌+◌, ◌<◌, false, Option, None, Some, List, length, All}
 use Rattle.dag_order.specs.declared.finish.Finish.{Finish}
 use Rattle.play_rules.specs.declared.ends.RunEnd.{RunEnd}
 use Rattle.play_rules.specs.declared.ends.RunEnd.TheVariants.{Finished}
@@ -57,10 +57,14 @@ pub record AreLeft {C : Type 0} (hall : Hall) (stays : Member (HallWorker C) Run
   pub stays_one : HasItsEnd hall stays
   pub all : (seat_of stays).places + length crew ≡ hall.workers
 
--- who enters by a seat: a worker with one place, which the seat gives; none where the run has ended
+-- who enters by a seat: a worker with one place, which the seat gives; none only where the run has ended, and the seat was told its end
 abbrev pub EntersBy : Hall → Seat → Seat → Option Seat → Type 0
-EntersBy hall before after None = after.places ≡ before.places
+EntersBy hall before after None = (after.places ≡ before.places) × (end : RunEnd) × WasTold after end
 EntersBy hall before after (Some made) = IsOfCrew hall made × (after.places + 1 ≡ before.places)
+
+-- No worker is lost: one more is in the crew, or the first seat had no place to give, or it was told the end of the run.
+abbrev pub LosesNone : {C : Type 0} → (before after : Seat) (crew more : List (Member (HallWorker C) RunEnd)) → Type 0
+LosesNone before after crew more = (length more ≡ length crew + 1) ⊎ ((before.places < 2) ⊎ ((end : RunEnd) × WasTold after end))
 
 -- A seat left into this one: this has the places of both, was answered what it was before, and has kept the rules if both had and the run has
 -- finished for the seat that left.

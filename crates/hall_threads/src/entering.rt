@@ -1,7 +1,7 @@
 //! How the workers of a run enter.
 
 ghost use Rattle.std.specs.Prelude.{◌≡◌, ◌≤◌, None, IfOk, OnOk};
-ghost use Rattle.hall_threads.specs.Crews.{EntersBy, IsCrew, IsFreshIn};
+ghost use Rattle.hall_threads.specs.Crews.{EntersBy, IsCrew, IsFreshIn, LosesNone};
 
 use crate::worker::HallWorker;
 use play_rules::RunEnd;
@@ -49,7 +49,8 @@ fn enter_one<R: Wait, C: Choices + Drop>(
     crew: &mut Vec<Member<HallWorker<C>, RunEnd>>,
 ) -> Result<(), AllocError>
     requires { IsCrew hall.now first.old crew.old.items }
-    ensures { OnOk result (IsCrew hall.now first.new crew.new.items) }
+    ensures crew { OnOk result (IsCrew hall.now first.new crew.new.items) }
+    ensures none_lost { OnOk result (LosesNone first.old first.new crew.old.items crew.new.items) }
 {
     if first.places() < 2 {
         return Ok(());

@@ -3,3 +3,4 @@ mod Left
 mod Closed
 mod Thefts
 pub mod Failed
+pub mod HeldFrom

@@ -25,7 +25,7 @@ module _ (hall : Hall) (before held : Seat) (list : ListSlot) (holds : HoldsList
 
   pub stolen_in : (word : ℕ) (stolen : Result Event StealRefused) → Steals hall.workers word before.place place stolen → StealsIn hall word before (settled robbed stolen) (answer_of stolen)
   stolen_in word (Ok event) steals = (none_before, steals, holds.same.worker, holds.same.places, refl, none)
-  stolen_in word (Err (Busy held)) steals = (none_before, steals, stays_same)
+  stolen_in word (Err (Busy held)) steals = (none_before, inr steals, stays_same)
   stolen_in word (Err Nothing) steals = (none_before, steals, stays_same)
   stolen_in word (Err (Over end)) steals = (none_before, steals, stays_same)
   stolen_in word (Err (Stopped stop)) steals = inr (none_before, steals, holds.same.worker, holds.same.places, holds.same.owned ∙ holds.idle, refl)

@@ -60,4 +60,13 @@ Enters hall before after (Err (Crowded places)) = (before.places ≡ 1) × (plac
 Enters hall before after (Err (Busy held)) = IsRefused before.place 0 held after.place × SameSeat before after
 Enters hall before after (Err (Over end)) = (list : ListSlot) × (list.end ≡ Some end)
     × Leaves (with_list before.place list) (answered_note before.place.hand.note list) after.place × SameSeat before after
-Enters hall before after (Err OutOfMemory) = SameSeat before after
+Enters hall before after (Err OutOfMemory) = (list : ListSlot) × (list.end ≡ None)
+    × Leaves (with_list before.place list) before.place.hand.note after.place × SameSeat before after
+
+-- no other seat held the list
+abbrev pub FindsListFree : Result Seat EnterRefused → Type 0
+FindsListFree (Ok made) = Unit {0}
+FindsListFree (Err (Crowded places)) = Unit {0}
+FindsListFree (Err (Busy held)) = ⊥
+FindsListFree (Err (Over end)) = Unit {0}
+FindsListFree (Err OutOfMemory) = Unit {0}

@@ -1,13 +1,14 @@
 -- What a steal answers of a seat that owns no deque.
 use Rattle.std.specs.Prelude.{◌≡◌, ◌⊎◌, ℕ, Option, None, Some, Result, Ok, Err}
 use Rattle.deque_list.specs.declared.deque_id.DequeId.{DequeId}
-use Rattle.turn_table.specs.Backs.{IsBack}
+use Rattle.turn_table.specs.declared.held.Held.{Held}
 use Rattle.hall_slots.specs.declared.event.Event.{Event}
 use Rattle.hall_slots.specs.declared.event.Event.TheVariants.{Stole, Did, Suspended, GaveUp, Halted}
 use Rattle.hall_thief.specs.Seeking.{HasSought}
 use Rattle.hall_thief.specs.declared.prey.SeekRefused.TheVariants as sought
 use Rattle.play_rules.specs.declared.stop.Stop.{Stop}
-use Rattle.hall_thief.specs.Steals.{HasMetStop, HasStolenBy}
+use Rattle.hall_thief.specs.Steals.{HasMetStop, HasStolenBy, Steals}
+use Rattle.hall_slots.specs.Takes.{HallSeat, IsRefused}
 use Rattle.hall_thief.specs.declared.refused.StealRefused.{StealRefused}
 use Rattle.hall_thief.specs.declared.refused.StealRefused.TheVariants as failed
 use Rattle.worker_entry.specs.declared.hall.Hall.{Hall}
@@ -29,13 +30,17 @@ abbrev pub MeetsStop : Hall → (word : ℕ) → Seat → Stop → Seat → Type
 MeetsStop hall word before stop after = (before.stop ≡ None) × HasMetStop hall.workers word before.place stop after.place
     × (after.worker ≡ before.worker) × (after.places ≡ before.places) × (after.owned ≡ None) × (after.stop ≡ Some stop)
 
+-- Another seat held the list; or, once the seat had it, the lane of the deque whose turn it was, or that of a new deque.
+abbrev pub IsHeldFrom : (workers word : ℕ) → HallSeat → Held → HallSeat → Type 0
+IsHeldFrom workers word before held after = IsRefused before 0 held after ⊎ Steals workers word before after (Err (failed.Busy held))
+
 -- How it is with a seat that owned no deque: it stole by its word, and owns the deque; or it was refused, and is what it was. A seat that
 -- had found a stop is what it was; one that finds a stop says so from then on.
 abbrev pub StealsIn : Hall → (word : ℕ) → Seat → Seat → Result Event EventRefused → Type 0
 StealsIn hall word before after (Ok event) = (before.stop ≡ None) × HasStolenBy hall.workers word before.place event after.place
     × (after.worker ≡ before.worker) × (after.places ≡ before.places) × (after.owned ≡ deque_of event) × (after.stop ≡ None)
 StealsIn hall word before after (Err (Busy held)) =
-    (before.stop ≡ None) × IsBack before.place after.place held × SameSeat before after
+    (before.stop ≡ None) × IsHeldFrom hall.workers word before.place held after.place × SameSeat before after
 StealsIn hall word before after (Err Nothing) =
     (before.stop ≡ None) × HasSought hall.workers word before.place after.place (Err sought.Nothing) × SameSeat before after
 StealsIn hall word before after (Err (Over end)) =

@@ -3,7 +3,7 @@
 ghost use Rattle.std.specs.Prelude.{◌≡◌, Some, IfOk, MatchResult};
 ghost use Rattle.hall_slots.specs.Takes.{IsRefused};
 ghost use Rattle.hall_slots.specs.Halting.{HasHalted};
-ghost use Rattle.worker_entry.specs.Seated.{Enters, IsIn, SameSeat};
+ghost use Rattle.worker_entry.specs.Seated.{Enters, FindsListFree, IsIn, SameSeat};
 
 use crate::hall::Hall;
 use crate::refused::EnterRefused;
@@ -24,6 +24,7 @@ impl Hall {
         ensures here { IsIn self.now by.new }
         ensures made { IfOk result (λ made. IsIn self.now made) }
         ensures seat { Enters self.now by.old by.new result }
+        ensures lone { by.old.places ≡ self.now.workers → FindsListFree result }
     {
         if by.places < 2 {
             return Err(EnterRefused::Crowded { places: by.places });

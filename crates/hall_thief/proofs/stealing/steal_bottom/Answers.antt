@@ -34,6 +34,9 @@ give_list_back-requires-clause-held c = list_still c.args.seat.now c.take_lane.n
     c.give_lane_back.new.seat c.give_lane_back.ensures.seat
 
 pub returns-in-Err-clause-seat : goal.returns-in-Err-clause-seat
-returns-in-Err-clause-seat c = backed c.args.seat.now c.take_lane.new.seat (c.args.id.0 + 2) c.in-Err.held c.args.victim.id.0 (slots.Lane c.args.lane) (slots.List c.args.list)
-    (held_two (key_of c.args.row.now) c.args.list c.args.place c.args.lane c.args.seat.now c.requires.prey c.args.victim c.requires.victim) c.in-Err.ensures.seat
-    c.give_lane_back.new.seat c.give_lane_back.ensures.seat c.give_list_back.new.seat c.give_list_back.ensures.seat
+returns-in-Err-clause-seat c = (
+  record { id = c.args.id; two = c.requires.two; next = c.requires.next; few = c.requires.few; its_lane = c.in-Err.ensures.seat.0 },
+  backed c.args.seat.now c.take_lane.new.seat (c.args.id.0 + 2) c.in-Err.held c.args.victim.id.0 (slots.Lane c.args.lane) (slots.List c.args.list)
+      (held_two (key_of c.args.row.now) c.args.list c.args.place c.args.lane c.args.seat.now c.requires.prey c.args.victim c.requires.victim) c.in-Err.ensures.seat
+      c.give_lane_back.new.seat c.give_lane_back.ensures.seat c.give_list_back.new.seat c.give_list_back.ensures.seat,
+)
