@@ -29,5 +29,5 @@ returns-in-Err-Over-clause-seat c = let entered = subst (λ (e : EnterRefused). 
 
 pub returns-in-Err-OutOfMemory-clause-seat : goal.returns-in-Err-OutOfMemory-clause-seat
 returns-in-Err-OutOfMemory-clause-seat c =
-    let entered = subst (λ (e : EnterRefused). HasEntered (key_of c.args.self.now.row) c.args.by.now.place c.enter.new.seat (Err e)) c.in-Err-OutOfMemory.is c.in-Err-OutOfMemory.ensures.seat in
+    let entered = subst (λ (e : EnterRefused). HasEntered (key_of c.args.self.now.row) c.args.by.now.place c.enter.new.seat (Err e)) c.in-Err-OutOfMemory.field-0-is c.in-Err-OutOfMemory.ensures.seat in
     (entered.0, entered.1.0, entered.1.1, record { worker = refl; places = refl; owned = refl; stop = refl })
