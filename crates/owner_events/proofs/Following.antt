@@ -11,7 +11,6 @@ use Rattle.hall_slots.specs.declared.key.HallKey.{HallKey}
 use Rattle.hall_slots.specs.declared.lane_slot.LaneSlot.{LaneSlot}
 use Rattle.hall_slots.specs.declared.seat_note.SeatNote.{SeatNote}
 use Rattle.hall_slots.specs.declared.slot.Slot.{Slot}
-use Rattle.hall_slots.specs.declared.slot.Slot.TheVariants as slots
 use Rattle.owner_acts.specs.Passed.Advancing.{HasLooked}
 use Rattle.owner_acts.specs.Passed.AtNext.{AtNext}
 use Rattle.owner_events.specs.Holding.{FailsBy, IsHolding, IsBefore, refusal_note}

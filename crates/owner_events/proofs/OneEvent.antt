@@ -1,5 +1,5 @@
 -- One lane and one list show one event.
-use Rattle.std.proofs.Common.{◌≡◌, ℕ, ◌+◌, ◌<◌, ◌≤◌, true≢false, inl, inr, sym, ◌∙◌, arith}
+use Rattle.std.proofs.Common.{ℕ, true≢false, inl, inr, sym, ◌∙◌, arith}
 use Rattle.std.specs.Prelude.{Option, None, Some}
 use Rattle.deque_list.specs.declared.deque_id.DequeId.{DequeId}
 use Rattle.hall_slots.specs.declared.event.Event.{Event}

@@ -1,5 +1,5 @@
 -- Which refusal the looks of an owner show, by where it failed.
-use Rattle.std.proofs.Common.{◌≡◌, ◌⊎◌, ℕ, ◌+◌, ◌≤◌, ◌<◌, List, [], ◌∷◌, ◌++◌, inl, inr, refl, sym, ap, ◌∙◌, subst}
+use Rattle.std.proofs.Common.{◌≡◌, ℕ, List, [], ◌∷◌, ◌++◌, inl, inr, refl, sym, ap, ◌∙◌, subst}
 use Rattle.std.specs.Prelude.{Option, None, Some}
 use Rattle.dag_order.specs.declared.action_id.ActionId.{ActionId}
 use Rattle.deque_list.specs.declared.deque_id.DequeId.{DequeId}
@@ -14,13 +14,12 @@ use Rattle.owner_acts.specs.Passed.AtNext.{AtNext}
 use Rattle.owner_acts.specs.WithPool.{IsWithPool, words_asked_by}
 use Rattle.owner_events.proofs.Showing.{asks_for_pool, pool_slots, pool_to_do}
 use Rattle.owner_events.specs.Acting.{IsRefusalWith}
-use Rattle.owner_events.specs.Decided.{HasItsSlots, IsDue, IsToDo, NeedsCount, NeedsPool, Seen}
-use Rattle.owner_events.specs.Holding.{AtCount, AtList, AtMemory, AtMemoryOrCount, AtPool, AtPoolAlone, AtPoolOrThen, last_look, looks_of}
+use Rattle.owner_events.specs.Decided.{HasItsSlots, IsDue, IsToDo, NeedsCount, NeedsPool}
+use Rattle.owner_events.specs.Holding.{AtCount, AtList, AtMemory, AtMemoryOrCount, AtPool, AtPoolAlone, AtPoolOrThen, looks_of}
 use Rattle.owner_events.specs.Refusing.{AsksForList, IsRefusal}
 use Rattle.owner_events.specs.declared.refused.ActRefused.{ActRefused}
 use Rattle.owner_events.specs.declared.refused.ActRefused.TheVariants.{Busy, Over, Stopped}
 use Rattle.play_rules.specs.declared.stop.Stop.{Stop}
-use Rattle.play_rules.specs.declared.stop.Stop.TheVariants.{StepsSpent, OutOfMemory}
 use Rattle.thread_frames.specs.declared.next.Next.{Next}
 use Rattle.turn_table.specs.declared.look.Look.{Look}
 use Rattle.turn_table.specs.declared.look.Look.TheVariants.{Took, Counted}

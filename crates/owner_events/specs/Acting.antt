@@ -1,5 +1,5 @@
 -- What the call of an owner does and answers.
-use Rattle.std.specs.Prelude.{◌≡◌, ◌⊎◌, ℕ, ◌+◌, Option, None, Some, List, [], ◌∷◌, ◌++◌, Result, Ok, Err}
+use Rattle.std.specs.Prelude.{◌≡◌, ◌⊎◌, ℕ, ◌+◌, Option, Some, List, [], ◌∷◌, ◌++◌, Result, Ok, Err}
 use Rattle.deque_list.specs.declared.deque_id.DequeId.{DequeId}
 use Rattle.play_rules.specs.declared.stop.Stop.TheVariants.{OutOfMemory}
 use Rattle.thread_frames.specs.declared.next.Next.{Next}

@@ -1,5 +1,4 @@
 use Rattle.std.proofs.Common.{◌+◌, ◌≤◌, arith}
-use Rattle.std.specs.Prelude.{Ok}
 use Rattle.containers.specs.BoundedList.{spare}
 use Rattle.language_limits.specs.declared.TheConstants.{GREATEST_QUOTA}
 use Rattle.turn_table.specs.Tables.{key_of}
