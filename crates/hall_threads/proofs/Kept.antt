@@ -29,7 +29,7 @@ acts_keep hall before after (Err (Busy held)) acts =
     record { worker = acts.2.worker; places = acts.2.places; yields = ap (λ (n : SeatNote). n.yielded) (busy_notes hall before after held acts.1) }
 acts_keep hall before after (Err Nothing) acts = absurd acts
 acts_keep hall before after (Err (Over end)) acts =
-    record { worker = acts.2.worker; places = acts.2.places; yields = ap (λ (n : SeatNote). n.yielded) (over_notes hall before after end acts.1).2 }
+    record { worker = acts.2.worker; places = acts.2.places; yields = ap (λ (n : SeatNote). n.yielded) (over_notes hall before after end acts.1) }
 acts_keep hall before after (Err (Stopped stop)) acts = elim acts [
   | inl same ↦ record { worker = ap (λ (s : Seat). s.worker) same.1; places = ap (λ (s : Seat). s.places) same.1; yields = ap (λ (s : Seat). s.place.hand.note.yielded) same.1 }
   | inr fails ↦ record { worker = fails.2; places = fails.3; yields = ap (λ (n : SeatNote). n.yielded) (stopped_notes hall before after stop fails.1) }

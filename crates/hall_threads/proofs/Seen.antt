@@ -17,7 +17,7 @@ use Rattle.play_rules.specs.declared.ends.RunEnd.{RunEnd}
 use Rattle.play_rules.specs.declared.stop.Stop.{Stop}
 
 seen_by_act : (hall : Hall) (before after : Seat) (end : RunEnd) → ActsIn hall before after (Err (Over end)) → HasSeen after end
-seen_by_act hall before after end acts = let over = over_notes hall before after end acts.1 in ap (λ (n : SeatNote). n.answered) over.2 ∙ over.1
+seen_by_act hall before after end acts = ap (λ (n : SeatNote). n.answered) (over_notes hall before after end acts.1)
 
 seen_by_steal : (hall : Hall) (word : ℕ) (before after : Seat) (end : RunEnd) → StealsIn hall word before after (Err (Over end)) → HasSeen after end
 seen_by_steal hall word before after end steals = let sought = steals.1 in ap (λ (s : HallSeat). s.hand.note.answered) sought.1.1 ∙ sought.1.0

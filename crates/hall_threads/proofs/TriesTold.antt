@@ -1,11 +1,11 @@
 -- Which events a try adds to those of its seat, and what the seat says of its stop.
-use Rattle.std.proofs.Common.{◌≡◌, ℕ, List, [], ◌∷◌, ◌++◌, inl, inr, sym, ap, ◌∙◌}
+use Rattle.std.proofs.Common.{◌≡◌, ℕ, List, [], ◌∷◌, ◌++◌, inl, inr, refl, sym, ap, ◌∙◌}
 use Rattle.std.specs.Prelude.{None, Some, Result, Ok, Err}
 use Rattle.play_rules.specs.declared.stop.Stop.{Stop}
 use Rattle.worker_entry.proofs.Failed.{busy_notes, over_notes, stopped_notes}
 use Rattle.worker_entry.proofs.HeldFrom.{held_from_notes}
 use Rattle.worker_entry.specs.Owners.{ActsIn}
-use Rattle.worker_entry.specs.Thieves.{StealsIn}
+use Rattle.worker_entry.specs.Thieves.{IsNotBusy, StealsIn}
 use Rattle.worker_entry.specs.declared.hall.Hall.{Hall}
 use Rattle.worker_entry.specs.declared.refused.EventRefused.{EventRefused}
 use Rattle.worker_entry.specs.declared.refused.EventRefused.TheVariants.{Busy, Nothing, Over, Stopped}
@@ -14,7 +14,7 @@ use Rattle.hall_slots.specs.declared.event.Event.{Event}
 use Rattle.hall_slots.specs.declared.seat_note.SeatNote.{SeatNote}
 use Rattle.hall_slots.specs.Takes.{HallSeat}
 use Rattle.hall_threads.specs.declared.answer.Answer.TheVariants as answers
-use Rattle.hall_threads.specs.Trying.{GoesOn, Tries, answer_as}
+use Rattle.hall_threads.specs.Trying.{GoesOn, IsNotHeld, Tries, answer_as}
 
 -- the events that a seat notes
 abbrev pub mine : Seat → List Event
@@ -29,7 +29,7 @@ one_more_of seat event = mine seat ++ event ∷ []
 acts_refused : (hall : Hall) (before after : Seat) (why : EventRefused) → ActsIn hall before after (Err why) → mine after ≡ mine before
 acts_refused hall before after (Busy held) acts = ap (λ (n : SeatNote). n.mine) (busy_notes hall before after held acts.1)
 acts_refused hall before after Nothing acts = absurd acts
-acts_refused hall before after (Over end) acts = ap (λ (n : SeatNote). n.mine) (over_notes hall before after end acts.1).2
+acts_refused hall before after (Over end) acts = ap (λ (n : SeatNote). n.mine) (over_notes hall before after end acts.1)
 acts_refused hall before after (Stopped stop) acts = elim acts [
   | inl same ↦ ap mine same.1
   | inr fails ↦ ap (λ (n : SeatNote). n.mine) (stopped_notes hall before after stop fails.1)
@@ -110,3 +110,12 @@ goes_tried hall word before after (Err (Busy held)) goes = inl goes
 goes_tried hall word before after (Err Nothing) goes = goes
 goes_tried hall word before after (Err (Over end)) goes = inl goes
 goes_tried hall word before after (Err (Stopped stop)) goes = goes
+
+-- ---- a seat to which no slot was refused
+
+pub not_held : (r : Result Event EventRefused) → IsNotBusy r → IsNotHeld (answer_as r)
+not_held (Ok event) free = tt
+not_held (Err (Busy held)) free = absurd free
+not_held (Err Nothing) free = refl
+not_held (Err (Over end)) free = tt
+not_held (Err (Stopped stop)) free = tt

@@ -3,6 +3,7 @@ use Rattle.std.specs.Prelude.{◌≡◌, ◌⊎◌, ℕ, zero, suc, ◌+◌, ◌
 use Rattle.play_rules.specs.declared.stop.Stop.{Stop}
 use Rattle.worker_entry.specs.declared.hall.Hall.{Hall}
 use Rattle.worker_entry.specs.declared.seat.Seat.{Seat}
+use Rattle.worker_entry.specs.declared.refused.EventRefused.TheVariants as why
 use Rattle.hall_slots.specs.declared.event.Event.{Event}
 use Rattle.hall_threads.specs.declared.answer.Answer.{Answer}
 use Rattle.hall_threads.specs.declared.answer.Answer.TheVariants as answers
@@ -55,3 +56,9 @@ WorksSome hall tries words later before after (Refused done why) =
     EndsAt hall tries words later before after (answers.Refused why) × Adds done before after
 WorksSome hall tries words later before after (Over end) =
     EndsAt hall tries words later before after (answers.Over end) × HasSeen after end
+
+-- no slot was refused to it: if a try was refused, there was nothing to steal
+abbrev pub IsNeverHeld : WorkSome → Type 0
+IsNeverHeld (Spent done) = Unit {0}
+IsNeverHeld (Refused done reason) = reason ≡ why.Nothing
+IsNeverHeld (Over end) = Unit {0}

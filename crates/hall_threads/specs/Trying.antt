@@ -59,3 +59,10 @@ answer_as (Err (why.Busy held)) = Refused (why.Busy held)
 answer_as (Err why.Nothing) = Refused why.Nothing
 answer_as (Err (why.Over end)) = Over end
 answer_as (Err (why.Stopped stop)) = Found stop
+
+-- no slot was refused to it: if its try was refused, there was nothing to steal
+abbrev pub IsNotHeld : Answer → Type 0
+IsNotHeld (Did event) = Unit {0}
+IsNotHeld (Found stop) = Unit {0}
+IsNotHeld (Over end) = Unit {0}
+IsNotHeld (Refused reason) = reason ≡ why.Nothing

@@ -1,6 +1,7 @@
 //! A bounded number of tries.
 
-ghost use Rattle.hall_threads.specs.Spending.{WorksSome};
+ghost use Rattle.std.specs.Prelude.{◌≡◌};
+ghost use Rattle.hall_threads.specs.Spending.{IsNeverHeld, WorksSome};
 ghost use Rattle.hall_threads.specs.Working.{IsSameWorker, MayWork};
 
 use crate::answer::Answer;
@@ -24,7 +25,7 @@ pub enum WorkSome {
 }
 
 /// Lets a worker try at most `tries` times, without ever waiting: until a try is refused, or the run has ended. Before each try the worker passes
-/// the gate. It picks its tries as [`work_loop::work`] does.
+/// the gate. It picks its tries as [`work_loop::work`] does. If its seat has all places, a try is refused only if there is nothing to steal.
 pub fn work_some<C: Choices, G: Gate>(
     hall: &Hall,
     code: &Code,
@@ -36,6 +37,7 @@ pub fn work_some<C: Choices, G: Gate>(
     ensures again { MayWork hall.now code.now worker.new }
     ensures same { IsSameWorker worker.old.seat worker.new.seat }
     ensures some { WorksSome hall.now tries (C.coming worker.old.choices) (C.coming worker.new.choices) worker.old.seat worker.new.seat result }
+    ensures lone { worker.old.seat.places ≡ hall.now.workers → IsNeverHeld result }
 {
     let mut done = 0;
     'tries: for _ in 0..tries {

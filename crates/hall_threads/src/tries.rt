@@ -2,7 +2,8 @@
 
 ghost use Rattle.std.specs.Prelude.{◌≡◌, ◌+◌, ℕ, None, Some};
 ghost use Rattle.worker_entry.specs.Seated.{IsIn, IsProgramOf};
-ghost use Rattle.hall_threads.specs.Trying.{Tries, answer_as, draws, GoesOn};
+ghost use Rattle.worker_entry.specs.Thieves.{IsNotBusy};
+ghost use Rattle.hall_threads.specs.Trying.{Tries, answer_as, draws, GoesOn, IsNotHeld};
 ghost use Rattle.hall_threads.specs.Working.{HasSeen, IsSameWorker};
 ghost use Rattle.work_loop.specs.Tries.{EndsAs};
 
@@ -20,6 +21,7 @@ fn keep(hall: &Hall, seat: &mut Seat, stop: Stop) -> Answer
     requires found { seat.old.stop ≡ Some stop }
     ensures here { IsIn hall.now seat.new }
     ensures tries { (word : ℕ) → Tries hall.now word seat.old seat.new result }
+    ensures lone { seat.old.places ≡ hall.now.workers → IsNotHeld result }
 {
     match hall.halt(seat, stop) {
         Ok(end) => Answer::Over(end),
@@ -40,6 +42,7 @@ fn go_on<C: Choices>(
     ensures here { IsIn hall.now seat.new }
     ensures goes { GoesOn hall.now (C.coming choices.old 0) seat.old seat.new result }
     ensures words { (i : ℕ) → C.coming choices.new i ≡ C.coming choices.old (i + draws seat.old) }
+    ensures lone { seat.old.places ≡ hall.now.workers → IsNotBusy result }
 {
     match seat.owns() {
         Some(_) => hall.act(code, seat),
@@ -76,6 +79,7 @@ pub(crate) fn make_try<C: Choices>(
     ensures here { IsIn hall.now seat.new }
     ensures tries { Tries hall.now (C.coming choices.old 0) seat.old seat.new result }
     ensures words { (i : ℕ) → C.coming choices.new i ≡ C.coming choices.old (i + draws seat.old) }
+    ensures lone { seat.old.places ≡ hall.now.workers → IsNotHeld result }
 {
     if let Some(stop) = seat.found() {
         return keep(hall, seat, stop);

@@ -1,4 +1,4 @@
--- What the whole call of an owner comes to.
+-- What the whole call of an owner does and answers.
 use Rattle.std.proofs.Common.{◌≡◌, ℕ, ◌+◌, [], ◌∷◌, ◌++◌, inl, inr, refl, sym, ap, ◌∙◌}
 use Rattle.std.specs.Prelude.{Result, Ok, Err}
 use Rattle.deque_list.specs.declared.deque_id.DequeId.{DequeId}
@@ -9,12 +9,10 @@ use Rattle.hall_slots.specs.declared.slot.Slot.TheVariants as slots
 use Rattle.owner_acts.specs.Passed.Advancing.{HasLooked, IsAtNext, took_lane}
 use Rattle.owner_acts.specs.Passed.AtNext.{AtNext}
 use Rattle.owner_events.proofs.Doing.{taken_leaves}
-use Rattle.owner_events.specs.Acting.{Acts, Does, IsLaneOf, look_at_count, look_at_list, look_at_pool}
+use Rattle.owner_events.proofs.Following.{looked, note}
+use Rattle.owner_events.specs.Acting.{Acts, AtLane, Does}
+use Rattle.owner_events.specs.Holding.{FailsBy, found_note, last_look, looks_of, refusal_note}
 use Rattle.owner_events.specs.declared.acted.Acted.{Acted}
-use Rattle.owner_events.proofs.Failing.{fails_too}
-use Rattle.owner_events.proofs.Following.{fails}
-use Rattle.owner_events.specs.Holding.{Fails, IsAnySlot, found_note}
-use Rattle.owner_events.specs.Needs.{MayTry}
 use Rattle.owner_events.specs.declared.refused.ActRefused.{ActRefused}
 use Rattle.owner_events.specs.declared.refused.ActRefused.TheVariants.{Busy, Stopped}
 use Rattle.play_rules.specs.declared.stop.Stop.TheVariants.{OutOfMemory}
@@ -32,38 +30,63 @@ acts key before middle deque lane at next ready taken is_next (Ok acted) after d
   next = next;
   ready = ready;
   is_next = is_next;
-  list = d.list;
-  pool = d.pool;
-  count = d.count;
-  owns = d.owns;
-  lists = d.lists;
-  pools = d.pools;
-  leaves = taken_leaves before middle after acted.owned acted.event (deque.0 + 2) (slots.Lane lane) taken (look_at_list d.list ++ (look_at_pool d.pool ++ look_at_count d.count)) d.leaves;
+  seen = d.seen;
+  decides = d.decides;
+  leaves = taken_leaves before middle after acted.owned acted.event (deque.0 + 2) (slots.Lane lane) taken (looks_of d.seen) d.leaves;
 }
-acts key before middle deque lane at next ready taken is_next (Err refused) after d =
-    inr (record { lane = lane; at = at; next = next; ready = ready; is_next = is_next; middle = middle; taken = taken; fails = d })
+acts key before middle deque lane at next ready taken is_next (Err refused) after d = inr (record {
+  lane = lane;
+  at = at;
+  next = next;
+  ready = ready;
+  is_next = is_next;
+  seen = d.1.0;
+  refuses = d.1.1;
+  leaves = looked before middle (deque.0 + 2) (slots.Lane lane) taken after (looks_of d.1.0 ++ last_look refused)
+      (refusal_note before.hand.note refused) (d.2
+      ∙ ap (λ more. with_hand middle (record {
+        seated = middle.hand.seated;
+        holds = [];
+        note = refusal_note middle.hand.note refused;
+        looks = middle.hand.looks ++ more;
+      })) d.1.2
+      ∙ ap (λ n. with_hand middle (record {
+        seated = middle.hand.seated;
+        holds = [];
+        note = refusal_note n refused;
+        looks = middle.hand.looks ++ (looks_of d.1.0 ++ last_look refused);
+      })) (note before middle (deque.0 + 2) (slots.Lane lane) taken));
+})
 
--- the lane that it was refused, and the way to its action, for which memory was wanting
+-- the lane that it was refused, and the way to its action, for which there was not enough memory
 module _ (before after : HallSeat) (deque : DequeId) where
-  pub refused_lane : (held : Held) → before.hand.holds ≡ [] → IsRefused before (deque.0 + 2) held after → Fails (IsLaneOf deque) before (Busy held) after
+  pub refused_lane : (held : Held) → before.hand.holds ≡ [] → IsRefused before (deque.0 + 2) held after → FailsBy (AtLane deque) before (Busy held) after
   refused_lane held free refused = (
-    [],
-    tt,
-    refused.0,
+    Refused held.slot held.seen ∷ [],
+    (refused.0, refl),
     refused.1
-        ∙ ap (λ n. with_hand before (record { seated = before.hand.seated; holds = before.hand.holds; note = before.hand.note; looks = before.hand.looks ++ Refused n held.seen ∷ [] })) (sym refused.0)
-        ∙ ap (λ holds. with_hand before (record { seated = before.hand.seated; holds = holds; note = before.hand.note; looks = before.hand.looks ++ Refused held.slot held.seen ∷ [] })) free,
+        ∙ ap (λ n. with_hand before (record {
+          seated = before.hand.seated;
+          holds = before.hand.holds;
+          note = before.hand.note;
+          looks = before.hand.looks ++ Refused n held.seen ∷ [];
+        })) (sym refused.0)
+        ∙ ap (λ holds. with_hand before (record {
+          seated = before.hand.seated;
+          holds = holds;
+          note = before.hand.note;
+          looks = before.hand.looks ++ Refused held.slot held.seen ∷ [];
+        })) free,
   )
 
   pub short_of_action : (lane : LaneSlot) → HasLooked before (took_lane deque lane ∷ []) (found_note before.hand.note OutOfMemory) after
-      → Fails (IsLaneOf deque) before (Stopped OutOfMemory) after
-  short_of_action lane looked = (took_lane deque lane ∷ [], (refl, tt), inl refl, looked)
+      → FailsBy (AtLane deque) before (Stopped OutOfMemory) after
+  short_of_action lane looked = (took_lane deque lane ∷ [], (refl, (lane, refl)), looked)
 
--- whatever it tried
-pub fails_somehow : (key : HallKey) (before : HallSeat) (deque : DequeId) (refused : ActRefused) (after : HallSeat) → Acts key before deque (Err refused) after
-    → Fails IsAnySlot before refused after
-fails_somehow key before deque refused after acts = elim acts [
-  | inl alone ↦ fails_too (IsLaneOf deque) IsAnySlot (λ slot is. tt) before after refused alone
-  | inr behind ↦ fails before behind.middle (deque.0 + 2) (slots.Lane behind.lane) behind.taken after IsAnySlot tt refused
-      (fails_too (MayTry key behind.at behind.next) IsAnySlot (λ slot is. tt) behind.middle after refused behind.fails)
+-- what it notes, wherever it failed
+pub fails_note : (key : HallKey) (before : HallSeat) (deque : DequeId) (refused : ActRefused) (after : HallSeat) → Acts key before deque (Err refused) after
+    → after.hand.note ≡ refusal_note before.hand.note refused
+fails_note key before deque refused after acts = elim acts [
+  | inl early ↦ ap (λ (s : HallSeat). s.hand.note) early.2
+  | inr there ↦ ap (λ (s : HallSeat). s.hand.note) there.leaves
 ]

@@ -1,8 +1,9 @@
 -- A seat that drew a count: what it holds, and how it fails if there is none for it.
-use Rattle.std.proofs.Common.{ℕ, List, [], ◌∷◌, ◌++◌, inl, inr, sym, ap, ◌∙◌, subst}
+use Rattle.std.proofs.Common.{◌≡◌, ℕ, ◌<◌, ◌≤◌, List, [], ◌∷◌, ◌++◌, inr, refl, sym, ap, ◌∙◌, subst}
 use Rattle.std.specs.Prelude.{Some}
 use Rattle.deque_list.specs.declared.deque_id.DequeId.{DequeId}
 use Rattle.play_rules.specs.declared.stop.Stop.{Stop}
+use Rattle.play_rules.specs.declared.stop.Stop.TheVariants.{StepsSpent}
 use Rattle.thread_frames.specs.declared.next.Next.{Next}
 use Rattle.turn_table.specs.declared.look.Look.TheVariants.{Counted}
 use Rattle.turn_table.specs.Seats.{with_hand}
@@ -14,7 +15,7 @@ use Rattle.hall_slots.specs.declared.key.HallKey.{HallKey}
 use Rattle.hall_slots.specs.declared.lane_slot.LaneSlot.{LaneSlot}
 use Rattle.hall_slots.specs.declared.slot.Slot.{Slot}
 use Rattle.owner_acts.specs.Passed.AtNext.{AtNext}
-use Rattle.owner_events.specs.Holding.{Fails, IsHolding, IsBefore, IsNoSlot, Shows}
+use Rattle.owner_events.specs.Holding.{AtCount, AtMemoryOrCount, FailsBy, IsHolding, IsBefore}
 use Rattle.owner_events.specs.Taking.{Draws}
 use Rattle.owner_events.specs.declared.refused.ActRefused.TheVariants.{Stopped}
 
@@ -29,10 +30,11 @@ module _ (key : HallKey) (before : HallSeat) (deque : DequeId) (others : LaneSlo
     none = is.none;
   }
 
-  module _ (limit : ℕ) (middle : HallSeat) where
+  module _ (limit : ℕ) (is_limit : limit ≡ key.actions) (middle : HallSeat) where
     pub draws : HasCounted limit before middle → Draws key before deque others at next ready middle
     draws counted = record {
       found = counted.0;
+      below = subst (λ n. counted.0 < n) is_limit counted.1;
       drew = counted.2;
       counted = record {
         holding = record {
@@ -55,11 +57,10 @@ module _ (key : HallKey) (before : HallSeat) (deque : DequeId) (others : LaneSlo
         is_next = is.holding.is_next;
       }
 
-      pub stopped : (after : HallSeat) → HasPut middle middle.hand.note [] after → Fails IsNoSlot before (Stopped stop) after
+      pub stopped : (after : HallSeat) → HasPut middle middle.hand.note [] after → FailsBy (AtCount key.actions) before (Stopped stop) after
       stopped after put = (
         Counted spent.0 ∷ [],
-        (tt, tt),
-        inr (inl (subst (λ s. Shows s (Counted spent.0)) (sym spent.2) spent.1)),
+        (spent.0, subst (λ n. n ≤ spent.0) is_limit spent.1, ap Stopped (spent.2 ∙ ap StepsSpent is_limit), refl),
         put
             ∙ ap (λ (s : HallSeat). with_hand s (record { seated = s.hand.seated; holds = []; note = s.hand.note; looks = s.hand.looks })) spent.3
             ∙ ap (λ (stop : Stop). with_hand before (record {
@@ -69,3 +70,6 @@ module _ (key : HallKey) (before : HallSeat) (deque : DequeId) (others : LaneSlo
               looks = before.hand.looks ++ Counted spent.0 ∷ [];
             })) (sym spent.2),
       )
+
+      pub stopped_then : (after : HallSeat) → HasPut middle middle.hand.note [] after → FailsBy (AtMemoryOrCount key.actions) before (Stopped stop) after
+      stopped_then after put = let s = stopped after put in (s.0, inr s.1, s.2)

@@ -1,5 +1,5 @@
 -- A seat that took the pool and drew a count, as one call.
-use Rattle.std.proofs.Common.{ℕ, ◌+◌, ◌≤◌, [], ◌∷◌, ◌++◌, refl, sym, ap, ◌∙◌, subst, append_assoc}
+use Rattle.std.proofs.Common.{ℕ, ◌+◌, ◌≤◌, [], ◌∷◌, ◌++◌, inr, refl, sym, ap, ◌∙◌, subst, append_assoc}
 use Rattle.std.specs.Prelude.{Result, Ok, Err}
 use Rattle.deque_list.specs.declared.deque_id.DequeId.{DequeId}
 use Rattle.hall_slots.specs.Counting.{counting_note}
@@ -14,9 +14,8 @@ use Rattle.owner_acts.specs.Passed.AtNext.{AtNext}
 use Rattle.owner_events.proofs.Held.{comes, pool_held, with_pool}
 use Rattle.owner_acts.specs.Passed.Taken.{pool_and_lane}
 use Rattle.owner_events.specs.Ready.{CountsPool}
-use Rattle.owner_events.proofs.Failing.{at_none}
 use Rattle.owner_events.proofs.Following.{fails}
-use Rattle.owner_events.specs.Holding.{IsPoolSlot}
+use Rattle.owner_events.specs.Holding.{AtPoolOrThen}
 use Rattle.owner_events.specs.Taking.{CountsWithPool, HasPool}
 use Rattle.owner_acts.specs.WithPool.{words_asked_by}
 use Rattle.owner_events.specs.declared.refused.ActRefused.{ActRefused}
@@ -37,7 +36,9 @@ module _ (key : HallKey) (before : HallSeat) (deque : DequeId) (at : AtNext) (ne
     record {
       was = pool;
       same = c.1;
+      was_fits = has.fits;
       found = c.3.found;
+      below = c.3.below;
       drew = c.3.drew
           ∙ ap (λ (s : HallSeat). with_hand s (record { seated = s.hand.seated; holds = s.hand.holds; note = counting_note s.hand.note; looks = s.hand.looks ++ Counted c.3.found ∷ [] })) has.taken
           ∙ ap (λ looks. with_hand before (record { seated = before.hand.seated; holds = (1, slots.Pool pool) ∷ before.hand.holds; note = counting_note before.hand.note; looks = looks }))
@@ -48,4 +49,5 @@ module _ (key : HallKey) (before : HallSeat) (deque : DequeId) (at : AtNext) (ne
       back = subst (λ p. words_back at.top next ≤ p.live) (sym c.1.pool) in_use;
     },
   )
-  counts_pool (Err refused) c = fails before middle 1 (slots.Pool pool) has.taken after IsPoolSlot refl refused (at_none IsPoolSlot middle after refused c)
+  counts_pool (Err refused) c = fails before middle 1 (slots.Pool pool) has.taken after (AtPoolOrThen key.actions (words_asked_by next)) refused
+      (c.0, inr (pool, has.fits, c.0, refl, c.1), c.2)

@@ -4,7 +4,6 @@ use Rattle.std.specs.Prelude.{IsTrue}
 use Rattle.containers.specs.BoundedList.{entries, spare}
 use Rattle.dag_order.specs.declared.thread_id.ThreadId.{ThreadId}
 use Rattle.deque_list.specs.declared.deque_id.DequeId.{DequeId}
-use Rattle.owner_acts.specs.Passed.EventParts.{IsTooMuch}
 use Rattle.owner_acts.specs.Passed.Taken.{its_lane}
 use Rattle.owner_acts.proofs.Passed.Joining.{joins_are_read}
 use Rattle.hall_slots.specs.Keys.{quota_of}
@@ -12,7 +11,7 @@ use Rattle.hall_slots.specs.Takes.{HallSeat, IsTaken, MeetsLaw}
 use Rattle.hall_slots.specs.declared.key.HallKey.{HallKey}
 use Rattle.hall_slots.specs.declared.lane_slot.LaneSlot.{LaneSlot}
 use Rattle.hall_slots.specs.declared.slot.Slot.TheVariants as slots
-use Rattle.owner_acts.proofs.Charging.{ready_may_be_done, spent_is_too_much}
+use Rattle.owner_acts.proofs.Charging.{ready_may_be_done}
 use Rattle.owner_acts.specs.Quotas.{MayUse}
 use Rattle.owner_acts.specs.Passed.Advancing.{IsAtNext, MayCome}
 use Rattle.owner_acts.specs.Passed.AtNext.{AtNext}
@@ -21,7 +20,7 @@ use Rattle.owner_events.proofs.Held.{comes, with_lane}
 use Rattle.owner_events.specs.Ready.{IsReadyTo}
 use Rattle.owner_events.proofs.Following.{note}
 use Rattle.thread_actions.specs.Readiness.{IsReadiness}
-use Rattle.thread_actions.specs.declared.readiness.Readiness.TheVariants.{Ready, Spent, Missing}
+use Rattle.thread_actions.specs.declared.readiness.Readiness.TheVariants.{Ready, Missing}
 use Rattle.thread_frames.specs.Actions.{is_there}
 use Rattle.thread_frames.specs.Children.{is_delivered}
 use Rattle.thread_frames.specs.Views.{children_of, newest}
@@ -45,9 +44,6 @@ module _ (key : HallKey) (seat : HallSeat) (deque : DequeId) (at : AtNext) (next
       → MayUse key seat.hand.note.worker next charge at.top at.running.period
   may_use charge ready = let w = r.before.holding.is_next.within in
       ready_may_be_done key seat.hand.note.worker charge next at.top at.running.period w.quota w.small w.used r.before.holding.is_next.listed ready
-
-  pub too_much : IsReadiness at.running.period.used (quota_of key) at.top next Spent → IsTooMuch key next at.top at.running.period
-  too_much spent = spent_is_too_much key next at.top at.running.period r.before.holding.is_next.listed spent
 
 -- a Join whose result was handed over
 pub there_by : (key : HallKey) (seat : HallSeat) (deque : DequeId) (at : AtNext) (child : ThreadId) (memory : SeatMemory)

@@ -1,5 +1,5 @@
 -- How a seat leaves once its event was put back.
-use Rattle.std.proofs.Common.{◌≡◌, ◌≢◌, ◌⊎◌, ℕ, ◌<◌, Option, List, [], ◌∷◌, ◌++◌, length, inl, refl, sym, ap, ◌∙◌, subst, arith}
+use Rattle.std.proofs.Common.{◌≡◌, ◌≢◌, ℕ, ◌<◌, Option, List, [], ◌∷◌, ◌++◌, length, sym, ap, ◌∙◌, subst, arith}
 use Rattle.std.specs.Result.{IsErrAnd}
 use Rattle.std.specs.Prelude.{Some, Result, Ok, Err}
 use Rattle.deque_list.specs.declared.deque_id.DequeId.{DequeId}
@@ -11,7 +11,6 @@ use Rattle.turn_table.specs.Seats.{SeatView, with_hand}
 use Rattle.turn_table.specs.Tables.{IsSeatOf}
 use Rattle.turn_table.specs.declared.hand.Hand.{Hand}
 use Rattle.turn_table.specs.declared.turns.Turns.{Turns}
-use Rattle.owner_acts.specs.Passed.EventParts.{IsTooMuch}
 use Rattle.owner_acts.specs.Passed.Puts.{HasPut}
 use Rattle.owner_acts.specs.Passed.Writes.{told_note}
 use Rattle.hall_slots.specs.Takes.{HallSeat, IsTaken}
@@ -24,10 +23,11 @@ use Rattle.hall_slots.specs.declared.slot.Slot.TheVariants as slots
 use Rattle.owner_acts.specs.Passed.Advancing.{HasLooked}
 use Rattle.owner_acts.specs.Passed.AtNext.{AtNext}
 use Rattle.owner_events.proofs.Following.{fails, looked, note}
-use Rattle.owner_events.specs.Needs.{ActionNeedsList, MayTry}
+use Rattle.owner_events.specs.Holding.{look_at_count, look_at_pool}
+use Rattle.owner_events.specs.Refusing.{IsRefusal}
 use Rattle.owner_events.specs.Taking.{Draws}
 use Rattle.owner_events.specs.declared.refused.ActRefused.{ActRefused}
-use Rattle.owner_events.specs.Acting.{Does, DoesWithList, look_at_pool, look_at_count}
+use Rattle.owner_events.specs.Acting.{Does, DoesWithList}
 use Rattle.owner_events.specs.declared.acted.Acted.{Acted}
 
 -- an exit by `?`
@@ -60,20 +60,16 @@ module _ (before middle after : HallSeat) (owned : Option DequeId) (event : Even
 
 -- what it did with the list that it took
 pub does_with_list : (key : HallKey) (before middle after : HallSeat) (deque : DequeId) (at : AtNext) (next : Next) (list : ListSlot)
-    → ActionNeedsList at next ⊎ IsTooMuch key next at.top at.running.period → IsTaken before 0 (slots.List list) middle
-    → (r : Result Acted ActRefused) → DoesWithList key middle deque at next r after → Does key before deque at next r after
-does_with_list key before middle after deque at next list needs taken (Ok acted) d = record {
-  list = Some list;
-  pool = d.pool;
-  count = d.count;
-  owns = d.owns;
-  lists = λ _. d.lists;
-  pools = d.pools;
+    → IsTaken before 0 (slots.List list) middle → (r : Result Acted ActRefused) → DoesWithList key middle deque at next list r after
+    → Does key before deque at next r after
+does_with_list key before middle after deque at next list taken (Ok acted) d = record {
+  seen = record { list = Some list; pool = d.pool; count = d.count };
+  decides = d.decides;
   leaves = taken_leaves before middle after acted.owned acted.event 0 (slots.List list) taken (look_at_pool d.pool ++ look_at_count d.count)
       d.leaves;
 }
-does_with_list key before middle after deque at next list needs taken (Err refused) d =
-    fails before middle 0 (slots.List list) taken after (MayTry key at next) (inl (refl, needs)) refused d
+does_with_list key before middle after deque at next list taken (Err refused) d =
+    fails before middle 0 (slots.List list) taken after (IsRefusal key deque at next) refused d
 
 -- a thread is below, if there are some
 pub some_below : (n : ℕ) (under : List Thread) → 0 < n → n ≡ length under → under ≢ []

@@ -3,22 +3,18 @@ use Rattle.std.proofs.Common.{◌≡◌, ℕ, List, [], ◌∷◌, ◌++◌, sym
 use Rattle.deque_list.specs.declared.deque_id.DequeId.{DequeId}
 use Rattle.thread_frames.specs.declared.next.Next.{Next}
 use Rattle.turn_table.specs.declared.look.Look.{Look}
-use Rattle.turn_table.specs.declared.look.Look.TheVariants.{Took, Refused}
+use Rattle.turn_table.specs.declared.look.Look.TheVariants.{Took}
 use Rattle.turn_table.specs.Seats.{with_hand}
 use Rattle.owner_acts.specs.Passed.EventParts.{MayGoOn}
-use Rattle.hall_slots.specs.Lists.{answered_note}
 use Rattle.hall_slots.specs.Takes.{HallSeat, HasAllPlaces, IsTaken}
 use Rattle.hall_slots.specs.declared.key.HallKey.{HallKey}
 use Rattle.hall_slots.specs.declared.lane_slot.LaneSlot.{LaneSlot}
 use Rattle.hall_slots.specs.declared.seat_note.SeatNote.{SeatNote}
 use Rattle.hall_slots.specs.declared.slot.Slot.{Slot}
-use Rattle.hall_slots.specs.declared.slot.Slot.TheVariants as slots
 use Rattle.owner_acts.specs.Passed.Advancing.{HasLooked}
 use Rattle.owner_acts.specs.Passed.AtNext.{AtNext}
-use Rattle.owner_events.proofs.Failing.{of_stop_too}
-use Rattle.owner_events.specs.Holding.{Fails, IsHolding, IsBefore, found_note}
+use Rattle.owner_events.specs.Holding.{FailsBy, IsHolding, IsBefore, refusal_note}
 use Rattle.owner_events.specs.declared.refused.ActRefused.{ActRefused}
-use Rattle.owner_events.specs.declared.refused.ActRefused.TheVariants.{Busy, Over, Stopped}
 
 module _ (before middle : HallSeat) (slot : ℕ) (found : Slot) (taken : IsTaken before slot found middle) where
   pub note : middle.hand.note ≡ before.hand.note
@@ -55,26 +51,10 @@ module _ (before middle : HallSeat) (slot : ℕ) (found : Slot) (taken : IsTaken
         ∙ ap (λ (s : HallSeat). with_hand s (record { seated = s.hand.seated; holds = []; note = new; looks = s.hand.looks ++ more })) taken
         ∙ ap (λ looks. with_hand before (record { seated = before.hand.seated; holds = []; note = new; looks = looks })) (append_assoc before.hand.looks (Took slot found ∷ []) more)
 
-    pub fails : (May : ℕ → Type 0) → May slot → (refused : ActRefused) → Fails May middle refused after → Fails May before refused after
-    fails May may (Busy held) f = (
-      Took slot found ∷ f.0,
-      (may, f.1),
-      f.2,
-      subst (λ n. HasLooked before (Took slot found ∷ (f.0 ++ Refused held.slot held.seen ∷ [])) n after) note
-          (looked (f.0 ++ Refused held.slot held.seen ∷ []) middle.hand.note f.3),
-    )
-    fails May may (Over end) f = (
+    pub fails : (Shows : List (Look Slot) → ActRefused → Type 0) (refused : ActRefused)
+        → FailsBy (λ more. Shows (Took slot found ∷ more)) middle refused after → FailsBy Shows before refused after
+    fails Shows refused f = (
       Took slot found ∷ f.0,
       f.1,
-      (may, f.2),
-      f.3,
-      f.4,
-      subst (λ n. HasLooked before (Took slot found ∷ (f.0 ++ Took 0 (slots.List f.1) ∷ [])) (answered_note n f.1) after) note
-          (looked (f.0 ++ Took 0 (slots.List f.1) ∷ []) (answered_note middle.hand.note f.1) f.5),
-    )
-    fails May may (Stopped stop) f = (
-      Took slot found ∷ f.0,
-      (may, f.1),
-      of_stop_too stop (Took slot found) f.0 f.2,
-      subst (λ n. HasLooked before (Took slot found ∷ f.0) (found_note n stop) after) note (looked f.0 (found_note middle.hand.note stop) f.3),
+      subst (λ n. HasLooked before (Took slot found ∷ f.0) (refusal_note n refused) after) note (looked f.0 (refusal_note middle.hand.note refused) f.2),
     )

@@ -1,5 +1,5 @@
 -- A seat that took the pool for the next action of its top thread, and counted it.
-use Rattle.std.proofs.Common.{◌≡◌, ℕ, ◌+◌, ◌≤◌, [], inr, refl, sym, ap, ◌∙◌, subst}
+use Rattle.std.proofs.Common.{◌≡◌, ℕ, ◌+◌, ◌≤◌, [], sym, ap, ◌∙◌, subst}
 use Rattle.std.specs.Prelude.{None, Some, Ok}
 use Rattle.dag_order.specs.declared.action_id.ActionId.{ActionId}
 use Rattle.deque_list.specs.declared.deque_id.DequeId.{DequeId}
@@ -16,9 +16,10 @@ use Rattle.owner_acts.specs.Ready.{IsReadyWithPool, PoolIsReady}
 use Rattle.owner_acts.specs.Passed.AtNext.{AtNext}
 use Rattle.owner_events.proofs.Held.{is_ready}
 use Rattle.owner_events.specs.Acting.{HasDone}
-use Rattle.owner_events.specs.Needs.{ActionNeedsPool}
+use Rattle.owner_events.proofs.Showing.{pool_decides}
+use Rattle.owner_events.specs.Decided.{IsDue}
 use Rattle.owner_events.specs.Ready.{CountsPool}
-use Rattle.owner_acts.specs.WithPool.{words_asked_by}
+use Rattle.owner_acts.specs.WithPool.{IsWithPool, words_asked_by}
 use Rattle.thread_frames.specs.Views.{next_of}
 use Rattle.thread_frames.specs.declared.next.Next.{Next}
 use Rattle.turn_table.specs.Seats.{with_hand}
@@ -56,15 +57,17 @@ module _ (key : HallKey) (before : HallSeat) (deque : DequeId) (at : AtNext) (ne
   may_do charge may = so (λ a. MayDoNext key middle.hand.note.worker next charge a.top a.running.period)
       (subst (λ w. MayDoNext key w next charge at.top at.running.period) (sym (ap (λ (s : HallSeat). s.hand.note.worker) counts.1.drew)) may)
 
-  pub done : (name : ActionId) (after : HallSeat) → ActionNeedsPool at next → HasPut middle (told_note middle.hand.note (Some deque) (Did name)) [] after
-      → HasDone before deque at next (record { event = Did name; owned = Some deque }) after
-  done name after needs put = record {
-    list = None;
-    pool = Some counts.1.was;
-    count = Some counts.1.found;
-    owns = inr refl;
-    lists = λ some. absurd (some refl);
-    pools = λ some. needs;
+  pub done : (name : ActionId) (after : HallSeat) → IsWithPool next at.top at.lane.items → IsDue key at next None
+      → HasPut middle (told_note middle.hand.note (Some deque) (Did name)) [] after
+      → HasDone key before deque at next (record { event = Did name; owned = Some deque }) after
+  done name after suits due put = record {
+    seen = record { list = None; pool = Some counts.1.was; count = Some counts.1.found };
+    decides = pool_decides key deque at next suits due name counts.1.was counts.1.was_fits counts.1.found counts.1.below;
     leaves = put
-        ∙ ap (λ (s : HallSeat). with_hand s (record { seated = s.hand.seated; holds = []; note = told_note s.hand.note (Some deque) (Did name); looks = s.hand.looks })) counts.1.drew;
+        ∙ ap (λ (s : HallSeat). with_hand s (record {
+          seated = s.hand.seated;
+          holds = [];
+          note = told_note s.hand.note (Some deque) (Did name);
+          looks = s.hand.looks;
+        })) counts.1.drew;
   }

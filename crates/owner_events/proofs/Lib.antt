@@ -5,6 +5,9 @@ mod Counted
 mod Trying
 mod Held
 mod Doing
+mod Showing
+mod Refusals
+mod OneEvent
 mod Asking
 mod FromList
 mod FromPool

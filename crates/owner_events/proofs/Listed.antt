@@ -1,5 +1,5 @@
 -- An owner that took the list does the event for which its next action asks, by what is kept there.
-use Rattle.std.proofs.Common.{◌≡◌, ◌⊎◌, ℕ, [], inl, inr, sym, ap, ◌∙◌, subst, append-nil, arith}
+use Rattle.std.proofs.Common.{◌≡◌, ℕ, [], inl, inr, sym, ap, ◌∙◌, subst, append-nil, arith}
 use Rattle.std.specs.Prelude.{Bool, true, false, Option, None, Some, Result, Ok, Err}
 use Rattle.containers.specs.BoundedList.{spare}
 use Rattle.deque_list.specs.declared.deque_id.DequeId.{DequeId}
@@ -10,7 +10,8 @@ use Rattle.hall_slots.specs.declared.list_slot.ListSlot.{ListSlot}
 use Rattle.owner_acts.proofs.Passed.Returned.{same_list}
 use Rattle.owner_acts.specs.Passed.Advancing.{HasLooked}
 use Rattle.owner_acts.specs.Passed.AtNext.{AtNext}
-use Rattle.owner_acts.specs.Passed.EventParts.{IsNext, IsTooMuch}
+use Rattle.owner_acts.specs.Passed.EventParts.{IsNext}
+use Rattle.owner_acts.proofs.Charging.{spent_is_too_much}
 use Rattle.owner_acts.specs.Passed.Lists.{ComesTo}
 use Rattle.owner_acts.specs.Passed.Puts.{HasPut}
 use Rattle.owner_acts.specs.Passed.Rooms.{HasMoreRoom}
@@ -21,16 +22,19 @@ use Rattle.owner_acts.specs.Ready.{IsReady}
 use Rattle.owner_acts.specs.WithList.{HasMoreFor, HasRoomFor, IsNotedFor, IsReadyForList, IsWithList, is_action}
 use Rattle.owner_acts.specs.declared.with_list.ListEvent.{ListEvent}
 use Rattle.owner_acts.specs.declared.with_list.ListEvent.TheVariants.{GiveUp, Wait, Dummy, Join, RootEnd}
-use Rattle.owner_events.specs.Acting.{Does, DoesWithList, look_at_count}
+use Rattle.owner_events.specs.Acting.{Does, DoesWithList, IsRefusalWith}
 use Rattle.owner_events.specs.Asked.{IsAskedAtOnce, IsAskedByList}
-use Rattle.owner_events.specs.Holding.{Fails, IsBefore, IsHolding}
-use Rattle.owner_events.specs.Needs.{ActionNeedsList, MayTry, NeedsList}
+use Rattle.owner_events.specs.Decided.{ActionNeedsList, Decides, HasItsSlots, IsBelow, IsTakenIf, NeedsCount}
+use Rattle.owner_events.specs.Holding.{AtCount, AtMemory, FailsBy, IsBefore, IsHolding, look_at_count}
+use Rattle.owner_events.specs.Refusing.{AsksForList}
 use Rattle.owner_events.specs.Ready.{IsReadyTo, IsReadyWith}
 use Rattle.owner_events.specs.Taking.{CountsFor, HasList}
 use Rattle.owner_events.specs.declared.acted.Acted.{Acted}
 use Rattle.owner_events.specs.declared.refused.ActRefused.{ActRefused}
 use Rattle.owner_events.proofs.Doing.{counted_leaves, does_with_list}
-use Rattle.owner_events.proofs.Failing.{at_none}
+use Rattle.owner_events.proofs.Failing.{fails_too}
+use Rattle.owner_events.proofs.Refusals.{count_refusal, memory_refusal}
+use Rattle.owner_events.proofs.Showing.{LeavesNobody, list_owned, list_slots, noted_for, notes_it, owned_for, spent_again}
 use Rattle.owner_events.proofs.FromList as from
 use Rattle.owner_events.proofs.Held.{is_ready}
 use Rattle.owner_events.proofs.WithList as with
@@ -57,32 +61,12 @@ asked_still key list at next Dummy asked = asked
 asked_still key list at next (Join child) asked = absurd asked
 asked_still key list at next RootEnd asked = absurd asked
 
-pub needs_at_once : (key : HallKey) (at : AtNext) (next : Next) (event : ListEvent) → IsAskedAtOnce key at next event
-    → ActionNeedsList at next ⊎ IsTooMuch key next at.top at.running.period
-needs_at_once key at next GiveUp asked = inr asked
-needs_at_once key at next (Wait child) asked = absurd asked
-needs_at_once key at next Dummy asked = inl (subst (ActionNeedsList at) (sym asked) tt)
-needs_at_once key at next (Join child) asked = absurd asked
-needs_at_once key at next RootEnd asked = absurd asked
-
--- the event that is noted needs the list, and leaves the seat its deque or none
-pub needs : (key : HallKey) (list : ListSlot) (at : AtNext) (next : Next) (deque : DequeId) (event : ListEvent) → IsAskedByList key list at next event
-    → (noted : Event) (owned : Option DequeId) → IsNotedFor event deque at.top noted owned → NeedsList at next noted
-needs key list at next deque GiveUp asked noted owned notes = subst (NeedsList at next) (sym notes.0) tt
-needs key list at next deque (Wait child) asked noted owned notes = subst (NeedsList at next) (sym notes.0) tt
-needs key list at next deque Dummy asked noted owned notes = subst (NeedsList at next) (sym notes.1) (subst (ActionNeedsList at) (sym asked) tt)
-needs key list at next deque (Join child) asked noted owned notes =
-    subst (NeedsList at next) (sym notes.1) (subst (ActionNeedsList at) (sym asked.0) asked.1)
-needs key list at next deque RootEnd asked noted owned notes =
-    subst (NeedsList at next) (sym notes.1) (subst (ActionNeedsList at) (sym asked.0) asked.2)
-
-pub owns : (at : AtNext) (deque : DequeId) (event : ListEvent) (noted : Event) (owned : Option DequeId) → IsNotedFor event deque at.top noted owned
-    → (owned ≡ None) ⊎ (owned ≡ Some deque)
-owns at deque GiveUp noted owned notes = inl notes.1
-owns at deque (Wait child) noted owned notes = inl notes.1
-owns at deque Dummy noted owned notes = inl notes.2
-owns at deque (Join child) noted owned notes = inr notes.2
-owns at deque RootEnd noted owned notes = inl notes.2
+pub asks_at_once : (key : HallKey) (at : AtNext) (next : Next) (event : ListEvent) → IsAskedAtOnce key at next event → AsksForList key at next
+asks_at_once key at next GiveUp asked = inr asked
+asks_at_once key at next (Wait child) asked = absurd asked
+asks_at_once key at next Dummy asked = inl (subst (ActionNeedsList at) (sym asked) tt)
+asks_at_once key at next (Join child) asked = absurd asked
+asks_at_once key at next RootEnd asked = absurd asked
 
 module _ (key : HallKey) (before : HallSeat) (deque : DequeId) (at : AtNext) (next : Next) (ready : ℕ) (was list : ListSlot)
     (b : IsBefore key before deque (list_and_lane deque was) at next ready) where
@@ -99,7 +83,11 @@ module _ (key : HallKey) (before : HallSeat) (deque : DequeId) (at : AtNext) (ne
 
     pub can : (event : ListEvent) → IsAskedByList key was at next event → HasMoreFor event was list → HasRoomFor event list
         → IsWithList key deque list at event
-    can GiveUp asked more room = (next, asked, with.closes key before deque at next ready was b meets list more.deques room)
+    can GiveUp asked more room = (
+      next,
+      spent_is_too_much key next at.top at.running.period b.holding.is_next.listed (spent_again key at next asked),
+      with.closes key before deque at next ready was b meets list more.deques room,
+    )
     can (Wait child) asked more room =
         let lane = with.lane_held key before deque at next ready was b meets in
         let has = with.has_list key before deque at next ready was b meets in
@@ -137,10 +125,41 @@ module _ (key : HallKey) (before : HallSeat) (deque : DequeId) (at : AtNext) (ne
           listed = subst (IsNext key at.top) asked.0 b.holding.is_next.listed;
         }
 
-  pub fails : (refused : ActRefused) (after : HallSeat) (counted : Bool) → CountsFor counted key before deque at next ready was list (Err refused) after
-      → Fails (MayTry key at next) before refused after
-  fails refused after true f = at_none (MayTry key at next) before after refused f
-  fails refused after false f = absurd f
+    -- nobody waits for the root
+    pub leaves_nobody : (event : ListEvent) → IsAskedByList key was at next event → LeavesNobody was at event
+    leaves_nobody GiveUp asked = tt
+    leaves_nobody (Wait child) asked = tt
+    leaves_nobody Dummy asked = tt
+    leaves_nobody (Join child) asked = tt
+    leaves_nobody RootEnd asked = from.nobody key before deque b.holding.lane was
+        (with.lane_held key before deque at next ready was b meets) (with.has_list key before deque at next ready was b meets) meets
+        at.top at.lane.items (come_to nexts.End asked.0) asked.1
+
+  -- how it fails
+  module _ (no_end : was.end ≡ None) (event : ListEvent) (asked : IsAskedByList key was at next event) where
+    has_slots : HasItsSlots key deque at next (Some was) None (noted_for event deque at.top)
+    has_slots = list_slots key deque was at next no_end event asked (noted_for event deque at.top) (owned_for event deque) (notes_it event deque at.top)
+
+    pub memory_fails : (refused : ActRefused) (after : HallSeat) → FailsBy AtMemory before refused after
+        → FailsBy (IsRefusalWith key deque at next was) before refused after
+    memory_fails refused after = fails_too AtMemory (IsRefusalWith key deque at next was) refused
+        (λ more. memory_refusal key deque at next (Some was) None (noted_for event deque at.top) has_slots more refused) before after
+
+  count_fails : (no_end : was.end ≡ None) (event : ListEvent) (asked : IsAskedByList key was at next event) → NeedsCount (noted_for event deque at.top)
+      → (refused : ActRefused) (after : HallSeat) → FailsBy (AtCount key.actions) before refused after
+      → FailsBy (IsRefusalWith key deque at next was) before refused after
+  count_fails no_end event asked counts refused after = fails_too (AtCount key.actions) (IsRefusalWith key deque at next was) refused
+      (λ more. count_refusal key deque at next (Some was) None (noted_for event deque at.top) (has_slots no_end event asked) counts more refused)
+      before after
+
+  pub fails : (no_end : was.end ≡ None) (event : ListEvent) → IsAskedByList key was at next event → (refused : ActRefused) (after : HallSeat)
+      → CountsFor (is_action event) key before deque at next ready was list (Err refused) after
+      → FailsBy (IsRefusalWith key deque at next was) before refused after
+  fails no_end GiveUp asked refused after f = absurd f
+  fails no_end (Wait child) asked refused after f = absurd f
+  fails no_end Dummy asked refused after f = count_fails no_end Dummy asked tt refused after f
+  fails no_end (Join child) asked refused after f = count_fails no_end (Join child) asked tt refused after f
+  fails no_end RootEnd asked refused after f = count_fails no_end RootEnd asked tt refused after f
 
   -- once it is counted, if it is an action
   module _ (now : AtNext) (left : ListSlot) (after : HallSeat) where
@@ -170,6 +189,30 @@ module _ (key : HallKey) (before : HallSeat) (deque : DequeId) (at : AtNext) (ne
     abbrev pub count_of : (counted : Bool) → CountsFor counted key before deque at next ready was list (Ok (now, left)) after → Option ℕ
     count_of true c = Some c.2.found
     count_of false c = None
+
+    counts : (event : ListEvent) (c : CountsFor (is_action event) key before deque at next ready was list (Ok (now, left)) after) (noted : Event)
+        (owned : Option DequeId) → IsNotedFor event deque at.top noted owned → IsTakenIf (NeedsCount noted) (count_of (is_action event) c)
+    counts GiveUp c noted owned notes = subst (λ e. ¬ NeedsCount e) (sym notes.0) (λ no. no)
+    counts (Wait child) c noted owned notes = subst (λ e. ¬ NeedsCount e) (sym notes.0) (λ no. no)
+    counts Dummy c noted owned notes = subst NeedsCount (sym notes.1) tt
+    counts (Join child) c noted owned notes = subst NeedsCount (sym notes.1) tt
+    counts RootEnd c noted owned notes = subst NeedsCount (sym notes.1) tt
+
+    below : (counted : Bool) (c : CountsFor counted key before deque at next ready was list (Ok (now, left)) after) → IsBelow key.actions (count_of counted c)
+    below true c = c.2.below
+    below false c = tt
+
+    -- by what it saw it did the event
+    pub decides : MeetsLaw key before → was.end ≡ None → (event : ListEvent) → IsAskedByList key was at next event
+        → (c : CountsFor (is_action event) key before deque at next ready was list (Ok (now, left)) after) (noted : Event) (owned : Option DequeId)
+        → IsNotedFor event deque at.top noted owned
+        → Decides key deque at next (record { list = Some was; pool = None; count = count_of (is_action event) c }) noted owned
+    decides meets no_end event asked c noted owned notes = record {
+      slots = list_slots key deque was at next no_end event asked noted owned notes;
+      counts = counts event c noted owned notes;
+      below = below (is_action event) c;
+      owns = list_owned key deque was at next event asked (leaves_nobody meets no_end event asked) noted owned notes;
+    }
 
     pub leaves : (counted : Bool) (c : CountsFor counted key before deque at next ready was list (Ok (now, left)) after) (owned : Option DequeId)
         (event : Event) (final : HallSeat) → HasPut after (told_note after.hand.note owned event) [] final
@@ -209,7 +252,6 @@ module _ (key : HallKey) (before middle : HallSeat) (deque : DequeId) (at now : 
     no_end = has.open_one;
   }
 
-  pub does : ActionNeedsList at next ⊎ IsTooMuch key next at.top at.running.period → (r : Result Acted ActRefused) (after : HallSeat)
-      → DoesWithList key middle deque now next r after → Does key before deque at next r after
-  does tries r after done = does_with_list key before middle after deque at next list tries has.taken r
-      (subst (λ (a : AtNext). DoesWithList key middle deque a next r after) same done)
+  pub does : (r : Result Acted ActRefused) (after : HallSeat) → DoesWithList key middle deque now next list r after → Does key before deque at next r after
+  does r after done = does_with_list key before middle after deque at next list has.taken r
+      (subst (λ (a : AtNext). DoesWithList key middle deque a next list r after) same done)

@@ -1,6 +1,6 @@
 -- A seat that tries to take the list or the pool beside what it holds.
-use Rattle.std.proofs.Common.{◌≡◌, ℕ, ◌+◌, ◌≤◌, ◌<◌, List, [], ◌∷◌, ◌++◌, inl, inr, refl, sym, ap, ◌∙◌, subst, append-nil}
-use Rattle.std.specs.Prelude.{Some}
+use Rattle.std.proofs.Common.{◌≡◌, ℕ, ◌+◌, ◌≤◌, ◌<◌, List, [], ◌∷◌, ◌++◌, inl, refl, sym, ap, ◌∙◌, subst, append-nil}
+use Rattle.std.specs.Prelude.{Option, Some}
 use Rattle.deque_list.specs.declared.deque_id.DequeId.{DequeId}
 use Rattle.play_rules.specs.declared.ends.RunEnd.{RunEnd}
 use Rattle.play_rules.specs.declared.stop.Stop.{Stop}
@@ -8,6 +8,7 @@ use Rattle.play_rules.specs.declared.stop.Stop.TheVariants.{ArenaFull, OutOfMemo
 use Rattle.thread_frames.specs.declared.next.Next.{Next}
 use Rattle.turn_table.specs.Notes.{HasAs}
 use Rattle.turn_table.specs.declared.held.Held.{Held}
+use Rattle.turn_table.specs.declared.look.Look.{Look}
 use Rattle.turn_table.specs.declared.look.Look.TheVariants.{Took, Refused}
 use Rattle.turn_table.specs.Seats.{with_hand}
 use Rattle.owner_acts.specs.Passed.Puts.{HasPut}
@@ -31,9 +32,10 @@ use Rattle.owner_acts.proofs.Passed.Returned.{same_pool}
 use Rattle.owner_acts.specs.Passed.Returning.{MayNote, ReturnsPool}
 use Rattle.owner_events.proofs.Following.{is_before}
 use Rattle.owner_events.proofs.Given.{lane_back}
-use Rattle.owner_events.specs.Holding.{Fails, IsHolding, IsBefore, IsListSlot, IsNoSlot, IsPoolSlot, Shows, found_note}
+use Rattle.owner_events.specs.Holding.{AtList, AtMemory, AtMemoryOrCount, AtPool, FailsBy, IsHolding, IsBefore, found_note}
 use Rattle.owner_events.specs.Taking.{AsksByTheList}
 use Rattle.owner_acts.specs.WithPool.{words_asked_by}
+use Rattle.owner_events.specs.declared.refused.ActRefused.{ActRefused}
 use Rattle.owner_events.specs.declared.refused.ActRefused.TheVariants.{Busy, Over, Stopped}
 
 -- it may ask for memory
@@ -56,36 +58,59 @@ module _ (before middle : HallSeat) (slot : ℕ) (held : Held) (refused : IsRefu
     is_next = is.is_next;
   }
 
-  pub busy : (May : ℕ → Type 0) → May held.slot → (after : HallSeat) → HasPut middle middle.hand.note [] after → Fails May before (Busy held) after
-  busy May may after put = (
-    [],
-    tt,
-    may,
+  pub busy : (Shows : List (Look Slot) → ActRefused → Type 0) → Shows (Refused held.slot held.seen ∷ []) (Busy held) → (after : HallSeat)
+      → HasPut middle middle.hand.note [] after → FailsBy Shows before (Busy held) after
+  busy Shows shows after put = (
+    Refused held.slot held.seen ∷ [],
+    shows,
     put
         ∙ ap (λ (s : HallSeat). with_hand s (record { seated = s.hand.seated; holds = []; note = s.hand.note; looks = s.hand.looks })) refused.1
-        ∙ ap (λ n. with_hand before (record { seated = before.hand.seated; holds = []; note = before.hand.note; looks = before.hand.looks ++ Refused n held.seen ∷ [] })) (sym refused.0),
+        ∙ ap (λ n. with_hand before (record {
+          seated = before.hand.seated;
+          holds = [];
+          note = before.hand.note;
+          looks = before.hand.looks ++ Refused n held.seen ∷ [];
+        })) (sym refused.0),
   )
 
--- memory that was wanting
-pub wanting : (before after : HallSeat) → HasPut before (found_note before.hand.note OutOfMemory) [] after → Fails IsNoSlot before (Stopped OutOfMemory) after
+-- there was not enough memory
+pub wanting : (before after : HallSeat) → HasPut before (found_note before.hand.note OutOfMemory) [] after
+    → FailsBy AtMemory before (Stopped OutOfMemory) after
 wanting before after put = (
   [],
-  tt,
-  inl refl,
-  put ∙ ap (λ looks. with_hand before (record { seated = before.hand.seated; holds = []; note = found_note before.hand.note OutOfMemory; looks = looks })) (sym (append-nil before.hand.looks)),
+  (refl, refl),
+  put ∙ ap (λ looks. with_hand before (record {
+    seated = before.hand.seated;
+    holds = [];
+    note = found_note before.hand.note OutOfMemory;
+    looks = looks;
+  })) (sym (append-nil before.hand.looks)),
 )
+
+-- or before a count
+pub wanting_first : (limit : ℕ) (before after : HallSeat) → HasPut before (found_note before.hand.note OutOfMemory) [] after
+    → FailsBy (AtMemoryOrCount limit) before (Stopped OutOfMemory) after
+wanting_first limit before after put = let w = wanting before after put in (w.0, inl w.1, w.2)
 
 -- the list that it took, in which an end is kept
 module _ (before middle : HallSeat) (list : ListSlot) (end : RunEnd) (kept : list.end ≡ Some end) (taken : IsTaken before 0 (slots.List list) middle) where
-  pub over : (after : HallSeat) → HasPut middle (answered_note middle.hand.note list) [] after → Fails IsListSlot before (Over end) after
+  pub over : (after : HallSeat) → HasPut middle (answered_note middle.hand.note list) [] after → FailsBy AtList before (Over end) after
   over after put = (
-    [],
-    list,
-    tt,
-    refl,
-    kept,
+    Took 0 (slots.List list) ∷ [],
+    (list, kept, refl),
     put
-        ∙ ap (λ (s : HallSeat). with_hand s (record { seated = s.hand.seated; holds = []; note = answered_note s.hand.note list; looks = s.hand.looks })) taken,
+        ∙ ap (λ (s : HallSeat). with_hand s (record {
+          seated = s.hand.seated;
+          holds = [];
+          note = answered_note s.hand.note list;
+          looks = s.hand.looks;
+        })) taken
+        ∙ ap (λ (answered : Option RunEnd). with_hand before (record {
+          seated = before.hand.seated;
+          holds = [];
+          note = record before.hand.note { answered = answered };
+          looks = before.hand.looks ++ Took 0 (slots.List list) ∷ [];
+        })) kept,
   )
 
 -- the pool that it took
@@ -130,10 +155,14 @@ module _ (key : HallKey) (before middle : HallSeat) (deque : DequeId) (pool : Po
 
     -- so it fails
     pub full_fails : (asked : ℕ) → asked ≡ words_asked_by next → (stop : Stop) → stop ≡ ArenaFull pool.pool.live asked → (after : HallSeat)
-        → HasPut middle (found_note middle.hand.note stop) [] after → Fails IsPoolSlot before (Stopped stop) after
+        → HasPut middle (found_note middle.hand.note stop) [] after → FailsBy (AtPool (words_asked_by next)) before (Stopped stop) after
     full_fails asked asked_is stop is after put = (
       Took 1 (slots.Pool pool) ∷ [],
-      (refl, tt),
-      inr (inl (subst (λ s. Shows s (Took 1 (slots.Pool pool))) (sym is) (refl, subst (λ n. pool.pool.capacity < pool.pool.live + n) (sym asked_is) full))),
-      put ∙ ap (λ (s : HallSeat). with_hand s (record { seated = s.hand.seated; holds = []; note = found_note s.hand.note stop; looks = s.hand.looks })) taken,
+      (pool, is ∙ ap (ArenaFull pool.pool.live) asked_is, full, refl),
+      put ∙ ap (λ (s : HallSeat). with_hand s (record {
+        seated = s.hand.seated;
+        holds = [];
+        note = found_note s.hand.note stop;
+        looks = s.hand.looks;
+      })) taken,
     )

@@ -1,5 +1,5 @@
 -- A seat that took the pool beside the list for the next action of its top thread, and counted it.
-use Rattle.std.proofs.Common.{◌≡◌, ◌⊎◌, ℕ, ◌≤◌, ◌<◌, [], ◌∷◌, length, inl, inr, sym, ap, ◌∙◌, subst, arith}
+use Rattle.std.proofs.Common.{◌≡◌, ℕ, ◌≤◌, ◌<◌, [], ◌∷◌, length, sym, ap, ◌∙◌, subst, arith}
 use Rattle.std.specs.Prelude.{Option, None, Some, Ok}
 use Rattle.deque_list.specs.declared.deque_id.DequeId.{DequeId}
 use Rattle.owner_acts.specs.Passed.Puts.{HasPut}
@@ -9,8 +9,10 @@ use Rattle.owner_acts.specs.Passed.Taken.{all_three}
 use Rattle.owner_acts.proofs.Passed.InUse.{words_are_in_use, kept_words_are_in_use}
 use Rattle.owner_acts.specs.Passed.Lists.{words_back, ComesTo}
 use Rattle.owner_acts.specs.Passed.Reads.{HoldsItsLane}
-use Rattle.hall_slots.specs.Takes.{HallSeat, MeetsLaw}
+use Rattle.hall_slots.specs.Takes.{HallSeat, IsTaken, MeetsLaw}
+use Rattle.dag_order.specs.declared.action_id.ActionId.{ActionId}
 use Rattle.hall_slots.specs.declared.event.Event.{Event}
+use Rattle.hall_slots.specs.declared.event.Event.TheVariants.{Did}
 use Rattle.hall_slots.specs.declared.key.HallKey.{HallKey}
 use Rattle.hall_slots.specs.declared.list_slot.ListSlot.{ListSlot}
 use Rattle.hall_slots.specs.declared.pool_slot.PoolSlot.{PoolSlot}
@@ -20,8 +22,13 @@ use Rattle.owner_acts.specs.WithAll.{EndsForked, HasMoreWith, HasRoomWith, IsRea
 use Rattle.owner_acts.specs.declared.with_all.WholeEvent.{WholeEvent}
 use Rattle.owner_acts.specs.declared.with_all.WholeEvent.TheVariants.{Join, Wake, Leave}
 use Rattle.owner_events.specs.Asked.{IsAskedByAll}
-use Rattle.owner_events.specs.Needs.{ActionNeedsList, ActionNeedsPool}
-use Rattle.owner_events.proofs.Failing.{not_there}
+use Rattle.owner_events.specs.Acting.{IsRefusalWith}
+use Rattle.owner_events.specs.Decided.{Decides, HasItsSlots}
+use Rattle.owner_events.specs.declared.refused.ActRefused.{ActRefused}
+use Rattle.owner_events.proofs.Failing.{fails_too}
+use Rattle.owner_events.proofs.Following.{fails}
+use Rattle.owner_events.proofs.Refusals.{memory_refusal, pool_too_refusal, then_refusal}
+use Rattle.owner_events.proofs.Showing.{named, whole_needs, whole_owned, whole_slots, whole_to_do}
 use Rattle.owner_events.proofs.FromList as from
 use Rattle.owner_events.proofs.WithList.{more_to_leave, only_kept, some_of}
 use Rattle.thread_points.specs.Points.{words_at_end}
@@ -35,7 +42,7 @@ use Rattle.owner_acts.specs.Passed.AtNext.{AtNext}
 use Rattle.owner_events.proofs.Doing.{counted_leaves, taken_leaves}
 use Rattle.owner_events.proofs.FromCount as count
 use Rattle.owner_events.proofs.Held.{all_list, all_pool, comes, with_all}
-use Rattle.owner_events.specs.Holding.{IsBefore}
+use Rattle.owner_events.specs.Holding.{AtMemory, AtMemoryOrCount, AtPoolAlone, FailsBy, IsBefore}
 use Rattle.owner_events.specs.Taking.{CountsWithAll, HasPoolToo}
 use Rattle.thread_frames.specs.Views.{label_of, next_of}
 use Rattle.thread_frames.specs.declared.next.Next.{Next}
@@ -48,23 +55,37 @@ more_with (Join child) was now more = subst (HasMoreRoom was) (sym more) (same_l
 more_with Wake was now more = subst (HasMoreRoom was) (sym more) (same_list was)
 more_with Leave was now more = more_to_leave was now more
 
--- the action needs the list and the pool, and leaves the seat its deque or none
-module _ (list : ListSlot) (at : AtNext) (next : Next) where
-  pub needs_list : (event : WholeEvent) → IsAskedByAll list at next event → ActionNeedsList at next
-  needs_list (Join child) asked = subst (ActionNeedsList at) (sym asked.0) asked.1
-  needs_list Wake asked = subst (ActionNeedsList at) (sym asked.0) asked.2
-  needs_list Leave asked = subst (ActionNeedsList at) (sym asked.0) asked.2
+-- how it fails at the pool, or once it has the pool
+module _ (key : HallKey) (deque : DequeId) (list : ListSlot) (at : AtNext) (next : Next) (no_end : list.end ≡ None) (event : WholeEvent)
+    (asked : IsAskedByAll list at next event) (refused : ActRefused) (after : HallSeat) where
+  pub pool_fails : (before : HallSeat) → FailsBy AtPoolAlone before refused after → FailsBy (IsRefusalWith key deque at next list) before refused after
+  pool_fails before = fails_too AtPoolAlone (IsRefusalWith key deque at next list) refused
+      (λ more. pool_too_refusal key deque at next list (Did (named at.top)) (whole_to_do key deque list at next no_end event asked (named at.top))
+      (whole_needs key deque list at next event asked) more refused) before after
 
-  pub needs_pool_too : (event : WholeEvent) → IsAskedByAll list at next event → ActionNeedsPool at next
-  needs_pool_too (Join child) asked = subst (ActionNeedsPool at) (sym asked.0) (not_there asked.1)
-  needs_pool_too Wake asked = subst (ActionNeedsPool at) (sym asked.0) asked.1
-  needs_pool_too Leave asked = subst (ActionNeedsPool at) (sym asked.0) asked.1
+  module _ (before middle : HallSeat) (pool : PoolSlot) (taken : IsTaken before 1 (slots.Pool pool) middle) (within : pool.pool.live ≤ pool.pool.capacity) where
+    has_slots : HasItsSlots key deque at next (Some list) (Some pool) (Did (named at.top))
+    has_slots = whole_slots key deque list at next no_end event asked (named at.top) pool within
 
-pub owns_then : (event : WholeEvent) (deque : DequeId) (owned : Option DequeId) → owned ≡ owned_with event deque
-    → (owned ≡ None) ⊎ (owned ≡ Some deque)
-owns_then (Join child) deque owned is = inr is
-owns_then Wake deque owned is = inr is
-owns_then Leave deque owned is = inl is
+    pub memory_fails : FailsBy AtMemory middle refused after → FailsBy (IsRefusalWith key deque at next list) before refused after
+    memory_fails f = fails before middle 1 (slots.Pool pool) taken after (IsRefusalWith key deque at next list) refused
+        (f.0, memory_refusal key deque at next (Some list) (Some pool) (Did (named at.top)) has_slots f.0 refused f.1, f.2)
+
+    pub then_fails : FailsBy (AtMemoryOrCount key.actions) middle refused after → FailsBy (IsRefusalWith key deque at next list) before refused after
+    then_fails f = fails before middle 1 (slots.Pool pool) taken after (IsRefusalWith key deque at next list) refused
+        (f.0, then_refusal key deque at next (Some list) (Some pool) (Did (named at.top)) has_slots tt f.0 refused f.1, f.2)
+
+-- by what it saw it did the event
+pub whole_decides : (key : HallKey) (deque : DequeId) (list : ListSlot) (at : AtNext) (next : Next) → list.end ≡ None → (event : WholeEvent)
+    → IsAskedByAll list at next event → (pool : PoolSlot) → pool.pool.live ≤ pool.pool.capacity → (found : ℕ) → found < key.actions
+    → (name : ActionId) (owned : Option DequeId) → owned ≡ owned_with event deque
+    → Decides key deque at next (record { list = Some list; pool = Some pool; count = Some found }) (Did name) owned
+whole_decides key deque list at next no_end event asked pool within found below name owned is = record {
+  slots = whole_slots key deque list at next no_end event asked name pool within;
+  counts = tt;
+  below = below;
+  owns = whole_owned key deque list at next event asked owned is;
+}
 
 module _ (key : HallKey) (before : HallSeat) (deque : DequeId) (at : AtNext) (next : Next) (ready : ℕ) (list : ListSlot) (pool : PoolSlot)
     (middle : HallSeat) (has : HasPoolToo key before deque at next ready list pool middle) (meets : MeetsLaw key middle) where

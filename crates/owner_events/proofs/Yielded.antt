@@ -21,7 +21,6 @@ use Rattle.turn_table.specs.Seats.{with_hand}
 use Rattle.owner_acts.specs.Passed.Puts.{note_of, HasPut, MayPutListAndLane}
 use Rattle.owner_acts.specs.Passed.Rooms.{HasMoreBooks}
 use Rattle.owner_acts.specs.Passed.EventParts.{MayPause}
-use Rattle.owner_acts.specs.Passed.Taken.{list_and_lane}
 use Rattle.owner_acts.specs.Passed.Writes.{Parts}
 use Rattle.owner_acts.specs.Passed.Noting.{Noting}
 use Rattle.owner_acts.specs.Passed.Reads.{HoldsItsLane, ReadsLane}

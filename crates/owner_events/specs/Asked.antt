@@ -3,11 +3,11 @@ use Rattle.std.specs.Prelude.{◌≡◌, ℕ, ◌<◌, false, None, Some, [], le
 use Rattle.hall_slots.specs.declared.key.HallKey.{HallKey}
 use Rattle.hall_slots.specs.declared.list_slot.ListSlot.{ListSlot}
 use Rattle.owner_acts.specs.Passed.AtNext.{AtNext}
-use Rattle.owner_acts.specs.Passed.EventParts.{IsTooMuch}
 use Rattle.owner_acts.specs.declared.with_all.WholeEvent.{WholeEvent}
 use Rattle.owner_acts.specs.declared.with_all.WholeEvent.TheVariants as whole
 use Rattle.owner_acts.specs.declared.with_list.ListEvent.{ListEvent}
 use Rattle.owner_acts.specs.declared.with_list.ListEvent.TheVariants.{GiveUp, Wait, Dummy, Join, RootEnd}
+use Rattle.owner_events.specs.Decided.{IsSpent}
 use Rattle.owner_events.specs.Ready.{IsKeptFor}
 use Rattle.thread_frames.specs.Children.{is_delivered}
 use Rattle.thread_frames.specs.Views.{children_of, label_of}
@@ -19,7 +19,7 @@ use Rattle.thread_map.specs.Kept.{kept_under}
 -- The quota is spent; or it is a Dummy; or the Join of a child whose result was not handed over, which is not in the list, or is there and releases
 -- nothing; or the End of the root.
 abbrev pub IsAskedByList : HallKey → ListSlot → AtNext → Next → ListEvent → Type 0
-IsAskedByList key list at next GiveUp = IsTooMuch key next at.top at.running.period
+IsAskedByList key list at next GiveUp = IsSpent key at next
 IsAskedByList key list at next (Wait child) =
     (next ≡ nexts.Join child) × (is_delivered child (children_of at.top) ≡ false) × (kept_under list.part.results child ≡ None)
 IsAskedByList key list at next Dummy = next ≡ nexts.Dummy
@@ -29,7 +29,7 @@ IsAskedByList key list at next RootEnd = (next ≡ nexts.End) × (label_of at.to
 
 -- The first and the third of these are known before the list is seen.
 abbrev pub IsAskedAtOnce : HallKey → AtNext → Next → ListEvent → Type 0
-IsAskedAtOnce key at next GiveUp = IsTooMuch key next at.top at.running.period
+IsAskedAtOnce key at next GiveUp = IsSpent key at next
 IsAskedAtOnce key at next (Wait child) = ⊥
 IsAskedAtOnce key at next Dummy = next ≡ nexts.Dummy
 IsAskedAtOnce key at next (Join child) = ⊥

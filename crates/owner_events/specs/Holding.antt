@@ -1,23 +1,23 @@
 -- What an owner holds whose top thread has come to its next action, and how its call fails.
-use Rattle.std.specs.Prelude.{◌≡◌, ◌⊎◌, ℕ, ◌+◌, ◌<◌, ◌≤◌, true, false, None, Some, List, [], ◌∷◌, ◌++◌, Result, Ok, Err}
+use Rattle.std.specs.Prelude.{◌≡◌, ◌⊎◌, ℕ, ◌+◌, ◌<◌, ◌≤◌, true, false, Option, None, Some, List, [], ◌∷◌, ◌++◌, Result, Ok, Err}
 use Rattle.deque_list.specs.declared.deque_id.DequeId.{DequeId}
-use Rattle.hall_slots.specs.Passed.Lists.{Each}
 use Rattle.play_rules.specs.declared.stop.Stop.{Stop}
-use Rattle.play_rules.specs.declared.stop.Stop.TheVariants.{ArenaFull, DequesFull, StepsSpent, OutOfMemory}
+use Rattle.play_rules.specs.declared.stop.Stop.TheVariants.{ArenaFull, StepsSpent, OutOfMemory}
 use Rattle.thread_frames.specs.declared.next.Next.{Next}
 use Rattle.turn_table.specs.declared.look.Look.{Look}
 use Rattle.turn_table.specs.declared.look.Look.TheVariants.{Took, Refused, Counted}
 use Rattle.owner_acts.specs.Passed.EventParts.{MayGoOn}
-use Rattle.hall_slots.specs.Lists.{answered_note}
 use Rattle.hall_slots.specs.Takes.{HallSeat}
 use Rattle.hall_slots.specs.declared.key.HallKey.{HallKey}
 use Rattle.hall_slots.specs.declared.lane_slot.LaneSlot.{LaneSlot}
 use Rattle.hall_slots.specs.declared.list_slot.ListSlot.{ListSlot}
+use Rattle.hall_slots.specs.declared.pool_slot.PoolSlot.{PoolSlot}
 use Rattle.hall_slots.specs.declared.seat_note.SeatNote.{SeatNote}
 use Rattle.hall_slots.specs.declared.slot.Slot.{Slot}
 use Rattle.hall_slots.specs.declared.slot.Slot.TheVariants as slots
 use Rattle.owner_acts.specs.Passed.Advancing.{IsAtNext, HasLooked}
 use Rattle.owner_acts.specs.Passed.AtNext.{AtNext}
+use Rattle.owner_events.specs.Decided.{Seen}
 use Rattle.owner_events.specs.declared.refused.ActRefused.{ActRefused}
 use Rattle.owner_events.specs.declared.refused.ActRefused.TheVariants.{Busy, Over, Stopped}
 
@@ -46,57 +46,72 @@ pub record IsCounted (key : HallKey) (seat : HallSeat) (deque : DequeId) (taken 
 abbrev pub found_note : SeatNote → Stop → SeatNote
 found_note note stop = record note { found = Some stop }
 
--- a look at one of these slots, or at the count
-abbrev pub IsLookAt : (ℕ → Type 0) → Look Slot → Type 0
-IsLookAt May (Took slot value) = May slot
-IsLookAt May (Refused slot seen) = May slot
-IsLookAt May (Counted found) = Unit {0}
+-- its answers at the list and at the pool, if it took them, and at its count, if it drew one
+abbrev pub look_at_list : Option ListSlot → List (Look Slot)
+look_at_list None = []
+look_at_list (Some list) = Took 0 (slots.List list) ∷ []
 
--- the list alone, the pool alone, no slot, and any
-abbrev pub IsListSlot : ℕ → Type 0
-IsListSlot slot = slot ≡ 0
+abbrev pub look_at_pool : Option PoolSlot → List (Look Slot)
+look_at_pool None = []
+look_at_pool (Some pool) = Took 1 (slots.Pool pool) ∷ []
 
-abbrev pub IsPoolSlot : ℕ → Type 0
-IsPoolSlot slot = slot ≡ 1
+abbrev pub look_at_count : Option ℕ → List (Look Slot)
+look_at_count None = []
+look_at_count (Some found) = Counted found ∷ []
 
-abbrev pub IsNoSlot : ℕ → Type 0
-IsNoSlot slot = ⊥
+abbrev pub looks_of : Seen → List (Look Slot)
+looks_of seen = look_at_list seen.list ++ (look_at_pool seen.pool ++ look_at_count seen.count)
 
-abbrev pub IsAnySlot : ℕ → Type 0
-IsAnySlot slot = Unit {0}
+-- the last answer of a seat that did no event: the slot that was refused to it, if one was
+abbrev pub last_look : ActRefused → List (Look Slot)
+last_look (Busy held) = Refused held.slot held.seen ∷ []
+last_look (Over end) = []
+last_look (Stopped stop) = []
 
--- A look that shows a stop: of the arena, a pool whose words in use leave no room for so many more; of the actions, a count at the limit or above it.
-abbrev pub Shows : Stop → Look Slot → Type 0
-Shows (ArenaFull live asked) (Took slot (slots.Pool pool)) = (live ≡ pool.pool.live) × (pool.pool.capacity < live + asked)
-Shows (ArenaFull live asked) (Took slot (slots.List list)) = ⊥
-Shows (ArenaFull live asked) (Took slot (slots.Lane lane)) = ⊥
-Shows (ArenaFull live asked) (Refused slot seen) = ⊥
-Shows (ArenaFull live asked) (Counted found) = ⊥
-Shows (DequesFull deques) look = ⊥
-Shows (StepsSpent limit) (Took slot value) = ⊥
-Shows (StepsSpent limit) (Refused slot seen) = ⊥
-Shows (StepsSpent limit) (Counted found) = limit ≤ found
-Shows OutOfMemory look = ⊥
+-- its note then: the end that it was answered, or the stop that it found
+abbrev pub refusal_note : SeatNote → ActRefused → SeatNote
+refusal_note note (Busy held) = note
+refusal_note note (Over end) = record note { answered = Some end }
+refusal_note note (Stopped stop) = found_note note stop
 
--- one of the looks has it
-abbrev pub OneOf : (Look Slot → Type 0) → List (Look Slot) → Type 0
-OneOf P [] = ⊥
-OneOf P (look ∷ more) = P look ⊎ OneOf P more
+-- How a seat fails that held some slots: its answers since then are such ones, and it holds nothing.
+abbrev pub FailsBy : (List (Look Slot) → ActRefused → Type 0) → HallSeat → ActRefused → HallSeat → Type 0
+FailsBy Shows before refused after =
+    (more : List (Look Slot)) × Shows more refused × HasLooked before more (refusal_note before.hand.note refused) after
 
--- The looks show the stop; want of memory alone shows in none.
-abbrev pub AreOfStop : Stop → List (Look Slot) → Type 0
-AreOfStop stop more = (stop ≡ OutOfMemory) ⊎ OneOf (Shows stop) more
+-- At the list: it was refused, or an end is kept there.
+abbrev pub AtList : List (Look Slot) → ActRefused → Type 0
+AtList more (Busy held) = (held.slot ≡ 0) × (more ≡ Refused held.slot held.seen ∷ [])
+AtList more (Over end) = (list : ListSlot) × (list.end ≡ Some end) × (more ≡ Took 0 (slots.List list) ∷ [])
+AtList more (Stopped stop) = ⊥
 
--- How a seat fails that held some slots, and looked since then only at slots that it may take: one of these was held by another seat; or the end that the list
--- kept is that of the run, which it was answered; or it found a stop that its looks show, or that there is not enough memory. It holds nothing then. Of each
--- stop but want of memory the law of the hall says besides that it has its cause.
-abbrev pub Fails : (ℕ → Type 0) → HallSeat → ActRefused → HallSeat → Type 0
-Fails May before (Busy held) after = (more : List (Look Slot)) × Each (IsLookAt May) more × May held.slot
-    × HasLooked before (more ++ Refused held.slot held.seen ∷ []) before.hand.note after
-Fails May before (Over end) after = (more : List (Look Slot)) × (list : ListSlot) × Each (IsLookAt May) more × May 0 × (list.end ≡ Some end)
-    × HasLooked before (more ++ Took 0 (slots.List list) ∷ []) (answered_note before.hand.note list) after
-Fails May before (Stopped stop) after = (more : List (Look Slot)) × Each (IsLookAt May) more × AreOfStop stop more
-    × HasLooked before more (found_note before.hand.note stop) after
+-- At the pool: it was refused; or so many words do not fit there, if some are asked for.
+abbrev pub AtPoolAlone : List (Look Slot) → ActRefused → Type 0
+AtPoolAlone more (Busy held) = (held.slot ≡ 1) × (more ≡ Refused held.slot held.seen ∷ [])
+AtPoolAlone more (Over end) = ⊥
+AtPoolAlone more (Stopped stop) = ⊥
+
+abbrev pub AtPool : (asked : ℕ) → List (Look Slot) → ActRefused → Type 0
+AtPool asked more (Busy held) = (held.slot ≡ 1) × (more ≡ Refused held.slot held.seen ∷ [])
+AtPool asked more (Over end) = ⊥
+AtPool asked more (Stopped stop) = (pool : PoolSlot) × (stop ≡ ArenaFull pool.pool.live asked)
+    × (pool.pool.capacity < pool.pool.live + asked) × (more ≡ Took 1 (slots.Pool pool) ∷ [])
+
+-- Before a count: there was not enough memory. At a count: it is at the limit or above it.
+abbrev pub AtMemory : List (Look Slot) → ActRefused → Type 0
+AtMemory more refused = (refused ≡ Stopped OutOfMemory) × (more ≡ [])
+
+abbrev pub AtCount : (limit : ℕ) → List (Look Slot) → ActRefused → Type 0
+AtCount limit more refused = (found : ℕ) × (limit ≤ found) × (refused ≡ Stopped (StepsSpent limit)) × (more ≡ Counted found ∷ [])
+
+abbrev pub AtMemoryOrCount : (limit : ℕ) → List (Look Slot) → ActRefused → Type 0
+AtMemoryOrCount limit more refused = AtMemory more refused ⊎ AtCount limit more refused
+
+-- At the pool, or once it has the pool, where the words fit.
+abbrev pub AtPoolOrThen : (limit asked : ℕ) → List (Look Slot) → ActRefused → Type 0
+AtPoolOrThen limit asked more refused = AtPool asked more refused
+    ⊎ ((pool : PoolSlot) × (pool.pool.live + asked ≤ pool.pool.capacity) × (rest : List (Look Slot))
+    × (more ≡ Took 1 (slots.Pool pool) ∷ rest) × AtMemoryOrCount limit rest refused)
 
 -- no slot was refused to it
 abbrev pub IsNotBusy : {T : Type 0} → Result T ActRefused → Type 0

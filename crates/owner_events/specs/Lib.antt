@@ -1,8 +1,10 @@
+pub mod Decided
 pub mod Holding
+pub mod Refusing
 pub mod Taking
-pub mod Needs
 pub mod Ready
 pub mod Asked
 pub mod Acting
+pub mod Laws
 pub mod Yielding
 pub mod Stepping

@@ -1,5 +1,5 @@
 -- What an owner has in its hands when it does its next action.
-use Rattle.std.specs.Prelude.{◌≡◌, ℕ, ◌+◌, ◌≤◌, Option, None, Some, [], ◌∷◌, ◌++◌, Result, Ok, Err}
+use Rattle.std.specs.Prelude.{◌≡◌, ℕ, ◌+◌, ◌<◌, ◌≤◌, Option, None, Some, [], ◌∷◌, ◌++◌, Result, Ok, Err}
 use Rattle.containers.specs.BoundedList.{entries, spare}
 use Rattle.deque_list.specs.declared.deque_id.DequeId.{DequeId}
 use Rattle.dag_order.specs.declared.thread_id.ThreadId.{ThreadId}
@@ -22,7 +22,7 @@ use Rattle.hall_slots.specs.declared.slot.Slot.TheVariants as slots
 use Rattle.owner_acts.specs.Ready.{PoolIsReady}
 use Rattle.owner_acts.specs.Passed.AtNext.{AtNext}
 use Rattle.owner_acts.specs.Passed.SeatMemory.{SeatMemory}
-use Rattle.owner_events.specs.Holding.{Fails, IsBefore, IsCounted, IsPoolSlot}
+use Rattle.owner_events.specs.Holding.{AtPoolOrThen, FailsBy, IsBefore, IsCounted}
 use Rattle.owner_acts.specs.WithPool.{words_asked_by}
 use Rattle.owner_events.specs.declared.refused.ActRefused.{ActRefused}
 
@@ -38,7 +38,9 @@ pub record HasCountedPool (key : HallKey) (before : HallSeat) (deque : DequeId) 
     (after : HallSeat) : Type 0 where
   pub was : PoolSlot
   pub same : IsSamePool was pool
+  pub was_fits : was.pool.live + words_asked_by next ≤ was.pool.capacity
   pub found : ℕ
+  pub below : found < key.actions
   pub drew : after ≡ with_hand before (record {
     seated = before.hand.seated;
     holds = (1, slots.Pool was) ∷ before.hand.holds;
@@ -52,7 +54,7 @@ pub record HasCountedPool (key : HallKey) (before : HallSeat) (deque : DequeId) 
 
 abbrev pub CountsPool : HallKey → HallSeat → DequeId → AtNext → Next → (ready : ℕ) → Result (AtNext × PoolSlot) ActRefused → HallSeat → Type 0
 CountsPool key before deque at next ready (Ok taken) after = (taken.0 ≡ at) × HasCountedPool key before deque at next ready taken.1 after
-CountsPool key before deque at next ready (Err refused) after = Fails IsPoolSlot before refused after
+CountsPool key before deque at next ready (Err refused) after = FailsBy (AtPoolOrThen key.actions (words_asked_by next)) before refused after
 
 -- The seat holds its lane and the list, in which no end is kept, and meets the law.
 pub record IsReadyWith (key : HallKey) (seat : HallSeat) (deque : DequeId) (at : AtNext) (next : Next) (memory : SeatMemory) (list : ListSlot)

@@ -21,7 +21,7 @@ use Rattle.hall_slots.specs.declared.slot.Slot.TheVariants as slots
 use Rattle.owner_acts.specs.WithPool.{words_asked_by}
 use Rattle.owner_acts.specs.Passed.AtNext.{AtNext}
 use Rattle.owner_acts.specs.Passed.Causes.{IsTooLarge}
-use Rattle.owner_events.specs.Holding.{Fails, IsBefore, IsCounted, IsListSlot, IsNoSlot, IsPoolSlot}
+use Rattle.owner_events.specs.Holding.{AtCount, AtList, AtMemoryOrCount, AtPool, AtPoolAlone, FailsBy, IsBefore, IsCounted}
 use Rattle.owner_events.specs.declared.refused.ActRefused.{ActRefused}
 
 -- if they do not fit the arena, this is so by the list of the program
@@ -39,7 +39,7 @@ pub record HasPool (key : HallKey) (before : HallSeat) (deque : DequeId) (at : A
 
 abbrev pub TakesPool : HallKey → HallSeat → DequeId → AtNext → Next → (ready : ℕ) → Result (AtNext × PoolSlot) ActRefused → HallSeat → Type 0
 TakesPool key before deque at next ready (Ok taken) after = (taken.0 ≡ at) × HasPool key before deque at next ready taken.1 after
-TakesPool key before deque at next ready (Err refused) after = Fails IsPoolSlot before refused after
+TakesPool key before deque at next ready (Err refused) after = FailsBy (AtPool (words_asked_by next)) before refused after
 
 -- It took the list, in which no end is kept; or it failed.
 pub record HasList (key : HallKey) (before : HallSeat) (deque : DequeId) (at : AtNext) (next : Next) (ready : ℕ) (list : ListSlot) (after : HallSeat)
@@ -50,12 +50,13 @@ pub record HasList (key : HallKey) (before : HallSeat) (deque : DequeId) (at : A
 
 abbrev pub TakesList : HallKey → HallSeat → DequeId → AtNext → Next → (ready : ℕ) → Result (AtNext × ListSlot) ActRefused → HallSeat → Type 0
 TakesList key before deque at next ready (Ok taken) after = (taken.0 ≡ at) × HasList key before deque at next ready taken.1 after
-TakesList key before deque at next ready (Err refused) after = Fails IsListSlot before refused after
+TakesList key before deque at next ready (Err refused) after = FailsBy AtList before refused after
 
--- It drew a count, which it holds, beside these slots; or it failed.
+-- It drew a count below the limit, which it holds, beside these slots; or it failed.
 pub record Draws (key : HallKey) (before : HallSeat) (deque : DequeId) (taken : LaneSlot → List (ℕ × Slot)) (at : AtNext) (next : Next) (ready : ℕ)
     (after : HallSeat) : Type 0 where
   pub found : ℕ
+  pub below : found < key.actions
   pub drew : after ≡ with_hand before (record {
     seated = before.hand.seated;
     holds = before.hand.holds;
@@ -66,19 +67,19 @@ pub record Draws (key : HallKey) (before : HallSeat) (deque : DequeId) (taken : 
 
 abbrev pub CountsLane : HallKey → HallSeat → DequeId → AtNext → Next → (ready : ℕ) → Result AtNext ActRefused → HallSeat → Type 0
 CountsLane key before deque at next ready (Ok same) after = (same ≡ at) × Draws key before deque (its_lane deque) at next ready after
-CountsLane key before deque at next ready (Err refused) after = Fails IsNoSlot before refused after
+CountsLane key before deque at next ready (Err refused) after = FailsBy (AtCount key.actions) before refused after
 
 abbrev pub CountsWithPool : HallKey → HallSeat → DequeId → AtNext → Next → (ready : ℕ) → (was : PoolSlot) → Result (AtNext × PoolSlot) ActRefused
     → HallSeat → Type 0
 CountsWithPool key before deque at next ready was (Ok taken) after = (taken.0 ≡ at) × IsSamePool was taken.1 × (1 ≤ moves_spare taken.1.moves)
     × Draws key before deque (pool_and_lane deque was) at next ready after
-CountsWithPool key before deque at next ready was (Err refused) after = Fails IsNoSlot before refused after
+CountsWithPool key before deque at next ready was (Err refused) after = FailsBy (AtMemoryOrCount key.actions) before refused after
 
 abbrev pub CountsWithList : HallKey → HallSeat → DequeId → AtNext → Next → (ready : ℕ) → (was list : ListSlot) → Result (AtNext × ListSlot) ActRefused
     → HallSeat → Type 0
 CountsWithList key before deque at next ready was list (Ok taken) after = (taken.0 ≡ at) × (taken.1 ≡ list)
     × Draws key before deque (list_and_lane deque was) at next ready after
-CountsWithList key before deque at next ready was list (Err refused) after = Fails IsNoSlot before refused after
+CountsWithList key before deque at next ready was list (Err refused) after = FailsBy (AtCount key.actions) before refused after
 
 -- so it is if the event is an action; for another nothing is counted
 abbrev pub CountsFor : Bool → HallKey → HallSeat → DequeId → AtNext → Next → (ready : ℕ) → (was list : ListSlot)
@@ -91,7 +92,8 @@ abbrev pub CountsWithAll : HallKey → HallSeat → DequeId → AtNext → Next 
     → Result (AtNext × ListSlot × PoolSlot) ActRefused → HallSeat → Type 0
 CountsWithAll key before deque at next ready was list pool_was (Ok taken) after = (taken.0 ≡ at) × (taken.1 ≡ list) × IsSamePool pool_was taken.2
     × (1 ≤ moves_spare taken.2.moves) × Draws key before deque (all_three deque was pool_was) at next ready after
-CountsWithAll key before deque at next ready was list pool_was (Err refused) after = Fails IsNoSlot before refused after
+CountsWithAll key before deque at next ready was list pool_was (Err refused) after =
+    FailsBy (AtMemoryOrCount key.actions) before refused after
 
 -- It took the pool, which is sound, beside the list and its lane; or it failed.
 pub record HasPoolToo (key : HallKey) (before : HallSeat) (deque : DequeId) (at : AtNext) (next : Next) (ready : ℕ) (list : ListSlot)
@@ -104,7 +106,7 @@ abbrev pub TakesPoolToo : HallKey → HallSeat → DequeId → AtNext → Next �
     → HallSeat → Type 0
 TakesPoolToo key before deque at next ready list (Ok taken) after = (taken.0 ≡ at) × (taken.1 ≡ list)
     × HasPoolToo key before deque at next ready list taken.2 after
-TakesPoolToo key before deque at next ready list (Err refused) after = Fails IsPoolSlot before refused after
+TakesPoolToo key before deque at next ready list (Err refused) after = FailsBy AtPoolAlone before refused after
 
 -- Whether so many words are more than a pool has with those in use: this is the stop, or none.
 abbrev pub IsFullBy : PoolSlot → (asked : ℕ) → Option Stop → Type 0

@@ -96,12 +96,14 @@ fn go_on(
     }
 }
 
-/// Does the next event of a seat that owns a deque: its top thread does its next action, or waits for a child, or the deque is given up.
+/// Does the next event of a seat that owns a deque: its top thread does its next action, or waits for a child, or the deque is given up. Which of
+/// these it is, and which deque the seat owns then, is shown by what it saw: its lane, and the list, the pool and the count if it took them.
 ///
 /// # Errors
 ///
-/// Another seat holds a slot that the event needs, an end is kept in the list that it took, or the seat found a stop. The moment of the hall is what
-/// it was, and the seat holds nothing.
+/// Another seat holds a slot that the event needs, an end is kept in the list that it took, or the seat found a stop: the words of the action do not
+/// fit the arena, there is not enough memory, or as many actions as are allowed were counted. What the seat saw shows this. The moment of the hall is
+/// what it was, and the seat holds nothing.
 pub fn act(
     row: &HallRow,
     seat: &mut HallPlace,

@@ -1,6 +1,6 @@
 //! The Join, by where the result of the child is.
 
-ghost use Rattle.std.specs.Prelude.{◌≡◌, ◌+◌, ◌<◌, [], false, IsSome, IsTrue};
+ghost use Rattle.std.specs.Prelude.{◌≡◌, ◌+◌, ◌<◌, [], false, None, IsSome, IsTrue};
 ghost use Rattle.containers.specs.BoundedList.{entries};
 ghost use Rattle.thread_frames.specs.Actions.{is_there};
 ghost use Rattle.thread_frames.specs.Children.{is_delivered};
@@ -11,6 +11,7 @@ ghost use Rattle.hall_slots.specs.Takes.{HasAllPlaces};
 ghost use Rattle.owner_events.specs.Holding.{IsNotBusy};
 ghost use Rattle.owner_acts.specs.Quotas.{MayUse};
 ghost use Rattle.owner_events.specs.Acting.{Does};
+ghost use Rattle.owner_events.specs.Decided.{IsDue};
 ghost use Rattle.owner_events.specs.Ready.{IsKeptFor, IsReadyTo};
 
 use crate::acted::Acted;
@@ -42,6 +43,7 @@ fn own_join(
     requires limit { limit ≡ (key_of row.now).actions }
     requires ready { IsReadyTo (key_of row.now) seat.old deque at (nexts.Join child) memory.old }
     requires delivered { IsTrue (is_there (newest (children_of at.top))) }
+    requires due { IsDue (key_of row.now) at (nexts.Join child) None }
     requires words { join_words_of at.top ≡ 0 }
     ensures seat { Does (key_of row.now) seat.old deque at (nexts.Join child) result seat.new }
     ensures births { entries memory.new.births ≡ [] }
@@ -77,6 +79,7 @@ pub(crate) fn join_delivered(
     requires place { IsSome memory.old.place }
     requires uses { MayUse (key_of row.now) seat.old.hand.note.worker (nexts.Join child) charge at.top at.running.period }
     requires delivered { IsTrue (is_there (newest (children_of at.top))) }
+    requires due { IsDue (key_of row.now) at (nexts.Join child) None }
     ensures seat { Does (key_of row.now) seat.old deque at (nexts.Join child) result seat.new }
     ensures births { entries memory.new.births ≡ [] }
     ensures lone { HasAllPlaces (key_of row.now) seat.old → IsNotBusy result }

@@ -8,9 +8,11 @@
 //!
 //! It uses the way to the action and what is put back if no event comes (`owner_advance`), the count (`hall_slots`), and the
 //! events themselves (`owner_acts`). It hands the memory of a seat on ([`SeatMemory`]), so that who
-//! calls it names one crate. Its theorem: the seat notes the event for which the next action of its top thread asks, or why it did none; if
-//! it did the event, it took no slot that this does not need; if it did none, its answers show why; and the law of the hall holds between
-//! any two atomic steps.
+//! calls it names one crate. Its theorem: what a seat saw of its lane, the list, the pool and the count shows the one event that it was to
+//! do; it did this one, with just the slots and the count that the event needs, and owns then the deque that the event leaves it. Or it did
+//! none, and what it saw shows why: a slot that it needs was refused to it, an end is kept in the list that it needs, or it found a stop. If
+//! a look shows such a cause, it answers this one. And the law of the hall holds between any two atomic steps. Of an action the answer has a name, and
+//! only the law says that this is the name of the action before which the top thread was.
 //!
 //! # Why
 //!
@@ -30,6 +32,7 @@ mod counting;
 mod ends;
 mod giving;
 mod joins;
+mod laws;
 mod lists;
 mod pools;
 mod refused;
@@ -40,6 +43,7 @@ mod yields;
 
 pub use acted::Acted;
 pub use acting::act;
+pub use laws::one_event;
 pub use owner_acts::SeatMemory;
 pub use refused::ActRefused;
 pub use stepping::step_on;

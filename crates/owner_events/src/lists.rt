@@ -11,7 +11,7 @@ ghost use Rattle.owner_acts.specs.Passed.Taken.{list_and_lane};
 ghost use Rattle.owner_acts.specs.WithList.{is_action};
 ghost use Rattle.play_rules.specs.declared.stop.Stop.TheVariants.{OutOfMemory};
 ghost use Rattle.owner_events.specs.declared.refused.ActRefused.TheVariants.{Stopped};
-ghost use Rattle.owner_events.specs.Holding.{Fails, IsBefore, IsNoSlot, IsNotBusy};
+ghost use Rattle.owner_events.specs.Holding.{AtMemory, FailsBy, IsBefore, IsNotBusy};
 ghost use Rattle.owner_events.specs.Acting.{Does, DoesWithList};
 ghost use Rattle.owner_events.specs.Asked.{IsAskedAtOnce, IsAskedByList};
 ghost use Rattle.owner_events.specs.Ready.{IsReadyTo, IsReadyWith};
@@ -40,7 +40,7 @@ fn stop_short(
     requires slot { deque.0 + 2 < slot_count row.now }
     requires before { (next : AnyNext) × (ready : ℕ) × (was : AnyList) × HasMoreRoom was list
         × IsBefore (key_of row.now) seat.old deque (list_and_lane deque was) at next ready }
-    ensures seat { Fails IsNoSlot seat.old result seat.new }
+    ensures seat { FailsBy AtMemory seat.old result seat.new }
     ensures memory { result ≡ Stopped OutOfMemory }
 {
     let noting = Noting::Found(Stop::OutOfMemory);
@@ -95,7 +95,7 @@ pub(crate) fn do_with_list(
     requires ready { (next : AnyNext) × IsReadyWith (key_of row.now) seat.old deque at next memory.old list
         × IsAskedByList (key_of row.now) list at next event }
     ensures seat { (next : AnyNext) → IsReadyWith (key_of row.now) seat.old deque at next memory.old list
-        → IsAskedByList (key_of row.now) list at next event → DoesWithList (key_of row.now) seat.old deque at next result seat.new }
+        → IsAskedByList (key_of row.now) list at next event → DoesWithList (key_of row.now) seat.old deque at next list result seat.new }
     ensures births { entries memory.new.births ≡ [] }
     ensures never { IsNotBusy result }
 {

@@ -1,6 +1,6 @@
 //! The actions for which an owner holds the pool beside its lane.
 
-ghost use Rattle.std.specs.Prelude.{◌≡◌, ◌+◌, ◌<◌, ℕ, [], IsSome};
+ghost use Rattle.std.specs.Prelude.{◌≡◌, ◌+◌, ◌<◌, ℕ, [], IsSome, None};
 ghost use Rattle.containers.specs.BoundedList.{entries};
 ghost use Rattle.turn_table.specs.Tables.{key_of, slot_count, IsSeatOf};
 ghost use Rattle.owner_acts.specs.Passed.Taken.{its_lane};
@@ -10,6 +10,7 @@ ghost use Rattle.owner_events.specs.Holding.{IsBefore, IsNotBusy};
 ghost use Rattle.owner_events.specs.Taking.{AsksByTheList};
 ghost use Rattle.hall_slots.specs.Takes.{HasAllPlaces};
 ghost use Rattle.owner_events.specs.Acting.{Does};
+ghost use Rattle.owner_events.specs.Decided.{IsDue};
 ghost use Rattle.owner_events.specs.Ready.{CountsPool, IsReadyTo};
 
 use crate::acted::Acted;
@@ -65,6 +66,7 @@ pub(crate) fn do_with_pool(
     requires place { IsSome memory.old.place }
     requires uses { MayUse (key_of row.now) seat.old.hand.note.worker next charge at.top at.running.period }
     requires suits { IsWithPool next at.top at.lane.items }
+    requires due { IsDue (key_of row.now) at next None }
     ensures seat { Does (key_of row.now) seat.old deque at next result seat.new }
     ensures births { entries memory.new.births ≡ [] }
     ensures lone { HasAllPlaces (key_of row.now) seat.old → IsNotBusy result }

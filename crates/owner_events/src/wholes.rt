@@ -10,7 +10,7 @@ ghost use Rattle.play_rules.specs.declared.stop.Stop.TheVariants.{OutOfMemory};
 ghost use Rattle.owner_events.specs.declared.refused.ActRefused.TheVariants.{Stopped};
 ghost use Rattle.turn_table.specs.Tables.{key_of, slot_count, IsSeatOf};
 ghost use Rattle.hall_slots.specs.Takes.{HasAllPlaces};
-ghost use Rattle.owner_events.specs.Holding.{Fails, IsBefore, IsNoSlot, IsNotBusy};
+ghost use Rattle.owner_events.specs.Holding.{AtMemory, FailsBy, IsBefore, IsNotBusy};
 ghost use Rattle.owner_events.specs.Acting.{DoesWithList};
 ghost use Rattle.owner_events.specs.Asked.{IsAskedByAll};
 ghost use Rattle.owner_events.specs.Ready.{IsReadyWith};
@@ -39,7 +39,7 @@ fn stop_with_all(
     requires slot { deque.0 + 2 < slot_count row.now }
     requires before { (next : AnyNext) × (ready : ℕ) × (was : AnyList) × HasMoreRoom was list
         × IsBefore (key_of row.now) seat.old deque (all_three deque was pool) at next ready }
-    ensures seat { Fails IsNoSlot seat.old result seat.new }
+    ensures seat { FailsBy AtMemory seat.old result seat.new }
     ensures memory { result ≡ Stopped OutOfMemory }
 {
     let noting = Noting::Found(Stop::OutOfMemory);
@@ -63,7 +63,7 @@ pub(crate) fn do_with_all(
     requires limit { limit ≡ (key_of row.now).actions }
     requires ready { (next : AnyNext) × IsReadyWith (key_of row.now) seat.old deque at next memory.old list × IsAskedByAll list at next event }
     ensures seat { (next : AnyNext) → IsReadyWith (key_of row.now) seat.old deque at next memory.old list → IsAskedByAll list at next event
-        → DoesWithList (key_of row.now) seat.old deque at next result seat.new }
+        → DoesWithList (key_of row.now) seat.old deque at next list result seat.new }
     ensures births { entries memory.new.births ≡ [] }
     ensures lone { HasAllPlaces (key_of row.now) seat.old → IsNotBusy result }
 {

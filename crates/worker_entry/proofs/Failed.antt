@@ -1,13 +1,10 @@
 -- A seat that failed to do its event notes what it noted, but for the end that it was answered and the stop that it found.
-use Rattle.std.proofs.Common.{◌≡◌, ap}
+use Rattle.std.proofs.Common.{◌≡◌}
 use Rattle.std.specs.Prelude.{Some}
 use Rattle.worker_entry.specs.Owners.{FailsIn}
 use Rattle.worker_entry.specs.declared.hall.Hall.{Hall}
 use Rattle.worker_entry.specs.declared.seat.Seat.{Seat}
-use Rattle.hall_slots.specs.Lists.{answered_note}
-use Rattle.hall_slots.specs.Takes.{HallSeat}
-use Rattle.hall_slots.specs.declared.list_slot.ListSlot.{ListSlot}
-use Rattle.owner_events.proofs.Called.{fails_somehow}
+use Rattle.owner_events.proofs.Called.{fails_note}
 use Rattle.owner_events.specs.Holding.{found_note}
 use Rattle.owner_events.specs.declared.refused.ActRefused.TheVariants.{Busy, Over, Stopped}
 use Rattle.play_rules.specs.declared.ends.RunEnd.{RunEnd}
@@ -17,12 +14,11 @@ use Rattle.turn_table.specs.declared.held.Held.{Held}
 
 module _ (hall : Hall) (before after : Seat) where
   pub busy_notes : (held : Held) → FailsIn hall before (Busy held) after → after.place.hand.note ≡ before.place.hand.note
-  busy_notes held fails = let f = fails_somehow (key_of hall.row) before.place fails.0 (Busy held) after.place fails.2 in ap (λ (s : HallSeat). s.hand.note) f.3
+  busy_notes held fails = fails_note (key_of hall.row) before.place fails.0 (Busy held) after.place fails.2
 
   pub over_notes : (end : RunEnd) → FailsIn hall before (Over end) after
-      → (list : ListSlot) × (list.end ≡ Some end) × (after.place.hand.note ≡ answered_note before.place.hand.note list)
-  over_notes end fails = let f = fails_somehow (key_of hall.row) before.place fails.0 (Over end) after.place fails.2 in
-      (f.1, f.4, ap (λ (s : HallSeat). s.hand.note) f.5)
+      → after.place.hand.note ≡ record before.place.hand.note { answered = Some end }
+  over_notes end fails = fails_note (key_of hall.row) before.place fails.0 (Over end) after.place fails.2
 
   pub stopped_notes : (stop : Stop) → FailsIn hall before (Stopped stop) after → after.place.hand.note ≡ found_note before.place.hand.note stop
-  stopped_notes stop fails = let f = fails_somehow (key_of hall.row) before.place fails.0 (Stopped stop) after.place fails.2 in ap (λ (s : HallSeat). s.hand.note) f.3
+  stopped_notes stop fails = fails_note (key_of hall.row) before.place fails.0 (Stopped stop) after.place fails.2

@@ -13,8 +13,7 @@ use Rattle.worker_entry.specs.declared.refused.EventRefused.{EventRefused}
 use Rattle.worker_entry.specs.declared.refused.EventRefused.TheVariants.{Busy, Nothing, Over, Stopped}
 use Rattle.worker_entry.specs.Seated.{SameSeat}
 
--- It did this event and notes it, so the law of the hall says that it is the one for which the next action of its top thread asks; it owns then
--- what the event leaves it.
+-- It did the event that it was to do by what it saw, and notes it; it owns then what the event leaves it.
 pub record HasActedIn (hall : Hall) (before after : Seat) (event : Event) : Type 0 where
   pub none : before.stop ≡ None
   pub deque : DequeId
@@ -27,7 +26,7 @@ pub record HasActedIn (hall : Hall) (before after : Seat) (event : Event) : Type
   pub places : after.places ≡ before.places
   pub still_none : after.stop ≡ None
 
--- It did no event, and what it tried are slots that its event needs.
+-- It did no event, and why is shown by what it saw.
 abbrev pub FailsIn : Hall → Seat → ActRefused → Seat → Type 0
 FailsIn hall before refused after = (deque : DequeId) × (before.owned ≡ Some deque) × Acts (key_of hall.row) before.place deque (Err refused) after.place
 

@@ -1,6 +1,6 @@
 //! How workers enter, and how a stop is kept.
 
-ghost use Rattle.std.specs.Prelude.{◌≡◌, Some, IfOk, MatchResult};
+ghost use Rattle.std.specs.Prelude.{◌≡◌, Some, IfOk, IsOk, MatchResult};
 ghost use Rattle.hall_slots.specs.Takes.{IsRefused};
 ghost use Rattle.hall_slots.specs.Halting.{HasHalted};
 ghost use Rattle.worker_entry.specs.Seated.{Enters, FindsListFree, IsIn, SameSeat};
@@ -51,7 +51,7 @@ impl Hall {
     ///
     /// # Errors
     ///
-    /// Another seat holds the list.
+    /// Another seat holds the list (never, if this one has all places).
     pub fn halt(&self, seat: &mut Seat, stop: Stop) -> Result<RunEnd, Held>
         requires here { IsIn self.now seat.old }
         requires found { seat.old.stop ≡ Some stop }
@@ -59,6 +59,7 @@ impl Hall {
         ensures same { SameSeat seat.old seat.new }
         ensures seat { MatchResult result (λ end. HasHalted seat.old.place stop end seat.new.place)
             (λ held. IsRefused seat.old.place 0 held seat.new.place) }
+        ensures lone { seat.old.places ≡ self.now.workers → IsOk result }
     {
         halt(&self.row, &mut seat.place, stop)
     }

@@ -15,13 +15,14 @@ use owner_events::{ActRefused, act};
 
 impl Hall {
     /// Does the next event of a worker that owns a deque: its top thread does its next action, or waits for a child, or the deque is given up. The
-    /// seat says then which deque it owns, if any.
+    /// seat says then which deque it owns, if any. Which event it is, is shown by what the seat saw: its lane, and the list, the pool and the count
+    /// if it took them.
     ///
     /// # Errors
     ///
     /// Another seat holds a slot that the event needs (never, if this one has all places), or an end is kept in the list that it took. Or the
     /// seat found a stop before, or finds one now: the words of the action do not fit the arena, there is not enough memory, or as many actions as
-    /// are allowed were counted. The stop is not kept in the list yet. The moment of the hall is what it was.
+    /// are allowed were counted. What the seat saw shows which. The stop is not kept in the list yet. The moment of the hall is what it was.
     pub fn act(&self, code: &Code, seat: &mut Seat) -> Result<Event, EventRefused>
         requires program { IsProgramOf self.now code.now }
         requires here { IsIn self.now seat.old }

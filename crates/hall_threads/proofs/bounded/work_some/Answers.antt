@@ -1,4 +1,4 @@
-use Rattle.std.proofs.Common.{◌+◌, sym, subst}
+use Rattle.std.proofs.Common.{◌+◌, ◌∙◌, sym, subst}
 use Rattle.hall_threads.specs.declared.answer.Answer.{Answer}
 use Rattle.hall_threads.specs.declared.answer.Answer.TheVariants.{Over, Refused}
 use Rattle.hall_threads.specs.Trying.{Tries}
@@ -51,3 +51,6 @@ returns-in-Refused-clause-some g c =
       adds_still c.args.hall.now (coming c.args.worker.now.choices) (coming c.tries.worker.choices) (coming c.make_try.new.choices) c.tries.counter c.tries.done c.args.worker.now.seat c.tries.worker.seat
           c.make_try.new.seat c.tries.invariant.3 c.make_try.ensures.words c.in-Refused.why c.in-Refused.ensures.tries,
     )
+
+pub returns-in-Refused-clause-lone : goal.returns-in-Refused-clause-lone
+returns-in-Refused-clause-lone g c all = c.in-Refused.ensures.lone (c.tries.invariant.2.places ∙ all)

@@ -9,8 +9,8 @@ use Rattle.owner_events.proofs.Following.{all_too}
 use Rattle.owner_events.proofs.Doing.{here_too}
 use Rattle.owner_events.proofs.Called.{acts, refused_lane, short_of_action}
 use Rattle.owner_events.proofs.Deciding as deciding
-use Rattle.owner_events.specs.Acting.{IsLaneOf}
-use Rattle.owner_events.specs.Holding.{Fails}
+use Rattle.owner_events.specs.Acting.{AtLane}
+use Rattle.owner_events.specs.Holding.{FailsBy}
 use Rattle.owner_events.specs.declared.refused.ActRefused.TheVariants.{Busy}
 use Rattle.turn_table.specs.declared.held.Held.{Held}
 use Rattle.owner_events.proofs.acting.act.Goals as goal
@@ -35,7 +35,7 @@ returns-in-Ok-clause-lone c all =
 
 pub returns-in-Err-Busy-clause-seat : goal.returns-in-Err-Busy-clause-seat
 returns-in-Err-Busy-clause-seat c =
-    inl (subst (λ (h : Held). Fails (IsLaneOf c.args.deque) c.args.seat.now (Busy h) c.come_to_next.new.seat) (sym c.in-Err-Busy.held-is)
+    inl (subst (λ (h : Held). FailsBy (AtLane c.args.deque) c.args.seat.now (Busy h) c.come_to_next.new.seat) (sym c.in-Err-Busy.held-is)
     (refused_lane c.args.seat.now c.come_to_next.new.seat c.args.deque c.in-Err-Busy.held c.requires.may.free
     (subst (λ (e : AdvanceRefused). HasCome (key_of c.args.row.now) c.args.seat.now c.args.deque c.come_to_next.new.memory (Err e) c.come_to_next.new.seat)
     c.in-Err-Busy.field-0-is c.in-Err-Busy.ensures.seat)))

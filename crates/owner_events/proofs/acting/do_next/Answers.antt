@@ -1,7 +1,10 @@
 use Rattle.std.proofs.Common.{sym, subst}
+use Rattle.std.specs.Prelude.{None}
 use Rattle.turn_table.specs.Tables.{key_of}
 use Rattle.owner_events.specs.Acting.{Does}
 use Rattle.owner_events.proofs.Deciding as deciding
+use Rattle.owner_events.proofs.Showing.{ready_is_due}
+use Rattle.owner_events.specs.Decided.{IsDue}
 use Rattle.owner_acts.specs.Quotas.{MayUse}
 use Rattle.owner_acts.specs.WithPool.{IsWithPool}
 use Rattle.owner_events.specs.Ready.{IsReadyTo}
@@ -76,3 +79,21 @@ pub end-requires-clause-uses : goal.end-requires-clause-uses
 end-requires-clause-uses c = subst (λ n. MayUse (key_of c.args.row.now) c.args.seat.now.hand.note.worker n c.args.charge c.args.at.top c.args.at.running.period)
     c.in-End.is (deciding.may_use (key_of c.args.row.now) c.args.seat.now c.args.deque c.args.at c.args.next c.args.memory.now c.requires.ready
     c.args.charge c.requires.uses)
+
+pub do_with_pool-requires-clause-due : goal.do_with_pool-requires-clause-due
+do_with_pool-requires-clause-due c = ready_is_due (key_of c.args.row.now) c.args.at c.args.charge c.args.next c.requires.uses
+
+pub do_with_pool-requires-in-Alloc-clause-due : goal.do_with_pool-requires-in-Alloc-clause-due
+do_with_pool-requires-in-Alloc-clause-due c = subst (λ n. IsDue (key_of c.args.row.now) c.args.at n None) c.in-Alloc.is
+    (ready_is_due (key_of c.args.row.now) c.args.at c.args.charge c.args.next c.requires.uses)
+
+pub do_with_pool-requires-in-Release-clause-due : goal.do_with_pool-requires-in-Release-clause-due
+do_with_pool-requires-in-Release-clause-due c = tt
+
+pub do_with_pool-requires-in-Fault-clause-due : goal.do_with_pool-requires-in-Fault-clause-due
+do_with_pool-requires-in-Fault-clause-due c = tt
+
+pub join_delivered-requires-clause-due : goal.join_delivered-requires-clause-due
+join_delivered-requires-clause-due c =
+    (subst (λ n. IsReadiness c.args.at.running.period.used (quota_of (key_of c.args.row.now)) c.args.at.top n (Ready c.args.charge)) c.in-Join.is
+    c.requires.uses).0

@@ -2,6 +2,7 @@ use Rattle.std.proofs.Common.{sym, subst}
 use Rattle.turn_table.specs.Tables.{key_of}
 use Rattle.owner_events.specs.Acting.{Does}
 use Rattle.owner_events.proofs.Deciding as deciding
+use Rattle.owner_events.proofs.Showing.{is_spent}
 use Rattle.owner_events.specs.Ready.{IsReadyTo}
 use Rattle.thread_actions.specs.Readiness.{IsReadiness}
 use Rattle.thread_actions.specs.declared.readiness.Readiness.TheVariants.{Ready, Spent, Missing}
@@ -18,8 +19,7 @@ pub take_list_and_do-requires-clause-ready : goal.take_list_and_do-requires-clau
 take_list_and_do-requires-clause-ready c = (
   c.args.next,
   c.requires.ready,
-  deciding.too_much (key_of c.args.row.now) c.args.seat.now c.args.deque c.args.at c.args.next c.args.memory.now
-      c.requires.ready
+  is_spent (key_of c.args.row.now) c.args.at c.args.next
       (subst (λ k. IsReadiness c.args.at.running.period.used (quota_words k) c.args.at.top c.args.next Spent) (sym c.requires.quota) c.in-Spent.ensures),
 )
 
@@ -45,5 +45,5 @@ returns-in-Missing-clause-seat c =
 
 pub returns-in-Spent-clause-seat : goal.returns-in-Spent-clause-seat
 returns-in-Spent-clause-seat c = c.take_list_and_do.ensures.seat c.args.next c.requires.ready
-    (deciding.too_much (key_of c.args.row.now) c.args.seat.now c.args.deque c.args.at c.args.next c.args.memory.now c.requires.ready
+    (is_spent (key_of c.args.row.now) c.args.at c.args.next
     (subst (λ k. IsReadiness c.args.at.running.period.used (quota_words k) c.args.at.top c.args.next Spent) (sym c.requires.quota) c.in-Spent.ensures))

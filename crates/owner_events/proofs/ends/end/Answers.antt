@@ -15,3 +15,6 @@ do_with_pool-requires-clause-suits c =
     (with_lane (key_of c.args.row.now) c.args.seat.now c.args.deque c.args.at nexts.End (spare c.args.memory.now.births) h) c.requires.ready.meets
     (comes (key_of c.args.row.now) c.args.seat.now c.args.deque (its_lane c.args.deque) c.args.at nexts.End (spare c.args.memory.now.births) h) in
     (reads.forked above, above, reads.below)
+
+pub do_with_pool-requires-clause-due : goal.do_with_pool-requires-clause-due
+do_with_pool-requires-clause-due c = tt

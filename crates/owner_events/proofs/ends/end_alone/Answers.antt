@@ -5,7 +5,10 @@ use Rattle.turn_table.specs.Tables.{key_of}
 use Rattle.hall_slots.specs.declared.slot.Slot.TheVariants as slots
 use Rattle.owner_events.specs.Acting.{Does}
 use Rattle.owner_events.proofs.Doing.{exit, here_too}
-use Rattle.owner_events.proofs.Failing.{at_list}
+use Rattle.owner_events.proofs.Failing.{fails_too}
+use Rattle.owner_events.proofs.Refusals.{list_refusal}
+use Rattle.owner_events.specs.Holding.{AtList}
+use Rattle.owner_events.specs.Refusing.{IsRefusal}
 use Rattle.owner_events.proofs.Following.{all_too}
 use Rattle.owner_events.proofs.Listed as listed
 use Rattle.owner_events.proofs.ends.end_alone.Goals as goal
@@ -14,8 +17,9 @@ pub returns-in_err-at-clause-seat : goal.returns-in_err-at-clause-seat
 returns-in_err-at-clause-seat c =
     exit (λ r. Does (key_of c.args.row.now) c.args.seat.now c.args.deque c.args.at nexts.End r c.take_open_list.new.seat)
     c.from_residual.result c.in_err-at.field-0.0 c.from_residual.ensures.1
-    (at_list (key_of c.args.row.now) c.args.at nexts.End c.args.seat.now c.take_open_list.new.seat c.in_err-at.field-0.0
-    (inl c.requires.alone) (c.in_err-at.ensures.seat nexts.End (spare c.args.memory.now.births) c.requires.ready.before))
+    (fails_too AtList (IsRefusal (key_of c.args.row.now) c.args.deque c.args.at nexts.End) c.in_err-at.field-0.0
+    (λ more. list_refusal (key_of c.args.row.now) c.args.deque c.args.at nexts.End (inl c.requires.alone) more c.in_err-at.field-0.0)
+    c.args.seat.now c.take_open_list.new.seat (c.in_err-at.ensures.seat nexts.End (spare c.args.memory.now.births) c.requires.ready.before))
 
 pub do_with_list-requires-clause-here : goal.do_with_list-requires-clause-here
 do_with_list-requires-clause-here c = let takes = c.in_ok-at.ensures.seat nexts.End (spare c.args.memory.now.births) c.requires.ready.before in
@@ -32,7 +36,7 @@ do_with_list-requires-clause-ready c = let takes = c.in_ok-at.ensures.seat nexts
 pub returns-then-is_root-clause-seat : goal.returns-then-is_root-clause-seat
 returns-then-is_root-clause-seat c = let takes = c.in_ok-at.ensures.seat nexts.End (spare c.args.memory.now.births) c.requires.ready.before in
     listed.does (key_of c.args.row.now) c.args.seat.now c.take_open_list.new.seat c.args.deque c.args.at c.in_ok-at.at nexts.End c.args.memory.now
-    c.in_ok-at.list takes.0 takes.1 (inl c.requires.alone) c.do_with_list.result c.do_with_list.new.seat (c.do_with_list.ensures.seat nexts.End
+    c.in_ok-at.list takes.0 takes.1 c.do_with_list.result c.do_with_list.new.seat (c.do_with_list.ensures.seat nexts.End
     (listed.opened (key_of c.args.row.now) c.args.seat.now c.take_open_list.new.seat c.args.deque c.args.at c.in_ok-at.at nexts.End c.args.memory.now
     c.in_ok-at.list takes.0 takes.1 c.requires.ready c.in_ok-at.ensures.meets)
     (refl, search rules, subst (λ a. a.lane.items ≡ []) (sym takes.0) c.requires.alone))
@@ -52,7 +56,7 @@ do_with_all-requires-clause-ready c = let takes = c.in_ok-at.ensures.seat nexts.
 pub returns-then-is_awaited-clause-seat : goal.returns-then-is_awaited-clause-seat
 returns-then-is_awaited-clause-seat c = let takes = c.in_ok-at.ensures.seat nexts.End (spare c.args.memory.now.births) c.requires.ready.before in
     listed.does (key_of c.args.row.now) c.args.seat.now c.take_open_list.new.seat c.args.deque c.args.at c.in_ok-at.at nexts.End c.args.memory.now
-    c.in_ok-at.list takes.0 takes.1 (inl c.requires.alone) c.do_with_all.result c.do_with_all.new.seat (c.do_with_all.ensures.seat nexts.End
+    c.in_ok-at.list takes.0 takes.1 c.do_with_all.result c.do_with_all.new.seat (c.do_with_all.ensures.seat nexts.End
     (listed.opened (key_of c.args.row.now) c.args.seat.now c.take_open_list.new.seat c.args.deque c.args.at c.in_ok-at.at nexts.End c.args.memory.now
     c.in_ok-at.list takes.0 takes.1 c.requires.ready c.in_ok-at.ensures.meets)
     (refl, search (rules, c.is_root.ensures.forked), subst (λ a. a.lane.items ≡ []) (sym takes.0) c.requires.alone, search rules))
@@ -76,7 +80,7 @@ do_with_all-requires-2-clause-ready c = let takes = c.in_ok-at.ensures.seat next
 pub returns-clause-seat : goal.returns-clause-seat
 returns-clause-seat c = let takes = c.in_ok-at.ensures.seat nexts.End (spare c.args.memory.now.births) c.requires.ready.before in
     listed.does (key_of c.args.row.now) c.args.seat.now c.take_open_list.new.seat c.args.deque c.args.at c.in_ok-at.at nexts.End c.args.memory.now
-    c.in_ok-at.list takes.0 takes.1 (inl c.requires.alone) c.do_with_all-2.result c.do_with_all-2.new.seat (c.do_with_all-2.ensures.seat nexts.End
+    c.in_ok-at.list takes.0 takes.1 c.do_with_all-2.result c.do_with_all-2.new.seat (c.do_with_all-2.ensures.seat nexts.End
     (listed.opened (key_of c.args.row.now) c.args.seat.now c.take_open_list.new.seat c.args.deque c.args.at c.in_ok-at.at nexts.End c.args.memory.now
     c.in_ok-at.list takes.0 takes.1 c.requires.ready c.in_ok-at.ensures.meets)
     (refl, search (rules, c.is_root.ensures.forked), subst (λ a. a.lane.items ≡ []) (sym takes.0) c.requires.alone, search rules))

@@ -8,7 +8,10 @@ use Rattle.turn_table.specs.Tables.{key_of}
 use Rattle.hall_slots.specs.declared.slot.Slot.TheVariants as slots
 use Rattle.owner_events.specs.Acting.{Does}
 use Rattle.owner_events.proofs.Doing.{exit, here_too}
-use Rattle.owner_events.proofs.Failing.{at_list}
+use Rattle.owner_events.proofs.Failing.{fails_too}
+use Rattle.owner_events.proofs.Refusals.{list_refusal}
+use Rattle.owner_events.specs.Holding.{AtList}
+use Rattle.owner_events.specs.Refusing.{IsRefusal}
 use Rattle.owner_events.proofs.Following.{all_too}
 use Rattle.owner_events.proofs.Listed as listed
 use Rattle.owner_events.proofs.joins.join_missing.Goals as goal
@@ -17,8 +20,9 @@ pub returns-in_err-at-clause-seat : goal.returns-in_err-at-clause-seat
 returns-in_err-at-clause-seat c =
     exit (λ r. Does (key_of c.args.row.now) c.args.seat.now c.args.deque c.args.at (nexts.Join c.args.child) r c.take_open_list.new.seat)
     c.from_residual.result c.in_err-at.field-0.0 c.from_residual.ensures.1
-    (at_list (key_of c.args.row.now) c.args.at (nexts.Join c.args.child) c.args.seat.now c.take_open_list.new.seat c.in_err-at.field-0.0
-    (inl c.requires.missing) (c.in_err-at.ensures.seat (nexts.Join c.args.child) (spare c.args.memory.now.births) c.requires.ready.before))
+    (fails_too AtList (IsRefusal (key_of c.args.row.now) c.args.deque c.args.at (nexts.Join c.args.child)) c.in_err-at.field-0.0
+    (λ more. list_refusal (key_of c.args.row.now) c.args.deque c.args.at (nexts.Join c.args.child) (inl c.requires.missing) more c.in_err-at.field-0.0)
+    c.args.seat.now c.take_open_list.new.seat (c.in_err-at.ensures.seat (nexts.Join c.args.child) (spare c.args.memory.now.births) c.requires.ready.before))
 
 pub do_with_list-requires-clause-here : goal.do_with_list-requires-clause-here
 do_with_list-requires-clause-here c = let takes = c.in_ok-at.ensures.seat (nexts.Join c.args.child) (spare c.args.memory.now.births) c.requires.ready.before in
@@ -38,7 +42,7 @@ pub returns-in-None-clause-seat : goal.returns-in-None-clause-seat
 returns-in-None-clause-seat c = let takes = c.in_ok-at.ensures.seat (nexts.Join c.args.child) (spare c.args.memory.now.births) c.requires.ready.before in
     listed.does (key_of c.args.row.now) c.args.seat.now c.take_open_list.new.seat c.args.deque c.args.at c.in_ok-at.at (nexts.Join c.args.child)
     c.args.memory.now
-    c.in_ok-at.list takes.0 takes.1 (inl c.requires.missing) c.do_with_list.result c.do_with_list.new.seat
+    c.in_ok-at.list takes.0 takes.1 c.do_with_list.result c.do_with_list.new.seat
     (c.do_with_list.ensures.seat (nexts.Join c.args.child)
     (listed.opened (key_of c.args.row.now) c.args.seat.now c.take_open_list.new.seat c.args.deque c.args.at c.in_ok-at.at (nexts.Join c.args.child)
     c.args.memory.now
@@ -70,7 +74,7 @@ pub returns-in-Some-eq0-clause-seat : goal.returns-in-Some-eq0-clause-seat
 returns-in-Some-eq0-clause-seat c = let takes = c.in_ok-at.ensures.seat (nexts.Join c.args.child) (spare c.args.memory.now.births) c.requires.ready.before in
     listed.does (key_of c.args.row.now) c.args.seat.now c.take_open_list.new.seat c.args.deque c.args.at c.in_ok-at.at (nexts.Join c.args.child)
     c.args.memory.now
-    c.in_ok-at.list takes.0 takes.1 (inl c.requires.missing) c.do_with_list-in-Some-eq0.result c.do_with_list-in-Some-eq0.new.seat
+    c.in_ok-at.list takes.0 takes.1 c.do_with_list-in-Some-eq0.result c.do_with_list-in-Some-eq0.new.seat
     (c.do_with_list-in-Some-eq0.ensures.seat (nexts.Join c.args.child)
     (listed.opened (key_of c.args.row.now) c.args.seat.now c.take_open_list.new.seat c.args.deque c.args.at c.in_ok-at.at (nexts.Join c.args.child)
     c.args.memory.now
@@ -106,7 +110,7 @@ pub returns-in-Some-clause-seat : goal.returns-in-Some-clause-seat
 returns-in-Some-clause-seat c = let takes = c.in_ok-at.ensures.seat (nexts.Join c.args.child) (spare c.args.memory.now.births) c.requires.ready.before in
     listed.does (key_of c.args.row.now) c.args.seat.now c.take_open_list.new.seat c.args.deque c.args.at c.in_ok-at.at (nexts.Join c.args.child)
     c.args.memory.now
-    c.in_ok-at.list takes.0 takes.1 (inl c.requires.missing) c.do_with_all.result c.do_with_all.new.seat (c.do_with_all.ensures.seat (nexts.Join c.args.child)
+    c.in_ok-at.list takes.0 takes.1 c.do_with_all.result c.do_with_all.new.seat (c.do_with_all.ensures.seat (nexts.Join c.args.child)
     (listed.opened (key_of c.args.row.now) c.args.seat.now c.take_open_list.new.seat c.args.deque c.args.at c.in_ok-at.at (nexts.Join c.args.child)
     c.args.memory.now
     c.in_ok-at.list takes.0 takes.1 c.requires.ready c.in_ok-at.ensures.meets) (

@@ -1,12 +1,10 @@
-use Rattle.std.proofs.Common.{◌∙◌, refl}
+use Rattle.std.proofs.Common.{◌∙◌}
 use Rattle.std.specs.Prelude.{None}
 use Rattle.containers.specs.BoundedList.{spare}
 use Rattle.turn_table.specs.Tables.{key_of}
 use Rattle.owner_acts.specs.WithList.{is_action}
 use Rattle.owner_events.specs.Acting.{DoesWithList}
-use Rattle.owner_events.specs.Needs.{MayTry}
 use Rattle.owner_events.proofs.Doing.{exit}
-use Rattle.owner_events.proofs.Failing.{at_none}
 use Rattle.owner_events.proofs.Listed as listed
 use Rattle.owner_events.proofs.lists.do_with_list.Goals as goal
 
@@ -21,7 +19,8 @@ stop_short-requires-clause-before c = let r = c.requires.ready in (
 
 pub returns-in-Err-clause-seat : goal.returns-in-Err-clause-seat
 returns-in-Err-clause-seat c next ready asked =
-    at_none (MayTry (key_of c.args.row.now) c.args.at next) c.args.seat.now c.stop_short.new.seat c.stop_short.result c.stop_short.ensures.seat
+    listed.memory_fails (key_of c.args.row.now) c.args.seat.now c.args.deque c.args.at next (spare c.args.memory.now.births) c.args.list
+    c.make_room_for.new.list ready.before ready.no_end c.args.event asked c.stop_short.result c.stop_short.new.seat c.stop_short.ensures.seat
 
 pub count_for-requires-clause-before : goal.count_for-requires-clause-before
 count_for-requires-clause-before c = let r = c.requires.ready in (
@@ -34,10 +33,10 @@ count_for-requires-clause-before c = let r = c.requires.ready in (
 
 pub returns-in_err-at-clause-seat : goal.returns-in_err-at-clause-seat
 returns-in_err-at-clause-seat c next ready asked =
-    exit (λ r. DoesWithList (key_of c.args.row.now) c.args.seat.now c.args.deque c.args.at next r c.count_for.new.seat)
+    exit (λ r. DoesWithList (key_of c.args.row.now) c.args.seat.now c.args.deque c.args.at next c.args.list r c.count_for.new.seat)
     c.from_residual.result c.in_err-at.field-0.0 c.from_residual.ensures.1
     (listed.fails (key_of c.args.row.now) c.args.seat.now c.args.deque c.args.at next (spare c.args.memory.now.births) c.args.list
-    c.make_room_for.new.list ready.before c.in_err-at.field-0.0 c.count_for.new.seat (is_action c.args.event)
+    c.make_room_for.new.list ready.before ready.no_end c.args.event asked c.in_err-at.field-0.0 c.count_for.new.seat
     (c.in_err-at.ensures.seat next (spare c.args.memory.now.births) c.args.list
     (listed.more_for c.args.event c.args.list c.make_room_for.new.list c.make_room_for.ensures.same) ready.before))
 
@@ -69,9 +68,9 @@ returns-clause-seat c next ready asked =
       pool = None;
       count = listed.count_of (key_of c.args.row.now) c.args.seat.now c.args.deque c.args.at next (spare c.args.memory.now.births) c.args.list
           c.make_room_for.new.list ready.before c.in_ok-at.at c.in_ok-at.list c.count_for.new.seat (is_action c.args.event) counts;
-      owns = listed.owns c.args.at c.args.deque c.args.event done.result.0 done.result.1 notes;
-      lists = listed.needs (key_of c.args.row.now) c.args.list c.args.at next c.args.deque c.args.event asked done.result.0 done.result.1 notes;
-      pools = λ some. absurd (some refl);
+      decides = listed.decides (key_of c.args.row.now) c.args.seat.now c.args.deque c.args.at next (spare c.args.memory.now.births) c.args.list
+          c.make_room_for.new.list ready.before c.in_ok-at.at c.in_ok-at.list c.count_for.new.seat ready.meets ready.no_end c.args.event asked counts
+          done.result.0 done.result.1 notes;
       leaves = listed.leaves (key_of c.args.row.now) c.args.seat.now c.args.deque c.args.at next (spare c.args.memory.now.births) c.args.list
           c.make_room_for.new.list ready.before c.in_ok-at.at c.in_ok-at.list c.count_for.new.seat (is_action c.args.event) counts
           done.result.1 done.result.0 done.new.seat done.ensures.seat;

@@ -1,12 +1,15 @@
 use Rattle.std.proofs.Common.{◌+◌, ◌≤◌, arith}
-use Rattle.std.specs.Prelude.{Ok}
 use Rattle.containers.specs.BoundedList.{spare}
 use Rattle.language_limits.specs.declared.TheConstants.{GREATEST_QUOTA}
 use Rattle.turn_table.specs.Tables.{key_of}
-use Rattle.owner_acts.specs.WithPool.{IsWithPool}
+use Rattle.owner_acts.specs.WithPool.{IsWithPool, words_asked_by}
 use Rattle.owner_events.proofs.Asking.{asks}
 use Rattle.owner_events.proofs.Doing.{exit, here_too}
-use Rattle.owner_events.proofs.Failing.{at_pool, needs_pool}
+use Rattle.owner_events.proofs.Failing.{fails_too}
+use Rattle.owner_events.proofs.Refusals.{pool_refusal}
+use Rattle.owner_events.proofs.Showing.{named}
+use Rattle.owner_events.specs.Holding.{AtPoolOrThen}
+use Rattle.owner_events.specs.Refusing.{IsRefusal}
 use Rattle.owner_events.proofs.FromPool as pool
 use Rattle.owner_events.specs.Acting.{Does}
 use Rattle.owner_events.proofs.pools.do_with_pool.Goals as goal
@@ -18,8 +21,11 @@ take_counted_pool-requires-clause-asks c = asks (key_of c.args.row.now) c.args.a
 pub returns-in_err-at-clause-seat : goal.returns-in_err-at-clause-seat
 returns-in_err-at-clause-seat c = exit (λ r. Does (key_of c.args.row.now) c.args.seat.now c.args.deque c.args.at c.args.next r c.take_counted_pool.new.seat)
     c.from_residual.result c.in_err-at.field-0.0 c.from_residual.ensures.1
-    (at_pool (key_of c.args.row.now) c.args.at c.args.next c.args.seat.now c.take_counted_pool.new.seat c.in_err-at.field-0.0
-    (needs_pool c.args.at c.args.next c.requires.suits) (c.in_err-at.ensures.seat (spare c.args.memory.now.births) c.requires.ready.before))
+    (fails_too (AtPoolOrThen (key_of c.args.row.now).actions (words_asked_by c.args.next))
+    (IsRefusal (key_of c.args.row.now) c.args.deque c.args.at c.args.next) c.in_err-at.field-0.0
+    (λ more. pool_refusal (key_of c.args.row.now) c.args.deque c.args.at c.args.next c.requires.suits c.requires.due (named c.args.at.top) more
+    c.in_err-at.field-0.0) c.args.seat.now c.take_counted_pool.new.seat
+    (c.in_err-at.ensures.seat (spare c.args.memory.now.births) c.requires.ready.before))
 
 pub act_with_pool-name-requires-clause-here : goal.act_with_pool-name-requires-clause-here
 act_with_pool-name-requires-clause-here c = here_too c.args.row.now c.args.seat.now c.take_counted_pool.new.seat
@@ -66,4 +72,4 @@ act_with_pool-name-requires-clause-suits c = pool.so (key_of c.args.row.now) c.a
 pub returns-clause-seat : goal.returns-clause-seat
 returns-clause-seat c = pool.done (key_of c.args.row.now) c.args.seat.now c.args.deque c.args.at c.args.next (spare c.args.memory.now.births)
     c.in_ok-at.at c.in_ok-at.pool c.take_counted_pool.new.seat (c.in_ok-at.ensures.seat (spare c.args.memory.now.births) c.requires.ready.before)
-    c.act_with_pool-name.result c.act_with_pool-name.new.seat (needs_pool c.args.at c.args.next c.requires.suits) c.act_with_pool-name.ensures.seat
+    c.act_with_pool-name.result c.act_with_pool-name.new.seat c.requires.suits c.requires.due c.act_with_pool-name.ensures.seat

@@ -1,4 +1,4 @@
-use Rattle.std.proofs.Common.{sym, subst}
+use Rattle.std.proofs.Common.{inl, sym, subst}
 use Rattle.turn_table.specs.Tables.{key_of}
 use Rattle.owner_acts.specs.Passed.Taken.{pool_and_lane}
 use Rattle.owner_events.proofs.CountedPool.{counts_pool}
@@ -10,7 +10,7 @@ use Rattle.owner_events.proofs.pools.take_counted_pool.Goals as goal
 
 pub returns-in_err-at-clause-seat : goal.returns-in_err-at-clause-seat
 returns-in_err-at-clause-seat c ready b = exit (λ r. CountsPool (key_of c.args.row.now) c.args.seat.now c.args.deque c.args.at c.args.next ready r c.take_pool_for.new.seat)
-    c.from_residual.result c.in_err-at.field-0.0 c.from_residual.ensures.1 (c.in_err-at.ensures.seat ready b)
+    c.from_residual.result c.in_err-at.field-0.0 c.from_residual.ensures.1 (let f = c.in_err-at.ensures.seat ready b in (f.0, inl f.1, f.2))
 
 pub count_with_pool-requires-clause-here : goal.count_with_pool-requires-clause-here
 count_with_pool-requires-clause-here c = here_too c.args.row.now c.args.seat.now c.take_pool_for.new.seat (c.in_ok-at.ensures.seat c.requires.before.0 c.requires.before.1).1.taken c.requires.here

@@ -2,7 +2,8 @@ use Rattle.std.proofs.Common.{◌+◌, ◌≤◌, ◌<◌, refl, subst}
 use Rattle.turn_table.specs.Tables.{key_of}
 use Rattle.owner_acts.specs.Passed.Taken.{its_lane}
 use Rattle.hall_slots.specs.declared.slot.Slot.TheVariants as slots
-use Rattle.owner_events.specs.Holding.{IsPoolSlot}
+use Rattle.owner_acts.specs.WithPool.{words_asked_by}
+use Rattle.owner_events.specs.Holding.{AtPool}
 use Rattle.owner_events.proofs.Following.{is_before}
 use Rattle.owner_events.proofs.Trying.{busy, full_fails, pool_sound, stop_back}
 use Rattle.owner_events.proofs.taking.take_pool_for.Goals as goal
@@ -25,7 +26,8 @@ returns-in-None-clause-seat c ready b = let pool = c.in-Ok.pool in (
 )
 
 pub returns-in-Err-clause-seat : goal.returns-in-Err-clause-seat
-returns-in-Err-clause-seat c ready b = busy c.args.seat.now c.take_pool.new.seat 1 c.in-Err.held c.in-Err.ensures.seat IsPoolSlot c.in-Err.ensures.seat.0 c.give_lane.new.seat c.give_lane.ensures
+returns-in-Err-clause-seat c ready b = busy c.args.seat.now c.take_pool.new.seat 1 c.in-Err.held c.in-Err.ensures.seat
+    (AtPool (words_asked_by c.args.next)) (c.in-Err.ensures.seat.0, refl) c.give_lane.new.seat c.give_lane.ensures
 
 pub returns-in-Some-clause-seat : goal.returns-in-Some-clause-seat
 returns-in-Some-clause-seat c ready b = let pool = c.in-Ok.pool in

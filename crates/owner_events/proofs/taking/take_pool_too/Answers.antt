@@ -4,7 +4,7 @@ use Rattle.owner_acts.specs.Passed.Taken.{list_and_lane}
 use Rattle.hall_slots.specs.declared.slot.Slot.TheVariants as slots
 use Rattle.owner_acts.proofs.Passed.Noting.{nothing_may_be_noted}
 use Rattle.owner_acts.proofs.Passed.Returned.{same_list}
-use Rattle.owner_events.specs.Holding.{IsPoolSlot}
+use Rattle.owner_events.specs.Holding.{AtPoolAlone}
 use Rattle.owner_events.proofs.Following.{is_before}
 use Rattle.owner_events.proofs.Trying.{busy, pool_sound, still_holding}
 use Rattle.owner_events.proofs.taking.take_pool_too.Goals as goal
@@ -33,4 +33,5 @@ returns-in-Ok-clause-seat c next ready b = (
 )
 
 pub returns-in-Err-clause-seat : goal.returns-in-Err-clause-seat
-returns-in-Err-clause-seat c next ready b = busy c.args.seat.now c.take_pool.new.seat 1 c.in-Err.held c.in-Err.ensures.seat IsPoolSlot c.in-Err.ensures.seat.0 c.give_list.new.seat c.give_list.ensures
+returns-in-Err-clause-seat c next ready b = busy c.args.seat.now c.take_pool.new.seat 1 c.in-Err.held c.in-Err.ensures.seat AtPoolAlone
+    (c.in-Err.ensures.seat.0, refl) c.give_list.new.seat c.give_list.ensures

@@ -1,25 +1,21 @@
-use Rattle.std.proofs.Common.{inr, refl, subst}
+use Rattle.std.proofs.Common.{subst}
 use Rattle.std.specs.Prelude.{Some}
 use Rattle.containers.specs.BoundedList.{spare}
 use Rattle.turn_table.specs.Tables.{key_of}
 use Rattle.hall_slots.specs.declared.event.Event.TheVariants.{Did}
 use Rattle.hall_slots.specs.declared.list_slot.ListSlot.{ListSlot}
-use Rattle.hall_slots.specs.declared.slot.Slot.TheVariants as slots
 use Rattle.owner_acts.specs.WithAll.{HasMoreWith}
 use Rattle.owner_events.specs.Acting.{DoesWithList}
-use Rattle.owner_events.specs.Needs.{MayTry}
 use Rattle.owner_events.proofs.Doing.{exit, here_too}
-use Rattle.owner_events.proofs.Failing.{at_none, at_pool}
-use Rattle.owner_events.proofs.Following.{fails}
 use Rattle.owner_events.proofs.WithAll as all
 use Rattle.owner_events.proofs.wholes.do_with_all.Goals as goal
 
 pub returns-in_err-at-clause-seat : goal.returns-in_err-at-clause-seat
 returns-in_err-at-clause-seat c next ready asked =
-    exit (λ r. DoesWithList (key_of c.args.row.now) c.args.seat.now c.args.deque c.args.at next r c.take_pool_too.new.seat)
+    exit (λ r. DoesWithList (key_of c.args.row.now) c.args.seat.now c.args.deque c.args.at next c.args.list r c.take_pool_too.new.seat)
     c.from_residual.result c.in_err-at.field-0.0 c.from_residual.ensures.1
-    (at_pool (key_of c.args.row.now) c.args.at next c.args.seat.now c.take_pool_too.new.seat c.in_err-at.field-0.0
-    (all.needs_pool_too c.args.list c.args.at next c.args.event asked) (c.in_err-at.ensures.seat next (spare c.args.memory.now.births) ready.before))
+    (all.pool_fails (key_of c.args.row.now) c.args.deque c.args.list c.args.at next ready.no_end c.args.event asked c.in_err-at.field-0.0
+    c.take_pool_too.new.seat c.args.seat.now (c.in_err-at.ensures.seat next (spare c.args.memory.now.births) ready.before))
 
 pub stop_with_all-requires-clause-here : goal.stop_with_all-requires-clause-here
 stop_with_all-requires-clause-here c = let r = c.requires.ready in
@@ -52,10 +48,8 @@ count_with_all-requires-clause-before c = let r = c.requires.ready in
 pub returns-in-Err-clause-seat : goal.returns-in-Err-clause-seat
 returns-in-Err-clause-seat c next ready asked =
     let takes = c.in_ok-at.ensures.seat next (spare c.args.memory.now.births) ready.before in
-    fails c.args.seat.now c.take_pool_too.new.seat 1 (slots.Pool c.in_ok-at.pool) takes.2.taken c.stop_with_all.new.seat
-    (MayTry (key_of c.args.row.now) c.args.at next) (inr (refl, all.needs_pool_too c.args.list c.args.at next c.args.event asked)) c.stop_with_all.result
-    (at_none (MayTry (key_of c.args.row.now) c.args.at next) c.take_pool_too.new.seat c.stop_with_all.new.seat c.stop_with_all.result
-    c.stop_with_all.ensures.seat)
+    all.memory_fails (key_of c.args.row.now) c.args.deque c.args.list c.args.at next ready.no_end c.args.event asked c.stop_with_all.result
+    c.stop_with_all.new.seat c.args.seat.now c.take_pool_too.new.seat c.in_ok-at.pool takes.2.taken takes.2.sound.within c.stop_with_all.ensures.seat
 
 pub returns-in_err-at-2-clause-seat : goal.returns-in_err-at-2-clause-seat
 returns-in_err-at-2-clause-seat c next ready asked =
@@ -64,12 +58,11 @@ returns-in_err-at-2-clause-seat c next ready asked =
     let room = all.more_with c.args.event c.args.list c.make_room_with.new.list more in
     let then = all.then (key_of c.args.row.now) c.args.seat.now c.args.deque c.args.at next (spare c.args.memory.now.births) c.args.list c.in_ok-at.pool
     c.take_pool_too.new.seat takes.2 c.in_ok-at.ensures.meets c.in_ok-at.at takes.0 in
-    exit (λ r. DoesWithList (key_of c.args.row.now) c.args.seat.now c.args.deque c.args.at next r c.count_with_all.new.seat)
+    exit (λ r. DoesWithList (key_of c.args.row.now) c.args.seat.now c.args.deque c.args.at next c.args.list r c.count_with_all.new.seat)
     c.from_residual-in_err-at-2.result c.in_err-at-2.field-0.0 c.from_residual-in_err-at-2.ensures.1
-    (fails c.args.seat.now c.take_pool_too.new.seat 1 (slots.Pool c.in_ok-at.pool) takes.2.taken c.count_with_all.new.seat
-    (MayTry (key_of c.args.row.now) c.args.at next) (inr (refl, all.needs_pool_too c.args.list c.args.at next c.args.event asked)) c.in_err-at-2.field-0.0
-    (at_none (MayTry (key_of c.args.row.now) c.args.at next) c.take_pool_too.new.seat c.count_with_all.new.seat c.in_err-at-2.field-0.0
-    (c.in_err-at-2.ensures.seat next (spare c.args.memory.now.births) c.args.list room then)))
+    (all.then_fails (key_of c.args.row.now) c.args.deque c.args.list c.args.at next ready.no_end c.args.event asked c.in_err-at-2.field-0.0
+    c.count_with_all.new.seat c.args.seat.now c.take_pool_too.new.seat c.in_ok-at.pool takes.2.taken takes.2.sound.within
+    (c.in_err-at-2.ensures.seat next (spare c.args.memory.now.births) c.args.list room then))
 
 pub act_with_all-done-requires-clause-here : goal.act_with_all-done-requires-clause-here
 act_with_all-done-requires-clause-here c = let r = c.requires.ready in
@@ -109,9 +102,8 @@ returns-clause-seat c next ready asked =
     let done = c.act_with_all-done in record {
       pool = Some c.in_ok-at.pool;
       count = Some counts.4.found;
-      owns = all.owns_then c.args.event c.args.deque done.result.1 done.ensures.owned;
-      lists = all.needs_list c.args.list c.args.at next c.args.event asked;
-      pools = λ some. all.needs_pool_too c.args.list c.args.at next c.args.event asked;
+      decides = all.whole_decides (key_of c.args.row.now) c.args.deque c.args.list c.args.at next ready.no_end c.args.event asked c.in_ok-at.pool
+          takes.2.sound.within counts.4.found counts.4.below done.result.0 done.result.1 done.ensures.owned;
       leaves = all.leaves (key_of c.args.row.now) c.args.seat.now c.args.deque c.args.at next (spare c.args.memory.now.births) c.args.list c.in_ok-at.pool
           c.take_pool_too.new.seat
           takes.2 c.in_ok-at.ensures.meets c.in_ok-at.at takes.0 c.make_room_with.new.list c.in_ok-at-2.at c.in_ok-at-2.list c.in_ok-at-2.pool

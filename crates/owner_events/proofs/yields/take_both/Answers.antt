@@ -1,7 +1,7 @@
 use Rattle.std.proofs.Common.{◌+◌}
 use Rattle.hall_slots.specs.declared.slot.Slot.TheVariants as slots
 use Rattle.hall_slots.proofs.Pairing.{both_taken}
-use Rattle.owner_events.proofs.Busy.{busy_lane, busy_list}
+use Rattle.owner_events.proofs.Busy.{busy_list}
 use Rattle.owner_events.proofs.yields.take_both.Goals as goal
 
 pub returns-in-Ok-clause-seat : goal.returns-in-Ok-clause-seat

@@ -4,7 +4,7 @@ use Rattle.owner_acts.specs.Passed.Puts.{note_of, HasPut}
 use Rattle.owner_acts.specs.Passed.Noting.{Noting}
 use Rattle.hall_slots.specs.declared.seat_note.SeatNote.{SeatNote}
 use Rattle.owner_acts.specs.Passed.Returning.{MayNote}
-use Rattle.owner_events.specs.Yielding.{noting_then, short_note, yielded_note}
+use Rattle.owner_events.specs.Yielding.{short_note, yielded_note}
 use Rattle.owner_events.proofs.Yielded as yielded
 use Rattle.owner_events.proofs.yields.yield_deque.Goals as goal
 

@@ -1,0 +1,4 @@
+use Rattle.hall_threads.proofs.tries.keep.Goals as goal
+
+pub returns-in-Err-clause-lone : goal.returns-in-Err-clause-lone
+returns-in-Err-clause-lone c all = absurd (c.in-Err.ensures.lone all)
