@@ -1,0 +1,2 @@
+pub mod MadeProgram
+pub mod Laws
