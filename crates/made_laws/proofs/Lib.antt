@@ -4,3 +4,6 @@ pub mod Numerals
 pub mod GroupTexts
 pub mod Lines
 pub mod Texts
+pub mod Going
+pub mod Runs
+pub mod Sums

@@ -1,2 +1,3 @@
 pub mod MadeProgram
+pub mod MadeRun
 pub mod Laws
