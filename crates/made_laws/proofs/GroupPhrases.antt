@@ -1,20 +1,19 @@
 -- The statements of a made source as phrases, and its groups.
-use Rattle.std.proofs.Common.{◌≡◌, ℕ, suc, ◌≤◌, false, List, [], ◌∷◌, ◌++◌, refl, ap, ◌∙◌}
+use Rattle.std.proofs.Common.{◌≡◌, ℕ, suc, ◌≤◌, List, [], ◌∷◌, ◌++◌, refl, ap, ◌∙◌}
 use Rattle.std.specs.Prelude.{pos, Some, None, codes}
 use Rattle.std.specs.Fmt.{decimal}
-use Rattle.par_tree.specs.Tree.{Name, Expr, num, get, unused, Stmt, alloc_stmt, put_stmt, print_stmt, free_stmt, call_stmt}
+use Rattle.par_tree.specs.Tree.{Name, Expr, num, get, unused, alloc_stmt, put_stmt, print_stmt, free_stmt, call_stmt}
 use Rattle.par_text.specs.Rule.{expression}
 use Rattle.par_text.specs.Lexing.{greatest_number}
-use Rattle.par_text.specs.Grammar.{named, index_rule, number_rule, factor_rule, named_value, allocated, alloc_rule, free_rule, print_rule, written, written_value, write_rule, arg_list, args_rule, answering, callee_rule, plain_call, any_call, call_rule, stmt_rule}
+use Rattle.par_text.specs.Grammar.{named, index_rule, factor_rule, named_value, allocated, alloc_rule, free_rule, print_rule, written, written_value, write_rule, arg_list, args_rule, answering, callee_rule, plain_call, any_call, call_rule, stmt_rule}
 use Rattle.canonical_text.proofs.Claims.{Always}
 use Rattle.canonical_text.proofs.Leaves.{IsName, name_fits, name_token_fits, number_fits}
 use Rattle.canonical_text.proofs.Symbols.{opens-LeftParen, opens-LeftBracket, reads-Alloc, reads-Free, reads-Call, reads-Print, reads-Assign, reads-Semicolon, reads-RightParen, reads-RightBracket}
 use Rattle.loop_laws.proofs.Phrases.{leaf, pair_says, then_says, before_says, first_says, second_says, nothing_says, spaced, nest_says, within_says}
 use Rattle.loop_laws.proofs.Expressions.{IsFactor, IsExpression, zero_number, number, term_alone, factor_alone, sum_alone}
 use Rattle.loop_laws.proofs.TreeLines.{stmt_on}
-use Rattle.loop_laws.proofs.Statements.{IsStatement, IsBody, statement, last_statement, braces, forks}
-use Rattle.made_source.specs.MadeSource.{left_length, right_length}
-use Rattle.made_laws.specs.MadeProgram.{branch_body, group}
+use Rattle.loop_laws.proofs.Statements.{IsStatement, IsBody, statement, last_statement, braces}
+use Rattle.made_laws.specs.MadeProgram.{branch_body}
 
 -- expressions
 

@@ -1,9 +1,8 @@
 -- The line of a group is read as the group.
-use Rattle.std.proofs.Common.{◌≡◌, ℕ, suc, ◌^◌, ◌<◌, ◌≤◌, false, List, [], ◌∷◌, ◌++◌, refl, sym, ap, ◌∙◌, subst, append_assoc, arith}
+use Rattle.std.proofs.Common.{◌≡◌, ℕ, suc, ◌^◌, ◌<◌, false, List, [], ◌++◌, refl, sym, ap, ◌∙◌, subst, append_assoc, arith}
 use Rattle.std.specs.Prelude.{codes}
 use Rattle.std.specs.Fmt.{decimal}
 use Rattle.std.proofs.lemmas.List.{append-nil}
-use Rattle.par_text.specs.Lexing.{greatest_number}
 use Rattle.par_text.specs.Grammar.{stmt_rule}
 use Rattle.canonical_text.proofs.Claims.{Fits, same_fits}
 use Rattle.loop_laws.proofs.Pieces.{OnOneLine}

@@ -1,5 +1,5 @@
 -- The tokens of a text of lines, line by line, and a statement on a line of its own.
-use Rattle.std.proofs.Common.{◌≡◌, ℕ, zero, suc, ◌+◌, ◌≤◌, List, [], ◌∷◌, ◌++◌, map, Ok, inr, refl, sym, ap, ◌∙◌, subst, append_assoc, arith}
+use Rattle.std.proofs.Common.{◌≡◌, ℕ, suc, ◌+◌, List, [], ◌∷◌, ◌++◌, Ok, inr, refl, sym, ap, ◌∙◌, subst, append_assoc, arith}
 use Rattle.std.specs.Prelude.{pos}
 use Rattle.std.specs.List.{list_all}
 use Rattle.std.proofs.lemmas.List.{append-nil}
@@ -17,7 +17,7 @@ use Rattle.canonical_text.proofs.Lexemes.{Allowed, allowed-append, with_tokens, 
 use Rattle.canonical_text.proofs.Written.{Writes, spells, means_of}
 use Rattle.loop_laws.proofs.Joining.{place_after, lines_after, in_front, joined, behind_line}
 use Rattle.loop_laws.proofs.Pieces.{Each, IsOnLine, OnOneLine, same_line, tokens_on_line}
-use Rattle.loop_laws.proofs.TreeLines.{stmt_on, body_on, func_on, tells_func}
+use Rattle.loop_laws.proofs.TreeLines.{stmt_on, tells_func}
 use Rattle.made_source.specs.MadeSource.{line as ended_line}
 
 -- The tokens of bytes in front of whatever follows, and the place and the line after them.

@@ -1,9 +1,6 @@
 -- No rule of ownership refuses a made program.
-use Rattle.std.proofs.Common.{◌≡◌, ℕ, zero, suc, ◌+◌, ◌*◌, ◌^◌, ◌<◌, ◌≤◌, Bool, true, false, cond, List, [], ◌∷◌, ◌++◌, Option, Some, None, Ok, ◌⊎◌, inl, inr, refl, sym, ap, ◌∙◌, arith}
-use Rattle.std.specs.Prelude.{codes, is_none, ◌==◌}
-use Rattle.std.specs.Fmt.{decimal}
-use Rattle.std.specs.Int.{div_ceil}
-use Rattle.std.specs.List.{find}
+use Rattle.std.proofs.Common.{◌≡◌, ℕ, zero, suc, ◌+◌, ◌*◌, ◌^◌, ◌<◌, ◌≤◌, Bool, true, false, cond, List, [], ◌∷◌, ◌++◌, Some, None, Ok, ◌⊎◌, inl, inr, refl, sym, ap, ◌∙◌, arith}
+use Rattle.std.specs.Prelude.{is_none, ◌==◌}
 use Rattle.std.specs.Str.{bytes_eq}
 use Rattle.std.proofs.lemmas.Bool.Decides.{eqb_tells}
 use Rattle.std.proofs.lemmas.Fmt.{decimal_injective}
@@ -11,7 +8,7 @@ use Rattle.std.proofs.lemmas.Grind.{div_ceil_times}
 use Rattle.std.proofs.lemmas.Slice.Eq.{bytes_eq-Decides}
 use Rattle.par_tree.specs.Tree.{Name, unused, Stmt, Func, Program}
 use Rattle.par_ownership.specs.Ownership.{Ownership, function_of, main_name}
-use Rattle.par_ownership.specs.Walk.{Refusal, first_of, unless, then_walk, guarded, function_refusal, walk, walk_all, last_refusal, func_refusal, funcs_refusal, names_refusal, main_case, program_refusal}
+use Rattle.par_ownership.specs.Walk.{first_of, unless, then_walk, guarded, function_refusal, walk, walk_all, last_refusal, funcs_refusal, names_refusal, main_case}
 use Rattle.par_ownership.specs.declared.check_kind.CheckKind.TheVariants.{Redefined}
 use Rattle.par_ownership.proofs.Law.{tells_program}
 use Rattle.made_laws.specs.MadeProgram.{group, call, one_a_line, groups_of, function_name, made_function, made_main, functions_from, function_count, made_program}

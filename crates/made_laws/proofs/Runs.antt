@@ -1,14 +1,13 @@
 -- The depth-first run of a made program.
-use Rattle.std.proofs.Common.{◌≡◌, ℕ, zero, suc, ◌+◌, ◌-◌, ◌*◌, ◌<◌, ◌≤◌, min, Bool, List, [], ◌∷◌, ◌++◌, length, Option, Some, None, refl, sym, ap, ◌∙◌, subst, append_assoc, arith}
-use Rattle.std.specs.Prelude.{ℤ, pos}
-use Rattle.std.specs.Int.{div_ceil}
+use Rattle.std.proofs.Common.{◌≡◌, ℕ, zero, suc, ◌+◌, ◌-◌, ◌*◌, ◌<◌, ◌≤◌, Bool, List, [], ◌∷◌, ◌++◌, length, Some, None, refl, sym, ap, ◌∙◌, subst, append_assoc, arith}
+use Rattle.std.specs.Prelude.{ℤ}
 use Rattle.std.specs.List.{flat_map, range_with_len}
 use Rattle.std.proofs.lemmas.Bool.{lt-ltb}
 use Rattle.std.proofs.lemmas.Grind.{flat_map-append, div_ceil_times}
 use Rattle.std.proofs.lemmas.List.{append-nil}
 use Rattle.depth_first_list.specs.Actions as actions
 use Rattle.depth_first_list.specs.Passed.FinishVariants.{Done}
-use Rattle.par_tree.specs.Tree.{unused, Func, Program}
+use Rattle.par_tree.specs.Tree.{unused, Func}
 use Rattle.par_ownership.specs.Ownership.{function_of, main_name}
 use Rattle.depth_first_run.specs.Stores.{nothing}
 use Rattle.depth_first_run.specs.States.{Setting, State, Item, began, next_action, with_action, unless_faulted, with_turns, with_turn, under_limit, with_depth, ended, fork_join}
@@ -16,7 +15,7 @@ use Rattle.depth_first_run.specs.Calls.{Passing, passed, entered, lent_back, ret
 use Rattle.depth_first_run.specs.Run.{names_in, assigns_in, run_callee, call_function, exec, exec_all, run, root_start, ignore_answer, main_run, whole, first_fault, lines_of, finish_of, finish_of_run}
 use Rattle.depth_first_run.proofs.Fixed.{run_fixed}
 use Rattle.made_source.specs.MadeSource.{left_length, right_length}
-use Rattle.made_laws.specs.MadeProgram.{left_name, right_name, branch_body, group, call, one_a_line, groups_of, function_name, made_function, made_main, function_count, made_program}
+use Rattle.made_laws.specs.MadeProgram.{left_name, right_name, branch_body, group, call, one_a_line, groups_of, made_function, made_main, function_count, made_program}
 use Rattle.made_laws.specs.MadeRun.{twice, made_lines, HasRoomFor}
 use Rattle.made_laws.proofs.Going.{Tells, tells_began, tells_last, idle, later, Goes, end_of, stays, goes_on, forks_go, branch_goes, left_branch, right_branch}
 use Rattle.made_laws.proofs.Rules.{Finds, made_finds, made_finds_main}

@@ -1,12 +1,11 @@
 -- A made source is a text, and its tree is the made program.
 use Rattle.std.proofs.Common.{◌≡◌, ℕ, zero, suc, ◌+◌, ◌*◌, ◌^◌, ◌<◌, ◌≤◌, Bool, false, cond, List, [], ◌∷◌, ◌++◌, length, map, Option, None, Ok, Err, inr, refl, sym, ap, ◌∙◌, subst, append_assoc, arith}
 use Rattle.std.specs.Prelude.{codes}
-use Rattle.std.specs.Int.{div_ceil}
 use Rattle.std.specs.List.{flat_map, range_with_len}
 use Rattle.std.proofs.lemmas.Bool.{le-ltb}
 use Rattle.std.proofs.lemmas.Grind.{flat_map-append, div_ceil_times}
 use Rattle.std.proofs.lemmas.List.{append-nil}
-use Rattle.par_tree.specs.Tree.{Name, Stmt, Body, done, step, Func, Program}
+use Rattle.par_tree.specs.Tree.{Name, Stmt, Body, step, Func, Program}
 use Rattle.par_text.specs.declared.kind.Kind.TheVariants as k
 use Rattle.par_text.specs.declared.syntax_error.SyntaxKind.TheVariants.{TooLong}
 use Rattle.par_text.specs.Rule.{Token, Rule, nothing, token, nest}
@@ -31,7 +30,7 @@ use Rattle.loop_laws.proofs.Pieces.{OnOneLine}
 use Rattle.loop_laws.proofs.Phrases.{leaf, pair_says, nothing_says, spaced, nest_says}
 use Rattle.loop_laws.proofs.TreeLines.{stmt_on}
 use Rattle.loop_laws.proofs.FunctionLists.{IsFunction, AreFunctions, functions_program}
-use Rattle.made_source.specs.MadeSource.{line as ended_line, text_of, group_line, groups_in, call_line, function_lines, main_lines, functions_for, made_source}
+use Rattle.made_source.specs.MadeSource.{line as ended_line, text_of, group_line, groups_in, call_line, function_lines, main_lines, made_source}
 use Rattle.made_source.proofs.Lengths.{source_short}
 use Rattle.made_laws.specs.MadeProgram.{group, call, one_a_line, groups_of, function_name, made_function, made_main, functions_from, function_count, made_program}
 use Rattle.made_laws.proofs.Numerals.{join_line, main_is_name, function_is_name, function_line}

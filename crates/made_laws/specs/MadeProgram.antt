@@ -1,5 +1,5 @@
 -- The tree of a made source, with the line of each statement and of each function.
-use Rattle.std.specs.Prelude.{ℕ, zero, suc, ◌+◌, ◌-◌, ◌*◌, min, pos, List, [], ◌∷◌, ◌++◌, None, codes}
+use Rattle.std.specs.Prelude.{ℕ, zero, suc, ◌+◌, ◌-◌, ◌*◌, min, pos, [], ◌∷◌, ◌++◌, None, codes}
 use Rattle.std.specs.Fmt.{decimal}
 use Rattle.std.specs.Int.{div_ceil}
 use Rattle.par_tree.specs.Tree.{Name, num, get, unused, Stmt, alloc_stmt, put_stmt, print_stmt, free_stmt, par_stmt, call_stmt, Body, done, step, Func, Program}
