@@ -83,7 +83,8 @@ stays s = record {
 }
 
 -- one part after the other
-pub goes_on : {vs ws : List ℤ} {a b : ℕ} {s t : State} (f : State → State) (g : Goes vs a s t) → Goes ws b (end_of g) (f (end_of g)) → Goes (vs ++ ws) (a + b) s (f t)
+pub goes_on : {vs ws : List ℤ} {a b : ℕ} {s t : State} (f : State → State) (g : Goes vs a s t) → Goes ws b (end_of g) (f (end_of g))
+    → Goes (vs ++ ws) (a + b) s (f t)
 goes_on {s = s} f g h =
     let before = g.spends in
     let after = h.spends in
@@ -171,14 +172,27 @@ allocated name m s = on_store (hold_block name (replicate (suc m) (pos 0))) (wit
 abbrev tail_items : ℕ → ℕ → ℕ → State → List Item
 tail_items m i line s =
     next_action actions.allocates (block_words (suc m)) s ∷ began line ∷ began line ∷ printed (pos i) ∷ began line ∷
-    acted (record { label = s.label; index = suc s.done; deed = actions.releases; words = block_words (length_of (slice_set (replicate (suc m) (pos 0)) 0 (pos i))) }) ∷ []
+    acted (record {
+      label = s.label;
+      index = suc s.done;
+      deed = actions.releases;
+      words = block_words
+          (length_of (slice_set (replicate (suc m) (pos 0)) 0 (pos i)));
+    }) ∷ []
 
 pub IsBranchName : Name → Type 0
 IsBranchName name = (c : Setting) (more : Body → State → State) (m i line : ℕ) (s : State)
     → exec_all c more (tail_body name i line) (allocated name m (idle s))
     ≡ later s (suc (suc s.done)) s.forks s.store.integers s.turns
-    ((((((s.items ++ next_action actions.allocates (block_words (suc m)) s ∷ []) ++ began line ∷ []) ++ began line ∷ []) ++ printed (pos i) ∷ []) ++ began line ∷ [])
-    ++ acted (record { label = s.label; index = suc s.done; deed = actions.releases; words = block_words (length_of (slice_set (replicate (suc m) (pos 0)) 0 (pos i))) }) ∷ [])
+    ((((((s.items ++ next_action actions.allocates (block_words (suc m)) s ∷ []) ++ began line ∷ []) ++ began line ∷ []) ++ printed
+    (pos i) ∷ []) ++ began line ∷ [])
+    ++ acted (record {
+      label = s.label;
+      index = suc s.done;
+      deed = actions.releases;
+      words = block_words
+          (length_of (slice_set (replicate (suc m) (pos 0)) 0 (pos i)));
+    }) ∷ [])
 
 place_is : (m : ℕ) → place_in (replicate (suc m) (pos 0)) (pos 0) ≡ Some 0
 place_is m = ap (λ (b : Bool). cond b None (Some 0)) (lt-leb (length_of (replicate (suc m) (pos 0))) 0 (omega arith))
@@ -199,14 +213,18 @@ put name m i line s = put_in_place line name (pos i) (Some 0) (with_item (began 
 pub left_branch : IsBranchName left_name
 unfolding IsBranchName tail_body after_put after_print value with_action unless_faulted with_number exec
 left_branch c more m i line s =
-    ap (λ o. exec_all c more (after_put left_name line) (put_in_place line left_name (pos i) o (with_item (began line) (allocated left_name m (idle s))))) (place_is m)
-    ∙ ap (λ o. exec_all c more (after_print left_name line) (with_number line (or_index_fault o) print_number (with_item (began line) (put left_name m i line (idle s))))) (get_is m (pos i))
+    ap (λ o. exec_all c more (after_put left_name line)
+    (put_in_place line left_name (pos i) o (with_item (began line) (allocated left_name m (idle s))))) (place_is m)
+    ∙ ap (λ o. exec_all c more (after_print left_name line)
+    (with_number line (or_index_fault o) print_number (with_item (began line) (put left_name m i line (idle s))))) (get_is m (pos i))
 
 pub right_branch : IsBranchName right_name
 unfolding IsBranchName tail_body after_put after_print value with_action unless_faulted with_number exec
 right_branch c more m i line s =
-    ap (λ o. exec_all c more (after_put right_name line) (put_in_place line right_name (pos i) o (with_item (began line) (allocated right_name m (idle s))))) (place_is m)
-    ∙ ap (λ o. exec_all c more (after_print right_name line) (with_number line (or_index_fault o) print_number (with_item (began line) (put right_name m i line (idle s))))) (get_is m (pos i))
+    ap (λ o. exec_all c more (after_put right_name line)
+    (put_in_place line right_name (pos i) o (with_item (began line) (allocated right_name m (idle s))))) (place_is m)
+    ∙ ap (λ o. exec_all c more (after_print right_name line)
+    (with_number line (or_index_fault o) print_number (with_item (began line) (put right_name m i line (idle s))))) (get_is m (pos i))
 
 -- the items of a branch
 branch_items : (before : List Item) (first : Item) (dummies : List Item) (a b c d e f : Item)
@@ -214,17 +232,25 @@ branch_items : (before : List Item) (first : Item) (dummies : List Item) (a b c 
     ≡ before ++ (first ∷ (dummies ++ (a ∷ b ∷ c ∷ d ∷ e ∷ f ∷ [])))
 branch_items before first dummies a b c d e f = simp append_assoc refl
 
-pub branch_goes : (name : Name) → IsBranchName name → (c : Setting) (more : Body → State → State) (m length i line : ℕ) (s : State) → length ≡ suc m → length ≤ LONGEST_BLOCK
+pub branch_goes : (name : Name) → IsBranchName name → (c : Setting) (more : Body → State → State) (m length i line : ℕ) (s : State) → length ≡ suc m
+    → length ≤ LONGEST_BLOCK
     → Goes (pos i ∷ []) 0 s (exec_all c more (branch_body name length i line) (idle s))
 unfolding IsBranchName tail_body value unless_faulted with_number exec
 branch_goes name is_branch c more m length i line s is short =
     let begun : State = record s { items = s.items ++ began line ∷ [] } in
     let d = dummies_go c (block_words (suc m)) begun in
     let u : State = end_of d in
-    let fits : size_of (pos length) ≡ Some (suc m) = ap (λ (b : Bool). cond b (Some length) None) (le-leb length LONGEST_BLOCK short) ∙ ap (λ (n : ℕ). Some n) is in
+    let fits : size_of (pos length) ≡ Some (suc m) = ap (λ (b : Bool). cond b (Some length) None) (le-leb length LONGEST_BLOCK short)
+    ∙ ap (λ (n : ℕ). Some n) is in
     let alloc : Item = next_action actions.allocates (block_words (suc m)) u in
     let release : Item =
-    acted (record { label = s.label; index = suc d.acts; deed = actions.releases; words = block_words (length_of (slice_set (replicate (suc m) (pos 0)) 0 (pos i))) }) in
+    acted (record {
+      label = s.label;
+      index = suc d.acts;
+      deed = actions.releases;
+      words = block_words
+          (length_of (slice_set (replicate (suc m) (pos 0)) 0 (pos i)));
+    }) in
     record {
       acts = suc (suc d.acts);
       forks = d.forks;
@@ -238,5 +264,6 @@ branch_goes name is_branch c more m length i line s is short =
           ∙ ap (λ items. later s (suc (suc d.acts)) d.forks d.integers d.turns items)
           (branch_items s.items (began line) d.new alloc (began line) (began line) (printed (pos i)) (began line) release);
       spends = d.spends;
-      tells = tells_began line (tells_both d.tells (tells_acted _ (tells_began line (tells_began line (tells_printed (pos i) (tells_began line (tells_acted _ tells_none)))))));
+      tells = tells_began line (tells_both d.tells
+          (tells_acted _ (tells_began line (tells_began line (tells_printed (pos i) (tells_began line (tells_acted _ tells_none)))))));
     }

@@ -19,9 +19,11 @@ use Rattle.made_laws.specs.MadeProgram.{branch_body}
 
 numeral : {most n : ℕ} (v : ℕ) → v ≤ greatest_number → IsFactor most n (num (pos v)) (λ t. decimal v ++ t)
 unfolding factor_rule
-numeral v small = second_says (second_says (second_says (second_says (leaf (decimal v) (number_fits (pos v) (record { value = v; is = refl; small = small }))))))
+numeral v small = second_says (second_says
+    (second_says (second_says (leaf (decimal v) (number_fits (pos v) (record { value = v; is = refl; small = small }))))))
 
-element : {most n : ℕ} {i : Expr} {f : List ℕ → List ℕ} (b : Name) → IsName b → IsExpression most n i f → IsFactor most (suc n) (get b i) (λ t. b ++ (91 ∷ f (93 ∷ t)))
+element : {most n : ℕ} {i : Expr} {f : List ℕ → List ℕ} (b : Name) → IsName b → IsExpression most n i f
+    → IsFactor most (suc n) (get b i) (λ t. b ++ (91 ∷ f (93 ∷ t)))
 unfolding factor_rule index_rule
 element {i = i} b h p =
     first_says (pair_says {Q = λ o. o ≡ Some i} named (λ rest c. (refl, refl)) (λ y o d e. ap (λ z. named y z) e ∙ ap (λ z. get z i) d) (leaf b (name_fits b h))
@@ -38,10 +40,12 @@ allocates : {most n line : ℕ} {e : Expr} {f : List ℕ → List ℕ} (x : Name
     → IsStatement most n line (alloc_stmt x e) (λ t. codes "alloc " ++ (x ++ (codes " = " ++ f (59 ∷ t))))
 unfolding stmt_rule alloc_rule named_value
 allocates {e = e} x h p =
-    second_says (first_says (pair_says {P = Always} {Q = λ v. v ≡ (x, e)} (λ t v. (t.line, allocated v)) (λ rest c. (refl, refl)) (λ t v a b. ap (λ z. allocated z) b)
+    second_says (first_says (pair_says {P = Always} {Q = λ v. v ≡ (x, e)} (λ t v. (t.line, allocated v)) (λ rest c. (refl, refl))
+    (λ t v a b. ap (λ z. allocated z) b)
     (leaf (codes "alloc") reads-Alloc)
     (spaced (pair_says (λ y z. (y, z)) (λ rest c. (refl, refl)) (λ y z a b. ap (λ v. (y, v)) b ∙ ap (λ v. (v, e)) a) (leaf x (name_fits x h))
-    (before_says (λ rest c. (refl, refl)) (then_says (λ rest c. (refl, refl)) (spaced (leaf (codes "=") reads-Assign)) (spaced p)) (leaf (codes ";") reads-Semicolon))))))
+    (before_says (λ rest c. (refl, refl)) (then_says (λ rest c. (refl, refl)) (spaced (leaf (codes "=") reads-Assign)) (spaced p))
+    (leaf (codes ";") reads-Semicolon))))))
 
 -- `b[i] = e;`
 puts : {most n line : ℕ} {i e : Expr} {f g : List ℕ → List ℕ} (b : Name) → IsName b → IsExpression most n i f → IsExpression most (suc n) e g
@@ -54,7 +58,8 @@ puts {line = line} {i = i} {e = e} b h p q =
     (pair_says {P = λ o. o ≡ Some i} (λ o z. (o, z)) (λ rest c. (refl, refl)) (λ o z a d. ap (λ v. (o, v)) d ∙ ap (λ v. (v, e)) a)
     (first_says (nest_says opens-LeftBracket
     (before_says (λ rest c. (refl, refl)) (within_says {s = expression} (λ y. Some y) (λ y d. ap (λ z. Some z) d) p) (leaf (codes "]") reads-RightBracket))))
-    (before_says (λ rest c. (refl, refl)) (then_says (λ rest c. (refl, refl)) (spaced (leaf (codes "=") reads-Assign)) (spaced q)) (leaf (codes ";") reads-Semicolon))))))))))))
+    (before_says (λ rest c. (refl, refl)) (then_says (λ rest c. (refl, refl)) (spaced (leaf (codes "=") reads-Assign)) (spaced q))
+    (leaf (codes ";") reads-Semicolon))))))))))))
 
 -- `print e;`
 prints : {most n line : ℕ} {e : Expr} {f : List ℕ → List ℕ} → IsExpression most n e f
@@ -62,7 +67,8 @@ prints : {most n line : ℕ} {e : Expr} {f : List ℕ → List ℕ} → IsExpres
 unfolding stmt_rule print_rule
 prints {e = e} p =
     second_says (second_says (second_says (second_says (second_says (second_says (first_says
-    (pair_says {P = Always} {Q = λ y. y ≡ e} (λ t y. (t.line, print_stmt y)) (λ rest c. (refl, refl)) (λ t y a b. ap print_stmt b) (leaf (codes "print") reads-Print)
+    (pair_says {P = Always} {Q = λ y. y ≡ e} (λ t y. (t.line, print_stmt y)) (λ rest c. (refl, refl)) (λ t y a b. ap print_stmt b)
+    (leaf (codes "print") reads-Print)
     (spaced (before_says (λ rest c. (refl, refl)) p (leaf (codes ";") reads-Semicolon))))))))))
 
 -- `free b;`
@@ -70,20 +76,24 @@ frees : {most n line : ℕ} (b : Name) → IsName b → IsStatement most n line 
 unfolding stmt_rule free_rule
 frees b h =
     second_says (second_says (first_says
-    (pair_says {P = Always} {Q = λ y. y ≡ b} (λ t y. (t.line, free_stmt y)) (λ rest c. (refl, refl)) (λ t y a d. ap free_stmt d) (leaf (codes "free") reads-Free)
+    (pair_says {P = Always} {Q = λ y. y ≡ b} (λ t y. (t.line, free_stmt y)) (λ rest c. (refl, refl)) (λ t y a d. ap free_stmt d)
+    (leaf (codes "free") reads-Free)
     (spaced (before_says (λ rest c. (refl, refl)) (leaf b (name_fits b h)) (leaf (codes ";") reads-Semicolon))))))
 
 -- `call f();`
-pub calls_alone : {most n line : ℕ} (f : Name) → IsName f → IsStatement most (suc n) line (call_stmt unused f []) (λ t. codes "call " ++ (f ++ (40 ∷ 41 ∷ 59 ∷ t)))
+pub calls_alone : {most n line : ℕ} (f : Name) → IsName f
+    → IsStatement most (suc n) line (call_stmt unused f []) (λ t. codes "call " ++ (f ++ (40 ∷ 41 ∷ 59 ∷ t)))
 unfolding stmt_rule call_rule any_call plain_call callee_rule args_rule arg_list
 calls_alone {line = line} f h =
     second_says (second_says (second_says (second_says (second_says (first_says
     (pair_says {P = Always} {Q = λ s. s ≡ call_stmt unused f []} (λ t s. (t.line, s)) (λ rest c. (refl, refl)) (λ t s d e. ap (λ z. stmt_on line z) e)
     (leaf (codes "call") reads-Call)
     (before_says (λ rest c. (refl, refl))
-    (spaced (second_says (pair_says {P = λ y. y ≡ f} {Q = λ v. v ≡ (None, [])} answering (λ rest c. (refl, refl)) (λ y v d e. ap (λ z. answering y z) e ∙ ap (λ z. call_stmt unused z []) d)
+    (spaced (second_says (pair_says {P = λ y. y ≡ f} {Q = λ v. v ≡ (None, [])} answering (λ rest c. (refl, refl))
+    (λ y v d e. ap (λ z. answering y z) e ∙ ap (λ z. call_stmt unused z []) d)
     (leaf f (name_fits f h))
-    (pair_says {P = λ o. o ≡ None} {Q = λ l. l ≡ []} (λ o l. (o, l)) (λ rest c. (refl, refl)) (λ o l d e. ap (λ z. (o, z)) e ∙ ap (λ z. (z, [])) d) (second_says (nothing_says refl))
+    (pair_says {P = λ o. o ≡ None} {Q = λ l. l ≡ []} (λ o l. (o, l)) (λ rest c. (refl, refl)) (λ o l d e. ap (λ z. (o, z)) e ∙ ap (λ z. (z, [])) d)
+    (second_says (nothing_says refl))
     (nest_says opens-LeftParen (before_says (λ rest c. (refl, refl)) (second_says (nothing_says refl)) (leaf (codes ")") reads-RightParen)))))))
     (leaf (codes ";") reads-Semicolon))))))))
 

@@ -24,7 +24,8 @@ regrouped p x q d r s e v w y t = simp append_assoc refl
 branch_text : (name : Name) (length i : ℕ) (t : List ℕ) → branch name length i ++ t ≡ branch_put name length i t
 unfolding branch branch_put
 branch_text name length i t =
-    regrouped (codes "{ alloc ") name (codes " = ") (decimal length) (codes "; ") (codes "[0] = ") (decimal i) (codes "print ") (codes "[0]; free ") (codes "; }") t
+    regrouped (codes "{ alloc ") name (codes " = ") (decimal length) (codes "; ") (codes "[0] = ") (decimal i) (codes "print ") (codes "[0]; free ")
+    (codes "; }") t
 
 group_put : ℕ → List ℕ
 group_put i = codes "par " ++ branch_put left_name (left_length i) i (codes " and " ++ branch_put right_name (right_length i) i [])
@@ -34,7 +35,8 @@ unfolding group_put group_line
 group_text i =
     let a : List ℕ = branch left_name (left_length i) i in
     let b : List ℕ = branch right_name (right_length i) i in
-    ap (λ (z : List ℕ). codes "par " ++ branch_put left_name (left_length i) i (codes " and " ++ z)) (sym (branch_text right_name (right_length i) i []) ∙ append-nil b)
+    ap (λ (z : List ℕ). codes "par " ++ branch_put left_name (left_length i) i (codes " and " ++ z))
+    (sym (branch_text right_name (right_length i) i []) ∙ append-nil b)
     ∙ ap (λ (z : List ℕ). codes "par " ++ z) (sym (branch_text left_name (left_length i) i (codes " and " ++ b)) ∙ sym (append_assoc a (codes " and ") b))
     ∙ sym (append_assoc (codes "par ") (a ++ codes " and ") b)
     ∙ ap (λ (z : List ℕ). z ++ b) (sym (append_assoc (codes "par ") a (codes " and ")))
@@ -43,7 +45,8 @@ pub group_fits : {most n line : ℕ} (i : ℕ) → i < 8000 → Fits most false 
 unfolding group_put
 group_fits i low =
     same_fits (group_text i)
-    (forks (branch_says left_name (left_length i) i left_is_name (omega arith) (omega arith)) (branch_says right_name (right_length i) i right_is_name (omega arith) (omega arith))).fits
+    (forks (branch_says left_name (left_length i) i left_is_name (omega arith) (omega arith))
+    (branch_says right_name (right_length i) i right_is_name (omega arith) (omega arith))).fits
 
 pub call_fits : {most n line : ℕ} (j : ℕ) → j < 2 ^ 64 → Fits most false (suc n) stmt_rule (λ y. stmt_on line y.1 ≡ call j line) (call_line j)
 call_fits j low = same_fits (call_text j) (calls_alone (function_name j) (function_is_name j low)).fits

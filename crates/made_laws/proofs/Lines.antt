@@ -74,7 +74,8 @@ on_line {size = size} {depth = depth} {r = r} at line bs one writes =
     let w = writes.written at line [] tt in
     let ts : List Token = tokens_of (spells size depth r w.form) in
     let lexes : lexed (pieces 0 at line bs) ≡ Ok ts =
-    ap (λ us. lexed (pieces 0 at line us)) (sym (append-nil bs)) ∙ w.lexes.same ∙ ap (λ l. with_tokens ts l) (nothing_lexed w.lexes.at_end w.lexes.last_line) ∙ with_tokens-all ts in
+    ap (λ us. lexed (pieces 0 at line us)) (sym (append-nil bs)) ∙ w.lexes.same
+    ∙ ap (λ l. with_tokens ts l) (nothing_lexed w.lexes.at_end w.lexes.last_line) ∙ with_tokens-all ts in
     record {
       form = w.form;
       means = w.means;
@@ -105,7 +106,8 @@ pub record IsOn (line : ℕ) (m : ℕ × Stmt) : Type 0 where
   pub begins : line ≡ m.0
   pub stmt : stmt_on line m.1 ≡ m.1
 
-pub stmt_there : (size line : ℕ) (d : Form (Nested size) stmt_rule) → Each (IsOnLine line) (tokens_of (spells size 1 stmt_rule d)) → IsOn line (means_of size stmt_rule d)
+pub stmt_there : (size line : ℕ) (d : Form (Nested size) stmt_rule) → Each (IsOnLine line) (tokens_of (spells size 1 stmt_rule d))
+    → IsOn line (means_of size stmt_rule d)
 unfolding func_rule name params_rule param_list func_body ret_rule stmts_rule token_on first_line first_stmt
 stmt_there size line d there =
     let ms : List Marked = spells size 1 stmt_rule d in
@@ -115,7 +117,13 @@ stmt_there size line d there =
     (subst (Each (IsOnLine line)) (sym (tokens_of-append ms (brace ∷ []))) (each_append (IsOnLine line) (tokens_of ms) (brace.token ∷ []) there (refl, tt))) in
     let form : Form (Nested (suc size)) func_rule = (
       (token_on line k.Fn, refl),
-      ((token_on line k.Name, refl), (((token_on line k.LeftParen, refl), (inr tt, (token_on line k.RightParen, refl))), ((token_on line k.LeftBrace, refl), ((d ∷ [], inr tt), (token_on line k.RightBrace, refl))))),
+      (
+        (token_on line k.Name, refl),
+        (
+          ((token_on line k.LeftParen, refl), (inr tt, (token_on line k.RightParen, refl))),
+          ((token_on line k.LeftBrace, refl), ((d ∷ [], inr tt), (token_on line k.RightBrace, refl))),
+        ),
+      ),
     ) in
     let same = (tells_func {line = line} {size = suc size} {depth = 0}).tells form (refl, (refl, (refl, (refl, (refl, inside))))) in
     record { begins = ap (λ f. first_line f.body) same; stmt = ap (λ f. first_stmt f.body) same }

@@ -35,7 +35,8 @@ one_more : (f : Func) (fs : List Func) (x : Name) → function_of fs x ≡ None 
 one_more f [] x none other = ap (λ b. cond b (Some f) None) other
 one_more f (g ∷ gs) x none other = by_test (λ h. one_more f gs x h other) (bytes_eq g.name x) none
   where
-    by_test : (function_of gs x ≡ None → function_of (gs ++ f ∷ []) x ≡ None) → (b : Bool) → cond b (Some g) (function_of gs x) ≡ None → cond b (Some g) (function_of (gs ++ f ∷ []) x) ≡ None
+    by_test : (function_of gs x ≡ None → function_of (gs ++ f ∷ []) x ≡ None) → (b : Bool) → cond b (Some g) (function_of gs x) ≡ None
+        → cond b (Some g) (function_of (gs ++ f ∷ []) x) ≡ None
     by_test more true h = let never : ⊥ = cc in absurd never
     by_test more false h = more h
 
@@ -48,9 +49,11 @@ new_names n functions j zero line before room free main = ap (λ o. first_of (un
 new_names n functions j (suc count) line before room free main =
     let f : Func = made_function n j line in
     let next : ℕ = line + 1 + groups_of n j + 1 in
-    ap (λ o. first_of (unless (is_none o) Redefined line f.name) (names_refusal (before ++ f ∷ []) (functions_from n functions (j + 1) count next))) (free j (omega arith) (omega (arith, room)))
+    ap (λ o. first_of (unless (is_none o) Redefined line f.name) (names_refusal (before ++ f ∷ []) (functions_from n functions (j + 1) count next)))
+    (free j (omega arith) (omega (arith, room)))
     ∙ new_names n functions (j + 1) count next (before ++ f ∷ []) (omega (arith, room))
-    (λ k above low. one_more f before (function_name k) (free k (omega (arith, above)) low) (differ j k (omega (arith, room)) low (λ e. omega (arith, e, above))))
+    (λ k above low. one_more f before (function_name k) (free k (omega (arith, above)) low)
+    (differ j k (omega (arith, room)) low (λ e. omega (arith, e, above))))
     (one_more f before main_name main refl)
 
 -- `main` and each function that it calls are found
@@ -72,14 +75,16 @@ pub record Finds (n k : ℕ) (p : Program) : Type 0 where
 pub finds : (n functions j count line k : ℕ) → j + count < 2 ^ 64 → j ≤ k → k < j + count → Finds n k (functions_from n functions j count line)
 finds n functions j zero line k room above below = absurd (omega (arith, above, below))
 finds n functions j (suc count) line k room above below =
-    by_number (λ other. finds n functions (j + 1) count (line + 1 + groups_of n j + 1) k (omega (arith, room)) (omega (arith, above, other)) (omega (arith, below))) (eqb_tells j k)
+    by_number (λ other. finds n functions (j + 1) count (line + 1 + groups_of n j + 1) k (omega (arith, room)) (omega (arith, above, other))
+    (omega (arith, below))) (eqb_tells j k)
   where
     by_number : ((j ≡ k → ⊥) → Finds n k (functions_from n functions (j + 1) count (line + 1 + groups_of n j + 1)))
         → (((j == k) ≡ true) × (j ≡ k)) ⊎ (((j == k) ≡ false) × (j ≡ k → ⊥)) → Finds n k (functions_from n functions j (suc count) line)
     by_number rest (inl h) = record {
       line = line;
       found =
-          ap (λ b. cond b (Some (made_function n j line)) (function_of (functions_from n functions (j + 1) count (line + 1 + groups_of n j + 1)) (function_name k)))
+          ap (λ b. cond b (Some (made_function n j line))
+          (function_of (functions_from n functions (j + 1) count (line + 1 + groups_of n j + 1)) (function_name k)))
           (ap (λ i. bytes_eq (function_name j) (function_name i)) (sym h.1) ∙ same j)
           ∙ ap (λ i. Some (made_function n i line)) h.1;
     }
@@ -88,7 +93,8 @@ finds n functions j (suc count) line k room above below =
         record {
           line = more.line;
           found =
-              ap (λ b. cond b (Some (made_function n j line)) (function_of (functions_from n functions (j + 1) count (line + 1 + groups_of n j + 1)) (function_name k)))
+              ap (λ b. cond b (Some (made_function n j line))
+              (function_of (functions_from n functions (j + 1) count (line + 1 + groups_of n j + 1)) (function_name k)))
               (differ j k (omega (arith, room)) (omega (arith, room, below)) h.1)
               ∙ more.found;
         }
@@ -110,9 +116,11 @@ lines_walk p stmt i (suc count) line each =
 
 -- the functions
 
-functions_walk : (p : Program) (n functions j count line : ℕ) → ((k : ℕ) → k < functions → Finds n k p) → funcs_refusal p (functions_from n functions j count line) ≡ None
+functions_walk : (p : Program) (n functions j count line : ℕ) → ((k : ℕ) → k < functions → Finds n k p)
+    → funcs_refusal p (functions_from n functions j count line) ≡ None
 functions_walk p n functions j zero line all =
-    ap (λ r. first_of (last_refusal (then_walk r (λ env. Ok env))) None) (lines_walk p call 0 functions (line + 1) (λ k l above below. call_walk n k l p (all k (omega (arith, below)))))
+    ap (λ r. first_of (last_refusal (then_walk r (λ env. Ok env))) None)
+    (lines_walk p call 0 functions (line + 1) (λ k l above below. call_walk n k l p (all k (omega (arith, below)))))
 functions_walk p n functions j (suc count) line all =
     ap (λ r. first_of (last_refusal (then_walk r (λ env. Ok env))) (funcs_refusal p (functions_from n functions (j + 1) count (line + 1 + groups_of n j + 1))))
     (lines_walk p group (64 * j) (groups_of n j) (line + 1) (λ k l above below. group_walk p k l))

@@ -42,7 +42,8 @@ group_goes c more i line s below =
     let left : left_length i ≡ suc (left_length i - 1) = omega arith in
     let right : right_length i ≡ suc (right_length i - 1) = omega arith in
     subst (Goes (twice i) 0 s)
-    (sym (ap (λ (b' : Bool). under_limit b' line (fork_join c (names_in a) (assigns_in a) (exec_all c more a) (exec_all c more b)) (idle s)) (lt-ltb (length s.label) c.most_forks below)))
+    (sym (ap (λ (b' : Bool). under_limit b' line (fork_join c (names_in a) (assigns_in a) (exec_all c more a) (exec_all c more b)) (idle s))
+    (lt-ltb (length s.label) c.most_forks below)))
     (forks_go c (names_in a) (assigns_in a) (exec_all c more a) (exec_all c more b) s
     (λ u e. branch_goes left_name left_branch c more (left_length i - 1) (left_length i) i line u left (omega arith))
     (λ u e. branch_goes right_name right_branch c more (right_length i - 1) (right_length i) i line u right (omega arith)))
@@ -92,25 +93,30 @@ calls_go c n j zero line s all few below room = stays s
 calls_go c n j (suc count) line s all few below room =
     let begun : State = record s { items = s.items ++ began line ∷ [] } in
     let left : s.turns ≡ suc (s.turns - 1) = omega (arith, room) in
-    let g = begins_go line s (exec c (run c) line (call j line) (idle begun)) (call_goes c n j line (s.turns - 1) begun (all j (omega arith) (omega arith)) few below left) in
+    let g = begins_go line s (exec c (run c) line (call j line) (idle begun))
+    (call_goes c n j line (s.turns - 1) begun (all j (omega arith) (omega arith)) few below left) in
     let spends = g.spends in
     let rest =
-    calls_go c n (j + 1) count (line + 1) (end_of g) (λ k above low. all k (omega (arith, above)) (omega (arith, low))) few below (omega (arith, spends, room)) in
+    calls_go c n (j + 1) count (line + 1) (end_of g) (λ k above low. all k (omega (arith, above)) (omega (arith, low))) few below
+    (omega (arith, spends, room)) in
     let one_more : 1 + count ≡ suc count = omega arith in
-    subst (λ (k : ℕ). Goes (flat_map (function_lines n) (range_with_len j (suc count))) k s (exec_all c (run c) (one_a_line call j (suc count) line) (idle s))) one_more
+    subst (λ (k : ℕ). Goes (flat_map (function_lines n) (range_with_len j (suc count))) k s
+    (exec_all c (run c) (one_a_line call j (suc count) line) (idle s))) one_more
     (goes_on (exec_all c (run c) (one_a_line call (j + 1) count (line + 1))) g rest)
 
 -- the groups of all functions are all groups
 
 range_append : (a x y b : ℕ) → a + x ≡ b → range_with_len a x ++ range_with_len b y ≡ range_with_len a (x + y)
 range_append a zero y b e = ap (λ (k : ℕ). range_with_len k y) (omega (arith, e)) ∙ ap (range_with_len a) (omega arith)
-range_append a (suc x) y b e = ap (λ l. a ∷ l) (range_append (a + 1) x y b (omega (arith, e))) ∙ ap (range_with_len a) (let p : suc (x + y) ≡ suc x + y = omega arith in p)
+range_append a (suc x) y b e = ap (λ l. a ∷ l) (range_append (a + 1) x y b (omega (arith, e)))
+    ∙ ap (range_with_len a) (let p : suc (x + y) ≡ suc x + y = omega arith in p)
 
 ranges : (n j y : ℕ) → n - 64 * (j + 1) ≡ y → range_with_len (64 * j) (groups_of n j) ++ range_with_len (64 * (j + 1)) y ≡ range_with_len (64 * j) (n - 64 * j)
 ranges n j zero e = append-nil (range_with_len (64 * j) (groups_of n j)) ∙ ap (range_with_len (64 * j)) (omega (arith, e))
 ranges n j (suc y) e = range_append (64 * j) (groups_of n j) (suc y) (64 * (j + 1)) (omega (arith, e)) ∙ ap (range_with_len (64 * j)) (omega (arith, e))
 
-all_lines : (n j count : ℕ) → n ≤ 64 * (j + count) → flat_map (function_lines n) (range_with_len j count) ≡ flat_map twice (range_with_len (64 * j) (n - 64 * j))
+all_lines : (n j count : ℕ) → n ≤ 64 * (j + count)
+    → flat_map (function_lines n) (range_with_len j count) ≡ flat_map twice (range_with_len (64 * j) (n - 64 * j))
 unfolding function_lines
 all_lines n j zero le = ap (λ (k : ℕ). flat_map twice (range_with_len (64 * j) k)) (let p : 0 ≡ n - 64 * j = omega (arith, le) in p)
 all_lines n j (suc count) le =
@@ -125,7 +131,8 @@ record EndsWell (vs : List ℤ) (c : Setting) : Type 0 where
   is : State.items (whole c) ≡ items
   tells : Tells vs items
 
-main_goes : (c : Setting) (n : ℕ) → n ≤ 8000 → c.program ≡ made_program n → HasRoomFor n c → EndsWell (flat_map (function_lines n) (range_with_len 0 (function_count n))) c
+main_goes : (c : Setting) (n : ℕ) → n ≤ 8000 → c.program ≡ made_program n → HasRoomFor n c
+    → EndsWell (flat_map (function_lines n) (range_with_len 0 (function_count n))) c
 unfolding whole ended with_action unless_faulted with_answer
 main_goes c n most is room =
     let m : ℕ = function_count n in
@@ -135,7 +142,8 @@ main_goes c n most is room =
     let calls = room.calls in
     let forks = room.forks in
     let turns = room.turns in
-    let g = calls_go c n 0 m (main.line + 1) root (λ k above low. subst (Finds n k) (sym is) (made_finds n k most (omega (arith, low)))) (omega (arith, calls)) (omega (arith, forks)) turns in
+    let g = calls_go c n 0 m (main.line + 1) root (λ k above low. subst (Finds n k) (sym is) (made_finds n k most (omega (arith, low))))
+    (omega (arith, calls)) (omega (arith, forks)) turns in
     let begins : whole c ≡ ended 0 (main_run c (Some f) root) =
     ap (λ p. ended 0 (main_run c (function_of p main_name) root)) is ∙ ap (λ o. ended 0 (main_run c o root)) main.found in
     let runs : run c f.body root ≡ end_of g = run_fixed c f.body root ∙ g.is in

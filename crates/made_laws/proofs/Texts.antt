@@ -103,7 +103,8 @@ module _ (m : ℕ) (room : 1 + m ≡ deepest) (enough : 2 ≤ m) where
   }
   lines_read f stmt i (suc count) at line last is each =
       let o = one_stmt at line (f i) (stmt i line) (each i line (omega arith) (omega arith)) in
-      let rest = lines_read f stmt (i + 1) count (place_after at (f i) + 1) (line + 1) last (omega (arith, is)) (λ j l above below. each j l (omega (arith, above)) (omega (arith, below))) in
+      let rest = lines_read f stmt (i + 1) count (place_after at (f i) + 1) (line + 1) last (omega (arith, is))
+      (λ j l above below. each j l (omega (arith, above)) (omega (arith, below))) in
       let ms : List Marked = spells size 1 stmt_rule o.form in
       let ns : List Marked = spells size 1 stmts_rule rest.form in
       let begun = means_of size stmt_rule o.form in
@@ -111,7 +112,8 @@ module _ (m : ℕ) (room : 1 + m ≡ deepest) (enough : 2 ≤ m) where
       record {
         form = o.form ∷ rest.form;
         end = rest.end;
-        takes = subst (λ (ts : List Token). Takes at line (ended_line (f i) ++ text_of (map f (range_with_len (i + 1) count))) ts rest.end last) (sym (tokens_of-append ms ns)) (takes_both o.takes rest.takes);
+        takes = subst (λ (ts : List Token). Takes at line (ended_line (f i) ++ text_of (map f (range_with_len (i + 1) count))) ts rest.end last)
+            (sym (tokens_of-append ms ns)) (takes_both o.takes rest.takes);
         means = ap (λ b. step begun.0 begun.1 b) rest.means ∙ ap (λ l. step l begun.1 more) o.means.0 ∙ ap (λ s. step line s more) o.means.1;
         shallow = Shallow-append deepest ms ns o.shallow rest.shallow;
         allowed = allowed-append (ended_line (f i)) (text_of (map f (range_with_len (i + 1) count))) o.allowed rest.allowed;
@@ -137,7 +139,8 @@ module _ (m : ℕ) (room : 1 + m ≡ deepest) (enough : 2 ≤ m) where
       let brace : Fits deepest false 0 (token k.RightBrace) Always (codes "}") = reads-RightBrace in
       let none : 0 ≤ m = omega arith in
       let e = on_line s.end inner (codes "}") refl (brace.writes m 1 none room) in
-      let form : Form (Nested (suc size)) func_rule = (h.form.0, (h.form.1.0, ((h.form.1.1.0.0, (inr tt, h.form.1.1.0.1)), (h.form.1.1.1.0, ((s.form, inr tt), e.form))))) in
+      let form : Form (Nested (suc size)) func_rule =
+      (h.form.0, (h.form.1.0, ((h.form.1.1.0.0, (inr tt, h.form.1.1.0.1)), (h.form.1.1.1.0, ((s.form, inr tt), e.form))))) in
       let ms : List Marked = spells size 1 stmts_rule s.form in
       let last : List Marked = record { token = e.form.0; depth = 1 } ∷ [] in
       let front : List Token = h.form.0.0 ∷ h.form.1.0.0 ∷ h.form.1.1.0.0.0 ∷ h.form.1.1.0.1.0 ∷ h.form.1.1.1.0.0 ∷ [] in
@@ -147,18 +150,21 @@ module _ (m : ℕ) (room : 1 + m ≡ deepest) (enough : 2 ≤ m) where
       record {
         tokens = tokens;
         end = place_after s.end (codes "}") + 1;
-        takes = subst (λ (bs : List ℕ). Takes at line bs tokens (place_after s.end (codes "}") + 1) (inner + 1)) (sym text) (takes_both h.takes (takes_both s.takes e.takes));
+        takes = subst (λ (bs : List ℕ). Takes at line bs tokens (place_after s.end (codes "}") + 1) (inner + 1)) (sym text)
+            (takes_both h.takes (takes_both s.takes e.takes));
         is_function = record {
           form = form;
           spelled = ap (λ (ts : List Token). front ++ ts) (before_brace ms last);
           means = same_function _ x _ b _ line h.means s.means h.there.0;
           shallow =
-              let inside : Shallow deepest ((ms ++ []) ++ last) = subst (λ (ns : List Marked). Shallow deepest (ns ++ last)) (sym (append-nil ms)) (Shallow-append deepest ms last s.shallow e.shallow) in
+              let inside : Shallow deepest ((ms ++ []) ++ last) = subst (λ (ns : List Marked). Shallow deepest (ns ++ last)) (sym (append-nil ms))
+              (Shallow-append deepest ms last s.shallow e.shallow) in
               (h.shallow.0, (h.shallow.1.0, (h.shallow.1.1.0, (h.shallow.1.1.1.0, (h.shallow.1.1.1.1.0, inside)))));
         };
         allowed =
             subst (λ (bs : List ℕ). Allowed bs) (sym text)
-            (allowed-append (ended_line (head_text x)) (text_of ls ++ ended_line (codes "}")) h.allowed (allowed-append (text_of ls) (ended_line (codes "}")) s.allowed e.allowed));
+            (allowed-append (ended_line (head_text x)) (text_of ls ++ ended_line (codes "}")) h.allowed
+            (allowed-append (text_of ls) (ended_line (codes "}")) s.allowed e.allowed));
       }
 
   -- the functions, and `main` after them
@@ -174,7 +180,8 @@ module _ (m : ℕ) (room : 1 + m ≡ deepest) (enough : 2 ≤ m) where
       → HasFunction at line (text_of (main_lines (range_with_len 0 functions))) (made_main functions line) (line + 1 + functions + 1)
   unfolding plain_function main_lines
   main_read functions at line low =
-      function_read at line main_name (map call_line (range_with_len 0 functions)) (one_a_line call 0 functions (line + 1)) (line + 1 + functions) main_is_name refl
+      function_read at line main_name (map call_line (range_with_len 0 functions)) (one_a_line call 0 functions (line + 1))
+      (line + 1 + functions) main_is_name refl
       (λ place. lines_read call_line call 0 functions place (line + 1) (line + 1 + functions) refl
       (λ j l above below. (call_one_line j (omega (arith, below, low)), roomier 2 (omega arith) (call_fits {n = 0} j (omega (arith, below, low))))))
 
@@ -188,7 +195,8 @@ module _ (m : ℕ) (room : 1 + m ≡ deepest) (enough : 2 ≤ m) where
       (λ i l above below. (group_one_line i (omega (arith, below, most)), group_fits {n = 0} i (omega (arith, below, most)))))
 
   functions_read : (n functions j count at line : ℕ) → n ≤ 8000 → functions < 2 ^ 64 → j + count < 2 ^ 64
-      → HasFunctions at line (text_of (flat_map (function_lines n) (range_with_len j count) ++ main_lines (range_with_len 0 functions))) (functions_from n functions j count line)
+      → HasFunctions at line (text_of (flat_map (function_lines n) (range_with_len j count) ++ main_lines (range_with_len 0 functions)))
+      (functions_from n functions j count line)
   functions_read n functions j zero at line most few low =
       let h = main_read functions at line few in
       record {
@@ -253,10 +261,12 @@ nothing_lexed : (at line : ℕ) → lexed (pieces 0 at line []) ≡ Ok []
 unfolding pieces lexed
 nothing_lexed at line = refl
 
-has_tokens : (text : List ℕ) (ts : List Token) (end last : ℕ) → length text ≤ longest_text → Allowed text → Takes 0 1 text ts end last → text_tokens text ≡ Ok ts
+has_tokens : (text : List ℕ) (ts : List Token) (end last : ℕ) → length text ≤ longest_text → Allowed text → Takes 0 1 text ts end last
+    → text_tokens text ≡ Ok ts
 unfolding text_tokens
 has_tokens text ts end last short allowed h =
-    ap (λ (b : Bool). cond b (Err (record { kind = TooLong; at = longest_text })) (of_allowed (forbidden 0 text) text)) (le-ltb longest_text (length text) short)
+    ap (λ (b : Bool). cond b (Err (record { kind = TooLong; at = longest_text })) (of_allowed (forbidden 0 text) text))
+    (le-ltb longest_text (length text) short)
     ∙ ap (λ (o : Option ℕ). of_allowed o text) (none_forbidden 0 text allowed)
     ∙ ap (λ (bs : List ℕ). lexed (pieces 0 0 1 bs)) (sym (append-nil text))
     ∙ h.takes []
