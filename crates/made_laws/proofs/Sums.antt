@@ -11,7 +11,7 @@ many a zero = refl
 many a (suc n) = let rest = many (a + 1) n in omega (arith, rest)
 
 -- n * (n + 1) is 2 * n more than n * (n - 1)
-product : (n : ℕ) → suc n * n ≡ n * (n - 1) + 2 * n
+pub product : (n : ℕ) → suc n * n ≡ n * (n - 1) + 2 * n
 product zero = refl
 product (suc m) =
     let p = mul-suc (suc (suc m)) m in
