@@ -130,7 +130,7 @@ tree_of : Verdict → Program
 tree_of (tree p) = p
 tree_of (refusal e) = []
 
--- what is left to a play of the made program: to end well, or to be stopped
+-- a play of the made program that does not end well is stopped
 left_to : (status : Status) (stop : Stop) → status ≡ stop_status stop → Possible status
 unfolding Possible
 left_to status (arena_full live asked) is = subst Possible (sym is) tt

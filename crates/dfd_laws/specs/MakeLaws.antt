@@ -29,7 +29,7 @@ pub record IsMadeSummary (groups : ℕ) (text : List ℕ) (shown : Summary) : Ty
   pub lines : shown.lines ≡ 2 * groups
   pub total : shown.total ≡ pos (groups * (groups - 1))
 
--- so it is written of each play of a made source that ends
+-- and `make` writes such a text of each play that ends
 abbrev pub MadeSummariesAddUp : Type 0
 MadeSummariesAddUp = (command : Command) (text : List ℕ) → HasRanges command → command.kind ≡ Make
     → BytesGive command (source_of command) Done text → ∥ ((shown : Summary) × IsMadeSummary command.groups text shown) ∥₁

@@ -15,7 +15,7 @@ use Rattle.depth_first_run.specs.States.{Setting, State, Item, began, acted, pri
 use Rattle.depth_first_run.specs.Run.{no_name, run_tree, run_tree_unless, run_tree_before, size_of, put_in_place, print_number, alloc_words, on_store, exec, exec_all, first_fault, lines_of}
 use Rattle.made_laws.specs.MadeProgram.{left_name, right_name, branch_body}
 
--- what items tell: these numbers, and no fault
+-- the items print these numbers and have no fault, whatever comes after them
 pub record Tells (vs : List ℤ) (items : List Item) : Type 0 where
   pub lines : (more : List Item) → lines_of (items ++ more) ≡ vs ++ lines_of more
   pub fault : (more : List Item) → first_fault (items ++ more) ≡ first_fault more
@@ -41,11 +41,11 @@ tells_both {vs} {ws} {xs} {ys} t u = record {
 pub tells_last : {vs : List ℤ} {xs : List Item} (a : Action) → Tells vs xs → Tells vs (xs ++ acted a ∷ [])
 tells_last {vs} {xs} a t = subst (λ ws. Tells ws (xs ++ acted a ∷ [])) (append-nil vs) (tells_both t (tells_acted a tells_none))
 
--- a thread as it is, but that no fault has ended it and that it holds no block
+-- the thread s, if no fault has ended it and it holds no block
 abbrev pub idle : State → State
 idle s = record s { faulted = false; store = record { integers = s.store.integers; blocks = [] } }
 
--- the thread at a later point at which it holds no block
+-- the thread s at a later point, at which it holds no block
 abbrev pub later : State → ℕ → ℕ → (Name → ℤ) → ℕ → List Item → State
 later s acts forks integers turns items = record s {
   done = acts;
@@ -200,7 +200,7 @@ place_is m = ap (λ (b : Bool). cond b None (Some 0)) (lt-leb (length_of (replic
 get_is : (m : ℕ) (v : ℤ) → slice_get (slice_set (replicate (suc m) (pos 0)) 0 v) 0 ≡ Some v
 get_is m v = refl
 
--- after it was put, and after it was printed
+-- what is after its number is put, and after it is printed
 after_put : Name → ℕ → Body
 after_put name line = step line (print_stmt (get name (num (pos 0)))) (step line (free_stmt name) done)
 

@@ -30,7 +30,7 @@ differ j k low low' other = by_test (bytes_eq (function_name j) (function_name k
 same : (j : ℕ) → bytes_eq (function_name j) (function_name j) ≡ true
 same j = (bytes_eq-Decides (function_name j) (function_name j)).1 refl
 
--- a function that is not found is not found among one more of another name
+-- a name that no function has is still that of none after a function of another name
 one_more : (f : Func) (fs : List Func) (x : Name) → function_of fs x ≡ None → bytes_eq f.name x ≡ false → function_of (fs ++ f ∷ []) x ≡ None
 one_more f [] x none other = ap (λ b. cond b (Some f) None) other
 one_more f (g ∷ gs) x none other = by_test (λ h. one_more f gs x h other) (bytes_eq g.name x) none

@@ -52,7 +52,7 @@ head_fits x named =
     (pair_says {P = Always} {Q = Always} {R = Always} (λ a b. (a, b)) (λ rest c. (refl, refl)) (λ a b p q. tt)
     (nest_says opens-LeftParen (leaf (codes ")") reads-RightParen)) (spaced (nest_says opens-LeftBrace (nothing_says tt))))))).fits
 
--- a statement that a line is read as
+-- the line is read as this statement
 abbrev Line : Stmt → ℕ → List ℕ → Type 0
 Line s line bs = OnOneLine bs × Fits deepest false 2 stmt_rule (λ y. stmt_on line y.1 ≡ s) bs
 

@@ -25,14 +25,14 @@ branch_body name length i line =
 abbrev pub group : ℕ → ℕ → Stmt
 group i line = par_stmt (branch_body left_name (left_length i) i line) (branch_body right_name (right_length i) i line)
 
--- the call of function j
+-- function j has this name, and is called so
 abbrev pub function_name : ℕ → Name
 function_name j = codes "g" ++ decimal j
 
 abbrev pub call : ℕ → ℕ → Stmt
 call j line = call_stmt unused (function_name j) []
 
--- so many statements, those of the numbers from i on, each on a line of its own from this one on
+-- the statements of so many numbers from i on, each on a line of its own; this is the first line
 abbrev pub one_a_line : (ℕ → ℕ → Stmt) → ℕ → ℕ → ℕ → Body
 one_a_line stmt i zero line = done
 one_a_line stmt i (suc count) line = step line (stmt i line) (one_a_line stmt (i + 1) count (line + 1))
