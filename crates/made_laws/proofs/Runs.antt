@@ -7,7 +7,7 @@ use Rattle.std.proofs.lemmas.Grind.{flat_map-append, div_ceil_times}
 use Rattle.std.proofs.lemmas.List.{append-nil}
 use Rattle.depth_first_list.specs.Actions as actions
 use Rattle.depth_first_list.specs.Passed.FinishVariants.{Done}
-use Rattle.par_tree.specs.Tree.{unused, Func}
+use Rattle.par_tree.specs.Tree.{unused, Func, Program}
 use Rattle.par_ownership.specs.Ownership.{function_of, main_name}
 use Rattle.depth_first_run.specs.Stores.{nothing}
 use Rattle.depth_first_run.specs.States.{Setting, State, Item, began, next_action, with_action, unless_faulted, with_turns, with_turn, under_limit, with_depth, ended, fork_join}
@@ -131,9 +131,21 @@ record EndsWell (vs : List ℤ) (c : Setting) : Type 0 where
   is : State.items (whole c) ≡ items
   tells : Tells vs items
 
+-- the whole run, where `main` is this function and its body leads to t
+whole_items : (c : Setting) (p : Program) (f : Func) (t : State) (items : List Item) → c.program ≡ p → function_of p main_name ≡ Some f
+    → f.ret ≡ None → exec_all c (run c) f.body (root_start c) ≡ t
+    → State.items (ended 0 (unless_faulted (with_answer None ignore_answer) t)) ≡ items → State.items (whole c) ≡ items
+unfolding whole
+whole_items c p f t items is found none runs last =
+    ap (λ q. State.items (ended 0 (main_run c (function_of q main_name) (root_start c)))) is
+    ∙ ap (λ o. State.items (ended 0 (main_run c o (root_start c)))) found
+    ∙ ap (λ r. State.items (ended 0 (unless_faulted (with_answer r ignore_answer) (run c f.body (root_start c))))) none
+    ∙ ap (λ u. State.items (ended 0 (unless_faulted (with_answer None ignore_answer) u))) (run_fixed c f.body (root_start c) ∙ runs)
+    ∙ last
+
 main_goes : (c : Setting) (n : ℕ) → n ≤ 8000 → c.program ≡ made_program n → HasRoomFor n c
     → EndsWell (flat_map (function_lines n) (range_with_len 0 (function_count n))) c
-unfolding whole ended with_action unless_faulted with_answer
+unfolding ended with_action unless_faulted with_answer
 main_goes c n most is room =
     let m : ℕ = function_count n in
     let main = made_finds_main n in
@@ -144,12 +156,10 @@ main_goes c n most is room =
     let turns = room.turns in
     let g = calls_go c n 0 m (main.line + 1) root (λ k above low. subst (Finds n k) (sym is) (made_finds n k most (omega (arith, low))))
     (omega (arith, calls)) (omega (arith, forks)) turns in
-    let begins : whole c ≡ ended 0 (main_run c (Some f) root) =
-    ap (λ p. ended 0 (main_run c (function_of p main_name) root)) is ∙ ap (λ o. ended 0 (main_run c o root)) main.found in
-    let runs : run c f.body root ≡ end_of g = run_fixed c f.body root ∙ g.is in
+    let items : List Item = g.new ++ next_action actions.ends 0 (end_of g) ∷ [] in
     record {
-      items = g.new ++ next_action actions.ends 0 (end_of g) ∷ [];
-      is = ap State.items begins ∙ ap (λ t. State.items (ended 0 (unless_faulted (with_answer None ignore_answer) t))) runs;
+      items = items;
+      is = whole_items c (made_program n) f (end_of g) items is main.found refl g.is refl;
       tells = tells_last _ g.tells;
     }
 
