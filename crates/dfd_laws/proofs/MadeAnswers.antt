@@ -28,7 +28,7 @@ use Rattle.par_ownership.specs.Walk.{Refusal, program_refusal}
 use Rattle.par_ownership.proofs.Law.{tells_program}
 use Rattle.made_source.specs.MadeSource.{made_source}
 use Rattle.made_laws.specs.MadeProgram.{made_program}
-use Rattle.made_laws.specs.MadeRun.{twice, made_lines, HasRoomFor}
+use Rattle.made_laws.specs.MadeRun.{twice, made_lines, AllowsGroups}
 use Rattle.made_laws.proofs.Texts.{made_sources_are_texts}
 use Rattle.made_laws.proofs.Rules.{made_programs_keep_the_rules}
 use Rattle.made_laws.proofs.Runs.{made_programs_print_twice}
@@ -162,7 +162,7 @@ module _ (command : Command) (ranges : HasRanges command) (is_make : command.kin
       never : None ≡ Some r → ⊥
       never h = cc
 
-  room : (k : ℕ) (p : Program) → HasRoomFor n (setting_of p k)
+  room : (k : ℕ) (p : Program) → AllowsGroups n (setting_of p k)
   room k p = let bounds = div_ceil_times n 64 (omega arith) in record { calls = omega arith; turns = omega (arith, bounds.1, most); forks = omega arith }
 
   runs : (p : Program) → IsText (made_source n) p

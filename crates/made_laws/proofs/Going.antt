@@ -13,7 +13,7 @@ use Rattle.depth_first_run.specs.Stores.{block_words, hold_block}
 use Rattle.depth_first_run.specs.Values.{value, place_in, or_index_fault}
 use Rattle.depth_first_run.specs.States.{Setting, State, Item, began, acted, printed, with_item, next_action, with_action, unless_faulted, with_number, child_of, parent_of, taken_integers, ended, joined, own_part_then_join, fork_join}
 use Rattle.depth_first_run.specs.Run.{no_name, run_tree, run_tree_unless, run_tree_before, size_of, put_in_place, print_number, alloc_words, on_store, exec, exec_all, first_fault, lines_of}
-use Rattle.made_laws.specs.MadeProgram.{left_name, right_name, branch_body}
+use Rattle.made_laws.specs.MadeProgram.{left_block, right_block, branch_body}
 
 -- the items print these numbers and have no fault, whatever comes after them
 pub record Tells (vs : List ℤ) (items : List Item) : Type 0 where
@@ -210,21 +210,21 @@ after_print name line = step line (free_stmt name) done
 abbrev put : Name → ℕ → ℕ → ℕ → State → State
 put name m i line s = put_in_place line name (pos i) (Some 0) (with_item (began line) (allocated name m s))
 
-pub left_branch : IsBranchName left_name
+pub left_branch : IsBranchName left_block
 unfolding IsBranchName tail_body after_put after_print value with_action unless_faulted with_number exec
 left_branch c more m i line s =
-    ap (λ o. exec_all c more (after_put left_name line)
-    (put_in_place line left_name (pos i) o (with_item (began line) (allocated left_name m (idle s))))) (place_is m)
-    ∙ ap (λ o. exec_all c more (after_print left_name line)
-    (with_number line (or_index_fault o) print_number (with_item (began line) (put left_name m i line (idle s))))) (get_is m (pos i))
+    ap (λ o. exec_all c more (after_put left_block line)
+    (put_in_place line left_block (pos i) o (with_item (began line) (allocated left_block m (idle s))))) (place_is m)
+    ∙ ap (λ o. exec_all c more (after_print left_block line)
+    (with_number line (or_index_fault o) print_number (with_item (began line) (put left_block m i line (idle s))))) (get_is m (pos i))
 
-pub right_branch : IsBranchName right_name
+pub right_branch : IsBranchName right_block
 unfolding IsBranchName tail_body after_put after_print value with_action unless_faulted with_number exec
 right_branch c more m i line s =
-    ap (λ o. exec_all c more (after_put right_name line)
-    (put_in_place line right_name (pos i) o (with_item (began line) (allocated right_name m (idle s))))) (place_is m)
-    ∙ ap (λ o. exec_all c more (after_print right_name line)
-    (with_number line (or_index_fault o) print_number (with_item (began line) (put right_name m i line (idle s))))) (get_is m (pos i))
+    ap (λ o. exec_all c more (after_put right_block line)
+    (put_in_place line right_block (pos i) o (with_item (began line) (allocated right_block m (idle s))))) (place_is m)
+    ∙ ap (λ o. exec_all c more (after_print right_block line)
+    (with_number line (or_index_fault o) print_number (with_item (began line) (put right_block m i line (idle s))))) (get_is m (pos i))
 
 -- the items of a branch
 branch_items : (before : List Item) (first : Item) (dummies : List Item) (a b c d e f : Item)

@@ -14,7 +14,7 @@ use Rattle.par_ownership.specs.Ownership.{main_name}
 use Rattle.canonical_text.proofs.Lexemes.{Words, Allowed, word-whole}
 use Rattle.canonical_text.proofs.Leaves.{IsName, Digits, numerals}
 use Rattle.loop_laws.proofs.Pieces.{OnOneLine}
-use Rattle.made_laws.specs.MadeProgram.{left_name, right_name, function_name}
+use Rattle.made_laws.specs.MadeProgram.{left_block, right_block, function_name}
 
 digit_bounds : (c : ℕ) → is_digit c ≡ true → (48 ≤ c) × (c ≤ 57)
 digit_bounds c h = let (a, b) = both_true (nat_le 48 c) (nat_le c 57) h in (leb-true 48 c a, leb-true c 57 b)
@@ -57,13 +57,13 @@ decimal_line n small = digits_line (decimal n) (digits_of n small)
 
 -- names
 
-pub left_is_name : IsName left_name
+pub left_is_name : IsName left_block
 unfolding form_of keyword_kind symbol_kind
-left_is_name = (refl, (refl, (word-whole left_name (refl, tt), (refl, tt))))
+left_is_name = (refl, (refl, (word-whole left_block (refl, tt), (refl, tt))))
 
-pub right_is_name : IsName right_name
+pub right_is_name : IsName right_block
 unfolding form_of keyword_kind symbol_kind
-right_is_name = (refl, (refl, (word-whole right_name (refl, tt), (refl, tt))))
+right_is_name = (refl, (refl, (word-whole right_block (refl, tt), (refl, tt))))
 
 pub main_is_name : IsName main_name
 unfolding form_of keyword_kind symbol_kind

@@ -15,8 +15,8 @@ use Rattle.depth_first_run.specs.Calls.{Passing, passed, entered, lent_back, ret
 use Rattle.depth_first_run.specs.Run.{names_in, assigns_in, run_callee, call_function, exec, exec_all, run, root_start, ignore_answer, main_run, whole, first_fault, lines_of, finish_of, finish_of_run}
 use Rattle.depth_first_run.proofs.Fixed.{run_fixed}
 use Rattle.made_source.specs.MadeSource.{left_length, right_length}
-use Rattle.made_laws.specs.MadeProgram.{left_name, right_name, branch_body, group, call, one_a_line, groups_of, made_function, made_main, function_count, made_program}
-use Rattle.made_laws.specs.MadeRun.{twice, made_lines, HasRoomFor}
+use Rattle.made_laws.specs.MadeProgram.{left_block, right_block, branch_body, group, call, one_a_line, groups_of, made_function, made_main, function_count, made_program}
+use Rattle.made_laws.specs.MadeRun.{twice, made_lines, AllowsGroups}
 use Rattle.made_laws.proofs.Going.{Tells, tells_began, tells_last, idle, later, Goes, end_of, stays, goes_on, forks_go, branch_goes, left_branch, right_branch}
 use Rattle.made_laws.proofs.Rules.{Finds, made_finds, made_finds_main}
 
@@ -37,16 +37,16 @@ begins_go line s t g = record {
 group_goes : (c : Setting) (more : _) (i line : ℕ) (s : State) → length s.label < c.most_forks → Goes (twice i) 0 s (exec c more line (group i line) (idle s))
 unfolding exec with_depth
 group_goes c more i line s below =
-    let a = branch_body left_name (left_length i) i line in
-    let b = branch_body right_name (right_length i) i line in
+    let a = branch_body left_block (left_length i) i line in
+    let b = branch_body right_block (right_length i) i line in
     let left : left_length i ≡ suc (left_length i - 1) = omega arith in
     let right : right_length i ≡ suc (right_length i - 1) = omega arith in
     subst (Goes (twice i) 0 s)
     (sym (ap (λ (b' : Bool). under_limit b' line (fork_join c (names_in a) (assigns_in a) (exec_all c more a) (exec_all c more b)) (idle s))
     (lt-ltb (length s.label) c.most_forks below)))
     (forks_go c (names_in a) (assigns_in a) (exec_all c more a) (exec_all c more b) s
-    (λ u e. branch_goes left_name left_branch c more (left_length i - 1) (left_length i) i line u left (omega arith))
-    (λ u e. branch_goes right_name right_branch c more (right_length i - 1) (right_length i) i line u right (omega arith)))
+    (λ u e. branch_goes left_block left_branch c more (left_length i - 1) (left_length i) i line u left (omega arith))
+    (λ u e. branch_goes right_block right_branch c more (right_length i - 1) (right_length i) i line u right (omega arith)))
 
 groups_go : (c : Setting) (more : _) (i count line : ℕ) (s : State) → length s.label < c.most_forks
     → Goes (flat_map twice (range_with_len i count)) 0 s (exec_all c more (one_a_line group i count line) (idle s))
@@ -143,7 +143,7 @@ whole_items c p f t items is found none runs last =
     ∙ ap (λ u. State.items (ended 0 (unless_faulted (with_answer None ignore_answer) u))) (run_fixed c f.body (root_start c) ∙ runs)
     ∙ last
 
-main_goes : (c : Setting) (n : ℕ) → n ≤ 8000 → c.program ≡ made_program n → HasRoomFor n c
+main_goes : (c : Setting) (n : ℕ) → n ≤ 8000 → c.program ≡ made_program n → AllowsGroups n c
     → EndsWell (flat_map (function_lines n) (range_with_len 0 (function_count n))) c
 unfolding ended with_action unless_faulted with_answer
 main_goes c n most is room =
@@ -163,7 +163,7 @@ main_goes c n most is room =
       tells = tells_last _ g.tells;
     }
 
-pub made_programs_print_twice : (c : Setting) (n : ℕ) → n ≤ 8000 → c.program ≡ made_program n → HasRoomFor n c
+pub made_programs_print_twice : (c : Setting) (n : ℕ) → n ≤ 8000 → c.program ≡ made_program n → AllowsGroups n c
     → (lines_of (State.items (whole c)) ≡ made_lines n) × (finish_of_run c ≡ Done)
 made_programs_print_twice c n most is room =
     let e = main_goes c n most is room in

@@ -4,7 +4,7 @@ use Rattle.std.specs.Prelude.{pos}
 use Rattle.std.specs.List.{flat_map, range_with_len}
 use Rattle.std.proofs.Math.Nat.{suc-mul}
 use Rattle.std.proofs.lemmas.Int.{ints}
-use Rattle.made_laws.specs.MadeRun.{twice, made_lines, total}
+use Rattle.made_laws.specs.MadeRun.{twice, made_lines, sum_of_lines}
 
 many : (a n : ℕ) → length (flat_map twice (range_with_len a n)) ≡ 2 * n
 many a zero = refl
@@ -20,7 +20,7 @@ product (suc m) =
     let less : suc m * (suc m - 1) ≡ suc m * m = ap (λ (k : ℕ). suc m * k) (let e : suc m - 1 ≡ m = omega arith in e) in
     omega (arith, p, q, r, less)
 
-added : (a n : ℕ) → total (flat_map twice (range_with_len a n)) ≡ pos (n * (n - 1) + 2 * (a * n))
+added : (a n : ℕ) → sum_of_lines (flat_map twice (range_with_len a n)) ≡ pos (n * (n - 1) + 2 * (a * n))
 added a zero = ap pos (let e : 0 ≡ 0 * (0 - 1) + 2 * (a * 0) = omega arith in e)
 added a (suc n) =
     let rest = added (a + 1) n in
@@ -34,5 +34,5 @@ added a (suc n) =
 pub lines_are_many : (n : ℕ) → length (made_lines n) ≡ 2 * n
 lines_are_many n = many 0 n
 
-pub lines_add_up : (n : ℕ) → total (made_lines n) ≡ pos (n * (n - 1))
+pub lines_add_up : (n : ℕ) → sum_of_lines (made_lines n) ≡ pos (n * (n - 1))
 lines_add_up n = added 0 n ∙ ap pos (let e : n * (n - 1) + 2 * (0 * n) ≡ n * (n - 1) = omega arith in e)

@@ -8,7 +8,7 @@ use Rattle.depth_first_run.specs.States.{Setting, State}
 use Rattle.depth_first_run.specs.Run.{whole, lines_of, finish_of_run}
 use Rattle.made_source.specs.MadeSource.{made_source}
 use Rattle.made_laws.specs.MadeProgram.{made_program}
-use Rattle.made_laws.specs.MadeRun.{made_lines, total, HasRoomFor}
+use Rattle.made_laws.specs.MadeRun.{made_lines, sum_of_lines, AllowsGroups}
 
 -- a made source is a text, and its tree is the made program
 abbrev pub MadeSourcesAreTexts : Type 0
@@ -20,9 +20,9 @@ MadeProgramsKeepTheRules = (n : ℕ) → n ≤ MOST_GROUPS → Ownership (made_p
 
 -- whatever the quota, the depth-first run of a made program prints the number of each group twice, in order, and meets no fault
 abbrev pub MadeProgramsPrintTwice : Type 0
-MadeProgramsPrintTwice = (c : Setting) (n : ℕ) → n ≤ MOST_GROUPS → c.program ≡ made_program n → HasRoomFor n c
+MadeProgramsPrintTwice = (c : Setting) (n : ℕ) → n ≤ MOST_GROUPS → c.program ≡ made_program n → AllowsGroups n c
     → (lines_of (State.items (whole c)) ≡ made_lines n) × (finish_of_run c ≡ Done)
 
 -- these are 2 * n numbers, whose sum is n * (n - 1)
 abbrev pub MadeLinesAddUp : Type 0
-MadeLinesAddUp = (n : ℕ) → (length (made_lines n) ≡ 2 * n) × (total (made_lines n) ≡ pos (n * (n - 1)))
+MadeLinesAddUp = (n : ℕ) → (length (made_lines n) ≡ 2 * n) × (sum_of_lines (made_lines n) ≡ pos (n * (n - 1)))

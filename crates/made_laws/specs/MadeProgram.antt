@@ -7,11 +7,11 @@ use Rattle.par_ownership.specs.Ownership.{main_name}
 use Rattle.made_source.specs.MadeSource.{left_length, right_length}
 
 -- the names of the blocks in the two branches of a group
-abbrev pub left_name : Name
-left_name = codes "a"
+abbrev pub left_block : Name
+left_block = codes "a"
 
-abbrev pub right_name : Name
-right_name = codes "b"
+abbrev pub right_block : Name
+right_block = codes "b"
 
 -- a branch of group i: a block of this name and length is allocated, its first number is set to i and printed, and the block is freed
 abbrev pub branch_body : Name → ℕ → ℕ → ℕ → Body
@@ -23,7 +23,7 @@ branch_body name length i line =
 
 -- group i: two branches side by side
 abbrev pub group : ℕ → ℕ → Stmt
-group i line = par_stmt (branch_body left_name (left_length i) i line) (branch_body right_name (right_length i) i line)
+group i line = par_stmt (branch_body left_block (left_length i) i line) (branch_body right_block (right_length i) i line)
 
 -- function j has this name, and is called so
 abbrev pub function_name : ℕ → Name

@@ -13,12 +13,12 @@ abbrev pub made_lines : ℕ → List ℤ
 made_lines n = flat_map twice (range_with_len 0 n)
 
 -- the sum of numbers
-abbrev pub total : List ℤ → ℤ
-total [] = pos 0
-total (v ∷ vs) = v +ℤ total vs
+abbrev pub sum_of_lines : List ℤ → ℤ
+sum_of_lines [] = pos 0
+sum_of_lines (v ∷ vs) = v +ℤ sum_of_lines vs
 
 -- the limits of a run let `main` call each function of n groups, and each group fork
-pub record HasRoomFor (n : ℕ) (c : Setting) : Type 0 where
+pub record AllowsGroups (n : ℕ) (c : Setting) : Type 0 where
   pub calls : 2 ≤ c.most_calls
   pub turns : function_count n ≤ c.most_turns
   pub forks : 1 ≤ c.most_forks
