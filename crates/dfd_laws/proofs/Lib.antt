@@ -14,3 +14,4 @@ pub mod AsyncOfOne
 pub mod RunHeadline
 pub mod ThreadPlays
 pub mod TrailLaws
+pub mod MadeAnswers

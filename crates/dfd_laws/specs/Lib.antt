@@ -3,3 +3,4 @@ pub mod Headline
 pub mod AsyncHeadline
 pub mod RunHeadline
 pub mod Laws
+pub mod MakeLaws

@@ -21,6 +21,7 @@
 #![tactic(auto)]
 
 mod laws;
+mod make_laws;
 mod trail_laws;
 
 pub use laws::{
@@ -35,3 +36,4 @@ pub use laws::{
     run_reports_are_bounded, run_statuses_with_room, statuses_with_room, summaries_are_bounded,
     verified_trails_are_bounded,
 };
+pub use make_laws::{made_sources_are_accepted, made_summaries_add_up, makes_meet_no_fault};

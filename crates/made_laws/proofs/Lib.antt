@@ -1,0 +1,9 @@
+pub mod Rules
+pub mod GroupPhrases
+pub mod Numerals
+pub mod GroupTexts
+pub mod Lines
+pub mod Texts
+pub mod Going
+pub mod Runs
+pub mod Sums

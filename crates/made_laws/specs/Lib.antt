@@ -1,0 +1,3 @@
+pub mod MadeProgram
+pub mod MadeRun
+pub mod Laws
