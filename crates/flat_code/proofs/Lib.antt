@@ -1,2 +1,6 @@
 pub mod Weights
 pub mod Links
+pub mod More
+pub mod Acting
+pub mod OneNode
+pub mod MadeCode

@@ -1,2 +1,4 @@
+pub mod Made
+pub mod Fits
 pub mod Shown
 pub mod Room

@@ -56,11 +56,11 @@ pub lower_expression-returns-in_ok-front-in-Chain : goal.lower_expression-return
 lower_expression-returns-in_ok-front-in-Chain t c =
     IfOk-weaker c.lower_links.result _ _
     (λ x made.
-      chain_made c.in-Chain.first c.in-Chain.rest c.args.expr.now c.deref-in-Chain.result.now c.deref-in-Chain-2.result.now c.args.to c.args.free (operand_shown c.in_ok-front-in-Chain.front) (acts_shown c.args.acts.now.items) (acts_shown c.lower_operand-in-Chain.new.acts.items)
-          (acts_shown c.lower_links.new.acts.items)
-          c.in-Chain.is
-          c.deref-in-Chain.ensures
-          c.deref-in-Chain-2.ensures.value
-          c.in_ok-front-in-Chain.ensures
-          made)
+    chain_made c.in-Chain.first c.in-Chain.rest c.args.expr.now c.deref-in-Chain.result.now c.deref-in-Chain-2.result.now c.args.to c.args.free (operand_shown c.in_ok-front-in-Chain.front) (acts_shown c.args.acts.now.items) (acts_shown c.lower_operand-in-Chain.new.acts.items)
+    (acts_shown c.lower_links.new.acts.items)
+    c.in-Chain.is
+    c.deref-in-Chain.ensures
+    c.deref-in-Chain-2.ensures.value
+    c.in_ok-front-in-Chain.ensures
+    made)
     c.lower_links.ensures
