@@ -4,3 +4,4 @@ pub mod More
 pub mod Acting
 pub mod OneNode
 pub mod MadeCode
+pub mod OfPrograms

@@ -49,7 +49,8 @@ pub some_links : (xs : List CodeLink) → (length xs ≡ 0 → ⊥) → xs ≡ [
 some_links xs long none = long (ap length none)
 
 -- the parts of a chain, and of the links that are left
-pub chain_parts : (size k : ℕ) (first : Box CodeExpr Global) (rest : Vec CodeLink Global) (e : CodeExpr) (ls : List CodeLink) → e ≡ Chain first rest → ls ≡ rest.items
+pub chain_parts : (size k : ℕ) (first : Box CodeExpr Global) (rest : Vec CodeLink Global) (e : CodeExpr) (ls : List CodeLink) → e ≡ Chain first rest → ls
+    ≡ rest.items
     → HasRoom size (expr_shown e) k
     → HaveRoom size (links_shown ls) k × (expr_weight (expr_shown first.value) + 1 < expr_weight (expr_shown e))
     × (links_weight (links_shown ls) < expr_weight (expr_shown e))
@@ -78,7 +79,8 @@ link_parts size k rest behind l is room =
     )
 
 -- the acts of a chain: those of its front, and those of its links
-pub chain_made : (first : Box CodeExpr Global) (rest : Vec CodeLink Global) (e f : CodeExpr) (ls : List CodeLink) (d k : ℕ) (a : Operand) (old front new : List Act)
+pub chain_made : (first : Box CodeExpr Global) (rest : Vec CodeLink Global) (e f : CodeExpr) (ls : List CodeLink) (d k : ℕ) (a : Operand)
+    (old front new : List Act)
     → e ≡ Chain first rest → f ≡ first.value → ls ≡ rest.items
     → (a ≡ operand_of (expr_shown f) k) × (front ≡ old ++ operand_code (expr_shown f) k) → new ≡ front ++ links_code (links_shown ls) d k a
     → new ≡ old ++ code_of (expr_shown e) d k

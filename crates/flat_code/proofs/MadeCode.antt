@@ -1,6 +1,7 @@
 -- What is made of a node table is its code.
 use Rattle.std.proofs.Common.{◌≡◌, ℕ, zero, suc, ◌+◌, ◌<◌, ◌≤◌, List, [], ◌∷◌, ◌++◌, length, Option, Some, None, refl, sym, ap, subst, arith, length-append}
-use Rattle.node_table.specs.Table.{Expr, num, var, get, len_of, neg, chain, cmp, Links, last, link, Kind, let_node, assign_node, put_node, alloc_node, free_node, if_node, while_node, call_node, print_node, both_node, split_node, Table}
+use Rattle.node_table.specs.Table.{Expr, num, var, get, len_of, neg, chain, cmp, Links, last, link, Kind, let_node, assign_node, put_node, alloc_node}
+use Rattle.node_table.specs.Table.{free_node, if_node, while_node, call_node, print_node, both_node, split_node, Table}
 use Rattle.thread_stack.specs.declared.frame.Frame.{Frame}
 use Rattle.thread_stack.specs.declared.frame.Frame.TheVariants.{Statements, Again}
 use Rattle.thread_stack.specs.declared.list_of.ListOf.{ListOf}
@@ -11,9 +12,11 @@ use Rattle.flat_expressions.specs.Codes.{operand_of, slot_behind, more_links, co
 use Rattle.flat_expressions.proofs.Statements.{assignment_coded, write_coded, condition_coded}
 use Rattle.flat_statements.specs.Flat.{Flat, unless, rounds, FlatCode, frames_at}
 use Rattle.flat_statements.specs.Threads.{rest_of}
-use Rattle.flat_statements.specs.Codes.{Has, HasActs, IsSetCode, IsPutCode, IsTestCode, IsRoundCode, StatementCode, IsListCode, IsArmEnd, IsIfCode, IsWhileCode, IsLeft, IsKindCode, IsNodeCode, IsWholeCode}
+use Rattle.flat_statements.specs.Codes.{Has, HasActs, IsSetCode, IsPutCode, IsTestCode, IsRoundCode, StatementCode, IsListCode, IsArmEnd, IsIfCode}
+use Rattle.flat_statements.specs.Codes.{IsWhileCode, IsLeft, IsKindCode, IsNodeCode, IsWholeCode}
 use Rattle.flat_code.specs.Fits.{FitsSet, FitsPut, FitsTest, AllFit, FitsKind, FitsNode, FitsList, CanBeFlat}
-use Rattle.flat_code.specs.Made.{Placed, placed, acts_placed, tested, test_length, Making, list_made, arm_end, arm_end_length, other_at, if_made, while_made, left_alone, kind_made, node_made, whole_made}
+use Rattle.flat_code.specs.Made.{Placed, placed, acts_placed, tested, test_length, Making, list_made, arm_end, arm_end_length, other_at, if_made}
+use Rattle.flat_code.specs.Made.{while_made, left_alone, kind_made, node_made, whole_made}
 use Rattle.flat_code.specs.Shown.{flat_of}
 use Rattle.flat_code.proofs.Acting.{length-acts_placed}
 
@@ -244,8 +247,10 @@ module _ (f : FlatCode) (k size : ℕ) (fits_in : k ≤ size) where
         → IsKindCode f k size P n here xs place (place + length (kind_made k M n here xs place kind)) kind × (frames_at f place ≡ here)
     kind_is_code n here xs place None fits h = absurd fits
     kind_is_code n here xs place (Some (let_node s e)) fits h = (set_is_code s e here place fits h, first_acts f here place (code_of e s k) (some_code e s k) h)
-    kind_is_code n here xs place (Some (assign_node s e)) fits h = (set_is_code s e here place fits h, first_acts f here place (code_of e s k) (some_code e s k) h)
-    kind_is_code n here xs place (Some (put_node b i e)) fits h = (put_is_code b i e here place fits h, first_acts f here place (put_code b i e k) (put_some b i e) h)
+    kind_is_code n here xs place (Some (assign_node s e)) fits h =
+        (set_is_code s e here place fits h, first_acts f here place (code_of e s k) (some_code e s k) h)
+    kind_is_code n here xs place (Some (put_node b i e)) fits h =
+        (put_is_code b i e here place fits h, first_acts f here place (put_code b i e k) (put_some b i e) h)
     kind_is_code n here xs place (Some (alloc_node s e)) fits h = alone_is_code here place h
     kind_is_code n here xs place (Some (free_node s)) fits h = alone_is_code here place h
     kind_is_code n here xs place (Some (if_node e a b)) fits h = if_is_code n e a b here xs place fits h
@@ -272,7 +277,8 @@ module _ (f : FlatCode) (k size : ℕ) (fits_in : k ≤ size) where
           depth = depth;
           behind = place + length inside;
           code =
-              list_is_code (node_made t k depth) (IsNodeCode t f k size depth) (FitsNode t k size depth) (node_is_code depth) (numbers_from t list 0) list 0 [] place fits.1
+              list_is_code (node_made t k depth) (IsNodeCode t f k size depth) (FitsNode t k size depth) (node_is_code depth) (numbers_from t list 0) list
+              0 [] place fits.1
               (holds_front f place inside (left_alone []) h);
           end = (holds_rest f place inside (left_alone []) h).0;
         }

@@ -1,7 +1,8 @@
 -- Which statements have flat code in a function with k slots, in a row of `size` slots: those whose slots are of the function, whose
 -- expressions find the temporary slots that they need, and which are nested so many deep at most.
 use Rattle.std.specs.Prelude.{ℕ, zero, suc, ◌<◌, ◌≤◌, List, [], ◌∷◌, length, Option, Some, None}
-use Rattle.node_table.specs.Table.{Expr, Kind, let_node, assign_node, put_node, alloc_node, free_node, if_node, while_node, call_node, print_node, both_node, split_node, Table}
+use Rattle.node_table.specs.Table.{Expr, Kind, let_node, assign_node, put_node, alloc_node, free_node, if_node, while_node, call_node, print_node}
+use Rattle.node_table.specs.Table.{both_node, split_node, Table}
 use Rattle.node_table.specs.Reading.{FitsExpr}
 use Rattle.thread_stack.specs.declared.list_of.ListOf.{ListOf}
 use Rattle.thread_stack.specs.Lists.{kind_at, numbers_from}
@@ -46,3 +47,18 @@ FitsList t k size depth list = (k ≤ size) × AllFit (FitsNode t k size depth) 
 -- A node is inside nodes of less numbers, so as many nodes as there are at most are nested in one another.
 abbrev pub CanBeFlat : Table → (k size : ℕ) → ListOf → Type 0
 CanBeFlat t k size list = FitsList t k size (length t.nodes) list
+
+-- a row of `size` slots has room, after the k slots of the function, for the intermediate numbers of a node
+abbrev pub KindHasRoom : (k size : ℕ) → Option Kind → Type 0
+KindHasRoom k size None = Unit {0}
+KindHasRoom k size (Some (let_node s e)) = HasRoom size e k
+KindHasRoom k size (Some (assign_node s e)) = HasRoom size e k
+KindHasRoom k size (Some (put_node b i e)) = (suc k < size) × HasRoom size i k × HasRoom size e (suc k)
+KindHasRoom k size (Some (alloc_node s e)) = Unit {0}
+KindHasRoom k size (Some (free_node s)) = Unit {0}
+KindHasRoom k size (Some (if_node e a b)) = (k < size) × HasRoom size e k
+KindHasRoom k size (Some (while_node e a)) = (k < size) × HasRoom size e k
+KindHasRoom k size (Some (call_node to func from)) = Unit {0}
+KindHasRoom k size (Some (print_node e)) = Unit {0}
+KindHasRoom k size (Some (both_node a b blocks assigned)) = Unit {0}
+KindHasRoom k size (Some (split_node s e l r a)) = Unit {0}

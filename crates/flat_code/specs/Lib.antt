@@ -2,3 +2,4 @@ pub mod Made
 pub mod Fits
 pub mod Shown
 pub mod Room
+pub mod Laws

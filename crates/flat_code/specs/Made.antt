@@ -1,7 +1,8 @@
 -- The flat code of a node table: the places of a statement and of a list, by where they begin. So the places that jumps name are known by
 -- the lengths of what is between.
 use Rattle.std.specs.Prelude.{ℕ, zero, suc, ◌+◌, List, [], ◌∷◌, ◌++◌, length, Option, Some, None}
-use Rattle.node_table.specs.Table.{Expr, Kind, let_node, assign_node, put_node, alloc_node, free_node, if_node, while_node, call_node, print_node, both_node, split_node, Table}
+use Rattle.node_table.specs.Table.{Expr, Kind, let_node, assign_node, put_node, alloc_node, free_node, if_node, while_node, call_node, print_node}
+use Rattle.node_table.specs.Table.{both_node, split_node, Table}
 use Rattle.thread_stack.specs.declared.frame.Frame.{Frame}
 use Rattle.thread_stack.specs.declared.frame.Frame.TheVariants.{Statements, Again}
 use Rattle.thread_stack.specs.declared.list_of.ListOf.{ListOf}

@@ -11,9 +11,10 @@
 //! definition (`flat_statements`).
 //!
 //! Its theorem is the contract of [`lower_whole`]: what is made is the code of the list, so by `machine_follows_the_thread` of
-//! `flat_statements` the machine that runs it goes the way of the thread. It is asked for only where [`can_be_flat`], which says exactly
-//! whether the slots of the list are slots of the function and its expressions find their temporary slots in the row. Then want of
-//! memory and of numbers for places are its only refusals.
+//! `flat_statements` the machine that runs it goes the way of the thread. It is asked for where [`can_be_flat`], which says exactly
+//! whether the slots of the list are slots of the function and its expressions find their temporary slots in the row; by
+//! [`lists_of_programs_can_be_flat`] each list of a program does, if the row has room for the intermediate numbers of its expressions.
+//! Then not enough memory, and too many places, are the only refusals.
 //!
 //! Not there yet: the code of a whole program in one list, with the place at which each of its frames begins, and the loop that runs it.
 //!
@@ -23,7 +24,7 @@
 //!   proved to make it, list by list, and one law by recursion over the nodes says that it is flat code. Neither proof sees the other.
 //! - **Places are known before they are made.** What is inside a statement is made first, beginning at the place at which it will be, so that
 //!   no jump is filled in later.
-//! - **A list is made apart and then moved behind what comes before it.** A place is moved once for each list around it, and these are at most as
+//! - **A list is made apart and then added to what is before it.** A place is moved once for each list around it, and these are at most as
 //!   many as the text has braces open at once.
 //! - **The check comes before, apart from the making.** So what can go wrong with an expression is said once, as a question about
 //!   the table, and the making has no answer for it.
@@ -36,6 +37,7 @@ mod condition;
 mod expressions;
 mod fitting;
 mod instruction;
+mod laws;
 mod lower_fail;
 mod lowering;
 mod marks;
@@ -49,6 +51,7 @@ mod test;
 
 pub use expressions::{lower_condition, lower_expression, lower_operand};
 pub use instruction::Instruction;
+pub use laws::lists_of_programs_can_be_flat;
 pub use lower_fail::LowerFail;
 pub use lowering::{can_be_flat, lower_whole};
 pub use place::{Mark, Place, Places};

@@ -12,7 +12,8 @@ use Rattle.flat_code.proofs.expressions.+lower_expression.Goals as goal
 
 pub lower_expression-lower_links-requires : goal.lower_expression-lower_links-requires
 lower_expression-lower_links-requires t c =
-    let parts = chain_parts most_slots c.args.free c.in-Chain.first c.in-Chain.rest c.args.expr.now c.deref-in-Chain-2.result.now c.in-Chain.is c.deref-in-Chain-2.ensures.value c.requires in
+    let parts = chain_parts most_slots c.args.free c.in-Chain.first c.in-Chain.rest c.args.expr.now c.deref-in-Chain-2.result.now c.in-Chain.is
+    c.deref-in-Chain-2.ensures.value c.requires in
     let room = parts.0 in
     let less = parts.2 in
     search rules
@@ -32,7 +33,8 @@ lower_links-links-preserved t c =
     let parts = link_parts most_slots c.args.free c.links.rest.now c.in-Some.behind.now link c.in-Some.ensures.cases.0 c.links.invariant.1 in
     let lighter = parts.4 in
     let kept = c.links.invariant.2 in (
-      link_next (links_shown c.links.rest.now) (links_shown c.in-Some.behind.now) (chain_op_tree link.op) (expr_shown link.operand) c.args.to c.args.free c.link_target-target.result (operand_shown c.links.left) (operand_shown c.in_ok-right.right) (acts_shown c.links.acts.items)
+      link_next (links_shown c.links.rest.now) (links_shown c.in-Some.behind.now) (chain_op_tree link.op) (expr_shown link.operand) c.args.to c.args.free
+          c.link_target-target.result (operand_shown c.links.left) (operand_shown c.in_ok-right.right) (acts_shown c.links.acts.items)
           (acts_shown c.lower_operand.new.acts.items)
           (acts_shown c.add-in-Some.new.acts.items)
           _
@@ -47,7 +49,8 @@ lower_links-links-preserved t c =
 
 pub lower_links-returns : goal.lower_links-returns
 lower_links-returns t c =
-    links_end c.links.rest.now c.args.links.now c.args.to c.args.free (operand_shown c.links.left) (operand_shown c.args.front) (acts_shown c.links.acts.items) (acts_shown c.args.acts.now.items)
+    links_end c.links.rest.now c.args.links.now c.args.to c.args.free (operand_shown c.links.left) (operand_shown c.args.front)
+    (acts_shown c.links.acts.items) (acts_shown c.args.acts.now.items)
     (nil_from_length c.links.rest.now c.in_default.ensures.cases)
     (some_links c.args.links.now (λ e. false≢true (sym c.if-is_empty.false ∙ c.is_empty.ensures ∙ ap (λ n. n == 0) e)))
     c.links.invariant.0
@@ -56,7 +59,8 @@ pub lower_expression-returns-in_ok-front-in-Chain : goal.lower_expression-return
 lower_expression-returns-in_ok-front-in-Chain t c =
     IfOk-weaker c.lower_links.result _ _
     (λ x made.
-    chain_made c.in-Chain.first c.in-Chain.rest c.args.expr.now c.deref-in-Chain.result.now c.deref-in-Chain-2.result.now c.args.to c.args.free (operand_shown c.in_ok-front-in-Chain.front) (acts_shown c.args.acts.now.items) (acts_shown c.lower_operand-in-Chain.new.acts.items)
+    chain_made c.in-Chain.first c.in-Chain.rest c.args.expr.now c.deref-in-Chain.result.now c.deref-in-Chain-2.result.now c.args.to c.args.free
+    (operand_shown c.in_ok-front-in-Chain.front) (acts_shown c.args.acts.now.items) (acts_shown c.lower_operand-in-Chain.new.acts.items)
     (acts_shown c.lower_links.new.acts.items)
     c.in-Chain.is
     c.deref-in-Chain.ensures

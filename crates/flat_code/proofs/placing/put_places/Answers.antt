@@ -23,7 +23,8 @@ lower_operand-requires-2 c =
 
 pub returns : goal.returns
 returns c =
-    put_made c.args.block (expr_shown c.args.index.now) (expr_shown c.args.value.now) c.args.scope.now.slots (frames_shown c.args.here.now) (operand_shown c.in_ok-index.index) (operand_shown c.in_ok-from.from) (acts_shown c.new-acts.result.items) (acts_shown c.lower_operand.new.acts.items)
+    put_made c.args.block (expr_shown c.args.index.now) (expr_shown c.args.value.now) c.args.scope.now.slots (frames_shown c.args.here.now)
+    (operand_shown c.in_ok-index.index) (operand_shown c.in_ok-from.from) (acts_shown c.new-acts.result.items) (acts_shown c.lower_operand.new.acts.items)
     (acts_shown c.lower_operand-2.new.acts.items)
     (places_shown c.in_ok-places.places.items)
     _

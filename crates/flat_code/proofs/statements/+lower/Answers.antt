@@ -17,5 +17,6 @@ lower_node-returns t c =
     IfOk-weaker c.lower_kind.result _ _
     (λ v made.
     made
-    ∙ made_by_kind (table_of scope) scope.slots scope.size c.args.depth site.place site.number (frames_shown site.here.now) (frames_shown site.behind.now) (kind_shown c.in-Some.node.now.kind) c.requires there)
+    ∙ made_by_kind (table_of scope) scope.slots scope.size c.args.depth site.place site.number (frames_shown site.here.now) (frames_shown site.behind.now)
+    (kind_shown c.in-Some.node.now.kind) c.requires there)
     c.lower_kind.ensures
