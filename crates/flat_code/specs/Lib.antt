@@ -3,3 +3,4 @@ pub mod Fits
 pub mod Shown
 pub mod Room
 pub mod Laws
+pub mod Listing
