@@ -1,5 +1,6 @@
 -- The straight code of assignments, writes and conditions.
-use Rattle.std.proofs.Common.{inl, inr, ◌≡◌, ℕ, suc, ◌<◌, ◌≤◌, Bool, true, false, List, [], ◌∷◌, ◌++◌, length, set, ℤ, Option, Some, None, Ok, Err, refl, sym, ap, ◌∙◌, subst, arith, length-set}
+use Rattle.std.proofs.Common.{inl, inr, ◌≡◌, ℕ, suc, ◌<◌, ◌≤◌, Bool, true, false, List, [], ◌∷◌, ◌++◌, length, set, ℤ, Option, Some, None, Ok, Err}
+use Rattle.std.proofs.Common.{refl, sym, ap, ◌∙◌, subst, arith, length-set}
 use Rattle.std.specs.Prelude.{◌⊎◌, slice_set}
 use Rattle.std.proofs.lemmas.Bool.{cases_eq}
 use Rattle.depth_first_run.specs.Passed.Tree.{Comparison}
@@ -8,7 +9,8 @@ use Rattle.node_table.specs.Table.{Expr, num, var, get, len_of, neg, chain, cmp}
 use Rattle.node_table.specs.Reading.{FitsExpr}
 use Rattle.slot_store.specs.Rows.{Entry, entry_at, items_at, first_of, with_integer_at}
 use Rattle.slot_store.proofs.Rows.{same_entry, other_entry}
-use Rattle.flat_expressions.specs.Acts.{Operand, at_slot, operand_in, Act, write_at, left_in, written_in, Ran, ends, fails, next_act, straight, is_set, compares}
+use Rattle.flat_expressions.specs.Acts.{Operand, at_slot, operand_in, Act, write_at, left_in, written_in, Ran, ends, fails, next_act, straight}
+use Rattle.flat_expressions.specs.Acts.{is_set, compares}
 use Rattle.flat_expressions.specs.Values.{value_in, set_by, put_with, put_by}
 use Rattle.flat_expressions.specs.Codes.{operand_of, code_of, operand_code, put_code, before_test, test_of, HasRoom}
 use Rattle.flat_expressions.specs.Meanings.{HasInFront, CameTo, Do, TestCameTo, AreTest, SameBelow, Left, Leaves}

@@ -1,19 +1,23 @@
 -- A step of a thread over slots is a step of the depth-first run.
-use Rattle.std.proofs.Common.{inl, inr, ◌≡◌, ℕ, zero, suc, ◌+◌, ◌<◌, ◌≤◌, Bool, true, false, List, [], ◌∷◌, length, set, ℤ, pos, negsuc, Option, Some, None, Ok, Err, refl, sym, ap, ◌∙◌, subst, arith, rules, append-nil}
+use Rattle.std.proofs.Common.{inl, inr, ◌≡◌, ℕ, zero, suc, ◌+◌, ◌<◌, ◌≤◌, Bool, true, false, List, [], ◌∷◌, length, set, ℤ, pos, negsuc, Option, Some}
+use Rattle.std.proofs.Common.{None, Ok, Err, refl, sym, ap, ◌∙◌, subst, arith, rules, append-nil}
 use Rattle.std.specs.Prelude.{◌⊎◌, nat_le, slice_set}
 use Rattle.std.proofs.lemmas.Bool.{cases_eq}
 use Rattle.depth_first_run.specs.Passed.Tree
-use Rattle.depth_first_run.specs.Passed.Tree.{Name, Func, Stmt, let_stmt, assign_stmt, put_stmt, alloc_stmt, free_stmt, if_stmt, while_stmt, call_stmt, print_stmt, par_stmt, split_stmt, done, step}
+use Rattle.depth_first_run.specs.Passed.Tree.{Name, Func, Stmt, let_stmt, assign_stmt, put_stmt, alloc_stmt, free_stmt, if_stmt, while_stmt}
+use Rattle.depth_first_run.specs.Passed.Tree.{call_stmt, print_stmt, par_stmt, split_stmt, done, step}
 use Rattle.depth_first_run.specs.Stores.{Store, with_integer, write_block}
 use Rattle.depth_first_run.specs.Values.{Outcome, value, is_true, place_in}
 use Rattle.depth_first_run.specs.States.{Setting, State, began, with_item, with_number, with_fault}
 use Rattle.depth_first_run.specs.Run.{set_integer, put_in_place, put_number, put_value}
 use Rattle.depth_first_run.specs.Middle as middles
-use Rattle.depth_first_run.specs.Middle.{does, statements, Middle, middle, before_all, step_with_number, step_branch, step_if, step_turn, step_round, step_while, step_statement, step_first, step_frame}
+use Rattle.depth_first_run.specs.Middle.{does, statements, Middle, middle, before_all, step_with_number, step_branch, step_if, step_turn, step_round}
+use Rattle.depth_first_run.specs.Middle.{step_while, step_statement, step_first, step_frame}
 use Rattle.node_table.specs.Names.{name_at, slot_names, IsSlot}
 use Rattle.node_table.specs.Reading.{IsExpr}
 use Rattle.node_table.specs.Table as tables
-use Rattle.node_table.specs.Table.{Kind, let_node, assign_node, put_node, alloc_node, free_node, if_node, while_node, call_node, print_node, both_node, split_node, Table}
+use Rattle.node_table.specs.Table.{Kind, let_node, assign_node, put_node, alloc_node, free_node, if_node, while_node, call_node, print_node}
+use Rattle.node_table.specs.Table.{both_node, split_node, Table}
 use Rattle.node_table.specs.Programs.{IsStmt, function_names}
 use Rattle.slot_store.specs.Rows.{Entry, entry_at, blocks_at, items_at, with_integer_at, with_blocks_at}
 use Rattle.slot_store.specs.Agreement.{ShowsStore}
@@ -30,7 +34,8 @@ use Rattle.flat_expressions.specs.Acts.{left_in, written_in}
 use Rattle.flat_expressions.specs.Values.{value_in, set_by, put_with, put_by}
 use Rattle.flat_expressions.proofs.Shown.{value_shown}
 use Rattle.flat_statements.specs.Flat.{Came, goes_to, meets, stops}
-use Rattle.flat_statements.specs.Threads.{Standing, standing, rest_of, row_step, arm_step, if_step, turn_step, round_step, while_step, kind_step, list_step, thread_step}
+use Rattle.flat_statements.specs.Threads.{Standing, standing, rest_of, row_step, arm_step, if_step, turn_step, round_step, while_step, kind_step}
+use Rattle.flat_statements.specs.Threads.{list_step, thread_step}
 use Rattle.flat_statements.specs.Runs.{IsInState, IsStepOf}
 use Rattle.flat_statements.proofs.Reaching.{next_numbers, then_numbers, other_numbers, round_numbers}
 

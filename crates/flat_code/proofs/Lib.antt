@@ -1,0 +1,7 @@
+pub mod Weights
+pub mod Links
+pub mod More
+pub mod Acting
+pub mod OneNode
+pub mod MadeCode
+pub mod OfPrograms

@@ -1,0 +1,6 @@
+pub mod Made
+pub mod Fits
+pub mod Shown
+pub mod Room
+pub mod Laws
+pub mod Listing

@@ -1,0 +1,8 @@
+//! What holds of the flat code of programs.
+
+ghost use Rattle.flat_code.specs.Laws.{ListsOfProgramsCanBeFlat};
+
+/// Each list of statements of a program has flat code in a row that has room for the intermediate numbers of its expressions.
+pub fn lists_of_programs_can_be_flat()
+    ensures { ListsOfProgramsCanBeFlat }
+{}

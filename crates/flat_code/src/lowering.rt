@@ -1,0 +1,50 @@
+//! The flat code of a list of statements that a thread does not leave by itself.
+
+ghost use Rattle.std.specs.Prelude.{◌↔◌, IfOk, IsTrue};
+ghost use Rattle.node_table.specs.Codes.{code_shown};
+ghost use Rattle.flat_statements.specs.Codes.{IsWholeCode};
+ghost use Rattle.flat_code.specs.Fits.{CanBeFlat};
+ghost use Rattle.flat_code.specs.Shown.{flat_shown};
+
+use crate::fitting::fits_list;
+use crate::instruction::Instruction;
+use crate::lower_fail::LowerFail;
+use crate::place::Places;
+use crate::placing::add_place;
+use crate::scope::Scope;
+use crate::statements::lower_list;
+use node_table::Code;
+use std::alloc::Global;
+use thread_stack::{Frame, ListOf, numbers};
+
+/// Whether a list of statements has flat code in a function with so many slots, in a row of `size` slots: its expressions find the
+/// temporary slots that they need.
+pub fn can_be_flat(code: &Code, list: ListOf, slots: u16, size: u16) -> bool
+    ensures { IsTrue result ↔ CanBeFlat (code_shown code.now) slots size list }
+{
+    let scope = Scope { code, slots, size };
+    slots <= size && fits_list(&scope, numbers(code, list), code.len())
+}
+
+/// The flat code of a list of statements in a function with so many slots, in a row of `size` slots. It begins at the place 0.
+///
+/// # Errors
+///
+/// There is not enough memory, or there are more places than 32 bits can number.
+pub fn lower_whole(
+    alloc: Global,
+    code: &Code,
+    list: ListOf,
+    slots: u16,
+    size: u16,
+) -> Result<Places, LowerFail>
+    requires { CanBeFlat (code_shown code.now) slots size list }
+    ensures { IfOk result (λ v. IsWholeCode (code_shown code.now) (flat_shown v.items) slots size list 0) }
+{
+    let scope = Scope { code, slots, size };
+    let none: &[Frame] = &[];
+    let inside = numbers(code, list);
+    let mut places = lower_list(alloc, &scope, inside, list, none, 0, code.len())?;
+    add_place(alloc, &mut places, Instruction::Leave, none)?;
+    Ok(places)
+}
