@@ -43,7 +43,7 @@ abbrev pub HasTried : Place → HallSeat → Option LaneSlot → HallSeat → Ty
 HasTried place before None after = (lane : LaneSlot) × (¬ IsReadyBy place lane) × IsToldMore before (took_lane place lane ∷ []) after
 HasTried place before (Some lane) after = IsTaken before (place.id.0 + 2) (slots.Lane lane) after × IsReadyBy place lane
 
--- The answers of a thief that tried the deques of so many turns, in their order, and found no thread to steal there: each is the lane of the place
+-- The answers of a seat that tried the deques of so many turns, in their order, and found no thread to steal there: each is the lane of the place
 -- that its turn picks.
 abbrev pub Tried : (word reach turns : ℕ) → List Place → List (Look Slot) → Type 0
 Tried word reach zero places looks = looks ≡ []
@@ -94,7 +94,7 @@ HasChosen workers word list before None after =
     (more : List (Look Slot)) × IsToldMore before more after × HasTriedAll workers word list more
 HasChosen workers word list before (Some found) after = HasVictim workers word list before found.0 found.1 after
 
--- It was refused a lane, holds what it held, and was told this besides.
+-- It was refused a lane, holds what it held, and was answered this besides.
 abbrev pub IsRefusedALane : (workers word : ℕ) → ListSlot → HallSeat → Held → HallSeat → Type 0
 IsRefusedALane workers word list before held after = (tried : List (Look Slot)) × IsNextHeld workers word list tried held
     × IsToldMore before (tried ++ refused_look held ∷ []) after

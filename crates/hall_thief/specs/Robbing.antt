@@ -31,7 +31,7 @@ FoundBottomsMayBeTaken = (key : HallKey) (before middle seat : HallSeat) (list :
     → length list.part.order.places ≢ list.part.order.most → new.lane.items ≡ [] → 1 ≤ new.lane.spare
     → IsNew period true (list.part.begun + 1) → MayTakeBottom key seat list (HasVictim.victim has).id lane id new worker period
 
--- What a thief was answered that tried all deques in reach shows that none has a thread to steal.
+-- What a seat was answered that tried all deques in reach shows that none has a thread to steal.
 abbrev pub TriesShowNothing : Type 0
 TriesShowNothing = (workers word : ℕ) (list : ListSlot) (looks : List (Look Slot)) → HasTriedAll workers word list looks
     → ShowsNothing workers (map look_shown looks) list.part.order.places

@@ -35,7 +35,8 @@ SeeksWith workers word list before after (Err Nothing) =
 SeeksWith workers word list before after (Err (Over end)) =
     (list.end ≡ Some end) × Leaves before (answered_note before.hand.note list) after
 
--- It took the list, in which no end is kept, and was refused a lane that its turns came to. It is what it was but for its answers.
+-- It took the list, in which no end is kept, and was refused the lane of a deque whose turn it was. It has these answers besides, and is else
+-- what it was.
 abbrev pub IsHeldOff : (workers word : ℕ) → HallSeat → Held → HallSeat → Type 0
 IsHeldOff workers word before held after = (list : ListSlot) × (list.end ≡ None) × (tried : List (Look Slot))
     × IsNextHeld workers word list tried held × IsToldMore before (Took 0 (slots.List list) ∷ (tried ++ refused_look held ∷ [])) after

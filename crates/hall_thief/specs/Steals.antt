@@ -62,7 +62,8 @@ pub record HasMetStop (workers word : ℕ) (before : HallSeat) (stop : Stop) (af
   pub takes : MayTakeNext list lane more
   pub leaves : LeavesWith before (found_note before.hand.note stop) (all_told list seen more) after
 
--- It found a victim that keeps other threads, and was refused the lane of the next free deque. It is what it was but for its answers.
+-- It found a victim that keeps other threads, and was refused the lane of the next free deque. It has these answers besides, and is else
+-- what it was.
 pub record FindsNewHeld (workers word : ℕ) (before : HallSeat) (held : Held) (after : HallSeat) : Type 0 where
   pub list : ListSlot
   pub seen : List (Look Slot)

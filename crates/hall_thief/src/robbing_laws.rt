@@ -12,7 +12,7 @@ pub fn found_bottoms_may_be_taken()
     ensures { FoundBottomsMayBeTaken }
 {}
 
-/// A thief that tried all deques in reach saw that none has a thread to steal.
+/// A seat that tried all deques in reach saw that none has a thread to steal.
 pub fn tries_show_nothing()
     ensures { TriesShowNothing }
 {}

@@ -57,12 +57,12 @@ pub record AreLeft {C : Type 0} (hall : Hall) (stays : Member (HallWorker C) Run
   pub stays_one : HasItsEnd hall stays
   pub all : (seat_of stays).places + length crew ≡ hall.workers
 
--- who enters by a seat: a worker with one place, which the seat gives; none only where the run has ended, and the seat was told its end
+-- who enters by a seat: a worker with one place, which the seat gives; none only where the run has ended, and the seat was answered its end
 abbrev pub EntersBy : Hall → Seat → Seat → Option Seat → Type 0
 EntersBy hall before after None = (after.places ≡ before.places) × (end : RunEnd) × WasTold after end
 EntersBy hall before after (Some made) = IsOfCrew hall made × (after.places + 1 ≡ before.places)
 
--- No worker is lost: one more is in the crew, or the first seat had no place to give, or it was told the end of the run.
+-- No worker is lost: one more is in the crew, or the first seat had no place to give, or it was answered the end of the run.
 abbrev pub LosesNone : {C : Type 0} → (before after : Seat) (crew more : List (Member (HallWorker C) RunEnd)) → Type 0
 LosesNone before after crew more = (length more ≡ length crew + 1) ⊎ ((before.places < 2) ⊎ ((end : RunEnd) × WasTold after end))
 

@@ -1,4 +1,4 @@
--- A thief that was refused a slot notes what it noted.
+-- A seat that was refused a slot at a steal notes what it noted.
 use Rattle.std.proofs.Common.{◌≡◌, ℕ, inl, inr, ap}
 use Rattle.turn_table.specs.declared.held.Held.{Held}
 use Rattle.hall_slots.specs.Takes.{HallSeat}
