@@ -36,7 +36,7 @@ use Rattle.made_laws.proofs.Sums.{product, lines_are_many}
 use Rattle.serial_meaning.specs.Settings.{setting_of}
 use Rattle.run_report.specs.declared.summary.Summary.{Summary}
 use Rattle.dfd_plays.specs.Answer.{BytesGive, CallGives, CommandGives, Ends, HasRanges, KindAnswers, KindGives}
-use Rattle.dfd_plays.specs.Make.{MakeMakes, Summarizes, added, sum_of, source_of}
+use Rattle.dfd_plays.specs.Make.{MakeMakes, Summarizes, sum_with, sum_of, source_of}
 use Rattle.dfd_plays.specs.Peak.{finish_status}
 use Rattle.dfd_plays.specs.Play.{TellsEnding, play_setting, stop_status}
 use Rattle.dfd_plays.specs.Sources.{SourceGives}
@@ -100,7 +100,7 @@ no_wrap x y small =
     wrapping_add_is w64 (pos x) (pos y) fits fits' ∙ int_wrap_fits w64 (pos x +ℤ pos y) both
     ∙ (let e : (pos x +ℤ pos y) ≡ pos (x + y) = omega (arith, ints) in e)
 
-sums : (x a n : ℕ) → x + (n * (n - 1) + 2 * (a * n)) < 2 ^ 62 → added (pos x) (flat_map twice (range_with_len a n)) ≡ pos (x + (n * (n - 1) + 2 * (a * n)))
+sums : (x a n : ℕ) → x + (n * (n - 1) + 2 * (a * n)) < 2 ^ 62 → sum_with (pos x) (flat_map twice (range_with_len a n)) ≡ pos (x + (n * (n - 1) + 2 * (a * n)))
 sums x a zero small = ap pos (let e : x ≡ x + (0 * (0 - 1) + 2 * (a * 0)) = omega arith in e)
 sums x a (suc n) small =
     let one = suc-mul a n in
@@ -110,8 +110,8 @@ sums x a (suc n) small =
     let less : suc n * (suc n - 1) ≡ suc n * n = ap (λ (k : ℕ). suc n * k) (let e : suc n - 1 ≡ n = omega arith in e) in
     let same : x + (suc n * (suc n - 1) + 2 * (a * suc n)) ≡ ((x + a) + a) + (n * (n - 1) + 2 * ((a + 1) * n)) =
     omega (arith, one, next, both, square, less) in
-    ap (λ z. added (int_wrapping_add w64 z (pos a)) (flat_map twice (range_with_len (a + 1) n))) (no_wrap x a (omega (arith, same, small)))
-    ∙ ap (λ z. added z (flat_map twice (range_with_len (a + 1) n))) (no_wrap (x + a) a (omega (arith, same, small)))
+    ap (λ z. sum_with (int_wrapping_add w64 z (pos a)) (flat_map twice (range_with_len (a + 1) n))) (no_wrap x a (omega (arith, same, small)))
+    ∙ ap (λ z. sum_with z (flat_map twice (range_with_len (a + 1) n))) (no_wrap (x + a) a (omega (arith, same, small)))
     ∙ sums ((x + a) + a) (a + 1) n (omega (arith, same, small))
     ∙ ap pos (sym same)
 
